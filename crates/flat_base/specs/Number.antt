@@ -1,0 +1,35 @@
+-- the numbers by which the report names errors and reasons
+use Rattle.std.specs.Prelude.{ℕ}
+use Rattle.flat_base.specs.declared.errors.FlatlandError.{FlatlandError}
+use Rattle.flat_base.specs.declared.errors.FlatlandError.TheVariants.{BadOperation, NoPresentsRemaining, BadHangingGet}
+use Rattle.flat_base.specs.declared.errors.Reason.{Reason}
+use Rattle.flat_base.specs.declared.errors.Reason.TheVariants.{ZeroId, IdInUse, UnknownTransform, UnknownContent, WrongContent, AlreadyChild, NotChild, BadScale, BadOpacity, BadRect, BadSize, BadBuffer, TooManyRegions, HasView, NoView, TokenNotHeld, Cycle, TreeTooLarge, ViewportTwice, TooManyNamed, TooManyChildren, TooManyFences}
+
+abbrev pub error_number : FlatlandError → ℕ
+error_number BadOperation = 1
+error_number NoPresentsRemaining = 2
+error_number BadHangingGet = 3
+
+abbrev pub reason_number : Reason → ℕ
+reason_number ZeroId = 1
+reason_number IdInUse = 2
+reason_number UnknownTransform = 3
+reason_number UnknownContent = 4
+reason_number WrongContent = 5
+reason_number AlreadyChild = 6
+reason_number NotChild = 7
+reason_number BadScale = 8
+reason_number BadOpacity = 9
+reason_number BadRect = 10
+reason_number BadSize = 11
+reason_number BadBuffer = 12
+reason_number TooManyRegions = 13
+reason_number HasView = 14
+reason_number NoView = 15
+reason_number TokenNotHeld = 16
+reason_number Cycle = 17
+reason_number TreeTooLarge = 18
+reason_number ViewportTwice = 19
+reason_number TooManyNamed = 20
+reason_number TooManyChildren = 21
+reason_number TooManyFences = 22
