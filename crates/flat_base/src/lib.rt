@@ -4,6 +4,7 @@
 #![tactic(auto)]
 
 mod boxed;
+mod copying;
 mod errors;
 mod fixed;
 mod ids;
@@ -15,14 +16,15 @@ mod shapes;
 mod tests;
 
 pub use boxed::Boxed;
+pub use copying::TryCopy;
 pub use errors::{FlatlandError, NoMemory, Reason};
 pub use fixed::{clamp_entry, clamp_place, mul};
 pub use ids::{Actor, BufferNo, ContentId, FenceNo, FrameNo, PairNo, SessionNo, TransformId};
 pub use items::{ActorList, FenceList, Items, SessionList, ShareList};
 pub use limits::{
-    BUFFERS_PER_COLLECTION_MAX, BUFFER_COLLECTIONS_MAX, CHILDREN_MAX, COLOUR_MAX, ENTRY_MAX,
+    BUFFER_COLLECTIONS_MAX, BUFFERS_PER_COLLECTION_MAX, CHILDREN_MAX, COLOUR_MAX, ENTRY_MAX,
     FENCES_MAX, FENCES_PER_LIST_MAX, FIRST_CREDITS, FRAMES_MAX, FULL_CREDITS, HIT_REGIONS_MAX,
-    INSET_MAX, LINES_PER_ACTOR_MAX, LINE_BYTES_MAX, NAMED_MAX, NAME_BYTES_MAX, ONE, OPACITY_MAX,
+    INSET_MAX, LINE_BYTES_MAX, LINES_PER_ACTOR_MAX, NAME_BYTES_MAX, NAMED_MAX, ONE, OPACITY_MAX,
     PAIRS_MAX, PATH_NODES_MAX, PLACE_MAX, PROBES_MAX, SCALE_MAX, SCRIPT_BYTES_MAX, SESSIONS_MAX,
     SIDE_MAX, TIME_MAX, TREE_NODES_MAX,
 };

@@ -1,0 +1,280 @@
+use crate::calls::{Call, PresentArgs};
+use crate::frames::{FrameOut, ViewTree};
+use crate::journal::{Entry, Kind};
+use crate::script::{Body, Line, ScriptLine};
+use crate::setup::{FenceDecl, Setup};
+use crate::trees::{Children, Node, Tree};
+use flat_base::{Boxed, NoMemory, TryCopy};
+use std::alloc::Global;
+
+impl TryCopy for PresentArgs {
+    fn copy(&self, alloc: Global) -> Result<PresentArgs, NoMemory> {
+        Ok(PresentArgs {
+            time: self.time,
+            acquire: self.acquire.copy(alloc)?,
+            release: self.release.copy(alloc)?,
+        })
+    }
+}
+
+impl TryCopy for Children {
+    fn copy(&self, alloc: Global) -> Result<Children, NoMemory> {
+        match self {
+            Children::Empty => Ok(Children::Empty),
+            Children::More(node, rest) => {
+                let node = node.get();
+                let first = Node {
+                    serial: node.serial,
+                    scale: node.scale,
+                    turn: node.turn,
+                    place: node.place,
+                    clip: node.clip,
+                    opacity: node.opacity,
+                    hits: node.hits.copy(alloc)?,
+                    content: node.content,
+                    children: node.children.copy(alloc)?,
+                };
+                let after = rest.get().copy(alloc)?;
+                Ok(Children::More(Boxed::new(alloc, first)?, Boxed::new(alloc, after)?))
+            }
+        }
+    }
+}
+
+impl TryCopy for Node {
+    fn copy(&self, alloc: Global) -> Result<Node, NoMemory> {
+        Ok(Node {
+            serial: self.serial,
+            scale: self.scale,
+            turn: self.turn,
+            place: self.place,
+            clip: self.clip,
+            opacity: self.opacity,
+            hits: self.hits.copy(alloc)?,
+            content: self.content,
+            children: self.children.copy(alloc)?,
+        })
+    }
+}
+
+impl TryCopy for Tree {
+    fn copy(&self, alloc: Global) -> Result<Tree, NoMemory> {
+        let root = match &self.root {
+            Some(node) => Some(Boxed::new(alloc, node.get().copy(alloc)?)?),
+            None => None,
+        };
+        Ok(Tree {
+            view: self.view,
+            root,
+            viewports: self.viewports.copy(alloc)?,
+        })
+    }
+}
+
+impl TryCopy for ViewTree {
+    fn copy(&self, alloc: Global) -> Result<ViewTree, NoMemory> {
+        Ok(ViewTree {
+            nodes: self.nodes.copy(alloc)?,
+            apart: self.apart.copy(alloc)?,
+        })
+    }
+}
+
+impl TryCopy for FrameOut {
+    fn copy(&self, alloc: Global) -> Result<FrameOut, NoMemory> {
+        Ok(FrameOut {
+            frame: self.frame,
+            items: self.items.copy(alloc)?,
+            tree: self.tree.copy(alloc)?,
+        })
+    }
+}
+
+impl TryCopy for FenceDecl {
+    fn copy(&self, alloc: Global) -> Result<FenceDecl, NoMemory> {
+        Ok(FenceDecl {
+            owners: self.owners.copy(alloc)?,
+        })
+    }
+}
+
+impl TryCopy for Setup {
+    fn copy(&self, alloc: Global) -> Result<Setup, NoMemory> {
+        Ok(Setup {
+            width: self.width,
+            height: self.height,
+            sessions: self.sessions,
+            probes: self.probes,
+            pairs: self.pairs.copy(alloc)?,
+            buffers: self.buffers.copy(alloc)?,
+            fences: self.fences.copy_each(alloc)?,
+        })
+    }
+}
+
+impl TryCopy for Line {
+    fn copy(&self, alloc: Global) -> Result<Line, NoMemory> {
+        Ok(match self {
+            Line::Call(call) => Line::Call(call.copy(alloc)?),
+            Line::Present(args) => Line::Present(args.copy(alloc)?),
+            Line::Get(watch) => Line::Get(*watch),
+            Line::Signal(f) => Line::Signal(*f),
+            Line::Poll => Line::Poll,
+            Line::Wait(c) => Line::Wait(*c),
+            Line::Disconnect => Line::Disconnect,
+        })
+    }
+}
+
+impl TryCopy for Body {
+    fn copy(&self, alloc: Global) -> Result<Body, NoMemory> {
+        Ok(match self {
+            Body::Session(line) => Body::Session(line.copy(alloc)?),
+            Body::Display(line) => Body::Display(*line),
+            Body::Probe(line) => Body::Probe(*line),
+        })
+    }
+}
+
+impl TryCopy for ScriptLine {
+    fn copy(&self, alloc: Global) -> Result<ScriptLine, NoMemory> {
+        Ok(ScriptLine {
+            number: self.number,
+            actor: self.actor,
+            body: self.body.copy(alloc)?,
+        })
+    }
+}
+
+impl TryCopy for Kind {
+    fn copy(&self, alloc: Global) -> Result<Kind, NoMemory> {
+        Ok(match self {
+            Kind::View(p) => Kind::View(*p),
+            Kind::Viewport(p, props) => Kind::Viewport(*p, *props),
+            Kind::Present(args) => Kind::Present(args.copy(alloc)?),
+            Kind::Get(watch) => Kind::Get(*watch),
+            Kind::Signal(f) => Kind::Signal(*f),
+            Kind::Poll => Kind::Poll,
+            Kind::Wait(c) => Kind::Wait(*c),
+            Kind::Close(why) => Kind::Close(*why),
+            Kind::End(refused) => Kind::End(*refused),
+            Kind::Begin(time) => Kind::Begin(*time),
+            Kind::Finish => Kind::Finish,
+            Kind::Hit(x, y) => Kind::Hit(*x, *y),
+        })
+    }
+}
+
+impl TryCopy for Entry {
+    fn copy(&self, alloc: Global) -> Result<Entry, NoMemory> {
+        Ok(Entry {
+            actor: self.actor,
+            line: self.line,
+            calls: self.calls.copy_each(alloc)?,
+            kind: self.kind.copy(alloc)?,
+            reply: self.reply,
+        })
+    }
+}
+
+impl TryCopy for Call {
+    fn copy(&self, alloc: Global) -> Result<Call, NoMemory> {
+        Ok(match self {
+            Call::CreateView { pair } => Call::CreateView { pair: *pair },
+            Call::ReleaseView => Call::ReleaseView,
+            Call::CreateTransform { t } => Call::CreateTransform { t: *t },
+            Call::ReleaseTransform { t } => Call::ReleaseTransform { t: *t },
+            Call::SetTranslation { t, x, y } => Call::SetTranslation {
+                t: *t,
+                x: *x,
+                y: *y,
+            },
+            Call::SetOrientation { t, o } => Call::SetOrientation { t: *t, o: *o },
+            Call::SetScale { t, sx, sy } => Call::SetScale {
+                t: *t,
+                sx: *sx,
+                sy: *sy,
+            },
+            Call::SetOpacity { t, v } => Call::SetOpacity { t: *t, v: *v },
+            Call::SetClipBoundary { t, rect } => Call::SetClipBoundary { t: *t, rect: *rect },
+            Call::AddChild { p, k } => Call::AddChild { p: *p, k: *k },
+            Call::RemoveChild { p, k } => Call::RemoveChild { p: *p, k: *k },
+            Call::SetRootTransform { t } => Call::SetRootTransform { t: *t },
+            Call::CreateViewport {
+                c,
+                pair,
+                w,
+                h,
+                inset,
+            } => Call::CreateViewport {
+                c: *c,
+                pair: *pair,
+                w: *w,
+                h: *h,
+                inset: *inset,
+            },
+            Call::SetViewportProperties { c, w, h, inset } => Call::SetViewportProperties {
+                c: *c,
+                w: *w,
+                h: *h,
+                inset: *inset,
+            },
+            Call::ReleaseViewport { c } => Call::ReleaseViewport { c: *c },
+            Call::CreateImage {
+                c,
+                buffers,
+                i,
+                w,
+                h,
+            } => Call::CreateImage {
+                c: *c,
+                buffers: *buffers,
+                i: *i,
+                w: *w,
+                h: *h,
+            },
+            Call::SetImageSampleRegion { c, rect } => Call::SetImageSampleRegion {
+                c: *c,
+                rect: *rect,
+            },
+            Call::SetImageDestinationSize { c, w, h } => Call::SetImageDestinationSize {
+                c: *c,
+                w: *w,
+                h: *h,
+            },
+            Call::SetImageBlendingFunction { c, m } => Call::SetImageBlendingFunction {
+                c: *c,
+                m: *m,
+            },
+            Call::SetImageFlip { c, f } => Call::SetImageFlip { c: *c, f: *f },
+            Call::SetImageOpacity { c, v } => Call::SetImageOpacity { c: *c, v: *v },
+            Call::ReleaseImage { c } => Call::ReleaseImage { c: *c },
+            Call::CreateFilledRect { c } => Call::CreateFilledRect { c: *c },
+            Call::SetSolidFill {
+                c,
+                r,
+                g,
+                b,
+                a,
+                w,
+                h,
+            } => Call::SetSolidFill {
+                c: *c,
+                r: *r,
+                g: *g,
+                b: *b,
+                a: *a,
+                w: *w,
+                h: *h,
+            },
+            Call::ReleaseFilledRect { c } => Call::ReleaseFilledRect { c: *c },
+            Call::SetHitRegions { t, regions } => Call::SetHitRegions {
+                t: *t,
+                regions: regions.copy(alloc)?,
+            },
+            Call::SetInfiniteHitRegion { t, i } => Call::SetInfiniteHitRegion { t: *t, i: *i },
+            Call::SetContent { t, c } => Call::SetContent { t: *t, c: *c },
+            Call::Clear => Call::Clear,
+        })
+    }
+}

@@ -1,0 +1,97 @@
+use crate::calls::{BlendMode, ImageFlip, Interaction};
+use flat_base::{BufferNo, FrameNo, IntRect, Items, Rect, SessionList, SessionNo};
+
+/// What fills the rectangle of a draw item.
+#[derive(Clone, Copy, Debug, PartialEq, Eq)]
+pub enum Paint {
+    /// One colour: red, green, blue, alpha.
+    Fill {
+        rgba: [u8; 4],
+    },
+    /// A part of a buffer, in units of that buffer.
+    Image {
+        buffers: BufferNo,
+        index: u32,
+        sample: IntRect,
+        flip: ImageFlip,
+    },
+}
+
+/// The matrix of a draw item: (px, py) goes to (a * px + x, b * py + y), or where
+/// `swap` is true to (a * py + x, b * px + y), in fixed point.
+#[derive(Clone, Copy, Debug, PartialEq, Eq)]
+pub struct SceneMatrix {
+    pub swap: bool,
+    pub a: i64,
+    pub b: i64,
+    pub x: i64,
+    pub y: i64,
+}
+
+/// One rectangle to be drawn. Items are drawn in the order of their list, later
+/// ones on top.
+#[derive(Clone, Copy, Debug, PartialEq, Eq)]
+pub struct DrawItem {
+    pub session: SessionNo,
+    /// The serial number of the content.
+    pub serial: u32,
+    pub paint: Paint,
+    /// The width of the rectangle in the item's own space, in units.
+    pub w: u32,
+    pub h: u32,
+    pub matrix: SceneMatrix,
+    /// The part of the display that it covers, in places.
+    pub visible: Rect,
+    /// In fixed point, at most one.
+    pub opacity: u32,
+    pub blend: BlendMode,
+}
+
+/// A session that is shown, in the view tree.
+#[derive(Clone, Copy, Debug, PartialEq, Eq)]
+pub struct ViewNode {
+    pub session: SessionNo,
+    /// The session whose viewport shows it; None for the first.
+    pub parent: Option<SessionNo>,
+    /// Its viewport's logical rectangle on the display, uncut, in places.
+    pub bounds: Rect,
+}
+
+/// Nodes of a view tree, in preorder.
+pub type NodeList = Items<ViewNode>;
+
+/// Draw items, in the order in which they are drawn.
+pub type ItemList = Items<DrawItem>;
+
+/// The sessions that are connected to the display, and those that are apart:
+/// open, with a view whose end isn't lost, but not connected.
+#[derive(Debug, Drop)]
+pub struct ViewTree {
+    pub nodes: NodeList,
+    /// In order of the sessions.
+    pub apart: SessionList,
+}
+
+/// A set of sessions: session s is in it where `has[s - 1]` is true.
+#[derive(Clone, Copy, Debug, PartialEq, Eq)]
+pub struct SessionSet {
+    pub has: [bool; 16],
+}
+
+/// A whole frame, as it is shown to displays.
+#[derive(Debug, Drop)]
+pub struct FrameOut {
+    pub frame: FrameNo,
+    pub items: ItemList,
+    pub tree: ViewTree,
+}
+
+/// A session that a point hits, and the interaction of the region that was hit.
+#[derive(Clone, Copy, Debug, PartialEq, Eq)]
+pub struct Hit {
+    pub session: SessionNo,
+    pub interaction: Interaction,
+}
+
+/// The sessions that a point hits, last drawn first, each once.
+pub type HitList = Items<Hit>;

@@ -1,0 +1,24 @@
+//! The plain data of the scene service: calls, script lines, trees, entries,
+//! events and frames, with the definitions of what they mean.
+#![tactic(auto)]
+
+mod calls;
+mod copies;
+mod frames;
+mod journal;
+mod script;
+mod setup;
+mod trees;
+
+pub use calls::{
+    BlendMode, Call, HitRegion, ImageFlip, Inset, Interaction, PresentArgs, RegionList,
+    ViewportProps, Watch,
+};
+pub use frames::{
+    DrawItem, FrameOut, Hit, HitList, ItemList, NodeList, Paint, SceneMatrix, SessionSet, ViewNode,
+    ViewTree,
+};
+pub use journal::{CallList, Entry, Event, Journal, Kind, Layout, Post, Reply, Told};
+pub use script::{Body, Cond, DisplayLine, Line, LineList, ProbeLine, ScriptLine};
+pub use setup::{BufferDecl, BufferList, FenceDecl, FenceDeclList, PairDecl, PairList, Setup};
+pub use trees::{Children, Content, GraphFault, Held, Node, Tree, UseList, ViewportUse};

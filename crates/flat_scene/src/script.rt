@@ -1,0 +1,74 @@
+use crate::calls::{Call, PresentArgs, Watch};
+use flat_base::{Actor, FenceNo, Items, SessionNo};
+
+/// What a Wait asks for: at least so many of them.
+#[derive(Clone, Copy, Debug, PartialEq, Eq)]
+pub enum Cond {
+    /// Finished frames.
+    Frames(u32),
+    /// Credits of the session.
+    Credits(u32),
+    /// Presents of the session that frames took.
+    Taken(u32),
+    /// Answers that the session's gets had.
+    Answers(u32),
+    /// The fence is signalled.
+    Fence(FenceNo),
+    /// Presents that a session made. The compositor's alone.
+    Presents(SessionNo, u32),
+}
+
+/// A line of a session.
+#[derive(Debug, Drop)]
+pub enum Line {
+    Call(Call),
+    Present(PresentArgs),
+    Get(Watch),
+    Signal(FenceNo),
+    Poll,
+    Wait(Cond),
+    /// Closes the session without an error.
+    Disconnect,
+}
+
+/// A line of the compositor.
+#[derive(Clone, Copy, Debug, PartialEq, Eq)]
+pub enum DisplayLine {
+    /// Begins a frame at that time.
+    Begin(u64),
+    /// Ends the open frame.
+    Done,
+    Signal(FenceNo),
+    Wait(Cond),
+    /// Asks who is hit at a point of the display, in units.
+    Hit(i32, i32),
+}
+
+/// A line of a probe.
+#[derive(Clone, Copy, Debug, PartialEq, Eq)]
+pub enum ProbeLine {
+    /// Asks who is hit at a point of the display, in units.
+    Hit(i32, i32),
+    /// Looks until a frame of that number or a later one is published.
+    Await(u32),
+}
+
+/// What a line says, by the sort of its actor.
+#[derive(Debug, Drop)]
+pub enum Body {
+    Session(Line),
+    Display(DisplayLine),
+    Probe(ProbeLine),
+}
+
+/// A body line of a script.
+#[derive(Debug, Drop)]
+pub struct ScriptLine {
+    /// Its place among all lines of the text, from 1.
+    pub number: u32,
+    pub actor: Actor,
+    pub body: Body,
+}
+
+/// Body lines, in the order of the text.
+pub type LineList = Items<ScriptLine>;
