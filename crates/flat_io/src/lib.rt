@@ -1,0 +1,21 @@
+//! Sources and sinks of bytes, whose faults are known by counts alone, and the
+//!
+//! What a source gives and what a sink holds is *told* where its type says so.
+#![tactic(auto)]
+
+mod counts;
+mod memory;
+mod sink;
+mod source;
+mod steady;
+mod system;
+#[cfg(test)]
+mod tests;
+mod whole;
+
+pub use memory::{MemSink, MemSource};
+pub use sink::Sink;
+pub use source::{Failed, Source};
+pub use steady::{SteadySink, SteadySource};
+pub use system::{StdSink, StdSource};
+pub use whole::{read_all, write_all, ReadAll, WriteAll};
