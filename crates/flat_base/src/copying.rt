@@ -2,6 +2,7 @@ ghost use Rattle.std.specs.Prelude.{◌≡◌, IfOk};
 
 use crate::errors::NoMemory;
 use crate::items::Items;
+use crate::roomy::Roomy;
 use std::alloc::Global;
 
 /// A value whose copy takes memory, since it holds a list.
@@ -17,10 +18,10 @@ impl<T: TryCopy + Drop> Items<T> {
         ensures { IfOk result (λ copied. copied ≡ self.now) }
     {
         let items = self.as_slice();
-        let mut copied = Items::with_capacity(alloc, items.len())?;
+        let mut copied = Roomy::with_capacity(alloc, items.len())?;
         for item in items {
-            copied.push(item.copy(alloc)?)?;
+            copied.push(item.copy(alloc)?);
         }
-        Ok(copied)
+        Ok(copied.into_items())
     }
 }

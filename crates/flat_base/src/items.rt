@@ -11,8 +11,9 @@ use std::marker::Model;
 /// much room it has is not seen. So two values that hold lists are equal in a
 /// contract where the lists have the same items.
 ///
-/// It keeps the allocator of its constructor. [`Roomy`](crate::Roomy) is the
-/// list whose room contracts see.
+/// It keeps the allocator of its constructor. Where room is to be taken ahead,
+/// [`Roomy`](crate::Roomy) is the list whose room contracts see; it becomes an
+/// `Items` without memory.
 #[derive(Debug, Drop)]
 pub struct Items<T> {
     inner: Vec<T>,
@@ -51,14 +52,6 @@ impl<T> Items<T> {
         }
     }
 
-    /// An empty list with room for that many items, taken at once.
-    pub fn with_capacity(alloc: Global, capacity: usize) -> Result<Items<T>, NoMemory>
-        ensures { IfOk result (λ made. made ≡ []) }
-    {
-        let inner = Vec::with_capacity(alloc, capacity)?;
-        Ok(Items { inner })
-    }
-
     /// The list of a vector's items. It takes no memory.
     pub fn from_vec(inner: Vec<T>) -> Items<T>
         ensures { result ≡ inner.items }
@@ -72,14 +65,6 @@ impl<T> Items<T> {
     {
         let Items { inner } = self;
         inner
-    }
-
-    /// Takes room for that many items more.
-    pub fn reserve(&mut self, additional: usize) -> Result<(), NoMemory>
-        ensures { self.new ≡ self.old }
-    {
-        self.inner.reserve(additional)?;
-        Ok(())
     }
 
     pub fn len(&self) -> usize

@@ -54,8 +54,7 @@ fn errors_and_reasons_have_their_numbers(rt: HostRuntime) -> Result<(), Fail> {
 
 #[test]
 fn a_list_keeps_its_items(rt: HostRuntime) -> Result<(), Fail> {
-    let mut list = Items::with_capacity(rt.alloc(), 2)?;
-    list.reserve(1)?;
+    let mut list = Items::new(rt.alloc());
     assert!(rt; list.is_empty());
     list.push(Actor::Display)?;
     list.push(Actor::Session(SessionNo(1)))?;

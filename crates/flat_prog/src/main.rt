@@ -1,0 +1,30 @@
+//! The program `flatland`. As yet no command form is known, so every call is
+//! answered with the usage line.
+#![tactic(auto)]
+
+use flat_io::{write_all, StdSink};
+use std::io;
+use std::io::Write;
+use std::process::ExitCode;
+
+/// What is written where the words after the program's name are no command form.
+const USAGE: &[u8] = b"usage: flatland play | race | stress N\n";
+
+/// The words are no command form.
+const STATUS_USAGE: u8 = 2;
+
+/// A write failed, or took nothing.
+const STATUS_WRITE_FAULT: u8 = 5;
+
+fn main(rt: HostRuntime) -> ExitCode {
+    let mut sink = StdSink::new(io::writer(&rt));
+    ExitCode::from(usage(&mut sink))
+}
+
+/// Writes the usage line, and answers the status of the program.
+fn usage<W: Write>(sink: &mut StdSink<W>) -> u8 {
+    match write_all(sink, USAGE) {
+        Ok(()) => STATUS_USAGE,
+        Err(_) => STATUS_WRITE_FAULT,
+    }
+}
