@@ -18,4 +18,4 @@ pub use sink::Sink;
 pub use source::{Failed, Source};
 pub use steady::{SteadySink, SteadySource};
 pub use system::{StdSink, StdSource};
-pub use whole::{read_all, write_all, ReadAll, WriteAll};
+pub use whole::{ReadAll, WriteAll, read_all, write_all};

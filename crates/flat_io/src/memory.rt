@@ -90,7 +90,12 @@ impl MemSink {
     /// An empty sink with room for that many bytes, taken at once. It fails exactly
     /// at the calls of `write` whose numbers, from 1, are in `fail`. At each other
     /// call in `zero` it takes nothing.
-    pub fn new(alloc: Global, room: usize, fail: Vec<u32>, zero: Vec<u32>) -> Result<MemSink, NoMemory>
+    pub fn new(
+        alloc: Global,
+        room: usize,
+        fail: Vec<u32>,
+        zero: Vec<u32>,
+    ) -> Result<MemSink, NoMemory>
         ensures { IfOk result (λ sink. sink ≡ record { kept = record { bytes = []; room = room; is_told = true }; fail = fail.items; zero = zero.items; calls = 0; faults = 0; stalls = 0 }) }
     {
         let inner = SteadySink::new(alloc, room)?;

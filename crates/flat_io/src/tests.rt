@@ -1,8 +1,8 @@
 ghost use Rattle.std.specs.Prelude.{◌≡◌};
 
 use crate::{
-    read_all, write_all, Failed, MemSink, MemSource, ReadAll, Sink, Source, StdSink, StdSource,
-    SteadySink, SteadySource, WriteAll,
+    Failed, MemSink, MemSource, ReadAll, Sink, Source, StdSink, StdSource, SteadySink,
+    SteadySource, WriteAll, read_all, write_all,
 };
 use std::alloc::Global;
 use std::io::Cursor;

@@ -1,0 +1,10 @@
+pub mod Draft
+pub mod Effect
+pub mod Family
+pub mod Frames
+pub mod History
+pub mod Interleave
+pub mod Misuse
+pub mod Reach
+pub mod Tree
+pub mod Trees
