@@ -1,0 +1,9 @@
+pub mod CycleLemmas
+pub mod FamilyClosed
+pub mod FamilyLeast
+pub mod PathLemmas
+pub mod ReachLemmas
+pub mod Rows
+pub mod Steps
+pub mod TakingLemmas
+pub mod TreeRows

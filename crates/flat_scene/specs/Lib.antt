@@ -1,10 +1,14 @@
+pub mod Cycles
 pub mod Draft
 pub mod Effect
 pub mod Family
 pub mod Frames
 pub mod History
 pub mod Interleave
+pub mod Laws
 pub mod Misuse
+pub mod Paths
 pub mod Reach
+pub mod Setups
 pub mod Tree
 pub mod Trees

@@ -1,5 +1,5 @@
 -- The tree that a draft presents, and why there may be none.
-use Rattle.std.specs.Prelude.{ℕ, zero, suc, Bool, true, false, cond, ◌||◌, ◌==◌, nat_lt, List, [], ◌∷◌, ◌++◌, length, filter_map, unwrap_or, option_to_list, slice_get, Option, Some, None}
+use Rattle.std.specs.Prelude.{ℕ, zero, suc, ◌+◌, Bool, true, false, cond, ◌||◌, ◌==◌, nat_lt, List, [], ◌∷◌, ◌++◌, length, filter_map, unwrap_or, option_to_list, slice_get, Option, Some, None}
 use Rattle.std.specs.Option.{option_map, option_and_then}
 use Rattle.std.specs.List.{list_any}
 use Rattle.flat_base.specs.declared.errors.Reason.TheVariants.{Cycle, TreeTooLarge, ViewportTwice, TooManyFences}
@@ -68,9 +68,9 @@ abbrev pub has_path : ℕ → Draft → ℕ → Bool
 has_path zero draft serial = true
 has_path (suc steps) draft serial = list_any (has_path steps draft) (children_at draft serial)
 
--- a path from the root has more nodes than there are transforms, so it meets one twice
+-- a path from the root takes more steps than there are transforms, so it meets one twice
 abbrev pub is_cyclic : Draft → Bool
-is_cyclic draft = unwrap_or (option_map (has_path (length draft.transforms) draft) draft.root) false
+is_cyclic draft = unwrap_or (option_map (has_path (length draft.transforms + 1) draft) draft.root) false
 
 -- the root and all below it, where no path is too long
 abbrev pub all_nodes : Draft → Option Children

@@ -6,6 +6,7 @@ mod calls;
 mod copies;
 mod frames;
 mod journal;
+mod laws;
 mod script;
 mod setup;
 mod trees;
@@ -19,6 +20,7 @@ pub use frames::{
     ViewTree,
 };
 pub use journal::{CallList, Entry, Event, Journal, Kind, Layout, Post, Reply, Told};
+pub use laws::{draft_laws, history_laws};
 pub use script::{Body, Cond, DisplayLine, Line, LineList, ProbeLine, ScriptLine};
 pub use setup::{BufferDecl, BufferList, FenceDecl, FenceDeclList, PairDecl, PairList, Setup};
 pub use trees::{Children, Content, GraphFault, Held, Node, Tree, UseList, ViewportUse};

@@ -1,0 +1,95 @@
+-- Small drafts and their trees, computed.
+use Rattle.std.proofs.Common.{◌≡◌, ℕ, pos, List, [], ◌∷◌, refl, ◌++◌}
+use Rattle.std.specs.Prelude.{Option, Some, None, Ok, Err, Result, zero, suc}
+use Rattle.std.specs.Option.{option_map}
+use Rattle.flat_base.specs.declared.ids.TransformId.{TransformId}
+use Rattle.flat_base.specs.declared.ids.ContentId.{ContentId}
+use Rattle.flat_base.specs.declared.shapes.Orientation.TheVariants.{Ccw0}
+use Rattle.flat_base.specs.declared.errors.Reason.{Reason}
+use Rattle.flat_base.specs.declared.errors.Reason.TheVariants as reason
+use Rattle.flat_scene.specs.declared.calls.Call.{Call}
+use Rattle.flat_scene.specs.declared.calls.Call.TheVariants as call
+use Rattle.flat_scene.specs.declared.calls.Interaction.TheVariants.{Default}
+use Rattle.flat_scene.specs.declared.trees.Tree.{Tree}
+use Rattle.flat_scene.specs.declared.trees.Content.TheVariants as content
+use Rattle.flat_scene.specs.declared.trees.Children.TheVariants.{Empty}
+use Rattle.flat_scene.specs.Draft.{Draft}
+use Rattle.flat_scene.specs.Effect.{draft_of}
+use Rattle.flat_scene.specs.Misuse.{first_reason}
+use Rattle.flat_scene.specs.Tree.{tree, present_tests, all_nodes}
+use Rattle.flat_scene.specs.Trees.{node_count}
+use Rattle.flat_scene.proofs.Rows.{setup, t0}
+
+abbrev pub t : ℕ → TransformId
+t n = record { 0 = n }
+
+abbrev pub c : ℕ → ContentId
+c n = record { 0 = n }
+
+abbrev pub row_1 : List Call
+row_1 = call.CreateView t0 ∷ call.CreateTransform (t 1) ∷ call.SetRootTransform (t 1) ∷ call.CreateFilledRect (c 2)
+    ∷ call.SetSolidFill (c 2) 255 0 0 255 10 10 ∷ call.SetContent (t 1) (c 2) ∷ []
+
+-- the tree, the misuse or the reason why there is none
+abbrev tree_after : List Call → Result (Option Tree) Reason
+tree_after calls = tried (draft_of setup calls)
+  where
+    tried : Result Draft Reason → Result (Option Tree) Reason
+    tried (Err r) = Err r
+    tried (Ok d) = why (first_reason (present_tests d (record { time = 0; acquire = []; release = [] })))
+      where
+        why : Option Reason → Result (Option Tree) Reason
+        why (Some r) = Err r
+        why None = Ok (tree d)
+
+row_1_tree : tree_after row_1 ≡ Ok (Some (record {
+  view = Some t0;
+  root = Some (record {
+    serial = 1;
+    scale = (65536, 65536);
+    turn = Ccw0;
+    place = (pos 0, pos 0);
+    clip = None;
+    opacity = 65536;
+    hits = (record { area = None; interaction = Default }) ∷ [];
+    content = Some (content.Fill 1 (255 ∷ 0 ∷ 0 ∷ 255 ∷ []) 10 10);
+    children = Empty;
+  });
+  viewports = [];
+}))
+row_1_tree = refl
+
+-- a fill that is asked to be an image
+wrong_sort : tree_after (call.CreateFilledRect (c 1) ∷ call.ReleaseImage (c 1) ∷ []) ≡ Err reason.WrongContent
+wrong_sort = refl
+
+-- a transform below itself
+cycle : tree_after (call.CreateTransform (t 1) ∷ call.AddChild (t 1) (t 1) ∷ call.SetRootTransform (t 1) ∷ []) ≡ Err reason.Cycle
+cycle = refl
+
+-- n transforms
+abbrev made : ℕ → List Call
+made zero = []
+made (suc n) = made n ++ call.CreateTransform (t (suc n)) ∷ []
+
+-- each of the first n below the one before
+abbrev hung : ℕ → List Call
+hung zero = []
+hung (suc n) = hung n ++ call.AddChild (t (suc n)) (t (suc (suc n))) ∷ []
+
+chain_65 : tree_after (made 65 ++ hung 64 ++ call.SetRootTransform (t 1) ∷ []) ≡ Err reason.TreeTooLarge
+chain_65 = refl
+
+-- a diamond: four transforms and five nodes
+abbrev diamond : List Call
+diamond = made 4 ++ call.SetRootTransform (t 1) ∷ call.AddChild (t 1) (t 2) ∷ call.AddChild (t 1) (t 3) ∷ call.AddChild (t 2) (t 4) ∷ call.AddChild (t 3) (t 4) ∷ []
+
+abbrev nodes_after : Result Draft Reason → Option ℕ
+nodes_after (Ok d) = option_map node_count (all_nodes d)
+nodes_after (Err r) = None
+
+diamond_nodes : nodes_after (draft_of setup diamond) ≡ Some 5
+diamond_nodes = refl
+
+diamond_cycle : tree_after (diamond ++ call.AddChild (t 4) (t 1) ∷ []) ≡ Err reason.Cycle
+diamond_cycle = refl
