@@ -1,0 +1,89 @@
+use Rattle.std.proofs.Common.{inl, inr, ℕ, ◌+◌, ◌*◌, ◌<◌, ◌≤◌, ◌≡◌, Bool, true, false, ◌∷◌, length, Option, Some, None, refl, sym, arith}
+use Rattle.flat_base.specs.declared.limits.TheConstants.{TREE_NODES_MAX}
+use Rattle.flat_scene.specs.declared.setup.Setup.{Setup}
+use Rattle.flat_topology.specs.Shown.{Shown}
+use Rattle.flat_topology.specs.Pairs.{display_pair}
+use Rattle.flat_topology.specs.Links.{IsConnected}
+use Rattle.flat_topology.specs.Fit.{FitsSetup}
+use Rattle.flat_topology.specs.Join.{join, led_from, sessions_in, joined_sessions, is_joined}
+use Rattle.flat_topology.specs.Place.{display_space, placed_nodes}
+use Rattle.flat_topology.specs.Connected.{joined_count}
+use Rattle.flat_topology.proofs.Distinct.{In, Distinct, pairs-distinct}
+use Rattle.flat_topology.proofs.Distances.{no-cycle}
+use Rattle.flat_topology.proofs.Standing.{in-led, reached-connected, distinct-from, connected-reached, led-in}
+use Rattle.flat_topology.proofs.Whole.{found-in, in-found, few-below, connected-within, distance-low, led-whole}
+use Rattle.flat_topology.proofs.Few.{few-joined}
+use Rattle.flat_topology.proofs.Viewing.{length-placed}
+use Rattle.flat_topology.proofs.Parents.{connected-in-both}
+use Rattle.flat_topology.proofs.links_make_a_tree.Goals as goal
+
+-- ---- the joined tree has the connected sessions
+
+standing_connected : (setup : Setup) (shown : Shown) → FitsSetup setup shown → (s : ℕ) (display : Option ℕ) → display_pair setup ≡ display
+    → In s (sessions_in (led_from shown display)) → IsConnected setup shown s
+standing_connected setup shown fit s None is on = absurd on
+standing_connected setup shown fit s (Some p) is on =
+    let way = in-led setup shown fit (length shown) p s on in
+    (way.0, reached-connected setup shown fit way.0 p s is way.1)
+
+joined_connected : (setup : Setup) (shown : Shown) → FitsSetup setup shown → (s : ℕ) → is_joined setup shown s ≡ true → IsConnected setup shown s
+joined_connected setup shown fit s joined = standing_connected setup shown fit s (display_pair setup) refl (found-in s (joined_sessions setup shown) joined)
+
+connected_joined : (setup : Setup) (shown : Shown) → FitsSetup setup shown → (s : ℕ) → IsConnected setup shown s → is_joined setup shown s ≡ true
+connected_joined setup shown fit s connected =
+    let way = connected-reached setup shown fit connected.0 s connected.1 in
+    let low : connected.0 < length shown = distance-low setup shown fit connected.0 s connected.1 in
+    let stands : In s (joined_sessions setup shown) = rw way.1 (led-in setup shown fit (length shown) connected.0 way.0 s way.2 low) in
+    in-found s (joined_sessions setup shown) stands
+
+pub returns-clause-connected : goal.returns-clause-connected
+returns-clause-connected c = λ setup shown fit s. (joined_connected setup shown fit s, connected_joined setup shown fit s)
+
+pub returns-clause-once : goal.returns-clause-once
+returns-clause-once c = λ setup shown fit. pairs-distinct (joined_sessions setup shown) (distinct-from setup shown fit (display_pair setup) refl)
+
+pub returns-clause-acyclic : goal.returns-clause-acyclic
+returns-clause-acyclic c = λ setup shown fit s between connected. no-cycle setup shown fit s between connected.0 connected.1
+
+pub returns-clause-whole : goal.returns-clause-whole
+returns-clause-whole c = λ setup shown fit. led-whole setup shown fit
+
+-- ---- it has few nodes
+
+few_sessions : (setup : Setup) (shown : Shown) → FitsSetup setup shown → length (joined_sessions setup shown) ≤ length shown
+few_sessions setup shown fit =
+    let low : length (0 ∷ joined_sessions setup shown) ≤ length shown + 1 = few-below (length shown + 1) (0 ∷ joined_sessions setup shown) all_differ bound in
+    omega (arith, low)
+  where
+    within : (s : ℕ) → In s (joined_sessions setup shown) → (0 < s) × (s ≤ length shown)
+    within s on = let connected = standing_connected setup shown fit s (display_pair setup) refl on in connected-within setup shown fit connected.0 s connected.1
+
+    all_differ : Distinct (0 ∷ joined_sessions setup shown)
+    all_differ = (λ on. let h = within 0 on in absurd (omega (arith, h.0)), distinct-from setup shown fit (display_pair setup) refl)
+
+    bound : (s : ℕ) → In s (0 ∷ joined_sessions setup shown) → s < length shown + 1
+    bound s on = elim on [ inl first ↦ omega (arith, first) | inr later ↦ omega (arith, (within s later).1) ]
+
+pub returns-clause-few : goal.returns-clause-few
+returns-clause-few c = λ setup shown fit.
+    let sessions : length (joined_sessions setup shown) ≤ length shown = few_sessions setup shown fit in
+    let nodes : joined_count (join setup shown) ≤ length (joined_sessions setup shown) * TREE_NODES_MAX = few-joined setup shown fit (display_pair setup) in
+    let placed : length (placed_nodes setup shown) ≡ joined_count (join setup shown) = length-placed (display_space setup) (join setup shown) in
+    omega (arith, sessions, nodes, placed)
+
+-- ---- a group with all parents decides
+
+same_tests : (a b : Bool) → (a ≡ true → b ≡ true) → (b ≡ true → a ≡ true) → a ≡ b
+same_tests true b to from = sym (to refl)
+same_tests false true to from = from refl
+same_tests false false to from = refl
+
+pub returns-clause-decided : goal.returns-clause-decided
+returns-clause-decided c = λ setup shown other fit fit' group parents agree s is.
+    same_tests (is_joined setup shown s) (is_joined setup other s)
+    (λ joined.
+    let connected = joined_connected setup shown fit s joined in
+    connected_joined setup other fit' s (connected.0, connected-in-both setup shown other fit group parents agree connected.0 s is connected.1))
+    (λ joined.
+    let connected = joined_connected setup other fit' s joined in
+    connected_joined setup shown fit s (connected.0, connected-in-both setup other shown fit' group parents (λ t in_group. sym (agree t in_group)) connected.0 s is connected.1))

@@ -1,0 +1,29 @@
+-- When shown states fit a setup.
+use Rattle.std.specs.Prelude.{ℕ, ◌≤◌, ◌≡◌, ◌≢◌, Option, Some, max}
+use Rattle.std.specs.List.{Contains, AllPairs}
+use Rattle.flat_base.specs.declared.limits.TheConstants.{OPACITY_MAX, TREE_NODES_MAX}
+use Rattle.flat_scene.specs.declared.trees.Children.{Children}
+use Rattle.flat_scene.specs.declared.trees.Content.{Content}
+use Rattle.flat_scene.specs.declared.trees.Content.TheVariants as content
+use Rattle.flat_scene.specs.declared.setup.Setup.{Setup}
+use Rattle.flat_scene.specs.Trees.{fold_nodes, node_count}
+use Rattle.flat_topology.specs.Shown.{Shown, state_of, view_of, nodes_of, pairs_shown}
+use Rattle.flat_topology.specs.Pairs.{OwnsView, OwnsViewport}
+
+-- the opacity of an image
+abbrev pub image_opacity : Option Content → ℕ
+image_opacity (Some (content.Image serial buffers index sample w h blend flip opacity)) = opacity
+image_opacity _ = 0
+
+-- the greatest opacity of a node or of an image
+abbrev pub greatest_opacity : Children → ℕ
+greatest_opacity = fold_nodes (λ node below after. max (max node.opacity (image_opacity node.content)) (max below after)) 0
+
+-- The shown states fit the setup: each is of a view whose end its session owns, and shows viewports whose ends its session owns, no pair
+-- twice; it has no more nodes than a tree may have, and no opacity above the greatest.
+pub record FitsSetup (setup : Setup) (shown : Shown) : Type 0 where
+  pub views : (s p : ℕ) → view_of (state_of shown s) ≡ Some p → OwnsView setup s p
+  pub viewports : (s p : ℕ) → Contains (pairs_shown shown s) p → OwnsViewport setup s p
+  pub once : (s : ℕ) → AllPairs (λ p q. p ≢ q) (pairs_shown shown s)
+  pub small : (s : ℕ) → node_count (nodes_of (state_of shown s)) ≤ TREE_NODES_MAX
+  pub opacities : (s : ℕ) → greatest_opacity (nodes_of (state_of shown s)) ≤ OPACITY_MAX

@@ -1,0 +1,11 @@
+pub mod Shown
+pub mod Pairs
+pub mod Links
+pub mod Fit
+pub mod Join
+pub mod Place
+pub mod Draw
+pub mod Views
+pub mod Connected
+pub mod Hits
+pub mod Laws

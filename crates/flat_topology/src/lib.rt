@@ -1,0 +1,82 @@
+//! How the shown trees of the sessions hang together below the display.
+//!
+//! A session's shown tree stands below a viewport of another one where both ends
+//! of their pair are used: the viewport end by a node that the other session
+//! shows, the view end by its own view. From the display's pair downwards these
+//! links make one joined tree. The definitions of it stand in this crate's
+//! `specs/`: which sessions are connected, where each node is placed, what is
+//! drawn, the view tree, and what a point hits.
+#![tactic(auto)]
+
+ghost use Rattle.flat_topology.specs.Laws.{JoinsTheConnected, JoinsEachOnce, ReachesNoCycle, JoinsAll, JoinsFew, ParentsDecide, ViewsTheJoined, ViewsBelowParents, ViewsTheConnected};
+
+use flat_base::{Items, Rect, SessionNo};
+use flat_geom::Matrix;
+use flat_scene::{Content, RegionList};
+
+/// A node of the joined tree in its place on the display.
+#[derive(Debug, Drop)]
+pub struct Placed {
+    pub session: SessionNo,
+    /// The transform's serial number.
+    pub serial: u32,
+    /// From the node's own space to the display.
+    pub matrix: Matrix,
+    /// The part of the display to which the node is cut, in places.
+    pub clip: Rect,
+    /// In fixed point, all opacities from the display down to the node.
+    pub opacity: u32,
+    pub content: Option<Content>,
+    pub hits: RegionList,
+}
+
+/// Placed nodes, in preorder.
+pub type PlacedList = Items<Placed>;
+
+/// A session that is connected to the display.
+#[derive(Clone, Copy, Debug, PartialEq, Eq)]
+pub struct Connected {
+    pub session: SessionNo,
+    /// The number of the placed viewport node, from 0, below which the session
+    /// hangs; None for the session of the display's pair.
+    pub at: Option<u32>,
+}
+
+/// Connected sessions, in preorder of their views.
+pub type ConnectedList = Items<Connected>;
+
+/// The joined tree.
+#[derive(Debug, Drop)]
+pub struct Joined {
+    /// The display's rectangle, in places.
+    pub display: Rect,
+    pub nodes: PlacedList,
+    /// Also the sessions that show no node.
+    pub connected: ConnectedList,
+}
+
+/// What follows where shown states fit the setup: the joined tree has exactly the
+/// connected sessions, each once; no cycle of links is reached from the display;
+/// and what a group of sessions shows decides which of them are connected, where
+/// the group has all sessions that may be their parents.
+///
+/// The call does nothing. Its contract is a law about the definitions.
+pub fn links_make_a_tree()
+    ensures connected { JoinsTheConnected }
+    ensures once { JoinsEachOnce }
+    ensures acyclic { ReachesNoCycle }
+    ensures whole { JoinsAll }
+    ensures few { JoinsFew }
+    ensures decided { ParentsDecide }
+{}
+
+/// The view tree has one view for each session of the joined tree, in the same
+/// order. Its parent is the session that it is below, and it stands at the placed
+/// node below which the session hangs.
+///
+/// The call does nothing. Its contract is a law about the definitions.
+pub fn views_follow_links()
+    ensures sessions { ViewsTheJoined }
+    ensures parents { ViewsBelowParents }
+    ensures connected { ViewsTheConnected }
+{}
