@@ -1,1 +1,6 @@
 pub mod CreditLemmas
+pub mod LegalByTests
+mod MoreRuns
+mod Runs
+pub mod Samples
+mod ShellRun
