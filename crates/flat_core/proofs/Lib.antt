@@ -1,6 +1,6 @@
 pub mod CreditLemmas
 pub mod LegalByTests
-mod MoreRuns
-mod Runs
+pub mod MoreRuns
+pub mod Runs
 pub mod Samples
-mod ShellRun
+pub mod ShellRun

@@ -26,7 +26,7 @@ use Rattle.flat_core.proofs.Samples.{s, f, p, t, c, by, present, layout, post, s
 
 -- misuse b16 token not back yet
 
-abbrev b16_token_not_back_yet-setup : Setup
+abbrev pub b16_token_not_back_yet-setup : Setup
 b16_token_not_back_yet-setup = record {
   width = 100;
   height = 100;
@@ -37,7 +37,7 @@ b16_token_not_back_yet-setup = record {
   fences = [];
 }
 
-abbrev b16_token_not_back_yet-history : List Entry
+abbrev pub b16_token_not_back_yet-history : List Entry
 b16_token_not_back_yet-history = []
     ▹ by (Session (s 1)) 8 ((call.CreateView (p 0)) ∷ []) (kind.View (p 0)) reply.Done
     ▹ by (Session (s 1)) 9 ((call.CreateViewport (c 1) (p 1) 60 40 no_inset) ∷ []) (kind.Viewport (p 1) (record { w = 60; h = 40; inset = no_inset })) reply.Done
@@ -51,13 +51,13 @@ b16_token_not_back_yet-history = []
     ▹ by (Session (s 1)) 19 [] (kind.End 1) reply.Done
     ▹ by (Session (s 2)) 19 [] (kind.End 0) reply.Done
 
-b16_token_not_back_yet-legal : Legal b16_token_not_back_yet-setup b16_token_not_back_yet-history
+pub b16_token_not_back_yet-legal : Legal b16_token_not_back_yet-setup b16_token_not_back_yet-history
 b16_token_not_back_yet-legal = legal-by-tests b16_token_not_back_yet-setup b16_token_not_back_yet-history refl (((((((((((tt, refl), refl), refl), refl), refl), refl), refl), refl), refl), refl), refl)
 
 b16_token_not_back_yet-posts : posts b16_token_not_back_yet-setup b16_token_not_back_yet-history ≡ (post 3 1 (event.Credits 5) ∷ post 4 1 (event.FramePresented 1) ∷ [])
 b16_token_not_back_yet-posts = refl
 
-abbrev b16_token_not_back_yet-lines : List ScriptLine
+abbrev pub b16_token_not_back_yet-lines : List ScriptLine
 b16_token_not_back_yet-lines = 
     session_line 8 1 (line.Call (call.CreateView (p 0)))
     ∷ session_line 9 1 (line.Call (call.CreateViewport (c 1) (p 1) 60 40 no_inset))
@@ -77,7 +77,7 @@ b16_token_not_back_yet-reading = record { sessions = (record { follows = ((((((t
 
 -- layout before first present
 
-abbrev layout_before_first_present-setup : Setup
+abbrev pub layout_before_first_present-setup : Setup
 layout_before_first_present-setup = record {
   width = 100;
   height = 100;
@@ -88,7 +88,7 @@ layout_before_first_present-setup = record {
   fences = [];
 }
 
-abbrev layout_before_first_present-history : List Entry
+abbrev pub layout_before_first_present-history : List Entry
 layout_before_first_present-history = []
     ▹ by (Session (s 2)) 8 ((call.CreateView (p 1)) ∷ []) (kind.View (p 1)) reply.Done
     ▹ by (Session (s 2)) 9 [] (kind.Get watch.Layout) reply.Held
@@ -99,13 +99,13 @@ layout_before_first_present-history = []
     ▹ by (Session (s 1)) 14 [] (kind.End 0) reply.Done
     ▹ by (Session (s 2)) 14 [] (kind.End 0) reply.Done
 
-layout_before_first_present-legal : Legal layout_before_first_present-setup layout_before_first_present-history
+pub layout_before_first_present-legal : Legal layout_before_first_present-setup layout_before_first_present-history
 layout_before_first_present-legal = legal-by-tests layout_before_first_present-setup layout_before_first_present-history refl ((((((((tt, refl), refl), refl), refl), refl), refl), refl), refl)
 
 layout_before_first_present-posts : posts layout_before_first_present-setup layout_before_first_present-history ≡ (post 3 2 (event.Told (p 1) watch.Layout (tell.Layout (layout 60 40 0 0 0 0))) ∷ [])
 layout_before_first_present-posts = refl
 
-abbrev layout_before_first_present-lines : List ScriptLine
+abbrev pub layout_before_first_present-lines : List ScriptLine
 layout_before_first_present-lines = 
     session_line 8 2 (line.Call (call.CreateView (p 1)))
     ∷ session_line 9 2 (line.Get watch.Layout)
@@ -120,7 +120,7 @@ layout_before_first_present-reading = record { sessions = (record { follows = ((
 
 -- layout changes between gets
 
-abbrev layout_changes_between_gets-setup : Setup
+abbrev pub layout_changes_between_gets-setup : Setup
 layout_changes_between_gets-setup = record {
   width = 100;
   height = 100;
@@ -131,7 +131,7 @@ layout_changes_between_gets-setup = record {
   fences = [];
 }
 
-abbrev layout_changes_between_gets-history : List Entry
+abbrev pub layout_changes_between_gets-history : List Entry
 layout_changes_between_gets-history = []
     ▹ by (Session (s 1)) 8 ((call.CreateView (p 0)) ∷ []) (kind.View (p 0)) reply.Done
     ▹ by (Session (s 1)) 11 ((call.CreateTransform (t 1)) ∷ (call.SetRootTransform (t 1)) ∷ (call.CreateViewport (c 1) (p 1) 60 40 no_inset) ∷ []) (kind.Viewport (p 1) (record { w = 60; h = 40; inset = no_inset })) reply.Done
@@ -153,13 +153,13 @@ layout_changes_between_gets-history = []
     ▹ by (Session (s 1)) 31 [] (kind.End 0) reply.Done
     ▹ by (Session (s 2)) 31 [] (kind.End 0) reply.Done
 
-layout_changes_between_gets-legal : Legal layout_changes_between_gets-setup layout_changes_between_gets-history
+pub layout_changes_between_gets-legal : Legal layout_changes_between_gets-setup layout_changes_between_gets-history
 layout_changes_between_gets-legal = legal-by-tests layout_changes_between_gets-setup layout_changes_between_gets-history refl (((((((((((((((((((tt, refl), refl), refl), refl), refl), refl), refl), refl), refl), refl), refl), refl), refl), refl), refl), refl), refl), refl), refl)
 
 layout_changes_between_gets-posts : posts layout_changes_between_gets-setup layout_changes_between_gets-history ≡ (post 5 1 (event.Credits 5) ∷ post 6 1 (event.FramePresented 1) ∷ post 8 1 (event.Credits 1) ∷ post 9 1 (event.FramePresented 1) ∷ post 11 1 (event.Credits 1) ∷ post 12 1 (event.FramePresented 1) ∷ post 15 1 (event.Credits 1) ∷ post 16 1 (event.FramePresented 1) ∷ post 16 2 (event.Told (p 1) watch.Layout (tell.Layout (layout 50 50 0 0 0 0))) ∷ [])
 layout_changes_between_gets-posts = refl
 
-abbrev layout_changes_between_gets-lines : List ScriptLine
+abbrev pub layout_changes_between_gets-lines : List ScriptLine
 layout_changes_between_gets-lines = 
     session_line 8 1 (line.Call (call.CreateView (p 0)))
     ∷ session_line 9 1 (line.Call (call.CreateTransform (t 1)))
@@ -191,7 +191,7 @@ layout_changes_between_gets-reading = record { sessions = (record { follows = ((
 
 -- cycle of links is never reached
 
-abbrev cycle_of_links_is_never_reached-setup : Setup
+abbrev pub cycle_of_links_is_never_reached-setup : Setup
 cycle_of_links_is_never_reached-setup = record {
   width = 100;
   height = 100;
@@ -202,7 +202,7 @@ cycle_of_links_is_never_reached-setup = record {
   fences = [];
 }
 
-abbrev cycle_of_links_is_never_reached-history : List Entry
+abbrev pub cycle_of_links_is_never_reached-history : List Entry
 cycle_of_links_is_never_reached-history = []
     ▹ by (Session (s 1)) 9 ((call.CreateView (p 2)) ∷ []) (kind.View (p 2)) reply.Done
     ▹ by (Session (s 1)) 12 ((call.CreateTransform (t 1)) ∷ (call.SetRootTransform (t 1)) ∷ (call.CreateViewport (c 1) (p 1) 10 10 no_inset) ∷ []) (kind.Viewport (p 1) (record { w = 10; h = 10; inset = no_inset })) reply.Done
@@ -215,13 +215,13 @@ cycle_of_links_is_never_reached-history = []
     ▹ by (Session (s 1)) 23 [] (kind.End 0) reply.Done
     ▹ by (Session (s 2)) 23 [] (kind.End 0) reply.Done
 
-cycle_of_links_is_never_reached-legal : Legal cycle_of_links_is_never_reached-setup cycle_of_links_is_never_reached-history
+pub cycle_of_links_is_never_reached-legal : Legal cycle_of_links_is_never_reached-setup cycle_of_links_is_never_reached-history
 cycle_of_links_is_never_reached-legal = legal-by-tests cycle_of_links_is_never_reached-setup cycle_of_links_is_never_reached-history refl ((((((((((tt, refl), refl), refl), refl), refl), refl), refl), refl), refl), refl)
 
 cycle_of_links_is_never_reached-posts : posts cycle_of_links_is_never_reached-setup cycle_of_links_is_never_reached-history ≡ (post 6 1 (event.Credits 5) ∷ post 6 2 (event.Credits 5) ∷ post 7 1 (event.FramePresented 1) ∷ post 7 2 (event.FramePresented 1) ∷ [])
 cycle_of_links_is_never_reached-posts = refl
 
-abbrev cycle_of_links_is_never_reached-lines : List ScriptLine
+abbrev pub cycle_of_links_is_never_reached-lines : List ScriptLine
 cycle_of_links_is_never_reached-lines = 
     session_line 9 1 (line.Call (call.CreateView (p 2)))
     ∷ session_line 10 1 (line.Call (call.CreateTransform (t 1)))
@@ -244,7 +244,7 @@ cycle_of_links_is_never_reached-reading = record { sessions = (record { follows 
 
 -- closed inside a frame
 
-abbrev closed_inside_a_frame-setup : Setup
+abbrev pub closed_inside_a_frame-setup : Setup
 closed_inside_a_frame-setup = record {
   width = 100;
   height = 100;
@@ -255,7 +255,7 @@ closed_inside_a_frame-setup = record {
   fences = [];
 }
 
-abbrev closed_inside_a_frame-history : List Entry
+abbrev pub closed_inside_a_frame-history : List Entry
 closed_inside_a_frame-history = []
     ▹ by (Session (s 1)) 6 ((call.CreateView (p 0)) ∷ []) (kind.View (p 0)) reply.Done
     ▹ by (Session (s 1)) 12 ((call.CreateTransform (t 1)) ∷ (call.SetRootTransform (t 1)) ∷ (call.CreateFilledRect (c 2)) ∷ (call.SetSolidFill (c 2) 255 0 0 255 10 10) ∷ (call.SetContent (t 1) (c 2)) ∷ []) (kind.Present (present 0 [] [])) (reply.Presented 1 0)
@@ -266,13 +266,13 @@ closed_inside_a_frame-history = []
     ▹ by Display 17 [] kind.Finish reply.Done
     ▹ by (Session (s 1)) 18 [] (kind.End 0) reply.Done
 
-closed_inside_a_frame-legal : Legal closed_inside_a_frame-setup closed_inside_a_frame-history
+pub closed_inside_a_frame-legal : Legal closed_inside_a_frame-setup closed_inside_a_frame-history
 closed_inside_a_frame-legal = legal-by-tests closed_inside_a_frame-setup closed_inside_a_frame-history refl ((((((((tt, refl), refl), refl), refl), refl), refl), refl), refl)
 
 closed_inside_a_frame-posts : posts closed_inside_a_frame-setup closed_inside_a_frame-history ≡ (post 2 1 (event.Credits 5) ∷ [])
 closed_inside_a_frame-posts = refl
 
-abbrev closed_inside_a_frame-lines : List ScriptLine
+abbrev pub closed_inside_a_frame-lines : List ScriptLine
 closed_inside_a_frame-lines = 
     session_line 6 1 (line.Call (call.CreateView (p 0)))
     ∷ session_line 7 1 (line.Call (call.CreateTransform (t 1)))
@@ -293,7 +293,7 @@ closed_inside_a_frame-reading = record { sessions = (record { follows = ((((tt, 
 
 -- token comes back
 
-abbrev token_comes_back-setup : Setup
+abbrev pub token_comes_back-setup : Setup
 token_comes_back-setup = record {
   width = 100;
   height = 100;
@@ -304,7 +304,7 @@ token_comes_back-setup = record {
   fences = [];
 }
 
-abbrev token_comes_back-history : List Entry
+abbrev pub token_comes_back-history : List Entry
 token_comes_back-history = []
     ▹ by (Session (s 1)) 8 ((call.CreateView (p 0)) ∷ []) (kind.View (p 0)) reply.Done
     ▹ by (Session (s 1)) 9 ((call.CreateViewport (c 1) (p 1) 60 40 no_inset) ∷ []) (kind.Viewport (p 1) (record { w = 60; h = 40; inset = no_inset })) reply.Done
@@ -318,13 +318,13 @@ token_comes_back-history = []
     ▹ by (Session (s 1)) 18 [] (kind.End 0) reply.Done
     ▹ by (Session (s 2)) 18 [] (kind.End 0) reply.Done
 
-token_comes_back-legal : Legal token_comes_back-setup token_comes_back-history
+pub token_comes_back-legal : Legal token_comes_back-setup token_comes_back-history
 token_comes_back-legal = legal-by-tests token_comes_back-setup token_comes_back-history refl (((((((((((tt, refl), refl), refl), refl), refl), refl), refl), refl), refl), refl), refl)
 
 token_comes_back-posts : posts token_comes_back-setup token_comes_back-history ≡ (post 3 1 (event.Credits 5) ∷ post 4 1 (event.FramePresented 1) ∷ post 6 1 (event.Credits 1) ∷ post 7 1 (event.FramePresented 1) ∷ post 7 1 (event.TokenBack (p 1)) ∷ [])
 token_comes_back-posts = refl
 
-abbrev token_comes_back-lines : List ScriptLine
+abbrev pub token_comes_back-lines : List ScriptLine
 token_comes_back-lines = 
     session_line 8 1 (line.Call (call.CreateView (p 0)))
     ∷ session_line 9 1 (line.Call (call.CreateViewport (c 1) (p 1) 60 40 no_inset))
@@ -343,7 +343,7 @@ token_comes_back-reading = record { sessions = (record { follows = ((((((tt, rec
 
 -- app gone before all
 
-abbrev app_gone_before_all-setup : Setup
+abbrev pub app_gone_before_all-setup : Setup
 app_gone_before_all-setup = record {
   width = 1280;
   height = 800;
@@ -354,7 +354,7 @@ app_gone_before_all-setup = record {
   fences = (record { owners = (Session (s 2) ∷ []) } ∷ record { owners = (Session (s 2) ∷ []) } ∷ record { owners = (Session (s 2) ∷ []) } ∷ record { owners = (Session (s 2) ∷ []) } ∷ []);
 }
 
-abbrev app_gone_before_all-history : List Entry
+abbrev pub app_gone_before_all-history : List Entry
 app_gone_before_all-history = []
     ▹ by (Session (s 2)) 15 [] (kind.Close None) (reply.Closed None None)
     ▹ by (Session (s 3)) 18 ((call.CreateView (p 2)) ∷ []) (kind.View (p 2)) reply.Done
@@ -376,13 +376,13 @@ app_gone_before_all-history = []
     ▹ by (Session (s 2)) 59 [] (kind.End 14) reply.Done
     ▹ by (Session (s 3)) 59 [] (kind.End 0) reply.Done
 
-app_gone_before_all-legal : Legal app_gone_before_all-setup app_gone_before_all-history
+pub app_gone_before_all-legal : Legal app_gone_before_all-setup app_gone_before_all-history
 app_gone_before_all-legal = legal-by-tests app_gone_before_all-setup app_gone_before_all-history refl (((((((((((((((((((tt, refl), refl), refl), refl), refl), refl), refl), refl), refl), refl), refl), refl), refl), refl), refl), refl), refl), refl), refl)
 
 app_gone_before_all-posts : posts app_gone_before_all-setup app_gone_before_all-history ≡ (post 5 3 (event.Told (p 2) watch.Status tell.Disconnected) ∷ post 10 1 (event.Credits 5) ∷ post 10 3 (event.Credits 5) ∷ post 11 1 (event.Told (p 1) (watch.Child (c 1)) tell.Gone) ∷ post 11 1 (event.FramePresented 1) ∷ post 11 3 (event.Told (p 2) watch.Status tell.Connected) ∷ post 11 3 (event.FramePresented 1) ∷ [])
 app_gone_before_all-posts = refl
 
-abbrev app_gone_before_all-lines : List ScriptLine
+abbrev pub app_gone_before_all-lines : List ScriptLine
 app_gone_before_all-lines = 
     session_line 15 2 (line.Disconnect)
     ∷ session_line 16 2 (line.Call (call.CreateView (p 1)))
@@ -435,7 +435,7 @@ app_gone_before_all-reading = record { sessions = (record { follows = ((((((tt, 
 
 -- parent gone
 
-abbrev parent_gone-setup : Setup
+abbrev pub parent_gone-setup : Setup
 parent_gone-setup = record {
   width = 100;
   height = 100;
@@ -446,7 +446,7 @@ parent_gone-setup = record {
   fences = [];
 }
 
-abbrev parent_gone-history : List Entry
+abbrev pub parent_gone-history : List Entry
 parent_gone-history = []
     ▹ by (Session (s 2)) 8 ((call.CreateView (p 1)) ∷ []) (kind.View (p 1)) reply.Done
     ▹ by (Session (s 2)) 9 [] (kind.Get watch.Status) reply.Held
@@ -456,13 +456,13 @@ parent_gone-history = []
     ▹ by (Session (s 1)) 13 [] (kind.End 0) reply.Done
     ▹ by (Session (s 2)) 13 [] (kind.End 0) reply.Done
 
-parent_gone-legal : Legal parent_gone-setup parent_gone-history
+pub parent_gone-legal : Legal parent_gone-setup parent_gone-history
 parent_gone-legal = legal-by-tests parent_gone-setup parent_gone-history refl (((((((tt, refl), refl), refl), refl), refl), refl), refl)
 
 parent_gone-posts : posts parent_gone-setup parent_gone-history ≡ (post 4 2 (event.Told (p 1) watch.Status tell.Gone) ∷ [])
 parent_gone-posts = refl
 
-abbrev parent_gone-lines : List ScriptLine
+abbrev pub parent_gone-lines : List ScriptLine
 parent_gone-lines = 
     session_line 8 2 (line.Call (call.CreateView (p 1)))
     ∷ session_line 9 2 (line.Get watch.Status)
@@ -476,7 +476,7 @@ parent_gone-reading = record { sessions = (record { follows = ((tt, record { lin
 
 -- release fence signalled at done
 
-abbrev release_fence_signalled_at_done-setup : Setup
+abbrev pub release_fence_signalled_at_done-setup : Setup
 release_fence_signalled_at_done-setup = record {
   width = 100;
   height = 100;
@@ -487,7 +487,7 @@ release_fence_signalled_at_done-setup = record {
   fences = (record { owners = (Session (s 1) ∷ []) } ∷ []);
 }
 
-abbrev release_fence_signalled_at_done-history : List Entry
+abbrev pub release_fence_signalled_at_done-history : List Entry
 release_fence_signalled_at_done-history = []
     ▹ by (Session (s 1)) 7 ((call.CreateView (p 0)) ∷ []) (kind.View (p 0)) reply.Done
     ▹ by (Session (s 1)) 8 [] (kind.Present (present 0 [] ((f 0) ∷ []))) (reply.Presented 1 0)
@@ -497,13 +497,13 @@ release_fence_signalled_at_done-history = []
     ▹ by (Session (s 1)) 12 [] (kind.Wait (asks.Fence (f 0))) (reply.Met 1)
     ▹ by (Session (s 1)) 13 [] (kind.End 0) reply.Done
 
-release_fence_signalled_at_done-legal : Legal release_fence_signalled_at_done-setup release_fence_signalled_at_done-history
+pub release_fence_signalled_at_done-legal : Legal release_fence_signalled_at_done-setup release_fence_signalled_at_done-history
 release_fence_signalled_at_done-legal = legal-by-tests release_fence_signalled_at_done-setup release_fence_signalled_at_done-history refl (((((((tt, refl), refl), refl), refl), refl), refl), refl)
 
 release_fence_signalled_at_done-posts : posts release_fence_signalled_at_done-setup release_fence_signalled_at_done-history ≡ (post 2 1 (event.Credits 5) ∷ post 4 1 (event.FramePresented 1) ∷ [])
 release_fence_signalled_at_done-posts = refl
 
-abbrev release_fence_signalled_at_done-lines : List ScriptLine
+abbrev pub release_fence_signalled_at_done-lines : List ScriptLine
 release_fence_signalled_at_done-lines = 
     session_line 7 1 (line.Call (call.CreateView (p 0)))
     ∷ session_line 8 1 (line.Present (present 0 [] ((f 0) ∷ [])))

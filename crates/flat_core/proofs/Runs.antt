@@ -26,7 +26,7 @@ use Rattle.flat_core.proofs.Samples.{s, f, p, t, c, by, present, layout, post, s
 
 -- one fill one frame
 
-abbrev one_fill_one_frame-setup : Setup
+abbrev pub one_fill_one_frame-setup : Setup
 one_fill_one_frame-setup = record {
   width = 100;
   height = 100;
@@ -37,7 +37,7 @@ one_fill_one_frame-setup = record {
   fences = [];
 }
 
-abbrev one_fill_one_frame-history : List Entry
+abbrev pub one_fill_one_frame-history : List Entry
 one_fill_one_frame-history = []
     ▹ by (Session (s 1)) 6 ((call.CreateView (p 0)) ∷ []) (kind.View (p 0)) reply.Done
     ▹ by (Session (s 1)) 12 ((call.CreateTransform (t 1)) ∷ (call.SetRootTransform (t 1)) ∷ (call.CreateFilledRect (c 2)) ∷ (call.SetSolidFill (c 2) 255 0 0 255 10 10) ∷ (call.SetContent (t 1) (c 2)) ∷ []) (kind.Present (present 0 [] [])) (reply.Presented 1 0)
@@ -45,13 +45,13 @@ one_fill_one_frame-history = []
     ▹ by Display 14 [] kind.Finish reply.Done
     ▹ by (Session (s 1)) 15 [] (kind.End 0) reply.Done
 
-one_fill_one_frame-legal : Legal one_fill_one_frame-setup one_fill_one_frame-history
+pub one_fill_one_frame-legal : Legal one_fill_one_frame-setup one_fill_one_frame-history
 one_fill_one_frame-legal = legal-by-tests one_fill_one_frame-setup one_fill_one_frame-history refl (((((tt, refl), refl), refl), refl), refl)
 
 one_fill_one_frame-posts : posts one_fill_one_frame-setup one_fill_one_frame-history ≡ (post 2 1 (event.Credits 5) ∷ post 3 1 (event.FramePresented 1) ∷ [])
 one_fill_one_frame-posts = refl
 
-abbrev one_fill_one_frame-lines : List ScriptLine
+abbrev pub one_fill_one_frame-lines : List ScriptLine
 one_fill_one_frame-lines = 
     session_line 6 1 (line.Call (call.CreateView (p 0)))
     ∷ session_line 7 1 (line.Call (call.CreateTransform (t 1)))
@@ -69,7 +69,7 @@ one_fill_one_frame-reading = record { sessions = (record { follows = (((tt, reco
 
 -- no lines no frames
 
-abbrev no_lines_no_frames-setup : Setup
+abbrev pub no_lines_no_frames-setup : Setup
 no_lines_no_frames-setup = record {
   width = 100;
   height = 100;
@@ -80,17 +80,17 @@ no_lines_no_frames-setup = record {
   fences = [];
 }
 
-abbrev no_lines_no_frames-history : List Entry
+abbrev pub no_lines_no_frames-history : List Entry
 no_lines_no_frames-history = []
     ▹ by (Session (s 1)) 6 [] (kind.End 0) reply.Done
 
-no_lines_no_frames-legal : Legal no_lines_no_frames-setup no_lines_no_frames-history
+pub no_lines_no_frames-legal : Legal no_lines_no_frames-setup no_lines_no_frames-history
 no_lines_no_frames-legal = legal-by-tests no_lines_no_frames-setup no_lines_no_frames-history refl (tt, refl)
 
 no_lines_no_frames-posts : posts no_lines_no_frames-setup no_lines_no_frames-history ≡ []
 no_lines_no_frames-posts = refl
 
-abbrev no_lines_no_frames-lines : List ScriptLine
+abbrev pub no_lines_no_frames-lines : List ScriptLine
 no_lines_no_frames-lines = []
 
 no_lines_no_frames-reading : Interleaves no_lines_no_frames-setup 5 no_lines_no_frames-lines no_lines_no_frames-history
@@ -98,7 +98,7 @@ no_lines_no_frames-reading = record { sessions = (record { follows = (tt, record
 
 -- view without root then poll
 
-abbrev view_without_root_then_poll-setup : Setup
+abbrev pub view_without_root_then_poll-setup : Setup
 view_without_root_then_poll-setup = record {
   width = 100;
   height = 100;
@@ -109,7 +109,7 @@ view_without_root_then_poll-setup = record {
   fences = [];
 }
 
-abbrev view_without_root_then_poll-history : List Entry
+abbrev pub view_without_root_then_poll-history : List Entry
 view_without_root_then_poll-history = []
     ▹ by (Session (s 1)) 6 ((call.CreateView (p 0)) ∷ []) (kind.View (p 0)) reply.Done
     ▹ by (Session (s 1)) 7 [] (kind.Present (present 0 [] [])) (reply.Presented 1 0)
@@ -118,13 +118,13 @@ view_without_root_then_poll-history = []
     ▹ by (Session (s 1)) 10 [] kind.Poll (reply.Polled 2)
     ▹ by (Session (s 1)) 11 [] (kind.End 0) reply.Done
 
-view_without_root_then_poll-legal : Legal view_without_root_then_poll-setup view_without_root_then_poll-history
+pub view_without_root_then_poll-legal : Legal view_without_root_then_poll-setup view_without_root_then_poll-history
 view_without_root_then_poll-legal = legal-by-tests view_without_root_then_poll-setup view_without_root_then_poll-history refl ((((((tt, refl), refl), refl), refl), refl), refl)
 
 view_without_root_then_poll-posts : posts view_without_root_then_poll-setup view_without_root_then_poll-history ≡ (post 2 1 (event.Credits 5) ∷ post 3 1 (event.FramePresented 1) ∷ [])
 view_without_root_then_poll-posts = refl
 
-abbrev view_without_root_then_poll-lines : List ScriptLine
+abbrev pub view_without_root_then_poll-lines : List ScriptLine
 view_without_root_then_poll-lines = 
     session_line 6 1 (line.Call (call.CreateView (p 0)))
     ∷ session_line 7 1 (line.Present (present 0 [] []))
@@ -138,7 +138,7 @@ view_without_root_then_poll-reading = record { sessions = (record { follows = ((
 
 -- fence signalled between frames
 
-abbrev fence_signalled_between_frames-setup : Setup
+abbrev pub fence_signalled_between_frames-setup : Setup
 fence_signalled_between_frames-setup = record {
   width = 100;
   height = 100;
@@ -149,7 +149,7 @@ fence_signalled_between_frames-setup = record {
   fences = (record { owners = (Display ∷ Session (s 1) ∷ []) } ∷ []);
 }
 
-abbrev fence_signalled_between_frames-history : List Entry
+abbrev pub fence_signalled_between_frames-history : List Entry
 fence_signalled_between_frames-history = []
     ▹ by (Session (s 1)) 7 ((call.CreateView (p 0)) ∷ []) (kind.View (p 0)) reply.Done
     ▹ by (Session (s 1)) 13 ((call.CreateTransform (t 1)) ∷ (call.SetRootTransform (t 1)) ∷ (call.CreateFilledRect (c 1)) ∷ (call.SetSolidFill (c 1) 0 0 255 128 20 10) ∷ (call.SetContent (t 1) (c 1)) ∷ []) (kind.Present (present 0 ((f 0) ∷ []) [])) (reply.Presented 1 0)
@@ -160,13 +160,13 @@ fence_signalled_between_frames-history = []
     ▹ by Display 18 [] kind.Finish reply.Done
     ▹ by (Session (s 1)) 19 [] (kind.End 0) reply.Done
 
-fence_signalled_between_frames-legal : Legal fence_signalled_between_frames-setup fence_signalled_between_frames-history
+pub fence_signalled_between_frames-legal : Legal fence_signalled_between_frames-setup fence_signalled_between_frames-history
 fence_signalled_between_frames-legal = legal-by-tests fence_signalled_between_frames-setup fence_signalled_between_frames-history refl ((((((((tt, refl), refl), refl), refl), refl), refl), refl), refl)
 
 fence_signalled_between_frames-posts : posts fence_signalled_between_frames-setup fence_signalled_between_frames-history ≡ (post 5 1 (event.Credits 5) ∷ post 6 1 (event.FramePresented 1) ∷ [])
 fence_signalled_between_frames-posts = refl
 
-abbrev fence_signalled_between_frames-lines : List ScriptLine
+abbrev pub fence_signalled_between_frames-lines : List ScriptLine
 fence_signalled_between_frames-lines = 
     session_line 7 1 (line.Call (call.CreateView (p 0)))
     ∷ session_line 8 1 (line.Call (call.CreateTransform (t 1)))
@@ -187,7 +187,7 @@ fence_signalled_between_frames-reading = record { sessions = (record { follows =
 
 -- unready present holds back later ones
 
-abbrev unready_present_holds_back_later_ones-setup : Setup
+abbrev pub unready_present_holds_back_later_ones-setup : Setup
 unready_present_holds_back_later_ones-setup = record {
   width = 100;
   height = 100;
@@ -198,7 +198,7 @@ unready_present_holds_back_later_ones-setup = record {
   fences = (record { owners = (Display ∷ Session (s 1) ∷ []) } ∷ []);
 }
 
-abbrev unready_present_holds_back_later_ones-history : List Entry
+abbrev pub unready_present_holds_back_later_ones-history : List Entry
 unready_present_holds_back_later_ones-history = []
     ▹ by (Session (s 1)) 7 ((call.CreateView (p 0)) ∷ []) (kind.View (p 0)) reply.Done
     ▹ by (Session (s 1)) 8 [] (kind.Present (present 0 [] [])) (reply.Presented 1 0)
@@ -214,13 +214,13 @@ unready_present_holds_back_later_ones-history = []
     ▹ by Display 18 [] kind.Finish reply.Done
     ▹ by (Session (s 1)) 19 [] (kind.End 0) reply.Done
 
-unready_present_holds_back_later_ones-legal : Legal unready_present_holds_back_later_ones-setup unready_present_holds_back_later_ones-history
+pub unready_present_holds_back_later_ones-legal : Legal unready_present_holds_back_later_ones-setup unready_present_holds_back_later_ones-history
 unready_present_holds_back_later_ones-legal = legal-by-tests unready_present_holds_back_later_ones-setup unready_present_holds_back_later_ones-history refl (((((((((((((tt, refl), refl), refl), refl), refl), refl), refl), refl), refl), refl), refl), refl), refl)
 
 unready_present_holds_back_later_ones-posts : posts unready_present_holds_back_later_ones-setup unready_present_holds_back_later_ones-history ≡ (post 2 1 (event.Credits 5) ∷ post 3 1 (event.FramePresented 1) ∷ post 7 1 (event.Credits 1) ∷ post 8 1 (event.FramePresented 1) ∷ post 10 1 (event.Credits 2) ∷ post 11 1 (event.FramePresented 2) ∷ [])
 unready_present_holds_back_later_ones-posts = refl
 
-abbrev unready_present_holds_back_later_ones-lines : List ScriptLine
+abbrev pub unready_present_holds_back_later_ones-lines : List ScriptLine
 unready_present_holds_back_later_ones-lines = 
     session_line 7 1 (line.Call (call.CreateView (p 0)))
     ∷ session_line 8 1 (line.Present (present 0 [] []))
@@ -241,7 +241,7 @@ unready_present_holds_back_later_ones-reading = record { sessions = (record { fo
 
 -- present waits for its time
 
-abbrev present_waits_for_its_time-setup : Setup
+abbrev pub present_waits_for_its_time-setup : Setup
 present_waits_for_its_time-setup = record {
   width = 100;
   height = 100;
@@ -252,7 +252,7 @@ present_waits_for_its_time-setup = record {
   fences = [];
 }
 
-abbrev present_waits_for_its_time-history : List Entry
+abbrev pub present_waits_for_its_time-history : List Entry
 present_waits_for_its_time-history = []
     ▹ by (Session (s 1)) 6 ((call.CreateView (p 0)) ∷ []) (kind.View (p 0)) reply.Done
     ▹ by (Session (s 1)) 7 [] (kind.Present (present 1000 [] [])) (reply.Presented 1 0)
@@ -263,13 +263,13 @@ present_waits_for_its_time-history = []
     ▹ by Display 12 [] kind.Finish reply.Done
     ▹ by (Session (s 1)) 13 [] (kind.End 0) reply.Done
 
-present_waits_for_its_time-legal : Legal present_waits_for_its_time-setup present_waits_for_its_time-history
+pub present_waits_for_its_time-legal : Legal present_waits_for_its_time-setup present_waits_for_its_time-history
 present_waits_for_its_time-legal = legal-by-tests present_waits_for_its_time-setup present_waits_for_its_time-history refl ((((((((tt, refl), refl), refl), refl), refl), refl), refl), refl)
 
 present_waits_for_its_time-posts : posts present_waits_for_its_time-setup present_waits_for_its_time-history ≡ (post 5 1 (event.Credits 5) ∷ post 6 1 (event.FramePresented 1) ∷ [])
 present_waits_for_its_time-posts = refl
 
-abbrev present_waits_for_its_time-lines : List ScriptLine
+abbrev pub present_waits_for_its_time-lines : List ScriptLine
 present_waits_for_its_time-lines = 
     session_line 6 1 (line.Call (call.CreateView (p 0)))
     ∷ session_line 7 1 (line.Present (present 1000 [] []))
@@ -285,7 +285,7 @@ present_waits_for_its_time-reading = record { sessions = (record { follows = (((
 
 -- second present before a frame closes
 
-abbrev second_present_before_a_frame_closes-setup : Setup
+abbrev pub second_present_before_a_frame_closes-setup : Setup
 second_present_before_a_frame_closes-setup = record {
   width = 100;
   height = 100;
@@ -296,20 +296,20 @@ second_present_before_a_frame_closes-setup = record {
   fences = [];
 }
 
-abbrev second_present_before_a_frame_closes-history : List Entry
+abbrev pub second_present_before_a_frame_closes-history : List Entry
 second_present_before_a_frame_closes-history = []
     ▹ by (Session (s 1)) 6 ((call.CreateView (p 0)) ∷ []) (kind.View (p 0)) reply.Done
     ▹ by (Session (s 1)) 7 [] (kind.Present (present 0 [] [])) (reply.Presented 1 0)
     ▹ by (Session (s 1)) 8 [] (kind.Present (present 0 [] [])) (reply.Closed (Some error.NoPresentsRemaining) None)
     ▹ by (Session (s 1)) 10 [] (kind.End 1) reply.Done
 
-second_present_before_a_frame_closes-legal : Legal second_present_before_a_frame_closes-setup second_present_before_a_frame_closes-history
+pub second_present_before_a_frame_closes-legal : Legal second_present_before_a_frame_closes-setup second_present_before_a_frame_closes-history
 second_present_before_a_frame_closes-legal = legal-by-tests second_present_before_a_frame_closes-setup second_present_before_a_frame_closes-history refl ((((tt, refl), refl), refl), refl)
 
 second_present_before_a_frame_closes-posts : posts second_present_before_a_frame_closes-setup second_present_before_a_frame_closes-history ≡ []
 second_present_before_a_frame_closes-posts = refl
 
-abbrev second_present_before_a_frame_closes-lines : List ScriptLine
+abbrev pub second_present_before_a_frame_closes-lines : List ScriptLine
 second_present_before_a_frame_closes-lines = 
     session_line 6 1 (line.Call (call.CreateView (p 0)))
     ∷ session_line 7 1 (line.Present (present 0 [] []))
@@ -322,7 +322,7 @@ second_present_before_a_frame_closes-reading = record { sessions = (record { fol
 
 -- misuse b01 zero id
 
-abbrev b01_zero_id-setup : Setup
+abbrev pub b01_zero_id-setup : Setup
 b01_zero_id-setup = record {
   width = 100;
   height = 100;
@@ -333,18 +333,18 @@ b01_zero_id-setup = record {
   fences = [];
 }
 
-abbrev b01_zero_id-history : List Entry
+abbrev pub b01_zero_id-history : List Entry
 b01_zero_id-history = []
     ▹ by (Session (s 1)) 6 ((call.CreateTransform (t 0)) ∷ []) (kind.Close (Some reason.ZeroId)) (reply.Closed (Some error.BadOperation) (Some reason.ZeroId))
     ▹ by (Session (s 1)) 7 [] (kind.End 0) reply.Done
 
-b01_zero_id-legal : Legal b01_zero_id-setup b01_zero_id-history
+pub b01_zero_id-legal : Legal b01_zero_id-setup b01_zero_id-history
 b01_zero_id-legal = legal-by-tests b01_zero_id-setup b01_zero_id-history refl ((tt, refl), refl)
 
 b01_zero_id-posts : posts b01_zero_id-setup b01_zero_id-history ≡ []
 b01_zero_id-posts = refl
 
-abbrev b01_zero_id-lines : List ScriptLine
+abbrev pub b01_zero_id-lines : List ScriptLine
 b01_zero_id-lines = 
     session_line 6 1 (line.Call (call.CreateTransform (t 0)))
     ∷ []

@@ -26,7 +26,7 @@ use Rattle.flat_core.proofs.Samples.{s, f, p, t, c, by, present, layout, post, s
 
 -- shell with two apps
 
-abbrev shell_with_two_apps-setup : Setup
+abbrev pub shell_with_two_apps-setup : Setup
 shell_with_two_apps-setup = record {
   width = 1280;
   height = 800;
@@ -37,7 +37,7 @@ shell_with_two_apps-setup = record {
   fences = (record { owners = (Session (s 2) ∷ []) } ∷ record { owners = (Session (s 2) ∷ []) } ∷ record { owners = (Session (s 2) ∷ []) } ∷ record { owners = (Session (s 2) ∷ []) } ∷ []);
 }
 
-abbrev shell_with_two_apps-history : List Entry
+abbrev pub shell_with_two_apps-history : List Entry
 shell_with_two_apps-history = []
     ▹ by (Session (s 2)) 15 ((call.CreateView (p 1)) ∷ []) (kind.View (p 1)) reply.Done
     ▹ by (Session (s 2)) 16 [] (kind.Get watch.Layout) reply.Held
@@ -66,13 +66,13 @@ shell_with_two_apps-history = []
     ▹ by (Session (s 2)) 58 [] (kind.End 0) reply.Done
     ▹ by (Session (s 3)) 58 [] (kind.End 0) reply.Done
 
-shell_with_two_apps-legal : Legal shell_with_two_apps-setup shell_with_two_apps-history
+pub shell_with_two_apps-legal : Legal shell_with_two_apps-setup shell_with_two_apps-history
 shell_with_two_apps-legal = legal-by-tests shell_with_two_apps-setup shell_with_two_apps-history refl ((((((((((((((((((((((((((tt, refl), refl), refl), refl), refl), refl), refl), refl), refl), refl), refl), refl), refl), refl), refl), refl), refl), refl), refl), refl), refl), refl), refl), refl), refl), refl)
 
 shell_with_two_apps-posts : posts shell_with_two_apps-setup shell_with_two_apps-history ≡ (post 5 2 (event.Told (p 1) watch.Layout (tell.Layout (layout 640 760 0 0 0 0))) ∷ post 6 3 (event.Told (p 2) watch.Status tell.Disconnected) ∷ post 13 1 (event.Credits 5) ∷ post 13 3 (event.Credits 5) ∷ post 14 1 (event.FramePresented 1) ∷ post 14 3 (event.Told (p 2) watch.Status tell.Connected) ∷ post 14 3 (event.FramePresented 1) ∷ post 16 2 (event.Credits 5) ∷ post 17 1 (event.Told (p 1) (watch.Child (c 1)) tell.HasPresented) ∷ post 17 2 (event.FramePresented 1) ∷ post 21 2 (event.Credits 1) ∷ post 22 2 (event.FramePresented 1) ∷ [])
 shell_with_two_apps-posts = refl
 
-abbrev shell_with_two_apps-lines : List ScriptLine
+abbrev pub shell_with_two_apps-lines : List ScriptLine
 shell_with_two_apps-lines = 
     session_line 15 2 (line.Call (call.CreateView (p 1)))
     ∷ session_line 16 2 (line.Get watch.Layout)

@@ -193,6 +193,7 @@ cycle-is-reached draft = (there, back)
             absurd (let none : false ≡ true = sym (ap (λ (o : Option ℕ). unwrap_or (option_map (has_path (length draft.transforms + 1) draft) o) false) is) ∙ cyclic in cc)
         by_root (Some root) is =
             (root, is, long-cycle draft root (sym (more-steps draft root) ∙ sym (ap (λ (o : Option ℕ). unwrap_or (option_map (has_path (length draft.transforms + 1) draft) o) false) is) ∙ cyclic))
+
     back : (root : ℕ) × (draft.root ≡ Some root) × HasCycle (children_at draft) root → is_cyclic draft ≡ true
     back (root, is, cycle) =
         ap (λ (o : Option ℕ). unwrap_or (option_map (has_path (length draft.transforms + 1) draft) o) false) is ∙ cycle-path draft (length draft.transforms + 1) root cycle

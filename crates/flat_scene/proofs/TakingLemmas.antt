@@ -68,7 +68,9 @@ pub taken-made : (setup : Setup) (s : SessionNo) (history : List Entry) → take
 taken-made setup s [] = omega arith
 taken-made setup s (before ▹ e) =
     omega (
-      arith, taken-made setup s before, presents-grow s before e,
+      arith,
+      taken-made setup s before,
+      presents-grow s before e,
       takes-fits e.kind (is_signalled setup before) (is_closed s before) (drop (taken setup before s) (presents s before)),
       length-drop (taken setup before s) (presents s before),
     )

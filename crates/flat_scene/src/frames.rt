@@ -95,3 +95,11 @@ pub struct Hit {
 
 /// The sessions that a point hits, last drawn first, each once.
 pub type HitList = Items<Hit>;
+
+/// A display that failed, and the frame at which it did. It is shown no more.
+#[derive(Clone, Copy, Debug, PartialEq, Eq)]
+pub struct Lost {
+    /// The display's number, from 1, as handed in.
+    pub display: u32,
+    pub frame: FrameNo,
+}
