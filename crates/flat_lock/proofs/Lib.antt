@@ -1,0 +1,9 @@
+pub mod Histories
+pub mod Tickets
+pub mod Kept
+pub mod Seating
+pub mod AtHome
+pub mod Held
+pub mod Dealing
+pub mod Closing
+pub mod Examples

@@ -1,0 +1,5 @@
+pub mod History
+pub mod Seats
+pub mod Steps
+pub mod Rule
+pub mod Places

@@ -1,0 +1,115 @@
+-- What each step makes of a view, and what it tells the seat that makes it.
+use Rattle.std.specs.Prelude.{◌≡◌, ◌≢◌, ℕ, ◌+◌, ◌%◌, ◌^◌, ◌<◌, List, [], ◌∷◌, ◌++◌, length, true, false, Option, Some, None, drop, All}
+use Rattle.atomic_table.specs.Table.{Me, Step}
+use Rattle.atomic_table.specs.Seated.{TableId}
+use Rattle.atomic_table.specs.declared.shared.Seat.{Seat}
+use Rattle.flat_lock.specs.History.{StartsWith, entries_of}
+use Rattle.flat_lock.specs.declared.view.View.{View}
+use Rattle.flat_lock.specs.declared.view_parts.Ended.{Ended}
+use Rattle.flat_lock.specs.declared.view_parts.Turn.TheVariants.{Idle, Waits, Holds, Spent}
+
+-- the table has two words and one slot
+abbrev pub IsShaped : TableId → Type 0
+IsShaped table = (table.words ≡ 2) × (table.slots ≡ 1)
+
+module _ {S E F : Type 0} where
+  -- it is still the same seat of the same table
+  abbrev pub IsSameSeat : Seat S (View E F) → Seat S (View E F) → Type 0
+  IsSameSeat old new = (new.table_id ≡ old.table_id) × (new.id ≡ old.id)
+
+module _ {E F : Type 0} where
+  -- the first seat of a lock with so many seats
+  abbrev pub first_view : Option F → ℕ → View E F
+  first_view constant seats = record { marker = record {}; seats = seats; fixed = constant; seen = []; mine = []; actor = 0; turn = Idle; first = true; handed_out = 1; ended = [] }
+
+  -- the same, when it has handed out the actors below this number
+  abbrev pub dealing_view : Option F → ℕ → ℕ → View E F
+  dealing_view constant seats next = record (first_view constant seats) { handed_out = next }
+
+  -- it drew this ticket
+  abbrev pub waiting : ℕ → View E F → View E F
+  waiting ticket v = record v { turn = Waits ticket }
+
+  -- its ticket is served, and it has seen the history
+  abbrev pub entering : ℕ → List E → View E F → View E F
+  entering ticket history v = record v { seen = history; turn = Holds ticket }
+
+  -- it has given a value with this history back
+  abbrev pub giving : List E → View E F → View E F
+  giving history v = record v { seen = history; mine = v.mine ++ drop (length v.seen) history; turn = Idle }
+
+  -- it has handed out the next actor
+  abbrev pub splitting : View E F → View E F
+  splitting v = record v { handed_out = v.handed_out + 1 }
+
+  -- the seat of the actor that is handed out
+  abbrev pub split_off : View E F → View E F
+  split_off v = record { marker = record {}; seats = v.seats; fixed = v.fixed; seen = v.seen; mine = []; actor = v.handed_out; turn = Idle; first = false; handed_out = 0; ended = [] }
+
+  -- what is left of a seat that is joined
+  abbrev pub ended_view : View E F → Ended E
+  ended_view w = record { marker = record {}; actor = w.actor; seen = w.seen; mine = w.mine }
+
+  -- it keeps what the joined seat knew
+  abbrev pub joining : View E F → View E F → View E F
+  joining v w = record v { ended = ended_view w ∷ v.ended }
+
+  -- the joined seat
+  abbrev pub spent : View E F
+  spent = record { marker = record {}; seats = 0; fixed = None; seen = []; mine = []; actor = 0; turn = Spent; first = false; handed_out = 0; ended = [] }
+
+module _ {S E F : Type 0} where
+  -- the seat has a ticket, and the word had its number
+  abbrev pub DrawsTicket : Step S → Me S (View E F) → ℕ → Me S (View E F) → Type 0
+  DrawsTicket step old found new = (ticket : ℕ) × (ticket % 2 ^ 64 ≡ found) × (new ≡ (waiting ticket old.0, old.1))
+
+  -- the seat has no ticket
+  abbrev pub IsResting : Me S (View E F) → Type 0
+  IsResting m = (m.0.turn ≡ Idle) × (m.1 ≡ [])
+
+  -- the seat waits with a ticket of this remainder
+  abbrev pub IsWaiting : ℕ → Me S (View E F) → Type 0
+  IsWaiting remainder m = (ticket : ℕ) × (ticket % 2 ^ 64 ≡ remainder) × (m.0.turn ≡ Waits ticket) × (m.1 ≡ [])
+
+  -- a resting seat has drawn such a ticket
+  abbrev pub HasDrawn : ℕ → Me S (View E F) → Me S (View E F) → Type 0
+  HasDrawn remainder old new = (ticket : ℕ) × (ticket % 2 ^ 64 ≡ remainder) × (new ≡ (waiting ticket old.0, []))
+
+module _ {E F : Type 0} where
+  -- What a seat whose ticket is served learns of the history of the value, and of its unchanging part:
+  -- it begins with all that the seat had seen, the seat's entries in it are its own list, and each entry is of one of the lock's seats.
+  pub record Learns (actor : E → ℕ) (v : View E F) (history : List E) (constant : F) : Type 0 where
+    pub longer : StartsWith history v.seen
+    pub own : v.mine ≡ entries_of actor v.actor history
+    pub others : All (λ e. actor e < v.seats) history
+    pub fixed : v.fixed ≡ Some constant
+
+module _ {T E F : Type 0} (history : T → List E) (actor : E → ℕ) (fixed : T → F) where
+  -- where the seat's ticket is served, it has the value in the slot; else nothing changes
+  abbrev pub ReadsServing : Step (Option T) → Me (Option T) (View E F) → ℕ → Me (Option T) (View E F) → Type 0
+  ReadsServing step old found new = (ticket : ℕ) → old.0.turn ≡ Waits ticket
+      → (found ≡ ticket % 2 ^ 64 → (x : T) × (new ≡ (entering ticket (history x) old.0, (0, Some x) ∷ old.1)) × Learns actor old.0 (history x) (fixed x))
+      × (found ≢ ticket % 2 ^ 64 → new ≡ old)
+
+  -- the seat has the turn, and the value in the slot
+  abbrev pub HasEntered : Me (Option T) (View E F) → Me (Option T) (View E F) → Type 0
+  HasEntered old new = (ticket : ℕ) × (x : T) × (new ≡ (entering ticket (history x) old.0, (0, Some x) ∷ [])) × Learns actor old.0 (history x) (fixed x)
+
+  -- the seat has the turn, and has taken the value out of the slot
+  abbrev pub HasTaken : Me (Option T) (View E F) → T → Me (Option T) (View E F) → Type 0
+  HasTaken old x new = (ticket : ℕ) × (new ≡ (entering ticket (history x) old.0, (0, None) ∷ [])) × Learns actor old.0 (history x) (fixed x)
+
+module _ {S E F : Type 0} where
+  -- the turn is over, and the seat's list has all the entries of its actor in this history
+  abbrev pub HasLeft : (E → ℕ) → List E → Me S (View E F) → Me S (View E F) → Type 0
+  HasLeft actor history old new = (new ≡ (giving history old.0, [])) × (new.0.mine ≡ entries_of actor old.0.actor history)
+
+module _ {T E F : Type 0} (history : T → List E) (actor : E → ℕ) where
+  -- the turn of a seat that has put a value into the slot is over
+  abbrev pub ServesNext : Step (Option T) → Me (Option T) (View E F) → ℕ → Me (Option T) (View E F) → Type 0
+  ServesNext step old found new = (x : T) → old.1 ≡ (0, Some x) ∷ [] → HasLeft actor (history x) old new
+
+module _ {T E F : Type 0} where
+  -- the seat has the turn, and its slot is empty
+  abbrev pub HasTurn : Me (Option T) (View E F) → Type 0
+  HasTurn m = (ticket : ℕ) × (m.0.turn ≡ Holds ticket) × (m.1 ≡ (0, None) ∷ [])

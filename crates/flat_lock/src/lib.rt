@@ -1,0 +1,22 @@
+//! A lock whose turns go by tickets, over a value that stands for a history of
+//! entries. Threads step with seats, and each seat's entries are its own: what
+//! every seat saw and made is part of one history, which the lock hands out
+//! when it ends.
+#![tactic(auto)]
+
+mod deal;
+mod lock;
+mod rule;
+mod seat;
+mod seats;
+mod steps;
+mod storied;
+#[cfg(test)]
+mod tests;
+mod view;
+mod view_parts;
+
+pub use lock::TicketLock;
+pub use seat::LockSeat;
+pub use seats::LockSeats;
+pub use storied::Storied;

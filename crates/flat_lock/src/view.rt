@@ -1,0 +1,33 @@
+//! What a seat at the table knows.
+ghost use Rattle.std.specs.Prelude.{ℕ, List, Bool, Option};
+ghost use Rattle.flat_lock.specs.declared.view_parts.Turn.{Turn};
+ghost use Rattle.flat_lock.specs.declared.view_parts.Ended.{Ended};
+ghost use base.Fml.{ftrue};
+
+use std::marker::{Model, PhantomData};
+
+/// What a seat at the table knows. It has no bytes, and no value of it is made.
+pub struct View<E, F> {
+    marker: PhantomData<(E, F)>,
+    // How many seats the lock has.
+    pub ghost seats: { ℕ },
+    // The unchanging part. A spent seat has none.
+    pub ghost fixed: { Option F },
+    // The history that the seat has seen.
+    pub ghost seen: { List E },
+    // The entries of its actor.
+    pub ghost mine: { List E },
+    // The number of its actor.
+    pub ghost actor: { ℕ },
+    pub ghost turn: { Turn },
+    // Whether it is the first seat, which alone splits and joins.
+    pub ghost first: { Bool },
+    // The first seat has handed out the actors below this number.
+    pub ghost handed_out: { ℕ },
+    // The seats that were joined into this one, the last one first.
+    pub ghost ended: { List (Ended E) },
+}
+
+impl<E, F> Model for View<E, F> {
+    ghost also_owns = { λ _. ftrue };
+}
