@@ -9,6 +9,8 @@ mod journal;
 mod laws;
 mod script;
 mod setup;
+#[cfg(test)]
+mod tests;
 mod trees;
 
 pub use calls::{
