@@ -58,7 +58,7 @@ b16_token_not_back_yet-posts : posts b16_token_not_back_yet-setup b16_token_not_
 b16_token_not_back_yet-posts = refl
 
 abbrev pub b16_token_not_back_yet-lines : List ScriptLine
-b16_token_not_back_yet-lines = 
+b16_token_not_back_yet-lines =
     session_line 8 1 (line.Call (call.CreateView (p 0)))
     ∷ session_line 9 1 (line.Call (call.CreateViewport (c 1) (p 1) 60 40 no_inset))
     ∷ session_line 10 1 (line.Present (present 0 [] []))
@@ -106,7 +106,7 @@ layout_before_first_present-posts : posts layout_before_first_present-setup layo
 layout_before_first_present-posts = refl
 
 abbrev pub layout_before_first_present-lines : List ScriptLine
-layout_before_first_present-lines = 
+layout_before_first_present-lines =
     session_line 8 2 (line.Call (call.CreateView (p 1)))
     ∷ session_line 9 2 (line.Get watch.Layout)
     ∷ session_line 10 1 (line.Call (call.CreateView (p 0)))
@@ -160,7 +160,7 @@ layout_changes_between_gets-posts : posts layout_changes_between_gets-setup layo
 layout_changes_between_gets-posts = refl
 
 abbrev pub layout_changes_between_gets-lines : List ScriptLine
-layout_changes_between_gets-lines = 
+layout_changes_between_gets-lines =
     session_line 8 1 (line.Call (call.CreateView (p 0)))
     ∷ session_line 9 1 (line.Call (call.CreateTransform (t 1)))
     ∷ session_line 10 1 (line.Call (call.SetRootTransform (t 1)))
@@ -222,7 +222,7 @@ cycle_of_links_is_never_reached-posts : posts cycle_of_links_is_never_reached-se
 cycle_of_links_is_never_reached-posts = refl
 
 abbrev pub cycle_of_links_is_never_reached-lines : List ScriptLine
-cycle_of_links_is_never_reached-lines = 
+cycle_of_links_is_never_reached-lines =
     session_line 9 1 (line.Call (call.CreateView (p 2)))
     ∷ session_line 10 1 (line.Call (call.CreateTransform (t 1)))
     ∷ session_line 11 1 (line.Call (call.SetRootTransform (t 1)))
@@ -273,7 +273,7 @@ closed_inside_a_frame-posts : posts closed_inside_a_frame-setup closed_inside_a_
 closed_inside_a_frame-posts = refl
 
 abbrev pub closed_inside_a_frame-lines : List ScriptLine
-closed_inside_a_frame-lines = 
+closed_inside_a_frame-lines =
     session_line 6 1 (line.Call (call.CreateView (p 0)))
     ∷ session_line 7 1 (line.Call (call.CreateTransform (t 1)))
     ∷ session_line 8 1 (line.Call (call.SetRootTransform (t 1)))
@@ -325,7 +325,7 @@ token_comes_back-posts : posts token_comes_back-setup token_comes_back-history �
 token_comes_back-posts = refl
 
 abbrev pub token_comes_back-lines : List ScriptLine
-token_comes_back-lines = 
+token_comes_back-lines =
     session_line 8 1 (line.Call (call.CreateView (p 0)))
     ∷ session_line 9 1 (line.Call (call.CreateViewport (c 1) (p 1) 60 40 no_inset))
     ∷ session_line 10 1 (line.Present (present 0 [] []))
@@ -383,7 +383,7 @@ app_gone_before_all-posts : posts app_gone_before_all-setup app_gone_before_all-
 app_gone_before_all-posts = refl
 
 abbrev pub app_gone_before_all-lines : List ScriptLine
-app_gone_before_all-lines = 
+app_gone_before_all-lines =
     session_line 15 2 (line.Disconnect)
     ∷ session_line 16 2 (line.Call (call.CreateView (p 1)))
     ∷ session_line 17 2 (line.Get watch.Layout)
@@ -463,7 +463,7 @@ parent_gone-posts : posts parent_gone-setup parent_gone-history ≡ (post 4 2 (e
 parent_gone-posts = refl
 
 abbrev pub parent_gone-lines : List ScriptLine
-parent_gone-lines = 
+parent_gone-lines =
     session_line 8 2 (line.Call (call.CreateView (p 1)))
     ∷ session_line 9 2 (line.Get watch.Status)
     ∷ session_line 10 1 (line.Disconnect)
@@ -504,7 +504,7 @@ release_fence_signalled_at_done-posts : posts release_fence_signalled_at_done-se
 release_fence_signalled_at_done-posts = refl
 
 abbrev pub release_fence_signalled_at_done-lines : List ScriptLine
-release_fence_signalled_at_done-lines = 
+release_fence_signalled_at_done-lines =
     session_line 7 1 (line.Call (call.CreateView (p 0)))
     ∷ session_line 8 1 (line.Present (present 0 [] ((f 0) ∷ [])))
     ∷ display_line 9 (display.Begin 1)

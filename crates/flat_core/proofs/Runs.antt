@@ -52,7 +52,7 @@ one_fill_one_frame-posts : posts one_fill_one_frame-setup one_fill_one_frame-his
 one_fill_one_frame-posts = refl
 
 abbrev pub one_fill_one_frame-lines : List ScriptLine
-one_fill_one_frame-lines = 
+one_fill_one_frame-lines =
     session_line 6 1 (line.Call (call.CreateView (p 0)))
     ∷ session_line 7 1 (line.Call (call.CreateTransform (t 1)))
     ∷ session_line 8 1 (line.Call (call.SetRootTransform (t 1)))
@@ -125,7 +125,7 @@ view_without_root_then_poll-posts : posts view_without_root_then_poll-setup view
 view_without_root_then_poll-posts = refl
 
 abbrev pub view_without_root_then_poll-lines : List ScriptLine
-view_without_root_then_poll-lines = 
+view_without_root_then_poll-lines =
     session_line 6 1 (line.Call (call.CreateView (p 0)))
     ∷ session_line 7 1 (line.Present (present 0 [] []))
     ∷ display_line 8 (display.Begin 5)
@@ -167,7 +167,7 @@ fence_signalled_between_frames-posts : posts fence_signalled_between_frames-setu
 fence_signalled_between_frames-posts = refl
 
 abbrev pub fence_signalled_between_frames-lines : List ScriptLine
-fence_signalled_between_frames-lines = 
+fence_signalled_between_frames-lines =
     session_line 7 1 (line.Call (call.CreateView (p 0)))
     ∷ session_line 8 1 (line.Call (call.CreateTransform (t 1)))
     ∷ session_line 9 1 (line.Call (call.SetRootTransform (t 1)))
@@ -221,7 +221,7 @@ unready_present_holds_back_later_ones-posts : posts unready_present_holds_back_l
 unready_present_holds_back_later_ones-posts = refl
 
 abbrev pub unready_present_holds_back_later_ones-lines : List ScriptLine
-unready_present_holds_back_later_ones-lines = 
+unready_present_holds_back_later_ones-lines =
     session_line 7 1 (line.Call (call.CreateView (p 0)))
     ∷ session_line 8 1 (line.Present (present 0 [] []))
     ∷ display_line 9 (display.Begin 1)
@@ -270,7 +270,7 @@ present_waits_for_its_time-posts : posts present_waits_for_its_time-setup presen
 present_waits_for_its_time-posts = refl
 
 abbrev pub present_waits_for_its_time-lines : List ScriptLine
-present_waits_for_its_time-lines = 
+present_waits_for_its_time-lines =
     session_line 6 1 (line.Call (call.CreateView (p 0)))
     ∷ session_line 7 1 (line.Present (present 1000 [] []))
     ∷ session_line 8 1 (line.Wait (asks.Credits 1))
@@ -310,7 +310,7 @@ second_present_before_a_frame_closes-posts : posts second_present_before_a_frame
 second_present_before_a_frame_closes-posts = refl
 
 abbrev pub second_present_before_a_frame_closes-lines : List ScriptLine
-second_present_before_a_frame_closes-lines = 
+second_present_before_a_frame_closes-lines =
     session_line 6 1 (line.Call (call.CreateView (p 0)))
     ∷ session_line 7 1 (line.Present (present 0 [] []))
     ∷ session_line 8 1 (line.Present (present 0 [] []))
@@ -345,7 +345,7 @@ b01_zero_id-posts : posts b01_zero_id-setup b01_zero_id-history ≡ []
 b01_zero_id-posts = refl
 
 abbrev pub b01_zero_id-lines : List ScriptLine
-b01_zero_id-lines = 
+b01_zero_id-lines =
     session_line 6 1 (line.Call (call.CreateTransform (t 0)))
     ∷ []
 

@@ -73,7 +73,7 @@ shell_with_two_apps-posts : posts shell_with_two_apps-setup shell_with_two_apps-
 shell_with_two_apps-posts = refl
 
 abbrev pub shell_with_two_apps-lines : List ScriptLine
-shell_with_two_apps-lines = 
+shell_with_two_apps-lines =
     session_line 15 2 (line.Call (call.CreateView (p 1)))
     ∷ session_line 16 2 (line.Get watch.Layout)
     ∷ session_line 17 3 (line.Call (call.CreateView (p 2)))

@@ -10,7 +10,8 @@ use Rattle.flat_scene.specs.declared.setup.PairDecl.{PairDecl}
 use Rattle.flat_scene.specs.declared.setup.Setup.{Setup}
 use Rattle.flat_scene.specs.declared.trees.Tree.{Tree}
 use Rattle.flat_topology.specs.Shown.{Shown, state_of, view_of, nodes_of}
-use Rattle.flat_topology.specs.Pairs.{is_display, display_pair, OwnsView, OwnsViewport}
+use Rattle.flat_scene.specs.History.{is_display}
+use Rattle.flat_topology.specs.Pairs.{display_pair, OwnsView, OwnsViewport}
 use Rattle.flat_topology.specs.Links.{IsBelow, IsTop, IsConnectedThrough, HangsBelow}
 use Rattle.flat_topology.specs.Fit.{FitsSetup}
 use Rattle.flat_topology.specs.Join.{Viewer, viewer_from, is_view_of}
@@ -81,7 +82,8 @@ viewer-shows s (state ∷ states) p viewer e = by_view (view_of state) refl e (v
     one_more : HasState states (s + 1) p viewer → HasState (state ∷ states) s p viewer
     one_more found = (suc found.0, omega (arith, found.1), found.2, found.3)
 
-    by_view : (shown : Option ℕ) → view_of state ≡ shown → cond (is_view_of p shown) (Some (viewer_of s state)) (viewer_from (s + 1) states p) ≡ Some viewer
+    by_view : (shown : Option ℕ) → view_of state ≡ shown
+        → cond (is_view_of p shown) (Some (viewer_of s state)) (viewer_from (s + 1) states p) ≡ Some viewer
         → (viewer_from (s + 1) states p ≡ Some viewer → HasState states (s + 1) p viewer) → HasState (state ∷ states) s p viewer
     by_view None is first later = one_more (later first)
     by_view (Some q) is first later = by_test (eqb_tells q p) first
@@ -115,7 +117,8 @@ found-at s (state ∷ states) p zero e = by_test (eqb_tells p p)
     by_test (inr apart) = absurd (apart.1 refl)
 found-at s (state ∷ states) p (suc i) e = by_test (is_view_of p (view_of state)) (found-at (s + 1) states p i e)
   where
-    by_test : (b : Bool) → Finds (s + 1) states p → (viewer : Viewer) × (cond b (Some (viewer_of s state)) (viewer_from (s + 1) states p) ≡ Some viewer)
+    by_test : (b : Bool) → Finds (s + 1) states p
+        → (viewer : Viewer) × (cond b (Some (viewer_of s state)) (viewer_from (s + 1) states p) ≡ Some viewer)
     by_test true later = (viewer_of s state, refl)
     by_test false later = later
 

@@ -84,9 +84,9 @@ pairs-distinct (x ∷ xs) d = AllPairs-cons (λ y z. y ≢ z) x xs (λ k e low s
 pub distinct-pairs : (xs : List ℕ) → AllPairs (λ x y. x ≢ y) xs → Distinct xs
 distinct-pairs [] pairs = tt
 distinct-pairs (x ∷ xs) pairs = (
-    λ on. first_differs (contains-in x xs on),
-    distinct-pairs xs (λ i j d before low. pairs (suc i) (suc j) d (omega arith) (omega arith)),
-  )
+  λ on. first_differs (contains-in x xs on),
+  distinct-pairs xs (λ i j d before low. pairs (suc i) (suc j) d (omega arith) (omega arith)),
+)
   where
     first_differs : Contains xs x → ⊥
     first_differs has = pairs 0 (suc has.0) x (omega arith) (omega (arith, has.1)) (sym has.2)

@@ -19,7 +19,7 @@ use Rattle.flat_topology.specs.Draw.{draw_list}
 use Rattle.flat_topology.specs.Views.{view_nodes, apart_sessions}
 use Rattle.flat_topology.specs.Hits.{hit_list}
 use Rattle.flat_topology.specs.Connected.{connected_sessions}
-use Rattle.flat_topology.proofs.Samples.{session, rect, whole, shell_setup, shell_shown, shell_without_mail, nested_setup, nested_shown, round_setup, round_shown, alone_setup, red_at, image_of_opacities, turned_shown, two_regions, rootless_shown}
+use Rattle.flat_topology.proofs.Samples.{session, rect, whole, shell_setup, shell_shown, shell_without_mail, nested_setup, nested_shown, round_setup, round_shown, alone_setup, red_at, image_of_opacities, turned_shown, two_regions, stacked_regions, rootless_shown}
 
 abbrev moved_matrix : ℤ → ℤ → SceneMatrix
 moved_matrix x y = record { swap = false; a = pos 65536; b = pos 65536; x = x; y = y }
@@ -94,6 +94,10 @@ outside_hit = refl
 shell_connected : connected_sessions shell_setup shell_shown ≡ connected 1 None ∷ connected 2 (Some 1) ∷ connected 3 (Some 3) ∷ []
 shell_connected = refl
 
+-- the child view below a viewport stands before the children of its node
+nested_places : map {B = ℕ × ℕ} (λ p. (p.session.0, p.serial)) (placed_nodes nested_setup nested_shown) ≡ (1, 1) ∷ (2, 1) ∷ (1, 2) ∷ []
+nested_places = refl
+
 -- what is linked is cut by its viewport and the display, and seen through it; its bounds are uncut
 nested_items : draw_list nested_setup nested_shown
     ≡ item 2 3 (paint.Fill (9 ∷ 9 ∷ 9 ∷ 255 ∷ [])) 50 50 (moved_matrix (pos 5898240) (pos 0)) (rect (pos 5898240) (pos 0) (pos 6553600) (pos 1310720)) 32768 Src ∷ []
@@ -158,3 +162,13 @@ second_region = refl
 
 beyond_regions : hit_list alone_setup (two_regions SemanticallyInvisible) (pos 20) (pos 5) ≡ []
 beyond_regions = refl
+
+-- a session is hit once, by what is drawn last, and only within the clip
+stacked_hit : hit_list alone_setup (stacked_regions SemanticallyInvisible) (pos 5) (pos 5) ≡ hit 1 Default ∷ []
+stacked_hit = refl
+
+within_clip : hit_list alone_setup (stacked_regions SemanticallyInvisible) (pos 19) (pos 5) ≡ hit 1 Default ∷ []
+within_clip = refl
+
+beyond_clip : hit_list alone_setup (stacked_regions SemanticallyInvisible) (pos 20) (pos 5) ≡ []
+beyond_clip = refl

@@ -3,8 +3,10 @@ pub mod Distances
 pub mod Standing
 pub mod Whole
 pub mod Few
+pub mod Opacities
 pub mod Viewing
 pub mod Parents
+pub mod Hitting
 mod Samples
 mod Examples
 mod Fitting

@@ -19,7 +19,7 @@ use Rattle.flat_topology.specs.Fit.{FitsSetup}
 use Rattle.flat_topology.specs.Join.{JoinedTree, Viewer, viewer_from, linked_to, joined_nodes, viewed, led_to}
 use Rattle.flat_topology.specs.Place.{Space, node_space, linked_space, placed_node}
 use Rattle.flat_topology.specs.Views.{views_in, viewport_bounds}
-use Rattle.flat_topology.proofs.Distinct.{in-first, in-second, in-third, In, in-left, in-right, contains-in}
+use Rattle.flat_topology.proofs.Distinct.{in-first, in-second, in-third, In, contains-in}
 use Rattle.flat_topology.proofs.Distances.{viewer-state}
 
 -- ---- parents
@@ -51,7 +51,15 @@ module _ (setup : Setup) (shown : Shown) where
   children-nodes led each s parent bounds outer Empty own = All-nil HasItsParent
   children-nodes led each s parent bounds outer (first serial scale turn place clip opacity hits what children rest) own =
       let n : Node = record {
-        serial = serial; scale = scale; turn = turn; place = place; clip = clip; opacity = opacity; hits = hits; content = what; children = children;
+        serial = serial;
+        scale = scale;
+        turn = turn;
+        place = place;
+        clip = clip;
+        opacity = opacity;
+        hits = hits;
+        content = what;
+        children = children;
       } in
       let inner : Space = node_space outer n in
       let at : Rect = viewport_bounds (placed_node s inner n) in
@@ -61,9 +69,9 @@ module _ (setup : Setup) (shown : Shown) where
       let third_views : List ViewNode = views_in parent bounds outer (joined_nodes led s rest) in
       let linked : AllHave first_views = children-linked led each s at under what (λ q on. own q (in-first q (pair_in what) (pairs_in children) (pairs_in rest) on)) in
       let below : AllHave second_views =
-          children-nodes led each s parent bounds inner children (λ q on. own q (in-second q (pair_in what) (pairs_in children) (pairs_in rest) on)) in
+      children-nodes led each s parent bounds inner children (λ q on. own q (in-second q (pair_in what) (pairs_in children) (pairs_in rest) on)) in
       let after : AllHave third_views =
-          children-nodes led each s parent bounds outer rest (λ q on. own q (in-third q (pair_in what) (pairs_in children) (pairs_in rest) on)) in
+      children-nodes led each s parent bounds outer rest (λ q on. own q (in-third q (pair_in what) (pairs_in children) (pairs_in rest) on)) in
       All-append HasItsParent first_views (second_views ++ third_views) linked (All-append HasItsParent second_views third_views below after)
 
   children-viewed : (views p : ℕ) (found : Option Viewer) → viewer_from 1 shown p ≡ found → ((q : ℕ) → LeadsToChildren (led_to shown views) q)

@@ -101,13 +101,14 @@ shell_shown =
 abbrev pub shell_without_mail : Shown
 shell_without_mail = shows 0 (Some shell_root) ∷ None ∷ shows 2 (Some (root_with (fill 1 (0 ∷ 0 ∷ 0 ∷ 128 ∷ []) 1280 40))) ∷ []
 
--- session 1 has a viewport of 20 by 20, half seen through, that reaches beyond the display; session 2 has a fill of 50 by 50
+-- session 1 has a viewport of 20 by 20, half seen through, that reaches beyond the display, and a child of its node; session 2 has a fill of
+-- 50 by 50
 abbrev pub nested_setup : Setup
 nested_setup = setup_of 100 100 2 (display_over 1 ∷ over 1 2 ∷ [])
 
 abbrev pub nested_shown : Shown
 nested_shown =
-    shows 0 (Some (record (moved 1 (pos 90) (pos 0) [] (viewport 1 1 20 20) Empty) { opacity = 32768 }))
+    shows 0 (Some (record (moved 1 (pos 90) (pos 0) [] (viewport 1 1 20 20) (more (moved 2 (pos 0) (pos 0) [] None Empty) Empty)) { opacity = 32768 }))
     ∷ shows 1 (Some (root_with (fill 3 (9 ∷ 9 ∷ 9 ∷ 255 ∷ []) 50 50)))
     ∷ []
 
@@ -127,6 +128,14 @@ alone_setup = setup_of 100 100 1 (display_over 1 ∷ [])
 
 abbrev pub rootless_shown : Shown
 rootless_shown = shows 0 None ∷ []
+
+-- a node with a region of 50 by 50, cut to 20 by 20, over one with a region of 10 by 10
+abbrev pub stacked_regions : Interaction → Shown
+stacked_regions lower =
+    shows 0 (Some (moved 1 (pos 0) (pos 0) [] None
+    (more (moved 2 (pos 0) (pos 0) (record { area = Some (whole 10 10); interaction = lower } ∷ []) None Empty)
+    (more (record (moved 3 (pos 0) (pos 0) (record { area = Some (whole 50 50); interaction = Default } ∷ []) None Empty) { clip = Some (whole 20 20) }) Empty))))
+    ∷ []
 
 -- a red fill of 10 by 10, moved to the right
 abbrev pub red_at : ℤ → Shown

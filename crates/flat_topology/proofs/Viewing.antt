@@ -65,7 +65,7 @@ stands-right all next count (p ∷ ps) qs counted stands =
 pub views-connected : (display : Rect) (all : List Placed) (next : ℕ) (at : Option ℕ) (parent : Option SessionNo) (bounds : Rect) (outer : Space) (tree : JoinedTree)
     → StandsFrom all next (placed_in outer tree)
     → ((s : ℕ) → connected_view display all (record { session = record { 0 = s }; at = at })
-        ≡ record { session = record { 0 = s }; parent = parent; bounds = bounds })
+    ≡ record { session = record { 0 = s }; parent = parent; bounds = bounds })
     → views_in parent bounds outer tree ≡ map (connected_view display all) (connected_in next at tree)
 views-connected display all next at parent bounds outer nothing stands hangs = refl
 views-connected display all next at parent bounds outer (child_view s root) stands hangs =
@@ -84,8 +84,8 @@ views-connected display all next at parent bounds outer (node s n linked below a
       map-append,
       map-append,
       views-connected display all (suc next) (Some next) (Some (record { 0 = s })) (viewport_bounds own) under linked
-      (stands-left all (suc next) first (second ++ third) stands.1) (λ t. rw stands.0 refl),
+          (stands-left all (suc next) first (second ++ third) stands.1) (λ t. rw stands.0 refl),
       views-connected display all (suc next + joined_count linked) at parent bounds (node_space outer n) below
-      (stands-left all (suc next + joined_count linked) second third later) hangs,
+          (stands-left all (suc next + joined_count linked) second third later) hangs,
       views-connected display all (suc next + joined_count linked + joined_count below) at parent bounds outer after last hangs,
     ) refl

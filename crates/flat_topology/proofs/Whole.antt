@@ -1,5 +1,5 @@
 -- The joined tree is whole: no session is farther from the display than there are sessions.
-use Rattle.std.proofs.Common.{Bool, sym, ℕ, zero, suc, ◌+◌, ◌<◌, ◌≤◌, ◌≡◌, ◌≢◌, ◌⊎◌, inl, inr, refl, ap, true, false, ◌||◌, eqb, List, [], ◌∷◌, ◌++◌, length, Option, Some, None, slice_index_or, arith}
+use Rattle.std.proofs.Common.{Bool, sym, ℕ, zero, suc, ◌+◌, ◌<◌, ◌≤◌, ◌≡◌, ◌≢◌, ◌⊎◌, inl, inr, refl, ap, true, false, ◌||◌, eqb, List, [], ◌∷◌, length, Option, Some, None, slice_index_or, arith}
 use Rattle.std.specs.List.{IsDistinct, AllByRecursion, list_any}
 use Rattle.std.proofs.lemmas.Bool.Decides.{eqb_tells}
 use Rattle.std.proofs.lemmas.List.{get_or_past}
@@ -16,7 +16,7 @@ use Rattle.flat_topology.specs.Pairs.{display_pair}
 use Rattle.flat_topology.specs.Links.{IsConnectedThrough}
 use Rattle.flat_topology.specs.Fit.{FitsSetup}
 use Rattle.flat_topology.specs.Join.{JoinedTree, nothing, child_view, Viewer, viewer_from, linked_to, joined_nodes, viewed, led_to}
-use Rattle.flat_topology.proofs.Distinct.{in-first, in-second, in-third, In, Distinct, in-left, in-right, contains-in}
+use Rattle.flat_topology.proofs.Distinct.{in-first, in-second, in-third, In, Distinct, contains-in}
 use Rattle.flat_topology.proofs.Distances.{viewer-state, distance-one}
 
 -- ---- different numbers below a bound are at most as many as the bound

@@ -19,11 +19,15 @@ image_opacity _ = 0
 abbrev pub greatest_opacity : Children → ℕ
 greatest_opacity = fold_nodes (λ node below after. max (max node.opacity (image_opacity node.content)) (max below after)) 0
 
--- The shown states fit the setup: each is of a view whose end its session owns, and shows viewports whose ends its session owns, no pair
--- twice; it has no more nodes than a tree may have, and no opacity above the greatest.
+-- The shown states of all sessions fit the setup.
 pub record FitsSetup (setup : Setup) (shown : Shown) : Type 0 where
+  -- each view is of a pair whose view end the session owns
   pub views : (s p : ℕ) → view_of (state_of shown s) ≡ Some p → OwnsView setup s p
+  -- each viewport is of a pair whose viewport end the session owns
   pub viewports : (s p : ℕ) → Contains (pairs_shown shown s) p → OwnsViewport setup s p
+  -- no pair is on two nodes
   pub once : (s : ℕ) → AllPairs (λ p q. p ≢ q) (pairs_shown shown s)
+  -- there are no more nodes than a tree may have
   pub small : (s : ℕ) → node_count (nodes_of (state_of shown s)) ≤ TREE_NODES_MAX
+  -- no node and no image has an opacity above the greatest
   pub opacities : (s : ℕ) → greatest_opacity (nodes_of (state_of shown s)) ≤ OPACITY_MAX

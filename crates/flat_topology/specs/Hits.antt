@@ -25,7 +25,7 @@ hit_on x y at =
 -- the first hit of each session
 abbrev pub first_of_each : List Hit → List Hit
 first_of_each [] = []
-first_of_each (hit ∷ later) = hit ∷ first_of_each later
+first_of_each (hit ∷ later) = hit ∷ filter (λ other. not (other.session.0 == hit.session.0)) (first_of_each later)
 
 -- the sessions whose nodes a point in units hits, last drawn first, each once
 abbrev pub hits_among : List Placed → ℤ → ℤ → List Hit

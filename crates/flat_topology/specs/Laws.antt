@@ -1,15 +1,16 @@
 -- What follows where the shown states fit the setup.
-use Rattle.std.specs.Prelude.{ℕ, suc, ◌*◌, ◌≤◌, ◌≡◌, ◌≢◌, ◌↔◌, Bool, IsTrue, length, map, Some}
+use Rattle.std.specs.Prelude.{ℕ, ℤ, suc, ◌*◌, ◌≤◌, ◌≡◌, ◌≢◌, ◌↔◌, Bool, IsTrue, length, map, Some}
 use Rattle.std.specs.List.{All, AllPairs}
-use Rattle.flat_base.specs.declared.limits.TheConstants.{TREE_NODES_MAX}
+use Rattle.flat_base.specs.declared.limits.TheConstants.{OPACITY_MAX, TREE_NODES_MAX}
 use Rattle.flat_scene.specs.declared.setup.Setup.{Setup}
 use Rattle.flat_topology.specs.Shown.{Shown, state_of}
 use Rattle.flat_topology.specs.Pairs.{display_pair}
 use Rattle.flat_topology.specs.Links.{IsConnected, HangsBelow, IsChild, HasParents}
-use Rattle.flat_topology.specs.Fit.{FitsSetup}
+use Rattle.flat_topology.specs.Fit.{FitsSetup, image_opacity}
 use Rattle.flat_topology.specs.Join.{led_to, joined_sessions, is_joined}
 use Rattle.flat_topology.specs.Place.{display_rect, placed_nodes}
 use Rattle.flat_topology.specs.Views.{view_nodes}
+use Rattle.flat_topology.specs.Hits.{hit_list}
 use Rattle.flat_topology.specs.Connected.{connected_sessions, connected_view}
 
 -- the sessions in the joined tree are exactly the connected ones
@@ -34,6 +35,11 @@ JoinsAll = (setup : Setup) (shown : Shown) → FitsSetup setup shown
 abbrev pub JoinsFew : Type 0
 JoinsFew = (setup : Setup) (shown : Shown) → FitsSetup setup shown → length (placed_nodes setup shown) ≤ length shown * TREE_NODES_MAX
 
+-- no placed node, nor an image on one, has an opacity above the greatest
+abbrev pub PlacesLowOpacities : Type 0
+PlacesLowOpacities = (setup : Setup) (shown : Shown) → FitsSetup setup shown
+    → All (λ at. (at.opacity ≤ OPACITY_MAX) × (image_opacity at.content ≤ OPACITY_MAX)) (placed_nodes setup shown)
+
 -- whether a session is connected is decided by what a group shows that has the session and all possible parents
 abbrev pub ParentsDecide : Type 0
 ParentsDecide = (setup : Setup) (shown other : Shown) → FitsSetup setup shown → FitsSetup setup other
@@ -52,3 +58,7 @@ ViewsBelowParents = (setup : Setup) (shown : Shown) → All (λ v. IsChild setup
 abbrev pub ViewsTheConnected : Type 0
 ViewsTheConnected = (setup : Setup) (shown : Shown)
     → view_nodes setup shown ≡ map (connected_view (display_rect setup) (placed_nodes setup shown)) (connected_sessions setup shown)
+
+-- no session is hit twice
+abbrev pub HitsEachOnce : Type 0
+HitsEachOnce = (setup : Setup) (shown : Shown) (x y : ℤ) → AllPairs (λ s t. s ≢ t) (map (λ hit. hit.session.0) (hit_list setup shown x y))

@@ -1,15 +1,10 @@
 -- The pairs of a setup, and who owns their ends.
-use Rattle.std.specs.Prelude.{ℕ, ◌≡◌, Bool, true, false, Option, Some, slice_get}
+use Rattle.std.specs.Prelude.{ℕ, ◌≡◌, Option, Some, slice_get}
 use Rattle.std.specs.List.{position_from}
-use Rattle.flat_base.specs.declared.ids.Actor.{Actor}
-use Rattle.flat_base.specs.declared.ids.Actor.TheVariants.{Display, Session}
+use Rattle.flat_base.specs.declared.ids.Actor.TheVariants.{Session}
 use Rattle.flat_scene.specs.declared.setup.PairDecl.{PairDecl}
 use Rattle.flat_scene.specs.declared.setup.Setup.{Setup}
-
--- whether an actor is the display
-abbrev pub is_display : Actor → Bool
-is_display Display = true
-is_display _ = false
+use Rattle.flat_scene.specs.History.{is_display}
 
 -- the pair whose viewport end the display owns
 abbrev pub display_pair : Setup → Option ℕ

@@ -8,7 +8,7 @@
 //! drawn, the view tree, and what a point hits.
 #![tactic(auto)]
 
-ghost use Rattle.flat_topology.specs.Laws.{JoinsTheConnected, JoinsEachOnce, ReachesNoCycle, JoinsAll, JoinsFew, ParentsDecide, ViewsTheJoined, ViewsBelowParents, ViewsTheConnected};
+ghost use Rattle.flat_topology.specs.Laws.{JoinsTheConnected, JoinsEachOnce, ReachesNoCycle, JoinsAll, JoinsFew, PlacesLowOpacities, ParentsDecide, ViewsTheJoined, ViewsBelowParents, ViewsTheConnected, HitsEachOnce};
 
 use flat_base::{Items, Rect, SessionNo};
 use flat_geom::Matrix;
@@ -57,8 +57,9 @@ pub struct Joined {
 
 /// What follows where shown states fit the setup: the joined tree has exactly the
 /// connected sessions, each once; no cycle of links is reached from the display;
-/// and what a group of sessions shows decides which of them are connected, where
-/// the group has all sessions that may be their parents.
+/// its nodes are no more than the sessions' trees may have, and their opacities
+/// at most one; and what a group of sessions shows decides which of them are
+/// connected, where the group has all sessions that may be their parents.
 ///
 /// The call does nothing. Its contract is a law about the definitions.
 pub fn links_make_a_tree()
@@ -67,6 +68,7 @@ pub fn links_make_a_tree()
     ensures acyclic { ReachesNoCycle }
     ensures whole { JoinsAll }
     ensures few { JoinsFew }
+    ensures low { PlacesLowOpacities }
     ensures decided { ParentsDecide }
 {}
 
@@ -79,4 +81,11 @@ pub fn views_follow_links()
     ensures sessions { ViewsTheJoined }
     ensures parents { ViewsBelowParents }
     ensures connected { ViewsTheConnected }
+{}
+
+/// A point hits each session at most once.
+///
+/// The call does nothing. Its contract is a law about the definitions.
+pub fn hits_are_once()
+    ensures { HitsEachOnce }
 {}

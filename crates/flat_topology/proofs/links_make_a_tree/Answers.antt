@@ -6,13 +6,15 @@ use Rattle.flat_topology.specs.Pairs.{display_pair}
 use Rattle.flat_topology.specs.Links.{IsConnected}
 use Rattle.flat_topology.specs.Fit.{FitsSetup}
 use Rattle.flat_topology.specs.Join.{join, led_from, sessions_in, joined_sessions, is_joined}
-use Rattle.flat_topology.specs.Place.{display_space, placed_nodes}
+use Rattle.flat_topology.specs.Place.{display_space, placed_in, placed_nodes}
 use Rattle.flat_topology.specs.Connected.{joined_count}
 use Rattle.flat_topology.proofs.Distinct.{In, Distinct, pairs-distinct}
 use Rattle.flat_topology.proofs.Distances.{no-cycle}
 use Rattle.flat_topology.proofs.Standing.{in-led, reached-connected, distinct-from, connected-reached, led-in}
 use Rattle.flat_topology.proofs.Whole.{found-in, in-found, few-below, connected-within, distance-low, led-whole}
 use Rattle.flat_topology.proofs.Few.{few-joined}
+use Rattle.flat_topology.proofs.Opacities.{HasLowOpacity, AllLow, low-led}
+use Rattle.std.proofs.lemmas.List.Elements.{All-nil}
 use Rattle.flat_topology.proofs.Viewing.{length-placed}
 use Rattle.flat_topology.proofs.Parents.{connected-in-both}
 use Rattle.flat_topology.proofs.links_make_a_tree.Goals as goal
@@ -70,6 +72,16 @@ returns-clause-few c = λ setup shown fit.
     let nodes : joined_count (join setup shown) ≤ length (joined_sessions setup shown) * TREE_NODES_MAX = few-joined setup shown fit (display_pair setup) in
     let placed : length (placed_nodes setup shown) ≡ joined_count (join setup shown) = length-placed (display_space setup) (join setup shown) in
     omega (arith, sessions, nodes, placed)
+
+-- ---- opacities
+
+low_from : (setup : Setup) (shown : Shown) → FitsSetup setup shown → (found : Option ℕ)
+    → AllLow (placed_in (display_space setup) (led_from shown found))
+low_from setup shown fit None = All-nil HasLowOpacity
+low_from setup shown fit (Some p) = low-led setup shown fit (length shown) p (display_space setup) (omega arith)
+
+pub returns-clause-low : goal.returns-clause-low
+returns-clause-low c = λ setup shown fit. low_from setup shown fit (display_pair setup)
 
 -- ---- a group with all parents decides
 
