@@ -1,6 +1,6 @@
 use crate::{
-    clamp_entry, clamp_place, mul, Actor, Boxed, FlatlandError, Items, NoMemory, Reason, Roomy,
-    SessionNo, TryCopy, ENTRY_MAX, PLACE_MAX,
+    Actor, Boxed, ENTRY_MAX, FlatlandError, Items, NoMemory, PLACE_MAX, Reason, Roomy, SessionNo,
+    TryCopy, clamp_entry, clamp_place, mul,
 };
 use std::alloc::Global;
 use std::test::Fail;
@@ -23,7 +23,11 @@ fn products_are_rounded_towards_nothing(rt: HostRuntime) -> Result<(), Fail> {
         (3, -32_768, -1),
         (-3, -32_768, 1),
         (1, 65_535, 0),
-        (i64::MIN, i64::MIN, 1_298_074_214_633_706_907_132_624_082_305_024),
+        (
+            i64::MIN,
+            i64::MIN,
+            1_298_074_214_633_706_907_132_624_082_305_024,
+        ),
     ];
     for (a, b, product) in rows {
         assert_eq!(rt; mul(a, b), product);
@@ -48,7 +52,10 @@ fn errors_and_reasons_have_their_numbers(rt: HostRuntime) -> Result<(), Fail> {
     assert_eq!(rt; Reason::ZeroId.number(), 1);
     assert_eq!(rt; Reason::TokenNotHeld.number(), 16);
     assert_eq!(rt; Reason::TooManyFences.number(), 22);
-    assert_eq!(rt; format!(in rt.alloc(); "{}", NoMemory)?.as_str(), "out of memory");
+    assert_eq!(rt;
+        format!(in rt.alloc(); "{}", NoMemory)?.as_str(),
+        "out of memory"
+    );
     Ok(())
 }
 

@@ -5,7 +5,7 @@
 ghost use Rattle.std.specs.Prelude.{◌≡◌, ◌||◌, ◌==◌, IsTrue};
 ghost use Rattle.flat_io.specs.Counts.{has_risen};
 
-use flat_io::{write_all, StdSink};
+use flat_io::{StdSink, write_all};
 use std::io;
 use std::io::Write;
 use std::process::ExitCode;

@@ -1,6 +1,6 @@
 use crate::{
     Body, Call, Children, Cond, Content, DrawItem, Entry, FenceDecl, FrameOut, HitRegion,
-    Interaction, Kind, Line, Node, PairDecl, Paint, PresentArgs, Reply, SceneMatrix, ScriptLine,
+    Interaction, Kind, Line, Node, Paint, PairDecl, PresentArgs, Reply, SceneMatrix, ScriptLine,
     Setup, Tree, ViewNode, ViewTree,
 };
 use flat_base::{
