@@ -7,16 +7,8 @@ use Rattle.flat_scene.specs.declared.journal.Entry.{Entry}
 use Rattle.flat_scene.specs.declared.journal.Kind.{Kind}
 use Rattle.flat_scene.specs.declared.setup.Setup.{Setup}
 use Rattle.flat_scene.specs.History.{◌▹◌}
+use Rattle.flat_scene.proofs.Tests.{and-left, and-right}
 use Rattle.flat_core.specs.Legal.{Legal, MayEnter, reply_to, may_act, goes_on, keeps_time, has_draft, own_call, links_alone, owns_all, names_declared, has_tree, draft_with, has_watcher}
-
--- two tests that hold together hold each
-and-left : (a b : Bool) → (a && b) ≡ true → a ≡ true
-and-left true b both = refl
-and-left false b both = both
-
-and-right : (a b : Bool) → (a && b) ≡ true → b ≡ true
-and-right true b both = both
-and-right false b both = absurd (cc)
 
 -- all that an entry must meet, as one test
 abbrev pub may_enter : Setup → List Entry → Actor → List Call → Kind → Bool

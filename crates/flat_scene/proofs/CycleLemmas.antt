@@ -9,33 +9,9 @@ use Rattle.flat_scene.specs.Cycles.{Walk, HasCycle}
 use Rattle.flat_scene.specs.Draft.{Draft, Transform, of_serial}
 use Rattle.flat_scene.specs.Laws.{CycleIsReached}
 use Rattle.flat_scene.specs.Tree.{children_at, has_path, is_cyclic}
-use Rattle.flat_scene.proofs.ReachLemmas.{IsIn}
+use Rattle.flat_scene.proofs.Members.{IsIn, contained-in, in-contained, some-in, in-some}
 
--- ---- items of lists
-
-contained-in : {A : Type 0} (x : A) (xs : List A) → Contains xs x → IsIn x xs
-contained-in x [] (k, low, same) = absurd (omega (arith, low))
-contained-in x (y ∷ ys) (zero, low, same) = inl (sym same)
-contained-in x (y ∷ ys) (suc k, low, same) = inr (contained-in x ys (k, omega (arith, low), same))
-
-in-contained : {A : Type 0} (x : A) (xs : List A) → IsIn x xs → Contains xs x
-in-contained x [] here = absurd here
-in-contained x (y ∷ ys) (inl same) = (0, omega arith, sym same)
-in-contained x (y ∷ ys) (inr here) = let there = in-contained x ys here in (suc there.0, omega (arith, there.1), there.2)
-
--- an item that passes a test, where some item does
-some-in : {A : Type 0} (p : A → Bool) (xs : List A) → list_any p xs ≡ true → (x : A) × IsIn x xs × (p x ≡ true)
-some-in p [] some = absurd (cc)
-some-in {A = A} p (y ∷ ys) some = by_first (some-in p ys) (p y) refl
-  where
-    by_first : (list_any p ys ≡ true → (x : A) × IsIn x ys × (p x ≡ true)) → (b : Bool) → p y ≡ b → (x : A) × IsIn x (y ∷ ys) × (p x ≡ true)
-    by_first later true here = (y, inl refl, here)
-    by_first later false here = let there = later (grind arith) in (there.0, inr there.1, there.2)
-
-in-some : {A : Type 0} (p : A → Bool) (x : A) (xs : List A) → IsIn x xs → p x ≡ true → list_any p xs ≡ true
-in-some p x [] here passes = absurd here
-in-some p x (y ∷ ys) (inl same) passes = let first : p y ≡ true = subst (λ z. p z ≡ true) same passes in grind arith
-in-some p x (y ∷ ys) (inr here) passes = let later : list_any p ys ≡ true = in-some p x ys here passes in grind arith
+-- ---- numbers in lists
 
 -- a number that equals one of a list is in it, and one that equals none differs from each
 in-any : (x : ℕ) (xs : List ℕ) → list_any (eqb x) xs ≡ true → IsIn x xs

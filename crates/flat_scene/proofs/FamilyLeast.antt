@@ -16,30 +16,8 @@ use Rattle.flat_scene.specs.History.{is_session}
 use Rattle.flat_scene.specs.Laws.{IsLeastFamily, FamilyIsLeast}
 use Rattle.flat_scene.specs.Setups.{owners_declared, is_within, is_declared, may_own, is_pair_declared, is_fence_declared, is_buffer_declared}
 use Rattle.flat_scene.proofs.FamilyClosed.{family-closed, family-least}
-use Rattle.flat_scene.proofs.ReachLemmas.{IsIn}
-
--- where one test holds of some item and another of each, both hold of one
-pub any-with-all : {A P : Type 0} (p q : A → Bool) → ((x : A) → p x ≡ true → q x ≡ true → P) → (xs : List A) → list_any p xs ≡ true → list_all q xs ≡ true → P
-any-with-all p q step [] some each = absurd (cc)
-any-with-all {A = A} {P = P} p q step (x ∷ xs) some each = by_first (any-with-all p q step xs) (p x) refl
-  where
-    by_first : (list_any p xs ≡ true → list_all q xs ≡ true → P) → (b : Bool) → p x ≡ b → P
-    by_first later true here = step x here (grind arith)
-    by_first later false here = later (grind arith) (grind arith)
-
--- two tests that hold together hold each
-and-left : (a b : Bool) → (a && b) ≡ true → a ≡ true
-and-left true b both = refl
-and-left false b both = both
-
-and-right : (a b : Bool) → (a && b) ≡ true → b ≡ true
-and-right true b both = both
-and-right false b both = absurd (cc)
-
--- one of two tests holds
-or-cases : (a b : Bool) → (a || b) ≡ true → (a ≡ true) ⊎ (b ≡ true)
-or-cases true b one = inl refl
-or-cases false b one = inr one
+use Rattle.flat_scene.proofs.Members.{IsIn, in-left, in-right, any-with-all}
+use Rattle.flat_scene.proofs.Tests.{and-left, and-right, or-cases}
 
 session-declared : (setup : Setup) (s : SessionNo) (actor : Actor) → is_session s actor ≡ true → may_own setup actor ≡ true → is_declared setup s ≡ true
 session-declared setup s Display mine owns = absurd (cc)
@@ -74,15 +52,6 @@ linked-declared setup owners s t linked =
     by_link (inl paired) =
         any-with-all (λ (pair : PairDecl). joins s t pair || joins t s pair) (is_pair_declared setup) (pair-declared setup s t) setup.pairs paired (grind arith)
     by_link (inr shared) = any-with-all (shares s t) (is_fence_declared setup) (fence-declared setup s t) setup.fences shared (grind arith)
-
-in-left : {A : Type 0} (x : A) (xs ys : List A) → IsIn x xs → IsIn x (xs ++ ys)
-in-left x (y ∷ xs) ys (inl same) = inl same
-in-left x (y ∷ xs) ys (inr here) = inr (in-left x xs ys here)
-in-left x [] ys here = absurd here
-
-in-right : {A : Type 0} (x : A) (xs ys : List A) → IsIn x ys → IsIn x (xs ++ ys)
-in-right x [] ys here = here
-in-right x (y ∷ xs) ys here = inr (in-right x xs ys here)
 
 -- the declared sessions are those from 1 to their number
 pub in-sessions : (n : ℕ) (s : SessionNo) → is_within n s.0 ≡ true → IsIn s (sessions_to n)

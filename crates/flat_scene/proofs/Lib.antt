@@ -1,9 +1,11 @@
 pub mod CycleLemmas
 pub mod FamilyClosed
 pub mod FamilyLeast
+pub mod Members
 pub mod PathLemmas
 pub mod ReachLemmas
 pub mod Rows
 pub mod Steps
 pub mod TakingLemmas
+pub mod Tests
 pub mod TreeRows

@@ -5,6 +5,7 @@ pub mod Whole
 pub mod Few
 pub mod Opacities
 pub mod Viewing
+pub mod Ordered
 pub mod Parents
 pub mod Hitting
 mod Samples

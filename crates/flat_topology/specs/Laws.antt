@@ -7,7 +7,8 @@ use Rattle.flat_topology.specs.Shown.{Shown, state_of}
 use Rattle.flat_topology.specs.Pairs.{display_pair}
 use Rattle.flat_topology.specs.Links.{IsConnected, HangsBelow, IsChild, HasParents}
 use Rattle.flat_topology.specs.Fit.{FitsSetup, image_opacity}
-use Rattle.flat_topology.specs.Join.{led_to, joined_sessions, is_joined}
+use Rattle.flat_topology.specs.Preorder.{IsPreorder}
+use Rattle.flat_topology.specs.Join.{join, led_to, joined_sessions, is_joined}
 use Rattle.flat_topology.specs.Place.{display_rect, placed_nodes}
 use Rattle.flat_topology.specs.Views.{view_nodes}
 use Rattle.flat_topology.specs.Hits.{hit_list}
@@ -62,3 +63,7 @@ ViewsTheConnected = (setup : Setup) (shown : Shown)
 -- no session is hit twice
 abbrev pub HitsEachOnce : Type 0
 HitsEachOnce = (setup : Setup) (shown : Shown) (x y : ℤ) → AllPairs (λ s t. s ≢ t) (map (λ hit. hit.session.0) (hit_list setup shown x y))
+
+-- the placed nodes, and with them the draw list, stand in preorder of the joined tree
+abbrev pub DrawsInPreorder : Type 0
+DrawsInPreorder = (setup : Setup) (shown : Shown) → IsPreorder (join setup shown) (placed_nodes setup shown)

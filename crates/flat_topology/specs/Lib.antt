@@ -4,6 +4,7 @@ pub mod Links
 pub mod Fit
 pub mod Join
 pub mod Place
+pub mod Preorder
 pub mod Draw
 pub mod Views
 pub mod Connected

@@ -8,7 +8,7 @@
 //! drawn, the view tree, and what a point hits.
 #![tactic(auto)]
 
-ghost use Rattle.flat_topology.specs.Laws.{JoinsTheConnected, JoinsEachOnce, ReachesNoCycle, JoinsAll, JoinsFew, PlacesLowOpacities, ParentsDecide, ViewsTheJoined, ViewsBelowParents, ViewsTheConnected, HitsEachOnce};
+ghost use Rattle.flat_topology.specs.Laws.{JoinsTheConnected, JoinsEachOnce, ReachesNoCycle, JoinsAll, JoinsFew, PlacesLowOpacities, ParentsDecide, DrawsInPreorder, ViewsTheJoined, ViewsBelowParents, ViewsTheConnected, HitsEachOnce};
 
 use flat_base::{Items, Rect, SessionNo};
 use flat_geom::Matrix;
@@ -88,4 +88,13 @@ pub fn views_follow_links()
 /// The call does nothing. Its contract is a law about the definitions.
 pub fn hits_are_once()
     ensures { HitsEachOnce }
+{}
+
+/// The placed nodes stand in preorder of the joined tree, and so do the draw items
+/// that they give: a node, then the child view below its viewport, then its
+/// children, each before its younger siblings.
+///
+/// The call does nothing. Its contract is a law about the definitions.
+pub fn draws_in_preorder()
+    ensures { DrawsInPreorder }
 {}
