@@ -4,8 +4,8 @@ pub mod FamilyLeast
 pub mod Members
 pub mod PathLemmas
 pub mod ReachLemmas
-pub mod Rows
+pub mod SmallHistories
 pub mod Steps
 pub mod TakingLemmas
 pub mod Tests
-pub mod TreeRows
+pub mod SmallDrafts

@@ -18,7 +18,7 @@ use Rattle.flat_scene.specs.Effect.{draft_of}
 use Rattle.flat_scene.specs.Misuse.{first_reason}
 use Rattle.flat_scene.specs.Tree.{tree, present_tests, all_nodes}
 use Rattle.flat_scene.specs.Trees.{node_count}
-use Rattle.flat_scene.proofs.Rows.{setup, t0}
+use Rattle.flat_scene.proofs.SmallHistories.{setup, t0}
 
 abbrev pub t : ℕ → TransformId
 t n = record { 0 = n }
@@ -26,8 +26,8 @@ t n = record { 0 = n }
 abbrev pub c : ℕ → ContentId
 c n = record { 0 = n }
 
-abbrev pub row_1 : List Call
-row_1 = call.CreateView t0 ∷ call.CreateTransform (t 1) ∷ call.SetRootTransform (t 1) ∷ call.CreateFilledRect (c 2)
+abbrev pub one_fill : List Call
+one_fill = call.CreateView t0 ∷ call.CreateTransform (t 1) ∷ call.SetRootTransform (t 1) ∷ call.CreateFilledRect (c 2)
     ∷ call.SetSolidFill (c 2) 255 0 0 255 10 10 ∷ call.SetContent (t 1) (c 2) ∷ []
 
 -- the tree, the misuse or the reason why there is none
@@ -42,7 +42,7 @@ tree_after calls = tried (draft_of setup calls)
         why (Some r) = Err r
         why None = Ok (tree d)
 
-row_1_tree : tree_after row_1 ≡ Ok (Some (record {
+one_fill-tree : tree_after one_fill ≡ Ok (Some (record {
   view = Some t0;
   root = Some (record {
     serial = 1;
@@ -57,7 +57,7 @@ row_1_tree : tree_after row_1 ≡ Ok (Some (record {
   });
   viewports = [];
 }))
-row_1_tree = refl
+one_fill-tree = refl
 
 -- a fill that is asked to be an image
 wrong_sort : tree_after (call.CreateFilledRect (c 1) ∷ call.ReleaseImage (c 1) ∷ []) ≡ Err reason.WrongContent
@@ -93,3 +93,11 @@ diamond_nodes = refl
 
 diamond_cycle : tree_after (diamond ++ call.AddChild (t 4) (t 1) ∷ []) ≡ Err reason.Cycle
 diamond_cycle = refl
+
+-- a name that is released and given again: the root has both transforms below it
+abbrev renamed : List Call
+renamed = call.CreateTransform (t 1) ∷ call.SetRootTransform (t 1) ∷ call.CreateTransform (t 5) ∷ call.AddChild (t 1) (t 5) ∷ call.ReleaseTransform (t 5)
+    ∷ call.CreateTransform (t 5) ∷ call.AddChild (t 1) (t 5) ∷ []
+
+renamed_nodes : nodes_after (draft_of setup renamed) ≡ Some 3
+renamed_nodes = refl
