@@ -1,4 +1,4 @@
-ghost use Rattle.std.specs.Prelude.{◌≡◌, ◌+◌, ◌-◌, ◌<◌, ◌≤◌, [], ◌∷◌, ◌++◌, length, take, IfOk, OnOk, OnErr};
+ghost use Rattle.std.specs.Prelude.{◌≡◌, ◌+◌, ◌-◌, ◌<◌, ◌≤◌, [], ◌∷◌, ◌++◌, length, take, remove, slice_get, Some, IfOk, OnOk, OnErr};
 ghost use Rattle.flat_base.specs.Room.{ItemsAndRoom};
 ghost use Rattle.flat_base.specs.Last.{last_item};
 
@@ -88,6 +88,16 @@ impl<T> Roomy<T> {
         ensures room { self.new.room + length self.new.items ≡ self.old.room + length self.old.items }
     {
         self.inner.pop()
+    }
+
+    /// The item at a place, taken out, which makes room. Those after it move up.
+    pub fn remove(&mut self, place: usize) -> T
+        requires { place < length self.old.items }
+        ensures item { slice_get self.old.items place ≡ Some result }
+        ensures rest { self.new.items ≡ remove self.old.items place }
+        ensures room { self.new.room ≡ self.old.room + 1 }
+    {
+        self.inner.remove(place)
     }
 
     /// The items, as a list whose room isn't seen. It takes no memory.

@@ -110,6 +110,8 @@ fn a_push_within_the_room_is_not_refused(rt: HostRuntime) -> Result<(), Fail> {
     list.clear();
     let mut list = Roomy::with_capacity(rt.alloc(), 1)?;
     assert_eq!(rt; list.room(), 1);
+    list.push(8u8);
+    assert_eq!(rt; list.remove(0), 8);
     list.push(9u8);
     assert_eq!(rt; list.into_items().as_slice(), [9].as_slice());
     Ok(())

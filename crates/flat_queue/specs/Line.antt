@@ -1,0 +1,35 @@
+-- the presents of a session that no frame has taken
+use Rattle.std.specs.Prelude.{◌≡◌, ℕ, ◌+◌, ◌-◌, Bool, cond, ◌==◌, List, [], ◌∷◌, ◌++◌, length, take_while}
+use Rattle.flat_base.specs.declared.ids.FenceNo.{FenceNo}
+use Rattle.flat_base.specs.declared.limits.TheConstants.{FIRST_CREDITS, FULL_CREDITS}
+use Rattle.flat_scene.specs.declared.calls.PresentArgs.{PresentArgs}
+use Rattle.flat_scene.specs.Frames.{is_ready}
+use Rattle.flat_queue.specs.declared.queue.Kept.{Kept}
+use Rattle.flat_queue.specs.declared.queue.Queued.{Queued}
+
+-- how many presents were taken, and those that wait, the oldest first
+pub record Line (T : Type 0) : Type 0 where
+  pub taken : ℕ
+  pub waiting : List (Kept T)
+
+-- how many may wait, where so many were taken
+abbrev pub most_of : ℕ → ℕ
+most_of taken = cond (taken == 0) FIRST_CREDITS FULL_CREDITS
+
+-- how many presents may be made
+abbrev pub credits_of : {T : Type 0} → Line T → ℕ
+credits_of line = most_of line.taken - length line.waiting
+
+-- of the presents that wait, the longest prefix in which each is ready
+abbrev pub ready_of : {T : Type 0} → ℕ → (FenceNo → Bool) → List (Kept T) → List (Kept T)
+ready_of time is_signalled = take_while (λ kept. is_ready time is_signalled kept.args)
+
+-- one more waits
+abbrev pub pushed : {T : Type 0} → Line T → T → PresentArgs → Line T
+pushed line item args = record { taken = line.taken; waiting = line.waiting ++ record { item = item; args = args } ∷ [] }
+
+-- the first was taken, and this is it with its number
+pub record Gave {T : Type 0} (queued : Queued T) (old new : Line T) : Type 0 where
+  pub waiting : old.waiting ≡ record { item = queued.item; args = queued.args } ∷ new.waiting
+  pub taken : new.taken ≡ old.taken + 1
+  pub number : queued.number ≡ new.taken

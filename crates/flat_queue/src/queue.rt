@@ -1,0 +1,153 @@
+ghost use Rattle.std.specs.Prelude.{◌≡◌, ◌↔◌, ◌+◌, ◌-◌, ◌^◌, ◌<◌, [], ◌∷◌, length, All, IfOk, IfErr, IfSome, IfNone, IsTrue, is_ok};
+ghost use Rattle.std.specs.List.{list_all};
+ghost use Rattle.flat_scene.specs.Frames.{is_ready};
+ghost use Rattle.flat_fence.specs.Fences.{has};
+ghost use Rattle.flat_queue.specs.Line.{credits_of, ready_of, pushed, Gave};
+
+use flat_base::{FIRST_CREDITS, FULL_CREDITS, FenceNo, NoMemory, Roomy};
+use flat_fence::FenceSet;
+use flat_scene::PresentArgs;
+use std::alloc::Global;
+use std::marker::Model;
+
+/// A present that a queue gives out.
+#[derive(Debug, Drop)]
+pub struct Queued<T> {
+    pub item: T,
+    pub args: PresentArgs,
+    /// Its number among all presents of its session, from 1.
+    pub number: u32,
+}
+
+/// What is handed back where there is no credit.
+#[derive(Debug, Drop)]
+pub struct NoCredit<T> {
+    pub item: T,
+    pub args: PresentArgs,
+}
+
+/// A present that waits.
+#[derive(Debug, Drop)]
+pub struct Kept<T> {
+    pub item: T,
+    pub args: PresentArgs,
+}
+
+/// The presents of a session that no frame has taken, the oldest first, with what
+/// they carry: one at most before a frame has taken one, and five from then on.
+/// Contracts see how many were taken, and those that wait.
+///
+/// Nothing but `new` takes memory.
+#[derive(Debug, Drop)]
+pub struct Queue<T> {
+    waiting: Roomy<Kept<T>>,
+    taken: u32,
+}
+
+impl<T> Model for Queue<T> {
+    ghost use Rattle.std.specs.Prelude.{◌≤◌, ◌+◌, ◌<◌, ◌^◌, length};
+    ghost use Rattle.flat_queue.specs.Line.{Line, most_of};
+
+    ghost Value = { Line T };
+
+    ghost view = { λ q. record { taken = q.taken; waiting = q.waiting.items } };
+
+    ghost invariant = { λ q. (5 ≤ q.waiting.room + length q.waiting.items) × (length q.waiting.items ≤ most_of q.taken) × (q.taken + length q.waiting.items < 2 ^ 32) };
+}
+
+impl<T> Queue<T> {
+    /// A queue in which nothing waits, and nothing was taken from.
+    pub fn new(alloc: Global) -> Result<Queue<T>, NoMemory>
+        ensures { IfOk result (λ queue. queue ≡ record { taken = 0; waiting = [] }) }
+    {
+        let waiting = Roomy::with_capacity(alloc, FULL_CREDITS as usize)?;
+        Ok(Queue { waiting, taken: 0 })
+    }
+
+    /// How many presents were taken.
+    pub fn taken(&self) -> u32
+        ensures { result ≡ self.now.taken }
+    {
+        self.taken
+    }
+
+    /// How many presents more may wait.
+    pub fn credits(&self) -> u32
+        ensures { result ≡ credits_of self.now }
+    {
+        let most = if self.taken == 0 {
+            FIRST_CREDITS
+        } else {
+            FULL_CREDITS
+        };
+        most - self.waiting.len() as u32
+    }
+
+    /// Makes a present, and answers its number, from 1. Exactly where there is no
+    /// credit it is refused, and all that was handed in is handed back.
+    pub fn push(&mut self, item: T, args: PresentArgs) -> Result<u32, NoCredit<T>>
+        requires { self.old.taken + length self.old.waiting < 2 ^ 32 - 1 }
+        ensures ok { IsTrue (is_ok result) ↔ (0 < credits_of self.old) }
+        ensures number { IfOk result (λ number. number ≡ self.old.taken + length self.old.waiting + 1) }
+        ensures after { IfOk result (λ _. self.new ≡ pushed self.old item args) }
+        ensures same { IfErr result (λ _. self.new ≡ self.old) }
+        ensures back { IfErr result (λ back. (back.item ≡ item) × (back.args ≡ args)) }
+    {
+        if self.credits() == 0 {
+            return Err(NoCredit { item, args });
+        }
+        let number = self.taken + self.waiting.len() as u32 + 1;
+        self.waiting.push(Kept { item, args });
+        Ok(number)
+    }
+
+    /// Takes the first present, whatever its time and its fences; None exactly
+    /// where nothing waits.
+    pub fn take_any(&mut self) -> Option<Queued<T>>
+        ensures none { IfNone result ((self.new ≡ self.old) × (self.old.waiting ≡ [])) }
+        ensures first { IfSome result (λ queued. Gave queued self.old self.new) }
+    {
+        if self.waiting.len() == 0 {
+            return None;
+        }
+        let Kept { item, args } = self.waiting.remove(0);
+        self.taken += 1;
+        Some(Queued {
+            item,
+            args,
+            number: self.taken,
+        })
+    }
+
+    /// Takes the first present, where it is due and its acquire fences are
+    /// signalled; None exactly where nothing waits or the first isn't ready. So
+    /// taking until None takes the ready prefix.
+    pub fn take(&mut self, now: u64, fences: &FenceSet) -> Option<Queued<T>>
+        requires { All (λ kept. All (λ f. f.0 < length fences.now) kept.args.acquire) self.old.waiting }
+        ensures none { IfNone result ((self.new ≡ self.old) × (ready_of now (has fences.now) self.old.waiting ≡ [])) }
+        ensures first { IfSome result (λ queued. Gave queued self.old self.new) }
+        ensures ready { IfSome result (λ queued. ready_of now (has fences.now) self.old.waiting ≡ record { item = queued.item; args = queued.args } ∷ ready_of now (has fences.now) self.new.waiting) }
+    {
+        let first = self.waiting.as_slice().first()?;
+        if is_ready(&first.args, now, fences) {
+            self.take_any()
+        } else {
+            None
+        }
+    }
+}
+
+/// Whether a present is due, and its acquire fences are signalled.
+fn is_ready(args: &PresentArgs, now: u64, fences: &FenceSet) -> bool
+    requires { All (λ f. f.0 < length fences.now) args.now.acquire }
+    ensures { result ≡ is_ready now (has fences.now) args.now }
+{
+    args.time <= now && are_signalled(args.acquire.as_slice(), fences)
+}
+
+fn are_signalled(acquire: &[FenceNo], fences: &FenceSet) -> bool
+    requires { All (λ f. f.0 < length fences.now) acquire.now }
+    ensures { result ≡ list_all (has fences.now) acquire.now }
+{
+    acquire.iter().all(|f| fences.is_signalled(*f))
+}
