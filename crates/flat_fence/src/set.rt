@@ -40,10 +40,10 @@ impl FenceSet {
         self.flags[f.0 as usize] = true;
     }
 
+    /// Whether a fence is signalled; one that isn't below the set's number never is.
     pub fn is_signalled(&self, f: FenceNo) -> bool
-        requires { f.0 < length self.now }
         ensures { result ≡ has self.now f }
     {
-        self.flags[f.0 as usize]
+        self.flags.get(f.0 as usize).copied().unwrap_or(false)
     }
 }

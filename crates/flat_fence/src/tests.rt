@@ -8,7 +8,7 @@ fn a_fence_stays_signalled(rt: HostRuntime) -> Result<(), Fail> {
     set.signal(FenceNo(7));
     set.signal(FenceNo(4095));
     set.signal(FenceNo(7));
-    for f in 0..4096 {
+    for f in 0..4097 {
         assert_eq!(rt; set.is_signalled(FenceNo(f)), f == 7 || f == 4095);
     }
     Ok(())

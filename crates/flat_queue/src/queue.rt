@@ -1,8 +1,8 @@
-ghost use Rattle.std.specs.Prelude.{◌≡◌, ◌↔◌, ◌+◌, ◌-◌, ◌^◌, ◌<◌, [], ◌∷◌, length, All, IfOk, IfErr, IfSome, IfNone, IsTrue, is_ok};
+ghost use Rattle.std.specs.Prelude.{◌≡◌, ◌↔◌, ◌+◌, ◌-◌, ◌^◌, ◌<◌, [], ◌∷◌, length, IfOk, IfErr, IfSome, IfNone, IsTrue, is_ok};
 ghost use Rattle.std.specs.List.{list_all};
 ghost use Rattle.flat_scene.specs.Frames.{is_ready};
 ghost use Rattle.flat_fence.specs.Fences.{has};
-ghost use Rattle.flat_queue.specs.Line.{credits_of, ready_of, pushed, Gave};
+ghost use Rattle.flat_queue.specs.Line.{most_of, credits_of, ready_of, pushed, Gave};
 
 use flat_base::{FIRST_CREDITS, FULL_CREDITS, FenceNo, NoMemory, Roomy};
 use flat_fence::FenceSet;
@@ -73,7 +73,8 @@ impl<T> Queue<T> {
 
     /// How many presents more may wait.
     pub fn credits(&self) -> u32
-        ensures { result ≡ credits_of self.now }
+        ensures credits { result ≡ credits_of self.now }
+        ensures all { result + length self.now.waiting ≡ most_of self.now.taken }
     {
         let most = if self.taken == 0 {
             FIRST_CREDITS
@@ -123,7 +124,6 @@ impl<T> Queue<T> {
     /// signalled; None exactly where nothing waits or the first isn't ready. So
     /// taking until None takes the ready prefix.
     pub fn take(&mut self, now: u64, fences: &FenceSet) -> Option<Queued<T>>
-        requires { All (λ kept. All (λ f. f.0 < length fences.now) kept.args.acquire) self.old.waiting }
         ensures none { IfNone result ((self.new ≡ self.old) × (ready_of now (has fences.now) self.old.waiting ≡ [])) }
         ensures first { IfSome result (λ queued. Gave queued self.old self.new) }
         ensures ready { IfSome result (λ queued. ready_of now (has fences.now) self.old.waiting ≡ record { item = queued.item; args = queued.args } ∷ ready_of now (has fences.now) self.new.waiting) }
@@ -139,14 +139,12 @@ impl<T> Queue<T> {
 
 /// Whether a present is due, and its acquire fences are signalled.
 fn is_ready(args: &PresentArgs, now: u64, fences: &FenceSet) -> bool
-    requires { All (λ f. f.0 < length fences.now) args.now.acquire }
     ensures { result ≡ is_ready now (has fences.now) args.now }
 {
     args.time <= now && are_signalled(args.acquire.as_slice(), fences)
 }
 
 fn are_signalled(acquire: &[FenceNo], fences: &FenceSet) -> bool
-    requires { All (λ f. f.0 < length fences.now) acquire.now }
     ensures { result ≡ list_all (has fences.now) acquire.now }
 {
     acquire.iter().all(|f| fences.is_signalled(*f))
