@@ -2,8 +2,10 @@
 use Rattle.std.proofs.Common.{◌≡◌, ℕ, List, [], ◌∷◌, Option, Some, None, false, refl, arith, zero, suc}
 use Rattle.flat_lock.specs.History.{StartsWith, entries_of, GoesOn}
 use Rattle.flat_lock.specs.Seats.{LockView, SeatView, new_seat, seat_at, all_home}
-use Rattle.flat_lock.specs.Rule.{tickets_in}
-use Rattle.flat_lock.specs.declared.view_parts.Turn.TheVariants.{Idle, Waits}
+use Rattle.flat_lock.specs.Steps.{first_view, waiting, note, told}
+use Rattle.flat_lock.specs.declared.view.View.{View}
+use Rattle.flat_lock.specs.Rule.{tickets_in, seats_in, total}
+use Rattle.flat_lock.specs.declared.view_parts.Turn.TheVariants.{Idle, Waits, Note}
 
 abbrev Entry : Type 0
 Entry = ℕ × ℕ
@@ -54,3 +56,24 @@ waits = refl
 
 rests : tickets_in Idle ≡ 0
 rests = refl
+
+-- a seat that waits, and a note: one ticket and one seat
+abbrev views : List (View Entry ℕ)
+views = waiting 5 (first_view (Some 1) 2) ∷ note three ∷ []
+
+one_ticket : total tickets_in views ≡ 1
+one_ticket = refl
+
+one_seat : total seats_in views ≡ 1
+one_seat = refl
+
+no_seat : seats_in Note ≡ 0
+no_seat = refl
+
+-- a seat that was told by a note knows its history, and has seen what it had seen
+module _ (seat : View Entry ℕ) where
+  knows : (told seat (note three)).noted ≡ three
+  knows = refl
+
+  saw : (told seat (note three)).seen ≡ seat.seen
+  saw = refl

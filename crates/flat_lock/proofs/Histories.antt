@@ -17,6 +17,10 @@ module _ {E : Type 0} where
   pub begins_itself : (l : List E) → StartsWith l l
   begins_itself l = ([], sym (append-nil l))
 
+  -- what begins with a history begins with all that it begins with
+  pub begins_within : (whole between part : List E) → StartsWith whole between → StartsWith between part → StartsWith whole part
+  begins_within whole between part long begins = (begins.0 ++ long.0, long.1 ∙ (ap (λ (l : List E). l ++ long.0) begins.1 ∙ append_assoc part begins.0 long.0))
+
   module _ (actor : E → ℕ) where
     -- the entries of an actor in a list of its own entries
     pub entries_of-own : (a : ℕ) (new : List E) → All (λ e. actor e ≡ a) new → entries_of actor a new ≡ new
@@ -49,8 +53,7 @@ module _ {E : Type 0} where
         ∙ (filter-append (λ e. eqb (actor e) other) before new ∙ (ap (λ (l : List E). entries_of actor other before ++ l) none ∙ append-nil (entries_of actor other before)))
 
     pub begins_after : (a : ℕ) (before after part : List E) → GoesOn actor a before after → StartsWith before part → StartsWith after part
-    begins_after a before after part goes begins =
-        let new = goes.0 in (begins.0 ++ new, goes.1 ∙ (ap (λ (l : List E). l ++ new) begins.1 ∙ append_assoc part begins.0 new))
+    begins_after a before after part goes begins = begins_within after before part (goes.0, goes.1) begins
 
     -- where no actor from n on has an entry, each entry is of an actor below n
     pub all_below : (n : ℕ) (log : List E) → ((a : ℕ) → n ≤ a → entries_of actor a log ≡ []) → All (λ e. actor e < n) log

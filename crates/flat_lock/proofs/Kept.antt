@@ -1,5 +1,5 @@
 -- Each step of a turn keeps the rule.
-use Rattle.std.proofs.Common.{◌≡◌, ◌≢◌, ℕ, ◌+◌, ◌%◌, ◌^◌, ◌≤◌, List, [], ◌∷◌, ◌++◌, length, get_or, set, drop, sym, refl, ap, ◌∙◌, subst, ⊎_elim, inl, inr, arith, Option, Some, None, length-set}
+use Rattle.std.proofs.Common.{◌≡◌, ◌≢◌, ℕ, ◌+◌, ◌%◌, ◌^◌, ◌≤◌, List, [], ◌∷◌, ◌++◌, length, get_or, set, drop, sym, refl, ap, ◌∙◌, subst, ⊎_elim, inl, inr, arith, Option, Some, None}
 use Rattle.std.proofs.Math.Nat.{mod-add-mod}
 use mathlib.Core.Logic.{dite}
 use mathlib.Core.Option.{none, some, some-injective}
@@ -12,10 +12,10 @@ use Rattle.atomic_table.proofs.Lists.{set_else, set_again}
 use Rattle.flat_lock.specs.declared.view.View.{View}
 use Rattle.flat_lock.specs.declared.view_parts.Turn.TheVariants.{Idle, Waits, Holds}
 use Rattle.flat_lock.specs.History.{StartsWith, entries_of, GoesOn}
-use Rattle.flat_lock.specs.Rule.{tickets_in, in_line, HasTicket, HasSeenAll, IsLive, IsSound, IsHomeOrHeld, LockRule}
+use Rattle.flat_lock.specs.Rule.{tickets_in, seats_in, total, HasTicket, HasSeenAll, IsLive, IsSound, IsHomeOrHeld, LockRule}
 use Rattle.flat_lock.specs.Steps.{Learns, HasEntered, HasTurn, HasLeft, waiting, entering, giving, DrawsTicket, ReadsServing, ServesNext}
 use Rattle.flat_lock.proofs.Histories.{begins_itself, entries_of-goes_on, entries_of-others, begins_after, owns-others, all_below}
-use Rattle.flat_lock.proofs.Tickets.{updated, updated-same, others_wait, others_served, in_line-set, in_line-le, seats_stay, set_there, is_served}
+use Rattle.flat_lock.proofs.Tickets.{updated, updated-same, others_wait, others_served, total-set, total-same, tickets-le, seats_stay, set_there, is_served}
 
 module _ {T E F : Type 0} (history : T → List E) (actor : E → ℕ) (fixed : T → F) where
   abbrev V : Type 0
@@ -49,33 +49,41 @@ module _ {T E F : Type 0} (history : T → List E) (actor : E → ℕ) (fixed : 
       inr (held.0, (holder, u, set_else vs id holder w apart ∙ held.1.2, held.1.3))) home
 
   -- a step of the seat id, after which its view is w
-  moved : (s : St) (r : Rule s) (log' : List E) (drawn' served' : ℕ) (drawn_by' : ℕ → ℕ) (words' : List ℕ) (homes' : Homes) (id : ℕ) (w : V)
+  moved : (s : St) (r : Rule s) (log' : List E) (drawn' served' : ℕ) (drawn_by' : ℕ → ℕ) (words' : List ℕ) (homes' : Homes) (id : ℕ) (v w : V) → get_elem? s.views id ≡ some v → seats_in w.turn ≡ seats_in v.turn
       → words' ≡ drawn' % 2 ^ 64 ∷ served' % 2 ^ 64 ∷ []
-      → in_line (set s.views id w) + served' ≡ drawn'
+      → total tickets_in (set s.views id w) + served' ≡ drawn'
       → IsHomeOrHeld history actor fixed r.constant log' served' (set s.views id w) homes'
-      → IsSound actor r.constant r.seats log' drawn' served' (length s.views) drawn_by' r.owner id w
-      → ((j : ℕ) (v : V) → j ≢ id → get_elem? s.views j ≡ some v → IsSound actor r.constant r.seats log' drawn' served' (length s.views) drawn_by' r.owner j v)
-      → ((a : ℕ) → length s.views ≤ a → entries_of actor a log' ≡ [])
+      → IsSound actor r.constant r.seats log' drawn' served' r.handed_out drawn_by' r.owner id w
+      → ((j : ℕ) (v : V) → j ≢ id → get_elem? s.views j ≡ some v → IsSound actor r.constant r.seats log' drawn' served' r.handed_out drawn_by' r.owner j v)
+      → ((a : ℕ) → r.handed_out ≤ a → entries_of actor a log' ≡ [])
       → Rule record { words = words'; homes = homes'; views = set s.views id w }
-  moved s r log' drawn' served' drawn_by' words' homes' id w words_are queue home own others absent =
-      let long : length s.views ≡ length (set s.views id w) = sym (length-set s.views id w) in
-      let Each : ℕ → Type 0 = λ n. (j : ℕ) (v : V) → get_elem? (set s.views id w) j ≡ some v → IsSound actor r.constant r.seats log' drawn' served' n drawn_by' r.owner j v in
-      record {
-        constant = r.constant;
-        seats = r.seats;
-        log = log';
-        drawn = drawn';
-        served = served';
-        drawn_by = drawn_by';
-        owner = r.owner;
-        words_are = words_are;
-        queue = queue;
-        few_views = subst (λ (n : ℕ). n ≤ r.seats) long r.few_views;
-        few_seats = r.few_seats;
-        home = home;
-        each_seat = subst Each long (seats_stay (IsSound actor r.constant r.seats log' drawn' served' (length s.views) drawn_by' r.owner) s.views id w own others);
-        others = subst (λ (n : ℕ). (a : ℕ) → n ≤ a → entries_of actor a log' ≡ []) long absent;
-      }
+  moved s r log' drawn' served' drawn_by' words' homes' id v w at seat words_are queue home own others absent = record {
+    constant = r.constant;
+    seats = r.seats;
+    log = log';
+    drawn = drawn';
+    served = served';
+    handed_out = r.handed_out;
+    drawn_by = drawn_by';
+    owner = r.owner;
+    words_are = words_are;
+    queue = queue;
+    few_live = subst (λ (n : ℕ). n ≤ r.handed_out) (sym (total-same seats_in s.views id v w at seat)) r.few_live;
+    few_handed_out = r.few_handed_out;
+    few_seats = r.few_seats;
+    home = home;
+    each_seat = seats_stay (IsSound actor r.constant r.seats log' drawn' served' r.handed_out drawn_by' r.owner) s.views id w own others;
+    others = absent;
+  }
+
+  -- a seat that hasn't the turn comes to know something else
+  pub settled : (s : St) (r : Rule s) (words' : List ℕ) (id : ℕ) (v w : V) → get_elem? s.views id ≡ some v → w.turn ≡ v.turn → v.turn ≢ Holds r.served → words' ≡ s.words
+      → IsSound actor r.constant r.seats r.log r.drawn r.served r.handed_out r.drawn_by r.owner id w
+      → Rule record { words = words'; homes = s.homes; views = set s.views id w }
+  settled s r words' id v w at same not words_stay own =
+      let as_many : total tickets_in (set s.views id w) ≡ total tickets_in s.views = total-same tickets_in s.views id v w at (ap tickets_in same) in
+      moved s r r.log r.drawn r.served r.drawn_by words' s.homes id v w at (ap seats_in same) (words_stay ∙ r.words_are) (ap (λ (n : ℕ). n + r.served) as_many ∙ r.queue)
+      (home_stays r.constant r.log r.served s.views s.homes id v w at not r.home) own (λ j u other e. r.each_seat j u e) r.others
 
   -- a step that changes nothing
   unmoved : (s : St) (r : Rule s) (i id : ℕ) (cs : List (ℕ × Option T)) (v : V) → get_elem? s.views id ≡ some v → Rule (stepped s i (get_or s.words i 0) id cs v keeps)
@@ -88,19 +96,20 @@ module _ {T E F : Type 0} (history : T → List E) (actor : E → ℕ) (fixed : 
         let found : get_or s.words 0 0 ≡ r.drawn % 2 ^ 64 = ap (λ (l : List ℕ). get_or l 0 0) r.words_are in
         let was = r.each_seat id me.0 at in
         let live : IsLive me.0.turn = subst IsLive (sym idle) tt in
-        let before : ℕ = in_line s.views in let after : ℕ = in_line (set s.views id w) in let own : ℕ = tickets_in me.0.turn in
+        let before : ℕ = total tickets_in s.views in let after : ℕ = total tickets_in (set s.views id w) in let own : ℕ = tickets_in me.0.turn in
         let queue : before + r.served ≡ r.drawn = r.queue in
-        let one_more : after + own ≡ before + 1 = in_line-set s.views id me.0 w at in let no_ticket : own ≡ 0 = ap tickets_in idle in
+        let one_more : after + own ≡ before + 1 = total-set tickets_in s.views id me.0 w at in let no_ticket : own ≡ 0 = ap tickets_in idle in
         let queue' : after + r.served ≡ r.drawn + 1 = omega arith in (
           w,
           keeps,
           tt,
-          moved s r r.log (r.drawn + 1) r.served (updated r.drawn_by r.drawn id) (set s.words 0 ((get_or s.words 0 0 + 1) % 2 ^ 64)) s.homes id w
+          moved s r r.log (r.drawn + 1) r.served (updated r.drawn_by r.drawn id) (set s.words 0 ((get_or s.words 0 0 + 1) % 2 ^ 64)) s.homes id me.0 w at (sym (ap seats_in idle))
               (ap (λ (l : List ℕ). set l 0 ((get_or l 0 0 + 1) % 2 ^ 64)) r.words_are ∙ ap (λ (x : ℕ). x ∷ r.served % 2 ^ 64 ∷ []) (mod-add-mod r.drawn (2 ^ 64) 1))
               queue'
               (home_stays r.constant r.log r.served s.views s.homes id me.0 w at (λ holds. let e : Idle ≡ Holds r.served = sym idle ∙ holds in cc) r.home)
               record {
                 seen = was.seen;
+                noted = was.noted;
                 turn = (omega arith, omega arith, updated-same r.drawn_by r.drawn id);
                 seen_all = tt;
                 own = λ _. was.own live;
@@ -110,6 +119,7 @@ module _ {T E F : Type 0} (history : T → List E) (actor : E → ℕ) (fixed : 
               }
               (λ j v other e. let k = r.each_seat j v e in record {
                 seen = k.seen;
+                noted = k.noted;
                 turn = others_wait r.drawn r.served id j r.drawn_by v.turn k.turn;
                 seen_all = k.seen_all;
                 own = k.own;
@@ -140,8 +150,8 @@ module _ {T E F : Type 0} (history : T → List E) (actor : E → ℕ) (fixed : 
         let live : IsLive me.0.turn = subst IsLive (sym waits) tt in
         let found : get_or s.words 1 0 ≡ r.served % 2 ^ 64 = ap (λ (l : List ℕ). get_or l 1 0) r.words_are in
         let has = subst (HasTicket r.drawn r.served r.drawn_by id) waits was.turn in
-        let before : ℕ = in_line s.views in let queue : before + r.served ≡ r.drawn = r.queue in
-        let short : before ≤ length s.views = in_line-le s.views in let few_views = r.few_views in let few_seats = r.few_seats in
+        let before : ℕ = total tickets_in s.views in let queue : before + r.served ≡ r.drawn = r.queue in
+        let live_seats : ℕ = total seats_in s.views in let short : before ≤ live_seats = tickets-le s.views in let few_live : live_seats ≤ r.handed_out = r.few_live in let few_handed_out = r.few_handed_out in let few_seats = r.few_seats in
         let again : (k : ℕ) → me.0.turn ≡ Waits k → n ≡ k = λ k e. let both : Waits n ≡ Waits k = sym waits ∙ e in cc in
         dite (ℕ_discrete (get_or s.words 1 0) (n % 2 ^ 64))
         (λ (hit : get_or s.words 1 0 ≡ n % 2 ^ 64).
@@ -149,8 +159,8 @@ module _ {T E F : Type 0} (history : T → List E) (actor : E → ℕ) (fixed : 
         let v = value_there s r n at waits is in
         let x : T = v.0 in
         let w : V = entering n (history x) me.0 in
-        let after : ℕ = in_line (set s.views id w) in let own : ℕ = tickets_in me.0.turn in
-        let as_many : after + own ≡ before + 1 = in_line-set s.views id me.0 w at in let one : own ≡ 1 = ap tickets_in waits in
+        let after : ℕ = total tickets_in (set s.views id w) in let own : ℕ = tickets_in me.0.turn in
+        let as_many : after + own ≡ before + 1 = total-set tickets_in s.views id me.0 w at in let one : own ≡ 1 = ap tickets_in waits in
         let queue' : after + r.served ≡ r.drawn = omega arith in
         let wide : me.0.seats ≡ r.seats = (was.lock live).1 in
         let learns : Learns actor me.0 (history x) (fixed x) = record {
@@ -162,12 +172,13 @@ module _ {T E F : Type 0} (history : T → List E) (actor : E → ℕ) (fixed : 
           w,
           takes 0 (Some x),
           ap (λ (l : Homes). get_elem? l 0) v.1,
-          moved s r r.log r.drawn r.served r.drawn_by (set s.words 1 (get_or s.words 1 0)) (set s.homes 0 none) id w
+          moved s r r.log r.drawn r.served r.drawn_by (set s.words 1 (get_or s.words 1 0)) (set s.homes 0 none) id me.0 w at (sym (ap seats_in waits))
               (set-get_or s.words 1 0 ∙ r.words_are)
               queue'
               (inr (ap (λ (l : Homes). set l 0 none) v.1, (id, w, set_there s.views id me.0 w at, ap Holds is)))
               record {
                 seen = subst (λ (l : List E). StartsWith r.log l) (sym v.2) (begins_itself r.log);
+                noted = was.noted;
                 turn = (is, has.1, has.2);
                 seen_all = v.2;
                 own = λ _. was.own live;
@@ -202,9 +213,9 @@ module _ {T E F : Type 0} (history : T → List E) (actor : E → ℕ) (fixed : 
         let log' : List E = history x in
         let goes' : GoesOn actor own r.log log' = subst (λ (l : List E). GoesOn actor own l log') seen goes in
         let w : V = giving log' me.0 in
-        let before : ℕ = in_line s.views in let after : ℕ = in_line (set s.views id w) in let ticket : ℕ = tickets_in me.0.turn in
+        let before : ℕ = total tickets_in s.views in let after : ℕ = total tickets_in (set s.views id w) in let ticket : ℕ = tickets_in me.0.turn in
         let queue : before + r.served ≡ r.drawn = r.queue in
-        let one_less : after + ticket ≡ before + 0 = in_line-set s.views id me.0 w at in let one : ticket ≡ 1 = ap tickets_in holds in
+        let one_less : after + ticket ≡ before + 0 = total-set tickets_in s.views id me.0 w at in let one : ticket ≡ 1 = ap tickets_in holds in
         let queue' : after + (r.served + 1) ≡ r.drawn = omega arith in
         let constant' : fixed x ≡ r.constant = let both : Some r.constant ≡ Some (fixed x) = sym (was.lock live).0 ∙ constant in cc in
         let made : w.mine ≡ entries_of actor own log' = ap (λ (l : List E). l ++ drop (length me.0.seen) log') owns.made
@@ -214,12 +225,13 @@ module _ {T E F : Type 0} (history : T → List E) (actor : E → ℕ) (fixed : 
           w,
           gives,
           tt,
-          moved s r log' r.drawn (r.served + 1) r.drawn_by (set s.words 1 ((get_or s.words 1 0 + 1) % 2 ^ 64)) (put_back s.homes me.1) id w
+          moved s r log' r.drawn (r.served + 1) r.drawn_by (set s.words 1 ((get_or s.words 1 0 + 1) % 2 ^ 64)) (put_back s.homes me.1) id me.0 w at (sym (ap seats_in holds))
               (ap (λ (l : List ℕ). set l 1 ((get_or l 1 0 + 1) % 2 ^ 64)) r.words_are ∙ ap (λ (z : ℕ). r.drawn % 2 ^ 64 ∷ z ∷ []) (mod-add-mod r.served (2 ^ 64) 1))
               queue'
               (inl (x, ap (λ (c : List (ℕ × Option T)). put_back s.homes c) carried ∙ emptied, refl, constant'))
               record {
                 seen = begins_itself log';
+                noted = begins_after actor own r.log log' me.0.noted goes' was.noted;
                 turn = tt;
                 seen_all = tt;
                 own = λ _. record { made = made; known = owns.known; owned = owns.owned };
@@ -229,6 +241,7 @@ module _ {T E F : Type 0} (history : T → List E) (actor : E → ℕ) (fixed : 
               }
               (λ j v other e. let k = r.each_seat j v e in let t = others_served r.drawn r.served id j r.drawn_by r.log log' v.seen v.turn other (ap r.drawn_by (sym has.0) ∙ has.2) k.turn in record {
                 seen = begins_after actor own r.log log' v.seen goes' k.seen;
+                noted = begins_after actor own r.log log' v.noted goes' k.noted;
                 turn = t.0;
                 seen_all = t.1;
                 own = λ l. let f = k.own l in owns-others actor own log' goes' (apart j v.actor other f.owned) f;

@@ -2,6 +2,7 @@ pub mod Histories
 pub mod Tickets
 pub mod Kept
 pub mod Seating
+pub mod Telling
 pub mod AtHome
 pub mod Held
 pub mod Dealing

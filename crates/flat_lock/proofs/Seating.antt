@@ -1,5 +1,5 @@
 -- A lock opens, its first seat splits and takes others in, and it closes: the rule is kept.
-use Rattle.std.proofs.Common.{◌≡◌, ◌≢◌, ℕ, ◌+◌, ◌^◌, ◌<◌, ◌≤◌, List, [], ◌∷◌, ◌++◌, length, set, sym, refl, ap, ◌∙◌, subst, ⊎_elim, ◌⊎◌, inl, inr, arith, Option, Some, true, false, length-set, length-append, zero, suc}
+use Rattle.std.proofs.Common.{◌≡◌, ◌≢◌, ℕ, ◌+◌, ◌^◌, ◌<◌, ◌≤◌, List, [], ◌∷◌, ◌++◌, length, set, sym, refl, ap, ◌∙◌, subst, ⊎_elim, ◌⊎◌, inl, inr, arith, Option, Some, true, false, length-set, zero, suc}
 use mathlib.Core.Logic.{dite}
 use mathlib.Core.Option.{none, some, some-ne-none, some-injective}
 use mathlib.Core.Option as maybe
@@ -12,24 +12,20 @@ use Rattle.flat_lock.specs.declared.view_parts.Ended.{Ended}
 use Rattle.flat_lock.specs.declared.view_parts.Turn.{Turn}
 use Rattle.flat_lock.specs.declared.view_parts.Turn.TheVariants.{Idle, Holds}
 use Rattle.flat_lock.specs.History.{StartsWith, entries_of}
-use Rattle.flat_lock.specs.Rule.{tickets_in, in_line, IsLive, OwnsActor, IsSound, IsHomeOrHeld, LockRule}
+use Rattle.flat_lock.specs.Rule.{tickets_in, seats_in, total, IsLive, OwnsActor, IsSound, IsHomeOrHeld, LockRule}
 use Rattle.flat_lock.specs.Steps.{Learns, first_view, splitting, split_off, ended_view, joining, spent}
 use Rattle.flat_lock.proofs.Histories.{owns-more, all_below}
-use Rattle.flat_lock.proofs.Tickets.{updated, updated-same, updated-other, in_line-set, seats_stay, set_there}
+use Rattle.flat_lock.proofs.Tickets.{updated, updated-same, updated-other, total-set, total-same, total-snoc, seats_stay, set_there}
 use Rattle.flat_lock.proofs.Kept.{home_stays}
 
-at_end : {A : Type 0} (l : List A) (a b : A) (j : ℕ) → get_elem? (l ++ a ∷ []) j ≡ some b → (get_elem? l j ≡ some b) ⊎ ((a ≡ b) × (j ≡ length l))
+pub at_end : {A : Type 0} (l : List A) (a b : A) (j : ℕ) → get_elem? (l ++ a ∷ []) j ≡ some b → (get_elem? l j ≡ some b) ⊎ ((a ≡ b) × (j ≡ length l))
 at_end [] a b zero e = inr (some-injective a b e, refl)
 at_end [] a b (suc j) e = absurd (some-ne-none b (sym e))
 at_end (x ∷ xs) a b zero e = inl e
 at_end (x ∷ xs) a b (suc j) e = ⊎_elim (λ h. inl h) (λ h. inr (h.0, ap suc h.1)) (at_end xs a b j e)
 
-in_line-snoc : {E F : Type 0} (vs : List (View E F)) (w : View E F) → in_line (vs ++ w ∷ []) ≡ in_line vs + tickets_in w.turn
-in_line-snoc [] w = let a : ℕ = tickets_in w.turn in let goal : a + 0 ≡ 0 + a = omega arith in goal
-in_line-snoc (x ∷ xs) w = let a : ℕ = tickets_in x.turn in let b : ℕ = in_line xs in let c : ℕ = tickets_in w.turn in let d : ℕ = in_line (xs ++ w ∷ []) in
-    let h : d ≡ b + c = in_line-snoc xs w in let goal : a + d ≡ (a + b) + c = omega arith in goal
-
-not_holding : (n : ℕ) (t : Turn) → t ≡ Idle → t ≢ Holds n
+-- a resting seat hasn't the turn
+pub not_holding : (n : ℕ) (t : Turn) → t ≡ Idle → t ≢ Holds n
 not_holding n t idle h = let e : Idle ≡ Holds n = sym idle ∙ h in cc
 
 module _ {T E F : Type 0} (history : T → List E) (actor : E → ℕ) (fixed : T → F) where
@@ -58,19 +54,23 @@ module _ {T E F : Type 0} (history : T → List E) (actor : E → ℕ) (fixed : 
       let was = r.each_seat id v at in
       let live : IsLive v.turn = subst IsLive (sym idle) tt in
       let lead = was.first first in
-      let last : v.handed_out ≡ n = lead.1 in
+      let h : ℕ = r.handed_out in
+      let last : v.handed_out ≡ h = lead.1 in
       let owner' : ℕ → ℕ = updated r.owner v.handed_out n in
       let vs' : List V = set s.views id (splitting v) in
       let wide : length vs' ≡ n = length-set s.views id (splitting v) in
-      let total : length (vs' ++ split_off v ∷ []) ≡ n + 1 = length-append vs' (split_off v ∷ []) ∙ ap (λ (k : ℕ). k + 1) wide in
-      let Sound : ℕ → V → Type 0 = IsSound actor r.constant r.seats r.log r.drawn r.served (n + 1) r.drawn_by owner' in
-      let kept : (seat a : ℕ) (mine : List E) → OwnsActor actor r.log n r.owner seat a mine → OwnsActor actor r.log (n + 1) owner' seat a mine = λ seat a mine owns.
-      let less : a < n = owns.known in owns-more actor (n + 1) owner' (omega arith) (updated-other r.owner v.handed_out n a (λ e. omega arith)) owns in
-      let before : ℕ = in_line s.views in let between : ℕ = in_line vs' in let after : ℕ = in_line (vs' ++ split_off v ∷ []) in let ticket : ℕ = tickets_in v.turn in
-      let as_many : between + ticket ≡ before + ticket = in_line-set s.views id v (splitting v) at in
-      let as_many' : after ≡ between + 0 = in_line-snoc vs' (split_off v) in
+      let Sound : ℕ → V → Type 0 = IsSound actor r.constant r.seats r.log r.drawn r.served (h + 1) r.drawn_by owner' in
+      let kept : (seat a : ℕ) (mine : List E) → OwnsActor actor r.log h r.owner seat a mine → OwnsActor actor r.log (h + 1) owner' seat a mine = λ seat a mine owns.
+      let less : a < h = owns.known in owns-more actor (h + 1) owner' (omega arith) (updated-other r.owner v.handed_out n a (λ e. omega arith)) owns in
+      let as_many : total tickets_in (vs' ++ split_off v ∷ []) ≡ total tickets_in s.views + 0 = total-snoc tickets_in vs' (split_off v) ∙ ap (λ (k : ℕ). k + 0) (total-same tickets_in s.views id v (splitting v) at refl) in
+      let one_more : total seats_in (vs' ++ split_off v ∷ []) ≡ total seats_in s.views + 1 = total-snoc seats_in vs' (split_off v) ∙ ap (λ (k : ℕ). k + 1) (total-same seats_in s.views id v (splitting v) at refl) in
+      let before : ℕ = total tickets_in s.views in let after : ℕ = total tickets_in (vs' ++ split_off v ∷ []) in
+      let same : after ≡ before + 0 = as_many in
       let queue : before + r.served ≡ r.drawn = r.queue in
       let queue' : after + r.served ≡ r.drawn = omega arith in
+      let live_before : ℕ = total seats_in s.views in let live_after : ℕ = total seats_in (vs' ++ split_off v ∷ []) in
+      let more : live_after ≡ live_before + 1 = one_more in
+      let few_live : live_before ≤ h = r.few_live in
       let fits : v.seats ≡ r.seats = (was.lock live).1 in
       record {
         constant = r.constant;
@@ -79,16 +79,18 @@ module _ {T E F : Type 0} (history : T → List E) (actor : E → ℕ) (fixed : 
         log = r.log;
         drawn = r.drawn;
         served = r.served;
+        handed_out = h + 1;
         drawn_by = r.drawn_by;
         owner = owner';
         words_are = r.words_are;
         queue = queue';
-        few_views = subst (λ (k : ℕ). k ≤ r.seats) (sym total) (omega arith);
+        few_live = let goal : live_after ≤ h + 1 = omega arith in goal;
+        few_handed_out = omega arith;
         home = home_split r.constant r.log r.served s.views s.homes id v at r.home;
-        each_seat = subst (λ (k : ℕ). (j : ℕ) (u : V) → get_elem? (vs' ++ split_off v ∷ []) j ≡ some u → IsSound actor r.constant r.seats r.log r.drawn r.served k r.drawn_by owner' j u) (sym total)
-            (λ j u e. ⊎_elim
+        each_seat = λ j u e. ⊎_elim
             (seats_stay Sound s.views id (splitting v) record {
               seen = was.seen;
+              noted = was.noted;
               turn = was.turn;
               seen_all = was.seen_all;
               own = λ l. kept id v.actor v.mine (was.own l);
@@ -98,6 +100,7 @@ module _ {T E F : Type 0} (history : T → List E) (actor : E → ℕ) (fixed : 
             }
             (λ i x other g. let k = r.each_seat i x g in record {
               seen = k.seen;
+              noted = k.noted;
               turn = k.turn;
               seen_all = k.seen_all;
               own = λ l. kept i x.actor x.mine (k.own l);
@@ -107,6 +110,7 @@ module _ {T E F : Type 0} (history : T → List E) (actor : E → ℕ) (fixed : 
             }) j u)
             (λ (new : (split_off v ≡ u) × (j ≡ length vs')). subst (λ (z : ℕ × V). Sound z.0 z.1) (λ i. (sym (new.1 ∙ wide) i, new.0 i)) record {
               seen = was.seen;
+              noted = (r.log, refl);
               turn = tt;
               seen_all = tt;
               own = λ _. record { made = sym (r.others v.handed_out (omega arith)); known = omega arith; owned = updated-same r.owner v.handed_out n };
@@ -114,13 +118,13 @@ module _ {T E F : Type 0} (history : T → List E) (actor : E → ℕ) (fixed : 
               first = λ h. absurd (let e' : false ≡ true = h in cc);
               ended = λ k d g. absurd (some-ne-none d (sym g));
             })
-            (at_end vs' (split_off v) u j e));
-        others = subst (λ (k : ℕ). (y : ℕ) → k ≤ y → entries_of actor y r.log ≡ []) (sym total) (λ y l. r.others y (omega arith));
+            (at_end vs' (split_off v) u j e);
+        others = λ y l. r.others y (omega arith);
       }
 
   pub joins : (id : ℕ) (v : V) (other : ℕ) (w : V) → v.turn ≡ Idle → w.turn ≡ Idle → Joins Rule id v other w (joining v w) spent
   joins id v other w idle idle' s r at apart there' =
-      let n : ℕ = length s.views in
+      let h : ℕ = r.handed_out in
       let u : V = joining v w in
       let vs' : List V = set s.views id u in
       let there : get_elem? s.views other ≡ some w = sym (set_else s.views id other u apart) ∙ there' in
@@ -129,19 +133,21 @@ module _ {T E F : Type 0} (history : T → List E) (actor : E → ℕ) (fixed : 
       let keeper = was.own (subst IsLive (sym idle) tt) in
       let leaver = joined.own (subst IsLive (sym idle') tt) in
       let owner' : ℕ → ℕ = updated r.owner w.actor id in
-      let wide : length vs' ≡ n = length-set s.views id u in
-      let total : length (set vs' other spent) ≡ n = length-set vs' other spent ∙ wide in
-      let Sound : ℕ → V → Type 0 = IsSound actor r.constant r.seats r.log r.drawn r.served n r.drawn_by owner' in
-      let kept : (seat a : ℕ) (mine : List E) → seat ≢ other → OwnsActor actor r.log n r.owner seat a mine → OwnsActor actor r.log n owner' seat a mine = λ seat a mine off owns.
+      let Sound : ℕ → V → Type 0 = IsSound actor r.constant r.seats r.log r.drawn r.served h r.drawn_by owner' in
+      let kept : (seat a : ℕ) (mine : List E) → seat ≢ other → OwnsActor actor r.log h r.owner seat a mine → OwnsActor actor r.log h owner' seat a mine = λ seat a mine off owns.
       let differs : a ≢ w.actor = λ e. off (sym owns.owned ∙ (ap r.owner e ∙ leaver.owned)) in
-      owns-more actor n owner' (omega arith) (updated-other r.owner w.actor id a differs) owns in
+      owns-more actor h owner' (omega arith) (updated-other r.owner w.actor id a differs) owns in
       let away : id ≢ other = λ e. apart (sym e) in
-      let before : ℕ = in_line s.views in let between : ℕ = in_line vs' in let after : ℕ = in_line (set vs' other spent) in let ticket : ℕ = tickets_in v.turn in let ticket' : ℕ = tickets_in w.turn in
-      let as_many : between + ticket ≡ before + ticket = in_line-set s.views id v u at in
-      let as_many' : after + ticket' ≡ between + 0 = in_line-set vs' other w spent there' in
-      let no_ticket : ticket' ≡ 0 = ap tickets_in idle' in
+      let before : ℕ = total tickets_in s.views in let between : ℕ = total tickets_in vs' in let after : ℕ = total tickets_in (set vs' other spent) in let ticket : ℕ = tickets_in w.turn in
+      let as_many : between ≡ before = total-same tickets_in s.views id v u at refl in
+      let as_many' : after + ticket ≡ between + 0 = total-set tickets_in vs' other w spent there' in
+      let no_ticket : ticket ≡ 0 = ap tickets_in idle' in
       let queue : before + r.served ≡ r.drawn = r.queue in
       let queue' : after + r.served ≡ r.drawn = omega arith in
+      let live_before : ℕ = total seats_in s.views in let live_between : ℕ = total seats_in vs' in let live_after : ℕ = total seats_in (set vs' other spent) in let seat : ℕ = seats_in w.turn in
+      let live : live_between ≡ live_before = total-same seats_in s.views id v u at refl in
+      let live' : live_after + seat ≡ live_between + 0 = total-set seats_in vs' other w spent there' in
+      let few_live : live_before ≤ h = r.few_live in
       record {
         constant = r.constant;
         seats = r.seats;
@@ -149,46 +155,50 @@ module _ {T E F : Type 0} (history : T → List E) (actor : E → ℕ) (fixed : 
         log = r.log;
         drawn = r.drawn;
         served = r.served;
+        handed_out = r.handed_out;
         drawn_by = r.drawn_by;
         owner = owner';
         words_are = r.words_are;
         queue = queue';
-        few_views = subst (λ (k : ℕ). k ≤ r.seats) (sym total) r.few_views;
+        few_live = let goal : live_after ≤ h = omega arith in goal;
+        few_handed_out = r.few_handed_out;
         home = home_stays history actor fixed r.constant r.log r.served vs' s.homes other w spent there' (not_holding r.served w.turn idle')
             (home_stays history actor fixed r.constant r.log r.served s.views s.homes id v u at (not_holding r.served v.turn idle) r.home);
-        each_seat = subst (λ (k : ℕ). (j : ℕ) (x : V) → get_elem? (set vs' other spent) j ≡ some x → IsSound actor r.constant r.seats r.log r.drawn r.served k r.drawn_by owner' j x) (sym total)
-            (seats_stay Sound vs' other spent record {
-              seen = (r.log, refl);
-              turn = tt;
-              seen_all = tt;
-              own = λ l. absurd l;
-              lock = λ l. absurd l;
-              first = λ h. absurd (let e' : false ≡ true = h in cc);
-              ended = λ k d g. absurd (some-ne-none d (sym g));
-            }
+        each_seat = seats_stay Sound vs' other spent record {
+          seen = (r.log, refl);
+          noted = (r.log, refl);
+          turn = tt;
+          seen_all = tt;
+          own = λ l. absurd l;
+          lock = λ l. absurd l;
+          first = λ h. absurd (let e' : false ≡ true = h in cc);
+          ended = λ k d g. absurd (some-ne-none d (sym g));
+        }
             (λ j x no e. seats_stay (λ i y. i ≢ other → Sound i y) s.views id u (λ _. record {
               seen = was.seen;
+              noted = was.noted;
               turn = was.turn;
               seen_all = was.seen_all;
               own = λ l. kept id v.actor v.mine away (was.own l);
               lock = was.lock;
               first = was.first;
               ended = elim [
-                | zero ↦ λ d g. subst (λ (z : Ended E). OwnsActor actor r.log n owner' id z.actor z.mine × (z.actor ≢ v.actor) × StartsWith r.log z.seen) (some-injective (ended_view w) d g)
+                | zero ↦ λ d g. subst (λ (z : Ended E). OwnsActor actor r.log h owner' id z.actor z.mine × (z.actor ≢ v.actor) × StartsWith r.log z.seen) (some-injective (ended_view w) d g)
                     (record { made = leaver.made; known = leaver.known; owned = updated-same r.owner w.actor id }, λ h. apart (sym leaver.owned ∙ (ap r.owner h ∙ keeper.owned)), joined.seen)
                 | suc k ↦ λ d g. let f = was.ended k d g in (kept id d.actor d.mine away f.0, f.1, f.2)
               ];
             })
             (λ i y no' g off. let k = r.each_seat i y g in record {
               seen = k.seen;
+              noted = k.noted;
               turn = k.turn;
               seen_all = k.seen_all;
               own = λ l. kept i y.actor y.mine off (k.own l);
               lock = k.lock;
               first = k.first;
               ended = λ z d g'. let f = k.ended z d g' in (kept i d.actor d.mine off f.0, f.1, f.2);
-            }) j x e no));
-        others = subst (λ (k : ℕ). (y : ℕ) → k ≤ y → entries_of actor y r.log ≡ []) (sym total) r.others;
+            }) j x e no);
+        others = r.others;
       }
 
   -- each actor but that of v has ended
@@ -204,12 +214,12 @@ module _ {T E F : Type 0} (history : T → List E) (actor : E → ℕ) (fixed : 
       let was = r.each_seat id v at in
       let live : IsLive v.turn = subst IsLive (sym idle) tt in
       let own = was.own live in
-      let wide : v.seats ≡ r.seats = (was.lock live).1 in let few_views = r.few_views in
+      let wide : v.seats ≡ r.seats = (was.lock live).1 in let few_handed_out = r.few_handed_out in
       -- who holds the turn would be this seat, since all other actors have ended
       let home : (x : T) × (s.homes ≡ some (Some x) ∷ []) × (history x ≡ r.log) × (fixed x ≡ r.constant) = ⊎_elim (λ t. t) (λ t.
       let holder : ℕ = t.1.0 in let u : V = t.1.1 in let there : get_elem? s.views holder ≡ some u = t.1.2 in
       let held = (r.each_seat holder u there).own (subst IsLive (sym t.1.3) tt) in
-      let less : u.actor < length s.views = held.known in
+      let less : u.actor < r.handed_out = held.known in
       let one : holder ≡ id = ⊎_elim (λ (e : u.actor ≡ v.actor). sym held.owned ∙ (ap r.owner e ∙ own.owned))
       (λ p. sym held.owned ∙ (ap r.owner (sym p.3) ∙ (was.ended p.0 p.1 p.2).0.owned)) (last u.actor (omega arith)) in
       let same : v ≡ u = some-injective v u (sym at ∙ (ap (λ (k : ℕ). get_elem? s.views k) (sym one) ∙ there)) in
@@ -235,15 +245,18 @@ module _ {T E F : Type 0} (history : T → List E) (actor : E → ℕ) (fixed : 
     log = [];
     drawn = 0;
     served = 0;
+    handed_out = 1;
     drawn_by = λ _. 0;
     owner = λ _. 0;
     words_are = refl;
     queue = refl;
-    few_views = omega arith;
+    few_live = omega arith;
+    few_handed_out = omega arith;
     home = inl (x, refl, empty, refl);
     each_seat = elim [
       | zero ↦ λ v e. subst (IsSound actor (fixed x) n [] 0 0 1 (λ _. 0) (λ _. 0) 0) (some-injective (first_view (Some (fixed x)) n) v e) record {
         seen = ([], refl);
+        noted = ([], refl);
         turn = tt;
         seen_all = tt;
         own = λ _. record { made = refl; known = omega arith; owned = refl };

@@ -1,12 +1,12 @@
 -- Seats in a line.
-use Rattle.std.proofs.Common.{◌≡◌, ◌≢◌, ℕ, ◌+◌, ◌%◌, ◌^◌, ◌<◌, ◌≤◌, eqb, cond, List, [], ◌∷◌, length, set, sym, refl, ap, ◌∙◌, subst, ⊎_elim, arith, eq-eqb, ne_eqb, zero, suc}
+use Rattle.std.proofs.Common.{◌≡◌, ◌≢◌, ℕ, ◌+◌, ◌%◌, ◌^◌, ◌<◌, ◌≤◌, eqb, cond, List, [], ◌∷◌, ◌++◌, set, sym, refl, ap, ◌∙◌, subst, ⊎_elim, arith, eq-eqb, ne_eqb, zero, suc}
 use mathlib.Core.Option.{some, some-ne-none, some-injective}
 use lib.ListN.{get_elem?}
 use Rattle.atomic_table.proofs.Lists.{at_set, one_turn}
 use Rattle.flat_lock.specs.declared.view.View.{View}
 use Rattle.flat_lock.specs.declared.view_parts.Turn.{Turn}
-use Rattle.flat_lock.specs.declared.view_parts.Turn.TheVariants.{Idle, Waits, Holds, Spent}
-use Rattle.flat_lock.specs.Rule.{tickets_in, in_line, HasTicket, HasSeenAll}
+use Rattle.flat_lock.specs.declared.view_parts.Turn.TheVariants.{Idle, Waits, Holds, Note}
+use Rattle.flat_lock.specs.Rule.{tickets_in, seats_in, total, HasTicket, HasSeenAll}
 
 -- f, which is x at k
 abbrev pub updated : (ℕ → ℕ) → ℕ → ℕ → ℕ → ℕ
@@ -23,7 +23,7 @@ pub others_wait : (drawn served id j : ℕ) (ticket : ℕ → ℕ) (t : Turn) �
 others_wait drawn served id j ticket Idle h = tt
 others_wait drawn served id j ticket (Waits n) h = let l : n < drawn = h.1 in (h.0, omega arith, updated-other ticket drawn id n (λ e. omega arith) ∙ h.2)
 others_wait drawn served id j ticket (Holds n) h = let l : n < drawn = h.1 in (h.0, omega arith, updated-other ticket drawn id n (λ e. omega arith) ∙ h.2)
-others_wait drawn served id j ticket Spent h = tt
+others_wait drawn served id j ticket Note h = tt
 
 -- nor does the end of another's turn
 pub others_served : {E : Type 0} (drawn served id j : ℕ) (ticket : ℕ → ℕ) (log log' seen : List E) (t : Turn) → j ≢ id → ticket served ≡ id → HasTicket drawn served ticket j t
@@ -31,28 +31,42 @@ pub others_served : {E : Type 0} (drawn served id j : ℕ) (ticket : ℕ → ℕ
 others_served drawn served id j ticket log log' seen Idle other at h = (tt, tt)
 others_served drawn served id j ticket log log' seen (Waits n) other at h = let l : served ≤ n = h.0 in let not : n ≢ served = λ e. other (sym h.2 ∙ (ap ticket e ∙ at)) in ((omega arith, h.1, h.2), tt)
 others_served drawn served id j ticket log log' seen (Holds n) other at h = absurd (other (sym h.2 ∙ (ap ticket h.0 ∙ at)))
-others_served drawn served id j ticket log log' seen Spent other at h = (tt, tt)
+others_served drawn served id j ticket log log' seen Note other at h = (tt, tt)
 
-one_at_most : (t : Turn) → tickets_in t ≤ 1
-one_at_most Idle = omega arith
-one_at_most (Waits n) = omega arith
-one_at_most (Holds n) = omega arith
-one_at_most Spent = omega arith
+-- what has a ticket is a seat
+with_ticket : (t : Turn) → tickets_in t ≤ seats_in t
+with_ticket Idle = omega arith
+with_ticket (Waits n) = omega arith
+with_ticket (Holds n) = omega arith
+with_ticket Note = omega arith
 
 module _ {E F : Type 0} where
-  -- one seat's ticket is counted anew
-  pub in_line-set : (vs : List (View E F)) (i : ℕ) (v w : View E F) → get_elem? vs i ≡ some v → in_line (set vs i w) + tickets_in v.turn ≡ in_line vs + tickets_in w.turn
-  in_line-set [] i v w e = absurd (some-ne-none v (sym e))
-  in_line-set (x ∷ xs) zero v w e = let a : ℕ = tickets_in x.turn in let b : ℕ = tickets_in v.turn in let c : ℕ = tickets_in w.turn in let d : ℕ = in_line xs in
-      let same : a ≡ b = ap (λ (z : View E F). tickets_in z.turn) (some-injective x v e) in
+  -- one view is counted anew
+  pub total-set : (count : Turn → ℕ) (vs : List (View E F)) (i : ℕ) (v w : View E F) → get_elem? vs i ≡ some v → total count (set vs i w) + count v.turn ≡ total count vs + count w.turn
+  total-set count [] i v w e = absurd (some-ne-none v (sym e))
+  total-set count (x ∷ xs) zero v w e = let a : ℕ = count x.turn in let b : ℕ = count v.turn in let c : ℕ = count w.turn in let d : ℕ = total count xs in
+      let same : a ≡ b = ap (λ (z : View E F). count z.turn) (some-injective x v e) in
       let goal : (c + d) + b ≡ (a + d) + c = omega arith in goal
-  in_line-set (x ∷ xs) (suc i) v w e = let a : ℕ = tickets_in x.turn in let b : ℕ = tickets_in v.turn in let c : ℕ = tickets_in w.turn in let d : ℕ = in_line xs in let f : ℕ = in_line (set xs i w) in
-      let h : f + b ≡ d + c = in_line-set xs i v w e in let goal : (a + f) + b ≡ (a + d) + c = omega arith in goal
+  total-set count (x ∷ xs) (suc i) v w e = let a : ℕ = count x.turn in let b : ℕ = count v.turn in let c : ℕ = count w.turn in let d : ℕ = total count xs in let f : ℕ = total count (set xs i w) in
+      let h : f + b ≡ d + c = total-set count xs i v w e in let goal : (a + f) + b ≡ (a + d) + c = omega arith in goal
 
-  pub in_line-le : (vs : List (View E F)) → in_line vs ≤ length vs
-  in_line-le [] = omega arith
-  in_line-le (x ∷ xs) = let a : ℕ = tickets_in x.turn in let d : ℕ = in_line xs in let h : a ≤ 1 = one_at_most x.turn in let l : d ≤ length xs = in_line-le xs in
-      let goal : a + d ≤ suc (length xs) = omega arith in goal
+  -- nothing changes where its turn stays
+  pub total-same : (count : Turn → ℕ) (vs : List (View E F)) (i : ℕ) (v w : View E F) → get_elem? vs i ≡ some v → count w.turn ≡ count v.turn → total count (set vs i w) ≡ total count vs
+  total-same count vs i v w e same = let a : ℕ = count v.turn in let b : ℕ = count w.turn in let c : ℕ = total count vs in let d : ℕ = total count (set vs i w) in
+      let h : d + a ≡ c + b = total-set count vs i v w e in let s : b ≡ a = same in let goal : d ≡ c = omega arith in goal
+
+  -- one more view is counted
+  pub total-snoc : (count : Turn → ℕ) (vs : List (View E F)) (w : View E F) → total count (vs ++ w ∷ []) ≡ total count vs + count w.turn
+  total-snoc count [] w = let a : ℕ = count w.turn in let goal : a + 0 ≡ 0 + a = omega arith in goal
+  total-snoc count (x ∷ xs) w = let a : ℕ = count x.turn in let b : ℕ = total count xs in let c : ℕ = count w.turn in let d : ℕ = total count (xs ++ w ∷ []) in
+      let h : d ≡ b + c = total-snoc count xs w in let goal : a + d ≡ (a + b) + c = omega arith in goal
+
+  -- no more tickets are out than there are seats
+  pub tickets-le : (vs : List (View E F)) → total tickets_in vs ≤ total seats_in vs
+  tickets-le [] = omega arith
+  tickets-le (x ∷ xs) = let a : ℕ = tickets_in x.turn in let b : ℕ = seats_in x.turn in let c : ℕ = total tickets_in xs in let d : ℕ = total seats_in xs in
+      let h : a ≤ b = with_ticket x.turn in let l : c ≤ d = tickets-le xs in
+      let goal : a + c ≤ b + d = omega arith in goal
 
   pub set_there : (vs : List (View E F)) (i : ℕ) (v w : View E F) → get_elem? vs i ≡ some v → get_elem? (set vs i w) i ≡ some w
   set_there [] i v w e = absurd (some-ne-none v (sym e))

@@ -6,7 +6,7 @@ use Rattle.flat_lock.specs.Seats.{LockView, SeatView}
 use Rattle.flat_lock.specs.declared.view.View.{View}
 use Rattle.flat_lock.specs.declared.view_parts.Ended.{Ended}
 use Rattle.flat_lock.specs.declared.view_parts.Turn.{Turn}
-use Rattle.flat_lock.specs.declared.view_parts.Turn.TheVariants.{Idle, Waits, Holds, Spent}
+use Rattle.flat_lock.specs.declared.view_parts.Turn.TheVariants.{Idle, Waits, Holds, Note}
 
 -- whether the seat has the turn
 abbrev pub has_turn : Turn → Bool
@@ -18,7 +18,7 @@ abbrev pub IsPoised : {T : Type 0} → Turn → List (ℕ × Option T) → Type 
 IsPoised Idle slots = slots ≡ []
 IsPoised (Waits n) slots = ⊥
 IsPoised (Holds n) slots = slots ≡ (0, None) ∷ []
-IsPoised Spent slots = ⊥
+IsPoised Note slots = ⊥
 
 module _ {E F : Type 0} where
   -- the lock of a seat at this table

@@ -6,7 +6,7 @@ use Rattle.atomic_table.specs.declared.shared.Seat.{Seat}
 use Rattle.flat_lock.specs.History.{StartsWith, entries_of}
 use Rattle.flat_lock.specs.declared.view.View.{View}
 use Rattle.flat_lock.specs.declared.view_parts.Ended.{Ended}
-use Rattle.flat_lock.specs.declared.view_parts.Turn.TheVariants.{Idle, Waits, Holds, Spent}
+use Rattle.flat_lock.specs.declared.view_parts.Turn.TheVariants.{Idle, Waits, Holds, Note}
 
 -- the table has two words and one slot
 abbrev pub IsShaped : TableId → Type 0
@@ -20,7 +20,7 @@ module _ {S E F : Type 0} where
 module _ {E F : Type 0} where
   -- the first seat of a lock with so many seats
   abbrev pub first_view : Option F → ℕ → View E F
-  first_view constant seats = record { marker = record {}; seats = seats; fixed = constant; seen = []; mine = []; actor = 0; turn = Idle; first = true; handed_out = 1; ended = [] }
+  first_view constant seats = record { marker = record {}; seats = seats; fixed = constant; seen = []; noted = []; mine = []; actor = 0; turn = Idle; first = true; handed_out = 1; ended = [] }
 
   -- the same, when it has handed out the actors below this number
   abbrev pub dealing_view : Option F → ℕ → ℕ → View E F
@@ -44,7 +44,7 @@ module _ {E F : Type 0} where
 
   -- the seat of the actor that is handed out
   abbrev pub split_off : View E F → View E F
-  split_off v = record { marker = record {}; seats = v.seats; fixed = v.fixed; seen = v.seen; mine = []; actor = v.handed_out; turn = Idle; first = false; handed_out = 0; ended = [] }
+  split_off v = record { marker = record {}; seats = v.seats; fixed = v.fixed; seen = v.seen; noted = []; mine = []; actor = v.handed_out; turn = Idle; first = false; handed_out = 0; ended = [] }
 
   -- what is left of a seat that is joined
   abbrev pub ended_view : View E F → Ended E
@@ -54,9 +54,33 @@ module _ {E F : Type 0} where
   abbrev pub joining : View E F → View E F → View E F
   joining v w = record v { ended = ended_view w ∷ v.ended }
 
-  -- the joined seat
+  -- a note of this history
+  abbrev pub note : List E → View E F
+  note history = record { marker = record {}; seats = 0; fixed = None; seen = history; noted = []; mine = []; actor = 0; turn = Note; first = false; handed_out = 0; ended = [] }
+
+  -- what is left of a seat, or of a note, that was joined into a seat
   abbrev pub spent : View E F
-  spent = record { marker = record {}; seats = 0; fixed = None; seen = []; mine = []; actor = 0; turn = Spent; first = false; handed_out = 0; ended = [] }
+  spent = note []
+
+  -- a seat that makes a note stays as it is
+  abbrev pub noting : View E F → View E F
+  noting v = v
+
+  -- the note of what a seat has seen
+  abbrev pub note_of : View E F → View E F
+  note_of v = note v.seen
+
+  -- it was told this history
+  abbrev pub knowing : List E → View E F → View E F
+  knowing history v = record v { noted = history }
+
+  -- it was told by a note
+  abbrev pub told : View E F → View E F → View E F
+  told v w = knowing w.seen v
+
+  -- it has seen the history
+  abbrev pub seeing : List E → View E F → View E F
+  seeing history v = record v { seen = history }
 
 module _ {S E F : Type 0} where
   -- the seat has a ticket, and the word had its number
@@ -76,13 +100,26 @@ module _ {S E F : Type 0} where
   HasDrawn remainder old new = (ticket : ℕ) × (ticket % 2 ^ 64 ≡ remainder) × (new ≡ (waiting ticket old.0, []))
 
 module _ {E F : Type 0} where
-  -- What a seat whose ticket is served learns of the history of the value, and of its unchanging part:
+  -- What a seat learns of the history, at the value when its ticket is served or at a look, and of the unchanging part:
   -- it begins with all that the seat had seen, the seat's entries in it are its own list, and each entry is of one of the lock's seats.
   pub record Learns (actor : E → ℕ) (v : View E F) (history : List E) (constant : F) : Type 0 where
     pub longer : StartsWith history v.seen
     pub own : v.mine ≡ entries_of actor v.actor history
     pub others : All (λ e. actor e < v.seats) history
     pub fixed : v.fixed ≡ Some constant
+
+module _ {S E F : Type 0} (actor : E → ℕ) where
+  -- the seat has seen all that was given so far, which begins with what it was told
+  abbrev pub HasHeard : Me S (View E F) → Me S (View E F) → Type 0
+  HasHeard old new = (history : List E) × (constant : F) × (new ≡ (seeing history old.0, old.1)) × StartsWith history old.0.noted × Learns actor old.0 history constant
+
+  -- the same for a seat that was then told this history
+  abbrev pub HasBeenTold : List E → Me S (View E F) → Me S (View E F) → Type 0
+  HasBeenTold part old new = HasHeard (knowing part old.0, old.1) new
+
+  -- a seat hears, whatever it finds in the word
+  abbrev pub Hears : Step S → Me S (View E F) → ℕ → Me S (View E F) → Type 0
+  Hears step old found new = HasHeard old new
 
 module _ {T E F : Type 0} (history : T → List E) (actor : E → ℕ) (fixed : T → F) where
   -- where the seat's ticket is served, it has the value in the slot; else nothing changes

@@ -94,6 +94,28 @@ impl<T: Storied> TicketLock<T> {
         steps::leave(&self.table, &mut seat.seat, value);
     }
 
+    /// Lets a resting seat know what another has seen. It waits for nobody and
+    /// takes no memory.
+    ///
+    /// What the told seat has seen is then all that was given so far, as if it
+    /// had taken a turn. So it begins with all that either had seen, and so does
+    /// the history of each value that the told seat takes from then on. The
+    /// other seat stays as it is; it may have the turn, and has then seen what
+    /// it took.
+    pub fn tell(&self, from: &mut LockSeat<T>, to: &mut LockSeat<T>)
+        requires own { from.old.lock ≡ self.now }
+        requires own_too { to.old.lock ≡ self.now }
+        requires resting { IsFalse to.old.has_turn }
+        ensures from { from.new ≡ from.old }
+        ensures to { to.new ≡ record to.old { seen = to.new.seen } }
+        ensures told { StartsWith to.new.seen from.old.seen }
+        ensures longer { StartsWith to.new.seen to.old.seen }
+        ensures mine { to.new.mine ≡ entries_of T.actor to.new.actor to.new.seen }
+        ensures others { All (λ e. T.actor e < self.now.seats) to.new.seen }
+    {
+        steps::tell(&self.table, &mut from.seat, &mut to.seat);
+    }
+
     /// Ends the lock, once all its seats are home, and hands the value out.
     ///
     /// Its history begins with what each seat has seen. Its entries of each

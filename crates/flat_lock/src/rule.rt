@@ -80,6 +80,41 @@ impl<E, F> Join<View<E, F>> for SeatJoined {
     ghost spent = { spent };
 }
 
+/// A seat makes a note of what it has seen.
+pub(crate) struct NoteMade;
+
+impl<E, F> Split<View<E, F>> for NoteMade {
+    ghost use Rattle.flat_lock.specs.Steps.{noting, note_of};
+
+    ghost left = { noting };
+
+    ghost right = { note_of };
+}
+
+/// A seat is told by a note, which is left empty.
+pub(crate) struct NoteTold;
+
+impl<E, F> Join<View<E, F>> for NoteTold {
+    ghost use Rattle.flat_lock.specs.Steps.{told, spent};
+
+    ghost both = { told };
+
+    ghost spent = { spent };
+}
+
+/// A seat that was told by a note sees all that was given so far: a load of
+/// word 1, whatever it finds. A join tells its caller nothing, so it takes this
+/// step for the caller to learn that the history begins with the note.
+pub(crate) struct HistorySeen<T> {
+    value: PhantomData<T>,
+}
+
+impl<T: Storied> Play<Option<T>, View<T::Entry, T::Fixed>> for HistorySeen<T> {
+    ghost use Rattle.flat_lock.specs.Steps.{Hears};
+
+    ghost then = { Hears T.actor };
+}
+
 /// The table of a lock over a `T`.
 pub(crate) type SharedTable<T> = Table<
     Option<T>,

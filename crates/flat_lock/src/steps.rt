@@ -1,9 +1,11 @@
-//! The steps of a turn.
+//! The steps of a turn, and of a note.
 ghost use Rattle.std.specs.Prelude.{◌≡◌, ◌≢◌, Some};
 ghost use Rattle.flat_lock.specs.History.{GoesOn};
-ghost use Rattle.flat_lock.specs.Steps.{IsShaped, IsSameSeat, IsResting, IsWaiting, HasTurn, HasDrawn, HasEntered, HasTaken, HasLeft};
+ghost use Rattle.flat_lock.specs.Steps.{IsShaped, IsSameSeat, IsResting, IsWaiting, HasTurn, HasDrawn, HasEntered, HasTaken, HasLeft, HasBeenTold};
 
-use crate::rule::{NextServed, ServingRead, SharedTable, TableSeat, TicketDrawn};
+use crate::rule::{
+    HistorySeen, NextServed, NoteMade, NoteTold, ServingRead, SharedTable, TableSeat, TicketDrawn,
+};
 use crate::storied::Storied;
 use std::sync::Wait;
 
@@ -93,4 +95,23 @@ pub(crate) fn leave<T: Storied>(table: &SharedTable<T>, seat: &mut TableSeat<T>,
     let None = left else { unreachable!() };
     table.shared.fetch_add::<NextServed<T>>(seat, SERVING, 1);
     table.shared.wake_all(SERVING);
+}
+
+/// Tells a resting seat what another has seen, by a note of it.
+pub(crate) fn tell<T: Storied>(
+    table: &SharedTable<T>,
+    from: &mut TableSeat<T>,
+    to: &mut TableSeat<T>,
+)
+    requires shaped { IsShaped table.now.shared.table_id }
+    requires own { from.old.table_id ≡ table.now.shared.table_id }
+    requires own_too { to.old.table_id ≡ table.now.shared.table_id }
+    requires resting { IsResting to.old.me }
+    ensures from { IsSameSeat from.old from.new × (from.new.me ≡ from.old.me) }
+    ensures same { IsSameSeat to.old to.new }
+    ensures told { HasBeenTold T.actor from.old.me.0.seen to.old.me to.new.me }
+{
+    let note = table.shared.split_seat::<NoteMade>(from);
+    table.shared.join_seat::<NoteTold>(to, note);
+    table.shared.load::<HistorySeen<T>>(to, SERVING);
 }

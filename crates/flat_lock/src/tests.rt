@@ -1,4 +1,5 @@
-ghost use Rattle.std.specs.Prelude.{◌≡◌, [], ◌∷◌, ◌++◌, IsFalse, OnErr, OnOk};
+ghost use Rattle.std.specs.Prelude.{◌≡◌, [], ◌∷◌, ◌++◌, Some, true, IsTrue, IsFalse, OnErr, OnOk};
+ghost use Rattle.flat_lock.specs.History.{StartsWith, GoesOn};
 
 use crate::{LockSeat, Storied, TicketLock};
 use flat_base::NoMemory;
@@ -175,6 +176,70 @@ fn seats_are_taken_and_put_back(rt: HostRuntime) -> Result<(), Fail> {
     let journal = lock.close(seats);
     let written = [(2, 40), (0, 50), (2, 41)].map(|(actor, number)| Line { actor, number });
     assert_eq!(rt; journal.name, 7);
+    assert_eq!(rt; journal.lines.as_slice(), written.as_slice());
+    Ok(())
+}
+
+// A seat gives the journal, and another takes it, which was told: what the other
+// takes begins with what the first one gave.
+fn after(
+    rt: &impl Wait,
+    lock: &TicketLock<Journal>,
+    giver: &mut LockSeat<Journal>,
+    taker: &mut LockSeat<Journal>,
+    given: Journal,
+) -> Journal
+    requires giver { (giver.old.lock ≡ lock.now) × IsTrue giver.old.has_turn }
+    requires taker { (taker.old.lock ≡ lock.now) × IsFalse taker.old.has_turn }
+    requires longer { GoesOn (λ line. line.actor) giver.old.actor giver.old.seen given.lines.items }
+    requires name { Some given.name ≡ lock.now.fixed }
+    ensures begins { StartsWith result.lines.items given.lines.items }
+    ensures giver { (giver.new.lock ≡ giver.old.lock) × (giver.new.actor ≡ giver.old.actor) × IsFalse giver.new.has_turn }
+    ensures taker { taker.new ≡ record taker.old { seen = result.lines.items; has_turn = true } }
+    ensures name { Some result.name ≡ lock.now.fixed }
+{
+    lock.give(giver, given);
+    lock.tell(giver, taker);
+    lock.turn(rt, taker)
+}
+
+// A seat writes a line, and another is told and has its turn after it.
+fn write_and_tell(
+    rt: &impl Wait,
+    lock: &TicketLock<Journal>,
+    writer: &mut LockSeat<Journal>,
+    reader: &mut LockSeat<Journal>,
+    number: u32,
+) -> Result<(), NoMemory>
+    requires writer { (writer.old.lock ≡ lock.now) × IsFalse writer.old.has_turn }
+    requires reader { (reader.old.lock ≡ lock.now) × IsFalse reader.old.has_turn }
+    ensures writer { (writer.new.lock ≡ writer.old.lock) × (writer.new.actor ≡ writer.old.actor) × IsFalse writer.new.has_turn }
+    ensures reader { (reader.new.lock ≡ reader.old.lock) × (reader.new.actor ≡ reader.old.actor) × IsFalse reader.new.has_turn }
+{
+    let actor = writer.actor();
+    let mut journal = lock.turn(rt, writer);
+    let added = journal.add(Line { actor, number });
+    let journal = after(rt, lock, writer, reader, journal);
+    lock.give(reader, journal);
+    added
+}
+
+#[test]
+fn a_seat_is_told(rt: HostRuntime) -> Result<(), Fail> {
+    let (lock, mut seats) = TicketLock::new(rt.alloc(), new_journal(rt.alloc()), 2)?;
+    let (Some(mut first), Some(mut second)) = (seats.take(0), seats.take(1)) else {
+        panic!(rt; "the seats are at home")
+    };
+    write_and_tell(&rt, &lock, &mut first, &mut second, 60)?;
+    write_and_tell(&rt, &lock, &mut second, &mut first, 70)?;
+    lock.tell(&mut first, &mut second);
+    lock.tell(&mut first, &mut second);
+    write_and_tell(&rt, &lock, &mut second, &mut first, 71)?;
+    seats.put(first);
+    seats.put(second);
+    assert!(rt; seats.all_home());
+    let journal = lock.close(seats);
+    let written = [(0, 60), (1, 70), (1, 71)].map(|(actor, number)| Line { actor, number });
     assert_eq!(rt; journal.lines.as_slice(), written.as_slice());
     Ok(())
 }

@@ -11,10 +11,12 @@ pub struct View<E, F> {
     marker: PhantomData<(E, F)>,
     // How many seats the lock has.
     pub ghost seats: { ℕ },
-    // The unchanging part. A spent seat has none.
+    // The unchanging part. A note has none.
     pub ghost fixed: { Option F },
     // The history that the seat has seen.
     pub ghost seen: { List E },
+    // The history that the last note told it, which another seat had seen.
+    pub ghost noted: { List E },
     // The entries of its actor.
     pub ghost mine: { List E },
     // The number of its actor.

@@ -14,8 +14,9 @@ pub enum Turn {
     Waits(u64),
     /// Its ticket is served, and it has the value.
     Holds(u64),
-    /// It was joined into the first seat.
-    Spent,
+    /// It is no actor's seat, but a note of what a seat had seen. One that was
+    /// joined into a seat is left empty.
+    Note,
 }
 
 /// What is left of a seat that was joined into the first one.
