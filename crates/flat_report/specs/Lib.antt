@@ -1,0 +1,4 @@
+pub mod EntryLines
+pub mod FrameLines
+pub mod Report
+pub mod Words

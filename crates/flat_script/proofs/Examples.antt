@@ -1,0 +1,346 @@
+-- Scripts and faults, computed.
+use Rattle.std.proofs.Common.{◌≡◌, ℕ, List, [], ◌∷◌, ◌++◌, Result, Ok, Err, refl, codes, pos, negsuc}
+use Rattle.flat_base.specs.declared.ids.Actor.TheVariants.{Display, Session}
+use Rattle.flat_scene.specs.declared.calls.Call.TheVariants as call
+use Rattle.flat_scene.specs.declared.script.Line.TheVariants as line
+use Rattle.flat_scene.specs.declared.script.DisplayLine.TheVariants as display
+use Rattle.flat_scene.specs.declared.script.Body.TheVariants as body
+use Rattle.flat_script.specs.declared.script.Script.{Script}
+use Rattle.flat_script.specs.declared.script.ScriptFault.{ScriptFault}
+use Rattle.flat_script.specs.Known.{known_words}
+use Rattle.flat_script.specs.Grammar.{read_with, IsScript, IsFault}
+
+-- the words that become known later
+abbrev later_words : List (List ℕ)
+later_words =
+    codes "probe" ∷
+    codes "SetOrientation" ∷
+    codes "SetScale" ∷
+    codes "SetOpacity" ∷
+    codes "SetClipBoundary" ∷
+    codes "CreateImage" ∷
+    codes "SetImageSampleRegion" ∷
+    codes "SetImageDestinationSize" ∷
+    codes "SetImageBlendingFunction" ∷
+    codes "SetImageFlip" ∷
+    codes "SetImageOpacity" ∷
+    codes "ReleaseImage" ∷
+    codes "acquire" ∷
+    codes "release" ∷
+    codes "Signal" ∷
+    codes "Poll" ∷
+    codes "Disconnect" ∷
+    codes "Wait" ∷
+    codes "frames" ∷
+    codes "credits" ∷
+    codes "taken" ∷
+    codes "presents" ∷
+    codes "CreateViewport" ∷
+    codes "SetViewportProperties" ∷
+    codes "ReleaseViewport" ∷
+    codes "GetLayout" ∷
+    codes "GetStatus" ∷
+    codes "GetChildStatus" ∷
+    codes "answers" ∷
+    codes "hit" ∷
+    codes "await" ∷ []
+
+-- all words of the version
+abbrev all_words : List (List ℕ)
+all_words = known_words ++ later_words
+
+-- the line and the kind of a fault, or 0 and the number of lines
+abbrev outcome : Result Script ScriptFault → ℕ × ℕ
+outcome (Ok s) = (0, s.count)
+outcome (Err f) = (f.line, f.kind)
+
+-- what the text gives with the words that are known so far, and with all words
+abbrev so_far : List ℕ → ℕ × ℕ
+so_far text = outcome (read_with known_words text)
+
+abbrev whole : List ℕ → ℕ × ℕ
+whole text = outcome (read_with all_words text)
+
+-- whole scripts, value by value
+
+one_fill_one_frame : IsScript (codes "flatland 1\ndisplay 100 100\nsession A\npair t0 display A\nrun\nA CreateView t0\nA CreateTransform 1\nA SetRootTransform 1\nA CreateFilledRect 2\nA SetSolidFill 2 255 0 0 255 10 10\nA SetContent 1 2\nA Present 0\ndisplay begin 1000\ndisplay done\n") (record {
+  setup = record { width = 100; height = 100; sessions = 1; probes = 0; pairs = record { viewport = Display; view = record { 0 = 1 } } ∷ []; buffers = []; fences = [] };
+  sessions = codes "A" ∷ [];
+  probes = [];
+  buffers = [];
+  pairs = codes "t0" ∷ [];
+  fences = [];
+  lines =
+      record { number = 6; actor = Session (record { 0 = 1 }); body = body.Session (line.Call (call.CreateView (record { 0 = 0 }))) } ∷
+      record { number = 7; actor = Session (record { 0 = 1 }); body = body.Session (line.Call (call.CreateTransform (record { 0 = 1 }))) } ∷
+      record { number = 8; actor = Session (record { 0 = 1 }); body = body.Session (line.Call (call.SetRootTransform (record { 0 = 1 }))) } ∷
+      record { number = 9; actor = Session (record { 0 = 1 }); body = body.Session (line.Call (call.CreateFilledRect (record { 0 = 2 }))) } ∷
+      record { number = 10; actor = Session (record { 0 = 1 }); body = body.Session (line.Call (call.SetSolidFill (record { 0 = 2 }) 255 0 0 255 10 10)) } ∷
+      record { number = 11; actor = Session (record { 0 = 1 }); body = body.Session (line.Call (call.SetContent (record { 0 = 1 }) (record { 0 = 2 }))) } ∷
+      record { number = 12; actor = Session (record { 0 = 1 }); body = body.Session (line.Present (record { time = 0; acquire = []; release = [] })) } ∷
+      record { number = 13; actor = Display; body = body.Display (display.Begin 1000) } ∷
+      record { number = 14; actor = Display; body = body.Display display.Done } ∷ [];
+  count = 14;
+})
+one_fill_one_frame = refl
+
+signs_and_skipped_lines : IsScript (codes "# a comment\nflatland 1\ndisplay 100 90\nsession A\n\npair t0 display A\nrun\nA SetTranslation 7 -5 40\n") (record {
+  setup = record { width = 100; height = 90; sessions = 1; probes = 0; pairs = record { viewport = Display; view = record { 0 = 1 } } ∷ []; buffers = []; fences = [] };
+  sessions = codes "A" ∷ [];
+  probes = [];
+  buffers = [];
+  pairs = codes "t0" ∷ [];
+  fences = [];
+  lines = record { number = 8; actor = Session (record { 0 = 1 }); body = body.Session (line.Call (call.SetTranslation (record { 0 = 7 }) (negsuc 4) (pos 40))) } ∷ [];
+  count = 8;
+})
+signs_and_skipped_lines = refl
+
+-- faults
+
+acquire_before_it_is_known : IsFault (codes "flatland 1\ndisplay 100 100\nsession A\npair t0 display A\nfence f1 display A\nrun\nA Present 0 acquire f1\n") (record { line = 7; kind = 8 })
+acquire_before_it_is_known = refl
+
+dpr_in_version_one : IsFault (codes "flatland 1\ndisplay 100 100\nsession A\npair t0 display A\nrun\ndisplay dpr 65536\n") (record { line = 6; kind = 6 })
+dpr_in_version_one = refl
+
+first_bad_line_decides : IsFault (codes "flatland 1\ndisplay 100 100\nsession A\npair t0 display A\nrun\nA Fly\nZ Fly\n") (record { line = 6; kind = 6 })
+first_bad_line_decides = refl
+
+hit_before_it_is_known : IsFault (codes "flatland 1\ndisplay 100 100\nsession A\npair t0 display A\nrun\ndisplay hit 5 5\n") (record { line = 6; kind = 6 })
+hit_before_it_is_known = refl
+
+kind_10_view_of_another : IsFault (codes "flatland 1\ndisplay 100 100\nsession A\nsession B\npair t0 display A\npair t1 A B\nrun\nA CreateView t1\n") (record { line = 8; kind = 10 })
+kind_10_view_of_another = refl
+
+kind_12_begin_inside_a_frame : IsFault (codes "flatland 1\ndisplay 100 100\nsession A\npair t0 display A\nrun\ndisplay begin 1\ndisplay begin 1\ndisplay done\n") (record { line = 7; kind = 12 })
+kind_12_begin_inside_a_frame = refl
+
+kind_12_done_without_begin : IsFault (codes "flatland 1\ndisplay 100 100\nsession A\npair t0 display A\nrun\ndisplay done\n") (record { line = 6; kind = 12 })
+kind_12_done_without_begin = refl
+
+kind_12_text_ends_in_a_frame : IsFault (codes "flatland 1\ndisplay 100 100\nsession A\npair t0 display A\nrun\ndisplay begin 2\n") (record { line = 7; kind = 12 })
+kind_12_text_ends_in_a_frame = refl
+
+kind_12_time_falls : IsFault (codes "flatland 1\ndisplay 100 100\nsession A\npair t0 display A\nrun\ndisplay begin 2\ndisplay done\ndisplay begin 1\ndisplay done\n") (record { line = 8; kind = 12 })
+kind_12_time_falls = refl
+
+kind_2_carriage_return : IsFault (codes "flatland 1\r\ndisplay 100 100\r\nsession A\r\npair t0 display A\r\nrun\r\n") (record { line = 1; kind = 2 })
+kind_2_carriage_return = refl
+
+kind_4_before_7 : IsFault (codes "flatland 1\ndisplay 100 100\ndisplay 0 100\nsession A\npair t0 display A\nrun\n") (record { line = 3; kind = 4 })
+kind_4_before_7 = refl
+
+kind_4_empty_text : IsFault (codes "") (record { line = 1; kind = 4 })
+kind_4_empty_text = refl
+
+kind_4_first_word : IsFault (codes "display 100 100\nflatland 1\nsession A\npair t0 display A\nrun\n") (record { line = 1; kind = 4 })
+kind_4_first_word = refl
+
+kind_4_no_session : IsFault (codes "flatland 1\ndisplay 100 100\nrun\n") (record { line = 3; kind = 4 })
+kind_4_no_session = refl
+
+kind_4_text_ends_in_the_head : IsFault (codes "flatland 1\ndisplay 100 100\nsession A\npair t0 display A\n") (record { line = 5; kind = 4 })
+kind_4_text_ends_in_the_head = refl
+
+kind_5_before_6 : IsFault (codes "flatland 1\ndisplay 100 100\nsession A\npair t0 display A\nrun\nZ Fly\n") (record { line = 6; kind = 5 })
+kind_5_before_6 = refl
+
+kind_6_actor_alone : IsFault (codes "flatland 1\ndisplay 100 100\nsession A\npair t0 display A\nrun\nA\n") (record { line = 6; kind = 6 })
+kind_6_actor_alone = refl
+
+kind_6_before_7 : IsFault (codes "flatland 1\ndisplay 100 100\nsession A\npair t0 display A\nrun\nA Wait colours x\n") (record { line = 6; kind = 6 })
+kind_6_before_7 = refl
+
+kind_6_two_spaces : IsFault (codes "flatland 1\ndisplay 100 100\nsession A\npair t0 display A\nrun\nA  Clear\n") (record { line = 6; kind = 6 })
+kind_6_two_spaces = refl
+
+kind_7_before_8 : IsFault (codes "flatland 1\ndisplay 100 100\nsession A\npair t0 display A\nrun\nA CreateTransform 01 2\n") (record { line = 6; kind = 7 })
+kind_7_before_8 = refl
+
+kind_7_minus_zero : IsFault (codes "flatland 1\ndisplay 100 100\nsession A\npair t0 display A\nrun\nA SetTranslation 1 -0 0\n") (record { line = 6; kind = 7 })
+kind_7_minus_zero = refl
+
+kind_7_time_too_great : IsFault (codes "flatland 1\ndisplay 100 100\nsession A\npair t0 display A\nrun\nA Present 9223372036854775808\n") (record { line = 6; kind = 7 })
+kind_7_time_too_great = refl
+
+kind_8_before_9 : IsFault (codes "flatland 1\ndisplay 100 100\nsession A\npair t0 display A\nrun\nA CreateView t9 t0\n") (record { line = 6; kind = 8 })
+kind_8_before_9 = refl
+
+kind_8_missing_number : IsFault (codes "flatland 1\ndisplay 100 100\nsession A\npair t0 display A\nrun\nA CreateTransform\n") (record { line = 6; kind = 8 })
+kind_8_missing_number = refl
+
+kind_8_space_at_the_end : IsFault (codes "flatland 1\ndisplay 100 100\nsession A\npair t0 display A\nrun\nA Clear \n") (record { line = 6; kind = 8 })
+kind_8_space_at_the_end = refl
+
+probe_before_it_is_known : IsFault (codes "flatland 1\ndisplay 100 100\nsession A\npair t0 display A\nprobe P\nrun\n") (record { line = 5; kind = 4 })
+probe_before_it_is_known = refl
+
+ratio_in_version_one_head : IsFault (codes "flatland 1\ndisplay 100 100 65536\nsession A\npair t0 display A\nrun\n") (record { line = 2; kind = 8 })
+ratio_in_version_one_head = refl
+
+replace_children_in_version_one : IsFault (codes "flatland 1\ndisplay 100 100\nsession A\npair t0 display A\nrun\nA CreateTransform 1\nA ReplaceChildren 1\n") (record { line = 7; kind = 6 })
+replace_children_in_version_one = refl
+
+unsquashable_in_version_one : IsFault (codes "flatland 1\ndisplay 100 100\nsession A\npair t0 display A\nrun\nA Present 0 unsquashable\n") (record { line = 6; kind = 8 })
+unsquashable_in_version_one = refl
+
+version_four : IsFault (codes "flatland 4\ndisplay 100 100\nsession A\npair t0 display A\nrun\n") (record { line = 1; kind = 13 })
+version_four = refl
+
+version_three_before_it_is_known : IsFault (codes "flatland 3\ndisplay 100 100\nsession A\npair t0 display A\nrun\n") (record { line = 1; kind = 13 })
+version_three_before_it_is_known = refl
+
+version_two_before_it_is_known : IsFault (codes "flatland 2\ndisplay 100 100\nsession A\npair t0 display A\nrun\n") (record { line = 1; kind = 13 })
+version_two_before_it_is_known = refl
+
+version_zero : IsFault (codes "flatland 0\ndisplay 100 100\nsession A\npair t0 display A\nrun\n") (record { line = 1; kind = 13 })
+version_zero = refl
+
+viewport_before_it_is_known : IsFault (codes "flatland 1\ndisplay 100 100\nsession A\nsession B\npair t0 display A\npair t1 A B\nrun\nA CreateViewport 1 t1 9 9\n") (record { line = 8; kind = 6 })
+viewport_before_it_is_known = refl
+
+-- the whole grammar of the version
+
+shell_with_two_apps : whole (codes "flatland 1\ndisplay 1280 800\nsession shell\nsession mail\nsession clock\nbuffers mb mail 2 640 760\npair root display shell\npair tm shell mail\npair tc shell clock\nfence g1 mail\nfence g2 mail\nfence d1 mail\nfence d2 mail\nrun\nmail CreateView tm\nmail GetLayout\nclock CreateView tc\nclock GetStatus\nshell CreateView root\nshell CreateTransform 1\nshell SetRootTransform 1\nshell CreateTransform 2\nshell SetTranslation 2 0 40\nshell CreateTransform 3\nshell AddChild 1 2\nshell AddChild 1 3\nshell CreateViewport 1 tm 640 760\nshell SetContent 2 1\nshell CreateViewport 2 tc 1280 40\nshell SetContent 3 2\nshell GetChildStatus 1\nshell Present 0\nmail Wait answers 1\nmail CreateTransform 1\nmail SetRootTransform 1\nmail CreateImage 1 mb 0 640 760\nmail CreateImage 2 mb 1 640 760\nmail SetContent 1 1\nmail Present 0 acquire g1 release d1\nclock CreateTransform 1\nclock SetRootTransform 1\nclock CreateFilledRect 1\nclock SetSolidFill 1 0 0 0 128 1280 40\nclock SetContent 1 1\nclock Present 0\nclock GetStatus\ndisplay begin 16\ndisplay done\nmail Signal g1\ndisplay begin 33\ndisplay done\nmail SetContent 1 2\nmail Present 0 acquire g2 release d2\nmail Wait fence d1\nmail Signal g2\ndisplay begin 50\ndisplay done\n") ≡ (0, 57)
+shell_with_two_apps = refl
+
+every_line_of_a_session : whole (codes "flatland 1\ndisplay 100 100\nsession A\nsession B\npair t0 display A\npair t1 A B\nfence f A display\nprobe P\nbuffers b B 2 8 8\nrun\nA SetOrientation 1 4\nA SetScale 1 0 4294967295\nA SetOpacity 1 65537\nA SetClipBoundary 1\nA SetClipBoundary 1 -1 0 5 5\nA CreateViewport 1 t1 9 9\nA CreateViewport 1 t1 9 9 0 0 0 65536\nA SetViewportProperties 1 9 9\nA ReleaseViewport 1\nB CreateImage 1 b 7 8 8\nB SetImageSampleRegion 1 0 0 8 8\nB SetImageDestinationSize 1 9 9\nB SetImageBlendingFunction 1 2\nB SetImageFlip 1 3\nB SetImageOpacity 1 0\nB ReleaseImage 1\nA GetLayout\nA GetStatus\nA GetChildStatus 1\nA Signal f\nA Poll\nA Wait frames 1\nA Wait credits 1\nA Wait taken 1\nA Wait answers 1\nA Wait fence f\nA Present 0 acquire f f release f\nA Present 1 release f\nA Disconnect\n") ≡ (0, 39)
+every_line_of_a_session = refl
+
+every_line_of_the_display_and_of_a_probe : whole (codes "flatland 1\ndisplay 100 100\nsession A\nsession B\npair t0 display A\npair t1 A B\nfence f A display\nprobe P\nbuffers b B 2 8 8\nrun\ndisplay Signal f\ndisplay Wait presents B 2\ndisplay Wait fence f\ndisplay hit -1 2147483647\nP hit 0 -2147483648\nP await 3\n") ≡ (0, 16)
+every_line_of_the_display_and_of_a_probe = refl
+
+viewport_of_another : whole (codes "flatland 1\ndisplay 100 100\nsession A\nsession B\npair t0 display A\npair t1 A B\nfence f A display\nprobe P\nbuffers b B 2 8 8\nrun\nB CreateViewport 1 t1 9 9\n") ≡ (11, 10)
+viewport_of_another = refl
+
+viewport_of_the_display : whole (codes "flatland 1\ndisplay 100 100\nsession A\nsession B\npair t0 display A\npair t1 A B\nfence f A display\nprobe P\nbuffers b B 2 8 8\nrun\nA CreateViewport 1 t0 9 9\n") ≡ (11, 10)
+viewport_of_the_display = refl
+
+fence_of_others : whole (codes "flatland 1\ndisplay 100 100\nsession A\nsession B\npair t0 display A\npair t1 A B\nfence f A display\nprobe P\nbuffers b B 2 8 8\nrun\nB Present 0 acquire f\n") ≡ (11, 10)
+fence_of_others = refl
+
+buffers_of_another : whole (codes "flatland 1\ndisplay 100 100\nsession A\nsession B\npair t0 display A\npair t1 A B\nfence f A display\nprobe P\nbuffers b B 2 8 8\nrun\nA CreateImage 1 b 0 8 8\n") ≡ (11, 10)
+buffers_of_another = refl
+
+clip_number_then_missing_words : whole (codes "flatland 1\ndisplay 100 100\nsession A\nsession B\npair t0 display A\npair t1 A B\nfence f A display\nprobe P\nbuffers b B 2 8 8\nrun\nA SetClipBoundary 1 x\n") ≡ (11, 7)
+clip_number_then_missing_words = refl
+
+clip_with_missing_words : whole (codes "flatland 1\ndisplay 100 100\nsession A\nsession B\npair t0 display A\npair t1 A B\nfence f A display\nprobe P\nbuffers b B 2 8 8\nrun\nA SetClipBoundary 1 2 3\n") ≡ (11, 8)
+clip_with_missing_words = refl
+
+inset_too_great : whole (codes "flatland 1\ndisplay 100 100\nsession A\nsession B\npair t0 display A\npair t1 A B\nfence f A display\nprobe P\nbuffers b B 2 8 8\nrun\nA CreateViewport 1 t1 9 9 0 0 0 65537\n") ≡ (11, 7)
+inset_too_great = refl
+
+acquire_for_the_time : whole (codes "flatland 1\ndisplay 100 100\nsession A\nsession B\npair t0 display A\npair t1 A B\nfence f A display\nprobe P\nbuffers b B 2 8 8\nrun\nA Present acquire f\n") ≡ (11, 7)
+acquire_for_the_time = refl
+
+release_before_acquire : whole (codes "flatland 1\ndisplay 100 100\nsession A\nsession B\npair t0 display A\npair t1 A B\nfence f A display\nprobe P\nbuffers b B 2 8 8\nrun\nA Present 0 release f acquire f\n") ≡ (11, 9)
+release_before_acquire = refl
+
+acquire_twice : whole (codes "flatland 1\ndisplay 100 100\nsession A\nsession B\npair t0 display A\npair t1 A B\nfence f A display\nprobe P\nbuffers b B 2 8 8\nrun\nA Present 0 acquire f acquire f\n") ≡ (11, 9)
+acquire_twice = refl
+
+empty_acquire : whole (codes "flatland 1\ndisplay 100 100\nsession A\nsession B\npair t0 display A\npair t1 A B\nfence f A display\nprobe P\nbuffers b B 2 8 8\nrun\nA Present 0 acquire release f\n") ≡ (11, 8)
+empty_acquire = refl
+
+other_word_behind_the_time : whole (codes "flatland 1\ndisplay 100 100\nsession A\nsession B\npair t0 display A\npair t1 A B\nfence f A display\nprobe P\nbuffers b B 2 8 8\nrun\nA Present 0 f\n") ≡ (11, 8)
+other_word_behind_the_time = refl
+
+no_condition : whole (codes "flatland 1\ndisplay 100 100\nsession A\nsession B\npair t0 display A\npair t1 A B\nfence f A display\nprobe P\nbuffers b B 2 8 8\nrun\nA Wait\n") ≡ (11, 6)
+no_condition = refl
+
+condition_of_the_display : whole (codes "flatland 1\ndisplay 100 100\nsession A\nsession B\npair t0 display A\npair t1 A B\nfence f A display\nprobe P\nbuffers b B 2 8 8\nrun\nA Wait presents A 1\n") ≡ (11, 6)
+condition_of_the_display = refl
+
+wait_for_a_fence_of_others : whole (codes "flatland 1\ndisplay 100 100\nsession A\nsession B\npair t0 display A\npair t1 A B\nfence f A display\nprobe P\nbuffers b B 2 8 8\nrun\nB Wait fence f\n") ≡ (11, 10)
+wait_for_a_fence_of_others = refl
+
+presents_of_no_session : whole (codes "flatland 1\ndisplay 100 100\nsession A\nsession B\npair t0 display A\npair t1 A B\nfence f A display\nprobe P\nbuffers b B 2 8 8\nrun\ndisplay Wait presents display 1\n") ≡ (11, 9)
+presents_of_no_session = refl
+
+orientation_of_five : whole (codes "flatland 1\ndisplay 100 100\nsession A\nsession B\npair t0 display A\npair t1 A B\nfence f A display\nprobe P\nbuffers b B 2 8 8\nrun\nA SetOrientation 1 5\n") ≡ (11, 7)
+orientation_of_five = refl
+
+flip_of_zero : whole (codes "flatland 1\ndisplay 100 100\nsession A\nsession B\npair t0 display A\npair t1 A B\nfence f A display\nprobe P\nbuffers b B 2 8 8\nrun\nB SetImageFlip 1 0\n") ≡ (11, 7)
+flip_of_zero = refl
+
+call_of_a_probe : whole (codes "flatland 1\ndisplay 100 100\nsession A\nsession B\npair t0 display A\npair t1 A B\nfence f A display\nprobe P\nbuffers b B 2 8 8\nrun\nP Poll\n") ≡ (11, 6)
+call_of_a_probe = refl
+
+name_of_a_pair_as_actor : whole (codes "flatland 1\ndisplay 100 100\nsession A\nsession B\npair t0 display A\npair t1 A B\nfence f A display\nprobe P\nbuffers b B 2 8 8\nrun\nt0 Poll\n") ≡ (11, 5)
+name_of_a_pair_as_actor = refl
+
+-- settled points of the head and the body, with the words known so far
+
+version_no_number : so_far (codes "flatland x y\n") ≡ (1, 7)
+version_no_number = refl
+
+version_beyond_32_bits : so_far (codes "flatland 4294967296\n") ≡ (1, 7)
+version_beyond_32_bits = refl
+
+version_and_a_word_too_many : so_far (codes "flatland 2 2\n") ≡ (1, 8)
+version_and_a_word_too_many = refl
+
+second_version_line : so_far (codes "flatland 1\nflatland 1\n") ≡ (2, 4)
+second_version_line = refl
+
+side_of_zero : so_far (codes "flatland 1\ndisplay 0 5 7\n") ≡ (2, 7)
+side_of_zero = refl
+
+third_word_of_a_size : so_far (codes "flatland 1\ndisplay 5 5 x\n") ≡ (2, 8)
+third_word_of_a_size = refl
+
+spaces_in_the_head : so_far (codes "flatland 1\n  \n") ≡ (2, 4)
+spaces_in_the_head = refl
+
+spaces_in_the_body : so_far (codes "flatland 1\ndisplay 100 100\nsession A\npair t0 display A\nrun\n  \n") ≡ (6, 5)
+spaces_in_the_body = refl
+
+second_pair_of_the_display : so_far (codes "flatland 1\ndisplay 100 100\nsession A\npair t0 display A\npair t1 display\n") ≡ (5, 4)
+second_pair_of_the_display = refl
+
+view_end_of_the_display : so_far (codes "flatland 1\ndisplay 100 100\nsession A\npair t0 display A\npair t1 A display\n") ≡ (5, 9)
+view_end_of_the_display = refl
+
+name_declared_twice : so_far (codes "flatland 1\ndisplay 100 100\nsession A\npair t0 display A\nfence A A\n") ≡ (5, 4)
+name_declared_twice = refl
+
+name_of_seventeen : so_far (codes "flatland 1\ndisplay 100 100\nsession A\npair t0 display A\nsession abcdefghijklmnopq\n") ≡ (5, 4)
+name_of_seventeen = refl
+
+name_of_sixteen : so_far (codes "flatland 1\ndisplay 100 100\nsession A\npair t0 display A\nsession abcdefghijklmnop\nrun\n") ≡ (0, 6)
+name_of_sixteen = refl
+
+reserved_name : so_far (codes "flatland 1\ndisplay 100 100\nsession A\npair t0 display A\nsession release\n") ≡ (5, 4)
+reserved_name = refl
+
+owner_of_no_session : so_far (codes "flatland 1\ndisplay 100 100\nsession A\npair t0 display A\nfence f A t0\n") ≡ (5, 9)
+owner_of_no_session = refl
+
+owner_twice : so_far (codes "flatland 1\ndisplay 100 100\nsession A\npair t0 display A\nfence f A A display\nrun\n") ≡ (0, 6)
+owner_twice = refl
+
+no_owner : so_far (codes "flatland 1\ndisplay 100 100\nsession A\npair t0 display A\nfence f\n") ≡ (5, 8)
+no_owner = refl
+
+buffers_of_65 : so_far (codes "flatland 1\ndisplay 100 100\nsession A\npair t0 display A\nbuffers b A 65 1 1\n") ≡ (5, 7)
+buffers_of_65 = refl
+
+run_and_a_word : so_far (codes "flatland 1\ndisplay 100 100\nsession A\npair t0 display A\nrun 1\n") ≡ (5, 8)
+run_and_a_word = refl
+
+run_too_early : so_far (codes "flatland 1\nrun 1\n") ≡ (2, 4)
+run_too_early = refl
+
+no_line_feed_at_the_end : so_far (codes "flatland 1\ndisplay 100 100\nsession A\npair t0 display A\nrun\nA SetHitRegions 1\nA SetHitRegions 1 0 0 1 1 0 -5 0 1 1 1") ≡ (0, 7)
+no_line_feed_at_the_end = refl
+
+regions_of_four_words : so_far (codes "flatland 1\ndisplay 100 100\nsession A\npair t0 display A\nrun\nA SetHitRegions 1 0 0 1 1\n") ≡ (6, 8)
+regions_of_four_words = refl
+
+interaction_of_two : so_far (codes "flatland 1\ndisplay 100 100\nsession A\npair t0 display A\nrun\nA SetHitRegions 1 0 0 1 1 2\n") ≡ (6, 7)
+interaction_of_two = refl
+
+begin_with_a_bad_time_inside_a_frame : so_far (codes "flatland 1\ndisplay 100 100\nsession A\npair t0 display A\nrun\ndisplay begin 5\ndisplay begin x\n") ≡ (7, 7)
+begin_with_a_bad_time_inside_a_frame = refl

@@ -1,0 +1,17 @@
+pub mod Examples
+pub mod NameLemmas
+pub mod ReadsLemmas
+pub mod ParserLemmas
+pub mod FormLemmas
+pub mod IndexLemmas
+pub mod DeclareLemmas
+pub mod WordLemmas
+pub mod TextLemmas
+pub mod AgainLemmas
+pub mod CallLemmas
+pub mod BodyWordLemmas
+pub mod StepLemmas
+pub mod FoundLemmas
+pub mod SwapLemmas
+pub mod OrderLemmas
+pub mod RunLemmas

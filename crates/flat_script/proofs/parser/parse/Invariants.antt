@@ -1,0 +1,19 @@
+use Rattle.std.proofs.Common.{◌≡◌, ◌<◌, ◌≤◌, ◌+◌, length}
+use Rattle.flat_text.specs.Pieces.{lines_of}
+use Rattle.flat_script.specs.Known.{known_words}
+use Rattle.flat_script.specs.Grammar.{lines_read, text_read}
+use Rattle.flat_script.specs.Progress.{Kept, sofar_of}
+use Rattle.flat_script.proofs.parser.parse.Given as goal
+
+abbrev pub invariant-loop-first : goal.invariant-loop-first
+invariant-loop-first l = record {
+  kept : Kept l.parser;
+  counted : l.number + length l.text ≤ 16777217;
+  some : 0 < l.number;
+  begins : l.parser.begins < l.number;
+  dones : l.parser.dones < l.number;
+  same : lines_read known_words l.number (sofar_of l.parser) (lines_of l.text) ≡ text_read l.fn.bytes;
+}
+
+abbrev pub decreases-loop-first : goal.decreases-loop-first
+decreases-loop-first l = length l.text

@@ -1,0 +1,72 @@
+-- Scripts of version 1: the script that a text has, or the first line with a fault and its lowest kind.
+use Rattle.std.specs.Prelude.{◌≡◌, ℕ, ◌+◌, ◌-◌, ◌*◌, ◌==◌, ◌||◌, slice_index, nat_le, nat_lt, Bool, not, ◌&&◌, List, [], ◌∷◌, length, Result, Ok, Err, codes, if◌then◌else◌}
+use Rattle.std.specs.List.{list_all}
+use Rattle.std.specs.Str.{bytes_eq}
+use Rattle.flat_text.specs.Pieces.{lines_of, words_of}
+use Rattle.flat_script.specs.declared.script.Script.{Script}
+use Rattle.flat_script.specs.declared.script.ScriptFault.{ScriptFault}
+use Rattle.flat_script.specs.declared.script.Part.{Part}
+use Rattle.flat_script.specs.declared.script.Part.TheVariants.{Start, Head, Body}
+use Rattle.flat_script.specs.Known.{known_words}
+use Rattle.flat_script.specs.Forms.{Word, Reading, mapped}
+use Rattle.flat_script.specs.Head.{empty, first_line, head_line, run_line}
+use Rattle.flat_script.specs.Body.{body_line, is_open}
+
+-- the part of the text that the next line is in, and the script so far
+abbrev pub Sofar : Type 0
+Sofar = Part × Script
+
+-- what the words of line n make of it
+abbrev pub words_read : List Word → ℕ → Sofar → List Word → Reading Sofar
+words_read known n (Start, s) words = mapped (λ _. (Head, s)) (first_line words)
+words_read known n (Head, s) [] = Err 4
+words_read known n (Head, s) (w ∷ words) =
+    if bytes_eq w (codes "run") then mapped (λ _. (Body, s)) (run_line s words) else mapped (λ t. (Head, t)) (head_line known s (w ∷ words))
+words_read known n (Body, s) words = mapped (λ t. (Body, t)) (body_line known s n words)
+
+-- a byte that a line may have
+abbrev pub is_plain : ℕ → Bool
+is_plain b = nat_le 32 b && nat_le b 126
+
+-- an empty line, or one that begins with `#`
+abbrev pub is_skipped : List ℕ → Bool
+is_skipped line = length line == 0 || slice_index line 0 == 35
+
+-- what line n makes of it
+abbrev pub line_read : List Word → ℕ → Sofar → List ℕ → Reading Sofar
+line_read known n sofar line =
+    if not (list_all is_plain line) then Err 2
+    else (if nat_lt 1024 (length line) then Err 3
+    else (if is_skipped line then Ok sofar else words_read known n sofar (words_of line)))
+
+-- what the end of the text makes of it, where n is one more than the number of lines
+abbrev pub end_read : ℕ → Sofar → Result Script ScriptFault
+end_read n (Body, s) = if is_open s then Err (record { line = n; kind = 12 }) else Ok (record s { count = n - 1 })
+end_read n (_, s) = Err (record { line = n; kind = 4 })
+
+-- what the lines from number n on make of it: the first fault decides
+abbrev pub lines_read : List Word → ℕ → Sofar → List (List ℕ) → Result Script ScriptFault
+lines_read known n sofar [] = end_read n sofar
+lines_read known n sofar (line ∷ lines) = go_on (line_read known n sofar line) n (λ next. lines_read known (n + 1) next lines)
+  where
+    go_on : Reading Sofar → ℕ → (Sofar → Result Script ScriptFault) → Result Script ScriptFault
+    go_on (Ok next) n rest = rest next
+    go_on (Err k) n rest = Err (record { line = n; kind = k })
+
+-- the script of a text, or its fault, where these words are known; a text of more than 16 MiB is at fault as a whole
+abbrev pub read_with : List Word → List ℕ → Result Script ScriptFault
+read_with known bytes =
+    if nat_lt (16 * 1024 * 1024) (length bytes) then Err (record { line = 0; kind = 1 }) else lines_read known 1 (Start, empty) (lines_of bytes)
+
+-- the same with the words that are known so far. It is the one or the other: so each text has a script or a fault, and
+-- none has both
+abbrev pub text_read : List ℕ → Result Script ScriptFault
+text_read bytes = read_with known_words bytes
+
+-- the text has this script
+abbrev pub IsScript : List ℕ → Script → Type 0
+IsScript bytes s = text_read bytes ≡ Ok s
+
+-- the first line with a fault is this one, and its lowest kind is this
+abbrev pub IsFault : List ℕ → ScriptFault → Type 0
+IsFault bytes f = text_read bytes ≡ Err f

@@ -1,0 +1,21 @@
+//! The grammar of scripts: text to script, and back.
+#![tactic(auto)]
+
+mod call_forms;
+mod calls;
+mod forms;
+mod name;
+mod names;
+mod parser;
+mod places;
+mod print_lines;
+mod print_words;
+mod printer;
+mod script;
+#[cfg(test)]
+mod tests;
+
+pub use name::{Name, NameList};
+pub use parser::parse;
+pub use printer::print;
+pub use script::{Script, ScriptError, ScriptFault};

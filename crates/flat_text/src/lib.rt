@@ -1,0 +1,14 @@
+//! Numbers, words and lines of a text.
+//!
+//! A text is cut into lines at line feeds, and a line into words at single
+//! spaces. A number has one spelling only: `0`, or digits without a leading zero,
+//! or `-` and digits without a leading zero; it has at most 20 digits.
+#![tactic(auto)]
+
+mod number;
+mod pieces;
+#[cfg(test)]
+mod tests;
+
+pub use number::{push_number, read_natural, read_number};
+pub use pieces::{line, next_piece, word};
