@@ -17,7 +17,7 @@ use Rattle.flat_scene.specs.Laws.{IsLeastFamily, FamilyIsLeast}
 use Rattle.flat_scene.specs.Setups.{owners_declared, is_within, is_declared, may_own, is_pair_declared, is_fence_declared, is_buffer_declared}
 use Rattle.flat_scene.proofs.FamilyClosed.{family-closed, family-least}
 use Rattle.flat_scene.proofs.Members.{IsIn, in-left, in-right, any-with-all}
-use Rattle.flat_scene.proofs.Tests.{and-left, and-right, or-cases}
+use Rattle.flat_scene.proofs.Together.{and-left, and-right, or-cases}
 
 session-declared : (setup : Setup) (s : SessionNo) (actor : Actor) → is_session s actor ≡ true → may_own setup actor ≡ true → is_declared setup s ≡ true
 session-declared setup s Display mine owns = absurd (cc)

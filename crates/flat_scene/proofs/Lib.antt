@@ -7,5 +7,5 @@ pub mod ReachLemmas
 pub mod SmallHistories
 pub mod Steps
 pub mod TakingLemmas
-pub mod Tests
+pub mod Together
 pub mod SmallDrafts
