@@ -1,0 +1,6 @@
+pub mod Judging
+pub mod Searches
+pub mod Stands
+pub mod Verdicts
+pub mod Walking
+pub mod Walks

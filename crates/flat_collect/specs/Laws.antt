@@ -1,0 +1,27 @@
+-- The verdict on a graph is the verdict on the draft for which it stands.
+use Rattle.std.specs.Prelude.{ℕ, ◌≡◌, Some, None}
+use Rattle.flat_scene.specs.declared.trees.Children.{Children}
+use Rattle.flat_scene.specs.Draft.{Draft}
+use Rattle.flat_scene.specs.Misuse.{first_reason}
+use Rattle.flat_scene.specs.Tree.{tree_tests, all_nodes}
+use Rattle.flat_scene.specs.Trees.{node_count}
+use Rattle.flat_graph.specs.State.{GraphState}
+use Rattle.flat_graph.specs.Stands.{StandsFor}
+use Rattle.flat_collect.specs.declared.Verdict.{Verdict}
+use Rattle.flat_collect.specs.declared.Verdict.TheVariants.{Good, Bad}
+use Rattle.flat_collect.specs.Judge.{IsJudged}
+
+-- a draft has a tree to present, of so many nodes
+pub record Presents (draft : Draft) (nodes : ℕ) : Type 0 where
+  pub no_reason : first_reason (tree_tests draft) ≡ None
+  pub all : Children
+  pub is_all : all_nodes draft ≡ Some all
+  pub counted : node_count all ≡ nodes
+
+-- what a verdict says of a draft
+abbrev pub IsVerdict : Draft → Verdict → Type 0
+IsVerdict draft (Good nodes) = Presents draft nodes
+IsVerdict draft (Bad reason) = first_reason (tree_tests draft) ≡ Some reason
+
+abbrev pub VerdictStands : Type 0
+VerdictStands = (graph : GraphState) (draft : Draft) (verdict : Verdict) → StandsFor graph draft → IsJudged graph verdict → IsVerdict draft verdict

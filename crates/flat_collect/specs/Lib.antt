@@ -1,0 +1,5 @@
+pub mod Forest
+pub mod Judge
+pub mod Search
+pub mod Walking
+pub mod Laws

@@ -1,0 +1,429 @@
+ghost use Rattle.std.specs.Prelude.{◌≡◌, ◌==◌, ℕ, ◌+◌, ◌<◌, Some, None, count_by, is_some, IsSome, IfOk, IfErr, OnOk, OnErr};
+ghost use Rattle.std.specs.Option.{option_copied};
+ghost use Rattle.std.specs.List.{list_any};
+ghost use Rattle.flat_graph.specs.Names.{key_named};
+ghost use Rattle.flat_graph.specs.State.{GraphState, IsGraph, IsKept, node_at};
+
+use crate::names::{Named, add_name, key_of, remove_name};
+use crate::nodes::{GraphNode, drop_held, fresh, has_key, keep_marked, take_key};
+use crate::shapes::{has_bad_area, is_bad_area, is_bad_scale};
+use flat_base::{
+    CHILDREN_MAX, HIT_REGIONS_MAX, IntRect, NAMED_MAX, OPACITY_MAX, Orientation, Reason,
+    TransformId,
+};
+use flat_scene::{GraphFault, Held, RegionList};
+use slab::Slab;
+use std::alloc::Global;
+use std::marker::Model;
+
+/// The transforms of a session that have a name or may still be drawn.
+///
+/// A key is the place of a node. It stays until [`keep`](Graph::keep) or
+/// [`clear`](Graph::clear) drops the node, and may then be given again; a serial
+/// number is never given again.
+///
+/// A call that is refused leaves the graph as it was.
+#[derive(Drop)]
+pub struct Graph {
+    nodes: Slab<GraphNode>,
+    // By rising id.
+    names: Vec<Named>,
+    root: Option<usize>,
+    made: u32,
+}
+
+impl Model for Graph {
+    ghost Value = { GraphState };
+
+    ghost view = { λ g. record { nodes = g.nodes.slots; names = g.names.items; root = g.root; made = g.made } };
+
+    ghost invariant = { λ g. IsGraph g.nodes.capacity (record { nodes = g.nodes.slots; names = g.names.items; root = g.root; made = g.made }) };
+}
+
+// Making a graph, and reading it.
+impl Graph {
+    ghost use Rattle.flat_scene.specs.Misuse.{first_reason};
+    ghost use Rattle.flat_graph.specs.Reasons.{name_tests, IsMisuse};
+    ghost use Rattle.flat_graph.specs.State.{IsSound, empty_graph};
+
+    /// A graph without transforms. It takes no memory.
+    pub fn new(alloc: Global) -> Graph
+        ensures { result ≡ empty_graph }
+    {
+        Graph {
+            nodes: Slab::new(alloc),
+            names: Vec::new(alloc),
+            root: None,
+            made: 0,
+        }
+    }
+
+    /// The key of the root.
+    pub fn root(&self) -> Option<usize>
+        ensures value { result ≡ self.now.root }
+        ensures sound { IsSound self.now }
+    {
+        self.root
+    }
+
+    /// A number above each key.
+    pub fn places(&self) -> usize
+        ensures { (key : ℕ) → IsKept self.now.nodes key → key < result }
+    {
+        self.nodes.capacity()
+    }
+
+    /// The node of a key, or None where no node has that key.
+    pub fn node(&self, key: usize) -> Option<&GraphNode>
+        ensures { option_copied result ≡ node_at self.now key }
+    {
+        self.nodes.get(key)
+    }
+
+    /// Whether the node of a key has a name.
+    pub fn is_named(&self, key: usize) -> bool
+        ensures { result ≡ list_any (λ name. name.key == key) self.now.names }
+    {
+        self.names.iter().any(|name| name.key == key)
+    }
+
+    /// All names, by rising id.
+    pub fn names(&self) -> &[Named]
+        ensures { result.now ≡ self.now.names }
+    {
+        self.names.as_slice()
+    }
+
+    /// The key that an id names, or why it names none.
+    fn key(&self, t: TransformId) -> Result<usize, GraphFault>
+        ensures named { IfOk result (λ key. key_named self.now.names t.0 ≡ Some key) }
+        ensures kept { IfOk result (λ key. IsKept self.now.nodes key) }
+        ensures allowed { OnOk result (first_reason (name_tests self.now t.0) ≡ None) }
+        ensures fault { IfErr result (IsMisuse (name_tests self.now t.0)) }
+    {
+        if t.0 == 0 {
+            return Err(GraphFault::Bad(Reason::ZeroId));
+        }
+        match key_of(&self.names, t.0) {
+            Some(key) => Ok(key),
+            None => Err(GraphFault::Bad(Reason::UnknownTransform)),
+        }
+    }
+}
+
+// What names and links transforms.
+impl Graph {
+    ghost use Rattle.flat_scene.specs.Misuse.{first_reason};
+    ghost use Rattle.flat_graph.specs.Reasons.{add_tests, create_tests, name_tests, pair_tests, remove_tests, root_tests, IsFault, IsMisuse};
+    ghost use Rattle.flat_graph.specs.State.{Creates, change_named, released, with_child, with_root, without_child};
+
+    /// Makes a transform and names it; answers its serial number.
+    ///
+    /// `Bad` is ZeroId, IdInUse or TooManyNamed. It answers `Memory` also where
+    /// 2^32 - 1 transforms were made.
+    pub fn create(&mut self, t: TransformId) -> Result<u32, GraphFault>
+        ensures serial { IfOk result (λ serial. serial ≡ self.old.made + 1) }
+        ensures created { IfOk result (Creates self.old self.new t.0) }
+        ensures allowed { OnOk result (first_reason (create_tests self.old t.0) ≡ None) }
+        ensures fault { IfErr result (IsFault (create_tests self.old t.0)) }
+        ensures kept { OnErr result (self.new ≡ self.old) }
+    {
+        if t.0 == 0 {
+            return Err(GraphFault::Bad(Reason::ZeroId));
+        }
+        if key_of(&self.names, t.0).is_some() {
+            return Err(GraphFault::Bad(Reason::IdInUse));
+        }
+        if self.names.len() >= NAMED_MAX as usize {
+            return Err(GraphFault::Bad(Reason::TooManyNamed));
+        }
+        if self.made == u32::MAX || self.nodes.reserve(1).is_err() {
+            return Err(GraphFault::Memory);
+        }
+        let key = self.nodes.vacant_key();
+        if add_name(&mut self.names, Named { id: t.0, key }).is_err() {
+            return Err(GraphFault::Memory);
+        }
+        let serial = self.made + 1;
+        let node = fresh(*self.names.allocator(), serial);
+        self.nodes.insert_reserved(node);
+        self.made = serial;
+        Ok(serial)
+    }
+
+    /// Ends a transform's name. The node stays: what reaches it goes on reaching it.
+    ///
+    /// `Bad` is ZeroId or UnknownTransform. It takes no memory.
+    pub fn release(&mut self, t: TransformId) -> Result<(), GraphFault>
+        ensures released { OnOk result (self.new ≡ released self.old t.0) }
+        ensures allowed { OnOk result (first_reason (name_tests self.old t.0) ≡ None) }
+        ensures fault { IfErr result (IsMisuse (name_tests self.old t.0)) }
+        ensures kept { OnErr result (self.new ≡ self.old) }
+    {
+        self.key(t)?;
+        remove_name(&mut self.names, t.0);
+        Ok(())
+    }
+
+    /// Makes a transform the root; 0 unsets the root.
+    ///
+    /// `Bad` is UnknownTransform. It takes no memory.
+    pub fn set_root(&mut self, t: TransformId) -> Result<(), GraphFault>
+        ensures set { OnOk result (self.new ≡ with_root self.old t.0) }
+        ensures allowed { OnOk result (first_reason (root_tests self.old t.0) ≡ None) }
+        ensures fault { IfErr result (IsMisuse (root_tests self.old t.0)) }
+        ensures kept { OnErr result (self.new ≡ self.old) }
+    {
+        if t.0 == 0 {
+            self.root = None;
+            return Ok(());
+        }
+        let Some(key) = key_of(&self.names, t.0) else {
+            return Err(GraphFault::Bad(Reason::UnknownTransform));
+        };
+        self.root = Some(key);
+        Ok(())
+    }
+
+    /// The keys that two ids name, or why one of them names none.
+    fn pair(&self, parent: TransformId, child: TransformId) -> Result<(usize, usize), GraphFault>
+        ensures parent { IfOk result (λ keys. key_named self.now.names parent.0 ≡ Some keys.0) }
+        ensures child { IfOk result (λ keys. key_named self.now.names child.0 ≡ Some keys.1) }
+        ensures parent_kept { IfOk result (λ keys. IsKept self.now.nodes keys.0) }
+        ensures child_kept { IfOk result (λ keys. IsKept self.now.nodes keys.1) }
+        ensures allowed { OnOk result (first_reason (pair_tests self.now parent.0 child.0) ≡ None) }
+        ensures fault { IfErr result (IsMisuse (pair_tests self.now parent.0 child.0)) }
+    {
+        if parent.0 == 0 || child.0 == 0 {
+            return Err(GraphFault::Bad(Reason::ZeroId));
+        }
+        let Some(over) = key_of(&self.names, parent.0) else {
+            return Err(GraphFault::Bad(Reason::UnknownTransform));
+        };
+        let Some(under) = key_of(&self.names, child.0) else {
+            return Err(GraphFault::Bad(Reason::UnknownTransform));
+        };
+        Ok((over, under))
+    }
+
+    /// Appends a transform to the children of another, behind the others.
+    ///
+    /// `Bad` is ZeroId, UnknownTransform, AlreadyChild or TooManyChildren.
+    pub fn add_child(&mut self, parent: TransformId, child: TransformId) -> Result<(), GraphFault>
+        ensures added { OnOk result (self.new ≡ change_named self.old parent.0 (with_child (key_named self.old.names child.0))) }
+        ensures allowed { OnOk result (first_reason (add_tests self.old parent.0 child.0) ≡ None) }
+        ensures fault { IfErr result (IsFault (add_tests self.old parent.0 child.0)) }
+        ensures kept { OnErr result (self.new ≡ self.old) }
+    {
+        let (over, under) = self.pair(parent, child)?;
+        let Some(node) = self.nodes.get_mut(over) else {
+            return Err(GraphFault::Bad(Reason::UnknownTransform));
+        };
+        if has_key(node.children.as_slice(), under) {
+            return Err(GraphFault::Bad(Reason::AlreadyChild));
+        }
+        if node.children.len() >= CHILDREN_MAX as usize {
+            return Err(GraphFault::Bad(Reason::TooManyChildren));
+        }
+        if node.children.push(under).is_err() {
+            return Err(GraphFault::Memory);
+        }
+        Ok(())
+    }
+
+    /// Takes a transform from the children of another.
+    ///
+    /// `Bad` is ZeroId, UnknownTransform or NotChild. It takes no memory.
+    pub fn remove_child(
+        &mut self,
+        parent: TransformId,
+        child: TransformId,
+    ) -> Result<(), GraphFault>
+        ensures removed { OnOk result (self.new ≡ change_named self.old parent.0 (without_child (key_named self.old.names child.0))) }
+        ensures allowed { OnOk result (first_reason (remove_tests self.old parent.0 child.0) ≡ None) }
+        ensures fault { IfErr result (IsMisuse (remove_tests self.old parent.0 child.0)) }
+        ensures kept { OnErr result (self.new ≡ self.old) }
+    {
+        let (over, under) = self.pair(parent, child)?;
+        let alloc = *self.names.allocator();
+        let Some(node) = self.nodes.get_mut(over) else {
+            return Err(GraphFault::Bad(Reason::UnknownTransform));
+        };
+        if !has_key(node.children.as_slice(), under) {
+            return Err(GraphFault::Bad(Reason::NotChild));
+        }
+        take_key(alloc, &mut node.children, under);
+        Ok(())
+    }
+}
+
+// What a transform is.
+impl Graph {
+    ghost use Rattle.flat_scene.specs.Misuse.{first_reason};
+    ghost use Rattle.flat_graph.specs.Reasons.{name_tests, scale_tests, opacity_tests, clip_tests, hits_tests, IsMisuse};
+    ghost use Rattle.flat_graph.specs.State.{change_named, without_held};
+
+    /// Puts a transform at a place of its parent.
+    ///
+    /// `Bad` is ZeroId or UnknownTransform. It takes no memory.
+    pub fn set_translation(&mut self, t: TransformId, x: i32, y: i32) -> Result<(), GraphFault>
+        ensures set { OnOk result (self.new ≡ change_named self.old t.0 (λ node. record node { place = (x, y) })) }
+        ensures allowed { OnOk result (first_reason (name_tests self.old t.0) ≡ None) }
+        ensures fault { IfErr result (IsMisuse (name_tests self.old t.0)) }
+        ensures kept { OnErr result (self.new ≡ self.old) }
+    {
+        let key = self.key(t)?;
+        if let Some(node) = self.nodes.get_mut(key) {
+            node.place = (x, y);
+        }
+        Ok(())
+    }
+
+    /// Turns a transform.
+    ///
+    /// `Bad` is ZeroId or UnknownTransform. It takes no memory.
+    pub fn set_orientation(&mut self, t: TransformId, turn: Orientation) -> Result<(), GraphFault>
+        ensures set { OnOk result (self.new ≡ change_named self.old t.0 (λ node. record node { turn = turn })) }
+        ensures allowed { OnOk result (first_reason (name_tests self.old t.0) ≡ None) }
+        ensures fault { IfErr result (IsMisuse (name_tests self.old t.0)) }
+        ensures kept { OnErr result (self.new ≡ self.old) }
+    {
+        let key = self.key(t)?;
+        if let Some(node) = self.nodes.get_mut(key) {
+            node.turn = turn;
+        }
+        Ok(())
+    }
+
+    /// Scales a transform along its own axes, each 1 to
+    /// [`SCALE_MAX`](flat_base::SCALE_MAX).
+    ///
+    /// `Bad` is ZeroId, UnknownTransform or BadScale. It takes no memory.
+    pub fn set_scale(&mut self, t: TransformId, x: u32, y: u32) -> Result<(), GraphFault>
+        ensures set { OnOk result (self.new ≡ change_named self.old t.0 (λ node. record node { scale = (x, y) })) }
+        ensures allowed { OnOk result (first_reason (scale_tests self.old t.0 x y) ≡ None) }
+        ensures fault { IfErr result (IsMisuse (scale_tests self.old t.0 x y)) }
+        ensures kept { OnErr result (self.new ≡ self.old) }
+    {
+        let key = self.key(t)?;
+        if is_bad_scale(x) || is_bad_scale(y) {
+            return Err(GraphFault::Bad(Reason::BadScale));
+        }
+        if let Some(node) = self.nodes.get_mut(key) {
+            node.scale = (x, y);
+        }
+        Ok(())
+    }
+
+    /// Sets a transform's opacity, at most
+    /// [`OPACITY_MAX`](flat_base::OPACITY_MAX).
+    ///
+    /// `Bad` is ZeroId, UnknownTransform or BadOpacity. It takes no memory.
+    pub fn set_opacity(&mut self, t: TransformId, opacity: u32) -> Result<(), GraphFault>
+        ensures set { OnOk result (self.new ≡ change_named self.old t.0 (λ node. record node { opacity = opacity })) }
+        ensures allowed { OnOk result (first_reason (opacity_tests self.old t.0 opacity) ≡ None) }
+        ensures fault { IfErr result (IsMisuse (opacity_tests self.old t.0 opacity)) }
+        ensures kept { OnErr result (self.new ≡ self.old) }
+    {
+        let key = self.key(t)?;
+        if opacity > OPACITY_MAX {
+            return Err(GraphFault::Bad(Reason::BadOpacity));
+        }
+        if let Some(node) = self.nodes.get_mut(key) {
+            node.opacity = opacity;
+        }
+        Ok(())
+    }
+
+    /// Cuts a transform and all below it to a rectangle of its own space, or
+    /// takes that boundary away.
+    ///
+    /// `Bad` is ZeroId, UnknownTransform or BadRect. It takes no memory.
+    pub fn set_clip(&mut self, t: TransformId, clip: Option<IntRect>) -> Result<(), GraphFault>
+        ensures set { OnOk result (self.new ≡ change_named self.old t.0 (λ node. record node { clip = clip })) }
+        ensures allowed { OnOk result (first_reason (clip_tests self.old t.0 clip) ≡ None) }
+        ensures fault { IfErr result (IsMisuse (clip_tests self.old t.0 clip)) }
+        ensures kept { OnErr result (self.new ≡ self.old) }
+    {
+        let key = self.key(t)?;
+        if is_bad_area(clip) {
+            return Err(GraphFault::Bad(Reason::BadRect));
+        }
+        if let Some(node) = self.nodes.get_mut(key) {
+            node.clip = clip;
+        }
+        Ok(())
+    }
+
+    /// Replaces a transform's hit regions.
+    ///
+    /// `Bad` is ZeroId, UnknownTransform, BadRect or TooManyRegions. It takes no memory.
+    pub fn set_hits(&mut self, t: TransformId, regions: RegionList) -> Result<(), GraphFault>
+        ensures set { OnOk result (self.new ≡ change_named self.old t.0 (λ node. record node { hits = Some regions })) }
+        ensures allowed { OnOk result (first_reason (hits_tests self.old t.0 regions) ≡ None) }
+        ensures fault { IfErr result (IsMisuse (hits_tests self.old t.0 regions)) }
+        ensures kept { OnErr result (self.new ≡ self.old) }
+    {
+        let key = self.key(t)?;
+        if has_bad_area(regions.as_slice()) {
+            return Err(GraphFault::Bad(Reason::BadRect));
+        }
+        if regions.len() > HIT_REGIONS_MAX as usize {
+            return Err(GraphFault::Bad(Reason::TooManyRegions));
+        }
+        if let Some(node) = self.nodes.get_mut(key) {
+            node.hits = Some(regions);
+        }
+        Ok(())
+    }
+
+    /// Gives a transform its content, or takes it away. The graph knows contents
+    /// by these numbers alone.
+    ///
+    /// `Bad` is ZeroId or UnknownTransform. It takes no memory.
+    pub fn set_content(&mut self, t: TransformId, held: Option<Held>) -> Result<(), GraphFault>
+        ensures set { OnOk result (self.new ≡ change_named self.old t.0 (λ node. record node { content = held })) }
+        ensures allowed { OnOk result (first_reason (name_tests self.old t.0) ≡ None) }
+        ensures fault { IfErr result (IsMisuse (name_tests self.old t.0)) }
+        ensures kept { OnErr result (self.new ≡ self.old) }
+    {
+        let key = self.key(t)?;
+        if let Some(node) = self.nodes.get_mut(key) {
+            node.content = held;
+        }
+        Ok(())
+    }
+
+    /// Takes the content of that number from each transform that holds it. It
+    /// takes no memory.
+    pub fn drop_content(&mut self, serial: u32)
+        ensures { self.new ≡ without_held self.old serial }
+    {
+        drop_held(&mut self.nodes, serial);
+    }
+}
+
+// What drops transforms.
+impl Graph {
+    ghost use Rattle.flat_graph.specs.State.{emptied, only_marked, MayKeep};
+
+    /// Drops each node whose key isn't marked, and answers their number. All else
+    /// stays. It takes no memory.
+    pub fn keep(&mut self, marks: &[bool]) -> u32
+        requires { MayKeep marks.now self.old }
+        ensures kept { self.new ≡ only_marked marks.now self.old }
+        ensures dropped { result + count_by is_some self.new.nodes ≡ count_by is_some self.old.nodes }
+    {
+        keep_marked(&mut self.nodes, marks)
+    }
+
+    /// Drops all nodes and names, and unsets the root. The count of the
+    /// transforms made stays. It takes no memory.
+    pub fn clear(&mut self)
+        ensures { self.new ≡ emptied self.old }
+    {
+        self.nodes.clear();
+        self.names.clear();
+        self.root = None;
+    }
+}

@@ -1,0 +1,17 @@
+//! A session's transforms, as a graph: nodes under the keys of a slab, the ids
+//! that name them, and the root. A node lives on without a name for as long as
+//! something may reach it.
+#![tactic(auto)]
+
+mod graph;
+mod laws;
+mod names;
+mod nodes;
+mod shapes;
+#[cfg(test)]
+mod tests;
+
+pub use graph::Graph;
+pub use laws::graph_laws;
+pub use names::Named;
+pub use nodes::{GraphNode, KeyList};
