@@ -10,6 +10,9 @@
 
 ghost use Rattle.flat_topology.specs.Laws.{JoinsTheConnected, JoinsEachOnce, ReachesNoCycle, JoinsAll, JoinsFew, PlacesLowOpacities, ParentsDecide, DrawsInPreorder, ViewsTheJoined, ViewsBelowParents, ViewsTheConnected, HitsEachOnce};
 
+mod shown;
+
+pub use crate::shown::Shown;
 use flat_base::{Items, Rect, SessionNo};
 use flat_geom::Matrix;
 use flat_scene::{Content, RegionList};
