@@ -1,1 +1,4 @@
-mod Examples
+pub mod Examples
+pub mod PageLemmas
+pub mod Tails
+pub mod Written

@@ -110,13 +110,18 @@ hit_words script hits = flat_map (λ hit. session_name script hit.session ∷ nu
 abbrev pub point_words : Script → ℤ → ℤ → ℕ → List Hit → List Word
 point_words script x y frame hits = codes "hit" ∷ numbers (x ∷ y ∷ []) ++ codes "frame" ∷ number frame ∷ hit_words script hits
 
--- What stands behind the actor. The number of finished frames is that before the entry, and the hits are those of the last of them.
+-- What stands behind the number of the line. The number of finished frames is that before the entry, and the hits are those of the last of them.
+abbrev pub answer_words : Script → ℕ → (ℤ → ℤ → List Hit) → Kind → Reply → List Word
+answer_words script frames hits (kind.End refused) answer = []
+answer_words script frames hits (kind.Begin time) answer = codes "begin" ∷ number time ∷ codes "frame" ∷ number (suc frames) ∷ []
+answer_words script frames hits kind.Finish answer = codes "done" ∷ codes "frame" ∷ number (suc frames) ∷ []
+answer_words script frames hits (kind.Hit x y) answer = point_words script x y frames (hits x y)
+answer_words script frames hits made answer = reply_words made answer
+
+-- what stands behind the actor
 abbrev pub said_words : Script → ℕ → (ℤ → ℤ → List Hit) → ℕ → Kind → Reply → List Word
 said_words script frames hits line (kind.End refused) answer = codes "end" ∷ number refused ∷ []
-said_words script frames hits line (kind.Begin time) answer = number line ∷ codes "begin" ∷ number time ∷ codes "frame" ∷ number (suc frames) ∷ []
-said_words script frames hits line kind.Finish answer = number line ∷ codes "done" ∷ codes "frame" ∷ number (suc frames) ∷ []
-said_words script frames hits line (kind.Hit x y) answer = number line ∷ point_words script x y frames (hits x y)
-said_words script frames hits line made answer = number line ∷ reply_words made answer
+said_words script frames hits line made answer = number line ∷ answer_words script frames hits made answer
 
 -- the line of an entry
 abbrev pub entry_line : Script → ℕ → (ℤ → ℤ → List Hit) → Entry → List Word

@@ -1,4 +1,6 @@
 pub mod EntryLines
 pub mod FrameLines
+pub mod Handed
+pub mod Pages
 pub mod Report
 pub mod Words

@@ -1,3 +1,11 @@
-//! The report of a run: every answer, every event, every frame's draw list and
-//! view tree, as text. As yet its definition alone.
+//! The report: what a run answers and shows, as text.
 #![tactic(auto)]
+
+mod entry_lines;
+mod entry_words;
+mod frame_words;
+mod names;
+mod page;
+mod report;
+
+pub use report::{HitAnswer, HitAnswers};

@@ -1,0 +1,243 @@
+ghost use Rattle.std.specs.Prelude.{◌≡◌, ◌++◌, ◌∷◌, ◌+◌, ◌-◌, ◌<◌, ◌^◌, [], OnOk, IfOk, length, take_while, cond, codes, ◌==◌, List};
+ghost use Rattle.flat_scene.specs.History.{history_of, is_finish};
+ghost use Rattle.flat_core.specs.Posts.{posts};
+ghost use Rattle.flat_report.specs.Handed.{answers_of, first_hits, first_frame_lines, frames_after, answers_after, handed_lines};
+ghost use Rattle.flat_report.specs.Pages.{Writes, WritesLines};
+ghost use Rattle.flat_report.specs.Words.{number};
+ghost use Rattle.flat_report.specs.Report.{finished, history_lines, report_lines, report};
+
+use crate::entry_lines::{push_entry, push_posts};
+use crate::frame_words::push_frame;
+use crate::page::Page;
+use flat_base::{Actor, FrameNo, Items, NoMemory};
+use flat_scene::{Entry, FrameOut, Hit, HitList, Journal, Kind, Lost, Post};
+use flat_script::Script;
+use std::alloc::Global;
+
+/// The answer to a line that asks for a point of the display.
+#[derive(Debug, Drop)]
+pub struct HitAnswer {
+    pub actor: Actor,
+    /// The number of the line.
+    pub line: u32,
+    /// The frame in which it was asked; 0 where there was none.
+    pub frame: FrameNo,
+    pub hits: HitList,
+}
+
+/// Answers, in the order of the lines.
+pub type HitAnswers = Items<HitAnswer>;
+
+/// How many of the posts, from the first, are of the entry at that place.
+fn posts_of(posts: &[Post], place: usize) -> usize
+    ensures { result ≡ length (take_while (λ post. post.entry == place) posts.now) }
+{
+    posts
+        .iter()
+        .take_while(|post| post.entry as usize == place)
+        .count()
+}
+
+/// The hits of the first answer.
+fn first_hits(answers: &[HitAnswer]) -> &[Hit]
+    ensures { result.now ≡ first_hits answers.now }
+{
+    match answers {
+        [first, ..] => first.hits.as_slice(),
+        [] => &[],
+    }
+}
+
+/// The answers after an entry of this kind.
+fn answers_after<'a>(answers: &'a [HitAnswer], kind: &Kind) -> &'a [HitAnswer]
+    ensures { result.now ≡ answers_after kind.now answers.now }
+{
+    match (kind, answers) {
+        (Kind::Hit(_, _), [_, later @ ..]) => later,
+        _ => answers,
+    }
+}
+
+/// The frames after an entry of this kind.
+fn frames_after<'a>(frames: &'a [FrameOut], kind: &Kind) -> &'a [FrameOut]
+    ensures { result.now ≡ frames_after kind.now frames.now }
+{
+    match (kind, frames) {
+        (Kind::Finish, [_, later @ ..]) => later,
+        _ => frames,
+    }
+}
+
+/// How many frames are finished after an entry of this kind.
+fn finished_after(finished: u64, kind: &Kind) -> u64
+    requires { finished < 2 ^ 64 - 1 }
+    ensures { result ≡ finished + cond (is_finish kind.now) 1 0 }
+{
+    match kind {
+        Kind::Finish => finished + 1,
+        _ => finished,
+    }
+}
+
+/// The lines of the first frame.
+fn push_first(
+    page: &mut Page,
+    script: &Script,
+    lost: &[Lost],
+    frames: &[FrameOut],
+) -> Result<(), NoMemory>
+    ensures { OnOk result (WritesLines (first_frame_lines script.now lost.now frames.now) page.old page.new) }
+{
+    match frames {
+        [first, ..] => push_frame(page, script, first, lost),
+        [] => Ok(()),
+    }
+}
+
+/// The lines of the frame that an entry of this kind finishes.
+fn push_shown(
+    page: &mut Page,
+    script: &Script,
+    lost: &[Lost],
+    frames: &[FrameOut],
+    kind: &Kind,
+) -> Result<(), NoMemory>
+    ensures { OnOk result (WritesLines (cond (is_finish kind.now) (first_frame_lines script.now lost.now frames.now) []) page.old page.new) }
+{
+    match kind {
+        Kind::Finish => push_first(page, script, lost, frames),
+        _ => Ok(()),
+    }
+}
+
+/// The lines of an entry, by what is handed in from it on: the frames and the
+/// answers, and its own events.
+fn push_handed(
+    page: &mut Page,
+    script: &Script,
+    lost: &[Lost],
+    finished: u64,
+    frames: &[FrameOut],
+    answers: &[HitAnswer],
+    posts: &[Post],
+    entry: &Entry,
+) -> Result<(), NoMemory>
+    requires { finished < 2 ^ 64 - 1 }
+    ensures { OnOk result (WritesLines (handed_lines script.now lost.now finished frames.now answers.now posts.now entry.now) page.old page.new) }
+{
+    push_entry(page, script, finished, first_hits(answers), entry)?;
+    push_shown(page, script, lost, frames, &entry.kind)?;
+    push_posts(page, script, posts)?;
+    Ok(())
+}
+
+/// The lines of all entries.
+fn push_history(
+    page: &mut Page,
+    script: &Script,
+    journal: &Journal,
+    frames: &[FrameOut],
+    lost: &[Lost],
+    answers: &[HitAnswer],
+) -> Result<(), NoMemory>
+    requires posts { journal.now.posts.items ≡ posts script.now.setup (history_of journal.now.entries.items) }
+    requires frames { frames.now ≡ finished script.now.setup (history_of journal.now.entries.items) }
+    requires answers { answers.now ≡ answers_of script.now.setup (history_of journal.now.entries.items) }
+    ensures { OnOk result (WritesLines (history_lines script.now lost.now (history_of journal.now.entries.items)) page.old page.new) }
+{
+    let mut posts = journal.posts.as_slice();
+    let mut frames = frames;
+    let mut answers = answers;
+    let mut finished = 0;
+    for (place, entry) in journal.entries.iter().enumerate() {
+        let (mine, later) = posts.split_at(posts_of(posts, place));
+        push_handed(page, script, lost, finished, frames, answers, mine, entry)?;
+        posts = later;
+        frames = frames_after(frames, &entry.kind);
+        answers = answers_after(answers, &entry.kind);
+        finished = finished_after(finished, &entry.kind);
+    }
+    Ok(())
+}
+
+/// The first line.
+fn push_title(page: &mut Page) -> Result<(), NoMemory>
+    ensures { OnOk result (WritesLines ((codes "report" ∷ codes "flatland" ∷ codes "1" ∷ []) ∷ []) page.old page.new) }
+{
+    page.put(b"report")?;
+    page.word(b"flatland")?;
+    page.word(b"1")?;
+    page.put(b"\n")?;
+    Ok(())
+}
+
+fn push_totals(page: &mut Page, entries: usize, frames: usize) -> Result<(), NoMemory>
+    ensures { OnOk result (Writes (codes "ends" ∷ codes "entries" ∷ number entries ∷ codes "frames" ∷ number frames ∷ []) page.old page.new) }
+{
+    page.word(b"ends")?;
+    page.word(b"entries")?;
+    page.count(entries as u64)?;
+    page.word(b"frames")?;
+    page.count(frames as u64)?;
+    Ok(())
+}
+
+/// The last line.
+fn push_end(page: &mut Page, entries: usize, frames: usize) -> Result<(), NoMemory>
+    ensures { OnOk result (WritesLines ((codes "report" ∷ codes "ends" ∷ codes "entries" ∷ number entries ∷ codes "frames" ∷ number frames ∷ []) ∷ []) page.old page.new) }
+{
+    page.put(b"report")?;
+    push_totals(page, entries, frames)?;
+    page.put(b"\n")?;
+    Ok(())
+}
+
+/// All lines, in order.
+fn push_report(
+    page: &mut Page,
+    script: &Script,
+    journal: &Journal,
+    frames: &[FrameOut],
+    lost: &[Lost],
+    answers: &[HitAnswer],
+) -> Result<(), NoMemory>
+    requires probes { script.now.setup.probes ≡ 0 }
+    requires posts { journal.now.posts.items ≡ posts script.now.setup (history_of journal.now.entries.items) }
+    requires frames { frames.now ≡ finished script.now.setup (history_of journal.now.entries.items) }
+    requires answers { answers.now ≡ answers_of script.now.setup (history_of journal.now.entries.items) }
+    ensures { OnOk result (WritesLines (report_lines script.now (history_of journal.now.entries.items) lost.now []) page.old page.new) }
+{
+    push_title(page)?;
+    push_history(page, script, journal, frames, lost, answers)?;
+    let entries = journal.entries.as_slice();
+    push_end(page, entries.len(), frames.len())?;
+    Ok(())
+}
+
+/// The report of a run, in memory of its own, for which room is taken once.
+///
+/// What is handed in is that of the journal's history: the frames that it finished,
+/// in order, and an answer to each point that it asks for. `lost` are the displays
+/// that were lost. The script declares no probe, since no line of a probe is known
+/// yet.
+pub fn report(
+    alloc: Global,
+    script: &Script,
+    journal: &Journal,
+    frames: &[FrameOut],
+    lost: &[Lost],
+    answers: &HitAnswers,
+) -> Result<Vec<u8>, NoMemory>
+    requires probes { script.now.setup.probes ≡ 0 }
+    requires posts { journal.now.posts.items ≡ posts script.now.setup (history_of journal.now.entries.items) }
+    requires frames { frames.now ≡ finished script.now.setup (history_of journal.now.entries.items) }
+    requires answers { answers.now ≡ answers_of script.now.setup (history_of journal.now.entries.items) }
+    ensures { IfOk result (λ text. text.items ≡ report script.now (history_of journal.now.entries.items) lost.now []) }
+{
+    let answers = answers.as_slice();
+    let mut count = Page::Count(0);
+    push_report(&mut count, script, journal, frames, lost, answers)?;
+    let mut page = Page::with_room(alloc, count)?;
+    push_report(&mut page, script, journal, frames, lost, answers)?;
+    Ok(page.into_text())
+}
