@@ -1,0 +1,4 @@
+pub mod Displayed
+pub mod InOrder
+pub mod Reading
+pub mod Unread

@@ -1,0 +1,65 @@
+-- Which scripts are played.
+use Rattle.std.specs.Prelude.{ℕ, Bool, true, false, not, ◌&&◌, ◌==◌, nat_le, nat_lt, List, [], ◌∷◌, length}
+use Rattle.std.specs.List.{list_all}
+use Rattle.flat_base.specs.declared.ids.Actor.{Actor}
+use Rattle.flat_base.specs.declared.ids.Actor.TheVariants.{Display, Session, Probe}
+use Rattle.flat_base.specs.declared.ids.SessionNo.{SessionNo}
+use Rattle.flat_scene.specs.declared.calls.Call.{Call}
+use Rattle.flat_scene.specs.declared.calls.Call.TheVariants.{CreateView, CreateViewport, CreateImage}
+use Rattle.flat_scene.specs.declared.script.Body.{Body}
+use Rattle.flat_scene.specs.declared.script.Body.TheVariants as body
+use Rattle.flat_scene.specs.declared.script.DisplayLine.{DisplayLine}
+use Rattle.flat_scene.specs.declared.script.DisplayLine.TheVariants as display
+use Rattle.flat_scene.specs.declared.script.Line.{Line}
+use Rattle.flat_scene.specs.declared.script.Line.TheVariants as line
+use Rattle.flat_scene.specs.declared.script.ScriptLine.{ScriptLine}
+use Rattle.flat_scene.specs.declared.setup.Setup.{Setup}
+use Rattle.flat_scene.specs.Setups.{is_declared, is_setup}
+use Rattle.flat_core.specs.Legal.{owns_view}
+use Rattle.flat_script.specs.declared.script.Script.{Script}
+
+-- the numbers of lines rise, from above this one
+abbrev pub rise_from : ℕ → List ScriptLine → Bool
+rise_from n [] = true
+rise_from n (next ∷ later) = nat_lt n next.number && rise_from next.number later
+
+-- A frame begins only where none is open and at no lesser time than the one before, and is done only where one is open; what follows is tested by whether a frame is open then, and the last time.
+abbrev pub keeps_frames : Bool → ℕ → Body → (Bool → ℕ → Bool) → Bool
+keeps_frames is_open time (body.Display (display.Begin t)) follows = not is_open && nat_le time t && follows true t
+keeps_frames is_open time (body.Display display.Done) follows = is_open && follows false time
+keeps_frames is_open time _ follows = follows is_open time
+
+-- frames begin and are done in turn, from one that is open or not; begin times never fall, and the last frame is done
+abbrev pub frames_close : Bool → ℕ → List ScriptLine → Bool
+frames_close is_open time [] = not is_open
+frames_close is_open time (next ∷ later) = keeps_frames is_open time next.body (λ open_then time_then. frames_close open_then time_then later)
+
+-- a call that may be made as yet: none that makes a viewport or an image; a view is of a pair whose view end the session owns
+abbrev pub is_played_call : Setup → SessionNo → Call → Bool
+is_played_call setup s (CreateView pair) = owns_view setup s pair
+is_played_call setup s (CreateViewport c pair w h inset) = false
+is_played_call setup s (CreateImage c buffers i w h) = false
+is_played_call setup s _ = true
+
+-- the same of a line of a session, and of the display
+abbrev pub is_played_line : Setup → SessionNo → Line → Bool
+is_played_line setup s (line.Call call) = is_played_call setup s call
+is_played_line setup s (line.Present args) = length args.acquire == 0 && length args.release == 0
+is_played_line setup s _ = false
+
+abbrev pub is_played_display : DisplayLine → Bool
+is_played_display (display.Begin time) = true
+is_played_display display.Done = true
+is_played_display _ = false
+
+-- a line that is played, by whom
+abbrev pub is_played : Setup → Actor → Body → Bool
+is_played setup (Session s) (body.Session text) = is_declared setup s && is_played_line setup s text
+is_played setup Display (body.Display text) = is_played_display text
+is_played setup _ _ = false
+
+-- Whether a script is one that is played: its setup is one that a head can give, without probes; its lines rise up to its count, frames close, and each line is known.
+abbrev pub is_playable : Script → Bool
+is_playable script =
+    is_setup script.setup && script.setup.probes == 0 && rise_from 0 script.lines && list_all (λ next. nat_le next.number script.count) script.lines
+    && frames_close false 0 script.lines && list_all (λ next. is_played script.setup next.actor next.body) script.lines

@@ -1,0 +1,4 @@
+//! The service at work on a script: words, reading, the run and the report.
+#![tactic(auto)]
+
+pub fn nothing() {}
