@@ -1,7 +1,17 @@
+pub mod Begins
+pub mod Boards
 pub mod Ends
 pub mod Facts
+pub mod Flags
+pub mod Kept
+pub mod Lasts
 pub mod Laws
 pub mod Legal
+pub mod Logs
+pub mod Plain
+pub mod Polls
 pub mod Posts
+pub mod Presents
+pub mod Seen
 pub mod Shown
 pub mod Watch

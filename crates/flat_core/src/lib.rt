@@ -1,6 +1,19 @@
 //! The machine of the scene service: which histories are legal, what is told to
-//! whom and when, and which events are posted. As yet its definitions alone.
+//! whom and when, and which events are posted; and the machine itself, `Board`,
+//! which takes entries one by one, answers them by these rules, and keeps the
+//! journal. As yet it takes no entry that has to do with a viewport, and no get.
 #![tactic(auto)]
+
+mod begins;
+mod board;
+mod clock;
+mod dones;
+mod ends;
+mod log;
+mod state;
+mod views;
+
+pub use board::{Back, Board};
 
 ghost use Rattle.flat_core.specs.Laws.{CreditsAddUp};
 

@@ -6,14 +6,7 @@ use Rattle.std.proofs.lemmas.Grind.{flat_map-append}
 use Rattle.std.proofs.lemmas.List.Elements.{filter-append}
 use Rattle.flat_scene.specs.declared.script.ScriptLine.{ScriptLine}
 use Rattle.flat_run.specs.Playable.{rise_from}
-
-and_left : (a b : Bool) → (a && b) ≡ true → a ≡ true
-and_left true b both = refl
-and_left false b both = both
-
-and_right : (a b : Bool) → (a && b) ≡ true → b ≡ true
-and_right true b both = both
-and_right false b both = absurd (cc)
+use Rattle.flat_run.proofs.Tests.{and_left, and_right}
 
 -- the first line's number is above, and the later ones are above it
 pub rise_first : (n : ℕ) (next : ScriptLine) (later : List ScriptLine) → rise_from n (next ∷ later) ≡ true → n < next.number

@@ -34,6 +34,13 @@ abbrev pub frames_close : Bool → ℕ → List ScriptLine → Bool
 frames_close is_open time [] = not is_open
 frames_close is_open time (next ∷ later) = keeps_frames is_open time next.body (λ open_then time_then. frames_close open_then time_then later)
 
+-- a call that uses no end and no buffers
+abbrev pub is_private : Call → Bool
+is_private (CreateView pair) = false
+is_private (CreateViewport c pair w h inset) = false
+is_private (CreateImage c buffers i w h) = false
+is_private _ = true
+
 -- a call that may be made as yet: none that makes a viewport or an image; a view is of a pair whose view end the session owns
 abbrev pub is_played_call : Setup → SessionNo → Call → Bool
 is_played_call setup s (CreateView pair) = owns_view setup s pair

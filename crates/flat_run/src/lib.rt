@@ -1,4 +1,7 @@
 //! The service at work on a script: words, reading, the run and the report.
 #![tactic(auto)]
 
-pub fn nothing() {}
+mod made;
+mod top;
+
+pub use made::Made;

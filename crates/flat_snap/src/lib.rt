@@ -1,6 +1,12 @@
-//! The shared, immutable state that a session presents.
+//! The shared, immutable state that a session presents, and how it is built.
 #![tactic(auto)]
 
+mod builder;
+mod flat;
 mod snapshot;
+#[cfg(test)]
+mod tests;
 
+pub use builder::SnapshotBuilder;
+pub use flat::FlatNode;
 pub use snapshot::Snapshot;

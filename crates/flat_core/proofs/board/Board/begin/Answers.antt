@@ -1,0 +1,62 @@
+use Rattle.std.proofs.Common.{◌≡◌, List, false, ◌+◌, ◌<◌, ◌^◌, Some, slice_get, refl, sym, ◌∙◌, ap, subst, arith}
+use Rattle.flat_base.specs.declared.ids.SessionNo.{SessionNo}
+use Rattle.flat_scene.specs.History.{is_closed, Published}
+use Rattle.flat_scene.specs.Frames.{is_signalled, waiting}
+use Rattle.flat_scene.specs.Frames.{is_ready}
+use Rattle.flat_base.specs.declared.ids.Actor.TheVariants.{Display}
+use Rattle.flat_scene.specs.declared.calls.Call.{Call}
+use Rattle.flat_scene.specs.declared.journal.Entry.{Entry}
+use Rattle.flat_scene.specs.declared.journal.Kind.TheVariants.{Begin}
+use Rattle.flat_scene.specs.declared.journal.Reply.TheVariants.{Done}
+use Rattle.flat_scene.specs.History.{◌▹◌}
+use Rattle.flat_core.specs.Boards.{Machine, entry_of}
+use Rattle.flat_core.specs.Begins.{begun, begin_entry}
+use Rattle.flat_core.proofs.Steps.{has-room}
+use Rattle.flat_core.proofs.BoardBegins.{kept-begun, place-small, not-ready}
+use Rattle.flat_core.proofs.board.Board.begin.Goals as goal
+
+pub begin_all-count-requires-clause-place : goal.begin_all-count-requires-clause-place
+begin_all-count-requires-clause-place c =
+    let may = rw (← c.self.view_is) at c.requires.may in
+    (place-small _ (Begin c.args.time) may _ _ _ _ _ _ refl c.self.invariant.0 c.self.invariant.1).0
+
+pub enter-requires : goal.enter-requires
+enter-requires c =
+    let may = rw (← c.self.view_is) at c.requires.may in
+    rw c.begin_all-count.ensures.room (has-room _ _ _ _ may c.self.invariant.0.legal _ _ _ refl c.self.invariant.1)
+
+pub overflow_add-result : goal.overflow_add-result
+overflow_add-result c =
+    let may = rw (← c.self.view_is) at c.requires.may in
+    let few : c.self.inside.clock.frames + 1 < 2 ^ 32 = (place-small _ (Begin c.args.time) may _ _ _ _ _ _ refl c.self.invariant.0 c.self.invariant.1).1 in
+    omega (arith, few)
+
+pub invariant_of-self : goal.invariant_of-self
+invariant_of-self c =
+    let may = rw (← c.self.view_is) at c.requires.may in
+    let all = c.begin_all-count.ensures in
+    let log = c.enter.ensures in
+    let history : c.enter.new.self.history ≡ (c.begin_all-count.new.log.history ▹ begin_entry c.args.line c.args.time) =
+    log.history ∙ ap (λ (carries : List Call). c.begin_all-count.new.log.history ▹ entry_of Display c.args.line carries (Begin c.args.time) Done) c.new.ensures in
+    kept-begun _ c.args.line c.args.time may _ _ _ _ _ _ _ _ _ _ refl c.self.invariant.0 c.self.invariant.1 all.all all.kept
+    (record {
+      posts = all.posts;
+      posted = all.count;
+      history = all.history;
+      room = all.room;
+      post_room = all.post_room;
+      due = all.due;
+      entered = record { history = history; posts = log.posts; room = log.room; post_room = log.post_room };
+    })
+
+pub returns-clause-next : goal.returns-clause-next
+returns-clause-next c =
+    let inside = c.self.inside in
+    let setup = inside.setup in
+    let after = c.enter.new.self.history in
+    let new : after ≡ begun inside.log.history c.args.line c.args.time =
+    c.enter.ensures.history ∙ ap (λ (carries : List Call). c.begin_all-count.new.log.history ▹ entry_of Display c.args.line carries (Begin c.args.time) Done) c.new.ensures
+    ∙ ap (λ (h : List Entry). begun h c.args.line c.args.time) c.begin_all-count.ensures.history in
+    let P : Machine → Type 0 = λ m. (s : SessionNo) (present : Published) → is_closed s m.history ≡ false → slice_get (waiting setup after s) 0 ≡ Some present
+    → is_ready c.args.time (is_signalled m.setup m.history) present.args ≡ false in
+    subst P c.self.view_is (λ s present opened here. not-ready setup inside.log.history c.args.line c.args.time s present opened (ap (λ (h : List Entry). slice_get (waiting setup h s) 0) (sym new) ∙ here))

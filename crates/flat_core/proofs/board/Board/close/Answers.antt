@@ -1,0 +1,31 @@
+use Rattle.std.proofs.Common.{◌≡◌, refl, sym, ◌∙◌, ap, List}
+use Rattle.flat_base.specs.declared.ids.Actor.TheVariants.{Session}
+use Rattle.flat_scene.specs.declared.calls.Call.{Call}
+use Rattle.flat_scene.specs.declared.journal.Kind.TheVariants.{Close}
+use Rattle.flat_core.specs.declared.state.Account.{Account}
+use Rattle.flat_core.specs.Boards.{entry_of}
+use Rattle.flat_core.specs.Seen.{noted}
+use Rattle.flat_core.proofs.Changes.{seen-closed, kept-closed, kept-noted, is-session}
+use Rattle.flat_core.proofs.Ones.{kept-one, plain-close, reply-close, closes-close}
+use Rattle.flat_core.proofs.Steps.{has-room, unchanged}
+use Rattle.flat_core.proofs.board.Board.close.Goals as goal
+
+pub enter-requires : goal.enter-requires
+enter-requires c =
+    let call = rw (← c.self.view_is) at c.requires in
+    has-room _ _ _ _ call c.self.invariant.0.legal _ _ _ refl c.self.invariant.1
+
+pub invariant_of-self : goal.invariant_of-self
+invariant_of-self c =
+    let call = rw (← c.self.view_is) at c.requires in
+    let log = c.enter.ensures in
+    let reply = c.close_reply-reply.ensures in
+    let setup = c.self.inside.setup in
+    let h = c.self.inside.log.history in
+    let account : c.note.new.account ≡ noted c.args.calls c.index_mut-state.result.now.account = c.note.ensures ∙ ap (λ (calls : List Call). noted calls c.index_mut-state.result.now.account) c.as_slice.ensures in
+    rw account
+    (kept-one _ c.args.s c.args.line c.args.calls (Close c.args.why) c.close_reply-reply.result call (reply ∙ sym (reply-close setup h (Session c.args.s) c.args.calls c.args.why)) refl refl _ _ _ _ _ _ _ _ _
+    c.index_mut-state.result.now _ c.index_mut-state.ensures.value refl c.self.invariant.0 c.self.invariant.1 (unchanged _ _ _ _ (λ sessions g f. refl) (λ p. refl))
+    (λ kept. rw (seen-closed setup h (entry_of (Session c.args.s) c.args.line c.args.calls (Close c.args.why) c.close_reply-reply.result) c.args.s (plain-close _ _ _ _ _) (rw reply (closes-close c.args.why)) (is-session c.args.s))
+    (kept-noted setup _ _ c.args.calls (kept-closed setup _ _ kept)))
+    refl (record { history = log.history; posts = log.posts; room = log.room; post_room = log.post_room }))

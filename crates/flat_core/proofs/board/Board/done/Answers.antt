@@ -1,0 +1,45 @@
+use Rattle.std.proofs.Common.{◌≡◌, List, ◌+◌, ◌<◌, ◌^◌, refl, ◌∙◌, ap, arith}
+use Rattle.flat_base.specs.declared.ids.Actor.TheVariants.{Display}
+use Rattle.flat_scene.specs.declared.calls.Call.{Call}
+use Rattle.flat_scene.specs.declared.journal.Kind.TheVariants.{Finish}
+use Rattle.flat_scene.specs.declared.journal.Reply.TheVariants.{Done}
+use Rattle.flat_scene.specs.History.{◌▹◌}
+use Rattle.flat_core.specs.Boards.{entry_of}
+use Rattle.flat_core.specs.Begins.{finish_entry}
+use Rattle.flat_core.proofs.Steps.{has-room}
+use Rattle.flat_core.proofs.BoardBegins.{kept-finished, place-small}
+use Rattle.flat_core.proofs.board.Board.done.Goals as goal
+
+pub done_all-count-requires-clause-place : goal.done_all-count-requires-clause-place
+done_all-count-requires-clause-place c =
+    let may = rw (← c.self.view_is) at c.requires in
+    (place-small _ Finish may _ _ _ _ _ _ refl c.self.invariant.0 c.self.invariant.1).0
+
+pub enter-requires : goal.enter-requires
+enter-requires c =
+    let may = rw (← c.self.view_is) at c.requires in
+    rw c.done_all-count.ensures.room (has-room _ _ _ _ may c.self.invariant.0.legal _ _ _ refl c.self.invariant.1)
+
+pub overflow_add-frames : goal.overflow_add-frames
+overflow_add-frames c =
+    let may = rw (← c.self.view_is) at c.requires in
+    let few : c.self.inside.clock.frames + 1 < 2 ^ 32 = (place-small _ Finish may _ _ _ _ _ _ refl c.self.invariant.0 c.self.invariant.1).1 in
+    omega (arith, few)
+
+pub invariant_of-self : goal.invariant_of-self
+invariant_of-self c =
+    let may = rw (← c.self.view_is) at c.requires in
+    let all = c.done_all-count.ensures in
+    let log = c.enter.ensures in
+    let history : c.enter.new.self.history ≡ (c.done_all-count.new.log.history ▹ finish_entry c.args.line) =
+    log.history ∙ ap (λ (carries : List Call). c.done_all-count.new.log.history ▹ entry_of Display c.args.line carries Finish Done) c.new.ensures in
+    kept-finished _ c.args.line may _ _ _ _ _ _ _ _ _ _ _ refl c.self.invariant.0 c.self.invariant.1 all.all all.kept all.size all.members
+    (record {
+      posts = all.posts;
+      posted = all.count;
+      history = all.history;
+      room = all.room;
+      post_room = all.post_room;
+      due = all.due;
+      entered = record { history = history; posts = log.posts; room = log.room; post_room = log.post_room };
+    })

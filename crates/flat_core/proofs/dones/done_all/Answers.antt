@@ -1,0 +1,34 @@
+use Rattle.std.proofs.Common.{◌≡◌, ◌<◌, length, arith, ◌∙◌, ap}
+use Rattle.std.proofs.lemmas.List.{length-set}
+use Rattle.std.proofs.lemmas.List.Sums.{sum_by-set}
+use Rattle.flat_fence.specs.Fences.{has}
+use Rattle.flat_core.specs.Boards.{due}
+use Rattle.flat_core.specs.Begins.{finish_entry}
+use Rattle.flat_core.proofs.BeginLoop.{posts-next}
+use Rattle.flat_core.proofs.DoneSteps.{done-next, members-next}
+use Rattle.flat_core.proofs.dones.done_all.Goals as goal
+
+pub loop-i-preserved : goal.loop-i-preserved
+loop-i-preserved c =
+    let inv = c.loop-i.invariant in
+    let e = c.done_one-count.ensures in
+    let i = c.loop-i.i in
+    let setup = c.args.setup.now in
+    let h = c.args.log.now.history in
+    let line = c.args.line in
+    let is = c.index_mut-state.ensures.value in
+    let below : i < length c.loop-i.sessions.items = omega (arith, inv.all, c.loop-i-test.true) in
+    let same : c.loop-i.log.history ≡ h = inv.history in
+    let sums = sum_by-set due c.loop-i.sessions.items i c.done_one-count.new.state c.index_mut-state.result.now below in
+    record {
+      all = length-set c.loop-i.sessions.items i c.done_one-count.new.state ∙ inv.all;
+      kept = done-next setup c.loop-i.log.history h line i c.loop-i.sessions.items c.done_one-count.new.state same inv.kept e.kept;
+      size = e.size ∙ inv.size;
+      members = λ g. members-next setup c.loop-i.log.history h i g (has c.args.fences.now g) (has c.loop-i.fences g) (has c.done_one-count.new.fences g) same (inv.members g) (e.members g);
+      posts = posts-next setup c.loop-i.log.history h (finish_entry line) i c.args.log.now.posts c.loop-i.log.posts c.done_one-count.new.log.posts same inv.posts e.posts;
+      posted = omega (arith, e.count, inv.posted);
+      history = e.history ∙ same;
+      room = e.room ∙ inv.room;
+      post_room = omega (arith, e.post_room, inv.post_room);
+      due = omega (arith, sums, ap due is, e.due, inv.due);
+    }

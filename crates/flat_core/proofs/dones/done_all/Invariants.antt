@@ -1,0 +1,23 @@
+use Rattle.std.proofs.Common.{◌≡◌, ◌+◌, ◌≤◌, ◌++◌, length}
+use Rattle.std.specs.Prelude.{sum_by, ◌||◌}
+use Rattle.flat_base.specs.declared.ids.FenceNo.{FenceNo}
+use Rattle.flat_fence.specs.Fences.{has}
+use Rattle.flat_core.specs.Begins.{finish_entry, posts_to}
+use Rattle.flat_core.specs.Boards.{due}
+use Rattle.flat_core.specs.Kept.{AllNumbered}
+use Rattle.flat_core.proofs.DoneSteps.{DoneUpTo, released_to}
+use Rattle.flat_core.proofs.dones.done_all.Given as goal
+
+abbrev pub invariant-loop-i : goal.invariant-loop-i
+invariant-loop-i l = record {
+  all : length l.sessions.items ≡ l.setup.sessions;
+  kept : AllNumbered (DoneUpTo l.setup l.fn.log.history l.line l.i) l.sessions.items;
+  size : length l.fences ≡ length l.fn.fences;
+  members : (g : FenceNo) → has l.fences g ≡ (has l.fn.fences g || released_to l.setup l.fn.log.history l.i g);
+  posts : l.log.posts ≡ l.fn.log.posts ++ posts_to l.setup l.fn.log.history (finish_entry l.line) l.i;
+  posted : length l.log.posts ≡ length l.fn.log.posts + l.count;
+  history : l.log.history ≡ l.fn.log.history;
+  room : l.log.room ≡ l.fn.log.room;
+  post_room : l.log.post_room + l.count ≡ l.fn.log.post_room;
+  due : sum_by due l.sessions.items + l.count ≤ sum_by due l.fn.sessions.items;
+}

@@ -1,0 +1,17 @@
+use Rattle.std.proofs.Common.{◌∙◌, ◌-◌, ap, length, slice_set, subst}
+use Rattle.flat_core.specs.declared.state.Account.{Account}
+use Rattle.flat_core.specs.declared.state.SessionState.{SessionState}
+use Rattle.flat_core.specs.Presents.{IsPlaced}
+use Rattle.flat_core.proofs.Ones.{noted-set}
+use Rattle.flat_base.specs.declared.ids.Actor.{Actor}
+use Rattle.flat_core.proofs.views.note_in.Goals as goal
+
+pub returns-in-Session : goal.returns-in-Session
+returns-in-Session c =
+    let P : Actor → Type 0 = λ who. IsPlaced (length c.args.sessions.now.items) who in
+    let placed = subst P c.in-Session.is c.requires in
+    let state = c.index_mut-state.result.now in
+    let items = c.args.sessions.now.items in
+    rw c.in-Session.is
+    (ap (λ (a : Account). let x : SessionState = record state { account = a } in slice_set items (c.in-Session.s.0 - 1) x) c.note.ensures
+    ∙ noted-set c.in-Session.s c.args.calls.now items state placed c.index_mut-state.ensures.value)

@@ -1,0 +1,108 @@
+-- what a present does to what is kept of its session
+use Rattle.std.specs.Prelude.{◌≡◌, ◌<◌, ◌≤◌, Bool, false, List, [], vec_capacity, ℕ, ◌+◌, ◌-◌, true, cond, nat_lt, length, drop, map, Some, None, Option}
+use Rattle.std.specs.declared.alloc.Global.{Global}
+use Rattle.std.specs.declared.sync.Arc.{Arc}
+use Rattle.flat_base.specs.declared.errors.FlatlandError.TheVariants.{BadOperation, NoPresentsRemaining}
+use Rattle.flat_base.specs.declared.errors.Reason.{Reason}
+use Rattle.flat_base.specs.declared.ids.Actor.{Actor}
+use Rattle.flat_base.specs.declared.ids.Actor.TheVariants.{Session}
+use Rattle.flat_base.specs.declared.ids.FenceNo.{FenceNo}
+use Rattle.flat_scene.specs.declared.calls.Call.{Call}
+use Rattle.flat_scene.specs.declared.calls.PresentArgs.{PresentArgs}
+use Rattle.flat_scene.specs.declared.journal.Reply.{Reply}
+use Rattle.flat_scene.specs.declared.journal.Reply.TheVariants.{Done, Presented, Closed}
+use Rattle.flat_scene.specs.Draft.{changed_at}
+use Rattle.flat_queue.specs.Line.{credits_of, pushed, ready_of}
+use Rattle.flat_snap.specs.declared.snapshot.Snapshot.{Snapshot}
+use Rattle.flat_core.specs.declared.state.Account.{Account}
+use Rattle.flat_core.specs.declared.state.SessionState.{SessionState}
+use Rattle.flat_core.specs.Lasts.{last_from}
+use Rattle.flat_core.specs.Legal.{refused_token}
+use Rattle.flat_core.specs.Seen.{noted}
+
+-- the number of the next present
+abbrev pub next_present : SessionState → ℕ
+next_present state = state.queue.taken + length state.queue.waiting + 1
+
+-- the reply to a present
+abbrev pub present_reply : SessionState → Reply
+present_reply state =
+    cond (nat_lt 0 (credits_of state.queue)) (Presented (next_present state) (credits_of state.queue - 1)) (Closed (Some NoPresentsRemaining) None)
+
+-- a present joins those that wait
+abbrev pub with_present : SessionState → Arc Snapshot Global → PresentArgs → SessionState
+with_present state snap args = record state { queue = pushed state.queue snap args; account = record state.account { presents = next_present state } }
+
+-- a present joins, or closes the session where it has no credit
+abbrev pub after_present : SessionState → Arc Snapshot Global → PresentArgs → SessionState
+after_present state snap args = cond (nat_lt 0 (credits_of state.queue)) (with_present state snap args) (record state { closed = true })
+
+-- how many events may be posted for it
+abbrev pub owed_for : Reply → ℕ
+owed_for (Presented number credits) = 2
+owed_for reply = 0
+
+-- What is kept of a session before any entry.
+pub record IsNew (state : SessionState) : Type 0 where
+  pub taken : state.queue.taken ≡ 0
+  pub waiting : state.queue.waiting ≡ []
+  pub going : state.going.items ≡ []
+  pub room : 5 ≤ vec_capacity state.going
+  pub took : state.took ≡ 0
+  pub closed : state.closed ≡ false
+  pub let_go : state.let_go ≡ false
+  pub account : state.account ≡ record { presents = 0; polled = 0; viewed = false; holds = false; stood = 0 }
+
+-- The ready prefix was taken, this was the last of it, and it goes at the frame's end.
+pub record TookReady (time : ℕ) (is_signalled : FenceNo → Bool) (result : Option (Arc Snapshot Global)) (old new : SessionState) : Type 0 where
+  pub took : new.took ≡ length (ready_of time is_signalled old.queue.waiting)
+  pub taken : new.queue.taken ≡ old.queue.taken + new.took
+  pub waiting : new.queue.waiting ≡ drop new.took old.queue.waiting
+  pub going : new.going.items ≡ map (λ kept. kept.args.release) (ready_of time is_signalled old.queue.waiting)
+  pub last : result ≡ last_from None (map (λ kept. kept.item) (ready_of time is_signalled old.queue.waiting))
+  pub room : vec_capacity new.going ≡ vec_capacity old.going
+  pub closed : new.closed ≡ old.closed
+  pub let_go : new.let_go ≡ old.let_go
+  pub account : new.account ≡ old.account
+
+-- All that waited goes at the frame's end.
+pub record LetGo (old new : SessionState) : Type 0 where
+  pub going : new.going.items ≡ map (λ kept. kept.args.release) old.queue.waiting
+  pub waiting : new.queue.waiting ≡ []
+  pub taken : new.queue.taken ≡ old.queue.taken + length old.queue.waiting
+  pub took : new.took ≡ 0
+  pub let_go : new.let_go ≡ true
+  pub room : vec_capacity new.going ≡ vec_capacity old.going
+  pub closed : new.closed ≡ old.closed
+  pub account : new.account ≡ old.account
+
+-- ---- views, and the calls that entries carry
+
+-- the reply to a view, where its token is held or not
+abbrev pub view_reply : Bool → Reply
+view_reply true = Done
+view_reply false = refused_token
+
+-- what is kept of its session then, but for the calls
+abbrev pub after_view : Bool → SessionState → SessionState
+after_view true state = record state { account = record state.account { viewed = true } }
+after_view false state = record state { closed = true }
+
+-- a session's state with the calls of one more entry
+abbrev pub with_calls : List Call → SessionState → SessionState
+with_calls calls state = record state { account = noted calls state.account }
+
+-- all states, where this actor carries calls
+abbrev pub noted_in : Actor → List Call → List SessionState → List SessionState
+noted_in (Session s) calls states = changed_at s.0 (with_calls calls) states
+noted_in who calls states = states
+
+-- the actor is one of so many sessions, or no session
+abbrev pub IsPlaced : ℕ → Actor → Type 0
+IsPlaced n (Session s) = (0 < s.0) × (s.0 ≤ n)
+IsPlaced n who = Unit {0}
+
+-- the reply to a close
+abbrev pub reply_to_close : Option Reason → Reply
+reply_to_close None = Closed None None
+reply_to_close (Some reason) = Closed (Some BadOperation) (Some reason)

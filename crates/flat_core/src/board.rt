@@ -1,0 +1,368 @@
+ghost use Rattle.std.specs.Prelude.{◌≡◌, IsTrue, ◌+◌, ◌*◌, ◌++◌, None, Some, ◌<◌, ◌^◌, false, [], length, sum, slice_get, IfOk, IfErr};
+ghost use Rattle.std.specs.Arc.{arc_value};
+ghost use Rattle.flat_base.specs.declared.ids.SessionNo.{SessionNo};
+ghost use Rattle.flat_scene.specs.Frames.{is_ready, is_signalled, waiting};
+ghost use Rattle.flat_scene.specs.History.{is_closed, history_of, Published};
+ghost use Rattle.flat_scene.specs.Setups.{is_within_limits};
+ghost use Rattle.flat_core.specs.Boards.{MayCall, MayLook, entered, present_of};
+ghost use Rattle.flat_core.specs.Ends.{to_begin};
+ghost use Rattle.flat_core.specs.Legal.{asked_of, frames, number_if, reply_to, value_of, waited, Legal};
+ghost use Rattle.flat_core.specs.Polls.{unread_events};
+ghost use Rattle.flat_core.specs.Posts.{posts};
+ghost use Rattle.flat_core.specs.Presents.{owed_for, reply_to_close};
+ghost use Rattle.flat_core.specs.Shown.{shown_states, tree_of};
+
+use crate::begins::begin_all;
+use crate::clock::Clock;
+use crate::dones::done_all;
+use crate::ends::EndSet;
+use crate::log::Log;
+use crate::state::{SessionState, new_states, note, present_in};
+use crate::views::{note_in, view_in};
+use flat_base::{
+    Actor, FenceNo, FlatlandError, FrameNo, NoMemory, PairNo, Reason, SessionNo, ShareList,
+};
+use flat_fence::FenceSet;
+use flat_scene::{CallList, Cond, Entry, Journal, Kind, PresentArgs, Reply, Setup};
+use flat_snap::Snapshot;
+use flat_topology::Shown;
+use std::alloc::Global;
+use std::marker::Model;
+use std::sync::Arc;
+
+/// What was moved into a call that wanted memory. Nothing changed.
+#[derive(Drop)]
+pub struct Back {
+    pub calls: CallList,
+    pub args: Option<PresentArgs>,
+    pub snap: Option<Arc<Snapshot>>,
+}
+
+/// The machine and its journal. Each call below that answers a reply makes one
+/// entry; so do `begin` and `done`. What it answers and what it posts is decided by
+/// the rules and by the history alone.
+///
+/// Contracts see the setup, the shares, and the history, the newest entry first.
+#[derive(Drop)]
+pub struct Board {
+    alloc: Global,
+    setup: Setup,
+    shares: ShareList,
+    log: Log,
+    /// How many events may still be posted for what was entered so far.
+    owed: usize,
+    clock: Clock,
+    fences: FenceSet,
+    /// The view ends that were used.
+    views: EndSet,
+    /// The sessions, the first of them session 1.
+    sessions: Vec<SessionState>,
+}
+
+impl Model for Board {
+    ghost use Rattle.flat_core.specs.Boards.{Machine, Stands, HasRoom};
+
+    ghost Value = { Machine };
+
+    ghost view = { λ b. record { setup = b.setup; shares = b.shares; history = b.log.history } };
+
+    ghost invariant = { λ b. Stands b.setup b.log.history b.clock b.fences b.views b.sessions.items × HasRoom b.setup b.shares b.log b.owed b.sessions.items };
+}
+
+impl Board {
+    ghost use Rattle.flat_base.specs.declared.ids.Actor.TheVariants.{Display, Session};
+    ghost use Rattle.flat_scene.specs.declared.journal.Kind.TheVariants.{Begin, Close, End, Finish, Poll, Present, Signal, View, Wait};
+    ghost use Rattle.flat_scene.specs.declared.journal.Reply.TheVariants.{Done};
+
+    /// A board before any entry, with room for all that the shares allow: those of
+    /// the display, and then of the sessions.
+    pub fn open(alloc: Global, setup: Setup, shares: ShareList) -> Result<Board, NoMemory>
+        requires limits { IsTrue (is_within_limits setup) }
+        requires actors { length shares ≡ setup.sessions + 1 }
+        requires total { sum shares < 2 ^ 31 }
+        ensures { IfOk result (λ board. board ≡ record { setup = setup; shares = shares; history = [] }) }
+    {
+        let total = total_of(shares.as_slice());
+        let log = Log::new(alloc, total)?;
+        let fences = FenceSet::new(alloc, setup.fences.len() as u32)?;
+        let views = EndSet::new(alloc, setup.pairs.len() as u32)?;
+        let sessions = new_states(alloc, setup.sessions)?;
+        Ok(Board {
+            alloc,
+            setup,
+            shares,
+            log,
+            owed: 0,
+            clock: Clock {
+                frames: 0,
+                is_open: false,
+                time: 0,
+            },
+            fences,
+            views,
+            sessions,
+        })
+    }
+
+    /// Makes a view: done, or the session is closed where the token isn't held.
+    pub fn view(
+        &mut self,
+        s: SessionNo,
+        line: u32,
+        calls: CallList,
+        p: PairNo,
+    ) -> Result<Reply, Back>
+        requires { MayCall self.old (Session s) calls (View p) }
+        ensures reply { IfOk result (λ reply. reply ≡ reply_to self.old.setup self.old.history (Session s) calls (View p)) }
+        ensures entry { IfOk result (λ reply. self.new ≡ entered self.old (Session s) line calls (View p) reply) }
+        ensures same { IfErr result (λ back. self.new ≡ self.old) }
+        ensures back { IfErr result (λ back. back ≡ record { calls = calls; args = None; snap = None }) }
+    {
+        let is_held = !self.views.is_used(p);
+        self.views.set(p);
+        let state = &mut self.sessions[s.0 as usize - 1];
+        let reply = view_in(state, is_held);
+        note(&mut state.account, calls.as_slice());
+        self.log.enter(Entry {
+            actor: Actor::Session(s),
+            line,
+            calls,
+            kind: Kind::View(p),
+            reply,
+        });
+        Ok(reply)
+    }
+
+    /// Presents the tree of all calls of the session: its number and the credits
+    /// left, or the session is closed where it has no credit.
+    pub fn present(
+        &mut self,
+        s: SessionNo,
+        line: u32,
+        calls: CallList,
+        args: PresentArgs,
+        snap: Arc<Snapshot>,
+    ) -> Result<Reply, Back>
+        requires may { MayCall self.old (Session s) calls (Present args) }
+        requires tree { Some (arc_value snap) ≡ tree_of self.old.setup (present_of self.old.history s calls args) }
+        ensures reply { IfOk result (λ reply. reply ≡ reply_to self.old.setup self.old.history (Session s) calls (Present args)) }
+        ensures entry { IfOk result (λ reply. self.new ≡ entered self.old (Session s) line calls (Present args) reply) }
+        ensures same { IfErr result (λ back. self.new ≡ self.old) }
+        ensures back { IfErr result (λ back. back ≡ record { calls = calls; args = Some args; snap = Some snap }) }
+    {
+        let copy = match copy_args(self.alloc, &args) {
+            Ok(copy) => copy,
+            Err(_) => {
+                return Err(Back {
+                    calls,
+                    args: Some(args),
+                    snap: Some(snap),
+                });
+            }
+        };
+        match self.log.reserve(self.owed + 2) {
+            Ok(()) => {}
+            Err(_) => {
+                return Err(Back {
+                    calls,
+                    args: Some(args),
+                    snap: Some(snap),
+                });
+            }
+        }
+        let state = &mut self.sessions[s.0 as usize - 1];
+        let reply = present_in(state, snap, copy);
+        note(&mut state.account, calls.as_slice());
+        self.owed += owes(reply);
+        self.log.enter(Entry {
+            actor: Actor::Session(s),
+            line,
+            calls,
+            kind: Kind::Present(args),
+            reply,
+        });
+        Ok(reply)
+    }
+
+    /// Signals a fence. It takes no memory.
+    pub fn signal(&mut self, who: Actor, line: u32, calls: CallList, f: FenceNo) -> Reply
+        requires { MayCall self.old who calls (Signal f) }
+        ensures reply { result ≡ Done }
+        ensures entry { self.new ≡ entered self.old who line calls (Signal f) result }
+    {
+        self.fences.signal(f);
+        note_in(&mut self.sessions, who, calls.as_slice());
+        self.log.enter(Entry {
+            actor: who,
+            line,
+            calls,
+            kind: Kind::Signal(f),
+            reply: Reply::Done,
+        });
+        Reply::Done
+    }
+
+    /// Closes the session: for the reason of a misuse, or by its own wish. It takes
+    /// no memory.
+    pub fn close(&mut self, s: SessionNo, line: u32, calls: CallList, why: Option<Reason>) -> Reply
+        requires { MayCall self.old (Session s) calls (Close why) }
+        ensures reply { result ≡ reply_to self.old.setup self.old.history (Session s) calls (Close why) }
+        ensures entry { self.new ≡ entered self.old (Session s) line calls (Close why) result }
+    {
+        let reply = close_reply(why);
+        let state = &mut self.sessions[s.0 as usize - 1];
+        state.closed = true;
+        note(&mut state.account, calls.as_slice());
+        self.log.enter(Entry {
+            actor: Actor::Session(s),
+            line,
+            calls,
+            kind: Kind::Close(why),
+            reply,
+        });
+        reply
+    }
+
+    /// Ends the session's entries; so many of its lines came after the one that
+    /// closed it. It takes no memory.
+    pub fn end(&mut self, s: SessionNo, line: u32, calls: CallList, refused: u32) -> Reply
+        requires { MayCall self.old (Session s) calls (End refused) }
+        ensures reply { result ≡ Done }
+        ensures entry { self.new ≡ entered self.old (Session s) line calls (End refused) result }
+    {
+        note_in(&mut self.sessions, Actor::Session(s), calls.as_slice());
+        self.log.enter(Entry {
+            actor: Actor::Session(s),
+            line,
+            calls,
+            kind: Kind::End(refused),
+            reply: Reply::Done,
+        });
+        Reply::Done
+    }
+
+    /// Begins a frame, and answers its number. The states shown are made those of
+    /// this frame: what was taken last of each open session, and nothing of a closed
+    /// one. It takes no memory.
+    pub fn begin(&mut self, line: u32, time: u64, into: &mut Shown) -> FrameNo
+        requires may { MayCall self.old Display [] (Begin time) }
+        requires shown { into.old ≡ shown_states self.old.setup (to_begin self.old.history) }
+        ensures entry { self.new ≡ entered self.old Display line [] (Begin time) Done }
+        ensures frame { result.0 ≡ frames self.new.history + 1 }
+        ensures shown { into.new ≡ shown_states self.new.setup self.new.history }
+        ensures next { (s : SessionNo) (present : Published) → is_closed s self.old.history ≡ false → slice_get (waiting self.new.setup self.new.history s) 0 ≡ Some present → is_ready time (is_signalled self.old.setup self.old.history) present.args ≡ false }
+    {
+        let count = begin_all(
+            &self.setup,
+            line,
+            time,
+            &self.fences,
+            &mut self.sessions,
+            &mut self.log,
+            into,
+        );
+        self.owed -= count;
+        let frames = self.clock.frames;
+        self.clock = Clock {
+            frames,
+            is_open: true,
+            time,
+        };
+        self.log.enter(Entry {
+            actor: Actor::Display,
+            line,
+            calls: CallList::new(self.alloc),
+            kind: Kind::Begin(time),
+            reply: Reply::Done,
+        });
+        FrameNo(frames + 1)
+    }
+
+    /// Ends the open frame, and answers its number. The release fences of what it
+    /// lets go are signalled. It takes no memory.
+    pub fn done(&mut self, line: u32) -> FrameNo
+        requires { MayCall self.old Display [] Finish }
+        ensures entry { self.new ≡ entered self.old Display line [] Finish Done }
+        ensures frame { result.0 ≡ frames self.new.history }
+    {
+        let count = done_all(
+            &self.setup,
+            line,
+            &mut self.fences,
+            &mut self.sessions,
+            &mut self.log,
+        );
+        self.owed -= count;
+        let frames = self.clock.frames + 1;
+        let time = self.clock.time;
+        self.clock = Clock {
+            frames,
+            is_open: false,
+            time,
+        };
+        self.log.enter(Entry {
+            actor: Actor::Display,
+            line,
+            calls: CallList::new(self.alloc),
+            kind: Kind::Finish,
+            reply: Reply::Done,
+        });
+        FrameNo(frames)
+    }
+
+    /// All that was entered and posted, the oldest first: the one legal history
+    /// for which the board stands, and exactly the events that the rules give it.
+    pub fn journal(&self) -> &Journal
+        ensures entries { history_of result.now.entries.items ≡ self.now.history }
+        ensures posts { result.now.posts.items ≡ posts self.now.setup self.now.history }
+        ensures legal { Legal self.now.setup self.now.history }
+    {
+        self.log.journal()
+    }
+
+    /// The setup that it was opened with.
+    pub fn setup(&self) -> &Setup
+        ensures { result.now ≡ self.now.setup }
+    {
+        &self.setup
+    }
+}
+
+/// The number that a condition asks for.
+fn close_reply(why: Option<Reason>) -> Reply
+    ensures { result ≡ reply_to_close why }
+{
+    match why {
+        Some(reason) => Reply::Closed(Some(FlatlandError::BadOperation), Some(reason)),
+        None => Reply::Closed(None, None),
+    }
+}
+
+fn copy_args(alloc: Global, args: &PresentArgs) -> Result<PresentArgs, NoMemory>
+    ensures { IfOk result (λ copy. copy ≡ args.now) }
+{
+    let acquire = args.acquire.copy(alloc)?;
+    let release = args.release.copy(alloc)?;
+    Ok(PresentArgs {
+        time: args.time,
+        acquire,
+        release,
+    })
+}
+
+/// How many events may be posted for an accepted present.
+fn owes(reply: Reply) -> usize
+    ensures { result ≡ owed_for reply }
+{
+    match reply {
+        Reply::Presented { .. } => 2,
+        _ => 0,
+    }
+}
+
+fn total_of(shares: &[u32]) -> u32
+    requires { sum shares.now < 2 ^ 31 }
+    ensures { result ≡ sum shares.now }
+{
+    shares.iter().sum()
+}

@@ -1,0 +1,9 @@
+/// Which frame is open, and when the last one began.
+#[derive(Clone, Copy, Debug, PartialEq, Eq)]
+pub struct Clock {
+    /// How many are finished.
+    pub frames: u32,
+    pub is_open: bool,
+    /// When the last one began; 0 before the first.
+    pub time: u64,
+}

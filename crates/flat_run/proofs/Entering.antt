@@ -1,0 +1,257 @@
+-- What a session's line makes may be entered.
+use Rattle.std.proofs.Common.{◌≡◌, ℕ, ◌+◌, ◌-◌, ◌<◌, Bool, true, false, cond, not, ◌&&◌, ◌||◌, ◌==◌, List, [], ◌∷◌, ◌++◌, length, refl, sym, ap, ◌∙◌, subst, arith, append-nil, append_assoc, length-append, Option, Some, None, Result, Ok, Err, IsTrue, slice_get, is_some, is_none}
+use Rattle.std.specs.List.{list_any, list_all}
+use Rattle.std.specs.Result.{result_ok}
+use Rattle.std.proofs.lemmas.Bool.{eq-eqb}
+use Rattle.std.proofs.lemmas.Option.{slice_get-get_or}
+use Rattle.std.proofs.Math.Seq.{get_or-append_seam}
+use Rattle.flat_base.specs.declared.errors.Reason.{Reason}
+use Rattle.flat_base.specs.declared.ids.PairNo.{PairNo}
+use Rattle.flat_base.specs.declared.ids.SessionNo.{SessionNo}
+use Rattle.flat_base.specs.declared.ids.Actor.TheVariants.{Session}
+use Rattle.flat_scene.specs.declared.calls.Call.{Call}
+use Rattle.flat_scene.specs.declared.calls.Call.TheVariants.{CreateView, CreateViewport, CreateImage}
+use Rattle.flat_scene.specs.declared.calls.PresentArgs.{PresentArgs}
+use Rattle.flat_scene.specs.declared.journal.Entry.{Entry}
+use Rattle.flat_scene.specs.declared.journal.Kind.{Kind}
+use Rattle.flat_scene.specs.declared.journal.Kind.TheVariants.{View, Present, Close, End}
+use Rattle.flat_scene.specs.declared.setup.Setup.{Setup}
+use Rattle.flat_scene.specs.Draft.{Draft, empty_draft}
+use Rattle.flat_scene.specs.Effect.{draft_of, after_call, after_calls}
+use Rattle.flat_scene.specs.History.{calls, own, is_closed, is_end}
+use Rattle.flat_scene.specs.Misuse.{first_reason, Test}
+use Rattle.flat_scene.specs.Setups.{is_declared}
+use Rattle.flat_scene.specs.Tree.{tree_tests, present_tests}
+use Rattle.flat_core.specs.Boards.{Machine, MayCall, HasShare}
+use Rattle.flat_core.specs.Legal.{MayEnter, is_link, all_but_last, owns_in_call, owns_view, has_tree}
+use Rattle.flat_core.specs.Plain.{is_plain_call}
+use Rattle.flat_run.specs.Playable.{is_private, is_played_call}
+use Rattle.flat_run.proofs.Tests.{and_true, or_false, or_left, or_right, all_more, all_also, none_also}
+
+-- ---- lists with one call more
+
+pub last_call : (xs : List Call) (c : Call) → slice_get (xs ++ c ∷ []) (length (xs ++ c ∷ []) - 1) ≡ Some c
+last_call xs c =
+    let here : length (xs ++ c ∷ []) - 1 ≡ length xs = omega (arith, length-append xs (c ∷ [])) in
+    let within : length xs < length (xs ++ c ∷ []) = omega (arith, length-append xs (c ∷ [])) in
+    ap (slice_get (xs ++ c ∷ [])) here ∙ slice_get-get_or (xs ++ c ∷ []) (length xs) c within ∙ ap Some (get_or-append_seam xs c [] c)
+
+not_last : (b : Bool) (x : Call) (rest : List Call) → b ≡ false → cond b [] (x ∷ all_but_last rest) ≡ x ∷ all_but_last rest
+not_last b x rest is = rw is refl
+
+pub but_last : (xs : List Call) (c : Call) → all_but_last (xs ++ c ∷ []) ≡ xs
+but_last [] c = refl
+but_last (x ∷ xs) c =
+    let more : (length (xs ++ c ∷ []) == 0) ≡ false = rw (length-append xs (c ∷ [])) (grind arith) in
+    not_last (length (xs ++ c ∷ []) == 0) x (xs ++ c ∷ []) more ∙ ap (λ t. x ∷ t) (but_last xs c)
+
+-- ---- private calls
+
+module _ (setup : Setup) (s : SessionNo) where
+  private_is : (c : Call) → is_private c ≡ true → (is_link c ≡ false) × ((owns_in_call setup s c ≡ true) × (is_plain_call c ≡ true))
+  private_is (CreateView pair) private = absurd (cc)
+  private_is (CreateViewport c pair w h inset) private = absurd (cc)
+  private_is (CreateImage c buffers i w h) private = absurd (cc)
+  private_is _ private = (refl, (refl, refl))
+
+  played_is : (c : Call) → is_played_call setup s c ≡ true → (owns_in_call setup s c ≡ true) × (is_plain_call c ≡ true)
+  played_is (CreateView pair) played = (played, refl)
+  played_is (CreateViewport c pair w h inset) played = absurd (cc)
+  played_is (CreateImage c buffers i w h) played = absurd (cc)
+  played_is _ played = (refl, refl)
+
+  no_links : (xs : List Call) → list_all is_private xs ≡ true → list_any is_link xs ≡ false
+  no_links xs all = none_also is_private is_link (λ c is. (private_is c is).0) xs all
+
+  all_owned : (xs : List Call) → list_all is_private xs ≡ true → list_all (owns_in_call setup s) xs ≡ true
+  all_owned xs all = all_also is_private (owns_in_call setup s) (λ c is. (private_is c is).1.0) xs all
+
+  all_plain : (xs : List Call) → list_all is_private xs ≡ true → list_all is_plain_call xs ≡ true
+  all_plain xs all = all_also is_private is_plain_call (λ c is. (private_is c is).1.1) xs all
+
+-- ---- drafts of fewer calls
+
+after_error : (setup : Setup) (reason : Reason) (xs : List Call) → after_calls setup (Err reason) xs ≡ Err reason
+after_error setup reason [] = refl
+after_error setup reason (x ∷ xs) = after_error setup reason xs
+
+-- calls without a misuse have none among the first of them
+fewer : (setup : Setup) (start : Result Draft Reason) (xs ys : List Call) (draft : Draft) → after_calls setup start (xs ++ ys) ≡ Ok draft → is_some (result_ok (after_calls setup start xs)) ≡ true
+fewer setup (Ok d) [] ys draft made = refl
+fewer setup (Err reason) [] ys draft made = absurd (let e : Err reason ≡ Ok draft = sym (after_error setup reason ys) ∙ made in cc)
+fewer setup start (x ∷ xs) ys draft made = fewer setup (after_call setup start x) xs ys draft made
+
+-- the last call, as a list
+abbrev last_ones : List Call → List Call
+last_ones [] = []
+last_ones (x ∷ xs) = cond (length xs == 0) (x ∷ []) (last_ones xs)
+
+more_than_none : (y : Call) (ys : List Call) → (length (y ∷ ys) == 0) ≡ false
+more_than_none y ys = grind arith
+
+split_last : (xs : List Call) → xs ≡ all_but_last xs ++ last_ones xs
+split_last [] = refl
+split_last (x ∷ []) = refl
+split_last (x ∷ y ∷ ys) = rw (more_than_none y ys) (ap (λ t. x ∷ t) (split_last (y ∷ ys)))
+
+no_links_first : (xs ys : List Call) → list_any is_link (xs ++ ys) ≡ false → list_any is_link xs ≡ false
+no_links_first [] ys none = refl
+no_links_first (x ∷ xs) ys none = or_false (or_left (is_link x) (list_any is_link (xs ++ ys)) none) (no_links_first xs ys (or_right (is_link x) (list_any is_link (xs ++ ys)) none))
+
+fewer_by_one : (setup : Setup) (first xs : List Call) (draft : Draft) → draft_of setup (first ++ xs) ≡ Ok draft → is_some (result_ok (draft_of setup (first ++ all_but_last xs))) ≡ true
+fewer_by_one setup first xs draft made =
+    fewer setup (Ok empty_draft) (first ++ all_but_last xs) (last_ones xs) draft
+    (ap (draft_of setup) (append_assoc first (all_but_last xs) (last_ones xs) ∙ ap (λ t. first ++ t) (sym (split_last xs))) ∙ made)
+
+keep_none : (b : Bool) (r : Reason) (more less : Option Reason) → (more ≡ None → less ≡ None) → cond b (Some r) more ≡ None → cond b (Some r) less ≡ None
+keep_none true r more less also none = absurd (cc)
+keep_none false r more less also none = also none
+
+first_of_more : (xs : List Test) (y : Test) → first_reason (xs ++ y ∷ []) ≡ None → first_reason xs ≡ None
+first_of_more [] y none = refl
+first_of_more (x ∷ xs) y none = keep_none x.0 x.1 (first_reason (xs ++ y ∷ [])) (first_reason xs) (first_of_more xs y) none
+
+-- a tree is asked of a present alone
+no_tree_view : (setup : Setup) (p : PairNo) (draft : Option Draft) → has_tree setup draft (View p) ≡ true
+no_tree_view setup p None = refl
+no_tree_view setup p (Some d) = refl
+
+no_tree_close : (setup : Setup) (reason : Option Reason) (draft : Option Draft) → has_tree setup draft (Close reason) ≡ true
+no_tree_close setup reason None = refl
+no_tree_close setup reason (Some d) = refl
+
+no_tree_end : (setup : Setup) (n : ℕ) (draft : Option Draft) → has_tree setup draft (End n) ≡ true
+no_tree_end setup n None = refl
+no_tree_end setup n (Some d) = refl
+
+-- ---- what may be entered
+
+-- What is known of a session that isn't closed, whose calls since its last entry are these.
+pub record IsWaiting (m : Machine) (s : SessionNo) (pending : List Call) (draft : Draft) : Type 0 where
+  pub share : HasShare m (Session s)
+  pub declared : is_declared m.setup s ≡ true
+  pub unended : list_any (λ entry. is_end entry.kind) (own s m.history) ≡ false
+  pub unclosed : is_closed s m.history ≡ false
+  pub private : list_all is_private pending ≡ true
+  pub made : draft_of m.setup (calls s m.history ++ pending) ≡ Ok draft
+
+module _ (m : Machine) (s : SessionNo) (pending : List Call) (draft : Draft) (waits : IsWaiting m s pending draft) where
+  goes : (not (list_any (λ entry. is_end entry.kind) (own s m.history)) && (false || not (is_closed s m.history))) ≡ true
+  goes = rw (waits.unended, waits.unclosed) refl
+
+  drafted : is_some (result_ok (draft_of m.setup (calls s m.history ++ pending))) ≡ true
+  drafted = rw waits.made refl
+
+  pub may_view : (p : PairNo) (after : Draft) → owns_view m.setup s p ≡ true → draft_of m.setup (calls s m.history ++ (pending ++ CreateView p ∷ [])) ≡ Ok after
+      → MayCall m (Session s) (pending ++ CreateView p ∷ []) (View p)
+  may_view p after owns made = record {
+    may = record {
+      acts = waits.declared;
+      lasts = goes;
+      times = refl;
+      drafted = rw (waits.unclosed, made) refl;
+      calls = rw (last_call pending (CreateView p)) (eq-eqb p.0 p.0 refl);
+      links = rw (but_last pending (CreateView p), no_links m.setup s pending waits.private) refl;
+      owned = and_true owns (all_more (owns_in_call m.setup s) pending (CreateView p) (all_owned m.setup s pending waits.private) owns);
+      named = refl;
+      tree = no_tree_view m.setup p _;
+      watcher = refl;
+    };
+    share = waits.share;
+    plain = all_more is_plain_call pending (CreateView p) (all_plain m.setup s pending waits.private) refl;
+  }
+
+  pub may_present : (args : PresentArgs) → args.acquire ≡ [] → args.release ≡ [] → first_reason (present_tests draft args) ≡ None → MayCall m (Session s) pending (Present args)
+  may_present args no_acquire no_release allowed = record {
+    may = record {
+      acts = waits.declared;
+      lasts = goes;
+      times = refl;
+      drafted = rw (waits.unclosed) drafted;
+      calls = refl;
+      links = rw (no_links m.setup s pending waits.private) refl;
+      owned = rw (no_acquire, no_release) (all_owned m.setup s pending waits.private);
+      named = refl;
+      tree = rw (waits.made, first_of_more (tree_tests draft) _ allowed) refl;
+      watcher = refl;
+    };
+    share = waits.share;
+    plain = all_plain m.setup s pending waits.private;
+  }
+
+  -- a call that is a misuse closes
+  pub may_close_call : (c : Call) (reason : Reason) → is_played_call m.setup s c ≡ true → MayCall m (Session s) (pending ++ c ∷ []) (Close (Some reason))
+  may_close_call c reason played = record {
+    may = record {
+      acts = waits.declared;
+      lasts = goes;
+      times = refl;
+      drafted = rw (but_last pending c) drafted;
+      calls = refl;
+      links = rw (but_last pending c, no_links m.setup s pending waits.private) refl;
+      owned = all_more (owns_in_call m.setup s) pending c (all_owned m.setup s pending waits.private) ((played_is m.setup s c played).0);
+      named = refl;
+      tree = no_tree_close m.setup (Some reason) _;
+      watcher = refl;
+    };
+    share = waits.share;
+    plain = all_more is_plain_call pending c (all_plain m.setup s pending waits.private) ((played_is m.setup s c played).1);
+  }
+
+  -- a present that is a misuse closes
+  pub may_close_present : (reason : Reason) → MayCall m (Session s) pending (Close (Some reason))
+  may_close_present reason = record {
+    may = record {
+      acts = waits.declared;
+      lasts = goes;
+      times = refl;
+      drafted = fewer_by_one m.setup (calls s m.history) pending draft waits.made;
+      calls = refl;
+      links = rw (no_links_first (all_but_last pending) (last_ones pending) (ap (list_any is_link) (sym (split_last pending)) ∙ no_links m.setup s pending waits.private)) refl;
+      owned = all_owned m.setup s pending waits.private;
+      named = refl;
+      tree = no_tree_close m.setup (Some reason) _;
+      watcher = refl;
+    };
+    share = waits.share;
+    plain = all_plain m.setup s pending waits.private;
+  }
+
+  -- a session that isn't closed ends
+  pub may_end : MayCall m (Session s) pending (End 0)
+  may_end = record {
+    may = record {
+      acts = waits.declared;
+      lasts = rw waits.unended refl;
+      times = refl;
+      drafted = rw waits.unclosed drafted;
+      calls = refl;
+      links = rw (no_links m.setup s pending waits.private) refl;
+      owned = all_owned m.setup s pending waits.private;
+      named = refl;
+      tree = no_tree_end m.setup 0 _;
+      watcher = refl;
+    };
+    share = waits.share;
+    plain = all_plain m.setup s pending waits.private;
+  }
+
+-- a session that was closed ends
+pub may_end_closed : (m : Machine) (s : SessionNo) (refused : ℕ) → HasShare m (Session s) → is_declared m.setup s ≡ true → list_any (λ entry. is_end entry.kind) (own s m.history) ≡ false → is_closed s m.history ≡ true
+    → MayCall m (Session s) [] (End refused)
+may_end_closed m s refused share declared unended closed = record {
+  may = record {
+    acts = declared;
+    lasts = rw unended refl;
+    times = refl;
+    drafted = rw closed refl;
+    calls = refl;
+    links = refl;
+    owned = refl;
+    named = refl;
+    tree = no_tree_end m.setup refused _;
+    watcher = refl;
+  };
+  share = share;
+  plain = refl;
+}

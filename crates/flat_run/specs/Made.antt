@@ -1,0 +1,22 @@
+-- What a line of a session makes.
+use Rattle.std.specs.Prelude.{◌≡◌, List, Option, Some}
+use Rattle.std.specs.Arc.{arc_value}
+use Rattle.flat_base.specs.declared.ids.SessionNo.{SessionNo}
+use Rattle.flat_scene.specs.declared.calls.Call.{Call}
+use Rattle.flat_scene.specs.declared.journal.Kind.{Kind}
+use Rattle.flat_scene.specs.declared.journal.Kind.TheVariants as kind
+use Rattle.flat_core.specs.Boards.{Machine, present_of}
+use Rattle.flat_core.specs.Shown.{tree_of}
+use Rattle.flat_run.specs.declared.made.Made.{Made}
+use Rattle.flat_run.specs.declared.made.Made.TheVariants as made
+
+-- the kind of the entry
+abbrev pub kind_of : Made → Kind
+kind_of (made.View pair) = kind.View pair
+kind_of (made.Present args snapshot) = kind.Present args
+kind_of (made.Close why) = kind.Close why
+
+-- a present shows the tree of all calls of its session
+abbrev pub ShowsTree : Machine → SessionNo → List Call → Made → Type 0
+ShowsTree m s calls (made.Present args snapshot) = Some (arc_value snapshot) ≡ tree_of m.setup (present_of m.history s calls args)
+ShowsTree m s calls _ = Unit {0}

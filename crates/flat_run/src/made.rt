@@ -1,0 +1,50 @@
+ghost use Rattle.std.specs.Prelude.{◌≡◌, IfOk};
+ghost use Rattle.flat_base.specs.declared.ids.Actor.TheVariants.{Session};
+ghost use Rattle.flat_core.specs.Boards.{MayCall, entered};
+ghost use Rattle.flat_core.specs.Legal.{reply_to};
+
+use flat_base::{NoMemory, PairNo, Reason, SessionNo};
+use flat_core::Board;
+use flat_scene::{CallList, PresentArgs, Reply};
+use flat_snap::Snapshot;
+use std::sync::Arc;
+
+/// What a line of a session makes, where it makes an entry.
+#[derive(Drop)]
+pub enum Made {
+    View(PairNo),
+    Present(PresentArgs, Arc<Snapshot>),
+    Close(Option<Reason>),
+}
+
+impl Made {
+    ghost use Rattle.flat_run.specs.Made.{kind_of, ShowsTree};
+
+    /// Makes the entry.
+    pub fn enter(
+        self,
+        board: &mut Board,
+        s: SessionNo,
+        number: u32,
+        calls: CallList,
+    ) -> Result<Reply, NoMemory>
+        requires may { MayCall board.old (Session s) calls (kind_of self) }
+        requires tree { ShowsTree board.old s calls self }
+        ensures reply { IfOk result (λ reply. reply ≡ reply_to board.old.setup board.old.history (Session s) calls (kind_of self)) }
+        ensures entry { IfOk result (λ reply. board.new ≡ entered board.old (Session s) number calls (kind_of self) reply) }
+    {
+        match self {
+            Made::View(pair) => match board.view(s, number, calls, pair) {
+                Ok(reply) => Ok(reply),
+                Err(_) => Err(NoMemory),
+            },
+            Made::Present(args, snapshot) => {
+                match board.present(s, number, calls, args, snapshot) {
+                    Ok(reply) => Ok(reply),
+                    Err(_) => Err(NoMemory),
+                }
+            }
+            Made::Close(why) => Ok(board.close(s, number, calls, why)),
+        }
+    }
+}

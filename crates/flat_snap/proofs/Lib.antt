@@ -1,0 +1,5 @@
+mod Examples
+pub mod Rebuilding
+pub mod Parts
+pub mod Adding
+pub mod Wholes

@@ -1,0 +1,4 @@
+pub mod Flat
+pub mod Forest
+pub mod Building
+pub mod Inside
