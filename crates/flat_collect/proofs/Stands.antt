@@ -41,7 +41,7 @@ abbrev pub Each : (ℕ → Type 0) → List ℕ → Type 0
 Each P [] = Unit {0}
 Each P (x ∷ xs) = P x × Each P xs
 
-each-contained : (P : ℕ → Type 0) (xs : List ℕ) → ((x : ℕ) → Contains xs x → P x) → Each P xs
+pub each-contained : (P : ℕ → Type 0) (xs : List ℕ) → ((x : ℕ) → Contains xs x → P x) → Each P xs
 each-contained P [] all = tt
 each-contained P (x ∷ xs) all = (all x (0, omega arith, refl), each-contained P xs (λ y has. all y (suc has.0, omega (arith, has.1), has.2)))
 

@@ -63,7 +63,7 @@ pub shown-here : (setup : Setup) (h : List Entry) (line time i : ℕ) (states : 
     → slice_get states i ≡ Some (shown setup (to_begin h) (number i))
 shown-here setup h line time i states each below = get-at states i (shown setup (to_begin h) (number i)) below (rw (not-below i) at (each i (shown setup (to_begin h) (number i)) below))
 
-flat-on : {A B : Type 0} (f : A → List B) (xs : List A) (x : A) → flat_map f (xs ++ x ∷ []) ≡ flat_map f xs ++ f x
+pub flat-on : {A B : Type 0} (f : A → List B) (xs : List A) (x : A) → flat_map f (xs ++ x ∷ []) ≡ flat_map f xs ++ f x
 flat-on f xs x = flat_map-append f xs (x ∷ []) ∙ ap (λ ys. flat_map f xs ++ ys) (append-nil (f x))
 
 pub sessions-on : (i : ℕ) → sessions_to (i + 1) ≡ sessions_to i ++ number i ∷ []

@@ -1,6 +1,6 @@
 -- A begin, for one session.
-use Rattle.std.proofs.Common.{◌≡◌, ℕ, zero, suc, ◌+◌, ◌-◌, ◌<◌, ◌≤◌, Bool, true, false, List, [], ◌∷◌, length, refl, arith, sym, ◌∙◌, ap, map, take, drop, Some, None, add-zero, add-suc, slice_get}
-use Rattle.std.specs.Prelude.{cond, ◌==◌, nat_lt, Option, option_map, option_and_then, vec_capacity}
+use Rattle.std.proofs.Common.{◌≡◌, ℕ, zero, suc, ◌+◌, ◌-◌, ◌<◌, ◌≤◌, Bool, true, false, List, [], ◌∷◌, length, refl, arith, sym, ◌∙◌, ap, map, take, Some, None, add-zero, add-suc, slice_get}
+use Rattle.std.specs.Prelude.{cond, ◌==◌, nat_lt, Option, option_map, option_and_then}
 use Rattle.std.specs.List.{prefix_len}
 use Rattle.std.specs.Arc.{arc_value}
 use Rattle.std.specs.declared.sync.Arc.{Arc}

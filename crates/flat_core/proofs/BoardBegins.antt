@@ -16,9 +16,9 @@ use Rattle.flat_scene.specs.declared.journal.Reply.TheVariants.{Done}
 use Rattle.flat_scene.specs.declared.setup.Setup.{Setup}
 use Rattle.flat_scene.specs.History.{◌▹◌, is_closed, Published}
 use Rattle.flat_scene.specs.History.{is_finish}
-use Rattle.flat_scene.specs.Frames.{sessions_to, waiting, is_signalled, is_among, ready_prefix}
+use Rattle.flat_scene.specs.Frames.{sessions_to, waiting, is_signalled, ready_prefix}
 use Rattle.flat_core.specs.Legal.{frames, begin_time}
-use Rattle.flat_core.specs.Posts.{posts, posted, events_to, Sent}
+use Rattle.flat_core.specs.Posts.{posts, events_to, Sent}
 use Rattle.flat_fence.specs.Fences.{has}
 use Rattle.flat_scene.specs.Frames.{is_ready}
 use Rattle.flat_core.specs.declared.clock.Clock.{Clock}

@@ -1,5 +1,5 @@
 -- What is taken and what waits are the presents.
-use Rattle.std.proofs.Common.{◌≡◌, ℕ, ◌+◌, ◌-◌, ◌<◌, ◌≤◌, Bool, true, false, List, [], ◌∷◌, length, refl, arith, sym, ◌∙◌, ap, map, length-append, length-drop}
+use Rattle.std.proofs.Common.{◌≡◌, ℕ, ◌+◌, ◌-◌, ◌<◌, ◌≤◌, Bool, true, false, List, length, refl, arith, sym, ◌∙◌, ap, map, length-drop}
 use Rattle.std.proofs.lemmas.List.{length-map}
 use Rattle.std.proofs.lemmas.List.Sums.{prefix_len-le-length}
 use Rattle.std.proofs.lemmas.List.Folds.{length-prefix_len}
@@ -12,14 +12,11 @@ use Rattle.flat_core.specs.Boards.{Stands, number}
 use Rattle.flat_core.specs.Kept.{AllNumbered}
 use Rattle.flat_scene.proofs.Together.{and-left, and-right}
 use Rattle.std.specs.Prelude.{cond, ◌&&◌, ◌==◌, take_while}
-use Rattle.flat_base.specs.declared.ids.FenceNo.{FenceNo}
 use Rattle.flat_base.specs.declared.ids.SessionNo.{SessionNo}
 use Rattle.flat_scene.specs.declared.journal.Entry.{Entry}
-use Rattle.flat_scene.specs.declared.journal.Kind.{Kind}
-use Rattle.flat_scene.specs.declared.journal.Kind.TheVariants.{Begin}
 use Rattle.flat_scene.specs.declared.setup.Setup.{Setup}
-use Rattle.flat_scene.specs.History.{◌▹◌, own, is_closed, is_session, presents, published_all, Published}
-use Rattle.flat_scene.specs.Frames.{taken, takes, waiting, is_signalled}
+use Rattle.flat_scene.specs.History.{presents}
+use Rattle.flat_scene.specs.Frames.{taken, waiting}
 use Rattle.flat_core.specs.declared.state.Account.{Account}
 use Rattle.flat_core.specs.declared.state.SessionState.{SessionState}
 use Rattle.flat_core.specs.Kept.{IsKept, taken_in, waiting_in, credits_in, release_of, kept_of, meant}

@@ -1,17 +1,14 @@
 -- The end of a frame, for one session and for all.
 use Rattle.std.proofs.Common.{◌≡◌, ℕ, ◌+◌, ◌<◌, Bool, true, false, List, [], ◌∷◌, ◌++◌, length, refl, sym, ◌∙◌, ap, map, slice_set, slice_index_or, subst}
 use Rattle.std.specs.List.{list_any}
-use Rattle.std.specs.Prelude.{cond, ◌||◌, ◌==◌, nat_lt, flat_map}
-use Rattle.std.proofs.lemmas.Grind.{flat_map-append}
+use Rattle.std.specs.Prelude.{cond, ◌||◌, nat_lt}
 use Rattle.std.proofs.lemmas.List.{append-nil}
 use Rattle.flat_base.specs.declared.ids.FenceNo.{FenceNo}
 use Rattle.flat_base.specs.declared.ids.SessionNo.{SessionNo}
 use Rattle.flat_scene.specs.declared.journal.Entry.{Entry}
 use Rattle.flat_scene.specs.declared.journal.Event.TheVariants as event
-use Rattle.flat_scene.specs.declared.journal.Kind.{Kind}
-use Rattle.flat_scene.specs.declared.journal.Kind.TheVariants.{Begin}
 use Rattle.flat_scene.specs.declared.setup.Setup.{Setup}
-use Rattle.flat_scene.specs.History.{◌▹◌, is_closed, Published}
+use Rattle.flat_scene.specs.History.{is_closed, Published}
 use Rattle.flat_scene.specs.Frames.{going, is_among, is_released_by, sessions_to}
 use Rattle.flat_core.specs.Posts.{events_to, frame_took}
 use Rattle.flat_core.specs.declared.state.SessionState.{SessionState}
@@ -22,7 +19,7 @@ use Rattle.flat_core.specs.Plain.{are_plain}
 use Rattle.flat_core.specs.Seen.{seen_of}
 use Rattle.flat_core.proofs.BeginLoop.{same-side, this-side, not-below, none-below, all-below, sessions-on}
 use Rattle.flat_core.proofs.Changes.{changed-one}
-use Rattle.flat_core.proofs.NoNews.{news-plain, flat_map-none}
+use Rattle.flat_core.proofs.NoNews.{news-plain}
 use Rattle.flat_core.proofs.Tokens.{no-tokens}
 
 -- what the end of a frame posts

@@ -6,13 +6,17 @@ pub mod Changes
 pub mod Counts
 pub mod CreditLemmas
 pub mod DoneSteps
+pub mod HasView
 pub mod LegalByTests
 pub mod ListLemmas
 pub mod MoreRuns
+pub mod NoAnswers
 pub mod NoNews
 pub mod NoViewports
 pub mod Ones
 pub mod Opened
+pub mod PollSteps
+pub mod Polled
 pub mod PresentSteps
 pub mod Presented
 pub mod Quiet
@@ -24,4 +28,8 @@ pub mod ShownList
 pub mod ShownSteps
 pub mod Steps
 pub mod Tokens
+pub mod ViewCalls
+pub mod ViewHistory
+pub mod ViewLaw
 pub mod ViewSteps
+pub mod WithView

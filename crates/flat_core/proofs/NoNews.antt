@@ -1,6 +1,6 @@
 -- With no gets and no viewports nothing is told, and no token comes back.
 use Rattle.std.proofs.Common.{◌≡◌, Bool, true, false, List, [], ◌∷◌, ◌++◌, length, refl, Option, Some, None}
-use Rattle.std.specs.Prelude.{cond, ◌&&◌, map, flat_map}
+use Rattle.std.specs.Prelude.{cond, map, flat_map}
 use Rattle.flat_base.specs.declared.ids.PairNo.{PairNo}
 use Rattle.flat_base.specs.declared.ids.SessionNo.{SessionNo}
 use Rattle.flat_scene.specs.declared.calls.Watch.{Watch}

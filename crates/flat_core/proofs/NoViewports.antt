@@ -1,8 +1,7 @@
 -- Calls that make no viewport leave a draft without one.
 use Rattle.std.proofs.Common.{◌≡◌, ℕ, ◌-◌, Bool, true, false, List, [], ◌∷◌, ◌++◌, refl, Some, None, Ok, Err}
-use Rattle.std.specs.Prelude.{cond, ◌==◌, Option, Result, option_map, unwrap_or}
+use Rattle.std.specs.Prelude.{cond, ◌==◌, Option, option_map, unwrap_or}
 use Rattle.std.specs.List.{list_all}
-use Rattle.std.specs.Result.{result_ok}
 use Rattle.std.proofs.lemmas.List.Folds.{list_all-append}
 use Rattle.flat_base.specs.declared.errors.Reason.{Reason}
 use Rattle.flat_base.specs.declared.ids.PairNo.{PairNo}
@@ -11,10 +10,10 @@ use Rattle.flat_scene.specs.declared.calls.Call.TheVariants.{CreateViewport, Set
 use Rattle.flat_scene.specs.declared.calls.ViewportProps.{ViewportProps}
 use Rattle.flat_scene.specs.declared.setup.Setup.{Setup}
 use Rattle.flat_scene.specs.Draft.{Draft, Made, Image, Solid, an_image, a_fill, a_viewport, of_serial, changed_at, content_of}
-use Rattle.flat_scene.specs.Effect.{effect, after_call, unless, changed_if, on_image, on_viewport, on_fill}
+use Rattle.flat_scene.specs.Effect.{effect, unless, changed_if, on_image, on_viewport, on_fill}
 use Rattle.flat_scene.specs.Misuse.{misuse}
 use Rattle.flat_scene.proofs.Together.{and-left, and-right}
-use Rattle.flat_core.specs.Ends.{times, count_if, is_made_of, is_viewport_of, releases_viewport}
+use Rattle.flat_core.specs.Ends.{times, is_made_of, is_viewport_of, releases_viewport}
 use Rattle.flat_core.specs.Plain.{is_plain_call}
 
 -- a content that is no viewport

@@ -1,8 +1,7 @@
 -- An entry of a session that changes only what is kept of that session, and one that only carries calls.
-use Rattle.std.proofs.Common.{◌≡◌, ℕ, suc, ◌+◌, ◌-◌, ◌<◌, ◌≤◌, Bool, true, false, List, length, refl, arith, sym, ◌∙◌, ap, slice_set, slice_index_or, subst}
-use Rattle.std.specs.Prelude.{cond, ◌&&◌, sum_by, nat_lt, nat_le, IsTrue, Option, Some, None}
+use Rattle.std.proofs.Common.{◌≡◌, ℕ, suc, ◌+◌, ◌-◌, ◌<◌, Bool, true, false, List, length, refl, arith, sym, ◌∙◌, ap, slice_set, slice_index_or, subst}
+use Rattle.std.specs.Prelude.{cond, sum_by, nat_le, IsTrue, Option, Some, None}
 use Rattle.std.proofs.lemmas.List.{length-set}
-use Rattle.std.proofs.lemmas.Bool.Decides.{nat_tests}
 use Rattle.flat_base.specs.declared.errors.Reason.{Reason}
 use Rattle.flat_base.specs.declared.ids.Actor.{Actor}
 use Rattle.flat_base.specs.declared.ids.Actor.TheVariants.{Display, Session, Probe}
@@ -24,7 +23,7 @@ use Rattle.flat_core.specs.declared.clock.Clock.{Clock}
 use Rattle.flat_core.specs.declared.state.SessionState.{SessionState}
 use Rattle.flat_core.specs.Boards.{Machine, MayCall, Stands, HasRoom, entry_of, number, due}
 use Rattle.flat_core.specs.Kept.{IsKept, AllNumbered}
-use Rattle.flat_core.specs.Legal.{reply_to, may_act, session_may, waited, asked_of}
+use Rattle.flat_core.specs.Legal.{reply_to, may_act, session_may, waited}
 use Rattle.flat_core.specs.Logs.{Logged}
 use Rattle.flat_core.specs.Presents.{reply_to_close, noted_in, with_calls, IsPlaced}
 use Rattle.flat_core.specs.Seen.{seen_of}
@@ -34,6 +33,9 @@ use Rattle.flat_core.proofs.Steps.{Changed, Entered, kept-entered}
 
 pub declared-of : (setup : Setup) (kind : Kind) (s : SessionNo) → may_act setup kind (Session s) ≡ true → IsTrue (is_declared setup s)
 declared-of setup kind s may = and-right (session_may kind) (is_declared setup s) may
+
+pub looks-declared : (setup : Setup) (c : Cond) (s : SessionNo) → may_act setup (Wait c) (Session s) ≡ true → IsTrue (is_declared setup s)
+looks-declared setup c s may = declared-of setup (Wait c) s may
 
 one-back : (n : ℕ) → 0 < n → n - 1 + 1 ≡ n
 one-back n some = omega arith

@@ -60,7 +60,7 @@ three-of a b c d e f g all =
 pub few-declared : (setup : Setup) → is_within_limits setup ≡ true → (setup.sessions ≤ SESSIONS_MAX) × (length setup.pairs ≤ PAIRS_MAX) × (length setup.fences ≤ FENCES_MAX)
 few-declared setup limits =
     let three = three-of (is_within SIDE_MAX setup.width) (is_within SIDE_MAX setup.height) (is_within SESSIONS_MAX setup.sessions) (nat_le setup.probes PROBES_MAX) (nat_le (length setup.pairs) PAIRS_MAX)
-        (nat_le (length setup.buffers) BUFFER_COLLECTIONS_MAX) (nat_le (length setup.fences) FENCES_MAX) limits in
+    (nat_le (length setup.buffers) BUFFER_COLLECTIONS_MAX) (nat_le (length setup.fences) FENCES_MAX) limits in
     (le-of setup.sessions SESSIONS_MAX (and-right (nat_lt 0 setup.sessions) (nat_le setup.sessions SESSIONS_MAX) three.0), le-of (length setup.pairs) PAIRS_MAX three.1, le-of (length setup.fences) FENCES_MAX three.2)
 
 pub opened : (setup : Setup) (shares : List ℕ) (log : Logged) (fences views : List Bool) (sessions : List SessionState) (total : ℕ) → is_within_limits setup ≡ true → length shares ≡ setup.sessions + 1 → sum shares < 2 ^ 31

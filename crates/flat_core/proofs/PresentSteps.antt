@@ -42,7 +42,7 @@ use Rattle.flat_core.proofs.Counts.{kept-waiting, kept-session, declared-some}
 use Rattle.flat_core.proofs.NoNews.{posted-quiet}
 use Rattle.flat_core.proofs.Ones.{declared-of, each-one}
 use Rattle.flat_core.proofs.Presented.{seen-presented, kept-presented, presents-few}
-use Rattle.flat_core.proofs.Steps.{Changed, unchanged, stands-entered, few-history, room-entered, posts-none}
+use Rattle.flat_core.proofs.Steps.{unchanged, stands-entered, few-history, room-entered, posts-none}
 
 not-true : (b : Bool) → not b ≡ true → b ≡ false
 not-true true h = cc

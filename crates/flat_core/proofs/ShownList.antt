@@ -1,12 +1,11 @@
 -- The shown states, session by session.
-use Rattle.std.proofs.Common.{◌≡◌, ◌≢◌, ◌∙◌, sym, ℕ, true, false, zero, suc, ◌+◌, ◌<◌, ◌≤◌, List, [], ◌∷◌, ◌++◌, length, map, refl, arith, ap, All, None, length-append, add-one, inl, inr, ◌⊎◌}
+use Rattle.std.proofs.Common.{◌≡◌, ◌≢◌, ◌∙◌, sym, ℕ, true, false, zero, suc, ◌<◌, List, [], ◌∷◌, ◌++◌, length, map, refl, arith, ap, All, None, length-append, add-one, inl, inr, ◌⊎◌}
 use Rattle.std.specs.Prelude.{◌==◌, slice_index_or, Option}
 use Rattle.std.proofs.lemmas.Bool.Decides.{eqb_tells}
 use Rattle.std.proofs.lemmas.List.{map-append, length-map, ext_get_or, get_or_append_left, get_or_push}
 use Rattle.flat_base.specs.declared.ids.SessionNo.{SessionNo}
 use Rattle.flat_scene.specs.declared.setup.Setup.{Setup}
 use Rattle.flat_scene.specs.declared.trees.Tree.{Tree}
-use Rattle.flat_scene.specs.declared.journal.Entry.{Entry}
 use Rattle.flat_scene.specs.Frames.{sessions_to}
 use Rattle.flat_core.specs.Boards.{number}
 use Rattle.flat_core.specs.Kept.{AllNumbered}
@@ -50,9 +49,10 @@ listed f xs n d count each =
     ext_get_or d xs (map f (sessions_to n)) (count ∙ sym (length-listed f n)) (λ i below. each i d below ∙ sym (listed-at f n i d (rw count at below)))
 
 pub each-listed : {B : Type 0} (f : SessionNo → B) (xs : List B) (n : ℕ) → xs ≡ map f (sessions_to n) → (length xs ≡ n) × AllNumbered (λ i x. x ≡ f (number i)) xs
-each-listed {B} f xs n is =
-    (ap length is ∙ length-listed f n,
-    λ i d below. ap (λ (ys : List B). slice_index_or ys i d) is ∙ listed-at f n i d (rw (ap length is ∙ length-listed f n) at below))
+each-listed {B} f xs n is = (
+  ap length is ∙ length-listed f n,
+  λ i d below. ap (λ (ys : List B). slice_index_or ys i d) is ∙ listed-at f n i d (rw (ap length is ∙ length-listed f n) at below),
+)
 
 -- before the first begin nothing is shown
 pub nothing-shown : (setup : Setup) (states : List (Option Tree)) → length states ≡ setup.sessions → All (λ state. state ≡ None) states → states ≡ shown_states setup []

@@ -27,7 +27,7 @@ serial-get (x ∷ xs) (suc n) =
     let less : suc (suc n) - 1 ≡ suc n = omega arith in
     rw (not_first, less) (serial-get xs n)
 
-serial-zero : {A : Type 0} (xs : List A) → of_serial xs 0 ≡ None
+pub serial-zero : {A : Type 0} (xs : List A) → of_serial xs 0 ≡ None
 serial-zero [] = refl
 serial-zero (x ∷ xs) = serial-zero xs
 

@@ -1,14 +1,12 @@
 -- With no viewports no token comes back.
-use Rattle.std.proofs.Common.{◌≡◌, ℕ, ◌-◌, Bool, true, false, List, [], ◌∷◌, refl, Some, None, Ok}
+use Rattle.std.proofs.Common.{◌≡◌, ℕ, ◌-◌, Bool, true, false, List, [], ◌∷◌, refl, Some}
 use Rattle.std.proofs.Math.Nat.{zero-sub}
-use Rattle.std.specs.Prelude.{cond, ◌==◌, Option, Result, option_map, unwrap_or}
+use Rattle.std.specs.Prelude.{cond, ◌==◌, option_map, unwrap_or}
 use Rattle.std.specs.List.{list_all}
 use Rattle.std.proofs.lemmas.List.Folds.{list_all-append}
 use Rattle.flat_base.specs.declared.ids.PairNo.{PairNo}
-use Rattle.flat_base.specs.declared.errors.Reason.{Reason}
 use Rattle.flat_base.specs.declared.ids.SessionNo.{SessionNo}
 use Rattle.flat_scene.specs.declared.calls.Call.{Call}
-use Rattle.flat_scene.specs.declared.calls.Call.TheVariants.{ReleaseViewport}
 use Rattle.flat_scene.specs.declared.journal.Entry.{Entry}
 use Rattle.flat_scene.specs.declared.journal.Kind.{Kind}
 use Rattle.flat_scene.specs.declared.journal.Kind.TheVariants.{Present}
@@ -16,13 +14,11 @@ use Rattle.flat_scene.specs.declared.journal.Reply.{Reply}
 use Rattle.flat_scene.specs.declared.journal.Reply.TheVariants.{Presented}
 use Rattle.flat_scene.specs.declared.setup.Setup.{Setup}
 use Rattle.flat_scene.specs.History.{◌▹◌, own, is_session, carried, presents, published, published_all, Published}
-use Rattle.flat_scene.specs.Draft.{Draft, of_serial, empty_draft}
-use Rattle.flat_scene.specs.Effect.{after_call}
+use Rattle.flat_scene.specs.Draft.{of_serial, empty_draft}
 use Rattle.flat_scene.specs.History.{is_begin}
 use Rattle.flat_core.specs.Ends.{taken_calls, to_begin, viewports_of}
 use Rattle.flat_scene.specs.Frames.{taken}
 use Rattle.flat_core.specs.Posts.{releases_seen, tokens_back}
-use Rattle.std.specs.Result.{result_ok}
 use Rattle.flat_core.specs.Plain.{is_plain, is_plain_call, is_plain_kind, are_plain}
 use Rattle.flat_scene.proofs.Together.{and-left, and-right}
 use Rattle.flat_core.proofs.NoNews.{flat_map-none}

@@ -1,5 +1,5 @@
 -- A view, made or refused.
-use Rattle.std.proofs.Common.{◌≡◌, ℕ, zero, suc, ◌-◌, ◌<◌, Bool, true, false, List, [], ◌∷◌, length, refl, arith, sym, ◌∙◌, ap, slice_index_or, subst}
+use Rattle.std.proofs.Common.{◌≡◌, ℕ, zero, suc, ◌<◌, Bool, true, false, List, [], ◌∷◌, length, refl, arith, ◌∙◌, ap, subst}
 use Rattle.std.specs.Prelude.{cond, not, ◌&&◌, ◌||◌, ◌==◌, nat_lt, slice_get, option_map, unwrap_or}
 use Rattle.std.specs.List.{list_all}
 use Rattle.std.proofs.lemmas.Bool.Decides.{nat_tests}
@@ -15,7 +15,7 @@ use Rattle.flat_scene.specs.History.{◌▹◌}
 use Rattle.flat_scene.proofs.Together.{and-left}
 use Rattle.flat_core.specs.declared.state.Account.{Account}
 use Rattle.flat_core.specs.declared.state.SessionState.{SessionState}
-use Rattle.flat_core.specs.Boards.{Machine, MayCall, Stands, entry_of, due}
+use Rattle.flat_core.specs.Boards.{Machine, MayCall, entry_of, due}
 use Rattle.flat_core.specs.Ends.{view_uses, is_done}
 use Rattle.flat_core.specs.Flags.{has_end}
 use Rattle.flat_core.specs.Kept.{IsKept}
@@ -24,7 +24,6 @@ use Rattle.flat_core.specs.Presents.{view_reply, after_view, with_calls}
 use Rattle.flat_core.specs.Seen.{seen_of, account_of, noted}
 use Rattle.flat_core.proofs.Changes.{IsPlainOne, seen-closed, kept-account, kept-closed, kept-noted, is-session}
 use Rattle.flat_core.proofs.Quiet.{closed-quiet, presents-quiet, taken-quiet, going-quiet, took-quiet}
-use Rattle.flat_core.proofs.Steps.{Changed}
 
 -- ---- the reply
 
@@ -45,7 +44,7 @@ and-true : (b : Bool) → b ≡ (b && true)
 and-true true = refl
 and-true false = refl
 
-same-pair : (p q : PairNo) → (p.0 == q.0) ≡ true → p ≡ q
+pub same-pair : (p q : PairNo) → (p.0 == q.0) ≡ true → p ≡ q
 same-pair p q is = let number : p.0 ≡ q.0 = grind (arith, nat_tests) in ap (λ (n : ℕ). let r : PairNo = record { 0 = n } in r) number
 
 used-already : (b : Bool) (views : List Bool) (p q : PairNo) → has_end views p ≡ true → (p.0 == q.0) ≡ b → (has_end views q || b) ≡ (has_end views q || (b && false))

@@ -14,7 +14,6 @@ use Rattle.flat_scene.specs.declared.journal.Reply.TheVariants.{Done, Presented,
 use Rattle.flat_scene.specs.Draft.{changed_at}
 use Rattle.flat_queue.specs.Line.{credits_of, pushed, ready_of}
 use Rattle.flat_snap.specs.declared.snapshot.Snapshot.{Snapshot}
-use Rattle.flat_core.specs.declared.state.Account.{Account}
 use Rattle.flat_core.specs.declared.state.SessionState.{SessionState}
 use Rattle.flat_core.specs.Lasts.{last_from}
 use Rattle.flat_core.specs.Legal.{refused_token}

@@ -1,11 +1,13 @@
-ghost use Rattle.std.specs.Prelude.{◌≡◌, IsTrue, ◌+◌, ◌*◌, ◌++◌, None, Some, ◌<◌, ◌^◌, false, [], length, sum, slice_get, IfOk, IfErr};
+ghost use Rattle.std.specs.Prelude.{◌≡◌, IsTrue, true, ◌+◌, ◌*◌, ◌++◌, None, Some, ◌<◌, ◌^◌, false, [], length, sum, slice_get, IfOk, IfErr, ℕ};
 ghost use Rattle.std.specs.Arc.{arc_value};
 ghost use Rattle.flat_base.specs.declared.ids.SessionNo.{SessionNo};
 ghost use Rattle.flat_scene.specs.Frames.{is_ready, is_signalled, waiting};
 ghost use Rattle.flat_scene.specs.History.{is_closed, history_of, Published};
-ghost use Rattle.flat_scene.specs.Setups.{is_within_limits};
+ghost use Rattle.flat_scene.specs.Setups.{is_declared, is_within_limits};
+ghost use Rattle.flat_topology.specs.Views.{is_member};
+ghost use Rattle.flat_core.specs.Plain.{are_plain};
 ghost use Rattle.flat_core.specs.Boards.{MayCall, MayLook, entered, present_of};
-ghost use Rattle.flat_core.specs.Ends.{to_begin};
+ghost use Rattle.flat_core.specs.Ends.{has_view, to_begin};
 ghost use Rattle.flat_core.specs.Legal.{asked_of, frames, number_if, reply_to, value_of, waited, Legal};
 ghost use Rattle.flat_core.specs.Polls.{unread_events};
 ghost use Rattle.flat_core.specs.Posts.{posts};
@@ -17,13 +19,14 @@ use crate::clock::Clock;
 use crate::dones::done_all;
 use crate::ends::EndSet;
 use crate::log::Log;
+use crate::polls::{EventList, push_events_from};
 use crate::state::{SessionState, new_states, note, present_in};
-use crate::views::{note_in, view_in};
+use crate::views::{note_in, view_in, with_view};
 use flat_base::{
     Actor, FenceNo, FlatlandError, FrameNo, NoMemory, PairNo, Reason, SessionNo, ShareList,
 };
 use flat_fence::FenceSet;
-use flat_scene::{CallList, Cond, Entry, Journal, Kind, PresentArgs, Reply, Setup};
+use flat_scene::{CallList, Cond, Entry, Journal, Kind, PresentArgs, Reply, SessionSet, Setup};
 use flat_snap::Snapshot;
 use flat_topology::Shown;
 use std::alloc::Global;
@@ -184,6 +187,48 @@ impl Board {
         Ok(reply)
     }
 
+    /// Hands over the events posted to the session since its last poll, behind
+    /// those of the list, and answers how many.
+    pub fn poll(
+        &mut self,
+        s: SessionNo,
+        line: u32,
+        calls: CallList,
+        into: &mut EventList,
+    ) -> Result<Reply, Back>
+        requires { MayCall self.old (Session s) calls Poll }
+        ensures reply { IfOk result (λ reply. reply ≡ reply_to self.old.setup self.old.history (Session s) calls Poll) }
+        ensures entry { IfOk result (λ reply. self.new ≡ entered self.old (Session s) line calls Poll reply) }
+        ensures events { IfOk result (λ reply. into.new ≡ into.old ++ unread_events self.old.setup self.old.history s) }
+        ensures same { IfErr result (λ back. (self.new ≡ self.old) × (into.new ≡ into.old)) }
+        ensures back { IfErr result (λ back. back ≡ record { calls = calls; args = None; snap = None }) }
+    {
+        let state = &mut self.sessions[s.0 as usize - 1];
+        let posts = self.log.posts();
+        let before = into.len();
+        match push_events_from(posts, state.account.polled, s, into) {
+            Ok(()) => {}
+            Err(_) => {
+                return Err(Back {
+                    calls,
+                    args: None,
+                    snap: None,
+                });
+            }
+        }
+        let count = (into.len() - before) as u32;
+        state.account.polled = posts.len();
+        note(&mut state.account, calls.as_slice());
+        self.log.enter(Entry {
+            actor: Actor::Session(s),
+            line,
+            calls,
+            kind: Kind::Poll,
+            reply: Reply::Polled(count),
+        });
+        Ok(Reply::Polled(count))
+    }
+
     /// Signals a fence. It takes no memory.
     pub fn signal(&mut self, who: Actor, line: u32, calls: CallList, f: FenceNo) -> Reply
         requires { MayCall self.old who calls (Signal f) }
@@ -200,6 +245,26 @@ impl Board {
             reply: Reply::Done,
         });
         Reply::Done
+    }
+
+    /// Looks once whether a condition is met, and answers the value looked at. It
+    /// takes no memory.
+    pub fn wait(&mut self, who: Actor, line: u32, calls: CallList, c: Cond) -> Reply
+        requires { MayCall self.old who calls (Wait c) }
+        ensures reply { result ≡ reply_to self.old.setup self.old.history who calls (Wait c) }
+        ensures entry { self.new ≡ entered self.old who line calls (Wait c) result }
+    {
+        let value = self.value(who, c);
+        let reply = wait_reply(asked(c), value);
+        note_in(&mut self.sessions, who, calls.as_slice());
+        self.log.enter(Entry {
+            actor: who,
+            line,
+            calls,
+            kind: Kind::Wait(c),
+            reply,
+        });
+        reply
     }
 
     /// Closes the session: for the reason of a misuse, or by its own wish. It takes
@@ -310,12 +375,43 @@ impl Board {
         FrameNo(frames)
     }
 
+    /// The value of a condition for an actor. It makes no entry.
+    pub fn value(&self, who: Actor, c: Cond) -> u32
+        requires { MayLook self.now.setup who c }
+        ensures { result ≡ value_of self.now.setup self.now.history who c }
+    {
+        match c {
+            Cond::Frames(_) => self.clock.frames,
+            Cond::Fence(f) => number_if(self.fences.is_signalled(f)),
+            Cond::Presents(s, _) => self.sessions[s.0 as usize - 1].account.presents,
+            Cond::Credits(_) => match who {
+                Actor::Session(s) => self.sessions[s.0 as usize - 1].credits(),
+                _ => 0,
+            },
+            Cond::Taken(_) => match who {
+                Actor::Session(s) => self.sessions[s.0 as usize - 1].taken(),
+                _ => 0,
+            },
+            Cond::Answers(_) => 0,
+        }
+    }
+
+    /// The sessions that are open and have a view whose end isn't lost. It takes no
+    /// memory.
+    pub fn with_view(&self) -> SessionSet
+        ensures members { (s : SessionNo) → is_declared self.now.setup s ≡ true → is_member result s.0 ≡ has_view self.now.setup self.now.history s }
+        ensures others { (s : ℕ) → self.now.setup.sessions < s → is_member result s ≡ false }
+    {
+        with_view(self.sessions.as_slice())
+    }
+
     /// All that was entered and posted, the oldest first: the one legal history
     /// for which the board stands, and exactly the events that the rules give it.
     pub fn journal(&self) -> &Journal
         ensures entries { history_of result.now.entries.items ≡ self.now.history }
         ensures posts { result.now.posts.items ≡ posts self.now.setup self.now.history }
         ensures legal { Legal self.now.setup self.now.history }
+        ensures plain { are_plain self.now.history ≡ true }
     {
         self.log.journal()
     }
@@ -329,6 +425,36 @@ impl Board {
 }
 
 /// The number that a condition asks for.
+fn asked(c: Cond) -> u32
+    ensures { result ≡ asked_of c }
+{
+    match c {
+        Cond::Frames(n) => n,
+        Cond::Credits(n) => n,
+        Cond::Taken(n) => n,
+        Cond::Answers(n) => n,
+        Cond::Fence(_) => 1,
+        Cond::Presents(_, n) => n,
+    }
+}
+
+/// A fence's value.
+fn number_if(is_signalled: bool) -> u32
+    ensures { result ≡ number_if is_signalled }
+{
+    if is_signalled { 1 } else { 0 }
+}
+
+fn wait_reply(wanted: u32, value: u32) -> Reply
+    ensures { result ≡ waited wanted value }
+{
+    if wanted <= value {
+        Reply::Met(value)
+    } else {
+        Reply::Unmet(value)
+    }
+}
+
 fn close_reply(why: Option<Reason>) -> Reply
     ensures { result ≡ reply_to_close why }
 {

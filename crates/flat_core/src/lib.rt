@@ -10,12 +10,16 @@ mod clock;
 mod dones;
 mod ends;
 mod log;
+mod polls;
 mod state;
+#[cfg(test)]
+mod tests;
 mod views;
 
-pub use board::{Back, Board};
-
 ghost use Rattle.flat_core.specs.Laws.{CreditsAddUp};
+
+pub use board::{Back, Board};
+pub use polls::EventList;
 
 /// In a legal history the credits of a session and its presents that wait add up
 /// to one before a frame took one of them, and to five from then on.

@@ -42,7 +42,7 @@ pub struct SessionState {
 }
 
 impl SessionState {
-    ghost use Rattle.flat_core.specs.Kept.{taken_in, credits_in};
+    ghost use Rattle.flat_core.specs.Kept.{taken_in, credits_in, has_view_in};
 
     /// How many presents frames have taken.
     pub fn taken(&self) -> u32
@@ -50,7 +50,9 @@ impl SessionState {
         ensures { result ≡ taken_in self.now }
     {
         if self.let_go {
-            self.account.presents.saturating_sub(self.going.len() as u32)
+            self.account
+                .presents
+                .saturating_sub(self.going.len() as u32)
         } else {
             self.queue.taken()
         }
@@ -71,6 +73,14 @@ impl SessionState {
         } else {
             self.queue.credits()
         }
+    }
+
+    /// Whether it has a view whose end isn't lost.
+    pub fn has_view(&self) -> bool
+        requires { length self.now.going.items ≤ 5 }
+        ensures { result ≡ has_view_in self.now }
+    {
+        !self.closed && self.account.viewed && self.taken() <= self.account.stood
     }
 }
 

@@ -11,7 +11,7 @@ use flat_base::{
     CHILDREN_MAX, HIT_REGIONS_MAX, IntRect, NAMED_MAX, OPACITY_MAX, Orientation, Reason,
     TransformId,
 };
-use flat_scene::{GraphFault, Held, RegionList};
+use flat_scene::{GraphFault, Held, HitRegion, RegionList};
 use slab::Slab;
 use std::alloc::Global;
 use std::marker::Model;
@@ -95,7 +95,9 @@ impl Graph {
     }
 
     /// The key that an id names, or why it names none.
-    fn key(&self, t: TransformId) -> Result<usize, GraphFault>
+    ///
+    /// `Bad` is ZeroId or UnknownTransform. It takes no memory.
+    pub fn key(&self, t: TransformId) -> Result<usize, GraphFault>
         ensures named { IfOk result (λ key. key_named self.now.names t.0 ≡ Some key) }
         ensures kept { IfOk result (λ key. IsKept self.now.nodes key) }
         ensures allowed { OnOk result (first_reason (name_tests self.now t.0) ≡ None) }
@@ -355,6 +357,25 @@ impl Graph {
         Ok(())
     }
 
+    /// The key of a transform that may have these hit regions, or why there is none.
+    ///
+    /// `Bad` is ZeroId, UnknownTransform, BadRect or TooManyRegions. It takes no memory.
+    pub fn hits_key(&self, t: TransformId, regions: &[HitRegion]) -> Result<usize, GraphFault>
+        ensures named { IfOk result (λ key. key_named self.now.names t.0 ≡ Some key) }
+        ensures kept { IfOk result (λ key. IsKept self.now.nodes key) }
+        ensures allowed { OnOk result (first_reason (hits_tests self.now t.0 regions.now) ≡ None) }
+        ensures fault { IfErr result (IsMisuse (hits_tests self.now t.0 regions.now)) }
+    {
+        let key = self.key(t)?;
+        if has_bad_area(regions) {
+            return Err(GraphFault::Bad(Reason::BadRect));
+        }
+        if regions.len() > HIT_REGIONS_MAX as usize {
+            return Err(GraphFault::Bad(Reason::TooManyRegions));
+        }
+        Ok(key)
+    }
+
     /// Replaces a transform's hit regions.
     ///
     /// `Bad` is ZeroId, UnknownTransform, BadRect or TooManyRegions. It takes no memory.
@@ -364,13 +385,7 @@ impl Graph {
         ensures fault { IfErr result (IsMisuse (hits_tests self.old t.0 regions)) }
         ensures kept { OnErr result (self.new ≡ self.old) }
     {
-        let key = self.key(t)?;
-        if has_bad_area(regions.as_slice()) {
-            return Err(GraphFault::Bad(Reason::BadRect));
-        }
-        if regions.len() > HIT_REGIONS_MAX as usize {
-            return Err(GraphFault::Bad(Reason::TooManyRegions));
-        }
+        let key = self.hits_key(t, regions.as_slice())?;
         if let Some(node) = self.nodes.get_mut(key) {
             node.hits = Some(regions);
         }

@@ -71,7 +71,7 @@ module _ (setup : Setup) (s : SessionNo) where
 
 -- ---- drafts of fewer calls
 
-after_error : (setup : Setup) (reason : Reason) (xs : List Call) → after_calls setup (Err reason) xs ≡ Err reason
+pub after_error : (setup : Setup) (reason : Reason) (xs : List Call) → after_calls setup (Err reason) xs ≡ Err reason
 after_error setup reason [] = refl
 after_error setup reason (x ∷ xs) = after_error setup reason xs
 
@@ -180,8 +180,8 @@ module _ (m : Machine) (s : SessionNo) (pending : List Call) (draft : Draft) (wa
   }
 
   -- a call that is a misuse closes
-  pub may_close_call : (c : Call) (reason : Reason) → is_played_call m.setup s c ≡ true → MayCall m (Session s) (pending ++ c ∷ []) (Close (Some reason))
-  may_close_call c reason played = record {
+  pub may_close_call : (c : Call) (why : Option Reason) → is_played_call m.setup s c ≡ true → MayCall m (Session s) (pending ++ c ∷ []) (Close why)
+  may_close_call c why played = record {
     may = record {
       acts = waits.declared;
       lasts = goes;
@@ -191,7 +191,7 @@ module _ (m : Machine) (s : SessionNo) (pending : List Call) (draft : Draft) (wa
       links = rw (but_last pending c, no_links m.setup s pending waits.private) refl;
       owned = all_more (owns_in_call m.setup s) pending c (all_owned m.setup s pending waits.private) ((played_is m.setup s c played).0);
       named = refl;
-      tree = no_tree_close m.setup (Some reason) _;
+      tree = no_tree_close m.setup why _;
       watcher = refl;
     };
     share = waits.share;
@@ -199,8 +199,8 @@ module _ (m : Machine) (s : SessionNo) (pending : List Call) (draft : Draft) (wa
   }
 
   -- a present that is a misuse closes
-  pub may_close_present : (reason : Reason) → MayCall m (Session s) pending (Close (Some reason))
-  may_close_present reason = record {
+  pub may_close_present : (why : Option Reason) → MayCall m (Session s) pending (Close why)
+  may_close_present why = record {
     may = record {
       acts = waits.declared;
       lasts = goes;
@@ -210,7 +210,7 @@ module _ (m : Machine) (s : SessionNo) (pending : List Call) (draft : Draft) (wa
       links = rw (no_links_first (all_but_last pending) (last_ones pending) (ap (list_any is_link) (sym (split_last pending)) ∙ no_links m.setup s pending waits.private)) refl;
       owned = all_owned m.setup s pending waits.private;
       named = refl;
-      tree = no_tree_close m.setup (Some reason) _;
+      tree = no_tree_close m.setup why _;
       watcher = refl;
     };
     share = waits.share;

@@ -1,6 +1,13 @@
+pub mod DisplaySteps
 pub mod Displayed
 pub mod Entering
+pub mod Fits
 pub mod InOrder
+pub mod Judging
+pub mod LowTrees
+pub mod Places
 pub mod Reading
+pub mod Standing
+pub mod Steps
 pub mod Tests
 pub mod Unread

@@ -1,3 +1,4 @@
 pub mod Made
 pub mod Playable
+pub mod Playing
 pub mod Promise

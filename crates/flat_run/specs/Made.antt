@@ -3,6 +3,7 @@ use Rattle.std.specs.Prelude.{◌≡◌, List, Option, Some}
 use Rattle.std.specs.Arc.{arc_value}
 use Rattle.flat_base.specs.declared.ids.SessionNo.{SessionNo}
 use Rattle.flat_scene.specs.declared.calls.Call.{Call}
+use Rattle.flat_scene.specs.declared.calls.Call.TheVariants.{CreateView}
 use Rattle.flat_scene.specs.declared.journal.Kind.{Kind}
 use Rattle.flat_scene.specs.declared.journal.Kind.TheVariants as kind
 use Rattle.flat_core.specs.Boards.{Machine, present_of}
@@ -20,3 +21,8 @@ kind_of (made.Close why) = kind.Close why
 abbrev pub ShowsTree : Machine → SessionNo → List Call → Made → Type 0
 ShowsTree m s calls (made.Present args snapshot) = Some (arc_value snapshot) ≡ tree_of m.setup (present_of m.history s calls args)
 ShowsTree m s calls _ = Unit {0}
+
+-- a View is made by its own CreateView
+abbrev pub IsMadeBy : Call → Option Made → Type 0
+IsMadeBy call (Some (made.View pair)) = call ≡ CreateView pair
+IsMadeBy call _ = Unit {0}

@@ -4,6 +4,7 @@ use Rattle.std.specs.List.{list_all}
 use Rattle.flat_base.specs.declared.ids.Actor.{Actor}
 use Rattle.flat_base.specs.declared.ids.Actor.TheVariants.{Display, Session, Probe}
 use Rattle.flat_base.specs.declared.ids.SessionNo.{SessionNo}
+use Rattle.flat_base.specs.declared.limits.TheConstants.{SCRIPT_BYTES_MAX}
 use Rattle.flat_scene.specs.declared.calls.Call.{Call}
 use Rattle.flat_scene.specs.declared.calls.Call.TheVariants.{CreateView, CreateViewport, CreateImage}
 use Rattle.flat_scene.specs.declared.script.Body.{Body}
@@ -68,5 +69,5 @@ is_played setup _ _ = false
 -- Whether a script is one that is played: its setup is one that a head can give, without probes; its lines rise up to its count, frames close, and each line is known.
 abbrev pub is_playable : Script → Bool
 is_playable script =
-    is_setup script.setup && script.setup.probes == 0 && rise_from 0 script.lines && list_all (λ next. nat_le next.number script.count) script.lines
+    is_setup script.setup && script.setup.probes == 0 && nat_le script.count SCRIPT_BYTES_MAX && rise_from 0 script.lines && list_all (λ next. nat_le next.number script.count) script.lines
     && frames_close false 0 script.lines && list_all (λ next. is_played script.setup next.actor next.body) script.lines

@@ -1,7 +1,9 @@
 //! The service at work on a script: words, reading, the run and the report.
 #![tactic(auto)]
 
+mod game;
 mod made;
+mod player;
 mod top;
 
 pub use made::Made;

@@ -3,3 +3,4 @@ pub mod Rebuilding
 pub mod Parts
 pub mod Adding
 pub mod Wholes
+pub mod Stretches

@@ -31,7 +31,7 @@ reverse-places (o ∷ path) = rw (reverse-append, reverse-places path) refl
 same-leaf : (n : Node) → n.children ≡ Empty → as_node (flat_node n 0) Empty ≡ n
 same-leaf n leaf = rw (← leaf) refl
 
-slice_get-at : {X : Type 0} (xs : List X) (y : X) (ys : List X) (n : ℕ) → length xs ≡ n → slice_get (xs ++ y ∷ ys) n ≡ Some y
+pub slice_get-at : {X : Type 0} (xs : List X) (y : X) (ys : List X) (n : ℕ) → length xs ≡ n → slice_get (xs ++ y ∷ ys) n ≡ Some y
 slice_get-at [] y ys n e = rw (← e) refl
 slice_get-at (x ∷ xs) y ys n e = rw (← e) (slice_get-at xs y ys (length xs) refl)
 

@@ -2,3 +2,4 @@ pub mod Flat
 pub mod Forest
 pub mod Building
 pub mod Inside
+pub mod Stretch

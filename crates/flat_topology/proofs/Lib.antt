@@ -1,3 +1,5 @@
+pub mod Stating
+pub mod Walking
 pub mod Distinct
 pub mod Distances
 pub mod Standing

@@ -10,3 +10,4 @@ pub mod Views
 pub mod Connected
 pub mod Hits
 pub mod Laws
+pub mod Walking

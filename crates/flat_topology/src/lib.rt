@@ -10,8 +10,13 @@
 
 ghost use Rattle.flat_topology.specs.Laws.{JoinsTheConnected, JoinsEachOnce, ReachesNoCycle, JoinsAll, JoinsFew, PlacesLowOpacities, ParentsDecide, DrawsInPreorder, ViewsTheJoined, ViewsBelowParents, ViewsTheConnected, HitsEachOnce};
 
+mod joining;
+mod scope;
 mod shown;
+mod walk;
 
+pub use crate::joining::join;
+pub use crate::scope::{sized, through};
 pub use crate::shown::Shown;
 use flat_base::{Items, Rect, SessionNo};
 use flat_geom::Matrix;

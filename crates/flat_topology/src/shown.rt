@@ -51,6 +51,15 @@ impl Shown {
         self.states[s.0 as usize - 1] = state;
     }
 
+    /// What is shown of a session; None exactly where nothing is.
+    pub fn state(&self, s: SessionNo) -> Option<&Arc<Snapshot>>
+        requires some { 0 < s.0 }
+        requires few { s.0 ≤ length self.now }
+        ensures { option_map (λ state. arc_value state.now) result ≡ state_of self.now s.0 }
+    {
+        self.states[s.0 as usize - 1].as_ref()
+    }
+
     /// For how many sessions it was made.
     pub fn sessions(&self) -> usize
         ensures { result ≡ length self.now }

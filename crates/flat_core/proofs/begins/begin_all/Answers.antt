@@ -1,4 +1,4 @@
-use Rattle.std.proofs.Common.{◌≡◌, ◌<◌, ◌+◌, ℕ, length, arith, ◌∙◌, ap, sym, refl, subst, None}
+use Rattle.std.proofs.Common.{◌≡◌, ◌<◌, ℕ, length, arith, ◌∙◌, ap, sym, refl, subst, None}
 use Rattle.std.proofs.lemmas.List.{append-nil}
 use Rattle.flat_core.specs.Kept.{AllNumbered}
 use Rattle.std.proofs.lemmas.List.{length-set}

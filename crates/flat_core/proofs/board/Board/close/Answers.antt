@@ -2,7 +2,6 @@ use Rattle.std.proofs.Common.{◌≡◌, refl, sym, ◌∙◌, ap, List}
 use Rattle.flat_base.specs.declared.ids.Actor.TheVariants.{Session}
 use Rattle.flat_scene.specs.declared.calls.Call.{Call}
 use Rattle.flat_scene.specs.declared.journal.Kind.TheVariants.{Close}
-use Rattle.flat_core.specs.declared.state.Account.{Account}
 use Rattle.flat_core.specs.Boards.{entry_of}
 use Rattle.flat_core.specs.Seen.{noted}
 use Rattle.flat_core.proofs.Changes.{seen-closed, kept-closed, kept-noted, is-session}

@@ -4,7 +4,7 @@ use Rattle.flat_core.specs.Presents.{noted_in}
 use Rattle.flat_base.specs.declared.ids.Actor.TheVariants.{Session}
 use Rattle.flat_scene.specs.declared.journal.Kind.TheVariants.{End}
 use Rattle.flat_scene.specs.declared.journal.Reply.TheVariants.{Done}
-use Rattle.flat_core.proofs.Ones.{kept-quiet, plain-end, placed-of}
+use Rattle.flat_core.proofs.Ones.{kept-quiet, plain-end}
 use Rattle.flat_core.proofs.Steps.{has-room, unchanged}
 use Rattle.flat_core.proofs.board.Board.end.Goals as goal
 

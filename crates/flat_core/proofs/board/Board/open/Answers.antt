@@ -1,7 +1,6 @@
-use Rattle.std.proofs.Common.{◌≡◌, ◌≤◌, ◌<◌, ◌^◌, ◌∙◌, ap, arith, length}
+use Rattle.std.proofs.Common.{◌≡◌, ◌∙◌, ap}
 use Rattle.std.specs.Prelude.{sum}
-use Rattle.flat_base.specs.declared.limits.TheConstants.{FENCES_MAX, PAIRS_MAX}
-use Rattle.flat_core.proofs.Opened.{opened, few-declared}
+use Rattle.flat_core.proofs.Opened.{opened}
 use Rattle.flat_core.proofs.board.Board.open.Goals as goal
 
 pub invariant_of-result : goal.invariant_of-result

@@ -1,4 +1,4 @@
-use Rattle.std.proofs.Common.{◌≡◌, Bool, refl, sym, ◌∙◌, ap, List, subst}
+use Rattle.std.proofs.Common.{◌≡◌, refl, sym, ◌∙◌, ap, List, subst}
 use Rattle.std.specs.Prelude.{not}
 use Rattle.flat_base.specs.declared.ids.Actor.TheVariants.{Session}
 use Rattle.flat_scene.specs.declared.calls.Call.{Call}
@@ -7,7 +7,7 @@ use Rattle.flat_scene.specs.declared.journal.Reply.{Reply}
 use Rattle.flat_scene.specs.History.{◌▹◌}
 use Rattle.flat_core.specs.Boards.{Machine, entry_of}
 use Rattle.flat_core.specs.Legal.{reply_to}
-use Rattle.flat_core.specs.Presents.{view_reply, after_view}
+use Rattle.flat_core.specs.Presents.{view_reply}
 use Rattle.flat_core.specs.Seen.{noted}
 use Rattle.flat_core.proofs.Ones.{kept-one}
 use Rattle.flat_core.proofs.Steps.{has-room, or-false}

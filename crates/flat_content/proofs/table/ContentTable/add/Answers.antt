@@ -1,0 +1,17 @@
+use Rattle.std.proofs.Common.{◌≡◌, [], ◌∷◌, ◌++◌, ◌+◌, ◌<◌, ◌^◌, length, None, arith, rules}
+use Rattle.flat_graph.specs.Names.{key_named}
+use Rattle.flat_graph.proofs.Soundness.{on_ok}
+use Rattle.flat_content.specs.Table.{TableState, in_use}
+use Rattle.flat_content.proofs.Soundness.{table-added}
+use Rattle.flat_content.proofs.table.ContentTable.add.Goals as goal
+
+pub invariant_of-self-2 : goal.invariant_of-self-2
+invariant_of-self-2 c =
+    let table : TableState = record { buffers = c.self.inside.buffers; contents = c.self.inside.contents.items; names = c.self.inside.names.items; viewports = c.self.inside.viewports.items } in
+    let named = on_ok _ _ c.if-is_err-3.ensures.negation c.add_name.ensures.ok in
+    let absent : key_named c.self.inside.names.items c.args.c.0 ≡ None = search rules in
+    let room : length c.self.inside.contents.items + 1 < 2 ^ 32 = omega arith in
+    let pushed : c.push_reserved.new.self.items ≡ c.self.inside.contents.items ++ c.args.stored ∷ [] = search rules in
+    let counted : c.len-made.result ≡ length c.self.inside.contents.items = search rules in
+    let noted : c.note_use.new.viewports.items ≡ in_use c.args.stored (length c.self.inside.contents.items + 1) c.self.inside.viewports.items = search rules in
+    rw (named, pushed, noted, counted) (table-added table c.args.c.0 c.args.stored c.requires.some absent room c.self.invariant)

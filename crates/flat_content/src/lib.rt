@@ -1,0 +1,15 @@
+//! A session's contents: all that it ever made, by serial numbers, and the ids
+//! that name some of them. A content stays when its name ends, since a transform
+//! may hold it still.
+#![tactic(auto)]
+
+mod laws;
+mod limits;
+mod stored;
+mod table;
+#[cfg(test)]
+mod tests;
+
+pub use laws::content_laws;
+pub use stored::{Stored, StoredFill, StoredImage};
+pub use table::ContentTable;

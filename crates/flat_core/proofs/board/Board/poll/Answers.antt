@@ -1,0 +1,57 @@
+use Rattle.std.proofs.Common.{◌≡◌, ◌-◌, ◌<◌, ◌^◌, length, refl, ◌∙◌, ap, arith, subst, List}
+use Rattle.flat_base.specs.declared.ids.Actor.TheVariants.{Session}
+use Rattle.flat_scene.specs.declared.calls.Call.{Call}
+use Rattle.flat_scene.specs.declared.journal.Kind.TheVariants.{Poll}
+use Rattle.flat_scene.specs.declared.journal.Reply.TheVariants.{Polled}
+use Rattle.flat_core.specs.declared.state.Account.{Account}
+use Rattle.flat_core.specs.Boards.{Machine}
+use Rattle.flat_core.specs.Legal.{reply_to}
+use Rattle.flat_core.specs.Seen.{noted}
+use Rattle.flat_core.proofs.Ones.{kept-one}
+use Rattle.flat_core.proofs.Polled.{kept-polled}
+use Rattle.flat_core.proofs.PollSteps.{polled-within, handed}
+use Rattle.flat_core.proofs.Steps.{has-room, unchanged}
+use Rattle.flat_core.proofs.board.Board.poll.Goals as goal
+
+pub push_events_from-requires : goal.push_events_from-requires
+push_events_from-requires c =
+    let call = rw (← c.self.view_is) at c.requires in
+    polled-within _ c.args.s _ call _ _ _ _ _ _ _ _ c.index_mut-state.ensures.value refl c.self.invariant.0 c.self.invariant.1 c.posts-posts.ensures
+
+pub overflow_cast-count : goal.overflow_cast-count
+overflow_cast-count c =
+    let call = rw (← c.self.view_is) at c.requires in
+    let count : c.len.result - c.len-before.result ≡ length c.push_events_from.new.into - length c.args.into.now = rw (c.len.ensures, c.len-before.ensures) refl in
+    let over = handed _ c.args.s _ call _ _ _ _ _ _ _ _ _ _ _ c.index_mut-state.ensures.value refl c.self.invariant.0 c.self.invariant.1 c.posts-posts.ensures c.in-Ok.ensures.ok count in
+    let small : c.len.result - c.len-before.result < 2 ^ 32 = over.small in
+    omega (arith, small)
+
+pub enter-requires : goal.enter-requires
+enter-requires c =
+    let call = rw (← c.self.view_is) at c.requires in
+    has-room _ _ _ _ call c.self.invariant.0.legal _ _ _ refl c.self.invariant.1
+
+pub invariant_of-self-2 : goal.invariant_of-self-2
+invariant_of-self-2 c =
+    let setup = c.self.inside.setup in
+    let h = c.self.inside.log.history in
+    let call = rw (← c.self.view_is) at c.requires in
+    let count : c.len.result - c.len-before.result ≡ length c.push_events_from.new.into - length c.args.into.now = rw (c.len.ensures, c.len-before.ensures) refl in
+    let over = handed _ c.args.s _ call _ _ _ _ _ _ _ _ _ _ _ c.index_mut-state.ensures.value refl c.self.invariant.0 c.self.invariant.1 c.posts-posts.ensures c.in-Ok.ensures.ok count in
+    let log = c.enter.ensures in
+    let state = c.index_mut-state.result.now in
+    let account : c.note.new.account ≡ noted c.args.calls (record state.account { polled = length c.posts-posts.result.now }) =
+    c.note.ensures ∙ ap (λ (calls : List Call). let a : Account = record state.account { polled = length c.posts-posts.result.now } in noted calls a) c.as_slice.ensures in
+    rw account
+    (kept-one _ c.args.s c.args.line c.args.calls Poll (Polled (c.len.result - c.len-before.result)) call (ap Polled over.as_many) refl refl _ _ _ _ _ _ _ _ _
+    state _ c.index_mut-state.ensures.value refl c.self.invariant.0 c.self.invariant.1 (unchanged _ _ _ _ (λ sessions g f. refl) (λ p. refl))
+    (λ kept. kept-polled setup h c.args.s c.args.line c.args.calls (c.len.result - c.len-before.result) (length c.posts-posts.result.now) state over.place kept)
+    refl (record { history = log.history; posts = log.posts; room = log.room; post_room = log.post_room }))
+
+pub returns-clause-reply : goal.returns-clause-reply
+returns-clause-reply c =
+    let call = rw (← c.self.view_is) at c.requires in
+    let count : c.len.result - c.len-before.result ≡ length c.push_events_from.new.into - length c.args.into.now = rw (c.len.ensures, c.len-before.ensures) refl in
+    let over = handed _ c.args.s _ call _ _ _ _ _ _ _ _ _ _ _ c.index_mut-state.ensures.value refl c.self.invariant.0 c.self.invariant.1 c.posts-posts.ensures c.in-Ok.ensures.ok count in
+    let P : Machine → Type 0 = λ m. Polled (c.len.result - c.len-before.result) ≡ reply_to m.setup m.history (Session c.args.s) c.args.calls Poll in
+    subst P c.self.view_is (ap Polled over.as_many)

@@ -1,0 +1,5 @@
+pub mod Applying
+pub mod Examples
+pub mod Following
+pub mod Laying
+pub mod Shows

@@ -1,0 +1,6 @@
+pub mod State
+pub mod Stands
+pub mod Parts
+pub mod Shown
+pub mod Answers
+pub mod Laws

@@ -1,0 +1,37 @@
+-- What is asked of calls that look at several parts of a draft.
+use Rattle.std.specs.Prelude.{ℕ, ◌++◌, is_some, is_none, List, [], ◌∷◌, Option, Some, None, Result, Ok, Err}
+use Rattle.flat_base.specs.declared.errors.Reason.{Reason}
+use Rattle.flat_base.specs.declared.errors.Reason.TheVariants.{HasView, NoView}
+use Rattle.flat_base.specs.declared.ids.PairNo.{PairNo}
+use Rattle.flat_scene.specs.declared.trees.GraphFault.{GraphFault}
+use Rattle.flat_scene.specs.declared.trees.GraphFault.TheVariants.{Bad, Memory}
+use Rattle.flat_scene.specs.Misuse.{Test}
+use Rattle.flat_graph.specs.Reasons as graph
+use Rattle.flat_graph.specs.State.{GraphState, without_held}
+use Rattle.flat_content.specs.Reasons.{given_tests}
+use Rattle.flat_content.specs.Table.{TableState}
+
+abbrev pub view_tests : Option PairNo → List Test
+view_tests view = (is_some view, HasView) ∷ []
+
+abbrev pub no_view_tests : Option PairNo → List Test
+no_view_tests view = (is_none view, NoView) ∷ []
+
+-- what is asked where a transform is given a content
+abbrev pub content_tests : GraphState → TableState → ℕ → ℕ → List Test
+content_tests state table t c = graph.name_tests state t ++ given_tests table c
+
+-- the graph in which no node holds the content of that serial, if there is one
+abbrev pub without_named : GraphState → Option ℕ → GraphState
+without_named state None = state
+without_named state (Some serial) = without_held state serial
+
+-- the answer of a creation, without the serial
+abbrev pub made : Result ℕ GraphFault → Result Unit GraphFault
+made (Ok serial) = Ok tt
+made (Err fault) = Err fault
+
+-- the answer of a call that takes no memory
+abbrev pub done : Result Unit Reason → Result Unit GraphFault
+done (Ok it) = Ok it
+done (Err reason) = Err (Bad reason)

@@ -1,0 +1,236 @@
+ghost use Rattle.std.specs.Prelude.{◌≡◌, ◌||◌, MatchResult, length, nat_lt};
+ghost use Rattle.std.specs.Arc.{arc_value};
+ghost use Rattle.flat_scene.specs.declared.setup.Setup.{Setup};
+ghost use Rattle.flat_scene.specs.Draft as scene;
+ghost use Rattle.flat_draft.specs.Answers.{IsAnswer, IsApplied, IsRefused, Presents};
+ghost use Rattle.flat_draft.specs.Stands.{StandsFor};
+ghost use Rattle.flat_draft.specs.State.{DraftState, closed, empty_state, emptied};
+
+use crate::fault::DraftFault;
+use crate::lay::flatten;
+use crate::parts::{
+    create_transform, create_view, done, made, release_view, release_viewport, set_content, set_hits,
+};
+use flat_base::{FENCES_PER_LIST_MAX, NoMemory, PairNo, Reason};
+use flat_collect::{Verdict, judge};
+use flat_content::ContentTable;
+use flat_graph::Graph;
+use flat_scene::{BufferList, Call, GraphFault, HitRegion, PresentArgs, ViewportProps};
+use flat_snap::Snapshot;
+use std::alloc::Global;
+use std::marker::Model;
+use std::sync::Arc;
+
+/// A session's private draft.
+///
+/// It is made by the session's calls, one after another, and closed by the first
+/// misuse. Contracts see its parts, which stand for the draft of the rules.
+#[derive(Drop)]
+pub struct Draft {
+    alloc: Global,
+    graph: Graph,
+    contents: ContentTable,
+    view: Option<PairNo>,
+    closed: bool,
+}
+
+impl Model for Draft {
+    ghost Value = { DraftState };
+
+    ghost view = { λ d. record { graph = d.graph; contents = d.contents; view = d.view; closed = d.closed } };
+}
+
+/// One of the two lists has more fences than it may have.
+fn has_too_many(args: &PresentArgs) -> bool
+    ensures { result ≡ (nat_lt FENCES_PER_LIST_MAX (length args.now.acquire) || nat_lt FENCES_PER_LIST_MAX (length args.now.release)) }
+{
+    let most = FENCES_PER_LIST_MAX as usize;
+    args.acquire.len() > most || args.release.len() > most
+}
+
+impl Draft {
+    ghost use Rattle.std.specs.Prelude.{true, IfOk};
+    ghost use Rattle.flat_collect.specs.Forest.{size};
+    ghost use Rattle.flat_collect.specs.Judge.{HasTree, graph_tree};
+    ghost use Rattle.flat_draft.specs.Shown.{shown_tree};
+    ghost use Rattle.std.specs.List.{list_all};
+    ghost use Rattle.flat_content.specs.Limits.{are_sides};
+    ghost use Rattle.flat_draft.specs.declared.fault.DraftFault.TheVariants.{Bad};
+
+    /// The draft of a session that made no call. It may make images of these
+    /// collections. It takes no memory.
+    pub fn new(alloc: Global, buffers: BufferList) -> Draft
+        requires { list_all are_sides buffers ≡ true }
+        ensures { result ≡ empty_state buffers }
+    {
+        Draft {
+            alloc,
+            graph: Graph::new(alloc),
+            contents: ContentTable::new(alloc, buffers),
+            view: None,
+            closed: false,
+        }
+    }
+
+    /// Whether a misuse closed it.
+    pub fn is_closed(&self) -> bool
+        ensures { result ≡ self.now.closed }
+    {
+        self.closed
+    }
+
+    /// Makes a call, but for the token of a CreateView or a CreateViewport, which is
+    /// asked for elsewhere.
+    ///
+    /// A misuse closes the draft. What takes no memory is never refused for want
+    /// of it.
+    pub fn call(&mut self, c: &Call) -> Result<(), DraftFault>
+        ensures { (setup : Setup) (draft : scene.Draft) → StandsFor setup self.old draft → IsAnswer setup draft c.now self.old self.new result }
+    {
+        if self.closed {
+            return Err(DraftFault::Closed);
+        }
+        match self.apply(c) {
+            Ok(()) => Ok(()),
+            Err(GraphFault::Bad(reason)) => Err(self.close(reason)),
+            Err(GraphFault::Memory) => Err(DraftFault::Memory),
+        }
+    }
+
+    /// The snapshot of the draft.
+    ///
+    /// A misuse closes the draft: the reason is Cycle, TreeTooLarge, ViewportTwice
+    /// or TooManyFences, the first that holds. A present that is done changes
+    /// nothing.
+    pub fn present(&mut self, args: &PresentArgs) -> Result<Arc<Snapshot>, DraftFault>
+        ensures { (setup : Setup) (draft : scene.Draft) → StandsFor setup self.old draft
+            → MatchResult result (λ snapshot. Presents draft args.now self.old self.new (arc_value snapshot)) (IsRefused draft args.now self.old self.new) }
+    {
+        if self.closed {
+            return Err(DraftFault::Closed);
+        }
+        let nodes = match judge(self.alloc, &self.graph) {
+            Ok(Verdict::Good { nodes }) => nodes,
+            Ok(Verdict::Bad(reason)) => return Err(self.close(reason)),
+            Err(NoMemory) => return Err(DraftFault::Memory),
+        };
+        if has_too_many(args) {
+            return Err(self.close(Reason::TooManyFences));
+        }
+        match self.snapshot(nodes) {
+            Ok(snapshot) => Ok(snapshot),
+            Err(NoMemory) => Err(DraftFault::Memory),
+        }
+    }
+
+    /// The snapshot of a tree of so many nodes.
+    fn snapshot(&self, nodes: u32) -> Result<Arc<Snapshot>, NoMemory>
+        requires tree { HasTree self.now.graph }
+        requires counted { nodes ≡ size (graph_tree self.now.graph) }
+        ensures { IfOk result (λ snapshot. arc_value snapshot ≡ shown_tree self.now.view self.now.graph self.now.contents) }
+    {
+        let snapshot = flatten(self.alloc, &self.graph, &self.contents, self.view, nodes)?;
+        Ok(Arc::new(self.alloc, snapshot)?)
+    }
+
+    /// Closes the draft for a misuse.
+    fn close(&mut self, reason: Reason) -> DraftFault
+        ensures closed { self.new ≡ closed self.old }
+        ensures fault { result ≡ Bad reason }
+    {
+        self.closed = true;
+        DraftFault::Bad(reason)
+    }
+
+    /// Does what a call does to an open draft.
+    fn apply(&mut self, c: &Call) -> Result<(), GraphFault>
+        ensures { (setup : Setup) (draft : scene.Draft) → StandsFor setup self.old draft → IsApplied setup draft c.now self.old self.new result }
+    {
+        match c {
+            Call::CreateView { pair } => create_view(&mut self.view, *pair),
+            Call::ReleaseView => release_view(&mut self.view),
+            Call::CreateTransform { t } => create_transform(&mut self.graph, *t),
+            Call::ReleaseTransform { t } => self.graph.release(*t),
+            Call::SetTranslation { t, x, y } => self.graph.set_translation(*t, *x, *y),
+            Call::SetOrientation { t, o } => self.graph.set_orientation(*t, *o),
+            Call::SetScale { t, sx, sy } => self.graph.set_scale(*t, *sx, *sy),
+            Call::SetOpacity { t, v } => self.graph.set_opacity(*t, *v),
+            Call::SetClipBoundary { t, rect } => self.graph.set_clip(*t, *rect),
+            Call::AddChild { p, k } => self.graph.add_child(*p, *k),
+            Call::RemoveChild { p, k } => self.graph.remove_child(*p, *k),
+            Call::SetRootTransform { t } => self.graph.set_root(*t),
+            Call::SetHitRegions { t, regions } => {
+                set_hits(self.alloc, &mut self.graph, *t, regions.as_slice())
+            }
+            Call::SetInfiniteHitRegion { t, i } => {
+                let region = HitRegion {
+                    area: None,
+                    interaction: *i,
+                };
+                set_hits(self.alloc, &mut self.graph, *t, &[region])
+            }
+            Call::SetContent { t, c } => set_content(&mut self.graph, &self.contents, *t, *c),
+            Call::CreateViewport {
+                c,
+                pair,
+                w,
+                h,
+                inset,
+            } => {
+                let props = ViewportProps {
+                    w: *w,
+                    h: *h,
+                    inset: *inset,
+                };
+                made(self.contents.create_viewport(*c, *pair, props))
+            }
+            Call::SetViewportProperties { c, w, h, inset } => {
+                done(self.contents.set_viewport_properties(*c, *w, *h, *inset))
+            }
+            Call::ReleaseViewport { c } => release_viewport(&mut self.graph, &mut self.contents, *c),
+            Call::CreateImage {
+                c,
+                buffers,
+                i,
+                w,
+                h,
+            } => made(self.contents.create_image(*c, *buffers, *i, *w, *h)),
+            Call::SetImageSampleRegion { c, rect } => {
+                done(self.contents.set_image_sample_region(*c, *rect))
+            }
+            Call::SetImageDestinationSize { c, w, h } => {
+                done(self.contents.set_image_destination_size(*c, *w, *h))
+            }
+            Call::SetImageBlendingFunction { c, m } => {
+                done(self.contents.set_image_blending_function(*c, *m))
+            }
+            Call::SetImageFlip { c, f } => done(self.contents.set_image_flip(*c, *f)),
+            Call::SetImageOpacity { c, v } => done(self.contents.set_image_opacity(*c, *v)),
+            Call::ReleaseImage { c } => done(self.contents.release_image(*c)),
+            Call::CreateFilledRect { c } => made(self.contents.create_fill(*c)),
+            Call::SetSolidFill {
+                c,
+                r,
+                g,
+                b,
+                a,
+                w,
+                h,
+            } => done(self.contents.set_solid_fill(*c, [*r, *g, *b, *a], *w, *h)),
+            Call::ReleaseFilledRect { c } => done(self.contents.release_filled_rect(*c)),
+            Call::Clear => {
+                self.clear();
+                Ok(())
+            }
+        }
+    }
+
+    /// Ends the view, all names and the root.
+    fn clear(&mut self)
+        ensures { self.new ≡ emptied self.old }
+    {
+        self.graph.clear();
+        self.contents.clear();
+        self.view = None;
+    }
+}

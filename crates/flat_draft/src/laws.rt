@@ -1,0 +1,8 @@
+ghost use Rattle.flat_draft.specs.Laws.{CallsFollow, EmptyStands};
+
+/// What holds of every draft: its clauses are laws of the definitions. The call
+/// does nothing.
+pub fn draft_laws()
+    ensures empty_stands { EmptyStands }
+    ensures calls_follow { CallsFollow }
+{}

@@ -1,0 +1,15 @@
+//! One session's private draft: what its calls made of it, and the snapshots that
+//! it presents.
+#![tactic(auto)]
+
+mod draft;
+mod fault;
+mod lay;
+mod laws;
+mod parts;
+#[cfg(test)]
+mod tests;
+
+pub use draft::Draft;
+pub use fault::DraftFault;
+pub use laws::draft_laws;

@@ -1,0 +1,90 @@
+//! The hit test: which sessions a point of the display hits.
+#![tactic(auto)]
+
+ghost use Rattle.std.specs.Prelude.{◌≡◌, ◌++◌, ◌*ℤ◌, find, filter_map, reverse, IfOk, OnOk};
+ghost use Rattle.flat_geom.specs.Matrices.{unit};
+ghost use Rattle.flat_geom.specs.Rectangles.{has_point};
+ghost use Rattle.flat_topology.specs.Hits.{region_rect, hit_on, first_of_each, hits_among};
+ghost use Rattle.flat_hit.specs.Firsts.{is_hit, if_new};
+
+use flat_base::{IntRect, Items, NoMemory, ONE, Rect, SessionNo};
+use flat_geom::{contains, intersect, map_rect, units};
+use flat_scene::{Hit, HitList, HitRegion};
+use flat_topology::{Joined, Placed};
+use std::alloc::Global;
+
+/// The part of the display that a region of a node covers.
+fn covered(at: &Placed, area: Option<IntRect>) -> Rect
+    ensures { result ≡ region_rect at.now area }
+{
+    match area {
+        Some(area) => intersect(map_rect(at.matrix, units(area)), at.clip),
+        None => at.clip,
+    }
+}
+
+/// The first region of a node that has a place.
+fn region_at(at: &Placed, x: i64, y: i64) -> Option<HitRegion>
+    ensures { result ≡ find (λ region. has_point (region_rect at.now region.area) x y) at.now.hits }
+{
+    at.hits
+        .as_slice()
+        .iter()
+        .copied()
+        .find(|region| contains(covered(at, region.area), x, y))
+}
+
+/// The hit of a place on a node.
+fn hit_at(at: &Placed, x: i64, y: i64) -> Option<Hit>
+    ensures { result ≡ hit_on x y at.now }
+{
+    let region = region_at(at, x, y)?;
+    Some(Hit {
+        session: at.session,
+        interaction: region.interaction,
+    })
+}
+
+fn is_listed(hits: &HitList, session: SessionNo) -> bool
+    ensures { result ≡ is_hit hits.now session.0 }
+{
+    hits.as_slice().iter().any(|hit| hit.session.0 == session.0)
+}
+
+/// Appends a hit, if its session has none yet.
+fn add(hits: &mut HitList, hit: Option<Hit>) -> Result<(), NoMemory>
+    ensures { OnOk result (hits.new ≡ hits.old ++ if_new hits.old hit) }
+{
+    if let Some(hit) = hit {
+        if !is_listed(hits, hit.session) {
+            hits.push(hit)?;
+        }
+    }
+    Ok(())
+}
+
+fn place_of(units: i32) -> i64
+    ensures { result ≡ units *ℤ unit }
+{
+    units as i64 * ONE as i64
+}
+
+/// The first hit of each session, the last of the nodes first.
+fn first_hits(alloc: Global, nodes: &[Placed], x: i64, y: i64) -> Result<HitList, NoMemory>
+    ensures { IfOk result (λ hits. hits ≡ first_of_each (filter_map (hit_on x y) (reverse nodes.now))) }
+{
+    let mut hits = Items::new(alloc);
+    for before in 0..nodes.len() {
+        let at = &nodes[nodes.len() - 1 - before];
+        add(&mut hits, hit_at(at, x, y))?;
+    }
+    Ok(hits)
+}
+
+/// The sessions that a point of the display hits, in units: last drawn first,
+/// each once, by its first hit.
+pub fn hits(alloc: Global, joined: &Joined, x: i32, y: i32) -> Result<HitList, NoMemory>
+    ensures { IfOk result (λ hits. hits ≡ hits_among joined.now.nodes x y) }
+{
+    first_hits(alloc, joined.nodes.as_slice(), place_of(x), place_of(y))
+}

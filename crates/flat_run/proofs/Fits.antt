@@ -1,0 +1,157 @@
+-- What the sessions of a legal history show fits the setup.
+use Rattle.std.proofs.Common.{◌≡◌, ◌≢◌, ℕ, zero, suc, ◌+◌, ◌-◌, ◌<◌, ◌≤◌, Bool, true, false, cond, ◌&&◌, ◌||◌, ◌==◌, not, nat_lt, nat_le, max, List, [], ◌∷◌, ◌++◌, length, filter, map, refl, sym, ap, ◌∙◌, subst, arith, append-nil, append_assoc, Option, Some, None, Ok, Err, Result, slice_get, is_some, is_none, IsTrue}
+use Rattle.std.specs.List.{list_all}
+use Rattle.std.specs.Option.{option_map, option_and_then, unwrap_or}
+use Rattle.std.specs.Prelude.{option_to_list}
+use Rattle.std.specs.Result.{result_ok}
+use Rattle.std.proofs.lemmas.Bool.Decides.{nat_tests}
+use Rattle.flat_base.specs.declared.ids.PairNo.{PairNo}
+use Rattle.flat_base.specs.declared.ids.SessionNo.{SessionNo}
+use Rattle.flat_base.specs.declared.errors.Reason.{Reason}
+use Rattle.flat_base.specs.declared.limits.TheConstants.{OPACITY_MAX, TREE_NODES_MAX, PATH_NODES_MAX}
+use Rattle.flat_scene.specs.declared.calls.Call.{Call}
+use Rattle.flat_scene.specs.declared.calls.Call.TheVariants.{CreateView, ReleaseView, CreateTransform, ReleaseTransform, SetTranslation, SetOrientation, SetScale, SetOpacity, SetClipBoundary, AddChild, RemoveChild, SetRootTransform, CreateViewport, SetViewportProperties, ReleaseViewport, CreateImage, SetImageSampleRegion, SetImageDestinationSize, SetImageBlendingFunction, SetImageFlip, SetImageOpacity, ReleaseImage, CreateFilledRect, SetSolidFill, ReleaseFilledRect, SetHitRegions, SetInfiniteHitRegion, SetContent, Clear}
+use Rattle.flat_scene.specs.declared.setup.Setup.{Setup}
+use Rattle.flat_scene.specs.Draft.{Draft, Transform, Image, Solid, Made, an_image, a_fill, a_viewport, changed_at, empty_draft, of_serial, transform_of, content_of, new_transform}
+use Rattle.flat_scene.specs.declared.calls.ViewportProps.{ViewportProps}
+use Rattle.flat_scene.specs.Effect.{effect, on_image, on_viewport, on_fill, draft_of, after_calls, after_call, unless, changed_if, held_but, is_serial}
+use Rattle.flat_scene.specs.Misuse.{misuse, first_reason, Test, names_transform, names_content, is_image}
+use Rattle.flat_core.specs.Legal.{owns_view, owns_in_call}
+use Rattle.flat_core.specs.Plain.{is_plain_call}
+use Rattle.flat_run.proofs.Entering.{after_error}
+use Rattle.flat_run.proofs.Tests.{and_left, and_right, and_true, all_more}
+
+-- ---- drafts
+
+-- a content that is no viewport, and an image of at most full opacity
+abbrev pub is_low : Made → Bool
+is_low (an_image image) = nat_le image.opacity OPACITY_MAX
+is_low (a_fill solid) = true
+is_low (a_viewport pair props) = false
+
+abbrev pub is_dim : Transform → Bool
+is_dim t = nat_le t.opacity OPACITY_MAX
+
+-- A draft of a session without viewports: its view is the session's own, and nothing has too great an opacity.
+pub record IsGood (setup : Setup) (s : SessionNo) (draft : Draft) : Type 0 where
+  pub view : (p : PairNo) → draft.view ≡ Some p → owns_view setup s p ≡ true
+  pub contents : list_all is_low draft.contents ≡ true
+  pub transforms : list_all is_dim draft.transforms ≡ true
+
+module _ {A : Type 0} (p : A → Bool) (f : A → A) (keeps : (x : A) → p x ≡ true → p (f x) ≡ true) where
+  pick : (b : Bool) (x : A) (xs changed : List A) → p x ≡ true → list_all p xs ≡ true → list_all p changed ≡ true → list_all p (cond b (f x ∷ xs) (x ∷ changed)) ≡ true
+  pick true x xs changed here all more = and_true (keeps x here) all
+  pick false x xs changed here all more = and_true here more
+
+  all_changed : (n : ℕ) (xs : List A) → list_all p xs ≡ true → list_all p (changed_at n f xs) ≡ true
+  all_changed n [] all = refl
+  all_changed n (x ∷ xs) all =
+      pick (n == 1) x xs (changed_at (n - 1) f xs) (and_left (p x) (list_all p xs) all) (and_right (p x) (list_all p xs) all) (all_changed (n - 1) xs (and_right (p x) (list_all p xs) all))
+
+  pub all_changed_if : (serial : Option ℕ) (xs : List A) → list_all p xs ≡ true → list_all p (changed_if serial f xs) ≡ true
+  all_changed_if None xs all = all
+  all_changed_if (Some n) xs all = all_changed n xs all
+
+all_mapped : {A : Type 0} (p : A → Bool) (f : A → A) → ((x : A) → p (f x) ≡ p x) → (xs : List A) → list_all p xs ≡ true → list_all p (map f xs) ≡ true
+all_mapped p f same [] all = refl
+all_mapped p f same (x ∷ xs) all = and_true (same x ∙ and_left (p x) (list_all p xs) all) (all_mapped p f same xs (and_right (p x) (list_all p xs) all))
+
+rest_none : (t : Bool) (r : Reason) (more : Option Reason) → cond t (Some r) more ≡ None → more ≡ None
+rest_none true r more none = absurd (cc)
+rest_none false r more none = none
+
+-- the last of several tests doesn't hold where none does
+none_last : (tests : List Test) (b : Bool) (reason : Reason) → first_reason (tests ++ (b, reason) ∷ []) ≡ None → b ≡ false
+none_last [] true reason none = absurd (cc)
+none_last [] false reason none = refl
+none_last (test ∷ tests) b reason none = none_last tests b reason (rest_none test.0 test.1 (first_reason (tests ++ (b, reason) ∷ [])) none)
+
+not_above : (v : ℕ) → nat_lt OPACITY_MAX v ≡ false → nat_le v OPACITY_MAX ≡ true
+not_above v low = grind (arith, nat_tests)
+
+module _ (setup : Setup) (s : SessionNo) (d : Draft) (good : IsGood setup s d) where
+  -- a change of one transform that leaves its opacity
+  same_opacity : (serial : Option ℕ) (f : Transform → Transform) → ((t : Transform) → is_dim t ≡ true → is_dim (f t) ≡ true) → IsGood setup s (record d { transforms = changed_if serial f d.transforms })
+  same_opacity serial f keeps = record { view = good.view; contents = good.contents; transforms = all_changed_if is_dim f keeps serial d.transforms good.transforms }
+
+  -- a change of one content that leaves it low
+  same_content : (serial : Option ℕ) (f : Made → Made) → ((m : Made) → is_low m ≡ true → is_low (f m) ≡ true) → IsGood setup s (record d { contents = changed_if serial f d.contents })
+  same_content serial f keeps = record { view = good.view; contents = all_changed_if is_low f keeps serial d.contents good.contents; transforms = good.transforms }
+
+  on_low : (f : Image → Image) → ((i : Image) → (f i).opacity ≡ i.opacity) → (m : Made) → is_low m ≡ true → is_low (on_image f m) ≡ true
+  on_low f same (an_image image) low = ap (λ v. nat_le v OPACITY_MAX) (same image) ∙ low
+  on_low f same (a_fill solid) low = low
+  on_low f same (a_viewport pair props) low = low
+
+  on_opacity : (v : ℕ) → nat_le v OPACITY_MAX ≡ true → (m : Made) → is_low m ≡ true → is_low (on_image (λ image. record image { opacity = v }) m) ≡ true
+  on_opacity v fits (an_image image) low = fits
+  on_opacity v fits (a_fill solid) low = low
+  on_opacity v fits (a_viewport pair props) low = low
+
+  on_view : (f : ViewportProps → ViewportProps) (m : Made) → is_low m ≡ true → is_low (on_viewport f m) ≡ true
+  on_view f (an_image image) low = low
+  on_view f (a_fill solid) low = low
+  on_view f (a_viewport pair props) low = low
+
+  on_solid : (solid : Solid) (m : Made) → is_low m ≡ true → is_low (on_fill solid m) ≡ true
+  on_solid solid (an_image image) low = low
+  on_solid solid (a_fill before) low = low
+  on_solid solid (a_viewport pair props) low = low
+
+  -- a call that is no misuse keeps a draft good
+  pub good_effect : (call : Call) → owns_in_call setup s call ≡ true → is_plain_call call ≡ true → misuse setup d call ≡ None → IsGood setup s (effect d call)
+  good_effect (CreateView pair) owned plain fine = record {
+    view = λ p is. let same : pair ≡ p = let both : Some pair ≡ Some p = is in cc in let P : PairNo → Type 0 = λ q. owns_view setup s q ≡ true in subst P same owned;
+    contents = good.contents;
+    transforms = good.transforms;
+  }
+  good_effect ReleaseView owned plain fine = record { view = λ p is. absurd (cc); contents = good.contents; transforms = good.transforms }
+  good_effect (CreateTransform t) owned plain fine = record { view = good.view; contents = good.contents; transforms = all_more is_dim d.transforms new_transform good.transforms refl }
+  good_effect (ReleaseTransform t) owned plain fine = record { view = good.view; contents = good.contents; transforms = good.transforms }
+  good_effect (SetTranslation t x y) owned plain fine = same_opacity (transform_of d t) _ (λ one low. low)
+  good_effect (SetOrientation t o) owned plain fine = same_opacity (transform_of d t) _ (λ one low. low)
+  good_effect (SetScale t sx sy) owned plain fine = same_opacity (transform_of d t) _ (λ one low. low)
+  good_effect (SetOpacity t v) owned plain fine = same_opacity (transform_of d t) _ (λ one low. not_above v (none_last (names_transform d t) _ _ fine))
+  good_effect (SetClipBoundary t rect) owned plain fine = same_opacity (transform_of d t) _ (λ one low. low)
+  good_effect (AddChild p k) owned plain fine = same_opacity (transform_of d p) _ (λ one low. low)
+  good_effect (RemoveChild p k) owned plain fine = same_opacity (transform_of d p) _ (λ one low. low)
+  good_effect (SetRootTransform t) owned plain fine = record { view = good.view; contents = good.contents; transforms = good.transforms }
+  good_effect (CreateViewport c pair w h inset) owned plain fine = absurd (cc)
+  good_effect (SetViewportProperties c w h inset) owned plain fine = same_content (content_of d c) _ (on_view _)
+  good_effect (ReleaseViewport c) owned plain fine = record { view = good.view; contents = good.contents; transforms = all_mapped is_dim _ (λ one. refl) d.transforms good.transforms }
+  good_effect (CreateImage c buffers i w h) owned plain fine = record { view = good.view; contents = all_more is_low d.contents _ good.contents refl; transforms = good.transforms }
+  good_effect (SetImageSampleRegion c rect) owned plain fine = same_content (content_of d c) _ (on_low _ (λ i. refl))
+  good_effect (SetImageDestinationSize c w h) owned plain fine = same_content (content_of d c) _ (on_low _ (λ i. refl))
+  good_effect (SetImageBlendingFunction c m) owned plain fine = same_content (content_of d c) _ (on_low _ (λ i. refl))
+  good_effect (SetImageFlip c f) owned plain fine = same_content (content_of d c) _ (on_low _ (λ i. refl))
+  good_effect (SetImageOpacity c v) owned plain fine = same_content (content_of d c) _ (on_opacity v (not_above v (none_last (names_content d is_image c) _ _ fine)))
+  good_effect (ReleaseImage c) owned plain fine = record { view = good.view; contents = good.contents; transforms = good.transforms }
+  good_effect (CreateFilledRect c) owned plain fine = record { view = good.view; contents = all_more is_low d.contents _ good.contents refl; transforms = good.transforms }
+  good_effect (SetSolidFill c r g b a w h) owned plain fine = same_content (content_of d c) _ (on_solid _)
+  good_effect (ReleaseFilledRect c) owned plain fine = record { view = good.view; contents = good.contents; transforms = good.transforms }
+  good_effect (SetHitRegions t regions) owned plain fine = same_opacity (transform_of d t) _ (λ one low. low)
+  good_effect (SetInfiniteHitRegion t i) owned plain fine = same_opacity (transform_of d t) _ (λ one low. low)
+  good_effect (SetContent t c) owned plain fine = same_opacity (transform_of d t) _ (λ one low. low)
+  good_effect Clear owned plain fine = record { view = λ p is. absurd (cc); contents = good.contents; transforms = good.transforms }
+
+-- ---- drafts of calls
+
+step_good : (setup : Setup) (s : SessionNo) (start draft : Draft) (call : Call) (calls : List Call) (m : Option Reason) → misuse setup start call ≡ m → after_calls setup (unless m (effect start call)) calls ≡ Ok draft
+    → (misuse setup start call ≡ None → after_calls setup (Ok (effect start call)) calls ≡ Ok draft → IsGood setup s draft) → IsGood setup s draft
+step_good setup s start draft call calls None is made follows = follows is made
+step_good setup s start draft call calls (Some reason) is made follows = absurd (let e : Err reason ≡ Ok draft = sym (after_error setup reason calls) ∙ made in cc)
+
+good_from : (setup : Setup) (s : SessionNo) (start draft : Draft) (calls : List Call) → IsGood setup s start → list_all (owns_in_call setup s) calls ≡ true → list_all is_plain_call calls ≡ true
+    → after_calls setup (Ok start) calls ≡ Ok draft → IsGood setup s draft
+good_from setup s start draft [] good owned plain made = let same : start ≡ draft = cc in let P : Draft → Type 0 = IsGood setup s in subst P same good
+good_from setup s start draft (call ∷ calls) good owned plain made =
+    step_good setup s start draft call calls (misuse setup start call) refl made
+    (λ fine rest. good_from setup s (effect start call) draft calls
+        (good_effect setup s start good call (and_left _ (list_all (owns_in_call setup s) calls) owned) (and_left _ (list_all is_plain_call calls) plain) fine)
+        (and_right (owns_in_call setup s call) _ owned) (and_right (is_plain_call call) _ plain) rest)
+
+good_empty : (setup : Setup) (s : SessionNo) → IsGood setup s empty_draft
+good_empty setup s = record { view = λ p is. absurd (cc); contents = refl; transforms = refl }
+
+pub good_draft : (setup : Setup) (s : SessionNo) (draft : Draft) (calls : List Call) → list_all (owns_in_call setup s) calls ≡ true → list_all is_plain_call calls ≡ true → draft_of setup calls ≡ Ok draft → IsGood setup s draft
+good_draft setup s draft calls owned plain made = good_from setup s empty_draft draft calls (good_empty setup s) owned plain made

@@ -1,0 +1,56 @@
+-- What a draft's answers say of a line.
+use Rattle.std.proofs.Common.{◌≡◌, true, false, sym, ap, ◌∙◌, subst, Some, None, Option, Err, Ok, Result, refl, option_map}
+use Rattle.std.specs.Arc.{arc_value}
+use Rattle.flat_base.specs.declared.errors.Reason.{Reason}
+use Rattle.flat_scene.specs.declared.calls.Call.{Call}
+use Rattle.flat_scene.specs.declared.calls.Call.TheVariants.{CreateView, CreateViewport}
+use Rattle.flat_scene.specs.declared.calls.PresentArgs.{PresentArgs}
+use Rattle.flat_scene.specs.declared.journal.Kind.{Kind}
+use Rattle.flat_scene.specs.declared.journal.Kind.TheVariants.{Present, Close}
+use Rattle.flat_scene.specs.declared.script.Line.{Line}
+use Rattle.flat_scene.specs.declared.script.Line.TheVariants as line
+use Rattle.flat_scene.specs.declared.setup.Setup.{Setup}
+use Rattle.flat_scene.specs.declared.trees.Tree.{Tree}
+use Rattle.flat_scene.specs.Draft.{Draft}
+use Rattle.flat_scene.specs.Interleave.{entry_of_call, entry_of_line, or_close}
+use Rattle.flat_scene.specs.Misuse.{first_reason}
+use Rattle.flat_scene.specs.Tree.{present_tests, tree}
+use Rattle.flat_draft.specs.declared.fault.DraftFault.{DraftFault}
+use Rattle.flat_draft.specs.declared.fault.DraftFault.TheVariants.{Bad, Closed}
+use Rattle.flat_draft.specs.Answers.{IsAnswer, IsRefused, Presents}
+use Rattle.flat_draft.specs.Stands.{StandsFor}
+use Rattle.flat_draft.specs.State.{DraftState}
+use Rattle.flat_run.specs.declared.made.Made.{Made}
+use Rattle.flat_run.specs.declared.made.Made.TheVariants as made
+use Rattle.flat_run.specs.Made.{kind_of, IsMadeBy}
+use Rattle.flat_run.specs.Playing.{LeavesDraft}
+
+-- no call makes a present
+no_present : (call : Call) (args : PresentArgs) → Some (Present args) ≡ entry_of_call call → ⊥
+no_present (CreateView pair) args is = cc
+no_present (CreateViewport c pair w h inset) args is = cc
+no_present _ args is = cc
+
+module _ (setup : Setup) (draft : Draft) (old new : DraftState) where
+  pub call_closes : (call : Call) (reason : Reason) → IsAnswer setup draft call old new (Err (Bad reason)) → Some (Close (Some reason)) ≡ entry_of_line setup draft (line.Call call)
+  call_closes call reason answer = ap (λ misused. or_close misused (entry_of_call call)) (sym answer.1)
+
+  pub present_closes : (args : PresentArgs) (reason : Reason) → IsRefused draft args old new (Bad reason) → Some (Close (Some reason)) ≡ entry_of_line setup draft (line.Present args)
+  present_closes args reason refused = ap (λ misused. or_close misused (Some (Present args))) (sym refused.1)
+
+  pub present_makes : (args copied : PresentArgs) (shown : Tree) → Presents draft args old new shown → copied ≡ args → Some (Present copied) ≡ entry_of_line setup draft (line.Present args)
+  present_makes args copied shown presents same =
+      ap (λ (a : PresentArgs). let k : Option Kind = Some (Present a) in k) same ∙ ap (λ misused. or_close misused (Some (Present args))) (sym presents.allowed)
+
+  pub present_leaves : (args copied : PresentArgs) (shown : Tree) → Presents draft args old new shown → StandsFor setup old draft → copied ≡ args
+      → (line.Present args ≡ line.Present copied) × (first_reason (present_tests draft copied) ≡ None) × (tree draft ≡ Some shown) × StandsFor setup new draft × (new.closed ≡ false)
+  present_leaves args copied shown presents stands same =
+      let P : DraftState → Type 0 = λ s. StandsFor setup s draft in
+      (ap (λ (a : PresentArgs). let t : Line = line.Present a in t) (sym same), ap (λ a. first_reason (present_tests draft a)) same ∙ presents.allowed, presents.shows, subst P (sym presents.kept) stands, ap (λ (s : DraftState). s.closed) presents.kept ∙ presents.still_open)
+
+  -- a call that is done leaves its draft
+  pub call_leaves : (call : Call) (made : Option Made) → IsAnswer setup draft call old new (Ok tt) → option_map kind_of made ≡ entry_of_call call → IsMadeBy call made → LeavesDraft setup draft (line.Call call) new made
+  call_leaves call None answer kind by = (answer.1, answer.2, answer.3)
+  call_leaves call (Some (made.View pair)) answer kind by = (ap (λ (k : Call). let t : Line = line.Call k in t) by, answer.1, answer.2, answer.3)
+  call_leaves call (Some (made.Present args snapshot)) answer kind by = absurd (no_present call args kind)
+  call_leaves call (Some (made.Close why)) answer kind by = tt

@@ -1,0 +1,55 @@
+ghost use Rattle.std.specs.Prelude.{◌≡◌, ◌≤◌, ◌^◌, ◌<◌, length, All, IfOk};
+ghost use Rattle.flat_topology.specs.Place.{placed_nodes};
+ghost use Rattle.flat_topology.specs.Connected.{connected_sessions, joined_lists};
+ghost use Rattle.flat_topology.specs.Fit.{FitsSetup};
+ghost use Rattle.flat_topology.specs.Walking.{IsOnTheWay};
+
+use crate::scope::{outermost, whole_display};
+use crate::shown::Shown;
+use crate::walk::{Walk, pair_of_display};
+use crate::{Joined, links_make_a_tree};
+use flat_base::{Items, NoMemory, OPACITY_MAX, SESSIONS_MAX};
+use flat_scene::Setup;
+use std::alloc::Global;
+
+/// A walk that has placed nothing yet.
+fn start(alloc: Global, shown: &Shown, setup: &Setup) -> Result<Walk, NoMemory>
+    requires { length shown.now < 2 ^ 31 }
+    ensures { IfOk result (IsOnTheWay shown.now (placed_nodes setup.now shown.now) (connected_sessions setup.now shown.now)) }
+{
+    let mut walk = Walk {
+        nodes: Items::new(alloc),
+        connected: Items::new(alloc),
+        left: Vec::new(alloc),
+    };
+    if let Some(pair) = pair_of_display(setup) {
+        walk.show(shown, pair, shown.sessions() as u32, outermost(setup), None)?;
+    }
+    Ok(walk)
+}
+
+/// Joins the trees of the sessions that are connected to the display, and places
+/// their nodes. The effort is that of the nodes that are placed.
+pub fn join(alloc: Global, shown: &Shown, setup: &Setup) -> Result<Joined, NoMemory>
+    requires made { length shown.now ≡ setup.now.sessions }
+    requires few { setup.now.sessions ≤ SESSIONS_MAX }
+    requires fit { FitsSetup setup.now shown.now }
+    ensures lists { IfOk result (λ joined. joined ≡ joined_lists setup.now shown.now) }
+    ensures low { IfOk result (λ joined. All (λ at. at.opacity ≤ OPACITY_MAX) joined.nodes) }
+{
+    links_make_a_tree();
+    let mut walk = start(alloc, shown, setup)?;
+    while let Some(stretch) = walk.left.pop() {
+        walk.place(alloc, shown, stretch)?;
+    }
+    let Walk {
+        nodes,
+        connected,
+        left: _,
+    } = walk;
+    Ok(Joined {
+        display: whole_display(setup),
+        nodes,
+        connected,
+    })
+}
