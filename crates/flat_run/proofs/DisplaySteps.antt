@@ -28,7 +28,7 @@ use Rattle.flat_topology.specs.Shown.{Shown}
 use Rattle.flat_topology.specs.Views.{is_member}
 use Rattle.flat_report.specs.Report.{finished, frame_at}
 use Rattle.flat_script.specs.declared.script.Script.{Script}
-use Rattle.flat_run.specs.Playable.{frames_close, keeps_frames}
+use Rattle.flat_playable.specs.Playable.{frames_close, keeps_frames}
 use Rattle.flat_run.specs.Playing.{DisplayStands, FramesStand, IsSpent, lines_by, rest_shares, is_quiet}
 use Rattle.flat_run.proofs.Displayed.{display_more}
 use Rattle.flat_run.proofs.Steps.{At}
@@ -71,12 +71,12 @@ module _ (script : Script) (place : ℕ) (x : ScriptLine) (at : At script place 
 
       close : frames_close (is_frame_open old) (begin_time old) (drop (place + 1) script.lines) ≡ true
       close = sym (ap (frames_close (is_frame_open old) (begin_time old)) at.left
-          ∙ ap (λ b. keeps_frames (is_frame_open old) (begin_time old) b (λ o t. frames_close o t (drop (place + 1) script.lines))) is) ∙ stands.frames
+          ∙ ap (λ b. keeps_frames (is_frame_open old) (begin_time old) b (λ o t. frames_close o t (drop (place + 1) script.lines))) is) ∙ stands.closing
 
       by_step : QuietStep old new → DisplayStands script (place + 1) new
       by_step (same now) =
           let P : List Entry → Type 0 = DisplayStands script (place + 1) in
-          subst P (sym now) (record { follows = stands.follows; left = stands.left ∙ left; frames = close })
+          subst P (sym now) (record { follows = stands.follows; left = stands.left ∙ left; closing = close })
       by_step (more e other quiet now) =
           let P : List Entry → Type 0 = DisplayStands script (place + 1) in
           let F : List Entry → Type 0 = FollowsDisplay (display_lines script.lines) in
@@ -86,7 +86,7 @@ module _ (script : Script) (place : ℕ) (x : ScriptLine) (at : At script place 
           subst P (sym now) (record {
             follows = subst F (sym mine) stands.follows;
             left = ap (λ es. unread_lines es (display_lines script.lines)) mine ∙ stands.left ∙ left;
-            frames = ap (λ o. frames_close o (begin_time (old ▹ e)) (drop (place + 1) script.lines)) is_open ∙ ap (λ t. frames_close (is_frame_open old) t (drop (place + 1) script.lines)) time ∙ close;
+            closing = ap (λ o. frames_close o (begin_time (old ▹ e)) (drop (place + 1) script.lines)) is_open ∙ ap (λ t. frames_close (is_frame_open old) t (drop (place + 1) script.lines)) time ∙ close;
           })
 
   -- what is left is this line of the display, and what comes after
@@ -102,7 +102,7 @@ module _ (script : Script) (place : ℕ) (x : ScriptLine) (at : At script place 
   closing : (text : DisplayLine) → x.body ≡ body.Display text → (old : List Entry) → DisplayStands script place old
       → keeps_frames (is_frame_open old) (begin_time old) (body.Display text) (λ o t. frames_close o t (drop (place + 1) script.lines)) ≡ true
   closing text is old stands = sym (ap (frames_close (is_frame_open old) (begin_time old)) at.left
-      ∙ ap (λ b. keeps_frames (is_frame_open old) (begin_time old) b (λ o t. frames_close o t (drop (place + 1) script.lines))) is) ∙ stands.frames
+      ∙ ap (λ b. keeps_frames (is_frame_open old) (begin_time old) b (λ o t. frames_close o t (drop (place + 1) script.lines))) is) ∙ stands.closing
 
   -- a begin
   pub begin_time_ok : (time : ℕ) → x.body ≡ body.Display (display.Begin time) → (old : List Entry) → DisplayStands script place old → (not (is_frame_open old) && nat_le (begin_time old) time) ≡ true
@@ -115,7 +115,7 @@ module _ (script : Script) (place : ℕ) (x : ScriptLine) (at : At script place 
         follows = display_more (display_lines script.lines) (by_display old) e x.number (display.Begin time) (display_lines (drop (place + 1) script.lines)) stands.follows
             (stands.left ∙ next_is (display.Begin time) is) (record { line = refl; carried = refl; kind = refl });
         left = later_is (by_display old) e refl;
-        frames = and_right _ _ (closing (display.Begin time) is old stands);
+        closing = and_right _ _ (closing (display.Begin time) is old stands);
       }
 
   -- a done
@@ -129,7 +129,7 @@ module _ (script : Script) (place : ℕ) (x : ScriptLine) (at : At script place 
         follows = display_more (display_lines script.lines) (by_display old) e x.number display.Done (display_lines (drop (place + 1) script.lines)) stands.follows
             (stands.left ∙ next_is display.Done is) (record { line = refl; carried = refl; kind = refl });
         left = later_is (by_display old) e refl;
-        frames = and_right _ _ (closing display.Done is old stands);
+        closing = and_right _ _ (closing display.Done is old stands);
       }
 
   -- ---- room

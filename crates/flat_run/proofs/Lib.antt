@@ -1,12 +1,15 @@
+pub mod Composed
 pub mod DisplaySteps
 pub mod Displayed
 pub mod Entering
 pub mod Fits
+pub mod GameSteps
 pub mod InOrder
 pub mod Judging
 pub mod LowTrees
 pub mod Places
 pub mod Reading
+pub mod ShownFits
 pub mod Standing
 pub mod Steps
 pub mod Tests

@@ -35,7 +35,7 @@ use Rattle.flat_run.specs.declared.made.Made.{Made}
 use Rattle.flat_run.specs.declared.made.Made.TheVariants as made
 use Rattle.flat_run.specs.declared.player.Player.{Player}
 use Rattle.flat_run.specs.Made.{kind_of, ShowsTree}
-use Rattle.flat_run.specs.Playable.{is_private, is_played_call, is_played_line}
+use Rattle.flat_playable.specs.Playable.{is_private, is_played_call, is_played_line}
 use Rattle.flat_run.specs.Playing.{last_number, lines_left, is_judged, IsNoMisuse, LeavesDraft, Judges, IsOpenAt, IsClosedAt, PlayerStands, is_quiet, Grows, grows, stays}
 use Rattle.flat_run.proofs.Entering.{IsWaiting, may_view, may_present, may_close_call, may_close_present}
 use Rattle.flat_run.proofs.Places.{Here}

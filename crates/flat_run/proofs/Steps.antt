@@ -26,7 +26,7 @@ use Rattle.flat_core.specs.Legal.{is_frame_open, begin_time}
 use Rattle.flat_report.specs.Report.{finished}
 use Rattle.flat_script.specs.declared.script.Script.{Script}
 use Rattle.flat_run.specs.declared.player.Player.{Player}
-use Rattle.flat_run.specs.Playable.{rise_from, is_played, is_playable, frames_close, keeps_frames}
+use Rattle.flat_playable.specs.Playable.{rise_from, is_played, is_playable, frames_close, keeps_frames}
 use Rattle.flat_run.specs.Playing.{last_number, lines_left, lines_by, PlayerStands, IsOpenAt, IsClosedAt, IsSpent, IsInOrder, is_quiet}
 use Rattle.flat_run.proofs.InOrder.{lines_rise, no_ends_more}
 use Rattle.flat_run.proofs.Places.{drop_at, take_at, split_at, last_more, last_below, rises, played_all}

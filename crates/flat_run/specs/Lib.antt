@@ -1,4 +1,3 @@
 pub mod Made
-pub mod Playable
 pub mod Playing
 pub mod Promise

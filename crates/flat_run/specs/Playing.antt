@@ -4,6 +4,12 @@ use Rattle.std.specs.List.{list_any, list_all, AllByRecursion}
 use Rattle.std.specs.List.Sorted.{IsStrictlyIncreasing}
 use Rattle.std.specs.Arc.{arc_value}
 use Rattle.flat_base.specs.declared.ids.Actor.{Actor}
+use Rattle.flat_base.specs.declared.ids.Actor.TheVariants.{Display}
+use Rattle.flat_scene.specs.declared.journal.Reply.TheVariants.{Done}
+use Rattle.flat_scene.specs.declared.script.Body.{Body}
+use Rattle.flat_scene.specs.declared.script.Body.TheVariants as body
+use Rattle.flat_scene.specs.declared.script.DisplayLine.{DisplayLine}
+use Rattle.flat_scene.specs.declared.script.DisplayLine.TheVariants as display
 use Rattle.flat_base.specs.declared.ids.SessionNo.{SessionNo}
 use Rattle.flat_scene.specs.declared.calls.Call.{Call}
 use Rattle.flat_scene.specs.declared.calls.Call.TheVariants.{CreateView}
@@ -27,11 +33,11 @@ use Rattle.flat_scene.specs.Tree.{present_tests, tree}
 use Rattle.flat_scene.specs.Setups.{is_declared}
 use Rattle.flat_core.specs.Boards.{Machine, entered, made}
 use Rattle.flat_core.specs.Ends.{to_begin, has_view}
-use Rattle.flat_core.specs.Legal.{is_frame_open, begin_time}
+use Rattle.flat_core.specs.Legal.{is_frame_open, begin_time, frames}
 use Rattle.flat_core.specs.Shown.{shown_states}
 use Rattle.flat_topology.specs.Shown.{Shown}
 use Rattle.flat_topology.specs.Views.{is_member}
-use Rattle.flat_report.specs.Report.{finished}
+use Rattle.flat_report.specs.Report.{finished, frame_at}
 use Rattle.flat_core.specs.Plain.{is_plain_call}
 use Rattle.flat_draft.specs.State.{DraftState}
 use Rattle.flat_draft.specs.Stands.{StandsFor}
@@ -41,7 +47,7 @@ use Rattle.flat_run.specs.declared.made.Made.TheVariants as making
 use Rattle.flat_run.specs.declared.player.Player.{Player}
 use Rattle.flat_run.specs.Made.{kind_of}
 use Rattle.flat_run.specs.declared.game.Game.{Game}
-use Rattle.flat_run.specs.Playable.{is_private, frames_close}
+use Rattle.flat_playable.specs.Playable.{is_private, frames_close}
 
 -- ---- a line, by a session that isn't closed
 
@@ -154,13 +160,17 @@ pub record IsInOrder (script : Script) (place : ℕ) (history : List Entry) : Ty
 pub record DisplayStands (script : Script) (place : ℕ) (history : List Entry) : Type 0 where
   pub follows : FollowsDisplay (display_lines script.lines) (by_display history)
   pub left : unread_lines (by_display history) (display_lines script.lines) ≡ display_lines (drop place script.lines)
-  pub frames : frames_close (is_frame_open history) (begin_time history) (drop place script.lines) ≡ true
+  pub closing : frames_close (is_frame_open history) (begin_time history) (drop place script.lines) ≡ true
 
 -- What is shown is that of the last begin, and the frames are those that are finished.
 pub record FramesStand (setup : Setup) (history : List Entry) (shown : Shown) (with_view : SessionSet) (frames : List FrameOut) : Type 0 where
   pub showing : shown ≡ shown_states setup (to_begin history)
   pub viewing : (s : SessionNo) → is_declared setup s ≡ true → is_member with_view s.0 ≡ has_view setup (to_begin history) s
   pub finishing : frames ≡ finished setup history
+
+-- a set of sessions has none beyond those of the setup
+abbrev pub HasViews : Setup → SessionSet → Type 0
+HasViews setup views = (s : ℕ) → setup.sessions < s → is_member views s ≡ false
 
 -- All players stand at a place.
 pub record PlayersStand (script : Script) (place : ℕ) (history : List Entry) (players : List Player) : Type 0 where
@@ -175,4 +185,38 @@ pub record GameStands (script : Script) (place : ℕ) (game : Game) : Type 0 whe
   pub display : DisplayStands script place game.board.history
   pub order : IsInOrder script place game.board.history
   pub spent : IsSpent script place game.board.history
+  pub views : HasViews script.setup game.with_view
   pub shows : FramesStand script.setup game.board.history game.shown game.with_view game.frames.items
+
+-- ---- what the display does to a run
+
+-- A frame begins: it shows what the sessions show from then on.
+pub record BeginsFrame (old new : Game) (number time : ℕ) : Type 0 where
+  pub board : new.board ≡ entered old.board Display number [] (Begin time) Done
+  pub shown : new.shown ≡ shown_states new.board.setup new.board.history
+  pub viewing : (s : SessionNo) → is_declared new.board.setup s ≡ true → is_member new.with_view s.0 ≡ has_view new.board.setup new.board.history s
+  pub views : HasViews new.board.setup new.with_view
+  pub players : new.players ≡ old.players
+  pub kept : new.frames ≡ old.frames
+
+-- A frame is finished, and kept.
+pub record FinishesFrame (old new : Game) (number : ℕ) : Type 0 where
+  pub board : new.board ≡ entered old.board Display number [] Finish Done
+  pub shown : new.shown ≡ old.shown
+  pub with_view : new.with_view ≡ old.with_view
+  pub players : new.players ≡ old.players
+  pub kept : new.frames.items ≡ old.frames.items ++ frame_at old.board.setup (frames new.board.history) (to_begin old.board.history) ∷ []
+
+-- the line of a session that a body is, and the line of the display
+abbrev pub session_text : Body → Option Line
+session_text (body.Session text) = Some text
+session_text _ = None
+
+abbrev pub display_text : Body → Option DisplayLine
+display_text (body.Display text) = Some text
+display_text _ = None
+
+-- the time of a line that begins a frame
+abbrev pub begins_at : DisplayLine → Option ℕ
+begins_at (display.Begin time) = Some time
+begins_at _ = None

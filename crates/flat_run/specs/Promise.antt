@@ -11,7 +11,7 @@ use Rattle.flat_script.specs.declared.script.Script.{Script}
 use Rattle.flat_script.specs.declared.script.ScriptFault.{ScriptFault}
 use Rattle.flat_script.specs.Grammar.{text_read}
 use Rattle.flat_report.specs.Report.{report}
-use Rattle.flat_run.specs.Playable.{is_playable}
+use Rattle.flat_playable.specs.Playable.{is_playable}
 
 -- the words that ask for a script to be played
 abbrev pub play_words : List (List ℕ)

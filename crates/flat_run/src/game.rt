@@ -1,7 +1,27 @@
+ghost use Rattle.std.specs.Prelude.{◌≡◌, ◌+◌, ◌<◌, [], true, length,  Some, OnOk, IfOk, slice_get};
+ghost use Rattle.flat_scene.specs.declared.setup.Setup.{Setup};
+ghost use Rattle.flat_scene.specs.Setups.{is_setup};
+ghost use Rattle.flat_base.specs.declared.ids.Actor.TheVariants.{Display, Session};
+ghost use Rattle.flat_scene.specs.declared.script.Body.TheVariants as body;
+ghost use Rattle.std.specs.Option.{option_copied};
+ghost use Rattle.flat_run.specs.Playing.{session_text, display_text};
+ghost use Rattle.flat_scene.specs.declared.journal.Kind.TheVariants.{Begin, Finish};
+ghost use Rattle.flat_core.specs.Boards.{MayCall};
+ghost use Rattle.flat_core.specs.Shown.{shown_states};
+ghost use Rattle.flat_core.specs.Ends.{to_begin};
+ghost use Rattle.flat_core.specs.Legal.{frames};
+ghost use Rattle.flat_report.specs.Report.{frame_at, finished};
+ghost use Rattle.flat_playable.specs.Playable.{is_playable};
+
 use crate::player::Player;
+use flat_base::{Actor, FrameNo, NoMemory, SessionNo};
+use flat_compose::compose;
 use flat_core::Board;
-use flat_scene::{FrameOut, SessionSet};
-use flat_topology::Shown;
+use flat_scene::{Body, DisplayLine, FrameOut, Line, SessionSet};
+use flat_script::Script;
+use flat_topology::{Shown, join};
+use flat_tree::{trees_follow, view_tree};
+use std::alloc::Global;
 
 /// A run: the board, the sessions, and what is shown.
 #[derive(Drop)]
@@ -15,4 +35,135 @@ pub struct Game {
     pub with_view: SessionSet,
     /// All finished frames.
     pub frames: Vec<FrameOut>,
+}
+
+impl Game {
+    ghost use Rattle.flat_run.specs.Playing.{GameStands, FramesStand, HasViews, BeginsFrame, FinishesFrame};
+
+    /// The frame of a number, as it is composed of what the sessions show.
+    fn compose(&self, alloc: Global, number: u32) -> Result<FrameOut, NoMemory>
+        requires setup { is_setup self.now.board.setup ≡ true }
+        requires stands { FramesStand self.now.board.setup self.now.board.history self.now.shown self.now.with_view (finished self.now.board.setup self.now.board.history) }
+        requires views { HasViews self.now.board.setup self.now.with_view }
+        ensures { IfOk result (λ frame. frame ≡ frame_at self.now.board.setup number (to_begin self.now.board.history)) }
+    {
+        let _journal = self.board.journal();
+        trees_follow();
+        let joined = join(alloc, &self.shown, self.board.setup())?;
+        let items = compose(alloc, &joined)?;
+        let tree = view_tree(alloc, &joined, self.with_view)?;
+        Ok(FrameOut {
+            frame: FrameNo(number),
+            items,
+            tree,
+        })
+    }
+
+    /// Begins a frame.
+    fn begin(&mut self, number: u32, time: u64)
+        requires may { MayCall self.old.board Display [] (Begin time) }
+        requires shown { self.old.shown ≡ shown_states self.old.board.setup (to_begin self.old.board.history) }
+        ensures { BeginsFrame self.old self.new number time }
+    {
+        let _frame = self.board.begin(number, time, &mut self.shown);
+        self.with_view = self.board.with_view();
+    }
+
+    /// Ends the frame that is open, and keeps it.
+    fn finish(&mut self, alloc: Global, number: u32) -> Result<(), NoMemory>
+        requires may { MayCall self.old.board Display [] Finish }
+        requires setup { is_setup self.old.board.setup ≡ true }
+        requires stands { FramesStand self.old.board.setup self.old.board.history self.old.shown self.old.with_view self.old.frames.items }
+        requires views { HasViews self.old.board.setup self.old.with_view }
+        ensures { OnOk result (FinishesFrame self.old self.new number) }
+    {
+        let FrameNo(frame) = self.board.done(number);
+        let frame = self.compose(alloc, frame)?;
+        self.frames.push(frame)?;
+        Ok(())
+    }
+
+    /// Plays a line of a session.
+    fn play_session(
+        &mut self,
+        alloc: Global,
+        script: &Script,
+        place: usize,
+        s: SessionNo,
+        number: u32,
+        text: &Line,
+    ) -> Result<(), NoMemory>
+        requires line { slice_get script.now.lines place ≡ Some (record { number = number; actor = Session s; body = body.Session text.now }) }
+        requires playable { is_playable script.now ≡ true }
+        requires stands { GameStands script.now place self.old }
+        ensures { OnOk result (GameStands script.now (place + 1) self.new) }
+    {
+        let player = &mut self.players[s.0 as usize - 1];
+        player.play(alloc, &mut self.board, script, place, s, number, text)
+    }
+
+    /// Plays a line of the display.
+    fn play_display(
+        &mut self,
+        alloc: Global,
+        script: &Script,
+        place: usize,
+        number: u32,
+        text: DisplayLine,
+    ) -> Result<(), NoMemory>
+        requires line { slice_get script.now.lines place ≡ Some (record { number = number; actor = Display; body = body.Display text }) }
+        requires playable { is_playable script.now ≡ true }
+        requires stands { GameStands script.now place self.old }
+        ensures { OnOk result (GameStands script.now (place + 1) self.new) }
+    {
+        match text {
+            DisplayLine::Begin(time) => {
+                self.begin(number, time);
+                Ok(())
+            }
+            DisplayLine::Done => self.finish(alloc, number),
+            _ => unreachable!(),
+        }
+    }
+
+    /// Plays the line at a place of the script.
+    fn play_line(&mut self, alloc: Global, script: &Script, place: usize) -> Result<(), NoMemory>
+        requires place { place < length script.now.lines }
+        requires playable { is_playable script.now ≡ true }
+        requires stands { GameStands script.now place self.old }
+        ensures { OnOk result (GameStands script.now (place + 1) self.new) }
+    {
+        let line = script.lines.at(place);
+        match line.actor {
+            Actor::Session(s) => match session_text(&line.body) {
+                Some(text) => self.play_session(alloc, script, place, s, line.number, text),
+                None => unreachable!(),
+            },
+            Actor::Display => match display_text(&line.body) {
+                Some(text) => self.play_display(alloc, script, place, line.number, text),
+                None => unreachable!(),
+            },
+            Actor::Probe(_) => unreachable!(),
+        }
+    }
+}
+
+/// The line of a session that a body is.
+fn session_text(body: &Body) -> Option<&Line>
+    ensures { option_copied result ≡ session_text body.now }
+{
+    match body {
+        Body::Session(text) => Some(text),
+        _ => None,
+    }
+}
+
+/// The line of the display that a body is.
+fn display_text(body: &Body) -> Option<DisplayLine>
+    ensures { result ≡ display_text body.now }
+{
+    match body {
+        Body::Display(text) => Some(*text),
+        _ => None,
+    }
 }

@@ -10,7 +10,7 @@ ghost use Rattle.flat_core.specs.Plain.{is_plain_call};
 ghost use Rattle.flat_draft.specs.Stands.{StandsFor};
 ghost use Rattle.flat_core.specs.Boards.{HasShare};
 ghost use Rattle.flat_run.specs.Made.{kind_of, IsMadeBy};
-ghost use Rattle.flat_run.specs.Playable.{is_playable};
+ghost use Rattle.flat_playable.specs.Playable.{is_playable};
 ghost use Rattle.flat_run.specs.Playing.{Judges, HasDraft, LeavesDraft, PlayerStands, Grows, is_judged};
 
 use crate::made::Made;

@@ -1,14 +1,15 @@
 -- The definitions, computed on a small tree.
-use Rattle.std.proofs.Common.{ℕ, pos, ◌≡◌, refl, [], ◌∷◌, None, Some, map}
+use Rattle.std.proofs.Common.{ℕ, pos, ◌≡◌, refl, [], ◌∷◌, ◌++◌, None, Some, map}
 use Rattle.flat_base.specs.declared.shapes.Orientation.TheVariants.{Ccw0}
 use Rattle.flat_scene.specs.declared.trees.Children.{Children}
 use Rattle.flat_scene.specs.declared.trees.Children.TheVariants.{Empty}
 use Rattle.flat_scene.specs.declared.trees.Node.{Node}
 use Rattle.flat_scene.specs.declared.trees.Tree.{Tree}
 use Rattle.flat_scene.specs.Trees.{more}
-use Rattle.flat_snap.specs.Flat.{flat_nodes}
+use Rattle.flat_snap.specs.Flat.{flat_from, flat_nodes}
 use Rattle.flat_snap.specs.Forest.{forest}
-use Rattle.flat_snap.specs.Building.{begun, entered, left}
+use Rattle.flat_snap.specs.Building.{Opened, followed_by, with_children, begun, entered, left, adds}
+use Rattle.flat_snap.specs.Inside.{part, path_count, flat_path, places_of}
 
 abbrev plain : ℕ → Children → Node
 plain serial children = record {
@@ -42,3 +43,38 @@ sample_back = refl
 sample_built : left (left (entered (left (left (entered (entered (entered (begun 4) (plain 1 Empty)) (plain 2 Empty)) (plain 3 Empty)))) (plain 4 Empty)))
     ≡ record { room = 0; path = []; done = more root Empty }
 sample_built = refl
+
+-- ---- a builder's lists
+
+-- the root and its first child are open, and the grandchild was closed
+abbrev open_root : Opened
+open_root = record { node = plain 1 Empty; before = Empty }
+
+abbrev open_child : Opened
+open_child = record { node = plain 2 Empty; before = Empty }
+
+abbrev closed_child : Children
+closed_child = more (plain 3 Empty) Empty
+
+sample_path : map {B = ℕ × ℕ} (λ n. (n.serial, n.end)) (flat_path (open_child ∷ open_root ∷ [])) ≡ (1, 0) ∷ (2, 0) ∷ []
+sample_path = refl
+
+sample_path_count : path_count (open_child ∷ open_root ∷ []) ≡ 2
+sample_path_count = refl
+
+sample_places : places_of (open_child ∷ open_root ∷ []) ≡ 0 ∷ 1 ∷ []
+sample_places = refl
+
+sample_part : part (flat_path (open_child ∷ open_root ∷ []) ++ flat_from 2 closed_child) 3 (1 ∷ 0 ∷ [])
+    ≡ record { path = open_child ∷ open_root ∷ []; done = closed_child }
+sample_part = refl
+
+-- two walks, one after another
+sample_adds : adds (adds (begun 4) closed_child) (more root Empty) ≡ record { room = 0; path = []; done = followed_by closed_child (more root Empty) }
+sample_adds = refl
+
+sample_followed : followed_by (more (plain 3 Empty) (more (plain 5 Empty) Empty)) closed_child ≡ more (plain 3 Empty) (more (plain 5 Empty) closed_child)
+sample_followed = refl
+
+sample_children : with_children (plain 2 Empty) closed_child ≡ plain 2 closed_child
+sample_children = refl

@@ -84,8 +84,8 @@ first-of ns from to n (first serial scale turn place clip opacity hits content c
     } in
     let this : IsFirst ns from to here = record {
       trees = stretch-trees ns from to whole
-      ∙ ap (λ (all : Children). more (as_node here all) others) (sym (stretch-trees ns (from + 1) end below))
-      ∙ ap (λ (all : Children). more (as_node here (forest_in ns 0 (from + 1) end)) all) (sym (stretch-trees ns end to after));
+          ∙ ap (λ (all : Children). more (as_node here all) others) (sym (stretch-trees ns (from + 1) end below))
+          ∙ ap (λ (all : Children). more (as_node here (forest_in ns 0 (from + 1) end)) all) (sym (stretch-trees ns end to after));
       below = below;
       after = after;
     } in

@@ -10,6 +10,8 @@ pub mod Viewing
 pub mod Ordered
 pub mod Parents
 pub mod Hitting
-mod Samples
+pub mod Samples
+mod Walks
 mod Examples
-mod Fitting
+pub mod Fitting
+pub mod Climbing

@@ -1,6 +1,6 @@
 -- Nodes are placed in preorder.
-use Rattle.std.proofs.Common.{◌≡◌, ◌∙◌, sym, ℕ, ◌+◌, ◌≤◌, Bool, true, false, refl, ap, arith, List, [], ◌∷◌, ◌++◌, inl, inr, ◌⊎◌, subst}
-use Rattle.std.specs.Prelude.{zero, suc, ◌&&◌, ◌||◌, ◌==◌, nat_lt, nat_le, map, Option, Some, None, option_map, if◌then◌else◌}
+use Rattle.std.proofs.Common.{◌≡◌, ◌∙◌, sym, ℕ, Bool, true, false, refl, ap, arith, List, [], ◌∷◌, ◌++◌, inl, inr, subst}
+use Rattle.std.specs.Prelude.{zero, suc, ◌==◌, nat_le, map, Option, Some, None, option_map, if◌then◌else◌}
 use Rattle.std.specs.List.{list_all}
 use Rattle.std.proofs.lemmas.Grind.{common_steps}
 use Rattle.flat_scene.specs.declared.trees.Node.{Node}
@@ -9,7 +9,7 @@ use Rattle.flat_topology.specs.Laws.{DrawsInPreorder}
 use Rattle.flat_scene.proofs.Members.{IsIn, in-left, in-right, in-contained}
 use Rattle.flat_topology.specs.declared.Placed.{Placed}
 use Rattle.flat_topology.specs.Place.{Space, display_space, placed_node, node_space, linked_space, placed_in}
-use Rattle.flat_topology.specs.Preorder.{Address, comes_before, are_in_order, node_at, addresses, Kept, kept_of, kept_by, IsPreorder}
+use Rattle.flat_topology.specs.Preorder.{Address, comes_before, are_in_order, node_at, addresses, Kept, kept_of, kept_by}
 
 -- an address begins with this number or a greater one
 abbrev from : ℕ → Address → Bool

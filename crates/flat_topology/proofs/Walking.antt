@@ -1,11 +1,10 @@
 -- The steps of the walk that places the nodes of the joined tree.
-use Rattle.std.proofs.Common.{ℕ, zero, suc, ◌+◌, ◌-◌, ◌*◌, ◌<◌, ◌≤◌, ◌≡◌, refl, sym, ap, ◌∙◌, List, [], ◌∷◌, ◌++◌, length, Option, Some, None, All, slice_get, arith}
+use Rattle.std.proofs.Common.{ℕ, zero, suc, ◌+◌, ◌<◌, ◌≤◌, ◌≡◌, refl, sym, ap, ◌∙◌, List, [], ◌∷◌, ◌++◌, length, Option, Some, None, All, slice_get, arith}
 use Rattle.std.proofs.lemmas.List.{append_assoc, append-nil, length-append, length_push, take_at, drop_at}
 use Rattle.std.proofs.lemmas.List.Elements.{All-nil, All-push, All-pop, All-head, All-take, All-drop}
 use Rattle.flat_base.specs.declared.ids.SessionNo.{SessionNo}
 use Rattle.flat_scene.specs.declared.trees.Children.{Children}
 use Rattle.flat_scene.specs.declared.trees.Children.TheVariants.{Empty}
-use Rattle.flat_scene.specs.declared.trees.Content.{Content}
 use Rattle.flat_scene.specs.declared.trees.Node.{Node}
 use Rattle.flat_scene.specs.declared.trees.Tree.{Tree}
 use Rattle.flat_scene.specs.Trees.{first}
@@ -21,7 +20,7 @@ use Rattle.flat_topology.specs.declared.scope.Scope.{Scope}
 use Rattle.flat_topology.specs.declared.walk.Stretch.{Stretch}
 use Rattle.flat_topology.specs.declared.walk.Walk.{Walk}
 use Rattle.flat_topology.specs.Shown.{Shown, state_of, nodes_of, root_alone}
-use Rattle.flat_topology.specs.Join.{JoinedTree, node, child_view, nothing, Viewer, viewer_from, viewed, linked_to, joined_nodes, led_to}
+use Rattle.flat_topology.specs.Join.{JoinedTree, node, child_view, nothing, viewer_from, viewed, linked_to, joined_nodes, led_to}
 use Rattle.flat_topology.specs.Place.{Space, seen_through, node_space, linked_space, placed_node, placed_in}
 use Rattle.flat_topology.specs.Connected.{joined_count, connected_in}
 use Rattle.flat_topology.specs.Walking.{viewer_at, flat_of, space_of, tree_of, still_count, still_placed, still_connected, work, work_in, below_stretch, after_stretch, HasPut, IsOf, Continues, IsOnTheWay}
@@ -71,7 +70,7 @@ continue-none shown walk outer at whole =
     let e : length walk.nodes + 0 ≡ length walk.nodes = omega arith in
     record { placed = refl; connected = rw e refl; whole = whole }
 
-rooted-alone : (root : Option Node) → rooted root ≡ root_alone root
+pub rooted-alone : (root : Option Node) → rooted root ≡ root_alone root
 rooted-alone None = refl
 rooted-alone (Some root) = refl
 

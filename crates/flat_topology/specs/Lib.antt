@@ -11,3 +11,4 @@ pub mod Connected
 pub mod Hits
 pub mod Laws
 pub mod Walking
+pub mod Climbing

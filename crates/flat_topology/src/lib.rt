@@ -10,9 +10,12 @@
 
 ghost use Rattle.flat_topology.specs.Laws.{JoinsTheConnected, JoinsEachOnce, ReachesNoCycle, JoinsAll, JoinsFew, PlacesLowOpacities, ParentsDecide, DrawsInPreorder, ViewsTheJoined, ViewsBelowParents, ViewsTheConnected, HitsEachOnce};
 
+mod climb;
 mod joining;
 mod scope;
 mod shown;
+#[cfg(test)]
+mod tests;
 mod walk;
 
 pub use crate::joining::join;

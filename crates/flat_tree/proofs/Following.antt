@@ -1,5 +1,5 @@
 -- The sessions that are apart, one after another, and as the definition has them.
-use Rattle.std.proofs.Common.{ℕ, zero, suc, ◌+◌, ◌-◌, ◌<◌, ◌≤◌, ◌≡◌, refl, sym, ap, ◌∙◌, Bool, true, false, ◌&&◌, not, cond, List, [], ◌∷◌, ◌++◌, map, Option, Some, None, arith}
+use Rattle.std.proofs.Common.{ℕ, zero, suc, ◌+◌, ◌-◌, ◌<◌, ◌≤◌, ◌≡◌, refl, ap, ◌∙◌, Bool, true, false, ◌&&◌, not, cond, List, [], ◌∷◌, ◌++◌, map, Option, Some, None, arith}
 use Rattle.std.specs.Prelude.{◌==◌, filter}
 use Rattle.std.specs.List.{list_any, range_with_len}
 use Rattle.std.proofs.lemmas.List.{map-append}
@@ -10,7 +10,7 @@ use Rattle.flat_scene.specs.declared.setup.Setup.{Setup}
 use Rattle.flat_topology.specs.declared.Connected.{Connected}
 use Rattle.flat_topology.specs.Shown.{Shown}
 use Rattle.flat_topology.specs.Join.{JoinedTree, nothing, node, child_view, sessions_in, join, is_joined}
-use Rattle.flat_topology.specs.Views.{is_member, apart_sessions}
+use Rattle.flat_topology.specs.Views.{apart_sessions}
 use Rattle.flat_topology.specs.Connected.{joined_count, connected_in, connected_sessions}
 use Rattle.flat_tree.specs.Trees.{is_among, is_apart, if_apart, apart_below}
 use Rattle.flat_tree.specs.Laws.{IsSetOf}

@@ -1,6 +1,9 @@
 //! The view tree: who is shown below whom, and who is apart.
 #![tactic(auto)]
 
+#[cfg(test)]
+mod tests;
+
 ghost use Rattle.std.specs.Prelude.{◌≡◌, ◌+◌, ◌<◌, ◌≤◌, ◌++◌, IfOk, map};
 ghost use Rattle.flat_topology.specs.Views.{viewport_bounds};
 ghost use Rattle.flat_topology.specs.Connected.{connected_view};
@@ -78,7 +81,11 @@ fn add_apart(apart: &mut Roomy<SessionNo>, joined: &Joined, with_view: &SessionS
 }
 
 /// The sessions of a set that aren't connected.
-fn sessions_apart(alloc: Global, joined: &Joined, with_view: &SessionSet) -> Result<SessionList, NoMemory>
+fn sessions_apart(
+    alloc: Global,
+    joined: &Joined,
+    with_view: &SessionSet,
+) -> Result<SessionList, NoMemory>
     ensures { IfOk result (λ apart. apart ≡ apart_below SESSIONS_MAX joined.now.connected with_view.now) }
 {
     let mut apart = Roomy::with_capacity(alloc, SESSIONS_MAX as usize)?;
@@ -90,7 +97,11 @@ fn sessions_apart(alloc: Global, joined: &Joined, with_view: &SessionSet) -> Res
 
 /// The view tree of a joined tree, where these sessions are open and made a view
 /// whose end isn't lost.
-pub fn view_tree(alloc: Global, joined: &Joined, with_view: SessionSet) -> Result<ViewTree, NoMemory>
+pub fn view_tree(
+    alloc: Global,
+    joined: &Joined,
+    with_view: SessionSet,
+) -> Result<ViewTree, NoMemory>
     ensures { IfOk result (λ tree. tree ≡ tree_from joined.now with_view) }
 {
     Ok(ViewTree {

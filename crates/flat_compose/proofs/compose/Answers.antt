@@ -1,4 +1,4 @@
-use Rattle.std.proofs.Common.{◌≡◌, ◌∙◌, sym, ap, ◌++◌, List, arith, option_to_list}
+use Rattle.std.proofs.Common.{◌∙◌, sym, ap, ◌++◌, List, arith, option_to_list}
 use Rattle.flat_scene.specs.declared.frames.DrawItem.{DrawItem}
 use Rattle.flat_topology.specs.Draw.{node_item}
 use Rattle.flat_compose.proofs.Steps.{given-more}

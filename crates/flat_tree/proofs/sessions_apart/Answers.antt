@@ -1,4 +1,4 @@
-use Rattle.std.proofs.Common.{◌≡◌, ◌≤◌, ◌∙◌, ◌+◌, sym, ap, ◌++◌, List, arith}
+use Rattle.std.proofs.Common.{◌∙◌, ◌+◌, sym, ap, ◌++◌, List, arith}
 use Rattle.flat_base.specs.declared.ids.SessionNo.{SessionNo}
 use Rattle.flat_tree.specs.Trees.{is_apart, if_apart}
 use Rattle.flat_tree.proofs.Following.{apart-more}
@@ -11,6 +11,6 @@ loop-before-preserved c =
     record {
       room = omega arith;
       items = c.add_apart.ensures.items
-      ∙ ap (λ (items : List SessionNo). items ++ if_apart (is_apart connected c.args.with_view.now (before + 1)) (before + 1)) c.loop-before.invariant.items
-      ∙ sym (apart-more before connected c.args.with_view.now);
+          ∙ ap (λ (items : List SessionNo). items ++ if_apart (is_apart connected c.args.with_view.now (before + 1)) (before + 1)) c.loop-before.invariant.items
+          ∙ sym (apart-more before connected c.args.with_view.now);
     }

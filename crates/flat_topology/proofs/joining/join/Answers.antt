@@ -1,4 +1,4 @@
-use Rattle.std.proofs.Common.{◌≡◌, ◌<◌, refl, arith}
+use Rattle.std.proofs.Common.{◌<◌, refl, arith}
 use Rattle.std.proofs.lemmas.List.Elements.{All-weaker}
 use Rattle.flat_topology.specs.declared.walk.Walk.{Walk}
 use Rattle.flat_topology.proofs.Opacities.{HasLowOpacity}

@@ -1,6 +1,4 @@
-use Rattle.std.proofs.Common.{◌≡◌, ◌∙◌, sym, refl, true, false, cond, ap, ℕ, ◌+◌, ◌-◌, Option, Some, Bool, drop, arith}
-use Rattle.flat_topology.specs.Join.{Viewer, viewer_from}
-use Rattle.flat_topology.specs.Walking.{viewer_at}
+use Rattle.std.proofs.Common.{◌∙◌, sym, refl, arith}
 use Rattle.flat_topology.proofs.Stating.{viewer-next, viewer-none}
 use Rattle.flat_topology.proofs.walk.viewer.Goals as goal
 

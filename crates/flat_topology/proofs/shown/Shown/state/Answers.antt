@@ -1,9 +1,8 @@
-use Rattle.std.proofs.Common.{◌≡◌, ◌-◌, ◌<◌, length, map, None, Bor, sym, ap, ◌∙◌, ℕ, arith, slice_index_or}
+use Rattle.std.proofs.Common.{◌-◌, ◌<◌, length, None, sym, ap, ◌∙◌, arith, slice_index_or}
 use Rattle.std.specs.Prelude.{option_map, Option, List}
 use Rattle.std.specs.Arc.{arc_value}
 use Rattle.std.proofs.lemmas.List.{length-map}
 use Rattle.flat_scene.specs.declared.trees.Tree.{Tree}
-use Rattle.flat_topology.specs.Shown.{state_of}
 use Rattle.flat_topology.proofs.Stating.{map-copied, map-at, state-at}
 use Rattle.flat_topology.proofs.shown.Shown.state.Goals as goal
 

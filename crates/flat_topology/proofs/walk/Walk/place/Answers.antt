@@ -1,4 +1,4 @@
-use Rattle.std.proofs.Common.{◌≤◌, arith}
+use Rattle.std.proofs.Common.{arith}
 use Rattle.flat_topology.proofs.Walking.{continue-empty}
 use Rattle.flat_topology.proofs.walk.Walk.place.Goals as goal
 

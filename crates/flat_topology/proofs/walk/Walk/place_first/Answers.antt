@@ -1,4 +1,3 @@
-use Rattle.std.proofs.Common.{◌≡◌}
 use Rattle.flat_topology.proofs.Walking.{next-within, found-first, low-first, whole-first, continue-first, work-first}
 use Rattle.flat_topology.proofs.walk.Walk.place_first.Goals as goal
 

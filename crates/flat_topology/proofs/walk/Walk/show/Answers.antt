@@ -1,6 +1,4 @@
-use Rattle.std.proofs.Common.{◌≡◌, ◌≤◌, ◌+◌, ◌-◌, suc, refl, arith}
-use Rattle.flat_topology.specs.Join.{led_to}
-use Rattle.flat_topology.specs.Walking.{work, work_in}
+use Rattle.std.proofs.Common.{◌-◌, refl, arith}
 use Rattle.flat_topology.proofs.Walking.{continue-view, work-view}
 use Rattle.flat_topology.proofs.walk.Walk.show.Goals as goal
 

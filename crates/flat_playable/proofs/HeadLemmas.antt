@@ -1,0 +1,352 @@
+-- What the lines of a head keep, as they are read.
+use Rattle.std.proofs.Common.{◌≡◌, ℕ, ◌+◌, ◌<◌, ◌≤◌, ◌==◌, ◌&&◌, ◌||◌, Bool, true, false, cond, nat_lt, nat_le, List, [], ◌∷◌, ◌++◌, length, Option, Some, None, option_and_then, option_map, if◌then◌else◌, Ok, refl, sym, ◌∙◌, ap, codes, arith, length-append, subst}
+use Rattle.std.specs.Prelude.{filter}
+use Rattle.std.specs.List.{list_all, list_any}
+use Rattle.std.specs.Str.{bytes_eq}
+use Rattle.std.proofs.lemmas.List.Folds.{list_all-append, list_any-append}
+use Rattle.std.proofs.lemmas.List.Elements.{filter-append}
+use Rattle.std.proofs.lemmas.Bool.Decides.{nat_tests}
+use Rattle.flat_base.specs.declared.ids.Actor.{Actor}
+use Rattle.flat_base.specs.declared.ids.Actor.TheVariants.{Display, Session, Probe}
+use Rattle.flat_base.specs.declared.ids.SessionNo.{SessionNo}
+use Rattle.flat_scene.specs.declared.setup.Setup.{Setup}
+use Rattle.flat_scene.specs.declared.setup.PairDecl.{PairDecl}
+use Rattle.flat_scene.specs.declared.setup.BufferDecl.{BufferDecl}
+use Rattle.flat_scene.specs.declared.setup.FenceDecl.{FenceDecl}
+use Rattle.flat_scene.specs.History.{is_display}
+use Rattle.flat_scene.specs.Setups.{is_within, is_declared, may_own, is_pair_declared, is_buffer_declared, is_fence_declared, owners_declared, is_within_limits, has_one_display_pair, is_setup}
+use Rattle.flat_text.specs.Number.{natural}
+use Rattle.flat_script.specs.declared.script.Script.{Script}
+use Rattle.flat_script.specs.Forms.{Word, whole, each, one_or_more, ◌<$>◌}
+use Rattle.flat_script.specs.Names.{session_named, owner_named, is_actor}
+use Rattle.flat_script.specs.Places.{number_from}
+use Rattle.flat_script.specs.Head.{empty, size, side, owner_word, has_display, has_display_pair, is_ready}
+use Rattle.flat_script.proofs.FormLemmas.{both_ok, or_kind_ok, whole_ok, apply_ok, map_ok, place_ok}
+use Rattle.flat_script.proofs.StepLemmas.{SizeStep, SessionStep, BuffersStep, PairStep, FenceStep, Step, size_step, session_step, buffers_step, pair_step, fence_step}
+use Rattle.flat_playable.proofs.PlayedLemmas.{within_of, session_declared, owner_declared}
+
+-- tests
+
+and_both : (a b : Bool) → (a && b) ≡ true → (a ≡ true) × (b ≡ true)
+and_both true b h = (refl, h)
+and_both false b h = absurd (cc)
+
+pub both_true : (a b : Bool) → a ≡ true → b ≡ true → (a && b) ≡ true
+both_true a b p q = ap (λ x. x && b) p ∙ q
+
+all_more : {A : Type 0} (p q : A → Bool) (xs : List A) → ((x : A) → p x ≡ true → q x ≡ true) → list_all p xs ≡ true → list_all q xs ≡ true
+all_more p q [] more all = refl
+all_more p q (x ∷ xs) more all = let b = and_both (p x) (list_all p xs) all in both_true (q x) (list_all q xs) (more x b.0) (all_more p q xs more b.1)
+
+one_more : {A : Type 0} (p : A → Bool) (xs : List A) (x : A) → list_all p xs ≡ true → p x ≡ true → list_all p (xs ++ x ∷ []) ≡ true
+one_more p xs x all one = list_all-append p xs (x ∷ []) ∙ both_true _ _ all (both_true (p x) true one refl)
+
+-- numbers of a range
+
+passes_by : (p : ℕ → Bool) (n v : ℕ) (b : Bool) → p n ≡ b → cond b (Some n) None ≡ Some v → p v ≡ true
+passes_by p n v true at is = let e : n ≡ v = cc in ap p (sym e) ∙ at
+passes_by p n v false at is = absurd (cc)
+
+test_passes : (p : ℕ → Bool) (o : Option ℕ) (v : ℕ) → option_and_then (λ n. if p n then Some n else None) o ≡ Some v → p v ≡ true
+test_passes p None v is = absurd (cc)
+test_passes p (Some n) v is = passes_by p n v (p n) refl is
+
+is_within_of : (most n : ℕ) → (nat_le 1 n && nat_le n most) ≡ true → is_within most n ≡ true
+is_within_of most n is = let b = and_both (nat_le 1 n) (nat_le n most) is in ranged b.0 b.1
+  where
+    ranged : nat_le 1 n ≡ true → nat_le n most ≡ true → is_within most n ≡ true
+    ranged p q = let some : 0 < n = grind (arith, nat_tests) in let few : n ≤ most = grind (arith, nat_tests) in within_of most n some few
+
+from_one : (most : ℕ) (w : Word) (n : ℕ) → (number_from 1 most (w ∷ [])).0 ≡ Ok n → is_within most n ≡ true
+from_one most w n is = is_within_of most n (test_passes (λ k. nat_le 1 k && nat_le k most) (natural w) n (or_kind_ok 7 _ n is))
+
+size_taken : (words : List Word) (w h : ℕ) → whole size words ≡ Ok (w, h) → (is_within 65536 w ≡ true) × (is_within 65536 h ≡ true)
+size_taken words w h is =
+    let pair : ℕ → ℕ → ℕ × ℕ = λ a b. (a, b) in
+    let last = apply_ok (pair <$> side) side words (w, h) [] (whole_ok size words (w, h) is) in
+    let first = map_ok pair side words last.g last.mid last.first in
+    let x = place_ok _ words first.a last.mid first.given in
+    let y = place_ok _ last.mid last.a [] last.second in
+    let value : pair first.a last.a ≡ (w, h) = ap (λ g. g last.a) first.value ∙ last.value in
+    (ap (is_within 65536) (sym (ap (λ v. v.0) value)) ∙ from_one 65536 x.word first.a x.passes, ap (is_within 65536) (sym (ap (λ v. v.1) value)) ∙ from_one 65536 y.word last.a y.passes)
+
+-- a declared session stays declared when there is one session more
+declared_more : (setup : Setup) (s : SessionNo) → is_declared setup s ≡ true → is_declared (record setup { sessions = setup.sessions + 1 }) s ≡ true
+declared_more setup s is = let b = and_both (nat_lt 0 s.0) (nat_le s.0 setup.sessions) is in both_true _ _ b.0 (wider s.0 setup.sessions b.1)
+  where
+    wider : (n m : ℕ) → nat_le n m ≡ true → nat_le n (m + 1) ≡ true
+    wider n m q = grind (arith, nat_tests)
+
+owner_more : (setup : Setup) (a : Actor) → may_own setup a ≡ true → may_own (record setup { sessions = setup.sessions + 1 }) a ≡ true
+owner_more setup Display is = refl
+owner_more setup (Session s) is = declared_more setup s is
+owner_more setup (Probe p) is = absurd (cc)
+
+pair_more : (setup : Setup) (d : PairDecl) → is_pair_declared setup d ≡ true → is_pair_declared (record setup { sessions = setup.sessions + 1 }) d ≡ true
+pair_more setup d is = let b = and_both (may_own setup d.viewport) (is_declared setup d.view) is in both_true _ _ (owner_more setup d.viewport b.0) (declared_more setup d.view b.1)
+
+buffer_more : (setup : Setup) (d : BufferDecl) → is_buffer_declared setup d ≡ true → is_buffer_declared (record setup { sessions = setup.sessions + 1 }) d ≡ true
+buffer_more setup d is =
+    let count = is_within 64 d.count in
+    let w = is_within 65536 d.w in
+    let h = is_within 65536 d.h in
+    let c = and_both (is_declared setup d.owner && count && w) h is in
+    let b = and_both (is_declared setup d.owner && count) w c.0 in
+    let a = and_both (is_declared setup d.owner) count b.0 in
+    let more = is_declared (record setup { sessions = setup.sessions + 1 }) d.owner in
+    both_true (more && count && w) h (both_true (more && count) w (both_true more count (declared_more setup d.owner a.0) a.1) b.1) c.1
+
+fence_more : (setup : Setup) (d : FenceDecl) → is_fence_declared setup d ≡ true → is_fence_declared (record setup { sessions = setup.sessions + 1 }) d ≡ true
+fence_more setup d is =
+    let b = and_both (nat_lt 0 (length d.owners)) (list_all (may_own setup) d.owners) is in
+    both_true _ _ b.0 (all_more (may_own setup) (may_own (record setup { sessions = setup.sessions + 1 })) d.owners (owner_more setup) b.1)
+
+-- what a head keeps
+pub record HeadKept (u : Script) : Type 0 where
+  pub lines : u.lines ≡ []
+  pub probes : u.setup.probes ≡ 0
+  pub sessions : u.setup.sessions ≡ length u.sessions
+  pub few_sessions : length u.sessions ≤ 16
+  pub buffer_names : length u.setup.buffers ≡ length u.buffers
+  pub few_buffers : length u.buffers ≤ 256
+  pub pair_names : length u.setup.pairs ≡ length u.pairs
+  pub few_pairs : length u.pairs ≤ 4096
+  pub fence_names : length u.setup.fences ≡ length u.fences
+  pub few_fences : length u.fences ≤ 4096
+  pub sizes : has_display u ≡ true → (is_within 65536 u.setup.width ≡ true) × (is_within 65536 u.setup.height ≡ true)
+  pub pairs_owned : list_all (is_pair_declared u.setup) u.setup.pairs ≡ true
+  pub buffers_owned : list_all (is_buffer_declared u.setup) u.setup.buffers ≡ true
+  pub fences_owned : list_all (is_fence_declared u.setup) u.setup.fences ≡ true
+  pub shown : length (filter (λ (pair : PairDecl). is_display pair.viewport) u.setup.pairs) ≡ cond (has_display_pair u) 1 0
+
+pub head_empty : HeadKept empty
+head_empty = record {
+  lines = refl;
+  probes = refl;
+  sessions = refl;
+  few_sessions = omega arith;
+  buffer_names = refl;
+  few_buffers = omega arith;
+  pair_names = refl;
+  few_pairs = omega arith;
+  fence_names = refl;
+  few_fences = omega arith;
+  sizes = λ is. absurd (let e : false ≡ true = is in cc);
+  pairs_owned = refl;
+  buffers_owned = refl;
+  fences_owned = refl;
+  shown = refl;
+}
+
+few_more : {A B : Type 0} (xs : List A) (ys : List B) (x : A) (y : B) → length xs ≡ length ys → length (xs ++ x ∷ []) ≡ length (ys ++ y ∷ [])
+few_more xs ys x y same = omega (arith, length-append xs (x ∷ []), length-append ys (y ∷ []))
+
+room_left : {A : Type 0} (xs : List A) (x : A) (most : ℕ) → nat_lt (length xs) most ≡ true → length (xs ++ x ∷ []) ≤ most
+room_left xs x most room = let less : length xs < most = grind (arith, nat_tests) in omega (arith, length-append xs (x ∷ []))
+
+size_kept : (u : Script) (ws : List Word) (t : Script) → SizeStep u ws t → HeadKept u → HeadKept t
+size_kept u ws t x o =
+    let P : Script → Type 0 = HeadKept in
+    let taken = size_taken x.rest x.w x.h x.read in
+    subst P (sym x.made) (record {
+      lines = o.lines;
+      probes = o.probes;
+      sessions = o.sessions;
+      few_sessions = o.few_sessions;
+      buffer_names = o.buffer_names;
+      few_buffers = o.few_buffers;
+      pair_names = o.pair_names;
+      few_pairs = o.few_pairs;
+      fence_names = o.fence_names;
+      few_fences = o.few_fences;
+      sizes = λ is. taken;
+      pairs_owned = o.pairs_owned;
+      buffers_owned = o.buffers_owned;
+      fences_owned = o.fences_owned;
+      shown = o.shown;
+    })
+
+session_kept : (u : Script) (ws : List Word) (t : Script) → SessionStep u ws t → HeadKept u → HeadKept t
+session_kept u ws t x o =
+    let P : Script → Type 0 = HeadKept in
+    let more : Setup = record u.setup { sessions = u.setup.sessions + 1 } in
+    let before = o.sessions in
+    subst P (sym x.made) (record {
+      lines = o.lines;
+      probes = o.probes;
+      sessions = omega (arith, length-append u.sessions (x.name ∷ []));
+      few_sessions = room_left u.sessions x.name 16 x.room;
+      buffer_names = o.buffer_names;
+      few_buffers = o.few_buffers;
+      pair_names = o.pair_names;
+      few_pairs = o.few_pairs;
+      fence_names = o.fence_names;
+      few_fences = o.few_fences;
+      sizes = o.sizes;
+      pairs_owned = all_more (is_pair_declared u.setup) (is_pair_declared more) u.setup.pairs (pair_more u.setup) o.pairs_owned;
+      buffers_owned = all_more (is_buffer_declared u.setup) (is_buffer_declared more) u.setup.buffers (buffer_more u.setup) o.buffers_owned;
+      fences_owned = all_more (is_fence_declared u.setup) (is_fence_declared more) u.setup.fences (fence_more u.setup) o.fences_owned;
+      shown = o.shown;
+    })
+
+buffers_kept : (u : Script) (ws : List Word) (t : Script) → BuffersStep u ws t → HeadKept u → HeadKept t
+buffers_kept u ws t x o =
+    let P : Script → Type 0 = HeadKept in
+    let owned = session_declared u x.owner x.decl.owner o.sessions x.owned in
+    let count = both_true (is_declared u.setup x.decl.owner) (is_within 64 x.decl.count) owned (from_one 64 x.a x.decl.count x.count) in
+    let width = both_true _ (is_within 65536 x.decl.w) count (from_one 65536 x.b x.decl.w x.width) in
+    let good : is_buffer_declared u.setup x.decl ≡ true = both_true _ (is_within 65536 x.decl.h) width (from_one 65536 x.c x.decl.h x.height) in
+    subst P (sym x.made) (record {
+      lines = o.lines;
+      probes = o.probes;
+      sessions = o.sessions;
+      few_sessions = o.few_sessions;
+      buffer_names = few_more u.setup.buffers u.buffers x.decl x.name o.buffer_names;
+      few_buffers = room_left u.buffers x.name 256 x.room;
+      pair_names = o.pair_names;
+      few_pairs = o.few_pairs;
+      fence_names = o.fence_names;
+      few_fences = o.few_fences;
+      sizes = o.sizes;
+      pairs_owned = o.pairs_owned;
+      buffers_owned = one_more (is_buffer_declared u.setup) u.setup.buffers x.decl o.buffers_owned good;
+      fences_owned = o.fences_owned;
+      shown = o.shown;
+    })
+
+-- pairs with the display
+
+-- a pair whose viewport end is the display's, as setups say it
+abbrev shown_pair : PairDecl → Bool
+shown_pair pair = is_display pair.viewport
+
+-- the same, as the reader says it
+abbrev display_pair : PairDecl → Bool
+display_pair pair = is_actor Display pair.viewport
+
+same_test : (a : Actor) → is_actor Display a ≡ is_display a
+same_test Display = refl
+same_test (Session s) = refl
+same_test (Probe p) = refl
+
+-- one pair more, with the display only where no pair has it yet
+shown_more : (pairs : List PairDecl) (d : PairDecl) (has is : Bool) → list_any display_pair pairs ≡ has → is_display d.viewport ≡ is → (is && has) ≡ false
+    → length (filter shown_pair pairs) ≡ cond has 1 0 → length (filter shown_pair (pairs ++ d ∷ [])) ≡ cond (list_any display_pair (pairs ++ d ∷ [])) 1 0
+shown_more pairs d has is had shows lone before =
+    ap length (filter-append shown_pair pairs (d ∷ [])) ∙ length-append (filter shown_pair pairs) (filter shown_pair (d ∷ [])) ∙ ap (λ k. k + length (filter shown_pair (d ∷ []))) before
+    ∙ ap (λ b. cond has 1 0 + length (cond b (d ∷ []) [])) shows ∙ counts has is lone
+    ∙ sym (ap (λ b. cond b 1 0) (list_any-append display_pair pairs (d ∷ []) ∙ ap (λ b. b || (display_pair d || false)) had ∙ ap (λ b. has || (b || false)) (same_test d.viewport ∙ shows)))
+  where
+    counts : (h i : Bool) → (i && h) ≡ false → cond h 1 0 + length (cond i (d ∷ []) []) ≡ cond (h || (i || false)) 1 0
+    counts true true wrong = absurd (cc)
+    counts true false fine = refl
+    counts false true fine = refl
+    counts false false fine = refl
+
+-- an owner that is the display is written so
+display_named_by : (u : Script) (w : Word) (a : Actor) (b : Bool) → bytes_eq w (codes "display") ≡ b → owner_named u w ≡ Some a → is_display a ≡ true → bytes_eq w (codes "display") ≡ true
+display_named_by u w a true at is shows = at
+display_named_by u w (Session s) false at is shows = absurd (cc)
+display_named_by u w (Probe p) false at is shows = absurd (cc)
+display_named_by u w Display false at is shows = absurd (by_session (session_named u w) (sym (rw at refl) ∙ is))
+  where
+    by_session : (o : Option SessionNo) → option_map Session o ≡ Some Display → ⊥
+    by_session None wrong = cc
+    by_session (Some s) wrong = cc
+
+pair_alone : (u : Script) (w : Word) (a : Actor) (is : Bool) → is_display a ≡ is → owner_named u w ≡ Some a → (bytes_eq w (codes "display") && has_display_pair u) ≡ false → (is && has_display_pair u) ≡ false
+pair_alone u w a false shows named single = refl
+pair_alone u w a true shows named single = let word = display_named_by u w a (bytes_eq w (codes "display")) refl named shows in ap (λ b. b && has_display_pair u) (sym word) ∙ single
+
+pair_kept : (u : Script) (ws : List Word) (t : Script) → PairStep u ws t → HeadKept u → HeadKept t
+pair_kept u ws t x o =
+    let P : Script → Type 0 = HeadKept in
+    let good : is_pair_declared u.setup x.decl ≡ true = both_true (may_own u.setup x.decl.viewport) (is_declared u.setup x.decl.view) (owner_declared u x.x x.decl.viewport o.sessions x.viewport) (session_declared u x.y x.decl.view o.sessions x.view) in
+    subst P (sym x.made) (record {
+      lines = o.lines;
+      probes = o.probes;
+      sessions = o.sessions;
+      few_sessions = o.few_sessions;
+      buffer_names = o.buffer_names;
+      few_buffers = o.few_buffers;
+      pair_names = few_more u.setup.pairs u.pairs x.decl x.name o.pair_names;
+      few_pairs = room_left u.pairs x.name 4096 x.room;
+      fence_names = o.fence_names;
+      few_fences = o.few_fences;
+      sizes = o.sizes;
+      pairs_owned = one_more (is_pair_declared u.setup) u.setup.pairs x.decl o.pairs_owned good;
+      buffers_owned = o.buffers_owned;
+      fences_owned = o.fences_owned;
+      shown = shown_more u.setup.pairs x.decl (has_display_pair u) (is_display x.decl.viewport) refl refl (pair_alone u x.x x.decl.viewport (is_display x.decl.viewport) refl x.viewport x.single) o.shown;
+    })
+
+-- owners of a fence
+owners_each : (u : Script) (ws : List Word) (actors : List Actor) → u.setup.sessions ≡ length u.sessions → each (owner_word u) ws ≡ Ok actors → list_all (may_own u.setup) actors ≡ true
+owners_each u [] actors many is = let e : [] ≡ actors = cc in ap (list_all (may_own u.setup)) (sym e)
+owners_each u (w ∷ ws) actors many is =
+    let parts = both_ok (λ a rest. a ∷ rest) (owner_word u w) (each (owner_word u) ws) actors is in
+    ap (list_all (may_own u.setup)) (sym parts.value) ∙ both_true (may_own u.setup parts.a) (list_all (may_own u.setup) parts.b) (owner_declared u w parts.a many (or_kind_ok 9 (owner_named u w) parts.a parts.first)) (owners_each u ws parts.b many parts.second)
+
+owners_some : (u : Script) (ws : List Word) (d : FenceDecl) → u.setup.sessions ≡ length u.sessions → one_or_more (owner_word u) ws ≡ Ok d.owners → is_fence_declared u.setup d ≡ true
+owners_some u [] d many is = absurd (cc)
+owners_some u (w ∷ ws) d many is =
+    let parts = both_ok (λ a rest. a ∷ rest) (owner_word u w) (each (owner_word u) ws) d.owners is in
+    both_true (nat_lt 0 (length d.owners)) (list_all (may_own u.setup) d.owners) (ap (λ l. nat_lt 0 (length l)) (sym parts.value) ∙ some parts.a parts.b) (owners_each u (w ∷ ws) d.owners many is)
+  where
+    some : (x : Actor) (xs : List Actor) → nat_lt 0 (length (x ∷ xs)) ≡ true
+    some x xs = grind (arith, nat_tests)
+
+fence_kept : (u : Script) (ws : List Word) (t : Script) → FenceStep u ws t → HeadKept u → HeadKept t
+fence_kept u ws t x o =
+    let P : Script → Type 0 = HeadKept in
+    subst P (sym x.made) (record {
+      lines = o.lines;
+      probes = o.probes;
+      sessions = o.sessions;
+      few_sessions = o.few_sessions;
+      buffer_names = o.buffer_names;
+      few_buffers = o.few_buffers;
+      pair_names = o.pair_names;
+      few_pairs = o.few_pairs;
+      fence_names = few_more u.setup.fences u.fences x.decl x.name o.fence_names;
+      few_fences = room_left u.fences x.name 4096 x.room;
+      sizes = o.sizes;
+      pairs_owned = o.pairs_owned;
+      buffers_owned = o.buffers_owned;
+      fences_owned = one_more (is_fence_declared u.setup) u.setup.fences x.decl o.fences_owned (owners_some u x.rest x.decl o.sessions x.owners);
+      shown = o.shown;
+    })
+
+pub step_kept : (u : Script) (ws : List Word) (t : Script) → Step u ws t → HeadKept u → HeadKept t
+step_kept u ws t (size_step x) o = size_kept u ws t x o
+step_kept u ws t (session_step x) o = session_kept u ws t x o
+step_kept u ws t (buffers_step x) o = buffers_kept u ws t x o
+step_kept u ws t (pair_step x) o = pair_kept u ws t x o
+step_kept u ws t (fence_step x) o = fence_kept u ws t x o
+
+-- a head that is ready gives a setup
+
+within_most : (n m most : ℕ) → n ≡ m → m ≤ most → nat_le n most ≡ true
+within_most n m most same few = let k : n ≤ most = omega arith in grind (arith, nat_tests)
+
+one_shown : (u : Script) → HeadKept u → has_display_pair u ≡ true → has_one_display_pair u.setup ≡ true
+one_shown u o has = ap (λ n. n == 1) (o.shown ∙ ap (λ b. cond b 1 0) has)
+
+pub setup_given : (u : Script) → HeadKept u → is_ready u ≡ true → is_setup u.setup ≡ true
+setup_given u o ready =
+    let r = and_both (has_display u && nat_lt 0 (length u.sessions)) (has_display_pair u) ready in
+    let q = and_both (has_display u) (nat_lt 0 (length u.sessions)) r.0 in
+    let sizes = o.sizes q.0 in
+    let some : 0 < length u.sessions = positive (length u.sessions) q.1 in
+    let sessions : is_within 16 u.setup.sessions ≡ true = ap (is_within 16) o.sessions ∙ within_of 16 (length u.sessions) some o.few_sessions in
+    let probes : nat_le u.setup.probes 8 ≡ true = ap (λ n. nat_le n 8) o.probes in
+    let pairs = within_most (length u.setup.pairs) (length u.pairs) 4096 o.pair_names o.few_pairs in
+    let buffers = within_most (length u.setup.buffers) (length u.buffers) 256 o.buffer_names o.few_buffers in
+    let fences = within_most (length u.setup.fences) (length u.fences) 4096 o.fence_names o.few_fences in
+    let limits : is_within_limits u.setup ≡ true =
+    both_true _ (nat_le (length u.setup.fences) 4096) (both_true _ (nat_le (length u.setup.buffers) 256) (both_true _ (nat_le (length u.setup.pairs) 4096) (both_true _ (nat_le u.setup.probes 8) (both_true _ (is_within 16 u.setup.sessions) (both_true (is_within 65536 u.setup.width) (is_within 65536 u.setup.height) sizes.0 sizes.1) sessions) probes) pairs) buffers) fences in
+    let owners : owners_declared u.setup ≡ true = both_true _ (list_all (is_fence_declared u.setup) u.setup.fences) (both_true (list_all (is_pair_declared u.setup) u.setup.pairs) (list_all (is_buffer_declared u.setup) u.setup.buffers) o.pairs_owned o.buffers_owned) o.fences_owned in
+    both_true _ (has_one_display_pair u.setup) (both_true (is_within_limits u.setup) (owners_declared u.setup) limits owners) (one_shown u o r.1)
+  where
+    positive : (n : ℕ) → nat_lt 0 n ≡ true → 0 < n
+    positive n is = grind (arith, nat_tests)

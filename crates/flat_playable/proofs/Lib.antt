@@ -1,0 +1,4 @@
+pub mod PlayedLemmas
+pub mod BodyLemmas
+pub mod HeadLemmas
+pub mod AcceptedLemmas

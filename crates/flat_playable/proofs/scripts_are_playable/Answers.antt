@@ -1,0 +1,26 @@
+use Rattle.flat_playable.proofs.AcceptedLemmas.{accepted, playable_of}
+use Rattle.flat_playable.proofs.scripts_are_playable.Goals as goal
+
+pub returns-clause-played : goal.returns-clause-played
+returns-clause-played c = λ bytes script is. (accepted bytes script is).played
+
+pub returns-clause-frames : goal.returns-clause-frames
+returns-clause-frames c = λ bytes script is. (accepted bytes script is).frames
+
+pub returns-clause-rise : goal.returns-clause-rise
+returns-clause-rise c = λ bytes script is. (accepted bytes script is).rise
+
+pub returns-clause-counted : goal.returns-clause-counted
+returns-clause-counted c = λ bytes script is. (accepted bytes script is).counted
+
+pub returns-clause-count : goal.returns-clause-count
+returns-clause-count c = λ bytes script is. (accepted bytes script is).count
+
+pub returns-clause-probes : goal.returns-clause-probes
+returns-clause-probes c = λ bytes script is. (accepted bytes script is).probes
+
+pub returns-clause-setup : goal.returns-clause-setup
+returns-clause-setup c = λ bytes script is. (accepted bytes script is).setup
+
+pub returns-clause-playable : goal.returns-clause-playable
+returns-clause-playable c = λ bytes script is. playable_of script (accepted bytes script is)

@@ -1,0 +1,40 @@
+-- Every script that the reader accepts is one that is played: each part of the test, and the whole.
+use Rattle.std.specs.Prelude.{◌≡◌, ℕ, false, true, nat_le, ◌==◌, List}
+use Rattle.std.specs.List.{list_all}
+use Rattle.flat_base.specs.declared.limits.TheConstants.{SCRIPT_BYTES_MAX}
+use Rattle.flat_scene.specs.Setups.{is_setup}
+use Rattle.flat_script.specs.declared.script.Script.{Script}
+use Rattle.flat_script.specs.Grammar.{IsScript}
+use Rattle.flat_playable.specs.Playable.{is_playable, rise_from, frames_close, is_played}
+
+-- its setup is one that a head can give
+abbrev pub SetupsAreGiven : Type 0
+SetupsAreGiven = (bytes : List ℕ) (script : Script) → IsScript bytes script → is_setup script.setup ≡ true
+
+-- it has no probes
+abbrev pub NoProbes : Type 0
+NoProbes = (bytes : List ℕ) (script : Script) → IsScript bytes script → (script.setup.probes == 0) ≡ true
+
+-- its count of lines is within the limit of bytes
+abbrev pub CountsAreWithin : Type 0
+CountsAreWithin = (bytes : List ℕ) (script : Script) → IsScript bytes script → nat_le script.count SCRIPT_BYTES_MAX ≡ true
+
+-- the numbers of its lines rise
+abbrev pub LinesRise : Type 0
+LinesRise = (bytes : List ℕ) (script : Script) → IsScript bytes script → rise_from 0 script.lines ≡ true
+
+-- no line has a number above the count
+abbrev pub LinesAreCounted : Type 0
+LinesAreCounted = (bytes : List ℕ) (script : Script) → IsScript bytes script → list_all (λ next. nat_le next.number script.count) script.lines ≡ true
+
+-- its frames are begun and done in turn
+abbrev pub FramesClose : Type 0
+FramesClose = (bytes : List ℕ) (script : Script) → IsScript bytes script → frames_close false 0 script.lines ≡ true
+
+-- each line is one that is played
+abbrev pub LinesArePlayed : Type 0
+LinesArePlayed = (bytes : List ℕ) (script : Script) → IsScript bytes script → list_all (λ next. is_played script.setup next.actor next.body) script.lines ≡ true
+
+-- the whole test
+abbrev pub ScriptsArePlayable : Type 0
+ScriptsArePlayable = (bytes : List ℕ) (script : Script) → IsScript bytes script → is_playable script ≡ true

@@ -1,0 +1,60 @@
+-- A frame is composed of what the sessions show.
+use Rattle.std.proofs.Common.{◌≡◌, ℕ, suc, ◌<◌, ◌≤◌, Bool, true, false, ◌&&◌, nat_lt, nat_le, List, length, refl, sym, ap, ◌∙◌, subst, arith}
+use Rattle.std.proofs.lemmas.Bool.Decides.{nat_tests}
+use Rattle.flat_base.specs.declared.ids.SessionNo.{SessionNo}
+use Rattle.flat_base.specs.declared.limits.TheConstants.{SESSIONS_MAX, SIDE_MAX}
+use Rattle.flat_scene.specs.declared.frames.DrawItem.{DrawItem}
+use Rattle.flat_scene.specs.declared.frames.FrameOut.{FrameOut}
+use Rattle.flat_scene.specs.declared.frames.SessionSet.{SessionSet}
+use Rattle.flat_scene.specs.declared.frames.ViewTree.{ViewTree}
+use Rattle.flat_scene.specs.declared.journal.Entry.{Entry}
+use Rattle.flat_scene.specs.declared.setup.Setup.{Setup}
+use Rattle.flat_scene.specs.Setups.{is_declared, is_setup, is_within_limits}
+use Rattle.flat_core.specs.Ends.{to_begin, has_view}
+use Rattle.flat_core.specs.Legal.{Legal}
+use Rattle.flat_core.specs.Plain.{are_plain}
+use Rattle.flat_core.specs.Shown.{shown_states}
+use Rattle.flat_topology.specs.declared.Joined.{Joined}
+use Rattle.flat_topology.specs.Connected.{joined_lists}
+use Rattle.flat_topology.specs.Draw.{items_of}
+use Rattle.flat_topology.specs.Fit.{FitsSetup}
+use Rattle.flat_topology.specs.Shown.{Shown}
+use Rattle.flat_topology.specs.Views.{is_member, view_tree}
+use Rattle.flat_tree.specs.Laws.{TreesFollow, IsSetOf}
+use Rattle.flat_tree.specs.Trees.{tree_from}
+use Rattle.flat_report.specs.Report.{frame_at}
+use Rattle.flat_run.specs.Playing.{FramesStand, HasViews}
+use Rattle.flat_run.proofs.ShownFits.{begun_fits, length_sessions}
+use Rattle.flat_run.proofs.Tests.{and_left, and_right, and_true}
+
+pub few_sessions : (setup : Setup) → is_setup setup ≡ true → setup.sessions ≤ SESSIONS_MAX
+few_sessions setup is =
+    let within : (nat_lt 0 setup.sessions && nat_le setup.sessions SESSIONS_MAX) ≡ true = and_right _ _ (and_left _ _ (and_left _ _ (and_left _ _ (and_left _ _ (and_left _ _ (and_left _ _ is)))))) in
+    let few : nat_le setup.sessions SESSIONS_MAX ≡ true = and_right (nat_lt 0 setup.sessions) _ within in
+    grind (arith, nat_tests)
+
+module _ (setup : Setup) (history : List Entry) (shown : Shown) (views : SessionSet) (done : List FrameOut) (stands : FramesStand setup history shown views done) where
+  pub shown_count : length shown ≡ setup.sessions
+  shown_count = ap (length {A = _}) stands.showing ∙ length_sessions _ setup.sessions
+
+  pub shown_fits : Legal setup history → are_plain history ≡ true → FitsSetup setup shown
+  shown_fits legal plain = let P : Shown → Type 0 = FitsSetup setup in subst P (sym stands.showing) (begun_fits setup history legal plain)
+
+  set_of : HasViews setup views → IsSetOf setup (λ s. has_view setup (to_begin history) (record { 0 = s })) views
+  set_of none = record {
+    within = λ s above below.
+        let declared : is_declared setup (record { 0 = s }) ≡ true = and_true (let a : nat_lt 0 s ≡ true = grind (arith, nat_tests) in a) (let b : nat_le s setup.sessions ≡ true = grind (arith, nat_tests) in b) in
+        stands.viewing (record { 0 = s }) declared;
+    beyond = none;
+  }
+
+  pub composed : (n : ℕ) (joined : Joined) (items : List DrawItem) (tree : ViewTree) → is_setup setup ≡ true → TreesFollow → HasViews setup views → joined ≡ joined_lists setup shown → items ≡ items_of joined.nodes → tree ≡ tree_from joined views
+      → record { frame = record { 0 = n }; items = items; tree = tree } ≡ frame_at setup n (to_begin history)
+  composed n joined items tree is_one follow none joined_is items_is tree_is =
+      let has : ℕ → Bool = λ s. has_view setup (to_begin history) (record { 0 = s }) in
+      let drawn : items ≡ items_of (joined_lists setup shown).nodes = items_is ∙ ap (λ (j : Joined). items_of j.nodes) joined_is in
+      let viewed : tree ≡ view_tree setup shown has = tree_is ∙ ap (λ (j : Joined). tree_from j views) joined_is ∙ follow setup shown has views (few_sessions setup is_one) (set_of none) in
+      let drawn_then : items ≡ items_of (joined_lists setup (shown_states setup (to_begin history))).nodes = drawn ∙ ap (λ (sh : Shown). items_of (joined_lists setup sh).nodes) stands.showing in
+      let viewed_then : tree ≡ view_tree setup (shown_states setup (to_begin history)) has = viewed ∙ ap (λ (sh : Shown). view_tree setup sh has) stands.showing in
+      ap (λ (is : List DrawItem). let f : FrameOut = record { frame = record { 0 = n }; items = is; tree = tree } in f) drawn_then
+      ∙ ap (λ (t : ViewTree). let f : FrameOut = record { frame = record { 0 = n }; items = items_of (joined_lists setup (shown_states setup (to_begin history))).nodes; tree = t } in f) viewed_then

@@ -1,0 +1,230 @@
+-- The whole run after one more line of the script.
+use Rattle.std.proofs.Common.{◌≡◌, ◌≢◌, ℕ, zero, suc, ◌+◌, ◌-◌, ◌<◌, ◌≤◌, Bool, true, false, cond, ◌&&◌, ◌==◌, nat_lt, nat_le, List, [], ◌∷◌, ◌++◌, length, take, drop, map, get_or, set, refl, sym, ap, ◌∙◌, subst, arith, Option, Some, None, slice_get, get_or-set_other, get_or-set_same}
+use Rattle.std.proofs.lemmas.List.{length-set, map-append, get_or_append_left}
+use Rattle.std.proofs.Math.Seq.{get_or-append_seam}
+use Rattle.std.proofs.lemmas.Bool.{eq-eqb, eqb-true}
+use Rattle.std.proofs.lemmas.Bool.Decides.{nat_tests}
+use Rattle.flat_base.specs.declared.ids.Actor.{Actor}
+use Rattle.flat_base.specs.declared.ids.Actor.TheVariants.{Display, Session, Probe}
+use Rattle.flat_base.specs.declared.ids.SessionNo.{SessionNo}
+use Rattle.flat_scene.specs.declared.calls.Call.{Call}
+use Rattle.flat_scene.specs.declared.frames.FrameOut.{FrameOut}
+use Rattle.flat_scene.specs.declared.frames.SessionSet.{SessionSet}
+use Rattle.flat_topology.specs.Shown.{Shown}
+use Rattle.flat_scene.specs.declared.journal.Entry.{Entry}
+use Rattle.flat_scene.specs.declared.journal.Kind.{Kind}
+use Rattle.flat_scene.specs.declared.journal.Kind.TheVariants.{Begin, Finish}
+use Rattle.flat_scene.specs.declared.journal.Reply.{Reply}
+use Rattle.flat_scene.specs.declared.journal.Reply.TheVariants.{Done}
+use Rattle.flat_scene.specs.declared.script.Body.{Body}
+use Rattle.flat_scene.specs.declared.script.Body.TheVariants as body
+use Rattle.flat_scene.specs.declared.script.DisplayLine.{DisplayLine}
+use Rattle.flat_scene.specs.declared.script.DisplayLine.TheVariants as display
+use Rattle.flat_scene.specs.declared.script.Line.{Line}
+use Rattle.flat_scene.specs.declared.script.ScriptLine.{ScriptLine}
+use Rattle.flat_scene.specs.declared.setup.Setup.{Setup}
+use Rattle.flat_scene.specs.Frames.{sessions_to}
+use Rattle.flat_scene.specs.History.{◌▹◌, is_session, is_display}
+use Rattle.flat_scene.specs.Setups.{is_declared}
+use Rattle.flat_core.specs.Boards.{Machine, HasShare, MayCall, entered, entry_of, made}
+use Rattle.flat_core.specs.Ends.{to_begin, has_view}
+use Rattle.flat_topology.specs.Views.{is_member}
+use Rattle.flat_core.specs.Legal.{frames}
+use Rattle.flat_core.specs.Shown.{shown_states}
+use Rattle.flat_report.specs.Report.{frame_at, finished}
+use Rattle.flat_script.specs.declared.script.Script.{Script}
+use Rattle.flat_run.specs.declared.game.Game.{Game}
+use Rattle.flat_run.specs.declared.player.Player.{Player}
+use Rattle.flat_playable.specs.Playable.{is_played, is_playable}
+use Rattle.flat_run.specs.Playing.{IsSpent, lines_by, rest_shares, shares_of, Grows, grows, stays, is_quiet, PlayerStands, PlayersStand, DisplayStands, FramesStand, GameStands, BeginsFrame, FinishesFrame, HasViews}
+use Rattle.flat_run.proofs.DisplaySteps.{QuietStep, quiet_end, display_session, display_begin, display_done, display_share, begin_time_ok, done_ok, may_begin, may_finish, frames_session, frames_begin, frames_done}
+use Rattle.flat_run.proofs.DisplaySteps as quiet
+use Rattle.flat_run.proofs.ShownFits.{length_sessions}
+use Rattle.flat_run.proofs.Steps.{At, Step, same, more, order_more, spent_more, player_other}
+use Rattle.flat_run.proofs.Tests.{and_left, and_right}
+
+-- ---- sessions and their shares
+
+abbrev share_of : Script → SessionNo → ℕ
+share_of script s = lines_by s.0 script.lines + 1
+
+last_share : (script : Script) (n k : ℕ) (b : Bool) → nat_lt k n ≡ b → k < suc n → (k < n → get_or (map (share_of script) (sessions_to n)) k 0 ≡ lines_by (suc k) script.lines + 1)
+    → get_or (map (share_of script) (sessions_to n) ++ (lines_by (suc n) script.lines + 1) ∷ []) k 0 ≡ lines_by (suc k) script.lines + 1
+last_share script n k true is below earlier =
+    let less : k < n = grind (arith, nat_tests) in
+    let inside : k < length (map (share_of script) (sessions_to n)) = let count : length (map (share_of script) (sessions_to n)) ≡ n = length_sessions (share_of script) n in omega arith in
+    get_or_append_left (map (share_of script) (sessions_to n)) ((lines_by (suc n) script.lines + 1) ∷ []) 0 k inside ∙ earlier less
+last_share script n k false is below earlier =
+    let same : k ≡ n = grind (arith, nat_tests) in
+    let count : length (map (share_of script) (sessions_to n)) ≡ n = length_sessions (share_of script) n in
+    ap (get_or (map (share_of script) (sessions_to n) ++ (lines_by (suc n) script.lines + 1) ∷ []) k) refl
+    ∙ ap (λ i. get_or (map (share_of script) (sessions_to n) ++ (lines_by (suc n) script.lines + 1) ∷ []) i 0) (same ∙ sym count)
+    ∙ get_or-append_seam (map (share_of script) (sessions_to n)) (lines_by (suc n) script.lines + 1) [] 0
+    ∙ ap (λ i. lines_by (suc i) script.lines + 1) (sym same)
+
+share_at : (script : Script) (n k : ℕ) → k < n → get_or (map (share_of script) (sessions_to n)) k 0 ≡ lines_by (suc k) script.lines + 1
+share_at script zero k below = absurd (omega arith)
+share_at script (suc n) k below =
+    ap (λ xs. get_or xs k 0) (map-append (share_of script) (sessions_to n) ((record { 0 = suc n }) ∷ []))
+    ∙ last_share script n k (nat_lt k n) refl below (λ less. share_at script n k less)
+
+has_room : (script : Script) (m : Machine) (n : ℕ) → 0 < n → n ≤ script.setup.sessions → m.shares ≡ shares_of script → made n m.history ≤ lines_by n script.lines → made n m.history < get_or m.shares n 0
+has_room script m zero above below shares few = absurd (omega arith)
+has_room script m (suc k) above below shares few =
+    let share : get_or m.shares (suc k) 0 ≡ lines_by (suc k) script.lines + 1 = ap (λ xs. get_or xs (suc k) 0) shares ∙ share_at script script.setup.sessions k (omega arith) in
+    omega arith
+
+pub below_declared : (setup : Setup) (s : SessionNo) → is_declared setup s ≡ true → (0 < s.0) × (s.0 ≤ setup.sessions)
+below_declared setup s declared =
+    (let a : nat_lt 0 s.0 ≡ true = and_left _ _ declared in grind (arith, nat_tests), let b : nat_le s.0 setup.sessions ≡ true = and_right (nat_lt 0 s.0) _ declared in grind (arith, nat_tests))
+
+-- what a board that grows keeps
+record Grown (x : ScriptLine) (old new : Machine) : Type 0 where
+  setup : new.setup ≡ old.setup
+  shares : new.shares ≡ old.shares
+  step : Step x old.history new.history
+  calm : QuietStep old.history new.history
+
+grown_is : (x : ScriptLine) (s : SessionNo) (old new : Machine) → x.actor ≡ Session s → Grows old new (Session s) x.number → Grown x old new
+grown_is x s old new actor (stays is) = record {
+  setup = ap (λ (m : Machine). m.setup) is;
+  shares = ap (λ (m : Machine). m.shares) is;
+  step = same (ap (λ (m : Machine). m.history) is);
+  calm = quiet.same (ap (λ (m : Machine). m.history) is);
+}
+grown_is x s old new actor (grows carries kind reply calm is) =
+    let e : Entry = entry_of (Session s) x.number carries kind reply in
+    record {
+      setup = ap (λ (m : Machine). m.setup) is;
+      shares = ap (λ (m : Machine). m.shares) is;
+      step = more e (sym actor) refl (quiet_end kind calm) (ap (λ (m : Machine). m.history) is);
+      calm = quiet.more e refl calm (ap (λ (m : Machine). m.history) is);
+    }
+
+not_same : (n m : ℕ) → n ≢ m → (n == m) ≡ false
+not_same n m other = grind (arith, nat_tests)
+
+module _ (script : Script) (place : ℕ) (x : ScriptLine) (at : At script place x) where
+  pub session_share : (m : Machine) (s : SessionNo) → m.shares ≡ shares_of script → is_declared script.setup s ≡ true → IsSpent script place m.history → HasShare m (Session s)
+  session_share m s shares declared spent =
+      let within = below_declared script.setup s declared in
+      let few : made s.0 m.history ≤ lines_by s.0 script.lines = let now = spent.spent s.0 in omega arith in
+      has_room script m s.0 within.0 within.1 shares few
+
+  -- all players, where one has played the line
+  players_more : (s : SessionNo) (old new : List Entry) (players : List Player) (player : Player) → x.actor ≡ Session s → 0 < s.0 → s.0 ≤ length players → Step x old new
+      → PlayersStand script place old players → PlayerStands script s (place + 1) new player → PlayersStand script (place + 1) new (set players (s.0 - 1) player)
+  players_more s old new players player actor above below step stand mine = record {
+    count = length-set players (s.0 - 1) player ∙ stand.count;
+    each = λ k d inside. by_place k d (omega (arith, length-set players (s.0 - 1) player)) (k + 1 == s.0) refl;
+  }
+    where
+      by_place : (k : ℕ) (d : Player) → k < length players → (b : Bool) → (k + 1 == s.0) ≡ b → PlayerStands script (record { 0 = k + 1 }) (place + 1) new (get_or (set players (s.0 - 1) player) k d)
+      by_place k d inside true is =
+          let here : k + 1 ≡ s.0 = eqb-true (k + 1) s.0 is in
+          let index : k ≡ s.0 - 1 = omega arith in
+          let P : ℕ → Type 0 = λ n. PlayerStands script (record { 0 = n }) (place + 1) new player in
+          let Q : Player → Type 0 = λ p. PlayerStands script (record { 0 = k + 1 }) (place + 1) new p in
+          let within : s.0 - 1 < length players = omega arith in
+          let found : get_or (set players (s.0 - 1) player) k d ≡ player = ap (λ n. get_or (set players (s.0 - 1) player) n d) index ∙ rw get_or-set_same refl in
+          subst Q (sym found) (subst P (sym here) mine)
+      by_place k d inside false is =
+          let other : k ≢ s.0 - 1 = (λ same. let yes : (k + 1 == s.0) ≡ true = eq-eqb (k + 1) s.0 (omega arith) in let both : true ≡ false = sym yes ∙ is in cc) in
+          let differ : s.0 ≢ k + 1 = (λ same. let yes : (k + 1 == s.0) ≡ true = eq-eqb (k + 1) s.0 (sym same) in let both : true ≡ false = sym yes ∙ is in cc) in
+          let apart : is_session (record { 0 = k + 1 }) x.actor ≡ false = ap (is_session (record { 0 = k + 1 })) actor ∙ not_same s.0 (k + 1) differ in
+          rw get_or-set_other (player_other script place x at (record { 0 = k + 1 }) apart old new (get_or players k d) step (stand.each k d inside))
+
+  display_players : (old_players players : List Player) (old new : List Entry) → x.actor ≡ Display → Step x old new → players ≡ old_players → PlayersStand script place old old_players → PlayersStand script (place + 1) new players
+  display_players old_players players old new actor step is stand =
+      let P : List Player → Type 0 = PlayersStand script (place + 1) new in
+      subst P (sym is) (record {
+        count = stand.count;
+        each = λ k d inside. player_other script place x at (record { 0 = k + 1 }) (ap (is_session (record { 0 = k + 1 })) actor) old new (get_or old_players k d) step (stand.each k d inside);
+      })
+
+  -- a line of a session, which its player has played
+  pub session_more : (old new : Game) (s : SessionNo) (text : Line) (player : Player) → x.actor ≡ Session s → x.body ≡ body.Session text → is_declared script.setup s ≡ true → GameStands script place old
+      → new.players.items ≡ set old.players.items (s.0 - 1) player → PlayerStands script s (place + 1) new.board.history player → Grows old.board new.board (Session s) x.number
+      → new.shown ≡ old.shown → new.with_view ≡ old.with_view → new.frames.items ≡ old.frames.items → GameStands script (place + 1) new
+  session_more old new s text player actor is declared stands players_is mine grown shown_is views_is frames_are =
+      let g : Grown x old.board new.board = grown_is x s old.board new.board actor grown in
+      let within = below_declared script.setup s declared in
+      let inside : s.0 ≤ length old.players.items = let count = stands.players.count in let below = within.1 in omega arith in
+      let P : List Player → Type 0 = PlayersStand script (place + 1) new.board.history in
+      let V : SessionSet → Type 0 = HasViews script.setup in
+      let F : Shown → SessionSet → List FrameOut → Type 0 = FramesStand script.setup new.board.history in
+      record {
+        setup = g.setup ∙ stands.setup;
+        shares = g.shares ∙ stands.shares;
+        players = subst P (sym players_is) (players_more s old.board.history new.board.history old.players.items player actor within.0 inside g.step stands.players mine);
+        display = display_session script place x at text is old.board.history new.board.history g.calm stands.display;
+        order = order_more script place x at old.board.history new.board.history g.step stands.order;
+        spent = spent_more script place x at old.board.history new.board.history g.step stands.spent;
+        views = subst V (sym views_is) stands.views;
+        shows = rw (shown_is, views_is, frames_are) (frames_session script.setup old.board.history old.shown old.with_view old.frames.items stands.shows new.board.history g.calm);
+      }
+
+  -- a line that begins a frame
+  pub begin_more : (old new : Game) (time : ℕ) → x.actor ≡ Display → x.body ≡ body.Display (display.Begin time) → GameStands script place old → BeginsFrame old new x.number time → GameStands script (place + 1) new
+  begin_more old new time actor is stands begins =
+      let e : Entry = entry_of Display x.number [] (Begin time) Done in
+      let h : List Entry = old.board.history in
+      let grown : new.board.history ≡ (h ▹ e) = ap (λ (m : Machine). m.history) begins.board in
+      let setup : new.board.setup ≡ script.setup = ap (λ (m : Machine). m.setup) begins.board ∙ stands.setup in
+      let step : Step x h new.board.history = more e (sym actor) refl refl grown in
+      let D : List Entry → Type 0 = DisplayStands script (place + 1) in
+      let shown : new.shown ≡ shown_states script.setup (h ▹ e) = begins.shown ∙ ap (λ st. shown_states st new.board.history) setup ∙ ap (shown_states script.setup) grown in
+      let W : Setup → Type 0 = λ st. HasViews st new.with_view in
+      let V : Setup → List Entry → Type 0 = λ st es. (s : SessionNo) → is_declared st s ≡ true → is_member new.with_view s.0 ≡ has_view st es s in
+      let V1 : Setup → Type 0 = λ st. V st new.board.history in
+      let V2 : List Entry → Type 0 = V script.setup in
+      let F : List Entry → Type 0 = λ es. FramesStand script.setup es new.shown new.with_view new.frames.items in
+      let K : List FrameOut → Type 0 = λ fs. FramesStand script.setup (h ▹ e) new.shown new.with_view fs in
+      let kept : new.frames.items ≡ old.frames.items = ap (λ v. v.items) begins.kept in
+      record {
+        setup = setup;
+        shares = ap (λ (m : Machine). m.shares) begins.board ∙ stands.shares;
+        players = display_players old.players.items new.players.items h new.board.history actor step (ap (λ v. v.items) begins.players) stands.players;
+        display = subst D (sym grown) (display_begin script place x at time is h stands.display);
+        order = order_more script place x at h new.board.history step stands.order;
+        spent = spent_more script place x at h new.board.history step stands.spent;
+        views = subst W setup begins.views;
+        shows = subst F (sym grown) (subst K (sym kept)
+            (frames_begin script.setup h old.shown old.with_view old.frames.items stands.shows x.number time new.shown new.with_view shown (subst V2 grown (subst V1 setup begins.viewing))));
+      }
+
+  -- a line that ends one
+  pub finish_more : (old new : Game) → x.actor ≡ Display → x.body ≡ body.Display display.Done → GameStands script place old → FinishesFrame old new x.number → GameStands script (place + 1) new
+  finish_more old new actor is stands finishes =
+      let e : Entry = entry_of Display x.number [] Finish Done in
+      let h : List Entry = old.board.history in
+      let grown : new.board.history ≡ (h ▹ e) = ap (λ (m : Machine). m.history) finishes.board in
+      let step : Step x h new.board.history = more e (sym actor) refl refl grown in
+      let D : List Entry → Type 0 = DisplayStands script (place + 1) in
+      let V : SessionSet → Type 0 = HasViews script.setup in
+      let F : List Entry → Type 0 = λ es. FramesStand script.setup es new.shown new.with_view new.frames.items in
+      let number : frames new.board.history ≡ suc (frames h) = ap frames grown in
+      let frame : frame_at old.board.setup (frames new.board.history) (to_begin h) ≡ frame_at script.setup (suc (frames h)) (to_begin h) =
+          ap (λ st. frame_at st (frames new.board.history) (to_begin h)) stands.setup ∙ ap (λ n. frame_at script.setup n (to_begin h)) number in
+      record {
+        setup = ap (λ (m : Machine). m.setup) finishes.board ∙ stands.setup;
+        shares = ap (λ (m : Machine). m.shares) finishes.board ∙ stands.shares;
+        players = display_players old.players.items new.players.items h new.board.history actor step (ap (λ v. v.items) finishes.players) stands.players;
+        display = subst D (sym grown) (display_done script place x at is h stands.display);
+        order = order_more script place x at h new.board.history step stands.order;
+        spent = spent_more script place x at h new.board.history step stands.spent;
+        views = subst V (sym finishes.with_view) stands.views;
+        shows = subst F (sym grown) (rw (finishes.shown, finishes.with_view)
+            (frames_done script.setup h old.shown old.with_view old.frames.items stands.shows x.number new.frames.items _ finishes.kept frame));
+      }
+
+-- the player of a session
+pub own_player : (script : Script) (place : ℕ) (history : List Entry) (players : List Player) (s : SessionNo) → is_declared script.setup s ≡ true → PlayersStand script place history players
+    → (player : Player) → player ≡ get_or players (s.0 - 1) player → PlayerStands script s place history player
+own_player script place history players s declared stand player is =
+    let within = below_declared script.setup s declared in
+    let inside : s.0 - 1 < length players = let count = stand.count in let a = within.0 in let b = within.1 in omega arith in
+    let here : s.0 - 1 + 1 ≡ s.0 = let a = within.0 in omega arith in
+    let P : ℕ → Type 0 = λ n. PlayerStands script (record { 0 = n }) place history (get_or players (s.0 - 1) player) in
+    let Q : Player → Type 0 = λ p. PlayerStands script s place history p in
+    subst Q (sym is) (subst P here (stand.each (s.0 - 1) player inside))

@@ -1,0 +1,130 @@
+ghost use Rattle.std.specs.Prelude.{◌≡◌, ◌<◌, ◌≤◌, ◌↔◌, ℕ, Some, IsTrue, length, option_map, MatchOption};
+ghost use Rattle.std.specs.List.{list_any};
+ghost use Rattle.flat_snap.specs.Flat.{flat_nodes};
+ghost use Rattle.flat_topology.specs.Shown.{state_of, view_of, pairs_shown};
+ghost use Rattle.flat_topology.specs.Fit.{FitsSetup};
+ghost use Rattle.flat_topology.specs.Pairs.{display_pair, OwnsViewport};
+ghost use Rattle.flat_topology.specs.Join.{is_joined};
+ghost use Rattle.flat_topology.specs.Climbing.{leads_to, is_shown_by, IsAbovePair, IsAbove};
+
+use crate::links_make_a_tree;
+use crate::shown::Shown;
+use crate::walk::pair_of_display;
+use flat_base::{Actor, PairNo, SessionNo};
+use flat_scene::{Content, Setup};
+use flat_snap::Snapshot;
+
+/// Who shows a view.
+#[derive(Clone, Copy, Debug, PartialEq, Eq)]
+pub enum Above {
+    Nobody,
+    Display,
+    Session(SessionNo),
+}
+
+fn is_viewport_of(content: Option<Content>, pair: PairNo) -> bool
+    ensures { result ≡ leads_to pair.0 content }
+{
+    match content {
+        Some(Content::Viewport { pair: other, .. }) => other.0 == pair.0,
+        _ => false,
+    }
+}
+
+fn has_viewport(state: &Snapshot, pair: PairNo) -> bool
+    ensures { result ≡ list_any (λ n. leads_to pair.0 n.content) (flat_nodes state.now) }
+{
+    for i in 0..state.nodes() {
+        if is_viewport_of(state.node(i).content, pair) {
+            return true;
+        }
+    }
+    false
+}
+
+/// Whether a session shows a viewport of a pair.
+fn shows_viewport(shown: &Shown, session: SessionNo, pair: PairNo) -> bool
+    ensures { result ≡ is_shown_by shown.now pair.0 session.0 }
+{
+    if session.0 == 0 || session.0 as usize > shown.sessions() {
+        return false;
+    }
+    match shown.state(session) {
+        Some(state) => has_viewport(state, pair),
+        None => false,
+    }
+}
+
+fn view_shown(shown: &Shown, session: SessionNo) -> Option<PairNo>
+    requires some { 0 < session.0 }
+    requires few { session.0 ≤ length shown.now }
+    ensures { option_map (λ pair. pair.0) result ≡ view_of (state_of shown.now session.0) }
+{
+    shown.state(session)?.view()
+}
+
+fn is_of_display(setup: &Setup, pair: PairNo) -> bool
+    ensures { IsTrue result ↔ (display_pair setup.now ≡ Some pair.0) }
+{
+    pair_of_display(setup) == Some(pair.0 as usize)
+}
+
+/// The session that owns the viewport end of a pair.
+fn viewport_owner(setup: &Setup, pair: PairNo) -> Option<SessionNo>
+    requires { pair.0 < length setup.now.pairs }
+    ensures { MatchOption result ((s : ℕ) → ¬ OwnsViewport setup.now s pair.0) (λ owner. OwnsViewport setup.now owner.0 pair.0) }
+{
+    match setup.pairs.at(pair.0 as usize).viewport {
+        Actor::Session(owner) => Some(owner),
+        _ => None,
+    }
+}
+
+/// Who shows the viewport of a pair.
+fn above_pair(shown: &Shown, setup: &Setup, pair: PairNo) -> Above
+    requires fit { FitsSetup setup.now shown.now }
+    requires known { pair.0 < length setup.now.pairs }
+    ensures { IsAbovePair setup.now shown.now pair.0 result }
+{
+    if is_of_display(setup, pair) {
+        return Above::Display;
+    }
+    match viewport_owner(setup, pair) {
+        Some(owner) if shows_viewport(shown, owner, pair) => Above::Session(owner),
+        _ => Above::Nobody,
+    }
+}
+
+/// Who shows the view of a session.
+fn above_session(shown: &Shown, setup: &Setup, session: SessionNo) -> Above
+    requires some { 0 < session.0 }
+    requires few { session.0 ≤ length shown.now }
+    requires fit { FitsSetup setup.now shown.now }
+    ensures { IsAbove setup.now shown.now session.0 result }
+{
+    match view_shown(shown, session) {
+        Some(pair) => above_pair(shown, setup, pair),
+        None => Above::Nobody,
+    }
+}
+
+impl Shown {
+    /// Whether a session is connected to the display. It takes no memory.
+    pub fn connected(&self, setup: &Setup, s: SessionNo) -> bool
+        requires some { 0 < s.0 }
+        requires few { s.0 ≤ length self.now }
+        requires fit { FitsSetup setup.now self.now }
+        ensures { result ≡ is_joined setup.now self.now s.0 }
+    {
+        links_make_a_tree();
+        let mut below = s;
+        for _ in 0..self.sessions() {
+            match above_session(self, setup, below) {
+                Above::Display => return true,
+                Above::Session(parent) => below = parent,
+                Above::Nobody => return false,
+            }
+        }
+        false
+    }
+}
