@@ -1,19 +1,17 @@
 -- The definitions, computed on a small table: a filled rectangle 7, an image 9 and a viewport 5, in this order.
-use Rattle.std.proofs.Common.{ℕ, pos, ◌≡◌, refl, true, false, List, [], ◌∷◌, map, Option, None, Some}
+use Rattle.std.proofs.Common.{ℕ, pos, ◌≡◌, refl, true, false, List, [], ◌∷◌, map, None, Some}
 use Rattle.std.specs.List.{filter_map, list_all}
-use Rattle.flat_base.specs.declared.errors.Reason.TheVariants.{ZeroId, IdInUse, UnknownContent, WrongContent, BadOpacity, BadRect, BadSize, BadBuffer, TooManyNamed}
-use Rattle.flat_base.specs.declared.ids.SessionNo.{SessionNo}
+use Rattle.flat_base.specs.declared.errors.Reason.TheVariants.{ZeroId, IdInUse, UnknownContent, WrongContent, BadOpacity, BadRect, BadSize, BadBuffer}
 use Rattle.flat_scene.specs.declared.calls.BlendMode.TheVariants.{Src}
 use Rattle.flat_scene.specs.declared.calls.ImageFlip.TheVariants.{Plain}
 use Rattle.flat_scene.specs.declared.calls.ViewportProps.{ViewportProps}
 use Rattle.flat_scene.specs.declared.setup.BufferDecl.{BufferDecl}
 use Rattle.flat_scene.specs.declared.trees.Content.TheVariants as shown
 use Rattle.flat_scene.specs.Misuse.{first_reason, is_fill, is_image, is_viewport}
-use Rattle.flat_content.specs.declared.stored.Stored.{Stored}
-use Rattle.flat_content.specs.declared.stored.Stored.TheVariants.{Image, Fill, Viewport}
+use Rattle.flat_content.specs.declared.stored.Stored.TheVariants.{Fill, Viewport}
 use Rattle.flat_content.specs.Limits.{are_sides}
 use Rattle.flat_content.specs.Reasons.{create_tests, given_tests, image_tests, opacity_tests, properties_tests, sample_tests, size_tests, solid_tests, sort_tests, viewport_tests}
-use Rattle.flat_content.specs.Table.{TableState, change_named, cleared, content_at, empty_table, held_of, new_image, on_image, on_viewport, released, use_at, viewport_released, with_stored}
+use Rattle.flat_content.specs.Table.{TableState, change_named, cleared, content_at, empty_table, held_of, new_image, on_image, on_viewport, pair_named, released, use_at, viewport_released, with_stored}
 
 abbrev buffers : List BufferDecl
 buffers = (record { owner = record { 0 = 1 }; count = 2; w = 8; h = 6 }) ∷ []
@@ -90,3 +88,6 @@ givings = (refl, refl)
 
 sides : (list_all are_sides buffers ≡ true) × (are_sides (record { owner = record { 0 = 1 }; count = 1; w = 65537; h = 1 }) ≡ false)
 sides = (refl, refl)
+
+pairs : (pair_named table 5 ≡ Some (record { 0 = 3 })) × (pair_named table 7 ≡ None) × (pair_named table 6 ≡ None)
+pairs = (refl, refl, refl)

@@ -1,6 +1,6 @@
 -- The collections of a setup have sides within the limit.
 use Rattle.std.proofs.Common.{◌≡◌, refl, Bool, true, false, List, [], ◌∷◌}
-use Rattle.std.specs.Prelude.{◌&&◌, nat_lt, nat_le, ◌==◌, length}
+use Rattle.std.specs.Prelude.{◌&&◌, nat_lt, nat_le}
 use Rattle.std.specs.List.{list_all}
 use Rattle.flat_base.specs.declared.limits.TheConstants.{SIDE_MAX, BUFFERS_PER_COLLECTION_MAX}
 use Rattle.flat_scene.specs.declared.setup.BufferDecl.{BufferDecl}

@@ -8,7 +8,7 @@ use Rattle.flat_scene.specs.declared.setup.BufferDecl.{BufferDecl}
 use Rattle.flat_scene.specs.Draft.{changed_at, of_serial}
 use Rattle.flat_scene.specs.Misuse.{is_bad_image, is_bad_index}
 use Rattle.flat_graph.specs.declared.names.Named.{Named}
-use Rattle.flat_graph.specs.Names.{key_named, names_but, names_with}
+use Rattle.flat_graph.specs.Names.{key_named}
 use Rattle.flat_graph.proofs.DraftNames.{changed-length}
 use Rattle.flat_graph.proofs.NameLemmas.{named-with, named-but, rising-with, rising-but}
 use Rattle.flat_content.specs.declared.stored.Stored.{Stored}

@@ -1,19 +1,17 @@
 -- Each call on a table that stands for a draft has the draft's reasons, and leaves a table that stands for the draft after it.
-use Rattle.std.proofs.Common.{ℕ, suc, ◌+◌, ◌-◌, ◌<◌, ◌≤◌, ◌^◌, ◌≡◌, ◌≢◌, refl, sym, ◌∙◌, ap, subst, Bool, true, false, cond, not, List, [], ◌∷◌, ◌++◌, filter, map, length, length-append, slice_get, Option, Some, None, IsSome, unwrap_or, arith}
+use Rattle.std.proofs.Common.{ℕ, ◌+◌, ◌-◌, ◌≤◌, ◌≡◌, ◌≢◌, refl, sym, ◌∙◌, ap, subst, Bool, true, false, cond, not, List, [], ◌∷◌, ◌++◌, map, length, length-append, slice_get, Option, Some, None, IsSome, unwrap_or, arith}
 use Rattle.std.proofs.lemmas.List.{length-map, map-append}
-use Rattle.std.specs.Prelude.{◌==◌, ◌||◌, is_some, is_none, nat_le, nat_lt}
+use Rattle.std.specs.Prelude.{◌==◌, ◌||◌, is_some, is_none, nat_lt}
 use Rattle.std.specs.List.{filter_map}
 use Rattle.std.specs.Option.{option_map, option_and_then}
-use Rattle.std.proofs.lemmas.Bool.Decides.{nat_tests}
 use Rattle.flat_base.specs.declared.ids.BufferNo.{BufferNo}
 use Rattle.flat_base.specs.declared.ids.ContentId.{ContentId}
 use Rattle.flat_base.specs.declared.ids.PairNo.{PairNo}
-use Rattle.flat_base.specs.declared.shapes.IntRect.{IntRect}
 use Rattle.flat_base.specs.declared.errors.Reason.{Reason}
-use Rattle.flat_base.specs.declared.errors.Reason.TheVariants.{ZeroId, IdInUse, UnknownContent, WrongContent, BadOpacity, BadRect, BadSize, BadBuffer, TooManyNamed}
-use Rattle.flat_base.specs.declared.limits.TheConstants.{NAMED_MAX, OPACITY_MAX}
+use Rattle.flat_base.specs.declared.errors.Reason.TheVariants.{ZeroId, IdInUse, UnknownContent, WrongContent, BadOpacity, BadRect, BadSize, BadBuffer}
+use Rattle.flat_base.specs.declared.limits.TheConstants.{OPACITY_MAX}
 use Rattle.flat_scene.specs.declared.calls.Call.{Call}
-use Rattle.flat_scene.specs.declared.calls.Call.TheVariants.{CreateViewport, SetViewportProperties, ReleaseViewport, CreateImage, SetImageSampleRegion, SetImageDestinationSize, SetImageBlendingFunction, SetImageFlip, SetImageOpacity, ReleaseImage, CreateFilledRect, SetSolidFill, ReleaseFilledRect, Clear}
+use Rattle.flat_scene.specs.declared.calls.Call.TheVariants.{CreateViewport, SetViewportProperties, ReleaseViewport, CreateImage, SetImageSampleRegion, SetImageDestinationSize, SetImageBlendingFunction, SetImageFlip, SetImageOpacity, CreateFilledRect, SetSolidFill, ReleaseFilledRect, Clear}
 use Rattle.flat_scene.specs.declared.calls.Inset.{Inset}
 use Rattle.flat_scene.specs.declared.calls.ViewportProps.{ViewportProps}
 use Rattle.flat_scene.specs.declared.setup.Setup.{Setup}
@@ -25,19 +23,19 @@ use Rattle.flat_scene.specs.Effect.{effect, changed_if, on_fill, with_made, with
 use Rattle.flat_scene.specs.Misuse.{Test, misuse, first_reason, is_bad_image, is_bad_index, is_bad_rect, is_bad_side, is_fill, is_image, is_viewport, leaves_made}
 use Rattle.flat_scene.specs.Tree.{content_held, shown_content, use_in, use_of}
 use Rattle.flat_graph.specs.declared.names.Named.{Named}
-use Rattle.flat_graph.specs.Names.{key_named, names_but, names_with}
+use Rattle.flat_graph.specs.Names.{key_named, names_but}
 use Rattle.flat_graph.specs.State.{GraphState}
-use Rattle.flat_graph.specs.Stands.{IsOnce, IsHeld, serial_of}
+use Rattle.flat_graph.specs.Stands.{IsHeld, serial_of}
 use Rattle.flat_graph.specs.Laws.{IsContent}
 use Rattle.flat_graph.proofs.DraftNames.{named-append, once-append, named-without, once-without, length-without, of_serial-map}
 use Rattle.flat_graph.proofs.NameLemmas.{named-with, length-with, named-but, length-but}
 use Rattle.flat_content.specs.declared.stored.Stored.{Stored}
 use Rattle.flat_content.specs.declared.stored.StoredImage.{StoredImage}
 use Rattle.flat_content.specs.declared.stored.Stored.TheVariants.{Image, Fill, Viewport}
-use Rattle.flat_content.specs.Table.{TableState, IsTable, as_made, change_named, cleared, content_at, held_at, held_of, in_use, made_at, change_at, made_named, new_image, on_image, on_viewport, released, use_at, viewport_released, with_stored}
+use Rattle.flat_content.specs.Table.{TableState, as_made, change_named, cleared, content_at, held_at, held_of, in_use, made_at, change_at, made_named, new_image, on_image, on_viewport, released, use_at, viewport_released, with_stored}
 use Rattle.flat_content.proofs.Soundness.{sound-released, sound-added, sound-changed, change-length}
 use Rattle.flat_content.proofs.Serials.{of_serial-some}
-use Rattle.flat_content.specs.Reasons.{create_tests, image_tests, new_tests, opacity_tests, properties_tests, room_tests, sample_tests, size_tests, sort_tests, solid_tests, viewport_tests}
+use Rattle.flat_content.specs.Reasons.{create_tests, image_tests, new_tests, properties_tests, room_tests, sort_tests, solid_tests, viewport_tests}
 use Rattle.flat_content.specs.Stands.{StandsFor}
 use Rattle.flat_content.specs.Laws.{IsCall, CallsStand, ContentCallsStand}
 
@@ -349,6 +347,8 @@ module _ (setup : Setup) (table : TableState) (draft : Draft) (s : StandsFor set
     release_image = λ c. record { reason = rw (made-of c, s.names c.0) refl; stands = λ none. stands-released c };
     uses = uses-same;
     clear = stands-cleared;
+    made = made-of;
+    sorts = λ c. rw (made-of c, s.names c.0) refl;
     held = held-same;
     shown = shown-same;
   }

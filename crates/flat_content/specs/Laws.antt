@@ -12,16 +12,15 @@ use Rattle.flat_scene.specs.declared.calls.Inset.{Inset}
 use Rattle.flat_scene.specs.declared.calls.Call.{Call}
 use Rattle.flat_scene.specs.declared.calls.Call.TheVariants.{CreateViewport, SetViewportProperties, ReleaseViewport, CreateImage, SetImageSampleRegion, SetImageDestinationSize, SetImageBlendingFunction, SetImageFlip, SetImageOpacity, ReleaseImage, CreateFilledRect, SetSolidFill, ReleaseFilledRect, Clear}
 use Rattle.flat_scene.specs.declared.setup.Setup.{Setup}
-use Rattle.flat_scene.specs.declared.trees.Held.{Held}
-use Rattle.flat_scene.specs.Draft.{Draft, empty_draft, content_of}
+use Rattle.flat_scene.specs.Draft.{Draft, empty_draft, made_of}
 use Rattle.flat_scene.specs.Effect.{effect}
-use Rattle.flat_scene.specs.Misuse.{Test, misuse, first_reason, is_fill, is_image, is_viewport}
+use Rattle.flat_scene.specs.Misuse.{Test, misuse, first_reason, is_fill, is_image, is_viewport, names_content}
 use Rattle.flat_scene.specs.Tree.{content_held, use_of}
 use Rattle.flat_graph.specs.Laws.{IsContent}
 use Rattle.flat_graph.specs.State.{GraphState}
 use Rattle.flat_content.specs.declared.stored.Stored.TheVariants.{Fill, Viewport}
 use Rattle.flat_content.specs.Reasons.{create_tests, image_tests, opacity_tests, properties_tests, sample_tests, size_tests, sort_tests, solid_tests, viewport_tests}
-use Rattle.flat_content.specs.Table.{TableState, change_named, cleared, content_at, empty_table, held_of, new_image, on_image, on_viewport, released, use_at, viewport_released, with_stored}
+use Rattle.flat_content.specs.Table.{TableState, change_named, cleared, content_at, empty_table, held_of, made_named, new_image, on_image, on_viewport, released, use_at, viewport_released, with_stored}
 use Rattle.flat_content.specs.Stands.{StandsFor}
 
 -- a new table stands for the draft of a session that made no call
@@ -50,6 +49,9 @@ module _ (setup : Setup) (table : TableState) (draft : Draft) where
     pub set_image_opacity : (c : ContentId) (v : ℕ) → IsCall (SetImageOpacity c v) (opacity_tests table c.0 v) (change_named table c.0 (on_image (λ image. record image { opacity = v })))
     pub release_image : (c : ContentId) → IsCall (ReleaseImage c) (sort_tests table is_image c.0) (released table c.0)
     pub clear : StandsFor setup (cleared table) (effect draft Clear)
+    -- the contents that names stand for are the draft's
+    pub made : (c : ContentId) → made_named table c.0 ≡ made_of draft c
+    pub sorts : (c : ContentId) → first_reason (sort_tests table is_viewport c.0) ≡ first_reason (names_content draft is_viewport c)
     -- what a name gives to a transform is the draft's content of that name
     pub held : (graph : GraphState) (c : ContentId) → IsContent setup graph draft c (held_of table c.0)
     -- the viewports in use are the draft's, and what a transform shows is what the draft has it show

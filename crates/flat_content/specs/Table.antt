@@ -3,6 +3,7 @@ use Rattle.std.specs.Prelude.{ℕ, pos, ◌+◌, ◌<◌, ◌≤◌, ◌^◌, �
 use Rattle.std.specs.List.{list_all}
 use Rattle.std.specs.Option.{option_map, option_and_then}
 use Rattle.flat_base.specs.declared.ids.BufferNo.{BufferNo}
+use Rattle.flat_base.specs.declared.ids.PairNo.{PairNo}
 use Rattle.flat_base.specs.declared.limits.TheConstants.{OPACITY_MAX}
 use Rattle.flat_scene.specs.declared.calls.BlendMode.TheVariants.{Src}
 use Rattle.flat_scene.specs.declared.calls.ImageFlip.TheVariants.{Plain}
@@ -68,6 +69,14 @@ made_at table serial = option_map as_made (of_serial table.contents serial)
 -- the content that an id names
 abbrev pub made_named : TableState → ℕ → Option Made
 made_named table id = option_and_then (made_at table) (key_named table.names id)
+
+-- the pair of a viewport, and of the viewport that an id names
+abbrev pub pair_of : Made → Option PairNo
+pair_of (a_viewport pair props) = Some pair
+pair_of other = None
+
+abbrev pub pair_named : TableState → ℕ → Option PairNo
+pair_named table id = option_and_then pair_of (made_named table id)
 
 -- the content of a serial, as the tree shows it
 abbrev pub content_at : TableState → ℕ → Option Content

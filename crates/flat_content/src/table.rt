@@ -329,7 +329,7 @@ impl ContentTable {
     ghost use Rattle.flat_scene.specs.Misuse as misuse;
     ghost use Rattle.flat_graph.specs.Reasons.{IsFault};
     ghost use Rattle.flat_content.specs.declared.stored.Stored.TheVariants.{Viewport};
-    ghost use Rattle.flat_content.specs.Table.{change_named, on_viewport, viewport_released, with_stored};
+    ghost use Rattle.flat_content.specs.Table.{change_named, on_viewport, pair_named, viewport_released, with_stored};
     ghost use Rattle.flat_content.specs.Reasons.{sort_tests, viewport_tests, properties_tests};
 
     /// Makes a viewport at the viewport end of a pair, and names it; answers its
@@ -373,6 +373,17 @@ impl ContentTable {
             Stored::Viewport(pair, props) => Ok((serial, pair, props)),
             _ => Err(Reason::WrongContent),
         }
+    }
+
+    /// The pair of a viewport.
+    ///
+    /// The reason is ZeroId, UnknownContent or WrongContent. It takes no memory.
+    pub fn pair(&self, c: ContentId) -> Result<PairNo, Reason>
+        ensures pair { IfOk result (λ pair. pair_named self.now c.0 ≡ Some pair) }
+        ensures allowed { OnOk result (first_reason (sort_tests self.now misuse.is_viewport c.0) ≡ None) }
+        ensures fault { IfErr result (λ reason. first_reason (sort_tests self.now misuse.is_viewport c.0) ≡ Some reason) }
+    {
+        Ok(self.viewport(c)?.1)
     }
 
     /// Sets a viewport's logical size, and its inset where one is given.

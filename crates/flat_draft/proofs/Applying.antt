@@ -1,5 +1,5 @@
 -- What the parts make of a call, in the words of the draft.
-use Rattle.std.proofs.Common.{ℕ, ◌+◌, ◌≡◌, not, refl, sym, ◌∙◌, ap, subst, Bool, true, false, cond, List, [], ◌∷◌, ◌++◌, Option, Some, None, Result, Ok, Err, OnOk, OnErr, IfOk, IfErr}
+use Rattle.std.proofs.Common.{ℕ, ◌+◌, ◌≡◌, not, refl, sym, ◌∙◌, ap, subst, Bool, true, false, cond, List, [], ◌∷◌, ◌++◌, Option, Some, None, Result, Ok, Err, OnOk, OnErr, IfErr}
 use Rattle.std.specs.Prelude.{◌==◌, ◌&&◌, is_none}
 use Rattle.flat_base.specs.declared.errors.Reason.{Reason}
 use Rattle.flat_base.specs.declared.errors.Reason.TheVariants.{ZeroId, UnknownContent, WrongContent}
@@ -7,11 +7,10 @@ use Rattle.flat_base.specs.declared.ids.ContentId.{ContentId}
 use Rattle.flat_base.specs.declared.ids.PairNo.{PairNo}
 use Rattle.flat_base.specs.declared.ids.TransformId.{TransformId}
 use Rattle.flat_scene.specs.declared.calls.Call.{Call}
-use Rattle.flat_scene.specs.declared.calls.Call.TheVariants.{CreateView, ReleaseView, CreateTransform, SetContent, ReleaseViewport, Clear}
+use Rattle.flat_scene.specs.declared.calls.Call.TheVariants.{CreateTransform, SetContent, ReleaseViewport, Clear}
 use Rattle.flat_scene.specs.declared.setup.Setup.{Setup}
 use Rattle.flat_scene.specs.declared.trees.GraphFault.{GraphFault}
 use Rattle.flat_scene.specs.declared.trees.GraphFault.TheVariants.{Bad, Memory}
-use Rattle.flat_scene.specs.declared.trees.Held.{Held}
 use Rattle.flat_scene.specs.Draft.{Draft, content_of}
 use Rattle.flat_scene.specs.Effect.{effect}
 use Rattle.flat_scene.specs.Misuse.{Test, first_reason, is_viewport, misuse, names_transform}
@@ -19,8 +18,7 @@ use Rattle.flat_graph.specs.Laws as graph
 use Rattle.flat_graph.specs.Names.{key_named}
 use Rattle.flat_graph.specs.Reasons.{create_tests, name_tests, IsFault, IsMisuse}
 use Rattle.flat_graph.specs.Stands as graph_stands
-use Rattle.flat_graph.specs.State.{Creates, GraphState, change_named, without_held}
-use Rattle.flat_graph.specs.State as graph_state
+use Rattle.flat_graph.specs.State.{Creates, GraphState, change_named}
 use Rattle.flat_graph.proofs.StandingLaws as graph_laws
 use Rattle.flat_content.specs.Laws as content
 use Rattle.flat_content.specs.Reasons.{given_tests, sort_tests}
@@ -28,16 +26,15 @@ use Rattle.flat_content.specs.Stands as content_stands
 use Rattle.flat_content.specs.Table.{TableState, held_of, made_named, viewport_released}
 use Rattle.flat_content.proofs.Standing.{content_calls_stand}
 use Rattle.flat_content.proofs.Others.{other_calls_stand}
-use Rattle.flat_draft.specs.Answers.{IsApplied}
-use Rattle.flat_draft.specs.Parts.{content_tests, done, made, no_view_tests, view_tests, without_named}
+use Rattle.flat_draft.specs.Answers.{IsApplied, takes_memory}
+use Rattle.flat_draft.specs.Parts.{content_tests, done, made, without_named}
 use Rattle.flat_draft.specs.Stands.{StandsFor}
 use Rattle.flat_draft.specs.State.{DraftState, emptied}
 
--- what never wants memory is refused for a reason
-pub never-memory : (tests : List Test) (result : Result Unit GraphFault) → IfErr result (IsMisuse tests) → IfErr result (IsFault tests)
-never-memory tests (Ok it) fault = tt
-never-memory tests (Err (Bad reason)) fault = fault
-never-memory tests (Err Memory) fault = absurd fault
+-- a refusal, which may be for want of memory or not
+abbrev pub IsFaultOf : Bool → List Test → GraphFault → Type 0
+IsFaultOf true tests = IsFault tests
+IsFaultOf false tests = IsMisuse tests
 
 -- the answers of creations and of calls that take no memory
 pub made-ok : (answer : Result ℕ GraphFault) (P : Type 0) → OnOk answer P → OnOk (made answer) P
@@ -60,7 +57,7 @@ pub done-err : (answer : Result Unit Reason) (P : Type 0) → OnErr answer P →
 done-err (Ok it) P h = tt
 done-err (Err reason) P h = h
 
-pub done-fault : (answer : Result Unit Reason) (tests : List Test) → IfErr answer (λ reason. first_reason tests ≡ Some reason) → IfErr (done answer) (IsFault tests)
+pub done-fault : (answer : Result Unit Reason) (tests : List Test) → IfErr answer (λ reason. first_reason tests ≡ Some reason) → IfErr (done answer) (IsMisuse tests)
 done-fault (Ok it) tests h = tt
 done-fault (Err reason) tests h = h
 
@@ -110,19 +107,29 @@ no-reason : (b : Bool) (r r' : Reason) → cond b (Some r) (Some r') ≡ None �
 no-reason true r r' e = absurd (cc)
 no-reason false r r' e = absurd (cc)
 
+bad-fault : (b : Bool) (tests : List Test) (reason : Reason) → IsFaultOf b tests (Bad reason) → first_reason tests ≡ Some reason
+bad-fault true tests reason h = h
+bad-fault false tests reason h = h
+
+memory-fault : (b : Bool) (tests : List Test) → IsFaultOf b tests Memory → (first_reason tests ≡ None) × (b ≡ true)
+memory-fault true tests h = (h, refl)
+memory-fault false tests h = absurd h
+
 module _ (setup : Setup) (draft : Draft) where
   applied : (call it : Call) (old new : DraftState) (tests : List Test) (result : Result Unit GraphFault) → call ≡ it → first_reason tests ≡ misuse setup draft it
-      → OnOk result (StandsFor setup new (effect draft it)) → new.closed ≡ old.closed → OnOk result (first_reason tests ≡ None) → IfErr result (IsFault tests) → OnErr result (new ≡ old)
+      → OnOk result (StandsFor setup new (effect draft it)) → new.closed ≡ old.closed → OnOk result (first_reason tests ≡ None) → IfErr result (IsFaultOf (takes_memory it) tests) → OnErr result (new ≡ old)
       → IsApplied setup draft call old new result
   applied call it old new tests (Ok u) is reason stands closed allowed fault kept = (rw is (sym reason ∙ allowed), rw is stands, closed)
-  applied call it old new tests (Err (Bad r)) is reason stands closed allowed fault kept = (rw is (sym reason ∙ fault), kept)
-  applied call it old new tests (Err Memory) is reason stands closed allowed fault kept = (rw is (sym reason ∙ fault), kept)
+  applied call it old new tests (Err (Bad r)) is reason stands closed allowed fault kept = (rw is (sym reason ∙ bad-fault (takes_memory it) tests r fault), kept)
+  applied call it old new tests (Err Memory) is reason stands closed allowed fault kept =
+      let wants = memory-fault (takes_memory it) tests fault in
+      (rw is (sym reason ∙ wants.0), rw is wants.1, kept)
 
   -- a call on the graph alone
   pub graph-applied : (call it : Call) (old : DraftState) (nodes nodes' after : GraphState) (table : TableState) (view : Option PairNo) (closed : Bool) (tests : List Test) (result : Result Unit GraphFault)
       → call ≡ it → record { graph = nodes; contents = table; view = view; closed = closed } ≡ old → content.is_of_contents it ≡ false → (effect draft it).view ≡ draft.view → StandsFor setup old draft
       → (graph_stands.StandsFor nodes draft → graph.IsCall setup draft it tests after)
-      → OnOk result (nodes' ≡ after) → OnOk result (first_reason tests ≡ None) → IfErr result (IsFault tests) → OnErr result (nodes' ≡ nodes)
+      → OnOk result (nodes' ≡ after) → OnOk result (first_reason tests ≡ None) → IfErr result (IsFaultOf (takes_memory it) tests) → OnErr result (nodes' ≡ nodes)
       → IsApplied setup draft call old (record { graph = nodes'; contents = table; view = view; closed = closed }) result
   graph-applied call it old nodes nodes' after table view closed tests result is view_is not_contents same_view s law set allowed fault kept =
       let now : DraftState = record { graph = nodes; contents = table; view = view; closed = closed } in
@@ -140,7 +147,7 @@ module _ (setup : Setup) (draft : Draft) where
   pub content-applied : (call it : Call) (old : DraftState) (nodes : GraphState) (table table' after : TableState) (view : Option PairNo) (closed : Bool) (tests : List Test) (result : Result Unit GraphFault)
       → call ≡ it → record { graph = nodes; contents = table; view = view; closed = closed } ≡ old → graph.is_of_transforms it ≡ false → (effect draft it).view ≡ draft.view → StandsFor setup old draft
       → (content_stands.StandsFor setup table draft → content.IsCall setup table draft it tests after)
-      → OnOk result (table' ≡ after) → OnOk result (first_reason tests ≡ None) → IfErr result (IsFault tests) → OnErr result (table' ≡ table)
+      → OnOk result (table' ≡ after) → OnOk result (first_reason tests ≡ None) → IfErr result (IsFaultOf (takes_memory it) tests) → OnErr result (table' ≡ table)
       → IsApplied setup draft call old (record { graph = nodes; contents = table'; view = view; closed = closed }) result
   content-applied call it old nodes table table' after view closed tests result is view_is not_transforms same_view s law set allowed fault kept =
       let now : DraftState = record { graph = nodes; contents = table; view = view; closed = closed } in
@@ -159,28 +166,28 @@ module _ (setup : Setup) (draft : Draft) where
   pub made-applied : (call it : Call) (old : DraftState) (nodes : GraphState) (table table' after : TableState) (view : Option PairNo) (closed : Bool) (tests : List Test) (answer : Result ℕ GraphFault) (result : Result Unit GraphFault)
       → result ≡ made answer → call ≡ it → record { graph = nodes; contents = table; view = view; closed = closed } ≡ old → graph.is_of_transforms it ≡ false → (effect draft it).view ≡ draft.view → StandsFor setup old draft
       → (content_stands.StandsFor setup table draft → content.IsCall setup table draft it tests after)
-      → OnOk answer (table' ≡ after) → OnOk answer (first_reason tests ≡ None) → IfErr answer (IsFault tests) → OnErr answer (table' ≡ table)
+      → takes_memory it ≡ true → OnOk answer (table' ≡ after) → OnOk answer (first_reason tests ≡ None) → IfErr answer (IsFault tests) → OnErr answer (table' ≡ table)
       → IsApplied setup draft call old (record { graph = nodes; contents = table'; view = view; closed = closed }) result
-  made-applied call it old nodes table table' after view closed tests answer result gives is view_is not_transforms same_view s law set allowed fault kept =
+  made-applied call it old nodes table table' after view closed tests answer result gives is view_is not_transforms same_view s law takes set allowed fault kept =
       rw gives
       (content-applied call it old nodes table table' after view closed tests (made answer) is view_is not_transforms same_view s law (made-ok answer (table' ≡ after) set)
-      (made-ok answer (first_reason tests ≡ None) allowed) (made-fault answer tests fault) (made-err answer (table' ≡ table) kept))
+      (made-ok answer (first_reason tests ≡ None) allowed) (rw takes (made-fault answer tests fault)) (made-err answer (table' ≡ table) kept))
 
   pub done-applied : (call it : Call) (old : DraftState) (nodes : GraphState) (table table' after : TableState) (view : Option PairNo) (closed : Bool) (tests : List Test) (answer : Result Unit Reason) (result : Result Unit GraphFault)
       → result ≡ done answer → call ≡ it → record { graph = nodes; contents = table; view = view; closed = closed } ≡ old → graph.is_of_transforms it ≡ false → (effect draft it).view ≡ draft.view → StandsFor setup old draft
       → (content_stands.StandsFor setup table draft → content.IsCall setup table draft it tests after)
-      → OnOk answer (table' ≡ after) → OnOk answer (first_reason tests ≡ None) → IfErr answer (λ reason. first_reason tests ≡ Some reason) → OnErr answer (table' ≡ table)
+      → takes_memory it ≡ false → OnOk answer (table' ≡ after) → OnOk answer (first_reason tests ≡ None) → IfErr answer (λ reason. first_reason tests ≡ Some reason) → OnErr answer (table' ≡ table)
       → IsApplied setup draft call old (record { graph = nodes; contents = table'; view = view; closed = closed }) result
-  done-applied call it old nodes table table' after view closed tests answer result gives is view_is not_transforms same_view s law set allowed fault kept =
+  done-applied call it old nodes table table' after view closed tests answer result gives is view_is not_transforms same_view s law takes set allowed fault kept =
       rw gives
       (content-applied call it old nodes table table' after view closed tests (done answer) is view_is not_transforms same_view s law (done-ok answer (table' ≡ after) set)
-      (done-ok answer (first_reason tests ≡ None) allowed) (done-fault answer tests fault) (done-err answer (table' ≡ table) kept))
+      (done-ok answer (first_reason tests ≡ None) allowed) (rw takes (done-fault answer tests fault)) (done-err answer (table' ≡ table) kept))
 
   -- a call on the view alone
   pub view-applied : (call it : Call) (old : DraftState) (nodes : GraphState) (table : TableState) (view view' after : Option PairNo) (closed : Bool) (tests : List Test) (result : Result Unit GraphFault)
       → call ≡ it → record { graph = nodes; contents = table; view = view; closed = closed } ≡ old → graph.is_of_transforms it ≡ false → content.is_of_contents it ≡ false → StandsFor setup old draft
       → (view ≡ draft.view → first_reason tests ≡ misuse setup draft it) → (effect draft it).view ≡ after
-      → OnOk result (view' ≡ after) → OnOk result (first_reason tests ≡ None) → IfErr result (IsFault tests) → OnErr result (view' ≡ view)
+      → OnOk result (view' ≡ after) → OnOk result (first_reason tests ≡ None) → IfErr result (IsFaultOf (takes_memory it) tests) → OnErr result (view' ≡ view)
       → IsApplied setup draft call old (record { graph = nodes; contents = table; view = view'; closed = closed }) result
   view-applied call it old nodes table view view' after closed tests result is view_is not_transforms not_contents s reason leaves set allowed fault kept =
       let now : DraftState = record { graph = nodes; contents = table; view = view; closed = closed } in
@@ -222,7 +229,7 @@ module _ (setup : Setup) (draft : Draft) where
   pub given-applied : (call : Call) (t : TransformId) (c : ContentId) (old : DraftState) (nodes nodes' : GraphState) (table : TableState) (view : Option PairNo) (closed : Bool) (result : Result Unit GraphFault)
       → call ≡ SetContent t c → record { graph = nodes; contents = table; view = view; closed = closed } ≡ old → StandsFor setup old draft
       → OnOk result (nodes' ≡ change_named nodes t.0 (λ node. record node { content = held_of table c.0 })) → OnOk result (first_reason (content_tests nodes table t.0 c.0) ≡ None)
-      → IfErr result (IsFault (content_tests nodes table t.0 c.0)) → OnErr result (nodes' ≡ nodes)
+      → IfErr result (IsMisuse (content_tests nodes table t.0 c.0)) → OnErr result (nodes' ≡ nodes)
       → IsApplied setup draft call old (record { graph = nodes'; contents = table; view = view; closed = closed }) result
   given-applied call t c old nodes nodes' table view closed result is view_is s set allowed fault kept =
       let now : DraftState = record { graph = nodes; contents = table; view = view; closed = closed } in
@@ -250,7 +257,7 @@ module _ (setup : Setup) (draft : Draft) where
   pub released-applied : (call : Call) (c : ContentId) (old : DraftState) (nodes nodes' : GraphState) (table table' : TableState) (view : Option PairNo) (closed : Bool) (result : Result Unit GraphFault)
       → call ≡ ReleaseViewport c → record { graph = nodes; contents = table; view = view; closed = closed } ≡ old → StandsFor setup old draft
       → OnOk result (nodes' ≡ without_named nodes (key_named table.names c.0)) → OnOk result (table' ≡ viewport_released table c.0) → OnOk result (first_reason (sort_tests table is_viewport c.0) ≡ None)
-      → IfErr result (IsFault (sort_tests table is_viewport c.0)) → OnErr result (nodes' ≡ nodes) → OnErr result (table' ≡ table)
+      → IfErr result (IsMisuse (sort_tests table is_viewport c.0)) → OnErr result (nodes' ≡ nodes) → OnErr result (table' ≡ table)
       → IsApplied setup draft call old (record { graph = nodes'; contents = table'; view = view; closed = closed }) result
   released-applied call c old nodes nodes' table table' view closed result is view_is s dropped released allowed fault kept still =
       let now : DraftState = record { graph = nodes; contents = table; view = view; closed = closed } in

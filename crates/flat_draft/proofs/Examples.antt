@@ -1,25 +1,25 @@
 -- The definitions, computed on a small draft: a root 1 with a child 2 that holds a filled rectangle.
-use Rattle.std.proofs.Common.{ℕ, suc, pos, ◌≡◌, refl, true, false, List, [], ◌∷◌, map, Option, None, Some, Result, Ok, Err}
-use Rattle.std.specs.Prelude.{option_to_list}
-use Rattle.flat_base.specs.declared.errors.Reason.{Reason}
-use Rattle.flat_base.specs.declared.errors.Reason.TheVariants.{HasView, NoView, ZeroId, UnknownTransform, UnknownContent}
+use Rattle.std.proofs.Common.{◌≡◌, refl, true, false, [], ◌∷◌, None, Some, Ok, Err}
+use Rattle.flat_base.specs.declared.errors.Reason.TheVariants.{HasView, NoView, ZeroId, UnknownTransform, UnknownContent, WrongContent}
 use Rattle.flat_base.specs.declared.ids.PairNo.{PairNo}
 use Rattle.flat_scene.specs.declared.calls.Interaction.TheVariants.{Default}
-use Rattle.flat_scene.specs.declared.trees.Children.{Children}
 use Rattle.flat_scene.specs.declared.trees.Children.TheVariants.{Empty}
 use Rattle.flat_scene.specs.declared.trees.Content.TheVariants as shown
-use Rattle.flat_scene.specs.declared.trees.GraphFault.{GraphFault}
 use Rattle.flat_scene.specs.declared.trees.GraphFault.TheVariants as part
 use Rattle.flat_scene.specs.Misuse.{first_reason}
-use Rattle.flat_scene.specs.Trees.{more, nodes, node_count}
+use Rattle.flat_scene.specs.Trees.{more, node_count}
 use Rattle.flat_graph.specs.declared.nodes.GraphNode.{GraphNode}
 use Rattle.flat_graph.specs.State.{GraphState, new_node}
-use Rattle.flat_content.specs.declared.stored.Stored.TheVariants.{Fill}
+use Rattle.flat_content.specs.declared.stored.Stored.TheVariants.{Fill, Viewport}
 use Rattle.flat_content.specs.Table.{TableState, empty_table, with_stored}
 use Rattle.flat_snap.specs.Building.{with_children}
-use Rattle.flat_draft.specs.Parts.{content_tests, done, made, no_view_tests, view_tests, without_named}
-use Rattle.flat_draft.specs.Shown.{all_shown, content_shown, laid, leaf, shown_nodes, shown_tree}
-use Rattle.flat_draft.specs.State.{DraftState, closed, emptied, empty_state}
+use Rattle.flat_scene.specs.declared.calls.Call.TheVariants.{CreateView, CreateFilledRect}
+use Rattle.flat_scene.specs.declared.calls.Watch.TheVariants as watch
+use Rattle.flat_scene.specs.Draft.{empty_draft}
+use Rattle.flat_draft.specs.Answers.{pair_watched, takes_memory}
+use Rattle.flat_draft.specs.Parts.{content_tests, done, made, no_view_tests, view_tests, watch_tests, watched, without_named}
+use Rattle.flat_draft.specs.Shown.{all_shown, content_shown, leaf, shown_nodes, shown_tree}
+use Rattle.flat_draft.specs.State.{closed, emptied, empty_state}
 
 abbrev table : TableState
 table = with_stored (empty_table []) 7 (Fill (Some (record { rgba = 1 ∷ 2 ∷ 3 ∷ 4 ∷ []; size = (10, 20) })))
@@ -75,3 +75,17 @@ answers = (refl, refl, refl)
 states : ((closed (empty_state [])).closed ≡ true) × ((empty_state []).closed ≡ false) × ((emptied (record { graph = graph; contents = table; view = Some pair; closed = false })).view ≡ None)
     × ((emptied (record { graph = graph; contents = table; view = Some pair; closed = false })).contents.contents ≡ table.contents)
 states = (refl, refl, refl, refl)
+
+-- what a get means, by the parts and by the draft
+abbrev seen : TableState
+seen = with_stored table 9 (Viewport pair (record { w = 1; h = 1; inset = record { top = 0; right = 0; bottom = 0; left = 0 } }))
+
+gets : (watched (Some pair) seen watch.Layout ≡ Some pair) × (watched None seen (watch.Child (record { 0 = 9 })) ≡ Some pair) × (first_reason (watch_tests None seen watch.Status) ≡ Some NoView)
+    × (first_reason (watch_tests None seen (watch.Child (record { 0 = 7 }))) ≡ Some WrongContent)
+gets = (refl, refl, refl, refl)
+
+drafted : (pair_watched (record empty_draft { view = Some pair }) watch.Status ≡ Some pair) × (pair_watched empty_draft (watch.Child (record { 0 = 9 })) ≡ None)
+drafted = (refl, refl)
+
+taking : (takes_memory (CreateView pair) ≡ false) × (takes_memory (CreateFilledRect (record { 0 = 1 })) ≡ true)
+taking = (refl, refl)

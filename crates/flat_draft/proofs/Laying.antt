@@ -1,21 +1,20 @@
 -- A walk that builds the nodes of some keys.
-use Rattle.std.proofs.Common.{ℕ, zero, suc, ◌+◌, ◌-◌, ◌<◌, ◌≤◌, ◌≡◌, ◌≢◌, refl, sym, ◌∙◌, ap, subst, max, Bool, true, false, List, [], ◌∷◌, map, length, drop, Option, Some, None, slice_index_or, drop-cons, add-one, arith}
+use Rattle.std.proofs.Common.{ℕ, zero, suc, ◌+◌, ◌-◌, ◌<◌, ◌≤◌, ◌≡◌, refl, sym, ◌∙◌, ap, Bool, true, false, List, [], ◌∷◌, length, drop, Option, Some, None, slice_index_or, drop-cons, add-one, arith}
 use Rattle.std.specs.Prelude.{option_to_list}
 use Rattle.flat_base.specs.declared.limits.TheConstants.{PATH_NODES_MAX}
 use Rattle.flat_scene.specs.declared.trees.Children.{Children}
 use Rattle.flat_scene.specs.declared.trees.Children.TheVariants.{Empty}
-use Rattle.flat_scene.specs.declared.trees.Node.{Node}
 use Rattle.flat_scene.specs.Trees.{more, node_count, nodes}
 use Rattle.flat_graph.specs.declared.nodes.GraphNode.{GraphNode}
 use Rattle.flat_graph.specs.Reasons.{links_in}
 use Rattle.flat_graph.specs.State.{GraphState, node_at}
-use Rattle.flat_collect.specs.Forest.{Forest, bare, tree, unfolded, height, size}
+use Rattle.flat_collect.specs.Forest.{size}
 use Rattle.flat_collect.specs.Walking.{below}
-use Rattle.flat_collect.proofs.Walking.{below-at, below-first, below-none}
+use Rattle.flat_collect.proofs.Walking.{below-first}
 use Rattle.flat_content.specs.Table.{TableState}
-use Rattle.flat_snap.specs.Building.{Building, Opened, adds, entered, followed_by, left, with_children}
+use Rattle.flat_snap.specs.Building.{Building, adds, entered, left, with_children}
 use Rattle.flat_snap.proofs.Adding.{adds-none, adds-adds, left-adds}
-use Rattle.flat_draft.specs.Shown.{HasRoom, all_shown, laid, leaf, shown_nodes}
+use Rattle.flat_draft.specs.Shown.{HasRoom, all_shown, leaf, shown_nodes}
 
 module _ (graph : GraphState) (table : TableState) where
   pub shown-none : (levels : ℕ) (is_root : Bool) → shown_nodes graph table levels is_root [] ≡ Empty

@@ -3,3 +3,4 @@ pub mod Examples
 pub mod Following
 pub mod Laying
 pub mod Shows
+pub mod Watching

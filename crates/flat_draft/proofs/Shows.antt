@@ -1,7 +1,7 @@
 -- What the parts show is the draft's tree.
 use Rattle.std.proofs.Common.{ℕ, zero, suc, ◌≤◌, ◌≡◌, refl, sym, ◌∙◌, ap, subst, Bool, true, false, List, [], ◌∷◌, map, length, Option, Some, None, IsSome, arith}
 use Rattle.std.specs.Prelude.{option_to_list, nat_lt, ◌||◌}
-use Rattle.std.specs.Option.{option_map, option_and_then}
+use Rattle.std.specs.Option.{option_map}
 use Rattle.std.proofs.lemmas.Bool.Decides.{nat_tests}
 use Rattle.flat_base.specs.declared.limits.TheConstants.{TREE_NODES_MAX, PATH_NODES_MAX, FENCES_PER_LIST_MAX}
 use Rattle.flat_base.specs.declared.errors.Reason.{Reason}
@@ -18,7 +18,7 @@ use Rattle.flat_graph.specs.Reasons.{links_in}
 use Rattle.flat_graph.specs.Stands.{as_transform, node_serial, serial_at}
 use Rattle.flat_graph.specs.Stands as graph_stands
 use Rattle.flat_graph.specs.State.{GraphState, IsKept, node_at}
-use Rattle.flat_collect.specs.Forest.{Forest, height, size, unfolded}
+use Rattle.flat_collect.specs.Forest.{height, size, unfolded}
 use Rattle.flat_collect.specs.Judge.{HasTree, graph_tree}
 use Rattle.flat_collect.specs.Walking.{below}
 use Rattle.flat_collect.proofs.Stands.{Each, each-contained}

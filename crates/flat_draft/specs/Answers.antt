@@ -1,12 +1,19 @@
 -- What a call and a present answer, and what they leave.
-use Rattle.std.specs.Prelude.{◌≡◌, true, false, Option, Some, None, Result, Ok, Err}
+use Rattle.std.specs.Prelude.{◌≡◌, Bool, true, false, Option, Some, None, Result, Ok, Err}
+use Rattle.std.specs.Option.{option_and_then}
 use Rattle.flat_scene.specs.declared.calls.Call.{Call}
+use Rattle.flat_scene.specs.declared.calls.Call.TheVariants.{CreateTransform, AddChild, SetHitRegions, SetInfiniteHitRegion, CreateViewport, CreateImage, CreateFilledRect}
+use Rattle.flat_base.specs.declared.ids.PairNo.{PairNo}
 use Rattle.flat_scene.specs.declared.calls.PresentArgs.{PresentArgs}
+use Rattle.flat_scene.specs.declared.calls.Watch.{Watch}
+use Rattle.flat_scene.specs.declared.calls.Watch.TheVariants as watch
+use Rattle.flat_scene.specs.Interleave.{get_tests}
+use Rattle.flat_content.specs.Table.{pair_of}
 use Rattle.flat_scene.specs.declared.setup.Setup.{Setup}
 use Rattle.flat_scene.specs.declared.trees.GraphFault.{GraphFault}
 use Rattle.flat_scene.specs.declared.trees.GraphFault.TheVariants as part
 use Rattle.flat_scene.specs.declared.trees.Tree.{Tree}
-use Rattle.flat_scene.specs.Draft.{Draft}
+use Rattle.flat_scene.specs.Draft.{Draft, made_of}
 use Rattle.flat_scene.specs.Effect.{effect}
 use Rattle.flat_scene.specs.Misuse.{first_reason, misuse}
 use Rattle.flat_scene.specs.Tree.{present_tests, tree}
@@ -15,19 +22,30 @@ use Rattle.flat_draft.specs.declared.fault.DraftFault.TheVariants.{Bad, Closed, 
 use Rattle.flat_draft.specs.State.{DraftState, closed}
 use Rattle.flat_draft.specs.Stands.{StandsFor}
 
+-- the calls that take memory
+abbrev pub takes_memory : Call → Bool
+takes_memory (CreateTransform t) = true
+takes_memory (AddChild p k) = true
+takes_memory (SetHitRegions t regions) = true
+takes_memory (SetInfiniteHitRegion t i) = true
+takes_memory (CreateViewport c pair w h inset) = true
+takes_memory (CreateImage c buffers i w h) = true
+takes_memory (CreateFilledRect c) = true
+takes_memory other = false
+
 module _ (setup : Setup) (draft : Draft) (call : Call) (old new : DraftState) where
-  -- A call's answer. It is done exactly where it is no misuse, or memory was wanting; a misuse closes the draft; a closed one does nothing.
+  -- A call's answer. A misuse closes the draft, and any other call is done, but where it takes memory and there is none. A closed draft does nothing.
   abbrev pub IsAnswer : Result Unit DraftFault → Type 0
   IsAnswer (Ok done) = (old.closed ≡ false) × (misuse setup draft call ≡ None) × StandsFor setup new (effect draft call) × (new.closed ≡ false)
   IsAnswer (Err (Bad reason)) = (old.closed ≡ false) × (misuse setup draft call ≡ Some reason) × (new ≡ closed old)
   IsAnswer (Err Closed) = (old.closed ≡ true) × (new ≡ old)
-  IsAnswer (Err Memory) = (old.closed ≡ false) × (misuse setup draft call ≡ None) × (new ≡ old)
+  IsAnswer (Err Memory) = (old.closed ≡ false) × (misuse setup draft call ≡ None) × (takes_memory call ≡ true) × (new ≡ old)
 
   -- What the parts of an open draft make of a call. A refusal leaves them as they were.
   abbrev pub IsApplied : Result Unit GraphFault → Type 0
   IsApplied (Ok done) = (misuse setup draft call ≡ None) × StandsFor setup new (effect draft call) × (new.closed ≡ old.closed)
   IsApplied (Err (part.Bad reason)) = (misuse setup draft call ≡ Some reason) × (new ≡ old)
-  IsApplied (Err part.Memory) = (misuse setup draft call ≡ None) × (new ≡ old)
+  IsApplied (Err part.Memory) = (misuse setup draft call ≡ None) × (takes_memory call ≡ true) × (new ≡ old)
 
 module _ (draft : Draft) (args : PresentArgs) (old new : DraftState) where
   -- a present is done, and shows this tree
@@ -42,3 +60,17 @@ module _ (draft : Draft) (args : PresentArgs) (old new : DraftState) where
   IsRefused (Bad reason) = (old.closed ≡ false) × (first_reason (present_tests draft args) ≡ Some reason) × (new ≡ closed old)
   IsRefused Closed = (old.closed ≡ true) × (new ≡ old)
   IsRefused Memory = (old.closed ≡ false) × (new ≡ old)
+
+-- the pair whose watcher a get means
+abbrev pub pair_watched : Draft → Watch → Option PairNo
+pair_watched draft watch.Layout = draft.view
+pair_watched draft watch.Status = draft.view
+pair_watched draft (watch.Child c) = option_and_then pair_of (made_of draft c)
+
+module _ (draft : Draft) (get : Watch) (old new : DraftState) where
+  -- A get's answer. It never takes memory; a misuse closes the draft.
+  abbrev pub IsWatched : Result PairNo DraftFault → Type 0
+  IsWatched (Ok pair) = (old.closed ≡ false) × (first_reason (get_tests draft get) ≡ None) × (pair_watched draft get ≡ Some pair) × (new ≡ old)
+  IsWatched (Err (Bad reason)) = (old.closed ≡ false) × (first_reason (get_tests draft get) ≡ Some reason) × (new ≡ closed old)
+  IsWatched (Err Closed) = (old.closed ≡ true) × (new ≡ old)
+  IsWatched (Err Memory) = ⊥

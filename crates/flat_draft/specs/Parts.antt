@@ -3,19 +3,30 @@ use Rattle.std.specs.Prelude.{ℕ, ◌++◌, is_some, is_none, List, [], ◌∷�
 use Rattle.flat_base.specs.declared.errors.Reason.{Reason}
 use Rattle.flat_base.specs.declared.errors.Reason.TheVariants.{HasView, NoView}
 use Rattle.flat_base.specs.declared.ids.PairNo.{PairNo}
+use Rattle.flat_scene.specs.declared.calls.Watch.{Watch}
+use Rattle.flat_scene.specs.declared.calls.Watch.TheVariants as watch
 use Rattle.flat_scene.specs.declared.trees.GraphFault.{GraphFault}
-use Rattle.flat_scene.specs.declared.trees.GraphFault.TheVariants.{Bad, Memory}
-use Rattle.flat_scene.specs.Misuse.{Test}
+use Rattle.flat_scene.specs.declared.trees.GraphFault.TheVariants.{Bad}
+use Rattle.flat_scene.specs.Misuse.{Test, is_viewport}
 use Rattle.flat_graph.specs.Reasons as graph
 use Rattle.flat_graph.specs.State.{GraphState, without_held}
-use Rattle.flat_content.specs.Reasons.{given_tests}
-use Rattle.flat_content.specs.Table.{TableState}
+use Rattle.flat_content.specs.Reasons.{given_tests, sort_tests}
+use Rattle.flat_content.specs.Table.{TableState, pair_named}
 
 abbrev pub view_tests : Option PairNo → List Test
 view_tests view = (is_some view, HasView) ∷ []
 
 abbrev pub no_view_tests : Option PairNo → List Test
 no_view_tests view = (is_none view, NoView) ∷ []
+
+-- what is asked of a get, and the pair whose watcher it means
+abbrev pub watch_tests : Option PairNo → TableState → Watch → List Test
+watch_tests view table (watch.Child c) = sort_tests table is_viewport c.0
+watch_tests view table other = no_view_tests view
+
+abbrev pub watched : Option PairNo → TableState → Watch → Option PairNo
+watched view table (watch.Child c) = pair_named table c.0
+watched view table other = view
 
 -- what is asked where a transform is given a content
 abbrev pub content_tests : GraphState → TableState → ℕ → ℕ → List Test

@@ -2,20 +2,21 @@ ghost use Rattle.std.specs.Prelude.{◌≡◌, ◌||◌, MatchResult, length, na
 ghost use Rattle.std.specs.Arc.{arc_value};
 ghost use Rattle.flat_scene.specs.declared.setup.Setup.{Setup};
 ghost use Rattle.flat_scene.specs.Draft as scene;
-ghost use Rattle.flat_draft.specs.Answers.{IsAnswer, IsApplied, IsRefused, Presents};
+ghost use Rattle.flat_draft.specs.Answers.{IsAnswer, IsApplied, IsRefused, IsWatched, Presents};
 ghost use Rattle.flat_draft.specs.Stands.{StandsFor};
 ghost use Rattle.flat_draft.specs.State.{DraftState, closed, empty_state, emptied};
 
 use crate::fault::DraftFault;
 use crate::lay::flatten;
 use crate::parts::{
-    create_transform, create_view, done, made, release_view, release_viewport, set_content, set_hits,
+    create_transform, create_view, done, made, release_view, release_viewport, set_content,
+    set_hits, watched,
 };
 use flat_base::{FENCES_PER_LIST_MAX, NoMemory, PairNo, Reason};
 use flat_collect::{Verdict, judge};
 use flat_content::ContentTable;
 use flat_graph::Graph;
-use flat_scene::{BufferList, Call, GraphFault, HitRegion, PresentArgs, ViewportProps};
+use flat_scene::{BufferList, Call, GraphFault, HitRegion, PresentArgs, ViewportProps, Watch};
 use flat_snap::Snapshot;
 use std::alloc::Global;
 use std::marker::Model;
@@ -49,13 +50,13 @@ fn has_too_many(args: &PresentArgs) -> bool
 }
 
 impl Draft {
-    ghost use Rattle.std.specs.Prelude.{true, IfOk};
+    ghost use Rattle.std.specs.Prelude.{true, IfOk, IsErrOf};
     ghost use Rattle.flat_collect.specs.Forest.{size};
     ghost use Rattle.flat_collect.specs.Judge.{HasTree, graph_tree};
     ghost use Rattle.flat_draft.specs.Shown.{shown_tree};
     ghost use Rattle.std.specs.List.{list_all};
     ghost use Rattle.flat_content.specs.Limits.{are_sides};
-    ghost use Rattle.flat_draft.specs.declared.fault.DraftFault.TheVariants.{Bad};
+    ghost use Rattle.flat_draft.specs.declared.fault.DraftFault.TheVariants.{Bad, Closed};
 
     /// The draft of a session that made no call. It may make images of these
     /// collections. It takes no memory.
@@ -79,13 +80,21 @@ impl Draft {
         self.closed
     }
 
+    /// The pair of its view.
+    pub fn view(&self) -> Option<PairNo>
+        ensures { result ≡ self.now.view }
+    {
+        self.view
+    }
+
     /// Makes a call, but for the token of a CreateView or a CreateViewport, which is
     /// asked for elsewhere.
     ///
-    /// A misuse closes the draft. What takes no memory is never refused for want
-    /// of it.
+    /// A misuse closes the draft. Only what makes a transform or a content, adds a
+    /// child or sets hit regions takes memory.
     pub fn call(&mut self, c: &Call) -> Result<(), DraftFault>
-        ensures { (setup : Setup) (draft : scene.Draft) → StandsFor setup self.old draft → IsAnswer setup draft c.now self.old self.new result }
+        ensures answered { (setup : Setup) (draft : scene.Draft) → StandsFor setup self.old draft → IsAnswer setup draft c.now self.old self.new result }
+        ensures ended { self.old.closed ≡ true → IsErrOf result Closed × (self.new ≡ self.old) }
     {
         if self.closed {
             return Err(DraftFault::Closed);
@@ -97,14 +106,32 @@ impl Draft {
         }
     }
 
+    /// The pair whose watcher a get means.
+    ///
+    /// A misuse closes the draft: NoView, or at a child ZeroId, UnknownContent or
+    /// WrongContent. It takes no memory.
+    pub fn get(&mut self, w: Watch) -> Result<PairNo, DraftFault>
+        ensures answered { (setup : Setup) (draft : scene.Draft) → StandsFor setup self.old draft → IsWatched draft w self.old self.new result }
+        ensures ended { self.old.closed ≡ true → IsErrOf result Closed × (self.new ≡ self.old) }
+    {
+        if self.closed {
+            return Err(DraftFault::Closed);
+        }
+        match watched(self.view, &self.contents, w) {
+            Ok(pair) => Ok(pair),
+            Err(reason) => Err(self.close(reason)),
+        }
+    }
+
     /// The snapshot of the draft.
     ///
     /// A misuse closes the draft: the reason is Cycle, TreeTooLarge, ViewportTwice
     /// or TooManyFences, the first that holds. A present that is done changes
     /// nothing.
     pub fn present(&mut self, args: &PresentArgs) -> Result<Arc<Snapshot>, DraftFault>
-        ensures { (setup : Setup) (draft : scene.Draft) → StandsFor setup self.old draft
+        ensures answered { (setup : Setup) (draft : scene.Draft) → StandsFor setup self.old draft
             → MatchResult result (λ snapshot. Presents draft args.now self.old self.new (arc_value snapshot)) (IsRefused draft args.now self.old self.new) }
+        ensures ended { self.old.closed ≡ true → IsErrOf result Closed × (self.new ≡ self.old) }
     {
         if self.closed {
             return Err(DraftFault::Closed);
@@ -187,7 +214,11 @@ impl Draft {
             Call::SetViewportProperties { c, w, h, inset } => {
                 done(self.contents.set_viewport_properties(*c, *w, *h, *inset))
             }
-            Call::ReleaseViewport { c } => release_viewport(&mut self.graph, &mut self.contents, *c),
+            Call::ReleaseViewport { c } => release_viewport(
+                &mut self.graph,
+                &mut self.contents,
+                *c,
+            ),
             Call::CreateImage {
                 c,
                 buffers,

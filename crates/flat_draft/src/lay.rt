@@ -98,7 +98,15 @@ fn lay_root(
     ensures { OnOk result (builder.new ≡ adds builder.old (all_shown graph.now contents.now)) }
 {
     match graph.root() {
-        Some(root) => lay(alloc, graph, contents, &[root], PATH_NODES_MAX, true, builder),
+        Some(root) => lay(
+            alloc,
+            graph,
+            contents,
+            &[root],
+            PATH_NODES_MAX,
+            true,
+            builder,
+        ),
         None => Ok(()),
     }
 }

@@ -4,8 +4,8 @@
 
 mod draft;
 mod fault;
-mod lay;
 mod laws;
+mod lay;
 mod parts;
 #[cfg(test)]
 mod tests;

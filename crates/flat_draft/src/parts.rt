@@ -1,4 +1,4 @@
-ghost use Rattle.std.specs.Prelude.{◌≡◌, ◌+◌, Some, None, is_some, is_none, OnOk, OnErr, IfErr};
+ghost use Rattle.std.specs.Prelude.{◌≡◌, ◌+◌, Some, None, is_some, is_none, OnOk, OnErr, IfOk, IfErr};
 ghost use Rattle.flat_scene.specs.Misuse.{first_reason};
 ghost use Rattle.flat_graph.specs.Reasons.{IsFault, IsMisuse, create_tests, hits_tests};
 ghost use Rattle.flat_graph.specs.State.{Creates, change_named};
@@ -7,12 +7,12 @@ ghost use Rattle.flat_content.specs.Table.{held_of, viewport_released};
 ghost use Rattle.flat_scene.specs.Misuse.{is_viewport};
 ghost use Rattle.flat_graph.specs.Names.{key_named};
 ghost use Rattle.flat_draft.specs.Parts as parts;
-ghost use Rattle.flat_draft.specs.Parts.{content_tests, no_view_tests, view_tests, without_named};
+ghost use Rattle.flat_draft.specs.Parts.{content_tests, no_view_tests, view_tests, watch_tests, without_named};
 
 use flat_base::{ContentId, Items, PairNo, Reason, TransformId};
 use flat_content::ContentTable;
 use flat_graph::Graph;
-use flat_scene::{GraphFault, HitRegion};
+use flat_scene::{GraphFault, HitRegion, Watch};
 use std::alloc::Global;
 
 /// Makes the view.
@@ -41,6 +41,18 @@ pub fn release_view(view: &mut Option<PairNo>) -> Result<(), GraphFault>
     }
     *view = None;
     Ok(())
+}
+
+/// The pair whose watcher a get means.
+pub fn watched(view: Option<PairNo>, contents: &ContentTable, w: Watch) -> Result<PairNo, Reason>
+    ensures pair { IfOk result (λ pair. parts.watched view contents.now w ≡ Some pair) }
+    ensures allowed { OnOk result (first_reason (watch_tests view contents.now w) ≡ None) }
+    ensures fault { IfErr result (λ reason. first_reason (watch_tests view contents.now w) ≡ Some reason) }
+{
+    match w {
+        Watch::Child(c) => contents.pair(c),
+        Watch::Layout | Watch::Status => view.ok_or(Reason::NoView),
+    }
 }
 
 /// Makes a transform, and names it.

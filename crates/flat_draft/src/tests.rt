@@ -1,6 +1,6 @@
 use crate::{Draft, DraftFault};
 use flat_base::{BufferNo, ContentId, FenceNo, Items, PairNo, Reason, SessionNo, TransformId};
-use flat_scene::{BufferDecl, Call, Content, Inset, Interaction, PresentArgs};
+use flat_scene::{BufferDecl, Call, Content, Inset, PresentArgs, Watch};
 use std::alloc::Global;
 use std::test::Fail;
 
@@ -21,8 +21,24 @@ const INSET: Inset = Inset {
     left: 0,
 };
 
-/// A session's draft, which may make images of one collection.
-fn fresh(alloc: Global) -> Result<Draft, Fail> {
+const CREATE_VIEWPORT: Call = Call::CreateViewport {
+    c: VIEWPORT,
+    pair: PAIR,
+    w: 1,
+    h: 1,
+    inset: INSET,
+};
+
+/// Makes all calls, or as many as are no misuse.
+fn make(draft: &mut Draft, calls: &[Call]) -> Result<(), DraftFault> {
+    for call in calls {
+        draft.call(call)?;
+    }
+    Ok(())
+}
+
+/// A root with a child that holds a filled rectangle without a colour.
+fn drawn(alloc: Global) -> Result<Draft, Fail> {
     let mut buffers = Items::new(alloc);
     buffers.push(BufferDecl {
         owner: SessionNo(1),
@@ -30,7 +46,21 @@ fn fresh(alloc: Global) -> Result<Draft, Fail> {
         w: 8,
         h: 8,
     })?;
-    Ok(Draft::new(alloc, buffers))
+    let mut draft = Draft::new(alloc, buffers);
+    let calls = [
+        Call::CreateView { pair: PAIR },
+        Call::CreateTransform { t: FIRST },
+        Call::CreateTransform { t: SECOND },
+        Call::SetRootTransform { t: FIRST },
+        Call::AddChild {
+            p: FIRST,
+            k: SECOND,
+        },
+        Call::CreateFilledRect { c: FILL },
+        Call::SetContent { t: SECOND, c: FILL },
+    ];
+    make(&mut draft, &calls)?;
+    Ok(draft)
 }
 
 /// A present that lists so many fences for its release.
@@ -46,21 +76,23 @@ fn args(alloc: Global, fences: u32) -> Result<PresentArgs, Fail> {
     })
 }
 
-/// A root with a child that shows a filled rectangle.
-fn drawn(alloc: Global) -> Result<Draft, Fail> {
-    let mut draft = fresh(alloc)?;
-    draft.call(&Call::CreateView { pair: PAIR })?;
-    draft.call(&Call::CreateTransform { t: FIRST })?;
-    draft.call(&Call::CreateTransform { t: SECOND })?;
-    draft.call(&Call::SetRootTransform { t: FIRST })?;
-    draft.call(&Call::AddChild { p: FIRST, k: SECOND })?;
-    draft.call(&Call::CreateFilledRect { c: FILL })?;
-    draft.call(&Call::SetContent { t: SECOND, c: FILL })?;
-    Ok(draft)
+/// The reason of a refusal by a misuse.
+fn reason<T: Drop>(answer: Result<T, DraftFault>) -> Option<Reason> {
+    match answer {
+        Err(DraftFault::Bad(reason)) => Some(reason),
+        _ => None,
+    }
 }
 
-/// Gives the filled rectangle a colour.
-fn paint(draft: &mut Draft) -> Result<(), DraftFault> {
+fn is_closed<T: Drop>(answer: Result<T, DraftFault>) -> bool {
+    matches!(answer, Err(DraftFault::Closed))
+}
+
+#[test]
+fn presents_what_was_called(rt: HostRuntime) -> Result<(), Fail> {
+    let alloc = rt.alloc();
+    let mut draft = drawn(alloc)?;
+    let before = draft.present(&args(alloc, 16)?)?;
     draft.call(&Call::SetSolidFill {
         c: FILL,
         r: 1,
@@ -69,35 +101,22 @@ fn paint(draft: &mut Draft) -> Result<(), DraftFault> {
         a: 255,
         w: 10,
         h: 20,
-    })
-}
-
-/// The reason of a refusal, or why there is none.
-fn told<T: Drop>(answer: Result<T, DraftFault>) -> Result<Option<Reason>, bool> {
-    match answer {
-        Ok(_) => Ok(None),
-        Err(DraftFault::Bad(reason)) => Ok(Some(reason)),
-        Err(DraftFault::Closed) => Err(true),
-        Err(DraftFault::Memory) => Err(false),
-    }
-}
-
-#[test]
-fn presents_what_was_called(rt: HostRuntime) -> Result<(), Fail> {
-    let alloc = rt.alloc();
-    let mut draft = drawn(alloc)?;
-    let before = draft.present(&args(alloc, 16)?)?;
-    paint(&mut draft)?;
+    })?;
     let after = draft.present(&args(alloc, 0)?)?;
-    assert_eq!(rt; (before.nodes(), after.nodes(), after.view()), (2, 2, Some(PAIR)));
-    assert_eq!(rt; before.node(1).content, None);
+    assert_eq!(rt;
+        (before.nodes(), after.nodes(), after.view()),
+        (2, 2, Some(PAIR))
+    );
     let fill = Content::Fill {
         serial: 1,
         rgba: [1, 2, 3, 255],
         w: 10,
         h: 20,
     };
-    assert_eq!(rt; after.node(1).content, Some(fill));
+    assert_eq!(rt;
+        (before.node(1).content, after.node(1).content),
+        (None, Some(fill))
+    );
     Ok(())
 }
 
@@ -105,92 +124,131 @@ fn presents_what_was_called(rt: HostRuntime) -> Result<(), Fail> {
 fn closes_at_a_misuse(rt: HostRuntime) -> Result<(), Fail> {
     let alloc = rt.alloc();
     let mut draft = drawn(alloc)?;
-    let answers = [
-        told(draft.call(&Call::ReleaseView)),
-        told(draft.call(&Call::ReleaseView)),
-        told(draft.call(&Call::Clear)),
-        told(draft.present(&args(alloc, 0)?)),
-    ];
-    assert_eq!(rt; answers, [Ok(None), Ok(Some(Reason::NoView)), Err(true), Err(true)]);
-    assert!(rt; draft.is_closed());
+    let misuse = reason(make(&mut draft, &[Call::ReleaseView, Call::ReleaseView]));
+    assert_eq!(rt; (misuse, draft.is_closed()), (Some(Reason::NoView), true));
+    let call = is_closed(draft.call(&Call::Clear));
+    let present = is_closed(draft.present(&args(alloc, 0)?));
+    assert_eq!(rt; (call, present), (true, true));
     Ok(())
 }
 
 #[test]
-fn refuses_presents(rt: HostRuntime) -> Result<(), Fail> {
-    let alloc = rt.alloc();
-    let mut looped = drawn(alloc)?;
-    looped.call(&Call::AddChild { p: SECOND, k: FIRST })?;
-    let mut twice = drawn(alloc)?;
-    twice.call(&Call::CreateViewport {
-        c: VIEWPORT,
-        pair: PAIR,
-        w: 1,
-        h: 1,
-        inset: INSET,
-    })?;
-    twice.call(&Call::SetContent { t: FIRST, c: VIEWPORT })?;
-    twice.call(&Call::SetContent { t: SECOND, c: VIEWPORT })?;
-    let mut fenced = drawn(alloc)?;
-    let answers = [
-        told(looped.present(&args(alloc, 17)?)),
-        told(twice.present(&args(alloc, 17)?)),
-        told(fenced.present(&args(alloc, 17)?)),
-        told(fenced.present(&args(alloc, 0)?)),
-    ];
-    let expected = [
-        Ok(Some(Reason::Cycle)),
-        Ok(Some(Reason::ViewportTwice)),
-        Ok(Some(Reason::TooManyFences)),
-        Err(true),
-    ];
-    assert_eq!(rt; answers, expected);
-    Ok(())
-}
-
-#[test]
-fn uses_end_at_release_and_clear(rt: HostRuntime) -> Result<(), Fail> {
+fn refuses_a_cycle_first(rt: HostRuntime) -> Result<(), Fail> {
     let alloc = rt.alloc();
     let mut draft = drawn(alloc)?;
-    draft.call(&Call::CreateViewport {
-        c: VIEWPORT,
-        pair: PAIR,
-        w: 1,
-        h: 1,
-        inset: INSET,
+    draft.call(&Call::AddChild {
+        p: SECOND,
+        k: FIRST,
     })?;
-    draft.call(&Call::SetContent { t: SECOND, c: VIEWPORT })?;
+    assert_eq!(rt;
+        reason(draft.present(&args(alloc, 17)?)),
+        Some(Reason::Cycle)
+    );
+    Ok(())
+}
+
+#[test]
+fn refuses_a_viewport_twice(rt: HostRuntime) -> Result<(), Fail> {
+    let alloc = rt.alloc();
+    let mut draft = drawn(alloc)?;
+    let calls = [
+        CREATE_VIEWPORT,
+        Call::SetContent {
+            t: FIRST,
+            c: VIEWPORT,
+        },
+        Call::SetContent {
+            t: SECOND,
+            c: VIEWPORT,
+        },
+    ];
+    make(&mut draft, &calls)?;
+    assert_eq!(rt;
+        reason(draft.present(&args(alloc, 0)?)),
+        Some(Reason::ViewportTwice)
+    );
+    Ok(())
+}
+
+#[test]
+fn refuses_fences_last(rt: HostRuntime) -> Result<(), Fail> {
+    let alloc = rt.alloc();
+    let mut draft = drawn(alloc)?;
+    assert_eq!(rt;
+        reason(draft.present(&args(alloc, 17)?)),
+        Some(Reason::TooManyFences)
+    );
+    Ok(())
+}
+
+#[test]
+fn releases_viewports(rt: HostRuntime) -> Result<(), Fail> {
+    let alloc = rt.alloc();
+    let mut draft = drawn(alloc)?;
+    make(
+        &mut draft,
+        &[
+            CREATE_VIEWPORT,
+            Call::SetContent {
+                t: SECOND,
+                c: VIEWPORT,
+            },
+        ],
+    )?;
     let used = draft.present(&args(alloc, 0)?)?;
     draft.call(&Call::ReleaseViewport { c: VIEWPORT })?;
     let released = draft.present(&args(alloc, 0)?)?;
-    draft.call(&Call::Clear)?;
-    let cleared = draft.present(&args(alloc, 0)?)?;
-    let uses = (used.viewports().len(), released.viewports().len(), cleared.nodes());
-    assert_eq!(rt; uses, (1, 0, 0));
-    assert_eq!(rt; released.node(1).content, None);
-    assert_eq!(rt; cleared.view(), None);
+    assert_eq!(rt;
+        (used.viewports().len(), released.viewports().len()),
+        (1, 0)
+    );
     Ok(())
 }
 
 #[test]
-fn images_and_hits(rt: HostRuntime) -> Result<(), Fail> {
+fn shows_images_until_clear(rt: HostRuntime) -> Result<(), Fail> {
     let alloc = rt.alloc();
     let mut draft = drawn(alloc)?;
-    draft.call(&Call::CreateImage {
+    let image = Call::CreateImage {
         c: VIEWPORT,
         buffers: BufferNo(0),
         i: 0,
         w: 8,
         h: 8,
-    })?;
-    draft.call(&Call::SetImageOpacity { c: VIEWPORT, v: 5 })?;
-    draft.call(&Call::SetInfiniteHitRegion {
-        t: SECOND,
-        i: Interaction::SemanticallyInvisible,
-    })?;
-    draft.call(&Call::SetHitRegions { t: FIRST, regions: Items::new(alloc) })?;
+    };
+    make(
+        &mut draft,
+        &[
+            image,
+            Call::SetContent {
+                t: FIRST,
+                c: VIEWPORT,
+            },
+        ],
+    )?;
     let shown = draft.present(&args(alloc, 0)?)?;
-    let hits = (shown.node(0).hits.len(), shown.node(1).hits.len());
-    assert_eq!(rt; hits, (0, 1));
+    draft.call(&Call::Clear)?;
+    let cleared = draft.present(&args(alloc, 0)?)?;
+    assert_eq!(rt;
+        (shown.nodes(), cleared.nodes(), cleared.view()),
+        (2, 0, None)
+    );
+    assert!(rt; shown.node(0).content.is_some());
+    Ok(())
+}
+
+#[test]
+fn gets_name_pairs(rt: HostRuntime) -> Result<(), Fail> {
+    let mut draft = drawn(rt.alloc())?;
+    draft.call(&CREATE_VIEWPORT)?;
+    let pairs = (
+        draft.get(Watch::Layout)?,
+        draft.get(Watch::Child(VIEWPORT))?,
+    );
+    assert_eq!(rt; pairs, (PAIR, PAIR));
+    assert_eq!(rt;
+        reason(draft.get(Watch::Child(FILL))),
+        Some(Reason::WrongContent)
+    );
     Ok(())
 }

@@ -35,8 +35,8 @@ use Rattle.flat_report.specs.Report.{frame_at, finished}
 use Rattle.flat_script.specs.declared.script.Script.{Script}
 use Rattle.flat_run.specs.declared.game.Game.{Game}
 use Rattle.flat_run.specs.declared.player.Player.{Player}
-use Rattle.flat_playable.specs.Playable.{is_played, is_playable}
-use Rattle.flat_run.specs.Playing.{IsSpent, lines_by, rest_shares, shares_of, Grows, grows, stays, is_quiet, PlayerStands, PlayersStand, DisplayStands, FramesStand, GameStands, BeginsFrame, FinishesFrame, HasViews}
+use Rattle.flat_playable.specs.Playable.{is_played, is_played_display, is_playable}
+use Rattle.flat_run.specs.Playing.{IsSpent, lines_by, rest_shares, shares_of, Grows, grows, stays, is_quiet, PlayerStands, PlayersStand, DisplayStands, FramesStand, GameStands, BeginsFrame, FinishesFrame, HasViews, session_text, display_text}
 use Rattle.flat_run.proofs.DisplaySteps.{QuietStep, quiet_end, display_session, display_begin, display_done, display_share, begin_time_ok, done_ok, may_begin, may_finish, frames_session, frames_begin, frames_done}
 use Rattle.flat_run.proofs.DisplaySteps as quiet
 use Rattle.flat_run.proofs.ShownFits.{length_sessions}
@@ -228,3 +228,23 @@ own_player script place history players s declared stand player is =
     let P : ℕ → Type 0 = λ n. PlayerStands script (record { 0 = n }) place history (get_or players (s.0 - 1) player) in
     let Q : Player → Type 0 = λ p. PlayerStands script s place history p in
     subst Q (sym is) (subst P here (stand.each (s.0 - 1) player inside))
+
+-- a line of the display that is played begins a frame or ends one
+pub begun_or_done : (text : DisplayLine) → is_played_display text ≡ true → ((time : ℕ) → text ≡ display.Begin time → ⊥) → (text ≡ display.Done → ⊥) → ⊥
+begun_or_done (display.Begin time) played not_begin not_done = not_begin time refl
+begun_or_done display.Done played not_begin not_done = not_done refl
+begun_or_done _ played not_begin not_done = cc
+
+-- a session plays lines of a session, the display its own, and a probe none
+pub no_session_text : (setup : Setup) (s : SessionNo) (text : Body) → is_played setup (Session s) text ≡ true → session_text text ≡ None → ⊥
+no_session_text setup s (body.Session text) played none = cc
+no_session_text setup s _ played none = cc
+
+pub no_display_text : (setup : Setup) (text : Body) → is_played setup Display text ≡ true → display_text text ≡ None → ⊥
+no_display_text setup (body.Display text) played none = cc
+no_display_text setup _ played none = cc
+
+pub no_probe : (setup : Setup) (p : ℕ) (text : Body) → is_played setup (Probe p) text ≡ true → ⊥
+no_probe setup p (body.Session text) played = cc
+no_probe setup p (body.Display text) played = cc
+no_probe setup p (body.Probe text) played = cc

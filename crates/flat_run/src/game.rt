@@ -99,7 +99,8 @@ impl Game {
         ensures { OnOk result (GameStands script.now (place + 1) self.new) }
     {
         let player = &mut self.players[s.0 as usize - 1];
-        player.play(alloc, &mut self.board, script, place, s, number, text)
+        player.play(alloc, &mut self.board, script, place, s, number, text)?;
+        Ok(())
     }
 
     /// Plays a line of the display.
@@ -121,7 +122,10 @@ impl Game {
                 self.begin(number, time);
                 Ok(())
             }
-            DisplayLine::Done => self.finish(alloc, number),
+            DisplayLine::Done => {
+                self.finish(alloc, number)?;
+                Ok(())
+            }
             _ => unreachable!(),
         }
     }

@@ -4,6 +4,7 @@
 mod game;
 mod made;
 mod player;
+mod run;
 mod top;
 
 pub use made::Made;

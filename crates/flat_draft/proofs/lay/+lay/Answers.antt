@@ -1,6 +1,5 @@
-use Rattle.std.proofs.Common.{ℕ, ◌≡◌, ◌<◌, ◌-◌, suc, sym, Some, length, slice_index_or, drop, [], arith}
+use Rattle.std.proofs.Common.{◌≡◌, ◌<◌, ◌-◌, suc, sym, length, drop, [], arith}
 use Rattle.std.proofs.lemmas.List.{drop_all}
-use Rattle.flat_graph.specs.State.{node_at}
 use Rattle.flat_draft.proofs.Laying.{laying-at, laying-skip, laying-fits, laying-below, laying-more, laying-end}
 use Rattle.flat_draft.proofs.lay.+lay.Goals as goal
 

@@ -1,8 +1,4 @@
-use Rattle.std.proofs.Common.{◌≡◌, drop}
-use Rattle.flat_graph.specs.Reasons.{links_in}
-use Rattle.flat_collect.specs.Walking.{below}
-use Rattle.flat_snap.specs.Building.{adds}
-use Rattle.flat_draft.specs.Shown.{HasRoom, shown_nodes}
+use Rattle.std.proofs.Common.{drop}
 use Rattle.flat_draft.proofs.Laying.{IsLaying}
 use Rattle.flat_draft.proofs.lay.+lay.Given as goal
 

@@ -1,4 +1,4 @@
-use Rattle.std.proofs.Common.{◌≡◌, None, ◌∙◌, ap, sym}
+use Rattle.std.proofs.Common.{◌∙◌, ap, sym}
 use Rattle.flat_snap.specs.Building.{adds}
 use Rattle.flat_snap.proofs.Adding.{adds-none}
 use Rattle.flat_draft.proofs.Laying.{no-root}

@@ -1,4 +1,4 @@
-use Rattle.std.proofs.Common.{◌≡◌, ◌<◌, ◌^◌, false, slice_get, rules}
+use Rattle.std.proofs.Common.{◌≡◌, false, slice_get, rules}
 use Rattle.flat_scene.specs.Misuse.{is_bad_image, is_bad_index}
 use Rattle.flat_content.proofs.Soundness.{image-fits}
 use Rattle.flat_content.proofs.table.ContentTable.create_image.Goals as goal

@@ -1,4 +1,4 @@
-use Rattle.std.proofs.Common.{◌≡◌, ◌≤◌, ◌<◌, Some, length, slice_get, ◌-◌, ◌∙◌, refl, rules, arith}
+use Rattle.std.proofs.Common.{◌≡◌, ◌≤◌, ◌<◌, Some, length, ◌-◌, ◌∙◌, refl, rules, arith}
 use Rattle.flat_graph.specs.Names.{key_named}
 use Rattle.std.proofs.lemmas.Option.{slice_get_read}
 use Rattle.flat_content.proofs.Serials.{of_serial-place}

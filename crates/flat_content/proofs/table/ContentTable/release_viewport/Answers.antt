@@ -1,8 +1,7 @@
-use Rattle.std.proofs.Common.{◌≡◌, ◌==◌, ◌∙◌, ap, refl, sym, not, ℕ, List, filter, Option, Some, rules}
+use Rattle.std.proofs.Common.{◌≡◌, ◌∙◌, ap, refl, sym, not, ℕ, filter, Option, Some, rules}
 use Rattle.flat_graph.specs.Names.{key_named}
 use Rattle.flat_scene.specs.Effect.{is_serial}
 use Rattle.flat_content.proofs.Soundness.{table-released, table-use}
-use Rattle.flat_content.specs.Table.{TableState, viewport_released}
 use Rattle.flat_content.proofs.table.ContentTable.release_viewport.Goals as goal
 
 pub invariant_of-self : goal.invariant_of-self

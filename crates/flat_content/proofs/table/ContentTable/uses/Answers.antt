@@ -1,4 +1,4 @@
-use Rattle.std.proofs.Common.{◌≡◌, ◌++◌, ◌<◌, ◌∙◌, ap, sym, get_or, length, arith, rules}
+use Rattle.std.proofs.Common.{◌≡◌, ◌++◌, ◌<◌, sym, length, arith, rules}
 use Rattle.std.specs.Prelude.{option_to_list}
 use Rattle.flat_content.specs.Table.{use_at}
 use Rattle.flat_content.proofs.Serials.{filter-more}

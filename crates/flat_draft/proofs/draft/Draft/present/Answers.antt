@@ -1,5 +1,4 @@
 use Rattle.std.proofs.Common.{◌≡◌, ◌∙◌, ap, refl, subst, sym, false, true, Option, Some, rules}
-use Rattle.flat_scene.specs.Misuse.{first_reason}
 use Rattle.flat_base.specs.declared.ids.PairNo.{PairNo}
 use Rattle.flat_scene.specs.Tree.{tree}
 use Rattle.flat_draft.specs.State.{DraftState}
@@ -11,16 +10,16 @@ use Rattle.flat_collect.proofs.Verdicts.{verdict_stands}
 use Rattle.flat_draft.proofs.Shows.{many, tree-refuses, fences-allow, fences-refuse, tree-stands}
 use Rattle.flat_draft.proofs.draft.Draft.present.Goals as goal
 
-pub returns-in-Ok-Bad : goal.returns-in-Ok-Bad
-returns-in-Ok-Bad c = λ setup draft s.
+pub returns-in-Ok-Bad-clause-answered : goal.returns-in-Ok-Bad-clause-answered
+returns-in-Ok-Bad-clause-answered c = λ setup draft s.
     let not_closed : c.args.self.now.closed ≡ false = search rules in
     let judged : IsJudged c.self.inside.graph (Bad c.in-Ok-Bad.reason) = rw (c.in-Ok-Bad.is, c.in-Ok-Bad.field-0-is) at c.judge.ensures in
     let g : graph.StandsFor c.self.inside.graph draft = rw (← c.self.view_is) at s.graph in
     let verdict = verdict_stands c.self.inside.graph draft (Bad c.in-Ok-Bad.reason) g judged in
     rw c.close.ensures.fault (not_closed, tree-refuses draft c.args.args.now c.in-Ok-Bad.reason verdict, c.close.ensures.closed)
 
-pub returns-then-has_too_many : goal.returns-then-has_too_many
-returns-then-has_too_many c = λ setup draft s.
+pub returns-then-has_too_many-clause-answered : goal.returns-then-has_too_many-clause-answered
+returns-then-has_too_many-clause-answered c = λ setup draft s.
     let not_closed : c.args.self.now.closed ≡ false = search rules in
     let judged : IsJudged c.self.inside.graph (Good c.in-Ok-Good.nodes) = rw (c.in-Ok-Good.is, c.in-Ok-Good.field-0-is) at c.judge.ensures in
     let g : graph.StandsFor c.self.inside.graph draft = rw (← c.self.view_is) at s.graph in
@@ -28,8 +27,8 @@ returns-then-has_too_many c = λ setup draft s.
     let many_so : many c.args.args.now ≡ true = sym c.has_too_many.ensures ∙ c.if-has_too_many.true in
     rw c.close-then-has_too_many.ensures.fault (not_closed, fences-refuse draft c.args.args.now verdict.no_reason many_so, c.close-then-has_too_many.ensures.closed)
 
-pub returns-in-Ok : goal.returns-in-Ok
-returns-in-Ok c = λ setup draft s.
+pub returns-in-Ok-clause-answered : goal.returns-in-Ok-clause-answered
+returns-in-Ok-clause-answered c = λ setup draft s.
     let not_closed : c.args.self.now.closed ≡ false = search rules in
     let judged : IsJudged c.self.inside.graph (Good c.in-Ok-Good.nodes) = rw (c.in-Ok-Good.is, c.in-Ok-Good.field-0-is) at c.judge.ensures in
     let g : graph.StandsFor c.self.inside.graph draft = rw (← c.self.view_is) at s.graph in

@@ -1,35 +1,48 @@
-use Rattle.std.proofs.Common.{rules, ◌≡◌, ◌+◌, ◌<◌, [], true, length, Some, OnOk, IfOk, slice_get, ℕ, ◌-◌, ◌*◌, ◌≤◌, ◌/◌, ◌%◌, Bool, false, nat_eq, nat_lt, List, ◌∷◌, ◌++◌, slice_index_or, slice_set, bit_and, bit_or, Fits, w8, w32, w64, Bor, MutBor}
-use Rattle.flat_scene.specs.declared.setup.Setup.{Setup}
-use Rattle.flat_scene.specs.Setups.{is_setup}
-use Rattle.flat_base.specs.declared.ids.Actor.TheVariants.{Display, Session}
+use Rattle.std.proofs.Common.{◌≡◌, [], refl, sym, ap, ◌∙◌, subst, Some, Option}
+use Rattle.flat_base.specs.declared.ids.Actor.TheVariants.{Display}
 use Rattle.flat_scene.specs.declared.script.Body.TheVariants as body
-use Rattle.std.specs.Option.{option_copied}
-use Rattle.flat_run.specs.Playing.{session_text, display_text, GameStands, FramesStand, HasViews, BeginsFrame, FinishesFrame}
-use Rattle.flat_scene.specs.declared.journal.Kind.TheVariants.{Begin, Finish}
-use Rattle.flat_core.specs.Boards.{MayCall}
-use Rattle.flat_core.specs.Shown.{shown_states}
-use Rattle.flat_core.specs.Ends.{to_begin}
-use Rattle.flat_core.specs.Legal.{frames}
-use Rattle.flat_report.specs.Report.{frame_at, finished}
-use Rattle.flat_playable.specs.Playable.{is_playable}
+use Rattle.flat_scene.specs.declared.script.DisplayLine.{DisplayLine}
+use Rattle.flat_scene.specs.declared.script.DisplayLine.TheVariants as display
+use Rattle.flat_scene.specs.declared.script.ScriptLine.{ScriptLine}
+use Rattle.flat_run.proofs.DisplaySteps.{display_share, begin_time_ok, done_ok, may_begin, may_finish}
+use Rattle.flat_run.proofs.GameSteps.{begin_more, finish_more, begun_or_done}
+use Rattle.flat_run.proofs.Steps.{At, at_place}
 use Rattle.flat_run.proofs.game.Game.play_display.Goals as goal
 
--- src/game.rt:121:17
 pub begin-requires-clause-may : goal.begin-requires-clause-may
-begin-requires-clause-may c = ?
+begin-requires-clause-may c =
+    let x : ScriptLine = record { number = c.args.number; actor = Display; body = body.Display c.args.text } in
+    let at : At c.args.script.now c.args.place x = at_place c.args.script.now c.args.place x c.requires.playable c.requires.line in
+    let is : x.body ≡ body.Display (display.Begin c.in-Begin.time) = ap (λ t. body.Display t) c.in-Begin.is in
+    may_begin c.args.self.now.board c.in-Begin.time
+    (display_share c.args.script.now c.args.place x at c.args.self.now.board c.requires.stands.shares refl c.requires.stands.spent)
+    (begin_time_ok c.args.script.now c.args.place x at c.in-Begin.time is c.args.self.now.board.history c.requires.stands.display)
 
--- src/game.rt:124:34
 pub finish-requires-clause-may : goal.finish-requires-clause-may
-finish-requires-clause-may c = ?
+finish-requires-clause-may c =
+    let x : ScriptLine = record { number = c.args.number; actor = Display; body = body.Display c.args.text } in
+    let at : At c.args.script.now c.args.place x = at_place c.args.script.now c.args.place x c.requires.playable c.requires.line in
+    let is : x.body ≡ body.Display display.Done = ap (λ t. body.Display t) c.in-Done.is in
+    may_finish c.args.self.now.board
+    (display_share c.args.script.now c.args.place x at c.args.self.now.board c.requires.stands.shares refl c.requires.stands.spent)
+    (done_ok c.args.script.now c.args.place x at is c.args.self.now.board.history c.requires.stands.display)
 
--- src/game.rt:125:18
 pub unreachable-requires : goal.unreachable-requires
-unreachable-requires c = ?
+unreachable-requires c =
+    let x : ScriptLine = record { number = c.args.number; actor = Display; body = body.Display c.args.text } in
+    let at : At c.args.script.now c.args.place x = at_place c.args.script.now c.args.place x c.requires.playable c.requires.line in
+    begun_or_done c.args.text at.played c.in_default.not-Begin c.in_default.not-Done
 
--- src/game.rt:106:5
 pub returns-in-Begin : goal.returns-in-Begin
-returns-in-Begin c = ?
+returns-in-Begin c =
+    let x : ScriptLine = record { number = c.args.number; actor = Display; body = body.Display c.args.text } in
+    let at : At c.args.script.now c.args.place x = at_place c.args.script.now c.args.place x c.requires.playable c.requires.line in
+    let is : x.body ≡ body.Display (display.Begin c.in-Begin.time) = ap (λ t. body.Display t) c.in-Begin.is in
+    begin_more c.args.script.now c.args.place x at c.args.self.now c.begin.new.self c.in-Begin.time refl is c.requires.stands c.begin.ensures
 
--- src/game.rt:106:5
-pub returns-in-Done : goal.returns-in-Done
-returns-in-Done c = ?
+pub returns-in_ok-finish-in-Done : goal.returns-in_ok-finish-in-Done
+returns-in_ok-finish-in-Done c =
+    let x : ScriptLine = record { number = c.args.number; actor = Display; body = body.Display c.args.text } in
+    let at : At c.args.script.now c.args.place x = at_place c.args.script.now c.args.place x c.requires.playable c.requires.line in
+    let is : x.body ≡ body.Display display.Done = ap (λ t. body.Display t) c.in-Done.is in
+    finish_more c.args.script.now c.args.place x at c.args.self.now c.finish.new.self refl is c.requires.stands c.in_ok-finish-in-Done.ensures

@@ -1,27 +1,27 @@
-use Rattle.std.proofs.Common.{rules, ◌≡◌, ◌+◌, ◌<◌, [], true, length, Some, OnOk, IfOk, slice_get, ℕ, ◌-◌, ◌*◌, ◌≤◌, ◌/◌, ◌%◌, Bool, false, nat_eq, nat_lt, List, ◌∷◌, ◌++◌, slice_index_or, slice_set, bit_and, bit_or, Fits, w8, w32, w64, Bor, MutBor}
-use Rattle.flat_scene.specs.declared.setup.Setup.{Setup}
-use Rattle.flat_scene.specs.Setups.{is_setup}
-use Rattle.flat_base.specs.declared.ids.Actor.TheVariants.{Display, Session}
-use Rattle.flat_scene.specs.declared.script.Body.TheVariants as body
-use Rattle.std.specs.Option.{option_copied}
-use Rattle.flat_run.specs.Playing.{session_text, display_text, GameStands, FramesStand, HasViews, BeginsFrame, FinishesFrame}
-use Rattle.flat_scene.specs.declared.journal.Kind.TheVariants.{Begin, Finish}
-use Rattle.flat_core.specs.Boards.{MayCall}
-use Rattle.flat_core.specs.Shown.{shown_states}
-use Rattle.flat_core.specs.Ends.{to_begin}
-use Rattle.flat_core.specs.Legal.{frames}
-use Rattle.flat_report.specs.Report.{frame_at, finished}
-use Rattle.flat_playable.specs.Playable.{is_playable}
+use Rattle.std.proofs.Common.{◌≡◌, true, ap, sym, ◌∙◌, subst}
+use Rattle.flat_base.specs.declared.ids.Actor.{Actor}
+use Rattle.flat_playable.specs.Playable.{is_played}
+use Rattle.flat_run.proofs.GameSteps.{no_session_text, no_display_text, no_probe}
+use Rattle.flat_run.proofs.Steps.{At, at_place}
 use Rattle.flat_run.proofs.game.Game.play_line.Goals as goal
 
--- src/game.rt:140:25
 pub unreachable-requires : goal.unreachable-requires
-unreachable-requires c = ?
+unreachable-requires c =
+    let x = c.at-line.result.now in
+    let at : At c.args.script.now c.args.place x = at_place c.args.script.now c.args.place x c.requires.playable c.at-line.ensures in
+    let P : Actor → Type 0 = λ who. is_played c.args.script.now.setup who x.body ≡ true in
+    no_session_text c.args.script.now.setup c.in-Session.s x.body (subst P c.in-Session.is at.played) (sym c.in-None.ensures)
 
--- src/game.rt:144:25
 pub unreachable-requires-in-None-display_text : goal.unreachable-requires-in-None-display_text
-unreachable-requires-in-None-display_text c = ?
+unreachable-requires-in-None-display_text c =
+    let x = c.at-line.result.now in
+    let at : At c.args.script.now c.args.place x = at_place c.args.script.now c.args.place x c.requires.playable c.at-line.ensures in
+    let P : Actor → Type 0 = λ who. is_played c.args.script.now.setup who x.body ≡ true in
+    no_display_text c.args.script.now.setup x.body (subst P c.in-Display.is at.played) (sym c.in-None-display_text.ensures)
 
--- src/game.rt:146:32
 pub unreachable-requires-in-Probe : goal.unreachable-requires-in-Probe
-unreachable-requires-in-Probe c = ?
+unreachable-requires-in-Probe c =
+    let x = c.at-line.result.now in
+    let at : At c.args.script.now c.args.place x = at_place c.args.script.now c.args.place x c.requires.playable c.at-line.ensures in
+    let P : Actor → Type 0 = λ who. is_played c.args.script.now.setup who x.body ≡ true in
+    no_probe c.args.script.now.setup c.in-Probe.field-0 x.body (subst P c.in-Probe.is at.played)
