@@ -1,7 +1,7 @@
 use crate::{Board, EventList};
 use flat_base::{Items, NoMemory, SessionNo, ShareList};
-use flat_scene::{CallList, Event, PresentArgs, Reply, Setup, Tree};
-use flat_snap::Snapshot;
+use flat_scene::{CallList, Event, PresentArgs, Reply, Setup};
+use flat_snap::SnapshotBuilder;
 use flat_topology::Shown;
 use std::sync::Arc;
 use std::test::Fail;
@@ -57,12 +57,8 @@ fn a_present_is_taken(rt: HostRuntime) -> Result<(), Fail> {
         acquire: Items::new(alloc),
         release: Items::new(alloc),
     };
-    let tree = Tree {
-        view: None,
-        root: None,
-        viewports: Items::new(alloc),
-    };
-    let snap = Arc::new(alloc, Snapshot::of_tree(tree))?;
+    let nothing = SnapshotBuilder::new(alloc, 0)?.finish(None, Items::new(alloc));
+    let snap = Arc::new(alloc, nothing)?;
     let reply = match board.present(SessionNo(1), 1, CallList::new(alloc), args, snap) {
         Ok(reply) => reply,
         Err(_) => return Err(Fail::from(NoMemory)),

@@ -29,7 +29,7 @@ use Rattle.flat_topology.specs.Views.{is_member}
 use Rattle.flat_report.specs.Report.{finished, frame_at}
 use Rattle.flat_script.specs.declared.script.Script.{Script}
 use Rattle.flat_playable.specs.Playable.{frames_close, keeps_frames}
-use Rattle.flat_run.specs.Playing.{DisplayStands, FramesStand, IsSpent, lines_by, rest_shares, is_quiet}
+use Rattle.flat_run.specs.Playing.{DisplayStands, FramesStand, IsSpent, lines_by, rest_shares, is_quiet, is_question}
 use Rattle.flat_run.proofs.Displayed.{display_more}
 use Rattle.flat_run.proofs.Steps.{At}
 use Rattle.flat_run.proofs.Tests.{and_left, and_right, and_true}
@@ -49,12 +49,16 @@ pub quiet_end : (kind : Kind) → is_quiet kind ≡ true → is_end kind ≡ fal
 quiet_end (End n) quiet = absurd (cc)
 quiet_end _ quiet = refl
 
+pub quiet_question : (kind : Kind) → is_quiet kind ≡ true → is_question kind ≡ false
+quiet_question (Hit x y) quiet = absurd (cc)
+quiet_question _ quiet = refl
+
 -- A history stays, or has one quiet entry more, which isn't the display's.
 pub data QuietStep (old new : List Entry) : Type 0 where
   same : new ≡ old → QuietStep old new
   more : (e : Entry) → is_display e.actor ≡ false → is_quiet e.kind ≡ true → new ≡ (old ▹ e) → QuietStep old new
 
-display_numbered : (next : ScriptLine) → Numbered next.number (display_line next.number next.body)
+pub display_numbered : (next : ScriptLine) → Numbered next.number (display_line next.number next.body)
 display_numbered next = by_body next.body
   where
     by_body : (text : Body) → Numbered next.number (display_line next.number text)

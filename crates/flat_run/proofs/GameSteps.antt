@@ -37,7 +37,7 @@ use Rattle.flat_run.specs.declared.game.Game.{Game}
 use Rattle.flat_run.specs.declared.player.Player.{Player}
 use Rattle.flat_playable.specs.Playable.{is_played, is_played_display, is_playable}
 use Rattle.flat_run.specs.Playing.{IsSpent, lines_by, rest_shares, shares_of, Grows, grows, stays, is_quiet, PlayerStands, PlayersStand, DisplayStands, FramesStand, GameStands, BeginsFrame, FinishesFrame, HasViews, session_text, display_text}
-use Rattle.flat_run.proofs.DisplaySteps.{QuietStep, quiet_end, display_session, display_begin, display_done, display_share, begin_time_ok, done_ok, may_begin, may_finish, frames_session, frames_begin, frames_done}
+use Rattle.flat_run.proofs.DisplaySteps.{QuietStep, quiet_end, quiet_question, display_session, display_begin, display_done, display_share, begin_time_ok, done_ok, may_begin, may_finish, frames_session, frames_begin, frames_done}
 use Rattle.flat_run.proofs.DisplaySteps as quiet
 use Rattle.flat_run.proofs.ShownFits.{length_sessions}
 use Rattle.flat_run.proofs.Steps.{At, Step, same, more, order_more, spent_more, player_other}
@@ -68,7 +68,7 @@ share_at script (suc n) k below =
     ap (λ xs. get_or xs k 0) (map-append (share_of script) (sessions_to n) ((record { 0 = suc n }) ∷ []))
     ∙ last_share script n k (nat_lt k n) refl below (λ less. share_at script n k less)
 
-has_room : (script : Script) (m : Machine) (n : ℕ) → 0 < n → n ≤ script.setup.sessions → m.shares ≡ shares_of script → made n m.history ≤ lines_by n script.lines → made n m.history < get_or m.shares n 0
+pub has_room : (script : Script) (m : Machine) (n : ℕ) → 0 < n → n ≤ script.setup.sessions → m.shares ≡ shares_of script → made n m.history ≤ lines_by n script.lines → made n m.history < get_or m.shares n 0
 has_room script m zero above below shares few = absurd (omega arith)
 has_room script m (suc k) above below shares few =
     let share : get_or m.shares (suc k) 0 ≡ lines_by (suc k) script.lines + 1 = ap (λ xs. get_or xs (suc k) 0) shares ∙ share_at script script.setup.sessions k (omega arith) in
@@ -97,11 +97,11 @@ grown_is x s old new actor (grows carries kind reply calm is) =
     record {
       setup = ap (λ (m : Machine). m.setup) is;
       shares = ap (λ (m : Machine). m.shares) is;
-      step = more e (sym actor) refl (quiet_end kind calm) (ap (λ (m : Machine). m.history) is);
+      step = more e (sym actor) refl (quiet_end kind calm) (quiet_question kind calm) (ap (λ (m : Machine). m.history) is);
       calm = quiet.more e refl calm (ap (λ (m : Machine). m.history) is);
     }
 
-not_same : (n m : ℕ) → n ≢ m → (n == m) ≡ false
+pub not_same : (n m : ℕ) → n ≢ m → (n == m) ≡ false
 not_same n m other = grind (arith, nat_tests)
 
 module _ (script : Script) (place : ℕ) (x : ScriptLine) (at : At script place x) where
@@ -171,7 +171,7 @@ module _ (script : Script) (place : ℕ) (x : ScriptLine) (at : At script place 
       let h : List Entry = old.board.history in
       let grown : new.board.history ≡ (h ▹ e) = ap (λ (m : Machine). m.history) begins.board in
       let setup : new.board.setup ≡ script.setup = ap (λ (m : Machine). m.setup) begins.board ∙ stands.setup in
-      let step : Step x h new.board.history = more e (sym actor) refl refl grown in
+      let step : Step x h new.board.history = more e (sym actor) refl refl refl grown in
       let D : List Entry → Type 0 = DisplayStands script (place + 1) in
       let shown : new.shown ≡ shown_states script.setup (h ▹ e) = begins.shown ∙ ap (λ st. shown_states st new.board.history) setup ∙ ap (shown_states script.setup) grown in
       let W : Setup → Type 0 = λ st. HasViews st new.with_view in
@@ -199,7 +199,7 @@ module _ (script : Script) (place : ℕ) (x : ScriptLine) (at : At script place 
       let e : Entry = entry_of Display x.number [] Finish Done in
       let h : List Entry = old.board.history in
       let grown : new.board.history ≡ (h ▹ e) = ap (λ (m : Machine). m.history) finishes.board in
-      let step : Step x h new.board.history = more e (sym actor) refl refl grown in
+      let step : Step x h new.board.history = more e (sym actor) refl refl refl grown in
       let D : List Entry → Type 0 = DisplayStands script (place + 1) in
       let V : SessionSet → Type 0 = HasViews script.setup in
       let F : List Entry → Type 0 = λ es. FramesStand script.setup es new.shown new.with_view new.frames.items in

@@ -1,6 +1,7 @@
 pub mod Composed
 pub mod DisplaySteps
 pub mod Displayed
+pub mod Ending
 pub mod Entering
 pub mod Fits
 pub mod GameSteps
@@ -11,6 +12,7 @@ pub mod Places
 pub mod Reading
 pub mod ShownFits
 pub mod Standing
+pub mod Starting
 pub mod Steps
 pub mod Tests
 pub mod Unread

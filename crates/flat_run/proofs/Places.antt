@@ -76,7 +76,7 @@ module _ (script : Script) (playable : is_playable script ≡ true) where
 
 -- ---- a session's line
 
-session_numbered : (s : SessionNo) (next : ScriptLine) → Numbered next.number (session_line (is_session s next.actor) next.number next.body)
+pub session_numbered : (s : SessionNo) (next : ScriptLine) → Numbered next.number (session_line (is_session s next.actor) next.number next.body)
 session_numbered s next = by_test (is_session s next.actor) next.body
   where
     by_test : (b : Bool) (text : Body) → Numbered next.number (session_line b next.number text)

@@ -44,7 +44,7 @@ all_above n m (one ∷ given) less numbered =
     rw above (ap (λ t. one ∷ t) (all_above n m given less numbered.1))
 
 module _ {A : Type 0} (f : ScriptLine → List (ℕ × A)) (numbered : (next : ScriptLine) → Numbered next.number (f next)) where
-  later_all : (n m : ℕ) (later : List ScriptLine) → n ≤ m → rise_from m later ≡ true → filter (λ one. nat_lt n one.0) (flat_map f later) ≡ flat_map f later
+  pub later_all : (n m : ℕ) (later : List ScriptLine) → n ≤ m → rise_from m later ≡ true → filter (λ one. nat_lt n one.0) (flat_map f later) ≡ flat_map f later
   later_all n m [] le rise = refl
   later_all n m (next ∷ later) le rise =
       let less : m < next.number = rise_first m next later rise in

@@ -4,7 +4,7 @@ use Rattle.std.specs.List.{list_any, list_all, AllByRecursion}
 use Rattle.std.specs.List.Sorted.{IsStrictlyIncreasing}
 use Rattle.std.specs.Arc.{arc_value}
 use Rattle.flat_base.specs.declared.ids.Actor.{Actor}
-use Rattle.flat_base.specs.declared.ids.Actor.TheVariants.{Display}
+use Rattle.flat_base.specs.declared.ids.Actor.TheVariants.{Display, Session}
 use Rattle.flat_scene.specs.declared.journal.Reply.TheVariants.{Done}
 use Rattle.flat_scene.specs.declared.script.Body.{Body}
 use Rattle.flat_scene.specs.declared.script.Body.TheVariants as body
@@ -27,7 +27,7 @@ use Rattle.flat_scene.specs.declared.frames.FrameOut.{FrameOut}
 use Rattle.flat_scene.specs.declared.frames.SessionSet.{SessionSet}
 use Rattle.flat_scene.specs.Frames.{sessions_to}
 use Rattle.flat_scene.specs.History.{own, is_closed, is_end, calls, carried, closes, seat_number}
-use Rattle.flat_scene.specs.Interleave.{Next, next_of, next_from, session_lines, display_lines, by_display, unread_lines, last_line, Follows, FollowsDisplay, entry_of_line, calls_of_line, after_line}
+use Rattle.flat_scene.specs.Interleave.{Next, next_of, next_from, session_lines, display_lines, by_display, unread_lines, last_line, Follows, FollowsDisplay, entry_of_line, calls_of_line, after_line, Interleaves, IsReading, IsWritten}
 use Rattle.flat_scene.specs.Misuse.{misuse, first_reason}
 use Rattle.flat_scene.specs.Tree.{present_tests, tree}
 use Rattle.flat_scene.specs.Setups.{is_declared}
@@ -37,9 +37,10 @@ use Rattle.flat_core.specs.Legal.{is_frame_open, begin_time, frames}
 use Rattle.flat_core.specs.Shown.{shown_states}
 use Rattle.flat_topology.specs.Shown.{Shown}
 use Rattle.flat_topology.specs.Views.{is_member}
+use Rattle.flat_report.specs.Handed.{answers_of}
 use Rattle.flat_report.specs.Report.{finished, frame_at}
 use Rattle.flat_core.specs.Plain.{is_plain_call}
-use Rattle.flat_draft.specs.State.{DraftState}
+use Rattle.flat_draft.specs.State.{DraftState, empty_state}
 use Rattle.flat_draft.specs.Stands.{StandsFor}
 use Rattle.flat_script.specs.declared.script.Script.{Script}
 use Rattle.flat_run.specs.declared.made.Made.{Made}
@@ -139,6 +140,11 @@ pub data Grows (old new : Machine) (who : Actor) (number : ℕ) : Type 0 where
 abbrev pub lines_by : ℕ → List ScriptLine → ℕ
 lines_by seat = count_by (λ next. seat_number next.actor == seat)
 
+-- an entry that asks for a point
+abbrev pub is_question : Kind → Bool
+is_question (Hit x y) = true
+is_question _ = false
+
 -- what a board is to give room for: the display's lines, and those of each session with its End
 abbrev pub rest_shares : Script → List ℕ
 rest_shares script = map (λ s. lines_by s.0 script.lines + 1) (sessions_to script.setup.sessions)
@@ -150,11 +156,12 @@ shares_of script = lines_by 0 script.lines ∷ rest_shares script
 pub record IsSpent (script : Script) (place : ℕ) (history : List Entry) : Type 0 where
   pub spent : (seat : ℕ) → made seat history + lines_by seat (drop place script.lines) ≤ lines_by seat script.lines
 
--- The entries are written in order of their lines, up to a place, and none is an End.
+-- The entries are written in order of their lines, up to a place, and none is an End or asks for a point.
 pub record IsInOrder (script : Script) (place : ℕ) (history : List Entry) : Type 0 where
   pub rise : IsStrictlyIncreasing (map (λ entry. entry.line) (reverse history))
   pub last : last_line history ≤ last_number 0 (take place script.lines)
   pub no_ends : AllByRecursion (λ entry. is_end entry.kind ≡ false) (reverse history)
+  pub unasked : list_any (λ entry. is_question entry.kind) history ≡ false
 
 -- The display's entries are the reading of its lines up to a place, and the frames of the lines left go on from there.
 pub record DisplayStands (script : Script) (place : ℕ) (history : List Entry) : Type 0 where
@@ -220,3 +227,41 @@ display_text _ = None
 abbrev pub begins_at : DisplayLine → Option ℕ
 begins_at (display.Begin time) = Some time
 begins_at _ = None
+
+-- ---- before any line
+
+-- a session that has played no line
+abbrev pub first_player : Setup → Player
+first_player setup = record { draft = empty_state setup.buffers; pending = []; refused = 0; closed = false }
+
+-- ---- after all lines
+
+-- The Ends of the first sessions come last, in order, after entries whose lines rise.
+pub record HasEnds (ended : ℕ) (history : List Entry) : Type 0 where
+  pub rising : List Entry
+  pub ends : List Entry
+  pub parts : reverse history ≡ rising ++ ends
+  pub rise : IsStrictlyIncreasing (map (λ entry. entry.line) rising)
+  pub no_end : AllByRecursion (λ entry. is_end entry.kind ≡ false) rising
+  pub in_order : map (λ entry. entry.actor) ends ≡ map Session (sessions_to ended)
+
+-- The first sessions have ended, and the others stand behind all lines.
+pub record EndsStand (script : Script) (ended : ℕ) (game : Game) : Type 0 where
+  pub setup : game.board.setup ≡ script.setup
+  pub shares : game.board.shares ≡ shares_of script
+  pub count : length game.players.items ≡ script.setup.sessions
+  pub readings : (k : ℕ) → k < ended → IsReading script.setup script.count (session_lines (record { 0 = k + 1 }) script.lines) (own (record { 0 = k + 1 }) game.board.history)
+  pub waiting : (k : ℕ) (d : Player) → ended ≤ k → k < length game.players.items → PlayerStands script (record { 0 = k + 1 }) (length script.lines) game.board.history (slice_index_or game.players.items k d)
+  pub display : DisplayStands script (length script.lines) game.board.history
+  pub has_ends : HasEnds ended game.board.history
+  pub unspent : (k : ℕ) → ended ≤ k → made (k + 1) game.board.history ≤ lines_by (k + 1) script.lines
+  pub finishing : game.frames.items ≡ finished script.setup game.board.history
+  pub unasked : list_any (λ entry. is_question entry.kind) game.board.history ≡ false
+
+-- A script is played to its end: the history is a legal one, which interleaves the script's actors in written order, and the frames are those that it finishes. It asks for no point.
+pub record HasPlayed (script : Script) (board : Machine) (shown_frames : List FrameOut) : Type 0 where
+  pub setup : board.setup ≡ script.setup
+  pub interleaves : Interleaves script.setup script.count script.lines board.history
+  pub written : IsWritten script.setup board.history
+  pub finishing : shown_frames ≡ finished script.setup board.history
+  pub unasked : answers_of script.setup board.history ≡ []

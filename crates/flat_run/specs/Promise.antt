@@ -1,5 +1,5 @@
 -- What a call of the service answers and writes.
-use Rattle.std.specs.Prelude.{◌≡◌, ◌≢◌, ◌⊎◌, ℕ, ◌*◌, ◌<◌, Bool, ◌||◌, ◌==◌, List, [], ◌∷◌, ◌++◌, length, map, Option, Result, Ok, Err, IsTrue, if◌then◌else◌, codes}
+use Rattle.std.specs.Prelude.{◌≡◌, ◌≢◌, ◌⊎◌, ℕ, ◌*◌, ◌<◌, Bool, ◌||◌, ◌==◌, List, [], ◌∷◌, ◌++◌, length, map, Option, Ok, Err, IsTrue, codes}
 use Rattle.std.specs.Fmt.{decimal}
 use Rattle.flat_io.specs.Told.{Appends}
 use Rattle.flat_io.specs.Whole.{Given, AppendsPrefix}
@@ -11,7 +11,6 @@ use Rattle.flat_script.specs.declared.script.Script.{Script}
 use Rattle.flat_script.specs.declared.script.ScriptFault.{ScriptFault}
 use Rattle.flat_script.specs.Grammar.{text_read}
 use Rattle.flat_report.specs.Report.{report}
-use Rattle.flat_playable.specs.Playable.{is_playable}
 
 -- the words that ask for a script to be played
 abbrev pub play_words : List (List ℕ)
@@ -25,18 +24,6 @@ usage_line = codes "usage: flatland play | race | stress N" ++ 10 ∷ []
 abbrev pub fault_line : ScriptFault → List ℕ
 fault_line fault = codes "script line " ++ decimal fault.line ++ codes " kind " ++ decimal fault.kind ++ 10 ∷ []
 
--- a script that can't be played yet is refused as a whole
-abbrev pub not_built : ScriptFault
-not_built = record { line = 0; kind = 14 }
-
--- the script of a text, where it is one that is played, or why it is refused
-abbrev pub only_playable : Result Script ScriptFault → Result Script ScriptFault
-only_playable (Ok script) = if is_playable script then Ok script else Err not_built
-only_playable (Err fault) = Err fault
-
-abbrev pub played_read : List ℕ → Result Script ScriptFault
-played_read bytes = only_playable (text_read bytes)
-
 -- The text is the report of one legal history, which interleaves the script's actors in written order.
 pub record Reports (script : Script) (text : List ℕ) : Type 0 where
   pub history : List Entry
@@ -48,20 +35,20 @@ pub record Reports (script : Script) (text : List ℕ) : Type 0 where
 -- These bytes are a script, and the text is its report.
 pub record Plays (given text : List ℕ) : Type 0 where
   pub script : Script
-  pub read : played_read given ≡ Ok script
+  pub read : text_read given ≡ Ok script
   pub reports : Reports script text
 
 -- These bytes are refused, and the text says where and why.
 pub record Refuses (given text : List ℕ) : Type 0 where
   pub fault : ScriptFault
-  pub read : played_read given ≡ Err fault
+  pub read : text_read given ≡ Err fault
   pub is : text ≡ fault_line fault
 
 -- The source gave its end, and what it gave is a script, whose report is the text.
 abbrev pub IsPlayed : Option (List ℕ) → Option (List ℕ) → List ℕ → Type 0
 IsPlayed left left' text = Given left left' (λ given after. (after ≡ []) × Plays given text)
 
--- The source gave its end, or more than a script may have; what it gave is no script that is played, as the text says.
+-- The source gave its end, or more than a script may have; what it gave is no script, as the text says.
 abbrev pub IsRefused : Option (List ℕ) → Option (List ℕ) → List ℕ → Type 0
 IsRefused left left' text = Given left left' (λ given after. ((after ≡ []) ⊎ (SCRIPT_BYTES_MAX < length given)) × Refuses given text)
 

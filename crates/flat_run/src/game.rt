@@ -38,7 +38,7 @@ pub struct Game {
 }
 
 impl Game {
-    ghost use Rattle.flat_run.specs.Playing.{GameStands, FramesStand, HasViews, BeginsFrame, FinishesFrame};
+    ghost use Rattle.flat_run.specs.Playing.{GameStands, FramesStand, HasViews, BeginsFrame, FinishesFrame, EndsStand, HasPlayed};
 
     /// The frame of a number, as it is composed of what the sessions show.
     fn compose(&self, alloc: Global, number: u32) -> Result<FrameOut, NoMemory>
@@ -131,7 +131,7 @@ impl Game {
     }
 
     /// Plays the line at a place of the script.
-    fn play_line(&mut self, alloc: Global, script: &Script, place: usize) -> Result<(), NoMemory>
+    pub fn play_line(&mut self, alloc: Global, script: &Script, place: usize) -> Result<(), NoMemory>
         requires place { place < length script.now.lines }
         requires playable { is_playable script.now ≡ true }
         requires stands { GameStands script.now place self.old }
@@ -148,6 +148,30 @@ impl Game {
                 None => unreachable!(),
             },
             Actor::Probe(_) => unreachable!(),
+        }
+    }
+
+    /// Ends the session after so many others, behind all lines of the script.
+    fn end_next(&mut self, alloc: Global, script: &Script, before: u32)
+        requires within { before < script.now.setup.sessions }
+        requires playable { is_playable script.now ≡ true }
+        requires stands { EndsStand script.now before self.old }
+        ensures { EndsStand script.now (before + 1) self.new }
+    {
+        let player = &mut self.players[before as usize];
+        let calls = player.take_pending(alloc);
+        let refused = player.refused;
+        self.board.end(SessionNo(before + 1), script.count + 1, calls, refused);
+    }
+
+    /// Ends all sessions in their order.
+    pub fn end_all(&mut self, alloc: Global, script: &Script)
+        requires playable { is_playable script.now ≡ true }
+        requires stands { GameStands script.now (length script.now.lines) self.old }
+        ensures { HasPlayed script.now self.new.board self.new.frames.items }
+    {
+        for before in 0..script.setup.sessions {
+            self.end_next(alloc, script, before);
         }
     }
 }

@@ -160,7 +160,7 @@ impl Player {
     }
 
     /// The calls that wait, handed out.
-    fn take_pending(&mut self, alloc: Global) -> CallList
+    pub fn take_pending(&mut self, alloc: Global) -> CallList
         ensures calls { result ≡ self.old.pending }
         ensures rest { self.new ≡ record self.old { pending = [] } }
     {

@@ -2,7 +2,7 @@ ghost use Rattle.std.specs.Prelude.{◌≡◌, ◌≢◌, ◌||◌, ◌==◌, �
 ghost use Rattle.flat_io.specs.Counts.{has_risen};
 ghost use Rattle.flat_io.specs.Whole.{AppendsPrefix, Given};
 ghost use Rattle.flat_io.specs.Told.{Appends};
-ghost use Rattle.flat_run.specs.Promise.{play_words, usage_line, fault_line, Plays, Refuses, IsPlayed, IsRefused, IsWhole, IsCutOff, played_read};
+ghost use Rattle.flat_run.specs.Promise.{play_words, usage_line, fault_line, Plays, Refuses, IsPlayed, IsRefused, IsWhole, IsCutOff};
 
 
 

@@ -14,20 +14,20 @@ pub unreachable-requires : goal.unreachable-requires
 unreachable-requires c =
     let s = c.requires.stands in
     let P : DraftFault → Type 0 = λ e. IsRefused s.1.0 c.args.args.now c.args.draft.now c.present.new.self e in
-    let answer : P Closed = subst P c.in-Err-Closed.field-0-is (c.in-Err-Closed.ensures s.0 s.1.0 s.1.1) in
+    let answer : P Closed = subst P c.in-Err-Closed.field-0-is (c.in-Err-Closed.ensures.answered s.0 s.1.0 s.1.1) in
     let both : true ≡ false = sym answer.0 ∙ c.requires.opened in
     cc
 
 pub returns-in_ok-copy-in-Ok-clause-kind : goal.returns-in_ok-copy-in-Ok-clause-kind
 returns-in_ok-copy-in-Ok-clause-kind c = λ setup before stands.
-    present_makes setup before c.args.draft.now c.present.new.self c.args.args.now c.in_ok-copy-in-Ok.field-0 (arc_value c.in-Ok.snapshot) (c.in-Ok.ensures setup before stands) c.in_ok-copy-in-Ok.ensures
+    present_makes setup before c.args.draft.now c.present.new.self c.args.args.now c.in_ok-copy-in-Ok.field-0 (arc_value c.in-Ok.snapshot) (c.in-Ok.ensures.answered setup before stands) c.in_ok-copy-in-Ok.ensures
 
 pub returns-in_ok-copy-in-Ok-clause-leaves : goal.returns-in_ok-copy-in-Ok-clause-leaves
 returns-in_ok-copy-in-Ok-clause-leaves c = λ setup before stands.
-    present_leaves setup before c.args.draft.now c.present.new.self c.args.args.now c.in_ok-copy-in-Ok.field-0 (arc_value c.in-Ok.snapshot) (c.in-Ok.ensures setup before stands) stands c.in_ok-copy-in-Ok.ensures
+    present_leaves setup before c.args.draft.now c.present.new.self c.args.args.now c.in_ok-copy-in-Ok.field-0 (arc_value c.in-Ok.snapshot) (c.in-Ok.ensures.answered setup before stands) stands c.in_ok-copy-in-Ok.ensures
 
 pub returns-in-Err-Bad-clause-kind : goal.returns-in-Err-Bad-clause-kind
 returns-in-Err-Bad-clause-kind c = λ setup before stands.
     let P : DraftFault → Type 0 = λ e. IsRefused before c.args.args.now c.args.draft.now c.present.new.self e in
     ap (λ (r : Reason). let k : Option Kind = Some (Close (Some r)) in k) c.in-Err-Bad.reason-is ∙
-    present_closes setup before c.args.draft.now c.present.new.self c.args.args.now c.in-Err-Bad.reason (subst P c.in-Err-Bad.field-0-is (c.in-Err-Bad.ensures setup before stands))
+    present_closes setup before c.args.draft.now c.present.new.self c.args.args.now c.in-Err-Bad.reason (subst P c.in-Err-Bad.field-0-is (c.in-Err-Bad.ensures.answered setup before stands))

@@ -1,0 +1,229 @@
+-- The run before its first line.
+use Rattle.std.proofs.Common.{◌≡◌, ℕ, zero, suc, ◌+◌, ◌-◌, ◌*◌, ◌<◌, ◌≤◌, ◌^◌, Bool, true, false, cond, ◌&&◌, ◌==◌, not, nat_lt, nat_le, List, [], ◌∷◌, ◌++◌, length, filter, take, drop, map, sum, get_or, count_by, All, refl, sym, ap, ◌∙◌, subst, arith, append-nil, add-one, length-append, Option, Some, None}
+use Rattle.std.specs.List.{list_all, list_any}
+use Rattle.std.specs.Prelude.{slice_index_or}
+use Rattle.std.proofs.lemmas.Bool.Decides.{nat_tests}
+use Rattle.std.proofs.lemmas.Grind.{common_steps}
+use Rattle.std.proofs.lemmas.List.{map-append}
+use Rattle.std.proofs.lemmas.List.Sums.{sum_by-append}
+use Rattle.flat_base.specs.declared.ids.Actor.TheVariants.{Display, Session, Probe}
+use Rattle.flat_base.specs.declared.ids.SessionNo.{SessionNo}
+use Rattle.flat_base.specs.declared.limits.TheConstants.{SCRIPT_BYTES_MAX, SESSIONS_MAX}
+use Rattle.flat_scene.specs.declared.frames.SessionSet.{SessionSet}
+use Rattle.flat_scene.specs.declared.frames.FrameOut.{FrameOut}
+use Rattle.flat_scene.specs.declared.journal.Entry.{Entry}
+use Rattle.flat_scene.specs.declared.script.Body.{Body}
+use Rattle.flat_scene.specs.declared.script.Body.TheVariants as body
+use Rattle.flat_scene.specs.declared.script.ScriptLine.{ScriptLine}
+use Rattle.flat_scene.specs.declared.setup.Setup.{Setup}
+use Rattle.flat_scene.specs.Draft.{empty_draft}
+use Rattle.flat_scene.specs.Frames.{sessions_to}
+use Rattle.flat_scene.specs.History.{seat_number, is_session}
+use Rattle.flat_scene.specs.Interleave.{session_lines, session_line, display_lines, display_line, unread_lines, next_from}
+use Rattle.flat_scene.specs.Setups.{is_setup, is_declared, is_within_limits}
+use Rattle.flat_core.proofs.ShownList.{length-listed, nothing-shown}
+use Rattle.flat_core.specs.Boards.{Machine}
+use Rattle.flat_core.specs.Ends.{has_view, to_begin, views_of}
+use Rattle.flat_topology.specs.Shown.{Shown}
+use Rattle.flat_topology.specs.Views.{is_member}
+use Rattle.flat_draft.specs.State.{empty_state}
+use Rattle.flat_draft.specs.Stands.{StandsFor}
+use Rattle.flat_draft.specs.Laws.{EmptyStands}
+use Rattle.flat_script.specs.declared.script.Script.{Script}
+use Rattle.flat_playable.specs.Playable.{rise_from, is_playable, frames_close}
+use Rattle.flat_run.specs.declared.game.Game.{Game}
+use Rattle.flat_run.specs.declared.player.Player.{Player}
+use Rattle.flat_run.specs.Playing.{lines_by, rest_shares, shares_of, first_player, PlayerStands, PlayersStand, DisplayStands, IsInOrder, IsSpent, FramesStand, HasViews, GameStands, IsOpenAt, last_number}
+use Rattle.flat_run.proofs.Places.{few_lines, rises, counted, frames_are, setup_is, session_numbered}
+use Rattle.flat_run.proofs.DisplaySteps.{display_numbered}
+use Rattle.flat_run.proofs.Tests.{and_left, and_right}
+use Rattle.flat_run.proofs.Unread.{rise_first, rise_later, later_all, Numbered}
+
+-- ---- the shares
+
+pub sessions_more : (n : ℕ) → sessions_to (n + 1) ≡ sessions_to n ++ (let s : SessionNo = record { 0 = n + 1 } in s) ∷ []
+sessions_more n = ap sessions_to (add-one n) ∙ ap (λ k. sessions_to n ++ (let s : SessionNo = record { 0 = k } in s) ∷ []) (sym (add-one n))
+
+-- the shares of the display and of the first sessions
+abbrev pub shares_to : List ScriptLine → ℕ → List ℕ
+shares_to lines n = lines_by 0 lines ∷ map (λ s. lines_by s.0 lines + 1) (sessions_to n)
+
+pub shares_more : (lines : List ScriptLine) (n : ℕ) → shares_to lines n ++ (lines_by (n + 1) lines + 1) ∷ [] ≡ shares_to lines (n + 1)
+shares_more lines n =
+    let f : SessionNo → ℕ = λ s. lines_by s.0 lines + 1 in
+    let s : SessionNo = record { 0 = n + 1 } in
+    ap (λ t. lines_by 0 lines ∷ t) (sym (ap (map f) (sessions_more n) ∙ map-append f (sessions_to n) (s ∷ [])))
+
+pub shares_length : (script : Script) → length (shares_of script) ≡ script.setup.sessions + 1
+shares_length script =
+    let rest : length (rest_shares script) ≡ script.setup.sessions = length-listed (λ s. lines_by s.0 script.lines + 1) script.setup.sessions in
+    omega (arith, rest)
+
+-- a script has no more lines than its count
+pub few_from : (n count : ℕ) (lines : List ScriptLine) → n ≤ count → rise_from n lines ≡ true → list_all (λ (next : ScriptLine). nat_le next.number count) lines ≡ true → n + length lines ≤ count
+few_from n count [] below rise all = omega arith
+few_from n count (next ∷ later) below rise all =
+    let less : n < next.number = rise_first n next later rise in
+    let first : nat_le next.number count ≡ true = and_left _ _ all in
+    let within : next.number ≤ count = grind (arith, nat_tests) in
+    let rest : next.number + length later ≤ count = few_from next.number count later within (rise_later n next later rise) (and_right _ _ all) in
+    omega arith
+
+pub few : (script : Script) → is_playable script ≡ true → length script.lines ≤ SCRIPT_BYTES_MAX
+few script playable =
+    let counted : length script.lines ≤ script.count = let n = few_from 0 script.count script.lines (omega arith) (rises script playable) (counted script playable) in omega arith in
+    let limit : nat_le script.count SCRIPT_BYTES_MAX ≡ true = few_lines script playable in
+    let le : script.count ≤ SCRIPT_BYTES_MAX = grind (arith, nat_tests) in
+    omega arith
+
+lines_more : (seat : ℕ) (next : ScriptLine) (later : List ScriptLine) → lines_by seat (next ∷ later) ≡ lines_by seat later + cond (seat_number next.actor == seat) 1 0
+lines_more seat next later = grind (arith, common_steps)
+
+at_most_one : (b : Bool) → cond b 1 0 ≤ 1
+at_most_one true = omega arith
+at_most_one false = omega arith
+
+pub by_at_most : (seat : ℕ) (lines : List ScriptLine) → lines_by seat lines ≤ length lines
+by_at_most seat [] = omega arith
+by_at_most seat (next ∷ later) =
+    let rest : lines_by seat later ≤ length later = by_at_most seat later in
+    let one : cond (seat_number next.actor == seat) 1 0 ≤ 1 = at_most_one (seat_number next.actor == seat) in
+    let all : lines_by seat (next ∷ later) ≡ lines_by seat later + cond (seat_number next.actor == seat) 1 0 = lines_more seat next later in
+    omega (arith, rest, one, all)
+
+sum_end : (xs : List ℕ) (x : ℕ) → sum (xs ++ x ∷ []) ≡ sum xs + x
+sum_end xs x = let all : sum (xs ++ x ∷ []) ≡ sum xs + sum (x ∷ []) = sum_by-append (λ (n : ℕ). n) xs (x ∷ []) in let one : 0 + x ≡ x = omega arith in all ∙ ap (λ k. sum xs + k) one
+
+sum_first : (x : ℕ) (xs : List ℕ) → sum (x ∷ xs) ≡ x + sum xs
+sum_first x xs = let all : sum ((x ∷ []) ++ xs) ≡ sum (x ∷ []) + sum xs = sum_by-append (λ (n : ℕ). n) (x ∷ []) xs in let one : 0 + x ≡ x = omega arith in all ∙ ap (λ k. k + sum xs) one
+
+-- so many shares, each of at most this
+sum_sessions : (lines : List ScriptLine) (n most : ℕ) → length lines < most → sum (map (λ (s : SessionNo). lines_by s.0 lines + 1) (sessions_to n)) ≤ n * most
+sum_sessions lines zero most below = omega arith
+sum_sessions lines (suc n) most below =
+    let f : SessionNo → ℕ = λ s. lines_by s.0 lines + 1 in
+    let s : SessionNo = record { 0 = suc n } in
+    let before : sum (map f (sessions_to n)) ≤ n * most = sum_sessions lines n most below in
+    let one : lines_by (suc n) lines ≤ length lines = by_at_most (suc n) lines in
+    let all : sum (map f (sessions_to n ++ s ∷ [])) ≡ sum (map f (sessions_to n)) + (lines_by (suc n) lines + 1) = ap sum (map-append f (sessions_to n) (s ∷ [])) ∙ sum_end (map f (sessions_to n)) (f s) in
+    let product : suc n * most ≡ n * most + most = grind arith in
+    omega (arith, all, product)
+
+pub few_sessions : (setup : Setup) → is_setup setup ≡ true → setup.sessions ≤ SESSIONS_MAX
+few_sessions setup is =
+    let limits : is_within_limits setup ≡ true = and_left _ _ (and_left _ _ is) in
+    let within = and_right _ _ (and_left _ _ (and_left _ _ (and_left _ _ (and_left _ _ limits)))) in
+    let most : nat_le setup.sessions SESSIONS_MAX ≡ true = and_right (nat_lt 0 setup.sessions) _ within in
+    grind (arith, nat_tests)
+
+pub limits_are : (setup : Setup) → is_setup setup ≡ true → is_within_limits setup ≡ true
+limits_are setup is = and_left _ _ (and_left _ _ is)
+
+few_of_few : (n m most : ℕ) → n ≤ m → n * most ≤ m * most
+few_of_few n m most le = grind (arith, common_steps)
+
+pub shares_small : (script : Script) → is_playable script ≡ true → sum (shares_of script) < 2147483648
+shares_small script playable =
+    let lines : length script.lines ≤ 16777216 = few script playable in
+    let sessions : script.setup.sessions ≤ 16 = few_sessions script.setup (setup_is script playable) in
+    let rest : sum (rest_shares script) ≤ script.setup.sessions * 16777217 = sum_sessions script.lines script.setup.sessions 16777217 (omega arith) in
+    let first : lines_by 0 script.lines ≤ length script.lines = by_at_most 0 script.lines in
+    let all : sum (shares_of script) ≡ lines_by 0 script.lines + sum (rest_shares script) = sum_first (lines_by 0 script.lines) (rest_shares script) in
+    let bound : script.setup.sessions * 16777217 ≤ 16 * 16777217 = few_of_few script.setup.sessions 16 16777217 sessions in
+    omega (arith, rest, first, all, bound, lines)
+
+-- ---- no line is played
+
+module _ (script : Script) (playable : is_playable script ≡ true) where
+  pub none_read : (s : SessionNo) → unread_lines [] (session_lines s script.lines) ≡ session_lines s script.lines
+  none_read s = later_all (λ one. session_line (is_session s one.actor) one.number one.body) (session_numbered s) 0 0 script.lines (omega arith) (rises script playable)
+
+  first_display : DisplayStands script 0 []
+  first_display = record {
+    follows = tt;
+    left = later_all (λ one. display_line one.number one.body) display_numbered 0 0 script.lines (omega arith) (rises script playable);
+    closing = frames_are script playable;
+  }
+
+  first_order : IsInOrder script 0 []
+  first_order = record { rise = λ k within. absurd (omega arith); last = omega arith; no_ends = tt; unasked = refl }
+
+  first_spent : IsSpent script 0 []
+  first_spent = record { spent = λ seat. omega arith }
+
+  first_stands : EmptyStands → (s : SessionNo) → PlayerStands script s 0 [] (first_player script.setup)
+  first_stands empty s = record {
+    follows = tt;
+    unended = refl;
+    closed = refl;
+    few = omega arith;
+    when_open = λ opened. record {
+      draft = empty_draft;
+      made = refl;
+      next = ap (next_from script.setup script.count empty_draft []) (none_read s);
+      stands = empty script.setup;
+      still_open = refl;
+      private = refl;
+      none_refused = refl;
+    };
+    when_closed = λ closed. absurd (cc);
+  }
+
+  first_players : EmptyStands → (players : List Player) → length players ≡ script.setup.sessions → All (λ player. player ≡ first_player script.setup) players → PlayersStand script 0 [] players
+  first_players empty players count all = record {
+    count = count;
+    each = λ k d within.
+      let s : SessionNo = record { 0 = k + 1 } in
+      let P : Player → Type 0 = λ player. PlayerStands script s 0 [] player in
+      subst P (sym (all k d within)) (first_stands empty s);
+  }
+
+none_of : {A : Type 0} (xs : List A) → list_any (λ x. false) xs ≡ false
+none_of [] = refl
+none_of (x ∷ xs) = none_of xs
+
+no_view : (setup : Setup) (s : SessionNo) → has_view setup [] s ≡ false
+no_view setup s = none_of (views_of setup s)
+
+all_false : (xs : List Bool) → list_all not xs ≡ true → (i : ℕ) → slice_index_or xs i false ≡ false
+all_false [] all zero = refl
+all_false [] all (suc i) = refl
+all_false (x ∷ xs) all zero = by_value x (and_left _ _ all)
+  where
+    by_value : (b : Bool) → not b ≡ true → b ≡ false
+    by_value true is = absurd (cc)
+    by_value false is = refl
+all_false (x ∷ xs) all (suc i) = all_false xs (and_right _ _ all) i
+
+pub no_members : (set : SessionSet) → list_all not set.has ≡ true → (s : ℕ) → is_member set s ≡ false
+no_members set all zero = refl
+no_members set all (suc before) = all_false set.has all before
+
+pub first_shown : (setup : Setup) (shown : Shown) (views : SessionSet) (shown_frames : List FrameOut) → length shown ≡ setup.sessions → All (λ state. state ≡ None) shown
+    → list_all not views.has ≡ true → shown_frames ≡ [] → FramesStand setup [] shown views shown_frames
+first_shown setup shown views shown_frames count none all nothing = record {
+  showing = nothing-shown setup shown count none;
+  viewing = λ s declared. no_members views all s.0 ∙ sym (no_view setup s);
+  finishing = nothing;
+}
+
+pub starts : (script : Script) (game : Game) → is_playable script ≡ true → EmptyStands → game.board ≡ record { setup = script.setup; shares = shares_of script; history = [] }
+    → length game.players.items ≡ script.setup.sessions → All (λ player. player ≡ first_player script.setup) game.players.items
+    → FramesStand script.setup [] game.shown game.with_view game.frames.items → list_all not game.with_view.has ≡ true → GameStands script 0 game
+starts script game playable empty board count first shows none =
+    let history : [] ≡ game.board.history = sym (ap (λ (m : Machine). m.history) board) in
+    let P : List Entry → Type 0 = λ es. PlayersStand script 0 es game.players.items in
+    let D : List Entry → Type 0 = DisplayStands script 0 in
+    let O : List Entry → Type 0 = IsInOrder script 0 in
+    let S : List Entry → Type 0 = IsSpent script 0 in
+    let F : List Entry → Type 0 = λ es. FramesStand script.setup es game.shown game.with_view game.frames.items in
+    record {
+      setup = ap (λ (m : Machine). m.setup) board;
+      shares = ap (λ (m : Machine). m.shares) board;
+      players = subst P history (first_players script playable empty game.players.items count first);
+      display = subst D history (first_display script playable);
+      order = subst O history (first_order script playable);
+      spent = subst S history (first_spent script playable);
+      views = λ s beyond. no_members game.with_view none s;
+      shows = subst F history shows;
+    }

@@ -1,0 +1,5 @@
+use Rattle.flat_run.specs.Playing.{EndsStand}
+use Rattle.flat_run.proofs.game.Game.end_all.Given as goal
+
+abbrev pub invariant-loop-before : goal.invariant-loop-before
+invariant-loop-before l = EndsStand l.script l.before l.self

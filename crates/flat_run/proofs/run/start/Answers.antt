@@ -1,0 +1,34 @@
+use Rattle.std.proofs.Common.{◌≡◌, ◌<◌, ◌≤◌, ◌+◌, [], ℕ, List, length, sum, arith, ap, sym, ◌∙◌, subst, refl, true, None, All}
+use Rattle.flat_base.specs.declared.limits.TheConstants.{SCRIPT_BYTES_MAX}
+use Rattle.flat_scene.specs.declared.setup.Setup.{Setup}
+use Rattle.flat_scene.specs.Setups.{is_within_limits}
+use Rattle.flat_core.specs.Boards.{Machine}
+use Rattle.flat_run.proofs.Places.{setup_is}
+use Rattle.flat_run.proofs.Starting.{few, few_sessions, limits_are, shares_length, shares_small, starts, first_shown}
+use Rattle.flat_run.specs.Playing.{shares_of}
+use Rattle.flat_run.proofs.run.start.Goals as goal
+
+pub shares_of-requires : goal.shares_of-requires
+shares_of-requires c = let most : length c.args.script.now.lines ≤ 16777216 = few c.args.script.now c.requires in omega arith
+
+pub open-requires-clause-limits : goal.open-requires-clause-limits
+open-requires-clause-limits c = ap is_within_limits c.in_ok-setup.ensures ∙ limits_are c.args.script.now.setup (setup_is c.args.script.now c.requires)
+
+pub open-requires-clause-actors : goal.open-requires-clause-actors
+open-requires-clause-actors c = ap length c.in_ok-shares.ensures ∙ shares_length c.args.script.now ∙ ap (λ (s : Setup). s.sessions + 1) (sym c.in_ok-setup.ensures)
+
+pub open-requires-clause-total : goal.open-requires-clause-total
+open-requires-clause-total c =
+    let P : List ℕ → Type 0 = λ xs. sum xs < 2147483648 in
+    subst P (sym c.in_ok-shares.ensures) (shares_small c.args.script.now c.requires)
+
+pub new_players-requires : goal.new_players-requires
+new_players-requires c = setup_is c.args.script.now c.requires
+
+pub returns : goal.returns
+returns c =
+    let script = c.args.script.now in
+    let board = c.in_ok-board.ensures ∙ ap (λ s. let m : Machine = record { setup = s; shares = c.in_ok-shares.shares; history = [] } in m) c.in_ok-setup.ensures
+        ∙ ap (λ xs. let m : Machine = record { setup = script.setup; shares = xs; history = [] } in m) c.in_ok-shares.ensures in
+    starts script _ c.requires c.draft_laws.ensures.empty_stands board c.in_ok-new_players.ensures.count c.in_ok-new_players.ensures.first
+    (first_shown script.setup _ _ _ c.in_ok-new.ensures.size c.in_ok-new.ensures.none refl c.new-2.ensures.items) refl
