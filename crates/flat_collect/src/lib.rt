@@ -44,7 +44,7 @@ pub fn judge(alloc: Global, graph: &Graph) -> Result<Verdict, NoMemory>
     let mut nodes = 0;
     let mut viewports = Vec::new(alloc);
     if walk(graph, &[root], PATH_NODES_MAX, &mut nodes, &mut viewports)? {
-        if has_twice(&viewports) {
+        if has_twice(viewports) {
             Ok(Verdict::Bad(Reason::ViewportTwice))
         } else {
             Ok(Verdict::Good { nodes })

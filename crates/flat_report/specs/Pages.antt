@@ -1,5 +1,5 @@
 -- What stands on a page.
-use Rattle.std.specs.Prelude.{◌≡◌, ℕ, Bool, true, false, List, [], ◌∷◌, ◌++◌, length}
+use Rattle.std.specs.Prelude.{◌≡◌, ◌≤◌, ℕ, Bool, true, false, List, [], ◌∷◌, ◌++◌, length, vec_capacity, ⊤}
 use Rattle.flat_report.specs.declared.page.Page.{Page}
 use Rattle.flat_report.specs.declared.page.Page.TheVariants.{Count, Text}
 use Rattle.flat_report.specs.Words.{Word, spaced, text_of}
@@ -13,6 +13,16 @@ IsText (Text bytes) text = bytes.items ≡ text
 abbrev pub is_counting : Page → Bool
 is_counting (Count count) = true
 is_counting (Text bytes) = false
+
+-- how many bytes stand on a page, or were counted
+abbrev pub bytes_of : Page → ℕ
+bytes_of (Count count) = count
+bytes_of (Text bytes) = length bytes.items
+
+-- a page has room for so many bytes; where they are counted, none is needed
+abbrev pub HasRoom : ℕ → Page → Type 0
+HasRoom room (Count count) = ⊤
+HasRoom room (Text bytes) = room ≤ vec_capacity bytes
 
 -- The bytes stand behind what was there.
 pub record Puts (bytes : List ℕ) (old new : Page) : Type 0 where

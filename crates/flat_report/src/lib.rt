@@ -7,5 +7,7 @@ mod frame_words;
 mod names;
 mod page;
 mod report;
+#[cfg(test)]
+mod tests;
 
 pub use report::{HitAnswer, HitAnswers};

@@ -1,7 +1,7 @@
 ghost use Rattle.std.specs.Prelude.{◌≡◌, [], ◌∷◌, ◌++◌, ℕ, List, false, OnOk, IfOk};
 ghost use Rattle.std.specs.Fmt.{decimal, signed_decimal};
 ghost use Rattle.flat_report.specs.Words.{number, numbers};
-ghost use Rattle.flat_report.specs.Pages.{IsText, is_counting, Puts, Writes};
+ghost use Rattle.flat_report.specs.Pages.{HasRoom, IsText, bytes_of, is_counting, Puts, Writes};
 
 use flat_base::NoMemory;
 use itoa::Buffer;
@@ -23,6 +23,7 @@ impl Page {
     pub fn with_room(alloc: Global, other: Page) -> Result<Page, NoMemory>
         ensures sort { IfOk result (λ page. is_counting page ≡ false) }
         ensures empty { IfOk result (λ page. IsText page []) }
+        ensures room { IfOk result (HasRoom (bytes_of other)) }
     {
         let room = match other {
             Page::Count(count) => count,

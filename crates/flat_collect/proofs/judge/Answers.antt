@@ -9,10 +9,10 @@ pub returns-then-has_twice : goal.returns-then-has_twice
 returns-then-has_twice c =
     let walked = rw (c.if-branch.true, c.new-viewports.ensures.items) at c.in_ok-walk.ensures in
     let good = good_walked c.args.graph.now c.in-Some.root _ _ (sym c.root.ensures.value ∙ c.in-Some.is) walked in
-    (good.acyclic, good.small, rw (← good.listed, ← c.deref.ensures.value, ← c.has_twice.ensures) c.if-has_twice.true)
+    (good.acyclic, good.small, rw (← good.listed, ← c.has_twice.ensures) c.if-has_twice.true)
 
 pub returns-then-branch : goal.returns-then-branch
 returns-then-branch c =
     let walked = rw (c.if-branch.true, c.new-viewports.ensures.items) at c.in_ok-walk.ensures in
     let good = good_walked c.args.graph.now c.in-Some.root _ _ (sym c.root.ensures.value ∙ c.in-Some.is) walked in
-    (record { acyclic = good.acyclic; small = good.small; once = rw (← good.listed, ← c.deref.ensures.value, ← c.has_twice.ensures) c.if-has_twice.false }, good.counted)
+    (record { acyclic = good.acyclic; small = good.small; once = rw (← good.listed, ← c.has_twice.ensures) c.if-has_twice.false }, good.counted)
