@@ -10,4 +10,4 @@ mod report;
 #[cfg(test)]
 mod tests;
 
-pub use report::{HitAnswer, HitAnswers};
+pub use report::{HitAnswer, HitAnswers, print_report};

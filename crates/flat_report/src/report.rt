@@ -220,7 +220,7 @@ fn push_report(
 /// in order, and an answer to each point that it asks for. `lost` are the displays
 /// that were lost. The script declares no probe, since no line of a probe is known
 /// yet.
-pub fn report(
+pub fn print_report(
     alloc: Global,
     script: &Script,
     journal: &Journal,

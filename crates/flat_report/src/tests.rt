@@ -1,4 +1,4 @@
-use crate::report::report;
+use crate::report::print_report;
 use flat_base::Items;
 use flat_scene::{Journal, Setup};
 use flat_script::Script;
@@ -35,7 +35,7 @@ fn run_without_entries(rt: HostRuntime) -> Result<(), Fail> {
         entries: Vec::new(alloc),
         posts: Vec::new(alloc),
     };
-    let text = report(alloc, &script, &journal, &[], &[], &Items::new(alloc))?;
+    let text = print_report(alloc, &script, &journal, &[], &[], &Items::new(alloc))?;
     let expected = b"report flatland 1\nreport ends entries 0 frames 0\n";
     assert_eq!(rt; text.as_slice(), expected.as_slice());
     Ok(())
