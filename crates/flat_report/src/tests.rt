@@ -1,3 +1,5 @@
+ghost use Rattle.std.specs.Prelude.{◌≡◌};
+
 use crate::report::print_report;
 use flat_base::Items;
 use flat_scene::{Journal, Setup};
@@ -6,7 +8,9 @@ use std::alloc::Global;
 use std::test::Fail;
 
 /// A script of one session that says nothing.
-fn silent(alloc: Global) -> Script {
+fn silent(alloc: Global) -> Script
+    ensures { result.setup.probes ≡ 0 }
+{
     Script {
         setup: Setup {
             width: 100,
