@@ -1,37 +1,36 @@
-//! The program `flatland`. As yet no command form is known, so every call is
-//! answered with the usage line.
+//! The program `flatland`: the service over standard input and standard output.
 #![tactic(auto)]
 
-ghost use Rattle.std.specs.Prelude.{◌≡◌, ◌||◌, ◌==◌, IsTrue};
-ghost use Rattle.flat_io.specs.Counts.{has_risen};
-
-use flat_io::{StdSink, write_all};
+use flat_io::{StdSink, StdSource};
+use flat_run::flatland;
+use std::env;
 use std::io;
-use std::io::Write;
 use std::process::ExitCode;
 
-/// What is written where the words after the program's name are no command form.
-const USAGE: &[u8] = b"usage: flatland play | race | stress N\n";
+/// The status where memory ran out.
+const NO_MEMORY: u8 = 6;
 
-/// The status where the words are no command form.
-const STATUS_USAGE: u8 = 2;
-
-/// The status where a write failed or took nothing.
-const STATUS_WRITE_FAULT: u8 = 5;
-
+/// Answers the words after the program's name. Words that are no text are no
+/// command form.
 fn main(rt: HostRuntime) -> ExitCode {
+    let mut source = StdSource::new(rt.reader());
     let mut sink = StdSink::new(io::writer(&rt));
-    ExitCode::from(usage(&mut sink))
+    let words = match words(&rt) {
+        Ok(words) => words,
+        Err(error) if error.kind() == io::ErrorKind::OutOfMemory => {
+            return ExitCode::from(NO_MEMORY);
+        }
+        Err(_) => Vec::new(rt.alloc()),
+    };
+    let status = flatland(rt.alloc(), words.as_slice(), &mut source, &mut sink);
+    ExitCode::from(status)
 }
 
-/// Writes the usage line, and answers the status of the program: a write fault
-/// only where the sink's count of faults or of stalls rose.
-fn usage<W: Write>(sink: &mut StdSink<W>) -> u8
-    ensures status { IsTrue (result == STATUS_USAGE || result == STATUS_WRITE_FAULT) }
-    ensures fault { result ≡ STATUS_WRITE_FAULT → IsTrue (has_risen sink.old.faults sink.new.faults || has_risen sink.old.stalls sink.new.stalls) }
-{
-    match write_all(sink, USAGE) {
-        Ok(()) => STATUS_USAGE,
-        Err(_) => STATUS_WRITE_FAULT,
+/// The words after the program's name.
+fn words(rt: &HostRuntime) -> io::Result<Vec<String>> {
+    let mut words = Vec::new(rt.alloc());
+    for word in env::args(rt)?.skip(1) {
+        words.push(word)?;
     }
+    Ok(words)
 }

@@ -1,3 +1,4 @@
+pub mod Answering
 pub mod Composed
 pub mod DisplaySteps
 pub mod Displayed

@@ -1,3 +1,4 @@
+pub mod Answering
 pub mod Made
 pub mod Playing
 pub mod Promise

@@ -8,3 +8,4 @@ mod run;
 mod top;
 
 pub use made::Made;
+pub use top::flatland;
