@@ -1,13 +1,15 @@
 -- What is answered to what a source gives, and what is written of it.
-use Rattle.std.proofs.Common.{◌≡◌, ◌≢◌, ◌==◌, ◌||◌, ◌⊎◌, inl, inr, ℕ, ◌<◌, Bool, true, false, List, [], length, Option, None, Some, Result, Ok, Err, IfOk, nat_lt, refl, sym, subst, arith}
+use Rattle.std.proofs.Common.{◌≡◌, ◌≢◌, ◌==◌, ◌||◌, ◌⊎◌, inl, inr, ℕ, ◌<◌, Bool, true, false, List, [], ◌++◌, ap, ◌∙◌, length, Option, None, Some, Result, Ok, Err, IfOk, nat_lt, refl, sym, subst, arith}
 use Rattle.std.proofs.lemmas.Bool.{lt-ltb, eqb-true}
+use Rattle.std.proofs.lemmas.List.{append_cancel_right}
 use Rattle.flat_base.specs.declared.limits.TheConstants.{SCRIPT_BYTES_MAX}
 use Rattle.flat_io.specs.Told.{Appends}
 use Rattle.flat_io.specs.Whole.{Given, AppendsPrefix}
+use Rattle.flat_script.specs.declared.script.Script.{Script}
 use Rattle.flat_script.specs.declared.script.ScriptFault.{ScriptFault}
 use Rattle.flat_script.specs.Grammar.{text_read}
 use Rattle.flat_run.specs.Answering.{IsAnswer}
-use Rattle.flat_run.specs.Promise.{play_words, usage_line, fault_line, Plays, Refuses, IsText, IsWhole, IsCutOff}
+use Rattle.flat_run.specs.Promise.{play_words, usage_line, fault_line, Plays, Refuses, IsRefused, IsText, IsWhole, IsCutOff}
 
 -- ---- what is answered
 
@@ -48,32 +50,6 @@ one_or : (a b : Bool) → (a || b) ≡ true → b ≢ true → a ≡ true
 one_or true b either not_b = refl
 one_or false b either not_b = absurd (not_b either)
 
--- the status of a text: no fault, and no want of memory
-pub data IsGood : ℕ → Type 0 where
-  done : IsGood 0
-  wrong : IsGood 2
-  refusal : IsGood 3
-
-pub good : {words : List (List ℕ)} {left left' : Option (List ℕ)} {status : ℕ} {text : List ℕ} → IsText words left left' status text → IsGood status
-good (IsText.usage other) = IsGood.wrong
-good (IsText.refusal words it) = IsGood.refusal
-good (IsText.report_of words it) = IsGood.done
-
-pub not_4 : (status : ℕ) → IsGood status → status ≢ 4
-not_4 status IsGood.done is = omega arith
-not_4 status IsGood.wrong is = omega arith
-not_4 status IsGood.refusal is = omega arith
-
-pub not_5 : (status : ℕ) → IsGood status → status ≢ 5
-not_5 status IsGood.done is = omega arith
-not_5 status IsGood.wrong is = omega arith
-not_5 status IsGood.refusal is = omega arith
-
-pub not_6 : (status : ℕ) → IsGood status → status ≢ 6
-not_6 status IsGood.done is = omega arith
-not_6 status IsGood.wrong is = omega arith
-not_6 status IsGood.refusal is = omega arith
-
 module _ (words : List (List ℕ)) (left left' held held' : Option (List ℕ)) (status result : ℕ) (text : List ℕ) (is : IsText words left left' status text) where
   pub text_whole : (result ≡ status → Appends text held held') → (result == status || result == 5) ≡ true → result ≢ 5 → IsWhole words left left' held held' result
   text_whole whole either not_5 =
@@ -86,3 +62,27 @@ module _ (words : List (List ℕ)) (left left' held held' : Option (List ℕ)) (
 -- the text of other words
 pub used_wrongly : (words : List (List ℕ)) (left : Option (List ℕ)) → words ≢ play_words → IsText words left left 2 usage_line
 used_wrongly words left other = IsText.usage other
+
+-- ---- where a script was given
+
+refuses_none : (given after : List ℕ) (script : Script) → text_read given ≡ Ok script → (text : List ℕ) → IsRefused (Some (given ++ after)) (Some after) text → ⊥
+refuses_none given after script read text (front, is, (ends, refuses)) =
+    let same : given ≡ front = append_cancel_right given front after is in
+    let both : Ok script ≡ Err refuses.fault = sym read ∙ ap text_read same ∙ refuses.read in
+    cc
+
+-- then no text but a report is written where the word is known
+pub only_report : (left left' : Option (List ℕ)) (given after : List ℕ) (script : Script) → left ≡ Some (given ++ after) → left' ≡ Some after → text_read given ≡ Ok script
+    → (words : List (List ℕ)) (status : ℕ) (text : List ℕ) → words ≡ play_words → IsText words left left' status text → status ≡ 0
+only_report left left' given after script is is' read words status text play (IsText.usage other) = absurd (other play)
+only_report left left' given after script is is' read words status text play (IsText.refusal known it) =
+    let P : Option (List ℕ) → Type 0 = λ l. IsRefused l left' text in
+    let Q : Option (List ℕ) → Type 0 = λ l. IsRefused (Some (given ++ after)) l text in
+    absurd (refuses_none given after script read text (subst Q is' (subst P is it)))
+only_report left left' given after script is is' read words status text play (IsText.report_of known it) = refl
+
+pub done_or_fault : (result status : ℕ) → (result == status || result == 5) ≡ true → status ≡ 0 → (result ≡ 5 → ⊥) → (result == 0 || result == 6) ≡ true
+done_or_fault result status either is not_5 =
+    let same : result ≡ status = eqb-true result status (one_or (result == status) (result == 5) either (λ yes. not_5 (eqb-true result 5 yes))) in
+    let none : result ≡ 0 = same ∙ is in
+    rw none refl

@@ -168,7 +168,7 @@ module _ (setup : Setup) (old : List Entry) (shown : Shown) (views : SessionSet)
       let P : List Entry → Type 0 = λ h. FramesStand setup h shown views done in
       let begun : to_begin (old ▹ e) ≡ to_begin old = rw (quiet_begin e.kind quiet) refl in
       let same_frames : finished setup (old ▹ e) ≡ finished setup old =
-          ap (λ b. finished setup old ++ cond b (frame_at setup (suc (frames old)) (to_begin old) ∷ []) []) (quiet_finish e.kind quiet) ∙ append-nil (finished setup old) in
+      ap (λ b. finished setup old ++ cond b (frame_at setup (suc (frames old)) (to_begin old) ∷ []) []) (quiet_finish e.kind quiet) ∙ append-nil (finished setup old) in
       subst P (sym now) (record {
         showing = stands.showing ∙ ap (shown_states setup) (sym begun);
         viewing = λ s declared. stands.viewing s declared ∙ ap (λ h. has_view setup h s) (sym begun);

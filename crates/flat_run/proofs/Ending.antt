@@ -205,9 +205,9 @@ module _ (script : Script) (before : ℕ) (within : before < script.setup.sessio
         let Q : List Entry → Type 0 = λ es. list_any (λ entry. is_question entry.kind) es ≡ false in
         let F : List Entry → Type 0 = λ es. new.frames.items ≡ finished script.setup es in
         let waiting : W still (h ▹ last) = (λ k d from inside.
-            let other : k ≢ before = (λ same. omega arith) in
-            let there : k < length old.players.items = omega (arith, length-set old.players.items before changed) in
-            rw get_or-set_other (own_kept script (record { 0 = k + 1 }) (length script.lines) h (h ▹ last) (get_or old.players.items k d) (own_other k other) (stands.waiting k d (omega arith) there))) in
+        let other : k ≢ before = (λ same. omega arith) in
+        let there : k < length old.players.items = omega (arith, length-set old.players.items before changed) in
+        rw get_or-set_other (own_kept script (record { 0 = k + 1 }) (length script.lines) h (h ▹ last) (get_or old.players.items k d) (own_other k other) (stands.waiting k d (omega arith) there))) in
         record {
           setup = ap (λ (m : Machine). m.setup) board ∙ stands.setup;
           shares = ap (λ (m : Machine). m.shares) board ∙ stands.shares;

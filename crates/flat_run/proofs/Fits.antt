@@ -147,8 +147,8 @@ good_from setup s start draft [] good owned plain made = let same : start ≡ dr
 good_from setup s start draft (call ∷ calls) good owned plain made =
     step_good setup s start draft call calls (misuse setup start call) refl made
     (λ fine rest. good_from setup s (effect start call) draft calls
-        (good_effect setup s start good call (and_left _ (list_all (owns_in_call setup s) calls) owned) (and_left _ (list_all is_plain_call calls) plain) fine)
-        (and_right (owns_in_call setup s call) _ owned) (and_right (is_plain_call call) _ plain) rest)
+    (good_effect setup s start good call (and_left _ (list_all (owns_in_call setup s) calls) owned) (and_left _ (list_all is_plain_call calls) plain) fine)
+    (and_right (owns_in_call setup s call) _ owned) (and_right (is_plain_call call) _ plain) rest)
 
 good_empty : (setup : Setup) (s : SessionNo) → IsGood setup s empty_draft
 good_empty setup s = record { view = λ p is. absurd (cc); contents = refl; transforms = refl }

@@ -205,7 +205,7 @@ module _ (script : Script) (place : ℕ) (x : ScriptLine) (at : At script place 
       let F : List Entry → Type 0 = λ es. FramesStand script.setup es new.shown new.with_view new.frames.items in
       let number : frames new.board.history ≡ suc (frames h) = ap frames grown in
       let frame : frame_at old.board.setup (frames new.board.history) (to_begin h) ≡ frame_at script.setup (suc (frames h)) (to_begin h) =
-          ap (λ st. frame_at st (frames new.board.history) (to_begin h)) stands.setup ∙ ap (λ n. frame_at script.setup n (to_begin h)) number in
+      ap (λ st. frame_at st (frames new.board.history) (to_begin h)) stands.setup ∙ ap (λ n. frame_at script.setup n (to_begin h)) number in
       record {
         setup = ap (λ (m : Machine). m.setup) finishes.board ∙ stands.setup;
         shares = ap (λ (m : Machine). m.shares) finishes.board ∙ stands.shares;

@@ -104,8 +104,8 @@ here script s place number text playable at =
     let split : all ≡ take place all ++ next ∷ drop (place + 1) all = split_at all place next at in
     let rise : rise_from 0 (take place all ++ next ∷ drop (place + 1) all) ≡ true = ap (rise_from 0) (sym split) ∙ rises script playable in
     let played : is_played script.setup (Session s) (body.Session text) ≡ true =
-        all_at (λ (one : ScriptLine). is_played script.setup one.actor one.body) (take place all) next (drop (place + 1) all)
-        (ap (list_all (λ (one : ScriptLine). is_played script.setup one.actor one.body)) (sym split) ∙ played_all script playable) in
+    all_at (λ (one : ScriptLine). is_played script.setup one.actor one.body) (take place all) next (drop (place + 1) all)
+    (ap (list_all (λ (one : ScriptLine). is_played script.setup one.actor one.body)) (sym split) ∙ played_all script playable) in
     record {
       left = ap (session_lines s) (drop_at all place next at) ∙ ap (λ t. t ++ lines_left script s (place + 1)) (own_line s number text);
       last = ap (last_number 0) (take_at all place next at) ∙ last_more 0 (take place all) next;

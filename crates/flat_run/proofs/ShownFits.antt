@@ -164,8 +164,8 @@ within_or_past P f d zero k past here = past
 within_or_past {A = A} P f d (suc n) k past here =
     let Q : List A → Type 0 = λ xs. P (get_or xs k d) in
     subst Q (sym (map-append f (sessions_to n) ((record { 0 = suc n }) ∷ [])))
-        (at_snoc P (map f (sessions_to n)) (f (record { 0 = suc n })) d k (within_or_past P f d n k past here)
-            (λ is. let same : k ≡ n = is ∙ length_sessions f n in let R : ℕ → Type 0 = λ m. P (f (record { 0 = suc m })) in subst R same here))
+    (at_snoc P (map f (sessions_to n)) (f (record { 0 = suc n })) d k (within_or_past P f d n k past here)
+    (λ is. let same : k ≡ n = is ∙ length_sessions f n in let R : ℕ → Type 0 = λ m. P (f (record { 0 = suc m })) in subst R same here))
 
 owner_is : (setup : Setup) (s : SessionNo) (p : PairNo) → owns_view setup s p ≡ true → OwnsView setup s.0 p.0
 owner_is setup s p owns = by_pair (slice_get setup.pairs p.0) refl owns

@@ -193,7 +193,7 @@ module _ (script : Script) (s : SessionNo) (place number : ℕ) (text : Line) (h
         let lists : (length args.acquire == 0 && length args.release == 0) ≡ true = subst P leaves.0 here.played in
         let S : List Call → Type 0 = λ p. MayCall board (Session s) p (Present args) in
         subst Q (sym leaves.0) (subst S (sym (append-nil old.pending))
-            (may_present board s old.pending was.draft (waits share) args (empty_is args.acquire (and_left _ _ lists)) (empty_is args.release (and_right (length args.acquire == 0) _ lists)) leaves.1))
+        (may_present board s old.pending was.draft (waits share) args (empty_is args.acquire (and_left _ _ lists)) (empty_is args.release (and_right (length args.acquire == 0) _ lists)) leaves.1))
     may_enter_as share (made.Close why) leaves (line.Call call) is =
         let P : Line → Type 0 = λ t. is_played_line script.setup s t ≡ true in
         let Q : Line → Type 0 = λ t. MayCall board (Session s) (old.pending ++ calls_of_line t) (Close why) in
@@ -238,8 +238,8 @@ module _ (script : Script) (s : SessionNo) (place number : ℕ) (text : Line) (h
         let some : entry_of_line script.setup was.draft text ≡ Some (kind_of one) = sym j.kind in
         let carries : List Call = old.pending ++ calls_of_line text in
         let next_is : next_of script.setup script.count mine lines ≡ record { line = number; carries = carries; kind = kind_of one } =
-            was.next ∙ ap (next_from script.setup script.count was.draft old.pending) here.left
-            ∙ ap (λ kind. next_or kind number carries (next_from script.setup script.count (after_line was.draft text) carries (lines_left script s (place + 1)))) some in
+        was.next ∙ ap (next_from script.setup script.count was.draft old.pending) here.left
+        ∙ ap (λ kind. next_or kind number carries (next_from script.setup script.count (after_line was.draft text) carries (lines_left script s (place + 1)))) some in
         let unread : unread_lines (mine ▹ entry) lines ≡ lines_left script s (place + 1) = here.unread in
         let F : List Entry → Type 0 = Follows script.setup script.count lines in
         let O : List Entry → Type 0 = λ es. IsOpenAt script s (place + 1) es (record new { pending = []; closed = closes reply }) in
@@ -255,7 +255,7 @@ module _ (script : Script) (s : SessionNo) (place number : ℕ) (text : Line) (h
               let left = left_after script.setup s history old.pending new.pending text was.draft new.draft one reply (judged_played script.setup s text here.played) j.leaves replied goes_on was.made in
               let made_after : draft_of script.setup (carried mine ++ new.pending) ≡ Ok (after_line was.draft text) = ap (λ p. draft_of script.setup (carried mine ++ p)) j.pending ∙ left.0 in
               let o : IsOpen script.setup script.count lines (mine ▹ entry) [] (lines_left script s (place + 1)) (after_line was.draft text) =
-                  open_after script.setup script.count lines mine entry (lines_left script s (place + 1)) (after_line was.draft text) unclosed goes_on unread made_after in
+              open_after script.setup script.count lines mine entry (lines_left script s (place + 1)) (after_line was.draft text) unclosed goes_on unread made_after in
               subst O (sym grown) (record {
                 draft = after_line was.draft text;
                 made = o.made;

@@ -173,9 +173,9 @@ module _ (script : Script) (playable : is_playable script ≡ true) where
   first_players empty players count all = record {
     count = count;
     each = λ k d within.
-      let s : SessionNo = record { 0 = k + 1 } in
-      let P : Player → Type 0 = λ player. PlayerStands script s 0 [] player in
-      subst P (sym (all k d within)) (first_stands empty s);
+        let s : SessionNo = record { 0 = k + 1 } in
+        let P : Player → Type 0 = λ player. PlayerStands script s 0 [] player in
+        subst P (sym (all k d within)) (first_stands empty s);
   }
 
 none_of : {A : Type 0} (xs : List A) → list_any (λ x. false) xs ≡ false

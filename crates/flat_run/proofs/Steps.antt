@@ -91,11 +91,13 @@ module _ (script : Script) (place : ℕ) (x : ScriptLine) (at : At script place 
       subst P (sym is) (record { spent = λ seat. let l = lines_spent seat in let s = spent.spent seat in omega arith })
   spent_more old new (more e actor line goes_on unasked is) spent =
       let P : List Entry → Type 0 = IsSpent script (place + 1) in
-      subst P (sym is) (record { spent = λ seat.
-          let l = lines_spent seat in
-          let s = spent.spent seat in
-          let m : made seat (old ▹ e) ≡ made seat old + cond (seat_number x.actor == seat) 1 0 = ap (λ who. made seat (old ▹ record e { actor = who })) actor ∙ grind (arith, common_steps) in
-          omega arith })
+      subst P (sym is) (record {
+        spent = λ seat.
+            let l = lines_spent seat in
+            let s = spent.spent seat in
+            let m : made seat (old ▹ e) ≡ made seat old + cond (seat_number x.actor == seat) 1 0 = ap (λ who. made seat (old ▹ record e { actor = who })) actor ∙ grind (arith, common_steps) in
+            omega arith;
+      })
 
   -- ---- a session whose line it isn't
 

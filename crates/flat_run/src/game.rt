@@ -1,4 +1,4 @@
-ghost use Rattle.std.specs.Prelude.{◌≡◌, ◌+◌, ◌<◌, [], true, length,  Some, OnOk, IfOk, slice_get};
+ghost use Rattle.std.specs.Prelude.{◌≡◌, ◌+◌, ◌<◌, [], true, length, Some, OnOk, IfOk, slice_get};
 ghost use Rattle.flat_scene.specs.declared.setup.Setup.{Setup};
 ghost use Rattle.flat_scene.specs.Setups.{is_setup};
 ghost use Rattle.flat_base.specs.declared.ids.Actor.TheVariants.{Display, Session};
@@ -131,7 +131,12 @@ impl Game {
     }
 
     /// Plays the line at a place of the script.
-    pub fn play_line(&mut self, alloc: Global, script: &Script, place: usize) -> Result<(), NoMemory>
+    pub fn play_line(
+        &mut self,
+        alloc: Global,
+        script: &Script,
+        place: usize,
+    ) -> Result<(), NoMemory>
         requires place { place < length script.now.lines }
         requires playable { is_playable script.now ≡ true }
         requires stands { GameStands script.now place self.old }
@@ -161,7 +166,8 @@ impl Game {
         let player = &mut self.players[before as usize];
         let calls = player.take_pending(alloc);
         let refused = player.refused;
-        self.board.end(SessionNo(before + 1), script.count + 1, calls, refused);
+        self.board
+            .end(SessionNo(before + 1), script.count + 1, calls, refused);
     }
 
     /// Ends all sessions in their order.

@@ -5,6 +5,8 @@ mod game;
 mod made;
 mod player;
 mod run;
+#[cfg(test)]
+mod tests;
 mod top;
 
 pub use made::Made;

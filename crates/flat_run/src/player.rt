@@ -66,11 +66,7 @@ fn called(draft: &mut Draft, call: &Call) -> Result<Option<Made>, NoMemory>
 }
 
 /// What a present makes of a draft, and the entry that it makes.
-fn presented(
-    alloc: Global,
-    draft: &mut Draft,
-    args: &PresentArgs,
-) -> Result<Option<Made>, NoMemory>
+fn presented(alloc: Global, draft: &mut Draft, args: &PresentArgs) -> Result<Option<Made>, NoMemory>
     requires stands { HasDraft draft.old }
     requires opened { draft.old.closed ≡ false }
     ensures kind { (setup : Setup) (before : scene.Draft) → StandsFor setup draft.old before → IfOk result (λ made. option_map kind_of made ≡ entry_of_line setup before (line.Present args.now)) }
@@ -146,11 +142,7 @@ impl Player {
         Ok(made)
     }
 
-    fn judge_present(
-        &mut self,
-        alloc: Global,
-        args: &PresentArgs,
-    ) -> Result<Option<Made>, NoMemory>
+    fn judge_present(&mut self, alloc: Global, args: &PresentArgs) -> Result<Option<Made>, NoMemory>
         requires stands { HasDraft self.old.draft }
         requires opened { self.old.draft.closed ≡ false }
         ensures { (setup : Setup) (before : scene.Draft) → StandsFor setup self.old.draft before → IfOk result (Judges setup before (line.Present args.now) self.old self.new) }

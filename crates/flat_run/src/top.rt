@@ -1,8 +1,10 @@
-ghost use Rattle.std.specs.Prelude.{◌≡◌, ◌≢◌, ◌||◌, ◌==◌, ◌↔◌, true, map, IfOk, IsTrue, Err, codes, string_bytes};
+ghost use Rattle.std.specs.Prelude.{◌≡◌, ◌≢◌, ◌||◌, ◌==◌, ◌↔◌, ◌++◌, ℕ, List, true, false, map, IfOk, IsTrue, Some, Ok, Err, codes, string_bytes};
 ghost use Rattle.flat_io.specs.Counts.{has_risen};
 ghost use Rattle.flat_io.specs.Told.{Appends};
 ghost use Rattle.flat_io.specs.Whole.{AppendsPrefix};
 ghost use Rattle.flat_playable.specs.Playable.{is_playable};
+ghost use Rattle.flat_script.specs.Grammar.{text_read};
+ghost use Rattle.flat_script.specs.declared.script.Script.{Script};
 ghost use Rattle.flat_run.specs.Answering.{IsAnswer};
 ghost use Rattle.flat_run.specs.Promise.{play_words, fault_line, Reports, IsText, IsWhole, IsCutOff};
 
@@ -20,10 +22,15 @@ const USAGE: &[u8] = b"usage: flatland play | race | stress N\n";
 
 /// The statuses of a call.
 const DONE: u8 = 0;
+
 const USED_WRONGLY: u8 = 2;
+
 const REFUSED: u8 = 3;
+
 const READ_FAULT: u8 = 4;
+
 const WRITE_FAULT: u8 = 5;
+
 const NO_MEMORY: u8 = 6;
 
 /// What is to be written, and the status of a call that wrote it.
@@ -92,7 +99,14 @@ fn played_text(alloc: Global, script: &Script) -> Result<Vec<u8>, NoMemory>
     let game = run(alloc, script)?;
     let answers = HitAnswers::new(alloc);
     let journal = game.board.journal();
-    print_report(alloc, script, journal, game.frames.as_slice(), &[], &answers)
+    print_report(
+        alloc,
+        script,
+        journal,
+        game.frames.as_slice(),
+        &[],
+        &answers,
+    )
 }
 
 /// The answer to a text that was read whole.
@@ -149,7 +163,7 @@ fn write_text<W: Sink>(sink: &mut W, text: &[u8], status: u8) -> u8
 /// usage, or the fault of a script. Status 5 comes only where the counts of the
 /// sink rose, and then the first bytes of such a text were written; 4 only where
 /// the count of the source rose. With 4 and with 6, want of memory, nothing was
-/// written.
+/// written. Where a script was given and no count rose, the status is 0 or 6.
 pub fn flatland<R: Source, W: Sink>(
     alloc: Global,
     words: &[String],
@@ -162,6 +176,7 @@ pub fn flatland<R: Source, W: Sink>(
     ensures read_fault { result ≡ READ_FAULT → IsTrue (has_risen (R.faults source.old) (R.faults source.new)) }
     ensures unwritten { IsTrue (result == READ_FAULT || result == NO_MEMORY) → sink.new ≡ sink.old }
     ensures unread { map string_bytes words.now ≢ play_words → source.new ≡ source.old }
+    ensures complete { (given after : List ℕ) (script : Script) → map string_bytes words.now ≡ play_words → R.left source.old ≡ Some (given ++ after) → R.left source.new ≡ Some after → text_read given ≡ Ok script → has_risen (R.faults source.old) (R.faults source.new) ≡ false → (has_risen (W.faults sink.old) (W.faults sink.new) || has_risen (W.stalls sink.old) (W.stalls sink.new)) ≡ false → IsTrue (result == DONE || result == NO_MEMORY) }
     ensures statuses { IsTrue (result == DONE || result == USED_WRONGLY || result == REFUSED || result == READ_FAULT || result == WRITE_FAULT || result == NO_MEMORY) }
 {
     if !is_play(words) {

@@ -29,6 +29,6 @@ pub returns : goal.returns
 returns c =
     let script = c.args.script.now in
     let board = c.in_ok-board.ensures ∙ ap (λ s. let m : Machine = record { setup = s; shares = c.in_ok-shares.shares; history = [] } in m) c.in_ok-setup.ensures
-        ∙ ap (λ xs. let m : Machine = record { setup = script.setup; shares = xs; history = [] } in m) c.in_ok-shares.ensures in
+    ∙ ap (λ xs. let m : Machine = record { setup = script.setup; shares = xs; history = [] } in m) c.in_ok-shares.ensures in
     starts script _ c.requires c.draft_laws.ensures.empty_stands board c.in_ok-new_players.ensures.count c.in_ok-new_players.ensures.first
     (first_shown script.setup _ _ _ c.in_ok-new.ensures.size c.in_ok-new.ensures.none refl c.new-2.ensures.items) refl

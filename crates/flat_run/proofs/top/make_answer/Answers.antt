@@ -14,9 +14,9 @@ returns-in-Ok-answer-clause-text g c =
     let left = g.R.Source.left c.args.source.now in
     let left' = g.R.Source.left c.read_all.new.source in
     elim c.match-read_all.branch [
-      in-Ok w ↦ read_text left left' w.in-Ok.bytes.items w.in-Ok.ensures.whole x.status x.text.items
+      | in-Ok w ↦ read_text left left' w.in-Ok.bytes.items w.in-Ok.ensures.whole x.status x.text.items
           (subst (λ b. IsAnswer b x.status x.text.items) w.as_slice.ensures.value (ok_value w.answer_to-answer.result x (λ a. IsAnswer w.as_slice.result.now a.status a.text.items) (sym w.answer-is ∙ c.in-Ok-answer.is) w.answer_to-answer.ensures))
-    | in-Err-TooLong w ↦
+      | in-Err-TooLong w ↦
           let whole = w.in-Err-TooLong.is in
           let why = w.in-Err-TooLong.field-0-is in
           let is : w.in-Err-TooLong.field-0 ≡ TooLong = cc in

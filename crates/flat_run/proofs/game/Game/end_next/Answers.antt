@@ -40,6 +40,6 @@ returns c =
     let s : SessionNo = record { 0 = c.args.before + 1 } in
     let mine = waiting_is script c.args.before old player c.requires.within c.requires.stands c.index_mut-player.ensures.value in
     let board = c.end.ensures.entry ∙ ap (λ (reply : Reply). entered old.board (Session s) (script.count + 1) c.take_pending-calls.result (End c.take_pending-calls.new.self.refused) reply) c.end.ensures.reply
-        ∙ ap (λ (cs : List Call). entered old.board (Session s) (script.count + 1) cs (End c.take_pending-calls.new.self.refused) _) c.take_pending-calls.ensures.calls
-        ∙ ap (λ (n : ℕ). entered old.board (Session s) (script.count + 1) player.pending (End n) _) (ap (λ (p : Player). p.refused) c.take_pending-calls.ensures.rest) in
+    ∙ ap (λ (cs : List Call). entered old.board (Session s) (script.count + 1) cs (End c.take_pending-calls.new.self.refused) _) c.take_pending-calls.ensures.calls
+    ∙ ap (λ (n : ℕ). entered old.board (Session s) (script.count + 1) player.pending (End n) _) (ap (λ (p : Player). p.refused) c.take_pending-calls.ensures.rest) in
     ends_more script c.args.before c.requires.within old c.requires.stands player mine _ c.take_pending-calls.new.self board refl refl
