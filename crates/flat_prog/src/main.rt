@@ -3,9 +3,8 @@
 
 use flat_io::{StdSink, StdSource};
 use flat_run::flatland;
-use std::env;
-use std::io;
 use std::process::ExitCode;
+use std::{env, io};
 
 /// The status where memory ran out.
 const NO_MEMORY: u8 = 6;
