@@ -25,7 +25,7 @@ use Rattle.flat_tree.specs.Trees.{tree_from}
 use Rattle.flat_report.specs.Report.{frame_at}
 use Rattle.flat_run.specs.Playing.{FramesStand, HasViews}
 use Rattle.flat_run.proofs.ShownFits.{begun_fits, length_sessions}
-use Rattle.flat_run.proofs.Tests.{and_left, and_right, and_true}
+use Rattle.flat_run.proofs.Conditions.{and_left, and_right, and_true}
 
 pub few_sessions : (setup : Setup) → is_setup setup ≡ true → setup.sessions ≤ SESSIONS_MAX
 few_sessions setup is =

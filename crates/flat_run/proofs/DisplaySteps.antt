@@ -32,7 +32,7 @@ use Rattle.flat_playable.specs.Playable.{frames_close, keeps_frames}
 use Rattle.flat_run.specs.Playing.{DisplayStands, FramesStand, IsSpent, lines_by, rest_shares, is_quiet, is_question}
 use Rattle.flat_run.proofs.Displayed.{display_more}
 use Rattle.flat_run.proofs.Steps.{At}
-use Rattle.flat_run.proofs.Tests.{and_left, and_right, and_true}
+use Rattle.flat_run.proofs.Conditions.{and_left, and_right, and_true}
 use Rattle.flat_run.proofs.Unread.{unread_after, Numbered}
 
 -- ---- kinds that are quiet

@@ -34,7 +34,7 @@ use Rattle.flat_run.specs.Playing.{lines_by, lines_left, is_question, shares_of,
 use Rattle.flat_run.proofs.Entering.{IsWaiting, may_end, may_end_closed}
 use Rattle.flat_run.proofs.GameSteps.{has_room, not_same}
 use Rattle.flat_run.proofs.Starting.{sessions_more}
-use Rattle.flat_run.proofs.Tests.{and_true, or_left, or_right}
+use Rattle.flat_run.proofs.Conditions.{and_true, or_left, or_right}
 
 drop_all : {A : Type 0} (xs : List A) → drop (length xs) xs ≡ []
 drop_all [] = refl

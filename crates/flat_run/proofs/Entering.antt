@@ -26,7 +26,7 @@ use Rattle.flat_core.specs.Boards.{Machine, MayCall, HasShare}
 use Rattle.flat_core.specs.Legal.{MayEnter, is_link, all_but_last, owns_in_call, owns_view, has_tree}
 use Rattle.flat_core.specs.Plain.{is_plain_call}
 use Rattle.flat_playable.specs.Playable.{is_private, is_played_call}
-use Rattle.flat_run.proofs.Tests.{and_true, or_false, or_left, or_right, all_more, all_also, none_also}
+use Rattle.flat_run.proofs.Conditions.{and_true, or_false, or_left, or_right, all_more, all_also, none_also}
 
 -- ---- lists with one call more
 

@@ -19,7 +19,7 @@ use Rattle.flat_scene.specs.Misuse.{misuse, first_reason, Test, names_transform,
 use Rattle.flat_core.specs.Legal.{owns_view, owns_in_call}
 use Rattle.flat_core.specs.Plain.{is_plain_call}
 use Rattle.flat_run.proofs.Entering.{after_error}
-use Rattle.flat_run.proofs.Tests.{and_left, and_right, and_true, all_more}
+use Rattle.flat_run.proofs.Conditions.{and_left, and_right, and_true, all_more}
 
 -- ---- drafts
 

@@ -41,7 +41,7 @@ use Rattle.flat_run.proofs.DisplaySteps.{QuietStep, quiet_end, quiet_question, d
 use Rattle.flat_run.proofs.DisplaySteps as quiet
 use Rattle.flat_run.proofs.ShownFits.{length_sessions}
 use Rattle.flat_run.proofs.Steps.{At, Step, same, more, order_more, spent_more, player_other}
-use Rattle.flat_run.proofs.Tests.{and_left, and_right}
+use Rattle.flat_run.proofs.Conditions.{and_left, and_right}
 
 -- ---- sessions and their shares
 

@@ -1,5 +1,6 @@
 pub mod Answering
 pub mod Composed
+pub mod Conditions
 pub mod DisplaySteps
 pub mod Displayed
 pub mod Ending
@@ -15,5 +16,4 @@ pub mod ShownFits
 pub mod Standing
 pub mod Starting
 pub mod Steps
-pub mod Tests
 pub mod Unread

@@ -22,7 +22,7 @@ use Rattle.flat_scene.specs.Trees.{more, node_count}
 use Rattle.flat_topology.specs.Fit.{image_opacity, greatest_opacity}
 use Rattle.flat_topology.specs.Shown.{pair_in, pairs_in, nodes_of, root_alone}
 use Rattle.flat_run.proofs.Fits.{IsGood, is_low, is_dim}
-use Rattle.flat_run.proofs.Tests.{and_left, and_right}
+use Rattle.flat_run.proofs.Conditions.{and_left, and_right}
 
 -- ---- contents
 

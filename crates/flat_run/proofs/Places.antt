@@ -19,7 +19,7 @@ use Rattle.flat_scene.specs.Setups.{is_declared, is_setup}
 use Rattle.flat_script.specs.declared.script.Script.{Script}
 use Rattle.flat_playable.specs.Playable.{rise_from, frames_close, is_played, is_played_line, is_playable}
 use Rattle.flat_run.specs.Playing.{last_number, lines_left}
-use Rattle.flat_run.proofs.Tests.{and_left, and_right, all_at}
+use Rattle.flat_run.proofs.Conditions.{and_left, and_right, all_at}
 use Rattle.flat_run.proofs.Unread.{rise_to, rise_after, rise_first, rise_later, unread_after, Numbered}
 
 -- ---- lists around a place

@@ -38,7 +38,7 @@ use Rattle.flat_topology.specs.Shown.{state_of, view_of, nodes_of, pairs_shown, 
 use Rattle.flat_scene.specs.Trees.{node_count}
 use Rattle.flat_run.proofs.Fits.{IsGood, good_draft}
 use Rattle.flat_run.proofs.LowTrees.{ShowsLow, tree_low, tree_small}
-use Rattle.flat_run.proofs.Tests.{and_left, and_right, and_true}
+use Rattle.flat_run.proofs.Conditions.{and_left, and_right, and_true}
 
 -- What is known of a present: its calls make a good draft, which has a tree.
 pub record IsSound (setup : Setup) (s : SessionNo) (present : Published) : Type 0 where

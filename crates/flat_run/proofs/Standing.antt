@@ -40,7 +40,7 @@ use Rattle.flat_run.specs.Playing.{last_number, lines_left, is_judged, IsNoMisus
 use Rattle.flat_run.proofs.Entering.{IsWaiting, may_view, may_present, may_close_call, may_close_present}
 use Rattle.flat_run.proofs.Places.{Here}
 use Rattle.flat_run.proofs.Reading.{IsOpen, IsShut, open_private, open_entry, follows_more, open_after, shut_after}
-use Rattle.flat_run.proofs.Tests.{and_left, and_right, and_true, or_false, all_more}
+use Rattle.flat_run.proofs.Conditions.{and_left, and_right, and_true, or_false, all_more}
 
 -- ---- the calls of a line
 

@@ -36,7 +36,7 @@ use Rattle.flat_run.specs.declared.player.Player.{Player}
 use Rattle.flat_run.specs.Playing.{lines_by, rest_shares, shares_of, first_player, PlayerStands, PlayersStand, DisplayStands, IsInOrder, IsSpent, FramesStand, HasViews, GameStands, IsOpenAt, last_number}
 use Rattle.flat_run.proofs.Places.{few_lines, rises, counted, frames_are, setup_is, session_numbered}
 use Rattle.flat_run.proofs.DisplaySteps.{display_numbered}
-use Rattle.flat_run.proofs.Tests.{and_left, and_right}
+use Rattle.flat_run.proofs.Conditions.{and_left, and_right}
 use Rattle.flat_run.proofs.Unread.{rise_first, rise_later, later_all, Numbered}
 
 -- ---- the shares

@@ -30,7 +30,7 @@ use Rattle.flat_playable.specs.Playable.{rise_from, is_played, is_playable, fram
 use Rattle.flat_run.specs.Playing.{last_number, lines_left, lines_by, PlayerStands, IsOpenAt, IsClosedAt, IsSpent, IsInOrder, is_quiet, is_question}
 use Rattle.flat_run.proofs.InOrder.{lines_rise, no_ends_more}
 use Rattle.flat_run.proofs.Places.{drop_at, take_at, split_at, last_more, last_below, rises, played_all}
-use Rattle.flat_run.proofs.Tests.{all_at}
+use Rattle.flat_run.proofs.Conditions.{all_at}
 
 -- What is known of a line at its place.
 pub record At (script : Script) (place : ℕ) (x : ScriptLine) : Type 0 where

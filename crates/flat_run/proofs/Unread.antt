@@ -6,7 +6,7 @@ use Rattle.std.proofs.lemmas.Grind.{flat_map-append}
 use Rattle.std.proofs.lemmas.List.Elements.{filter-append}
 use Rattle.flat_scene.specs.declared.script.ScriptLine.{ScriptLine}
 use Rattle.flat_playable.specs.Playable.{rise_from}
-use Rattle.flat_run.proofs.Tests.{and_left, and_right}
+use Rattle.flat_run.proofs.Conditions.{and_left, and_right}
 
 -- the first line's number is above, and the later ones are above it
 pub rise_first : (n : ℕ) (next : ScriptLine) (later : List ScriptLine) → rise_from n (next ∷ later) ≡ true → n < next.number
