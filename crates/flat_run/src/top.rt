@@ -175,6 +175,7 @@ pub fn flatland<R: Source, W: Sink>(
     ensures write_fault { result ≡ WRITE_FAULT → IsTrue (has_risen (W.faults sink.old) (W.faults sink.new) || has_risen (W.stalls sink.old) (W.stalls sink.new)) }
     ensures read_fault { result ≡ READ_FAULT → IsTrue (has_risen (R.faults source.old) (R.faults source.new)) }
     ensures unwritten { IsTrue (result == READ_FAULT || result == NO_MEMORY) → sink.new ≡ sink.old }
+    ensures usage { map string_bytes words.now ≢ play_words → IsTrue (result == USED_WRONGLY || result == WRITE_FAULT) }
     ensures unread { map string_bytes words.now ≢ play_words → source.new ≡ source.old }
     ensures complete { (given after : List ℕ) (script : Script) → map string_bytes words.now ≡ play_words → R.left source.old ≡ Some (given ++ after) → R.left source.new ≡ Some after → text_read given ≡ Ok script → has_risen (R.faults source.old) (R.faults source.new) ≡ false → (has_risen (W.faults sink.old) (W.faults sink.new) || has_risen (W.stalls sink.old) (W.stalls sink.new)) ≡ false → IsTrue (result == DONE || result == NO_MEMORY) }
     ensures statuses { IsTrue (result == DONE || result == USED_WRONGLY || result == REFUSED || result == READ_FAULT || result == WRITE_FAULT || result == NO_MEMORY) }
