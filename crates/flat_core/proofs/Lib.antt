@@ -6,9 +6,11 @@ pub mod Changes
 pub mod Counts
 pub mod CreditLemmas
 pub mod DoneSteps
+pub mod FramesLocal
 pub mod HasView
 pub mod LegalByTests
 pub mod ListLemmas
+pub mod Locality
 pub mod MoreRuns
 pub mod NoAnswers
 pub mod NoNews

@@ -9,6 +9,7 @@ mod board;
 mod clock;
 mod dones;
 mod ends;
+mod laws;
 mod log;
 mod polls;
 mod state;
@@ -19,6 +20,10 @@ mod views;
 ghost use Rattle.flat_core.specs.Laws.{CreditsAddUp};
 
 pub use board::{Back, Board};
+pub use laws::{
+    credits_are_local, going_is_local, presents_are_local, released_is_local, signalled_is_local,
+    taken_is_local,
+};
 pub use polls::EventList;
 
 /// In a legal history the credits of a session and its presents that wait add up
