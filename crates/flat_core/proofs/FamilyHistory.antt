@@ -14,11 +14,10 @@ use Rattle.flat_scene.specs.declared.script.Cond.TheVariants as asks
 use Rattle.flat_scene.specs.declared.setup.Setup.{Setup}
 use Rattle.flat_scene.specs.Draft.{Draft}
 use Rattle.flat_scene.specs.Family.{IsClosedFamily, only, is_kept, keeps}
-use Rattle.flat_scene.specs.History.{◌▹◌, is_closed}
+use Rattle.flat_scene.specs.History.{◌▹◌}
 use Rattle.flat_core.specs.Legal.{Legal, LegalEntry, MayEnter, owns_in_kind, value_of, reply_to, reply_to_get, reply_to_present, session_may, may_act, goes_on, keeps_time, has_draft, draft_with, has_tree, has_watcher}
 use Rattle.flat_core.specs.Local.{pair_watched}
 use Rattle.flat_core.specs.Watch.{Watcher, watcher_of}
-use Rattle.flat_core.proofs.EventsLocal.{closed-only}
 use Rattle.flat_core.proofs.FramesLocal.{took-only, credits-only, signalled-only}
 use Rattle.flat_core.proofs.Locality.{own-only, same-number, entry-owned}
 use Rattle.flat_core.proofs.RepliesLocal.{frame-open-only, begin-time-only, frames-only, token-only, unread-only, answers-only}

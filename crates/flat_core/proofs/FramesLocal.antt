@@ -1,5 +1,5 @@
 -- Presents, fences, what frames take and let go: of each session's family they are local.
-use Rattle.std.proofs.Common.{◌≡◌, Bool, true, false, List, [], ◌∷◌, ◌++◌, refl, ap, ◌∙◌, sym}
+use Rattle.std.proofs.Common.{◌≡◌, Bool, true, List, [], ◌∷◌, refl, ap, ◌∙◌, sym}
 use Rattle.std.specs.Prelude.{flat_map, ◌||◌, ◌==◌}
 use Rattle.std.specs.List.{list_any}
 use Rattle.std.proofs.lemmas.List.Folds.{list_any-append}
@@ -14,7 +14,7 @@ use Rattle.flat_scene.specs.Setups.{owners_declared}
 use Rattle.flat_scene.proofs.FamilyLeast.{family-is-least}
 use Rattle.flat_core.specs.Legal.{Legal, owns_fence}
 use Rattle.flat_core.specs.Local.{PresentsAreLocal, SignalledIsLocal, TakenIsLocal, CreditsAreLocal, GoingIsLocal, ReleasedIsLocal}
-use Rattle.flat_core.proofs.Locality.{IsOfFamily, IsSame, frames-local, own-only, released-same, any-same}
+use Rattle.flat_core.proofs.Locality.{IsOfFamily, frames-local, own-only, released-same, any-same}
 
 pub closed-family : (setup : Setup) → owners_declared setup ≡ true → (s : SessionNo) → IsClosedFamily setup (family setup s)
 closed-family setup owners s = (family-is-least setup owners s).closed

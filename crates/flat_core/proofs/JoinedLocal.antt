@@ -1,6 +1,6 @@
 -- Which sessions of a family are in the joined tree, where the ends of pairs link no session of it to one outside.
-use Rattle.std.proofs.Common.{◌≡◌, ℕ, zero, suc, ◌+◌, Bool, true, false, List, [], ◌∷◌, ◌++◌, refl, arith, ap, sym, ◌∙◌, subst, cond, length, map, ◌⊎◌, inl, inr, get_or}
-use Rattle.std.specs.Prelude.{◌==◌, ◌&&◌, ◌||◌, Option, Some, None, option_map, unwrap_or}
+use Rattle.std.proofs.Common.{◌≡◌, ℕ, zero, suc, ◌+◌, Bool, true, false, List, [], ◌∷◌, ◌++◌, refl, arith, ap, sym, ◌∙◌, subst, length, map, get_or}
+use Rattle.std.specs.Prelude.{◌==◌, ◌&&◌, Option, Some, None, option_map}
 use Rattle.std.specs.List.{list_any, list_all}
 use Rattle.std.proofs.lemmas.Grind.{common_steps}
 use Rattle.std.proofs.lemmas.List.{length-map, map-append}
@@ -16,13 +16,13 @@ use Rattle.flat_scene.specs.declared.trees.Tree.{Tree}
 use Rattle.flat_scene.specs.Family.{IsClosedFamily, is_linked}
 use Rattle.flat_scene.specs.Frames.{sessions_to}
 use Rattle.flat_scene.specs.Trees.{first}
-use Rattle.flat_topology.specs.Join.{JoinedTree, Viewer, viewer_from, is_view_of, linked_to, joined_nodes, viewed, led_to, led_from, join, sessions_in, joined_sessions, is_joined}
+use Rattle.flat_topology.specs.Join.{JoinedTree, Viewer, viewer_from, is_view_of, linked_to, joined_nodes, viewed, led_to, led_from, sessions_in, is_joined}
 use Rattle.flat_topology.specs.Pairs.{display_pair}
-use Rattle.flat_topology.specs.Shown.{Shown, state_of, view_of, nodes_of, pair_in, pairs_in}
+use Rattle.flat_topology.specs.Shown.{state_of, view_of, nodes_of, pair_in, pairs_in}
 use Rattle.flat_topology.proofs.Distances.{viewer-state}
 use Rattle.flat_core.specs.Ends.{view_owner}
 use Rattle.flat_core.specs.Legal.{owns_view}
-use Rattle.flat_core.proofs.Locality.{not-true, same-number, same-session}
+use Rattle.flat_core.proofs.Locality.{not-true, same-session}
 use Rattle.flat_core.proofs.Owned.{view_owned}
 use Rattle.flat_core.proofs.OwnedTree.{owns, pair_no}
 use Rattle.flat_core.proofs.ShownOwned.{IsShownOwned, joined-at, joined-back}

@@ -1,6 +1,6 @@
 -- What frames take of a family's sessions depends on the entries of the family and on the frames and signals alone.
-use Rattle.std.proofs.Common.{◌≡◌, ℕ, zero, suc, List, [], ◌∷◌, ◌++◌, refl, Bool, true, false, ap, ◌∙◌, sym, arith, drop, cond, subst, length}
-use Rattle.std.specs.Prelude.{nat_le, ◌==◌, Some, slice_get, ◌&&◌, ◌||◌, option_map, unwrap_or}
+use Rattle.std.proofs.Common.{◌≡◌, ℕ, zero, suc, List, [], ◌∷◌, ◌++◌, refl, Bool, true, false, ap, ◌∙◌, sym, arith, drop, cond, subst}
+use Rattle.std.specs.Prelude.{◌==◌, Some, slice_get, ◌&&◌, option_map, unwrap_or}
 use Rattle.std.specs.List.{list_any, list_all}
 use Rattle.std.proofs.lemmas.Grind.{common_steps}
 use Rattle.std.proofs.Math.Seq.{drop-nil}

@@ -1,12 +1,11 @@
 -- What is shown of a family, and who of it is connected, depends on the entries of the family and on the frames and signals alone.
-use Rattle.std.proofs.Common.{◌≡◌, Bool, true, false, List, refl, arith, ◌∙◌}
+use Rattle.std.proofs.Common.{◌≡◌, Bool, true, false, List, refl, arith}
 use Rattle.std.specs.Prelude.{◌&&◌, ◌||◌, None}
 use Rattle.std.specs.List.{list_any}
 use Rattle.flat_base.specs.declared.ids.SessionNo.{SessionNo}
 use Rattle.flat_scene.specs.declared.journal.Entry.{Entry}
 use Rattle.flat_scene.specs.declared.setup.Setup.{Setup}
 use Rattle.flat_scene.specs.Family.{IsClosedFamily, is_linked, only, joins, shares}
-use Rattle.flat_scene.specs.Frames.{taken}
 use Rattle.flat_scene.specs.History.{is_session}
 use Rattle.flat_core.specs.Legal.{Legal}
 use Rattle.flat_core.specs.Shown.{shown, is_connected}

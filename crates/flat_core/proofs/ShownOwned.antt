@@ -3,11 +3,9 @@ use Rattle.std.proofs.Common.{◌≡◌, ℕ, zero, suc, Bool, true, false, List
 use Rattle.std.specs.Prelude.{◌||◌, ◌&&◌, ◌==◌, Option, Some, None, Result, Ok, Err, option_map, option_and_then, unwrap_or, slice_get, filter_map}
 use Rattle.std.specs.List.{list_all, list_any}
 use Rattle.std.specs.Result.{result_ok}
-use Rattle.std.proofs.lemmas.Grind.{common_steps}
 use Rattle.std.proofs.lemmas.List.Folds.{list_all-append}
 use Rattle.flat_base.specs.declared.ids.Actor.{Actor}
 use Rattle.flat_base.specs.declared.ids.Actor.TheVariants.{Display, Session, Probe}
-use Rattle.flat_base.specs.declared.ids.PairNo.{PairNo}
 use Rattle.flat_base.specs.declared.errors.Reason.{Reason}
 use Rattle.flat_base.specs.declared.ids.SessionNo.{SessionNo}
 use Rattle.flat_scene.specs.declared.calls.Call.{Call}
@@ -23,14 +21,14 @@ use Rattle.flat_scene.specs.declared.trees.Children.TheVariants.{Empty}
 use Rattle.flat_scene.specs.declared.trees.Tree.{Tree}
 use Rattle.flat_scene.specs.Draft.{Draft, of_serial}
 use Rattle.flat_scene.specs.Effect.{draft_of}
-use Rattle.flat_scene.specs.Family.{is_linked, joins}
+use Rattle.flat_scene.specs.Family.{joins}
 use Rattle.flat_scene.specs.Frames.{taken}
 use Rattle.flat_scene.specs.History.{◌▹◌, calls, presents, published, Published, is_closed, is_session}
 use Rattle.flat_scene.specs.Tree.{tree, all_nodes, head_of, use_of}
 use Rattle.flat_scene.specs.Trees.{first}
 use Rattle.flat_scene.proofs.Steps.{presents-own, presents-other}
 use Rattle.flat_topology.specs.Shown.{pair_in, pairs_in, nodes_of, root_alone}
-use Rattle.flat_core.specs.Legal.{Legal, LegalEntry, owns_view, owns_in_call, owns_all}
+use Rattle.flat_core.specs.Legal.{Legal, LegalEntry, owns_in_call, owns_all}
 use Rattle.flat_core.specs.Shown.{tree_of, shown}
 use Rattle.flat_core.proofs.Locality.{same-session}
 use Rattle.flat_core.proofs.Owned.{IsOwned, view_owned, draft-owned}

@@ -1,9 +1,7 @@
 -- What a family's watchers have answered depends on the family's entries and the frames alone.
 use Rattle.std.proofs.Common.{◌≡◌, ℕ, Bool, true, false, List, [], ◌++◌, refl, arith, ap, sym, ◌∙◌, subst}
 use Rattle.std.specs.Prelude.{◌==◌, Option, Some, None, option_and_then, option_map, unwrap_or, length}
-use Rattle.std.specs.List.{list_all}
 use Rattle.std.proofs.lemmas.Grind.{common_steps}
-use Rattle.std.proofs.lemmas.List.Folds.{list_all-append}
 use Rattle.flat_base.specs.declared.ids.Actor.{Actor}
 use Rattle.flat_base.specs.declared.ids.Actor.TheVariants.{Display, Session, Probe}
 use Rattle.flat_base.specs.declared.ids.ContentId.{ContentId}
@@ -21,7 +19,7 @@ use Rattle.flat_scene.specs.Effect.{draft_of}
 use Rattle.flat_core.specs.Ends.{viewport_uses, view_owner, viewport_owner}
 use Rattle.flat_scene.specs.Family.{IsClosedFamily, is_linked, only, is_kept, keeps}
 use Rattle.flat_scene.specs.History.{◌▹◌, is_session, calls}
-use Rattle.flat_core.specs.Legal.{Legal, owns_view, owns_viewport, owns_in_call}
+use Rattle.flat_core.specs.Legal.{Legal, owns_view, owns_viewport}
 use Rattle.std.specs.Result.{result_ok}
 use Rattle.flat_core.specs.Local.{pair_watched}
 use Rattle.flat_core.specs.Watch.{Watcher, layout_of, status_of, child_of, Watching, watching, told, asked, asked_in, asking, answer, answered_by, settled, is_open, listener, watcher_of, watcher_in, watcher_of_made, is_watcher, same_watcher, or_else}
