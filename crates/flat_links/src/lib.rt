@@ -2,10 +2,12 @@
 //! they are used.
 #![tactic(auto)]
 
+mod laws;
 mod links;
 mod pairs;
 #[cfg(test)]
 mod tests;
 
+pub use laws::link_laws;
 pub use links::Links;
 pub use pairs::{Pair, Token, ViewEnd, ViewportEnd};

@@ -33,7 +33,10 @@ impl Links {
         ensures { IfOk result (λ links. links ≡ map new_pair pairs.now) }
     {
         let declared = pairs.as_slice();
-        let pairs = declared.iter().map(|owners| Pair::new(*owners)).collect(alloc)?;
+        let pairs = declared
+            .iter()
+            .map(|owners| Pair::new(*owners))
+            .collect(alloc)?;
         Ok(Links { pairs })
     }
 
