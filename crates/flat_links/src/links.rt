@@ -71,6 +71,7 @@ impl Links {
         ensures granted { IsTrue (is_ok result) ↔ IsTrue (at_pair self.old p has_view_token) }
         ensures cause { IfErr result (λ reason. reason ≡ Reason.TokenNotHeld) }
         ensures both { IfOk result (λ both. both ≡ at_pair self.new p is_joined) }
+        ensures count { length self.new ≡ length self.old }
         ensures after { self.new ≡ changed self.old p (after join_view) }
         ensures same { OnErr result (self.new ≡ self.old) }
     {
@@ -90,6 +91,7 @@ impl Links {
         ensures granted { IsTrue (is_ok result) ↔ IsTrue (at_pair self.old p has_token) }
         ensures cause { IfErr result (λ reason. reason ≡ Reason.TokenNotHeld) }
         ensures both { IfOk result (λ both. both ≡ at_pair self.new p is_joined) }
+        ensures count { length self.new ≡ length self.old }
         ensures after { self.new ≡ changed self.old p (after (join_viewport props)) }
         ensures same { OnErr result (self.new ≡ self.old) }
     {
@@ -105,7 +107,8 @@ impl Links {
     /// its token is back.
     pub fn release_viewport(&mut self, p: PairNo)
         requires { p.0 < length self.old }
-        ensures { self.new ≡ changed self.old p (after release_viewport) }
+        ensures count { length self.new ≡ length self.old }
+        ensures after { self.new ≡ changed self.old p (after release_viewport) }
     {
         self.pairs[p.0 as usize].viewport.released = true;
     }
@@ -113,7 +116,8 @@ impl Links {
     /// The token of the viewport end comes back: the end may be used again.
     pub fn token_back(&mut self, p: PairNo)
         requires { p.0 < length self.old }
-        ensures { self.new ≡ changed self.old p (after token_back) }
+        ensures count { length self.new ≡ length self.old }
+        ensures after { self.new ≡ changed self.old p (after token_back) }
     {
         self.pairs[p.0 as usize].viewport.token = Token::Held;
     }
@@ -121,7 +125,8 @@ impl Links {
     /// The viewport end is lost, for good.
     pub fn lose_viewport(&mut self, p: PairNo)
         requires { p.0 < length self.old }
-        ensures { self.new ≡ changed self.old p (after lose_viewport) }
+        ensures count { length self.new ≡ length self.old }
+        ensures after { self.new ≡ changed self.old p (after lose_viewport) }
     {
         self.pairs[p.0 as usize].viewport.lost = true;
     }
@@ -129,7 +134,8 @@ impl Links {
     /// The view end is lost, for good.
     pub fn lose_view(&mut self, p: PairNo)
         requires { p.0 < length self.old }
-        ensures { self.new ≡ changed self.old p (after lose_view) }
+        ensures count { length self.new ≡ length self.old }
+        ensures after { self.new ≡ changed self.old p (after lose_view) }
     {
         self.pairs[p.0 as usize].view.lost = true;
     }
