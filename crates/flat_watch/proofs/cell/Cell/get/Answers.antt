@@ -1,0 +1,6 @@
+use Rattle.std.proofs.Common.{sym}
+use Rattle.flat_watch.proofs.News.{news-differs}
+use Rattle.flat_watch.proofs.cell.Cell.get.Goals as goal
+
+pub returns-in-Some-clause-held : goal.returns-in-Some-clause-held
+returns-in-Some-clause-held c = (λ e. absurd (cc), λ h. absurd (news-differs c.args.self.now.value c.args.self.now.last c.in-Some.value (sym c.in-Some.ensures) h.1))
