@@ -1,10 +1,8 @@
 -- One pair of a list is changed, and no other.
-use Rattle.std.proofs.Common.{◌≡◌, ◌≢◌, ℕ, zero, suc, List, [], ◌∷◌, length, Option, Some, None, refl, sym, ◌∙◌, ap}
+use Rattle.std.proofs.Common.{◌≡◌, ◌≢◌, ℕ, zero, suc, List, [], ◌∷◌, length, Option, Some, None, refl, ap}
 use Rattle.std.specs.Prelude.{option_map, unwrap_or, slice_get, slice_set}
-use Rattle.flat_base.specs.declared.ids.PairNo.{PairNo}
 use Rattle.flat_links.specs.declared.pairs.Pair.{Pair}
-use Rattle.flat_links.specs.Pairs.{changed}
-use Rattle.flat_links.specs.Laws.{ChangesOne, OthersStay}
+use Rattle.flat_links.specs.Laws.{OthersStay}
 
 set-length : (pairs : List Pair) (i : ℕ) (x : Pair) → length (slice_set pairs i x) ≡ length pairs
 set-length [] i x = refl

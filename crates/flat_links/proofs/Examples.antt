@@ -1,14 +1,12 @@
 -- Small lists of calls, computed.
-use Rattle.std.proofs.Common.{◌≡◌, ℕ, List, [], ◌∷◌, length, map, Option, Some, None, true, false, refl}
+use Rattle.std.proofs.Common.{◌≡◌, ℕ, [], ◌∷◌, map, Some, None, true, false, refl}
 use Rattle.flat_base.specs.declared.ids.Actor.TheVariants.{Display, Session}
-use Rattle.flat_base.specs.declared.ids.PairNo.{PairNo}
 use Rattle.flat_base.specs.declared.ids.SessionNo.{SessionNo}
 use Rattle.flat_scene.specs.declared.calls.ViewportProps.{ViewportProps}
 use Rattle.flat_scene.specs.declared.setup.PairDecl.{PairDecl}
-use Rattle.flat_links.specs.declared.pairs.Pair.{Pair}
-use Rattle.flat_links.specs.declared.pairs.Token.TheVariants.{Held, Out}
-use Rattle.flat_links.specs.Pairs.{new_pair, has_view_token, has_token, is_viewport_there, is_joined, child_of, at_pair, changed}
-use Rattle.flat_links.specs.Calls.{LinkCall, join_view, join_viewport, release_viewport, token_back, lose_viewport, lose_view, ◌▹◌, after, played, granted, view_uses, viewport_uses}
+use Rattle.flat_links.specs.declared.pairs.Token.TheVariants.{Out}
+use Rattle.flat_links.specs.Pairs.{new_pair, has_view_token, has_token, is_joined, child_of, at_pair, changed}
+use Rattle.flat_links.specs.Calls.{join_view, join_viewport, release_viewport, token_back, lose_viewport, lose_view, ◌▹◌, after, played, granted, viewport_uses}
 
 abbrev a : SessionNo
 a = record { 0 = 1 }

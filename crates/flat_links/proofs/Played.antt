@@ -1,17 +1,13 @@
 -- What any calls on a pair leave of it, by induction on the calls.
-use Rattle.std.proofs.Common.{◌≡◌, ◌≢◌, ℕ, ◌+◌, ◌-◌, ◌^◌, ◌≤◌, ◌<◌, min, not, ◌&&◌, ◌||◌, Bool, true, false, cond, nat_lt, zero, suc, List, [], ◌∷◌, length, filter, Option, Some, None, refl, sym, ◌∙◌, ap, subst, arith}
-use Rattle.std.specs.Prelude.{find, option_map, option_and_then, unwrap_or, slice_get, slice_set}
+use Rattle.std.proofs.Common.{◌≡◌, ℕ, ◌+◌, ◌-◌, ◌^◌, ◌≤◌, min, not, ◌&&◌, ◌||◌, Bool, true, false, cond, nat_lt, suc, List, [], refl, sym, ◌∙◌, ap, arith}
+use Rattle.std.specs.Prelude.{find, option_and_then}
 use Rattle.std.specs.List.{list_any}
-use Rattle.std.proofs.lemmas.Grind.{common_steps}
 use Rattle.std.proofs.lemmas.Bool.Decides.{nat_tests}
-use Rattle.flat_base.specs.declared.ids.PairNo.{PairNo}
 use Rattle.flat_scene.specs.declared.calls.ViewportProps.{ViewportProps}
 use Rattle.flat_scene.specs.declared.setup.PairDecl.{PairDecl}
 use Rattle.flat_links.specs.declared.pairs.Pair.{Pair}
-use Rattle.flat_links.specs.declared.pairs.Token.{Token}
-use Rattle.flat_links.specs.declared.pairs.Token.TheVariants.{Held, Out}
-use Rattle.flat_links.specs.Pairs.{new_pair, has_view_token, has_token, is_display, is_held, changed}
-use Rattle.flat_links.specs.Calls.{LinkCall, join_view, join_viewport, release_viewport, token_back, lose_viewport, lose_view, ◌▹◌, is_granted, done, after, played, granted, is_join_view, is_join_viewport, is_release, is_token_back, is_lose_view, is_lose_viewport, props_given, since_use, view_uses, viewport_uses}
+use Rattle.flat_links.specs.Pairs.{new_pair, has_view_token, has_token, is_display}
+use Rattle.flat_links.specs.Calls.{LinkCall, join_view, join_viewport, release_viewport, token_back, lose_viewport, lose_view, ◌▹◌, is_granted, done, played, granted, is_join_view, is_join_viewport, is_release, is_token_back, is_lose_view, is_lose_viewport, props_given, since_use, view_uses, viewport_uses}
 use Rattle.flat_links.specs.Laws.{ViewIsUsedOnce, EndsStayThere}
 
 -- a pair by its calls, and by those that were granted

@@ -3,7 +3,6 @@ use Rattle.std.specs.Prelude.{ℕ, ◌+◌, ◌-◌, ◌^◌, min, Bool, true, f
 use Rattle.flat_scene.specs.declared.calls.ViewportProps.{ViewportProps}
 use Rattle.flat_scene.specs.declared.setup.PairDecl.{PairDecl}
 use Rattle.flat_links.specs.declared.pairs.Pair.{Pair}
-use Rattle.flat_links.specs.declared.pairs.Token.{Token}
 use Rattle.flat_links.specs.declared.pairs.Token.TheVariants.{Held, Out}
 use Rattle.flat_links.specs.Pairs.{new_pair, has_view_token, has_token}
 

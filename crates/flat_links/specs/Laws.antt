@@ -1,5 +1,5 @@
 -- What holds of every pair after any calls on it, in the words of the rules.
-use Rattle.std.specs.Prelude.{◌≡◌, ◌≢◌, ℕ, ◌-◌, ◌^◌, ◌≤◌, min, not, ◌&&◌, ◌||◌, List, length, find, option_map, option_and_then, slice_get}
+use Rattle.std.specs.Prelude.{◌≡◌, ◌≢◌, ◌-◌, ◌^◌, ◌≤◌, min, not, ◌&&◌, ◌||◌, List, length, find, option_map, option_and_then, slice_get}
 use Rattle.std.specs.List.{list_any}
 use Rattle.flat_base.specs.declared.ids.PairNo.{PairNo}
 use Rattle.flat_scene.specs.declared.setup.PairDecl.{PairDecl}

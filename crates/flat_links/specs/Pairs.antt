@@ -1,5 +1,5 @@
 -- What a pair says of its ends.
-use Rattle.std.specs.Prelude.{ℕ, Bool, true, false, cond, not, ◌&&◌, ◌||◌, nat_lt, List, Option, Some, None, option_map, unwrap_or, slice_get, slice_set}
+use Rattle.std.specs.Prelude.{Bool, true, false, cond, not, ◌&&◌, ◌||◌, nat_lt, List, Option, Some, None, option_map, unwrap_or, slice_get, slice_set}
 use Rattle.flat_base.specs.declared.ids.Actor.{Actor}
 use Rattle.flat_base.specs.declared.ids.Actor.TheVariants.{Display}
 use Rattle.flat_base.specs.declared.ids.PairNo.{PairNo}

@@ -1,13 +1,13 @@
 -- Small lists of calls, computed.
-use Rattle.std.proofs.Common.{◌≡◌, ℕ, true, false, List, [], ◌∷◌, Option, Some, None, refl}
-use Rattle.std.specs.Prelude.{find, is_some}
+use Rattle.std.proofs.Common.{◌≡◌, ℕ, true, false, [], ◌∷◌, Some, None, refl}
+use Rattle.std.specs.Prelude.{find}
 use Rattle.std.specs.List.{position_from}
 use Rattle.flat_scene.specs.declared.calls.Watch.TheVariants as watch
 use Rattle.flat_scene.specs.declared.journal.Told.{Told}
 use Rattle.flat_scene.specs.declared.journal.Told.TheVariants.{Layout, Connected, Disconnected, HasPresented, Gone}
 use Rattle.flat_watch.specs.declared.cell.GetAnswer.TheVariants.{Now, Held, BadHangingGet}
-use Rattle.flat_watch.specs.Told.{Watching, same_told, news, or_else, asking, answer, settled}
-use Rattle.flat_watch.specs.Cells.{Kept, new_cell, got, waiting_news, get, set, unset, after, said, told_by, run, says, values, is_get}
+use Rattle.flat_watch.specs.Told.{same_told, news, asking, settled}
+use Rattle.flat_watch.specs.Cells.{new_cell, got, get, set, unset, run, says, values}
 use Rattle.flat_watch.specs.Laws.{is_news}
 
 abbrev sized : ℕ → Told

@@ -1,10 +1,10 @@
 -- When a get is answered, and what a cell is to a watcher.
-use Rattle.std.specs.Prelude.{◌≡◌, ◌↔◌, Bool, true, false, List, [], ◌∷◌, find, Option, Some, None, is_some}
+use Rattle.std.specs.Prelude.{◌≡◌, ◌↔◌, Bool, true, false, List, ◌∷◌, find, Option, Some, None, is_some}
 use Rattle.std.specs.List.{list_any, position_from}
 use Rattle.flat_scene.specs.declared.calls.Watch.{Watch}
 use Rattle.flat_scene.specs.declared.journal.Told.{Told}
 use Rattle.flat_watch.specs.Cells.{Kept, CellCall, new_cell, get, after_get, after_set, after_unset, after, said, run, says, values, is_get}
-use Rattle.flat_watch.specs.Told.{Watching, same_told, news, or_else, asking, settled}
+use Rattle.flat_watch.specs.Told.{Watching, same_told, news, asking, settled}
 
 -- the test for the same value is equality
 abbrev pub SameIsEqual : Type 0
