@@ -1,0 +1,71 @@
+-- Small lists of calls, computed.
+use Rattle.std.proofs.Common.{◌≡◌, ℕ, true, false, [], ◌∷◌, Some, None, refl}
+use Rattle.std.specs.Prelude.{find}
+use Rattle.std.specs.List.{position_from}
+use Rattle.flat_scene.specs.declared.calls.Watch.TheVariants as watch
+use Rattle.flat_scene.specs.declared.journal.Told.{Told}
+use Rattle.flat_scene.specs.declared.journal.Told.TheVariants.{Layout, Connected, Disconnected, HasPresented, Gone}
+use Rattle.flat_watch.specs.declared.cell.GetAnswer.TheVariants.{Now, Held, BadHangingGet}
+use Rattle.flat_watch.specs.Told.{same_told, news, asking, settled}
+use Rattle.flat_watch.specs.Cells.{new_cell, got, get, set, unset, run, says, values}
+use Rattle.flat_watch.specs.Laws.{is_news}
+
+abbrev sized : ℕ → Told
+sized w = Layout (record { w = w; h = 1; inset = record { top = 0; right = 0; bottom = 0; left = 0 }; ratio = 65536 })
+
+layouts_differ : same_told (sized 5) (sized 6) ≡ false
+layouts_differ = refl
+
+layouts_are_the_same : same_told (sized 5) (sized 5) ≡ true
+layouts_are_the_same = refl
+
+sorts_differ : same_told HasPresented Gone ≡ false
+sorts_differ = refl
+
+same_is_no_news : news (Some Gone) (Some Gone) ≡ None
+same_is_no_news = refl
+
+first_is_news : news (Some Gone) None ≡ Some Gone
+first_is_news = refl
+
+-- answered at once, and then held until the value changes; the same value answers nothing
+held_until_it_changes : says new_cell (set (sized 5) ∷ get ∷ get ∷ set (sized 5) ∷ set (sized 6) ∷ set (sized 7) ∷ []) ≡ None ∷ Some (sized 5) ∷ None ∷ None ∷ Some (sized 6) ∷ None ∷ []
+held_until_it_changes = refl
+
+-- what changes and changes back is not told
+changes_back : says new_cell (get ∷ set Connected ∷ set Disconnected ∷ set Connected ∷ get ∷ []) ≡ None ∷ Some Connected ∷ None ∷ None ∷ None ∷ []
+changes_back = refl
+
+-- a second get while one is held
+second_get : got (run new_cell (get ∷ [])).held None ≡ BadHangingGet
+second_get = refl
+
+second_changes_nothing : run new_cell (get ∷ get ∷ []) ≡ run new_cell (get ∷ [])
+second_changes_nothing = refl
+
+first_get : got false (news None None) ≡ Held
+first_get = refl
+
+get_at_once : got false (news (Some Gone) (Some HasPresented)) ≡ Now Gone
+get_at_once = refl
+
+-- a value that is there no more answers nothing
+gone_before_asked : says new_cell (set HasPresented ∷ unset ∷ get ∷ set Gone ∷ []) ≡ None ∷ None ∷ None ∷ Some Gone ∷ []
+gone_before_asked = refl
+
+-- the first news from the get on, and its moment
+first_news_from_a_get : find (is_news (Some Connected)) (values (Some Connected) (get ∷ set Connected ∷ set Gone ∷ set Connected ∷ [])) ≡ Some (Some Gone)
+first_news_from_a_get = refl
+
+its_moment : position_from (is_news (Some Connected)) 0 (values (Some Connected) (get ∷ set Connected ∷ set Gone ∷ set Connected ∷ [])) ≡ Some 2
+its_moment = refl
+
+-- a watcher answers its held get where its session listens
+watcher_waits : settled true None (asking (Some watch.Status) (record { last = None; waits = None })) ≡ record { last = None; waits = Some watch.Status }
+watcher_waits = refl
+
+watcher_answers : settled true (Some Connected) (record { last = None; waits = Some watch.Status }) ≡ record { last = Some Connected; waits = None }
+watcher_answers = refl
+
+watcher_is_deaf : settled false (Some Connected) (record { last = None; waits = Some watch.Status }) ≡ record { last = None; waits = Some watch.Status }
+watcher_is_deaf = refl

@@ -1,0 +1,11 @@
+//! A hanging get: it is answered once there is a value that differs from the one
+//! answered last.
+#![tactic(auto)]
+
+mod cell;
+mod laws;
+#[cfg(test)]
+mod tests;
+
+pub use cell::{Cell, GetAnswer};
+pub use laws::cell_laws;
