@@ -140,8 +140,8 @@ done_by s n a false time kept is = absurd (let o = open_is s false time kept in 
 display_frames : (s : Script) (n : ℕ) (a : Actor) (l : DisplayLine) (opened : Bool) (time : ℕ) → FramesKept s opened time → display_line known_words s (display_words s l) ≡ Ok l → FramesGoOn (with_line s n a (body.Display l))
 display_frames s n a (display.Begin t) opened time kept is = begun_by s n t a opened time kept (begin_ok s (decimal t ∷ []) t (nat_lt (length (begin_times s)) 512) is)
 display_frames s n a display.Done opened time kept is = done_by s n a opened time kept (unless_ok 12 (is_open s) (whole (give display.Done) []) display.Done is).passed
-display_frames s n a (display.Signal f) opened time kept is = absurd (cc)
-display_frames s n a (display.Wait c) opened time kept is = absurd (cc)
+display_frames s n a (display.Signal f) opened time kept is = record { opened = opened; time = time; kept = passed s n a (body.Display (display.Signal f)) opened time refl refl (λ o t k c later. refl) kept }
+display_frames s n a (display.Wait c) opened time kept is = record { opened = opened; time = time; kept = passed s n a (body.Display (display.Wait c)) opened time refl refl (λ o t k c later. refl) kept }
 display_frames s n a (display.Hit x y) opened time kept is = absurd (cc)
 
 frames_at : (s : Script) (n : ℕ) (a : Actor) (b c : Body) → b ≡ c → FramesGoOn (with_line s n a b) → FramesGoOn (with_line s n a c)
@@ -207,5 +207,5 @@ body_line_kept h us n words u a many kept =
       rise = λ later. ap (rise_from 0) (append_assoc us (x ∷ []) later) ∙ kept.rise (x ∷ later) ∙ ap (λ b. b && rise_from n later) (above_last kept.last n kept.below);
       counted = λ c few. one_more (λ next. nat_le next.number c) us x (kept.counted c (omega arith)) (below_count n c few);
       frames = line_frames (with_lines h us) n a.actor a.rest a.body kept.frames.opened kept.frames.time kept.frames.kept a.line;
-      played = one_more (λ next. is_played h.setup next.actor next.body) us x kept.played (line_played (with_lines h us) a.actor a.rest a.body (actor_declared h a.first a.actor many a.named) a.line);
+      played = one_more (λ next. is_played h.setup next.actor next.body) us x kept.played (line_played (with_lines h us) a.actor a.rest a.body many (actor_declared h a.first a.actor many a.named) a.line);
     }

@@ -1,6 +1,8 @@
 -- A line of the body that is read is one that is played.
-use Rattle.std.proofs.Common.{◌≡◌, ℕ, ◌+◌, ◌<◌, ◌≤◌, ◌==◌, ◌&&◌, Bool, true, false, cond, List, [], ◌∷◌, Option, Some, None, unwrap_or, option_map, Ok, Err, refl, sym, ◌∙◌, ap, codes, arith, slice_get}
+use Rattle.std.proofs.Common.{◌≡◌, ℕ, ◌+◌, ◌<◌, ◌≤◌, ◌==◌, ◌&&◌, Bool, true, false, ◌||◌, nat_lt, if◌then◌else◌, cond, subst, List, [], ◌∷◌, Option, Some, None, unwrap_or, option_map, Ok, Err, refl, sym, ◌∙◌, ap, codes, arith, slice_get}
 use Rattle.std.specs.Option.{option_map_or, option_or}
+use Rattle.std.specs.List.{list_any, list_all, before_first, after_first}
+use Rattle.std.proofs.lemmas.Option.{slice_get_past}
 use Rattle.std.specs.Prelude.{length}
 use Rattle.std.specs.Str.{bytes_eq}
 use Rattle.std.specs.Fmt.{decimal}
@@ -11,6 +13,8 @@ use Rattle.flat_base.specs.declared.ids.Actor.TheVariants.{Display, Session, Pro
 use Rattle.flat_base.specs.declared.ids.SessionNo.{SessionNo}
 use Rattle.flat_base.specs.declared.ids.PairNo.{PairNo}
 use Rattle.flat_base.specs.declared.ids.FenceNo.{FenceNo}
+use Rattle.flat_base.specs.declared.ids.BufferNo.{BufferNo}
+use Rattle.flat_base.specs.declared.ids.ContentId.{ContentId}
 use Rattle.flat_scene.specs.declared.calls.Call.{Call}
 use Rattle.flat_scene.specs.declared.calls.Call.TheVariants as call
 use Rattle.flat_scene.specs.declared.calls.Watch.TheVariants as watch
@@ -23,18 +27,28 @@ use Rattle.flat_scene.specs.declared.script.Body.{Body}
 use Rattle.flat_scene.specs.declared.script.Body.TheVariants as body
 use Rattle.flat_scene.specs.declared.setup.PairDecl.{PairDecl}
 use Rattle.flat_scene.specs.declared.setup.Setup.{Setup}
+use Rattle.flat_scene.specs.declared.setup.BufferDecl.{BufferDecl}
+use Rattle.flat_scene.specs.declared.setup.FenceDecl.{FenceDecl}
+use Rattle.flat_scene.specs.declared.script.Cond.{Cond}
+use Rattle.flat_scene.specs.declared.script.Cond.TheVariants as asks
+use Rattle.flat_scene.specs.History.{is_session}
 use Rattle.flat_scene.specs.Setups.{is_within, is_declared, may_own}
-use Rattle.flat_core.specs.Legal.{owns_view}
+use Rattle.flat_core.specs.Legal.{owns_view, owns_fence, owns_buffers, is_fence}
 use Rattle.flat_script.specs.declared.script.Script.{Script}
 use Rattle.flat_script.specs.Known.{known_words}
-use Rattle.flat_script.specs.Forms.{Word, Form, Reading, mapped, unless_kind, whole, ◌<$>◌}
+use Rattle.flat_script.specs.Forms.{Word, Form, Reading, both, mapped, unless_kind, each, one_or_more, whole, ◌<$>◌, ◌<*>◌}
 use Rattle.flat_script.specs.Names.{place_of, session_named, owner_named, actor_named, is_actor}
-use Rattle.flat_script.specs.Places.{time, fence_word, owned, view_end}
-use Rattle.flat_script.specs.Body.{fence_lists, present, session_line, display_line, actor_line}
-use Rattle.flat_script.specs.Print.{pair_word, call_words, lists_words, session_words, display_words}
-use Rattle.flat_script.proofs.FormLemmas.{apply_ok, map_ok, place_ok, whole_ok, unless_ok, mapped_ok}
+use Rattle.flat_script.specs.Places.{time, u32, content, session, fence, fence_word, owned, view_end, collection}
+use Rattle.flat_script.specs.Calls.{call_form}
+use Rattle.flat_script.specs.declared.calls.CallName.TheVariants.{CreateImage}
+use Rattle.flat_script.specs.Lists.{ends_list}
+use Rattle.flat_script.specs.Body.{fence_lists, present, presents_asked, session_line, display_line, actor_line}
+use Rattle.flat_script.specs.Print.{pair_word, buffers_word, session_word, numbers, call_words, lists_words, session_words, display_words}
+use Rattle.flat_script.specs.Print.{fence_word as fence_name}
+use Rattle.flat_script.proofs.FormLemmas.{apply_ok, map_ok, place_ok, whole_ok, unless_ok, or_kind_ok, mapped_ok, both_ok}
+use Rattle.flat_script.proofs.ListLemmas.{pair_of, by_acquire, by_release, by_neither}
 use Rattle.flat_script.proofs.BodyWordLemmas.{body_spelt}
-use Rattle.flat_playable.specs.Playable.{is_played_call, is_played_line, is_played_display, is_played}
+use Rattle.flat_playable.specs.Playable.{is_played_call, is_played_condition, is_played_line, is_played_display, is_played}
 
 -- numbers of a range
 
@@ -119,17 +133,139 @@ view_played s a p is =
     let e : g.a ≡ p = cc in
     ap (owns_view s.setup a) (sym (n.value ∙ e)) ∙ view_owner_is a (slice_get s.setup.pairs n.a) owns
 
+buffers_owner_is : (a : SessionNo) (o : Option BufferDecl) → option_map_or (λ d. is_actor (Session a) (Session d.owner)) o false ≡ true → unwrap_or (option_map (λ d. d.owner.0 == a.0) o) false ≡ true
+buffers_owner_is a None is = absurd (cc)
+buffers_owner_is a (Some d) is = same_number a.0 d.owner.0 is
+
+-- a test that gave a number gave one that is owned
+collection_owned : (s : Script) (a : SessionNo) (w : Word) (b : BufferNo) → mapped (λ i. record { 0 = i }) (owned s.buffers s.setup.buffers (λ d. is_actor (Session a) (Session d.owner)) w) ≡ Ok b → owns_buffers s.setup a b ≡ true
+collection_owned s a w b is =
+    let n = mapped_ok (λ i. record { 0 = i }) (owned s.buffers s.setup.buffers (λ d. is_actor (Session a) (Session d.owner)) w) b is in
+    let owns = owned_owns s.buffers s.setup.buffers (λ d. is_actor (Session a) (Session d.owner)) w n.a n.given in
+    ap (owns_buffers s.setup a) (sym n.value) ∙ buffers_owner_is a (slice_get s.setup.buffers n.a) owns
+
+image_played : (s : Script) (a : SessionNo) (c : ContentId) (b : BufferNo) (i w h : ℕ) (words : List Word)
+    → mapped line.Call (whole (call_form s a CreateImage) words) ≡ Ok (line.Call (call.CreateImage c b i w h)) → owns_buffers s.setup a b ≡ true
+image_played s a c b i w h words is =
+    let g : ContentId → BufferNo → ℕ → ℕ → ℕ → Call = λ d x k m n. call.CreateImage d x k m n in
+    let m = mapped_ok line.Call (whole (call_form s a CreateImage) words) (line.Call (call.CreateImage c b i w h)) is in
+    let p5 = apply_ok (g <$> content <*> collection s a <*> u32 <*> u32) u32 words m.a [] (whole_ok (call_form s a CreateImage) words m.a m.given) in
+    let p4 = apply_ok (g <$> content <*> collection s a <*> u32) u32 words p5.g p5.mid p5.first in
+    let p3 = apply_ok (g <$> content <*> collection s a) u32 words p4.g p4.mid p4.first in
+    let p2 = apply_ok (g <$> content) (collection s a) words p3.g p3.mid p3.first in
+    let p1 = map_ok g content words p2.g p2.mid p2.first in
+    let q = place_ok _ _ p2.a p3.mid p2.second in
+    let made : g p1.a p2.a p3.a p4.a p5.a ≡ m.a = ap (λ f. f p2.a p3.a p4.a p5.a) p1.value ∙ ap (λ f. f p3.a p4.a p5.a) p2.value ∙ ap (λ f. f p4.a p5.a) p3.value ∙ ap (λ f. f p5.a) p4.value ∙ p5.value in
+    let l : line.Call m.a ≡ line.Call (call.CreateImage c b i w h) = m.value in
+    let e : p2.a ≡ b = cc in
+    ap (owns_buffers s.setup a) (sym e) ∙ collection_owned s a q.word p2.a q.passes
+
 call_played : (s : Script) (a : SessionNo) (c : Call) → session_line known_words s a (call_words s c) ≡ Ok (line.Call c) → is_played_call s.setup a c ≡ true
 call_played s a (call.CreateView p) is = view_played s a p is
 call_played s a (call.CreateViewport c p w h i) is = absurd (cc)
-call_played s a (call.CreateImage c b i w h) is = absurd (cc)
+call_played s a (call.CreateImage c b i w h) is = image_played s a c b i w h (decimal c.0 ∷ buffers_word s b ∷ numbers (i ∷ w ∷ h ∷ [])) is
 call_played s a _ is = refl
 
--- the other lines of a session
+-- fences
 
-no_lists : (test : Word → Reading FenceNo) (words : List Word) (v : List FenceNo × List FenceNo) → fence_lists known_words test words ≡ Ok v → v ≡ ([], [])
-no_lists test [] v is = cc
-no_lists test (w ∷ words) v is = absurd (cc)
+owner_is : (a : SessionNo) (who : Actor) → is_actor (Session a) who ≡ true → is_session a who ≡ true
+owner_is a Display is = absurd (cc)
+owner_is a (Session b) is = same_number a.0 b.0 is
+owner_is a (Probe p) is = absurd (cc)
+
+or_true : (x : Bool) → (x || true) ≡ true
+or_true true = refl
+or_true false = refl
+
+first_owner : (x y p q b : Bool) → x ≡ b → (x ≡ true → p ≡ true) → (y ≡ true → q ≡ true) → (x || y) ≡ true → (p || q) ≡ true
+first_owner x y p q true at first rest is = ap (λ v. v || q) (first at)
+first_owner x y p q false at first rest is = ap (λ v. p || v) (rest (ap (λ v. v || y) (sym at) ∙ is)) ∙ or_true p
+
+any_owner : (a : SessionNo) (owners : List Actor) → list_any (is_actor (Session a)) owners ≡ true → list_any (is_session a) owners ≡ true
+any_owner a [] is = absurd (cc)
+any_owner a (who ∷ owners) is =
+    first_owner (is_actor (Session a) who) (list_any (is_actor (Session a)) owners) (is_session a who) (list_any (is_session a) owners) (is_actor (Session a) who) refl (owner_is a who) (any_owner a owners) is
+
+fence_owner_is : (a : SessionNo) (o : Option FenceDecl) → option_map_or (λ d. list_any (is_actor (Session a)) d.owners) o false ≡ true → unwrap_or (option_map (λ d. list_any (is_session a) d.owners) o) false ≡ true
+fence_owner_is a None is = absurd (cc)
+fence_owner_is a (Some d) is = any_owner a d.owners is
+
+tested_owned : (s : Script) (a : SessionNo) (w : Word) (f : FenceNo) → fence_word s (Session a) w ≡ Ok f → owns_fence s.setup a f ≡ true
+tested_owned s a w f is =
+    let n = mapped_ok (λ i. record { 0 = i }) (owned s.fences s.setup.fences (λ d. list_any (is_actor (Session a)) d.owners) w) f is in
+    let owns = owned_owns s.fences s.setup.fences (λ d. list_any (is_actor (Session a)) d.owners) w n.a n.given in
+    ap (owns_fence s.setup a) (sym n.value) ∙ fence_owner_is a (slice_get s.setup.fences n.a) owns
+
+within_by : {D : Type 0} (decls : List D) (owns : D → Bool) (i : ℕ) (b : Bool) → nat_lt i (length decls) ≡ b → option_map_or owns (slice_get decls i) false ≡ true → nat_lt i (length decls) ≡ true
+within_by decls owns i true at is = at
+within_by decls owns i false at is =
+    let past : length decls ≤ i = grind (arith, nat_tests) in
+    absurd (let wrong : false ≡ true = sym (ap (λ o. option_map_or owns o false) (slice_get_past decls i past)) ∙ is in cc)
+
+tested_declared : (s : Script) (who : Actor) (w : Word) (f : FenceNo) → fence_word s who w ≡ Ok f → is_fence s.setup f ≡ true
+tested_declared s who w f is =
+    let n = mapped_ok (λ i. record { 0 = i }) (owned s.fences s.setup.fences (λ d. list_any (is_actor who) d.owners) w) f is in
+    let owns = owned_owns s.fences s.setup.fences (λ d. list_any (is_actor who) d.owners) w n.a n.given in
+    ap (is_fence s.setup) (sym n.value) ∙ within_by s.setup.fences (λ d. list_any (is_actor who) d.owners) n.a (nat_lt n.a (length s.setup.fences)) refl owns
+
+each_owned : (s : Script) (a : SessionNo) (words : List Word) (fs : List FenceNo) → each (fence_word s (Session a)) words ≡ Ok fs → list_all (owns_fence s.setup a) fs ≡ true
+each_owned s a [] fs is = let none : [] ≡ fs = cc in ap (list_all (owns_fence s.setup a)) (sym none)
+each_owned s a (w ∷ words) fs is =
+    let parts = both_ok (λ f rest. f ∷ rest) (fence_word s (Session a) w) (each (fence_word s (Session a)) words) fs is in
+    ap (list_all (owns_fence s.setup a)) (sym parts.value) ∙ ap (λ b. b && list_all (owns_fence s.setup a) parts.b) (tested_owned s a w parts.a parts.first) ∙ each_owned s a words parts.b parts.second
+
+some_owned : (s : Script) (a : SessionNo) (words : List Word) (fs : List FenceNo) → one_or_more (fence_word s (Session a)) words ≡ Ok fs → list_all (owns_fence s.setup a) fs ≡ true
+some_owned s a [] fs is = absurd (cc)
+some_owned s a (w ∷ words) fs is = each_owned s a (w ∷ words) fs is
+
+behind_owned : (s : Script) (a : SessionNo) (words : List Word) (fs : List FenceNo) (b : Bool) → (if b then one_or_more (fence_word s (Session a)) (after_first (ends_list true) words) else Ok []) ≡ Ok fs → list_all (owns_fence s.setup a) fs ≡ true
+behind_owned s a words fs true is = some_owned s a (after_first (ends_list true) words) fs is
+behind_owned s a words fs false is = let none : [] ≡ fs = cc in ap (list_all (owns_fence s.setup a)) (sym none)
+
+-- both lists are the session's
+abbrev AreOwned : Script → SessionNo → List FenceNo × List FenceNo → Type 0
+AreOwned s a lists = (list_all (owns_fence s.setup a) lists.0 && list_all (owns_fence s.setup a) lists.1) ≡ true
+
+both_owned : (s : Script) (a : SessionNo) (x y : Reading (List FenceNo)) (lists : List FenceNo × List FenceNo) → both pair_of x y ≡ Ok lists
+    → ((fs : List FenceNo) → x ≡ Ok fs → list_all (owns_fence s.setup a) fs ≡ true) → ((fs : List FenceNo) → y ≡ Ok fs → list_all (owns_fence s.setup a) fs ≡ true) → AreOwned s a lists
+both_owned s a x y lists is first second =
+    let parts = both_ok pair_of x y lists is in
+    let P : List FenceNo × List FenceNo → Type 0 = AreOwned s a in
+    subst P parts.value (ap (λ b. b && list_all (owns_fence s.setup a) parts.b) (first parts.a parts.first) ∙ second parts.b parts.second)
+
+abbrev no_fences : Reading (List FenceNo)
+no_fences = Ok []
+
+none_owned : (s : Script) (a : SessionNo) (fs : List FenceNo) → no_fences ≡ Ok fs → list_all (owns_fence s.setup a) fs ≡ true
+none_owned s a fs is = let none : [] ≡ fs = cc in ap (list_all (owns_fence s.setup a)) (sym none)
+
+by_keyword : (s : Script) (a : SessionNo) (w : Word) (words : List Word) (lists : List FenceNo × List FenceNo) (b c : Bool) → bytes_eq w (codes "acquire") ≡ b → bytes_eq w (codes "release") ≡ c
+    → fence_lists known_words (fence_word s (Session a)) (w ∷ words) ≡ Ok lists → AreOwned s a lists
+by_keyword s a w words lists true c at other is =
+    both_owned s a _ _ lists (sym (by_acquire (fence_word s (Session a)) w words at) ∙ is) (λ fs given. some_owned s a (before_first (ends_list true) words) fs given) (λ fs given. behind_owned s a words fs (list_any (ends_list true) words) given)
+by_keyword s a w words lists false true at other is =
+    both_owned s a _ _ lists (sym (by_release (fence_word s (Session a)) w words at other) ∙ is) (λ fs given. none_owned s a fs given) (λ fs given. some_owned s a words fs given)
+by_keyword s a w words lists false false at other is = absurd (no_lists (fence_lists known_words (fence_word s (Session a)) (w ∷ words)) (by_neither (fence_word s (Session a)) w words at other) is)
+  where
+    no_lists : (r : Reading (List FenceNo × List FenceNo)) → r ≡ Err 8 → r ≡ Ok lists → ⊥
+    no_lists (Ok v) wrong given = absurd (cc)
+    no_lists (Err k) wrong given = absurd (cc)
+
+lists_owned : (s : Script) (a : SessionNo) (words : List Word) (lists : List FenceNo × List FenceNo) → fence_lists known_words (fence_word s (Session a)) words ≡ Ok lists → AreOwned s a lists
+lists_owned s a [] lists is =
+    let none : ([], []) ≡ lists = cc in
+    let P : List FenceNo × List FenceNo → Type 0 = AreOwned s a in
+    subst P none refl
+lists_owned s a (w ∷ words) lists is = by_keyword s a w words lists (bytes_eq w (codes "acquire")) (bytes_eq w (codes "release")) refl refl is
+
+-- a form of a fence
+fence_given : (s : Script) (who : Actor) {B : Type 0} (h : FenceNo → B) (words : List Word) (v : B) → whole (h <$> fence s who) words ≡ Ok v → (f : FenceNo) × ((w : Word) × ((fence_word s who w ≡ Ok f) × (h f ≡ v)))
+fence_given s who h words v is =
+    let m = map_ok h (fence s who) words v [] (whole_ok (h <$> fence s who) words v is) in
+    let q = place_ok _ words m.a [] m.given in
+    (m.a, (q.word, (q.passes, m.value)))
+
+-- the other lines of a session
 
 present_by : (s : Script) (a : SessionNo) (p : PresentArgs) (words : List Word) → whole (line.Present <$> present known_words s a) words ≡ Ok (line.Present p) → is_played_line s.setup a (line.Present p) ≡ true
 present_by s a p words is =
@@ -138,9 +274,33 @@ present_by s a p words is =
     let whole_line = map_ok line.Present (present known_words s a) words (line.Present p) [] (whole_ok (line.Present <$> present known_words s a) words (line.Present p) is) in
     let second = apply_ok (h <$> time) lists words whole_line.a [] whole_line.given in
     let first = map_ok h time words second.g second.mid second.first in
-    let none = no_lists (fence_word s (Session a)) second.mid second.a second.second.value in
-    let args : h first.a ([], []) ≡ whole_line.a = ap (h first.a) (sym none) ∙ ap (λ g. g second.a) first.value ∙ second.value in
-    ap (is_played_line s.setup a) (sym (ap line.Present args ∙ whole_line.value))
+    let owned = lists_owned s a second.mid second.a second.second.value in
+    let args : h first.a second.a ≡ whole_line.a = ap (λ g. g second.a) first.value ∙ second.value in
+    ap (is_played_line s.setup a) (sym (ap line.Present args ∙ whole_line.value)) ∙ owned
+
+signal_played : (s : Script) (a : SessionNo) (f : FenceNo) (words : List Word) → whole (line.Signal <$> fence s (Session a)) words ≡ Ok (line.Signal f) → owns_fence s.setup a f ≡ true
+signal_played s a f words is =
+    let g = fence_given s (Session a) line.Signal words (line.Signal f) is in
+    let l : line.Signal g.0 ≡ line.Signal f = g.1.1.1 in
+    let e : g.0 ≡ f = cc in
+    ap (owns_fence s.setup a) (sym e) ∙ tested_owned s a g.1.0 g.0 g.1.1.0
+
+wait_fence_played : (s : Script) (a : SessionNo) (f : FenceNo) (words : List Word) → mapped line.Wait (whole (asks.Fence <$> fence s (Session a)) words) ≡ Ok (line.Wait (asks.Fence f)) → owns_fence s.setup a f ≡ true
+wait_fence_played s a f words is =
+    let m = mapped_ok line.Wait (whole (asks.Fence <$> fence s (Session a)) words) (line.Wait (asks.Fence f)) is in
+    let g = fence_given s (Session a) asks.Fence words m.a m.given in
+    let c : asks.Fence g.0 ≡ m.a = g.1.1.1 in
+    let l : line.Wait m.a ≡ line.Wait (asks.Fence f) = m.value in
+    let e : g.0 ≡ f = cc in
+    ap (owns_fence s.setup a) (sym e) ∙ tested_owned s a g.1.0 g.0 g.1.1.0
+
+wait_played : (s : Script) (a : SessionNo) (c : Cond) → session_line known_words s a (session_words s (line.Wait c)) ≡ Ok (line.Wait c) → is_played_condition s.setup a c ≡ true
+wait_played s a (asks.Frames n) is = refl
+wait_played s a (asks.Credits n) is = refl
+wait_played s a (asks.Taken n) is = refl
+wait_played s a (asks.Answers n) is = absurd (cc)
+wait_played s a (asks.Fence f) is = wait_fence_played s a f (fence_name s f ∷ []) is
+wait_played s a (asks.Presents t n) is = absurd (cc)
 
 session_played : (s : Script) (a : SessionNo) (l : Line) → session_line known_words s a (session_words s l) ≡ Ok l → is_played_line s.setup a l ≡ true
 session_played s a (line.Call c) is = call_played s a c is
@@ -148,29 +308,62 @@ session_played s a (line.Present p) is = present_by s a p (decimal p.time ∷ li
 session_played s a (line.Get watch.Layout) is = absurd (cc)
 session_played s a (line.Get watch.Status) is = absurd (cc)
 session_played s a (line.Get (watch.Child c)) is = absurd (cc)
-session_played s a (line.Signal f) is = absurd (cc)
-session_played s a line.Poll is = absurd (cc)
-session_played s a (line.Wait c) is = absurd (cc)
-session_played s a line.Disconnect is = absurd (cc)
+session_played s a (line.Signal f) is = signal_played s a f (fence_name s f ∷ []) is
+session_played s a line.Poll is = refl
+session_played s a (line.Wait c) is = wait_played s a c is
+session_played s a line.Disconnect is = refl
 
 -- the display
 
-display_played : (s : Script) (l : DisplayLine) → display_line known_words s (display_words s l) ≡ Ok l → is_played_display l ≡ true
-display_played s (display.Begin t) is = refl
-display_played s display.Done is = refl
-display_played s (display.Signal f) is = absurd (cc)
-display_played s (display.Wait c) is = absurd (cc)
-display_played s (display.Hit x y) is = absurd (cc)
+display_signal_played : (s : Script) (f : FenceNo) (words : List Word) → whole (display.Signal <$> fence s Display) words ≡ Ok (display.Signal f) → is_fence s.setup f ≡ true
+display_signal_played s f words is =
+    let g = fence_given s Display display.Signal words (display.Signal f) is in
+    let l : display.Signal g.0 ≡ display.Signal f = g.1.1.1 in
+    let e : g.0 ≡ f = cc in
+    ap (is_fence s.setup) (sym e) ∙ tested_declared s Display g.1.0 g.0 g.1.1.0
+
+display_wait_fence_played : (s : Script) (f : FenceNo) (words : List Word) → mapped display.Wait (whole (asks.Fence <$> fence s Display) words) ≡ Ok (display.Wait (asks.Fence f)) → is_fence s.setup f ≡ true
+display_wait_fence_played s f words is =
+    let m = mapped_ok display.Wait (whole (asks.Fence <$> fence s Display) words) (display.Wait (asks.Fence f)) is in
+    let g = fence_given s Display asks.Fence words m.a m.given in
+    let c : asks.Fence g.0 ≡ m.a = g.1.1.1 in
+    let l : display.Wait m.a ≡ display.Wait (asks.Fence f) = m.value in
+    let e : g.0 ≡ f = cc in
+    ap (is_fence s.setup) (sym e) ∙ tested_declared s Display g.1.0 g.0 g.1.1.0
+
+presents_declared : (s : Script) (t : SessionNo) (n : ℕ) (words : List Word) → s.setup.sessions ≡ length s.sessions → mapped display.Wait (whole (presents_asked s) words) ≡ Ok (display.Wait (asks.Presents t n)) → is_declared s.setup t ≡ true
+presents_declared s t n words many is =
+    let h : SessionNo → ℕ → Cond = λ x k. asks.Presents x k in
+    let m = mapped_ok display.Wait (whole (presents_asked s) words) (display.Wait (asks.Presents t n)) is in
+    let second = apply_ok (h <$> session s) u32 words m.a [] (whole_ok (presents_asked s) words m.a m.given) in
+    let first = map_ok h (session s) words second.g second.mid second.first in
+    let q = place_ok _ words first.a second.mid first.given in
+    let c : h first.a second.a ≡ m.a = ap (λ g. g second.a) first.value ∙ second.value in
+    let l : display.Wait m.a ≡ display.Wait (asks.Presents t n) = m.value in
+    let e : first.a ≡ t = cc in
+    ap (is_declared s.setup) (sym e) ∙ session_declared s q.word first.a many (or_kind_ok 9 _ first.a q.passes)
+
+display_played : (s : Script) (l : DisplayLine) → s.setup.sessions ≡ length s.sessions → display_line known_words s (display_words s l) ≡ Ok l → is_played_display s.setup l ≡ true
+display_played s (display.Begin t) many is = refl
+display_played s display.Done many is = refl
+display_played s (display.Signal f) many is = display_signal_played s f (fence_name s f ∷ []) is
+display_played s (display.Wait (asks.Frames n)) many is = absurd (cc)
+display_played s (display.Wait (asks.Credits n)) many is = absurd (cc)
+display_played s (display.Wait (asks.Taken n)) many is = absurd (cc)
+display_played s (display.Wait (asks.Answers n)) many is = absurd (cc)
+display_played s (display.Wait (asks.Fence f)) many is = display_wait_fence_played s f (fence_name s f ∷ []) is
+display_played s (display.Wait (asks.Presents t n)) many is = presents_declared s t n (session_word s t ∷ decimal n ∷ []) many is
+display_played s (display.Hit x y) many is = absurd (cc)
 
 -- a line behind its actor
-pub line_played : (s : Script) (a : Actor) (words : List Word) (b : Body) → may_act s.setup a ≡ true → actor_line known_words s a words ≡ Ok b → is_played s.setup a b ≡ true
-line_played s Display words b may is =
+pub line_played : (s : Script) (a : Actor) (words : List Word) (b : Body) → s.setup.sessions ≡ length s.sessions → may_act s.setup a ≡ true → actor_line known_words s a words ≡ Ok b → is_played s.setup a b ≡ true
+line_played s Display words b many may is =
     let m = mapped_ok body.Display (display_line known_words s words) b is in
     let spelt : display_words s m.a ≡ words = body_spelt s Display words (body.Display m.a) (ap (mapped body.Display) m.given) in
-    ap (is_played s.setup Display) (sym m.value) ∙ display_played s m.a (ap (display_line known_words s) spelt ∙ m.given)
-line_played s (Session a) words b may is =
+    ap (is_played s.setup Display) (sym m.value) ∙ display_played s m.a many (ap (display_line known_words s) spelt ∙ m.given)
+line_played s (Session a) words b many may is =
     let m = mapped_ok body.Session (session_line known_words s a words) b is in
     let spelt : session_words s m.a ≡ words = body_spelt s (Session a) words (body.Session m.a) (ap (mapped body.Session) m.given) in
     ap (is_played s.setup (Session a)) (sym m.value) ∙ ap (λ d. d && is_played_line s.setup a m.a) may ∙ session_played s a m.a (ap (session_line known_words s a) spelt ∙ m.given)
-line_played s (Probe p) [] b may is = absurd (cc)
-line_played s (Probe p) (w ∷ words) b may is = absurd (cc)
+line_played s (Probe p) [] b many may is = absurd (cc)
+line_played s (Probe p) (w ∷ words) b many may is = absurd (cc)

@@ -9,6 +9,8 @@ use Rattle.flat_scene.specs.declared.calls.Call.{Call}
 use Rattle.flat_scene.specs.declared.calls.Call.TheVariants.{CreateView, CreateViewport, CreateImage}
 use Rattle.flat_scene.specs.declared.script.Body.{Body}
 use Rattle.flat_scene.specs.declared.script.Body.TheVariants as body
+use Rattle.flat_scene.specs.declared.script.Cond.{Cond}
+use Rattle.flat_scene.specs.declared.script.Cond.TheVariants as asks
 use Rattle.flat_scene.specs.declared.script.DisplayLine.{DisplayLine}
 use Rattle.flat_scene.specs.declared.script.DisplayLine.TheVariants as display
 use Rattle.flat_scene.specs.declared.script.Line.{Line}
@@ -16,7 +18,7 @@ use Rattle.flat_scene.specs.declared.script.Line.TheVariants as line
 use Rattle.flat_scene.specs.declared.script.ScriptLine.{ScriptLine}
 use Rattle.flat_scene.specs.declared.setup.Setup.{Setup}
 use Rattle.flat_scene.specs.Setups.{is_declared, is_setup}
-use Rattle.flat_core.specs.Legal.{owns_view}
+use Rattle.flat_core.specs.Legal.{owns_view, owns_fence, owns_buffers, is_fence}
 use Rattle.flat_script.specs.declared.script.Script.{Script}
 
 -- the numbers of lines rise, from above this one
@@ -35,35 +37,49 @@ abbrev pub frames_close : Bool → ℕ → List ScriptLine → Bool
 frames_close is_open time [] = not is_open
 frames_close is_open time (next ∷ later) = keeps_frames is_open time next.body (λ open_then time_then. frames_close open_then time_then later)
 
--- a call that uses no end and no buffers
-abbrev pub is_private : Call → Bool
-is_private (CreateView pair) = false
-is_private (CreateViewport c pair w h inset) = false
-is_private (CreateImage c buffers i w h) = false
-is_private _ = true
+-- a call that uses no end; an image is of buffers that the session owns
+abbrev pub is_private : Setup → SessionNo → Call → Bool
+is_private setup s (CreateView pair) = false
+is_private setup s (CreateViewport c pair w h inset) = false
+is_private setup s (CreateImage c buffers i w h) = owns_buffers setup s buffers
+is_private setup s _ = true
 
--- a call that may be made as yet: none that makes a viewport or an image; a view is of a pair whose view end the session owns
+-- a call that may be made as yet: none that makes a viewport; a view is of a pair whose view end the session owns, and an image of its buffers
 abbrev pub is_played_call : Setup → SessionNo → Call → Bool
 is_played_call setup s (CreateView pair) = owns_view setup s pair
-is_played_call setup s (CreateViewport c pair w h inset) = false
-is_played_call setup s (CreateImage c buffers i w h) = false
-is_played_call setup s _ = true
+is_played_call setup s call = is_private setup s call
 
--- the same of a line of a session, and of the display
+-- what a session may wait for as yet: not for answers; a fence is its own
+abbrev pub is_played_condition : Setup → SessionNo → Cond → Bool
+is_played_condition setup s (asks.Frames n) = true
+is_played_condition setup s (asks.Credits n) = true
+is_played_condition setup s (asks.Taken n) = true
+is_played_condition setup s (asks.Fence f) = owns_fence setup s f
+is_played_condition setup s _ = false
+
+-- a line of a session: it names only what the session owns
 abbrev pub is_played_line : Setup → SessionNo → Line → Bool
 is_played_line setup s (line.Call call) = is_played_call setup s call
-is_played_line setup s (line.Present args) = length args.acquire == 0 && length args.release == 0
+is_played_line setup s (line.Present args) = list_all (owns_fence setup s) args.acquire && list_all (owns_fence setup s) args.release
+is_played_line setup s (line.Signal f) = owns_fence setup s f
+is_played_line setup s line.Poll = true
+is_played_line setup s (line.Wait c) = is_played_condition setup s c
+is_played_line setup s line.Disconnect = true
 is_played_line setup s _ = false
 
-abbrev pub is_played_display : DisplayLine → Bool
-is_played_display (display.Begin time) = true
-is_played_display display.Done = true
-is_played_display _ = false
+-- a line of the display: it names only what is declared
+abbrev pub is_played_display : Setup → DisplayLine → Bool
+is_played_display setup (display.Begin time) = true
+is_played_display setup display.Done = true
+is_played_display setup (display.Signal f) = is_fence setup f
+is_played_display setup (display.Wait (asks.Presents s n)) = is_declared setup s
+is_played_display setup (display.Wait (asks.Fence f)) = is_fence setup f
+is_played_display setup _ = false
 
 -- a line that is played, by whom
 abbrev pub is_played : Setup → Actor → Body → Bool
 is_played setup (Session s) (body.Session text) = is_declared setup s && is_played_line setup s text
-is_played setup Display (body.Display text) = is_played_display text
+is_played setup Display (body.Display text) = is_played_display setup text
 is_played setup _ _ = false
 
 -- Whether a script is one that is played: its setup is one that a head can give, without probes; its lines rise up to its count, frames close, and each line is known.

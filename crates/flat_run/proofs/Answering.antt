@@ -1,5 +1,5 @@
 -- What is answered to what a source gives, and what is written of it.
-use Rattle.std.proofs.Common.{◌≡◌, ◌≢◌, ◌==◌, ◌||◌, ◌⊎◌, inl, inr, ℕ, ◌<◌, Bool, true, false, List, [], ◌++◌, ap, ◌∙◌, length, Option, None, Some, Result, Ok, Err, IfOk, nat_lt, refl, sym, subst, arith}
+use Rattle.std.proofs.Common.{◌≡◌, ◌≢◌, ◌==◌, ◌||◌, inl, inr, ℕ, ◌<◌, Bool, true, false, List, [], ◌++◌, ap, ◌∙◌, length, Option, None, Some, Result, Ok, Err, IfOk, refl, sym, subst}
 use Rattle.std.proofs.lemmas.Bool.{lt-ltb, eqb-true}
 use Rattle.std.proofs.lemmas.List.{append_cancel_right}
 use Rattle.flat_base.specs.declared.limits.TheConstants.{SCRIPT_BYTES_MAX}

@@ -1,15 +1,14 @@
 -- A frame is composed of what the sessions show.
-use Rattle.std.proofs.Common.{◌≡◌, ℕ, suc, ◌<◌, ◌≤◌, Bool, true, false, ◌&&◌, nat_lt, nat_le, List, length, refl, sym, ap, ◌∙◌, subst, arith}
+use Rattle.std.proofs.Common.{◌≡◌, ℕ, ◌≤◌, Bool, true, ◌&&◌, nat_lt, nat_le, List, length, sym, ap, ◌∙◌, subst, arith}
 use Rattle.std.proofs.lemmas.Bool.Decides.{nat_tests}
-use Rattle.flat_base.specs.declared.ids.SessionNo.{SessionNo}
-use Rattle.flat_base.specs.declared.limits.TheConstants.{SESSIONS_MAX, SIDE_MAX}
+use Rattle.flat_base.specs.declared.limits.TheConstants.{SESSIONS_MAX}
 use Rattle.flat_scene.specs.declared.frames.DrawItem.{DrawItem}
 use Rattle.flat_scene.specs.declared.frames.FrameOut.{FrameOut}
 use Rattle.flat_scene.specs.declared.frames.SessionSet.{SessionSet}
 use Rattle.flat_scene.specs.declared.frames.ViewTree.{ViewTree}
 use Rattle.flat_scene.specs.declared.journal.Entry.{Entry}
 use Rattle.flat_scene.specs.declared.setup.Setup.{Setup}
-use Rattle.flat_scene.specs.Setups.{is_declared, is_setup, is_within_limits}
+use Rattle.flat_scene.specs.Setups.{is_declared, is_setup}
 use Rattle.flat_core.specs.Ends.{to_begin, has_view}
 use Rattle.flat_core.specs.Legal.{Legal}
 use Rattle.flat_core.specs.Plain.{are_plain}
@@ -19,7 +18,7 @@ use Rattle.flat_topology.specs.Connected.{joined_lists}
 use Rattle.flat_topology.specs.Draw.{items_of}
 use Rattle.flat_topology.specs.Fit.{FitsSetup}
 use Rattle.flat_topology.specs.Shown.{Shown}
-use Rattle.flat_topology.specs.Views.{is_member, view_tree}
+use Rattle.flat_topology.specs.Views.{view_tree}
 use Rattle.flat_tree.specs.Laws.{TreesFollow, IsSetOf}
 use Rattle.flat_tree.specs.Trees.{tree_from}
 use Rattle.flat_report.specs.Report.{frame_at}

@@ -1,15 +1,18 @@
 -- What the display reads and shows, after one more line of the script.
-use Rattle.std.proofs.Common.{◌≡◌, ℕ, suc, ◌+◌, ◌<◌, ◌≤◌, Bool, true, false, cond, ◌&&◌, ◌||◌, ◌==◌, not, nat_lt, nat_le, List, [], ◌∷◌, ◌++◌, length, filter, take, drop, map, get_or, refl, sym, ap, ◌∙◌, subst, arith, append-nil, append_assoc, count_by}
+use Rattle.std.proofs.Common.{◌≡◌, ℕ, suc, ◌+◌, Bool, true, false, cond, ◌&&◌, not, nat_lt, nat_le, List, [], ◌∷◌, ◌++◌, filter, take, drop, refl, sym, ap, ◌∙◌, subst, arith, append-nil}
 use Rattle.std.proofs.lemmas.Grind.{common_steps}
-use Rattle.flat_base.specs.declared.ids.Actor.{Actor}
-use Rattle.flat_base.specs.declared.ids.Actor.TheVariants.{Display, Session, Probe}
+use Rattle.flat_base.specs.declared.ids.Actor.TheVariants.{Display}
+use Rattle.flat_base.specs.declared.ids.FenceNo.{FenceNo}
 use Rattle.flat_base.specs.declared.ids.SessionNo.{SessionNo}
 use Rattle.flat_scene.specs.declared.frames.FrameOut.{FrameOut}
 use Rattle.flat_scene.specs.declared.frames.SessionSet.{SessionSet}
 use Rattle.flat_scene.specs.declared.journal.Entry.{Entry}
 use Rattle.flat_scene.specs.declared.journal.Kind.{Kind}
-use Rattle.flat_scene.specs.declared.journal.Kind.TheVariants.{Begin, Finish, End, Hit}
+use Rattle.flat_scene.specs.declared.journal.Kind.TheVariants.{Begin, Finish, End, Hit, Signal, Wait}
+use Rattle.flat_scene.specs.declared.journal.Reply.{Reply}
 use Rattle.flat_scene.specs.declared.journal.Reply.TheVariants.{Done}
+use Rattle.flat_scene.specs.declared.script.Cond.{Cond}
+use Rattle.flat_scene.specs.declared.script.Cond.TheVariants as asks
 use Rattle.flat_scene.specs.declared.script.Body.{Body}
 use Rattle.flat_scene.specs.declared.script.Body.TheVariants as body
 use Rattle.flat_scene.specs.declared.script.DisplayLine.{DisplayLine}
@@ -17,22 +20,22 @@ use Rattle.flat_scene.specs.declared.script.DisplayLine.TheVariants as display
 use Rattle.flat_scene.specs.declared.script.Line.{Line}
 use Rattle.flat_scene.specs.declared.script.ScriptLine.{ScriptLine}
 use Rattle.flat_scene.specs.declared.setup.Setup.{Setup}
-use Rattle.flat_scene.specs.History.{◌▹◌, is_display, is_begin, is_finish, is_end, seat_number}
-use Rattle.flat_scene.specs.Interleave.{display_lines, display_line, by_display, unread_lines, FollowsDisplay}
+use Rattle.flat_scene.specs.History.{◌▹◌, is_display, is_begin, is_finish, is_end}
+use Rattle.flat_scene.specs.Interleave.{display_lines, display_line, by_display, unread_lines, entry_of_display, FollowsDisplay}
 use Rattle.flat_scene.specs.Setups.{is_declared}
-use Rattle.flat_core.specs.Boards.{Machine, MayCall, HasShare, entry_of, made}
+use Rattle.flat_core.specs.Boards.{Machine, MayCall, HasShare, entry_of}
 use Rattle.flat_core.specs.Ends.{to_begin, has_view}
-use Rattle.flat_core.specs.Legal.{is_frame_open, begin_time, frames}
+use Rattle.flat_core.specs.Legal.{is_frame_open, begin_time, frames, is_fence, names_declared, display_may}
 use Rattle.flat_core.specs.Shown.{shown_states}
 use Rattle.flat_topology.specs.Shown.{Shown}
 use Rattle.flat_topology.specs.Views.{is_member}
 use Rattle.flat_report.specs.Report.{finished, frame_at}
 use Rattle.flat_script.specs.declared.script.Script.{Script}
-use Rattle.flat_playable.specs.Playable.{frames_close, keeps_frames}
+use Rattle.flat_playable.specs.Playable.{frames_close, keeps_frames, is_played_display}
 use Rattle.flat_run.specs.Playing.{DisplayStands, FramesStand, IsSpent, lines_by, rest_shares, is_quiet, is_question}
 use Rattle.flat_run.proofs.Displayed.{display_more}
 use Rattle.flat_run.proofs.Steps.{At}
-use Rattle.flat_run.proofs.Conditions.{and_left, and_right, and_true}
+use Rattle.flat_run.proofs.Conditions.{and_left, and_right}
 use Rattle.flat_run.proofs.Unread.{unread_after, Numbered}
 
 -- ---- kinds that are quiet
@@ -136,6 +139,22 @@ module _ (script : Script) (place : ℕ) (x : ScriptLine) (at : At script place 
         closing = and_right _ _ (closing display.Done is old stands);
       }
 
+  -- a line that begins no frame and ends none
+  pub display_beside : (text : DisplayLine) (kind : Kind) (reply : Reply) → x.body ≡ body.Display text → entry_of_display text ≡ kind → is_quiet kind ≡ true
+      → ((o : Bool) (t : ℕ) (follows : Bool → ℕ → Bool) → keeps_frames o t (body.Display text) follows ≡ follows o t)
+      → (old : List Entry) → DisplayStands script place old → DisplayStands script (place + 1) (old ▹ entry_of Display x.number [] kind reply)
+  display_beside text kind reply is makes quiet keeps old stands =
+      let e : Entry = entry_of Display x.number [] kind reply in
+      let rest : List ScriptLine = drop (place + 1) script.lines in
+      let is_open : is_frame_open (old ▹ e) ≡ is_frame_open old = rw (quiet_begin kind quiet, quiet_finish kind quiet) refl in
+      let time : begin_time (old ▹ e) ≡ begin_time old = rw (quiet_begin kind quiet) refl in
+      record {
+        follows = display_more (display_lines script.lines) (by_display old) e x.number text (display_lines rest) stands.follows (stands.left ∙ next_is text is) (record { line = refl; carried = refl; kind = sym makes });
+        left = later_is (by_display old) e refl;
+        closing = ap (λ o. frames_close o (begin_time (old ▹ e)) rest) is_open ∙ ap (λ t. frames_close (is_frame_open old) t rest) time
+            ∙ sym (keeps (is_frame_open old) (begin_time old) (λ o t. frames_close o t rest)) ∙ closing text is old stands;
+      }
+
   -- ---- room
 
   pub display_share : (m : Machine) → m.shares ≡ lines_by 0 script.lines ∷ rest_shares script → x.actor ≡ Display → IsSpent script place m.history → HasShare m Display
@@ -159,21 +178,46 @@ may_finish m share times = record {
   plain = refl;
 }
 
+pub may_signal_fence : (m : Machine) (f : FenceNo) → HasShare m Display → is_fence m.setup f ≡ true → MayCall m Display [] (Signal f)
+may_signal_fence m f share named = record {
+  may = record { acts = refl; lasts = refl; times = refl; drafted = refl; calls = refl; links = refl; owned = refl; named = named; tree = refl; watcher = refl };
+  share = share;
+  plain = refl;
+}
+
+waits_for : (m : Machine) (c : Cond) → HasShare m Display → display_may (Wait c) ≡ true → names_declared m.setup (Wait c) ≡ true → MayCall m Display [] (Wait c)
+waits_for m c share acts named = record {
+  may = record { acts = acts; lasts = refl; times = refl; drafted = refl; calls = refl; links = refl; owned = refl; named = named; tree = refl; watcher = refl };
+  share = share;
+  plain = refl;
+}
+
+pub may_wait_for : (m : Machine) (c : Cond) → HasShare m Display → is_played_display m.setup (display.Wait c) ≡ true → MayCall m Display [] (Wait c)
+may_wait_for m (asks.Presents s n) share played = waits_for m (asks.Presents s n) share refl played
+may_wait_for m (asks.Fence f) share played = waits_for m (asks.Fence f) share refl played
+may_wait_for m (asks.Frames n) share played = absurd (cc)
+may_wait_for m (asks.Credits n) share played = absurd (cc)
+may_wait_for m (asks.Taken n) share played = absurd (cc)
+may_wait_for m (asks.Answers n) share played = absurd (cc)
+
 -- ---- frames
 
 module _ (setup : Setup) (old : List Entry) (shown : Shown) (views : SessionSet) (done : List FrameOut) (stands : FramesStand setup old shown views done) where
-  pub frames_session : (new : List Entry) → QuietStep old new → FramesStand setup new shown views done
-  frames_session new (same now) = let P : List Entry → Type 0 = λ h. FramesStand setup h shown views done in subst P (sym now) stands
-  frames_session new (more e other quiet now) =
-      let P : List Entry → Type 0 = λ h. FramesStand setup h shown views done in
+  -- an entry that begins no frame and ends none
+  pub frames_beside : (e : Entry) → is_quiet e.kind ≡ true → FramesStand setup (old ▹ e) shown views done
+  frames_beside e quiet =
       let begun : to_begin (old ▹ e) ≡ to_begin old = rw (quiet_begin e.kind quiet) refl in
       let same_frames : finished setup (old ▹ e) ≡ finished setup old =
       ap (λ b. finished setup old ++ cond b (frame_at setup (suc (frames old)) (to_begin old) ∷ []) []) (quiet_finish e.kind quiet) ∙ append-nil (finished setup old) in
-      subst P (sym now) (record {
+      record {
         showing = stands.showing ∙ ap (shown_states setup) (sym begun);
         viewing = λ s declared. stands.viewing s declared ∙ ap (λ h. has_view setup h s) (sym begun);
         finishing = stands.finishing ∙ sym same_frames;
-      })
+      }
+
+  pub frames_session : (new : List Entry) → QuietStep old new → FramesStand setup new shown views done
+  frames_session new (same now) = let P : List Entry → Type 0 = λ h. FramesStand setup h shown views done in subst P (sym now) stands
+  frames_session new (more e other quiet now) = let P : List Entry → Type 0 = λ h. FramesStand setup h shown views done in subst P (sym now) (frames_beside e quiet)
 
   pub frames_begin : (n time : ℕ) (new_shown : Shown) (new_views : SessionSet)
       → new_shown ≡ shown_states setup (old ▹ entry_of Display n [] (Begin time) Done)

@@ -1,12 +1,9 @@
 -- How far the display's entries have read its lines, and how all entries are written in order.
-use Rattle.std.proofs.Common.{◌≡◌, ℕ, ◌+◌, ◌<◌, ◌≤◌, Bool, true, false, cond, ◌||◌, List, [], ◌∷◌, ◌++◌, length, reverse, map, refl, sym, ap, ◌∙◌, subst, arith, append-nil, append_assoc, Option, Some, None}
-use Rattle.std.specs.List.{AllByRecursion}
-use Rattle.std.proofs.lemmas.List.{reverse-append, map-append}
-use Rattle.flat_base.specs.declared.ids.Actor.TheVariants.{Display}
+use Rattle.std.proofs.Common.{◌≡◌, ℕ, List, [], ◌∷◌, sym, subst}
 use Rattle.flat_scene.specs.declared.journal.Entry.{Entry}
 use Rattle.flat_scene.specs.declared.script.DisplayLine.{DisplayLine}
 use Rattle.flat_scene.specs.History.{◌▹◌}
-use Rattle.flat_scene.specs.Interleave.{Next, IsNext, unread_lines, entry_of_display, IsFirstLine, FollowsDisplay}
+use Rattle.flat_scene.specs.Interleave.{IsNext, unread_lines, entry_of_display, IsFirstLine, FollowsDisplay}
 
 -- an entry that is what the first line left makes follows
 pub display_more : (lines : List (ℕ × DisplayLine)) (entries : List Entry) (entry : Entry) (n : ℕ) (text : DisplayLine) (rest : List (ℕ × DisplayLine)) → FollowsDisplay lines entries

@@ -1,16 +1,15 @@
 -- How the sessions end.
-use Rattle.std.proofs.Common.{◌≡◌, ◌≢◌, ℕ, ℤ, zero, suc, ◌+◌, ◌-◌, ◌<◌, ◌≤◌, Bool, true, false, cond, ◌&&◌, ◌||◌, ◌==◌, not, nat_lt, nat_le, List, [], ◌∷◌, ◌++◌, length, take, drop, map, reverse, get_or, set, refl, sym, ap, ◌∙◌, subst, arith, add-one, append-nil, append_assoc, Ok, IsTrue, get_or-set_other}
-use Rattle.std.specs.List.{list_any, AllByRecursion}
+use Rattle.std.proofs.Common.{◌≡◌, ◌≢◌, ℕ, ℤ, zero, suc, ◌+◌, ◌<◌, ◌≤◌, Bool, true, false, cond, ◌==◌, nat_lt, nat_le, List, [], ◌∷◌, ◌++◌, length, drop, map, reverse, get_or, set, refl, sym, ap, ◌∙◌, subst, arith, add-one, append-nil, append_assoc, get_or-set_other}
+use Rattle.std.specs.List.{list_any, list_all, AllByRecursion}
+use Rattle.flat_playable.specs.Playable.{is_private}
 use Rattle.std.proofs.lemmas.List.{length-set, map-append, reverse-append}
 use Rattle.std.proofs.lemmas.Bool.{eq-eqb, eqb-true}
 use Rattle.std.proofs.lemmas.Bool.Decides.{nat_tests}
 use Rattle.std.proofs.lemmas.Grind.{common_steps}
-use Rattle.flat_base.specs.declared.ids.Actor.{Actor}
-use Rattle.flat_base.specs.declared.ids.Actor.TheVariants.{Display, Session}
+use Rattle.flat_base.specs.declared.ids.Actor.TheVariants.{Session}
 use Rattle.flat_base.specs.declared.ids.SessionNo.{SessionNo}
 use Rattle.flat_scene.specs.declared.calls.Call.{Call}
 use Rattle.flat_scene.specs.declared.frames.Hit.{Hit}
-use Rattle.flat_scene.specs.declared.frames.FrameOut.{FrameOut}
 use Rattle.flat_scene.specs.declared.journal.Entry.{Entry}
 use Rattle.flat_scene.specs.declared.journal.Kind.{Kind}
 use Rattle.flat_scene.specs.declared.journal.Kind.TheVariants.{End}
@@ -19,8 +18,8 @@ use Rattle.flat_scene.specs.declared.journal.Reply.TheVariants.{Done}
 use Rattle.flat_scene.specs.declared.setup.Setup.{Setup}
 use Rattle.flat_scene.specs.Effect.{draft_of}
 use Rattle.flat_scene.specs.Frames.{sessions_to}
-use Rattle.flat_scene.specs.History.{◌▹◌, own, is_session, is_end, is_closed, closes, calls, seat_number}
-use Rattle.flat_scene.specs.Interleave.{Next, IsNext, next_of, next_from, session_lines, display_lines, Follows, IsReading, Interleaves, IsWritten}
+use Rattle.flat_scene.specs.History.{◌▹◌, own, is_end, closes, calls}
+use Rattle.flat_scene.specs.Interleave.{Next, IsNext, next_of, next_from, session_lines, display_lines, Follows, IsReading}
 use Rattle.flat_scene.specs.Setups.{is_declared}
 use Rattle.flat_core.specs.Boards.{Machine, HasShare, MayCall, entered, entry_of, made}
 use Rattle.flat_core.specs.Ends.{to_finished}
@@ -30,7 +29,7 @@ use Rattle.flat_report.specs.Report.{finished, hits_at}
 use Rattle.flat_script.specs.declared.script.Script.{Script}
 use Rattle.flat_run.specs.declared.game.Game.{Game}
 use Rattle.flat_run.specs.declared.player.Player.{Player}
-use Rattle.flat_run.specs.Playing.{lines_by, lines_left, is_question, shares_of, IsOpenAt, IsClosedAt, PlayerStands, DisplayStands, IsInOrder, GameStands, HasEnds, EndsStand, HasPlayed}
+use Rattle.flat_run.specs.Playing.{lines_by, lines_left, is_question, IsOpenAt, IsClosedAt, PlayerStands, DisplayStands, GameStands, HasEnds, EndsStand, HasPlayed}
 use Rattle.flat_run.proofs.Entering.{IsWaiting, may_end, may_end_closed}
 use Rattle.flat_run.proofs.GameSteps.{has_room, not_same}
 use Rattle.flat_run.proofs.Starting.{sessions_more}
@@ -117,7 +116,7 @@ module _ (script : Script) (before : ℕ) (within : before < script.setup.sessio
               declared = declared_here;
               unended = mine.unended;
               unclosed = mine.closed ∙ is;
-              private = o.private;
+              private = ap (λ (st : Setup). list_all (is_private st s) player.pending) stands.setup ∙ o.private;
               made = ap (λ (st : Setup). draft_of st (calls s old.board.history ++ player.pending)) stands.setup ∙ o.made;
             } in
             subst P (sym o.none_refused) (may_end old.board s player.pending o.draft waits)

@@ -1,31 +1,34 @@
 -- What a session's line makes may be entered.
-use Rattle.std.proofs.Common.{◌≡◌, ℕ, ◌+◌, ◌-◌, ◌<◌, Bool, true, false, cond, not, ◌&&◌, ◌||◌, ◌==◌, List, [], ◌∷◌, ◌++◌, length, refl, sym, ap, ◌∙◌, subst, arith, append-nil, append_assoc, length-append, Option, Some, None, Result, Ok, Err, IsTrue, slice_get, is_some, is_none}
+use Rattle.std.proofs.Common.{◌≡◌, ℕ, ◌-◌, ◌<◌, ◌≤◌, Bool, true, false, cond, not, ◌&&◌, ◌||◌, ◌==◌, List, [], ◌∷◌, ◌++◌, length, refl, sym, ap, ◌∙◌, arith, append_assoc, length-append, Option, Some, None, Result, Ok, Err, nat_lt, slice_get, unwrap_or, option_map, is_some}
 use Rattle.std.specs.List.{list_any, list_all}
 use Rattle.std.specs.Result.{result_ok}
 use Rattle.std.proofs.lemmas.Bool.{eq-eqb}
-use Rattle.std.proofs.lemmas.Option.{slice_get-get_or}
+use Rattle.std.proofs.lemmas.Option.{slice_get-get_or, slice_get_past}
 use Rattle.std.proofs.Math.Seq.{get_or-append_seam}
 use Rattle.flat_base.specs.declared.errors.Reason.{Reason}
+use Rattle.std.proofs.lemmas.Bool.Decides.{nat_tests}
+use Rattle.flat_base.specs.declared.ids.FenceNo.{FenceNo}
 use Rattle.flat_base.specs.declared.ids.PairNo.{PairNo}
+use Rattle.flat_scene.specs.declared.script.Cond.{Cond}
+use Rattle.flat_scene.specs.declared.script.Cond.TheVariants as asks
+use Rattle.flat_scene.specs.declared.setup.FenceDecl.{FenceDecl}
 use Rattle.flat_base.specs.declared.ids.SessionNo.{SessionNo}
 use Rattle.flat_base.specs.declared.ids.Actor.TheVariants.{Session}
 use Rattle.flat_scene.specs.declared.calls.Call.{Call}
 use Rattle.flat_scene.specs.declared.calls.Call.TheVariants.{CreateView, CreateViewport, CreateImage}
 use Rattle.flat_scene.specs.declared.calls.PresentArgs.{PresentArgs}
-use Rattle.flat_scene.specs.declared.journal.Entry.{Entry}
-use Rattle.flat_scene.specs.declared.journal.Kind.{Kind}
-use Rattle.flat_scene.specs.declared.journal.Kind.TheVariants.{View, Present, Close, End}
+use Rattle.flat_scene.specs.declared.journal.Kind.TheVariants.{View, Present, Signal, Poll, Wait, Close, End}
 use Rattle.flat_scene.specs.declared.setup.Setup.{Setup}
 use Rattle.flat_scene.specs.Draft.{Draft, empty_draft}
 use Rattle.flat_scene.specs.Effect.{draft_of, after_call, after_calls}
-use Rattle.flat_scene.specs.History.{calls, own, is_closed, is_end}
+use Rattle.flat_scene.specs.History.{calls, own, is_closed, is_end, is_session}
 use Rattle.flat_scene.specs.Misuse.{first_reason, Test}
 use Rattle.flat_scene.specs.Setups.{is_declared}
 use Rattle.flat_scene.specs.Tree.{tree_tests, present_tests}
 use Rattle.flat_core.specs.Boards.{Machine, MayCall, HasShare}
-use Rattle.flat_core.specs.Legal.{MayEnter, is_link, all_but_last, owns_in_call, owns_view, has_tree}
+use Rattle.flat_core.specs.Legal.{is_link, all_but_last, owns_in_call, owns_in_kind, owns_view, owns_fence, is_fence, names_declared, session_may, has_tree}
 use Rattle.flat_core.specs.Plain.{is_plain_call}
-use Rattle.flat_playable.specs.Playable.{is_private, is_played_call}
+use Rattle.flat_playable.specs.Playable.{is_private, is_played_call, is_played_condition}
 use Rattle.flat_run.proofs.Conditions.{and_true, or_false, or_left, or_right, all_more, all_also, none_also}
 
 -- ---- lists with one call more
@@ -48,26 +51,36 @@ but_last (x ∷ xs) c =
 -- ---- private calls
 
 module _ (setup : Setup) (s : SessionNo) where
-  private_is : (c : Call) → is_private c ≡ true → (is_link c ≡ false) × ((owns_in_call setup s c ≡ true) × (is_plain_call c ≡ true))
+  private_is : (c : Call) → is_private setup s c ≡ true → (is_link c ≡ false) × ((owns_in_call setup s c ≡ true) × (is_plain_call c ≡ true))
   private_is (CreateView pair) private = absurd (cc)
   private_is (CreateViewport c pair w h inset) private = absurd (cc)
-  private_is (CreateImage c buffers i w h) private = absurd (cc)
+  private_is (CreateImage c buffers i w h) private = (refl, (private, refl))
   private_is _ private = (refl, (refl, refl))
 
   played_is : (c : Call) → is_played_call setup s c ≡ true → (owns_in_call setup s c ≡ true) × (is_plain_call c ≡ true)
   played_is (CreateView pair) played = (played, refl)
   played_is (CreateViewport c pair w h inset) played = absurd (cc)
-  played_is (CreateImage c buffers i w h) played = absurd (cc)
+  played_is (CreateImage c buffers i w h) played = (played, refl)
   played_is _ played = (refl, refl)
 
-  no_links : (xs : List Call) → list_all is_private xs ≡ true → list_any is_link xs ≡ false
-  no_links xs all = none_also is_private is_link (λ c is. (private_is c is).0) xs all
+  no_links : (xs : List Call) → list_all (is_private setup s) xs ≡ true → list_any is_link xs ≡ false
+  no_links xs all = none_also (is_private setup s) is_link (λ c is. (private_is c is).0) xs all
 
-  all_owned : (xs : List Call) → list_all is_private xs ≡ true → list_all (owns_in_call setup s) xs ≡ true
-  all_owned xs all = all_also is_private (owns_in_call setup s) (λ c is. (private_is c is).1.0) xs all
+  all_owned : (xs : List Call) → list_all (is_private setup s) xs ≡ true → list_all (owns_in_call setup s) xs ≡ true
+  all_owned xs all = all_also (is_private setup s) (owns_in_call setup s) (λ c is. (private_is c is).1.0) xs all
 
-  all_plain : (xs : List Call) → list_all is_private xs ≡ true → list_all is_plain_call xs ≡ true
-  all_plain xs all = all_also is_private is_plain_call (λ c is. (private_is c is).1.1) xs all
+  all_plain : (xs : List Call) → list_all (is_private setup s) xs ≡ true → list_all is_plain_call xs ≡ true
+  all_plain xs all = all_also (is_private setup s) is_plain_call (λ c is. (private_is c is).1.1) xs all
+
+  -- an owned fence is declared
+  fence_declared : (f : FenceNo) → owns_fence setup s f ≡ true → is_fence setup f ≡ true
+  fence_declared f owned = by_length (nat_lt f.0 (length setup.fences)) refl
+    where
+      by_length : (b : Bool) → nat_lt f.0 (length setup.fences) ≡ b → is_fence setup f ≡ true
+      by_length true at = at
+      by_length false at =
+          let past : length setup.fences ≤ f.0 = grind (arith, nat_tests) in
+          absurd (let wrong : false ≡ true = sym (ap (λ (o : Option FenceDecl). unwrap_or (option_map (λ fence. list_any (is_session s) fence.owners) o) false) (slice_get_past setup.fences f.0 past)) ∙ owned in cc)
 
 -- ---- drafts of fewer calls
 
@@ -116,6 +129,18 @@ no_tree_view : (setup : Setup) (p : PairNo) (draft : Option Draft) → has_tree 
 no_tree_view setup p None = refl
 no_tree_view setup p (Some d) = refl
 
+no_tree_signal : (setup : Setup) (f : FenceNo) (draft : Option Draft) → has_tree setup draft (Signal f) ≡ true
+no_tree_signal setup f None = refl
+no_tree_signal setup f (Some d) = refl
+
+no_tree_poll : (setup : Setup) (draft : Option Draft) → has_tree setup draft Poll ≡ true
+no_tree_poll setup None = refl
+no_tree_poll setup (Some d) = refl
+
+no_tree_wait : (setup : Setup) (c : Cond) (draft : Option Draft) → has_tree setup draft (Wait c) ≡ true
+no_tree_wait setup c None = refl
+no_tree_wait setup c (Some d) = refl
+
 no_tree_close : (setup : Setup) (reason : Option Reason) (draft : Option Draft) → has_tree setup draft (Close reason) ≡ true
 no_tree_close setup reason None = refl
 no_tree_close setup reason (Some d) = refl
@@ -132,7 +157,7 @@ pub record IsWaiting (m : Machine) (s : SessionNo) (pending : List Call) (draft 
   pub declared : is_declared m.setup s ≡ true
   pub unended : list_any (λ entry. is_end entry.kind) (own s m.history) ≡ false
   pub unclosed : is_closed s m.history ≡ false
-  pub private : list_all is_private pending ≡ true
+  pub private : list_all (is_private m.setup s) pending ≡ true
   pub made : draft_of m.setup (calls s m.history ++ pending) ≡ Ok draft
 
 module _ (m : Machine) (s : SessionNo) (pending : List Call) (draft : Draft) (waits : IsWaiting m s pending draft) where
@@ -161,8 +186,8 @@ module _ (m : Machine) (s : SessionNo) (pending : List Call) (draft : Draft) (wa
     plain = all_more is_plain_call pending (CreateView p) (all_plain m.setup s pending waits.private) refl;
   }
 
-  pub may_present : (args : PresentArgs) → args.acquire ≡ [] → args.release ≡ [] → first_reason (present_tests draft args) ≡ None → MayCall m (Session s) pending (Present args)
-  may_present args no_acquire no_release allowed = record {
+  pub may_present : (args : PresentArgs) → (list_all (owns_fence m.setup s) args.acquire && list_all (owns_fence m.setup s) args.release) ≡ true → first_reason (present_tests draft args) ≡ None → MayCall m (Session s) pending (Present args)
+  may_present args lists allowed = record {
     may = record {
       acts = waits.declared;
       lasts = goes;
@@ -170,7 +195,7 @@ module _ (m : Machine) (s : SessionNo) (pending : List Call) (draft : Draft) (wa
       drafted = rw (waits.unclosed) drafted;
       calls = refl;
       links = rw (no_links m.setup s pending waits.private) refl;
-      owned = rw (no_acquire, no_release) (all_owned m.setup s pending waits.private);
+      owned = and_true lists (all_owned m.setup s pending waits.private);
       named = refl;
       tree = rw (waits.made, first_of_more (tree_tests draft) _ allowed) refl;
       watcher = refl;
@@ -178,6 +203,68 @@ module _ (m : Machine) (s : SessionNo) (pending : List Call) (draft : Draft) (wa
     share = waits.share;
     plain = all_plain m.setup s pending waits.private;
   }
+
+  pub may_signal : (f : FenceNo) → owns_fence m.setup s f ≡ true → MayCall m (Session s) pending (Signal f)
+  may_signal f owns = record {
+    may = record {
+      acts = waits.declared;
+      lasts = goes;
+      times = refl;
+      drafted = rw (waits.unclosed) drafted;
+      calls = refl;
+      links = rw (no_links m.setup s pending waits.private) refl;
+      owned = and_true owns (all_owned m.setup s pending waits.private);
+      named = fence_declared m.setup s f owns;
+      tree = no_tree_signal m.setup f _;
+      watcher = refl;
+    };
+    share = waits.share;
+    plain = all_plain m.setup s pending waits.private;
+  }
+
+  pub may_poll : MayCall m (Session s) pending Poll
+  may_poll = record {
+    may = record {
+      acts = waits.declared;
+      lasts = goes;
+      times = refl;
+      drafted = rw (waits.unclosed) drafted;
+      calls = refl;
+      links = rw (no_links m.setup s pending waits.private) refl;
+      owned = all_owned m.setup s pending waits.private;
+      named = refl;
+      tree = no_tree_poll m.setup _;
+      watcher = refl;
+    };
+    share = waits.share;
+    plain = all_plain m.setup s pending waits.private;
+  }
+
+  waits_for : (c : Cond) → (session_may (Wait c) && is_declared m.setup s) ≡ true → owns_in_kind m.setup s (Wait c) ≡ true → names_declared m.setup (Wait c) ≡ true → MayCall m (Session s) pending (Wait c)
+  waits_for c acts owns named = record {
+    may = record {
+      acts = acts;
+      lasts = goes;
+      times = refl;
+      drafted = rw (waits.unclosed) drafted;
+      calls = refl;
+      links = rw (no_links m.setup s pending waits.private) refl;
+      owned = and_true owns (all_owned m.setup s pending waits.private);
+      named = named;
+      tree = no_tree_wait m.setup c _;
+      watcher = refl;
+    };
+    share = waits.share;
+    plain = all_plain m.setup s pending waits.private;
+  }
+
+  pub may_wait : (c : Cond) → is_played_condition m.setup s c ≡ true → MayCall m (Session s) pending (Wait c)
+  may_wait (asks.Frames n) played = waits_for (asks.Frames n) waits.declared refl refl
+  may_wait (asks.Credits n) played = waits_for (asks.Credits n) waits.declared refl refl
+  may_wait (asks.Taken n) played = waits_for (asks.Taken n) waits.declared refl refl
+  may_wait (asks.Fence f) played = waits_for (asks.Fence f) waits.declared played (fence_declared m.setup s f played)
+  may_wait (asks.Answers n) played = absurd (cc)
+  may_wait (asks.Presents t n) played = absurd (cc)
 
   -- a call that is a misuse closes
   pub may_close_call : (c : Call) (why : Option Reason) → is_played_call m.setup s c ≡ true → MayCall m (Session s) (pending ++ c ∷ []) (Close why)
@@ -198,7 +285,7 @@ module _ (m : Machine) (s : SessionNo) (pending : List Call) (draft : Draft) (wa
     plain = all_more is_plain_call pending c (all_plain m.setup s pending waits.private) ((played_is m.setup s c played).1);
   }
 
-  -- a present that is a misuse closes
+  -- a present that is a misuse closes, and so does a line that wishes it
   pub may_close_present : (why : Option Reason) → MayCall m (Session s) pending (Close why)
   may_close_present why = record {
     may = record {

@@ -1,13 +1,11 @@
 -- The whole run after one more line of the script.
-use Rattle.std.proofs.Common.{◌≡◌, ◌≢◌, ℕ, zero, suc, ◌+◌, ◌-◌, ◌<◌, ◌≤◌, Bool, true, false, cond, ◌&&◌, ◌==◌, nat_lt, nat_le, List, [], ◌∷◌, ◌++◌, length, take, drop, map, get_or, set, refl, sym, ap, ◌∙◌, subst, arith, Option, Some, None, slice_get, get_or-set_other, get_or-set_same}
+use Rattle.std.proofs.Common.{◌≡◌, ◌≢◌, ℕ, ℤ, zero, suc, ◌+◌, ◌-◌, ◌<◌, ◌≤◌, Bool, true, false, ◌==◌, nat_lt, nat_le, List, [], ◌∷◌, ◌++◌, length, map, get_or, set, refl, sym, ap, ◌∙◌, subst, arith, None, get_or-set_other, get_or-set_same}
 use Rattle.std.proofs.lemmas.List.{length-set, map-append, get_or_append_left}
 use Rattle.std.proofs.Math.Seq.{get_or-append_seam}
 use Rattle.std.proofs.lemmas.Bool.{eq-eqb, eqb-true}
 use Rattle.std.proofs.lemmas.Bool.Decides.{nat_tests}
-use Rattle.flat_base.specs.declared.ids.Actor.{Actor}
 use Rattle.flat_base.specs.declared.ids.Actor.TheVariants.{Display, Session, Probe}
 use Rattle.flat_base.specs.declared.ids.SessionNo.{SessionNo}
-use Rattle.flat_scene.specs.declared.calls.Call.{Call}
 use Rattle.flat_scene.specs.declared.frames.FrameOut.{FrameOut}
 use Rattle.flat_scene.specs.declared.frames.SessionSet.{SessionSet}
 use Rattle.flat_topology.specs.Shown.{Shown}
@@ -24,20 +22,21 @@ use Rattle.flat_scene.specs.declared.script.Line.{Line}
 use Rattle.flat_scene.specs.declared.script.ScriptLine.{ScriptLine}
 use Rattle.flat_scene.specs.declared.setup.Setup.{Setup}
 use Rattle.flat_scene.specs.Frames.{sessions_to}
-use Rattle.flat_scene.specs.History.{◌▹◌, is_session, is_display}
+use Rattle.flat_scene.specs.Interleave.{entry_of_display}
+use Rattle.flat_scene.specs.History.{◌▹◌, is_session}
 use Rattle.flat_scene.specs.Setups.{is_declared}
-use Rattle.flat_core.specs.Boards.{Machine, HasShare, MayCall, entered, entry_of, made}
+use Rattle.flat_core.specs.Boards.{Machine, HasShare, entry_of, made}
 use Rattle.flat_core.specs.Ends.{to_begin, has_view}
 use Rattle.flat_topology.specs.Views.{is_member}
 use Rattle.flat_core.specs.Legal.{frames}
 use Rattle.flat_core.specs.Shown.{shown_states}
-use Rattle.flat_report.specs.Report.{frame_at, finished}
+use Rattle.flat_report.specs.Report.{frame_at}
 use Rattle.flat_script.specs.declared.script.Script.{Script}
 use Rattle.flat_run.specs.declared.game.Game.{Game}
 use Rattle.flat_run.specs.declared.player.Player.{Player}
-use Rattle.flat_playable.specs.Playable.{is_played, is_played_display, is_playable}
-use Rattle.flat_run.specs.Playing.{IsSpent, lines_by, rest_shares, shares_of, Grows, grows, stays, is_quiet, PlayerStands, PlayersStand, DisplayStands, FramesStand, GameStands, BeginsFrame, FinishesFrame, HasViews, session_text, display_text}
-use Rattle.flat_run.proofs.DisplaySteps.{QuietStep, quiet_end, quiet_question, display_session, display_begin, display_done, display_share, begin_time_ok, done_ok, may_begin, may_finish, frames_session, frames_begin, frames_done}
+use Rattle.flat_playable.specs.Playable.{is_played, is_played_display, keeps_frames}
+use Rattle.flat_run.specs.Playing.{IsSpent, lines_by, shares_of, Grows, grows, stays, is_quiet, PlayerStands, PlayersStand, DisplayStands, FramesStand, GameStands, BeginsFrame, FinishesFrame, EntersBeside, HasViews, session_text, display_text}
+use Rattle.flat_run.proofs.DisplaySteps.{QuietStep, quiet_end, quiet_question, display_session, display_begin, display_done, display_beside, display_share, begin_time_ok, done_ok, may_begin, may_finish, frames_session, frames_beside, frames_begin, frames_done}
 use Rattle.flat_run.proofs.DisplaySteps as quiet
 use Rattle.flat_run.proofs.ShownFits.{length_sessions}
 use Rattle.flat_run.proofs.Steps.{At, Step, same, more, order_more, spent_more, player_other}
@@ -218,6 +217,30 @@ module _ (script : Script) (place : ℕ) (x : ScriptLine) (at : At script place 
             (frames_done script.setup h old.shown old.with_view old.frames.items stands.shows x.number new.frames.items _ finishes.kept frame));
       }
 
+  -- a line of the display that begins no frame and ends none
+  pub beside_more : (old new : Game) (text : DisplayLine) (kind : Kind) (reply : Reply) → x.actor ≡ Display → x.body ≡ body.Display text → entry_of_display text ≡ kind → is_quiet kind ≡ true
+      → ((o : Bool) (t : ℕ) (follows : Bool → ℕ → Bool) → keeps_frames o t (body.Display text) follows ≡ follows o t)
+      → GameStands script place old → EntersBeside old new x.number kind reply → GameStands script (place + 1) new
+  beside_more old new text kind reply actor is makes calm keeps stands enters =
+      let e : Entry = entry_of Display x.number [] kind reply in
+      let h : List Entry = old.board.history in
+      let grown : new.board.history ≡ (h ▹ e) = ap (λ (m : Machine). m.history) enters.board in
+      let step : Step x h new.board.history = more e (sym actor) refl (quiet_end kind calm) (quiet_question kind calm) grown in
+      let D : List Entry → Type 0 = DisplayStands script (place + 1) in
+      let V : SessionSet → Type 0 = HasViews script.setup in
+      let F : List Entry → Type 0 = λ es. FramesStand script.setup es new.shown new.with_view new.frames.items in
+      let kept : new.frames.items ≡ old.frames.items = ap (λ v. v.items) enters.kept in
+      record {
+        setup = ap (λ (m : Machine). m.setup) enters.board ∙ stands.setup;
+        shares = ap (λ (m : Machine). m.shares) enters.board ∙ stands.shares;
+        players = display_players old.players.items new.players.items h new.board.history actor step (ap (λ v. v.items) enters.players) stands.players;
+        display = subst D (sym grown) (display_beside script place x at text kind reply is makes calm keeps h stands.display);
+        order = order_more script place x at h new.board.history step stands.order;
+        spent = spent_more script place x at h new.board.history step stands.spent;
+        views = subst V (sym enters.with_view) stands.views;
+        shows = subst F (sym grown) (rw (enters.shown, enters.with_view, kept) (frames_beside script.setup h old.shown old.with_view old.frames.items stands.shows e calm));
+      }
+
 -- the player of a session
 pub own_player : (script : Script) (place : ℕ) (history : List Entry) (players : List Player) (s : SessionNo) → is_declared script.setup s ≡ true → PlayersStand script place history players
     → (player : Player) → player ≡ get_or players (s.0 - 1) player → PlayerStands script s place history player
@@ -229,11 +252,12 @@ own_player script place history players s declared stand player is =
     let Q : Player → Type 0 = λ p. PlayerStands script s place history p in
     subst Q (sym is) (subst P here (stand.each (s.0 - 1) player inside))
 
--- a line of the display that is played begins a frame or ends one
-pub begun_or_done : (text : DisplayLine) → is_played_display text ≡ true → ((time : ℕ) → text ≡ display.Begin time → ⊥) → (text ≡ display.Done → ⊥) → ⊥
-begun_or_done (display.Begin time) played not_begin not_done = not_begin time refl
-begun_or_done display.Done played not_begin not_done = not_done refl
-begun_or_done _ played not_begin not_done = cc
+-- no line that is played asks for a point
+pub no_hit : (setup : Setup) (text : DisplayLine) (x y : ℤ) → is_played_display setup text ≡ true → text ≡ display.Hit x y → ⊥
+no_hit setup text px py played is = let P : DisplayLine → Type 0 = λ t. is_played_display setup t ≡ true in wrong (subst P is played)
+  where
+    wrong : is_played_display setup (display.Hit px py) ≡ true → ⊥
+    wrong both = cc
 
 -- a session plays lines of a session, the display its own, and a probe none
 pub no_session_text : (setup : Setup) (s : SessionNo) (text : Body) → is_played setup (Session s) text ≡ true → session_text text ≡ None → ⊥

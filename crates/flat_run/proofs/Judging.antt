@@ -1,12 +1,11 @@
 -- What a draft's answers say of a line.
-use Rattle.std.proofs.Common.{◌≡◌, true, false, sym, ap, ◌∙◌, subst, Some, None, Option, Err, Ok, Result, refl, option_map}
-use Rattle.std.specs.Arc.{arc_value}
+use Rattle.std.proofs.Common.{◌≡◌, Bool, true, false, sym, ap, ◌∙◌, subst, Some, None, Option, Err, Ok, refl, option_map}
 use Rattle.flat_base.specs.declared.errors.Reason.{Reason}
 use Rattle.flat_scene.specs.declared.calls.Call.{Call}
 use Rattle.flat_scene.specs.declared.calls.Call.TheVariants.{CreateView, CreateViewport}
 use Rattle.flat_scene.specs.declared.calls.PresentArgs.{PresentArgs}
 use Rattle.flat_scene.specs.declared.journal.Kind.{Kind}
-use Rattle.flat_scene.specs.declared.journal.Kind.TheVariants.{Present, Close}
+use Rattle.flat_scene.specs.declared.journal.Kind.TheVariants.{View, Viewport, Present, Signal, Poll, Wait, Close}
 use Rattle.flat_scene.specs.declared.script.Line.{Line}
 use Rattle.flat_scene.specs.declared.script.Line.TheVariants as line
 use Rattle.flat_scene.specs.declared.setup.Setup.{Setup}
@@ -15,8 +14,7 @@ use Rattle.flat_scene.specs.Draft.{Draft}
 use Rattle.flat_scene.specs.Interleave.{entry_of_call, entry_of_line, or_close}
 use Rattle.flat_scene.specs.Misuse.{first_reason}
 use Rattle.flat_scene.specs.Tree.{present_tests, tree}
-use Rattle.flat_draft.specs.declared.fault.DraftFault.{DraftFault}
-use Rattle.flat_draft.specs.declared.fault.DraftFault.TheVariants.{Bad, Closed}
+use Rattle.flat_draft.specs.declared.fault.DraftFault.TheVariants.{Bad}
 use Rattle.flat_draft.specs.Answers.{IsAnswer, IsRefused, Presents}
 use Rattle.flat_draft.specs.Stands.{StandsFor}
 use Rattle.flat_draft.specs.State.{DraftState}
@@ -25,11 +23,17 @@ use Rattle.flat_run.specs.declared.made.Made.TheVariants as made
 use Rattle.flat_run.specs.Made.{kind_of, IsMadeBy}
 use Rattle.flat_run.specs.Playing.{LeavesDraft}
 
--- no call makes a present
-no_present : (call : Call) (args : PresentArgs) → Some (Present args) ≡ entry_of_call call → ⊥
-no_present (CreateView pair) args is = cc
-no_present (CreateViewport c pair w h inset) args is = cc
-no_present _ args is = cc
+-- whether an entry of this kind uses an end
+abbrev uses_end : Kind → Bool
+uses_end (View pair) = true
+uses_end (Viewport pair props) = true
+uses_end _ = false
+
+-- a call makes no other entry
+no_entry : (kind : Kind) → uses_end kind ≡ false → (call : Call) → Some kind ≡ entry_of_call call → ⊥
+no_entry kind other (CreateView pair) is = let e : kind ≡ View pair = cc in let both : false ≡ true = sym other ∙ ap uses_end e in cc
+no_entry kind other (CreateViewport c pair w h inset) is = let e : kind ≡ Viewport pair (record { w = w; h = h; inset = inset }) = cc in let both : false ≡ true = sym other ∙ ap uses_end e in cc
+no_entry kind other _ is = cc
 
 module _ (setup : Setup) (draft : Draft) (old new : DraftState) where
   pub call_closes : (call : Call) (reason : Reason) → IsAnswer setup draft call old new (Err (Bad reason)) → Some (Close (Some reason)) ≡ entry_of_line setup draft (line.Call call)
@@ -52,5 +56,8 @@ module _ (setup : Setup) (draft : Draft) (old new : DraftState) where
   pub call_leaves : (call : Call) (made : Option Made) → IsAnswer setup draft call old new (Ok tt) → option_map kind_of made ≡ entry_of_call call → IsMadeBy call made → LeavesDraft setup draft (line.Call call) new made
   call_leaves call None answer kind by = (answer.1, answer.2, answer.3)
   call_leaves call (Some (made.View pair)) answer kind by = (ap (λ (k : Call). let t : Line = line.Call k in t) by, answer.1, answer.2, answer.3)
-  call_leaves call (Some (made.Present args snapshot)) answer kind by = absurd (no_present call args kind)
+  call_leaves call (Some (made.Present args snapshot)) answer kind by = absurd (no_entry (Present args) refl call kind)
+  call_leaves call (Some (made.Signal f)) answer kind by = absurd (no_entry (Signal f) refl call kind)
+  call_leaves call (Some made.Poll) answer kind by = absurd (no_entry Poll refl call kind)
+  call_leaves call (Some (made.Wait c)) answer kind by = absurd (no_entry (Wait c) refl call kind)
   call_leaves call (Some (made.Close why)) answer kind by = tt

@@ -1,5 +1,5 @@
 -- The trees of good drafts show no viewport, and nothing of too great an opacity.
-use Rattle.std.proofs.Common.{◌≡◌, ℕ, zero, suc, ◌+◌, ◌-◌, ◌<◌, ◌≤◌, Bool, true, false, cond, ◌&&◌, ◌==◌, nat_lt, nat_le, max, List, [], ◌∷◌, ◌++◌, length, filter_map, refl, sym, ap, ◌∙◌, subst, arith, Option, Some, None, slice_get}
+use Rattle.std.proofs.Common.{◌≡◌, ℕ, zero, suc, ◌-◌, ◌≤◌, Bool, true, false, cond, ◌==◌, nat_lt, nat_le, List, [], ◌∷◌, filter_map, refl, sym, ap, ◌∙◌, subst, arith, Option, Some, None}
 use Rattle.std.specs.List.{list_all}
 use Rattle.std.specs.Option.{option_map, option_and_then}
 use Rattle.std.specs.Prelude.{option_to_list}
@@ -20,7 +20,7 @@ use Rattle.flat_scene.specs.Misuse.{first_reason}
 use Rattle.flat_scene.specs.Tree.{shown_content, content_held, node, each, node_within, all_nodes, is_too_large, tree_tests, tree, head_of, use_of}
 use Rattle.flat_scene.specs.Trees.{more, node_count}
 use Rattle.flat_topology.specs.Fit.{image_opacity, greatest_opacity}
-use Rattle.flat_topology.specs.Shown.{pair_in, pairs_in, nodes_of, root_alone}
+use Rattle.flat_topology.specs.Shown.{pair_in, pairs_in, nodes_of}
 use Rattle.flat_run.proofs.Fits.{IsGood, is_low, is_dim}
 use Rattle.flat_run.proofs.Conditions.{and_left, and_right}
 

@@ -1,11 +1,10 @@
 -- A line of a script at its place.
-use Rattle.std.proofs.Common.{◌≡◌, ℕ, suc, ◌+◌, ◌<◌, ◌≤◌, Bool, true, false, cond, ◌&&◌, ◌==◌, nat_lt, nat_le, List, [], ◌∷◌, ◌++◌, length, filter, take, drop, get_or, refl, sym, ap, ◌∙◌, subst, arith, append-nil, append_assoc, add-one, Option, Some, None, slice_get}
-use Rattle.std.specs.List.{list_all, flat_map, AllByRecursion}
+use Rattle.std.proofs.Common.{◌≡◌, ℕ, ◌+◌, ◌<◌, Bool, true, false, ◌==◌, nat_lt, nat_le, List, [], ◌∷◌, ◌++◌, length, filter, take, drop, get_or, refl, sym, ap, ◌∙◌, add-one, Some, slice_get}
+use Rattle.std.specs.List.{list_all}
 use Rattle.std.proofs.Math.Seq.{drop-cons}
 use Rattle.std.proofs.lemmas.Bool.{eq-eqb}
 use Rattle.std.proofs.lemmas.List.{take_more, take-append-drop}
 use Rattle.std.proofs.lemmas.Option.{slice_get_within, slice_get-get_or}
-use Rattle.flat_base.specs.declared.ids.Actor.{Actor}
 use Rattle.flat_base.specs.declared.ids.Actor.TheVariants.{Session}
 use Rattle.flat_base.specs.declared.ids.SessionNo.{SessionNo}
 use Rattle.flat_base.specs.declared.limits.TheConstants.{SCRIPT_BYTES_MAX}
@@ -20,7 +19,7 @@ use Rattle.flat_script.specs.declared.script.Script.{Script}
 use Rattle.flat_playable.specs.Playable.{rise_from, frames_close, is_played, is_played_line, is_playable}
 use Rattle.flat_run.specs.Playing.{last_number, lines_left}
 use Rattle.flat_run.proofs.Conditions.{and_left, and_right, all_at}
-use Rattle.flat_run.proofs.Unread.{rise_to, rise_after, rise_first, rise_later, unread_after, Numbered}
+use Rattle.flat_run.proofs.Unread.{rise_first, rise_later, unread_after, Numbered}
 
 -- ---- lists around a place
 

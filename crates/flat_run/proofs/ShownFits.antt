@@ -1,11 +1,10 @@
 -- What the sessions of a legal history show fits the setup.
-use Rattle.std.proofs.Common.{◌≡◌, ◌≢◌, ℕ, zero, suc, ◌+◌, ◌-◌, ◌<◌, ◌≤◌, Bool, true, false, cond, ◌&&◌, ◌||◌, ◌==◌, not, nat_lt, nat_le, List, [], ◌∷◌, ◌++◌, length, map, get_or, refl, sym, ap, ◌∙◌, subst, arith, append-nil, length-append, Option, Some, None, Ok, Err, Result, slice_get, is_some, is_none}
+use Rattle.std.proofs.Common.{◌≡◌, ◌≢◌, ℕ, zero, suc, ◌+◌, ◌-◌, ◌<◌, ◌≤◌, Bool, true, false, cond, ◌==◌, List, [], ◌∷◌, ◌++◌, length, map, get_or, refl, sym, ap, ◌∙◌, subst, arith, length-append, Option, Some, None, Ok, Err, Result, slice_get, is_none}
 use Rattle.std.specs.List.{list_all, AllByRecursion, Contains, AllPairs}
 use Rattle.std.specs.Option.{option_map, option_and_then, unwrap_or}
 use Rattle.std.specs.Result.{result_ok}
 use Rattle.std.proofs.lemmas.Bool.{eqb-true}
 use Rattle.std.proofs.lemmas.List.{map-append}
-use Rattle.std.proofs.lemmas.Bool.Decides.{nat_tests}
 use Rattle.flat_base.specs.declared.ids.Actor.{Actor}
 use Rattle.flat_base.specs.declared.ids.Actor.TheVariants.{Display, Session, Probe}
 use Rattle.flat_base.specs.declared.ids.PairNo.{PairNo}
@@ -25,16 +24,16 @@ use Rattle.flat_scene.specs.declared.trees.Tree.{Tree}
 use Rattle.flat_scene.specs.Draft.{Draft, of_serial}
 use Rattle.flat_scene.specs.Effect.{draft_of}
 use Rattle.flat_scene.specs.Frames.{taken, sessions_to}
-use Rattle.flat_scene.specs.History.{◌▹◌, own, is_session, is_begin, is_closed, carried, calls, presents, published, published_all, Published}
+use Rattle.flat_scene.specs.History.{◌▹◌, own, is_session, is_begin, is_closed, carried, presents, published, published_all, Published}
 use Rattle.flat_scene.specs.Misuse.{first_reason}
 use Rattle.flat_scene.specs.Tree.{tree_tests, tree}
-use Rattle.flat_core.specs.Legal.{Legal, LegalEntry, has_tree, draft_with, owns_all, owns_in_call, owns_view}
-use Rattle.flat_core.specs.Ends.{to_begin, view_owner}
+use Rattle.flat_core.specs.Legal.{Legal, has_tree, draft_with, owns_all, owns_in_call, owns_view}
+use Rattle.flat_core.specs.Ends.{to_begin}
 use Rattle.flat_core.specs.Plain.{is_plain, is_plain_call, are_plain}
 use Rattle.flat_core.specs.Shown.{shown, shown_states, tree_of, last_taken}
 use Rattle.flat_topology.specs.Fit.{FitsSetup, greatest_opacity}
-use Rattle.flat_topology.specs.Pairs.{OwnsView, OwnsViewport}
-use Rattle.flat_topology.specs.Shown.{state_of, view_of, nodes_of, pairs_shown, pairs_in}
+use Rattle.flat_topology.specs.Pairs.{OwnsView}
+use Rattle.flat_topology.specs.Shown.{state_of, view_of, nodes_of, pairs_in}
 use Rattle.flat_scene.specs.Trees.{node_count}
 use Rattle.flat_run.proofs.Fits.{IsGood, good_draft}
 use Rattle.flat_run.proofs.LowTrees.{ShowsLow, tree_low, tree_small}

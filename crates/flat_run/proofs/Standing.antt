@@ -1,7 +1,6 @@
 -- How a session stands after one more of its lines.
-use Rattle.std.proofs.Common.{◌≡◌, ℕ, suc, ◌+◌, ◌<◌, ◌≤◌, Bool, true, false, cond, ◌&&◌, ◌||◌, ◌==◌, not, nat_lt, List, [], ◌∷◌, ◌++◌, length, filter, take, drop, refl, sym, ap, ◌∙◌, subst, arith, append-nil, append_assoc, Option, Some, None, Ok, Result, option_map}
+use Rattle.std.proofs.Common.{◌≡◌, ℕ, ◌+◌, Bool, true, false, ◌||◌, List, [], ◌∷◌, ◌++◌, length, refl, sym, ap, ◌∙◌, subst, arith, append-nil, append_assoc, Option, Some, None, Ok}
 use Rattle.std.specs.Prelude.{option_and_then}
-use Rattle.std.specs.Arc.{arc_value}
 use Rattle.std.specs.List.{list_any, list_all}
 use Rattle.std.specs.Result.{result_ok}
 use Rattle.std.proofs.lemmas.Bool.{eq-eqb}
@@ -10,23 +9,21 @@ use Rattle.flat_base.specs.declared.ids.SessionNo.{SessionNo}
 use Rattle.flat_base.specs.declared.errors.Reason.{Reason}
 use Rattle.flat_scene.specs.declared.calls.Call.{Call}
 use Rattle.flat_scene.specs.declared.calls.Call.TheVariants.{CreateView, CreateViewport, CreateImage}
-use Rattle.flat_scene.specs.declared.calls.PresentArgs.{PresentArgs}
 use Rattle.flat_scene.specs.declared.journal.Entry.{Entry}
 use Rattle.flat_scene.specs.declared.journal.Kind.{Kind}
-use Rattle.flat_scene.specs.declared.journal.Kind.TheVariants.{View, Present, Close, End}
+use Rattle.flat_scene.specs.declared.journal.Kind.TheVariants.{View, Present, Signal, Poll, Wait, Close, End}
 use Rattle.flat_scene.specs.declared.journal.Reply.{Reply}
 use Rattle.flat_scene.specs.declared.script.Line.{Line}
 use Rattle.flat_scene.specs.declared.script.Line.TheVariants as line
 use Rattle.flat_scene.specs.declared.setup.Setup.{Setup}
 use Rattle.flat_scene.specs.Draft.{Draft}
-use Rattle.flat_scene.specs.Effect.{effect, draft_of}
-use Rattle.flat_scene.specs.History.{◌▹◌, own, is_closed, is_end, is_session, calls, carried, closes}
-use Rattle.flat_scene.specs.Interleave.{Next, IsNext, next_of, next_from, next_or, session_lines, Follows, entry_of_line, entry_of_call, calls_of_line, after_line, unread_lines, or_close}
+use Rattle.flat_scene.specs.Effect.{draft_of}
+use Rattle.flat_scene.specs.History.{◌▹◌, own, is_end, calls, carried, closes}
+use Rattle.flat_scene.specs.Interleave.{Next, next_of, next_from, next_or, session_lines, Follows, entry_of_line, entry_of_call, calls_of_line, after_line, unread_lines, or_close}
 use Rattle.flat_scene.specs.Tree.{tree}
-use Rattle.flat_core.specs.Boards.{Machine, MayCall, HasShare, entered, entry_of, present_of}
+use Rattle.flat_core.specs.Boards.{Machine, MayCall, HasShare, entry_of}
 use Rattle.flat_core.specs.Legal.{reply_to}
 use Rattle.flat_core.specs.Plain.{is_plain_call}
-use Rattle.flat_core.specs.Shown.{tree_of}
 use Rattle.flat_draft.specs.Stands.{StandsFor}
 use Rattle.flat_draft.specs.State.{DraftState}
 use Rattle.flat_draft.proofs.Following.{calls_follow}
@@ -36,11 +33,11 @@ use Rattle.flat_run.specs.declared.made.Made.TheVariants as made
 use Rattle.flat_run.specs.declared.player.Player.{Player}
 use Rattle.flat_run.specs.Made.{kind_of, ShowsTree}
 use Rattle.flat_playable.specs.Playable.{is_private, is_played_call, is_played_line}
-use Rattle.flat_run.specs.Playing.{last_number, lines_left, is_judged, IsNoMisuse, LeavesDraft, Judges, IsOpenAt, IsClosedAt, PlayerStands, is_quiet, Grows, grows, stays}
-use Rattle.flat_run.proofs.Entering.{IsWaiting, may_view, may_present, may_close_call, may_close_present}
+use Rattle.flat_run.specs.Playing.{lines_left, is_judged, IsNoMisuse, LeavesDraft, Judges, IsOpenAt, IsClosedAt, PlayerStands, is_quiet}
+use Rattle.flat_run.proofs.Entering.{IsWaiting, may_view, may_present, may_signal, may_poll, may_wait, may_close_call, may_close_present}
 use Rattle.flat_run.proofs.Places.{Here}
-use Rattle.flat_run.proofs.Reading.{IsOpen, IsShut, open_private, open_entry, follows_more, open_after, shut_after}
-use Rattle.flat_run.proofs.Conditions.{and_left, and_right, and_true, or_false, all_more}
+use Rattle.flat_run.proofs.Reading.{IsOpen, IsShut, follows_more, open_after, shut_after}
+use Rattle.flat_run.proofs.Conditions.{or_false, all_more}
 
 -- ---- the calls of a line
 
@@ -50,23 +47,31 @@ after_made : (setup : Setup) (before : List Call) (pending : List Call) (text : 
 after_made setup before pending (line.Call call) draft judged fine made =
     ap (draft_of setup) (sym (append_assoc before pending (call ∷ []))) ∙ (calls_follow setup (before ++ pending) draft call made).done fine
 after_made setup before pending (line.Present args) draft judged fine made = ap (λ p. draft_of setup (before ++ p)) (append-nil pending) ∙ made
-after_made setup before pending _ draft judged fine made = absurd (cc)
+after_made setup before pending (line.Signal f) draft judged fine made = ap (λ p. draft_of setup (before ++ p)) (append-nil pending) ∙ made
+after_made setup before pending line.Poll draft judged fine made = ap (λ p. draft_of setup (before ++ p)) (append-nil pending) ∙ made
+after_made setup before pending (line.Wait c) draft judged fine made = ap (λ p. draft_of setup (before ++ p)) (append-nil pending) ∙ made
+after_made setup before pending line.Disconnect draft judged fine made = ap (λ p. draft_of setup (before ++ p)) (append-nil pending) ∙ made
+after_made setup before pending (line.Get get) draft judged fine made = absurd (cc)
 
 -- a played call that makes no entry is private
-private_played : (setup : Setup) (s : SessionNo) (call : Call) → is_played_call setup s call ≡ true → entry_of_call call ≡ None → is_private call ≡ true
+private_played : (setup : Setup) (s : SessionNo) (call : Call) → is_played_call setup s call ≡ true → entry_of_call call ≡ None → is_private setup s call ≡ true
 private_played setup s (CreateView pair) played none = absurd (cc)
 private_played setup s (CreateViewport c pair w h inset) played none = absurd (cc)
-private_played setup s (CreateImage c buffers i w h) played none = absurd (cc)
+private_played setup s (CreateImage c buffers i w h) played none = played
 private_played setup s _ played none = refl
 
 -- a line that makes no entry adds a private call or none
 still_private : (setup : Setup) (s : SessionNo) (draft : Draft) (text : Line) (pending : List Call) → is_played_line setup s text ≡ true → IsNoMisuse setup draft text → entry_of_line setup draft text ≡ None
-    → list_all is_private pending ≡ true → list_all is_private (pending ++ calls_of_line text) ≡ true
+    → list_all (is_private setup s) pending ≡ true → list_all (is_private setup s) (pending ++ calls_of_line text) ≡ true
 still_private setup s draft (line.Call call) pending played fine none private =
     let alone : entry_of_call call ≡ None = ap (λ r. or_close r (entry_of_call call)) (sym fine) ∙ none in
-    all_more is_private pending call private (private_played setup s call played alone)
-still_private setup s draft (line.Present args) pending played fine none private = ap (list_all is_private) (append-nil pending) ∙ private
-still_private setup s draft _ pending played fine none private = absurd (cc)
+    all_more (is_private setup s) pending call private (private_played setup s call played alone)
+still_private setup s draft (line.Present args) pending played fine none private = ap (list_all (is_private setup s)) (append-nil pending) ∙ private
+still_private setup s draft (line.Signal f) pending played fine none private = absurd (cc)
+still_private setup s draft line.Poll pending played fine none private = absurd (cc)
+still_private setup s draft (line.Wait c) pending played fine none private = absurd (cc)
+still_private setup s draft line.Disconnect pending played fine none private = absurd (cc)
+still_private setup s draft (line.Get get) pending played fine none private = absurd (cc)
 
 pub judged_played : (setup : Setup) (s : SessionNo) (text : Line) → is_played_line setup s text ≡ true → is_judged text ≡ true
 judged_played setup s (line.Call call) played = plain call played
@@ -74,8 +79,8 @@ judged_played setup s (line.Call call) played = plain call played
     plain : (call : Call) → is_played_call setup s call ≡ true → is_plain_call call ≡ true
     plain (CreateViewport c pair w h inset) played = absurd (cc)
     plain _ played = refl
-judged_played setup s (line.Present args) played = refl
-judged_played setup s _ played = absurd (cc)
+judged_played setup s (line.Get get) played = absurd (cc)
+judged_played setup s _ played = refl
 
 module _ (script : Script) (s : SessionNo) (place number : ℕ) (text : Line) (here : Here script s place number text) (history : List Entry) where
   -- a line of a session that was closed is counted
@@ -116,17 +121,13 @@ module _ (script : Script) (s : SessionNo) (place number : ℕ) (text : Line) (h
               ∙ ap (λ p. next_from script.setup script.count (after_line o.draft text) p (lines_left script s (place + 1))) (sym j.pending);
           stands = j.leaves.1;
           still_open = j.leaves.2;
-          private = ap (list_all is_private) j.pending ∙ still_private script.setup s o.draft text old.pending here.played j.leaves.0 none o.private;
+          private = ap (list_all (is_private script.setup s)) j.pending ∙ still_private script.setup s o.draft text old.pending here.played j.leaves.0 none o.private;
           none_refused = j.refused ∙ o.none_refused;
         };
         when_closed = λ is. absurd (let both : false ≡ true = sym (j.closed ∙ opened) ∙ is in cc);
       }
 
 -- ---- a line that makes an entry
-
-empty_is : {A : Type 0} (xs : List A) → (length xs == 0) ≡ true → xs ≡ []
-empty_is [] zero = refl
-empty_is (x ∷ xs) zero = absurd (let other : (length (x ∷ xs) == 0) ≡ false = grind arith in let both : true ≡ false = sym zero ∙ other in cc)
 
 or_rest : (a b : Bool) → b ≡ false → (a || b) ≡ a
 or_rest true b is = refl
@@ -135,11 +136,17 @@ or_rest false b is = is
 pub made_quiet : (one : Made) → is_quiet (kind_of one) ≡ true
 made_quiet (made.View pair) = refl
 made_quiet (made.Present args snapshot) = refl
+made_quiet (made.Signal f) = refl
+made_quiet made.Poll = refl
+made_quiet (made.Wait c) = refl
 made_quiet (made.Close why) = refl
 
 made_no_end : (one : Made) → is_end (kind_of one) ≡ false
 made_no_end (made.View pair) = refl
 made_no_end (made.Present args snapshot) = refl
+made_no_end (made.Signal f) = refl
+made_no_end made.Poll = refl
+made_no_end (made.Wait c) = refl
 made_no_end (made.Close why) = refl
 
 close_closes : (setup : Setup) (s : SessionNo) (history : List Entry) (carries : List Call) (why : Option Reason) → closes (reply_to setup history (Session s) carries (Close why)) ≡ true
@@ -148,6 +155,17 @@ close_closes setup s history carries (Some reason) = refl
 
 own_more : (s : SessionNo) (history : List Entry) (n : ℕ) (carries : List Call) (kind : Kind) (reply : Reply) → own s (history ▹ entry_of (Session s) n carries kind reply) ≡ (own s history ▹ entry_of (Session s) n carries kind reply)
 own_more s history n carries kind reply = rw (eq-eqb s.0 s.0 refl) refl
+
+-- what a draft is known to be after a line
+abbrev IsLeft : Setup → SessionNo → List Entry → List Call → Draft → DraftState → Line → Type 0
+IsLeft setup s history pending draft after text =
+    (draft_of setup (carried (own s history) ++ (pending ++ calls_of_line text)) ≡ Ok (after_line draft text)) × StandsFor setup after (after_line draft text) × (after.closed ≡ false)
+
+left_beside : (setup : Setup) (s : SessionNo) (history : List Entry) (pending : List Call) (text told : Line) (draft : Draft) (after : DraftState) → text ≡ told
+    → draft_of setup (carried (own s history) ++ (pending ++ calls_of_line told)) ≡ Ok (after_line draft told) → StandsFor setup after (after_line draft told) → after.closed ≡ false → IsLeft setup s history pending draft after text
+left_beside setup s history pending text told draft after is made stands opened =
+    let P : Line → Type 0 = IsLeft setup s history pending draft after in
+    subst P (sym is) (made, stands, opened)
 
 -- what is left of the draft, where the entry doesn't close
 left_after : (setup : Setup) (s : SessionNo) (history : List Entry) (pending carries : List Call) (text : Line) (draft : Draft) (after : DraftState) (one : Made) (reply : Reply) → is_judged text ≡ true
@@ -158,6 +176,12 @@ left_after setup s history pending carries text draft after (made.View pair) rep
 left_after setup s history pending carries text draft after (made.Present args snapshot) reply judged leaves replied goes_on made =
     let P : Line → Type 0 = λ t. (draft_of setup (carried (own s history) ++ (pending ++ calls_of_line t)) ≡ Ok (after_line draft t)) × StandsFor setup after (after_line draft t) × (after.closed ≡ false) in
     subst P (sym leaves.0) (ap (λ p. draft_of setup (carried (own s history) ++ p)) (append-nil pending) ∙ made, leaves.3, leaves.4)
+left_after setup s history pending carries text draft after (made.Signal f) reply judged leaves replied goes_on made =
+    left_beside setup s history pending text (line.Signal f) draft after leaves.0 (ap (λ p. draft_of setup (carried (own s history) ++ p)) (append-nil pending) ∙ made) leaves.1 leaves.2
+left_after setup s history pending carries text draft after made.Poll reply judged leaves replied goes_on made =
+    left_beside setup s history pending text line.Poll draft after leaves.0 (ap (λ p. draft_of setup (carried (own s history) ++ p)) (append-nil pending) ∙ made) leaves.1 leaves.2
+left_after setup s history pending carries text draft after (made.Wait c) reply judged leaves replied goes_on made =
+    left_beside setup s history pending text (line.Wait c) draft after leaves.0 (ap (λ p. draft_of setup (carried (own s history) ++ p)) (append-nil pending) ∙ made) leaves.1 leaves.2
 left_after setup s history pending carries text draft after (made.Close why) reply judged leaves replied goes_on made =
     absurd (let both : true ≡ false = sym (close_closes setup s history carries why) ∙ sym (ap closes replied) ∙ goes_on in cc)
 
@@ -180,6 +204,13 @@ module _ (script : Script) (s : SessionNo) (place number : ℕ) (text : Line) (h
       made = was.made;
     }
 
+    -- a line that is no call
+    enters_beside : (kind : Kind) (told : Line) → told ≡ text → old.pending ++ calls_of_line told ≡ old.pending → MayCall board (Session s) old.pending kind → MayCall board (Session s) (old.pending ++ calls_of_line text) kind
+    enters_beside kind told is none may =
+        let Q : Line → Type 0 = λ t. MayCall board (Session s) (old.pending ++ calls_of_line t) kind in
+        let S : List Call → Type 0 = λ p. MayCall board (Session s) p kind in
+        subst Q is (subst S (sym none) may)
+
     may_enter_as : HasShare board (Session s) → (some : Made) → LeavesDraft script.setup was.draft text new.draft (Some some) → (told : Line) → told ≡ text → MayCall board (Session s) (old.pending ++ calls_of_line text) (kind_of some)
     may_enter_as share (made.View pair) leaves told is =
         let P : Line → Type 0 = λ t. is_played_line script.setup s t ≡ true in
@@ -190,19 +221,26 @@ module _ (script : Script) (s : SessionNo) (place number : ℕ) (text : Line) (h
     may_enter_as share (made.Present args snapshot) leaves told is =
         let P : Line → Type 0 = λ t. is_played_line script.setup s t ≡ true in
         let Q : Line → Type 0 = λ t. MayCall board (Session s) (old.pending ++ calls_of_line t) (Present args) in
-        let lists : (length args.acquire == 0 && length args.release == 0) ≡ true = subst P leaves.0 here.played in
         let S : List Call → Type 0 = λ p. MayCall board (Session s) p (Present args) in
         subst Q (sym leaves.0) (subst S (sym (append-nil old.pending))
-        (may_present board s old.pending was.draft (waits share) args (empty_is args.acquire (and_left _ _ lists)) (empty_is args.release (and_right (length args.acquire == 0) _ lists)) leaves.1))
+        (may_present board s old.pending was.draft (waits share) args (subst P leaves.0 here.played) leaves.1))
+    may_enter_as share (made.Signal f) leaves told is =
+        let P : Line → Type 0 = λ t. is_played_line script.setup s t ≡ true in
+        enters_beside (Signal f) (line.Signal f) (sym leaves.0) (append-nil old.pending) (may_signal board s old.pending was.draft (waits share) f (subst P leaves.0 here.played))
+    may_enter_as share made.Poll leaves told is = enters_beside Poll line.Poll (sym leaves.0) (append-nil old.pending) (may_poll board s old.pending was.draft (waits share))
+    may_enter_as share (made.Wait c) leaves told is =
+        let P : Line → Type 0 = λ t. is_played_line script.setup s t ≡ true in
+        enters_beside (Wait c) (line.Wait c) (sym leaves.0) (append-nil old.pending) (may_wait board s old.pending was.draft (waits share) c (subst P leaves.0 here.played))
     may_enter_as share (made.Close why) leaves (line.Call call) is =
         let P : Line → Type 0 = λ t. is_played_line script.setup s t ≡ true in
         let Q : Line → Type 0 = λ t. MayCall board (Session s) (old.pending ++ calls_of_line t) (Close why) in
         subst Q is (may_close_call board s old.pending was.draft (waits share) call why (subst P (sym is) here.played))
-    may_enter_as share (made.Close why) leaves (line.Present args) is =
-        let Q : Line → Type 0 = λ t. MayCall board (Session s) (old.pending ++ calls_of_line t) (Close why) in
-        let S : List Call → Type 0 = λ p. MayCall board (Session s) p (Close why) in
-        subst Q is (subst S (sym (append-nil old.pending)) (may_close_present board s old.pending was.draft (waits share) why))
-    may_enter_as share (made.Close why) leaves _ is = absurd (let both : false ≡ true = ap is_judged is ∙ judged_played script.setup s text here.played in cc)
+    may_enter_as share (made.Close why) leaves (line.Present args) is = enters_beside (Close why) (line.Present args) is (append-nil old.pending) (may_close_present board s old.pending was.draft (waits share) why)
+    may_enter_as share (made.Close why) leaves (line.Signal f) is = enters_beside (Close why) (line.Signal f) is (append-nil old.pending) (may_close_present board s old.pending was.draft (waits share) why)
+    may_enter_as share (made.Close why) leaves line.Poll is = enters_beside (Close why) line.Poll is (append-nil old.pending) (may_close_present board s old.pending was.draft (waits share) why)
+    may_enter_as share (made.Close why) leaves (line.Wait c) is = enters_beside (Close why) (line.Wait c) is (append-nil old.pending) (may_close_present board s old.pending was.draft (waits share) why)
+    may_enter_as share (made.Close why) leaves line.Disconnect is = enters_beside (Close why) line.Disconnect is (append-nil old.pending) (may_close_present board s old.pending was.draft (waits share) why)
+    may_enter_as share (made.Close why) leaves (line.Get get) is = enters_beside (Close why) (line.Get get) is (append-nil old.pending) (may_close_present board s old.pending was.draft (waits share) why)
 
     -- the entry may be made
     pub may_enter : HasShare board (Session s) → MayCall board (Session s) new.pending (kind_of one)
@@ -213,6 +251,9 @@ module _ (script : Script) (s : SessionNo) (place number : ℕ) (text : Line) (h
 
     shows_as : (some : Made) → LeavesDraft script.setup was.draft text new.draft (Some some) → ShowsTree board s (old.pending ++ calls_of_line text) some
     shows_as (made.View pair) leaves = tt
+    shows_as (made.Signal f) leaves = tt
+    shows_as made.Poll leaves = tt
+    shows_as (made.Wait c) leaves = tt
     shows_as (made.Close why) leaves = tt
     shows_as (made.Present args snapshot) leaves =
         let P : Line → Type 0 = λ t. ShowsTree board s (old.pending ++ calls_of_line t) (made.Present args snapshot) in

@@ -1,43 +1,38 @@
 -- The run before its first line.
-use Rattle.std.proofs.Common.{◌≡◌, ℕ, zero, suc, ◌+◌, ◌-◌, ◌*◌, ◌<◌, ◌≤◌, ◌^◌, Bool, true, false, cond, ◌&&◌, ◌==◌, not, nat_lt, nat_le, List, [], ◌∷◌, ◌++◌, length, filter, take, drop, map, sum, get_or, count_by, All, refl, sym, ap, ◌∙◌, subst, arith, append-nil, add-one, length-append, Option, Some, None}
+use Rattle.std.proofs.Common.{◌≡◌, ℕ, zero, suc, ◌+◌, ◌*◌, ◌<◌, ◌≤◌, Bool, true, false, cond, ◌==◌, not, nat_lt, nat_le, List, [], ◌∷◌, ◌++◌, length, map, sum, All, refl, sym, ap, ◌∙◌, subst, arith, add-one, None}
 use Rattle.std.specs.List.{list_all, list_any}
 use Rattle.std.specs.Prelude.{slice_index_or}
 use Rattle.std.proofs.lemmas.Bool.Decides.{nat_tests}
 use Rattle.std.proofs.lemmas.Grind.{common_steps}
 use Rattle.std.proofs.lemmas.List.{map-append}
 use Rattle.std.proofs.lemmas.List.Sums.{sum_by-append}
-use Rattle.flat_base.specs.declared.ids.Actor.TheVariants.{Display, Session, Probe}
 use Rattle.flat_base.specs.declared.ids.SessionNo.{SessionNo}
 use Rattle.flat_base.specs.declared.limits.TheConstants.{SCRIPT_BYTES_MAX, SESSIONS_MAX}
 use Rattle.flat_scene.specs.declared.frames.SessionSet.{SessionSet}
 use Rattle.flat_scene.specs.declared.frames.FrameOut.{FrameOut}
 use Rattle.flat_scene.specs.declared.journal.Entry.{Entry}
-use Rattle.flat_scene.specs.declared.script.Body.{Body}
-use Rattle.flat_scene.specs.declared.script.Body.TheVariants as body
 use Rattle.flat_scene.specs.declared.script.ScriptLine.{ScriptLine}
 use Rattle.flat_scene.specs.declared.setup.Setup.{Setup}
 use Rattle.flat_scene.specs.Draft.{empty_draft}
 use Rattle.flat_scene.specs.Frames.{sessions_to}
 use Rattle.flat_scene.specs.History.{seat_number, is_session}
-use Rattle.flat_scene.specs.Interleave.{session_lines, session_line, display_lines, display_line, unread_lines, next_from}
-use Rattle.flat_scene.specs.Setups.{is_setup, is_declared, is_within_limits}
+use Rattle.flat_scene.specs.Interleave.{session_lines, session_line, display_line, unread_lines, next_from}
+use Rattle.flat_scene.specs.Setups.{is_setup, is_within_limits}
 use Rattle.flat_core.proofs.ShownList.{length-listed, nothing-shown}
 use Rattle.flat_core.specs.Boards.{Machine}
-use Rattle.flat_core.specs.Ends.{has_view, to_begin, views_of}
+use Rattle.flat_core.specs.Ends.{has_view, views_of}
 use Rattle.flat_topology.specs.Shown.{Shown}
 use Rattle.flat_topology.specs.Views.{is_member}
-use Rattle.flat_draft.specs.State.{empty_state}
-use Rattle.flat_draft.specs.Stands.{StandsFor}
 use Rattle.flat_draft.specs.Laws.{EmptyStands}
 use Rattle.flat_script.specs.declared.script.Script.{Script}
-use Rattle.flat_playable.specs.Playable.{rise_from, is_playable, frames_close}
+use Rattle.flat_playable.specs.Playable.{rise_from, is_playable}
 use Rattle.flat_run.specs.declared.game.Game.{Game}
 use Rattle.flat_run.specs.declared.player.Player.{Player}
-use Rattle.flat_run.specs.Playing.{lines_by, rest_shares, shares_of, first_player, PlayerStands, PlayersStand, DisplayStands, IsInOrder, IsSpent, FramesStand, HasViews, GameStands, IsOpenAt, last_number}
+use Rattle.flat_run.specs.Playing.{lines_by, rest_shares, shares_of, first_player, PlayerStands, PlayersStand, DisplayStands, IsInOrder, IsSpent, FramesStand, GameStands}
 use Rattle.flat_run.proofs.Places.{few_lines, rises, counted, frames_are, setup_is, session_numbered}
 use Rattle.flat_run.proofs.DisplaySteps.{display_numbered}
 use Rattle.flat_run.proofs.Conditions.{and_left, and_right}
-use Rattle.flat_run.proofs.Unread.{rise_first, rise_later, later_all, Numbered}
+use Rattle.flat_run.proofs.Unread.{rise_first, rise_later, later_all}
 
 -- ---- the shares
 

@@ -1,33 +1,18 @@
 -- The run after one more line of the script.
-use Rattle.std.proofs.Common.{◌≡◌, ℕ, suc, ◌+◌, ◌-◌, ◌<◌, ◌≤◌, Bool, true, false, cond, ◌&&◌, ◌||◌, ◌==◌, not, nat_lt, nat_le, List, [], ◌∷◌, ◌++◌, length, filter, take, drop, map, reverse, get_or, count_by, refl, sym, ap, ◌∙◌, subst, arith, append-nil, append_assoc, Option, Some, None, slice_get}
-use Rattle.std.specs.List.{list_any, list_all, flat_map}
-use Rattle.std.proofs.lemmas.Bool.{eq-eqb}
+use Rattle.std.proofs.Common.{◌≡◌, ℕ, ◌+◌, ◌<◌, Bool, true, false, cond, ◌==◌, List, [], ◌∷◌, ◌++◌, length, take, drop, refl, sym, ap, ◌∙◌, subst, arith, Some, slice_get}
+use Rattle.std.specs.List.{list_any, list_all}
 use Rattle.std.proofs.lemmas.Grind.{common_steps}
-use Rattle.std.proofs.lemmas.Bool.Decides.{nat_tests}
-use Rattle.flat_base.specs.declared.ids.Actor.{Actor}
-use Rattle.flat_base.specs.declared.ids.Actor.TheVariants.{Display, Session, Probe}
 use Rattle.flat_base.specs.declared.ids.SessionNo.{SessionNo}
 use Rattle.flat_scene.specs.declared.journal.Entry.{Entry}
-use Rattle.flat_scene.specs.declared.journal.Kind.{Kind}
-use Rattle.flat_scene.specs.declared.journal.Kind.TheVariants.{Begin, Finish, End, Hit, View, Viewport, Present, Get, Signal, Poll, Wait, Close}
-use Rattle.flat_scene.specs.declared.journal.Reply.{Reply}
-use Rattle.flat_scene.specs.declared.script.Body.{Body}
-use Rattle.flat_scene.specs.declared.script.Body.TheVariants as body
-use Rattle.flat_scene.specs.declared.script.DisplayLine.{DisplayLine}
-use Rattle.flat_scene.specs.declared.script.DisplayLine.TheVariants as display
-use Rattle.flat_scene.specs.declared.script.Line.{Line}
+use Rattle.flat_scene.specs.declared.journal.Kind.TheVariants.{End}
 use Rattle.flat_scene.specs.declared.script.ScriptLine.{ScriptLine}
-use Rattle.flat_scene.specs.declared.setup.Setup.{Setup}
-use Rattle.flat_scene.specs.History.{◌▹◌, own, is_session, is_display, is_begin, is_finish, is_end, is_closed, closes, seat_number}
-use Rattle.flat_scene.specs.Interleave.{session_lines, session_line, display_lines, display_line, by_display, unread_lines, last_line, next_of, next_from, Next, Follows}
+use Rattle.flat_scene.specs.History.{◌▹◌, own, is_session, is_end, closes, seat_number}
+use Rattle.flat_scene.specs.Interleave.{session_lines, session_line, last_line, next_from, Next, Follows}
 use Rattle.flat_core.specs.Boards.{made}
-use Rattle.flat_core.specs.Ends.{to_begin}
-use Rattle.flat_core.specs.Legal.{is_frame_open, begin_time}
-use Rattle.flat_report.specs.Report.{finished}
 use Rattle.flat_script.specs.declared.script.Script.{Script}
 use Rattle.flat_run.specs.declared.player.Player.{Player}
-use Rattle.flat_playable.specs.Playable.{rise_from, is_played, is_playable, frames_close, keeps_frames}
-use Rattle.flat_run.specs.Playing.{last_number, lines_left, lines_by, PlayerStands, IsOpenAt, IsClosedAt, IsSpent, IsInOrder, is_quiet, is_question}
+use Rattle.flat_playable.specs.Playable.{rise_from, is_played, is_playable}
+use Rattle.flat_run.specs.Playing.{last_number, lines_left, lines_by, PlayerStands, IsOpenAt, IsClosedAt, IsSpent, IsInOrder, is_question}
 use Rattle.flat_run.proofs.InOrder.{lines_rise, no_ends_more}
 use Rattle.flat_run.proofs.Places.{drop_at, take_at, split_at, last_more, last_below, rises, played_all}
 use Rattle.flat_run.proofs.Conditions.{all_at}

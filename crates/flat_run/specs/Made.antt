@@ -15,6 +15,9 @@ use Rattle.flat_run.specs.declared.made.Made.TheVariants as made
 abbrev pub kind_of : Made → Kind
 kind_of (made.View pair) = kind.View pair
 kind_of (made.Present args snapshot) = kind.Present args
+kind_of (made.Signal f) = kind.Signal f
+kind_of made.Poll = kind.Poll
+kind_of (made.Wait c) = kind.Wait c
 kind_of (made.Close why) = kind.Close why
 
 -- a present shows the tree of all calls of its session

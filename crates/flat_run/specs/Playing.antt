@@ -9,7 +9,6 @@ use Rattle.flat_scene.specs.declared.journal.Reply.TheVariants.{Done}
 use Rattle.flat_scene.specs.declared.script.Body.{Body}
 use Rattle.flat_scene.specs.declared.script.Body.TheVariants as body
 use Rattle.flat_scene.specs.declared.script.DisplayLine.{DisplayLine}
-use Rattle.flat_scene.specs.declared.script.DisplayLine.TheVariants as display
 use Rattle.flat_base.specs.declared.ids.SessionNo.{SessionNo}
 use Rattle.flat_scene.specs.declared.calls.Call.{Call}
 use Rattle.flat_scene.specs.declared.calls.Call.TheVariants.{CreateView}
@@ -21,13 +20,13 @@ use Rattle.flat_scene.specs.declared.script.Line.{Line}
 use Rattle.flat_scene.specs.declared.script.Line.TheVariants as line
 use Rattle.flat_scene.specs.declared.script.ScriptLine.{ScriptLine}
 use Rattle.flat_scene.specs.declared.setup.Setup.{Setup}
-use Rattle.flat_scene.specs.Draft.{Draft, empty_draft}
+use Rattle.flat_scene.specs.Draft.{Draft}
 use Rattle.flat_scene.specs.Effect.{draft_of}
 use Rattle.flat_scene.specs.declared.frames.FrameOut.{FrameOut}
 use Rattle.flat_scene.specs.declared.frames.SessionSet.{SessionSet}
 use Rattle.flat_scene.specs.Frames.{sessions_to}
-use Rattle.flat_scene.specs.History.{own, is_closed, is_end, calls, carried, closes, seat_number}
-use Rattle.flat_scene.specs.Interleave.{Next, next_of, next_from, session_lines, display_lines, by_display, unread_lines, last_line, Follows, FollowsDisplay, entry_of_line, calls_of_line, after_line, Interleaves, IsReading, IsWritten}
+use Rattle.flat_scene.specs.History.{own, is_closed, is_end, carried, seat_number}
+use Rattle.flat_scene.specs.Interleave.{next_of, next_from, session_lines, display_lines, by_display, unread_lines, last_line, Follows, FollowsDisplay, entry_of_line, calls_of_line, after_line, Interleaves, IsReading, IsWritten}
 use Rattle.flat_scene.specs.Misuse.{misuse, first_reason}
 use Rattle.flat_scene.specs.Tree.{present_tests, tree}
 use Rattle.flat_scene.specs.Setups.{is_declared}
@@ -52,11 +51,11 @@ use Rattle.flat_playable.specs.Playable.{is_private, frames_close}
 
 -- ---- a line, by a session that isn't closed
 
--- a call that makes no viewport, or a present
+-- a call that makes no viewport, or another line that is no get
 abbrev pub is_judged : Line → Bool
 is_judged (line.Call call) = is_plain_call call
-is_judged (line.Present args) = true
-is_judged _ = false
+is_judged (line.Get get) = false
+is_judged _ = true
 
 -- a call is no misuse
 abbrev pub IsNoMisuse : Setup → Draft → Line → Type 0
@@ -70,6 +69,9 @@ LeavesDraft setup draft text after (Some (making.View pair)) =
     (text ≡ line.Call (CreateView pair)) × IsNoMisuse setup draft text × StandsFor setup after (after_line draft text) × (after.closed ≡ false)
 LeavesDraft setup draft text after (Some (making.Present args snapshot)) =
     (text ≡ line.Present args) × (first_reason (present_tests draft args) ≡ None) × (tree draft ≡ Some (arc_value snapshot)) × StandsFor setup after draft × (after.closed ≡ false)
+LeavesDraft setup draft text after (Some (making.Signal f)) = (text ≡ line.Signal f) × StandsFor setup after draft × (after.closed ≡ false)
+LeavesDraft setup draft text after (Some making.Poll) = (text ≡ line.Poll) × StandsFor setup after draft × (after.closed ≡ false)
+LeavesDraft setup draft text after (Some (making.Wait c)) = (text ≡ line.Wait c) × StandsFor setup after draft × (after.closed ≡ false)
 LeavesDraft setup draft text after (Some (making.Close why)) = Unit {0}
 
 -- What a session makes of a line: the entry of the rules or none, and the call waits for the next entry.
@@ -102,7 +104,7 @@ pub record IsOpenAt (script : Script) (s : SessionNo) (place : ℕ) (entries : L
   pub next : next_of script.setup script.count entries (session_lines s script.lines) ≡ next_from script.setup script.count draft player.pending (lines_left script s place)
   pub stands : StandsFor script.setup player.draft draft
   pub still_open : player.draft.closed ≡ false
-  pub private : list_all is_private player.pending ≡ true
+  pub private : list_all (is_private script.setup s) player.pending ≡ true
   pub none_refused : player.refused ≡ 0
 
 -- A session was closed: what comes next is its End, with the lines refused so far and those left.
@@ -214,6 +216,14 @@ pub record FinishesFrame (old new : Game) (number : ℕ) : Type 0 where
   pub players : new.players ≡ old.players
   pub kept : new.frames.items ≡ old.frames.items ++ frame_at old.board.setup (frames new.board.history) (to_begin old.board.history) ∷ []
 
+-- The display makes an entry that begins no frame and ends none.
+pub record EntersBeside (old new : Game) (number : ℕ) (kind : Kind) (reply : Reply) : Type 0 where
+  pub board : new.board ≡ entered old.board Display number [] kind reply
+  pub shown : new.shown ≡ old.shown
+  pub with_view : new.with_view ≡ old.with_view
+  pub players : new.players ≡ old.players
+  pub kept : new.frames ≡ old.frames
+
 -- the line of a session that a body is, and the line of the display
 abbrev pub session_text : Body → Option Line
 session_text (body.Session text) = Some text
@@ -222,11 +232,6 @@ session_text _ = None
 abbrev pub display_text : Body → Option DisplayLine
 display_text (body.Display text) = Some text
 display_text _ = None
-
--- the time of a line that begins a frame
-abbrev pub begins_at : DisplayLine → Option ℕ
-begins_at (display.Begin time) = Some time
-begins_at _ = None
 
 -- ---- before any line
 

@@ -1,5 +1,5 @@
 -- What a call of the service answers and writes.
-use Rattle.std.specs.Prelude.{◌≡◌, ◌≢◌, ◌⊎◌, ℕ, ◌*◌, ◌<◌, Bool, ◌||◌, ◌==◌, List, [], ◌∷◌, ◌++◌, length, map, Option, Ok, Err, IsTrue, codes}
+use Rattle.std.specs.Prelude.{◌≡◌, ◌≢◌, ◌⊎◌, ℕ, ◌<◌, List, [], ◌∷◌, ◌++◌, length, Option, Ok, Err, codes}
 use Rattle.std.specs.Fmt.{decimal}
 use Rattle.flat_io.specs.Told.{Appends}
 use Rattle.flat_io.specs.Whole.{Given, AppendsPrefix}

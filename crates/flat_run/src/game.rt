@@ -5,19 +5,20 @@ ghost use Rattle.flat_base.specs.declared.ids.Actor.TheVariants.{Display, Sessio
 ghost use Rattle.flat_scene.specs.declared.script.Body.TheVariants as body;
 ghost use Rattle.std.specs.Option.{option_copied};
 ghost use Rattle.flat_run.specs.Playing.{session_text, display_text};
-ghost use Rattle.flat_scene.specs.declared.journal.Kind.TheVariants.{Begin, Finish};
+ghost use Rattle.flat_scene.specs.declared.journal.Kind.TheVariants.{Begin, Finish, Signal, Wait};
+ghost use Rattle.flat_scene.specs.declared.journal.Reply.TheVariants.{Done};
 ghost use Rattle.flat_core.specs.Boards.{MayCall};
 ghost use Rattle.flat_core.specs.Shown.{shown_states};
 ghost use Rattle.flat_core.specs.Ends.{to_begin};
-ghost use Rattle.flat_core.specs.Legal.{frames};
+ghost use Rattle.flat_core.specs.Legal.{frames, reply_to};
 ghost use Rattle.flat_report.specs.Report.{frame_at, finished};
 ghost use Rattle.flat_playable.specs.Playable.{is_playable};
 
 use crate::player::Player;
-use flat_base::{Actor, FrameNo, NoMemory, SessionNo};
+use flat_base::{Actor, FenceNo, FrameNo, NoMemory, SessionNo};
 use flat_compose::compose;
 use flat_core::Board;
-use flat_scene::{Body, DisplayLine, FrameOut, Line, SessionSet};
+use flat_scene::{Body, CallList, Cond, DisplayLine, FrameOut, Line, SessionSet};
 use flat_script::Script;
 use flat_topology::{Shown, join};
 use flat_tree::{trees_follow, view_tree};
@@ -38,7 +39,7 @@ pub struct Game {
 }
 
 impl Game {
-    ghost use Rattle.flat_run.specs.Playing.{GameStands, FramesStand, HasViews, BeginsFrame, FinishesFrame, EndsStand, HasPlayed};
+    ghost use Rattle.flat_run.specs.Playing.{GameStands, FramesStand, HasViews, BeginsFrame, FinishesFrame, EntersBeside, EndsStand, HasPlayed};
 
     /// The frame of a number, as it is composed of what the sessions show.
     fn compose(&self, alloc: Global, number: u32) -> Result<FrameOut, NoMemory>
@@ -81,6 +82,24 @@ impl Game {
         let frame = self.compose(alloc, frame)?;
         self.frames.push(frame)?;
         Ok(())
+    }
+
+    /// Signals a fence of the display.
+    fn signal(&mut self, alloc: Global, number: u32, f: FenceNo)
+        requires { MayCall self.old.board Display [] (Signal f) }
+        ensures { EntersBeside self.old self.new number (Signal f) Done }
+    {
+        let calls = CallList::new(alloc);
+        let _reply = self.board.signal(Actor::Display, number, calls, f);
+    }
+
+    /// Looks once whether a condition of the display is met.
+    fn wait(&mut self, alloc: Global, number: u32, c: Cond)
+        requires { MayCall self.old.board Display [] (Wait c) }
+        ensures { EntersBeside self.old self.new number (Wait c) (reply_to self.old.board.setup self.old.board.history Display [] (Wait c)) }
+    {
+        let calls = CallList::new(alloc);
+        let _reply = self.board.wait(Actor::Display, number, calls, c);
     }
 
     /// Plays a line of a session.
@@ -126,7 +145,15 @@ impl Game {
                 self.finish(alloc, number)?;
                 Ok(())
             }
-            _ => unreachable!(),
+            DisplayLine::Signal(f) => {
+                self.signal(alloc, number, f);
+                Ok(())
+            }
+            DisplayLine::Wait(c) => {
+                self.wait(alloc, number, c);
+                Ok(())
+            }
+            DisplayLine::Hit(_, _) => unreachable!(),
         }
     }
 

@@ -3,10 +3,11 @@ ghost use Rattle.flat_base.specs.declared.ids.Actor.TheVariants.{Session};
 ghost use Rattle.flat_core.specs.Boards.{MayCall, entered};
 ghost use Rattle.flat_core.specs.Legal.{reply_to};
 
-use flat_base::{NoMemory, PairNo, Reason, SessionNo};
-use flat_core::Board;
-use flat_scene::{CallList, PresentArgs, Reply};
+use flat_base::{Actor, FenceNo, NoMemory, PairNo, Reason, SessionNo};
+use flat_core::{Board, EventList};
+use flat_scene::{CallList, Cond, PresentArgs, Reply};
 use flat_snap::Snapshot;
+use std::alloc::Global;
 use std::sync::Arc;
 
 /// What a line of a session makes, where it makes an entry.
@@ -14,6 +15,9 @@ use std::sync::Arc;
 pub enum Made {
     View(PairNo),
     Present(PresentArgs, Arc<Snapshot>),
+    Signal(FenceNo),
+    Poll,
+    Wait(Cond),
     Close(Option<Reason>),
 }
 
@@ -23,6 +27,7 @@ impl Made {
     /// Makes the entry.
     pub fn enter(
         self,
+        alloc: Global,
         board: &mut Board,
         s: SessionNo,
         number: u32,
@@ -44,6 +49,12 @@ impl Made {
                     Err(_) => Err(NoMemory),
                 }
             }
+            Made::Signal(f) => Ok(board.signal(Actor::Session(s), number, calls, f)),
+            Made::Poll => match board.poll(s, number, calls, &mut EventList::new(alloc)) {
+                Ok(reply) => Ok(reply),
+                Err(_) => Err(NoMemory),
+            },
+            Made::Wait(c) => Ok(board.wait(Actor::Session(s), number, calls, c)),
             Made::Close(why) => Ok(board.close(s, number, calls, why)),
         }
     }

@@ -109,7 +109,7 @@ impl Player {
             None => Ok(()),
             Some(made) => {
                 let calls = self.take_pending(alloc);
-                let reply = made.enter(board, s, number, calls)?;
+                let reply = made.enter(alloc, board, s, number, calls)?;
                 self.closed = closes(&reply);
                 Ok(())
             }
@@ -127,7 +127,11 @@ impl Player {
         match text {
             Line::Call(call) => self.judge_call(alloc, call),
             Line::Present(args) => self.judge_present(alloc, args),
-            _ => unreachable!(),
+            Line::Signal(f) => Ok(Some(Made::Signal(*f))),
+            Line::Poll => Ok(Some(Made::Poll)),
+            Line::Wait(c) => Ok(Some(Made::Wait(*c))),
+            Line::Disconnect => Ok(Some(Made::Close(None))),
+            Line::Get(_) => unreachable!(),
         }
     }
 

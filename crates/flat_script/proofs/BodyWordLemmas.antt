@@ -1,5 +1,5 @@
 -- The words of a line of the body are those that it was read from.
-use Rattle.std.proofs.Common.{◌≡◌, ℕ, ◌+◌, ◌^◌, Bool, true, false, cond, not, nat_lt, nat_le, List, [], ◌∷◌, length, Option, Some, None, Ok, Err, refl, sym, ◌∙◌, ap, codes, option_map, append-nil, arith}
+use Rattle.std.proofs.Common.{◌≡◌, ℕ, ◌+◌, ◌^◌, Bool, true, false, cond, not, nat_lt, nat_le, List, [], ◌∷◌, ◌++◌, length, Option, Some, None, Ok, Err, refl, sym, ◌∙◌, ap, codes, option_map, append-nil, arith}
 use Rattle.std.specs.Option.{option_map_or, option_or}
 use Rattle.std.specs.Str.{bytes_eq}
 use Rattle.std.specs.Fmt.{decimal}
@@ -9,6 +9,8 @@ use Rattle.flat_base.specs.declared.ids.Actor.TheVariants.{Display, Session, Pro
 use Rattle.flat_base.specs.declared.ids.SessionNo.{SessionNo}
 use Rattle.flat_base.specs.declared.ids.FenceNo.{FenceNo}
 use Rattle.flat_scene.specs.declared.calls.PresentArgs.{PresentArgs}
+use Rattle.flat_scene.specs.declared.script.Cond.{Cond}
+use Rattle.flat_scene.specs.declared.script.Cond.TheVariants as asks
 use Rattle.flat_scene.specs.declared.script.Line.{Line}
 use Rattle.flat_scene.specs.declared.script.Line.TheVariants as line
 use Rattle.flat_scene.specs.declared.script.DisplayLine.{DisplayLine}
@@ -18,14 +20,16 @@ use Rattle.flat_scene.specs.declared.script.Body.TheVariants as body
 use Rattle.flat_script.specs.declared.calls.CallName.{CallName}
 use Rattle.flat_script.specs.declared.script.Script.{Script}
 use Rattle.flat_script.specs.Known.{known_words}
-use Rattle.flat_script.specs.Forms.{Word, Reading, Form, mapped, unless_kind, whole, give, ◌<$>◌}
+use Rattle.flat_script.specs.Forms.{Word, Reading, Form, Table, mapped, unless_kind, whole, give, ◌<$>◌}
 use Rattle.flat_script.specs.Names.{place_of, session_named, actor_named}
-use Rattle.flat_script.specs.Places.{time, fence_word}
+use Rattle.flat_script.specs.Places.{time, u32, session, fence}
+use Rattle.flat_script.specs.Places.{fence_word as tested_fence}
 use Rattle.flat_script.specs.Calls.{call_form, call_named}
-use Rattle.flat_script.specs.Body.{fence_lists, present, session_line, display_line, actor_line, begin_place, begin_times, is_open, in_order, greatest}
-use Rattle.flat_script.specs.Print.{name_at, session_word, actor_word, session_words, display_words, body_words, present_words}
-use Rattle.flat_script.proofs.FormLemmas.{apply_ok, map_ok, place_ok, whole_ok, unless_ok, mapped_ok}
-use Rattle.flat_script.proofs.CallLemmas.{number_words, name_at-place_of, call_spelt}
+use Rattle.flat_script.specs.Body.{fence_lists, present, other_line, session_line, display_line, session_condition, display_condition, presents_asked, actor_line, begin_place, begin_times, is_open, in_order, greatest}
+use Rattle.flat_script.specs.Print.{name_at, session_word, actor_word, condition_words, session_words, display_words, body_words, present_words}
+use Rattle.flat_script.proofs.FormLemmas.{apply_ok, map_ok, place_ok, whole_ok, unless_ok, or_kind_ok, mapped_ok}
+use Rattle.flat_script.proofs.CallLemmas.{number_words, fence_words, split, name_at-place_of, call_spelt}
+use Rattle.flat_script.proofs.ListWordLemmas.{table_spelt, both_words, lists_spelt}
 
 -- actors
 
@@ -79,46 +83,120 @@ done_spelt s words l b is =
     let e : display.Done ≡ l = cc in
     ap (display_words s) (sym e) ∙ ap (λ t. codes "done" ∷ t) (sym given.left)
 
-by_done : (s : Script) (w : Word) (words : List Word) (l : DisplayLine) (b : Bool) → bytes_eq w (codes "done") ≡ b → cond b (unless_kind 12 (is_open s) (whole (give display.Done) words)) (Err 6) ≡ Ok l → display_words s l ≡ w ∷ words
-by_done s w words l true at is = done_spelt s words l (is_open s) is ∙ ap (λ t. t ∷ words) (sym ((bytes_eq-Decides w (codes "done")).0 at))
-by_done s w words l false at is = absurd (cc)
+display_signal_spelt : (s : Script) (words : List Word) (l : DisplayLine) → whole (display.Signal <$> fence s Display) words ≡ Ok l → display_words s l ≡ codes "Signal" ∷ words
+display_signal_spelt s words l is =
+    let m = map_ok display.Signal (fence s Display) words l [] (whole_ok (display.Signal <$> fence s Display) words l is) in
+    ap (display_words s) (sym m.value) ∙ ap (λ t. codes "Signal" ∷ t) (sym ((fence_words s Display).takes words m.a [] m.given))
 
-by_begin : (s : Script) (w : Word) (words : List Word) (l : DisplayLine) (b : Bool) → bytes_eq w (codes "begin") ≡ b
-    → cond b (mapped display.Begin (unless_kind 11 (nat_lt (length (begin_times s)) 512) (unless_kind 12 (not (is_open s)) (whole (begin_place s) words))))
-    (cond (bytes_eq w (codes "done")) (unless_kind 12 (is_open s) (whole (give display.Done) words)) (Err 6)) ≡ Ok l → display_words s l ≡ w ∷ words
-by_begin s w words l true at is = begin_spelt s words l _ _ is ∙ ap (λ t. t ∷ words) (sym ((bytes_eq-Decides w (codes "begin")).0 at))
-by_begin s w words l false at is = by_done s w words l (bytes_eq w (codes "done")) refl is
+-- conditions
+
+counted_spelt : (h : ℕ → Cond) (s : Script) (w : Word) → ((n : ℕ) → condition_words s (h n) ≡ w ∷ decimal n ∷ []) → (words : List Word) (c : Cond) → whole (h <$> u32) words ≡ Ok c → condition_words s c ≡ w ∷ words
+counted_spelt h s w spells words c is =
+    let m = map_ok h u32 words c [] (whole_ok (h <$> u32) words c is) in
+    ap (condition_words s) (sym m.value) ∙ spells m.a ∙ ap (λ t. w ∷ t) (sym ((number_words (2 ^ 32)).takes words m.a [] m.given))
+
+waited_spelt : (s : Script) (a : Actor) (words : List Word) (c : Cond) → whole (asks.Fence <$> fence s a) words ≡ Ok c → condition_words s c ≡ codes "fence" ∷ words
+waited_spelt s a words c is =
+    let m = map_ok asks.Fence (fence s a) words c [] (whole_ok (asks.Fence <$> fence s a) words c is) in
+    ap (condition_words s) (sym m.value) ∙ ap (λ t. codes "fence" ∷ t) (sym ((fence_words s a).takes words m.a [] m.given))
+
+named_by : (s : Script) (w : Word) (a : SessionNo) (o : Option ℕ) → place_of s.sessions w ≡ o → option_map (λ i. record { 0 = i + 1 }) o ≡ Some a → session_word s a ≡ w
+named_by s w a None at is = absurd (cc)
+named_by s w a (Some i) at is = let e : record { 0 = i + 1 } ≡ a = cc in ap (session_word s) (sym e) ∙ number_of s w i at
+
+presents_spelt : (s : Script) (words : List Word) (c : Cond) → whole (presents_asked s) words ≡ Ok c → condition_words s c ≡ codes "presents" ∷ words
+presents_spelt s words c is =
+    let h : SessionNo → ℕ → Cond = λ x n. asks.Presents x n in
+    let second = split (h <$> session s) u32 (λ n. decimal n ∷ []) words c [] (number_words (2 ^ 32)) (whole_ok (presents_asked s) words c is) in
+    let first = map_ok h (session s) words second.g second.mid second.first in
+    let value : h first.a second.a ≡ c = ap (λ g. g second.a) first.value ∙ second.value in
+    let p = place_ok _ words first.a second.mid first.given in
+    let name : session_word s first.a ≡ p.word = named_by s p.word first.a (place_of s.sessions p.word) refl (or_kind_ok 9 _ first.a p.passes) in
+    ap (condition_words s) (sym value) ∙ ap (λ t. codes "presents" ∷ t) (ap (λ n. n ∷ decimal second.a ∷ []) name ∙ sym (p.begins ∙ ap (λ t. p.word ∷ t) second.behind))
+
+session_conditions : Script → SessionNo → Table Cond
+session_conditions s a = (codes "frames", whole (asks.Frames <$> u32)) ∷ (codes "credits", whole (asks.Credits <$> u32)) ∷ (codes "taken", whole (asks.Taken <$> u32)) ∷ (codes "fence", whole (asks.Fence <$> fence s (Session a))) ∷ []
+
+session_condition_spelt : (s : Script) (a : SessionNo) (words : List Word) (c : Cond) → session_condition known_words s a words ≡ Ok c → condition_words s c ≡ words
+unfolding session_conditions
+session_condition_spelt s a [] c is = absurd (cc)
+session_condition_spelt s a (w ∷ words) c is =
+    table_spelt (condition_words s) 6 (session_conditions s a)
+    (counted_spelt asks.Frames s (codes "frames") (λ n. refl), (counted_spelt asks.Credits s (codes "credits") (λ n. refl), (counted_spelt asks.Taken s (codes "taken") (λ n. refl), (waited_spelt s (Session a), tt)))) w words c is
+
+display_conditions : Script → Table Cond
+display_conditions s = (codes "presents", whole (presents_asked s)) ∷ (codes "fence", whole (asks.Fence <$> fence s Display)) ∷ []
+
+display_condition_spelt : (s : Script) (words : List Word) (c : Cond) → display_condition known_words s words ≡ Ok c → condition_words s c ≡ words
+unfolding display_conditions
+display_condition_spelt s [] c is = absurd (cc)
+display_condition_spelt s (w ∷ words) c is = table_spelt (condition_words s) 6 (display_conditions s) (presents_spelt s, (waited_spelt s Display, tt)) w words c is
+
+display_wait_spelt : (s : Script) (words : List Word) (l : DisplayLine) → mapped display.Wait (display_condition known_words s words) ≡ Ok l → display_words s l ≡ codes "Wait" ∷ words
+display_wait_spelt s words l is =
+    let m = mapped_ok display.Wait (display_condition known_words s words) l is in
+    ap (display_words s) (sym m.value) ∙ ap (λ t. codes "Wait" ∷ t) (display_condition_spelt s words m.a m.given)
+
+display_table : Script → Table DisplayLine
+display_table s =
+    (codes "begin", (λ rest. mapped display.Begin (unless_kind 11 (nat_lt (length (begin_times s)) 512) (unless_kind 12 (not (is_open s)) (whole (begin_place s) rest))))) ∷
+    (codes "done", (λ rest. unless_kind 12 (is_open s) (whole (give display.Done) rest))) ∷
+    (codes "Signal", whole (display.Signal <$> fence s Display)) ∷
+    (codes "Wait", (λ rest. mapped display.Wait (display_condition known_words s rest))) ∷ []
 
 display_spelt : (s : Script) (words : List Word) (l : DisplayLine) → display_line known_words s words ≡ Ok l → display_words s l ≡ words
+unfolding display_table
 display_spelt s [] l is = absurd (cc)
-display_spelt s (w ∷ words) l is = by_begin s w words l (bytes_eq w (codes "begin")) refl is
+display_spelt s (w ∷ words) l is =
+    table_spelt (display_words s) 6 (display_table s)
+    ((λ rest v given. begin_spelt s rest v _ _ given), ((λ rest v given. done_spelt s rest v (is_open s) given), (display_signal_spelt s, (display_wait_spelt s, tt)))) w words l is
 
 -- sessions
 
-no_lists : (test : Word → Reading FenceNo) (words : List Word) (v : List FenceNo × List FenceNo) → fence_lists known_words test words ≡ Ok v → (words ≡ []) × (v ≡ ([], []))
-no_lists test [] v is = (refl, cc)
-no_lists test (w ∷ words) v is = absurd (cc)
-
 present_spelt : (s : Script) (a : SessionNo) (words : List Word) (l : Line) → whole (line.Present <$> present known_words s a) words ≡ Ok l → session_words s l ≡ codes "Present" ∷ words
 present_spelt s a words l is =
-    let lists : Form (List FenceNo × List FenceNo) = λ ws. (fence_lists known_words (fence_word s (Session a)) ws, []) in
+    let lists : Form (List FenceNo × List FenceNo) = λ ws. (fence_lists known_words (tested_fence s (Session a)) ws, []) in
     let h : ℕ → List FenceNo × List FenceNo → PresentArgs = λ t both. record { time = t; acquire = both.0; release = both.1 } in
     let whole_line = map_ok line.Present (present known_words s a) words l [] (whole_ok (line.Present <$> present known_words s a) words l is) in
     let second = apply_ok (h <$> time) lists words whole_line.a [] whole_line.given in
     let first = map_ok h time words second.g second.mid second.first in
-    let none = no_lists (fence_word s (Session a)) second.mid second.a second.second.value in
-    let args : h first.a ([], []) ≡ whole_line.a = ap (h first.a) (sym none.1) ∙ ap (λ g. g second.a) first.value ∙ second.value in
-    let taken : words ≡ decimal first.a ∷ [] = (number_words (2 ^ 63)).takes words first.a second.mid first.given ∙ ap (λ t. decimal first.a ∷ t) none.0 in
+    let args : h first.a second.a ≡ whole_line.a = ap (λ g. g second.a) first.value ∙ second.value in
+    let taken : words ≡ decimal first.a ∷ both_words s (Session a) second.a = (number_words (2 ^ 63)).takes words first.a second.mid first.given ∙ ap (λ t. decimal first.a ∷ t) (lists_spelt s (Session a) second.mid second.a second.second.value) in
     ap (session_words s) (sym whole_line.value) ∙ ap (λ p. present_words s p) (sym args) ∙ ap (λ t. codes "Present" ∷ t) (sym taken)
 
-by_present : (s : Script) (a : SessionNo) (w : Word) (words : List Word) (l : Line) (b : Bool) → bytes_eq w (codes "Present") ≡ b
-    → cond b (whole (line.Present <$> present known_words s a) words) (Err 6) ≡ Ok l → session_words s l ≡ w ∷ words
-by_present s a w words l true at is = present_spelt s a words l is ∙ ap (λ t. t ∷ words) (sym ((bytes_eq-Decides w (codes "Present")).0 at))
-by_present s a w words l false at is = absurd (cc)
+signal_spelt : (s : Script) (a : SessionNo) (words : List Word) (l : Line) → whole (line.Signal <$> fence s (Session a)) words ≡ Ok l → session_words s l ≡ codes "Signal" ∷ words
+signal_spelt s a words l is =
+    let m = map_ok line.Signal (fence s (Session a)) words l [] (whole_ok (line.Signal <$> fence s (Session a)) words l is) in
+    ap (session_words s) (sym m.value) ∙ ap (λ t. codes "Signal" ∷ t) (sym ((fence_words s (Session a)).takes words m.a [] m.given))
+
+wait_spelt : (s : Script) (a : SessionNo) (words : List Word) (l : Line) → mapped line.Wait (session_condition known_words s a words) ≡ Ok l → session_words s l ≡ codes "Wait" ∷ words
+wait_spelt s a words l is =
+    let m = mapped_ok line.Wait (session_condition known_words s a words) l is in
+    ap (session_words s) (sym m.value) ∙ ap (λ t. codes "Wait" ∷ t) (session_condition_spelt s a words m.a m.given)
+
+alone_spelt : (s : Script) (one : Line) (words : List Word) (l : Line) → whole (give one) words ≡ Ok l → session_words s l ≡ session_words s one ++ words
+alone_spelt s one words l is =
+    let given = whole_ok (give one) words l is in
+    let same = given.value in
+    let e : one ≡ l = cc in
+    ap (session_words s) (sym e) ∙ sym (append-nil (session_words s one)) ∙ ap (λ t. session_words s one ++ t) (sym given.left)
+
+other_table : Script → SessionNo → Table Line
+other_table s a =
+    (codes "Present", whole (line.Present <$> present known_words s a)) ∷
+    (codes "Signal", whole (line.Signal <$> fence s (Session a))) ∷
+    (codes "Poll", whole (give line.Poll)) ∷
+    (codes "Wait", (λ rest. mapped line.Wait (session_condition known_words s a rest))) ∷
+    (codes "Disconnect", whole (give line.Disconnect)) ∷ []
+
+other_spelt : (s : Script) (a : SessionNo) (w : Word) (words : List Word) (l : Line) → other_line known_words s a (w ∷ words) ≡ Ok l → session_words s l ≡ w ∷ words
+unfolding other_table
+other_spelt s a w words l is =
+    table_spelt (session_words s) 6 (other_table s a) (present_spelt s a, (signal_spelt s a, (alone_spelt s line.Poll, (wait_spelt s a, (alone_spelt s line.Disconnect, tt))))) w words l is
 
 by_call : (s : Script) (a : SessionNo) (w : Word) (words : List Word) (l : Line) (o : Option CallName) → call_named known_words w ≡ o
-    → option_map_or (λ n. mapped line.Call (whole (call_form s a n) words)) o (cond (bytes_eq w (codes "Present")) (whole (line.Present <$> present known_words s a) words) (Err 6)) ≡ Ok l → session_words s l ≡ w ∷ words
-by_call s a w words l None at is = by_present s a w words l (bytes_eq w (codes "Present")) refl is
+    → option_map_or (λ n. mapped line.Call (whole (call_form s a n) words)) o (other_line known_words s a (w ∷ words)) ≡ Ok l → session_words s l ≡ w ∷ words
+by_call s a w words l None at is = other_spelt s a w words l is
 by_call s a w words l (Some n) at is =
     let m = mapped_ok line.Call (whole (call_form s a n) words) l is in
     ap (session_words s) (sym m.value) ∙ call_spelt s a w n at words m.a m.given

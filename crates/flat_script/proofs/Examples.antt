@@ -14,27 +14,6 @@ use Rattle.flat_script.specs.Grammar.{read_with, IsScript, IsFault}
 abbrev later_words : List (List ℕ)
 later_words =
     codes "probe" ∷
-    codes "SetOrientation" ∷
-    codes "SetScale" ∷
-    codes "SetOpacity" ∷
-    codes "SetClipBoundary" ∷
-    codes "CreateImage" ∷
-    codes "SetImageSampleRegion" ∷
-    codes "SetImageDestinationSize" ∷
-    codes "SetImageBlendingFunction" ∷
-    codes "SetImageFlip" ∷
-    codes "SetImageOpacity" ∷
-    codes "ReleaseImage" ∷
-    codes "acquire" ∷
-    codes "release" ∷
-    codes "Signal" ∷
-    codes "Poll" ∷
-    codes "Disconnect" ∷
-    codes "Wait" ∷
-    codes "frames" ∷
-    codes "credits" ∷
-    codes "taken" ∷
-    codes "presents" ∷
     codes "CreateViewport" ∷
     codes "SetViewportProperties" ∷
     codes "ReleaseViewport" ∷
@@ -98,8 +77,8 @@ signs_and_skipped_lines = refl
 
 -- faults
 
-acquire_before_it_is_known : IsFault (codes "flatland 1\ndisplay 100 100\nsession A\npair t0 display A\nfence f1 display A\nrun\nA Present 0 acquire f1\n") (record { line = 7; kind = 8 })
-acquire_before_it_is_known = refl
+answers_before_they_are_known : IsFault (codes "flatland 1\ndisplay 100 100\nsession A\npair t0 display A\nrun\nA Wait answers 1\n") (record { line = 6; kind = 6 })
+answers_before_they_are_known = refl
 
 dpr_in_version_one : IsFault (codes "flatland 1\ndisplay 100 100\nsession A\npair t0 display A\nrun\ndisplay dpr 65536\n") (record { line = 6; kind = 6 })
 dpr_in_version_one = refl

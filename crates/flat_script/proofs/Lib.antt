@@ -3,12 +3,14 @@ pub mod NameLemmas
 pub mod ReadsLemmas
 pub mod ParserLemmas
 pub mod FormLemmas
+pub mod ListLemmas
 pub mod IndexLemmas
 pub mod DeclareLemmas
 pub mod WordLemmas
 pub mod TextLemmas
 pub mod AgainLemmas
 pub mod CallLemmas
+pub mod ListWordLemmas
 pub mod BodyWordLemmas
 pub mod StepLemmas
 pub mod FoundLemmas

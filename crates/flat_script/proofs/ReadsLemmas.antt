@@ -66,7 +66,7 @@ mapped_giving h v (Err k) = refl
 
 -- a form of two forms
 
-after : {A B C : Type 0} (h : A → B → C) (s t u : Reading (Unit {0})) (f : Reading A) (x : Reading B) (g : A) (v : B)
+pub after : {A B C : Type 0} (h : A → B → C) (s t u : Reading (Unit {0})) (f : Reading A) (x : Reading B) (g : A) (v : B)
     → lower s f ≡ giving g t → lower t x ≡ giving v u → lower s (both h f x) ≡ giving (h g v) u
 after h s t u f x g v first second =
     lower_both h s f x ∙ ap (λ r. both h r x) first ∙ both_giving h g t x ∙ ap (mapped (h g)) second ∙ mapped_giving (h g) v u
@@ -138,7 +138,7 @@ both_mapped h v (Err j) (Err k) = refl
 pub mapped_finished : {A B : Type 0} (h : A → B) (v : A) (q : Places) (r : Reading A) → r ≡ finished v q → mapped h r ≡ finished (h v) q
 mapped_finished h v q r is = ap (mapped h) is ∙ both_mapped h v (sofar q) (nothing (left q))
 
-lower_given : {A : Type 0} (v : A) (s : Reading (Unit {0})) → lower s (Ok v) ≡ giving v s
+pub lower_given : {A : Type 0} (v : A) (s : Reading (Unit {0})) → lower s (Ok v) ≡ giving v s
 lower_given v (Ok u) = refl
 lower_given v (Err k) = refl
 

@@ -56,17 +56,20 @@ session_condition known s a = named known 6 (
     (codes "taken", whole (cond.Taken <$> u32)) ∷ (codes "answers", whole (cond.Answers <$> u32)) ∷
     (codes "fence", whole (cond.Fence <$> fence s (Session a))) ∷ [])
 
+-- so many presents of a session
+abbrev pub presents_asked : Script → Form Cond
+presents_asked s = (λ x n. cond.Presents x n) <$> session s <*> u32
+
 -- what the display may wait for
 abbrev pub display_condition : List Word → Script → List Word → Reading Cond
 display_condition known s = named known 6 (
-    (codes "presents", whole ((λ x n. cond.Presents x n) <$> session s <*> u32)) ∷ (codes "fence", whole (cond.Fence <$> fence s Display)) ∷ [])
+    (codes "presents", whole (presents_asked s)) ∷ (codes "fence", whole (cond.Fence <$> fence s Display)) ∷ [])
 
 -- sessions
 
--- a line of a session: a call, or one of the other lines
-abbrev pub session_line : List Word → Script → SessionNo → List Word → Reading Line
-session_line known s a [] = Err 6
-session_line known s a (w ∷ words) = option_map_or (λ n. mapped line.Call (whole (call_form s a n) words)) (call_named known w) (named known 6 (
+-- a line of a session that is no call
+abbrev pub other_line : List Word → Script → SessionNo → List Word → Reading Line
+other_line known s a = named known 6 (
     (codes "Present", whole (line.Present <$> present known s a)) ∷
     (codes "GetLayout", whole (give (line.Get watch.Layout))) ∷
     (codes "GetStatus", whole (give (line.Get watch.Status))) ∷
@@ -74,7 +77,12 @@ session_line known s a (w ∷ words) = option_map_or (λ n. mapped line.Call (wh
     (codes "Signal", whole (line.Signal <$> fence s (Session a))) ∷
     (codes "Poll", whole (give line.Poll)) ∷
     (codes "Wait", (λ rest. mapped line.Wait (session_condition known s a rest))) ∷
-    (codes "Disconnect", whole (give line.Disconnect)) ∷ []) (w ∷ words))
+    (codes "Disconnect", whole (give line.Disconnect)) ∷ [])
+
+-- a line of a session: a call, or one of the other lines
+abbrev pub session_line : List Word → Script → SessionNo → List Word → Reading Line
+session_line known s a [] = Err 6
+session_line known s a (w ∷ words) = option_map_or (λ n. mapped line.Call (whole (call_form s a n) words)) (call_named known w) (other_line known s a (w ∷ words))
 
 -- the display
 

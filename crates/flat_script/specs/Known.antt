@@ -4,7 +4,7 @@ use Rattle.std.specs.Prelude.{ℕ, Bool, List, [], ◌∷◌, codes}
 use Rattle.std.specs.List.{list_any}
 use Rattle.std.specs.Str.{bytes_eq}
 
--- the words of head lines, of calls and of the lines of sessions and of the display
+-- the words of head lines, of calls, of the lines of sessions and of the display, and of conditions; a fence is a head line and a condition
 abbrev pub known_words : List (List ℕ)
 known_words =
     codes "display" ∷
@@ -17,9 +17,20 @@ known_words =
     codes "CreateTransform" ∷
     codes "ReleaseTransform" ∷
     codes "SetTranslation" ∷
+    codes "SetOrientation" ∷
+    codes "SetScale" ∷
+    codes "SetOpacity" ∷
+    codes "SetClipBoundary" ∷
     codes "AddChild" ∷
     codes "RemoveChild" ∷
     codes "SetRootTransform" ∷
+    codes "CreateImage" ∷
+    codes "SetImageSampleRegion" ∷
+    codes "SetImageDestinationSize" ∷
+    codes "SetImageBlendingFunction" ∷
+    codes "SetImageFlip" ∷
+    codes "SetImageOpacity" ∷
+    codes "ReleaseImage" ∷
     codes "CreateFilledRect" ∷
     codes "SetSolidFill" ∷
     codes "ReleaseFilledRect" ∷
@@ -28,6 +39,16 @@ known_words =
     codes "SetContent" ∷
     codes "Clear" ∷
     codes "Present" ∷
+    codes "acquire" ∷
+    codes "release" ∷
+    codes "Signal" ∷
+    codes "Poll" ∷
+    codes "Wait" ∷
+    codes "frames" ∷
+    codes "credits" ∷
+    codes "taken" ∷
+    codes "presents" ∷
+    codes "Disconnect" ∷
     codes "begin" ∷
     codes "done" ∷ []
 

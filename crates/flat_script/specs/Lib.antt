@@ -8,6 +8,7 @@ pub mod Head
 pub mod Grammar
 pub mod Index
 pub mod Reads
+pub mod Lists
 pub mod Slots
 pub mod Progress
 pub mod Print

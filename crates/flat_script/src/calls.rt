@@ -39,15 +39,26 @@ pub enum CallName {
 }
 
 // The calls that scripts may use so far.
-const KNOWN: [CallName; 15] = [
+const KNOWN: [CallName; 26] = [
     CallName::CreateView,
     CallName::ReleaseView,
     CallName::CreateTransform,
     CallName::ReleaseTransform,
     CallName::SetTranslation,
+    CallName::SetOrientation,
+    CallName::SetScale,
+    CallName::SetOpacity,
+    CallName::SetClipBoundary,
     CallName::AddChild,
     CallName::RemoveChild,
     CallName::SetRootTransform,
+    CallName::CreateImage,
+    CallName::SetImageSampleRegion,
+    CallName::SetImageDestinationSize,
+    CallName::SetImageBlendingFunction,
+    CallName::SetImageFlip,
+    CallName::SetImageOpacity,
+    CallName::ReleaseImage,
     CallName::CreateFilledRect,
     CallName::SetSolidFill,
     CallName::ReleaseFilledRect,

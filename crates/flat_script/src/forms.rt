@@ -1,11 +1,14 @@
-ghost use Rattle.std.specs.Prelude.{◌≡◌, ◌≤◌, length, nat_lt, not, codes, IsTrue, IfOk};
+ghost use Rattle.std.specs.Prelude.{◌≡◌, ◌≤◌, ◌∷◌, false, length, nat_lt, not, codes, IsTrue, IfOk};
+ghost use Rattle.std.specs.Str.{bytes_eq};
 ghost use Rattle.flat_text.specs.Pieces.{is_space, pieces_left, words_of};
 ghost use Rattle.flat_script.specs.Known.{known_words};
 ghost use Rattle.flat_script.specs.Forms.{whole, give, unless_kind, mapped};
 ghost use Rattle.flat_script.specs.Names.{is_name, is_declared};
-ghost use Rattle.flat_script.specs.Head.{size, buffers, pair, fence, new_name, has_display_pair, run_line, first_line};
-ghost use Rattle.flat_script.specs.Body.{session_line, begin_place, begin_times, dones, greatest, present, display_line};
+ghost use Rattle.flat_script.specs.Head as head;
+ghost use Rattle.flat_script.specs.Head.{size, buffers, pair, new_name, has_display_pair, run_line, first_line};
+ghost use Rattle.flat_script.specs.Body.{session_line, other_line, begin_place, begin_times, dones, greatest, present, display_line};
 ghost use Rattle.flat_script.specs.Index.{IsIndexed};
+ghost use Rattle.flat_script.specs.Places.{fence};
 ghost use Rattle.flat_script.specs.Reads.{Reaches, ReachesBy};
 ghost use Rattle.flat_script.specs.declared.script.Script.{Script};
 ghost use Rattle.flat_base.specs.declared.ids.SessionNo.{SessionNo};
@@ -13,10 +16,11 @@ ghost use Rattle.flat_scene.specs.declared.script.DisplayLine.TheVariants.{Done}
 
 use crate::call_forms::call;
 use crate::calls::call_named;
+use crate::conditions::{display_condition, session_condition};
 use crate::names::{Indexed, is_word};
 use crate::places::Places;
 use crate::script::LineError;
-use flat_base::{Items, SessionNo};
+use flat_base::{Actor, FenceNo, SessionNo};
 use flat_scene::{BufferDecl, DisplayLine, FenceDecl, Line, PairDecl, PresentArgs};
 use flat_text::next_piece;
 use std::alloc::Global;
@@ -107,7 +111,7 @@ pub fn fence<'a>(
     words: Option<&'a [u8]>,
 ) -> Result<(&'a [u8], FenceDecl), LineError>
     requires { IsIndexed script.now }
-    ensures { ReachesBy (λ d. (d.0.now, d.1)) result (unless_kind 11 room (whole (fence script.now.script) (pieces_left is_space words.entry))) }
+    ensures { ReachesBy (λ d. (d.0.now, d.1)) result (unless_kind 11 room (whole (head.fence script.now.script) (pieces_left is_space words.entry))) }
 {
     let mut places = Places::new(words);
     places.note_unless(11, room);
@@ -147,30 +151,101 @@ pub fn session_line(
             Ok(found) => Ok(Line::Call(found)),
             Err(e) => Err(e),
         },
-        None => {
-            if is_word(word, "Present") {
-                match present(alloc, rest) {
-                    Ok(args) => Ok(Line::Present(args)),
-                    Err(k) => Err(LineError::Kind(k)),
-                }
-            } else {
-                Err(LineError::Kind(6))
-            }
-        }
+        None => other_line(alloc, script, session, word, rest),
     }
 }
 
-// The lists of fences aren't known yet, so a word behind the time is one too many.
-fn present(alloc: Global, words: Option<&[u8]>) -> Result<PresentArgs, u32>
-    ensures { (s : Script) (a : SessionNo) → result ≡ whole (present known_words s a) (pieces_left is_space words.entry) }
+/// What a line of a session that is no call writes, behind its first word.
+fn other_line(
+    alloc: Global,
+    script: &Indexed,
+    session: SessionNo,
+    word: &[u8],
+    words: Option<&[u8]>,
+) -> Result<Line, LineError>
+    requires { IsIndexed script.now }
+    ensures { Reaches result (other_line known_words script.now.script session (word.now ∷ pieces_left is_space words.entry)) }
+{
+    if is_word(word, "Present") {
+        return match present(alloc, script, session, words) {
+            Ok(args) => Ok(Line::Present(args)),
+            Err(e) => Err(e),
+        };
+    }
+    match private_line(script, session, word, words) {
+        Ok(line) => Ok(line),
+        Err(k) => Err(LineError::Kind(k)),
+    }
+}
+
+/// What a line of a session that is neither a call nor a present writes, behind its
+/// first word.
+fn private_line(
+    script: &Indexed,
+    session: SessionNo,
+    word: &[u8],
+    words: Option<&[u8]>,
+) -> Result<Line, u32>
+    requires { IsIndexed script.now }
+    ensures { bytes_eq word.now (codes "Present") ≡ false → result ≡ other_line known_words script.now.script session (word.now ∷ pieces_left is_space words.entry) }
+{
+    if is_word(word, "Signal") {
+        return match owned_fence(script, Actor::Session(session), words) {
+            Ok(f) => Ok(Line::Signal(f)),
+            Err(k) => Err(k),
+        };
+    }
+    if is_word(word, "Poll") {
+        return alone(Line::Poll, words);
+    }
+    if is_word(word, "Wait") {
+        return match session_condition(script, session, words) {
+            Ok(c) => Ok(Line::Wait(c)),
+            Err(k) => Err(k),
+        };
+    }
+    if is_word(word, "Disconnect") {
+        return alone(Line::Disconnect, words);
+    }
+    Err(6)
+}
+
+/// A present: its time and its lists of fences.
+fn present(
+    alloc: Global,
+    script: &Indexed,
+    session: SessionNo,
+    words: Option<&[u8]>,
+) -> Result<PresentArgs, LineError>
+    requires { IsIndexed script.now }
+    ensures { Reaches result (whole (present known_words script.now.script session) (pieces_left is_space words.entry)) }
 {
     let mut places = Places::new(words);
     let time = places.time();
-    places.finish(PresentArgs {
+    let (acquire, release) = places.fence_lists(alloc, script, session)?;
+    Ok(places.finish(PresentArgs {
         time,
-        acquire: Items::new(alloc),
-        release: Items::new(alloc),
-    })
+        acquire,
+        release,
+    })?)
+}
+
+/// A line that is its first word alone.
+fn alone(line: Line, words: Option<&[u8]>) -> Result<Line, u32>
+    ensures { result ≡ whole (give line) (pieces_left is_space words.entry) }
+{
+    let places = Places::new(words);
+    places.finish(line)
+}
+
+/// A fence of the actor, and nothing behind it.
+pub fn owned_fence(script: &Indexed, owner: Actor, words: Option<&[u8]>) -> Result<FenceNo, u32>
+    requires { IsIndexed script.now }
+    ensures { result ≡ whole (fence script.now.script owner) (pieces_left is_space words.entry) }
+{
+    let mut places = Places::new(words);
+    let found = places.fence(script, owner);
+    places.finish(found)
 }
 
 /// The time of a begin, where `begins` counts the earlier ones, `in_frame` says
@@ -209,6 +284,7 @@ pub fn display_line(
     last: u64,
     words: Option<&[u8]>,
 ) -> Result<DisplayLine, u32>
+    requires indexed { IsIndexed script.now }
     requires begun { begins ≡ length (begin_times script.now.script) }
     requires all_ended { ended ≡ dones script.now.script }
     requires latest { last ≡ greatest (begin_times script.now.script) }
@@ -226,6 +302,27 @@ pub fn display_line(
     }
     if is_word(word, "done") {
         return done(ended < begins, rest);
+    }
+    timeless_line(script, word, rest)
+}
+
+/// What a line of the display that is neither a begin nor a done writes, behind its
+/// first word.
+fn timeless_line(script: &Indexed, word: &[u8], words: Option<&[u8]>) -> Result<DisplayLine, u32>
+    requires { IsIndexed script.now }
+    ensures { bytes_eq word.now (codes "begin") ≡ false → bytes_eq word.now (codes "done") ≡ false → result ≡ display_line known_words script.now.script (word.now ∷ pieces_left is_space words.entry) }
+{
+    if is_word(word, "Signal") {
+        return match owned_fence(script, Actor::Display, words) {
+            Ok(f) => Ok(DisplayLine::Signal(f)),
+            Err(k) => Err(k),
+        };
+    }
+    if is_word(word, "Wait") {
+        return match display_condition(script, words) {
+            Ok(c) => Ok(DisplayLine::Wait(c)),
+            Err(k) => Err(k),
+        };
     }
     Err(6)
 }

@@ -3,7 +3,9 @@
 
 mod call_forms;
 mod calls;
+mod conditions;
 mod forms;
+mod lists;
 mod name;
 mod names;
 mod parser;

@@ -1,9 +1,10 @@
 ghost use Rattle.std.specs.Prelude.{◌≡◌, ◌<◌, ◌≤◌, ◌^◌, ℕ, length, [], Ok, Err, IfSome, IfOk, IfErr, OnErr, FitsSigned, ◌+◌};
 ghost use Rattle.std.specs.Int.{w32};
+ghost use Rattle.std.specs.List.{list_any};
 ghost use Rattle.flat_text.specs.Number.{signed};
 ghost use Rattle.flat_text.specs.Pieces.{is_space, pieces_left};
 ghost use Rattle.flat_script.specs.Forms.{passes, optional, each};
-ghost use Rattle.flat_script.specs.Places.{number_below, number_from, transform, content, time, u32, colour, i32, int_rect, inset, orientation, blend, flip, interaction, region, regions, session, view_end, viewport_end, collection};
+ghost use Rattle.flat_script.specs.Places.{number_below, number_from, transform, content, time, u32, colour, i32, int_rect, inset, orientation, blend, flip, interaction, region, regions, session, view_end, viewport_end, collection, fence};
 ghost use Rattle.flat_script.specs.Head.{owner, owner_word, version, new_name, pair_owner, owners, has_display_pair};
 ghost use Rattle.flat_script.specs.Names.{is_name, is_actor};
 ghost use Rattle.flat_base.specs.declared.ids.Actor.TheVariants.{Session};
@@ -13,10 +14,10 @@ ghost use Rattle.flat_script.specs.Reads.{Reads, TakesWord, left, sofar, lower, 
 
 use crate::names::{Indexed, is_name, is_word};
 use flat_base::{
-    Actor, ActorList, BufferNo, ContentId, IntRect, Items, NoMemory, Orientation, PairNo,
+    Actor, ActorList, BufferNo, ContentId, FenceNo, IntRect, Items, NoMemory, Orientation, PairNo,
     SessionNo, TransformId,
 };
-use flat_scene::{BlendMode, HitRegion, ImageFlip, Inset, Interaction, RegionList};
+use flat_scene::{BlendMode, FenceDecl, HitRegion, ImageFlip, Inset, Interaction, RegionList};
 use flat_text::{next_piece, read_natural, read_number};
 use std::alloc::Global;
 
@@ -40,7 +41,7 @@ impl<'a> Places<'a> {
     }
 
     /// Takes the next word.
-    fn next(&mut self) -> Option<&'a [u8]>
+    pub fn next(&mut self) -> Option<&'a [u8]>
         ensures taken { TakesWord (left self.old) result (left self.new) }
         ensures same { self.new.fault ≡ self.old.fault }
     {
@@ -51,7 +52,7 @@ impl<'a> Places<'a> {
     }
 
     /// Keeps the lower of the kinds.
-    fn note(&mut self, kind: u32)
+    pub fn note(&mut self, kind: u32)
         ensures words { self.new.words ≡ self.old.words }
         ensures lower { sofar self.new ≡ lower (sofar self.old) (Err kind) }
     {
@@ -409,6 +410,28 @@ impl<'a> Places<'a> {
         }
     }
 
+    /// A fence that the actor owns.
+    pub fn fence(&mut self, script: &Indexed, owner: Actor) -> FenceNo
+        requires { IsIndexed script.now }
+        ensures { Reads (fence script.now.script owner) self.old self.new result }
+    {
+        let Some(word) = self.next() else {
+            self.note(8);
+            return FenceNo(0);
+        };
+        let Some(i) = script.fence_place(word) else {
+            self.note(9);
+            return FenceNo(0);
+        };
+        match script.script.setup.fences.as_slice().get(i as usize) {
+            Some(fence) if has_owner(fence, owner) => FenceNo(i),
+            _ => {
+                self.note(10);
+                FenceNo(0)
+            }
+        }
+    }
+
     pub fn version(&mut self)
         ensures { Reads version self.old self.new tt }
     {
@@ -519,6 +542,27 @@ fn lowest(fault: Option<u32>, kind: u32) -> u32
     match fault {
         Some(k) if k <= kind => k,
         _ => kind,
+    }
+}
+
+fn has_owner(fence: &FenceDecl, actor: Actor) -> bool
+    ensures { result ≡ list_any (is_actor actor) fence.now.owners }
+{
+    fence
+        .owners
+        .as_slice()
+        .iter()
+        .any(|owner| is_actor(actor, *owner))
+}
+
+fn is_actor(a: Actor, b: Actor) -> bool
+    ensures { result ≡ is_actor a b }
+{
+    match (a, b) {
+        (Actor::Display, Actor::Display) => true,
+        (Actor::Session(s), Actor::Session(t)) => s == t,
+        (Actor::Probe(p), Actor::Probe(q)) => p == q,
+        _ => false,
     }
 }
 

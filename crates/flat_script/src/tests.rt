@@ -116,12 +116,48 @@ const BODIES: [(&str, u32, u32); 42] = [
 ];
 
 // Whole texts.
-const TEXTS: [(&str, u32, u32); 40] = [
-    // acquire before it is known
+const TEXTS: [(&str, u32, u32); 46] = [
+    // lists and conditions of a session and of the display
     (
-        "flatland 1\ndisplay 100 100\nsession A\npair t0 display A\nfence f1 display A\nrun\nA Present 0 acquire f1\n",
+        "flatland 1\ndisplay 100 100\nsession A\nsession B\npair t0 display A\nfence f A display\nfence g B\nrun\nA Present 0 acquire f f release f\nA Present 1 release f\nA Signal f\nA Poll\nA Wait frames 1\nA Wait credits 1\nA Wait taken 1\nA Wait fence f\ndisplay Signal f\ndisplay Wait presents B 0\ndisplay Wait fence f\nA Disconnect\n",
+        0,
+        20,
+    ),
+    // an empty list
+    (
+        "flatland 1\ndisplay 100 100\nsession A\npair t0 display A\nfence f A\nrun\nA Present 0 acquire release f\n",
         7,
         8,
+    ),
+    // acquire behind release
+    (
+        "flatland 1\ndisplay 100 100\nsession A\npair t0 display A\nfence f A\nrun\nA Present 0 release f acquire f\n",
+        7,
+        9,
+    ),
+    // another's fence
+    (
+        "flatland 1\ndisplay 100 100\nsession A\nsession B\npair t0 display A\nfence f A\nrun\nB Wait fence f\n",
+        8,
+        10,
+    ),
+    // a condition of sessions
+    (
+        "flatland 1\ndisplay 100 100\nsession A\npair t0 display A\nrun\ndisplay Wait frames 1\n",
+        6,
+        6,
+    ),
+    // answers before they are known
+    (
+        "flatland 1\ndisplay 100 100\nsession A\npair t0 display A\nrun\nA Wait answers 1\n",
+        6,
+        6,
+    ),
+    // images, turns, scales, opacities and clips
+    (
+        "flatland 1\ndisplay 100 100\nsession A\npair t0 display A\nbuffers b A 2 8 8\nrun\nA SetOrientation 1 4\nA SetScale 1 0 4294967295\nA SetOpacity 1 65537\nA SetClipBoundary 1\nA SetClipBoundary 1 -1 0 5 5\nA CreateImage 1 b 7 8 8\nA SetImageSampleRegion 1 0 0 8 8\nA SetImageDestinationSize 1 9 9\nA SetImageBlendingFunction 1 2\nA SetImageFlip 1 3\nA SetImageOpacity 1 0\nA ReleaseImage 1\n",
+        0,
+        18,
     ),
     // kind 10 view of another
     (

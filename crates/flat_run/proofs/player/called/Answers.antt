@@ -1,7 +1,6 @@
-use Rattle.std.proofs.Common.{◌≡◌, true, false, sym, ap, ◌∙◌, subst, Some, Err, Result}
-use Rattle.std.specs.Arc.{arc_value}
+use Rattle.std.proofs.Common.{◌≡◌, true, false, sym, ◌∙◌, subst, Err}
 use Rattle.flat_draft.specs.declared.fault.DraftFault.{DraftFault}
-use Rattle.flat_draft.specs.declared.fault.DraftFault.TheVariants.{Bad, Closed}
+use Rattle.flat_draft.specs.declared.fault.DraftFault.TheVariants.{Closed}
 use Rattle.flat_draft.specs.Answers.{IsAnswer}
 use Rattle.flat_run.proofs.Judging.{call_closes, call_leaves}
 use Rattle.flat_run.proofs.player.called.Goals as goal

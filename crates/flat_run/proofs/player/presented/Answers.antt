@@ -1,7 +1,7 @@
-use Rattle.std.proofs.Common.{◌≡◌, true, false, sym, ap, ◌∙◌, subst, Some, Err, Result}
+use Rattle.std.proofs.Common.{◌≡◌, true, false, sym, ap, ◌∙◌, subst, Some}
 use Rattle.std.specs.Arc.{arc_value}
 use Rattle.flat_draft.specs.declared.fault.DraftFault.{DraftFault}
-use Rattle.flat_draft.specs.declared.fault.DraftFault.TheVariants.{Bad, Closed}
+use Rattle.flat_draft.specs.declared.fault.DraftFault.TheVariants.{Closed}
 use Rattle.flat_draft.specs.Answers.{IsRefused}
 use Rattle.std.proofs.Common.{Option}
 use Rattle.flat_base.specs.declared.errors.Reason.{Reason}

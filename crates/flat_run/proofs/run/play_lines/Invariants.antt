@@ -1,4 +1,3 @@
-use Rattle.std.proofs.Common.{◌≡◌}
 use Rattle.flat_run.specs.Playing.{GameStands}
 use Rattle.flat_run.proofs.run.play_lines.Given as goal
 

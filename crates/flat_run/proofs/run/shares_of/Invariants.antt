@@ -1,4 +1,4 @@
-use Rattle.std.proofs.Common.{◌≡◌, ◌≤◌}
+use Rattle.std.proofs.Common.{◌≡◌}
 use Rattle.flat_run.proofs.Starting.{shares_to}
 use Rattle.flat_run.proofs.run.shares_of.Given as goal
 

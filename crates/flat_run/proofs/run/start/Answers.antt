@@ -1,11 +1,9 @@
-use Rattle.std.proofs.Common.{◌≡◌, ◌<◌, ◌≤◌, ◌+◌, [], ℕ, List, length, sum, arith, ap, sym, ◌∙◌, subst, refl, true, None, All}
-use Rattle.flat_base.specs.declared.limits.TheConstants.{SCRIPT_BYTES_MAX}
+use Rattle.std.proofs.Common.{◌<◌, ◌≤◌, ◌+◌, [], ℕ, List, length, sum, arith, ap, sym, ◌∙◌, subst, refl}
 use Rattle.flat_scene.specs.declared.setup.Setup.{Setup}
 use Rattle.flat_scene.specs.Setups.{is_within_limits}
 use Rattle.flat_core.specs.Boards.{Machine}
 use Rattle.flat_run.proofs.Places.{setup_is}
-use Rattle.flat_run.proofs.Starting.{few, few_sessions, limits_are, shares_length, shares_small, starts, first_shown}
-use Rattle.flat_run.specs.Playing.{shares_of}
+use Rattle.flat_run.proofs.Starting.{few, limits_are, shares_length, shares_small, starts, first_shown}
 use Rattle.flat_run.proofs.run.start.Goals as goal
 
 pub shares_of-requires : goal.shares_of-requires

@@ -1,6 +1,5 @@
-use Rattle.std.proofs.Common.{◌≡◌, ap, sym, ◌∙◌, subst}
+use Rattle.std.proofs.Common.{ap, sym, ◌∙◌, subst}
 use Rattle.flat_scene.specs.declared.setup.Setup.{Setup}
-use Rattle.flat_topology.specs.declared.Joined.{Joined}
 use Rattle.flat_topology.specs.Connected.{joined_lists}
 use Rattle.flat_topology.specs.Fit.{FitsSetup}
 use Rattle.flat_report.specs.Report.{finished}

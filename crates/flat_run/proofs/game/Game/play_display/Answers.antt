@@ -1,11 +1,15 @@
-use Rattle.std.proofs.Common.{◌≡◌, [], refl, sym, ap, ◌∙◌, subst, Some, Option}
+use Rattle.std.proofs.Common.{◌≡◌, true, refl, sym, ap, subst}
 use Rattle.flat_base.specs.declared.ids.Actor.TheVariants.{Display}
 use Rattle.flat_scene.specs.declared.script.Body.TheVariants as body
 use Rattle.flat_scene.specs.declared.script.DisplayLine.{DisplayLine}
 use Rattle.flat_scene.specs.declared.script.DisplayLine.TheVariants as display
 use Rattle.flat_scene.specs.declared.script.ScriptLine.{ScriptLine}
-use Rattle.flat_run.proofs.DisplaySteps.{display_share, begin_time_ok, done_ok, may_begin, may_finish}
-use Rattle.flat_run.proofs.GameSteps.{begin_more, finish_more, begun_or_done}
+use Rattle.flat_scene.specs.declared.journal.Kind.TheVariants.{Signal, Wait}
+use Rattle.flat_scene.specs.declared.setup.Setup.{Setup}
+use Rattle.flat_core.specs.Legal.{is_fence}
+use Rattle.flat_playable.specs.Playable.{is_played_display}
+use Rattle.flat_run.proofs.DisplaySteps.{display_share, begin_time_ok, done_ok, may_begin, may_finish, may_signal_fence, may_wait_for}
+use Rattle.flat_run.proofs.GameSteps.{begin_more, finish_more, beside_more, no_hit}
 use Rattle.flat_run.proofs.Steps.{At, at_place}
 use Rattle.flat_run.proofs.game.Game.play_display.Goals as goal
 
@@ -27,11 +31,31 @@ finish-requires-clause-may c =
     (display_share c.args.script.now c.args.place x at c.args.self.now.board c.requires.stands.shares refl c.requires.stands.spent)
     (done_ok c.args.script.now c.args.place x at is c.args.self.now.board.history c.requires.stands.display)
 
+pub signal-requires : goal.signal-requires
+signal-requires c =
+    let x : ScriptLine = record { number = c.args.number; actor = Display; body = body.Display c.args.text } in
+    let at : At c.args.script.now c.args.place x = at_place c.args.script.now c.args.place x c.requires.playable c.requires.line in
+    let P : DisplayLine → Type 0 = λ t. is_played_display c.args.script.now.setup t ≡ true in
+    let Q : Setup → Type 0 = λ s. is_fence s c.in-Signal.f ≡ true in
+    may_signal_fence c.args.self.now.board c.in-Signal.f
+    (display_share c.args.script.now c.args.place x at c.args.self.now.board c.requires.stands.shares refl c.requires.stands.spent)
+    (subst Q (sym c.requires.stands.setup) (subst P c.in-Signal.is at.played))
+
+pub wait-requires : goal.wait-requires
+wait-requires c =
+    let x : ScriptLine = record { number = c.args.number; actor = Display; body = body.Display c.args.text } in
+    let at : At c.args.script.now c.args.place x = at_place c.args.script.now c.args.place x c.requires.playable c.requires.line in
+    let P : DisplayLine → Type 0 = λ t. is_played_display c.args.script.now.setup t ≡ true in
+    let Q : Setup → Type 0 = λ s. is_played_display s (display.Wait c.in-Wait.c) ≡ true in
+    may_wait_for c.args.self.now.board c.in-Wait.c
+    (display_share c.args.script.now c.args.place x at c.args.self.now.board c.requires.stands.shares refl c.requires.stands.spent)
+    (subst Q (sym c.requires.stands.setup) (subst P c.in-Wait.is at.played))
+
 pub unreachable-requires : goal.unreachable-requires
 unreachable-requires c =
     let x : ScriptLine = record { number = c.args.number; actor = Display; body = body.Display c.args.text } in
     let at : At c.args.script.now c.args.place x = at_place c.args.script.now c.args.place x c.requires.playable c.requires.line in
-    begun_or_done c.args.text at.played c.in_default.not-Begin c.in_default.not-Done
+    no_hit c.args.script.now.setup c.args.text _ _ at.played c.in-Hit.is
 
 pub returns-in-Begin : goal.returns-in-Begin
 returns-in-Begin c =
@@ -46,3 +70,17 @@ returns-in_ok-finish-in-Done c =
     let at : At c.args.script.now c.args.place x = at_place c.args.script.now c.args.place x c.requires.playable c.requires.line in
     let is : x.body ≡ body.Display display.Done = ap (λ t. body.Display t) c.in-Done.is in
     finish_more c.args.script.now c.args.place x at c.args.self.now c.finish.new.self refl is c.requires.stands c.in_ok-finish-in-Done.ensures
+
+pub returns-in-Signal : goal.returns-in-Signal
+returns-in-Signal c =
+    let x : ScriptLine = record { number = c.args.number; actor = Display; body = body.Display c.args.text } in
+    let at : At c.args.script.now c.args.place x = at_place c.args.script.now c.args.place x c.requires.playable c.requires.line in
+    let is : x.body ≡ body.Display (display.Signal c.in-Signal.f) = ap (λ t. body.Display t) c.in-Signal.is in
+    beside_more c.args.script.now c.args.place x at c.args.self.now c.signal.new.self (display.Signal c.in-Signal.f) (Signal c.in-Signal.f) _ refl is refl refl (λ o t follows. refl) c.requires.stands c.signal.ensures
+
+pub returns-in-Wait : goal.returns-in-Wait
+returns-in-Wait c =
+    let x : ScriptLine = record { number = c.args.number; actor = Display; body = body.Display c.args.text } in
+    let at : At c.args.script.now c.args.place x = at_place c.args.script.now c.args.place x c.requires.playable c.requires.line in
+    let is : x.body ≡ body.Display (display.Wait c.in-Wait.c) = ap (λ t. body.Display t) c.in-Wait.is in
+    beside_more c.args.script.now c.args.place x at c.args.self.now c.wait.new.self (display.Wait c.in-Wait.c) (Wait c.in-Wait.c) _ refl is refl refl (λ o t follows. refl) c.requires.stands c.wait.ensures

@@ -1,4 +1,4 @@
-use Rattle.std.proofs.Common.{◌≡◌, true, ap, sym, ◌∙◌, subst}
+use Rattle.std.proofs.Common.{◌≡◌, true, sym, subst}
 use Rattle.flat_base.specs.declared.ids.Actor.{Actor}
 use Rattle.flat_playable.specs.Playable.{is_played}
 use Rattle.flat_run.proofs.GameSteps.{no_session_text, no_display_text, no_probe}

@@ -1,11 +1,7 @@
-use Rattle.std.proofs.Common.{◌≡◌, ◌+◌, ◌-◌, ◌<◌, ◌≤◌, List, length, set, refl, sym, ap, ◌∙◌, subst, arith, get_or, OnOk}
+use Rattle.std.proofs.Common.{refl, arith}
 use Rattle.flat_base.specs.declared.ids.Actor.TheVariants.{Session}
-use Rattle.flat_base.specs.declared.ids.SessionNo.{SessionNo}
 use Rattle.flat_scene.specs.declared.script.Body.TheVariants as body
 use Rattle.flat_scene.specs.declared.script.ScriptLine.{ScriptLine}
-use Rattle.flat_run.specs.declared.game.Game.{Game}
-use Rattle.flat_run.specs.declared.player.Player.{Player}
-use Rattle.flat_run.specs.Playing.{PlayerStands, GameStands}
 use Rattle.flat_run.proofs.GameSteps.{below_declared, session_share, session_more, own_player}
 use Rattle.flat_run.proofs.Places.{here}
 use Rattle.flat_run.proofs.Steps.{at_place}

@@ -1,0 +1,11 @@
+use Rattle.std.proofs.Common.{length}
+use Rattle.flat_script.specs.Places.{fence_word}
+use Rattle.flat_script.specs.Reads.{left}
+use Rattle.flat_script.proofs.ListLemmas.{ListGoes}
+use Rattle.flat_script.proofs.places.Places.each_fence.Given as goal
+
+abbrev pub invariant-loop-owner : goal.invariant-loop-owner
+invariant-loop-owner l = ListGoes (fence_word l.script.script l.owner) l.follows l.fn.self l.self l.found
+
+abbrev pub decreases-loop-owner : goal.decreases-loop-owner
+decreases-loop-owner l = length (left l.self)

@@ -1,0 +1,15 @@
+use Rattle.std.proofs.Common.{false, []}
+use Rattle.flat_script.specs.Forms.{one_or_more}
+use Rattle.flat_script.specs.Lists.{ReadsList}
+use Rattle.flat_script.specs.Places.{fence_word}
+use Rattle.flat_script.specs.Reads.{Reads}
+use Rattle.flat_script.proofs.ReadsLemmas.{if_ok}
+use Rattle.flat_script.proofs.ListLemmas.{last_list}
+use Rattle.flat_script.proofs.places.Places.last_list.Goals as goal
+
+pub returns : goal.returns
+returns c =
+    let reading = one_or_more (fence_word c.args.script.now.script c.args.owner) in
+    let old = c.args.self.now in
+    let new = c.some_fences.new.self in
+    if_ok (λ v. ReadsList reading false old new v) (λ v. Reads (λ words. (reading words, [])) old new v) c.some_fences.result (λ v list. last_list reading old new v list) c.some_fences.ensures
