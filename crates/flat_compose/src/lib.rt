@@ -3,6 +3,8 @@
 
 mod brush;
 #[cfg(test)]
+mod composition_tests;
+#[cfg(test)]
 mod tests;
 
 ghost use Rattle.std.specs.Prelude.{◌≡◌, ◌+◌, ◌<◌, ◌≤◌, ◌++◌, All, option_to_list, IfOk};

@@ -3,4 +3,5 @@ pub mod Stands
 pub mod Parts
 pub mod Shown
 pub mod Answers
+pub mod Kinds
 pub mod Laws

@@ -3,6 +3,7 @@ ghost use Rattle.std.specs.Arc.{arc_value};
 ghost use Rattle.flat_scene.specs.declared.setup.Setup.{Setup};
 ghost use Rattle.flat_scene.specs.Draft as scene;
 ghost use Rattle.flat_draft.specs.Answers.{IsAnswer, IsApplied, IsRefused, IsWatched, Presents};
+ghost use Rattle.flat_draft.specs.Kinds.{is_of_contents_alone, is_of_images, is_of_one_part};
 ghost use Rattle.flat_draft.specs.Stands.{StandsFor};
 ghost use Rattle.flat_draft.specs.State.{DraftState, closed, empty_state, emptied};
 
@@ -176,6 +177,26 @@ impl Draft {
         match c {
             Call::CreateView { pair } => create_view(&mut self.view, *pair),
             Call::ReleaseView => release_view(&mut self.view),
+            Call::SetContent { t, c } => set_content(&mut self.graph, &self.contents, *t, *c),
+            Call::ReleaseViewport { c } => release_viewport(
+                &mut self.graph,
+                &mut self.contents,
+                *c,
+            ),
+            Call::Clear => {
+                self.clear();
+                Ok(())
+            }
+            _ => self.apply_to_part(c),
+        }
+    }
+
+    /// The same for a call on transforms alone or on contents alone.
+    fn apply_to_part(&mut self, c: &Call) -> Result<(), GraphFault>
+        requires { is_of_one_part c.now ≡ true }
+        ensures { (setup : Setup) (draft : scene.Draft) → StandsFor setup self.old draft → IsApplied setup draft c.now self.old self.new result }
+    {
+        match c {
             Call::CreateTransform { t } => create_transform(&mut self.graph, *t),
             Call::ReleaseTransform { t } => self.graph.release(*t),
             Call::SetTranslation { t, x, y } => self.graph.set_translation(*t, *x, *y),
@@ -196,7 +217,16 @@ impl Draft {
                 };
                 set_hits(self.alloc, &mut self.graph, *t, &[region])
             }
-            Call::SetContent { t, c } => set_content(&mut self.graph, &self.contents, *t, *c),
+            _ => self.apply_to_contents(c),
+        }
+    }
+
+    /// The same for a call on contents alone.
+    fn apply_to_contents(&mut self, c: &Call) -> Result<(), GraphFault>
+        requires { is_of_contents_alone c.now ≡ true }
+        ensures { (setup : Setup) (draft : scene.Draft) → StandsFor setup self.old draft → IsApplied setup draft c.now self.old self.new result }
+    {
+        match c {
             Call::CreateViewport {
                 c,
                 pair,
@@ -214,11 +244,27 @@ impl Draft {
             Call::SetViewportProperties { c, w, h, inset } => {
                 done(self.contents.set_viewport_properties(*c, *w, *h, *inset))
             }
-            Call::ReleaseViewport { c } => release_viewport(
-                &mut self.graph,
-                &mut self.contents,
-                *c,
-            ),
+            Call::CreateFilledRect { c } => made(self.contents.create_fill(*c)),
+            Call::SetSolidFill {
+                c,
+                r,
+                g,
+                b,
+                a,
+                w,
+                h,
+            } => done(self.contents.set_solid_fill(*c, [*r, *g, *b, *a], *w, *h)),
+            Call::ReleaseFilledRect { c } => done(self.contents.release_filled_rect(*c)),
+            _ => self.apply_to_images(c),
+        }
+    }
+
+    /// The same for a call on an image.
+    fn apply_to_images(&mut self, c: &Call) -> Result<(), GraphFault>
+        requires { is_of_images c.now ≡ true }
+        ensures { (setup : Setup) (draft : scene.Draft) → StandsFor setup self.old draft → IsApplied setup draft c.now self.old self.new result }
+    {
+        match c {
             Call::CreateImage {
                 c,
                 buffers,
@@ -238,21 +284,7 @@ impl Draft {
             Call::SetImageFlip { c, f } => done(self.contents.set_image_flip(*c, *f)),
             Call::SetImageOpacity { c, v } => done(self.contents.set_image_opacity(*c, *v)),
             Call::ReleaseImage { c } => done(self.contents.release_image(*c)),
-            Call::CreateFilledRect { c } => made(self.contents.create_fill(*c)),
-            Call::SetSolidFill {
-                c,
-                r,
-                g,
-                b,
-                a,
-                w,
-                h,
-            } => done(self.contents.set_solid_fill(*c, [*r, *g, *b, *a], *w, *h)),
-            Call::ReleaseFilledRect { c } => done(self.contents.release_filled_rect(*c)),
-            Call::Clear => {
-                self.clear();
-                Ok(())
-            }
+            _ => unreachable!(),
         }
     }
 

@@ -10,7 +10,7 @@ const SECOND: TransformId = TransformId(2);
 
 const FILL: ContentId = ContentId(1);
 
-const VIEWPORT: ContentId = ContentId(2);
+const OTHER: ContentId = ContentId(2);
 
 const PAIR: PairNo = PairNo(3);
 
@@ -22,11 +22,19 @@ const INSET: Inset = Inset {
 };
 
 const CREATE_VIEWPORT: Call = Call::CreateViewport {
-    c: VIEWPORT,
+    c: OTHER,
     pair: PAIR,
     w: 1,
     h: 1,
     inset: INSET,
+};
+
+const CREATE_IMAGE: Call = Call::CreateImage {
+    c: OTHER,
+    buffers: BufferNo(0),
+    i: 0,
+    w: 8,
+    h: 8,
 };
 
 /// Makes all calls, or as many as are no misuse.
@@ -153,13 +161,10 @@ fn refuses_a_viewport_twice(rt: HostRuntime) -> Result<(), Fail> {
     let mut draft = drawn(alloc)?;
     let calls = [
         CREATE_VIEWPORT,
-        Call::SetContent {
-            t: FIRST,
-            c: VIEWPORT,
-        },
+        Call::SetContent { t: FIRST, c: OTHER },
         Call::SetContent {
             t: SECOND,
-            c: VIEWPORT,
+            c: OTHER,
         },
     ];
     make(&mut draft, &calls)?;
@@ -191,12 +196,12 @@ fn releases_viewports(rt: HostRuntime) -> Result<(), Fail> {
             CREATE_VIEWPORT,
             Call::SetContent {
                 t: SECOND,
-                c: VIEWPORT,
+                c: OTHER,
             },
         ],
     )?;
     let used = draft.present(&args(alloc, 0)?)?;
-    draft.call(&Call::ReleaseViewport { c: VIEWPORT })?;
+    draft.call(&Call::ReleaseViewport { c: OTHER })?;
     let released = draft.present(&args(alloc, 0)?)?;
     assert_eq!(rt;
         (used.viewports().len(), released.viewports().len()),
@@ -209,22 +214,9 @@ fn releases_viewports(rt: HostRuntime) -> Result<(), Fail> {
 fn shows_images_until_clear(rt: HostRuntime) -> Result<(), Fail> {
     let alloc = rt.alloc();
     let mut draft = drawn(alloc)?;
-    let image = Call::CreateImage {
-        c: VIEWPORT,
-        buffers: BufferNo(0),
-        i: 0,
-        w: 8,
-        h: 8,
-    };
     make(
         &mut draft,
-        &[
-            image,
-            Call::SetContent {
-                t: FIRST,
-                c: VIEWPORT,
-            },
-        ],
+        &[CREATE_IMAGE, Call::SetContent { t: FIRST, c: OTHER }],
     )?;
     let shown = draft.present(&args(alloc, 0)?)?;
     draft.call(&Call::Clear)?;
@@ -237,14 +229,41 @@ fn shows_images_until_clear(rt: HostRuntime) -> Result<(), Fail> {
     Ok(())
 }
 
+/// The serial number of an image.
+fn serial(content: Option<Content>) -> Option<u32> {
+    match content {
+        Some(Content::Image { serial, .. }) => Some(serial),
+        _ => None,
+    }
+}
+
+#[test]
+fn shows_released_images(rt: HostRuntime) -> Result<(), Fail> {
+    let alloc = rt.alloc();
+    let mut draft = drawn(alloc)?;
+    let calls = [
+        CREATE_IMAGE,
+        Call::SetContent { t: FIRST, c: OTHER },
+        Call::ReleaseImage { c: OTHER },
+        CREATE_IMAGE,
+        Call::SetContent {
+            t: SECOND,
+            c: OTHER,
+        },
+    ];
+    make(&mut draft, &calls)?;
+    let shown = draft.present(&args(alloc, 0)?)?;
+    assert_eq!(rt; shown.nodes(), 2);
+    let serials = [serial(shown.node(0).content), serial(shown.node(1).content)];
+    assert_eq!(rt; serials, [Some(2), Some(3)]);
+    Ok(())
+}
+
 #[test]
 fn gets_name_pairs(rt: HostRuntime) -> Result<(), Fail> {
     let mut draft = drawn(rt.alloc())?;
     draft.call(&CREATE_VIEWPORT)?;
-    let pairs = (
-        draft.get(Watch::Layout)?,
-        draft.get(Watch::Child(VIEWPORT))?,
-    );
+    let pairs = (draft.get(Watch::Layout)?, draft.get(Watch::Child(OTHER))?);
     assert_eq!(rt; pairs, (PAIR, PAIR));
     assert_eq!(rt;
         reason(draft.get(Watch::Child(FILL))),

@@ -73,22 +73,22 @@ module _ (tree : Tree) (view : tree.view ≡ Some (pair 0)) (none : pairs_in (no
   alone_pairs (suc zero) = none
   alone_pairs (suc (suc s)) = refl
 
-  alone_small : node_count (nodes_of (Some tree)) ≡ 1 → (s : ℕ) → node_count (nodes_of (state_of alone s)) ≤ TREE_NODES_MAX
-  alone_small one zero = lit≤ tt
-  alone_small one (suc zero) = rw one (lit≤ tt)
-  alone_small one (suc (suc s)) = lit≤ tt
+  alone_small : node_count (nodes_of (Some tree)) ≤ TREE_NODES_MAX → (s : ℕ) → node_count (nodes_of (state_of alone s)) ≤ TREE_NODES_MAX
+  alone_small few zero = lit≤ tt
+  alone_small few (suc zero) = few
+  alone_small few (suc (suc s)) = lit≤ tt
 
   alone_low : greatest_opacity (nodes_of (Some tree)) ≤ OPACITY_MAX → (s : ℕ) → greatest_opacity (nodes_of (state_of alone s)) ≤ OPACITY_MAX
   alone_low low zero = lit≤ tt
   alone_low low (suc zero) = low
   alone_low low (suc (suc s)) = lit≤ tt
 
-pub alone_fits : (tree : Tree) → tree.view ≡ Some (pair 0) → pairs_in (nodes_of (Some tree)) ≡ [] → node_count (nodes_of (Some tree)) ≡ 1
+pub alone_fits : (tree : Tree) → tree.view ≡ Some (pair 0) → pairs_in (nodes_of (Some tree)) ≡ [] → node_count (nodes_of (Some tree)) ≤ TREE_NODES_MAX
     → greatest_opacity (nodes_of (Some tree)) ≤ OPACITY_MAX → (setup : Setup) (shown : Shown) → setup ≡ alone_setup → shown ≡ Some tree ∷ [] → FitsSetup setup shown
-alone_fits tree view none one low setup shown same_setup same_shown = rw (same_setup, same_shown) (record {
+alone_fits tree view none few low setup shown same_setup same_shown = rw (same_setup, same_shown) (record {
   views = alone_views tree view none;
   viewports = λ s p has. absurd (in-contains p [] (rw (alone_pairs tree view none s) at has));
   once = λ s. rw (alone_pairs tree view none s) (pairs-distinct [] tt);
-  small = alone_small tree view none one;
+  small = alone_small tree view none few;
   opacities = alone_low tree view none low;
 })

@@ -5,7 +5,7 @@ ghost use Rattle.flat_topology.specs.Shown.{nodes_of, pairs_in};
 ghost use Rattle.flat_topology.specs.Fit.{greatest_opacity};
 
 use crate::{Shown, join};
-use flat_base::{Actor, Items, NoMemory, ONE, OPACITY_MAX, Orientation, PairNo, SessionNo};
+use flat_base::{Actor, Items, NoMemory, ONE, OPACITY_MAX, Orientation, PairNo, SessionNo, TREE_NODES_MAX};
 use flat_scene::{Children, Content, Node, PairDecl, Setup};
 use flat_snap::{Snapshot, SnapshotBuilder};
 use std::alloc::Global;
@@ -44,7 +44,7 @@ fn alone(alloc: Global) -> Result<Setup, NoMemory>
 fn red(alloc: Global, right: i32) -> Result<Snapshot, NoMemory>
     ensures view { IfOk result (λ state. state.view ≡ Some (record { 0 = 0 })) }
     ensures pairs { IfOk result (λ state. pairs_in (nodes_of (Some state)) ≡ []) }
-    ensures one { IfOk result (λ state. node_count (nodes_of (Some state)) ≡ 1) }
+    ensures few { IfOk result (λ state. node_count (nodes_of (Some state)) ≤ TREE_NODES_MAX) }
     ensures low { IfOk result (λ state. greatest_opacity (nodes_of (Some state)) ≤ OPACITY_MAX) }
 {
     let mut builder = SnapshotBuilder::new(alloc, 1)?;
