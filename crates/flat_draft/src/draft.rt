@@ -9,8 +9,8 @@ ghost use Rattle.flat_draft.specs.State.{DraftState, closed, empty_state, emptie
 use crate::fault::DraftFault;
 use crate::lay::flatten;
 use crate::parts::{
-    create_transform, create_view, done, made, may_create_view, release_view, release_viewport, set_content,
-    set_hits, watched,
+    create_transform, create_view, done, made, may_create_view, release_view, release_viewport,
+    set_content, set_hits, watched,
 };
 use flat_base::{FENCES_PER_LIST_MAX, NoMemory, PairNo, Reason};
 use flat_collect::{Verdict, judge};
