@@ -1,6 +1,6 @@
 -- What each change of a table leaves sound.
 use Rattle.std.proofs.Common.{ℕ, zero, suc, slice_get, ◌+◌, ◌<◌, ◌≤◌, ◌^◌, ◌≡◌, ◌≢◌, refl, sym, ◌∙◌, ap, Bool, true, false, cond, List, [], ◌∷◌, ◌++◌, length, Option, Some, None, length-append, arith}
-use Rattle.std.specs.Prelude.{◌==◌, ◌&&◌, ◌||◌, nat_le, nat_lt}
+use Rattle.std.specs.Prelude.{◌==◌, ◌&&◌, ◌||◌, nat_le, nat_lt, is_some}
 use Rattle.std.specs.List.{list_all}
 use Rattle.std.proofs.lemmas.Bool.Decides.{nat_tests}
 use Rattle.flat_base.specs.declared.limits.TheConstants.{SIDE_MAX}
@@ -8,13 +8,13 @@ use Rattle.flat_scene.specs.declared.setup.BufferDecl.{BufferDecl}
 use Rattle.flat_scene.specs.Draft.{changed_at, of_serial}
 use Rattle.flat_scene.specs.Misuse.{is_bad_image, is_bad_index}
 use Rattle.flat_graph.specs.declared.names.Named.{Named}
-use Rattle.flat_graph.specs.Names.{key_named}
+use Rattle.flat_graph.specs.Names.{key_named, names_but, IsRising}
 use Rattle.flat_graph.proofs.DraftNames.{changed-length}
-use Rattle.flat_graph.proofs.NameLemmas.{named-with, named-but, rising-with, rising-but}
+use Rattle.flat_graph.proofs.NameLemmas.{named-with, named-but, rising-with, rising-but, length-but}
 use Rattle.flat_content.specs.declared.stored.Stored.{Stored}
 use Rattle.flat_content.proofs.Serials.{changed-alike}
 use Rattle.flat_content.specs.Limits.{are_sides}
-use Rattle.flat_content.specs.Table.{TableState, IsSound, IsTable, change_at, change_named, released, with_stored}
+use Rattle.flat_content.specs.Table.{TableState, IsSound, IsTable, HasRoom, change_at, change_named, released, with_stored}
 
 pub sound-released : (table : TableState) (id : ℕ) → IsSound table → IsSound (released table id)
 sound-released table id t = record {
@@ -128,3 +128,30 @@ table-use table viewports t = record {
   few = t.few;
   sides = t.sides;
 }
+
+-- room stays where the contents are as many, and where there are no more names and viewports in use
+pub room-same : {contents contents' most most' names most_names viewports most_viewports : ℕ} → HasRoom contents most names most_names viewports most_viewports → contents' ≡ contents → most' ≡ most
+    → HasRoom contents' most' names most_names viewports most_viewports
+room-same room same capacity = record {
+  one_content = let h = room.one_content in omega arith;
+  one_name = room.one_name;
+  one_viewport = room.one_viewport;
+  one_serial = let h = room.one_serial in omega arith;
+}
+
+pub room-fewer : {contents most names names' most_names most_names' viewports viewports' most_viewports most_viewports' : ℕ} → HasRoom contents most names most_names viewports most_viewports
+    → names' ≤ names → most_names' ≡ most_names → viewports' ≤ viewports → most_viewports' ≡ most_viewports → HasRoom contents most names' most_names' viewports' most_viewports'
+room-fewer room fewer same fewer' same' = record {
+  one_content = room.one_content;
+  one_name = let h = room.one_name in omega arith;
+  one_viewport = let h = room.one_viewport in omega arith;
+  one_serial = room.one_serial;
+}
+
+-- no more names where one was taken away
+pub but-fewer : (id : ℕ) (names : List Named) → IsRising names → length (names_but id names) ≤ length names
+but-fewer id names rising = fewer (is_some (key_named names id)) (length-but id names rising)
+  where
+    fewer : (b : Bool) → length (names_but id names) + cond b 1 0 ≡ length names → length (names_but id names) ≤ length names
+    fewer true e = omega arith
+    fewer false e = omega arith

@@ -1,5 +1,5 @@
 -- What contracts see of a table of contents.
-use Rattle.std.specs.Prelude.{ℕ, pos, ◌+◌, ◌<◌, ◌≤◌, ◌^◌, ◌≡◌, true, not, List, [], ◌∷◌, ◌++◌, filter, length, Option, Some, None}
+use Rattle.std.specs.Prelude.{ℕ, pos, ◌+◌, ◌<◌, ◌≤◌, ◌^◌, ◌≡◌, Bool, true, false, not, List, [], ◌∷◌, ◌++◌, filter, length, Option, Some, None}
 use Rattle.std.specs.List.{list_all}
 use Rattle.std.specs.Option.{option_map, option_and_then}
 use Rattle.flat_base.specs.declared.ids.BufferNo.{BufferNo}
@@ -39,15 +39,16 @@ as_made (Fill None) = a_fill None
 as_made (Fill (Some fill)) = a_fill (Some (record { rgba = fill.rgba; size = fill.size }))
 as_made (Viewport pair props) = a_viewport pair props
 
--- the collections of which images may be made, the contents by serial, the names by rising id, whose keys are serials, and the serials of the viewports in use
+-- the collections of which images may be made, the contents by serial, the names by rising id, whose keys are serials, the serials of the viewports in use, and whether there is room for one content more
 pub record TableState : Type 0 where
   pub buffers : List BufferDecl
   pub contents : List Stored
   pub names : List Named
   pub viewports : List ℕ
+  pub has_room : Bool
 
 abbrev pub empty_table : List BufferDecl → TableState
-empty_table buffers = record { buffers = buffers; contents = []; names = []; viewports = [] }
+empty_table buffers = record { buffers = buffers; contents = []; names = []; viewports = []; has_room = false }
 
 -- the names are in order, 0 is none of them, and each names a serial that was given
 pub record IsSound (table : TableState) : Type 0 where
@@ -61,6 +62,13 @@ pub record IsTable (table : TableState) : Type 0 where
   pub sound : IsSound table
   pub few : length table.contents < 2 ^ 32
   pub sides : list_all are_sides table.buffers ≡ true
+
+-- the room for one content more, and a serial for it: lists of those lengths are below their capacities
+pub record HasRoom (contents most_contents names most_names viewports most_viewports : ℕ) : Type 0 where
+  pub one_content : contents < most_contents
+  pub one_name : names < most_names
+  pub one_viewport : viewports < most_viewports
+  pub one_serial : contents + 1 < 2 ^ 32
 
 -- the content of a serial, as the draft has it
 abbrev pub made_at : TableState → ℕ → Option Made
@@ -98,12 +106,13 @@ abbrev pub in_use : Stored → ℕ → List ℕ → List ℕ
 in_use (Viewport pair props) serial viewports = viewports ++ serial ∷ []
 in_use other serial viewports = viewports
 
--- the table with one content more, which an id names
+-- the table with one content more, which an id names and which took the room
 abbrev pub with_stored : TableState → ℕ → Stored → TableState
 with_stored table id stored = record table {
   contents = table.contents ++ stored ∷ [];
   names = names_with (record { id = id; key = length table.contents + 1 }) table.names;
   viewports = in_use stored (length table.contents + 1) table.viewports;
+  has_room = false;
 }
 
 -- an image as it is made

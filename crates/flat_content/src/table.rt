@@ -1,15 +1,15 @@
-ghost use Rattle.std.specs.Prelude.{◌≡◌, ◌==◌, ◌+◌, ◌<◌, ◌≤◌, ◌^◌, ◌++◌, true, not, filter, length, option_to_list, vec_capacity, Some, None, IfOk, IfErr, OnOk, OnErr};
+ghost use Rattle.std.specs.Prelude.{◌≡◌, ◌==◌, ◌+◌, ◌<◌, ◌≤◌, ◌^◌, ◌++◌, true, false, not, filter, length, option_to_list, vec_capacity, Some, None, IfOk, IfErr, OnOk, OnErr};
 ghost use Rattle.flat_scene.specs.Draft.{changed_at, of_serial};
 ghost use Rattle.flat_scene.specs.Misuse.{first_reason};
 ghost use Rattle.flat_graph.specs.Names.{key_named};
-ghost use Rattle.flat_content.specs.Table.{TableState, IsTable, in_use};
+ghost use Rattle.flat_content.specs.Table.{TableState, IsTable, HasRoom, in_use};
 
 use crate::limits::{is_bad_image, is_bad_index, is_bad_rect, is_bad_side, leaves, whole};
 use crate::stored::{Stored, StoredFill, StoredImage, is_fill, is_viewport, shown, use_in};
 use flat_base::{
     BufferNo, ContentId, IntRect, Items, NAMED_MAX, NoMemory, OPACITY_MAX, PairNo, Reason,
 };
-use flat_graph::{Named, add_name, key_of, remove_name};
+use flat_graph::{Named, key_of, put_name, remove_name};
 use flat_scene::{
     BlendMode, BufferList, Content, GraphFault, Held, ImageFlip, Inset, UseList, ViewportProps,
     ViewportUse,
@@ -30,14 +30,17 @@ pub struct ContentTable {
     names: Vec<Named>,
     // The serials of the viewports neither released nor cleared, the oldest first.
     viewports: Vec<u32>,
+    // There is room for one content more, and a serial.
+    has_room: bool,
 }
 
 impl Model for ContentTable {
     ghost Value = { TableState };
 
-    ghost view = { λ t. record { buffers = t.buffers; contents = t.contents.items; names = t.names.items; viewports = t.viewports.items } };
+    ghost view = { λ t. record { buffers = t.buffers; contents = t.contents.items; names = t.names.items; viewports = t.viewports.items; has_room = t.has_room } };
 
-    ghost invariant = { λ t. IsTable (record { buffers = t.buffers; contents = t.contents.items; names = t.names.items; viewports = t.viewports.items }) };
+    ghost invariant = { λ t. IsTable (record { buffers = t.buffers; contents = t.contents.items; names = t.names.items; viewports = t.viewports.items; has_room = false })
+        × (t.has_room ≡ true → HasRoom (length t.contents.items) (vec_capacity t.contents) (length t.names.items) (vec_capacity t.names) (length t.viewports.items) (vec_capacity t.viewports)) };
 }
 
 /// The content of a serial number, if there is that number.
@@ -54,7 +57,9 @@ fn stored_at(contents: &[Stored], serial: usize) -> Option<Stored>
 fn put(contents: &mut Vec<Stored>, serial: usize, stored: Stored)
     requires made { 1 ≤ serial }
     requires within { serial ≤ length contents.old.items }
-    ensures { contents.new.items ≡ changed_at serial (λ _. stored) contents.old.items }
+    ensures capacity { vec_capacity contents.new ≡ vec_capacity contents.old }
+    ensures count { length contents.new.items ≡ length contents.old.items }
+    ensures items { contents.new.items ≡ changed_at serial (λ _. stored) contents.old.items }
 {
     contents[serial - 1] = stored;
 }
@@ -71,7 +76,9 @@ fn note_use(viewports: &mut Vec<u32>, stored: Stored, serial: u32)
 
 /// Takes a serial away from those in use.
 fn drop_use(viewports: &mut Vec<u32>, serial: u32)
-    ensures { viewports.new.items ≡ filter (λ other. not (other == serial)) viewports.old.items }
+    ensures capacity { vec_capacity viewports.new ≡ vec_capacity viewports.old }
+    ensures fewer { length viewports.new.items ≤ length viewports.old.items }
+    ensures items { viewports.new.items ≡ filter (λ other. not (other == serial)) viewports.old.items }
 {
     viewports.retain(|other| *other != serial);
 }
@@ -104,6 +111,7 @@ impl ContentTable {
             contents: Vec::new(alloc),
             names: Vec::new(alloc),
             viewports: Vec::new(alloc),
+            has_room: false,
         }
     }
 
@@ -188,6 +196,7 @@ impl ContentTable {
 impl ContentTable {
     ghost use Rattle.std.specs.Prelude.{◌≢◌};
     ghost use Rattle.flat_graph.specs.Reasons.{IsFault};
+    ghost use Rattle.flat_scene.specs.declared.trees.GraphFault.{GraphFault};
     ghost use Rattle.flat_content.specs.Table.{with_stored};
     ghost use Rattle.flat_content.specs.Reasons.{new_tests, room_tests};
 
@@ -207,6 +216,65 @@ impl ContentTable {
         Ok(())
     }
 
+    /// Takes the room that one content more needs. It stays until one is made, and
+    /// changes nothing else.
+    ///
+    /// It answers `NoMemory` also where 2^32 - 1 contents were made.
+    pub fn reserve(&mut self) -> Result<(), NoMemory>
+        ensures ok { OnOk result (self.new ≡ record self.old { has_room = true }) }
+        ensures err { OnErr result (self.new ≡ self.old) }
+        ensures only { OnErr result (self.old.has_room ≡ false) }
+    {
+        if self.has_room {
+            return Ok(());
+        }
+        if self.contents.len() >= u32::MAX as usize {
+            return Err(NoMemory);
+        }
+        self.contents.reserve(1)?;
+        self.viewports.reserve(1)?;
+        self.names.reserve(1)?;
+        self.has_room = true;
+        Ok(())
+    }
+
+    /// Tests that one name more is allowed, and takes the room.
+    fn make_room(&mut self) -> Result<(), GraphFault>
+        ensures ok { OnOk result (self.new ≡ record self.old { has_room = true }) }
+        ensures allowed { OnOk result (first_reason (room_tests self.old) ≡ None) }
+        ensures fault { IfErr result (IsFault (room_tests self.old)) }
+        ensures kept { OnErr result (self.new ≡ self.old) }
+        ensures room { result ≡ Err GraphFault.Memory → self.old.has_room ≡ false }
+    {
+        if self.names.len() >= NAMED_MAX as usize {
+            return Err(GraphFault::Bad(Reason::TooManyNamed));
+        }
+        if self.reserve().is_err() {
+            return Err(GraphFault::Memory);
+        }
+        Ok(())
+    }
+
+    /// Makes a content, and names it, where there is room.
+    fn put_content(&mut self, c: ContentId, stored: Stored) -> u32
+        requires some { c.0 ≢ 0 }
+        requires absent { key_named self.old.names c.0 ≡ None }
+        requires room { self.old.has_room ≡ true }
+        ensures serial { result ≡ length self.old.contents + 1 }
+        ensures created { self.new ≡ with_stored self.old c.0 stored }
+    {
+        let serial = self.contents.len() + 1;
+        let name = Named {
+            id: c.0,
+            key: serial,
+        };
+        put_name(&mut self.names, name);
+        self.contents.push_reserved(stored);
+        note_use(&mut self.viewports, stored, serial as u32);
+        self.has_room = false;
+        serial as u32
+    }
+
     /// Makes a content, and names it.
     fn add(&mut self, c: ContentId, stored: Stored) -> Result<u32, GraphFault>
         requires some { c.0 ≢ 0 }
@@ -216,28 +284,10 @@ impl ContentTable {
         ensures allowed { OnOk result (first_reason (room_tests self.old) ≡ None) }
         ensures fault { IfErr result (IsFault (room_tests self.old)) }
         ensures kept { OnErr result (self.new ≡ self.old) }
+        ensures room { result ≡ Err GraphFault.Memory → self.old.has_room ≡ false }
     {
-        if self.names.len() >= NAMED_MAX as usize {
-            return Err(GraphFault::Bad(Reason::TooManyNamed));
-        }
-        let made = self.contents.len();
-        if made >= u32::MAX as usize || self.contents.reserve(1).is_err() {
-            return Err(GraphFault::Memory);
-        }
-        if self.viewports.reserve(1).is_err() {
-            return Err(GraphFault::Memory);
-        }
-        let serial = made + 1;
-        let name = Named {
-            id: c.0,
-            key: serial,
-        };
-        if add_name(&mut self.names, name).is_err() {
-            return Err(GraphFault::Memory);
-        }
-        self.contents.push_reserved(stored);
-        note_use(&mut self.viewports, stored, serial as u32);
-        Ok(serial as u32)
+        self.make_room()?;
+        Ok(self.put_content(c, stored))
     }
 }
 
@@ -327,16 +377,34 @@ impl ContentTable {
 impl ContentTable {
     ghost use Rattle.std.specs.Prelude.{unwrap_or};
     ghost use Rattle.flat_scene.specs.Misuse as misuse;
+    ghost use Rattle.flat_scene.specs.declared.trees.GraphFault.{GraphFault};
     ghost use Rattle.flat_graph.specs.Reasons.{IsFault};
     ghost use Rattle.flat_content.specs.declared.stored.Stored.TheVariants.{Viewport};
     ghost use Rattle.flat_content.specs.Table.{change_named, on_viewport, pair_named, viewport_released, with_stored};
     ghost use Rattle.flat_content.specs.Reasons.{sort_tests, viewport_tests, properties_tests};
 
+    /// Tests what `create_viewport` tests, and takes the room for it: after `Ok` a
+    /// `create_viewport` of that id and that size is done. It makes nothing.
+    pub fn ready_viewport(&mut self, c: ContentId, w: u32, h: u32) -> Result<(), GraphFault>
+        ensures ok { OnOk result (self.new ≡ record self.old { has_room = true }) }
+        ensures allowed { OnOk result (first_reason (viewport_tests self.old c.0 w h) ≡ None) }
+        ensures fault { IfErr result (IsFault (viewport_tests self.old c.0 w h)) }
+        ensures kept { OnErr result (self.new ≡ self.old) }
+    {
+        if let Err(reason) = self.unused(c) {
+            return Err(GraphFault::Bad(reason));
+        }
+        if is_bad_side(w) || is_bad_side(h) {
+            return Err(GraphFault::Bad(Reason::BadSize));
+        }
+        self.make_room()
+    }
+
     /// Makes a viewport at the viewport end of a pair, and names it; answers its
     /// serial number.
     ///
     /// `Bad` is ZeroId, IdInUse, BadSize or TooManyNamed. It answers `Memory` also
-    /// where 2^32 - 1 contents were made.
+    /// where 2^32 - 1 contents were made, but never where there is room.
     pub fn create_viewport(
         &mut self,
         c: ContentId,
@@ -348,6 +416,7 @@ impl ContentTable {
         ensures allowed { OnOk result (first_reason (viewport_tests self.old c.0 props.w props.h) ≡ None) }
         ensures fault { IfErr result (IsFault (viewport_tests self.old c.0 props.w props.h)) }
         ensures kept { OnErr result (self.new ≡ self.old) }
+        ensures room { result ≡ Err GraphFault.Memory → self.old.has_room ≡ false }
     {
         if let Err(reason) = self.unused(c) {
             return Err(GraphFault::Bad(reason));

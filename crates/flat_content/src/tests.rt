@@ -192,3 +192,18 @@ fn names_and_uses(rt: HostRuntime) -> Result<(), Fail> {
     assert_eq!(rt; table.held(FILL).err(), Some(Reason::UnknownContent));
     Ok(())
 }
+
+#[test]
+fn takes_room_for_a_viewport(rt: HostRuntime) -> Result<(), Fail> {
+    let mut table = made(rt.alloc())?;
+    let answers = [
+        reason(table.ready_viewport(VIEWPORT, 1, 1)),
+        reason(table.ready_viewport(OTHER, 0, 1)),
+        reason(table.ready_viewport(OTHER, 40, 30)),
+    ];
+    assert!(rt; answers == [Some(Reason::IdInUse), Some(Reason::BadSize), None]);
+    table.reserve()?;
+    assert!(rt; table.content(4).is_none());
+    assert!(rt; table.create_viewport(OTHER, PAIR, PROPS).ok() == Some(4));
+    Ok(())
+}

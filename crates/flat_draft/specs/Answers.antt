@@ -2,7 +2,7 @@
 use Rattle.std.specs.Prelude.{◌≡◌, Bool, true, false, Option, Some, None, Result, Ok, Err}
 use Rattle.std.specs.Option.{option_and_then}
 use Rattle.flat_scene.specs.declared.calls.Call.{Call}
-use Rattle.flat_scene.specs.declared.calls.Call.TheVariants.{CreateTransform, AddChild, SetHitRegions, SetInfiniteHitRegion, CreateViewport, CreateImage, CreateFilledRect}
+use Rattle.flat_scene.specs.declared.calls.Call.TheVariants.{CreateView, CreateTransform, AddChild, SetHitRegions, SetInfiniteHitRegion, CreateViewport, CreateImage, CreateFilledRect}
 use Rattle.flat_base.specs.declared.ids.PairNo.{PairNo}
 use Rattle.flat_scene.specs.declared.calls.PresentArgs.{PresentArgs}
 use Rattle.flat_scene.specs.declared.calls.Watch.{Watch}
@@ -46,6 +46,32 @@ module _ (setup : Setup) (draft : Draft) (call : Call) (old new : DraftState) wh
   IsApplied (Ok done) = (misuse setup draft call ≡ None) × StandsFor setup new (effect draft call) × (new.closed ≡ old.closed)
   IsApplied (Err (part.Bad reason)) = (misuse setup draft call ≡ Some reason) × (new ≡ old)
   IsApplied (Err part.Memory) = (misuse setup draft call ≡ None) × (takes_memory call ≡ true) × (new ≡ old)
+
+-- the calls that use an end of a pair
+abbrev pub uses_an_end : Call → Bool
+uses_an_end (CreateView pair) = true
+uses_an_end (CreateViewport c pair w h inset) = true
+uses_an_end other = false
+
+-- whether a call that uses an end finds the memory that it takes
+abbrev pub has_room_for : Call → DraftState → Bool
+has_room_for (CreateView pair) state = true
+has_room_for (CreateViewport c pair w h inset) state = state.contents.has_room
+has_room_for other state = false
+
+module _ (setup : Setup) (draft : Draft) (call : Call) (old new : DraftState) where
+  -- What a call would be answered that uses an end. Where it would be done there is room for it, and the draft is what it was; a misuse doesn't close it.
+  abbrev pub IsReadied : Result Unit DraftFault → Type 0
+  IsReadied (Ok done) = (old.closed ≡ false) × (misuse setup draft call ≡ None) × StandsFor setup new draft × (new.closed ≡ false) × (has_room_for call new ≡ true)
+  IsReadied (Err (Bad reason)) = (old.closed ≡ false) × (misuse setup draft call ≡ Some reason) × (new ≡ old)
+  IsReadied (Err Closed) = (old.closed ≡ true) × (new ≡ old)
+  IsReadied (Err Memory) = (old.closed ≡ false) × (misuse setup draft call ≡ None) × (takes_memory call ≡ true) × (new ≡ old)
+
+  -- the same of the parts of an open draft
+  abbrev pub IsTested : Result Unit GraphFault → Type 0
+  IsTested (Ok done) = (misuse setup draft call ≡ None) × StandsFor setup new draft × (new.closed ≡ old.closed) × (has_room_for call new ≡ true)
+  IsTested (Err (part.Bad reason)) = (misuse setup draft call ≡ Some reason) × (new ≡ old)
+  IsTested (Err part.Memory) = (misuse setup draft call ≡ None) × (takes_memory call ≡ true) × (new ≡ old)
 
 module _ (draft : Draft) (args : PresentArgs) (old new : DraftState) where
   -- a present is done, and shows this tree

@@ -1,5 +1,5 @@
 -- Calls one after another.
-use Rattle.std.specs.Prelude.{◌≡◌, true, List, [], ◌∷◌, ◌++◌, Some, None, Result, Ok, Err}
+use Rattle.std.specs.Prelude.{◌≡◌, ◌≢◌, true, List, [], ◌∷◌, ◌++◌, Some, None, Result, Ok, Err}
 use Rattle.flat_base.specs.declared.errors.Reason.{Reason}
 use Rattle.flat_scene.specs.declared.calls.Call.{Call}
 use Rattle.flat_scene.specs.declared.setup.Setup.{Setup}
@@ -8,7 +8,7 @@ use Rattle.flat_scene.specs.Effect.{draft_of, effect}
 use Rattle.flat_scene.specs.Misuse.{misuse}
 use Rattle.flat_draft.specs.declared.fault.DraftFault.{DraftFault}
 use Rattle.flat_draft.specs.declared.fault.DraftFault.TheVariants.{Bad, Closed, Memory}
-use Rattle.flat_draft.specs.Answers.{IsAnswer}
+use Rattle.flat_draft.specs.Answers.{IsAnswer, IsReadied, has_room_for}
 use Rattle.flat_draft.specs.State.{DraftState, empty_state}
 use Rattle.flat_draft.specs.Stands.{IsAfter, StandsFor}
 
@@ -36,3 +36,10 @@ abbrev pub AnswersFollow : Type 0
 AnswersFollow =
     (setup : Setup) (calls : List Call) (call : Call) (old new : DraftState) (answer : Result Unit DraftFault) → IsAfter setup calls old
     → ((draft : Draft) → StandsFor setup old draft → IsAnswer setup draft call old new answer) → IsFollowed setup calls call new answer
+
+-- where a call was answered that it would be done, the next call, with that same call, is done
+abbrev pub ReadyIsDone : Type 0
+ReadyIsDone =
+    (setup : Setup) (draft : Draft) (call : Call) (old readied new : DraftState) (answer : Result Unit DraftFault) → IsReadied setup draft call old readied (Ok tt)
+    → (StandsFor setup readied draft → IsAnswer setup draft call readied new answer) → (has_room_for call readied ≡ true → answer ≢ Err Memory)
+    → (answer ≡ Ok tt) × StandsFor setup new (effect draft call)

@@ -1,8 +1,8 @@
-ghost use Rattle.std.specs.Prelude.{◌≡◌, ◌||◌, MatchResult, length, nat_lt};
+ghost use Rattle.std.specs.Prelude.{◌≡◌, ◌≢◌, ◌||◌, IsTrue, true, MatchResult, length, nat_lt};
 ghost use Rattle.std.specs.Arc.{arc_value};
 ghost use Rattle.flat_scene.specs.declared.setup.Setup.{Setup};
 ghost use Rattle.flat_scene.specs.Draft as scene;
-ghost use Rattle.flat_draft.specs.Answers.{IsAnswer, IsApplied, IsRefused, IsWatched, Presents};
+ghost use Rattle.flat_draft.specs.Answers.{IsAnswer, IsApplied, IsReadied, IsTested, uses_an_end, has_room_for, IsRefused, IsWatched, Presents};
 ghost use Rattle.flat_draft.specs.Kinds.{is_of_contents_alone, is_of_images, is_of_one_part};
 ghost use Rattle.flat_draft.specs.Stands.{StandsFor};
 ghost use Rattle.flat_draft.specs.State.{DraftState, closed, empty_state, emptied};
@@ -10,8 +10,8 @@ ghost use Rattle.flat_draft.specs.State.{DraftState, closed, empty_state, emptie
 use crate::fault::DraftFault;
 use crate::lay::flatten;
 use crate::parts::{
-    create_transform, create_view, done, made, release_view, release_viewport, set_content,
-    set_hits, watched,
+    create_transform, create_view, done, made, may_create_view, release_view, release_viewport,
+    set_content, set_hits, watched,
 };
 use flat_base::{FENCES_PER_LIST_MAX, NoMemory, PairNo, Reason};
 use flat_collect::{Verdict, judge};
@@ -51,13 +51,15 @@ fn has_too_many(args: &PresentArgs) -> bool
 }
 
 impl Draft {
-    ghost use Rattle.std.specs.Prelude.{true, IfOk, IsErrOf};
+    ghost use Rattle.std.specs.Prelude.{IfOk, IsErrOf};
     ghost use Rattle.flat_collect.specs.Forest.{size};
     ghost use Rattle.flat_collect.specs.Judge.{HasTree, graph_tree};
     ghost use Rattle.flat_draft.specs.Shown.{shown_tree};
     ghost use Rattle.std.specs.List.{list_all};
     ghost use Rattle.flat_content.specs.Limits.{are_sides};
     ghost use Rattle.flat_draft.specs.declared.fault.DraftFault.TheVariants.{Bad, Closed};
+    ghost use Rattle.flat_draft.specs.declared.fault.DraftFault.{DraftFault};
+    ghost use Rattle.flat_scene.specs.declared.trees.GraphFault.{GraphFault};
 
     /// The draft of a session that made no call. It may make images of these
     /// collections. It takes no memory.
@@ -88,14 +90,36 @@ impl Draft {
         self.view
     }
 
+    /// Whether a CreateView or a CreateViewport may be made, with the room for it: it
+    /// answers what `call` would answer, and after its `Ok` the next `call` of the
+    /// draft, made with that same call, is done.
+    ///
+    /// It makes nothing, and a misuse doesn't close the draft.
+    pub fn ready(&mut self, c: &Call) -> Result<(), DraftFault>
+        requires { IsTrue (uses_an_end c.now) }
+        ensures answered { (setup : Setup) (draft : scene.Draft) → StandsFor setup self.old draft → IsReadied setup draft c.now self.old self.new result }
+        ensures ended { self.old.closed ≡ true → IsErrOf result Closed × (self.new ≡ self.old) }
+    {
+        if self.closed {
+            return Err(DraftFault::Closed);
+        }
+        match self.test_end(c) {
+            Ok(()) => Ok(()),
+            Err(GraphFault::Bad(reason)) => Err(DraftFault::Bad(reason)),
+            Err(GraphFault::Memory) => Err(DraftFault::Memory),
+        }
+    }
+
     /// Makes a call, but for the token of a CreateView or a CreateViewport, which is
     /// asked for elsewhere.
     ///
     /// A misuse closes the draft. Only what makes a transform or a content, adds a
-    /// child or sets hit regions takes memory.
+    /// child or sets hit regions takes memory; a CreateViewport finds it where
+    /// `ready` took it.
     pub fn call(&mut self, c: &Call) -> Result<(), DraftFault>
         ensures answered { (setup : Setup) (draft : scene.Draft) → StandsFor setup self.old draft → IsAnswer setup draft c.now self.old self.new result }
         ensures ended { self.old.closed ≡ true → IsErrOf result Closed × (self.new ≡ self.old) }
+        ensures room { has_room_for c.now self.old ≡ true → result ≢ Err DraftFault.Memory }
     {
         if self.closed {
             return Err(DraftFault::Closed);
@@ -170,9 +194,22 @@ impl Draft {
         DraftFault::Bad(reason)
     }
 
+    /// Tests a call that uses an end, and takes the room for it.
+    fn test_end(&mut self, c: &Call) -> Result<(), GraphFault>
+        requires { IsTrue (uses_an_end c.now) }
+        ensures { (setup : Setup) (draft : scene.Draft) → StandsFor setup self.old draft → IsTested setup draft c.now self.old self.new result }
+    {
+        match c {
+            Call::CreateView { .. } => may_create_view(self.view),
+            Call::CreateViewport { c, w, h, .. } => self.contents.ready_viewport(*c, *w, *h),
+            _ => unreachable!(),
+        }
+    }
+
     /// Does what a call does to an open draft.
     fn apply(&mut self, c: &Call) -> Result<(), GraphFault>
-        ensures { (setup : Setup) (draft : scene.Draft) → StandsFor setup self.old draft → IsApplied setup draft c.now self.old self.new result }
+        ensures applied { (setup : Setup) (draft : scene.Draft) → StandsFor setup self.old draft → IsApplied setup draft c.now self.old self.new result }
+        ensures room { has_room_for c.now self.old ≡ true → result ≢ Err GraphFault.Memory }
     {
         match c {
             Call::CreateView { pair } => create_view(&mut self.view, *pair),
@@ -194,7 +231,8 @@ impl Draft {
     /// The same for a call on transforms alone or on contents alone.
     fn apply_to_part(&mut self, c: &Call) -> Result<(), GraphFault>
         requires { is_of_one_part c.now ≡ true }
-        ensures { (setup : Setup) (draft : scene.Draft) → StandsFor setup self.old draft → IsApplied setup draft c.now self.old self.new result }
+        ensures applied { (setup : Setup) (draft : scene.Draft) → StandsFor setup self.old draft → IsApplied setup draft c.now self.old self.new result }
+        ensures room { has_room_for c.now self.old ≡ true → result ≢ Err GraphFault.Memory }
     {
         match c {
             Call::CreateTransform { t } => create_transform(&mut self.graph, *t),
@@ -224,7 +262,8 @@ impl Draft {
     /// The same for a call on contents alone.
     fn apply_to_contents(&mut self, c: &Call) -> Result<(), GraphFault>
         requires { is_of_contents_alone c.now ≡ true }
-        ensures { (setup : Setup) (draft : scene.Draft) → StandsFor setup self.old draft → IsApplied setup draft c.now self.old self.new result }
+        ensures applied { (setup : Setup) (draft : scene.Draft) → StandsFor setup self.old draft → IsApplied setup draft c.now self.old self.new result }
+        ensures room { has_room_for c.now self.old ≡ true → result ≢ Err GraphFault.Memory }
     {
         match c {
             Call::CreateViewport {
@@ -262,7 +301,8 @@ impl Draft {
     /// The same for a call on an image.
     fn apply_to_images(&mut self, c: &Call) -> Result<(), GraphFault>
         requires { is_of_images c.now ≡ true }
-        ensures { (setup : Setup) (draft : scene.Draft) → StandsFor setup self.old draft → IsApplied setup draft c.now self.old self.new result }
+        ensures applied { (setup : Setup) (draft : scene.Draft) → StandsFor setup self.old draft → IsApplied setup draft c.now self.old self.new result }
+        ensures room { has_room_for c.now self.old ≡ true → result ≢ Err GraphFault.Memory }
     {
         match c {
             Call::CreateImage {

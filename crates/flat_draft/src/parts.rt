@@ -15,6 +15,17 @@ use flat_graph::Graph;
 use flat_scene::{GraphFault, HitRegion, Watch};
 use std::alloc::Global;
 
+/// Whether a view may be made.
+pub fn may_create_view(view: Option<PairNo>) -> Result<(), GraphFault>
+    ensures allowed { OnOk result (first_reason (view_tests view) ≡ None) }
+    ensures fault { IfErr result (IsMisuse (view_tests view)) }
+{
+    if view.is_some() {
+        return Err(GraphFault::Bad(Reason::HasView));
+    }
+    Ok(())
+}
+
 /// Makes the view.
 pub fn create_view(view: &mut Option<PairNo>, pair: PairNo) -> Result<(), GraphFault>
     ensures created { OnOk result (view.new ≡ Some pair) }
@@ -22,9 +33,7 @@ pub fn create_view(view: &mut Option<PairNo>, pair: PairNo) -> Result<(), GraphF
     ensures fault { IfErr result (IsMisuse (view_tests view.old)) }
     ensures kept { OnErr result (view.new ≡ view.old) }
 {
-    if view.is_some() {
-        return Err(GraphFault::Bad(Reason::HasView));
-    }
+    may_create_view(*view)?;
     *view = Some(pair);
     Ok(())
 }

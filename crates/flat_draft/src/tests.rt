@@ -271,3 +271,15 @@ fn gets_name_pairs(rt: HostRuntime) -> Result<(), Fail> {
     );
     Ok(())
 }
+
+#[test]
+fn readies_what_uses_an_end(rt: HostRuntime) -> Result<(), Fail> {
+    let mut draft = drawn(rt.alloc())?;
+    let view = Call::CreateView { pair: PAIR };
+    assert!(rt; reason(draft.ready(&view)) == Some(Reason::HasView) && !draft.is_closed());
+    assert!(rt; draft.ready(&CREATE_VIEWPORT).is_ok() && draft.call(&CREATE_VIEWPORT).is_ok());
+    assert!(rt; reason(draft.ready(&CREATE_VIEWPORT)) == Some(Reason::IdInUse));
+    assert!(rt; reason(draft.call(&view)) == Some(Reason::HasView) && draft.is_closed());
+    assert!(rt; is_closed(draft.ready(&view)));
+    Ok(())
+}

@@ -13,5 +13,5 @@ mod tests;
 
 pub use graph::Graph;
 pub use laws::graph_laws;
-pub use names::{Named, add_name, key_of, remove_name};
+pub use names::{Named, add_name, key_of, put_name, remove_name};
 pub use nodes::{GraphNode, KeyList};

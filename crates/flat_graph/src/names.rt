@@ -1,4 +1,4 @@
-ghost use Rattle.std.specs.Prelude.{◌≡◌, IsSome, None, OnOk, OnErr};
+ghost use Rattle.std.specs.Prelude.{◌≡◌, ◌<◌, length, vec_capacity, IsSome, None, OnOk, OnErr};
 ghost use Rattle.std.specs.List.{slice_get};
 ghost use Rattle.flat_graph.specs.Names.{key_if, key_named, names_but, names_with, IsPlace, IsRising};
 
@@ -47,11 +47,25 @@ pub fn add_name(names: &mut Vec<Named>, name: Named) -> Result<(), NoMemory>
     Ok(())
 }
 
-/// Takes the name of an id away.
+/// Puts a name among the others, where there is room for it.
+pub fn put_name(names: &mut Vec<Named>, name: Named)
+    requires rising { IsRising names.old.items }
+    requires absent { key_named names.old.items name.id ≡ None }
+    requires room { length names.old.items < vec_capacity names.old }
+    ensures { names.new.items ≡ names_with name names.old.items }
+{
+    let place = place_of(names, name.id);
+    if names.insert(place, name).is_err() {
+        unreachable!()
+    }
+}
+
+/// Takes the name of an id away. The room stays.
 pub fn remove_name(names: &mut Vec<Named>, id: u64)
     requires rising { IsRising names.old.items }
     requires there { IsSome (key_named names.old.items id) }
-    ensures { names.new.items ≡ names_but id names.old.items }
+    ensures items { names.new.items ≡ names_but id names.old.items }
+    ensures capacity { vec_capacity names.new ≡ vec_capacity names.old }
 {
     let place = place_of(names, id);
     names.remove(place);

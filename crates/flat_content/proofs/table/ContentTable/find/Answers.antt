@@ -7,8 +7,8 @@ use Rattle.flat_content.proofs.table.ContentTable.find.Goals as goal
 pub returns-clause-stored : goal.returns-clause-stored
 returns-clause-stored c =
     let named : key_named c.self.inside.names.items c.args.c.0 ≡ Some c.in-Some.serial = search rules in
-    let low : 1 ≤ c.in-Some.serial = c.self.invariant.sound.from_one c.args.c.0 c.in-Some.serial named in
-    let high : c.in-Some.serial ≤ length c.self.inside.contents.items = c.self.invariant.sound.made c.args.c.0 c.in-Some.serial named in
+    let low : 1 ≤ c.in-Some.serial = c.self.invariant.0.sound.from_one c.args.c.0 c.in-Some.serial named in
+    let high : c.in-Some.serial ≤ length c.self.inside.contents.items = c.self.invariant.0.sound.made c.args.c.0 c.in-Some.serial named in
     let within : c.in-Some.serial - 1 < length c.self.inside.contents.items = omega arith in
     rw (← c.self.view_is)
     (of_serial-place c.self.inside.contents.items c.in-Some.serial low

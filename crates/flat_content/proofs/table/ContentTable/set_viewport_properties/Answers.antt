@@ -5,17 +5,17 @@ use Rattle.flat_graph.specs.Names.{key_named}
 use Rattle.flat_content.specs.declared.stored.Stored.{Stored}
 use Rattle.flat_content.specs.declared.stored.Stored.TheVariants.{Viewport}
 use Rattle.flat_content.specs.Table.{TableState}
-use Rattle.flat_content.proofs.Soundness.{set-by, table-set}
+use Rattle.flat_content.proofs.Soundness.{room-same, set-by, table-set}
 use Rattle.flat_content.proofs.table.ContentTable.set_viewport_properties.Goals as goal
 
 pub invariant_of-self : goal.invariant_of-self
-invariant_of-self c = rw c.put.ensures (table-set _ c.in_ok-serial.serial _ c.self.invariant)
+invariant_of-self c = (rw c.put.ensures.items (table-set _ c.in_ok-serial.serial _ c.self.invariant.0), λ e. room-same (c.self.invariant.1 e) c.put.ensures.count c.put.ensures.capacity)
 
 pub returns-clause-set : goal.returns-clause-set
 returns-clause-set c =
-    let table : TableState = record { buffers = c.self.inside.buffers; contents = c.self.inside.contents.items; names = c.self.inside.names.items; viewports = c.self.inside.viewports.items } in
+    let table : TableState = record { buffers = c.self.inside.buffers; contents = c.self.inside.contents.items; names = c.self.inside.names.items; viewports = c.self.inside.viewports.items; has_room = c.self.inside.has_room } in
     let named : key_named table.names c.args.c.0 ≡ Some c.in_ok-serial.serial = search rules in
     let there : of_serial table.contents c.in_ok-serial.serial ≡ Some (Viewport c.in_ok-serial.pair c.in_ok-serial.props) = search rules in
     let inset : c.unwrap_or-inset.result ≡ unwrap_or c.args.inset c.in_ok-serial.props.inset = search rules in
     let same = ap (λ (i : Inset). let s : Stored = Viewport c.in_ok-serial.pair (record { w = c.args.w; h = c.args.h; inset = i }) in s) inset in
-    rw (← c.self.view_is) (set-by table c.args.c.0 c.in_ok-serial.serial (Viewport c.in_ok-serial.pair c.in_ok-serial.props) _ _ _ named there same c.put.ensures)
+    rw (← c.self.view_is) (set-by table c.args.c.0 c.in_ok-serial.serial (Viewport c.in_ok-serial.pair c.in_ok-serial.props) _ _ _ named there same c.put.ensures.items)
