@@ -38,6 +38,7 @@ pub mod ShownList
 pub mod ShownLocal
 pub mod ShownOwned
 pub mod ShownSteps
+pub mod Stamped
 pub mod Steps
 pub mod Tokens
 pub mod ToldLocal

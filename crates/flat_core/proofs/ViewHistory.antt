@@ -85,7 +85,7 @@ one-made ps present n is =
     let serial : of_serial (ps ++ present ∷ []) (length ps + 1) ≡ Some present = ap (of_serial (ps ++ present ∷ [])) (add-one (length ps)) ∙ serial-get (ps ++ present ∷ []) (length ps) ∙ slice-last ps present in
     ap (made_at (ps ++ present ∷ [])) is ∙ ap (λ (o : Option Published). unwrap_or (option_map (λ p. p.made) o) []) serial
 
-published-made : (kind : Kind) (reply : Reply) (ps : List Published) (all : List Call) → MadeOf ps (published kind reply all) all
+pub published-made : (kind : Kind) (reply : Reply) (ps : List Published) (all : List Call) → MadeOf ps (published kind reply all) all
 published-made (Present args) (Presented number credits) ps all n past few =
     let one : length (ps ++ (let p : Published = record { args = args; made = all } in p) ∷ []) ≡ length ps + 1 = length-append ps ((let p : Published = record { args = args; made = all } in p) ∷ []) in
     one-made ps (record { args = args; made = all }) n (omega (arith, past, few, one))

@@ -130,7 +130,7 @@ by-order : (n m : ℕ) (b : Bool) → nat_le n m ≡ b → (n ≤ m) ⊎ (m < n)
 by-order n m true is = inl (grind (arith, nat_tests))
 by-order n m false is = inr (grind (arith, nat_tests))
 
-le-or-lt : (n m : ℕ) → (n ≤ m) ⊎ (m < n)
+pub le-or-lt : (n m : ℕ) → (n ≤ m) ⊎ (m < n)
 le-or-lt n m = by-order n m (nat_le n m) refl
 
 -- the new presents, if there are any, are made of all these calls

@@ -15,4 +15,5 @@ pub mod Posts
 pub mod Presents
 pub mod Seen
 pub mod Shown
+pub mod Stamps
 pub mod Watch
