@@ -15,7 +15,6 @@ use Rattle.flat_scene.proofs.TakingLemmas.{taken-made}
 use Rattle.flat_scene.proofs.Together.{and-left, and-right, or-cases}
 use Rattle.flat_core.specs.Ends.{view_owner, views_of, pairs_where, ends_view, is_view_lost, has_view, loses, has_ended}
 use Rattle.flat_core.specs.Legal.{Legal, owns_view}
-use Rattle.flat_core.specs.Plain.{are_plain}
 use Rattle.flat_core.specs.Seen.{has_viewed, stood_at}
 use Rattle.flat_core.proofs.Counts.{le-of}
 use Rattle.flat_core.proofs.ViewHistory.{ViewingOf, viewing-of, used_in}
@@ -131,11 +130,11 @@ opened-view setup s h view opened =
     let F : ℕ → Type 0 = λ m. f (record { 0 = m }) ≡ true in
     any-found f test 0 p.0 setup.pairs (sym (nested s (slice_get setup.pairs p.0)) ∙ one.1) (subst F (sym (zero-add p.0)) is))
 
-by-closed : (setup : Setup) (s : SessionNo) (h : List Entry) → Legal setup h → are_plain h ≡ true → (b : Bool) → is_closed s h ≡ b
+by-closed : (setup : Setup) (s : SessionNo) (h : List Entry) → Legal setup h → (b : Bool) → is_closed s h ≡ b
     → has_view setup h s ≡ (not (is_closed s h) && has_viewed s h && nat_le (taken setup h s) (stood_at s h))
-by-closed setup s h legal plain true closed = rw closed refl
-by-closed setup s h legal plain false opened = rw opened (opened-view setup s h (viewing-of setup s h legal plain opened) opened)
+by-closed setup s h legal true closed = rw closed refl
+by-closed setup s h legal false opened = rw opened (opened-view setup s h (viewing-of setup s h legal opened) opened)
 
-pub has-view : (setup : Setup) (s : SessionNo) (h : List Entry) → Legal setup h → are_plain h ≡ true
+pub has-view : (setup : Setup) (s : SessionNo) (h : List Entry) → Legal setup h
     → has_view setup h s ≡ (not (is_closed s h) && has_viewed s h && nat_le (taken setup h s) (stood_at s h))
-has-view setup s h legal plain = by-closed setup s h legal plain (is_closed s h) refl
+has-view setup s h legal = by-closed setup s h legal (is_closed s h) refl

@@ -40,6 +40,7 @@ pub mod ShownOwned
 pub mod ShownSteps
 pub mod Stamped
 pub mod Steps
+pub mod Still
 pub mod Tokens
 pub mod ToldLocal
 pub mod ViewCalls
