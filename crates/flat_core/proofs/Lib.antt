@@ -43,6 +43,7 @@ pub mod Steps
 pub mod Still
 pub mod Tokens
 pub mod ToldLocal
+pub mod Unwatched
 pub mod ViewCalls
 pub mod ViewHistory
 pub mod ViewLaw
