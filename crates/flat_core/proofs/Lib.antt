@@ -1,6 +1,7 @@
 pub mod BeginLoop
 pub mod BeginSteps
 pub mod Begun
+pub mod Between
 pub mod BoardBegins
 pub mod Changes
 pub mod Counts
