@@ -15,6 +15,8 @@ pub mod HasView
 pub mod JoinedLocal
 pub mod LegalByTests
 pub mod ListLemmas
+pub mod LiveSteps
+pub mod Lives
 pub mod Locality
 pub mod MoreRuns
 pub mod Neighbour

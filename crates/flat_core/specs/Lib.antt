@@ -7,6 +7,7 @@ pub mod Kept
 pub mod Lasts
 pub mod Laws
 pub mod Legal
+pub mod Lives
 pub mod Local
 pub mod Logs
 pub mod Plain
