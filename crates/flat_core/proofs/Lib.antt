@@ -15,6 +15,7 @@ pub mod HasView
 pub mod JoinedLocal
 pub mod LegalByTests
 pub mod ListLemmas
+pub mod LiveCounts
 pub mod LiveSteps
 pub mod Lives
 pub mod Locality

@@ -33,7 +33,7 @@ times-append setup test r (x ∷ xs) ys =
     let rest : times setup test (after_call setup r x) (xs ++ ys) ≡ times setup test (after_call setup r x) xs + times setup test (after_calls setup (after_call setup r x) xs) ys = times-append setup test (after_call setup r x) xs ys in
     omega (arith, rest)
 
-after-refused : (setup : Setup) (reason : Reason) (xs : List Call) → after_calls setup (Err reason) xs ≡ Err reason
+pub after-refused : (setup : Setup) (reason : Reason) (xs : List Call) → after_calls setup (Err reason) xs ≡ Err reason
 after-refused setup reason [] = refl
 after-refused setup reason (x ∷ xs) = after-refused setup reason xs
 
