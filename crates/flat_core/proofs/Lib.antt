@@ -7,6 +7,7 @@ pub mod Changes
 pub mod Counts
 pub mod CreditLemmas
 pub mod DoneSteps
+pub mod Earlier
 pub mod EventsLocal
 pub mod FamilyHistory
 pub mod FamilyTheorem
