@@ -49,6 +49,7 @@ pub mod Still
 pub mod Tokens
 pub mod ToldLocal
 pub mod Unwatched
+pub mod Uses
 pub mod ViewCalls
 pub mod ViewHistory
 pub mod ViewLaw

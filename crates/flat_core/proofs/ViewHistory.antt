@@ -169,14 +169,14 @@ viewing-own setup s h who line carries kind reply mine may replied stays opened 
 
 -- ---- the whole history
 
-same-session : (s : SessionNo) (who : Actor) → is_session s who ≡ true → who ≡ Session s
+pub same-session : (s : SessionNo) (who : Actor) → is_session s who ≡ true → who ≡ Session s
 same-session s Display is = let wrong : false ≡ true = is in cc
 same-session s (Probe p) is = let wrong : false ≡ true = is in cc
 same-session s (Session t) is =
     let number : t.0 ≡ s.0 = grind (arith, nat_tests) in
     ap (λ (n : ℕ). let r : Actor = Session (record { 0 = n }) in r) number
 
-closes-first : (b : Bool) (e : Entry) (xs : List Entry) → list_any (λ entry. closes entry.reply) (cond b (e ∷ xs) xs) ≡ false → (b ≡ true → closes e.reply ≡ false) × (list_any (λ entry. closes entry.reply) xs ≡ false)
+pub closes-first : (b : Bool) (e : Entry) (xs : List Entry) → list_any (λ entry. closes entry.reply) (cond b (e ∷ xs) xs) ≡ false → (b ≡ true → closes e.reply ≡ false) × (list_any (λ entry. closes entry.reply) xs ≡ false)
 closes-first true e xs opened = (λ is. or-none-left (closes e.reply) _ opened, or-none-right (closes e.reply) _ opened)
 closes-first false e xs opened = (λ is. let wrong : false ≡ true = is in cc, opened)
 
