@@ -46,7 +46,9 @@ pub mod ShownSteps
 pub mod Stamped
 pub mod Steps
 pub mod Still
+pub mod TokenLaw
 pub mod Tokens
+pub mod TokensBack
 pub mod ToldLocal
 pub mod Unwatched
 pub mod Uses
