@@ -43,6 +43,7 @@ pub mod ShownList
 pub mod ShownLocal
 pub mod ShownOwned
 pub mod ShownSteps
+pub mod StampSteps
 pub mod Stamped
 pub mod Steps
 pub mod Still
