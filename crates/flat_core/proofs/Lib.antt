@@ -29,6 +29,7 @@ pub mod Ones
 pub mod Opened
 pub mod Owned
 pub mod OwnedTree
+pub mod PairLaws
 pub mod PollSteps
 pub mod Polled
 pub mod PresentSteps

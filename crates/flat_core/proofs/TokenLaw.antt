@@ -52,7 +52,7 @@ module _ (setup : Setup) (s : SessionNo) (p : PairNo) where
   -- ---- counts
 
   -- what is held and what was released are no more than the uses
-  balanced : (owned : owns_viewport setup s p ≡ true) (h : List Entry) → Legal setup h → is_closed s h ≡ false
+  pub balanced : (owned : owns_viewport setup s p ≡ true) (h : List Entry) → Legal setup h → is_closed s h ≡ false
       → times setup (releases_viewport p) (Ok empty_draft) (calls s h) + held_of p (live_in s h) ≤ uses h
   balanced owned h legal opened =
       let view = viewing-of setup s h legal opened in
@@ -60,12 +60,12 @@ module _ (setup : Setup) (s : SessionNo) (p : PairNo) where
       omega (arith, all.releases p, balance p [] (calls s h), uses-made setup s p owned h legal opened)
 
   -- what earlier frames have seen
-  seen-then : (k h : List Entry) → IsEarlier k h → releases_seen setup k s p ≤ times setup (releases_viewport p) (Ok empty_draft) (calls s h)
+  pub seen-then : (k h : List Entry) → IsEarlier k h → releases_seen setup k s p ≤ times setup (releases_viewport p) (Ok empty_draft) (calls s h)
   seen-then k h before =
       let is : releases_seen setup k s p ≡ times setup (releases_viewport p) (Ok empty_draft) _ = ap (times setup (releases_viewport p) (Ok empty_draft)) (calls-taken setup s k h before) in
       omega (arith, is, times-seen setup (releases_viewport p) s h (taken setup k s) (taken-fits setup s k h before))
 
-  seen-rises : (k l h : List Entry) → IsEarlier k h → IsEarlier l h → taken setup k s ≤ taken setup l s → releases_seen setup k s p ≤ releases_seen setup l s p
+  pub seen-rises : (k l h : List Entry) → IsEarlier k h → IsEarlier l h → taken setup k s ≤ taken setup l s → releases_seen setup k s p ≤ releases_seen setup l s p
   seen-rises k l h before then less =
       let first : releases_seen setup k s p ≡ times setup (releases_viewport p) (Ok empty_draft) _ = ap (times setup (releases_viewport p) (Ok empty_draft)) (calls-taken setup s k h before) in
       let second : releases_seen setup l s p ≡ times setup (releases_viewport p) (Ok empty_draft) _ = ap (times setup (releases_viewport p) (Ok empty_draft)) (calls-taken setup s l h then) in
