@@ -20,6 +20,8 @@ pub mod LiveCounts
 pub mod LiveSteps
 pub mod Lives
 pub mod Locality
+pub mod LowDrafts
+pub mod LowTrees
 pub mod MoreRuns
 pub mod Neighbour
 pub mod NoAnswers
