@@ -37,6 +37,7 @@ pub mod Polled
 pub mod PresentSteps
 pub mod Presented
 pub mod Quiet
+pub mod Reached
 pub mod RepliesLocal
 pub mod Runs
 pub mod Samples
