@@ -38,6 +38,7 @@ pub mod PresentSteps
 pub mod Presented
 pub mod Quiet
 pub mod Reached
+pub mod ReachedSteps
 pub mod RepliesLocal
 pub mod Runs
 pub mod Samples

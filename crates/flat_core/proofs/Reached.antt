@@ -49,12 +49,12 @@ pub record IsReached (d : Draft) : Type 0 where
   pub root : is_root_after first d.root ≡ true
   pub later : list_all (is_reached first (pair_at d.contents) d.viewports) (drop first d.transforms) ≡ true
 
-reached-empty : IsReached empty_draft
+pub reached-empty : IsReached empty_draft
 reached-empty = record { first = 0; fits = omega arith; names = refl; root = refl; later = refl }
 
 -- ---- lists
 
-all-also : {A : Type 0} (p q : A → Bool) → ((x : A) → p x ≡ true → q x ≡ true) → (xs : List A) → list_all p xs ≡ true → list_all q xs ≡ true
+pub all-also : {A : Type 0} (p q : A → Bool) → ((x : A) → p x ≡ true → q x ≡ true) → (xs : List A) → list_all p xs ≡ true → list_all q xs ≡ true
 all-also p q also [] all = refl
 all-also p q also (x ∷ xs) all = rw (also x (and-left (p x) (list_all p xs) all), all-also p q also xs (and-right (p x) (list_all p xs) all)) refl
 
@@ -62,13 +62,13 @@ pick : {A : Type 0} (p : A → Bool) (f : A → A) → ((x : A) → p x ≡ true
 pick p f keeps true x xs changed here all more = rw (keeps x here, all) refl
 pick p f keeps false x xs changed here all more = rw (here, more) refl
 
-changed-all : {A : Type 0} (p : A → Bool) (f : A → A) → ((x : A) → p x ≡ true → p (f x) ≡ true) → (n : ℕ) (xs : List A) → list_all p xs ≡ true → list_all p (changed_at n f xs) ≡ true
+pub changed-all : {A : Type 0} (p : A → Bool) (f : A → A) → ((x : A) → p x ≡ true → p (f x) ≡ true) → (n : ℕ) (xs : List A) → list_all p xs ≡ true → list_all p (changed_at n f xs) ≡ true
 changed-all p f keeps n [] all = refl
 changed-all p f keeps n (x ∷ xs) all =
     pick p f keeps (n == 1) x xs (changed_at (n - 1) f xs) (and-left (p x) (list_all p xs) all) (and-right (p x) (list_all p xs) all) (changed-all p f keeps (n - 1) xs (and-right (p x) (list_all p xs) all))
 
 -- all but the first so many
-changed-later : {A : Type 0} (p : A → Bool) (f : A → A) → ((x : A) → p x ≡ true → p (f x) ≡ true) → (k n : ℕ) (xs : List A) → list_all p (drop k xs) ≡ true → list_all p (drop k (changed_at n f xs)) ≡ true
+pub changed-later : {A : Type 0} (p : A → Bool) (f : A → A) → ((x : A) → p x ≡ true → p (f x) ≡ true) → (k n : ℕ) (xs : List A) → list_all p (drop k xs) ≡ true → list_all p (drop k (changed_at n f xs)) ≡ true
 changed-later p f keeps zero n xs all = changed-all p f keeps n xs all
 changed-later p f keeps (suc k) n [] all = refl
 changed-later p f keeps (suc k) n (x ∷ xs) all = by_place (changed-later p f keeps k (n - 1) xs all) (n == 1)
@@ -77,7 +77,7 @@ changed-later p f keeps (suc k) n (x ∷ xs) all = by_place (changed-later p f k
     by_place rest true = all
     by_place rest false = rest
 
-changed-long : {A : Type 0} (f : A → A) (n : ℕ) (xs : List A) → length (changed_at n f xs) ≡ length xs
+pub changed-long : {A : Type 0} (f : A → A) (n : ℕ) (xs : List A) → length (changed_at n f xs) ≡ length xs
 changed-long f n [] = refl
 changed-long f n (x ∷ xs) = by_place (changed-long f (n - 1) xs) (n == 1)
   where
@@ -85,26 +85,26 @@ changed-long f n (x ∷ xs) = by_place (changed-long f (n - 1) xs) (n == 1)
     by_place rest true = refl
     by_place rest false = rw rest refl
 
-mapped-later : {A : Type 0} (p q : A → Bool) (f : A → A) → ((x : A) → p x ≡ true → q (f x) ≡ true) → (k : ℕ) (xs : List A) → list_all p (drop k xs) ≡ true → list_all q (drop k (map f xs)) ≡ true
+pub mapped-later : {A : Type 0} (p q : A → Bool) (f : A → A) → ((x : A) → p x ≡ true → q (f x) ≡ true) → (k : ℕ) (xs : List A) → list_all p (drop k xs) ≡ true → list_all q (drop k (map f xs)) ≡ true
 mapped-later p q f keeps zero [] all = refl
 mapped-later p q f keeps zero (x ∷ xs) all = rw (keeps x (and-left (p x) (list_all p xs) all), mapped-later p q f keeps zero xs (and-right (p x) (list_all p xs) all)) refl
 mapped-later p q f keeps (suc k) [] all = refl
 mapped-later p q f keeps (suc k) (x ∷ xs) all = mapped-later p q f keeps k xs all
 
-mapped-long : {A : Type 0} (f : A → A) (xs : List A) → length (map f xs) ≡ length xs
+pub mapped-long : {A : Type 0} (f : A → A) (xs : List A) → length (map f xs) ≡ length xs
 mapped-long f [] = refl
 mapped-long f (x ∷ xs) = rw (mapped-long f xs) refl
 
-one-later : {A : Type 0} (p : A → Bool) (k : ℕ) (xs : List A) (x : A) → k ≤ length xs → list_all p (drop k xs) ≡ true → p x ≡ true → list_all p (drop k (xs ++ x ∷ [])) ≡ true
+pub one-later : {A : Type 0} (p : A → Bool) (k : ℕ) (xs : List A) (x : A) → k ≤ length xs → list_all p (drop k xs) ≡ true → p x ≡ true → list_all p (drop k (xs ++ x ∷ [])) ≡ true
 one-later p zero xs x fits all here = list_all-append p xs (x ∷ []) ∙ rw (all, here) refl
 one-later p (suc k) [] x fits all here = absurd (omega (arith, fits))
 one-later p (suc k) (y ∷ xs) x fits all here = one-later p k xs x (omega (arith, fits)) all here
 
-drop-all : {A : Type 0} (p : A → Bool) (xs : List A) → list_all p (drop (length xs) xs) ≡ true
+pub drop-all : {A : Type 0} (p : A → Bool) (xs : List A) → list_all p (drop (length xs) xs) ≡ true
 drop-all p [] = refl
 drop-all p (x ∷ xs) = drop-all p xs
 
-named-all : (first : ℕ) (names : List Name) (id : ℕ) → are_after first names ≡ true → is_root_after first (named names id) ≡ true
+pub named-all : (first : ℕ) (names : List Name) (id : ℕ) → are_after first names ≡ true → is_root_after first (named names id) ≡ true
 named-all first [] id all = refl
 named-all first (x ∷ xs) id all = by_id (named-all first xs id (and-right (nat_lt first x.serial) (are_after first xs) all)) (x.id == id)
   where
@@ -115,11 +115,11 @@ named-all first (x ∷ xs) id all = by_id (named-all first xs id (and-right (nat
 -- ---- one transform changes
 
 module _ (d : Draft) (r : IsReached d) where
-  abbrev test : Transform → Bool
+  abbrev pub test : Transform → Bool
   test = is_reached r.first (pair_at d.contents) d.viewports
 
   -- the transforms may change, where each stays reached
-  with-changed : (serial : Option ℕ) (f : Transform → Transform) → ((t : Transform) → test t ≡ true → test (f t) ≡ true) → IsReached (record d { transforms = changed_if serial f d.transforms })
+  pub with-changed : (serial : Option ℕ) (f : Transform → Transform) → ((t : Transform) → test t ≡ true → test (f t) ≡ true) → IsReached (record d { transforms = changed_if serial f d.transforms })
   with-changed None f keeps = record { first = r.first; fits = r.fits; names = r.names; root = r.root; later = r.later }
   with-changed (Some n) f keeps = record {
     first = r.first;
@@ -130,7 +130,7 @@ module _ (d : Draft) (r : IsReached d) where
   }
 
   -- contents and live viewports may change, where what is alive stays so
-  with-contents : (e : Draft) → e.transforms ≡ d.transforms → e.transform_names ≡ d.transform_names → e.root ≡ d.root
+  pub with-contents : (e : Draft) → e.transforms ≡ d.transforms → e.transform_names ≡ d.transform_names → e.root ≡ d.root
       → ((o : Option ℕ) → is_alive (pair_at d.contents) d.viewports o ≡ true → is_alive (pair_at e.contents) e.viewports o ≡ true) → IsReached e
   with-contents e transforms names root alive = record {
     first = r.first;
@@ -143,11 +143,11 @@ module _ (d : Draft) (r : IsReached d) where
         (drop r.first d.transforms) r.later);
   }
 
-  child-after : (o : Option ℕ) (xs : List ℕ) → is_root_after r.first o ≡ true → list_all (nat_lt r.first) xs ≡ true → list_all (nat_lt r.first) (xs ++ option_to_list o) ≡ true
+  pub child-after : (o : Option ℕ) (xs : List ℕ) → is_root_after r.first o ≡ true → list_all (nat_lt r.first) xs ≡ true → list_all (nat_lt r.first) (xs ++ option_to_list o) ≡ true
   child-after None xs here all = list_all-append (nat_lt r.first) xs [] ∙ rw all refl
   child-after (Some k) xs here all = list_all-append (nat_lt r.first) xs (k ∷ []) ∙ rw (all, here) refl
 
-  fewer-after : (q : ℕ → Bool) (xs : List ℕ) → list_all (nat_lt r.first) xs ≡ true → list_all (nat_lt r.first) (filter q xs) ≡ true
+  pub fewer-after : (q : ℕ → Bool) (xs : List ℕ) → list_all (nat_lt r.first) xs ≡ true → list_all (nat_lt r.first) (filter q xs) ≡ true
   fewer-after q [] all = refl
   fewer-after q (x ∷ xs) all = by_test (fewer-after q xs (and-right (nat_lt r.first x) (list_all (nat_lt r.first) xs) all)) (q x)
     where
@@ -155,12 +155,12 @@ module _ (d : Draft) (r : IsReached d) where
       by_test rest true = rw (and-left (nat_lt r.first x) (list_all (nat_lt r.first) xs) all, rest) refl
       by_test rest false = rest
 
-  parts : (t : Transform) → test t ≡ true → (is_alive (pair_at d.contents) d.viewports t.content ≡ true) × (list_all (nat_lt r.first) t.children ≡ true)
+  pub parts : (t : Transform) → test t ≡ true → (is_alive (pair_at d.contents) d.viewports t.content ≡ true) × (list_all (nat_lt r.first) t.children ≡ true)
   parts t here = (and-left (is_alive (pair_at d.contents) d.viewports t.content) (list_all (nat_lt r.first) t.children) here, and-right (is_alive (pair_at d.contents) d.viewports t.content) (list_all (nat_lt r.first) t.children) here)
 
 -- ---- what is alive
 
-alive-same : (f g : ℕ → Option PairNo) (lives : List ℕ) → ((k : ℕ) → g k ≡ f k) → (o : Option ℕ) → is_alive f lives o ≡ true → is_alive g lives o ≡ true
+pub alive-same : (f g : ℕ → Option PairNo) (lives : List ℕ) → ((k : ℕ) → g k ≡ f k) → (o : Option ℕ) → is_alive f lives o ≡ true → is_alive g lives o ≡ true
 alive-same f g lives same None here = refl
 alive-same f g lives same (Some k) here = rw (same k) here
 
@@ -201,7 +201,7 @@ new-serial (x ∷ ms) m k b is = by_first (k == 1) refl (nat_lt 0 k) refl (λ e.
             let no : b ≡ false = sym is ∙ grind (arith, nat_tests) in
             rw (none rest, none ms, no) refl
 
-alive-made : (ms : List Made) (m : Made) (lives more : List ℕ) → (is_some (pair_made m) ≡ true → has (lives ++ more) (length ms + 1) ≡ true) → (o : Option ℕ) → is_alive (pair_at ms) lives o ≡ true → is_alive (pair_at (ms ++ m ∷ [])) (lives ++ more) o ≡ true
+pub alive-made : (ms : List Made) (m : Made) (lives more : List ℕ) → (is_some (pair_made m) ≡ true → has (lives ++ more) (length ms + 1) ≡ true) → (o : Option ℕ) → is_alive (pair_at ms) lives o ≡ true → is_alive (pair_at (ms ++ m ∷ [])) (lives ++ more) o ≡ true
 alive-made ms m lives more new None here = refl
 alive-made ms m lives more new (Some k) here = by_place (k == length ms + 1) refl
   where
