@@ -46,6 +46,7 @@ pub mod Shares
 pub mod ShellRun
 pub mod ShownList
 pub mod ShownLocal
+pub mod ShownOnce
 pub mod ShownOwned
 pub mod ShownSteps
 pub mod StampSteps
