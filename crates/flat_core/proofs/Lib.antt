@@ -44,6 +44,7 @@ pub mod Runs
 pub mod Samples
 pub mod Shares
 pub mod ShellRun
+pub mod ShownFits
 pub mod ShownList
 pub mod ShownLocal
 pub mod ShownOnce
