@@ -65,5 +65,6 @@ pub mod ViewHistory
 pub mod ViewLaw
 pub mod ViewSteps
 pub mod WatchLocal
+pub mod Watchers
 pub mod WatchersLocal
 pub mod WithView
