@@ -65,7 +65,7 @@ pub record Begins {A : Type 0} (xs ys : List A) : Type 0 where
   pub more : List A
   pub is : ys ≡ xs ++ more
 
-begins-more : {A : Type 0} (xs ys more zs : List A) → Begins xs ys → zs ≡ ys ++ more → Begins xs zs
+pub begins-more : {A : Type 0} (xs ys more zs : List A) → Begins xs ys → zs ≡ ys ++ more → Begins xs zs
 begins-more xs ys more zs old is = record { more = old.more ++ more; is = is ∙ ap (λ l. l ++ more) old.is ∙ append_assoc xs old.more more }
 
 presents-later : (s : SessionNo) (k later : List Entry) → Begins (presents s k) (presents s (later ++ k))

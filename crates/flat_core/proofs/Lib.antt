@@ -42,6 +42,8 @@ pub mod ReachedSteps
 pub mod RepliesLocal
 pub mod Runs
 pub mod Samples
+pub mod SerialSteps
+pub mod Serials
 pub mod Shares
 pub mod ShellRun
 pub mod ShownFits

@@ -37,7 +37,7 @@ other-stamp test lasting s h e stamp other old =
       opened = λ o. old.opened (closed-before (is_session s e.actor) e (own s h) o) ∙ sym (stamp-other test lasting s h e other);
     }
 
-not-presented : (kind : Kind) (reply : Reply) (made : List Call) → closes reply ≡ true → published kind reply made ≡ []
+pub not-presented : (kind : Kind) (reply : Reply) (made : List Call) → closes reply ≡ true → published kind reply made ≡ []
 not-presented (Present args) (Presented n k) made is = cc
 not-presented kind reply made is = refl
 

@@ -15,6 +15,7 @@ pub mod Polls
 pub mod Posts
 pub mod Presents
 pub mod Seen
+pub mod Serials
 pub mod Shown
 pub mod Stamps
 pub mod Watch
