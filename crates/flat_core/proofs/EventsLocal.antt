@@ -71,7 +71,7 @@ where-all test o all has number (pair ∷ pairs) at =
 
 -- ---- a watcher at rest has no answer
 
-rest-none : (p : PairNo) (a : Option Told) (w : Watching) → answered_by a w ≡ w → event_of p w.waits a ≡ []
+pub rest-none : (p : PairNo) (a : Option Told) (w : Watching) → answered_by a w ≡ w → event_of p w.waits a ≡ []
 rest-none p None w is = by_waits w.waits
   where
     by_waits : (o : Option Watch) → event_of p o None ≡ []
@@ -93,12 +93,12 @@ module _ (setup : Setup) where
   viewports-owned s = where-all (λ pair. is_session s pair.viewport) (owns_viewport setup s) setup.pairs (λ n pair at is. rw at is) 0 setup.pairs (λ i j e. ap (slice_get setup.pairs) (omega arith))
 
   -- the owner listens while it is open
-  hears-view : (o : Option SessionNo) (s : SessionNo) (history : List Entry) → unwrap_or (option_map (λ t. t.0 == s.0) o) false ≡ true → is_closed s history ≡ false
+  pub hears-view : (o : Option SessionNo) (s : SessionNo) (history : List Entry) → unwrap_or (option_map (λ t. t.0 == s.0) o) false ≡ true → is_closed s history ≡ false
       → is_open setup (option_map Session o) history ≡ true
   hears-view None s history owns going = cc
   hears-view (Some t) s history owns going = rw (same-session s t owns, going) refl
 
-  hears-viewport : (o : Option Actor) (s : SessionNo) (history : List Entry) → unwrap_or (option_map (is_session s) o) false ≡ true → is_closed s history ≡ false
+  pub hears-viewport : (o : Option Actor) (s : SessionNo) (history : List Entry) → unwrap_or (option_map (is_session s) o) false ≡ true → is_closed s history ≡ false
       → is_open setup o history ≡ true
   hears-viewport None s history owns going = cc
   hears-viewport (Some Display) s history owns going = cc

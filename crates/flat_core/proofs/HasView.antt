@@ -15,14 +15,13 @@ use Rattle.flat_scene.proofs.TakingLemmas.{taken-made}
 use Rattle.flat_scene.proofs.Together.{and-left, and-right, or-cases}
 use Rattle.flat_core.specs.Ends.{view_owner, views_of, pairs_where, ends_view, is_view_lost, has_view, loses, has_ended}
 use Rattle.flat_core.specs.Legal.{Legal, owns_view}
-use Rattle.flat_core.specs.Plain.{are_plain}
 use Rattle.flat_core.specs.Seen.{has_viewed, stood_at}
 use Rattle.flat_core.proofs.Counts.{le-of}
 use Rattle.flat_core.proofs.ViewHistory.{ViewingOf, viewing-of, used_in}
 use Rattle.flat_core.proofs.ViewLaw.{made_at, ended}
 
 -- two tests that imply each other
-both-ways : (a b : Bool) → (a ≡ true → b ≡ true) → (b ≡ true → a ≡ true) → a ≡ b
+pub both-ways : (a b : Bool) → (a ≡ true → b ≡ true) → (b ≡ true → a ≡ true) → a ≡ b
 both-ways true b there back = sym (there refl)
 both-ways false true there back = back refl
 both-ways false false there back = refl
@@ -30,7 +29,7 @@ both-ways false false there back = refl
 -- ---- the pairs of which a test holds
 
 -- one of them, by its place
-abbrev Found : (PairNo → Bool) → (PairDecl → Bool) → ℕ → List PairDecl → Type 0
+abbrev pub Found : (PairNo → Bool) → (PairDecl → Bool) → ℕ → List PairDecl → Type 0
 Found f test n pairs = (k : ℕ) × (unwrap_or (option_map test (slice_get pairs k)) false ≡ true) × (f (record { 0 = n + k }) ≡ true)
 
 found-here : (f : PairNo → Bool) (test : PairDecl → Bool) (n : ℕ) (pair : PairDecl) (pairs : List PairDecl) → test pair ≡ true → f (record { 0 = n }) ≡ true → Found f test n (pair ∷ pairs)
@@ -53,7 +52,7 @@ found-first f test n pair pairs true is later any = by_case (or-cases (f (record
     by_case (inl here) = found-here f test n pair pairs is here
     by_case (inr rest) = found-later f test n pair pairs (later rest)
 
-found : (f : PairNo → Bool) (test : PairDecl → Bool) (n : ℕ) (pairs : List PairDecl) → list_any f (pairs_where test n pairs) ≡ true → Found f test n pairs
+pub found : (f : PairNo → Bool) (test : PairDecl → Bool) (n : ℕ) (pairs : List PairDecl) → list_any f (pairs_where test n pairs) ≡ true → Found f test n pairs
 found f test n [] any = let wrong : false ≡ true = any in cc
 found f test n (pair ∷ pairs) any = found-first f test n pair pairs (test pair) refl (found f test (n + 1) pairs) any
 
@@ -65,7 +64,7 @@ any-first : (f : PairNo → Bool) (b : Bool) (p : PairNo) (more : List PairNo) �
 any-first f true p more rest = or-right (f p) (list_any f more) rest
 any-first f false p more rest = rest
 
-any-found : (f : PairNo → Bool) (test : PairDecl → Bool) (n k : ℕ) (pairs : List PairDecl) → unwrap_or (option_map test (slice_get pairs k)) false ≡ true → f (record { 0 = n + k }) ≡ true → list_any f (pairs_where test n pairs) ≡ true
+pub any-found : (f : PairNo → Bool) (test : PairDecl → Bool) (n k : ℕ) (pairs : List PairDecl) → unwrap_or (option_map test (slice_get pairs k)) false ≡ true → f (record { 0 = n + k }) ≡ true → list_any f (pairs_where test n pairs) ≡ true
 any-found f test n k [] here is = let wrong : false ≡ true = here in cc
 any-found f test n zero (pair ∷ pairs) here is =
     let F : ℕ → Type 0 = λ m. f (record { 0 = m }) ≡ true in
@@ -131,11 +130,11 @@ opened-view setup s h view opened =
     let F : ℕ → Type 0 = λ m. f (record { 0 = m }) ≡ true in
     any-found f test 0 p.0 setup.pairs (sym (nested s (slice_get setup.pairs p.0)) ∙ one.1) (subst F (sym (zero-add p.0)) is))
 
-by-closed : (setup : Setup) (s : SessionNo) (h : List Entry) → Legal setup h → are_plain h ≡ true → (b : Bool) → is_closed s h ≡ b
+by-closed : (setup : Setup) (s : SessionNo) (h : List Entry) → Legal setup h → (b : Bool) → is_closed s h ≡ b
     → has_view setup h s ≡ (not (is_closed s h) && has_viewed s h && nat_le (taken setup h s) (stood_at s h))
-by-closed setup s h legal plain true closed = rw closed refl
-by-closed setup s h legal plain false opened = rw opened (opened-view setup s h (viewing-of setup s h legal plain opened) opened)
+by-closed setup s h legal true closed = rw closed refl
+by-closed setup s h legal false opened = rw opened (opened-view setup s h (viewing-of setup s h legal opened) opened)
 
-pub has-view : (setup : Setup) (s : SessionNo) (h : List Entry) → Legal setup h → are_plain h ≡ true
+pub has-view : (setup : Setup) (s : SessionNo) (h : List Entry) → Legal setup h
     → has_view setup h s ≡ (not (is_closed s h) && has_viewed s h && nat_le (taken setup h s) (stood_at s h))
-has-view setup s h legal plain = by-closed setup s h legal plain (is_closed s h) refl
+has-view setup s h legal = by-closed setup s h legal (is_closed s h) refl

@@ -69,7 +69,7 @@ or-right false b h = h
 
 -- ---- what is shown stays until the next begin
 
-closed-before : (b : Bool) (e : Entry) (xs : List Entry) → list_any (λ entry. closes entry.reply) (cond b (e ∷ xs) xs) ≡ false → list_any (λ entry. closes entry.reply) xs ≡ false
+pub closed-before : (b : Bool) (e : Entry) (xs : List Entry) → list_any (λ entry. closes entry.reply) (cond b (e ∷ xs) xs) ≡ false → list_any (λ entry. closes entry.reply) xs ≡ false
 closed-before true e xs opened = or-right (closes e.reply) _ opened
 closed-before false e xs opened = opened
 

@@ -2,19 +2,21 @@
 use Rattle.std.proofs.Common.{◌≡◌, ◌∙◌, sym, ℕ, suc, ◌+◌, ◌-◌, ◌<◌, Bool, true, false, List, [], ◌∷◌, ◌++◌, length, refl, arith, ap, Some, None, Ok, Err, inl, inr, ◌⊎◌}
 use Rattle.std.specs.Prelude.{cond, ◌||◌, ◌==◌, Option, Result, is_some, slice_get}
 use Rattle.std.specs.List.{list_any}
+use Rattle.std.proofs.lemmas.List.Folds.{list_any-append}
 use Rattle.std.proofs.lemmas.Bool.Decides.{nat_tests}
 use Rattle.flat_base.specs.declared.errors.Reason.{Reason}
 use Rattle.flat_base.specs.declared.errors.Reason.TheVariants.{HasView}
 use Rattle.flat_base.specs.declared.ids.PairNo.{PairNo}
 use Rattle.flat_scene.specs.declared.calls.Call.{Call}
 use Rattle.flat_scene.specs.declared.calls.Call.TheVariants.{CreateView, ReleaseView, Clear, CreateViewport}
+use Rattle.flat_scene.specs.declared.calls.ViewportProps.{ViewportProps}
 use Rattle.flat_scene.specs.declared.setup.Setup.{Setup}
 use Rattle.flat_scene.specs.Draft.{Draft}
 use Rattle.flat_scene.specs.Effect.{effect, after_call, after_calls, unless}
 use Rattle.flat_scene.specs.Misuse.{misuse}
 use Rattle.flat_core.specs.Ends.{times, count_if, ends_view}
-use Rattle.flat_core.specs.Legal.{is_link, all_but_last, makes_view}
-use Rattle.flat_core.specs.Seen.{holds_then, holds_after}
+use Rattle.flat_core.specs.Legal.{is_link, all_but_last, makes_view, makes_viewport}
+use Rattle.flat_core.specs.Seen.{holds_then, holds_after, is_new_view}
 use Rattle.flat_core.specs.Shown.{is_pair}
 use Rattle.flat_core.proofs.ViewSteps.{same-pair}
 
@@ -31,7 +33,7 @@ times-append setup test r (x ∷ xs) ys =
     let rest : times setup test (after_call setup r x) (xs ++ ys) ≡ times setup test (after_call setup r x) xs + times setup test (after_calls setup (after_call setup r x) xs) ys = times-append setup test (after_call setup r x) xs ys in
     omega (arith, rest)
 
-after-refused : (setup : Setup) (reason : Reason) (xs : List Call) → after_calls setup (Err reason) xs ≡ Err reason
+pub after-refused : (setup : Setup) (reason : Reason) (xs : List Call) → after_calls setup (Err reason) xs ≡ Err reason
 after-refused setup reason [] = refl
 after-refused setup reason (x ∷ xs) = after-refused setup reason xs
 
@@ -83,9 +85,8 @@ calm-then a b c m n first second = record {
   some = λ is. calm-some a b c m n second (first.some is);
 }
 
-calm-one : (p : PairNo) (d : Draft) (call : Call) → is_link call ≡ false → Calm (is_pair d.view p) (is_pair (effect d call).view p) (count_if (Some (ends_view p d call)))
+calm-one : (p : PairNo) (d : Draft) (call : Call) → is_new_view call ≡ false → Calm (is_pair d.view p) (is_pair (effect d call).view p) (count_if (Some (ends_view p d call)))
 calm-one p d (CreateView q) no_link = let wrong : true ≡ false = no_link in cc
-calm-one p d (CreateViewport c q w h inset) no_link = let wrong : true ≡ false = no_link in cc
 calm-one p d ReleaseView no_link = calm-end (is_pair d.view p)
 calm-one p d Clear no_link = calm-end (is_pair d.view p)
 calm-one p d _ no_link = calm-same (is_pair d.view p)
@@ -103,15 +104,15 @@ ended-one : (setup : Setup) (p : PairNo) (d : Draft) (calls : List Call) (reason
 ended-one setup p d calls None d1 d' good = refl
 ended-one setup p d calls (Some reason) d1 d' good = let wrong : Err reason ≡ Ok d' = sym (after-refused setup reason calls) ∙ good in cc
 
-pub calm : (setup : Setup) (p : PairNo) (calls : List Call) (d d' : Draft) → list_any is_link calls ≡ false → after_calls setup (Ok d) calls ≡ Ok d'
+pub calm : (setup : Setup) (p : PairNo) (calls : List Call) (d d' : Draft) → list_any is_new_view calls ≡ false → after_calls setup (Ok d) calls ≡ Ok d'
     → Calm (is_pair d.view p) (is_pair d'.view p) (times setup (ends_view p) (Ok d) calls)
 calm setup p [] d d' no_link good = rw (← same-view d d' good) (calm-same (is_pair d.view p))
 calm setup p (call ∷ calls) d d' no_link good =
     let after : Draft = effect d call in
     rw (ended-one setup p d calls (misuse setup d call) after d' good)
     (calm-then (is_pair d.view p) (is_pair after.view p) (is_pair d'.view p) (count_if (Some (ends_view p d call))) (times setup (ends_view p) (Ok after) calls)
-    (calm-one p d call (or-none-left (is_link call) (list_any is_link calls) no_link))
-    (calm setup p calls after d' (or-none-right (is_link call) (list_any is_link calls) no_link) (good-one setup after d' calls (misuse setup d call) good)))
+    (calm-one p d call (or-none-left (is_new_view call) (list_any is_new_view calls) no_link))
+    (calm setup p calls after d' (or-none-right (is_new_view call) (list_any is_new_view calls) no_link) (good-one setup after d' calls (misuse setup d call) good)))
 
 -- ---- a view is made
 
@@ -153,3 +154,30 @@ made-last q _ is = cc
 pub last-made : (q : PairNo) (call : Option Call) → makes_view q call ≡ true → call ≡ Some (CreateView q)
 last-made q None is = cc
 last-made q (Some call) is = ap Some (made-last q call is)
+
+-- ---- calls that use no end make no view
+
+or-both : (a b : Bool) → a ≡ false → b ≡ false → (a || b) ≡ false
+or-both a b p q = rw (p, q) refl
+
+no-link-view : (call : Call) → is_link call ≡ false → is_new_view call ≡ false
+no-link-view (CreateView p) none = none
+no-link-view _ none = refl
+
+pub no-links-view : (calls : List Call) → list_any is_link calls ≡ false → list_any is_new_view calls ≡ false
+no-links-view [] none = refl
+no-links-view (call ∷ calls) none =
+    or-both (is_new_view call) (list_any is_new_view calls) (no-link-view call (or-none-left (is_link call) (list_any is_link calls) none))
+    (no-links-view calls (or-none-right (is_link call) (list_any is_link calls) none))
+
+-- nor do those of an entry whose last call alone makes a viewport
+viewport-no-view : (p : PairNo) (props : ViewportProps) (call : Call) → makes_viewport p props (Some call) ≡ true → is_new_view call ≡ false
+viewport-no-view p props (CreateView q) is = let wrong : false ≡ true = is in cc
+viewport-no-view p props _ is = refl
+
+pub viewport-alone : (p : PairNo) (props : ViewportProps) (carries : List Call) (last : Option Call) → slice_get carries (length carries - 1) ≡ last → makes_viewport p props last ≡ true
+    → list_any is_link (all_but_last carries) ≡ false → list_any is_new_view carries ≡ false
+viewport-alone p props carries None at is none = let wrong : false ≡ true = is in cc
+viewport-alone p props carries (Some call) at is none =
+    ap (list_any is_new_view) (split-last carries call at) ∙ list_any-append is_new_view (all_but_last carries) (call ∷ [])
+    ∙ or-both (list_any is_new_view (all_but_last carries)) (is_new_view call || false) (no-links-view (all_but_last carries) none) (or-both (is_new_view call) false (viewport-no-view p props call is) refl)

@@ -25,11 +25,10 @@ use Rattle.flat_scene.proofs.Together.{and-left, and-right}
 use Rattle.flat_core.specs.Boards.{entry_of}
 use Rattle.flat_core.specs.Ends.{view_uses, uses_view, is_done, view_owner}
 use Rattle.flat_core.specs.Legal.{Legal, LegalEntry, MayEnter, reply_to, refused_token, is_link, own_call, all_but_last, owns_view, owns_in_call}
-use Rattle.flat_core.specs.Plain.{is_plain, is_plain_kind, is_plain_call, are_plain}
-use Rattle.flat_core.specs.Seen.{holds_then, holds_view, has_viewed, stood_at, makes_it, holds_after}
+use Rattle.flat_core.specs.Seen.{holds_then, holds_view, has_viewed, stood_at, makes_it, holds_after, is_new_view}
 use Rattle.flat_core.proofs.ShownSteps.{serial-get}
 use Rattle.flat_core.proofs.Steps.{viewed-more, or-false}
-use Rattle.flat_core.proofs.ViewCalls.{or-none-left, or-none-right, split-last, last-made}
+use Rattle.flat_core.proofs.ViewCalls.{or-none-left, or-none-right, split-last, last-made, no-links-view, viewport-alone}
 use Rattle.flat_core.proofs.ViewLaw.{Viewing, viewing-first, viewing-more, viewing-made, viewing-same, made_at, MadeOf}
 use Rattle.flat_core.proofs.ViewSteps.{same-pair}
 
@@ -85,7 +84,7 @@ one-made ps present n is =
     let serial : of_serial (ps ++ present ∷ []) (length ps + 1) ≡ Some present = ap (of_serial (ps ++ present ∷ [])) (add-one (length ps)) ∙ serial-get (ps ++ present ∷ []) (length ps) ∙ slice-last ps present in
     ap (made_at (ps ++ present ∷ [])) is ∙ ap (λ (o : Option Published). unwrap_or (option_map (λ p. p.made) o) []) serial
 
-published-made : (kind : Kind) (reply : Reply) (ps : List Published) (all : List Call) → MadeOf ps (published kind reply all) all
+pub published-made : (kind : Kind) (reply : Reply) (ps : List Published) (all : List Call) → MadeOf ps (published kind reply all) all
 published-made (Present args) (Presented number credits) ps all n past few =
     let one : length (ps ++ (let p : Published = record { args = args; made = all } in p) ∷ []) ≡ length ps + 1 = length-append ps ((let p : Published = record { args = args; made = all } in p) ∷ []) in
     one-made ps (record { args = args; made = all }) n (omega (arith, past, few, one))
@@ -104,7 +103,7 @@ not-any true is = let wrong : false ≡ true = is in cc
 not-any false is = refl
 
 -- an own entry that makes no view
-own-plain : (setup : Setup) (s : SessionNo) (h : List Entry) (e : Entry) → is_session s e.actor ≡ true → list_any is_link e.calls ≡ false → is_some (result_ok (draft_of setup (calls s h ++ e.calls))) ≡ true
+own-plain : (setup : Setup) (s : SessionNo) (h : List Entry) (e : Entry) → is_session s e.actor ≡ true → list_any is_new_view e.calls ≡ false → is_some (result_ok (draft_of setup (calls s h ++ e.calls))) ≡ true
     → makes_it e.kind e.reply ≡ false → ((p : PairNo) → (uses_view p e.kind && is_done e.reply) ≡ false) → ViewingOf setup s h → ViewingOf setup s (h ▹ e)
 own-plain setup s h e mine no_link drafted no_view no_use old =
     let d' = some-draft (draft_of setup (calls s h ++ e.calls)) drafted in
@@ -126,7 +125,7 @@ and-true true = refl
 and-true false = refl
 
 -- one that makes a view
-own-view : (setup : Setup) (s : SessionNo) (h : List Entry) (who : Actor) (line : ℕ) (carries : List Call) (q : PairNo) → is_session s who ≡ true → list_any is_link (all_but_last carries) ≡ false
+own-view : (setup : Setup) (s : SessionNo) (h : List Entry) (who : Actor) (line : ℕ) (carries : List Call) (q : PairNo) → is_session s who ≡ true → list_any is_new_view (all_but_last carries) ≡ false
     → own_call (View q) (slice_get carries (length carries - 1)) ≡ true → is_some (result_ok (draft_of setup (calls s h ++ carries))) ≡ true → owns_view setup s q ≡ true → used_in h q ≡ false
     → ViewingOf setup s h → ViewingOf setup s (h ▹ entry_of who line carries (View q) Done)
 own-view setup s h who line carries q mine no_link last drafted owned unused old =
@@ -150,46 +149,48 @@ view-reply setup s h who line carries q reply n true mine may none uses replied 
     let unused : used_in h q ≡ false = ap (λ (k : ℕ). nat_lt 0 k) (sym uses) ∙ grind (arith, nat_tests) in
     let P : Reply → Type 0 = λ r. ViewingOf setup s (h ▹ entry_of who line carries (View q) r) in
     subst P (sym replied)
-    (own-view setup s h who line carries q mine (not-any (list_any is_link (all_but_last carries)) may.links) may.calls
+    (own-view setup s h who line carries q mine (no-links-view (all_but_last carries) (not-any (list_any is_link (all_but_last carries)) may.links)) may.calls
     (or-open (is_closed s h) (is_some (result_ok (draft_of setup (calls s h ++ carries)))) opened may.drafted)
     (and-left (owns_view setup s q) (list_all (owns_in_call setup s) carries) may.owned) unused old)
 
 viewing-own : (setup : Setup) (s : SessionNo) (h : List Entry) (who : Actor) (line : ℕ) (carries : List Call) (kind : Kind) (reply : Reply) → is_session s who ≡ true → MayEnter setup h (Session s) carries kind
-    → is_plain_kind kind ≡ true → reply ≡ reply_to setup h (Session s) carries kind → closes reply ≡ false → is_closed s h ≡ false → ViewingOf setup s h → ViewingOf setup s (h ▹ entry_of who line carries kind reply)
-viewing-own setup s h who line carries (Viewport p props) reply mine may plain replied stays opened old = let wrong : false ≡ true = plain in cc
-viewing-own setup s h who line carries (Close None) reply mine may plain replied stays opened old = let wrong : true ≡ false = sym (ap closes replied) ∙ stays in cc
-viewing-own setup s h who line carries (Close (Some reason)) reply mine may plain replied stays opened old = let wrong : true ≡ false = sym (ap closes replied) ∙ stays in cc
-viewing-own setup s h who line carries (View q) reply mine may plain replied stays opened old =
+    → reply ≡ reply_to setup h (Session s) carries kind → closes reply ≡ false → is_closed s h ≡ false → ViewingOf setup s h → ViewingOf setup s (h ▹ entry_of who line carries kind reply)
+viewing-own setup s h who line carries (Viewport p props) reply mine may replied stays opened old =
+    own-plain setup s h (entry_of who line carries (Viewport p props) reply) mine
+    (viewport-alone p props carries (slice_get carries (length carries - 1)) refl may.calls (not-any (list_any is_link (all_but_last carries)) may.links))
+    (or-open (is_closed s h) (is_some (result_ok (draft_of setup (calls s h ++ carries)))) opened may.drafted) refl (λ p. refl) old
+viewing-own setup s h who line carries (Close None) reply mine may replied stays opened old = let wrong : true ≡ false = sym (ap closes replied) ∙ stays in cc
+viewing-own setup s h who line carries (Close (Some reason)) reply mine may replied stays opened old = let wrong : true ≡ false = sym (ap closes replied) ∙ stays in cc
+viewing-own setup s h who line carries (View q) reply mine may replied stays opened old =
     view-reply setup s h who line carries q reply (length (view_uses q h)) (length (view_uses q h) == 0) mine may refl refl replied stays opened old
-viewing-own setup s h who line carries kind reply mine may plain replied stays opened old =
-    own-plain setup s h (entry_of who line carries kind reply) mine (not-any (list_any is_link carries) may.links)
+viewing-own setup s h who line carries kind reply mine may replied stays opened old =
+    own-plain setup s h (entry_of who line carries kind reply) mine (no-links-view carries (not-any (list_any is_link carries) may.links))
     (or-open (is_closed s h) (is_some (result_ok (draft_of setup (calls s h ++ carries)))) opened may.drafted) refl (λ p. refl) old
 
 -- ---- the whole history
 
-same-session : (s : SessionNo) (who : Actor) → is_session s who ≡ true → who ≡ Session s
+pub same-session : (s : SessionNo) (who : Actor) → is_session s who ≡ true → who ≡ Session s
 same-session s Display is = let wrong : false ≡ true = is in cc
 same-session s (Probe p) is = let wrong : false ≡ true = is in cc
 same-session s (Session t) is =
     let number : t.0 ≡ s.0 = grind (arith, nat_tests) in
     ap (λ (n : ℕ). let r : Actor = Session (record { 0 = n }) in r) number
 
-closes-first : (b : Bool) (e : Entry) (xs : List Entry) → list_any (λ entry. closes entry.reply) (cond b (e ∷ xs) xs) ≡ false → (b ≡ true → closes e.reply ≡ false) × (list_any (λ entry. closes entry.reply) xs ≡ false)
+pub closes-first : (b : Bool) (e : Entry) (xs : List Entry) → list_any (λ entry. closes entry.reply) (cond b (e ∷ xs) xs) ≡ false → (b ≡ true → closes e.reply ≡ false) × (list_any (λ entry. closes entry.reply) xs ≡ false)
 closes-first true e xs opened = (λ is. or-none-left (closes e.reply) _ opened, or-none-right (closes e.reply) _ opened)
 closes-first false e xs opened = (λ is. let wrong : false ≡ true = is in cc, opened)
 
-by-owner : (setup : Setup) (s : SessionNo) (h : List Entry) (e : Entry) → LegalEntry setup h e → is_plain_kind e.kind ≡ true → (is_session s e.actor ≡ true → closes e.reply ≡ false) → is_closed s h ≡ false → ViewingOf setup s h
+by-owner : (setup : Setup) (s : SessionNo) (h : List Entry) (e : Entry) → LegalEntry setup h e → (is_session s e.actor ≡ true → closes e.reply ≡ false) → is_closed s h ≡ false → ViewingOf setup s h
     → (b : Bool) → is_session s e.actor ≡ b → ViewingOf setup s (h ▹ e)
-by-owner setup s h e legal plain closing opened old false other = viewing-other setup s h e legal other old
-by-owner setup s h e legal plain closing opened old true mine =
+by-owner setup s h e legal closing opened old false other = viewing-other setup s h e legal other old
+by-owner setup s h e legal closing opened old true mine =
     let is : e.actor ≡ Session s = same-session s e.actor mine in
     let M : Actor → Type 0 = λ who. MayEnter setup h who e.calls e.kind in
     let R : Actor → Type 0 = λ who. e.reply ≡ reply_to setup h who e.calls e.kind in
-    viewing-own setup s h e.actor e.line e.calls e.kind e.reply mine (subst M is legal.may) plain (subst R is legal.reply) (closing mine) opened old
+    viewing-own setup s h e.actor e.line e.calls e.kind e.reply mine (subst M is legal.may) (subst R is legal.reply) (closing mine) opened old
 
-pub viewing-of : (setup : Setup) (s : SessionNo) (h : List Entry) → Legal setup h → are_plain h ≡ true → is_closed s h ≡ false → ViewingOf setup s h
-viewing-of setup s [] legal plain opened = viewing-first setup s
-viewing-of setup s (h ▹ e) legal plain opened =
+pub viewing-of : (setup : Setup) (s : SessionNo) (h : List Entry) → Legal setup h → is_closed s h ≡ false → ViewingOf setup s h
+viewing-of setup s [] legal opened = viewing-first setup s
+viewing-of setup s (h ▹ e) legal opened =
     let closing = closes-first (is_session s e.actor) e (own s h) opened in
-    by-owner setup s h e legal.1 (and-left (is_plain_kind e.kind) (list_all is_plain_call e.calls) (and-left (is_plain e.calls e.kind) (are_plain h) plain)) closing.0 closing.1
-    (viewing-of setup s h legal.0 (and-right (is_plain e.calls e.kind) (are_plain h) plain) closing.1) (is_session s e.actor) refl
+    by-owner setup s h e legal.1 closing.0 closing.1 (viewing-of setup s h legal.0 closing.1) (is_session s e.actor) refl

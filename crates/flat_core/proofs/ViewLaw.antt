@@ -13,8 +13,8 @@ use Rattle.flat_scene.specs.Draft.{Draft, empty_draft, of_serial}
 use Rattle.flat_scene.specs.Effect.{after_calls, draft_of}
 use Rattle.flat_scene.specs.History.{Published}
 use Rattle.flat_core.specs.Ends.{times, ends_view, happens}
-use Rattle.flat_core.specs.Legal.{is_link, owns_view}
-use Rattle.flat_core.specs.Seen.{holds_after}
+use Rattle.flat_core.specs.Legal.{owns_view}
+use Rattle.flat_core.specs.Seen.{holds_after, is_new_view}
 use Rattle.flat_core.specs.Shown.{is_pair}
 use Rattle.flat_core.proofs.ShownSteps.{serial-append}
 use Rattle.flat_core.proofs.ViewCalls.{Calm, calm, creates, after-append, times-append, view-holds}
@@ -130,7 +130,7 @@ by-order : (n m : ℕ) (b : Bool) → nat_le n m ≡ b → (n ≤ m) ⊎ (m < n)
 by-order n m true is = inl (grind (arith, nat_tests))
 by-order n m false is = inr (grind (arith, nat_tests))
 
-le-or-lt : (n m : ℕ) → (n ≤ m) ⊎ (m < n)
+pub le-or-lt : (n m : ℕ) → (n ≤ m) ⊎ (m < n)
 le-or-lt n m = by-order n m (nat_le n m) refl
 
 -- the new presents, if there are any, are made of all these calls
@@ -181,7 +181,7 @@ fresh-by a a' false m n quiet is never none = ended-false m n none (quiet.none i
 
 -- an entry of the session that makes no view
 pub viewing-more : (setup : Setup) (s : SessionNo) (used : PairNo → Bool) (cs : List Call) (ps : List Published) (holds viewed : Bool) (stood : ℕ) → Viewing setup s used cs ps holds viewed stood
-    → (carries : List Call) (more : List Published) (d' : Draft) → list_any is_link carries ≡ false → draft_of setup (cs ++ carries) ≡ Ok d' → MadeOf ps more (cs ++ carries)
+    → (carries : List Call) (more : List Published) (d' : Draft) → list_any is_new_view carries ≡ false → draft_of setup (cs ++ carries) ≡ Ok d' → MadeOf ps more (cs ++ carries)
     → Viewing setup s used (cs ++ carries) (ps ++ more) (holds_after holds carries) viewed (cond (holds_after holds carries) (length (ps ++ more)) stood)
 viewing-more setup s used cs ps holds viewed stood old carries more d' no_link good made =
     let d = old.draft in
@@ -248,7 +248,7 @@ stood-or-new setup p q all view true new gone is = inr (gone refl)
 stood-or-new setup p q all view false new gone is = inl (ap (λ (v : Option PairNo). is_pair v p) new ∙ is)
 
 pub viewing-made : (setup : Setup) (s : SessionNo) (used : PairNo → Bool) (cs : List Call) (ps : List Published) (holds viewed : Bool) (stood : ℕ) → Viewing setup s used cs ps holds viewed stood
-    → (q : PairNo) (first : List Call) (d' : Draft) → list_any is_link first ≡ false → draft_of setup (cs ++ (first ++ CreateView q ∷ [])) ≡ Ok d' → owns_view setup s q ≡ true → used q ≡ false
+    → (q : PairNo) (first : List Call) (d' : Draft) → list_any is_new_view first ≡ false → draft_of setup (cs ++ (first ++ CreateView q ∷ [])) ≡ Ok d' → owns_view setup s q ≡ true → used q ≡ false
     → (used' : PairNo → Bool) → ((p : PairNo) → used' p ≡ (used p || q.0 == p.0))
     → Viewing setup s used' (cs ++ (first ++ CreateView q ∷ [])) ps true true (length ps)
 viewing-made setup s used cs ps holds viewed stood old q first d' no_link good owned_q unused used' uses =

@@ -32,7 +32,7 @@ use Rattle.flat_core.proofs.ToldLocal.{IsFamilyPair, told-only, viewports-only, 
 
 -- ---- a watcher at rest
 
-asking-none : (w : Watching) → asking None w ≡ w
+pub asking-none : (w : Watching) → asking None w ≡ w
 asking-none w = ap (λ (o : Option Watch). let v : Watching = record w { waits = o } in v) (by_waits w.waits)
   where
     by_waits : (o : Option Watch) → or_else o None ≡ o
@@ -40,7 +40,7 @@ asking-none w = ap (λ (o : Option Watch). let v : Watching = record w { waits =
     by_waits (Some x) = refl
 
 -- settling twice is settling once
-settled-twice : (listens : Bool) (now : Option Told) (w : Watching) → settled listens now (settled listens now w) ≡ settled listens now w
+pub settled-twice : (listens : Bool) (now : Option Told) (w : Watching) → settled listens now (settled listens now w) ≡ settled listens now w
 settled-twice false now w = refl
 settled-twice true now w = by_answer (answer now w) refl
   where

@@ -54,7 +54,7 @@ member-at set (suc n) some = let less : suc n - 1 ≡ n = omega arith in ap (λ 
 at-session : (setup : Setup) (h : List Entry) (clock : Clock) (fences views : List Bool) (sessions : List SessionState) (s : SessionNo) (state : SessionState) → Stands setup h clock fences views sessions
     → IsTrue (is_declared setup s) → state ≡ slice_index_or sessions (s.0 - 1) state → has_view_in state ≡ has_view setup h s
 at-session setup h clock fences views sessions s state stands declared is =
-    view-kept setup h s state (kept-session setup h clock fences views sessions s state stands declared is) ∙ sym (has-view setup s h stands.legal stands.plain)
+    view-kept setup h s state (kept-session setup h clock fences views sessions s state stands declared is) ∙ sym (has-view setup s h stands.legal)
 
 some-state : {A : Type 0} (xs : List A) (i : ℕ) → i < length xs → (x : A) × (x ≡ slice_index_or xs i x)
 some-state [] i below = absurd (omega (arith, below))

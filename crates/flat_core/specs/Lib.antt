@@ -7,6 +7,7 @@ pub mod Kept
 pub mod Lasts
 pub mod Laws
 pub mod Legal
+pub mod Lives
 pub mod Local
 pub mod Logs
 pub mod Plain
@@ -14,5 +15,7 @@ pub mod Polls
 pub mod Posts
 pub mod Presents
 pub mod Seen
+pub mod Serials
 pub mod Shown
+pub mod Stamps
 pub mod Watch

@@ -2,7 +2,7 @@
 use Rattle.std.specs.Prelude.{ℕ, Bool, true, false, cond, ◌&&◌, ◌||◌, List, [], ◌∷◌, length}
 use Rattle.flat_base.specs.declared.ids.SessionNo.{SessionNo}
 use Rattle.flat_scene.specs.declared.calls.Call.{Call}
-use Rattle.flat_scene.specs.declared.calls.Call.TheVariants.{CreateView, ReleaseView, Clear}
+use Rattle.flat_scene.specs.declared.calls.Call.TheVariants.{CreateView, CreateViewport, ReleaseView, Clear}
 use Rattle.flat_scene.specs.declared.journal.Entry.{Entry}
 use Rattle.flat_scene.specs.declared.journal.Kind.{Kind}
 use Rattle.flat_scene.specs.declared.journal.Kind.TheVariants.{View}
@@ -16,6 +16,15 @@ use Rattle.flat_core.specs.Posts.{posts, frame_took}
 use Rattle.flat_core.specs.Legal.{is_poll, is_frame_open}
 
 -- ---- its view
+
+-- a call that makes a view, and one that makes a viewport
+abbrev pub is_new_view : Call → Bool
+is_new_view (CreateView p) = true
+is_new_view _ = false
+
+abbrev pub is_new_viewport : Call → Bool
+is_new_viewport (CreateViewport c pair w h inset) = true
+is_new_viewport _ = false
 
 -- whether there is a view after a call, where there was one before it or not
 abbrev pub holds_then : Bool → Call → Bool

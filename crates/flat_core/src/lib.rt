@@ -10,6 +10,7 @@ mod clock;
 mod dones;
 mod ends;
 mod laws;
+mod live;
 mod log;
 mod polls;
 mod state;
