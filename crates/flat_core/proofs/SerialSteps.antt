@@ -81,8 +81,7 @@ has-more p n serial cs more at fits =
     let all : contents_made (cs ++ more) ≡ contents_made cs ++ contents_made more = contents-append cs more in
     let serials : serials_in p 1 (contents_made (cs ++ more)) ≡ serials_in p 1 (contents_made cs) ++ serials_in p (1 + length (contents_made cs)) (contents_made more) =
     ap (serials_in p 1) all ∙ serials-append p 1 (contents_made cs) (contents_made more) in
-    let long : length (contents_made (cs ++ more)) ≡ length (contents_made cs) + length (contents_made more) = ap (length {A = Option PairNo}) all ∙ length-append (contents_made cs) (contents_made more) in
-    (
+    let long : length (contents_made (cs ++ more)) ≡ length (contents_made cs) + length (contents_made more) = ap (length {A = Option PairNo}) all ∙ length-append (contents_made cs) (contents_made more) in (
       ap (λ (l : List ℕ). of_serial l n) serials ∙ serial-append (serials_in p 1 (contents_made cs)) (serials_in p (1 + length (contents_made cs)) (contents_made more)) n (within (serials_in p 1 (contents_made cs)) n serial at) ∙ at,
       omega (arith, fits, long),
     )

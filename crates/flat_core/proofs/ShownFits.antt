@@ -105,13 +105,15 @@ module _ (setup : Setup) (s : SessionNo) where
       by_draft (Ok d) made same =
           let fine : is_none (first_reason (tree_tests d)) ≡ true = ap (λ (x : Result Draft Reason). has_tree setup (result_ok x) (Present args)) (sym made) ∙ may.tree in
           let all = lived-all setup (calls s before ++ e.calls) d made in
-          let here : live_in s (before ▹ e) ≡ lives_of d = rw mine (sym all.lives) in
-          (d, record {
-            made = made;
-            owned = draft-owned setup s (calls s before ++ e.calls) (all-calls-owned setup before e legal s mine) d made;
-            tests = none_of (first_reason (tree_tests d)) fine;
-            single = λ p owned. let few = (counted setup s p owned declared (before ▹ e) legal still).few in rw here at few;
-          })
+          let here : live_in s (before ▹ e) ≡ lives_of d = rw mine (sym all.lives) in (
+            d,
+            record {
+              made = made;
+              owned = draft-owned setup s (calls s before ++ e.calls) (all-calls-owned setup before e legal s mine) d made;
+              tests = none_of (first_reason (tree_tests d)) fine;
+              single = λ p owned. let few = (counted setup s p owned declared (before ▹ e) legal still).few in rw here at few;
+            },
+          )
 
   published-sound : (before : List Entry) (e : Entry) → Legal setup (before ▹ e) → is_session s e.actor ≡ true → (kind : Kind) (reply : Reply) → e.kind ≡ kind → e.reply ≡ reply
       → AllByRecursion (IsSound setup s) (published kind reply (calls s before ++ e.calls))

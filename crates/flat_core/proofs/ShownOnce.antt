@@ -235,11 +235,13 @@ in-map g (k ∷ ks) y (inr on) = let rest = in-map g ks y on in (rest.0, (inr re
 
 distinct-map : (g : ℕ → ℕ) (ks : List ℕ) → Distinct ks → ((k j : ℕ) → In k ks → In j ks → g k ≡ g j → k ≡ j) → Distinct (map g ks)
 distinct-map g [] d apart = tt
-distinct-map g (k ∷ ks) d apart =
-    (λ on.
-    let one = in-map g ks (g k) on in
-    let same : k ≡ one.0 = apart k one.0 (inl refl) (inr one.1.0) one.1.1 in
-    d.0 (subst (λ (n : ℕ). In n ks) (sym same) one.1.0), distinct-map g ks d.1 (λ i j on on' e. apart i j (inr on) (inr on') e))
+distinct-map g (k ∷ ks) d apart = (
+  λ on.
+      let one = in-map g ks (g k) on in
+      let same : k ≡ one.0 = apart k one.0 (inl refl) (inr one.1.0) one.1.1 in
+      d.0 (subst (λ (n : ℕ). In n ks) (sym same) one.1.0),
+  distinct-map g ks d.1 (λ i j on on' e. apart i j (inr on) (inr on') e),
+)
 
 -- a tree whose pairs have one live viewport each shows no pair twice
 pub pairs-once : (d : Draft) → IsTidy d → (r : IsReached d) → ((k : ℕ) (p : PairNo) → pair_at d.contents k ≡ Some p → held_of p (lives_of d) ≤ 1) → (all : Children) → all_nodes d ≡ Some all → has_twice (viewports_in all) ≡ false
