@@ -5,7 +5,9 @@ ghost use Rattle.flat_topology.specs.Shown.{nodes_of, pairs_in};
 ghost use Rattle.flat_topology.specs.Fit.{greatest_opacity};
 
 use crate::{Shown, join};
-use flat_base::{Actor, Items, NoMemory, ONE, OPACITY_MAX, Orientation, PairNo, SessionNo, TREE_NODES_MAX};
+use flat_base::{
+    Actor, Items, NoMemory, ONE, OPACITY_MAX, Orientation, PairNo, SessionNo, TREE_NODES_MAX,
+};
 use flat_scene::{Children, Content, Node, PairDecl, Setup};
 use flat_snap::{Snapshot, SnapshotBuilder};
 use std::alloc::Global;
