@@ -12,6 +12,7 @@ pub mod Judging
 pub mod LowTrees
 pub mod Places
 pub mod Reading
+pub mod Reporting
 pub mod ShownFits
 pub mod Standing
 pub mod Starting

@@ -3,10 +3,13 @@ use Rattle.std.specs.Prelude.{◌≡◌, ◌≢◌, ◌⊎◌, ℕ, ◌<◌, Lis
 use Rattle.std.specs.Fmt.{decimal}
 use Rattle.flat_io.specs.Told.{Appends}
 use Rattle.flat_io.specs.Whole.{Given, AppendsPrefix}
+use Rattle.flat_base.specs.declared.ids.SessionNo.{SessionNo}
 use Rattle.flat_base.specs.declared.limits.TheConstants.{SCRIPT_BYTES_MAX}
 use Rattle.flat_scene.specs.declared.journal.Entry.{Entry}
 use Rattle.flat_scene.specs.Interleave.{Interleaves, IsWritten}
+use Rattle.flat_scene.specs.Family.{family}
 use Rattle.flat_core.specs.Legal.{Legal}
+use Rattle.flat_core.specs.Laws.{IsFamilyLaw}
 use Rattle.flat_script.specs.declared.script.Script.{Script}
 use Rattle.flat_script.specs.declared.script.ScriptFault.{ScriptFault}
 use Rattle.flat_script.specs.Grammar.{text_read}
@@ -24,12 +27,13 @@ usage_line = codes "usage: flatland play | race | stress N" ++ 10 ∷ []
 abbrev pub fault_line : ScriptFault → List ℕ
 fault_line fault = codes "script line " ++ decimal fault.line ++ codes " kind " ++ decimal fault.kind ++ 10 ∷ []
 
--- The text is the report of one legal history, which interleaves the script's actors in written order.
+-- The text is the report of one legal history, which interleaves the script's actors in written order. Of each session's family, its entries with the frames alone are legal too, with the same replies, and post it the same events at the same entries; no other entry posts it any.
 pub record Reports (script : Script) (text : List ℕ) : Type 0 where
   pub history : List Entry
   pub legal : Legal script.setup history
   pub interleaves : Interleaves script.setup script.count script.lines history
   pub written : IsWritten script.setup history
+  pub families : (s : SessionNo) → IsFamilyLaw script.setup (family script.setup s) history
   pub is : text ≡ report script history [] []
 
 -- These bytes are a script, and the text is its report.

@@ -10,6 +10,7 @@ ghost use Rattle.flat_run.specs.Promise.{play_words, fault_line, Reports, IsText
 
 use crate::run::run;
 use flat_base::{NoMemory, SCRIPT_BYTES_MAX};
+use flat_core::families_are_alone;
 use flat_io::{ReadAll, Sink, Source, read_all, write_all};
 use flat_playable::scripts_are_playable;
 use flat_report::{HitAnswers, print_report};
@@ -96,6 +97,7 @@ fn played_text(alloc: Global, script: &Script) -> Result<Vec<u8>, NoMemory>
     requires { is_playable script.now ≡ true }
     ensures { IfOk result (λ text. Reports script.now text.items) }
 {
+    families_are_alone();
     let game = run(alloc, script)?;
     let answers = HitAnswers::new(alloc);
     let journal = game.board.journal();
