@@ -155,7 +155,7 @@ module _ (setup : Setup) (s : SessionNo) where
       let is : tree_of setup present ≡ tree sound.0 = ap (λ r. option_and_then tree (result_ok r)) sound.1.made in
       subst ShownWell (sym is) (well-tree present.made sound.0 sound.1 (tree sound.0) refl)
 
-  abbrev MaySound : Option Published → Type 0
+  abbrev pub MaySound : Option Published → Type 0
   MaySound None = Unit {0}
   MaySound (Some present) = IsSound setup s present
 
@@ -163,7 +163,7 @@ module _ (setup : Setup) (s : SessionNo) where
   pick-sound true p o first others = first
   pick-sound false p o first others = others
 
-  found-sound : (n : ℕ) (ps : List Published) → AllByRecursion (IsSound setup s) ps → MaySound (of_serial ps n)
+  pub found-sound : (n : ℕ) (ps : List Published) → AllByRecursion (IsSound setup s) ps → MaySound (of_serial ps n)
   found-sound n [] all = tt
   found-sound n (p ∷ ps) all = pick-sound (n == 1) p (of_serial ps (n - 1)) all.0 (found-sound (n - 1) ps all.1)
 
