@@ -1,7 +1,6 @@
 -- What an entry does to the serial of a pair's last use, and what frames have seen of that use.
-use Rattle.std.proofs.Common.{◌≡◌, ◌∙◌, sym, subst, ℕ, zero, suc, ◌+◌, ◌-◌, ◌≤◌, ◌<◌, Bool, true, false, cond, List, [], ◌∷◌, ◌++◌, length, refl, arith, ap, Some, None, Ok, Err, length-append, inl, inr, ◌⊎◌}
-use Rattle.std.specs.Prelude.{not, ◌&&◌, ◌||◌, ◌==◌, nat_lt, nat_le, Option, Result, option_and_then, option_map, unwrap_or, slice_get, filter_map}
-use Rattle.std.specs.List.{list_any}
+use Rattle.std.proofs.Common.{◌≡◌, ◌∙◌, sym, subst, ℕ, ◌+◌, ◌-◌, ◌≤◌, ◌<◌, Bool, true, false, cond, List, [], ◌∷◌, ◌++◌, length, refl, arith, ap, Some, None, length-append, inl, inr, ◌⊎◌}
+use Rattle.std.specs.Prelude.{◌==◌, nat_le, Option, option_and_then, option_map, unwrap_or, slice_get, filter_map}
 use Rattle.std.specs.Result.{result_ok}
 use Rattle.std.proofs.lemmas.Bool.Decides.{nat_tests}
 use Rattle.std.proofs.lemmas.List.{append-nil, append_assoc}
@@ -23,17 +22,17 @@ use Rattle.flat_scene.specs.History.{◌▹◌, own, calls, closes, is_closed, i
 use Rattle.flat_scene.specs.Misuse.{first_reason}
 use Rattle.flat_scene.specs.Tree.{tree, tree_tests, all_nodes, is_too_large, is_cyclic, head_of, use_of}
 use Rattle.flat_scene.proofs.Steps.{presents-own, presents-other}
-use Rattle.flat_scene.proofs.Together.{and-left, and-right}
-use Rattle.flat_core.specs.Ends.{to_begin, viewport_uses, props_of, taken_calls}
-use Rattle.flat_core.specs.Legal.{Legal, LegalEntry, owns_viewport, makes_viewport, all_but_last, number_if}
-use Rattle.flat_core.specs.Lives.{made_of_pair, makes_one}
+use Rattle.flat_scene.proofs.Together.{and-left}
+use Rattle.flat_core.specs.Ends.{viewport_uses, props_of, taken_calls}
+use Rattle.flat_core.specs.Legal.{Legal, owns_viewport, makes_viewport, all_but_last}
+use Rattle.flat_core.specs.Lives.{made_of_pair}
 use Rattle.flat_core.specs.Serials.{makes_content, contents_made, serials_in, IsUseSerial, props_at_serial}
 use Rattle.flat_core.specs.Shown.{is_pair, last_taken, tree_of}
 use Rattle.flat_core.specs.Stamps.{made_by}
 use Rattle.flat_core.proofs.Earlier.{Begins, begins-more, IsEarlier, calls-taken, taken-fits, legal-earlier}
 use Rattle.flat_core.proofs.LiveCounts.{made-append}
 use Rattle.flat_core.proofs.Serials.{serials-append, contents-append, serials-count, use-props}
-use Rattle.flat_core.proofs.ShownFits.{IsGood, IsSound, MaySound, found-sound, presents-sound}
+use Rattle.flat_core.proofs.ShownFits.{MaySound, found-sound, presents-sound}
 use Rattle.flat_core.proofs.ShownSteps.{serial-append, closed-before}
 use Rattle.flat_core.proofs.StampSteps.{not-presented}
 use Rattle.flat_core.proofs.Uses.{uses-other, uses-own, uses-made}
@@ -87,8 +86,7 @@ has-more p n serial cs more at fits =
     let all : contents_made (cs ++ more) ≡ contents_made cs ++ contents_made more = contents-append cs more in
     let serials : serials_in p 1 (contents_made (cs ++ more)) ≡ serials_in p 1 (contents_made cs) ++ serials_in p (1 + length (contents_made cs)) (contents_made more) =
     ap (serials_in p 1) all ∙ serials-append p 1 (contents_made cs) (contents_made more) in
-    let long : length (contents_made (cs ++ more)) ≡ length (contents_made cs) + length (contents_made more) = ap (length {A = Option PairNo}) all ∙ length-append (contents_made cs) (contents_made more) in
-    (
+    let long : length (contents_made (cs ++ more)) ≡ length (contents_made cs) + length (contents_made more) = ap (length {A = Option PairNo}) all ∙ length-append (contents_made cs) (contents_made more) in (
       ap (λ (l : List ℕ). of_serial l n) serials ∙ serial-append (serials_in p 1 (contents_made cs)) (serials_in p (1 + length (contents_made cs)) (contents_made more)) n (within (serials_in p 1 (contents_made cs)) n serial at) ∙ at,
       omega (arith, fits, long),
     )
