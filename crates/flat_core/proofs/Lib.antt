@@ -66,6 +66,7 @@ pub mod ViewCalls
 pub mod ViewHistory
 pub mod ViewLaw
 pub mod ViewSteps
+pub mod ViewportSteps
 pub mod WatchLocal
 pub mod Watchers
 pub mod WatchersLocal
