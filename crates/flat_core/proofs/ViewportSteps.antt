@@ -1,9 +1,10 @@
 -- What an entry does to what is kept of a session's viewports.
 use Rattle.std.proofs.Common.{◌≡◌, ◌≢◌, ◌∙◌, sym, subst, ℕ, zero, suc, ◌+◌, ◌-◌, ◌≤◌, ◌<◌, Bool, true, false, cond, List, [], ◌∷◌, ◌++◌, length, map, filter, refl, arith, ap, Some, None, Ok, add-zero}
-use Rattle.std.specs.Prelude.{not, ◌&&◌, ◌||◌, ◌==◌, nat_lt, nat_le, Option, is_some, flat_map, replicate, slice_get, option_map, unwrap_or}
+use Rattle.std.specs.Prelude.{Result, not, ◌&&◌, ◌||◌, ◌==◌, nat_lt, nat_le, Option, is_some, flat_map, replicate, slice_get, option_map, unwrap_or}
 use Rattle.std.specs.List.{list_any, list_all}
 use Rattle.std.proofs.lemmas.Bool.Decides.{nat_tests}
 use Rattle.std.proofs.lemmas.List.{append-nil, map-append}
+use Rattle.flat_base.specs.declared.errors.Reason.{Reason}
 use Rattle.flat_base.specs.declared.ids.PairNo.{PairNo}
 use Rattle.flat_base.specs.declared.ids.SessionNo.{SessionNo}
 use Rattle.flat_scene.specs.declared.calls.Call.{Call}
@@ -26,7 +27,7 @@ use Rattle.flat_core.specs.Lives.{lives_after, count_of, releases_live}
 use Rattle.flat_core.specs.Posts.{posted, tokens_back, Sent}
 use Rattle.flat_core.specs.Stamps.{first_at, is_seen, IsStamp, happens_often, stamp_then}
 use Rattle.flat_core.specs.Viewports.{released_at, out_of, outs_of, AreViewports, marked, with_out, is_back, back_events, still_out}
-use Rattle.flat_core.proofs.Earlier.{taken-begin}
+use Rattle.flat_core.proofs.Earlier.{taken-begin, finished-earlier}
 use Rattle.flat_core.proofs.EventsLocal.{flat-same, viewports-owned}
 use Rattle.flat_core.proofs.LiveCounts.{lives-append, lived-all, lived, Lived}
 use Rattle.flat_core.proofs.Lives.{lives_of, IsTidy}
@@ -39,6 +40,7 @@ use Rattle.flat_core.proofs.TokensBack.{no-token, came}
 use Rattle.flat_core.proofs.Uses.{uses-other}
 use Rattle.flat_core.proofs.ViewCalls.{times-append}
 use Rattle.flat_core.proofs.ViewHistory.{viewing-of}
+use Rattle.flat_core.proofs.ViewLaw.{good-more}
 
 -- ---- lists
 
@@ -119,4 +121,92 @@ module _ (setup : Setup) (s : SessionNo) (declared : is_declared setup s ≡ tru
         let before : is_closed s h ≡ false = closed-before (is_session s e.actor) e (own s h) o in
         old.outs before
         ∙ sym (flat-same (owns_viewport setup s) (out_of setup (h ▹ e) s) (out_of setup h s) (λ p owned. other-out p owned h e legal before other no_finish) (viewports_of setup s) (viewports-owned setup s));
+  }
+
+  -- ---- its own entry that uses no viewport end of a pair
+
+  module _ (h : List Entry) (e : Entry) (legal : Legal setup (h ▹ e)) (mine : is_session s e.actor ≡ true) (still : is_closed s (h ▹ e) ≡ false) where
+    abbrev lives : List Live
+    lives = lives_after [] (calls s h)
+
+    opened : is_closed s h ≡ false
+    opened = closed-before (is_session s e.actor) e (own s h) still
+
+    all-calls : calls s (h ▹ e) ≡ calls s h ++ e.calls
+    all-calls = rw mine refl
+
+    -- how often its calls release a viewport of a pair
+    released-more : (p : PairNo) → times setup (releases_viewport p) (Ok empty_draft) (calls s h ++ e.calls) ≡ times setup (releases_viewport p) (Ok empty_draft) (calls s h) + count_of (releases_live p) lives e.calls
+    released-more p =
+        let before = viewing-of setup s h legal.0 opened in
+        let after = viewing-of setup s (h ▹ e) legal still in
+        let good : draft_of setup (calls s h ++ e.calls) ≡ Ok after.draft = ap (draft_of setup) (sym all-calls) ∙ after.good in
+        let first = lived-all setup (calls s h) before.draft before.good in
+        let then : Lived setup before.draft e.calls after.draft = lived setup before.draft e.calls after.draft first.tidy (good-more setup (calls s h) e.calls before.draft after.draft before.good good) in
+        let counts : times setup (releases_viewport p) (Ok before.draft) e.calls ≡ count_of (releases_live p) lives e.calls = then.releases p ∙ ap (λ (l : List Live). count_of (releases_live p) l e.calls) first.lives in
+        times-append setup (releases_viewport p) (Ok empty_draft) (calls s h) e.calls
+        ∙ ap (λ (n : ℕ). times setup (releases_viewport p) (Ok empty_draft) (calls s h) + n) (ap (λ (r : Result Draft Reason). times setup (releases_viewport p) r e.calls) before.good ∙ counts)
+
+    own-out : (p : PairNo) → owns_viewport setup s p ≡ true → is_finish e.kind ≡ false → (uses_viewport p e.kind && is_done e.reply) ≡ false → out_of setup (h ▹ e) s p ≡ map (marked lives e.calls (length (presents s h))) (out_of setup h s p)
+    own-out p owned no_finish no_use = by_token (has_token setup p h) refl
+      where
+        u : ℕ
+        u = length (viewport_uses p h)
+
+        kept : has_token setup p (h ▹ e) ≡ has_token setup p h
+        kept = still-token p h e no_use no_finish
+
+        same : viewport_uses p (h ▹ e) ≡ viewport_uses p h
+        same = rw no_use refl
+
+        by_token : (b : Bool) → has_token setup p h ≡ b → out_of setup (h ▹ e) s p ≡ map (marked lives e.calls (length (presents s h))) (out_of setup h s p)
+        by_token true held = rw (kept, held) refl
+        by_token false out =
+            let test : List Call → Bool = happens_often setup (releases_viewport p) (length (viewport_uses p h)) in
+            let lasting : IsLasting test = often-lasts setup (releases_viewport p) (length (viewport_uses p h)) (out-used p owned h legal.0 opened out) in
+            let more = released-more p in
+            let near = (counted setup s p owned declared h legal.0 opened).near in
+            let seen = seen-then setup s p (to_finished h) h (finished-earlier h) in
+            let does_it : closes e.reply ≡ false → released_at setup h s p ≡ None → nat_lt 0 (count_of (releases_live p) lives e.calls) ≡ test (calls s h ++ e.calls) =
+            λ stays none.
+            let not_yet : test (calls s h) ≡ false = sym (stamped test lasting s h).some ∙ ap is_some none in
+            enough (length (viewport_uses p h)) (times setup (releases_viewport p) (Ok empty_draft) (calls s h)) (count_of (releases_live p) lives e.calls) not_yet (omega (arith, near, seen)) ∙ ap (λ (n : ℕ). nat_le (length (viewport_uses p h)) n) (sym more) in
+            let step : IsStamp test s (h ▹ e) (stamp_then (released_at setup h s p) (nat_lt 0 (count_of (releases_live p) lives e.calls)) (length (presents s h))) =
+            own-stamp test lasting s h e (released_at setup h s p) (nat_lt 0 (count_of (releases_live p) lives e.calls)) mine opened does_it (stamp-of test lasting s h) in
+            let n : length (viewport_uses p (h ▹ e)) ≡ length (viewport_uses p h) = ap (length {A = Entry}) same in
+            let stamp : released_at setup (h ▹ e) s p ≡ stamp_then (released_at setup h s p) (nat_lt 0 (count_of (releases_live p) lives e.calls)) (length (presents s h)) =
+            ap (λ (k : ℕ). first_at (happens_often setup (releases_viewport p) k) s (h ▹ e)) n ∙ sym (step.opened still) in
+            ap (λ (b : Bool). cond b [] ((let o : OutToken = record { pair = p; released = released_at setup (h ▹ e) s p } in o) ∷ [])) (kept ∙ out)
+            ∙ ap (λ (r : Option ℕ). let o : OutToken = record { pair = p; released = r } in o ∷ []) stamp ∙ sym (rw out refl)
+          where
+            enough : (n t c : ℕ) → nat_le n t ≡ false → n ≤ t + 1 → nat_lt 0 c ≡ nat_le n (t + c)
+            enough n t c over few = by_tests (nat_lt 0 c) (nat_le n (t + c)) refl refl
+              where
+                by_tests : (a b : Bool) → nat_lt 0 c ≡ a → nat_le n (t + c) ≡ b → a ≡ b
+                by_tests true true i j = refl
+                by_tests false false i j = refl
+                by_tests true false i j = absurd (grind (arith, nat_tests))
+                by_tests false true i j = absurd (grind (arith, nat_tests))
+
+    pub lives-own : lives_after [] (calls s (h ▹ e)) ≡ lives_after lives e.calls
+    lives-own = ap (lives_after []) all-calls ∙ lives-append [] (calls s h) e.calls
+
+    -- its tokens that are out are marked by its calls
+    pub outs-own : is_finish e.kind ≡ false → ((p : PairNo) → owns_viewport setup s p ≡ true → (uses_viewport p e.kind && is_done e.reply) ≡ false)
+        → outs_of setup (h ▹ e) s ≡ map (marked lives e.calls (length (presents s h))) (outs_of setup h s)
+    outs-own no_finish no_use =
+        flat-same (owns_viewport setup s) (out_of setup (h ▹ e) s) (λ p. map (marked lives e.calls (length (presents s h))) (out_of setup h s p)) (λ p owned. own-out p owned no_finish (no_use p owned)) (viewports_of setup s) (viewports-owned setup s)
+        ∙ sym (flat-mapped (marked lives e.calls (length (presents s h))) (out_of setup h s) (viewports_of setup s))
+
+  -- its own entry that uses no viewport end, whether it closes the session or not
+  pub viewports-own : (h : List Entry) (e : Entry) → Legal setup (h ▹ e) → is_session s e.actor ≡ true → is_finish e.kind ≡ false → ((p : PairNo) → owns_viewport setup s p ≡ true → (uses_viewport p e.kind && is_done e.reply) ≡ false)
+      → (live : List Live) (out : List OutToken) → AreViewports setup h s live out → AreViewports setup (h ▹ e) s (lives_after live e.calls) (map (marked live e.calls (length (presents s h))) out)
+  viewports-own h e legal mine no_finish no_use live out old = record {
+    lives = λ o.
+        let before : is_closed s h ≡ false = closed-before (is_session s e.actor) e (own s h) o in
+        ap (λ (l : List Live). lives_after l e.calls) (old.lives before) ∙ sym (lives-own h e legal mine o);
+    outs = λ o.
+        let before : is_closed s h ≡ false = closed-before (is_session s e.actor) e (own s h) o in
+        ap (map (marked live e.calls (length (presents s h)))) (old.outs before)
+        ∙ ap (λ (l : List Live). map (marked l e.calls (length (presents s h))) (outs_of setup h s)) (old.lives before) ∙ sym (outs-own h e legal mine o no_finish no_use);
   }
