@@ -67,6 +67,7 @@ pub mod ViewHistory
 pub mod ViewLaw
 pub mod ViewSteps
 pub mod ViewportSteps
+pub mod ViewportUses
 pub mod WatchLocal
 pub mod Watchers
 pub mod WatchersLocal

@@ -44,11 +44,11 @@ use Rattle.flat_core.proofs.ViewLaw.{good-more}
 
 -- ---- lists
 
-flat-mapped : {A B C : Type 0} (g : B → C) (f : A → List B) (xs : List A) → map g (flat_map f xs) ≡ flat_map (λ x. map g (f x)) xs
+pub flat-mapped : {A B C : Type 0} (g : B → C) (f : A → List B) (xs : List A) → map g (flat_map f xs) ≡ flat_map (λ x. map g (f x)) xs
 flat-mapped g f [] = refl
 flat-mapped g f (x ∷ xs) = map-append g (f x) (flat_map f xs) ∙ ap (λ l. map g (f x) ++ l) (flat-mapped g f xs)
 
-filter-append : {A : Type 0} (q : A → Bool) (xs ys : List A) → filter q (xs ++ ys) ≡ filter q xs ++ filter q ys
+pub filter-append : {A : Type 0} (q : A → Bool) (xs ys : List A) → filter q (xs ++ ys) ≡ filter q xs ++ filter q ys
 filter-append q [] ys = refl
 filter-append {A = A} q (x ∷ xs) ys = by_test (filter-append q xs ys) (q x)
   where
@@ -56,7 +56,7 @@ filter-append {A = A} q (x ∷ xs) ys = by_test (filter-append q xs ys) (q x)
     by_test rest true = ap (λ (l : List A). x ∷ l) rest
     by_test rest false = rest
 
-flat-filtered : {A B : Type 0} (q : B → Bool) (f : A → List B) (xs : List A) → filter q (flat_map f xs) ≡ flat_map (λ x. filter q (f x)) xs
+pub flat-filtered : {A B : Type 0} (q : B → Bool) (f : A → List B) (xs : List A) → filter q (flat_map f xs) ≡ flat_map (λ x. filter q (f x)) xs
 flat-filtered q f [] = refl
 flat-filtered q f (x ∷ xs) = filter-append q (f x) (flat_map f xs) ∙ ap (λ l. filter q (f x) ++ l) (flat-filtered q f xs)
 
@@ -74,7 +74,7 @@ module _ (setup : Setup) (s : SessionNo) (declared : is_declared setup s ≡ tru
       token-kept (uses_viewport p e.kind && is_done e.reply) (has_token setup p h) (list_any (λ (sent : Sent). is_token_back p sent.event) (posted setup h e)) none (no-token setup p h e no_finish)
 
   -- a token that is out was used
-  out-used : (p : PairNo) → owns_viewport setup s p ≡ true → (h : List Entry) → Legal setup h → is_closed s h ≡ false → has_token setup p h ≡ false → 0 < length (viewport_uses p h)
+  pub out-used : (p : PairNo) → owns_viewport setup s p ≡ true → (h : List Entry) → Legal setup h → is_closed s h ≡ false → has_token setup p h ≡ false → 0 < length (viewport_uses p h)
   out-used p owned h legal opened out = by_count (nat_lt 0 (length (viewport_uses p h))) refl
     where
       by_count : (b : Bool) → nat_lt 0 (length (viewport_uses p h)) ≡ b → 0 < length (viewport_uses p h)
@@ -85,7 +85,7 @@ module _ (setup : Setup) (s : SessionNo) (declared : is_declared setup s ≡ tru
 
   -- ---- another's entry
 
-  other-out : (p : PairNo) → owns_viewport setup s p ≡ true → (h : List Entry) (e : Entry) → Legal setup (h ▹ e) → is_closed s h ≡ false → is_session s e.actor ≡ false → is_finish e.kind ≡ false
+  pub other-out : (p : PairNo) → owns_viewport setup s p ≡ true → (h : List Entry) (e : Entry) → Legal setup (h ▹ e) → is_closed s h ≡ false → is_session s e.actor ≡ false → is_finish e.kind ≡ false
       → out_of setup (h ▹ e) s p ≡ out_of setup h s p
   other-out p owned h e legal opened other no_finish = by_token (has_token setup p h) refl
     where
@@ -126,7 +126,7 @@ module _ (setup : Setup) (s : SessionNo) (declared : is_declared setup s ≡ tru
   -- ---- its own entry that uses no viewport end of a pair
 
   module _ (h : List Entry) (e : Entry) (legal : Legal setup (h ▹ e)) (mine : is_session s e.actor ≡ true) (still : is_closed s (h ▹ e) ≡ false) where
-    abbrev lives : List Live
+    abbrev pub lives : List Live
     lives = lives_after [] (calls s h)
 
     opened : is_closed s h ≡ false
@@ -147,7 +147,7 @@ module _ (setup : Setup) (s : SessionNo) (declared : is_declared setup s ≡ tru
         times-append setup (releases_viewport p) (Ok empty_draft) (calls s h) e.calls
         ∙ ap (λ (n : ℕ). times setup (releases_viewport p) (Ok empty_draft) (calls s h) + n) (ap (λ (r : Result Draft Reason). times setup (releases_viewport p) r e.calls) before.good ∙ counts)
 
-    own-out : (p : PairNo) → owns_viewport setup s p ≡ true → is_finish e.kind ≡ false → (uses_viewport p e.kind && is_done e.reply) ≡ false → out_of setup (h ▹ e) s p ≡ map (marked lives e.calls (length (presents s h))) (out_of setup h s p)
+    pub own-out : (p : PairNo) → owns_viewport setup s p ≡ true → is_finish e.kind ≡ false → (uses_viewport p e.kind && is_done e.reply) ≡ false → out_of setup (h ▹ e) s p ≡ map (marked lives e.calls (length (presents s h))) (out_of setup h s p)
     own-out p owned no_finish no_use = by_token (has_token setup p h) refl
       where
         u : ℕ
