@@ -1,3 +1,4 @@
+pub mod Backs
 pub mod BeginLoop
 pub mod BeginSteps
 pub mod Begun
@@ -22,6 +23,7 @@ pub mod Lives
 pub mod Locality
 pub mod LowDrafts
 pub mod LowTrees
+pub mod Marks
 pub mod MoreRuns
 pub mod Neighbour
 pub mod NoAnswers

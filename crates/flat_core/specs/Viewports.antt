@@ -1,5 +1,5 @@
 -- What is kept of a session's viewports: those that live, and the tokens that are out, by rising pairs.
-use Rattle.std.specs.Prelude.{◌≡◌, ℕ, Bool, false, cond, not, ◌==◌, nat_lt, List, [], ◌∷◌, filter, flat_map, map, length, Option, Some, None}
+use Rattle.std.specs.Prelude.{◌≡◌, ◌+◌, ℕ, Bool, false, cond, not, ◌==◌, nat_lt, List, [], ◌∷◌, filter, flat_map, map, length, Option, Some, None}
 use Rattle.flat_base.specs.declared.ids.PairNo.{PairNo}
 use Rattle.flat_base.specs.declared.ids.SessionNo.{SessionNo}
 use Rattle.flat_scene.specs.declared.calls.Call.{Call}
@@ -13,6 +13,7 @@ use Rattle.flat_core.specs.declared.live.OutToken.{OutToken}
 use Rattle.flat_core.specs.Ends.{viewports_of, viewport_uses, releases_viewport}
 use Rattle.flat_core.specs.Legal.{has_token}
 use Rattle.flat_core.specs.Lives.{lives_after, count_of, releases_live}
+use Rattle.flat_core.specs.Shown.{is_pair}
 use Rattle.flat_core.specs.Stamps.{first_at, is_seen, happens_often, stamp_then}
 
 -- the stamp of the release of a pair's last use
@@ -50,3 +51,12 @@ back_events taken outs = map (λ out. event.TokenBack out.pair) (filter (is_back
 
 abbrev pub still_out : ℕ → List OutToken → List OutToken
 still_out taken outs = filter (λ out. not (is_back taken out)) outs
+
+-- the token of this pair, if it is one, is marked, and no other
+abbrev pub marked_by : Option PairNo → ℕ → OutToken → OutToken
+marked_by pair presents out = record out { released = stamp_then out.released (is_pair pair out.pair) presents }
+
+-- the place of a pair's token among those that are out
+abbrev pub place_of : ℕ → List OutToken → ℕ
+place_of p [] = 0
+place_of p (out ∷ outs) = cond (nat_lt p out.pair.0) 0 (place_of p outs + 1)

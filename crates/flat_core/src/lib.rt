@@ -16,6 +16,7 @@ mod polls;
 mod state;
 #[cfg(test)]
 mod tests;
+mod viewports;
 mod views;
 
 ghost use Rattle.flat_core.specs.Laws.{CreditsAddUp};
