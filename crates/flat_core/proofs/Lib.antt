@@ -34,6 +34,7 @@ pub mod Opened
 pub mod Owned
 pub mod OwnedTree
 pub mod PairLaws
+pub mod PairTold
 pub mod PollSteps
 pub mod Polled
 pub mod PresentSteps

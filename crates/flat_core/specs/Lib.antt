@@ -19,4 +19,5 @@ pub mod Serials
 pub mod Shown
 pub mod Stamps
 pub mod Viewports
+pub mod Views
 pub mod Watch
