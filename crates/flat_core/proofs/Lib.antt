@@ -12,6 +12,7 @@ pub mod Earlier
 pub mod EventsLocal
 pub mod FamilyHistory
 pub mod FamilyTheorem
+pub mod FinishEvents
 pub mod FramesLocal
 pub mod HasView
 pub mod JoinedLocal
