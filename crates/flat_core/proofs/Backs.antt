@@ -1,9 +1,7 @@
 -- Tokens that come back, and places of tokens.
-use Rattle.std.proofs.Common.{◌≡◌, ◌∙◌, sym, ℕ, zero, suc, ◌+◌, ◌<◌, ◌≤◌, Bool, true, false, List, [], ◌∷◌, ◌++◌, map, filter, take, drop, length, refl, arith, ap, add-one}
+use Rattle.std.proofs.Common.{◌≡◌, ◌∙◌, ℕ, zero, suc, ◌+◌, ◌≤◌, Bool, true, false, List, [], ◌∷◌, map, filter, take, length, refl, arith, ap, add-one}
 use Rattle.std.specs.Prelude.{cond, not, nat_lt, if◌then◌else◌}
-use Rattle.std.proofs.lemmas.Bool.Decides.{nat_tests}
 use Rattle.std.specs.List.{insert}
-use Rattle.flat_scene.specs.declared.journal.Event.{Event}
 use Rattle.flat_core.specs.declared.live.OutToken.{OutToken}
 use Rattle.flat_core.specs.Viewports.{with_out, place_of, is_back, back_events, still_out}
 

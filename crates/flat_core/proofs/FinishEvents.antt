@@ -1,8 +1,7 @@
 -- What the end of a frame posts to a session, by what is kept of it: held gets, what the frame took, and the tokens that are out.
-use Rattle.std.proofs.Common.{◌≡◌, ◌∙◌, sym, ℕ, Bool, true, false, List, [], ◌∷◌, ◌++◌, length, filter, refl, ap}
+use Rattle.std.proofs.Common.{◌≡◌, ◌∙◌, ℕ, Bool, true, false, List, [], ◌∷◌, ◌++◌, length, filter, refl}
 use Rattle.std.specs.Prelude.{cond, nat_lt, flat_map}
 use Rattle.std.proofs.lemmas.List.{append-nil}
-use Rattle.flat_base.specs.declared.ids.PairNo.{PairNo}
 use Rattle.flat_base.specs.declared.ids.SessionNo.{SessionNo}
 use Rattle.flat_scene.specs.declared.journal.Entry.{Entry}
 use Rattle.flat_scene.specs.declared.journal.Event.{Event}

@@ -1,10 +1,8 @@
 -- Marks on tokens, call by call.
-use Rattle.std.proofs.Common.{◌≡◌, ◌∙◌, sym, ℕ, zero, suc, ◌+◌, ◌<◌, ◌≤◌, slice_index_or, drop-cons, Bool, true, false, List, [], ◌∷◌, ◌++◌, map, take, drop, length, refl, arith, ap, Some, None, slice_set, slice_get, add-one}
-use Rattle.std.specs.Prelude.{nat_lt, Option, cond}
+use Rattle.std.proofs.Common.{◌≡◌, ◌∙◌, sym, ℕ, zero, suc, ◌+◌, ◌<◌, ◌≤◌, slice_index_or, drop-cons, Bool, true, false, List, [], ◌∷◌, ◌++◌, map, take, drop, length, refl, arith, ap, Some, None, slice_set, add-one}
+use Rattle.std.specs.Prelude.{nat_lt, Option}
 use Rattle.std.proofs.lemmas.Bool.Decides.{nat_tests}
-use Rattle.std.proofs.lemmas.Grind.{common_steps}
 use Rattle.flat_base.specs.declared.ids.ContentId.{ContentId}
-use Rattle.flat_base.specs.declared.ids.PairNo.{PairNo}
 use Rattle.flat_scene.specs.declared.calls.Call.{Call}
 use Rattle.flat_scene.specs.declared.calls.Call.TheVariants.{CreateViewport, ReleaseViewport, Clear}
 use Rattle.flat_core.specs.declared.live.Live.{Live}

@@ -1,10 +1,9 @@
 -- What the ends of a pair tell, by what is kept: stamps, what finished frames had taken, and what they showed.
-use Rattle.std.proofs.Common.{◌≡◌, ◌∙◌, sym, subst, ℕ, ◌+◌, ◌≤◌, ◌<◌, Bool, true, false, cond, List, [], ◌∷◌, ◌++◌, length, refl, arith, ap, Some, None, Ok, Err}
-use Rattle.std.specs.Prelude.{not, ◌&&◌, ◌||◌, ◌==◌, nat_lt, nat_le, Option, Result, is_some, option_map, unwrap_or}
+use Rattle.std.proofs.Common.{◌≡◌, ◌∙◌, sym, ℕ, ◌+◌, Bool, true, false, List, [], ◌∷◌, ◌++◌, length, refl, arith, ap, Some, None, Ok, Err}
+use Rattle.std.specs.Prelude.{◌&&◌, ◌||◌, nat_lt, Option, Result, is_some, option_map, unwrap_or}
 use Rattle.std.proofs.lemmas.Bool.Decides.{nat_tests}
 use Rattle.flat_base.specs.declared.errors.Reason.{Reason}
-use Rattle.flat_base.specs.declared.ids.Actor.{Actor}
-use Rattle.flat_base.specs.declared.ids.Actor.TheVariants.{Display, Session, Probe}
+use Rattle.flat_base.specs.declared.ids.Actor.TheVariants.{Display, Session}
 use Rattle.flat_base.specs.declared.ids.PairNo.{PairNo}
 use Rattle.flat_base.specs.declared.ids.SessionNo.{SessionNo}
 use Rattle.flat_scene.specs.declared.calls.Call.{Call}
@@ -14,19 +13,18 @@ use Rattle.flat_scene.specs.declared.setup.Setup.{Setup}
 use Rattle.flat_scene.specs.Draft.{Draft, empty_draft}
 use Rattle.flat_scene.specs.Effect.{effect, after_calls, unless, draft_of}
 use Rattle.flat_scene.specs.Frames.{taken}
-use Rattle.flat_scene.specs.History.{◌▹◌, own, calls, closes, is_closed, is_session, presents}
+use Rattle.flat_scene.specs.History.{◌▹◌, calls, closes, is_closed, is_session, presents}
 use Rattle.flat_scene.specs.Misuse.{misuse}
 use Rattle.flat_core.specs.declared.live.Live.{Live}
 use Rattle.flat_core.specs.Ends.{times, happens, count_if, ends_view, clears_viewport, loses, is_viewport_lost, is_view_lost, viewport_owner, view_owner, to_finished}
-use Rattle.flat_core.specs.Legal.{Legal, owns_view, owns_viewport, number_if}
+use Rattle.flat_core.specs.Legal.{Legal, number_if}
 use Rattle.flat_core.specs.Lives.{lives_after, clears_live, count_of}
 use Rattle.flat_core.specs.Shown.{is_pair, shown_view, is_connected}
-use Rattle.flat_core.specs.Stamps.{IsStamp, is_seen, first_at, stamp_then}
+use Rattle.flat_core.specs.Stamps.{IsStamp, is_seen, stamp_then}
 use Rattle.flat_core.specs.Views.{view_then, view_after, ends_it, ends_of, layout_by, status_by, child_by}
-use Rattle.flat_core.specs.Watch.{told, layout_of, status_of, child_of, are_joined, props_told, shows_view, is_connected_by}
+use Rattle.flat_core.specs.Watch.{told, layout_of, status_of, child_of, are_joined, props_told}
 use Rattle.flat_core.proofs.Earlier.{finished-earlier}
 use Rattle.flat_core.proofs.LiveCounts.{lived-all, lived, Lived}
-use Rattle.flat_core.proofs.ShownSteps.{closed-before}
 use Rattle.flat_core.proofs.StampSteps.{own-stamp, stamp-ended}
 use Rattle.flat_core.proofs.Stamped.{stamped, happening-lasts}
 use Rattle.flat_core.proofs.ViewCalls.{times-append, after-refused}

@@ -1,42 +1,36 @@
 -- What an entry does to what is kept of a session's viewports.
-use Rattle.std.proofs.Common.{◌≡◌, ◌≢◌, ◌∙◌, sym, subst, ℕ, zero, suc, ◌+◌, ◌-◌, ◌≤◌, ◌<◌, Bool, true, false, cond, List, [], ◌∷◌, ◌++◌, length, map, filter, refl, arith, ap, Some, None, Ok, add-zero}
-use Rattle.std.specs.Prelude.{Result, not, ◌&&◌, ◌||◌, ◌==◌, nat_lt, nat_le, Option, is_some, flat_map, replicate, slice_get, option_map, unwrap_or}
-use Rattle.std.specs.List.{list_any, list_all}
+use Rattle.std.proofs.Common.{◌≡◌, ◌∙◌, sym, ℕ, suc, ◌+◌, ◌≤◌, ◌<◌, Bool, true, false, cond, List, [], ◌∷◌, ◌++◌, length, map, filter, refl, arith, ap, None, Ok}
+use Rattle.std.specs.Prelude.{Result, not, ◌&&◌, ◌||◌, nat_lt, nat_le, Option, is_some, flat_map}
+use Rattle.std.specs.List.{list_any}
 use Rattle.std.proofs.lemmas.Bool.Decides.{nat_tests}
-use Rattle.std.proofs.lemmas.List.{append-nil, map-append}
+use Rattle.std.proofs.lemmas.List.{map-append}
 use Rattle.flat_base.specs.declared.errors.Reason.{Reason}
 use Rattle.flat_base.specs.declared.ids.PairNo.{PairNo}
 use Rattle.flat_base.specs.declared.ids.SessionNo.{SessionNo}
 use Rattle.flat_scene.specs.declared.calls.Call.{Call}
-use Rattle.flat_scene.specs.declared.calls.ViewportProps.{ViewportProps}
 use Rattle.flat_scene.specs.declared.journal.Entry.{Entry}
-use Rattle.flat_scene.specs.declared.journal.Event.{Event}
-use Rattle.flat_scene.specs.declared.journal.Event.TheVariants as event
-use Rattle.flat_scene.specs.declared.setup.PairDecl.{PairDecl}
 use Rattle.flat_scene.specs.declared.setup.Setup.{Setup}
 use Rattle.flat_scene.specs.Draft.{Draft, empty_draft}
 use Rattle.flat_scene.specs.Effect.{draft_of}
-use Rattle.flat_scene.specs.Frames.{taken}
 use Rattle.flat_scene.specs.History.{◌▹◌, own, calls, closes, is_closed, is_finish, is_session, presents}
 use Rattle.flat_scene.specs.Setups.{is_declared}
 use Rattle.flat_core.specs.declared.live.Live.{Live}
 use Rattle.flat_core.specs.declared.live.OutToken.{OutToken}
-use Rattle.flat_core.specs.Ends.{to_begin, to_finished, times, releases_viewport, viewport_uses, viewports_of, pairs_where, uses_viewport, is_done}
-use Rattle.flat_core.specs.Legal.{Legal, LegalEntry, has_token, owns_viewport, is_frame_open, is_token_back}
+use Rattle.flat_core.specs.Ends.{to_finished, times, releases_viewport, viewport_uses, viewports_of, uses_viewport, is_done}
+use Rattle.flat_core.specs.Legal.{Legal, has_token, owns_viewport, is_token_back}
 use Rattle.flat_core.specs.Lives.{lives_after, count_of, releases_live}
-use Rattle.flat_core.specs.Posts.{posted, tokens_back, Sent}
-use Rattle.flat_core.specs.Stamps.{first_at, is_seen, IsStamp, happens_often, stamp_then}
-use Rattle.flat_core.specs.Viewports.{released_at, out_of, outs_of, AreViewports, marked, with_out, is_back, back_events, still_out}
-use Rattle.flat_core.proofs.Earlier.{taken-begin, finished-earlier}
+use Rattle.flat_core.specs.Posts.{posted, Sent}
+use Rattle.flat_core.specs.Stamps.{first_at, IsStamp, happens_often, stamp_then}
+use Rattle.flat_core.specs.Viewports.{released_at, out_of, outs_of, AreViewports, marked}
+use Rattle.flat_core.proofs.Earlier.{finished-earlier}
 use Rattle.flat_core.proofs.EventsLocal.{flat-same, viewports-owned}
 use Rattle.flat_core.proofs.LiveCounts.{lives-append, lived-all, lived, Lived}
-use Rattle.flat_core.proofs.Lives.{lives_of, IsTidy}
-use Rattle.flat_core.proofs.PairLaws.{unused-token, used-token, unused-came, used-came}
+use Rattle.flat_core.proofs.PairLaws.{unused-token}
 use Rattle.flat_core.proofs.ShownSteps.{closed-before}
 use Rattle.flat_core.proofs.StampSteps.{stamp-of, own-stamp}
 use Rattle.flat_core.proofs.Stamped.{often-lasts, stamp-other, stamped, IsLasting}
-use Rattle.flat_core.proofs.TokenLaw.{counted, balanced, few-released, released, uses, seen-then, IsCounted}
-use Rattle.flat_core.proofs.TokensBack.{no-token, came}
+use Rattle.flat_core.proofs.TokenLaw.{counted, seen-then}
+use Rattle.flat_core.proofs.TokensBack.{no-token}
 use Rattle.flat_core.proofs.Uses.{uses-other}
 use Rattle.flat_core.proofs.ViewCalls.{times-append}
 use Rattle.flat_core.proofs.ViewHistory.{viewing-of}

@@ -1,12 +1,9 @@
 -- A new use of a viewport end, and the tokens that the end of a frame brings back.
-use Rattle.std.proofs.Common.{◌≡◌, ◌≢◌, ◌∙◌, sym, subst, ℕ, zero, suc, ◌+◌, ◌-◌, ◌≤◌, ◌<◌, Bool, true, false, cond, List, [], ◌∷◌, ◌++◌, length, map, filter, refl, arith, ap, Some, None, Ok, add-zero, inl, inr, ◌⊎◌}
-use Rattle.std.specs.Prelude.{Result, not, ◌&&◌, ◌||◌, ◌==◌, nat_lt, nat_le, Option, is_some, flat_map, replicate, slice_get, option_map, unwrap_or}
-use Rattle.std.specs.List.{list_any, list_all}
-use Rattle.std.proofs.lemmas.Bool.Decides.{nat_tests, eqb_tells}
-use Rattle.std.proofs.lemmas.List.{append-nil, map-append}
+use Rattle.std.proofs.Common.{◌≡◌, ◌≢◌, ◌∙◌, sym, subst, ℕ, zero, suc, ◌+◌, ◌-◌, ◌≤◌, Bool, true, false, cond, List, [], ◌∷◌, length, map, filter, refl, arith, ap, Some, None, add-zero, inl, inr, ◌⊎◌}
+use Rattle.std.specs.Prelude.{not, ◌&&◌, ◌==◌, nat_lt, Option, flat_map, replicate, slice_get, option_map, unwrap_or}
+use Rattle.std.proofs.lemmas.Bool.Decides.{nat_tests}
 use Rattle.flat_base.specs.declared.ids.PairNo.{PairNo}
 use Rattle.flat_base.specs.declared.ids.SessionNo.{SessionNo}
-use Rattle.flat_scene.specs.declared.calls.Call.{Call}
 use Rattle.flat_scene.specs.declared.calls.ViewportProps.{ViewportProps}
 use Rattle.flat_scene.specs.declared.journal.Entry.{Entry}
 use Rattle.flat_scene.specs.declared.journal.Event.{Event}
@@ -14,7 +11,7 @@ use Rattle.flat_scene.specs.declared.journal.Event.TheVariants as event
 use Rattle.flat_scene.specs.declared.setup.PairDecl.{PairDecl}
 use Rattle.flat_scene.specs.declared.setup.Setup.{Setup}
 use Rattle.flat_scene.specs.Frames.{taken}
-use Rattle.flat_scene.specs.History.{◌▹◌, own, calls, closes, is_closed, is_finish, is_session, presents}
+use Rattle.flat_scene.specs.History.{◌▹◌, own, calls, is_closed, is_finish, is_session, presents}
 use Rattle.flat_scene.specs.Setups.{is_declared}
 use Rattle.flat_core.specs.declared.live.Live.{Live}
 use Rattle.flat_core.specs.declared.live.OutToken.{OutToken}
@@ -26,13 +23,12 @@ use Rattle.flat_core.specs.Stamps.{first_at, is_seen, happens_often}
 use Rattle.flat_core.specs.Viewports.{released_at, out_of, outs_of, AreViewports, marked, with_out, is_back, back_events, still_out}
 use Rattle.flat_core.proofs.Earlier.{taken-begin}
 use Rattle.flat_core.proofs.EventsLocal.{flat-same, viewports-owned}
-use Rattle.flat_core.proofs.HasView.{any-found}
-use Rattle.flat_core.proofs.PairLaws.{unused-token, used-token, unused-came, used-came, fresh-stamp, made-lives}
+use Rattle.flat_core.proofs.PairLaws.{used-token, unused-came, used-came, fresh-stamp, made-lives}
 use Rattle.flat_core.proofs.ShownSteps.{closed-before}
 use Rattle.flat_core.proofs.StampSteps.{stamp-of}
 use Rattle.flat_core.proofs.Stamped.{often-lasts, stamp-other, IsLasting}
 use Rattle.flat_core.proofs.TokensBack.{came}
-use Rattle.flat_core.proofs.ViewportSteps.{flat-mapped, flat-filtered, still-token, out-used, own-out, lives-own}
+use Rattle.flat_core.proofs.ViewportSteps.{flat-mapped, flat-filtered, out-used, own-out, lives-own}
 
 -- ---- one token more, in its place
 

@@ -50,13 +50,7 @@ fn stamp_then(stamp: Option<u32>, does_it: bool, presents: u32) -> Option<u32>
 {
     match stamp {
         Some(set) => Some(set),
-        None => {
-            if does_it {
-                Some(presents)
-            } else {
-                None
-            }
-        }
+        None => { if does_it { Some(presents) } else { None } }
     }
 }
 

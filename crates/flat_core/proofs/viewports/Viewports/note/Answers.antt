@@ -1,7 +1,6 @@
-use Rattle.std.proofs.Common.{◌≡◌, ◌∙◌, sym, ap, drop, ◌+◌, [], ◌∷◌, false, map, List}
+use Rattle.std.proofs.Common.{◌≡◌, ◌∙◌, sym, ap, drop, ◌+◌, [], ◌∷◌, map, List}
 use Rattle.std.specs.List.{list_any}
 use Rattle.flat_scene.specs.declared.calls.Call.{Call}
-use Rattle.flat_core.specs.Lives.{lives_after}
 use Rattle.flat_core.specs.Seen.{is_new_viewport}
 use Rattle.flat_core.specs.Viewports.{marked}
 use Rattle.flat_core.proofs.Marks.{drop-is, drop-end, left-next, marked-none}
