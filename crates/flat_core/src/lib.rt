@@ -16,6 +16,7 @@ mod polls;
 mod state;
 #[cfg(test)]
 mod tests;
+mod told;
 mod viewports;
 mod views;
 
