@@ -69,6 +69,7 @@ pub mod Uses
 pub mod ViewCalls
 pub mod ViewHistory
 pub mod ViewLaw
+pub mod ViewMarks
 pub mod ViewSteps
 pub mod ViewportSteps
 pub mod ViewportUses

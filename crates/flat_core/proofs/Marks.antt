@@ -17,7 +17,7 @@ use Rattle.flat_core.specs.Viewports.{marked, marked_by}
 abbrev with_stamp : OutToken → Option ℕ → OutToken
 with_stamp out stamp = record out { released = stamp }
 
-stamp-none : (stamp : Option ℕ) (k : ℕ) → stamp_then stamp false k ≡ stamp
+pub stamp-none : (stamp : Option ℕ) (k : ℕ) → stamp_then stamp false k ≡ stamp
 stamp-none None k = refl
 stamp-none (Some n) k = refl
 
@@ -26,7 +26,7 @@ pub unmarked : (k : ℕ) (outs : List OutToken) → map (λ (out : OutToken). le
 unmarked k [] = refl
 unmarked k (out ∷ outs) = rw (ap (with_stamp out) (stamp-none out.released k), unmarked k outs) refl
 
-once : (b : Bool) → nat_lt 0 (number_if b + 0) ≡ b
+pub once : (b : Bool) → nat_lt 0 (number_if b + 0) ≡ b
 once true = refl
 once false = refl
 
@@ -37,7 +37,7 @@ marked-release lives c k (out ∷ outs) =
     let one : marked_by (pair_named lives c.0) k out ≡ marked lives (ReleaseViewport c ∷ []) k out = ap (λ b. with_stamp out (stamp_then out.released b k)) (sym (once (is_pair (pair_named lives c.0) out.pair))) in
     rw (one, marked-release lives c k outs) refl
 
-stamp-more : (stamp : Option ℕ) (b : Bool) (n k : ℕ) → stamp_then (stamp_then stamp (nat_lt 0 (number_if b + 0)) k) (nat_lt 0 n) k ≡ stamp_then stamp (nat_lt 0 (number_if b + n)) k
+pub stamp-more : (stamp : Option ℕ) (b : Bool) (n k : ℕ) → stamp_then (stamp_then stamp (nat_lt 0 (number_if b + 0)) k) (nat_lt 0 n) k ≡ stamp_then stamp (nat_lt 0 (number_if b + n)) k
 stamp-more (Some m) b n k = refl
 stamp-more None true n k = let some : nat_lt 0 (1 + n) ≡ true = grind (arith, nat_tests) in rw some refl
 stamp-more None false n k = let same : 0 + n ≡ n = omega arith in rw same refl

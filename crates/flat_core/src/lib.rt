@@ -12,6 +12,7 @@ mod ends;
 mod laws;
 mod live;
 mod log;
+mod pairs;
 mod polls;
 mod state;
 #[cfg(test)]

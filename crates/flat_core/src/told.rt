@@ -1,5 +1,5 @@
 ghost use Rattle.std.specs.Prelude.{◌≡◌};
-ghost use Rattle.flat_core.specs.Stamps.{is_seen};
+ghost use Rattle.flat_core.specs.Stamps.{is_seen, stamp_then};
 ghost use Rattle.flat_core.specs.Serials.{props_at_serial};
 ghost use Rattle.flat_core.specs.Views.{layout_by, status_by, child_by};
 ghost use Rattle.flat_core.specs.Watch.{layout_in};
@@ -14,6 +14,16 @@ pub fn is_seen(stamp: Option<u32>, taken: u32) -> bool
     match stamp {
         Some(stamp) => stamp < taken,
         None => false,
+    }
+}
+
+/// A stamp after an entry: it is set where the entry does it, and it wasn't set.
+pub fn stamp_then(stamp: Option<u32>, does_it: bool, presents: u32) -> Option<u32>
+    ensures { result ≡ stamp_then stamp does_it presents }
+{
+    match stamp {
+        Some(set) => Some(set),
+        None => { if does_it { Some(presents) } else { None } }
     }
 }
 

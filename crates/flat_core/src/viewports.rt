@@ -2,12 +2,12 @@ ghost use Rattle.std.specs.Prelude.{◌≡◌, ◌+◌, ◌<◌, ◌≤◌, ◌=
 ghost use Rattle.std.specs.List.{list_any};
 ghost use Rattle.flat_core.specs.Lives.{lives_then, lives_after, pair_named};
 ghost use Rattle.flat_core.specs.Seen.{is_new_viewport};
-ghost use Rattle.flat_core.specs.Stamps.{stamp_then, is_seen};
 ghost use Rattle.flat_core.specs.Begins.{post_of};
 ghost use Rattle.flat_core.specs.Viewports.{marked, marked_by, with_out, place_of, is_back, back_events, still_out};
 
 use crate::live::{Live, OutToken};
 use crate::log::Log;
+use crate::told::{is_seen, stamp_then};
 use flat_base::{ContentId, NoMemory, PairNo, SessionNo};
 use flat_scene::{Call, Event, Post};
 use std::alloc::Global;
@@ -17,10 +17,7 @@ impl OutToken {
     pub fn is_back(&self, taken: u32) -> bool
         ensures { result ≡ is_back taken self.now }
     {
-        match self.released {
-            Some(stamp) => stamp < taken,
-            None => false,
-        }
+        is_seen(self.released, taken)
     }
 }
 
@@ -42,16 +39,6 @@ pub fn drop_named(live: &mut Vec<Live>, name: ContentId)
     ensures room { vec_capacity live.new ≡ vec_capacity live.old }
 {
     live.retain(|one| one.name.0 != name.0);
-}
-
-/// A stamp after an entry: it is set where the entry does it, and it wasn't set.
-fn stamp_then(stamp: Option<u32>, does_it: bool, presents: u32) -> Option<u32>
-    ensures { result ≡ stamp_then stamp does_it presents }
-{
-    match stamp {
-        Some(set) => Some(set),
-        None => { if does_it { Some(presents) } else { None } }
-    }
 }
 
 /// The token of a pair, where it is out, is marked as that of a viewport released
