@@ -69,6 +69,20 @@ pub viewed : (setup : Setup) (d : Draft) (calls : List Call) (d' : Draft) → af
 viewed setup d [] d' good = let same : d ≡ d' = cc in record { view = ap (λ (x : Draft). x.view) (sym same); ends = λ p. refl }
 viewed setup d (call ∷ calls) d' good = viewed-more setup d call calls d' (misuse setup d call) refl (λ rest. viewed setup (effect d call) calls d' rest) good
 
+view-append : (view : Option PairNo) (xs ys : List Call) → view_after view (xs ++ ys) ≡ view_after (view_after view xs) ys
+view-append view [] ys = refl
+view-append view (x ∷ xs) ys = view-append (view_then view x) xs ys
+
+-- the view that a session's calls leave it, and that of its draft
+pub view-own : (s : SessionNo) (h : List Entry) (e : Entry) → is_session s e.actor ≡ true → view_after None (calls s (h ▹ e)) ≡ view_after (view_after None (calls s h)) e.calls
+view-own s h e mine = rw mine (view-append None (calls s h) e.calls)
+
+pub view-other : (s : SessionNo) (h : List Entry) (e : Entry) → is_session s e.actor ≡ false → view_after None (calls s (h ▹ e)) ≡ view_after None (calls s h)
+view-other s h e other = rw other refl
+
+pub view-drafted : (setup : Setup) (cs : List Call) (d : Draft) → draft_of setup cs ≡ Ok d → d.view ≡ view_after None cs
+view-drafted setup cs d good = (viewed setup empty_draft cs d good).view
+
 -- ---- what an entry does to the stamps of an end
 
 module _ (setup : Setup) (s : SessionNo) (h : List Entry) (e : Entry) (legal : Legal setup (h ▹ e)) (mine : is_session s e.actor ≡ true) where

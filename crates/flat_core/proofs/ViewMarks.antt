@@ -1,13 +1,12 @@
 -- The stamps of views, call by call.
-use Rattle.std.proofs.Common.{◌≡◌, ◌≢◌, ◌∙◌, sym, ℕ, ◌+◌, ◌<◌, Bool, true, false, List, [], ◌∷◌, length, refl, arith, ap, Some, None, slice_set, slice_index_or, inl, inr, ◌⊎◌}
-use Rattle.std.specs.Prelude.{nat_lt, Option, cond, ◌==◌}
+use Rattle.std.proofs.Common.{◌≡◌, ◌≢◌, ◌∙◌, sym, ℕ, ◌<◌, Bool, true, false, List, [], ◌∷◌, length, refl, arith, ap, Some, None, slice_set, slice_index_or, inl, inr, ◌⊎◌}
+use Rattle.std.specs.Prelude.{Option, ◌==◌}
 use Rattle.std.proofs.lemmas.Bool.Decides.{nat_tests, eqb_tells}
 use Rattle.std.proofs.lemmas.List.{get_or-set_other, get_or-set_same, get_or_default, length-set}
 use Rattle.flat_base.specs.declared.ids.PairNo.{PairNo}
 use Rattle.flat_scene.specs.declared.calls.Call.{Call}
 use Rattle.flat_scene.specs.declared.calls.Call.TheVariants.{ReleaseView, Clear}
 use Rattle.flat_core.specs.declared.pairs.PairState.{PairState}
-use Rattle.flat_core.specs.Legal.{number_if}
 use Rattle.flat_core.specs.Shown.{is_pair}
 use Rattle.flat_core.specs.Stamps.{stamp_then}
 use Rattle.flat_core.specs.Views.{view_then, ends_it, ends_of, ended_by, EndsViews, EndsOne}

@@ -2,7 +2,6 @@ use Rattle.std.proofs.Common.{◌≡◌, ◌∙◌, sym, ap, drop, ◌+◌, [], 
 use Rattle.std.specs.Prelude.{Option}
 use Rattle.flat_base.specs.declared.ids.PairNo.{PairNo}
 use Rattle.flat_scene.specs.declared.calls.Call.{Call}
-use Rattle.flat_core.specs.declared.pairs.PairState.{PairState}
 use Rattle.flat_core.specs.Views.{view_then, view_after, EndsViews}
 use Rattle.flat_core.proofs.Marks.{drop-is, drop-end}
 use Rattle.flat_core.proofs.ViewMarks.{ends-more, ends-none}
