@@ -260,7 +260,7 @@ module _ (setup : Setup) (s : SessionNo) where
 
 -- ---- the states of all sessions
 
-length-sessions : {A : Type 0} (f : SessionNo → A) (n : ℕ) → length (map f (sessions_to n)) ≡ n
+pub length-sessions : {A : Type 0} (f : SessionNo → A) (n : ℕ) → length (map f (sessions_to n)) ≡ n
 length-sessions f zero = refl
 length-sessions f (suc n) = ap (length {A = _}) (map-append f (sessions_to n) ((record { 0 = suc n }) ∷ [])) ∙ length-append (map f (sessions_to n)) (f (record { 0 = suc n }) ∷ []) ∙ ap (λ m. m + 1) (length-sessions f n) ∙ omega arith
 
