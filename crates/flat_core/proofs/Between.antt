@@ -1,7 +1,7 @@
 -- What entries between frames post: credits at a begin, and what a viewport's join tells the view's owner. Others post nothing.
 use Rattle.std.proofs.Common.{◌≡◌, ◌∙◌, sym, subst, ℕ, zero, suc, ◌+◌, ◌≢◌, Bool, true, false, List, [], ◌∷◌, ◌++◌, length, refl, arith, ap, Option, Some, None, add-zero}
-use Rattle.std.specs.Prelude.{cond, not, ◌&&◌, ◌==◌, nat_lt, flat_map, map, option_map, unwrap_or, slice_get}
-use Rattle.std.proofs.lemmas.Bool.Decides.{nat_tests, eqb_tells}
+use Rattle.std.specs.Prelude.{cond, ◌&&◌, ◌==◌, nat_lt, flat_map, map, option_map, unwrap_or, slice_get}
+use Rattle.std.proofs.lemmas.Bool.Decides.{nat_tests}
 use Rattle.std.proofs.lemmas.List.{append-nil}
 use Rattle.flat_base.specs.declared.ids.PairNo.{PairNo}
 use Rattle.flat_base.specs.declared.ids.SessionNo.{SessionNo}
@@ -15,11 +15,11 @@ use Rattle.flat_scene.specs.declared.journal.Reply.TheVariants.{Done}
 use Rattle.flat_scene.specs.declared.setup.PairDecl.{PairDecl}
 use Rattle.flat_scene.specs.declared.setup.Setup.{Setup}
 use Rattle.flat_scene.specs.Frames.{sessions_to}
-use Rattle.flat_scene.specs.History.{◌▹◌, own, is_session, is_begin, is_finish, is_closed, closes}
+use Rattle.flat_scene.specs.History.{◌▹◌, own, is_session, is_begin, is_finish, is_closed}
 use Rattle.flat_core.specs.Ends.{view_uses, uses_view, uses_viewport, is_done, pairs_where, views_of}
-use Rattle.flat_core.specs.Legal.{Legal, LegalEntry, reply_to, refused_token, owns_view}
+use Rattle.flat_core.specs.Legal.{Legal, reply_to, refused_token, owns_view}
 use Rattle.flat_core.specs.Posts.{told_event, news_for, events_to, at_begin, posted, Sent}
-use Rattle.flat_core.specs.Watch.{Watcher, layout_of, status_of, watching}
+use Rattle.flat_core.specs.Watch.{layout_of, status_of}
 use Rattle.flat_core.proofs.NoNews.{flat_map-none}
 use Rattle.flat_core.proofs.ShownSteps.{closed-before}
 use Rattle.flat_core.proofs.Still.{IsStill, IsSilent, still-silent, told-unheld, told-nothing, told-same, news-silent, news-between}

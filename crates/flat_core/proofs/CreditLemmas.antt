@@ -1,6 +1,6 @@
 -- Credits and waiting presents.
-use Rattle.std.proofs.Common.{◌≡◌, ◌∙◌, sym, subst, ℕ, ◌+◌, ◌-◌, ◌<◌, ◌≤◌, Bool, true, false, cond, List, [], ◌∷◌, ◌++◌, length, drop, refl, ap, arith, inl, inr, ◌⊎◌, length-append}
-use Rattle.std.specs.Prelude.{◌==◌, nat_lt, zero, suc}
+use Rattle.std.proofs.Common.{◌≡◌, subst, ℕ, ◌+◌, ◌-◌, ◌<◌, ◌≤◌, Bool, true, false, cond, List, [], ◌++◌, length, drop, refl, ap, arith, inl, inr, ◌⊎◌, length-append}
+use Rattle.std.specs.Prelude.{◌==◌, nat_lt}
 use Rattle.std.proofs.lemmas.Grind.{common_steps}
 use Rattle.std.proofs.lemmas.List.{length-drop}
 use Rattle.flat_base.specs.declared.ids.Actor.{Actor}
@@ -12,9 +12,9 @@ use Rattle.flat_scene.specs.declared.journal.Entry.{Entry}
 use Rattle.flat_scene.specs.declared.journal.Kind.{Kind}
 use Rattle.flat_scene.specs.declared.journal.Kind.TheVariants as kind
 use Rattle.flat_scene.specs.declared.journal.Reply.{Reply}
-use Rattle.flat_scene.specs.declared.journal.Reply.TheVariants.{Presented, Closed}
+use Rattle.flat_scene.specs.declared.journal.Reply.TheVariants.{Presented}
 use Rattle.flat_scene.specs.declared.setup.Setup.{Setup}
-use Rattle.flat_scene.specs.Frames.{is_signalled, takes, taken, waiting, credits, most_waiting}
+use Rattle.flat_scene.specs.Frames.{is_signalled, takes, taken, credits}
 use Rattle.flat_scene.specs.History.{◌▹◌, is_session, is_closed, presents, published, calls, Published}
 use Rattle.flat_scene.proofs.Steps.{presents-own, presents-other}
 use Rattle.flat_scene.proofs.TakingLemmas.{taken-made}

@@ -1,6 +1,6 @@
 -- Earlier histories: what stood then of a session, and what frames had taken.
-use Rattle.std.proofs.Common.{◌≡◌, ◌∙◌, sym, ℕ, ◌+◌, ◌-◌, ◌≤◌, ◌<◌, Bool, true, false, List, [], ◌∷◌, ◌++◌, length, refl, arith, ap, drop, Some, None, Ok, length-append, inl, inr, ◌⊎◌}
-use Rattle.std.specs.Prelude.{cond, not, ◌&&◌, nat_lt, nat_le, Option, is_some, unwrap_or, option_map}
+use Rattle.std.proofs.Common.{◌≡◌, ◌∙◌, sym, ℕ, ◌≤◌, Bool, true, false, List, [], ◌∷◌, ◌++◌, length, refl, arith, ap, drop, Some, None, Ok}
+use Rattle.std.specs.Prelude.{cond, not, nat_lt, nat_le, Option, is_some}
 use Rattle.std.proofs.lemmas.Bool.Decides.{nat_tests}
 use Rattle.std.proofs.lemmas.List.{append-nil, append_assoc}
 use Rattle.flat_base.specs.declared.ids.SessionNo.{SessionNo}

@@ -1,5 +1,5 @@
 -- A history is legal where all tests on its entries hold and each entry has its reply.
-use Rattle.std.proofs.Common.{◌≡◌, Bool, true, false, refl, List, []}
+use Rattle.std.proofs.Common.{◌≡◌, Bool, true, List, []}
 use Rattle.std.specs.Prelude.{◌&&◌, ◌-◌, length, slice_get}
 use Rattle.flat_base.specs.declared.ids.Actor.{Actor}
 use Rattle.flat_scene.specs.declared.calls.Call.{Call}

@@ -1,3 +1,4 @@
+pub mod Backs
 pub mod BeginLoop
 pub mod BeginSteps
 pub mod Begun
@@ -11,6 +12,7 @@ pub mod Earlier
 pub mod EventsLocal
 pub mod FamilyHistory
 pub mod FamilyTheorem
+pub mod FinishEvents
 pub mod FramesLocal
 pub mod HasView
 pub mod JoinedLocal
@@ -22,6 +24,7 @@ pub mod Lives
 pub mod Locality
 pub mod LowDrafts
 pub mod LowTrees
+pub mod Marks
 pub mod MoreRuns
 pub mod Neighbour
 pub mod NoAnswers
@@ -32,6 +35,7 @@ pub mod Opened
 pub mod Owned
 pub mod OwnedTree
 pub mod PairLaws
+pub mod PairTold
 pub mod PollSteps
 pub mod Polled
 pub mod PresentSteps
@@ -65,7 +69,10 @@ pub mod Uses
 pub mod ViewCalls
 pub mod ViewHistory
 pub mod ViewLaw
+pub mod ViewMarks
 pub mod ViewSteps
+pub mod ViewportSteps
+pub mod ViewportUses
 pub mod WatchLocal
 pub mod Watchers
 pub mod WatchersLocal

@@ -1,27 +1,22 @@
 -- What a call that is no misuse does to the live viewports of a draft.
-use Rattle.std.proofs.Common.{◌≡◌, ◌∙◌, sym, subst, ℕ, suc, ◌+◌, ◌-◌, ◌≤◌, Bool, true, false, List, [], ◌∷◌, ◌++◌, length, refl, arith, ap, Some, None, Ok, Err, length-append}
-use Rattle.std.specs.Prelude.{cond, not, ◌&&◌, ◌||◌, ◌==◌, nat_le, filter, Option, Result, is_some, is_none, option_map, option_and_then, unwrap_or}
-use Rattle.std.specs.List.{list_any, list_all}
+use Rattle.std.proofs.Common.{◌≡◌, ◌∙◌, sym, subst, ℕ, ◌+◌, ◌-◌, ◌≤◌, Bool, true, false, List, [], ◌∷◌, ◌++◌, length, refl, arith, ap, Some, None, length-append}
+use Rattle.std.specs.Prelude.{cond, not, ◌==◌, nat_le, filter, Option, is_some, is_none, option_and_then}
 use Rattle.std.proofs.lemmas.Bool.Decides.{nat_tests}
 use Rattle.std.proofs.lemmas.List.{append-nil}
 use Rattle.std.proofs.lemmas.List.Folds.{list_all-append}
 use Rattle.flat_base.specs.declared.errors.Reason.{Reason}
 use Rattle.flat_base.specs.declared.errors.Reason.TheVariants.{ZeroId, IdInUse, UnknownContent, WrongContent}
 use Rattle.flat_base.specs.declared.ids.ContentId.{ContentId}
-use Rattle.flat_base.specs.declared.ids.PairNo.{PairNo}
 use Rattle.flat_scene.specs.declared.calls.Call.{Call}
-use Rattle.flat_scene.specs.declared.calls.Call.TheVariants.{CreateView, ReleaseView, CreateViewport, SetViewportProperties, ReleaseViewport, CreateImage, SetImageSampleRegion, SetImageDestinationSize, SetImageBlendingFunction, SetImageFlip, SetImageOpacity, ReleaseImage, CreateFilledRect, SetSolidFill, ReleaseFilledRect, Clear}
+use Rattle.flat_scene.specs.declared.calls.Call.TheVariants.{CreateViewport, SetViewportProperties, ReleaseViewport, CreateImage, SetImageSampleRegion, SetImageDestinationSize, SetImageBlendingFunction, SetImageFlip, SetImageOpacity, ReleaseImage, CreateFilledRect, SetSolidFill, ReleaseFilledRect, Clear}
 use Rattle.flat_scene.specs.declared.setup.Setup.{Setup}
-use Rattle.flat_scene.specs.Draft.{Draft, Made, an_image, a_fill, a_viewport, Name, named, without_name, of_serial, content_of, made_of, changed_at, empty_draft}
-use Rattle.flat_scene.specs.Effect.{effect, after_call, after_calls, unless, changed_if, on_image, on_viewport, on_fill, is_serial, draft_of, new_image}
-use Rattle.flat_scene.specs.Misuse.{misuse, first_reason, tests, Test, is_image, is_viewport, is_fill}
+use Rattle.flat_scene.specs.Draft.{Draft, Made, an_image, a_fill, a_viewport, Name, named, without_name, of_serial, content_of, made_of, changed_at}
+use Rattle.flat_scene.specs.Effect.{effect, changed_if, on_image, on_viewport, on_fill, is_serial, new_image}
+use Rattle.flat_scene.specs.Misuse.{misuse, is_image, is_fill}
 use Rattle.flat_core.specs.declared.live.Live.{Live}
-use Rattle.flat_core.specs.Ends.{times, count_if, is_made_of, is_viewport_of, releases_viewport, clears_viewport}
-use Rattle.flat_core.specs.Legal.{number_if}
-use Rattle.flat_core.specs.Lives.{lives_then, lives_after, pair_named, held_of, releases_live, clears_live, count_of, makes_one, made_of_pair}
-use Rattle.flat_core.specs.Shown.{is_pair}
-use Rattle.flat_core.proofs.Lives.{pair_made, pair_at, live_at, serial_at, lives_by, serials_by, is_apart, are_apart, are_within, lives_of, IsTidy, tidy-empty, lives-same, serials-same, within-more, lives-append, serials-append, changed-pair, changed-length, image-pair, viewport-pair, fill-pair, none-named, pair-named, lives-without, lives-unnamed, serials-without, serials-unnamed, all-fewer, apart-fewer, apart-more, is-not}
-use Rattle.flat_core.proofs.ShownSteps.{serial-append, serial-get}
+use Rattle.flat_core.specs.Lives.{lives_then}
+use Rattle.flat_core.proofs.Lives.{pair_made, pair_at, live_at, serial_at, lives_by, serials_by, are_apart, are_within, lives_of, IsTidy, lives-same, serials-same, within-more, lives-append, serials-append, changed-pair, changed-length, image-pair, viewport-pair, fill-pair, none-named, lives-without, lives-unnamed, serials-without, serials-unnamed, all-fewer, apart-fewer, apart-more}
+use Rattle.flat_core.proofs.ShownSteps.{serial-append}
 
 -- ---- what the tests of a call say
 

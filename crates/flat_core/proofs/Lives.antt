@@ -1,26 +1,16 @@
 -- The live viewports of a draft are those of its names that name viewports.
-use Rattle.std.proofs.Common.{◌≡◌, ◌∙◌, sym, subst, ℕ, zero, suc, ◌+◌, ◌-◌, ◌≤◌, Bool, true, false, List, [], ◌∷◌, ◌++◌, length, refl, arith, ap, Some, None, Ok, Err, length-append}
-use Rattle.std.specs.Prelude.{cond, not, ◌&&◌, ◌||◌, ◌==◌, nat_le, filter, Option, Result, is_some, is_none, option_map, option_and_then, unwrap_or}
-use Rattle.std.specs.List.{list_any, list_all}
+use Rattle.std.proofs.Common.{◌≡◌, ◌∙◌, sym, subst, ℕ, ◌+◌, ◌-◌, ◌≤◌, Bool, true, false, List, [], ◌∷◌, ◌++◌, length, refl, arith, ap, Some, None}
+use Rattle.std.specs.Prelude.{cond, not, ◌&&◌, ◌==◌, nat_le, filter, Option, option_and_then}
+use Rattle.std.specs.List.{list_all}
 use Rattle.std.proofs.lemmas.Bool.Decides.{nat_tests}
-use Rattle.std.proofs.lemmas.List.{append-nil, append_assoc}
+use Rattle.std.proofs.lemmas.List.{append_assoc}
 use Rattle.std.proofs.lemmas.List.Folds.{list_all-append}
-use Rattle.flat_base.specs.declared.errors.Reason.{Reason}
-use Rattle.flat_base.specs.declared.ids.ContentId.{ContentId}
 use Rattle.flat_base.specs.declared.ids.PairNo.{PairNo}
-use Rattle.flat_scene.specs.declared.calls.Call.{Call}
-use Rattle.flat_scene.specs.declared.calls.Call.TheVariants.{CreateViewport, SetViewportProperties, ReleaseViewport, CreateImage, SetImageSampleRegion, SetImageDestinationSize, SetImageBlendingFunction, SetImageFlip, SetImageOpacity, ReleaseImage, CreateFilledRect, SetSolidFill, ReleaseFilledRect, Clear}
-use Rattle.flat_scene.specs.declared.setup.Setup.{Setup}
-use Rattle.flat_scene.specs.Draft.{Draft, Made, an_image, a_fill, a_viewport, Name, named, without_name, of_serial, content_of, made_of, changed_at, empty_draft}
-use Rattle.flat_scene.specs.Effect.{effect, after_call, after_calls, unless, changed_if, on_image, on_viewport, on_fill, is_serial}
-use Rattle.flat_scene.specs.Misuse.{misuse, first_reason, tests, is_image, is_viewport, is_fill}
+use Rattle.flat_scene.specs.Draft.{Draft, Made, an_image, a_fill, a_viewport, Name, named, without_name, of_serial, changed_at, empty_draft}
+use Rattle.flat_scene.specs.Effect.{on_image, on_viewport, on_fill, is_serial}
 use Rattle.flat_scene.proofs.Together.{and-left, and-right}
 use Rattle.flat_core.specs.declared.live.Live.{Live}
-use Rattle.flat_core.specs.Ends.{times, count_if, is_made_of, is_viewport_of, releases_viewport, clears_viewport}
-use Rattle.flat_core.specs.Legal.{number_if}
-use Rattle.flat_core.specs.Lives.{lives_then, lives_after, pair_named, held_of, releases_live, clears_live, count_of, makes_one, made_of_pair}
-use Rattle.flat_core.specs.Shown.{is_pair}
-use Rattle.flat_core.proofs.ShownSteps.{serial-append}
+use Rattle.flat_core.specs.Lives.{pair_named}
 
 -- ---- names and what they name
 

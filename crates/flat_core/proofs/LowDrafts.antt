@@ -1,19 +1,15 @@
 -- No transform and no image of a draft has too great an opacity.
-use Rattle.std.proofs.Common.{◌≡◌, ◌≢◌, ℕ, zero, suc, ◌+◌, ◌-◌, ◌<◌, ◌≤◌, Bool, true, false, cond, ◌&&◌, ◌||◌, ◌==◌, not, nat_lt, nat_le, max, List, [], ◌∷◌, ◌++◌, length, filter, map, refl, sym, ap, ◌∙◌, subst, arith, append-nil, append_assoc, Option, Some, None, Ok, Err, Result, slice_get, is_some, is_none, IsTrue}
+use Rattle.std.proofs.Common.{◌≡◌, ℕ, ◌-◌, Bool, true, false, cond, ◌&&◌, ◌==◌, nat_lt, nat_le, List, [], ◌∷◌, ◌++◌, map, refl, sym, ap, ◌∙◌, subst, arith, Option, Some, None, Ok, Err}
 use Rattle.std.specs.List.{list_all}
-use Rattle.std.specs.Option.{option_map, option_and_then, unwrap_or}
-use Rattle.std.specs.Prelude.{option_to_list}
-use Rattle.std.specs.Result.{result_ok}
 use Rattle.std.proofs.lemmas.Bool.Decides.{nat_tests}
-use Rattle.flat_base.specs.declared.ids.PairNo.{PairNo}
 use Rattle.flat_base.specs.declared.errors.Reason.{Reason}
-use Rattle.flat_base.specs.declared.limits.TheConstants.{OPACITY_MAX, TREE_NODES_MAX, PATH_NODES_MAX}
+use Rattle.flat_base.specs.declared.limits.TheConstants.{OPACITY_MAX}
 use Rattle.flat_scene.specs.declared.calls.Call.{Call}
 use Rattle.flat_scene.specs.declared.calls.Call.TheVariants.{CreateView, ReleaseView, CreateTransform, ReleaseTransform, SetTranslation, SetOrientation, SetScale, SetOpacity, SetClipBoundary, AddChild, RemoveChild, SetRootTransform, CreateViewport, SetViewportProperties, ReleaseViewport, CreateImage, SetImageSampleRegion, SetImageDestinationSize, SetImageBlendingFunction, SetImageFlip, SetImageOpacity, ReleaseImage, CreateFilledRect, SetSolidFill, ReleaseFilledRect, SetHitRegions, SetInfiniteHitRegion, SetContent, Clear}
 use Rattle.flat_scene.specs.declared.setup.Setup.{Setup}
-use Rattle.flat_scene.specs.Draft.{Draft, Transform, Image, Solid, Made, an_image, a_fill, a_viewport, changed_at, empty_draft, of_serial, transform_of, content_of, new_transform}
+use Rattle.flat_scene.specs.Draft.{Draft, Transform, Image, Solid, Made, an_image, a_fill, a_viewport, changed_at, empty_draft, transform_of, content_of, new_transform}
 use Rattle.flat_scene.specs.declared.calls.ViewportProps.{ViewportProps}
-use Rattle.flat_scene.specs.Effect.{effect, on_image, on_viewport, on_fill, draft_of, after_calls, after_call, unless, changed_if, held_but, is_serial}
+use Rattle.flat_scene.specs.Effect.{effect, on_image, on_viewport, on_fill, draft_of, after_calls, unless, changed_if}
 use Rattle.flat_scene.specs.Misuse.{misuse, first_reason, Test, names_transform, names_content, is_image}
 use Rattle.flat_scene.proofs.Together.{and-left as and_left, and-right as and_right}
 use Rattle.flat_core.proofs.ViewCalls.{after-refused as after_error}

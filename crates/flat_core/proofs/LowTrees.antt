@@ -1,5 +1,5 @@
 -- The tree of a draft shows nothing of too great an opacity, and isn't too large where it may be presented.
-use Rattle.std.proofs.Common.{◌≡◌, ℕ, zero, suc, ◌+◌, ◌-◌, ◌<◌, ◌≤◌, Bool, true, false, cond, ◌&&◌, ◌==◌, nat_lt, nat_le, max, List, [], ◌∷◌, ◌++◌, length, filter_map, refl, sym, ap, ◌∙◌, subst, arith, Option, Some, None, slice_get}
+use Rattle.std.proofs.Common.{◌≡◌, ℕ, zero, suc, ◌-◌, ◌≤◌, Bool, true, false, cond, ◌==◌, nat_lt, nat_le, List, [], ◌∷◌, filter_map, refl, sym, ap, ◌∙◌, subst, arith, Option, Some, None}
 use Rattle.std.specs.List.{list_all}
 use Rattle.std.specs.Option.{option_map, option_and_then}
 use Rattle.std.specs.Prelude.{option_to_list}
@@ -7,7 +7,6 @@ use Rattle.std.proofs.lemmas.Bool.Decides.{nat_tests}
 use Rattle.flat_base.specs.declared.errors.Reason.{Reason}
 use Rattle.flat_base.specs.declared.limits.TheConstants.{OPACITY_MAX, TREE_NODES_MAX, PATH_NODES_MAX}
 use Rattle.flat_base.specs.declared.ids.PairNo.{PairNo}
-use Rattle.flat_scene.specs.declared.setup.Setup.{Setup}
 use Rattle.flat_scene.specs.declared.trees.Children.{Children}
 use Rattle.flat_scene.specs.declared.trees.Children.TheVariants.{Empty}
 use Rattle.flat_scene.specs.declared.trees.Content.{Content}
@@ -19,7 +18,7 @@ use Rattle.flat_scene.specs.Misuse.{first_reason}
 use Rattle.flat_scene.specs.Tree.{shown_content, content_held, node, each, node_within, all_nodes, is_too_large, tree_tests, tree, head_of, use_of}
 use Rattle.flat_scene.specs.Trees.{more, node_count}
 use Rattle.flat_topology.specs.Fit.{image_opacity, greatest_opacity}
-use Rattle.flat_topology.specs.Shown.{nodes_of, root_alone}
+use Rattle.flat_topology.specs.Shown.{nodes_of}
 use Rattle.flat_scene.proofs.Together.{and-left as and_left, and-right as and_right}
 use Rattle.flat_core.proofs.LowDrafts.{IsLowDraft, is_low, is_dim}
 

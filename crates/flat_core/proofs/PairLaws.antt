@@ -1,34 +1,29 @@
 -- Tokens, told by the stamp of the last use's release.
-use Rattle.std.proofs.Common.{◌≡◌, ◌∙◌, sym, subst, ℕ, zero, suc, ◌+◌, ◌-◌, ◌<◌, ◌≤◌, Bool, true, false, List, [], ◌∷◌, ◌++◌, length, refl, arith, ap, Some, None, Ok, drop}
-use Rattle.std.specs.Prelude.{cond, not, ◌&&◌, ◌||◌, ◌==◌, nat_lt, nat_le, Option, is_some, slice_get}
-use Rattle.std.specs.List.{list_any}
+use Rattle.std.proofs.Common.{◌≡◌, ◌∙◌, sym, subst, ℕ, ◌+◌, ◌-◌, ◌≤◌, Bool, true, false, List, [], ◌∷◌, ◌++◌, length, refl, arith, ap, Some, None, drop}
+use Rattle.std.specs.Prelude.{cond, not, ◌&&◌, ◌==◌, nat_le, Option, is_some, slice_get}
 use Rattle.std.proofs.lemmas.Bool.Decides.{nat_tests}
-use Rattle.flat_base.specs.declared.ids.Actor.{Actor}
-use Rattle.flat_base.specs.declared.ids.Actor.TheVariants.{Session}
 use Rattle.flat_base.specs.declared.ids.PairNo.{PairNo}
 use Rattle.flat_base.specs.declared.ids.SessionNo.{SessionNo}
 use Rattle.flat_scene.specs.declared.calls.Call.{Call}
 use Rattle.flat_scene.specs.declared.calls.Call.TheVariants.{CreateViewport}
 use Rattle.flat_scene.specs.declared.calls.ViewportProps.{ViewportProps}
 use Rattle.flat_scene.specs.declared.journal.Entry.{Entry}
-use Rattle.flat_scene.specs.declared.journal.Kind.TheVariants.{Viewport}
 use Rattle.flat_scene.specs.declared.setup.Setup.{Setup}
-use Rattle.flat_scene.specs.Draft.{Draft, empty_draft}
 use Rattle.flat_scene.specs.Frames.{taken}
-use Rattle.flat_scene.specs.History.{◌▹◌, calls, is_closed, is_session, presents}
+use Rattle.flat_scene.specs.History.{◌▹◌, calls, is_closed}
 use Rattle.flat_scene.specs.Setups.{is_declared}
-use Rattle.flat_scene.proofs.Together.{and-left, and-right}
+use Rattle.flat_scene.proofs.Together.{and-left}
 use Rattle.flat_core.specs.declared.live.Live.{Live}
-use Rattle.flat_core.specs.Ends.{to_begin, to_finished, times, releases_viewport, viewport_uses, uses_viewport, is_done}
-use Rattle.flat_core.specs.Legal.{Legal, has_token, owns_viewport, is_frame_open, is_link, all_but_last, makes_viewport}
+use Rattle.flat_core.specs.Ends.{to_begin, to_finished, releases_viewport, viewport_uses}
+use Rattle.flat_core.specs.Legal.{Legal, has_token, owns_viewport, is_frame_open, all_but_last, makes_viewport}
 use Rattle.flat_core.specs.Lives.{held_of, lives_after, lives_then}
 use Rattle.flat_core.specs.Posts.{releases_seen}
 use Rattle.flat_core.specs.Stamps.{first_at, is_seen, IsStamp, happens_often}
-use Rattle.flat_core.proofs.Earlier.{begin-earlier, begun-earlier, finished-earlier, taken-begun, taken-earlier}
+use Rattle.flat_core.proofs.Earlier.{begin-earlier, begun-earlier, finished-earlier, taken-begun}
 use Rattle.flat_core.proofs.LiveCounts.{held-append, lives-append}
 use Rattle.flat_core.proofs.StampSteps.{stamp-of, stamp-taken}
 use Rattle.flat_core.proofs.Stamped.{stamped, often-lasts}
-use Rattle.flat_core.proofs.TokenLaw.{IsCounted, counted, balanced, seen-rises, seen-then, uses, released, live_in}
+use Rattle.flat_core.proofs.TokenLaw.{counted, balanced, seen-rises, seen-then, released, live_in}
 use Rattle.flat_core.proofs.TokensBack.{came}
 use Rattle.flat_core.proofs.ViewCalls.{split-last}
 

@@ -1,23 +1,20 @@
 -- Calls keep what a draft reaches free of viewports that don't live.
-use Rattle.std.proofs.Common.{◌≡◌, ◌∙◌, sym, subst, ℕ, zero, suc, ◌+◌, ◌-◌, ◌<◌, ◌≤◌, Bool, true, false, cond, List, [], ◌∷◌, ◌++◌, length, filter, map, drop, refl, arith, ap, Some, None, Ok, Err, length-append}
-use Rattle.std.specs.Prelude.{not, ◌&&◌, ◌||◌, ◌==◌, nat_lt, nat_le, Option, Result, option_map, option_and_then, option_to_list, is_some, unwrap_or}
-use Rattle.std.specs.List.{list_all, list_any}
+use Rattle.std.proofs.Common.{◌≡◌, ◌∙◌, sym, subst, ℕ, ◌+◌, ◌≤◌, Bool, true, false, cond, List, [], ◌∷◌, ◌++◌, length, filter, refl, arith, ap, Some, None, Ok, Err, length-append}
+use Rattle.std.specs.Prelude.{not, ◌||◌, ◌==◌, nat_lt, Option, is_some}
 use Rattle.std.proofs.lemmas.Bool.Decides.{nat_tests}
 use Rattle.std.proofs.lemmas.List.{append-nil}
 use Rattle.std.proofs.lemmas.List.Folds.{list_all-append, list_any-append}
 use Rattle.flat_base.specs.declared.errors.Reason.{Reason}
-use Rattle.flat_base.specs.declared.ids.ContentId.{ContentId}
 use Rattle.flat_base.specs.declared.ids.PairNo.{PairNo}
 use Rattle.flat_scene.specs.declared.calls.Call.{Call}
-use Rattle.flat_scene.specs.declared.calls.Call.TheVariants.{CreateView, ReleaseView, CreateTransform, ReleaseTransform, SetTranslation, SetOrientation, SetScale, SetOpacity, SetClipBoundary, AddChild, RemoveChild, SetRootTransform, CreateViewport, SetViewportProperties, ReleaseViewport, CreateImage, SetImageSampleRegion, SetImageDestinationSize, SetImageBlendingFunction, SetImageFlip, SetImageOpacity, ReleaseImage, CreateFilledRect, SetSolidFill, ReleaseFilledRect, SetHitRegions, SetInfiniteHitRegion, SetContent, Clear}
+use Rattle.flat_scene.specs.declared.calls.Call.TheVariants.{CreateTransform, ReleaseTransform, SetTranslation, SetOrientation, SetScale, SetOpacity, SetClipBoundary, AddChild, RemoveChild, SetRootTransform, CreateViewport, SetViewportProperties, ReleaseViewport, CreateImage, SetImageSampleRegion, SetImageDestinationSize, SetImageBlendingFunction, SetImageFlip, SetImageOpacity, CreateFilledRect, SetSolidFill, SetHitRegions, SetInfiniteHitRegion, SetContent, Clear}
 use Rattle.flat_scene.specs.declared.setup.Setup.{Setup}
-use Rattle.flat_scene.specs.Draft.{Draft, Transform, Made, an_image, a_fill, a_viewport, Name, named, without_name, of_serial, changed_at, transform_of, content_of, empty_draft, new_transform}
+use Rattle.flat_scene.specs.Draft.{Draft, Transform, Made, a_fill, a_viewport, Name, named, changed_at, transform_of, content_of, empty_draft, new_transform}
 use Rattle.flat_scene.specs.Effect.{effect, after_calls, unless, changed_if, is_serial, held_but, on_image, on_viewport, on_fill, draft_of, new_image}
 use Rattle.flat_scene.specs.Misuse.{misuse}
-use Rattle.flat_scene.proofs.Together.{and-left, and-right}
 use Rattle.flat_core.proofs.Lives.{pair_made, pair_at, serial_at, serials_by, IsTidy, tidy-empty, changed-pair, image-pair, viewport-pair, fill-pair, all-fewer}
 use Rattle.flat_core.proofs.LiveSteps.{follows}
-use Rattle.flat_core.proofs.Reached.{has, is_alive, is_reached, is_root_after, are_after, IsReached, reached-empty, test, with-changed, with-contents, child-after, fewer-after, parts, alive-same, alive-made, one-later, drop-all, named-all, mapped-later, mapped-long}
+use Rattle.flat_core.proofs.Reached.{has, is_alive, is_reached, IsReached, reached-empty, with-changed, with-contents, child-after, fewer-after, parts, alive-same, alive-made, one-later, drop-all, named-all, mapped-later, mapped-long}
 use Rattle.flat_core.proofs.ViewCalls.{after-refused}
 
 -- a viewport that is named is alive

@@ -1,16 +1,14 @@
 -- Small runs as a whole, of the worked cases of the same names: legal, with their replies and their events, and readings of their scripts.
-use Rattle.std.proofs.Common.{◌≡◌, ℕ, pos, List, [], ◌∷◌, refl}
+use Rattle.std.proofs.Common.{◌≡◌, List, [], ◌∷◌, refl}
 use Rattle.std.specs.Prelude.{Some, None}
 use Rattle.flat_base.specs.declared.ids.Actor.TheVariants.{Display, Session}
 use Rattle.flat_base.specs.declared.errors.Reason.TheVariants as reason
 use Rattle.flat_base.specs.declared.errors.FlatlandError.TheVariants as error
 use Rattle.flat_scene.specs.declared.calls.Call.TheVariants as call
-use Rattle.flat_scene.specs.declared.calls.Watch.TheVariants as watch
 use Rattle.flat_scene.specs.declared.journal.Entry.{Entry}
 use Rattle.flat_scene.specs.declared.journal.Event.TheVariants as event
 use Rattle.flat_scene.specs.declared.journal.Kind.TheVariants as kind
 use Rattle.flat_scene.specs.declared.journal.Reply.TheVariants as reply
-use Rattle.flat_scene.specs.declared.journal.Told.TheVariants as tell
 use Rattle.flat_scene.specs.declared.script.Cond.TheVariants as asks
 use Rattle.flat_scene.specs.declared.script.DisplayLine.TheVariants as display
 use Rattle.flat_scene.specs.declared.script.Line.TheVariants as line
@@ -20,9 +18,8 @@ use Rattle.flat_scene.specs.History.{◌▹◌}
 use Rattle.flat_scene.specs.Interleave.{Interleaves}
 use Rattle.flat_core.specs.Legal.{Legal}
 use Rattle.flat_core.specs.Posts.{posts}
-use Rattle.flat_core.specs.Watch.{no_inset}
 use Rattle.flat_core.proofs.LegalByTests.{legal-by-tests}
-use Rattle.flat_core.proofs.Samples.{s, f, p, t, c, by, present, layout, post, session_line, display_line}
+use Rattle.flat_core.proofs.Samples.{s, f, p, t, c, by, present, post, session_line, display_line}
 
 -- one fill one frame
 

@@ -1,10 +1,11 @@
 -- What an entry does to the serial of a pair's last use, and what frames have seen of that use.
-use Rattle.std.proofs.Common.{◌≡◌, ◌∙◌, sym, subst, ℕ, zero, suc, ◌+◌, ◌-◌, ◌≤◌, ◌<◌, Bool, true, false, cond, List, [], ◌∷◌, ◌++◌, length, refl, arith, ap, Some, None, Ok, Err, length-append, inl, inr, ◌⊎◌}
-use Rattle.std.specs.Prelude.{not, ◌&&◌, ◌||◌, ◌==◌, nat_lt, nat_le, Option, Result, option_and_then, slice_get}
-use Rattle.std.specs.List.{list_any}
+use Rattle.std.proofs.Common.{◌≡◌, ◌∙◌, sym, subst, ℕ, ◌+◌, ◌-◌, ◌≤◌, ◌<◌, Bool, true, false, cond, List, [], ◌∷◌, ◌++◌, length, refl, arith, ap, Some, None, length-append, inl, inr, ◌⊎◌}
+use Rattle.std.specs.Prelude.{◌==◌, nat_le, Option, option_and_then, option_map, unwrap_or, slice_get, filter_map}
 use Rattle.std.specs.Result.{result_ok}
 use Rattle.std.proofs.lemmas.Bool.Decides.{nat_tests}
 use Rattle.std.proofs.lemmas.List.{append-nil, append_assoc}
+use Rattle.flat_base.specs.declared.errors.Reason.{Reason}
+use Rattle.flat_base.specs.declared.errors.Reason.TheVariants.{Cycle, TreeTooLarge}
 use Rattle.flat_base.specs.declared.ids.PairNo.{PairNo}
 use Rattle.flat_base.specs.declared.ids.SessionNo.{SessionNo}
 use Rattle.flat_scene.specs.declared.calls.Call.{Call}
@@ -12,22 +13,26 @@ use Rattle.flat_scene.specs.declared.calls.Call.TheVariants.{CreateViewport}
 use Rattle.flat_scene.specs.declared.calls.ViewportProps.{ViewportProps}
 use Rattle.flat_scene.specs.declared.journal.Entry.{Entry}
 use Rattle.flat_scene.specs.declared.setup.Setup.{Setup}
+use Rattle.flat_scene.specs.declared.trees.Children.{Children}
 use Rattle.flat_scene.specs.declared.trees.Tree.{Tree}
 use Rattle.flat_scene.specs.Draft.{Draft, of_serial}
 use Rattle.flat_scene.specs.Effect.{draft_of}
 use Rattle.flat_scene.specs.Frames.{taken}
 use Rattle.flat_scene.specs.History.{◌▹◌, own, calls, closes, is_closed, is_session, presents, published, Published}
-use Rattle.flat_scene.specs.Tree.{tree}
+use Rattle.flat_scene.specs.Misuse.{first_reason}
+use Rattle.flat_scene.specs.Tree.{tree, tree_tests, all_nodes, is_too_large, is_cyclic, head_of, use_of}
 use Rattle.flat_scene.proofs.Steps.{presents-own, presents-other}
-use Rattle.flat_scene.proofs.Together.{and-left, and-right}
-use Rattle.flat_core.specs.Ends.{to_begin, viewport_uses, props_of, taken_calls}
-use Rattle.flat_core.specs.Legal.{Legal, LegalEntry, owns_viewport, makes_viewport, all_but_last, number_if}
-use Rattle.flat_core.specs.Lives.{made_of_pair, makes_one}
+use Rattle.flat_scene.proofs.Together.{and-left}
+use Rattle.flat_core.specs.Ends.{viewport_uses, props_of, taken_calls}
+use Rattle.flat_core.specs.Legal.{Legal, owns_viewport, makes_viewport, all_but_last}
+use Rattle.flat_core.specs.Lives.{made_of_pair}
 use Rattle.flat_core.specs.Serials.{makes_content, contents_made, serials_in, IsUseSerial, props_at_serial}
-use Rattle.flat_core.specs.Shown.{is_pair}
+use Rattle.flat_core.specs.Shown.{is_pair, last_taken, tree_of}
 use Rattle.flat_core.specs.Stamps.{made_by}
-use Rattle.flat_core.proofs.Earlier.{Begins, begins-more, IsEarlier, calls-taken, taken-fits}
+use Rattle.flat_core.proofs.Earlier.{Begins, begins-more, IsEarlier, calls-taken, taken-fits, legal-earlier}
+use Rattle.flat_core.proofs.LiveCounts.{made-append}
 use Rattle.flat_core.proofs.Serials.{serials-append, contents-append, serials-count, use-props}
+use Rattle.flat_core.proofs.ShownFits.{MaySound, found-sound, presents-sound}
 use Rattle.flat_core.proofs.ShownSteps.{serial-append, closed-before}
 use Rattle.flat_core.proofs.StampSteps.{not-presented}
 use Rattle.flat_core.proofs.Uses.{uses-other, uses-own, uses-made}
@@ -169,3 +174,119 @@ module _ (setup : Setup) (s : SessionNo) (p : PairNo) (owned : owns_viewport set
         tells = subst (λ (u : ℕ). P (presents s (h ▹ e)) u) (sym n) (subst (λ (ps : List Published). P ps (uses h)) (sym same) old.tells);
         opened = λ o. let wrong : true ≡ false = sym shut ∙ o in cc;
       }
+
+  -- ---- a new use
+
+  last-call : (props : ViewportProps) (call : Call) → makes_viewport p props (Some call) ≡ true → (q : PairNo) × ((makes_content call ≡ Some q ∷ []) × ((q.0 == p.0) ≡ true))
+  last-call props (CreateViewport c q w x inset) is = (q, (refl, and-left (q.0 == p.0) _ (and-left _ _ (and-left _ _ is))))
+  last-call props _ is = cc
+
+  last-serial : (xs : List ℕ) (x : ℕ) → of_serial (xs ++ x ∷ []) (length xs + 1) ≡ Some x
+  last-serial [] x = refl
+  last-serial (y ∷ ys) x =
+      let more : (length (y ∷ ys) + 1 == 1) ≡ false = grind (arith, nat_tests) in
+      let less : length (y ∷ ys) + 1 - 1 ≡ length ys + 1 = omega arith in
+      rw (more, less) (last-serial ys x)
+
+  -- the viewport that is made last has the last serial
+  made-new : (props : ViewportProps) (carries : List Call) (last : Option Call) → slice_get carries (length carries - 1) ≡ last → makes_viewport p props last ≡ true
+      → of_serial (serials_in p 1 (contents_made (calls s h ++ carries))) (made_of_pair p (calls s h ++ carries)) ≡ Some (length (contents_made (calls s h ++ carries)))
+  made-new props carries None at is = cc
+  made-new props carries (Some call) at is =
+      let one = last-call props call is in
+      let first : List Call = calls s h ++ all_but_last carries in
+      let xs : List (Option PairNo) = contents_made first in
+      let split : calls s h ++ carries ≡ first ++ call ∷ [] = ap (λ (l : List Call). calls s h ++ l) (split-last carries call at) ∙ sym (append_assoc (calls s h) (all_but_last carries) (call ∷ [])) in
+      let content : contents_made (call ∷ []) ≡ Some one.0 ∷ [] = append-nil (makes_content call) ∙ one.1.0 in
+      let all : contents_made (calls s h ++ carries) ≡ xs ++ Some one.0 ∷ [] = ap contents_made split ∙ contents-append first (call ∷ []) ∙ ap (λ (l : List (Option PairNo)). xs ++ l) content in
+      let mine : is_pair (Some one.0) p ≡ true = one.1.1 in
+      let end : serials_in p (1 + length xs) (Some one.0 ∷ []) ≡ (1 + length xs) ∷ [] = rw mine refl in
+      let serials : serials_in p 1 (contents_made (calls s h ++ carries)) ≡ serials_in p 1 xs ++ (1 + length xs) ∷ [] =
+      ap (serials_in p 1) all ∙ serials-append p 1 xs (Some one.0 ∷ []) ∙ ap (λ (l : List ℕ). serials_in p 1 xs ++ l) end in
+      let count : length (serials_in p 1 (contents_made (calls s h ++ carries))) ≡ made_of_pair p (calls s h ++ carries) = serials-count p 1 (calls s h ++ carries) in
+      let long : length (serials_in p 1 (contents_made (calls s h ++ carries))) ≡ length (serials_in p 1 xs) + 1 = ap (length {A = ℕ}) serials ∙ length-append (serials_in p 1 xs) ((1 + length xs) ∷ []) in
+      let n : made_of_pair p (calls s h ++ carries) ≡ length (serials_in p 1 xs) + 1 = sym count ∙ long in
+      let m : length (contents_made (calls s h ++ carries)) ≡ 1 + length xs = ap (length {A = Option PairNo}) all ∙ length-append xs (Some one.0 ∷ []) ∙ omega arith in
+      ap (λ (l : List ℕ). of_serial l (made_of_pair p (calls s h ++ carries))) serials ∙ ap (λ (k : ℕ). of_serial (serials_in p 1 xs ++ (1 + length xs) ∷ []) k) n ∙ last-serial (serials_in p 1 xs) (1 + length xs)
+      ∙ ap (λ (k : ℕ). let o : Option ℕ = Some k in o) (sym m)
+
+  made-begins-more : (cs more all : List Call) → all ≡ cs ++ more → (made_of_pair p cs ≤ made_of_pair p all) × (length (contents_made cs) ≤ length (contents_made all))
+  made-begins-more cs more all is =
+      let pairs : made_of_pair p all ≡ made_of_pair p (cs ++ more) = ap (made_of_pair p) is in
+      let contents : length (contents_made all) ≡ length (contents_made cs) + length (contents_made more) = ap (λ (l : List Call). length (contents_made l)) is ∙ ap (length {A = Option PairNo}) (contents-append cs more) ∙ length-append (contents_made cs) (contents_made more) in
+      (omega (arith, made-append p cs more, pairs), omega (arith, contents))
+
+  -- a use of the pair: the viewport that it makes has the last serial
+  pub serial-new : is_session s e.actor ≡ true → closes e.reply ≡ false → is_closed s h ≡ false → ((made : List Call) → published e.kind e.reply made ≡ []) → uses (h ▹ e) ≡ uses h + 1
+      → (props : ViewportProps) → makes_viewport p props (slice_get e.calls (length e.calls - 1)) ≡ true → IsUseSerial p s (h ▹ e) (length (contents_made (calls s h ++ e.calls)))
+  serial-new mine stays open_before none n props last =
+      let all : List Call = calls s h ++ e.calls in
+      let serial : ℕ = length (contents_made all) in
+      let same : presents s (h ▹ e) ≡ presents s h = presents-own s h e mine ∙ ap (λ (l : List Published). presents s h ++ l) (none all) ∙ append-nil (presents s h) in
+      let before : uses h ≡ made_of_pair p (calls s h) = uses-made setup s p owned h legal.0 open_before in
+      let more = uses-own setup s p owned h e legal.1 mine stays in
+      let now : uses (h ▹ e) ≡ made_of_pair p all = omega (arith, more, before, made-append p (calls s h) e.calls) in
+      let fresh : of_serial (serials_in p 1 (contents_made all)) (made_of_pair p all) ≡ Some serial = made-new props e.calls (slice_get e.calls (length e.calls - 1)) refl last in
+      let grown : length (contents_made (calls s h)) < serial = longer props e.calls (slice_get e.calls (length e.calls - 1)) refl last in
+      let P : List Published → ℕ → Type 0 = λ ps u. (k : ℕ) → k ≤ length ps → Has p u serial (made_at ps k) in
+      let Q : List Call → ℕ → Type 0 = λ cs u. (of_serial (serials_in p 1 (contents_made cs)) u ≡ Some serial) × (serial ≤ length (contents_made cs)) in
+      let old : P (presents s h) (uses (h ▹ e)) =
+      λ k fits.
+      let begins = made-begins s h k fits in
+      let less = made-begins-more (made_by s h k) begins.more (calls s h) begins.is in
+      has-none p (uses (h ▹ e)) serial (made_by s h k) (omega (arith, less.0, before, n)) (omega (arith, less.1, grown)) in
+      record {
+        tells = subst (λ (ps : List Published). P ps (uses (h ▹ e))) (sym same) old;
+        opened = λ o. subst (λ (u : ℕ). Q (calls s (h ▹ e)) u) (sym now) (subst (λ (cs : List Call). Q cs (made_of_pair p all)) (sym (calls-own s h e mine)) (fresh, omega arith));
+      }
+    where
+      longer : (props : ViewportProps) (carries : List Call) (last : Option Call) → slice_get carries (length carries - 1) ≡ last → makes_viewport p props last ≡ true → length (contents_made (calls s h)) < length (contents_made (calls s h ++ carries))
+      longer props carries None at is = cc
+      longer props carries (Some call) at is =
+          let one = last-call props call is in
+          let content : length (contents_made (call ∷ [])) ≡ 1 = ap (length {A = Option PairNo}) (append-nil (makes_content call) ∙ one.1.0) in
+          let split : length (contents_made carries) ≡ length (contents_made (all_but_last carries)) + length (contents_made (call ∷ [])) =
+          ap (λ (l : List Call). length (contents_made l)) (split-last carries call at) ∙ ap (length {A = Option PairNo}) (contents-append (all_but_last carries) (call ∷ [])) ∙ length-append (contents_made (all_but_last carries)) (contents_made (call ∷ [])) in
+          let all : length (contents_made (calls s h ++ carries)) ≡ length (contents_made (calls s h)) + length (contents_made carries) =
+          ap (length {A = Option PairNo}) (contents-append (calls s h) carries) ∙ length-append (contents_made (calls s h)) (contents_made carries) in
+          omega (arith, content, split, all)
+
+-- ---- what a frame has seen
+
+tree-some : (d : Draft) → first_reason (tree_tests d) ≡ None → (t : Tree) × (tree d ≡ Some t)
+tree-some d none = by_nodes (all_nodes d) refl
+  where
+    small : (a b : Bool) (x y : Reason) (rest : Option Reason) → cond a (Some x) (cond b (Some y) rest) ≡ None → b ≡ false
+    small true b x y rest is = cc
+    small false true x y rest is = cc
+    small false false x y rest is = refl
+
+    by_nodes : (all : Option Children) → all_nodes d ≡ all → (t : Tree) × (tree d ≡ Some t)
+    by_nodes None is =
+        let fits : is_too_large (all_nodes d) ≡ false = small (is_cyclic d) (is_too_large (all_nodes d)) Cycle TreeTooLarge _ none in
+        let wrong : true ≡ false = ap is_too_large (sym is) ∙ fits in cc
+    by_nodes (Some all) is = (record { view = d.view; root = head_of all; viewports = filter_map (use_of d) d.viewports }, rw is refl)
+
+-- the calls of a present; none where there is no present
+abbrev calls_in : Option Published → List Call
+calls_in o = unwrap_or (option_map (λ present. present.made) o) []
+
+-- the properties that the state taken at an earlier moment has of the last use, read off the tree that was taken
+pub seen-props : (setup : Setup) (s : SessionNo) (p : PairNo) (k h : List Entry) (serial : ℕ) → Legal setup h → IsEarlier k h → 0 < length (viewport_uses p h) → IsUseSerial p s h serial
+    → option_and_then (props_of p (length (viewport_uses p h))) (result_ok (draft_of setup (taken_calls setup k s)))
+    ≡ option_and_then (λ (t : Tree). props_at_serial t.viewports serial) (option_and_then (tree_of setup) (last_taken setup k s))
+seen-props setup s p k h serial legal before some is = by_present (last_taken setup k s) refl (found-sound setup s (taken setup k s) (presents s k) (presents-sound setup s k (legal-earlier setup k h before legal)))
+  where
+    tells : Has p (length (viewport_uses p h)) serial (taken_calls setup k s)
+    tells = subst (Has p (length (viewport_uses p h)) serial) (sym (calls-taken setup s k h before)) (is.tells (taken setup k s) (taken-fits setup s k h before))
+
+    by_present : (o : Option Published) → last_taken setup k s ≡ o → MaySound setup s o
+        → option_and_then (props_of p (length (viewport_uses p h))) (result_ok (draft_of setup (calls_in (last_taken setup k s)))) ≡ option_and_then (λ (t : Tree). props_at_serial t.viewports serial) (option_and_then (tree_of setup) (last_taken setup k s))
+    by_present None at sound = rw at refl
+    by_present (Some present) at sound =
+        let d : Draft = sound.0 in
+        let good = sound.1 in
+        let t = tree-some d good.tests in
+        let has : Has p (length (viewport_uses p h)) serial present.made = ap (λ (o : Option Published). of_serial (serials_in p 1 (contents_made (calls_in o))) (length (viewport_uses p h))) (sym at) ∙ tells ∙ ap (λ (o : Option Published). cond (nat_le serial (length (contents_made (calls_in o)))) (Some serial) None) at in
+        let props : props_of p (length (viewport_uses p h)) d ≡ props_at_serial t.0.viewports serial = use-props setup present.made d good.made t.0 t.1 p (length (viewport_uses p h)) serial has in
+        rw at (rw (good.made, t.1) props)

@@ -1,13 +1,11 @@
 -- What a tree has of the viewport of a pair's last use.
-use Rattle.std.proofs.Common.{◌≡◌, ◌∙◌, sym, subst, ℕ, zero, suc, ◌+◌, ◌-◌, ◌≤◌, ◌<◌, Bool, true, false, cond, List, [], ◌∷◌, ◌++◌, length, map, filter_map, refl, arith, ap, Some, None, Ok, Err, length-append}
-use Rattle.std.specs.Prelude.{not, ◌&&◌, ◌||◌, ◌==◌, nat_lt, nat_le, Option, Result, option_map, option_and_then, is_some, unwrap_or}
+use Rattle.std.proofs.Common.{◌≡◌, ◌∙◌, sym, ℕ, ◌+◌, ◌-◌, Bool, true, false, cond, List, [], ◌∷◌, ◌++◌, length, map, filter_map, refl, arith, ap, Some, None, Ok, Err, length-append}
+use Rattle.std.specs.Prelude.{◌||◌, ◌==◌, nat_le, Option, option_map, option_and_then}
 use Rattle.std.specs.List.{list_any}
-use Rattle.std.specs.Result.{result_ok}
 use Rattle.std.proofs.lemmas.Bool.Decides.{nat_tests}
 use Rattle.std.proofs.lemmas.List.{append-nil, append_assoc, map-append}
 use Rattle.flat_base.specs.declared.errors.Reason.{Reason}
 use Rattle.flat_base.specs.declared.ids.PairNo.{PairNo}
-use Rattle.flat_base.specs.declared.ids.SessionNo.{SessionNo}
 use Rattle.flat_scene.specs.declared.calls.Call.{Call}
 use Rattle.flat_scene.specs.declared.calls.Call.TheVariants.{CreateViewport, SetViewportProperties, CreateImage, SetImageSampleRegion, SetImageDestinationSize, SetImageBlendingFunction, SetImageFlip, SetImageOpacity, CreateFilledRect, SetSolidFill}
 use Rattle.flat_scene.specs.declared.calls.ViewportProps.{ViewportProps}
@@ -17,7 +15,7 @@ use Rattle.flat_scene.specs.declared.trees.ViewportUse.{ViewportUse}
 use Rattle.flat_scene.specs.Draft.{Draft, Made, an_image, a_fill, a_viewport, of_serial, changed_at, content_of, empty_draft}
 use Rattle.flat_scene.specs.Effect.{effect, after_calls, unless, changed_if, on_image, on_viewport, on_fill, draft_of}
 use Rattle.flat_scene.specs.Misuse.{misuse}
-use Rattle.flat_scene.specs.Tree.{tree, use_of, use_in, all_nodes, head_of}
+use Rattle.flat_scene.specs.Tree.{tree, use_of, all_nodes, head_of}
 use Rattle.flat_scene.specs.declared.trees.Children.{Children}
 use Rattle.flat_core.specs.Ends.{is_made_of, serials_of, props_of, live_props, props_in}
 use Rattle.flat_core.specs.Legal.{number_if}
@@ -25,7 +23,6 @@ use Rattle.flat_core.specs.Lives.{made_of_pair, makes_one}
 use Rattle.flat_core.specs.Serials.{makes_content, contents_made, serials_in, props_at_serial}
 use Rattle.flat_core.specs.Shown.{is_pair}
 use Rattle.flat_core.proofs.Lives.{pair_made, image-pair, viewport-pair, fill-pair}
-use Rattle.flat_core.proofs.ShownSteps.{serial-append, serial-get}
 use Rattle.flat_core.proofs.ViewCalls.{after-refused}
 
 -- ---- the contents of a draft

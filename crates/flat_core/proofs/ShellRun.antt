@@ -1,9 +1,6 @@
 -- A shell with two applications, as a whole.
-use Rattle.std.proofs.Common.{◌≡◌, ℕ, pos, List, [], ◌∷◌, refl}
-use Rattle.std.specs.Prelude.{Some, None}
+use Rattle.std.proofs.Common.{◌≡◌, pos, List, [], ◌∷◌, refl}
 use Rattle.flat_base.specs.declared.ids.Actor.TheVariants.{Display, Session}
-use Rattle.flat_base.specs.declared.errors.Reason.TheVariants as reason
-use Rattle.flat_base.specs.declared.errors.FlatlandError.TheVariants as error
 use Rattle.flat_scene.specs.declared.calls.Call.TheVariants as call
 use Rattle.flat_scene.specs.declared.calls.Watch.TheVariants as watch
 use Rattle.flat_scene.specs.declared.journal.Entry.{Entry}

@@ -1,13 +1,12 @@
 -- What the sessions of a legal history show fits the setup.
-use Rattle.std.proofs.Common.{◌≡◌, ◌≢◌, ℕ, zero, suc, ◌+◌, ◌-◌, ◌<◌, ◌≤◌, Bool, true, false, cond, ◌&&◌, ◌||◌, ◌==◌, not, nat_lt, nat_le, List, [], ◌∷◌, ◌++◌, length, map, get_or, refl, sym, ap, ◌∙◌, subst, arith, append-nil, length-append, Option, Some, None, Ok, Err, Result, slice_get, is_some, is_none, inl, inr, ◌⊎◌}
+use Rattle.std.proofs.Common.{◌≡◌, ◌≢◌, ℕ, zero, suc, ◌+◌, ◌-◌, ◌≤◌, Bool, true, false, cond, ◌==◌, not, List, [], ◌∷◌, ◌++◌, length, map, get_or, refl, sym, ap, ◌∙◌, subst, arith, length-append, Option, Some, None, Ok, Err, Result, slice_get, is_none, inl, inr}
 use Rattle.std.specs.List.{list_all, AllByRecursion, Contains, AllPairs}
 use Rattle.std.specs.Option.{option_map, option_and_then, unwrap_or}
 use Rattle.std.specs.Result.{result_ok}
 use Rattle.std.proofs.lemmas.Bool.{eqb-true}
 use Rattle.std.proofs.lemmas.List.{map-append}
-use Rattle.std.proofs.lemmas.Bool.Decides.{nat_tests}
 use Rattle.flat_base.specs.declared.ids.Actor.{Actor}
-use Rattle.flat_base.specs.declared.ids.Actor.TheVariants.{Display, Session, Probe}
+use Rattle.flat_base.specs.declared.ids.Actor.TheVariants.{Session}
 use Rattle.flat_base.specs.declared.ids.PairNo.{PairNo}
 use Rattle.flat_base.specs.declared.ids.SessionNo.{SessionNo}
 use Rattle.flat_base.specs.declared.errors.Reason.{Reason}
@@ -27,33 +26,33 @@ use Rattle.flat_scene.specs.declared.trees.Tree.{Tree}
 use Rattle.flat_scene.specs.Draft.{Draft, Made, an_image, a_fill, a_viewport, of_serial}
 use Rattle.flat_scene.specs.Effect.{draft_of}
 use Rattle.flat_scene.specs.Frames.{taken, sessions_to}
-use Rattle.flat_scene.specs.History.{◌▹◌, is_session, is_begin, is_closed, calls, presents, published, Published}
+use Rattle.flat_scene.specs.History.{◌▹◌, is_session, is_closed, calls, presents, published, Published}
 use Rattle.flat_scene.specs.Misuse.{first_reason}
 use Rattle.flat_scene.specs.Setups.{is_declared}
 use Rattle.flat_scene.specs.Tree.{tree_tests, tree, all_nodes, is_cyclic, is_too_large, shows_twice, has_twice}
 use Rattle.flat_scene.specs.Trees.{node_count, viewports_in}
 use Rattle.flat_scene.proofs.Steps.{presents-own, presents-other}
 use Rattle.flat_scene.proofs.Together.{and-left, and-right}
-use Rattle.flat_core.specs.Legal.{Legal, LegalEntry, MayEnter, has_tree, draft_with, owns_in_call, owns_view, owns_viewport, session_may}
-use Rattle.flat_core.specs.Ends.{to_begin, view_owner, viewport_owner}
-use Rattle.flat_core.specs.Lives.{held_of, lives_after}
+use Rattle.flat_core.specs.Legal.{Legal, MayEnter, has_tree, owns_view, owns_viewport, session_may}
+use Rattle.flat_core.specs.Ends.{to_begin}
+use Rattle.flat_core.specs.Lives.{held_of}
 use Rattle.flat_core.specs.Shown.{shown, shown_states, tree_of, last_taken}
 use Rattle.flat_core.proofs.Earlier.{begin-earlier, legal-earlier}
 use Rattle.flat_core.proofs.LiveCounts.{lived-all}
-use Rattle.flat_core.proofs.Lives.{lives_of, pair_made, pair_at, IsTidy}
+use Rattle.flat_core.proofs.Lives.{lives_of, pair_made, pair_at}
 use Rattle.flat_core.proofs.LowDrafts.{low-draft}
 use Rattle.flat_core.proofs.LowTrees.{ShowsLow, tree_low, tree_small}
 use Rattle.flat_core.proofs.Owned.{IsOwned, made_owned, view_owned, draft-owned}
-use Rattle.flat_core.proofs.OwnedTree.{at-serial, all-owned, owns, pair_no}
+use Rattle.flat_core.proofs.OwnedTree.{at-serial, all-owned, owns}
 use Rattle.flat_core.proofs.ReachedSteps.{reached}
 use Rattle.flat_core.proofs.ShownOnce.{pairs-once}
 use Rattle.flat_core.proofs.ShownOwned.{all-calls-owned}
 use Rattle.flat_core.proofs.TokenLaw.{counted, live_in}
 use Rattle.flat_core.proofs.ViewHistory.{same-session}
-use Rattle.flat_topology.proofs.Distinct.{In, Distinct, in-contains, pairs-distinct}
+use Rattle.flat_topology.proofs.Distinct.{In, in-contains, pairs-distinct}
 use Rattle.flat_topology.specs.Fit.{FitsSetup, greatest_opacity}
 use Rattle.flat_topology.specs.Pairs.{OwnsView, OwnsViewport}
-use Rattle.flat_topology.specs.Shown.{state_of, view_of, nodes_of, pairs_shown, pairs_in}
+use Rattle.flat_topology.specs.Shown.{state_of, view_of, nodes_of, pairs_in}
 
 -- What is known of a draft that is presented: it names what its session owns, it has a tree, and no two viewports of a pair live.
 pub record IsGood (setup : Setup) (s : SessionNo) (calls : List Call) (draft : Draft) : Type 0 where
@@ -157,7 +156,7 @@ module _ (setup : Setup) (s : SessionNo) where
       let is : tree_of setup present ≡ tree sound.0 = ap (λ r. option_and_then tree (result_ok r)) sound.1.made in
       subst ShownWell (sym is) (well-tree present.made sound.0 sound.1 (tree sound.0) refl)
 
-  abbrev MaySound : Option Published → Type 0
+  abbrev pub MaySound : Option Published → Type 0
   MaySound None = Unit {0}
   MaySound (Some present) = IsSound setup s present
 
@@ -165,7 +164,7 @@ module _ (setup : Setup) (s : SessionNo) where
   pick-sound true p o first others = first
   pick-sound false p o first others = others
 
-  found-sound : (n : ℕ) (ps : List Published) → AllByRecursion (IsSound setup s) ps → MaySound (of_serial ps n)
+  pub found-sound : (n : ℕ) (ps : List Published) → AllByRecursion (IsSound setup s) ps → MaySound (of_serial ps n)
   found-sound n [] all = tt
   found-sound n (p ∷ ps) all = pick-sound (n == 1) p (of_serial ps (n - 1)) all.0 (found-sound (n - 1) ps all.1)
 
@@ -261,7 +260,7 @@ module _ (setup : Setup) (s : SessionNo) where
 
 -- ---- the states of all sessions
 
-length-sessions : {A : Type 0} (f : SessionNo → A) (n : ℕ) → length (map f (sessions_to n)) ≡ n
+pub length-sessions : {A : Type 0} (f : SessionNo → A) (n : ℕ) → length (map f (sessions_to n)) ≡ n
 length-sessions f zero = refl
 length-sessions f (suc n) = ap (length {A = _}) (map-append f (sessions_to n) ((record { 0 = suc n }) ∷ [])) ∙ length-append (map f (sessions_to n)) (f (record { 0 = suc n }) ∷ []) ∙ ap (λ m. m + 1) (length-sessions f n) ∙ omega arith
 

@@ -1,13 +1,12 @@
 -- Where no two viewports of a pair live, a tree shows no pair twice.
-use Rattle.std.proofs.Common.{◌≡◌, ◌∙◌, sym, subst, ℕ, zero, suc, ◌+◌, ◌-◌, ◌<◌, ◌≤◌, Bool, true, false, cond, List, [], ◌∷◌, ◌++◌, length, map, drop, refl, arith, ap, Some, None, Ok, inl, inr, ◌⊎◌}
-use Rattle.std.specs.Prelude.{not, ◌&&◌, ◌||◌, ◌==◌, nat_lt, nat_le, Option, Result, option_map, option_and_then, option_to_list, is_some, unwrap_or}
+use Rattle.std.proofs.Common.{◌≡◌, ◌∙◌, sym, subst, ℕ, zero, suc, ◌-◌, ◌≤◌, Bool, true, false, cond, List, [], ◌∷◌, ◌++◌, map, drop, refl, arith, ap, Some, None, inl, inr}
+use Rattle.std.specs.Prelude.{not, ◌||◌, ◌==◌, nat_lt, Option, option_map, option_and_then, option_to_list, is_some, unwrap_or}
 use Rattle.std.specs.List.{list_all, list_any}
 use Rattle.std.proofs.lemmas.Bool.Decides.{nat_tests}
 use Rattle.std.proofs.lemmas.List.{map-append}
 use Rattle.std.proofs.lemmas.List.Folds.{list_all-append}
 use Rattle.flat_base.specs.declared.ids.PairNo.{PairNo}
 use Rattle.flat_base.specs.declared.limits.TheConstants.{PATH_NODES_MAX}
-use Rattle.flat_scene.specs.declared.setup.Setup.{Setup}
 use Rattle.flat_scene.specs.declared.trees.Children.{Children}
 use Rattle.flat_scene.specs.declared.trees.Children.TheVariants.{Empty}
 use Rattle.flat_scene.specs.declared.trees.Content.{Content}
@@ -16,13 +15,10 @@ use Rattle.flat_scene.specs.Draft.{Draft, Transform, Made, an_image, a_fill, a_v
 use Rattle.flat_scene.specs.Tree.{shown_content, content_held, node, each, node_within, all_nodes, has_twice}
 use Rattle.flat_scene.specs.Trees.{more, viewport_in, viewports_in}
 use Rattle.flat_scene.proofs.Together.{and-left, and-right}
-use Rattle.flat_core.specs.declared.live.Live.{Live}
-use Rattle.flat_core.specs.Legal.{number_if}
 use Rattle.flat_core.specs.Lives.{held_of}
-use Rattle.flat_core.proofs.LiveCounts.{held-append}
 use Rattle.flat_core.proofs.Lives.{pair_made, pair_at, live_at, serial_at, lives_by, serials_by, lives_of, IsTidy}
 use Rattle.flat_core.proofs.Reached.{has, is_alive, is_reached, is_root_after, IsReached}
-use Rattle.flat_topology.proofs.Distinct.{In, Distinct, in-append, distinct-append}
+use Rattle.flat_topology.proofs.Distinct.{In, Distinct}
 use Rattle.flat_topology.specs.Shown.{pair_in, pairs_in}
 
 -- ---- the tree of a draft

@@ -1,6 +1,6 @@
 -- What an entry does to a stamp, and what a stamp says of what frames had taken.
-use Rattle.std.proofs.Common.{◌≡◌, ◌∙◌, sym, subst, ℕ, ◌+◌, ◌<◌, ◌≤◌, Bool, true, false, List, [], ◌∷◌, ◌++◌, length, refl, arith, ap, Some, None, Ok}
-use Rattle.std.specs.Prelude.{cond, ◌||◌, nat_lt, nat_le, Option, is_some}
+use Rattle.std.proofs.Common.{◌≡◌, ◌∙◌, sym, subst, ℕ, ◌≤◌, Bool, true, false, List, [], ◌++◌, length, refl, arith, ap, Some, None}
+use Rattle.std.specs.Prelude.{cond, ◌||◌, Option}
 use Rattle.std.proofs.lemmas.Bool.Decides.{nat_tests}
 use Rattle.std.proofs.lemmas.List.{append-nil}
 use Rattle.flat_base.specs.declared.ids.SessionNo.{SessionNo}
@@ -16,11 +16,11 @@ use Rattle.flat_scene.specs.Frames.{taken}
 use Rattle.flat_scene.specs.History.{◌▹◌, own, calls, closes, is_closed, is_session, presents, published, Published}
 use Rattle.flat_scene.proofs.Steps.{presents-own, presents-other}
 use Rattle.flat_core.specs.Ends.{happens, taken_calls, has_ended}
-use Rattle.flat_core.specs.Stamps.{first_at, is_seen, made_by, IsStamp, stamp_then}
+use Rattle.flat_core.specs.Stamps.{first_at, is_seen, IsStamp, stamp_then}
 use Rattle.flat_core.specs.Watch.{or_else}
 use Rattle.flat_core.proofs.Earlier.{IsEarlier, calls-taken, taken-fits}
 use Rattle.flat_core.proofs.ShownSteps.{closed-before}
-use Rattle.flat_core.proofs.Stamped.{IsLasting, stamped, stamp-other, happening-lasts}
+use Rattle.flat_core.proofs.Stamped.{IsLasting, stamped, stamp-other}
 use Rattle.flat_core.proofs.ViewLaw.{made_at}
 
 -- the stamp of the test itself

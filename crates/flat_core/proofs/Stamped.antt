@@ -1,15 +1,13 @@
 -- What holds of a session's calls is seen by exactly the presents after its stamp.
-use Rattle.std.proofs.Common.{◌≡◌, ◌∙◌, sym, subst, ℕ, ◌+◌, ◌<◌, ◌≤◌, Bool, true, false, List, [], ◌∷◌, ◌++◌, length, refl, arith, ap, Some, None, Ok, inl, inr, ◌⊎◌, length-append}
-use Rattle.std.specs.Prelude.{cond, ◌||◌, nat_lt, nat_le, Option, is_some}
+use Rattle.std.proofs.Common.{◌≡◌, ◌∙◌, sym, subst, ℕ, ◌<◌, ◌≤◌, Bool, true, false, List, [], ◌++◌, length, refl, arith, ap, Some, None, Ok, inl, inr, ◌⊎◌, length-append}
+use Rattle.std.specs.Prelude.{cond, nat_lt, nat_le, Option, is_some}
 use Rattle.std.proofs.lemmas.Bool.Decides.{nat_tests}
-use Rattle.std.proofs.lemmas.List.{append-nil}
 use Rattle.flat_base.specs.declared.ids.SessionNo.{SessionNo}
 use Rattle.flat_scene.specs.declared.calls.Call.{Call}
 use Rattle.flat_scene.specs.declared.journal.Entry.{Entry}
 use Rattle.flat_scene.specs.declared.setup.Setup.{Setup}
 use Rattle.flat_scene.specs.Draft.{Draft, empty_draft}
 use Rattle.flat_scene.specs.History.{◌▹◌, calls, is_session, presents, published, Published}
-use Rattle.flat_scene.proofs.Steps.{presents-own, presents-other}
 use Rattle.flat_core.specs.Ends.{times, happens}
 use Rattle.flat_core.specs.Stamps.{first_at, is_seen}
 use Rattle.flat_core.specs.Watch.{or_else}

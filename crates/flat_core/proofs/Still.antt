@@ -1,7 +1,6 @@
 -- What is told changes at the end of a frame and at a use of the pair's ends alone; else watchers are at rest, and post nothing.
-use Rattle.std.proofs.Common.{◌≡◌, ◌∙◌, sym, ℕ, ◌+◌, Bool, true, false, List, [], ◌∷◌, ◌++◌, length, refl, ap, Option, Some, None}
+use Rattle.std.proofs.Common.{◌≡◌, ◌∙◌, ℕ, Bool, true, false, List, [], ◌∷◌, ◌++◌, length, refl, ap, Option, Some, None}
 use Rattle.std.specs.Prelude.{cond, not, ◌&&◌, flat_map, option_map}
-use Rattle.std.specs.List.{list_any, list_all}
 use Rattle.flat_base.specs.declared.ids.Actor.{Actor}
 use Rattle.flat_base.specs.declared.ids.Actor.TheVariants.{Display, Session, Probe}
 use Rattle.flat_base.specs.declared.ids.PairNo.{PairNo}
@@ -11,12 +10,12 @@ use Rattle.flat_scene.specs.declared.journal.Entry.{Entry}
 use Rattle.flat_scene.specs.declared.journal.Event.{Event}
 use Rattle.flat_scene.specs.declared.journal.Told.{Told}
 use Rattle.flat_scene.specs.declared.setup.Setup.{Setup}
-use Rattle.flat_scene.specs.History.{◌▹◌, own, is_session, is_finish, is_begin, is_closed, closes}
-use Rattle.flat_core.specs.Ends.{view_uses, viewport_uses, uses_view, uses_viewport, is_done, viewport_owner, view_owner, views_of, viewports_of, to_finished}
+use Rattle.flat_scene.specs.History.{◌▹◌, own, is_session, is_finish, is_begin, is_closed}
+use Rattle.flat_core.specs.Ends.{viewport_uses, uses_view, uses_viewport, is_done, viewport_owner, view_owner, views_of, viewports_of}
 use Rattle.flat_core.specs.Legal.{owns_view, owns_viewport}
 use Rattle.flat_core.specs.Local.{pair_watched}
-use Rattle.flat_core.specs.Posts.{told_event, event_of, news_for, events_to, at_finish, at_begin, up_to}
-use Rattle.flat_core.specs.Watch.{Watcher, layout_of, status_of, child_of, Watching, watching, told, told_layout, told_status, told_child, props_told, asked, asking, settled, answer, answered_by, or_else, props_seen, props_given, is_open, is_used, are_joined, listener}
+use Rattle.flat_core.specs.Posts.{told_event, event_of, news_for, at_begin, up_to}
+use Rattle.flat_core.specs.Watch.{Watcher, layout_of, status_of, child_of, Watching, watching, told, props_told, asked, asking, settled, answer, or_else, props_seen, props_given, is_open, is_used, listener}
 use Rattle.flat_core.proofs.EventsLocal.{rest-none, hears-view, hears-viewport, flat-none, views-owned, viewports-owned}
 use Rattle.flat_core.proofs.ShownSteps.{closed-before}
 use Rattle.flat_core.proofs.WatchLocal.{asking-none, settled-twice}

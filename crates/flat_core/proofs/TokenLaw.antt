@@ -1,35 +1,32 @@
 -- A viewport end can be used exactly where frames that are finished have seen each of its uses released. No two viewports of a pair live at once.
-use Rattle.std.proofs.Common.{◌≡◌, ◌∙◌, sym, subst, ℕ, zero, suc, ◌+◌, ◌-◌, ◌≤◌, ◌<◌, Bool, true, false, List, [], ◌∷◌, ◌++◌, length, refl, arith, ap, Some, None, Ok, drop}
-use Rattle.std.specs.Prelude.{cond, not, ◌&&◌, ◌||◌, ◌==◌, nat_lt, nat_le, Option, Result, slice_get}
+use Rattle.std.proofs.Common.{◌≡◌, ◌∙◌, sym, subst, ℕ, suc, ◌+◌, ◌-◌, ◌≤◌, Bool, true, false, List, [], ◌∷◌, length, refl, arith, ap, Ok, drop}
+use Rattle.std.specs.Prelude.{cond, not, ◌&&◌, ◌||◌, ◌==◌, nat_lt, nat_le}
 use Rattle.std.specs.List.{list_any}
 use Rattle.std.proofs.lemmas.Bool.Decides.{nat_tests}
 use Rattle.flat_base.specs.declared.ids.Actor.{Actor}
 use Rattle.flat_base.specs.declared.ids.Actor.TheVariants.{Display, Session, Probe}
 use Rattle.flat_base.specs.declared.ids.PairNo.{PairNo}
 use Rattle.flat_base.specs.declared.ids.SessionNo.{SessionNo}
-use Rattle.flat_scene.specs.declared.calls.Call.{Call}
 use Rattle.flat_scene.specs.declared.journal.Entry.{Entry}
 use Rattle.flat_scene.specs.declared.journal.Kind.{Kind}
 use Rattle.flat_scene.specs.declared.journal.Kind.TheVariants.{Viewport, Finish}
 use Rattle.flat_scene.specs.declared.journal.Reply.{Reply}
 use Rattle.flat_scene.specs.declared.journal.Reply.TheVariants.{Done}
 use Rattle.flat_scene.specs.declared.setup.Setup.{Setup}
-use Rattle.flat_scene.specs.Draft.{Draft, empty_draft}
-use Rattle.flat_scene.specs.Effect.{draft_of}
+use Rattle.flat_scene.specs.Draft.{empty_draft}
 use Rattle.flat_scene.specs.Frames.{taken}
-use Rattle.flat_scene.specs.History.{◌▹◌, own, calls, closes, is_begin, is_finish, is_closed, is_session, presents}
+use Rattle.flat_scene.specs.History.{◌▹◌, own, calls, closes, is_finish, is_closed, is_session}
 use Rattle.flat_scene.specs.Setups.{is_declared}
 use Rattle.flat_core.specs.declared.live.Live.{Live}
-use Rattle.flat_core.specs.Ends.{to_begin, to_finished, taken_calls, times, releases_viewport, viewport_uses, uses_viewport, is_done}
-use Rattle.flat_core.specs.Legal.{Legal, LegalEntry, MayEnter, reply_to, refused_token, has_token, is_token_back, owns_viewport, is_frame_open, keeps_time, may_act, display_may, session_may}
-use Rattle.flat_core.specs.Lives.{held_of, lives_after, releases_live, count_of, made_of_pair}
+use Rattle.flat_core.specs.Ends.{to_begin, to_finished, times, releases_viewport, viewport_uses, uses_viewport, is_done}
+use Rattle.flat_core.specs.Legal.{Legal, reply_to, refused_token, has_token, is_token_back, owns_viewport, is_frame_open, keeps_time, may_act}
+use Rattle.flat_core.specs.Lives.{held_of, lives_after, made_of_pair}
 use Rattle.flat_core.specs.Posts.{posted, releases_seen, Sent}
-use Rattle.flat_core.proofs.Earlier.{begin-earlier, begun-earlier, finished-earlier, calls-taken, taken-fits, taken-begun, taken-earlier, times-seen, times-rise, legal-earlier, IsEarlier}
-use Rattle.flat_core.proofs.LiveCounts.{lived-all, balance, lives-append, Lived}
-use Rattle.flat_core.proofs.Lives.{lives_of}
-use Rattle.flat_core.proofs.TokensBack.{no-token, token-finish, came}
+use Rattle.flat_core.proofs.Earlier.{begin-earlier, begun-earlier, finished-earlier, calls-taken, taken-fits, taken-begun, times-seen, times-rise, IsEarlier}
+use Rattle.flat_core.proofs.LiveCounts.{lived-all, balance, lives-append}
+use Rattle.flat_core.proofs.TokensBack.{no-token, token-finish}
 use Rattle.flat_core.proofs.Uses.{uses-made, uses-other, uses-own}
-use Rattle.flat_core.proofs.ViewHistory.{viewing-of, same-session, closes-first}
+use Rattle.flat_core.proofs.ViewHistory.{viewing-of, closes-first}
 
 -- the live viewports of a session
 abbrev pub live_in : SessionNo → List Entry → List Live

@@ -1,9 +1,8 @@
 -- Which tokens an entry brings back.
-use Rattle.std.proofs.Common.{◌≡◌, ◌∙◌, sym, subst, ℕ, zero, suc, ◌+◌, ◌-◌, ◌≤◌, Bool, true, false, List, [], ◌∷◌, ◌++◌, length, refl, arith, ap, Some, None, drop, zero-add}
+use Rattle.std.proofs.Common.{◌≡◌, ◌∙◌, sym, subst, ℕ, zero, suc, ◌+◌, ◌-◌, Bool, true, false, List, [], ◌∷◌, ◌++◌, length, refl, arith, ap, Some, None, drop, zero-add}
 use Rattle.std.specs.Prelude.{cond, not, ◌&&◌, ◌||◌, ◌==◌, nat_lt, nat_le, Option, option_map, unwrap_or, slice_get, flat_map, map, replicate}
 use Rattle.std.specs.List.{list_any}
 use Rattle.std.proofs.lemmas.Bool.Decides.{nat_tests}
-use Rattle.std.proofs.lemmas.List.{append-nil}
 use Rattle.std.proofs.lemmas.List.Folds.{list_any-append}
 use Rattle.flat_base.specs.declared.ids.Actor.{Actor}
 use Rattle.flat_base.specs.declared.ids.Actor.TheVariants.{Display, Session, Probe}
@@ -13,8 +12,6 @@ use Rattle.flat_scene.specs.declared.calls.Watch.{Watch}
 use Rattle.flat_scene.specs.declared.journal.Entry.{Entry}
 use Rattle.flat_scene.specs.declared.journal.Event.{Event}
 use Rattle.flat_scene.specs.declared.journal.Event.TheVariants as event
-use Rattle.flat_scene.specs.declared.journal.Kind.{Kind}
-use Rattle.flat_scene.specs.declared.journal.Kind.TheVariants.{Begin}
 use Rattle.flat_scene.specs.declared.journal.Told.{Told}
 use Rattle.flat_scene.specs.declared.setup.PairDecl.{PairDecl}
 use Rattle.flat_scene.specs.declared.setup.Setup.{Setup}
@@ -24,7 +21,7 @@ use Rattle.flat_scene.specs.Setups.{is_within, is_declared}
 use Rattle.flat_core.specs.Ends.{to_begin, views_of, viewports_of, viewport_uses, viewport_owner}
 use Rattle.flat_core.specs.Legal.{is_token_back, owns_viewport}
 use Rattle.flat_core.specs.Posts.{Sent, told_event, event_of, frame_took, releases_seen, tokens_back, at_finish, at_begin, news_for, events_to, posted, up_to}
-use Rattle.flat_core.specs.Watch.{Watcher, layout_of, status_of, child_of, watching, answer, told}
+use Rattle.flat_core.specs.Watch.{layout_of, status_of, child_of}
 use Rattle.flat_core.proofs.HasView.{found, any-found, both-ways}
 
 -- ---- tests over lists of lists

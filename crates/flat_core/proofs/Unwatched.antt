@@ -1,13 +1,12 @@
 -- Of a view that wasn't made no get of its layout or status is held.
-use Rattle.std.proofs.Common.{◌≡◌, ◌∙◌, sym, subst, ℕ, ◌<◌, ◌≤◌, Bool, true, false, List, [], ◌∷◌, ◌++◌, length, refl, arith, ap, Option, Some, None, Ok}
-use Rattle.std.specs.Prelude.{cond, not, ◌&&◌, ◌||◌, ◌==◌, is_some, option_map, option_and_then}
+use Rattle.std.proofs.Common.{◌≡◌, ◌∙◌, sym, Bool, true, false, List, [], ◌++◌, length, refl, arith, ap, Option, Some, None, Ok}
+use Rattle.std.specs.Prelude.{not, ◌&&◌, ◌==◌, option_map, option_and_then}
 use Rattle.std.specs.List.{list_any}
 use Rattle.std.specs.Result.{result_ok}
 use Rattle.std.proofs.lemmas.Bool.Decides.{nat_tests}
 use Rattle.std.proofs.lemmas.List.{append-nil}
 use Rattle.flat_base.specs.declared.ids.Actor.{Actor}
 use Rattle.flat_base.specs.declared.ids.Actor.TheVariants.{Display, Session, Probe}
-use Rattle.flat_base.specs.declared.ids.ContentId.{ContentId}
 use Rattle.flat_base.specs.declared.ids.PairNo.{PairNo}
 use Rattle.flat_base.specs.declared.ids.SessionNo.{SessionNo}
 use Rattle.flat_scene.specs.declared.calls.Call.{Call}
@@ -20,16 +19,16 @@ use Rattle.flat_scene.specs.declared.journal.Told.{Told}
 use Rattle.flat_scene.specs.declared.setup.Setup.{Setup}
 use Rattle.flat_scene.specs.Draft.{Draft, Made, an_image, a_fill, a_viewport, made_of}
 use Rattle.flat_scene.specs.Effect.{draft_of}
-use Rattle.flat_scene.specs.History.{◌▹◌, calls, presents, is_closed, is_session}
-use Rattle.flat_core.specs.Ends.{viewport_uses, uses_view, is_done, view_uses}
-use Rattle.flat_core.specs.Legal.{Legal, LegalEntry, MayEnter, is_link}
+use Rattle.flat_scene.specs.History.{◌▹◌, calls, presents, is_closed}
+use Rattle.flat_core.specs.Ends.{uses_view, is_done}
+use Rattle.flat_core.specs.Legal.{Legal, MayEnter, is_link}
 use Rattle.flat_core.specs.Shown.{is_pair}
-use Rattle.flat_core.specs.Watch.{Watcher, layout_of, status_of, child_of, Watching, watching, told, asked, asked_in, asking, settled, is_open, listener, watcher_of, watcher_in, watcher_of_made, is_watcher, same_watcher}
+use Rattle.flat_core.specs.Watch.{Watcher, layout_of, status_of, Watching, watching, told, asked, asked_in, asking, settled, is_open, listener, watcher_of, watcher_in, watcher_of_made, is_watcher, same_watcher}
 use Rattle.flat_core.proofs.ShownOwned.{ok-is}
 use Rattle.flat_core.proofs.Steps.{viewed-more}
-use Rattle.flat_core.proofs.ViewCalls.{no-links-view, or-none-left, or-none-right}
+use Rattle.flat_core.proofs.ViewCalls.{no-links-view, or-none-left}
 use Rattle.flat_core.proofs.ViewHistory.{used_in, viewing-of}
-use Rattle.flat_core.proofs.ViewLaw.{Viewing, viewing-more, MadeOf}
+use Rattle.flat_core.proofs.ViewLaw.{viewing-more, MadeOf}
 
 not-open : (b : Bool) → not b ≡ true → b ≡ false
 not-open true is = cc

@@ -1,6 +1,6 @@
 -- The uses of a viewport end are the calls of its owner that made viewports of the pair, while the owner is open.
-use Rattle.std.proofs.Common.{◌≡◌, ◌∙◌, sym, subst, ℕ, ◌+◌, ◌-◌, ◌≤◌, Bool, true, false, List, [], ◌∷◌, ◌++◌, length, refl, arith, ap, Some, None, Ok}
-use Rattle.std.specs.Prelude.{cond, not, ◌&&◌, ◌||◌, ◌==◌, nat_lt, Option, option_map, unwrap_or, slice_get}
+use Rattle.std.proofs.Common.{◌≡◌, ◌∙◌, sym, subst, ℕ, ◌+◌, ◌-◌, Bool, true, false, List, [], ◌∷◌, ◌++◌, length, refl, arith, ap, Some, None}
+use Rattle.std.specs.Prelude.{cond, not, ◌&&◌, ◌==◌, Option, option_map, unwrap_or, slice_get}
 use Rattle.std.specs.List.{list_any, list_all}
 use Rattle.std.proofs.lemmas.Bool.Decides.{nat_tests}
 use Rattle.flat_base.specs.declared.ids.Actor.{Actor}
@@ -17,9 +17,9 @@ use Rattle.flat_scene.specs.declared.journal.Reply.{Reply}
 use Rattle.flat_scene.specs.declared.journal.Reply.TheVariants.{Done}
 use Rattle.flat_scene.specs.declared.setup.Setup.{Setup}
 use Rattle.flat_scene.specs.History.{◌▹◌, own, calls, closes, is_closed, is_session}
-use Rattle.flat_scene.proofs.Together.{and-left, and-right}
+use Rattle.flat_scene.proofs.Together.{and-left}
 use Rattle.flat_core.specs.Ends.{viewport_uses, uses_viewport, is_done, viewport_owner}
-use Rattle.flat_core.specs.Legal.{Legal, LegalEntry, MayEnter, reply_to, refused_token, is_link, own_call, all_but_last, owns_viewport, owns_in_call, makes_view, makes_viewport, number_if, has_token}
+use Rattle.flat_core.specs.Legal.{Legal, LegalEntry, MayEnter, reply_to, refused_token, is_link, all_but_last, owns_viewport, owns_in_call, makes_view, makes_viewport, number_if, has_token}
 use Rattle.flat_core.specs.Lives.{makes_one, made_of_pair}
 use Rattle.flat_core.proofs.LiveCounts.{made-append}
 use Rattle.flat_core.proofs.ViewCalls.{or-none-left, or-none-right, split-last}

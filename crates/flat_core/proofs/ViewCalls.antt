@@ -8,7 +8,7 @@ use Rattle.flat_base.specs.declared.errors.Reason.{Reason}
 use Rattle.flat_base.specs.declared.errors.Reason.TheVariants.{HasView}
 use Rattle.flat_base.specs.declared.ids.PairNo.{PairNo}
 use Rattle.flat_scene.specs.declared.calls.Call.{Call}
-use Rattle.flat_scene.specs.declared.calls.Call.TheVariants.{CreateView, ReleaseView, Clear, CreateViewport}
+use Rattle.flat_scene.specs.declared.calls.Call.TheVariants.{CreateView, ReleaseView, Clear}
 use Rattle.flat_scene.specs.declared.calls.ViewportProps.{ViewportProps}
 use Rattle.flat_scene.specs.declared.setup.Setup.{Setup}
 use Rattle.flat_scene.specs.Draft.{Draft}

@@ -21,7 +21,7 @@ use Rattle.flat_scene.specs.declared.setup.Setup.{Setup}
 use Rattle.flat_scene.specs.Draft.{Draft, of_serial}
 use Rattle.flat_scene.specs.Effect.{draft_of}
 use Rattle.flat_scene.specs.History.{◌▹◌, calls, closes, is_closed, is_session, own, presents, published, Published}
-use Rattle.flat_scene.proofs.Together.{and-left, and-right}
+use Rattle.flat_scene.proofs.Together.{and-left}
 use Rattle.flat_core.specs.Boards.{entry_of}
 use Rattle.flat_core.specs.Ends.{view_uses, uses_view, is_done, view_owner}
 use Rattle.flat_core.specs.Legal.{Legal, LegalEntry, MayEnter, reply_to, refused_token, is_link, own_call, all_but_last, owns_view, owns_in_call}

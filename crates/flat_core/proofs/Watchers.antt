@@ -1,28 +1,20 @@
 -- What a get, a viewport's join and the end of a frame do to watchers. Only held gets are answered.
-use Rattle.std.proofs.Common.{◌≡◌, ◌∙◌, sym, subst, ℕ, ◌+◌, Bool, true, false, List, [], ◌∷◌, ◌++◌, length, filter, refl, arith, ap, Option, Some, None}
-use Rattle.std.specs.Prelude.{cond, not, ◌&&◌, ◌||◌, ◌==◌, is_some, flat_map, option_map}
-use Rattle.std.specs.List.{list_any}
+use Rattle.std.proofs.Common.{◌≡◌, ◌∙◌, sym, subst, Bool, true, false, List, [], ◌∷◌, ◌++◌, length, filter, refl, arith, ap, Option, Some, None}
+use Rattle.std.specs.Prelude.{cond, is_some, flat_map}
 use Rattle.std.proofs.lemmas.Bool.Decides.{nat_tests}
-use Rattle.flat_base.specs.declared.ids.Actor.{Actor}
-use Rattle.flat_base.specs.declared.ids.Actor.TheVariants.{Session}
 use Rattle.flat_base.specs.declared.ids.PairNo.{PairNo}
 use Rattle.flat_base.specs.declared.ids.SessionNo.{SessionNo}
 use Rattle.flat_scene.specs.declared.calls.Watch.{Watch}
 use Rattle.flat_scene.specs.declared.journal.Entry.{Entry}
-use Rattle.flat_scene.specs.declared.journal.Event.{Event}
 use Rattle.flat_scene.specs.declared.journal.Event.TheVariants as event
 use Rattle.flat_scene.specs.declared.journal.Kind.{Kind}
 use Rattle.flat_scene.specs.declared.journal.Kind.TheVariants.{Get}
-use Rattle.flat_scene.specs.declared.journal.Reply.{Reply}
-use Rattle.flat_scene.specs.declared.journal.Reply.TheVariants.{Held, Now, Closed}
 use Rattle.flat_scene.specs.declared.journal.Told.{Told}
 use Rattle.flat_scene.specs.declared.setup.Setup.{Setup}
-use Rattle.flat_scene.specs.History.{◌▹◌, closes, is_closed, is_session}
-use Rattle.flat_core.specs.Ends.{views_of, viewports_of, viewport_uses}
-use Rattle.flat_core.specs.Legal.{Legal, LegalEntry, got, reply_to_get, is_now, is_told, number_if}
+use Rattle.flat_scene.specs.History.{◌▹◌}
+use Rattle.flat_core.specs.Ends.{views_of, viewport_uses}
 use Rattle.flat_core.specs.Posts.{told_event, event_of, up_to}
 use Rattle.flat_core.specs.Watch.{Watcher, layout_of, status_of, child_of, Watching, watching, told, asked, asked_in, asking, settled, answer, answered_by, news, or_else, is_open, listener, watcher_of, is_watcher, same_watcher}
-use Rattle.flat_core.proofs.Still.{IsStill, told-same, at-rest, open-before}
 use Rattle.flat_core.proofs.WatchLocal.{asking-none}
 
 -- ---- one watcher

@@ -1,8 +1,6 @@
 -- What holds of a legal history: its credits, and how it is seen by one session or one family.
 use Rattle.std.specs.Prelude.{◌≡◌, ◌+◌, Bool, true, false, ◌||◌, ◌==◌, List, [], ◌∷◌, filter, map, length, cond}
 use Rattle.std.specs.List.{list_all}
-use Rattle.flat_base.specs.declared.ids.Actor.{Actor}
-use Rattle.flat_base.specs.declared.ids.Actor.TheVariants.{Session}
 use Rattle.flat_base.specs.declared.ids.SessionNo.{SessionNo}
 use Rattle.flat_scene.specs.declared.journal.Entry.{Entry}
 use Rattle.flat_scene.specs.declared.journal.Event.{Event}
@@ -12,7 +10,7 @@ use Rattle.flat_scene.specs.declared.journal.Kind.TheVariants.{View, Viewport, P
 use Rattle.flat_scene.specs.declared.journal.Reply.{Reply}
 use Rattle.flat_scene.specs.declared.journal.Reply.TheVariants.{Done}
 use Rattle.flat_scene.specs.declared.setup.Setup.{Setup}
-use Rattle.flat_scene.specs.History.{◌▹◌, is_begin, is_finish, is_closed, is_session, presents}
+use Rattle.flat_scene.specs.History.{◌▹◌, is_begin, is_finish, is_session, presents}
 use Rattle.flat_scene.specs.Frames.{is_signalled, waiting, credits, most_waiting}
 use Rattle.flat_scene.specs.Family.{only, is_kept}
 use Rattle.flat_core.specs.Legal.{Legal}

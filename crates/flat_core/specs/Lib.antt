@@ -18,4 +18,6 @@ pub mod Seen
 pub mod Serials
 pub mod Shown
 pub mod Stamps
+pub mod Viewports
+pub mod Views
 pub mod Watch

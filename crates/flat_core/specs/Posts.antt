@@ -1,5 +1,5 @@
 -- Which events an entry posts.
-use Rattle.std.specs.Prelude.{ℕ, zero, suc, ◌+◌, ◌-◌, cond, nat_lt, List, [], ◌∷◌, ◌++◌, length, drop, map, flat_map, replicate, Option, Some, Ok}
+use Rattle.std.specs.Prelude.{ℕ, zero, suc, ◌-◌, cond, nat_lt, List, [], ◌∷◌, ◌++◌, length, drop, map, flat_map, replicate, Option, Some, Ok}
 use Rattle.flat_base.specs.declared.ids.PairNo.{PairNo}
 use Rattle.flat_base.specs.declared.ids.SessionNo.{SessionNo}
 use Rattle.flat_scene.specs.declared.calls.Watch.{Watch}

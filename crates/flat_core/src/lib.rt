@@ -12,10 +12,13 @@ mod ends;
 mod laws;
 mod live;
 mod log;
+mod pairs;
 mod polls;
 mod state;
 #[cfg(test)]
 mod tests;
+mod told;
+mod viewports;
 mod views;
 
 ghost use Rattle.flat_core.specs.Laws.{CreditsAddUp};

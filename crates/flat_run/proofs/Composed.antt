@@ -11,7 +11,6 @@ use Rattle.flat_scene.specs.declared.setup.Setup.{Setup}
 use Rattle.flat_scene.specs.Setups.{is_declared, is_setup}
 use Rattle.flat_core.specs.Ends.{to_begin, has_view}
 use Rattle.flat_core.specs.Legal.{Legal}
-use Rattle.flat_core.specs.Plain.{are_plain}
 use Rattle.flat_core.specs.Shown.{shown_states}
 use Rattle.flat_topology.specs.declared.Joined.{Joined}
 use Rattle.flat_topology.specs.Connected.{joined_lists}
@@ -23,7 +22,7 @@ use Rattle.flat_tree.specs.Laws.{TreesFollow, IsSetOf}
 use Rattle.flat_tree.specs.Trees.{tree_from}
 use Rattle.flat_report.specs.Report.{frame_at}
 use Rattle.flat_run.specs.Playing.{FramesStand, HasViews}
-use Rattle.flat_run.proofs.ShownFits.{begun_fits, length_sessions}
+use Rattle.flat_core.proofs.ShownFits.{begun-fits, length-sessions}
 use Rattle.flat_run.proofs.Conditions.{and_left, and_right, and_true}
 
 pub few_sessions : (setup : Setup) → is_setup setup ≡ true → setup.sessions ≤ SESSIONS_MAX
@@ -34,10 +33,10 @@ few_sessions setup is =
 
 module _ (setup : Setup) (history : List Entry) (shown : Shown) (views : SessionSet) (done : List FrameOut) (stands : FramesStand setup history shown views done) where
   pub shown_count : length shown ≡ setup.sessions
-  shown_count = ap (length {A = _}) stands.showing ∙ length_sessions _ setup.sessions
+  shown_count = ap (length {A = _}) stands.showing ∙ length-sessions _ setup.sessions
 
-  pub shown_fits : Legal setup history → are_plain history ≡ true → FitsSetup setup shown
-  shown_fits legal plain = let P : Shown → Type 0 = FitsSetup setup in subst P (sym stands.showing) (begun_fits setup history legal plain)
+  pub shown_fits : Legal setup history → FitsSetup setup shown
+  shown_fits legal = let P : Shown → Type 0 = FitsSetup setup in subst P (sym stands.showing) (begun-fits setup history legal)
 
   set_of : HasViews setup views → IsSetOf setup (λ s. has_view setup (to_begin history) (record { 0 = s })) views
   set_of none = record {

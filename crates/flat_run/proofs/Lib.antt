@@ -5,15 +5,12 @@ pub mod DisplaySteps
 pub mod Displayed
 pub mod Ending
 pub mod Entering
-pub mod Fits
 pub mod GameSteps
 pub mod InOrder
 pub mod Judging
-pub mod LowTrees
 pub mod Places
 pub mod Reading
 pub mod Reporting
-pub mod ShownFits
 pub mod Standing
 pub mod Starting
 pub mod Steps

@@ -16,7 +16,7 @@ join-requires-clause-fit c =
     let P : Setup → Type 0 = λ s. FitsSetup s c.args.self.now.shown in
     subst P (sym c.setup.ensures)
     (shown_fits c.args.self.now.board.setup c.args.self.now.board.history c.args.self.now.shown c.args.self.now.with_view (finished c.args.self.now.board.setup c.args.self.now.board.history) c.requires.stands
-    c.journal-journal.ensures.legal c.journal-journal.ensures.plain)
+    c.journal-journal.ensures.legal)
 
 pub returns : goal.returns
 returns c =
