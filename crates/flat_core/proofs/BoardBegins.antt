@@ -1,6 +1,6 @@
 -- All that is kept, after a begin.
 use Rattle.std.proofs.Common.{◌≡◌, ℕ, ◌+◌, ◌-◌, ◌*◌, ◌<◌, ◌≤◌, ◌^◌, Bool, true, false, List, [], ◌∷◌, ◌++◌, length, refl, arith, sym, ◌∙◌, ap, map, drop, Some, slice_get, one-add, add-one}
-use Rattle.std.specs.Prelude.{cond, ◌||◌, sum_by, flat_map}
+use Rattle.std.specs.Prelude.{cond, ◌||◌, flat_map}
 use Rattle.std.specs.List.{prefix_len}
 use Rattle.std.proofs.lemmas.List.{map-append}
 use Rattle.std.proofs.lemmas.List.Sums.{count_by-le-length, length-filter}
@@ -24,7 +24,7 @@ use Rattle.flat_scene.specs.Frames.{is_ready}
 use Rattle.flat_core.specs.declared.clock.Clock.{Clock}
 use Rattle.flat_core.specs.declared.state.SessionState.{SessionState}
 use Rattle.flat_core.specs.Begins.{begun, begin_entry, finished, finish_entry, post_of, posts_to}
-use Rattle.flat_core.specs.Boards.{Machine, MayCall, Stands, HasRoom, entry_of, number, due}
+use Rattle.flat_core.specs.Boards.{Machine, MayCall, Stands, HasRoom, entry_of, number}
 use Rattle.flat_core.specs.Kept.{IsKept, AllNumbered}
 use Rattle.flat_core.specs.Logs.{Logged}
 use Rattle.flat_core.specs.Seen.{Seen, seen_of}
@@ -54,35 +54,35 @@ posts-all setup h e =
     ∙ flat-same (λ s. map post (send s)) (λ s. map (post_of (length h) s) (events_to setup h e s)) (sessions_to setup.sessions) (λ s. map-twice post (λ event. record { to = s; event = event }) (events_to setup h e s)))
 
 -- What the entry of a frame did, from the log before to the log after: so many events were posted.
-pub record Framed (setup : Setup) (h : List Entry) (e : Entry) (log mid then : Logged) (count : ℕ) (sessions after : List SessionState) : Type 0 where
+pub record Framed (setup : Setup) (h : List Entry) (e : Entry) (log mid then : Logged) (count dues dues_now : ℕ) : Type 0 where
   pub posts : mid.posts ≡ log.posts ++ posts_to setup h e setup.sessions
   pub posted : length mid.posts ≡ length log.posts + count
   pub history : mid.history ≡ log.history
   pub room : mid.room ≡ log.room
   pub post_room : mid.post_room + count ≡ log.post_room
-  pub due : sum_by due after + count ≤ sum_by due sessions
+  pub due : dues_now + count ≤ dues
   pub entered : Entered mid then e
 
 room-framed : (m : Machine) (line : ℕ) (kind : Kind) → MayCall m Display [] kind
-    → (sessions after : List SessionState) (log mid then : Logged) (owed count : ℕ) → log.history ≡ m.history → HasRoom m.setup m.shares log owed sessions
-    → Framed m.setup m.history (entry_of Display line [] kind Done) log mid then count sessions after → HasRoom m.setup m.shares then (owed - count) after
-room-framed m line kind call sessions after log mid then owed count same room framed =
+    → (dues after : ℕ) (log mid then : Logged) (owed count : ℕ) → log.history ≡ m.history → HasRoom m.setup m.shares log owed dues
+    → Framed m.setup m.history (entry_of Display line [] kind Done) log mid then count dues after → HasRoom m.setup m.shares then (owed - count) after
+room-framed m line kind call dues after log mid then owed count same room framed =
     let h : List Entry = m.history in
     let e : Entry = entry_of Display line [] kind Done in
     let posts_old : log.posts ≡ posts m.setup h = rw (← same) room.posts in
     let posts_new : then.posts ≡ posts m.setup (h ▹ e) = framed.entered.posts ∙ framed.posts ∙ ap (λ ps. ps ++ posts_to m.setup h e m.setup.sessions) posts_old ∙ sym (posts-all m.setup h e) in
     let small : length log.posts + owed ≤ 2 * length h = rw (← same) room.small in
     let as_many : length then.posts ≡ length mid.posts = ap length framed.entered.posts in
-    room-entered m Display line [] kind Done call log then owed (owed - count) sessions after same room (framed.entered.history ∙ rw framed.history refl) posts_new (framed.entered.room ∙ framed.room)
+    room-entered m Display line [] kind Done call log then owed (owed - count) dues after same room (framed.entered.history ∙ rw framed.history refl) posts_new (framed.entered.room ∙ framed.room)
     (omega (arith, framed.post_room, framed.entered.post_room, room.reserved)) (omega (arith, framed.due, room.due)) (omega (arith, small, as_many, framed.posted, framed.due, room.due))
 
 pub kept-begun : (m : Machine) (line time : ℕ) → MayCall m Display [] (Begin time)
-    → (clock : Clock) (fences views : List Bool) (sessions after : List SessionState) (log mid then : Logged) (owed count : ℕ) → log.history ≡ m.history
-    → Stands m.setup log.history clock fences views sessions → HasRoom m.setup m.shares log owed sessions
+    → (clock : Clock) (fences views : List Bool) (sessions after : List SessionState) (log mid then : Logged) (owed count : ℕ) {dues dues_now : ℕ} → log.history ≡ m.history
+    → Stands m.setup log.history clock fences views sessions → HasRoom m.setup m.shares log owed dues
     → length after ≡ m.setup.sessions → AllNumbered (λ i. IsKept m.setup (seen_of m.setup (begun m.history line time) (number i))) after
-    → Framed m.setup m.history (begin_entry line time) log mid then count sessions after
-    → Stands m.setup then.history (record { frames = clock.frames; is_open = true; time = time }) fences views after × HasRoom m.setup m.shares then (owed - count) after
-kept-begun m line time call clock fences views sessions after log mid then owed count same stands room all each framed =
+    → Framed m.setup m.history (begin_entry line time) log mid then count dues dues_now
+    → Stands m.setup then.history (record { frames = clock.frames; is_open = true; time = time }) fences views after × HasRoom m.setup m.shares then (owed - count) dues_now
+kept-begun m line time call clock fences views sessions after log mid then owed count {dues} {dues_now} same stands room all each framed =
     let h : List Entry = m.history in
     let e : Entry = begin_entry line time in
     let old : Stands m.setup h clock fences views sessions = rw (← same) stands in
@@ -98,7 +98,7 @@ kept-begun m line time call clock fences views sessions after log mid then owed 
       viewed = old.viewed;
       count = all;
       each = each;
-    } in (rw now is, room-framed m line (Begin time) call sessions after log mid then owed count same room framed)
+    } in (rw now is, room-framed m line (Begin time) call dues dues_now log mid then owed count same room framed)
 
 -- a frame's number is a number of the machine
 pub frames-few : (h : List Entry) → frames h ≤ length h
@@ -124,24 +124,24 @@ not-ready setup h line time s present opened here =
     stops q (waiting setup h s) present (ap (λ (n : ℕ). slice_get (drop n (waiting setup h s)) 0) (sym long) ∙ ap (λ ps. slice_get ps 0) (sym waits) ∙ here)
 
 -- there are few enough entries, and frames
-pub place-small : (m : Machine) (kind : Kind) → MayCall m Display [] kind → (clock : Clock) (fences views : List Bool) (sessions : List SessionState) (log : Logged) (owed : ℕ) → log.history ≡ m.history
-    → Stands m.setup log.history clock fences views sessions → HasRoom m.setup m.shares log owed sessions → (length log.history < 2 ^ 32) × (clock.frames + 1 < 2 ^ 32)
-place-small m kind call clock fences views sessions log owed same stands room =
+pub place-small : (m : Machine) (kind : Kind) → MayCall m Display [] kind → (clock : Clock) (fences views : List Bool) (sessions : List SessionState) (log : Logged) (owed : ℕ) {dues : ℕ} → log.history ≡ m.history
+    → Stands m.setup log.history clock fences views sessions → HasRoom m.setup m.shares log owed dues → (length log.history < 2 ^ 32) × (clock.frames + 1 < 2 ^ 32)
+place-small m kind call clock fences views sessions log owed {dues} same stands room =
     let old : Stands m.setup m.history clock fences views sessions = rw (← same) stands in
-    let few = few-history m Display [] kind call old.legal log owed sessions same room in
+    let few = few-history m Display [] kind call old.legal log owed dues same room in
     let ticks : clock.frames ≡ frames m.history = ap (λ (c : Clock). c.frames) old.timed in
     let long : length log.history ≡ length m.history = ap length same in
     (omega (arith, few, room.total, long), omega (arith, few, room.total, ticks, frames-few m.history))
 
 -- all that is kept, after the end of a frame
 pub kept-finished : (m : Machine) (line : ℕ) → MayCall m Display [] Finish
-    → (clock : Clock) (fences signalled_now views : List Bool) (sessions after : List SessionState) (log mid then : Logged) (owed count : ℕ) → log.history ≡ m.history
-    → Stands m.setup log.history clock fences views sessions → HasRoom m.setup m.shares log owed sessions
+    → (clock : Clock) (fences signalled_now views : List Bool) (sessions after : List SessionState) (log mid then : Logged) (owed count : ℕ) {dues dues_now : ℕ} → log.history ≡ m.history
+    → Stands m.setup log.history clock fences views sessions → HasRoom m.setup m.shares log owed dues
     → length after ≡ m.setup.sessions → AllNumbered (λ i. IsKept m.setup (seen_of m.setup (finished m.history line) (number i))) after
     → length signalled_now ≡ length fences → ((g : FenceNo) → has signalled_now g ≡ (has fences g || released_to m.setup m.history m.setup.sessions g))
-    → Framed m.setup m.history (finish_entry line) log mid then count sessions after
-    → Stands m.setup then.history (record { frames = clock.frames + 1; is_open = false; time = clock.time }) signalled_now views after × HasRoom m.setup m.shares then (owed - count) after
-kept-finished m line call clock fences signalled_now views sessions after log mid then owed count same stands room all each size members framed =
+    → Framed m.setup m.history (finish_entry line) log mid then count dues dues_now
+    → Stands m.setup then.history (record { frames = clock.frames + 1; is_open = false; time = clock.time }) signalled_now views after × HasRoom m.setup m.shares then (owed - count) dues_now
+kept-finished m line call clock fences signalled_now views sessions after log mid then owed count {dues} {dues_now} same stands room all each size members framed =
     let h : List Entry = m.history in
     let e : Entry = finish_entry line in
     let old : Stands m.setup h clock fences views sessions = rw (← same) stands in
@@ -159,4 +159,4 @@ kept-finished m line call clock fences signalled_now views sessions after log mi
       viewed = old.viewed;
       count = all;
       each = each;
-    } in (rw now is, room-framed m line Finish call sessions after log mid then owed count same room framed)
+    } in (rw now is, room-framed m line Finish call dues dues_now log mid then owed count same room framed)

@@ -6,13 +6,19 @@ use Rattle.std.proofs.lemmas.List.{append-nil}
 use Rattle.flat_base.specs.declared.ids.FenceNo.{FenceNo}
 use Rattle.flat_base.specs.declared.ids.SessionNo.{SessionNo}
 use Rattle.flat_scene.specs.declared.journal.Entry.{Entry}
-use Rattle.flat_scene.specs.declared.journal.Event.TheVariants as event
+use Rattle.flat_scene.specs.declared.journal.Event.{Event}
 use Rattle.flat_scene.specs.declared.setup.Setup.{Setup}
 use Rattle.flat_scene.specs.History.{is_closed, Published}
-use Rattle.flat_scene.specs.Frames.{going, is_among, is_released_by, sessions_to}
-use Rattle.flat_core.specs.Posts.{events_to, frame_took}
+use Rattle.flat_scene.specs.Frames.{going, is_among, is_released_by, sessions_to, taken}
+use Rattle.flat_scene.specs.Setups.{is_declared}
+use Rattle.flat_core.specs.declared.live.Live.{Live}
+use Rattle.flat_core.specs.declared.live.OutToken.{OutToken}
+use Rattle.flat_core.specs.Legal.{is_frame_open, Legal}
+use Rattle.flat_core.specs.Viewports.{AreViewports, back_events}
+use Rattle.flat_core.specs.Posts.{at_finish, events_to, frame_took, news_for}
 use Rattle.flat_core.specs.declared.state.SessionState.{SessionState}
-use Rattle.flat_core.specs.Begins.{finished, finish_entry}
+use Rattle.flat_core.specs.declared.viewports.Viewports.{Viewports}
+use Rattle.flat_core.specs.Begins.{finished, finish_entry, took_event}
 use Rattle.flat_core.specs.Boards.{number}
 use Rattle.flat_core.specs.Kept.{IsKept, AllNumbered, release_of}
 use Rattle.flat_core.specs.Plain.{are_plain}
@@ -20,12 +26,19 @@ use Rattle.flat_core.specs.Seen.{seen_of}
 use Rattle.flat_core.proofs.BeginLoop.{same-side, this-side, not-below, none-below, all-below, sessions-on}
 use Rattle.flat_core.proofs.Changes.{changed-one}
 use Rattle.flat_core.proofs.NoNews.{news-plain}
-use Rattle.flat_core.proofs.Tokens.{no-tokens}
+use Rattle.flat_core.proofs.ViewportUses.{tokens-finish}
 
 -- what the end of a frame posts
-pub events-finished : (setup : Setup) (h : List Entry) (line : ℕ) (s : SessionNo) → are_plain h ≡ true
-    → events_to setup h (finish_entry line) s ≡ cond (is_closed s h) [] (cond (nat_lt 0 (frame_took setup h s)) (event.FramePresented (frame_took setup h s) ∷ []) [])
-events-finished setup h line s plain = rw (news-plain setup h (finish_entry line) s plain, no-tokens setup h s plain, append-nil, append-nil) refl
+pub events-finished : (setup : Setup) (h : List Entry) (line : ℕ) (s : SessionNo) → is_declared setup s ≡ true → are_plain h ≡ true → Legal setup h → is_frame_open h ≡ true
+    → (live : List Live) (out : List OutToken) → AreViewports setup h s live out
+    → events_to setup h (finish_entry line) s ≡ cond (is_closed s h) [] (took_event (frame_took setup h s) ++ back_events (taken setup h s) out)
+events-finished setup h line s declared plain legal going live out kept = by_closed (is_closed s h) refl
+  where
+    by_closed : (b : Bool) → is_closed s h ≡ b → cond b [] (news_for setup h (finish_entry line) s) ≡ cond b [] (took_event (frame_took setup h s) ++ back_events (taken setup h s) out)
+    by_closed true closed = refl
+    by_closed false opened =
+        news-plain setup h (finish_entry line) s plain ∙ append-nil (at_finish setup h s)
+        ∙ ap (λ (tokens : List Event). took_event (frame_took setup h s) ++ tokens) (tokens-finish setup s declared h legal opened going live out kept)
 
 -- ---- session by session
 
@@ -65,6 +78,32 @@ pub done-here : (setup : Setup) (h : List Entry) (line i : ℕ) (sessions : List
 done-here setup h line i sessions state each below is =
     let here : IsKept setup (seen_of setup h (number i)) (slice_index_or sessions i state) = rw (not-below i) at (each i state below) in
     let P : SessionState → Type 0 = λ x. IsKept setup (seen_of setup h (number i)) x in subst P (sym is) here
+
+-- ---- what holds by places, of a history or of the one with the entry of a frame
+
+abbrev pub UpTo : {A : Type 0} → (List Entry → ℕ → A → Type 0) → List Entry → List Entry → ℕ → ℕ → A → Type 0
+UpTo P h k i j x = P (cond (nat_lt j i) k h) j x
+
+pub up-next : {A : Type 0} (P : List Entry → ℕ → A → Type 0) (h k : List Entry) (i : ℕ) (xs : List A) (new : A) → AllNumbered (UpTo P h k i) xs → P k i new → AllNumbered (UpTo P h k (i + 1)) (slice_set xs i new)
+up-next P h k i xs new each here = changed-one (UpTo P h k i) (UpTo P h k (i + 1)) xs i new (λ j x other kept. rw (← same-side i j other) kept) (rw (this-side i) here) each
+
+pub up-here : {A : Type 0} (P : List Entry → ℕ → A → Type 0) (h k : List Entry) (i : ℕ) (xs : List A) (x : A) → AllNumbered (UpTo P h k i) xs → i < length xs → x ≡ slice_index_or xs i x → P h i x
+up-here P h k i xs x each below is =
+    let here : P h i (slice_index_or xs i x) = rw (not-below i) at (each i x below) in
+    subst (P h i) (sym is) here
+
+pub up-start : {A : Type 0} (P : List Entry → ℕ → A → Type 0) (h k : List Entry) (xs : List A) → AllNumbered (P h) xs → AllNumbered (UpTo P h k 0) xs
+up-start P h k xs each j d below = rw (none-below j) (each j d below)
+
+pub up-end : {A : Type 0} (P : List Entry → ℕ → A → Type 0) (h k : List Entry) (n : ℕ) (xs : List A) → length xs ≡ n → AllNumbered (UpTo P h k n) xs → AllNumbered (P k) xs
+up-end P h k n xs count each j d below = rw (all-below j (length xs) n below count) at (each j d below)
+
+-- of a session's viewports
+abbrev pub EndsOf : Setup → List Entry → ℕ → Viewports → Type 0
+EndsOf setup k j one = AreViewports setup k (number j) one.live.items one.out.items
+
+abbrev pub EndsUpTo : Setup → List Entry → ℕ → ℕ → ℕ → Viewports → Type 0
+EndsUpTo setup h line i = UpTo (EndsOf setup) h (finished h line) i
 
 any-map : (gone : List Published) (g : FenceNo) → list_any (λ list. is_among list g) (map release_of gone) ≡ is_released_by gone g
 any-map [] g = refl

@@ -1,18 +1,17 @@
 -- What the end of a frame posts to a session, by what is kept of it: held gets, what the frame took, and the tokens that are out.
-use Rattle.std.proofs.Common.{◌≡◌, ◌∙◌, ℕ, Bool, true, false, List, [], ◌∷◌, ◌++◌, length, filter, refl}
-use Rattle.std.specs.Prelude.{cond, nat_lt, flat_map}
+use Rattle.std.proofs.Common.{◌≡◌, ◌∙◌, ℕ, Bool, true, false, List, [], ◌++◌, length, filter, refl}
+use Rattle.std.specs.Prelude.{cond, flat_map}
 use Rattle.std.proofs.lemmas.List.{append-nil}
 use Rattle.flat_base.specs.declared.ids.SessionNo.{SessionNo}
 use Rattle.flat_scene.specs.declared.journal.Entry.{Entry}
 use Rattle.flat_scene.specs.declared.journal.Event.{Event}
-use Rattle.flat_scene.specs.declared.journal.Event.TheVariants as event
 use Rattle.flat_scene.specs.declared.setup.Setup.{Setup}
 use Rattle.flat_scene.specs.Frames.{taken}
 use Rattle.flat_scene.specs.History.{is_closed}
 use Rattle.flat_scene.specs.Setups.{is_declared}
 use Rattle.flat_core.specs.declared.live.Live.{Live}
 use Rattle.flat_core.specs.declared.live.OutToken.{OutToken}
-use Rattle.flat_core.specs.Begins.{finish_entry}
+use Rattle.flat_core.specs.Begins.{finish_entry, took_event}
 use Rattle.flat_core.specs.Ends.{views_of, viewports_of, viewport_uses}
 use Rattle.flat_core.specs.Legal.{Legal, is_frame_open}
 use Rattle.flat_core.specs.Posts.{told_event, events_to, news_for, frame_took, tokens_back, up_to}
@@ -28,10 +27,6 @@ held_answers setup before e s =
     flat_map (λ p. told_event setup p (layout_of p) before e) (filter (λ p. is_held setup before (layout_of p)) (views_of setup s))
     ++ flat_map (λ p. told_event setup p (status_of p) before e) (filter (λ p. is_held setup before (status_of p)) (views_of setup s))
     ++ flat_map (λ p. flat_map (λ n. told_event setup p (child_of p n) before e) (filter (λ n. is_held setup before (child_of p n)) (up_to (length (viewport_uses p before))))) (viewports_of setup s)
-
--- what the frame took, as an event
-abbrev pub took_event : ℕ → List Event
-took_event n = cond (nat_lt 0 n) (event.FramePresented n ∷ []) []
 
 four-parts : (a b c d e : List Event) → (a ++ b ++ c ++ (d ++ e) ++ []) ≡ ((a ++ b ++ c) ++ (d ++ e))
 four-parts a b c d e = append-nil (a ++ b ++ c ++ (d ++ e))

@@ -9,6 +9,7 @@ pub mod Counts
 pub mod CreditLemmas
 pub mod DoneSteps
 pub mod Earlier
+pub mod EndSteps
 pub mod EventsLocal
 pub mod FamilyHistory
 pub mod FamilyTheorem
@@ -29,7 +30,6 @@ pub mod MoreRuns
 pub mod Neighbour
 pub mod NoAnswers
 pub mod NoNews
-pub mod NoViewports
 pub mod Ones
 pub mod Opened
 pub mod Owned
@@ -61,11 +61,12 @@ pub mod Stamped
 pub mod Steps
 pub mod Still
 pub mod TokenLaw
-pub mod Tokens
 pub mod TokensBack
 pub mod ToldLocal
 pub mod Unwatched
+pub mod UseLast
 pub mod Uses
+pub mod UseSteps
 pub mod ViewCalls
 pub mod ViewHistory
 pub mod ViewLaw

@@ -1,4 +1,4 @@
--- With no gets and no viewports nothing is told, and no token comes back.
+-- With no gets nothing is told.
 use Rattle.std.proofs.Common.{◌≡◌, Bool, true, false, List, [], ◌∷◌, ◌++◌, length, refl, Option, Some, None}
 use Rattle.std.specs.Prelude.{cond, map, flat_map}
 use Rattle.flat_base.specs.declared.ids.PairNo.{PairNo}
@@ -17,9 +17,9 @@ use Rattle.flat_scene.specs.Frames.{sessions_to}
 use Rattle.flat_core.specs.Posts.{told_event, up_to, posted, events_to, news_for, at_begin, at_finish, Sent}
 use Rattle.flat_core.specs.Watch.{Watcher, Watching, watching, asked, asked_in, settled, answered_by, asking, answer, told, listener, is_open, layout_of, status_of, child_of}
 use Rattle.flat_scene.proofs.Together.{and-left, and-right}
-use Rattle.flat_core.specs.Plain.{is_plain, is_plain_kind, are_plain}
+use Rattle.flat_core.specs.Plain.{is_plain, are_plain}
 
-asked-none : (setup : Setup) (w : Watcher) (h : List Entry) (e : Entry) (kind : Kind) → is_plain_kind kind ≡ true → asked_in setup w h e kind ≡ None
+asked-none : (setup : Setup) (w : Watcher) (h : List Entry) (e : Entry) (kind : Kind) → is_plain kind ≡ true → asked_in setup w h e kind ≡ None
 asked-none setup w h e (Get get) p = cc
 asked-none setup w h e kind p = refl
 
@@ -38,9 +38,8 @@ asking-none get w no_get none = rw (none, no_get) refl
 pub nobody-waits : (setup : Setup) (w : Watcher) (h : List Entry) → are_plain h ≡ true → (watching setup w h).waits ≡ None
 nobody-waits setup w [] plain = refl
 nobody-waits setup w (h ▹ e) plain =
-    let now : is_plain e.calls e.kind ≡ true = and-left _ _ plain in
     settled-none (is_open setup (listener setup w) (h ▹ e)) (told setup (h ▹ e) w) (asking (asked setup w h e) (watching setup w h))
-    (asking-none (asked setup w h e) (watching setup w h) (asked-none setup w h e e.kind (and-left _ _ now)) (nobody-waits setup w h (and-right _ _ plain)))
+    (asking-none (asked setup w h e) (watching setup w h) (asked-none setup w h e e.kind (and-left _ _ plain)) (nobody-waits setup w h (and-right _ _ plain)))
 
 told-none : (setup : Setup) (p : PairNo) (w : Watcher) (h : List Entry) (e : Entry) → are_plain h ≡ true → told_event setup p w h e ≡ []
 told-none setup p w h e plain = rw (nobody-waits setup w h plain) refl

@@ -66,7 +66,7 @@ few-declared setup limits =
 pub opened : (setup : Setup) (shares : List ℕ) (log : Logged) (fences views : List Bool) (sessions : List SessionState) (total : ℕ) → is_within_limits setup ≡ true → length shares ≡ setup.sessions + 1 → sum shares < 2 ^ 31
     → total ≡ sum shares → log.history ≡ [] → log.posts ≡ [] → total ≤ log.room → length fences ≡ length setup.fences → ((f : FenceNo) → has fences f ≡ false)
     → length views ≡ length setup.pairs → ((p : PairNo) → has_end views p ≡ false) → length sessions ≡ setup.sessions → All IsNew sessions
-    → Stands setup log.history (record { frames = 0; is_open = false; time = 0 }) fences views sessions × HasRoom setup shares log 0 sessions
+    → Stands setup log.history (record { frames = 0; is_open = false; time = 0 }) fences views sessions × HasRoom setup shares log 0 (sum_by due sessions + 0)
 opened setup shares log fences views sessions total limits actors few is history posts room size none view_size no_view count new =
     let stands : Stands setup [] (record { frames = 0; is_open = false; time = 0 }) fences views sessions = record {
       legal = tt;

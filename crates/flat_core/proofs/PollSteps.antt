@@ -24,9 +24,9 @@ use Rattle.flat_core.proofs.Steps.{few-history}
 
 -- where the session's events begin is in the posts
 pub polled-within : (m : Machine) (s : SessionNo) (calls : List Call) → MayCall m (Session s) calls Poll
-    → (clock : Clock) (fences views : List Bool) (sessions : List SessionState) (log : Logged) (owed : ℕ) (state : SessionState) (all : List Post) → state ≡ slice_index_or sessions (s.0 - 1) state
-    → log.history ≡ m.history → Stands m.setup log.history clock fences views sessions → HasRoom m.setup m.shares log owed sessions → all ≡ log.posts → state.account.polled ≤ length all
-polled-within m s calls call clock fences views sessions log owed state all is same stands room posted =
+    → (clock : Clock) (fences views : List Bool) (sessions : List SessionState) (log : Logged) (owed : ℕ) {dues : ℕ} (state : SessionState) (all : List Post) → state ≡ slice_index_or sessions (s.0 - 1) state
+    → log.history ≡ m.history → Stands m.setup log.history clock fences views sessions → HasRoom m.setup m.shares log owed dues → all ≡ log.posts → state.account.polled ≤ length all
+polled-within m s calls call clock fences views sessions log owed {dues} state all is same stands room posted =
     let kept : IsKept m.setup (seen_of m.setup log.history s) state = kept-session m.setup log.history clock fences views sessions s state stands (declared-of m.setup Poll s call.may.acts) is in
     let long : length all ≡ length (posts m.setup log.history) = ap length (posted ∙ room.posts) in
     omega (arith, ap (λ (a : Account). a.polled) kept.account, polled-le m.setup log.history s, long)
@@ -39,11 +39,11 @@ pub record Handed (m : Machine) (s : SessionNo) (count : ℕ) (into list : List 
   pub place : length all ≡ length (posts m.setup m.history)
 
 pub handed : (m : Machine) (s : SessionNo) (calls : List Call) → MayCall m (Session s) calls Poll
-    → (clock : Clock) (fences views : List Bool) (sessions : List SessionState) (log : Logged) (owed : ℕ) (state : SessionState) (all : List Post) (into list : List Event) (count : ℕ)
+    → (clock : Clock) (fences views : List Bool) (sessions : List SessionState) (log : Logged) (owed : ℕ) {dues : ℕ} (state : SessionState) (all : List Post) (into list : List Event) (count : ℕ)
     → state ≡ slice_index_or sessions (s.0 - 1) state
-    → log.history ≡ m.history → Stands m.setup log.history clock fences views sessions → HasRoom m.setup m.shares log owed sessions → all ≡ log.posts
+    → log.history ≡ m.history → Stands m.setup log.history clock fences views sessions → HasRoom m.setup m.shares log owed dues → all ≡ log.posts
     → list ≡ into ++ events_for s (drop state.account.polled all) → count ≡ length list - length into → Handed m s count into list all
-handed m s calls call clock fences views sessions log owed state all into list count is same stands room posted pushed counted =
+handed m s calls call clock fences views sessions log owed {dues} state all into list count is same stands room posted pushed counted =
     let old : Stands m.setup m.history clock fences views sessions = rw (← same) stands in
     let declared = declared-of m.setup Poll s call.may.acts in
     let here = declared-some s.0 m.setup.sessions declared in
@@ -53,7 +53,7 @@ handed m s calls call clock fences views sessions log owed state all into list c
     let as_many : count ≡ length (unread_events m.setup m.history s) = omega (arith, counted, ap length events, length-append into (unread_events m.setup m.history s)) in
     let small : length log.posts + owed ≤ 2 * length m.history = rw (← same) room.small in
     let long : length log.posts ≡ length (posts m.setup m.history) = ap length (sym posted ∙ all_posts) in
-    let few : length m.history < sum m.shares = few-history m (Session s) calls Poll call old.legal log owed sessions same room in
+    let few : length m.history < sum m.shares = few-history m (Session s) calls Poll call old.legal log owed dues same room in
     record {
       events = events;
       as_many = counted ∙ handed-count m.setup m.history s into list here.0 here.1 events;

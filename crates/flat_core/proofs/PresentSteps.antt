@@ -1,6 +1,6 @@
 -- A present, accepted or not.
 use Rattle.std.proofs.Common.{◌≡◌, ℕ, zero, suc, ◌+◌, ◌-◌, ◌*◌, ◌<◌, ◌≤◌, ◌^◌, Bool, true, false, List, [], ◌∷◌, length, refl, arith, sym, ◌∙◌, ap, slice_set, slice_index_or, length-append, Some, None}
-use Rattle.std.specs.Prelude.{cond, not, ◌==◌, nat_lt, IsTrue, slice_get, option_map, unwrap_or}
+use Rattle.std.specs.Prelude.{cond, not, ◌==◌, nat_lt, IsTrue, slice_get, option_map, unwrap_or, sum_by}
 use Rattle.std.specs.List.{list_any, list_all}
 use Rattle.std.specs.Arc.{arc_value}
 use Rattle.std.specs.declared.sync.Arc.{Arc}
@@ -115,12 +115,12 @@ owed-two false n k = omega arith
 -- all that is kept
 pub kept-after-present : (m : Machine) (s : SessionNo) (line : ℕ) (calls : List Call) (args : PresentArgs) (snap : Arc Snapshot Global) → MayCall m (Session s) calls (Present args)
     → Some (arc_value snap) ≡ tree_of m.setup (present_of m.history s calls args)
-    → (clock : Clock) (fences views : List Bool) (sessions : List SessionState) (log then : Logged) (owed : ℕ) (state : SessionState) → state ≡ slice_index_or sessions (s.0 - 1) state → log.history ≡ m.history
-    → Stands m.setup log.history clock fences views sessions → HasRoom m.setup m.shares log owed sessions
+    → (clock : Clock) (fences views : List Bool) (sessions : List SessionState) (log then : Logged) (owed : ℕ) {due_back due_back_now : ℕ} (state : SessionState) → state ≡ slice_index_or sessions (s.0 - 1) state → log.history ≡ m.history
+    → Stands m.setup log.history clock fences views sessions → HasRoom m.setup m.shares log owed (sum_by due sessions + due_back) → due_back_now ≡ due_back
     → then.history ≡ (log.history ▹ entry_of (Session s) line calls (Present args) (present_reply state)) → then.posts ≡ log.posts → then.room + 1 ≡ log.room → owed + 2 ≤ then.post_room
     → Stands m.setup then.history clock fences views (slice_set sessions (s.0 - 1) (with_calls calls (after_present state snap args)))
-    × HasRoom m.setup m.shares then (owed + owed_for (present_reply state)) (slice_set sessions (s.0 - 1) (with_calls calls (after_present state snap args)))
-kept-after-present m s line calls args snap call tree clock fences views sessions log then owed state is same stands room history posted spent reserved =
+    × HasRoom m.setup m.shares then (owed + owed_for (present_reply state)) (sum_by due (slice_set sessions (s.0 - 1) (with_calls calls (after_present state snap args))) + due_back_now)
+kept-after-present m s line calls args snap call tree clock fences views sessions log then owed {due_back} {due_back_now} state is same stands room comes history posted spent reserved =
     let old : Stands m.setup m.history clock fences views sessions = rw (← same) stands in
     let e : Entry = entry_of (Session s) line calls (Present args) (present_reply state) in
     let new : SessionState = with_calls calls (after_present state snap args) in
@@ -146,18 +146,18 @@ kept-after-present m s line calls args snap call tree clock fences views session
     (λ k. present-kept m.setup m.history s line calls args snap state left (nat_lt 0 (credits_of state.queue)) refl opened owned tree k) in (
       rw now (stands-entered m (Session s) line calls (Present args) (present_reply state) call replied refl refl clock fences fences views views sessions (slice_set sessions (s.0 - 1) new) old
           (unchanged m e fences views (λ sessions g f. refl) (λ p. refl)) (length-set sessions (s.0 - 1) new) each),
-      room-entered m (Session s) line calls (Present args) (present_reply state) call log then owed (owed + owed_for (present_reply state)) sessions (slice_set sessions (s.0 - 1) new) same room history
-          (posted ∙ posts_old ∙ sym posts_new) spent (omega (arith, two, reserved)) (omega (arith, sums, due_new, ap due is, room.due)) (omega (arith, small, two, as_many)),
+      room-entered m (Session s) line calls (Present args) (present_reply state) call log then owed (owed + owed_for (present_reply state)) (sum_by due sessions + due_back) (sum_by due (slice_set sessions (s.0 - 1) new) + due_back_now) same room history
+          (posted ∙ posts_old ∙ sym posts_new) spent (omega (arith, two, reserved)) (omega (arith, sums, due_new, ap due is, room.due, comes)) (omega (arith, small, two, as_many)),
     )
 
 -- its number is a number of the machine
 pub count-small : (m : Machine) (s : SessionNo) (calls : List Call) (args : PresentArgs) → MayCall m (Session s) calls (Present args)
-    → (clock : Clock) (fences views : List Bool) (sessions : List SessionState) (log : Logged) (owed : ℕ) (state : SessionState) → state ≡ slice_index_or sessions (s.0 - 1) state → log.history ≡ m.history
-    → Stands m.setup log.history clock fences views sessions → HasRoom m.setup m.shares log owed sessions → state.queue.taken + length state.queue.waiting < 2 ^ 32 - 1
-count-small m s calls args call clock fences views sessions log owed state is same stands room =
+    → (clock : Clock) (fences views : List Bool) (sessions : List SessionState) (log : Logged) (owed : ℕ) {dues : ℕ} (state : SessionState) → state ≡ slice_index_or sessions (s.0 - 1) state → log.history ≡ m.history
+    → Stands m.setup log.history clock fences views sessions → HasRoom m.setup m.shares log owed dues → state.queue.taken + length state.queue.waiting < 2 ^ 32 - 1
+count-small m s calls args call clock fences views sessions log owed {dues} state is same stands room =
     let old : Stands m.setup m.history clock fences views sessions = rw (← same) stands in
     let kept : IsKept m.setup (seen_of m.setup m.history s) state = kept-session m.setup m.history clock fences views sessions s state old (declared-of m.setup (Present args) s call.may.acts) is in
-    omega (arith, kept.count, presents-few s m.history, few-history m (Session s) calls (Present args) call old.legal log owed sessions same room, room.total)
+    omega (arith, kept.count, presents-few s m.history, few-history m (Session s) calls (Present args) call old.legal log owed dues same room, room.total)
 
 -- its reply is that of the rules
 pub present-reply : (m : Machine) (s : SessionNo) (calls : List Call) (args : PresentArgs) → MayCall m (Session s) calls (Present args)

@@ -1,7 +1,7 @@
 -- What one more entry does to the parts of a board.
 use Rattle.std.proofs.Common.{◌≡◌, ℕ, suc, ◌+◌, ◌*◌, ◌<◌, ◌≤◌, ◌^◌, Bool, true, false, List, [], ◌∷◌, length, refl, arith, sym, ◌∙◌, ap, slice_index, sum}
 use Rattle.std.proofs.lemmas.List.{append-nil}
-use Rattle.std.specs.Prelude.{IsTrue, cond, ◌&&◌, ◌||◌, ◌==◌, nat_le, nat_lt, sum_by}
+use Rattle.std.specs.Prelude.{IsTrue, cond, ◌&&◌, ◌||◌, ◌==◌, nat_le, nat_lt}
 use Rattle.std.proofs.lemmas.Bool.Decides.{nat_tests}
 use Rattle.flat_base.specs.declared.ids.Actor.{Actor}
 use Rattle.flat_base.specs.declared.ids.Actor.TheVariants.{Display, Session, Probe}
@@ -21,7 +21,7 @@ use Rattle.flat_scene.proofs.Together.{and-right}
 use Rattle.flat_fence.specs.Fences.{has}
 use Rattle.flat_core.specs.declared.clock.Clock.{Clock}
 use Rattle.flat_core.specs.declared.state.SessionState.{SessionState}
-use Rattle.flat_core.specs.Boards.{Machine, MayCall, Stands, HasRoom, entry_of, made, clock_of, due, number}
+use Rattle.flat_core.specs.Boards.{Machine, MayCall, Stands, HasRoom, entry_of, made, clock_of, number}
 use Rattle.flat_core.specs.Ends.{view_uses, uses_view, is_done}
 use Rattle.flat_core.specs.Flags.{has_end}
 use Rattle.flat_core.specs.Kept.{IsKept, AllNumbered}
@@ -122,36 +122,51 @@ all-placed setup (h ▹ e) n same legal = (all-placed setup h n same legal.0, rw
 
 -- there are fewer entries than the shares allow
 pub few-history : (m : Machine) (who : Actor) (calls : List Call) (kind : Kind) → MayCall m who calls kind → Legal m.setup m.history
-    → (log : Logged) (owed : ℕ) (sessions : List SessionState) → log.history ≡ m.history → HasRoom m.setup m.shares log owed sessions → length m.history < sum m.shares
-few-history m who calls kind call legal log owed sessions same room =
+    → (log : Logged) (owed dues : ℕ) → log.history ≡ m.history → HasRoom m.setup m.shares log owed dues → length m.history < sum m.shares
+few-history m who calls kind call legal log owed dues same room =
     let fair : (p : ℕ) → p < length m.shares → made p m.history ≤ slice_index m.shares p = rw (← same) room.fair in
     let placed : seat_number who < length m.shares = rw room.actors (place-within m.setup kind who call.may.acts) in
     few-entries m.shares m.history (seat_number who) (all-placed m.setup m.history (length m.shares) room.actors legal) placed fair call.share
 
 -- who may enter has room
 pub has-room : (m : Machine) (who : Actor) (calls : List Call) (kind : Kind) → MayCall m who calls kind → Legal m.setup m.history
-    → (log : Logged) (owed : ℕ) (sessions : List SessionState) → log.history ≡ m.history → HasRoom m.setup m.shares log owed sessions → 0 < log.room
-has-room m who calls kind call legal log owed sessions same room =
+    → (log : Logged) (owed dues : ℕ) → log.history ≡ m.history → HasRoom m.setup m.shares log owed dues → 0 < log.room
+has-room m who calls kind call legal log owed dues same room =
     let entries : sum m.shares ≤ length m.history + log.room = rw (← same) room.entries in
-    omega (arith, few-history m who calls kind call legal log owed sessions same room, entries)
+    omega (arith, few-history m who calls kind call legal log owed dues same room, entries)
 
 -- what is owed is a number of the machine
 pub owed-small : (m : Machine) (who : Actor) (calls : List Call) (kind : Kind) → MayCall m who calls kind → Legal m.setup m.history
-    → (log : Logged) (owed : ℕ) (sessions : List SessionState) → log.history ≡ m.history → HasRoom m.setup m.shares log owed sessions → owed + 2 < 2 ^ 64
-owed-small m who calls kind call legal log owed sessions same room =
+    → (log : Logged) (owed dues : ℕ) → log.history ≡ m.history → HasRoom m.setup m.shares log owed dues → owed + 2 < 2 ^ 64
+owed-small m who calls kind call legal log owed dues same room =
     let small : length log.posts + owed ≤ 2 * length m.history = rw (← same) room.small in
-    omega (arith, few-history m who calls kind call legal log owed sessions same room, room.total, small)
+    omega (arith, few-history m who calls kind call legal log owed dues same room, room.total, small)
+
+-- more room for posts changes nothing
+pub room-more : (setup : Setup) (shares : List ℕ) (log then : Logged) (owed dues dues_now : ℕ) → HasRoom setup shares log owed dues → then.history ≡ log.history → then.posts ≡ log.posts → then.room ≡ log.room
+    → log.post_room ≤ then.post_room → dues_now ≡ dues → HasRoom setup shares then owed dues_now
+room-more setup shares log then owed dues dues_now room history posted same more as_many = record {
+  limits = room.limits;
+  actors = room.actors;
+  total = room.total;
+  fair = rw history room.fair;
+  entries = rw (history, same) room.entries;
+  posts = rw (history, posted) room.posts;
+  reserved = omega (arith, room.reserved, more);
+  due = omega (arith, room.due, as_many);
+  small = rw (history, posted) room.small;
+}
 
 pub posts-none : (setup : Setup) (h : List Entry) (e : Entry) → posted setup h e ≡ [] → posts setup (h ▹ e) ≡ posts setup h
 posts-none setup h e none = rw none (append-nil _)
 
 -- room after an entry, whatever was posted
 pub room-entered : (m : Machine) (who : Actor) (line : ℕ) (calls : List Call) (kind : Kind) (reply : Reply) → MayCall m who calls kind
-    → (log after : Logged) (owed owes : ℕ) (sessions then : List SessionState) → log.history ≡ m.history → HasRoom m.setup m.shares log owed sessions
+    → (log after : Logged) (owed owes dues then : ℕ) → log.history ≡ m.history → HasRoom m.setup m.shares log owed dues
     → after.history ≡ (log.history ▹ entry_of who line calls kind reply) → after.posts ≡ posts m.setup (m.history ▹ entry_of who line calls kind reply) → after.room + 1 ≡ log.room
-    → owes ≤ after.post_room → sum_by due then ≤ owes → length after.posts + owes ≤ 2 * suc (length m.history)
+    → owes ≤ after.post_room → then ≤ owes → length after.posts + owes ≤ 2 * suc (length m.history)
     → HasRoom m.setup m.shares after owes then
-room-entered m who line calls kind reply call log after owed owes sessions then same room history posted spent reserved enough small =
+room-entered m who line calls kind reply call log after owed owes dues then same room history posted spent reserved enough small =
     let e : Entry = entry_of who line calls kind reply in
     let now : after.history ≡ (m.history ▹ e) = rw history (rw same refl) in
     let fair : (p : ℕ) → p < length m.shares → made p m.history ≤ slice_index m.shares p = rw (← same) room.fair in
@@ -171,16 +186,16 @@ room-entered m who line calls kind reply call log after owed owes sessions then 
 -- where nothing is posted
 pub room-quiet : (m : Machine) (who : Actor) (line : ℕ) (calls : List Call) (kind : Kind) (reply : Reply) → MayCall m who calls kind → IsTrue (are_plain m.history)
     → is_begin kind ≡ false → is_finish kind ≡ false
-    → (log after : Logged) (owed : ℕ) (sessions then : List SessionState) → log.history ≡ m.history → HasRoom m.setup m.shares log owed sessions
+    → (log after : Logged) (owed dues then : ℕ) → log.history ≡ m.history → HasRoom m.setup m.shares log owed dues
     → after.history ≡ (log.history ▹ entry_of who line calls kind reply) → after.posts ≡ log.posts → after.room + 1 ≡ log.room → after.post_room ≡ log.post_room
-    → sum_by due then ≤ sum_by due sessions
+    → then ≤ dues
     → HasRoom m.setup m.shares after owed then
-room-quiet m who line calls kind reply call plain no_begin no_finish log after owed sessions then same room history posted spent kept fewer =
+room-quiet m who line calls kind reply call plain no_begin no_finish log after owed dues then same room history posted spent kept fewer =
     let e : Entry = entry_of who line calls kind reply in
     let old : log.posts ≡ posts m.setup m.history = rw (← same) room.posts in
     let small : length log.posts + owed ≤ 2 * length m.history = rw (← same) room.small in
     let as_many : length after.posts ≡ length log.posts = ap length posted in
-    room-entered m who line calls kind reply call log after owed owed sessions then same room history
+    room-entered m who line calls kind reply call log after owed owed dues then same room history
     (posted ∙ old ∙ sym (posts-none m.setup m.history e (posted-quiet m.setup m.history e plain no_begin no_finish))) spent
     (omega (arith, room.reserved, kept)) (omega (arith, fewer, room.due)) (omega (arith, small, as_many))
 
@@ -194,15 +209,15 @@ pub record Entered (log then : Logged) (e : Entry) : Type 0 where
 -- all that is kept, after an entry that posts nothing and owes nothing
 pub kept-entered : (m : Machine) (who : Actor) (line : ℕ) (calls : List Call) (kind : Kind) (reply : Reply) → MayCall m who calls kind → reply ≡ reply_to m.setup m.history who calls kind
     → is_begin kind ≡ false → is_finish kind ≡ false
-    → (clock : Clock) (fences fences_now views views_now : List Bool) (sessions after : List SessionState) (log then : Logged) (owed : ℕ) → log.history ≡ m.history
-    → Stands m.setup log.history clock fences views sessions → HasRoom m.setup m.shares log owed sessions
+    → (clock : Clock) (fences fences_now views views_now : List Bool) (sessions after : List SessionState) (log then : Logged) (owed dues dues_now : ℕ) → log.history ≡ m.history
+    → Stands m.setup log.history clock fences views sessions → HasRoom m.setup m.shares log owed dues
     → Changed m (entry_of who line calls kind reply) fences fences_now views views_now → length after ≡ length sessions
-    → AllNumbered (λ i. IsKept m.setup (seen_of m.setup (m.history ▹ entry_of who line calls kind reply) (number i))) after → sum_by due after ≡ sum_by due sessions
+    → AllNumbered (λ i. IsKept m.setup (seen_of m.setup (m.history ▹ entry_of who line calls kind reply) (number i))) after → dues_now ≡ dues
     → Entered log then (entry_of who line calls kind reply)
-    → Stands m.setup then.history clock fences_now views_now after × HasRoom m.setup m.shares then owed after
-kept-entered m who line calls kind reply call replied no_begin no_finish clock fences fences_now views views_now sessions after log then owed same stands room changed count each owes is =
+    → Stands m.setup then.history clock fences_now views_now after × HasRoom m.setup m.shares then owed dues_now
+kept-entered m who line calls kind reply call replied no_begin no_finish clock fences fences_now views views_now sessions after log then owed dues dues_now same stands room changed count each owes is =
     let old : Stands m.setup m.history clock fences views sessions = rw (← same) stands in
     let now : then.history ≡ (m.history ▹ entry_of who line calls kind reply) = rw is.history (rw same refl) in (
       rw now (stands-entered m who line calls kind reply call replied no_begin no_finish clock fences fences_now views views_now sessions after old changed count each),
-      room-quiet m who line calls kind reply call old.plain no_begin no_finish log then owed sessions after same room is.history is.posts is.room is.post_room (omega (arith, owes)),
+      room-quiet m who line calls kind reply call old.plain no_begin no_finish log then owed dues dues_now same room is.history is.posts is.room is.post_room (omega (arith, owes)),
     )

@@ -26,7 +26,7 @@ use Rattle.flat_core.proofs.HasView.{found, any-found, both-ways}
 
 -- ---- tests over lists of lists
 
-any-flat : {A B : Type 0} (f : B → Bool) (g : A → List B) (xs : List A) → list_any f (flat_map g xs) ≡ list_any (λ x. list_any f (g x)) xs
+pub any-flat : {A B : Type 0} (f : B → Bool) (g : A → List B) (xs : List A) → list_any f (flat_map g xs) ≡ list_any (λ x. list_any f (g x)) xs
 any-flat f g [] = refl
 any-flat f g (x ∷ xs) = list_any-append f (g x) (flat_map g xs) ∙ ap (λ b. list_any f (g x) || b) (any-flat f g xs)
 
@@ -34,7 +34,7 @@ any-none : {A : Type 0} (f : A → Bool) (xs : List A) → ((x : A) → f x ≡ 
 any-none f [] none = refl
 any-none f (x ∷ xs) none = rw (none x) (any-none f xs none)
 
-any-each : {A : Type 0} (f g : A → Bool) (xs : List A) → ((x : A) → f x ≡ g x) → list_any f xs ≡ list_any g xs
+pub any-each : {A : Type 0} (f g : A → Bool) (xs : List A) → ((x : A) → f x ≡ g x) → list_any f xs ≡ list_any g xs
 any-each f g [] same = refl
 any-each f g (x ∷ xs) same = rw (same x, any-each f g xs same) refl
 
@@ -126,15 +126,15 @@ module _ (setup : Setup) (p : PairNo) where
       any-flat (is_token_back p) (λ q. replicate (came before t q) (event.TokenBack q)) (viewports_of setup t)
       ∙ any-each _ _ (viewports_of setup t) (λ q. any-copies p q (came before t q))
 
-  nested : (t : SessionNo) (o : Option PairDecl) → unwrap_or (option_map (λ (pair : PairDecl). is_session t pair.viewport) o) false ≡ unwrap_or (option_map (is_session t) (option_map (λ (pair : PairDecl). pair.viewport) o)) false
+  pub nested : (t : SessionNo) (o : Option PairDecl) → unwrap_or (option_map (λ (pair : PairDecl). is_session t pair.viewport) o) false ≡ unwrap_or (option_map (is_session t) (option_map (λ (pair : PairDecl). pair.viewport) o)) false
   nested t None = refl
   nested t (Some pair) = refl
 
-  and-both : (a b : Bool) → (a && b) ≡ true → (a ≡ true) × (b ≡ true)
+  pub and-both : (a b : Bool) → (a && b) ≡ true → (a ≡ true) × (b ≡ true)
   and-both true b both = (refl, both)
   and-both false b both = cc
 
-  pair-is : (n : ℕ) → (n == p.0) ≡ true → (let q : PairNo = record { 0 = n } in q) ≡ p
+  pub pair-is : (n : ℕ) → (n == p.0) ≡ true → (let q : PairNo = record { 0 = n } in q) ≡ p
   pair-is n same = let number : n ≡ p.0 = grind (arith, nat_tests) in ap (λ (k : ℕ). let x : PairNo = record { 0 = k } in x) number
 
   -- of the pairs whose viewport end a session owns

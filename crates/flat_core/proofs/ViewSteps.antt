@@ -20,14 +20,14 @@ use Rattle.flat_core.specs.Ends.{view_uses, is_done}
 use Rattle.flat_core.specs.Flags.{has_end}
 use Rattle.flat_core.specs.Kept.{IsKept}
 use Rattle.flat_core.specs.Legal.{refused_token, reply_to, owns_in_kind, owns_in_call}
-use Rattle.flat_core.specs.Presents.{view_reply, after_view, with_calls}
+use Rattle.flat_core.specs.Presents.{use_reply, after_view, with_calls}
 use Rattle.flat_core.specs.Seen.{seen_of, account_of, noted}
 use Rattle.flat_core.proofs.Changes.{IsPlainOne, seen-closed, kept-account, kept-closed, kept-noted, is-session}
 use Rattle.flat_core.proofs.Quiet.{closed-quiet, presents-quiet, taken-quiet, going-quiet, took-quiet}
 
 -- ---- the reply
 
-by-uses : (n : ℕ) → view_reply (not (nat_lt 0 n)) ≡ cond (n == 0) Done refused_token
+by-uses : (n : ℕ) → use_reply (not (nat_lt 0 n)) ≡ cond (n == 0) Done refused_token
 by-uses zero = refl
 by-uses (suc n) =
     let some : nat_lt 0 (suc n) ≡ true = grind (arith, nat_tests) in
@@ -35,8 +35,8 @@ by-uses (suc n) =
     rw (some, more) refl
 
 pub view-replied : (setup : Setup) (h : List Entry) (s : SessionNo) (calls : List Call) (p : PairNo) (used : Bool) → used ≡ nat_lt 0 (length (view_uses p h))
-    → view_reply (not used) ≡ reply_to setup h (Session s) calls (View p)
-view-replied setup h s calls p used is = ap (λ b. view_reply (not b)) is ∙ by-uses (length (view_uses p h))
+    → use_reply (not used) ≡ reply_to setup h (Session s) calls (View p)
+view-replied setup h s calls p used is = ap (λ b. use_reply (not b)) is ∙ by-uses (length (view_uses p h))
 
 -- ---- the ends
 
@@ -54,7 +54,7 @@ used-already true views p q used is =
 used-already false views p q used is = refl
 
 pub view-changed : (views now : List Bool) (p : PairNo) (used : Bool) → has_end views p ≡ used → ((q : PairNo) → has_end now q ≡ (has_end views q || p.0 == q.0))
-    → (q : PairNo) → has_end now q ≡ (has_end views q || (p.0 == q.0 && is_done (view_reply (not used))))
+    → (q : PairNo) → has_end now q ≡ (has_end views q || (p.0 == q.0 && is_done (use_reply (not used))))
 view-changed views now p true is members q = members q ∙ used-already (p.0 == q.0) views p q is refl
 view-changed views now p false is members q = members q ∙ ap (λ b. has_end views q || b) (and-true (p.0 == q.0))
 
@@ -81,7 +81,7 @@ plain-view : (s : SessionNo) (line : ℕ) (calls : List Call) (p : PairNo) → I
 plain-view s line calls p = record { no_begin = refl; no_finish = refl; no_poll = refl; no_view = refl; none = λ made. refl }
 
 pub view-kept : (setup : Setup) (h : List Entry) (s : SessionNo) (line : ℕ) (calls : List Call) (p : PairNo) (is_held : Bool) (state : SessionState) → IsKept setup (seen_of setup h s) state
-    → IsKept setup (seen_of setup (h ▹ entry_of (Session s) line calls (View p) (view_reply is_held)) s) (with_calls calls (after_view is_held state))
+    → IsKept setup (seen_of setup (h ▹ entry_of (Session s) line calls (View p) (use_reply is_held)) s) (with_calls calls (after_view is_held state))
 view-kept setup h s line calls p true state kept =
     rw (seen-viewed setup h s line calls p) (kept-account setup (seen_of setup h s) state (λ (a : Account). noted calls (record a { viewed = true })) (λ a. refl) kept)
 view-kept setup h s line calls p false state kept =

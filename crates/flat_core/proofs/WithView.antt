@@ -70,9 +70,9 @@ members setup h clock fences views sessions set stands each s declared =
     let one = some-state sessions (s.0 - 1) below in
     member-at set s.0 here.0 ∙ each (s.0 - 1) one.0 below ∙ ap has_view_in (sym one.1) ∙ at-session setup h clock fences views sessions s one.0 stands declared one.1
 
-pub few-states : (setup : Setup) (h : List Entry) (clock : Clock) (fences views : List Bool) (sessions : List SessionState) (shares : List ℕ) (log : Logged) (owed : ℕ) → Stands setup h clock fences views sessions
-    → HasRoom setup shares log owed sessions → length sessions ≤ 16
-few-states setup h clock fences views sessions shares log owed stands room = omega (arith, stands.count, (few-declared setup room.limits).0)
+pub few-states : (setup : Setup) (h : List Entry) (clock : Clock) (fences views : List Bool) (sessions : List SessionState) (shares : List ℕ) (log : Logged) (owed : ℕ) {dues : ℕ} → Stands setup h clock fences views sessions
+    → HasRoom setup shares log owed dues → length sessions ≤ 16
+few-states setup h clock fences views sessions shares log owed {dues} stands room = omega (arith, stands.count, (few-declared setup room.limits).0)
 
 pub few-going : (setup : Setup) (h : List Entry) (clock : Clock) (fences views : List Bool) (sessions : List SessionState) → Stands setup h clock fences views sessions → All (λ state. length state.going.items ≤ 5) sessions
 few-going setup h clock fences views sessions stands i d below = (stands.each i d below).goes

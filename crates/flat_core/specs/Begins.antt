@@ -1,9 +1,10 @@
 -- the entries of frames, and what they post
-use Rattle.std.specs.Prelude.{ℕ, List, [], length, map, flat_map}
+use Rattle.std.specs.Prelude.{ℕ, cond, nat_lt, List, [], ◌∷◌, length, map, flat_map}
 use Rattle.flat_base.specs.declared.ids.Actor.TheVariants.{Display}
 use Rattle.flat_base.specs.declared.ids.SessionNo.{SessionNo}
 use Rattle.flat_scene.specs.declared.journal.Entry.{Entry}
 use Rattle.flat_scene.specs.declared.journal.Event.{Event}
+use Rattle.flat_scene.specs.declared.journal.Event.TheVariants as event
 use Rattle.flat_scene.specs.declared.journal.Kind.TheVariants.{Begin, Finish}
 use Rattle.flat_scene.specs.declared.journal.Post.{Post}
 use Rattle.flat_scene.specs.declared.journal.Reply.TheVariants.{Done}
@@ -26,6 +27,10 @@ finish_entry line = entry_of Display line [] Finish Done
 
 abbrev pub finished : List Entry → ℕ → List Entry
 finished history line = history ▹ finish_entry line
+
+-- how many presents the frame took of a session, as an event
+abbrev pub took_event : ℕ → List Event
+took_event n = cond (nat_lt 0 n) (event.FramePresented n ∷ []) []
 
 -- an event of the entry at that place
 abbrev pub post_of : ℕ → SessionNo → Event → Post

@@ -18,6 +18,7 @@ use Rattle.flat_scene.specs.Frames.{is_signalled}
 use Rattle.flat_fence.specs.Fences.{has}
 use Rattle.flat_core.specs.declared.clock.Clock.{Clock}
 use Rattle.flat_core.specs.declared.state.SessionState.{SessionState}
+use Rattle.flat_core.specs.declared.viewports.Viewports.{Viewports}
 use Rattle.flat_core.specs.Ends.{view_uses}
 use Rattle.flat_core.specs.Flags.{has_end}
 use Rattle.flat_core.specs.Kept.{IsKept, AllNumbered}
@@ -26,6 +27,7 @@ use Rattle.flat_core.specs.Logs.{Logged}
 use Rattle.flat_core.specs.Plain.{is_plain, are_plain}
 use Rattle.flat_core.specs.Posts.{posts}
 use Rattle.flat_core.specs.Seen.{seen_of}
+use Rattle.flat_core.specs.Viewports.{AreViewports}
 
 -- A board: the setup, the shares, and the history for which it stands.
 pub record Machine : Type 0 where
@@ -55,11 +57,11 @@ made seat = count_by (λ entry. seat_number entry.actor == seat)
 abbrev pub HasShare : Machine → Actor → Type 0
 HasShare m who = made (seat_number who) m.history < slice_index m.shares (seat_number who)
 
--- An actor may make a call that enters this: by the rules, and within its share. As yet nothing has to do with viewports or gets.
+-- An actor may make a call that enters this: by the rules, and within its share. As yet it is no get.
 pub record MayCall (m : Machine) (who : Actor) (calls : List Call) (kind : Kind) : Type 0 where
   pub may : MayEnter m.setup m.history who calls kind
   pub share : HasShare m who
-  pub plain : IsTrue (is_plain calls kind)
+  pub plain : IsTrue (is_plain kind)
 
 -- An actor may look at the value of a condition.
 pub record MayLook (setup : Setup) (who : Actor) (c : Cond) : Type 0 where
@@ -79,6 +81,14 @@ clock_of history = record { frames = frames history; is_open = is_frame_open his
 abbrev pub due : SessionState → ℕ
 due state = 2 * length state.queue.waiting + cond (nat_lt 0 state.took) 1 0
 
+-- and how many for its tokens that are out
+abbrev pub due_back : Viewports → ℕ
+due_back ends = length ends.out.items
+
+-- to all sessions
+abbrev pub all_due : List SessionState → List Viewports → ℕ
+all_due sessions ends = sum_by due sessions + sum_by due_back ends
+
 -- The parts that stand for the history.
 pub record Stands (setup : Setup) (history : List Entry) (clock : Clock) (fences views : List Bool) (sessions : List SessionState) : Type 0 where
   pub legal : Legal setup history
@@ -91,8 +101,13 @@ pub record Stands (setup : Setup) (history : List Entry) (clock : Clock) (fences
   pub count : length sessions ≡ setup.sessions
   pub each : AllNumbered (λ i. IsKept setup (seen_of setup history (number i))) sessions
 
--- Room for all entries that the shares allow, and for all events that are owed. No entry has more than two of these.
-pub record HasRoom (setup : Setup) (shares : List ℕ) (log : Logged) (owed : ℕ) (sessions : List SessionState) : Type 0 where
+-- What is kept of the sessions' viewports stands for them.
+pub record AreEnds (setup : Setup) (history : List Entry) (ends : List Viewports) : Type 0 where
+  pub count : length ends ≡ setup.sessions
+  pub each : AllNumbered (λ i one. AreViewports setup history (number i) one.live.items one.out.items) ends
+
+-- Room for all entries that the shares allow, and for all events that may still be posted, so many. No entry has more than two of these.
+pub record HasRoom (setup : Setup) (shares : List ℕ) (log : Logged) (owed dues : ℕ) : Type 0 where
   pub limits : IsTrue (is_within_limits setup)
   pub actors : length shares ≡ setup.sessions + 1
   pub total : sum shares < 2 ^ 31
@@ -100,5 +115,5 @@ pub record HasRoom (setup : Setup) (shares : List ℕ) (log : Logged) (owed : �
   pub entries : sum shares ≤ length log.history + log.room
   pub posts : log.posts ≡ posts setup log.history
   pub reserved : owed ≤ log.post_room
-  pub due : sum_by due sessions ≤ owed
+  pub due : dues ≤ owed
   pub small : length log.posts + owed ≤ 2 * length log.history

@@ -1,5 +1,5 @@
 -- The viewports that a session's calls made, and neither released nor cleared.
-use Rattle.std.specs.Prelude.{ℕ, ◌+◌, Bool, false, cond, not, ◌==◌, List, [], ◌∷◌, ◌++◌, filter, Option, Some, None}
+use Rattle.std.specs.Prelude.{ℕ, ◌+◌, ◌-◌, Bool, false, cond, not, ◌==◌, List, [], ◌∷◌, ◌++◌, filter, length, slice_get, Option, Some, None, option_map, unwrap_or}
 use Rattle.std.specs.List.{list_any}
 use Rattle.flat_base.specs.declared.ids.PairNo.{PairNo}
 use Rattle.flat_scene.specs.declared.calls.Call.{Call}
@@ -48,6 +48,10 @@ count_of test lives (call ∷ calls) = number_if (test lives call) + count_of te
 abbrev pub makes_one : PairNo → Call → Bool
 makes_one p (CreateViewport c pair w h inset) = pair.0 == p.0
 makes_one p _ = false
+
+-- whether the last of these calls makes one
+abbrev pub uses_last : PairNo → List Call → Bool
+uses_last p calls = unwrap_or (option_map (makes_one p) (slice_get calls (length calls - 1))) false
 
 abbrev pub made_of_pair : PairNo → List Call → ℕ
 made_of_pair p [] = 0

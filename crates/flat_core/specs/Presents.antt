@@ -1,5 +1,5 @@
 -- what a present does to what is kept of its session
-use Rattle.std.specs.Prelude.{◌≡◌, ◌<◌, ◌≤◌, Bool, false, List, [], vec_capacity, ℕ, ◌+◌, ◌-◌, true, cond, nat_lt, length, drop, map, Some, None, Option}
+use Rattle.std.specs.Prelude.{◌≡◌, ◌<◌, ◌≤◌, Bool, false, List, [], vec_capacity, ℕ, ◌+◌, ◌-◌, true, cond, nat_lt, length, drop, map, slice_index_or, slice_set, Some, None, Option}
 use Rattle.std.specs.declared.alloc.Global.{Global}
 use Rattle.std.specs.declared.sync.Arc.{Arc}
 use Rattle.flat_base.specs.declared.errors.FlatlandError.TheVariants.{BadOperation, NoPresentsRemaining}
@@ -15,9 +15,12 @@ use Rattle.flat_scene.specs.Draft.{changed_at}
 use Rattle.flat_queue.specs.Line.{credits_of, pushed, ready_of}
 use Rattle.flat_snap.specs.declared.snapshot.Snapshot.{Snapshot}
 use Rattle.flat_core.specs.declared.state.SessionState.{SessionState}
+use Rattle.flat_core.specs.declared.viewports.Viewports.{Viewports}
 use Rattle.flat_core.specs.Lasts.{last_from}
 use Rattle.flat_core.specs.Legal.{refused_token}
+use Rattle.flat_core.specs.Lives.{lives_after}
 use Rattle.flat_core.specs.Seen.{noted}
+use Rattle.flat_core.specs.Viewports.{marked}
 
 -- the number of the next present
 abbrev pub next_present : SessionState → ℕ
@@ -77,15 +80,19 @@ pub record LetGo (old new : SessionState) : Type 0 where
 
 -- ---- views, and the calls that entries carry
 
--- the reply to a view, where its token is held or not
-abbrev pub view_reply : Bool → Reply
-view_reply true = Done
-view_reply false = refused_token
+-- the reply to the use of an end, where its token is held or not
+abbrev pub use_reply : Bool → Reply
+use_reply true = Done
+use_reply false = refused_token
 
 -- what is kept of its session then, but for the calls
 abbrev pub after_view : Bool → SessionState → SessionState
 after_view true state = record state { account = record state.account { viewed = true } }
 after_view false state = record state { closed = true }
+
+abbrev pub after_viewport : Bool → SessionState → SessionState
+after_viewport true state = state
+after_viewport false state = record state { closed = true }
 
 -- a session's state with the calls of one more entry
 abbrev pub with_calls : List Call → SessionState → SessionState
@@ -100,6 +107,32 @@ noted_in who calls states = states
 abbrev pub IsPlaced : ℕ → Actor → Type 0
 IsPlaced n (Session s) = (0 < s.0) × (s.0 ≤ n)
 IsPlaced n who = Unit {0}
+
+-- ---- viewports, and the calls that entries carry
+
+-- Nothing is kept of a session's viewports.
+pub record HasNone (ends : Viewports) : Type 0 where
+  pub live : ends.live.items ≡ []
+  pub out : ends.out.items ≡ []
+
+-- What is kept of a session's viewports after calls that make none, where it had made so many presents.
+pub record IsNoted (calls : List Call) (presents : ℕ) (old new : Viewports) : Type 0 where
+  pub live : new.live.items ≡ lives_after old.live.items calls
+  pub out : new.out.items ≡ map (marked old.live.items calls presents) old.out.items
+
+-- The same at a place: all else stays.
+pub record NotedAt (place : ℕ) (calls : List Call) (states : List SessionState) (old new : List Viewports) : Type 0 where
+  pub state : SessionState
+  pub before : Viewports
+  pub after : Viewports
+  pub of_state : state ≡ slice_index_or states place state
+  pub of_before : before ≡ slice_index_or old place before
+  pub noted : IsNoted calls state.account.presents before after
+  pub new_is : new ≡ slice_set old place after
+
+abbrev pub EndsNoted : Actor → List Call → List SessionState → List Viewports → List Viewports → Type 0
+EndsNoted (Session s) calls states old new = NotedAt (s.0 - 1) calls states old new
+EndsNoted who calls states old new = new ≡ old
 
 -- the reply to a close
 abbrev pub reply_to_close : Option Reason → Reply

@@ -21,12 +21,15 @@ use crate::ends::EndSet;
 use crate::log::Log;
 use crate::polls::{EventList, push_events_from};
 use crate::state::{SessionState, new_states, note, present_in};
-use crate::views::{note_in, view_in, with_view};
+use crate::viewports::Viewports;
+use crate::views::{new_ends, note_in, view_in, viewport_in, with_view};
 use flat_base::{
     Actor, FenceNo, FlatlandError, FrameNo, NoMemory, PairNo, Reason, SessionNo, ShareList,
 };
 use flat_fence::FenceSet;
-use flat_scene::{CallList, Cond, Entry, Journal, Kind, PresentArgs, Reply, SessionSet, Setup};
+use flat_scene::{
+    CallList, Cond, Entry, Journal, Kind, PresentArgs, Reply, SessionSet, Setup, ViewportProps,
+};
 use flat_snap::Snapshot;
 use flat_topology::Shown;
 use std::alloc::Global;
@@ -60,21 +63,23 @@ pub struct Board {
     views: EndSet,
     /// The sessions, the first of them session 1.
     sessions: Vec<SessionState>,
+    /// The viewports of each session.
+    ends: Vec<Viewports>,
 }
 
 impl Model for Board {
-    ghost use Rattle.flat_core.specs.Boards.{Machine, Stands, HasRoom};
+    ghost use Rattle.flat_core.specs.Boards.{Machine, Stands, HasRoom, AreEnds, all_due};
 
     ghost Value = { Machine };
 
     ghost view = { λ b. record { setup = b.setup; shares = b.shares; history = b.log.history } };
 
-    ghost invariant = { λ b. Stands b.setup b.log.history b.clock b.fences b.views b.sessions.items × HasRoom b.setup b.shares b.log b.owed b.sessions.items };
+    ghost invariant = { λ b. Stands b.setup b.log.history b.clock b.fences b.views b.sessions.items × HasRoom b.setup b.shares b.log b.owed (all_due b.sessions.items b.ends.items) × AreEnds b.setup b.log.history b.ends.items };
 }
 
 impl Board {
     ghost use Rattle.flat_base.specs.declared.ids.Actor.TheVariants.{Display, Session};
-    ghost use Rattle.flat_scene.specs.declared.journal.Kind.TheVariants.{Begin, Close, End, Finish, Poll, Present, Signal, View, Wait};
+    ghost use Rattle.flat_scene.specs.declared.journal.Kind.TheVariants.{Begin, Close, End, Finish, Poll, Present, Signal, View, Viewport, Wait};
     ghost use Rattle.flat_scene.specs.declared.journal.Reply.TheVariants.{Done};
 
     /// A board before any entry, with room for all that the shares allow: those of
@@ -90,6 +95,7 @@ impl Board {
         let fences = FenceSet::new(alloc, setup.fences.len() as u32)?;
         let views = EndSet::new(alloc, setup.pairs.len() as u32)?;
         let sessions = new_states(alloc, setup.sessions)?;
+        let ends = new_ends(alloc, setup.sessions)?;
         Ok(Board {
             alloc,
             setup,
@@ -104,6 +110,7 @@ impl Board {
             fences,
             views,
             sessions,
+            ends,
         })
     }
 
@@ -123,7 +130,9 @@ impl Board {
     {
         let is_held = !self.views.is_used(p);
         self.views.set(p);
-        let state = &mut self.sessions[s.0 as usize - 1];
+        let place = s.0 as usize - 1;
+        let state = &mut self.sessions[place];
+        self.ends[place].note_calls(calls.as_slice(), state.account.presents);
         let reply = view_in(state, is_held);
         note(&mut state.account, calls.as_slice());
         self.log.enter(Entry {
@@ -131,6 +140,49 @@ impl Board {
             line,
             calls,
             kind: Kind::View(p),
+            reply,
+        });
+        Ok(reply)
+    }
+
+    /// Makes a viewport, by the last of the calls: done, or the session is closed
+    /// where the token isn't held.
+    pub fn viewport(
+        &mut self,
+        s: SessionNo,
+        line: u32,
+        calls: CallList,
+        p: PairNo,
+        props: ViewportProps,
+    ) -> Result<Reply, Back>
+        requires { MayCall self.old (Session s) calls (Viewport p props) }
+        ensures reply { IfOk result (λ reply. reply ≡ reply_to self.old.setup self.old.history (Session s) calls (Viewport p props)) }
+        ensures entry { IfOk result (λ reply. self.new ≡ entered self.old (Session s) line calls (Viewport p props) reply) }
+        ensures same { IfErr result (λ back. self.new ≡ self.old) }
+        ensures back { IfErr result (λ back. back ≡ record { calls = calls; args = None; snap = None }) }
+    {
+        let place = s.0 as usize - 1;
+        match self.ends[place].reserve_with(&mut self.log, self.owed + 1) {
+            Ok(()) => {}
+            Err(_) => {
+                return Err(Back {
+                    calls,
+                    args: None,
+                    snap: None,
+                });
+            }
+        }
+        let state = &mut self.sessions[place];
+        let presents = state.account.presents;
+        let is_held = self.ends[place].use_end(calls.as_slice(), p, presents);
+        let reply = viewport_in(state, is_held);
+        note(&mut state.account, calls.as_slice());
+        self.owed += number_if(is_held) as usize;
+        self.log.enter(Entry {
+            actor: Actor::Session(s),
+            line,
+            calls,
+            kind: Kind::Viewport(p, props),
             reply,
         });
         Ok(reply)
@@ -173,7 +225,9 @@ impl Board {
                 });
             }
         }
-        let state = &mut self.sessions[s.0 as usize - 1];
+        let place = s.0 as usize - 1;
+        let state = &mut self.sessions[place];
+        self.ends[place].note_calls(calls.as_slice(), state.account.presents);
         let reply = present_in(state, snap, copy);
         note(&mut state.account, calls.as_slice());
         self.owed += owes(reply);
@@ -203,7 +257,8 @@ impl Board {
         ensures same { IfErr result (λ back. (self.new ≡ self.old) × (into.new ≡ into.old)) }
         ensures back { IfErr result (λ back. back ≡ record { calls = calls; args = None; snap = None }) }
     {
-        let state = &mut self.sessions[s.0 as usize - 1];
+        let place = s.0 as usize - 1;
+        let state = &mut self.sessions[place];
         let posts = self.log.posts();
         let before = into.len();
         match push_events_from(posts, state.account.polled, s, into) {
@@ -218,6 +273,7 @@ impl Board {
         }
         let count = (into.len() - before) as u32;
         state.account.polled = posts.len();
+        self.ends[place].note_calls(calls.as_slice(), state.account.presents);
         note(&mut state.account, calls.as_slice());
         self.log.enter(Entry {
             actor: Actor::Session(s),
@@ -236,7 +292,7 @@ impl Board {
         ensures entry { self.new ≡ entered self.old who line calls (Signal f) result }
     {
         self.fences.signal(f);
-        note_in(&mut self.sessions, who, calls.as_slice());
+        note_in(&mut self.sessions, &mut self.ends, who, calls.as_slice());
         self.log.enter(Entry {
             actor: who,
             line,
@@ -256,7 +312,7 @@ impl Board {
     {
         let value = self.value(who, c);
         let reply = wait_reply(asked(c), value);
-        note_in(&mut self.sessions, who, calls.as_slice());
+        note_in(&mut self.sessions, &mut self.ends, who, calls.as_slice());
         self.log.enter(Entry {
             actor: who,
             line,
@@ -295,7 +351,8 @@ impl Board {
         ensures reply { result ≡ Done }
         ensures entry { self.new ≡ entered self.old (Session s) line calls (End refused) result }
     {
-        note_in(&mut self.sessions, Actor::Session(s), calls.as_slice());
+        let who = Actor::Session(s);
+        note_in(&mut self.sessions, &mut self.ends, who, calls.as_slice());
         self.log.enter(Entry {
             actor: Actor::Session(s),
             line,
@@ -355,6 +412,7 @@ impl Board {
             line,
             &mut self.fences,
             &mut self.sessions,
+            &mut self.ends,
             &mut self.log,
         );
         self.owed -= count;

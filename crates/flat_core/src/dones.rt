@@ -1,18 +1,23 @@
-ghost use Rattle.std.specs.Prelude.{◌≡◌, true, ◌+◌, ◌^◌, ◌<◌, ◌≤◌, ◌||◌, ◌++◌, length, map, All, sum_by};
+ghost use Rattle.std.specs.Prelude.{◌≡◌, true, ◌+◌, ◌^◌, ◌<◌, ◌≤◌, ◌||◌, ◌++◌, [], cond, nat_lt, length, map, All};
 ghost use Rattle.std.specs.List.{list_any};
+ghost use Rattle.flat_base.specs.declared.ids.Actor.TheVariants.{Display};
 ghost use Rattle.flat_base.specs.declared.ids.FenceNo.{FenceNo};
 ghost use Rattle.flat_fence.specs.Fences.{has};
+ghost use Rattle.flat_scene.specs.declared.journal.Kind.TheVariants.{Finish};
 ghost use Rattle.flat_scene.specs.Frames.{going, is_among, is_released_by, sessions_to};
-ghost use Rattle.flat_core.specs.Begins.{finished, finish_entry, post_of, posts_to};
-ghost use Rattle.flat_core.specs.Boards.{due, number};
+ghost use Rattle.flat_scene.specs.Setups.{is_declared};
+ghost use Rattle.flat_core.specs.Begins.{finished, finish_entry, post_of, posts_to, took_event};
+ghost use Rattle.flat_core.specs.Boards.{AreEnds, all_due, due, due_back, number};
 ghost use Rattle.flat_core.specs.Kept.{IsKept, AllNumbered, Below};
-ghost use Rattle.flat_core.specs.Legal.{is_frame_open};
+ghost use Rattle.flat_core.specs.Legal.{is_frame_open, Legal, MayEnter};
 ghost use Rattle.flat_core.specs.Plain.{are_plain};
 ghost use Rattle.flat_core.specs.Posts.{events_to};
 ghost use Rattle.flat_core.specs.Seen.{seen_of};
+ghost use Rattle.flat_core.specs.Viewports.{AreViewports};
 
 use crate::log::Log;
 use crate::state::SessionState;
+use crate::viewports::Viewports;
 use flat_base::{FenceList, FenceNo, SessionNo};
 use flat_fence::FenceSet;
 use flat_scene::{Event, Post, Setup};
@@ -37,37 +42,17 @@ fn signal_lists(lists: &[FenceList], fences: &mut FenceSet)
     }
 }
 
-/// What the end of a frame does for one session. Answers how many events it posts.
-pub fn done_one(
-    setup: &Setup,
-    line: u32,
-    s: SessionNo,
-    state: &mut SessionState,
-    fences: &mut FenceSet,
-    log: &mut Log,
-) -> usize
-    requires plain { are_plain log.old.history ≡ true }
+/// Posts how many presents the frame took of a session, if it took any. Answers how
+/// many events that is.
+fn post_took(took: u32, s: SessionNo, log: &mut Log) -> usize
     requires place { length log.old.history < 2 ^ 32 }
-    requires opened { is_frame_open log.old.history ≡ true }
-    requires count { length fences.old ≡ length setup.now.fences }
-    requires kept { IsKept setup.now (seen_of setup.now log.old.history s) state.old }
-    requires room { due state.old ≤ log.old.post_room }
-    ensures kept { IsKept setup.now (seen_of setup.now (finished log.old.history line) s) state.new }
-    ensures size { length fences.new ≡ length fences.old }
-    ensures members { (g : FenceNo) → has fences.new g ≡ (has fences.old g || is_released_by (going setup.now log.old.history s) g) }
-    ensures posts { log.new.posts ≡ log.old.posts ++ map (post_of (length log.old.history) s) (events_to setup.now log.old.history (finish_entry line) s) }
-    ensures count { length log.new.posts ≡ length log.old.posts + result }
+    requires room { cond (nat_lt 0 took) 1 0 ≤ log.old.post_room }
+    ensures posts { log.new.posts ≡ log.old.posts ++ map (post_of (length log.old.history) s) (took_event took) }
+    ensures count { result ≡ cond (nat_lt 0 took) 1 0 }
     ensures history { log.new.history ≡ log.old.history }
     ensures room { log.new.room ≡ log.old.room }
     ensures post_room { log.new.post_room + result ≡ log.old.post_room }
-    ensures due { due state.new + result ≤ due state.old }
 {
-    signal_lists(state.going.as_slice(), fences);
-    let took = state.took;
-    state.took = 0;
-    if state.closed {
-        return 0;
-    }
     if took == 0 {
         return 0;
     }
@@ -79,24 +64,71 @@ pub fn done_one(
     1
 }
 
+/// What the end of a frame does for one session. Answers how many events it posts.
+pub fn done_one(
+    setup: &Setup,
+    line: u32,
+    s: SessionNo,
+    state: &mut SessionState,
+    ends: &mut Viewports,
+    fences: &mut FenceSet,
+    log: &mut Log,
+) -> usize
+    requires plain { are_plain log.old.history ≡ true }
+    requires legal { Legal setup.now log.old.history }
+    requires may { MayEnter setup.now log.old.history Display [] Finish }
+    requires declared { is_declared setup.now s ≡ true }
+    requires place { length log.old.history < 2 ^ 32 }
+    requires opened { is_frame_open log.old.history ≡ true }
+    requires count { length fences.old ≡ length setup.now.fences }
+    requires kept { IsKept setup.now (seen_of setup.now log.old.history s) state.old }
+    requires ends { AreViewports setup.now log.old.history s ends.old.live.items ends.old.out.items }
+    requires room { due state.old + due_back ends.old ≤ log.old.post_room }
+    ensures kept { IsKept setup.now (seen_of setup.now (finished log.old.history line) s) state.new }
+    ensures ends { AreViewports setup.now (finished log.old.history line) s ends.new.live.items ends.new.out.items }
+    ensures size { length fences.new ≡ length fences.old }
+    ensures members { (g : FenceNo) → has fences.new g ≡ (has fences.old g || is_released_by (going setup.now log.old.history s) g) }
+    ensures posts { log.new.posts ≡ log.old.posts ++ map (post_of (length log.old.history) s) (events_to setup.now log.old.history (finish_entry line) s) }
+    ensures count { length log.new.posts ≡ length log.old.posts + result }
+    ensures history { log.new.history ≡ log.old.history }
+    ensures room { log.new.room ≡ log.old.room }
+    ensures post_room { log.new.post_room + result ≡ log.old.post_room }
+    ensures due { due state.new + due_back ends.new + result ≤ due state.old + due_back ends.old }
+{
+    signal_lists(state.going.as_slice(), fences);
+    let took = state.took;
+    state.took = 0;
+    if state.closed {
+        return 0;
+    }
+    let presented = post_took(took, s, log);
+    let back = ends.take_back(state.taken(), s, log);
+    presented + back
+}
+
 /// What the end of a frame does for all sessions. Answers how many events it posts.
 pub fn done_all(
     setup: &Setup,
     line: u32,
     fences: &mut FenceSet,
     sessions: &mut Vec<SessionState>,
+    ends: &mut Vec<Viewports>,
     log: &mut Log,
 ) -> usize
     requires plain { are_plain log.old.history ≡ true }
+    requires legal { Legal setup.now log.old.history }
+    requires may { MayEnter setup.now log.old.history Display [] Finish }
     requires place { length log.old.history < 2 ^ 32 }
     requires opened { is_frame_open log.old.history ≡ true }
     requires count { length fences.old ≡ length setup.now.fences }
     requires all { length sessions.old.items ≡ setup.now.sessions }
     requires kept { AllNumbered (λ i. IsKept setup.now (seen_of setup.now log.old.history (number i))) sessions.old.items }
-    requires room { sum_by due sessions.old.items ≤ log.old.post_room }
-    requires small { sum_by due sessions.old.items < 2 ^ 64 }
+    requires ends { AreEnds setup.now log.old.history ends.old.items }
+    requires room { all_due sessions.old.items ends.old.items ≤ log.old.post_room }
+    requires small { all_due sessions.old.items ends.old.items < 2 ^ 64 }
     ensures all { length sessions.new.items ≡ setup.now.sessions }
     ensures kept { AllNumbered (λ i. IsKept setup.now (seen_of setup.now (finished log.old.history line) (number i))) sessions.new.items }
+    ensures ends { AreEnds setup.now (finished log.old.history line) ends.new.items }
     ensures size { length fences.new ≡ length fences.old }
     ensures members { (g : FenceNo) → has fences.new g ≡ (has fences.old g || list_any (λ s. is_released_by (going setup.now log.old.history s) g) (sessions_to setup.now.sessions)) }
     ensures posts { log.new.posts ≡ log.old.posts ++ posts_to setup.now log.old.history (finish_entry line) setup.now.sessions }
@@ -104,12 +136,13 @@ pub fn done_all(
     ensures history { log.new.history ≡ log.old.history }
     ensures room { log.new.room ≡ log.old.room }
     ensures post_room { log.new.post_room + result ≡ log.old.post_room }
-    ensures due { sum_by due sessions.new.items + result ≤ sum_by due sessions.old.items }
+    ensures due { all_due sessions.new.items ends.new.items + result ≤ all_due sessions.old.items ends.old.items }
 {
     let mut count = 0usize;
     for i in 0..setup.sessions {
         let state = &mut sessions[i as usize];
-        count += done_one(setup, line, SessionNo(i + 1), state, fences, log);
+        let one = &mut ends[i as usize];
+        count += done_one(setup, line, SessionNo(i + 1), state, one, fences, log);
     }
     count
 }

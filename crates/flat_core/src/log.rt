@@ -74,6 +74,7 @@ impl Log {
         ensures history { self.new.history ≡ self.old.history }
         ensures posts { self.new.posts ≡ self.old.posts }
         ensures room { self.new.room ≡ self.old.room }
+        ensures post_room { self.old.post_room ≤ self.new.post_room }
         ensures ok { OnOk result (posts ≤ self.new.post_room) }
         ensures err { OnErr result (self.new ≡ self.old) }
     {

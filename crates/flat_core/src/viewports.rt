@@ -1,6 +1,7 @@
-ghost use Rattle.std.specs.Prelude.{◌≡◌, ◌+◌, ◌<◌, ◌≤◌, ◌==◌, ◌^◌, Some, None, [], ◌∷◌, ◌++◌, not, false, filter, length, map, OnOk, OnErr, cond, vec_capacity};
+ghost use Rattle.std.specs.Prelude.{◌≡◌, ◌+◌, ◌<◌, ◌≤◌, ◌==◌, ◌^◌, Some, None, [], ◌∷◌, ◌++◌, not, true, false, filter, length, map, OnOk, OnErr, cond, vec_capacity};
 ghost use Rattle.std.specs.List.{list_any};
-ghost use Rattle.flat_core.specs.Lives.{lives_then, lives_after, pair_named};
+ghost use Rattle.flat_core.specs.Legal.{all_but_last, number_if};
+ghost use Rattle.flat_core.specs.Lives.{lives_then, lives_after, pair_named, uses_last};
 ghost use Rattle.flat_core.specs.Seen.{is_new_viewport};
 ghost use Rattle.flat_core.specs.Begins.{post_of};
 ghost use Rattle.flat_core.specs.Viewports.{marked, marked_by, with_out, place_of, is_back, back_events, still_out};
@@ -141,6 +142,22 @@ impl Viewports {
         Ok(())
     }
 
+    /// The same, and the room for so many posts, as for its token's return.
+    pub fn reserve_with(&mut self, log: &mut Log, posts: usize) -> Result<(), NoMemory>
+        ensures live { self.new.live.items ≡ self.old.live.items }
+        ensures out { self.new.out.items ≡ self.old.out.items }
+        ensures room_live { OnOk result (length self.new.live.items < vec_capacity self.new.live) }
+        ensures room_out { OnOk result (length self.new.out.items < vec_capacity self.new.out) }
+        ensures history { log.new.history ≡ log.old.history }
+        ensures posts { log.new.posts ≡ log.old.posts }
+        ensures room { log.new.room ≡ log.old.room }
+        ensures post_room { log.old.post_room ≤ log.new.post_room }
+        ensures reserved { OnOk result (posts ≤ log.new.post_room) }
+    {
+        log.reserve(posts)?;
+        self.reserve()
+    }
+
     /// A viewport is released, if that is what the id names.
     fn release(&mut self, name: ContentId, presents: u32)
         ensures live { self.new.live.items ≡ filter (λ one. not (one.name.0 == name.0)) self.old.live.items }
@@ -169,7 +186,7 @@ impl Viewports {
     }
 
     /// Notes calls, none of which makes a viewport. It takes no memory.
-    pub fn note(&mut self, calls: &[Call], presents: u32)
+    pub fn note_calls(&mut self, calls: &[Call], presents: u32)
         requires { list_any is_new_viewport calls.now ≡ false }
         ensures live { self.new.live.items ≡ lives_after self.old.live.items calls.now }
         ensures out { self.new.out.items ≡ map (marked self.old.live.items calls.now presents) self.old.out.items }
@@ -196,6 +213,32 @@ impl Viewports {
             released: None,
         };
         let _joined = self.out.insert(place, token);
+    }
+
+    /// Uses the viewport end of a pair by the last of these calls, where its token is
+    /// held, and notes the others. Answers whether it was held; where it wasn't,
+    /// nothing changes. It takes no memory.
+    pub fn use_end(&mut self, calls: &[Call], p: PairNo, presents: u32) -> bool
+        requires others { list_any is_new_viewport (all_but_last calls.now) ≡ false }
+        requires last { uses_last p calls.now ≡ true }
+        requires room_live { length self.old.live.items < vec_capacity self.old.live }
+        requires room_out { length self.old.out.items < vec_capacity self.old.out }
+        ensures held { result ≡ not (list_any (λ one. one.pair.0 == p.0) self.old.out.items) }
+        ensures live { result ≡ true → self.new.live.items ≡ lives_after self.old.live.items calls.now }
+        ensures out { result ≡ true → self.new.out.items ≡ with_out (record { pair = p; released = None }) (map (marked self.old.live.items calls.now presents) self.old.out.items) }
+        ensures same_live { result ≡ false → self.new.live.items ≡ self.old.live.items }
+        ensures same_out { result ≡ false → self.new.out.items ≡ self.old.out.items }
+        ensures count { length self.new.out.items ≡ length self.old.out.items + number_if result }
+    {
+        if is_out(self.out.as_slice(), p) {
+            return false;
+        }
+        let place = calls.len() - 1;
+        self.note_calls(&calls[..place], presents);
+        if let Call::CreateViewport { c, .. } = &calls[place] {
+            self.join(*c, p);
+        }
+        true
     }
 
     /// At the end of a frame, of which the first so many presents were taken, the

@@ -1,11 +1,12 @@
-use Rattle.std.proofs.Common.{◌≡◌, ◌<◌, length, arith, ◌∙◌, ap}
+use Rattle.std.proofs.Common.{◌≡◌, ◌<◌, List, length, arith, ◌∙◌, ap, subst}
+use Rattle.flat_scene.specs.declared.journal.Entry.{Entry}
 use Rattle.std.proofs.lemmas.List.{length-set}
 use Rattle.std.proofs.lemmas.List.Sums.{sum_by-set}
 use Rattle.flat_fence.specs.Fences.{has}
-use Rattle.flat_core.specs.Boards.{due}
-use Rattle.flat_core.specs.Begins.{finish_entry}
+use Rattle.flat_core.specs.Boards.{due, due_back}
+use Rattle.flat_core.specs.Begins.{finish_entry, finished}
 use Rattle.flat_core.proofs.BeginLoop.{posts-next}
-use Rattle.flat_core.proofs.DoneSteps.{done-next, members-next}
+use Rattle.flat_core.proofs.DoneSteps.{EndsOf, done-next, members-next, up-next}
 use Rattle.flat_core.proofs.dones.done_all.Goals as goal
 
 pub loop-i-preserved : goal.loop-i-preserved
@@ -20,9 +21,15 @@ loop-i-preserved c =
     let below : i < length c.loop-i.sessions.items = omega (arith, inv.all, c.loop-i-test.true) in
     let same : c.loop-i.log.history ≡ h = inv.history in
     let sums = sum_by-set due c.loop-i.sessions.items i c.done_one-count.new.state c.index_mut-state.result.now below in
+    let within : i < length c.loop-i.ends.items = omega (arith, inv.ends_all, c.loop-i-test.true) in
+    let backs = sum_by-set due_back c.loop-i.ends.items i c.done_one-count.new.ends c.index_mut-one.result.now within in
+    let one_is = c.index_mut-one.ensures.value in
+    let ends : EndsOf setup (finished h line) i c.done_one-count.new.ends = subst (λ (k : List Entry). EndsOf setup (finished k line) i c.done_one-count.new.ends) same e.ends in
     record {
       all = length-set c.loop-i.sessions.items i c.done_one-count.new.state ∙ inv.all;
       kept = done-next setup c.loop-i.log.history h line i c.loop-i.sessions.items c.done_one-count.new.state same inv.kept e.kept;
+      ends_all = length-set c.loop-i.ends.items i c.done_one-count.new.ends ∙ inv.ends_all;
+      ends = up-next (EndsOf setup) h (finished h line) i c.loop-i.ends.items c.done_one-count.new.ends inv.ends ends;
       size = e.size ∙ inv.size;
       members = λ g. members-next setup c.loop-i.log.history h i g (has c.args.fences.now g) (has c.loop-i.fences g) (has c.done_one-count.new.fences g) same (inv.members g) (e.members g);
       posts = posts-next setup c.loop-i.log.history h (finish_entry line) i c.args.log.now.posts c.loop-i.log.posts c.done_one-count.new.log.posts same inv.posts e.posts;
@@ -30,5 +37,5 @@ loop-i-preserved c =
       history = e.history ∙ same;
       room = e.room ∙ inv.room;
       post_room = omega (arith, e.post_room, inv.post_room);
-      due = omega (arith, sums, ap due is, e.due, inv.due);
+      due = omega (arith, sums, backs, ap due is, ap due_back one_is, e.due, inv.due);
     }

@@ -1,17 +1,19 @@
 use Rattle.std.proofs.Common.{◌≡◌, ◌+◌, ◌≤◌, ◌++◌, length}
-use Rattle.std.specs.Prelude.{sum_by, ◌||◌}
+use Rattle.std.specs.Prelude.{◌||◌}
 use Rattle.flat_base.specs.declared.ids.FenceNo.{FenceNo}
 use Rattle.flat_fence.specs.Fences.{has}
 use Rattle.flat_core.specs.Begins.{finish_entry, posts_to}
-use Rattle.flat_core.specs.Boards.{due}
+use Rattle.flat_core.specs.Boards.{all_due}
 use Rattle.flat_core.specs.Kept.{AllNumbered}
-use Rattle.flat_core.proofs.DoneSteps.{DoneUpTo, released_to}
+use Rattle.flat_core.proofs.DoneSteps.{DoneUpTo, EndsUpTo, released_to}
 use Rattle.flat_core.proofs.dones.done_all.Given as goal
 
 abbrev pub invariant-loop-i : goal.invariant-loop-i
 invariant-loop-i l = record {
   all : length l.sessions.items ≡ l.setup.sessions;
   kept : AllNumbered (DoneUpTo l.setup l.fn.log.history l.line l.i) l.sessions.items;
+  ends_all : length l.ends.items ≡ l.setup.sessions;
+  ends : AllNumbered (EndsUpTo l.setup l.fn.log.history l.line l.i) l.ends.items;
   size : length l.fences ≡ length l.fn.fences;
   members : (g : FenceNo) → has l.fences g ≡ (has l.fn.fences g || released_to l.setup l.fn.log.history l.i g);
   posts : l.log.posts ≡ l.fn.log.posts ++ posts_to l.setup l.fn.log.history (finish_entry l.line) l.i;
@@ -19,5 +21,5 @@ invariant-loop-i l = record {
   history : l.log.history ≡ l.fn.log.history;
   room : l.log.room ≡ l.fn.log.room;
   post_room : l.log.post_room + l.count ≡ l.fn.log.post_room;
-  due : sum_by due l.sessions.items + l.count ≤ sum_by due l.fn.sessions.items;
+  due : all_due l.sessions.items l.ends.items + l.count ≤ all_due l.fn.sessions.items l.fn.ends.items;
 }

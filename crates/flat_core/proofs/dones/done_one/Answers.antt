@@ -1,21 +1,28 @@
-use Rattle.std.proofs.Common.{◌≡◌, ◌≢◌, ℕ, Bool, true, false, refl, arith, sym, ◌∙◌}
-use Rattle.std.specs.Prelude.{cond, nat_lt}
-use Rattle.std.proofs.lemmas.List.{append-nil}
-use Rattle.std.proofs.lemmas.Bool.Decides.{nat_tests}
+use Rattle.std.proofs.Common.{◌≡◌, ℕ, Bool, true, false, List, ◌++◌, length, refl, ap, sym, ◌∙◌, append_assoc}
+use Rattle.std.specs.Prelude.{cond, map}
+use Rattle.std.proofs.lemmas.List.{append-nil, map-append}
 use Rattle.flat_fence.specs.Fences.{has}
 use Rattle.flat_scene.specs.History.{is_closed}
 use Rattle.flat_core.specs.Legal.{is_frame_open}
 use Rattle.flat_core.specs.Posts.{frame_took}
 use Rattle.flat_scene.specs.Frames.{going}
+use Rattle.flat_scene.specs.declared.journal.Entry.{Entry}
+use Rattle.flat_scene.specs.declared.journal.Event.{Event}
+use Rattle.flat_scene.specs.declared.journal.Post.{Post}
+use Rattle.flat_scene.specs.Frames.{taken}
+use Rattle.flat_scene.specs.History.{◌▹◌}
+use Rattle.flat_core.specs.Begins.{finish_entry, post_of, took_event}
+use Rattle.flat_core.specs.Legal.{Legal, LegalEntry}
+use Rattle.flat_core.specs.Posts.{events_to}
+use Rattle.flat_core.specs.Seen.{seen_of}
+use Rattle.flat_core.specs.Viewports.{back_events}
+use Rattle.flat_core.proofs.Counts.{seen-count, taken-kept}
 use Rattle.flat_core.proofs.DoneSteps.{members-done, events-finished}
+use Rattle.flat_core.proofs.ViewportUses.{viewports-finish}
 use Rattle.flat_core.proofs.dones.done_one.Goals as goal
 
 pub returns-then-state-clause-members : goal.returns-then-state-clause-members
 returns-then-state-clause-members c g =
-    members-done (has c.args.fences.now g) (has c.signal_lists.new.fences g) _ (going c.args.setup.now c.args.log.now.history c.args.s) g (c.signal_lists.ensures.members g) (c.as_slice.ensures.value ∙ c.requires.kept.going)
-
-pub returns-then-took-eq0-clause-members : goal.returns-then-took-eq0-clause-members
-returns-then-took-eq0-clause-members c g =
     members-done (has c.args.fences.now g) (has c.signal_lists.new.fences g) _ (going c.args.setup.now c.args.log.now.history c.args.s) g (c.signal_lists.ensures.members g) (c.as_slice.ensures.value ∙ c.requires.kept.going)
 
 pub returns-clause-members : goal.returns-clause-members
@@ -25,27 +32,37 @@ returns-clause-members c g =
 pub returns-then-state-clause-posts : goal.returns-then-state-clause-posts
 returns-then-state-clause-posts c =
     let closed : is_closed c.args.s c.args.log.now.history ≡ true = sym c.requires.kept.closed ∙ c.if-state.true in
-    rw (events-finished c.args.setup.now c.args.log.now.history c.args.line c.args.s c.requires.plain, closed) (sym (append-nil _))
+    rw (events-finished c.args.setup.now c.args.log.now.history c.args.line c.args.s c.requires.declared c.requires.plain c.requires.legal c.requires.opened _ _ c.requires.ends, closed) (sym (append-nil _))
 
 took-is : (b : Bool) (n took : ℕ) → b ≡ true → took ≡ cond b n 0 → took ≡ n
 took-is true n took opened is = is
 took-is false n took opened is = cc
 
-some-lt : (n : ℕ) → n ≢ 0 → nat_lt 0 n ≡ true
-some-lt n some = grind (arith, nat_tests)
+posts-two : (f : Event → Post) (old mid new : List Post) (xs ys events : List Event) → mid ≡ old ++ map f xs → new ≡ mid ++ map f ys → events ≡ xs ++ ys → new ≡ old ++ map f events
+posts-two f old mid new xs ys events first second all =
+    second ∙ ap (λ (ps : List Post). ps ++ map f ys) first ∙ append_assoc old (map f xs) (map f ys) ∙ ap (λ (ps : List Post). old ++ ps) (sym (map-append f xs ys)) ∙ ap (λ (es : List Event). old ++ map f es) (sym all)
 
-pub returns-then-took-eq0-clause-posts : goal.returns-then-took-eq0-clause-posts
-returns-then-took-eq0-clause-posts c =
+pub returns-clause-ends : goal.returns-clause-ends
+returns-clause-ends c =
+    let setup = c.args.setup.now in
     let h = c.args.log.now.history in
-    let opened : is_closed c.args.s h ≡ false = sym c.requires.kept.closed ∙ c.if-state.false in
-    let took : c.args.state.now.took ≡ frame_took c.args.setup.now h c.args.s = took-is (is_frame_open h) (frame_took c.args.setup.now h c.args.s) c.args.state.now.took c.requires.opened c.requires.kept.took in
-    let none : frame_took c.args.setup.now h c.args.s ≡ 0 = sym took ∙ c.if-took-eq0.true in
-    rw (events-finished c.args.setup.now h c.args.line c.args.s c.requires.plain, opened, none) (sym (append-nil _))
+    let e = finish_entry c.args.line in
+    let legal : Legal setup (h ▹ e) = (c.requires.legal, (let one : LegalEntry setup h e = record { may = c.requires.may; reply = refl } in one)) in
+    let step = viewports-finish setup c.args.s c.requires.declared h e legal refl refl (λ p. refl) c.args.ends.now.live.items c.args.ends.now.out.items c.requires.ends in
+    let taken_is : c.taken.result ≡ taken setup h c.args.s = c.taken.ensures ∙ taken-kept setup (seen_of setup h c.args.s) c.args.state.now c.requires.kept (seen-count setup h c.args.s) in
+    rw (c.take_back-back.ensures.live, c.take_back-back.ensures.out, taken_is) step
 
 pub returns-clause-posts : goal.returns-clause-posts
 returns-clause-posts c =
+    let setup = c.args.setup.now in
     let h = c.args.log.now.history in
-    let opened : is_closed c.args.s h ≡ false = sym c.requires.kept.closed ∙ c.if-state.false in
-    let took : c.args.state.now.took ≡ frame_took c.args.setup.now h c.args.s = took-is (is_frame_open h) (frame_took c.args.setup.now h c.args.s) c.args.state.now.took c.requires.opened c.requires.kept.took in
-    let some : nat_lt 0 c.args.state.now.took ≡ true = some-lt c.args.state.now.took c.if-took-eq0.false in
-    rw (events-finished c.args.setup.now h c.args.line c.args.s c.requires.plain, opened, ← took, some) (c.post.ensures.posts ∙ rw c.len.ensures refl)
+    let s = c.args.s in
+    let outs = c.args.ends.now.out.items in
+    let opened : is_closed s h ≡ false = sym c.requires.kept.closed ∙ c.if-state.false in
+    let took : c.args.state.now.took ≡ frame_took setup h s = took-is (is_frame_open h) (frame_took setup h s) c.args.state.now.took c.requires.opened c.requires.kept.took in
+    let taken_is : c.taken.result ≡ taken setup h s = c.taken.ensures ∙ taken-kept setup (seen_of setup h s) c.args.state.now c.requires.kept (seen-count setup h s) in
+    let all : events_to setup h (finish_entry c.args.line) s ≡ took_event c.args.state.now.took ++ back_events c.taken.result outs =
+    events-finished setup h c.args.line s c.requires.declared c.requires.plain c.requires.legal c.requires.opened c.args.ends.now.live.items outs c.requires.ends ∙ rw (opened, took, taken_is) refl in
+    let second : c.take_back-back.new.log.posts ≡ c.post_took-presented.new.log.posts ++ map (post_of (length h) s) (back_events c.taken.result outs) =
+    c.take_back-back.ensures.posts ∙ ap (λ (k : List Entry). c.post_took-presented.new.log.posts ++ map (post_of (length k) s) (back_events c.taken.result outs)) c.post_took-presented.ensures.history in
+    posts-two (post_of (length h) s) c.args.log.now.posts c.post_took-presented.new.log.posts c.take_back-back.new.log.posts (took_event c.args.state.now.took) (back_events c.taken.result outs) _ c.post_took-presented.ensures.posts second all

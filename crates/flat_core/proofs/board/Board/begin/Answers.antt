@@ -1,4 +1,4 @@
-use Rattle.std.proofs.Common.{◌≡◌, List, false, ◌+◌, ◌<◌, ◌^◌, Some, slice_get, refl, sym, ◌∙◌, ap, subst, arith}
+use Rattle.std.proofs.Common.{◌≡◌, List, [], false, ◌+◌, ◌<◌, ◌^◌, Some, slice_get, refl, sym, ◌∙◌, ap, subst, arith}
 use Rattle.flat_base.specs.declared.ids.SessionNo.{SessionNo}
 use Rattle.flat_scene.specs.History.{is_closed, Published}
 use Rattle.flat_scene.specs.Frames.{is_signalled, waiting}
@@ -9,9 +9,11 @@ use Rattle.flat_scene.specs.declared.journal.Entry.{Entry}
 use Rattle.flat_scene.specs.declared.journal.Kind.TheVariants.{Begin}
 use Rattle.flat_scene.specs.declared.journal.Reply.TheVariants.{Done}
 use Rattle.flat_scene.specs.History.{◌▹◌}
-use Rattle.flat_core.specs.Boards.{Machine, entry_of}
+use Rattle.flat_core.specs.Boards.{AreEnds, Machine, all_due, entry_of}
+use Rattle.flat_core.specs.Legal.{Legal}
+use Rattle.flat_core.proofs.EndSteps.{ends-other}
 use Rattle.flat_core.specs.Begins.{begun, begin_entry}
-use Rattle.flat_core.proofs.Steps.{has-room}
+use Rattle.flat_core.proofs.Steps.{has-room, legal-entered}
 use Rattle.flat_core.proofs.BoardBegins.{kept-begun, place-small, not-ready}
 use Rattle.flat_core.proofs.board.Board.begin.Goals as goal
 
@@ -38,16 +40,23 @@ invariant_of-self c =
     let log = c.enter.ensures in
     let history : c.enter.new.self.history ≡ (c.begin_all-count.new.log.history ▹ begin_entry c.args.line c.args.time) =
     log.history ∙ ap (λ (carries : List Call). c.begin_all-count.new.log.history ▹ entry_of Display c.args.line carries (Begin c.args.time) Done) c.new.ensures in
-    kept-begun _ c.args.line c.args.time may _ _ _ _ _ _ _ _ _ _ refl c.self.invariant.0 c.self.invariant.1 all.all all.kept
+    let inside = c.self.inside in
+    let e : Entry = begin_entry c.args.line c.args.time in
+    let m : Machine = record { setup = inside.setup; shares = inside.shares; history = inside.log.history } in
+    let legal : Legal inside.setup (inside.log.history ▹ e) = (c.self.invariant.0.legal, legal-entered m Display c.args.line [] (Begin c.args.time) Done may refl) in
+    let ends : AreEnds inside.setup (inside.log.history ▹ e) inside.ends.items = ends-other inside.setup inside.log.history e legal refl inside.ends.items (λ j. refl) c.self.invariant.2 in
+    let now : c.enter.new.self.history ≡ (inside.log.history ▹ e) = history ∙ ap (λ (h : List Entry). h ▹ e) all.history in
+    let kept = kept-begun m c.args.line c.args.time may _ _ _ _ _ _ _ _ _ _ {dues = all_due inside.sessions.items inside.ends.items} {dues_now = all_due c.begin_all-count.new.sessions.items inside.ends.items} refl c.self.invariant.0 c.self.invariant.1 all.all all.kept
     (record {
       posts = all.posts;
       posted = all.count;
       history = all.history;
       room = all.room;
       post_room = all.post_room;
-      due = all.due;
+      due = omega (arith, all.due);
       entered = record { history = history; posts = log.posts; room = log.room; post_room = log.post_room };
-    })
+    }) in
+    (kept.0, kept.1, rw now ends)
 
 pub returns-clause-next : goal.returns-clause-next
 returns-clause-next c =

@@ -1,12 +1,17 @@
-use Rattle.std.proofs.Common.{◌≡◌, refl, sym, ◌∙◌, ap, List}
+use Rattle.std.proofs.Common.{◌≡◌, true, refl, sym, ◌∙◌, ap, List}
 use Rattle.flat_base.specs.declared.ids.Actor.TheVariants.{Session}
 use Rattle.flat_scene.specs.declared.calls.Call.{Call}
 use Rattle.flat_scene.specs.declared.journal.Kind.TheVariants.{Close}
-use Rattle.flat_core.specs.Boards.{entry_of}
+use Rattle.flat_scene.specs.declared.journal.Entry.{Entry}
+use Rattle.flat_scene.specs.History.{◌▹◌, is_closed}
+use Rattle.flat_core.specs.Boards.{AreEnds, Machine, entry_of}
+use Rattle.flat_core.specs.Legal.{Legal}
+use Rattle.flat_core.specs.Presents.{with_calls}
 use Rattle.flat_core.specs.Seen.{noted}
 use Rattle.flat_core.proofs.Changes.{seen-closed, kept-closed, kept-noted, is-session}
-use Rattle.flat_core.proofs.Ones.{kept-one, plain-close, reply-close, closes-close}
-use Rattle.flat_core.proofs.Steps.{has-room, unchanged}
+use Rattle.flat_core.proofs.EndSteps.{ends-closed}
+use Rattle.flat_core.proofs.Ones.{declared-of, kept-one, plain-close, reply-close, closes-close}
+use Rattle.flat_core.proofs.Steps.{has-room, legal-entered, unchanged}
 use Rattle.flat_core.proofs.board.Board.close.Goals as goal
 
 pub enter-requires : goal.enter-requires
@@ -22,9 +27,16 @@ invariant_of-self c =
     let setup = c.self.inside.setup in
     let h = c.self.inside.log.history in
     let account : c.note.new.account ≡ noted c.args.calls c.index_mut-state.result.now.account = c.note.ensures ∙ ap (λ (calls : List Call). noted calls c.index_mut-state.result.now.account) c.as_slice.ensures in
+    let is = reply ∙ sym (reply-close setup h (Session c.args.s) c.args.calls c.args.why) in
+    let m : Machine = record { setup = setup; shares = c.self.inside.shares; history = h } in
+    let e : Entry = entry_of (Session c.args.s) c.args.line c.args.calls (Close c.args.why) c.close_reply-reply.result in
+    let legal : Legal setup (h ▹ e) = (c.self.invariant.0.legal, legal-entered m (Session c.args.s) c.args.line c.args.calls (Close c.args.why) c.close_reply-reply.result call is) in
+    let closed : is_closed c.args.s (h ▹ e) ≡ true = rw (is-session c.args.s, reply, closes-close c.args.why) refl in
+    let ends : AreEnds setup (h ▹ e) c.self.inside.ends.items = ends-closed setup h e legal refl c.self.inside.ends.items c.args.s refl (declared-of setup (Close c.args.why) c.args.s call.may.acts) closed c.self.invariant.2 in
     rw account
-    (kept-one _ c.args.s c.args.line c.args.calls (Close c.args.why) c.close_reply-reply.result call (reply ∙ sym (reply-close setup h (Session c.args.s) c.args.calls c.args.why)) refl refl _ _ _ _ _ _ _ _ _
-    c.index_mut-state.result.now _ c.index_mut-state.ensures.value refl c.self.invariant.0 c.self.invariant.1 (unchanged _ _ _ _ (λ sessions g f. refl) (λ p. refl))
+    (let kept = kept-one m c.args.s c.args.line c.args.calls (Close c.args.why) c.close_reply-reply.result call is refl refl _ _ _ _ _ _ _ c.enter.new.self _
+    c.index_mut-state.result.now (with_calls c.args.calls (record c.index_mut-state.result.now { closed = true })) c.index_mut-state.ensures.value refl c.self.invariant.0 c.self.invariant.1 (unchanged _ _ _ _ (λ sessions g f. refl) (λ p. refl))
     (λ kept. rw (seen-closed setup h (entry_of (Session c.args.s) c.args.line c.args.calls (Close c.args.why) c.close_reply-reply.result) c.args.s (plain-close _ _ _ _ _) (rw reply (closes-close c.args.why)) (is-session c.args.s))
     (kept-noted setup _ _ c.args.calls (kept-closed setup _ _ kept)))
-    refl (record { history = log.history; posts = log.posts; room = log.room; post_room = log.post_room }))
+    refl refl (record { history = log.history; posts = log.posts; room = log.room; post_room = log.post_room }) in
+    (kept.0, kept.1, rw log.history ends))

@@ -4,6 +4,7 @@ use Rattle.flat_scene.specs.declared.calls.Call.{Call}
 use Rattle.flat_scene.specs.declared.journal.Kind.TheVariants.{Finish}
 use Rattle.flat_scene.specs.declared.journal.Reply.TheVariants.{Done}
 use Rattle.flat_scene.specs.History.{◌▹◌}
+use Rattle.flat_scene.specs.declared.journal.Entry.{Entry}
 use Rattle.flat_core.specs.Boards.{entry_of}
 use Rattle.flat_core.specs.Begins.{finish_entry}
 use Rattle.flat_core.proofs.Steps.{has-room}
@@ -33,7 +34,7 @@ invariant_of-self c =
     let log = c.enter.ensures in
     let history : c.enter.new.self.history ≡ (c.done_all-count.new.log.history ▹ finish_entry c.args.line) =
     log.history ∙ ap (λ (carries : List Call). c.done_all-count.new.log.history ▹ entry_of Display c.args.line carries Finish Done) c.new.ensures in
-    kept-finished _ c.args.line may _ _ _ _ _ _ _ _ _ _ _ refl c.self.invariant.0 c.self.invariant.1 all.all all.kept all.size all.members
+    let kept = kept-finished _ c.args.line may _ _ _ _ _ _ _ _ _ _ _ refl c.self.invariant.0 c.self.invariant.1 all.all all.kept all.size all.members
     (record {
       posts = all.posts;
       posted = all.count;
@@ -42,4 +43,5 @@ invariant_of-self c =
       post_room = all.post_room;
       due = all.due;
       entered = record { history = history; posts = log.posts; room = log.room; post_room = log.post_room };
-    })
+    }) in
+    (kept.0, kept.1, rw (history ∙ ap (λ (h : List Entry). h ▹ finish_entry c.args.line) all.history) all.ends)

@@ -1,12 +1,26 @@
-use Rattle.std.proofs.Common.{refl, ap, ◌∙◌, List}
+use Rattle.std.proofs.Common.{refl, sym, subst, ap, ◌∙◌, List}
+use Rattle.std.specs.List.{list_any}
 use Rattle.flat_scene.specs.declared.calls.Call.{Call}
-use Rattle.flat_core.specs.Presents.{noted_in}
+use Rattle.flat_core.specs.Boards.{Machine}
+use Rattle.flat_core.specs.Presents.{noted_in, EndsNoted}
+use Rattle.flat_core.specs.Seen.{is_new_viewport}
+use Rattle.flat_core.proofs.EndSteps.{ends-after, none-new}
+use Rattle.flat_base.specs.declared.ids.Actor.{Actor}
 use Rattle.flat_base.specs.declared.ids.Actor.TheVariants.{Session}
 use Rattle.flat_scene.specs.declared.journal.Kind.TheVariants.{End}
 use Rattle.flat_scene.specs.declared.journal.Reply.TheVariants.{Done}
-use Rattle.flat_core.proofs.Ones.{kept-quiet, plain-end}
+use Rattle.flat_core.proofs.Ones.{kept-quiet, placed-of, plain-end}
 use Rattle.flat_core.proofs.Steps.{has-room, unchanged}
 use Rattle.flat_core.proofs.board.Board.end.Goals as goal
+
+pub note_in-requires : goal.note_in-requires
+note_in-requires c =
+    let call = rw (← c.self.view_is) at c.requires in
+    record {
+      placed = placed-of c.self.inside.setup (End c.args.refused) (Session c.args.s) _ c.self.invariant.0.count call.may.acts;
+      all = c.self.invariant.2.count ∙ sym c.self.invariant.0.count;
+      none = ap (list_any is_new_viewport) c.as_slice.ensures ∙ none-new (End c.args.refused) c.args.calls refl call.may.links call.may.calls;
+    }
 
 pub enter-requires : goal.enter-requires
 enter-requires c =
@@ -17,5 +31,12 @@ pub invariant_of-self : goal.invariant_of-self
 invariant_of-self c =
     let call = rw (← c.self.view_is) at c.requires in
     let log = c.enter.ensures in
-    kept-quiet _ (Session c.args.s) c.args.line c.args.calls (End c.args.refused) Done call refl (plain-end _ _ _ _) refl _ _ _ _ _ _ _ _ _ _ refl c.self.invariant.0 c.self.invariant.1
-    (unchanged _ _ _ _ (λ sessions g f. refl) (λ p. refl)) (c.note_in.ensures ∙ ap (λ (calls : List Call). noted_in (Session c.args.s) calls c.self.inside.sessions.items) c.as_slice.ensures) (record { history = log.history; posts = log.posts; room = log.room; post_room = log.post_room })
+    let inside = c.self.inside in
+    let m : Machine = record { setup = inside.setup; shares = inside.shares; history = inside.log.history } in
+    let who : Actor = Session c.args.s in
+    let ends = ends-after m who c.args.line c.args.calls (End c.args.refused) Done call refl refl refl inside.clock inside.fences inside.views inside.sessions.items inside.ends.items c.note_in.new.ends.items c.self.invariant.0
+    (subst (λ (calls : List Call). EndsNoted who calls inside.sessions.items inside.ends.items c.note_in.new.ends.items) c.as_slice.ensures c.note_in.ensures.ends) c.self.invariant.2 in
+    let kept = kept-quiet m who c.args.line c.args.calls (End c.args.refused) Done call refl (plain-end _ _ _ _) refl _ _ _ _ _ _ _ _ _ _ refl c.self.invariant.0 c.self.invariant.1
+    (unchanged _ _ _ _ (λ sessions g f. refl) (λ p. refl)) (c.note_in.ensures.sessions ∙ ap (λ (calls : List Call). noted_in who calls inside.sessions.items) c.as_slice.ensures) ends.1
+    (record { history = log.history; posts = log.posts; room = log.room; post_room = log.post_room }) in
+    (kept.0, kept.1, rw log.history ends.0)

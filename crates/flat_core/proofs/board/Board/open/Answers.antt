@@ -1,11 +1,14 @@
 use Rattle.std.proofs.Common.{◌≡◌, ◌∙◌, ap}
 use Rattle.std.specs.Prelude.{sum}
+use Rattle.flat_core.proofs.EndSteps.{back-new, ends-new}
 use Rattle.flat_core.proofs.Opened.{opened}
 use Rattle.flat_core.proofs.board.Board.open.Goals as goal
 
 pub invariant_of-result : goal.invariant_of-result
 invariant_of-result c =
     let total : c.total_of-total.result ≡ sum c.args.shares = c.total_of-total.ensures ∙ ap sum c.as_slice.ensures in
-    opened c.args.setup c.args.shares c.in_ok-log.log c.in_ok-fences.fences c.in_ok-views.views c.in_ok-sessions.sessions.items c.total_of-total.result c.requires.limits c.requires.actors c.requires.total total
+    let ends = c.in_ok-ends.ends.items in
+    let two = opened c.args.setup c.args.shares c.in_ok-log.log c.in_ok-fences.fences c.in_ok-views.views c.in_ok-sessions.sessions.items c.total_of-total.result c.requires.limits c.requires.actors c.requires.total total
     c.in_ok-log.ensures.history c.in_ok-log.ensures.posts c.in_ok-log.ensures.room (c.in_ok-fences.ensures.size ∙ c.len.ensures) c.in_ok-fences.ensures.none
-    (c.in_ok-views.ensures.size ∙ c.len-2.ensures) c.in_ok-views.ensures.none c.in_ok-sessions.ensures.count c.in_ok-sessions.ensures.new
+    (c.in_ok-views.ensures.size ∙ c.len-2.ensures) c.in_ok-views.ensures.none c.in_ok-sessions.ensures.count c.in_ok-sessions.ensures.new in
+    (two.0, rw (back-new ends c.in_ok-ends.ensures.none) two.1, rw c.in_ok-log.ensures.history (ends-new c.args.setup ends c.in_ok-ends.ensures.count c.in_ok-ends.ensures.none))

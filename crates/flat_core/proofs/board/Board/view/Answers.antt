@@ -1,5 +1,6 @@
 use Rattle.std.proofs.Common.{◌≡◌, refl, sym, ◌∙◌, ap, List, subst}
 use Rattle.std.specs.Prelude.{not}
+use Rattle.std.specs.List.{list_any}
 use Rattle.flat_base.specs.declared.ids.Actor.TheVariants.{Session}
 use Rattle.flat_scene.specs.declared.calls.Call.{Call}
 use Rattle.flat_scene.specs.declared.journal.Kind.TheVariants.{View}
@@ -7,8 +8,9 @@ use Rattle.flat_scene.specs.declared.journal.Reply.{Reply}
 use Rattle.flat_scene.specs.History.{◌▹◌}
 use Rattle.flat_core.specs.Boards.{Machine, entry_of}
 use Rattle.flat_core.specs.Legal.{reply_to}
-use Rattle.flat_core.specs.Presents.{view_reply}
-use Rattle.flat_core.specs.Seen.{noted}
+use Rattle.flat_core.specs.Presents.{use_reply}
+use Rattle.flat_core.specs.Seen.{is_new_viewport, noted}
+use Rattle.flat_core.proofs.EndSteps.{ends-after, none-new, noted-slice}
 use Rattle.flat_core.proofs.Ones.{kept-one}
 use Rattle.flat_core.proofs.Steps.{has-room, or-false}
 use Rattle.flat_core.proofs.ViewSteps.{view-replied, view-changed, view-below, view-kept, view-due}
@@ -18,6 +20,11 @@ pub set-requires : goal.set-requires
 set-requires c =
     let call = rw (← c.self.view_is) at c.requires in
     view-below _ _ _ c.args.p _ call c.self.invariant.0.view_count
+
+pub note_calls-requires : goal.note_calls-requires
+note_calls-requires c =
+    let call = rw (← c.self.view_is) at c.requires in
+    ap (list_any is_new_viewport) c.as_slice.ensures ∙ none-new (View c.args.p) c.args.calls refl call.may.links call.may.calls
 
 pub enter-requires : goal.enter-requires
 enter-requires c =
@@ -31,14 +38,30 @@ invariant_of-self c =
     let log = c.enter.ensures in
     let used = c.is_used-is_held.result in
     let reply = c.view_in-reply.ensures.reply in
-    let account : c.note.new.account ≡ noted c.args.calls c.view_in-reply.new.state.account = c.note.ensures ∙ ap (λ (calls : List Call). noted calls c.view_in-reply.new.state.account) c.as_slice.ensures in
+    let account : c.note.new.account ≡ noted c.args.calls c.view_in-reply.new.state.account = c.note.ensures ∙ ap (λ (calls : List Call). noted calls c.view_in-reply.new.state.account) c.as_slice-2.ensures in
+    let m : Machine = record { setup = inside.setup; shares = inside.shares; history = inside.log.history } in
+    let state = c.index_mut-state.result.now in
+    let is = view-replied inside.setup inside.log.history c.args.s c.args.calls c.args.p used (c.is_used-is_held.ensures ∙ c.self.invariant.0.viewed c.args.p) in
+    let ends = ends-after m (Session c.args.s) c.args.line c.args.calls (View c.args.p) (use_reply (not used)) call is refl refl inside.clock inside.fences inside.views inside.sessions.items inside.ends.items _ c.self.invariant.0
+    (record {
+      state = state;
+      before = c.index_mut.result.now;
+      after = c.note_calls.new.self;
+      of_state = c.index_mut-state.ensures.value;
+      of_before = c.index_mut.ensures.value;
+      noted = noted-slice state.account.presents c.index_mut.result.now c.note_calls.new.self c.as_slice.ensures (record { live = c.note_calls.ensures.live; out = c.note_calls.ensures.out });
+      new_is = refl;
+    }) c.self.invariant.2 in
+    let history : c.enter.new.self.history ≡ (inside.log.history ▹ entry_of (Session c.args.s) c.args.line c.args.calls (View c.args.p) (use_reply (not used))) =
+    log.history ∙ ap (λ (r : Reply). inside.log.history ▹ entry_of (Session c.args.s) c.args.line c.args.calls (View c.args.p) r) reply in
     rw (account, c.view_in-reply.ensures.after)
-    (kept-one _ c.args.s c.args.line c.args.calls (View c.args.p) (view_reply (not used)) call
-    (view-replied inside.setup inside.log.history c.args.s c.args.calls c.args.p used (c.is_used-is_held.ensures ∙ c.self.invariant.0.viewed c.args.p)) refl refl _ _ _ _ _ _ _ _ _
+    (let kept = kept-one m c.args.s c.args.line c.args.calls (View c.args.p) (use_reply (not used)) call
+    is refl refl _ _ _ _ _ _ _ _ _
     c.index_mut-state.result.now _ c.index_mut-state.ensures.value refl c.self.invariant.0 c.self.invariant.1
     (record { fence_size = refl; signalled = λ f. or-false _; view_size = c.set.ensures.size; viewed = view-changed _ _ c.args.p used (sym c.is_used-is_held.ensures) c.set.ensures.members })
-    (λ kept. view-kept inside.setup inside.log.history c.args.s c.args.line c.args.calls c.args.p (not used) _ kept) (view-due c.args.calls (not used) _)
-    (record { history = log.history ∙ ap (λ (r : Reply). inside.log.history ▹ entry_of (Session c.args.s) c.args.line c.args.calls (View c.args.p) r) reply; posts = log.posts; room = log.room; post_room = log.post_room }))
+    (λ kept. view-kept inside.setup inside.log.history c.args.s c.args.line c.args.calls c.args.p (not used) _ kept) (view-due c.args.calls (not used) _) ends.1
+    (record { history = history; posts = log.posts; room = log.room; post_room = log.post_room }) in
+    (kept.0, kept.1, rw history ends.0))
 
 pub returns-clause-reply : goal.returns-clause-reply
 returns-clause-reply c =

@@ -1,7 +1,12 @@
-use Rattle.std.proofs.Common.{refl, ap, ◌∙◌, List}
+use Rattle.std.proofs.Common.{◌≡◌, refl, sym, subst, ap, ◌∙◌, List}
+use Rattle.std.specs.List.{list_any}
 use Rattle.flat_scene.specs.declared.calls.Call.{Call}
 use Rattle.flat_scene.specs.declared.journal.Kind.TheVariants.{Wait}
-use Rattle.flat_core.specs.Presents.{noted_in}
+use Rattle.flat_core.specs.Boards.{Machine}
+use Rattle.flat_core.specs.Legal.{reply_to}
+use Rattle.flat_core.specs.Presents.{noted_in, EndsNoted}
+use Rattle.flat_core.specs.Seen.{is_new_viewport}
+use Rattle.flat_core.proofs.EndSteps.{ends-after, none-new}
 use Rattle.flat_core.proofs.Ones.{kept-quiet, plain-wait, placed-of, closes-waited}
 use Rattle.flat_core.proofs.Steps.{has-room, unchanged}
 use Rattle.flat_core.proofs.board.Board.wait.Goals as goal
@@ -9,7 +14,11 @@ use Rattle.flat_core.proofs.board.Board.wait.Goals as goal
 pub note_in-requires : goal.note_in-requires
 note_in-requires c =
     let call = rw (← c.self.view_is) at c.requires in
-    placed-of c.self.inside.setup (Wait c.args.c) c.args.who _ c.self.invariant.0.count call.may.acts
+    record {
+      placed = placed-of c.self.inside.setup (Wait c.args.c) c.args.who _ c.self.invariant.0.count call.may.acts;
+      all = c.self.invariant.2.count ∙ sym c.self.invariant.0.count;
+      none = ap (list_any is_new_viewport) c.as_slice.ensures ∙ none-new (Wait c.args.c) c.args.calls refl call.may.links call.may.calls;
+    }
 
 pub enter-requires : goal.enter-requires
 enter-requires c =
@@ -23,7 +32,13 @@ invariant_of-self c =
     let replied = c.wait_reply-reply.ensures in
     let value = rw (← c.self.view_is) at c.value-value.ensures in
     let asked = c.asked.ensures in
-    kept-quiet _ c.args.who c.args.line c.args.calls (Wait c.args.c) c.wait_reply-reply.result call (rw (← asked, ← value) replied) (plain-wait _ _ _ _ _)
+    let inside = c.self.inside in
+    let m : Machine = record { setup = inside.setup; shares = inside.shares; history = inside.log.history } in
+    let is : c.wait_reply-reply.result ≡ reply_to inside.setup inside.log.history c.args.who c.args.calls (Wait c.args.c) = rw (← asked, ← value) replied in
+    let ends = ends-after m c.args.who c.args.line c.args.calls (Wait c.args.c) c.wait_reply-reply.result call is refl refl inside.clock inside.fences inside.views inside.sessions.items inside.ends.items c.note_in.new.ends.items c.self.invariant.0
+    (subst (λ (calls : List Call). EndsNoted c.args.who calls inside.sessions.items inside.ends.items c.note_in.new.ends.items) c.as_slice.ensures c.note_in.ensures.ends) c.self.invariant.2 in
+    let kept = kept-quiet m c.args.who c.args.line c.args.calls (Wait c.args.c) c.wait_reply-reply.result call is (plain-wait _ _ _ _ _)
     (rw replied (closes-waited c.asked.result c.value-value.result)) _ _ _ _ _ _ _ _ _ _ refl c.self.invariant.0 c.self.invariant.1
-    (unchanged _ _ _ _ (λ sessions g f. refl) (λ p. refl)) (c.note_in.ensures ∙ ap (λ (calls : List Call). noted_in c.args.who calls c.self.inside.sessions.items) c.as_slice.ensures)
-    (record { history = log.history; posts = log.posts; room = log.room; post_room = log.post_room })
+    (unchanged _ _ _ _ (λ sessions g f. refl) (λ p. refl)) (c.note_in.ensures.sessions ∙ ap (λ (calls : List Call). noted_in c.args.who calls inside.sessions.items) c.as_slice.ensures) ends.1
+    (record { history = log.history; posts = log.posts; room = log.room; post_room = log.post_room }) in
+    (kept.0, kept.1, rw log.history ends.0)

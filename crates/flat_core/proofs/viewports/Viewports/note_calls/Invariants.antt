@@ -4,7 +4,7 @@ use Rattle.std.specs.List.{list_any}
 use Rattle.flat_core.specs.Lives.{lives_after}
 use Rattle.flat_core.specs.Seen.{is_new_viewport}
 use Rattle.flat_core.specs.Viewports.{marked}
-use Rattle.flat_core.proofs.viewports.Viewports.note.Given as goal
+use Rattle.flat_core.proofs.viewports.Viewports.note_calls.Given as goal
 
 -- what is left leads from here to the same end
 abbrev pub invariant-loop-call : goal.invariant-loop-call

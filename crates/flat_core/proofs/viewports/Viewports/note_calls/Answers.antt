@@ -5,7 +5,7 @@ use Rattle.flat_core.specs.Seen.{is_new_viewport}
 use Rattle.flat_core.specs.Viewports.{marked}
 use Rattle.flat_core.proofs.Marks.{drop-is, drop-end, left-next, marked-none}
 use Rattle.flat_core.proofs.ViewCalls.{or-none-right}
-use Rattle.flat_core.proofs.viewports.Viewports.note.Goals as goal
+use Rattle.flat_core.proofs.viewports.Viewports.note_calls.Goals as goal
 
 pub loop-call-preserved : goal.loop-call-preserved
 loop-call-preserved c =
