@@ -79,7 +79,7 @@ impl Model for Board {
 
 impl Board {
     ghost use Rattle.flat_base.specs.declared.ids.Actor.TheVariants.{Display, Session};
-    ghost use Rattle.flat_scene.specs.declared.journal.Kind.TheVariants.{Begin, Close, End, Finish, Poll, Present, Signal, View, Viewport, Wait};
+    ghost use Rattle.flat_scene.specs.declared.journal.Kind.TheVariants.{Begin, Close, End, Finish, Hit, Poll, Present, Signal, View, Viewport, Wait};
     ghost use Rattle.flat_scene.specs.declared.journal.Reply.TheVariants.{Done};
 
     /// A board before any entry, with room for all that the shares allow: those of
@@ -431,6 +431,23 @@ impl Board {
             reply: Reply::Done,
         });
         FrameNo(frames)
+    }
+
+    /// Asks what a point of the last finished frame hits. Who composes the frames
+    /// answers that; here it is an entry. It takes no memory.
+    pub fn hit(&mut self, line: u32, x: i32, y: i32) -> Reply
+        requires { MayCall self.old Display [] (Hit x y) }
+        ensures reply { result ≡ Done }
+        ensures entry { self.new ≡ entered self.old Display line [] (Hit x y) result }
+    {
+        self.log.enter(Entry {
+            actor: Actor::Display,
+            line,
+            calls: CallList::new(self.alloc),
+            kind: Kind::Hit(x, y),
+            reply: Reply::Done,
+        });
+        Reply::Done
     }
 
     /// The value of a condition for an actor. It makes no entry.

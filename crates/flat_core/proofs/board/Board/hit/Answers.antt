@@ -1,0 +1,30 @@
+use Rattle.std.proofs.Common.{◌≡◌, [], refl, ◌∙◌}
+use Rattle.std.specs.Int.{w32}
+use Rattle.std.proofs.lemmas.Int.{to_z-of_z}
+use Rattle.flat_base.specs.declared.ids.Actor.TheVariants.{Display}
+use Rattle.flat_scene.specs.declared.journal.Kind.TheVariants.{Hit}
+use Rattle.flat_scene.specs.declared.journal.Reply.TheVariants.{Done}
+use Rattle.flat_scene.specs.History.{◌▹◌}
+use Rattle.flat_core.specs.Boards.{Machine, entry_of}
+use Rattle.flat_core.proofs.EndSteps.{ends-after}
+use Rattle.flat_core.proofs.Ones.{kept-quiet}
+use Rattle.flat_core.proofs.Steps.{has-room, unchanged}
+use Rattle.flat_core.proofs.board.Board.hit.Goals as goal
+
+pub enter-requires : goal.enter-requires
+enter-requires c =
+    let call = rw (← c.self.view_is) at c.requires in
+    has-room _ _ _ _ call c.self.invariant.0.legal _ _ _ refl c.self.invariant.1
+
+pub invariant_of-self : goal.invariant_of-self
+invariant_of-self c =
+    let call = rw (← c.self.view_is) at c.requires in
+    let log = c.enter.ensures in
+    let inside = c.self.inside in
+    let m : Machine = record { setup = inside.setup; shares = inside.shares; history = inside.log.history } in
+    let history : c.enter.new.self.history ≡ (inside.log.history ▹ entry_of Display c.args.line [] (Hit c.args.x c.args.y) Done) =
+    log.history ∙ rw (to_z-of_z w32 c.args.x c.ranges.x, to_z-of_z w32 c.args.y c.ranges.y, c.new.ensures) refl in
+    let ends = ends-after m Display c.args.line [] (Hit c.args.x c.args.y) Done call refl refl refl inside.clock inside.fences inside.views inside.sessions.items inside.ends.items inside.ends.items c.self.invariant.0 refl c.self.invariant.2 in
+    let kept = kept-quiet m Display c.args.line [] (Hit c.args.x c.args.y) Done call refl (record { no_begin = refl; no_finish = refl; no_poll = refl; no_view = refl; none = λ made. refl }) refl _ _ _ _ _ _ _ _ _ _ refl c.self.invariant.0 c.self.invariant.1
+    (unchanged _ _ _ _ (λ sessions g f. refl) (λ p. refl)) refl ends.1 (record { history = history; posts = log.posts; room = log.room; post_room = log.post_room }) in
+    (kept.0, kept.1, rw history ends.0)
