@@ -7,6 +7,7 @@ use Rattle.std.proofs.lemmas.Option.{slice_get-get_or, slice_get_past}
 use Rattle.std.proofs.Math.Seq.{get_or-append_seam}
 use Rattle.flat_base.specs.declared.errors.Reason.{Reason}
 use Rattle.std.proofs.lemmas.Bool.Decides.{nat_tests}
+use Rattle.flat_base.specs.declared.ids.ContentId.{ContentId}
 use Rattle.flat_base.specs.declared.ids.FenceNo.{FenceNo}
 use Rattle.flat_base.specs.declared.ids.PairNo.{PairNo}
 use Rattle.flat_scene.specs.declared.script.Cond.{Cond}
@@ -16,8 +17,10 @@ use Rattle.flat_base.specs.declared.ids.SessionNo.{SessionNo}
 use Rattle.flat_base.specs.declared.ids.Actor.TheVariants.{Session}
 use Rattle.flat_scene.specs.declared.calls.Call.{Call}
 use Rattle.flat_scene.specs.declared.calls.Call.TheVariants.{CreateView, CreateViewport, CreateImage}
+use Rattle.flat_scene.specs.declared.calls.Inset.{Inset}
 use Rattle.flat_scene.specs.declared.calls.PresentArgs.{PresentArgs}
-use Rattle.flat_scene.specs.declared.journal.Kind.TheVariants.{View, Present, Signal, Poll, Wait, Close, End}
+use Rattle.flat_scene.specs.declared.calls.ViewportProps.{ViewportProps}
+use Rattle.flat_scene.specs.declared.journal.Kind.TheVariants.{View, Viewport, Present, Signal, Poll, Wait, Close, End}
 use Rattle.flat_scene.specs.declared.setup.Setup.{Setup}
 use Rattle.flat_scene.specs.Draft.{Draft, empty_draft}
 use Rattle.flat_scene.specs.Effect.{draft_of, after_call, after_calls}
@@ -26,8 +29,7 @@ use Rattle.flat_scene.specs.Misuse.{first_reason, Test}
 use Rattle.flat_scene.specs.Setups.{is_declared}
 use Rattle.flat_scene.specs.Tree.{tree_tests, present_tests}
 use Rattle.flat_core.specs.Boards.{Machine, MayCall, HasShare}
-use Rattle.flat_core.specs.Legal.{is_link, all_but_last, owns_in_call, owns_in_kind, owns_view, owns_fence, is_fence, names_declared, session_may, has_tree}
-use Rattle.flat_core.specs.Plain.{is_plain_call}
+use Rattle.flat_core.specs.Legal.{is_link, all_but_last, owns_in_call, owns_in_kind, owns_view, owns_viewport, owns_fence, same_inset, is_fence, names_declared, session_may, has_tree}
 use Rattle.flat_playable.specs.Playable.{is_private, is_played_call, is_played_condition}
 use Rattle.flat_run.proofs.Conditions.{and_true, or_false, or_left, or_right, all_more, all_also, none_also}
 
@@ -51,26 +53,23 @@ but_last (x ∷ xs) c =
 -- ---- private calls
 
 module _ (setup : Setup) (s : SessionNo) where
-  private_is : (c : Call) → is_private setup s c ≡ true → (is_link c ≡ false) × ((owns_in_call setup s c ≡ true) × (is_plain_call c ≡ true))
+  private_is : (c : Call) → is_private setup s c ≡ true → (is_link c ≡ false) × (owns_in_call setup s c ≡ true)
   private_is (CreateView pair) private = absurd (cc)
   private_is (CreateViewport c pair w h inset) private = absurd (cc)
-  private_is (CreateImage c buffers i w h) private = (refl, (private, refl))
-  private_is _ private = (refl, (refl, refl))
+  private_is (CreateImage c buffers i w h) private = (refl, private)
+  private_is _ private = (refl, refl)
 
-  played_is : (c : Call) → is_played_call setup s c ≡ true → (owns_in_call setup s c ≡ true) × (is_plain_call c ≡ true)
-  played_is (CreateView pair) played = (played, refl)
-  played_is (CreateViewport c pair w h inset) played = absurd (cc)
-  played_is (CreateImage c buffers i w h) played = (played, refl)
-  played_is _ played = (refl, refl)
+  played_is : (c : Call) → is_played_call setup s c ≡ true → owns_in_call setup s c ≡ true
+  played_is (CreateView pair) played = played
+  played_is (CreateViewport c pair w h inset) played = played
+  played_is (CreateImage c buffers i w h) played = played
+  played_is _ played = refl
 
   no_links : (xs : List Call) → list_all (is_private setup s) xs ≡ true → list_any is_link xs ≡ false
   no_links xs all = none_also (is_private setup s) is_link (λ c is. (private_is c is).0) xs all
 
   all_owned : (xs : List Call) → list_all (is_private setup s) xs ≡ true → list_all (owns_in_call setup s) xs ≡ true
-  all_owned xs all = all_also (is_private setup s) (owns_in_call setup s) (λ c is. (private_is c is).1.0) xs all
-
-  all_plain : (xs : List Call) → list_all (is_private setup s) xs ≡ true → list_all is_plain_call xs ≡ true
-  all_plain xs all = all_also (is_private setup s) is_plain_call (λ c is. (private_is c is).1.1) xs all
+  all_owned xs all = all_also (is_private setup s) (owns_in_call setup s) (λ c is. (private_is c is).1) xs all
 
   -- an owned fence is declared
   fence_declared : (f : FenceNo) → owns_fence setup s f ≡ true → is_fence setup f ≡ true
@@ -129,6 +128,10 @@ no_tree_view : (setup : Setup) (p : PairNo) (draft : Option Draft) → has_tree 
 no_tree_view setup p None = refl
 no_tree_view setup p (Some d) = refl
 
+no_tree_viewport : (setup : Setup) (p : PairNo) (props : ViewportProps) (draft : Option Draft) → has_tree setup draft (Viewport p props) ≡ true
+no_tree_viewport setup p props None = refl
+no_tree_viewport setup p props (Some d) = refl
+
 no_tree_signal : (setup : Setup) (f : FenceNo) (draft : Option Draft) → has_tree setup draft (Signal f) ≡ true
 no_tree_signal setup f None = refl
 no_tree_signal setup f (Some d) = refl
@@ -148,6 +151,13 @@ no_tree_close setup reason (Some d) = refl
 no_tree_end : (setup : Setup) (n : ℕ) (draft : Option Draft) → has_tree setup draft (End n) ≡ true
 no_tree_end setup n None = refl
 no_tree_end setup n (Some d) = refl
+
+-- a viewport's own call
+same_inset_is : (inset : Inset) → same_inset inset inset ≡ true
+same_inset_is inset = rw (eq-eqb inset.top inset.top refl, eq-eqb inset.right inset.right refl, eq-eqb inset.bottom inset.bottom refl, eq-eqb inset.left inset.left refl) refl
+
+same_viewport : (p : PairNo) (props : ViewportProps) → (p.0 == p.0 && props.w == props.w && props.h == props.h && same_inset props.inset props.inset) ≡ true
+same_viewport p props = rw (eq-eqb p.0 p.0 refl, eq-eqb props.w props.w refl, eq-eqb props.h props.h refl, same_inset_is props.inset) refl
 
 -- ---- what may be entered
 
@@ -183,8 +193,29 @@ module _ (m : Machine) (s : SessionNo) (pending : List Call) (draft : Draft) (wa
       watcher = refl;
     };
     share = waits.share;
-    plain = all_more is_plain_call pending (CreateView p) (all_plain m.setup s pending waits.private) refl;
+    plain = refl;
   }
+
+  pub may_viewport : (c : ContentId) (p : PairNo) (props : ViewportProps) (after : Draft) → owns_viewport m.setup s p ≡ true → draft_of m.setup (calls s m.history ++ (pending ++ CreateViewport c p props.w props.h props.inset ∷ [])) ≡ Ok after
+      → MayCall m (Session s) (pending ++ CreateViewport c p props.w props.h props.inset ∷ []) (Viewport p props)
+  may_viewport c p props after owns made =
+      let one : Call = CreateViewport c p props.w props.h props.inset in
+      record {
+        may = record {
+          acts = waits.declared;
+          lasts = goes;
+          times = refl;
+          drafted = rw (waits.unclosed, made) refl;
+          calls = rw (last_call pending one) (same_viewport p props);
+          links = rw (but_last pending one, no_links m.setup s pending waits.private) refl;
+          owned = and_true owns (all_more (owns_in_call m.setup s) pending one (all_owned m.setup s pending waits.private) owns);
+          named = refl;
+          tree = no_tree_viewport m.setup p props _;
+          watcher = refl;
+        };
+        share = waits.share;
+        plain = refl;
+      }
 
   pub may_present : (args : PresentArgs) → (list_all (owns_fence m.setup s) args.acquire && list_all (owns_fence m.setup s) args.release) ≡ true → first_reason (present_tests draft args) ≡ None → MayCall m (Session s) pending (Present args)
   may_present args lists allowed = record {
@@ -201,7 +232,7 @@ module _ (m : Machine) (s : SessionNo) (pending : List Call) (draft : Draft) (wa
       watcher = refl;
     };
     share = waits.share;
-    plain = all_plain m.setup s pending waits.private;
+    plain = refl;
   }
 
   pub may_signal : (f : FenceNo) → owns_fence m.setup s f ≡ true → MayCall m (Session s) pending (Signal f)
@@ -219,7 +250,7 @@ module _ (m : Machine) (s : SessionNo) (pending : List Call) (draft : Draft) (wa
       watcher = refl;
     };
     share = waits.share;
-    plain = all_plain m.setup s pending waits.private;
+    plain = refl;
   }
 
   pub may_poll : MayCall m (Session s) pending Poll
@@ -237,7 +268,7 @@ module _ (m : Machine) (s : SessionNo) (pending : List Call) (draft : Draft) (wa
       watcher = refl;
     };
     share = waits.share;
-    plain = all_plain m.setup s pending waits.private;
+    plain = refl;
   }
 
   waits_for : (c : Cond) → (session_may (Wait c) && is_declared m.setup s) ≡ true → owns_in_kind m.setup s (Wait c) ≡ true → names_declared m.setup (Wait c) ≡ true → MayCall m (Session s) pending (Wait c)
@@ -255,7 +286,7 @@ module _ (m : Machine) (s : SessionNo) (pending : List Call) (draft : Draft) (wa
       watcher = refl;
     };
     share = waits.share;
-    plain = all_plain m.setup s pending waits.private;
+    plain = refl;
   }
 
   pub may_wait : (c : Cond) → is_played_condition m.setup s c ≡ true → MayCall m (Session s) pending (Wait c)
@@ -276,13 +307,13 @@ module _ (m : Machine) (s : SessionNo) (pending : List Call) (draft : Draft) (wa
       drafted = rw (but_last pending c) drafted;
       calls = refl;
       links = rw (but_last pending c, no_links m.setup s pending waits.private) refl;
-      owned = all_more (owns_in_call m.setup s) pending c (all_owned m.setup s pending waits.private) ((played_is m.setup s c played).0);
+      owned = all_more (owns_in_call m.setup s) pending c (all_owned m.setup s pending waits.private) (played_is m.setup s c played);
       named = refl;
       tree = no_tree_close m.setup why _;
       watcher = refl;
     };
     share = waits.share;
-    plain = all_more is_plain_call pending c (all_plain m.setup s pending waits.private) ((played_is m.setup s c played).1);
+    plain = refl;
   }
 
   -- a present that is a misuse closes, and so does a line that wishes it
@@ -301,7 +332,7 @@ module _ (m : Machine) (s : SessionNo) (pending : List Call) (draft : Draft) (wa
       watcher = refl;
     };
     share = waits.share;
-    plain = all_plain m.setup s pending waits.private;
+    plain = refl;
   }
 
   -- a session that isn't closed ends
@@ -320,7 +351,7 @@ module _ (m : Machine) (s : SessionNo) (pending : List Call) (draft : Draft) (wa
       watcher = refl;
     };
     share = waits.share;
-    plain = all_plain m.setup s pending waits.private;
+    plain = refl;
   }
 
 -- a session that was closed ends

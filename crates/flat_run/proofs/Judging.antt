@@ -56,6 +56,7 @@ module _ (setup : Setup) (draft : Draft) (old new : DraftState) where
   pub call_leaves : (call : Call) (made : Option Made) → IsAnswer setup draft call old new (Ok tt) → option_map kind_of made ≡ entry_of_call call → IsMadeBy call made → LeavesDraft setup draft (line.Call call) new made
   call_leaves call None answer kind by = (answer.1, answer.2, answer.3)
   call_leaves call (Some (made.View pair)) answer kind by = (ap (λ (k : Call). let t : Line = line.Call k in t) by, answer.1, answer.2, answer.3)
+  call_leaves call (Some (made.Viewport pair props)) answer kind by = ((by.0, ap (λ (k : Call). let t : Line = line.Call k in t) by.1), answer.1, answer.2, answer.3)
   call_leaves call (Some (made.Present args snapshot)) answer kind by = absurd (no_entry (Present args) refl call kind)
   call_leaves call (Some (made.Signal f)) answer kind by = absurd (no_entry (Signal f) refl call kind)
   call_leaves call (Some made.Poll) answer kind by = absurd (no_entry Poll refl call kind)

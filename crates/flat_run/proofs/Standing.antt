@@ -11,7 +11,7 @@ use Rattle.flat_scene.specs.declared.calls.Call.{Call}
 use Rattle.flat_scene.specs.declared.calls.Call.TheVariants.{CreateView, CreateViewport, CreateImage}
 use Rattle.flat_scene.specs.declared.journal.Entry.{Entry}
 use Rattle.flat_scene.specs.declared.journal.Kind.{Kind}
-use Rattle.flat_scene.specs.declared.journal.Kind.TheVariants.{View, Present, Signal, Poll, Wait, Close, End}
+use Rattle.flat_scene.specs.declared.journal.Kind.TheVariants.{View, Viewport, Present, Signal, Poll, Wait, Close, End}
 use Rattle.flat_scene.specs.declared.journal.Reply.{Reply}
 use Rattle.flat_scene.specs.declared.script.Line.{Line}
 use Rattle.flat_scene.specs.declared.script.Line.TheVariants as line
@@ -23,7 +23,6 @@ use Rattle.flat_scene.specs.Interleave.{Next, next_of, next_from, next_or, sessi
 use Rattle.flat_scene.specs.Tree.{tree}
 use Rattle.flat_core.specs.Boards.{Machine, MayCall, HasShare, entry_of}
 use Rattle.flat_core.specs.Legal.{reply_to}
-use Rattle.flat_core.specs.Plain.{is_plain_call}
 use Rattle.flat_draft.specs.Stands.{StandsFor}
 use Rattle.flat_draft.specs.State.{DraftState}
 use Rattle.flat_draft.proofs.Following.{calls_follow}
@@ -34,7 +33,7 @@ use Rattle.flat_run.specs.declared.player.Player.{Player}
 use Rattle.flat_run.specs.Made.{kind_of, ShowsTree}
 use Rattle.flat_playable.specs.Playable.{is_private, is_played_call, is_played_line}
 use Rattle.flat_run.specs.Playing.{lines_left, is_judged, IsNoMisuse, LeavesDraft, Judges, IsOpenAt, IsClosedAt, PlayerStands, is_quiet}
-use Rattle.flat_run.proofs.Entering.{IsWaiting, may_view, may_present, may_signal, may_poll, may_wait, may_close_call, may_close_present}
+use Rattle.flat_run.proofs.Entering.{IsWaiting, may_view, may_viewport, may_present, may_signal, may_poll, may_wait, may_close_call, may_close_present}
 use Rattle.flat_run.proofs.Places.{Here}
 use Rattle.flat_run.proofs.Reading.{IsOpen, IsShut, follows_more, open_after, shut_after}
 use Rattle.flat_run.proofs.Conditions.{or_false, all_more}
@@ -74,11 +73,6 @@ still_private setup s draft line.Disconnect pending played fine none private = a
 still_private setup s draft (line.Get get) pending played fine none private = absurd (cc)
 
 pub judged_played : (setup : Setup) (s : SessionNo) (text : Line) → is_played_line setup s text ≡ true → is_judged text ≡ true
-judged_played setup s (line.Call call) played = plain call played
-  where
-    plain : (call : Call) → is_played_call setup s call ≡ true → is_plain_call call ≡ true
-    plain (CreateViewport c pair w h inset) played = absurd (cc)
-    plain _ played = refl
 judged_played setup s (line.Get get) played = absurd (cc)
 judged_played setup s _ played = refl
 
@@ -135,6 +129,7 @@ or_rest false b is = is
 
 pub made_quiet : (one : Made) → is_quiet (kind_of one) ≡ true
 made_quiet (made.View pair) = refl
+made_quiet (made.Viewport pair props) = refl
 made_quiet (made.Present args snapshot) = refl
 made_quiet (made.Signal f) = refl
 made_quiet made.Poll = refl
@@ -143,6 +138,7 @@ made_quiet (made.Close why) = refl
 
 made_no_end : (one : Made) → is_end (kind_of one) ≡ false
 made_no_end (made.View pair) = refl
+made_no_end (made.Viewport pair props) = refl
 made_no_end (made.Present args snapshot) = refl
 made_no_end (made.Signal f) = refl
 made_no_end made.Poll = refl
@@ -172,6 +168,8 @@ left_after : (setup : Setup) (s : SessionNo) (history : List Entry) (pending car
     → LeavesDraft setup draft text after (Some one) → reply ≡ reply_to setup history (Session s) carries (kind_of one) → closes reply ≡ false → draft_of setup (carried (own s history) ++ pending) ≡ Ok draft
     → (draft_of setup (carried (own s history) ++ (pending ++ calls_of_line text)) ≡ Ok (after_line draft text)) × StandsFor setup after (after_line draft text) × (after.closed ≡ false)
 left_after setup s history pending carries text draft after (made.View pair) reply judged leaves replied goes_on made =
+    (after_made setup (carried (own s history)) pending text draft judged leaves.1 made, leaves.2, leaves.3)
+left_after setup s history pending carries text draft after (made.Viewport pair props) reply judged leaves replied goes_on made =
     (after_made setup (carried (own s history)) pending text draft judged leaves.1 made, leaves.2, leaves.3)
 left_after setup s history pending carries text draft after (made.Present args snapshot) reply judged leaves replied goes_on made =
     let P : Line → Type 0 = λ t. (draft_of setup (carried (own s history) ++ (pending ++ calls_of_line t)) ≡ Ok (after_line draft t)) × StandsFor setup after (after_line draft t) × (after.closed ≡ false) in
@@ -218,6 +216,12 @@ module _ (script : Script) (s : SessionNo) (place number : ℕ) (text : Line) (h
         let R : Line → Type 0 = λ t. draft_of script.setup (calls s history ++ (old.pending ++ calls_of_line t)) ≡ Ok (after_line was.draft t) in
         let made : R text = after_made script.setup (calls s history) old.pending text was.draft (judged_played script.setup s text here.played) leaves.1 was.made in
         subst Q (sym leaves.0) (may_view board s old.pending was.draft (waits share) pair _ (subst P leaves.0 here.played) (subst R leaves.0 made))
+    may_enter_as share (made.Viewport pair props) leaves told is =
+        let P : Line → Type 0 = λ t. is_played_line script.setup s t ≡ true in
+        let Q : Line → Type 0 = λ t. MayCall board (Session s) (old.pending ++ calls_of_line t) (Viewport pair props) in
+        let R : Line → Type 0 = λ t. draft_of script.setup (calls s history ++ (old.pending ++ calls_of_line t)) ≡ Ok (after_line was.draft t) in
+        let made : R text = after_made script.setup (calls s history) old.pending text was.draft (judged_played script.setup s text here.played) leaves.1 was.made in
+        subst Q (sym leaves.0.1) (may_viewport board s old.pending was.draft (waits share) leaves.0.0 pair props _ (subst P leaves.0.1 here.played) (subst R leaves.0.1 made))
     may_enter_as share (made.Present args snapshot) leaves told is =
         let P : Line → Type 0 = λ t. is_played_line script.setup s t ≡ true in
         let Q : Line → Type 0 = λ t. MayCall board (Session s) (old.pending ++ calls_of_line t) (Present args) in
@@ -251,6 +255,7 @@ module _ (script : Script) (s : SessionNo) (place number : ℕ) (text : Line) (h
 
     shows_as : (some : Made) → LeavesDraft script.setup was.draft text new.draft (Some some) → ShowsTree board s (old.pending ++ calls_of_line text) some
     shows_as (made.View pair) leaves = tt
+    shows_as (made.Viewport pair props) leaves = tt
     shows_as (made.Signal f) leaves = tt
     shows_as made.Poll leaves = tt
     shows_as (made.Wait c) leaves = tt

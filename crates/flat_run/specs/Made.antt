@@ -1,9 +1,10 @@
 -- What a line of a session makes.
 use Rattle.std.specs.Prelude.{◌≡◌, List, Option, Some}
 use Rattle.std.specs.Arc.{arc_value}
+use Rattle.flat_base.specs.declared.ids.ContentId.{ContentId}
 use Rattle.flat_base.specs.declared.ids.SessionNo.{SessionNo}
 use Rattle.flat_scene.specs.declared.calls.Call.{Call}
-use Rattle.flat_scene.specs.declared.calls.Call.TheVariants.{CreateView}
+use Rattle.flat_scene.specs.declared.calls.Call.TheVariants.{CreateView, CreateViewport}
 use Rattle.flat_scene.specs.declared.journal.Kind.{Kind}
 use Rattle.flat_scene.specs.declared.journal.Kind.TheVariants as kind
 use Rattle.flat_core.specs.Boards.{Machine, present_of}
@@ -14,6 +15,7 @@ use Rattle.flat_run.specs.declared.made.Made.TheVariants as made
 -- the kind of the entry
 abbrev pub kind_of : Made → Kind
 kind_of (made.View pair) = kind.View pair
+kind_of (made.Viewport pair props) = kind.Viewport pair props
 kind_of (made.Present args snapshot) = kind.Present args
 kind_of (made.Signal f) = kind.Signal f
 kind_of made.Poll = kind.Poll
@@ -25,7 +27,8 @@ abbrev pub ShowsTree : Machine → SessionNo → List Call → Made → Type 0
 ShowsTree m s calls (made.Present args snapshot) = Some (arc_value snapshot) ≡ tree_of m.setup (present_of m.history s calls args)
 ShowsTree m s calls _ = Unit {0}
 
--- a View is made by its own CreateView
+-- a View is made by its own CreateView, and a Viewport by its own CreateViewport
 abbrev pub IsMadeBy : Call → Option Made → Type 0
 IsMadeBy call (Some (made.View pair)) = call ≡ CreateView pair
+IsMadeBy call (Some (made.Viewport pair props)) = (c : ContentId) × (call ≡ CreateViewport c pair props.w props.h props.inset)
 IsMadeBy call _ = Unit {0}

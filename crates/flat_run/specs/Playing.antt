@@ -9,9 +9,10 @@ use Rattle.flat_scene.specs.declared.journal.Reply.TheVariants.{Done}
 use Rattle.flat_scene.specs.declared.script.Body.{Body}
 use Rattle.flat_scene.specs.declared.script.Body.TheVariants as body
 use Rattle.flat_scene.specs.declared.script.DisplayLine.{DisplayLine}
+use Rattle.flat_base.specs.declared.ids.ContentId.{ContentId}
 use Rattle.flat_base.specs.declared.ids.SessionNo.{SessionNo}
 use Rattle.flat_scene.specs.declared.calls.Call.{Call}
-use Rattle.flat_scene.specs.declared.calls.Call.TheVariants.{CreateView}
+use Rattle.flat_scene.specs.declared.calls.Call.TheVariants.{CreateView, CreateViewport}
 use Rattle.flat_scene.specs.declared.journal.Entry.{Entry}
 use Rattle.flat_scene.specs.declared.journal.Kind.{Kind}
 use Rattle.flat_scene.specs.declared.journal.Kind.TheVariants.{Begin, Finish, End, Hit}
@@ -38,7 +39,6 @@ use Rattle.flat_topology.specs.Shown.{Shown}
 use Rattle.flat_topology.specs.Views.{is_member}
 use Rattle.flat_report.specs.Handed.{answers_of}
 use Rattle.flat_report.specs.Report.{finished, frame_at}
-use Rattle.flat_core.specs.Plain.{is_plain_call}
 use Rattle.flat_draft.specs.State.{DraftState, empty_state}
 use Rattle.flat_draft.specs.Stands.{StandsFor}
 use Rattle.flat_script.specs.declared.script.Script.{Script}
@@ -51,9 +51,8 @@ use Rattle.flat_playable.specs.Playable.{is_private, frames_close}
 
 -- ---- a line, by a session that isn't closed
 
--- a call that makes no viewport, or another line that is no get
+-- a line that is no get
 abbrev pub is_judged : Line → Bool
-is_judged (line.Call call) = is_plain_call call
 is_judged (line.Get get) = false
 is_judged _ = true
 
@@ -67,6 +66,8 @@ abbrev pub LeavesDraft : Setup → Draft → Line → DraftState → Option Made
 LeavesDraft setup draft text after None = IsNoMisuse setup draft text × StandsFor setup after (after_line draft text) × (after.closed ≡ false)
 LeavesDraft setup draft text after (Some (making.View pair)) =
     (text ≡ line.Call (CreateView pair)) × IsNoMisuse setup draft text × StandsFor setup after (after_line draft text) × (after.closed ≡ false)
+LeavesDraft setup draft text after (Some (making.Viewport pair props)) =
+    ((c : ContentId) × (text ≡ line.Call (CreateViewport c pair props.w props.h props.inset))) × IsNoMisuse setup draft text × StandsFor setup after (after_line draft text) × (after.closed ≡ false)
 LeavesDraft setup draft text after (Some (making.Present args snapshot)) =
     (text ≡ line.Present args) × (first_reason (present_tests draft args) ≡ None) × (tree draft ≡ Some (arc_value snapshot)) × StandsFor setup after draft × (after.closed ≡ false)
 LeavesDraft setup draft text after (Some (making.Signal f)) = (text ≡ line.Signal f) × StandsFor setup after draft × (after.closed ≡ false)

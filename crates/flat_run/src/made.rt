@@ -5,7 +5,7 @@ ghost use Rattle.flat_core.specs.Legal.{reply_to};
 
 use flat_base::{Actor, FenceNo, NoMemory, PairNo, Reason, SessionNo};
 use flat_core::{Board, EventList};
-use flat_scene::{CallList, Cond, PresentArgs, Reply};
+use flat_scene::{CallList, Cond, PresentArgs, Reply, ViewportProps};
 use flat_snap::Snapshot;
 use std::alloc::Global;
 use std::sync::Arc;
@@ -14,6 +14,7 @@ use std::sync::Arc;
 #[derive(Drop)]
 pub enum Made {
     View(PairNo),
+    Viewport(PairNo, ViewportProps),
     Present(PresentArgs, Arc<Snapshot>),
     Signal(FenceNo),
     Poll,
@@ -40,6 +41,10 @@ impl Made {
     {
         match self {
             Made::View(pair) => match board.view(s, number, calls, pair) {
+                Ok(reply) => Ok(reply),
+                Err(_) => Err(NoMemory),
+            },
+            Made::Viewport(pair, props) => match board.viewport(s, number, calls, pair, props) {
                 Ok(reply) => Ok(reply),
                 Err(_) => Err(NoMemory),
             },

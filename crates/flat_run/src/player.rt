@@ -6,7 +6,6 @@ ghost use Rattle.flat_scene.specs.declared.setup.Setup.{Setup};
 ghost use Rattle.flat_scene.specs.Draft as scene;
 ghost use Rattle.flat_scene.specs.History.{closes};
 ghost use Rattle.flat_scene.specs.Interleave.{entry_of_call, entry_of_line};
-ghost use Rattle.flat_core.specs.Plain.{is_plain_call};
 ghost use Rattle.flat_draft.specs.Stands.{StandsFor};
 ghost use Rattle.flat_core.specs.Boards.{HasShare};
 ghost use Rattle.flat_run.specs.Made.{kind_of, IsMadeBy};
@@ -17,7 +16,7 @@ use crate::made::Made;
 use flat_base::{NoMemory, SessionNo, TryCopy};
 use flat_core::Board;
 use flat_draft::{Draft, DraftFault};
-use flat_scene::{Call, CallList, Line, PresentArgs, Reply};
+use flat_scene::{Call, CallList, Line, PresentArgs, Reply, ViewportProps};
 use flat_script::Script;
 use std::alloc::Global;
 use std::mem;
@@ -36,19 +35,27 @@ pub struct Player {
 
 /// The entry that a call makes by itself, if it is no misuse.
 fn made_by(call: &Call) -> Option<Made>
-    requires { is_plain_call call.now ≡ true }
     ensures kind { option_map kind_of result ≡ entry_of_call call.now }
     ensures call { IsMadeBy call.now result }
 {
     match call {
         Call::CreateView { pair } => Some(Made::View(*pair)),
+        Call::CreateViewport {
+            pair, w, h, inset, ..
+        } => {
+            let props = ViewportProps {
+                w: *w,
+                h: *h,
+                inset: *inset,
+            };
+            Some(Made::Viewport(*pair, props))
+        }
         _ => None,
     }
 }
 
 /// What a call makes of a draft, and the entry that it makes, if it makes one.
 fn called(draft: &mut Draft, call: &Call) -> Result<Option<Made>, NoMemory>
-    requires plain { is_plain_call call.now ≡ true }
     requires stands { HasDraft draft.old }
     requires opened { draft.old.closed ≡ false }
     ensures kind { (setup : Setup) (before : scene.Draft) → StandsFor setup draft.old before → IfOk result (λ made. option_map kind_of made ≡ entry_of_line setup before (line.Call call.now)) }
@@ -136,7 +143,6 @@ impl Player {
     }
 
     fn judge_call(&mut self, alloc: Global, call: &Call) -> Result<Option<Made>, NoMemory>
-        requires plain { is_plain_call call.now ≡ true }
         requires stands { HasDraft self.old.draft }
         requires opened { self.old.draft.closed ≡ false }
         ensures { (setup : Setup) (before : scene.Draft) → StandsFor setup self.old.draft before → IfOk result (Judges setup before (line.Call call.now) self.old self.new) }
