@@ -58,7 +58,7 @@ actor_line_same s ls ms Display words same = ap (mapped _) (display_line_same s 
 actor_line_same s ls ms (Session a) words same = refl
 actor_line_same s ls ms (Probe p) words same = refl
 
--- what a line of the body says, and how it is read again
+-- what a line of the body says; and all words that say the same are read again
 pub record Again (s : Script) (ls ms : List ScriptLine) (n m : ℕ) (words : List Word) (u : Script) : Type 0 where
   pub actor : Actor
   pub first : Word
@@ -68,7 +68,7 @@ pub record Again (s : Script) (ls ms : List ScriptLine) (n m : ℕ) (words : Lis
   pub named : actor_named s first ≡ Some actor
   pub line : actor_line known_words (with_lines s ls) actor rest ≡ Ok body
   pub read : u ≡ with_line (with_lines s ls) n actor body
-  pub again : body_line known_words (with_lines s ms) m words ≡ Ok (with_line (with_lines s ms) m actor body)
+  pub again : (spelt : List Word) → actor_line known_words (with_lines s ls) actor spelt ≡ Ok body → body_line known_words (with_lines s ms) m (first ∷ spelt) ≡ Ok (with_line (with_lines s ms) m actor body)
 
 counted_again : (s : Script) (ls ms : List ScriptLine) (n m : ℕ) (w : Word) (words : List Word) (u : Script) (a : Actor) → SameLines ls ms → actor_named s w ≡ Some a
     → counted_line known_words (with_lines s ls) n a words ≡ Ok u → Again s ls ms n m (w ∷ words) u
@@ -76,8 +76,9 @@ counted_again s ls ms n m w words u a same named is =
     let tested = unless_ok 11 (nat_lt (lines_of_actor (with_lines s ls) a) 65536) _ u is in
     let parts = mapped_ok (with_line (with_lines s ls) n a) (actor_line known_words (with_lines s ls) a words) u tested.given in
     let count : nat_lt (lines_of_actor (with_lines s ms) a) 65536 ≡ true = ap (λ k. nat_lt k 65536) (actors_same a ls ms same) ∙ tested.passed in
-    let line : actor_line known_words (with_lines s ms) a words ≡ Ok parts.a = actor_line_same s ls ms a words same ∙ parts.given in
-    record { actor = a; first = w; rest = words; body = parts.a; begins = refl; named = named; line = parts.given; read = sym parts.value; again = rw (named, count, line) refl }
+    let again : (spelt : List Word) → actor_line known_words (with_lines s ls) a spelt ≡ Ok parts.a → body_line known_words (with_lines s ms) m (w ∷ spelt) ≡ Ok (with_line (with_lines s ms) m a parts.a) =
+    λ spelt says. let line : actor_line known_words (with_lines s ms) a spelt ≡ Ok parts.a = actor_line_same s ls ms a spelt same ∙ says in rw (named, count, line) refl in
+    record { actor = a; first = w; rest = words; body = parts.a; begins = refl; named = named; line = parts.given; read = sym parts.value; again = again }
 
 by_actor : (s : Script) (ls ms : List ScriptLine) (n m : ℕ) (w : Word) (words : List Word) (u : Script) (o : Option Actor) → SameLines ls ms → actor_named s w ≡ o
     → option_map_or (λ a. counted_line known_words (with_lines s ls) n a words) o (Err 5) ≡ Ok u → Again s ls ms n m (w ∷ words) u

@@ -1,20 +1,25 @@
 -- The words of a line of the body are those that it was read from.
-use Rattle.std.proofs.Common.{◌≡◌, ℕ, ◌+◌, ◌^◌, Bool, true, false, cond, not, nat_lt, nat_le, List, [], ◌∷◌, ◌++◌, length, Option, Some, None, Ok, Err, refl, sym, ◌∙◌, ap, codes, option_map, append-nil, arith}
+use Rattle.std.proofs.Common.{◌≡◌, ℕ, ◌+◌, ◌^◌, Bool, true, false, cond, not, nat_lt, nat_le, ℤ, List, [], ◌∷◌, ◌++◌, length, Option, Some, None, Ok, Err, refl, sym, ◌∙◌, ap, codes, option_map, append-nil, arith, subst}
 use Rattle.std.specs.Option.{option_map_or, option_or}
 use Rattle.std.specs.Str.{bytes_eq}
-use Rattle.std.specs.Fmt.{decimal}
+use Rattle.std.specs.Fmt.{decimal, signed_decimal}
 use Rattle.std.proofs.lemmas.Slice.Eq.{bytes_eq-Decides}
 use Rattle.flat_base.specs.declared.ids.Actor.{Actor}
 use Rattle.flat_base.specs.declared.ids.Actor.TheVariants.{Display, Session, Probe}
 use Rattle.flat_base.specs.declared.ids.SessionNo.{SessionNo}
 use Rattle.flat_base.specs.declared.ids.FenceNo.{FenceNo}
+use Rattle.flat_base.specs.declared.ids.ContentId.{ContentId}
+use Rattle.flat_scene.specs.declared.calls.Call.{Call}
 use Rattle.flat_scene.specs.declared.calls.PresentArgs.{PresentArgs}
+use Rattle.flat_scene.specs.declared.calls.Watch.TheVariants as watch
 use Rattle.flat_scene.specs.declared.script.Cond.{Cond}
 use Rattle.flat_scene.specs.declared.script.Cond.TheVariants as asks
 use Rattle.flat_scene.specs.declared.script.Line.{Line}
 use Rattle.flat_scene.specs.declared.script.Line.TheVariants as line
 use Rattle.flat_scene.specs.declared.script.DisplayLine.{DisplayLine}
 use Rattle.flat_scene.specs.declared.script.DisplayLine.TheVariants as display
+use Rattle.flat_scene.specs.declared.script.ProbeLine.{ProbeLine}
+use Rattle.flat_scene.specs.declared.script.ProbeLine.TheVariants as probe
 use Rattle.flat_scene.specs.declared.script.Body.{Body}
 use Rattle.flat_scene.specs.declared.script.Body.TheVariants as body
 use Rattle.flat_script.specs.declared.calls.CallName.{CallName}
@@ -22,13 +27,13 @@ use Rattle.flat_script.specs.declared.script.Script.{Script}
 use Rattle.flat_script.specs.Known.{known_words}
 use Rattle.flat_script.specs.Forms.{Word, Reading, Form, Table, mapped, unless_kind, whole, give, ◌<$>◌}
 use Rattle.flat_script.specs.Names.{place_of, session_named, actor_named}
-use Rattle.flat_script.specs.Places.{time, u32, session, fence}
+use Rattle.flat_script.specs.Places.{time, u32, i32, content, point, session, fence}
 use Rattle.flat_script.specs.Places.{fence_word as tested_fence}
-use Rattle.flat_script.specs.Calls.{call_form, call_named}
-use Rattle.flat_script.specs.Body.{fence_lists, present, other_line, session_line, display_line, session_condition, display_condition, presents_asked, actor_line, begin_place, begin_times, is_open, in_order, greatest}
-use Rattle.flat_script.specs.Print.{name_at, session_word, actor_word, condition_words, session_words, display_words, body_words, present_words}
-use Rattle.flat_script.proofs.FormLemmas.{apply_ok, map_ok, place_ok, whole_ok, unless_ok, or_kind_ok, mapped_ok}
-use Rattle.flat_script.proofs.CallLemmas.{number_words, fence_words, split, name_at-place_of, call_spelt}
+use Rattle.flat_script.specs.Calls.{call_form, call_named, text}
+use Rattle.flat_script.specs.Body.{fence_lists, present, other_line, session_line, display_line, session_condition, display_condition, presents_asked, child_asked, probe_line, actor_line, begin_place, begin_times, is_open, in_order, greatest}
+use Rattle.flat_script.specs.Print.{name_at, session_word, actor_word, condition_words, session_words, display_words, probe_words, body_words, present_words, call_name, call_fields}
+use Rattle.flat_script.proofs.FormLemmas.{apply_ok, map_ok, place_ok, whole_ok, unless_ok, or_kind_ok, mapped_ok, Shown, shown_whole, shown_mapped}
+use Rattle.flat_script.proofs.CallLemmas.{number_words, i32_words, content_words, fence_words, split, name_at-place_of, NamedCall, call_shown}
 use Rattle.flat_script.proofs.ListWordLemmas.{table_spelt, both_words, lists_spelt}
 
 -- actors
@@ -115,14 +120,14 @@ presents_spelt s words c is =
     ap (condition_words s) (sym value) ∙ ap (λ t. codes "presents" ∷ t) (ap (λ n. n ∷ decimal second.a ∷ []) name ∙ sym (p.begins ∙ ap (λ t. p.word ∷ t) second.behind))
 
 session_conditions : Script → SessionNo → Table Cond
-session_conditions s a = (codes "frames", whole (asks.Frames <$> u32)) ∷ (codes "credits", whole (asks.Credits <$> u32)) ∷ (codes "taken", whole (asks.Taken <$> u32)) ∷ (codes "fence", whole (asks.Fence <$> fence s (Session a))) ∷ []
+session_conditions s a = (codes "frames", whole (asks.Frames <$> u32)) ∷ (codes "credits", whole (asks.Credits <$> u32)) ∷ (codes "taken", whole (asks.Taken <$> u32)) ∷ (codes "answers", whole (asks.Answers <$> u32)) ∷ (codes "fence", whole (asks.Fence <$> fence s (Session a))) ∷ []
 
 session_condition_spelt : (s : Script) (a : SessionNo) (words : List Word) (c : Cond) → session_condition known_words s a words ≡ Ok c → condition_words s c ≡ words
 unfolding session_conditions
 session_condition_spelt s a [] c is = absurd (cc)
 session_condition_spelt s a (w ∷ words) c is =
     table_spelt (condition_words s) 6 (session_conditions s a)
-    (counted_spelt asks.Frames s (codes "frames") (λ n. refl), (counted_spelt asks.Credits s (codes "credits") (λ n. refl), (counted_spelt asks.Taken s (codes "taken") (λ n. refl), (waited_spelt s (Session a), tt)))) w words c is
+    (counted_spelt asks.Frames s (codes "frames") (λ n. refl), (counted_spelt asks.Credits s (codes "credits") (λ n. refl), (counted_spelt asks.Taken s (codes "taken") (λ n. refl), (counted_spelt asks.Answers s (codes "answers") (λ n. refl), (waited_spelt s (Session a), tt))))) w words c is
 
 display_conditions : Script → Table Cond
 display_conditions s = (codes "presents", whole (presents_asked s)) ∷ (codes "fence", whole (asks.Fence <$> fence s Display)) ∷ []
@@ -137,19 +142,28 @@ display_wait_spelt s words l is =
     let m = mapped_ok display.Wait (display_condition known_words s words) l is in
     ap (display_words s) (sym m.value) ∙ ap (λ t. codes "Wait" ∷ t) (display_condition_spelt s words m.a m.given)
 
+hit_spelt : {A : Type 0} (h : ℤ → ℤ → A) (spell : A → List Word) → ((x y : ℤ) → spell (h x y) ≡ codes "hit" ∷ signed_decimal x ∷ signed_decimal y ∷ []) → (words : List Word) (l : A) → whole (point h) words ≡ Ok l → spell l ≡ codes "hit" ∷ words
+hit_spelt h spell spells words l is =
+    let second = split (h <$> i32) i32 (λ z. signed_decimal z ∷ []) words l [] i32_words (whole_ok (point h) words l is) in
+    let first = map_ok h i32 words second.g second.mid second.first in
+    let value : h first.a second.a ≡ l = ap (λ g. g second.a) first.value ∙ second.value in
+    let taken : words ≡ signed_decimal first.a ∷ signed_decimal second.a ∷ [] = i32_words.takes words first.a second.mid first.given ∙ ap (λ t. signed_decimal first.a ∷ t) second.behind in
+    ap spell (sym value) ∙ spells first.a second.a ∙ ap (λ t. codes "hit" ∷ t) (sym taken)
+
 display_table : Script → Table DisplayLine
 display_table s =
     (codes "begin", (λ rest. mapped display.Begin (unless_kind 11 (nat_lt (length (begin_times s)) 512) (unless_kind 12 (not (is_open s)) (whole (begin_place s) rest))))) ∷
     (codes "done", (λ rest. unless_kind 12 (is_open s) (whole (give display.Done) rest))) ∷
     (codes "Signal", whole (display.Signal <$> fence s Display)) ∷
-    (codes "Wait", (λ rest. mapped display.Wait (display_condition known_words s rest))) ∷ []
+    (codes "Wait", (λ rest. mapped display.Wait (display_condition known_words s rest))) ∷
+    (codes "hit", whole (point (λ x y. display.Hit x y))) ∷ []
 
-display_spelt : (s : Script) (words : List Word) (l : DisplayLine) → display_line known_words s words ≡ Ok l → display_words s l ≡ words
+pub display_spelt : (s : Script) (words : List Word) (l : DisplayLine) → display_line known_words s words ≡ Ok l → display_words s l ≡ words
 unfolding display_table
 display_spelt s [] l is = absurd (cc)
 display_spelt s (w ∷ words) l is =
     table_spelt (display_words s) 6 (display_table s)
-    ((λ rest v given. begin_spelt s rest v _ _ given), ((λ rest v given. done_spelt s rest v (is_open s) given), (display_signal_spelt s, (display_wait_spelt s, tt)))) w words l is
+    ((λ rest v given. begin_spelt s rest v _ _ given), ((λ rest v given. done_spelt s rest v (is_open s) given), (display_signal_spelt s, (display_wait_spelt s, (hit_spelt (λ x y. display.Hit x y) (display_words s) (λ x y. refl), tt))))) w words l is
 
 -- sessions
 
@@ -181,9 +195,18 @@ alone_spelt s one words l is =
     let e : one ≡ l = cc in
     ap (session_words s) (sym e) ∙ sym (append-nil (session_words s one)) ∙ ap (λ t. session_words s one ++ t) (sym given.left)
 
+child_spelt : (s : Script) (words : List Word) (l : Line) → whole child_asked words ≡ Ok l → session_words s l ≡ codes "GetChildStatus" ∷ words
+child_spelt s words l is =
+    let h : ContentId → Line = λ c. line.Get (watch.Child c) in
+    let m = map_ok h content words l [] (whole_ok child_asked words l is) in
+    ap (session_words s) (sym m.value) ∙ ap (λ t. codes "GetChildStatus" ∷ t) (sym (content_words.takes words m.a [] m.given))
+
 other_table : Script → SessionNo → Table Line
 other_table s a =
     (codes "Present", whole (line.Present <$> present known_words s a)) ∷
+    (codes "GetLayout", whole (give (line.Get watch.Layout))) ∷
+    (codes "GetStatus", whole (give (line.Get watch.Status))) ∷
+    (codes "GetChildStatus", whole child_asked) ∷
     (codes "Signal", whole (line.Signal <$> fence s (Session a))) ∷
     (codes "Poll", whole (give line.Poll)) ∷
     (codes "Wait", (λ rest. mapped line.Wait (session_condition known_words s a rest))) ∷
@@ -192,22 +215,51 @@ other_table s a =
 other_spelt : (s : Script) (a : SessionNo) (w : Word) (words : List Word) (l : Line) → other_line known_words s a (w ∷ words) ≡ Ok l → session_words s l ≡ w ∷ words
 unfolding other_table
 other_spelt s a w words l is =
-    table_spelt (session_words s) 6 (other_table s a) (present_spelt s a, (signal_spelt s a, (alone_spelt s line.Poll, (wait_spelt s a, (alone_spelt s line.Disconnect, tt))))) w words l is
+    table_spelt (session_words s) 6 (other_table s a)
+    (present_spelt s a, (alone_spelt s (line.Get watch.Layout), (alone_spelt s (line.Get watch.Status), (child_spelt s, (signal_spelt s a, (alone_spelt s line.Poll, (wait_spelt s a, (alone_spelt s line.Disconnect, tt)))))))) w words l is
 
-by_call : (s : Script) (a : SessionNo) (w : Word) (words : List Word) (l : Line) (o : Option CallName) → call_named known_words w ≡ o
-    → option_map_or (λ n. mapped line.Call (whole (call_form s a n) words)) o (other_line known_words s a (w ∷ words)) ≡ Ok l → session_words s l ≡ w ∷ words
-by_call s a w words l None at is = other_spelt s a w words l is
-by_call s a w words l (Some n) at is =
-    let m = mapped_ok line.Call (whole (call_form s a n) words) l is in
-    ap (session_words s) (sym m.value) ∙ call_spelt s a w n at words m.a m.given
+-- a call; one with an inset of zeros is spelt without it
+call_line_shown : (s : Script) (a : SessionNo) (w : Word) (n : CallName) (words : List Word) (c : Call) → call_named known_words w ≡ Some n → NamedCall s a w n words c → Shown (session_line known_words s a) (session_words s (line.Call c)) (w ∷ words) (line.Call c)
+call_line_shown s a w n words c at shown =
+    let fields : List Word = call_fields s c in
+    record {
+      behind = shown.fields.behind;
+      begins = ap (λ v. v ∷ words) (sym shown.word) ∙ ap (λ t. text (call_name c) ∷ t) shown.fields.begins;
+      again = ap (λ v. session_line known_words s a (v ∷ fields)) shown.word
+          ∙ ap (λ o. option_map_or (λ m. mapped line.Call (whole (call_form s a m) fields)) o (other_line known_words s a (w ∷ fields))) at ∙ ap (mapped line.Call) shown.fields.again;
+    }
 
-session_spelt : (s : Script) (a : SessionNo) (words : List Word) (l : Line) → session_line known_words s a words ≡ Ok l → session_words s l ≡ words
-session_spelt s a [] l is = absurd (cc)
-session_spelt s a (w ∷ words) l is = by_call s a w words l (call_named known_words w) refl is
+by_call : (s : Script) (a : SessionNo) (w : Word) (words : List Word) (l : Line) (o : Option CallName) → call_named known_words w ≡ o → session_line known_words s a (w ∷ words) ≡ Ok l
+    → option_map_or (λ n. mapped line.Call (whole (call_form s a n) words)) o (other_line known_words s a (w ∷ words)) ≡ Ok l → Shown (session_line known_words s a) (session_words s l) (w ∷ words) l
+by_call s a w words l None at is other = shown_whole (session_line known_words s a) (session_words s l) (w ∷ words) l (other_spelt s a w words l other) is
+by_call s a w words l (Some n) at is called =
+    let m = mapped_ok line.Call (whole (call_form s a n) words) l called in
+    let P : Line → Type 0 = λ v. Shown (session_line known_words s a) (session_words s v) (w ∷ words) v in
+    subst P m.value (call_line_shown s a w n words m.a at (call_shown s a w n at words m.a m.given))
+
+pub session_shown : (s : Script) (a : SessionNo) (words : List Word) (l : Line) → session_line known_words s a words ≡ Ok l → Shown (session_line known_words s a) (session_words s l) words l
+session_shown s a [] l is = absurd (cc)
+session_shown s a (w ∷ words) l is = by_call s a w words l (call_named known_words w) refl is is
+
+-- probes
+
+probe_table : Table ProbeLine
+probe_table = (codes "hit", whole (point (λ x y. probe.Hit x y))) ∷ []
+
+probe_spelt : (words : List Word) (l : ProbeLine) → probe_line known_words words ≡ Ok l → probe_words l ≡ words
+unfolding probe_table
+probe_spelt [] l is = absurd (cc)
+probe_spelt (w ∷ words) l is = table_spelt probe_words 6 probe_table (hit_spelt (λ x y. probe.Hit x y) probe_words (λ x y. refl), tt) w words l is
 
 -- a line behind its actor
-pub body_spelt : (s : Script) (a : Actor) (words : List Word) (b : Body) → actor_line known_words s a words ≡ Ok b → body_words s b ≡ words
-body_spelt s Display words b is = let m = mapped_ok body.Display _ b is in ap (body_words s) (sym m.value) ∙ display_spelt s words m.a m.given
-body_spelt s (Session a) words b is = let m = mapped_ok body.Session _ b is in ap (body_words s) (sym m.value) ∙ session_spelt s a words m.a m.given
-body_spelt s (Probe p) [] b is = absurd (cc)
-body_spelt s (Probe p) (w ∷ words) b is = absurd (cc)
+pub body_shown : (s : Script) (a : Actor) (words : List Word) (b : Body) → actor_line known_words s a words ≡ Ok b → Shown (actor_line known_words s a) (body_words s b) words b
+body_shown s Display words b is =
+    let m = mapped_ok body.Display (display_line known_words s words) b is in
+    shown_whole (actor_line known_words s Display) (body_words s b) words b (ap (body_words s) (sym m.value) ∙ display_spelt s words m.a m.given) is
+body_shown s (Session a) words b is =
+    let m = mapped_ok body.Session (session_line known_words s a words) b is in
+    let P : Body → Type 0 = λ v. Shown (actor_line known_words s (Session a)) (body_words s v) words v in
+    subst P m.value (shown_mapped body.Session (session_line known_words s a) (session_words s m.a) words m.a (session_shown s a words m.a m.given))
+body_shown s (Probe p) words b is =
+    let m = mapped_ok body.Probe (probe_line known_words words) b is in
+    shown_whole (actor_line known_words s (Probe p)) (body_words s b) words b (ap (body_words s) (sym m.value) ∙ probe_spelt words m.a m.given) is

@@ -1,5 +1,5 @@
 -- The words of a call are those that it was read from.
-use Rattle.std.proofs.Common.{◌≡◌, ℕ, ◌+◌, ◌<◌, ◌≤◌, ◌^◌, ◌-◌, zero, suc, nat_le, ℤ, Bool, true, false, cond, nat_lt, List, [], ◌∷◌, ◌++◌, length, Option, Some, None, Ok, Err, refl, sym, ◌∙◌, ap, option_and_then, if◌then◌else◌, slice_get, unwrap_or, arith, get_or, append-nil, length-append, subst}
+use Rattle.std.proofs.Common.{◌≡◌, ℕ, ◌+◌, ◌<◌, ◌≤◌, ◌^◌, ◌-◌, ◌==◌, ◌&&◌, zero, suc, nat_le, ℤ, Bool, true, false, cond, nat_lt, List, [], ◌∷◌, ◌++◌, length, Option, Some, None, Ok, Err, refl, sym, ◌∙◌, ap, option_and_then, if◌then◌else◌, slice_get, unwrap_or, arith, get_or, append-nil, length-append, subst}
 use Rattle.std.specs.List.{flat_map, find}
 use Rattle.std.specs.Option.{option_map_or}
 use Rattle.std.specs.Str.{bytes_eq}
@@ -10,6 +10,7 @@ use Rattle.std.proofs.lemmas.Option.{slice_get-get_or, slice_get_past}
 use Rattle.std.proofs.lemmas.Bool.Decides.{nat_tests}
 use Rattle.flat_base.specs.declared.ids.SessionNo.{SessionNo}
 use Rattle.flat_base.specs.declared.ids.Actor.{Actor}
+use Rattle.flat_base.specs.declared.ids.Actor.TheVariants.{Session}
 use Rattle.flat_base.specs.declared.ids.PairNo.{PairNo}
 use Rattle.flat_base.specs.declared.ids.FenceNo.{FenceNo}
 use Rattle.flat_base.specs.declared.ids.BufferNo.{BufferNo}
@@ -26,20 +27,22 @@ use Rattle.flat_scene.specs.declared.calls.Interaction.TheVariants.{Default, Sem
 use Rattle.flat_scene.specs.declared.calls.HitRegion.{HitRegion}
 use Rattle.flat_base.specs.declared.shapes.IntRect.{IntRect}
 use Rattle.flat_scene.specs.declared.calls.Call.{Call}
+use Rattle.flat_scene.specs.declared.calls.Inset.{Inset}
+use Rattle.flat_scene.specs.declared.setup.PairDecl.{PairDecl}
 use Rattle.flat_scene.specs.declared.calls.Call.TheVariants as call
 use Rattle.flat_text.specs.Number.{natural, signed}
 use Rattle.flat_text.proofs.NumberLemmas.{decimal-natural, signed_decimal-signed}
 use Rattle.flat_script.specs.declared.calls.CallName.{CallName}
-use Rattle.flat_script.specs.declared.calls.CallName.TheVariants.{CreateView, ReleaseView, CreateTransform, ReleaseTransform, SetTranslation, SetOrientation, SetScale, SetOpacity, SetClipBoundary, AddChild, RemoveChild, SetRootTransform, CreateImage, SetImageSampleRegion, SetImageDestinationSize, SetImageBlendingFunction, SetImageFlip, SetImageOpacity, ReleaseImage, CreateFilledRect, SetSolidFill, ReleaseFilledRect, SetHitRegions, SetInfiniteHitRegion, SetContent, Clear}
+use Rattle.flat_script.specs.declared.calls.CallName.TheVariants.{CreateView, ReleaseView, CreateTransform, ReleaseTransform, SetTranslation, SetOrientation, SetScale, SetOpacity, SetClipBoundary, AddChild, RemoveChild, SetRootTransform, CreateViewport, SetViewportProperties, ReleaseViewport, CreateImage, SetImageSampleRegion, SetImageDestinationSize, SetImageBlendingFunction, SetImageFlip, SetImageOpacity, ReleaseImage, CreateFilledRect, SetSolidFill, ReleaseFilledRect, SetHitRegions, SetInfiniteHitRegion, SetContent, Clear}
 use Rattle.flat_script.specs.declared.script.Script.{Script}
-use Rattle.flat_script.specs.Forms.{Word, Form, unless_kind, both, whole, optional, ◌<$>◌, ◌<*>◌}
-use Rattle.flat_script.specs.Names.{place_of}
-use Rattle.flat_script.specs.Places.{owned, number_below, i32, u32, colour, transform, content, choice, orientation, blend, flip, interaction, view_end, collection, fence, region, regions, int_rect, fits_i32}
+use Rattle.flat_script.specs.Forms.{Word, Form, Reading, unless_kind, both, mapped, whole, place, optional, ◌<$>◌, ◌<*>◌}
+use Rattle.flat_script.specs.Names.{place_of, is_actor}
+use Rattle.flat_script.specs.Places.{owned, number_below, i32, u32, colour, transform, content, choice, orientation, blend, flip, interaction, view_end, viewport_end, collection, fence, region, regions, int_rect, inset, fits_i32}
 use Rattle.flat_script.specs.Places.{fence_word as tested_fence}
-use Rattle.flat_script.specs.Calls.{call_form, call_named, text}
+use Rattle.flat_script.specs.Calls.{call_form, call_named, call_names, text, no_inset, inset_or_none}
 use Rattle.flat_script.specs.Known.{known_words}
-use Rattle.flat_script.specs.Print.{name_at, pair_word, buffers_word, fence_word, call_fields, call_name, call_words, rect_words, region_words, orientation_number, blend_number, flip_number, interaction_number}
-use Rattle.flat_script.proofs.FormLemmas.{mapped_ok, unless_ok, Gives, apply_ok, map_ok, place_ok, whole_ok, or_kind_ok, both_ok}
+use Rattle.flat_script.specs.Print.{name_at, pair_word, buffers_word, fence_word, call_fields, call_name, rect_words, inset_words, region_words, orientation_number, blend_number, flip_number, interaction_number}
+use Rattle.flat_script.proofs.FormLemmas.{mapped_ok, unless_ok, Gives, apply_ok, map_ok, place_ok, whole_ok, or_kind_ok, both_ok, Shown, shown_whole}
 
 -- a form that gives a value takes the words that spell it, whatever stands behind them
 pub record Spells {A : Type 0} (form : Form A) (spell : A → List Word) : Type 0 where
@@ -61,7 +64,7 @@ number_words most = record {
       p.begins ∙ ap (λ w. w ∷ rest) (sym (decimal-natural p.word v number).0);
 }
 
-i32_words : Spells i32 (λ z. signed_decimal z ∷ [])
+pub i32_words : Spells i32 (λ z. signed_decimal z ∷ [])
 i32_words = record {
   takes = λ words v rest given.
       let p = place_ok _ words v rest given in
@@ -81,7 +84,7 @@ mapped_words h form spell new same spells = record {
 transform_words : Spells transform (λ t. decimal t.0 ∷ [])
 transform_words = mapped_words (λ n. record { 0 = n }) (number_below (2 ^ 64)) (λ n. decimal n ∷ []) (λ t. decimal t.0 ∷ []) (λ n. refl) (number_words (2 ^ 64))
 
-content_words : Spells content (λ t. decimal t.0 ∷ [])
+pub content_words : Spells content (λ t. decimal t.0 ∷ [])
 content_words = mapped_words (λ n. record { 0 = n }) (number_below (2 ^ 64)) (λ n. decimal n ∷ []) (λ t. decimal t.0 ∷ []) (λ n. refl) (number_words (2 ^ 64))
 
 found_ok : {A : Type 0} (f : ℕ → Option A) (o : Option ℕ) (v : A) → option_and_then f o ≡ Some v → (n : ℕ) × (o ≡ Some n) × (f n ≡ Some v)
@@ -197,14 +200,20 @@ fence_spelt s a w f is =
     let at = owned_ok s.fences s.setup.fences _ w m.a m.given in
     sym (name_at-place_of s.fences [] w m.a at) ∙ ap (λ names. name_at names m.a) (append-nil s.fences) ∙ ap (fence_word s) m.value
 
-view_end_words : (s : Script) (o : SessionNo) → Spells (view_end s o) (λ p. pair_word s p ∷ [])
-view_end_words s o = record {
+pair_end_words : (s : Script) (owns : PairDecl → Bool) → Spells (place (λ w. mapped (λ i. record { 0 = i }) (owned s.pairs s.setup.pairs owns w))) (λ p. pair_word s p ∷ [])
+pair_end_words s owns = record {
   takes = λ words v rest given.
       let p = place_ok _ words v rest given in
       let m = mapped_ok (λ i. record { 0 = i }) _ v p.passes in
-      let at = owned_ok s.pairs s.setup.pairs _ p.word m.a m.given in
+      let at = owned_ok s.pairs s.setup.pairs owns p.word m.a m.given in
       p.begins ∙ ap (λ w. w ∷ rest) (sym (name_at-place_of s.pairs [] p.word m.a at) ∙ ap (λ names. name_at names m.a) (append-nil s.pairs) ∙ ap (pair_word s) m.value);
 }
+
+view_end_words : (s : Script) (o : SessionNo) → Spells (view_end s o) (λ p. pair_word s p ∷ [])
+view_end_words s o = pair_end_words s (λ d. is_actor (Session o) (Session d.view))
+
+viewport_end_words : (s : Script) (o : SessionNo) → Spells (viewport_end s o) (λ p. pair_word s p ∷ [])
+viewport_end_words s o = pair_end_words s (λ d. is_actor (Session o) d.viewport)
 
 collection_words : (s : Script) (o : SessionNo) → Spells (collection s o) (λ b. buffers_word s b ∷ [])
 collection_words s o = record {
@@ -530,36 +539,171 @@ spelt-ReleaseImage s o words c is =
     let taken : words ≡ call_fields s (h p1.a) = content_words.takes words p1.a [] p1.given in
     record { fields = ap (call_fields s) (sym value) ∙ sym taken; named = ap call_name (sym value) }
 
-abbrev pub CallSpelt : Script → SessionNo → CallName → Type 0
-CallSpelt s o n = (words : List Word) (c : Call) → whole (call_form s o n) words ≡ Ok c → Spelt s n words c
+-- viewports
 
-abbrev pub AllSpelt : Script → SessionNo → List CallName → Type 0
-AllSpelt s o [] = Unit {0}
-AllSpelt s o (n ∷ ns) = CallSpelt s o n × AllSpelt s o ns
+inset_spelled : Spells inset inset_words
+inset_spelled = record {
+  takes = λ words v rest given.
+      let h : ℕ → ℕ → ℕ → ℕ → Inset = λ t r b l. record { top = t; right = r; bottom = b; left = l } in
+      let side : Form ℕ = number_below 65537 in
+      let spell : ℕ → List Word = λ n. decimal n ∷ [] in
+      let d = split (h <$> side <*> side <*> side) side spell words v rest (number_words 65537) given in
+      let c = split (h <$> side <*> side) side spell words d.g d.mid (number_words 65537) d.first in
+      let b = split (h <$> side) side spell words c.g c.mid (number_words 65537) c.first in
+      let a = map_ok h side words b.g b.mid b.first in
+      let value : h a.a b.a c.a d.a ≡ v = ap (λ g. g b.a c.a d.a) a.value ∙ ap (λ g. g c.a d.a) b.value ∙ ap (λ g. g d.a) c.value ∙ d.value in
+      (number_words 65537).takes words a.a b.mid a.given ∙ ap (λ t. decimal a.a ∷ t) (b.behind ∙ ap (λ t. decimal b.a ∷ t) (c.behind ∙ ap (λ t. decimal c.a ∷ t) d.behind))
+      ∙ ap (λ r. inset_words r ++ rest) value;
+}
 
-known_calls : List CallName
-known_calls = CreateView ∷ ReleaseView ∷ CreateTransform ∷ ReleaseTransform ∷ SetTranslation ∷ SetOrientation ∷ SetScale ∷ SetOpacity ∷ SetClipBoundary ∷ AddChild ∷ RemoveChild ∷ SetRootTransform ∷ CreateImage ∷ SetImageSampleRegion ∷ SetImageDestinationSize ∷ SetImageBlendingFunction ∷ SetImageFlip ∷ SetImageOpacity ∷ ReleaseImage ∷ CreateFilledRect ∷ SetSolidFill ∷ ReleaseFilledRect ∷ SetHitRegions ∷ SetInfiniteHitRegion ∷ SetContent ∷ Clear ∷ []
+spelt-SetViewportProperties : (s : Script) (o : SessionNo) (words : List Word) (c : Call) → whole (call_form s o SetViewportProperties) words ≡ Ok c → Spelt s SetViewportProperties words c
+spelt-SetViewportProperties s o words c is =
+    let h : ContentId → ℕ → ℕ → Option Inset → Call = λ x1 x2 x3 x4. call.SetViewportProperties x1 x2 x3 x4 in
+    let given = whole_ok (call_form s o SetViewportProperties) words c is in
+    let p4 = split (h <$> content <*> u32 <*> u32) (optional inset) (λ i. option_map_or inset_words i []) words c [] (optional_words inset inset_words inset_spelled) given in
+    let p3 = split (h <$> content <*> u32) u32 (λ n. decimal n ∷ []) words p4.g p4.mid (number_words (2 ^ 32)) p4.first in
+    let p2 = split (h <$> content) u32 (λ n. decimal n ∷ []) words p3.g p3.mid (number_words (2 ^ 32)) p3.first in
+    let p1 = map_ok h content words p2.g p2.mid p2.first in
+    let value : h p1.a p2.a p3.a p4.a ≡ c = ap (λ g. g p2.a p3.a p4.a) p1.value ∙ ap (λ g. g p3.a p4.a) p2.value ∙ ap (λ g. g p4.a) p3.value ∙ p4.value in
+    let last : p4.mid ≡ option_map_or inset_words p4.a [] = p4.behind ∙ append-nil (option_map_or inset_words p4.a []) in
+    let taken : words ≡ call_fields s (h p1.a p2.a p3.a p4.a) = content_words.takes words p1.a p2.mid p1.given ∙ ap (λ t. decimal p1.a.0 ∷ t) (p2.behind ∙ ap (λ t. decimal p2.a ∷ t) (p3.behind ∙ ap (λ t. decimal p3.a ∷ t) last)) in
+    record { fields = ap (call_fields s) (sym value) ∙ sym taken; named = ap call_name (sym value) }
 
-all_spelt : (s : Script) (o : SessionNo) → AllSpelt s o known_calls
-unfolding known_calls
-all_spelt s o = (spelt-CreateView s o, (spelt-ReleaseView s o, (spelt-CreateTransform s o, (spelt-ReleaseTransform s o, (spelt-SetTranslation s o, (spelt-SetOrientation s o, (spelt-SetScale s o, (spelt-SetOpacity s o, (spelt-SetClipBoundary s o, (spelt-AddChild s o, (spelt-RemoveChild s o, (spelt-SetRootTransform s o, (spelt-CreateImage s o, (spelt-SetImageSampleRegion s o, (spelt-SetImageDestinationSize s o, (spelt-SetImageBlendingFunction s o, (spelt-SetImageFlip s o, (spelt-SetImageOpacity s o, (spelt-ReleaseImage s o, (spelt-CreateFilledRect s o, (spelt-SetSolidFill s o, (spelt-ReleaseFilledRect s o, (spelt-SetHitRegions s o, (spelt-SetInfiniteHitRegion s o, (spelt-SetContent s o, (spelt-Clear s o, tt))))))))))))))))))))))))))
+spelt-ReleaseViewport : (s : Script) (o : SessionNo) (words : List Word) (c : Call) → whole (call_form s o ReleaseViewport) words ≡ Ok c → Spelt s ReleaseViewport words c
+spelt-ReleaseViewport s o words c is =
+    let h : ContentId → Call = λ x1. call.ReleaseViewport x1 in
+    let given = whole_ok (call_form s o ReleaseViewport) words c is in
+    let p1 = map_ok h content words c [] given in
+    let value : h p1.a ≡ c = p1.value in
+    let taken : words ≡ call_fields s (h p1.a) = content_words.takes words p1.a [] p1.given in
+    record { fields = ap (call_fields s) (sym value) ∙ sym taken; named = ap call_name (sym value) }
 
-spelt_at : (s : Script) (o : SessionNo) (n m : CallName) → m ≡ n → CallSpelt s o m → CallSpelt s o n
-spelt_at s o n m e spelt = let P : CallName → Type 0 = CallSpelt s o in subst P e spelt
+-- a call's name, and its fields, which are read as it
+pub record ShownCall (s : Script) (o : SessionNo) (name : CallName) (words : List Word) (c : Call) : Type 0 where
+  pub fields : Shown (whole (call_form s o name)) (call_fields s c) words c
+  pub named : call_name c ≡ name
 
-found_by : (s : Script) (o : SessionNo) (p : CallName → Bool) (b : Bool) (m n : CallName) (more : Option CallName) → p m ≡ b → CallSpelt s o m → (more ≡ Some n → CallSpelt s o n × (p n ≡ true)) → cond b (Some m) more ≡ Some n
-    → CallSpelt s o n × (p n ≡ true)
-found_by s o p true m n more passed spelt rest is = let e : m ≡ n = cc in (spelt_at s o n m e spelt, ap p (sym e) ∙ passed)
+abbrev pub CallShown : Script → SessionNo → CallName → Type 0
+CallShown s o n = (words : List Word) (c : Call) → whole (call_form s o n) words ≡ Ok c → ShownCall s o n words c
+
+in_full : (s : Script) (o : SessionNo) (n : CallName) → ((words : List Word) (c : Call) → whole (call_form s o n) words ≡ Ok c → Spelt s n words c) → CallShown s o n
+in_full s o n spelt words c is =
+    let full = spelt words c is in
+    record { fields = shown_whole (whole (call_form s o n)) (call_fields s c) words c full.fields is; named = full.named }
+
+-- a viewport whose inset is 0 on all sides is spelt without it
+
+abbrev has_no_inset : Inset → Bool
+has_no_inset i = (i.top == 0) && (i.right == 0) && (i.bottom == 0) && (i.left == 0)
+
+all_four : (p q r s : Bool) → (p && q && r && s) ≡ true → (p ≡ true) × (q ≡ true) × (r ≡ true) × (s ≡ true)
+all_four true true true true is = (refl, refl, refl, refl)
+all_four true true true false is = absurd (cc)
+all_four true true false s is = absurd (cc)
+all_four true false r s is = absurd (cc)
+all_four false q r s is = absurd (cc)
+
+is_zero : (n : ℕ) → (n == 0) ≡ true → n ≡ 0
+is_zero n is = grind (arith, nat_tests)
+
+no_inset_is : (i : Inset) → has_no_inset i ≡ true → no_inset ≡ i
+no_inset_is i is =
+    let sides = all_four (i.top == 0) (i.right == 0) (i.bottom == 0) (i.left == 0) is in
+    let top = sym (is_zero i.top sides.0) in
+    let right = sym (is_zero i.right sides.1) in
+    let bottom = sym (is_zero i.bottom sides.2) in
+    let left = sym (is_zero i.left sides.3) in
+    ap (λ n. record no_inset { top = n }) top ∙ ap (λ n. record no_inset { top = i.top; right = n }) right
+    ∙ ap (λ n. record no_inset { top = i.top; right = i.right; bottom = n }) bottom ∙ ap (λ n. record no_inset { top = i.top; right = i.right; bottom = i.bottom; left = n }) left
+
+-- what the four places before the inset give
+record FrontGiven (s : Script) (o : SessionNo) (x : ContentId) (y : PairNo) (w h : ℕ) : Type 0 where
+  pub first : (content (decimal x.0 ∷ [])).0 ≡ Ok x
+  pub second : (viewport_end s o (pair_word s y ∷ [])).0 ≡ Ok y
+  pub third : (u32 (decimal w ∷ [])).0 ≡ Ok w
+  pub fourth : (u32 (decimal h ∷ [])).0 ≡ Ok h
+
+-- the words of those places
+abbrev front_words : Script → ContentId → PairNo → ℕ → ℕ → List Word
+front_words s x y w h = decimal x.0 ∷ pair_word s y ∷ decimal w ∷ decimal h ∷ []
+
+front_again : (s : Script) (o : SessionNo) (x : ContentId) (y : PairNo) (w h : ℕ) → FrontGiven s o x y w h → whole (call_form s o CreateViewport) (front_words s x y w h) ≡ Ok (call.CreateViewport x y w h no_inset)
+front_again s o x y w h given =
+    let make : ContentId → PairNo → ℕ → ℕ → Option Inset → Call = λ d p m n i. call.CreateViewport d p m n (inset_or_none i) in
+    let r : Reading ContentId → Reading PairNo → Reading ℕ → Reading ℕ → Reading Call =
+    λ d p m n. both (λ v (_ : Unit {0}). v) (both (λ g v. g v) (both (λ g v. g v) (both (λ g v. g v) (both (λ g v. g v) (mapped make d) p) m) n) (Ok None)) (Ok tt) in
+    ap (λ d. r d (viewport_end s o (pair_word s y ∷ [])).0 (u32 (decimal w ∷ [])).0 (u32 (decimal h ∷ [])).0) given.first
+    ∙ ap (λ p. r (Ok x) p (u32 (decimal w ∷ [])).0 (u32 (decimal h ∷ [])).0) given.second ∙ ap (λ m. r (Ok x) (Ok y) m (u32 (decimal h ∷ [])).0) given.third ∙ ap (λ n. r (Ok x) (Ok y) (Ok w) n) given.fourth
+
+shown_by_test : (s : Script) (o : SessionNo) (words : List Word) (x : ContentId) (y : PairNo) (w h : ℕ) (i : Inset) (b : Bool) → has_no_inset i ≡ b → FrontGiven s o x y w h → words ≡ front_words s x y w h ++ inset_words i
+    → whole (call_form s o CreateViewport) words ≡ Ok (call.CreateViewport x y w h i) → Shown (whole (call_form s o CreateViewport)) (front_words s x y w h ++ cond b [] (inset_words i)) words (call.CreateViewport x y w h i)
+shown_by_test s o words x y w h i true at given taken is = record {
+  behind = inset_words i;
+  begins = taken;
+  again = front_again s o x y w h given ∙ ap (λ j. Ok (call.CreateViewport x y w h j)) (no_inset_is i at);
+}
+shown_by_test s o words x y w h i false at given taken is = shown_whole (whole (call_form s o CreateViewport)) (front_words s x y w h ++ inset_words i) words (call.CreateViewport x y w h i) (sym taken) is
+
+shown_by_inset : (s : Script) (o : SessionNo) (words : List Word) (x : ContentId) (y : PairNo) (w h : ℕ) (i : Option Inset) → FrontGiven s o x y w h → words ≡ front_words s x y w h ++ option_map_or inset_words i []
+    → whole (call_form s o CreateViewport) words ≡ Ok (call.CreateViewport x y w h (inset_or_none i)) → ShownCall s o CreateViewport words (call.CreateViewport x y w h (inset_or_none i))
+shown_by_inset s o words x y w h None given taken is =
+    record { fields = shown_whole (whole (call_form s o CreateViewport)) (front_words s x y w h) words (call.CreateViewport x y w h no_inset) (sym taken) is; named = refl }
+shown_by_inset s o words x y w h (Some i) given taken is = record { fields = shown_by_test s o words x y w h i (has_no_inset i) refl given taken is; named = refl }
+
+shown-CreateViewport : (s : Script) (o : SessionNo) → CallShown s o CreateViewport
+shown-CreateViewport s o words c is =
+    let make : ContentId → PairNo → ℕ → ℕ → Option Inset → Call = λ d p m n i. call.CreateViewport d p m n (inset_or_none i) in
+    let given = whole_ok (call_form s o CreateViewport) words c is in
+    let p5 = split (make <$> content <*> viewport_end s o <*> u32 <*> u32) (optional inset) (λ i. option_map_or inset_words i []) words c [] (optional_words inset inset_words inset_spelled) given in
+    let p4 = apply_ok (make <$> content <*> viewport_end s o <*> u32) u32 words p5.g p5.mid p5.first in
+    let p3 = apply_ok (make <$> content <*> viewport_end s o) u32 words p4.g p4.mid p4.first in
+    let p2 = apply_ok (make <$> content) (viewport_end s o) words p3.g p3.mid p3.first in
+    let p1 = map_ok make content words p2.g p2.mid p2.first in
+    let value : make p1.a p2.a p3.a p4.a p5.a ≡ c = ap (λ g. g p2.a p3.a p4.a p5.a) p1.value ∙ ap (λ g. g p3.a p4.a p5.a) p2.value ∙ ap (λ g. g p4.a p5.a) p3.value ∙ ap (λ g. g p5.a) p4.value ∙ p5.value in
+    let at1 : words ≡ decimal p1.a.0 ∷ p2.mid = content_words.takes words p1.a p2.mid p1.given in
+    let at2 : p2.mid ≡ pair_word s p2.a ∷ p3.mid = (viewport_end_words s o).takes p2.mid p2.a p3.mid p2.second in
+    let at3 : p3.mid ≡ decimal p3.a ∷ p4.mid = (number_words (2 ^ 32)).takes p3.mid p3.a p4.mid p3.second in
+    let at4 : p4.mid ≡ decimal p4.a ∷ p5.mid = (number_words (2 ^ 32)).takes p4.mid p4.a p5.mid p4.second in
+    let front : FrontGiven s o p1.a p2.a p3.a p4.a = record {
+      first = ap (λ t. (content t).0) (sym at1) ∙ p1.given.value;
+      second = ap (λ t. (viewport_end s o t).0) (sym at2) ∙ p2.second.value;
+      third = ap (λ t. (u32 t).0) (sym at3) ∙ p3.second.value;
+      fourth = ap (λ t. (u32 t).0) (sym at4) ∙ p4.second.value;
+    } in
+    let last : p5.mid ≡ option_map_or inset_words p5.a [] = p5.behind ∙ append-nil (option_map_or inset_words p5.a []) in
+    let taken : words ≡ front_words s p1.a p2.a p3.a p4.a ++ option_map_or inset_words p5.a [] =
+    at1 ∙ ap (λ t. decimal p1.a.0 ∷ t) (at2 ∙ ap (λ t. pair_word s p2.a ∷ t) (at3 ∙ ap (λ t. decimal p3.a ∷ t) (at4 ∙ ap (λ t. decimal p4.a ∷ t) last))) in
+    let P : Call → Type 0 = ShownCall s o CreateViewport words in
+    subst P value (shown_by_inset s o words p1.a p2.a p3.a p4.a p5.a front taken (is ∙ ap Ok (sym value)))
+
+-- all calls
+
+abbrev pub AllShown : Script → SessionNo → List CallName → Type 0
+AllShown s o [] = Unit {0}
+AllShown s o (n ∷ ns) = CallShown s o n × AllShown s o ns
+
+all_shown : (s : Script) (o : SessionNo) → AllShown s o call_names
+all_shown s o = (in_full s o CreateView (spelt-CreateView s o), (in_full s o ReleaseView (spelt-ReleaseView s o), (in_full s o CreateTransform (spelt-CreateTransform s o), (in_full s o ReleaseTransform (spelt-ReleaseTransform s o), (in_full s o SetTranslation (spelt-SetTranslation s o), (in_full s o SetOrientation (spelt-SetOrientation s o), (in_full s o SetScale (spelt-SetScale s o), (in_full s o SetOpacity (spelt-SetOpacity s o), (in_full s o SetClipBoundary (spelt-SetClipBoundary s o), (in_full s o AddChild (spelt-AddChild s o), (in_full s o RemoveChild (spelt-RemoveChild s o), (in_full s o SetRootTransform (spelt-SetRootTransform s o), (shown-CreateViewport s o, (in_full s o SetViewportProperties (spelt-SetViewportProperties s o), (in_full s o ReleaseViewport (spelt-ReleaseViewport s o), (in_full s o CreateImage (spelt-CreateImage s o), (in_full s o SetImageSampleRegion (spelt-SetImageSampleRegion s o), (in_full s o SetImageDestinationSize (spelt-SetImageDestinationSize s o), (in_full s o SetImageBlendingFunction (spelt-SetImageBlendingFunction s o), (in_full s o SetImageFlip (spelt-SetImageFlip s o), (in_full s o SetImageOpacity (spelt-SetImageOpacity s o), (in_full s o ReleaseImage (spelt-ReleaseImage s o), (in_full s o CreateFilledRect (spelt-CreateFilledRect s o), (in_full s o SetSolidFill (spelt-SetSolidFill s o), (in_full s o ReleaseFilledRect (spelt-ReleaseFilledRect s o), (in_full s o SetHitRegions (spelt-SetHitRegions s o), (in_full s o SetInfiniteHitRegion (spelt-SetInfiniteHitRegion s o), (in_full s o SetContent (spelt-SetContent s o), (in_full s o Clear (spelt-Clear s o), tt)))))))))))))))))))))))))))))
+
+shown_at : (s : Script) (o : SessionNo) (n m : CallName) → m ≡ n → CallShown s o m → CallShown s o n
+shown_at s o n m e spelt = let P : CallName → Type 0 = CallShown s o in subst P e spelt
+
+found_by : (s : Script) (o : SessionNo) (p : CallName → Bool) (b : Bool) (m n : CallName) (more : Option CallName) → p m ≡ b → CallShown s o m → (more ≡ Some n → CallShown s o n × (p n ≡ true)) → cond b (Some m) more ≡ Some n
+    → CallShown s o n × (p n ≡ true)
+found_by s o p true m n more passed spelt rest is = let e : m ≡ n = cc in (shown_at s o n m e spelt, ap p (sym e) ∙ passed)
 found_by s o p false m n more wrong spelt rest is = rest is
 
-find_spelt : (s : Script) (o : SessionNo) (p : CallName → Bool) (ns : List CallName) (n : CallName) → AllSpelt s o ns → find p ns ≡ Some n → CallSpelt s o n × (p n ≡ true)
-find_spelt s o p [] n all is = absurd (cc)
-find_spelt s o p (m ∷ ns) n all is = found_by s o p (p m) m n (find p ns) refl all.0 (λ more. find_spelt s o p ns n all.1 more) is
+find_shown : (s : Script) (o : SessionNo) (p : CallName → Bool) (ns : List CallName) (n : CallName) → AllShown s o ns → find p ns ≡ Some n → CallShown s o n × (p n ≡ true)
+find_shown s o p [] n all is = absurd (cc)
+find_shown s o p (m ∷ ns) n all is = found_by s o p (p m) m n (find p ns) refl all.0 (λ more. find_shown s o p ns n all.1 more) is
 
 -- a known call, by its first word
-pub call_spelt : (s : Script) (o : SessionNo) (w : Word) (n : CallName) → call_named known_words w ≡ Some n → (words : List Word) (c : Call) → whole (call_form s o n) words ≡ Ok c → call_words s c ≡ w ∷ words
-unfolding known_calls
-call_spelt s o w n named words c is =
-    let found = find_spelt s o (λ m. bytes_eq w (text m)) known_calls n (all_spelt s o) named in
-    let spelt = found.0 words c is in
-    ap (λ t. t ∷ call_fields s c) (ap text spelt.named ∙ sym ((bytes_eq-Decides w (text n)).0 found.1)) ∙ ap (λ t. w ∷ t) spelt.fields
+pub record NamedCall (s : Script) (o : SessionNo) (w : Word) (n : CallName) (words : List Word) (c : Call) : Type 0 where
+  pub fields : Shown (whole (call_form s o n)) (call_fields s c) words c
+  pub word : text (call_name c) ≡ w
+
+pub call_shown : (s : Script) (o : SessionNo) (w : Word) (n : CallName) → call_named known_words w ≡ Some n → (words : List Word) (c : Call) → whole (call_form s o n) words ≡ Ok c → NamedCall s o w n words c
+call_shown s o w n named words c is =
+    let found = find_shown s o (λ m. bytes_eq w (text m)) call_names n (all_shown s o) named in
+    let shown = found.0 words c is in
+    record { fields = shown.fields; word = ap text shown.named ∙ sym ((bytes_eq-Decides w (text n)).0 found.1) }

@@ -1,7 +1,9 @@
 -- Scripts and faults, computed.
-use Rattle.std.proofs.Common.{◌≡◌, ℕ, List, [], ◌∷◌, ◌++◌, Result, Ok, Err, refl, codes, pos, negsuc}
+use Rattle.std.proofs.Common.{◌≡◌, ℕ, List, [], ◌∷◌, ◌++◌, Some, None, Result, Ok, Err, refl, codes, pos, negsuc}
 use Rattle.flat_base.specs.declared.ids.Actor.TheVariants.{Display, Session}
 use Rattle.flat_scene.specs.declared.calls.Call.TheVariants as call
+use Rattle.flat_scene.specs.declared.calls.Watch.TheVariants as watch
+use Rattle.flat_scene.specs.declared.script.Cond.TheVariants as asks
 use Rattle.flat_scene.specs.declared.script.Line.TheVariants as line
 use Rattle.flat_scene.specs.declared.script.DisplayLine.TheVariants as display
 use Rattle.flat_scene.specs.declared.script.Body.TheVariants as body
@@ -13,16 +15,7 @@ use Rattle.flat_script.specs.Grammar.{read_with, IsScript, IsFault}
 -- the words that become known later
 abbrev later_words : List (List ℕ)
 later_words =
-    codes "probe" ∷
-    codes "CreateViewport" ∷
-    codes "SetViewportProperties" ∷
-    codes "ReleaseViewport" ∷
-    codes "GetLayout" ∷
-    codes "GetStatus" ∷
-    codes "GetChildStatus" ∷
-    codes "answers" ∷
-    codes "hit" ∷
-    codes "await" ∷ []
+    codes "probe" ∷ codes "await" ∷ []
 
 -- all words of the version
 abbrev all_words : List (List ℕ)
@@ -75,19 +68,35 @@ signs_and_skipped_lines : IsScript (codes "# a comment\nflatland 1\ndisplay 100 
 })
 signs_and_skipped_lines = refl
 
--- faults
+viewports_gets_and_points : IsScript (codes "flatland 1\ndisplay 9 9\nsession A\npair t0 display A\npair t1 A A\nrun\nA CreateViewport 1 t1 5 6\nA CreateViewport 2 t1 5 6 0 1 2 65536\nA SetViewportProperties 1 7 8\nA SetViewportProperties 1 7 8 0 0 0 0\nA ReleaseViewport 1\nA GetLayout\nA GetStatus\nA GetChildStatus 2\nA Wait answers 3\ndisplay hit -1 4\n") (record {
+  setup = record { width = 9; height = 9; sessions = 1; probes = 0; pairs = record { viewport = Display; view = record { 0 = 1 } } ∷ record { viewport = Session (record { 0 = 1 }); view = record { 0 = 1 } } ∷ []; buffers = []; fences = [] };
+  sessions = codes "A" ∷ [];
+  probes = [];
+  buffers = [];
+  pairs = codes "t0" ∷ codes "t1" ∷ [];
+  fences = [];
+  lines =
+      record { number = 7; actor = Session (record { 0 = 1 }); body = body.Session (line.Call (call.CreateViewport (record { 0 = 1 }) (record { 0 = 1 }) 5 6 (record { top = 0; right = 0; bottom = 0; left = 0 }))) } ∷
+      record { number = 8; actor = Session (record { 0 = 1 }); body = body.Session (line.Call (call.CreateViewport (record { 0 = 2 }) (record { 0 = 1 }) 5 6 (record { top = 0; right = 1; bottom = 2; left = 65536 }))) } ∷
+      record { number = 9; actor = Session (record { 0 = 1 }); body = body.Session (line.Call (call.SetViewportProperties (record { 0 = 1 }) 7 8 None)) } ∷
+      record { number = 10; actor = Session (record { 0 = 1 }); body = body.Session (line.Call (call.SetViewportProperties (record { 0 = 1 }) 7 8 (Some (record { top = 0; right = 0; bottom = 0; left = 0 })))) } ∷
+      record { number = 11; actor = Session (record { 0 = 1 }); body = body.Session (line.Call (call.ReleaseViewport (record { 0 = 1 }))) } ∷
+      record { number = 12; actor = Session (record { 0 = 1 }); body = body.Session (line.Get watch.Layout) } ∷
+      record { number = 13; actor = Session (record { 0 = 1 }); body = body.Session (line.Get watch.Status) } ∷
+      record { number = 14; actor = Session (record { 0 = 1 }); body = body.Session (line.Get (watch.Child (record { 0 = 2 }))) } ∷
+      record { number = 15; actor = Session (record { 0 = 1 }); body = body.Session (line.Wait (asks.Answers 3)) } ∷
+      record { number = 16; actor = Display; body = body.Display (display.Hit (negsuc 0) (pos 4)) } ∷ [];
+  count = 16;
+})
+viewports_gets_and_points = refl
 
-answers_before_they_are_known : IsFault (codes "flatland 1\ndisplay 100 100\nsession A\npair t0 display A\nrun\nA Wait answers 1\n") (record { line = 6; kind = 6 })
-answers_before_they_are_known = refl
+-- faults
 
 dpr_in_version_one : IsFault (codes "flatland 1\ndisplay 100 100\nsession A\npair t0 display A\nrun\ndisplay dpr 65536\n") (record { line = 6; kind = 6 })
 dpr_in_version_one = refl
 
 first_bad_line_decides : IsFault (codes "flatland 1\ndisplay 100 100\nsession A\npair t0 display A\nrun\nA Fly\nZ Fly\n") (record { line = 6; kind = 6 })
 first_bad_line_decides = refl
-
-hit_before_it_is_known : IsFault (codes "flatland 1\ndisplay 100 100\nsession A\npair t0 display A\nrun\ndisplay hit 5 5\n") (record { line = 6; kind = 6 })
-hit_before_it_is_known = refl
 
 kind_10_view_of_another : IsFault (codes "flatland 1\ndisplay 100 100\nsession A\nsession B\npair t0 display A\npair t1 A B\nrun\nA CreateView t1\n") (record { line = 8; kind = 10 })
 kind_10_view_of_another = refl
@@ -175,9 +184,6 @@ version_two_before_it_is_known = refl
 
 version_zero : IsFault (codes "flatland 0\ndisplay 100 100\nsession A\npair t0 display A\nrun\n") (record { line = 1; kind = 13 })
 version_zero = refl
-
-viewport_before_it_is_known : IsFault (codes "flatland 1\ndisplay 100 100\nsession A\nsession B\npair t0 display A\npair t1 A B\nrun\nA CreateViewport 1 t1 9 9\n") (record { line = 8; kind = 6 })
-viewport_before_it_is_known = refl
 
 -- the whole grammar of the version
 

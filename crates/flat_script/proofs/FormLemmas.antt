@@ -1,5 +1,5 @@
 -- What a form gave says what its places gave.
-use Rattle.std.proofs.Common.{◌≡◌, ℕ, Bool, true, false, List, [], ◌∷◌, Option, Some, None, Ok, Err, refl, ◌∙◌, ap}
+use Rattle.std.proofs.Common.{◌≡◌, ℕ, Bool, true, false, List, [], ◌∷◌, ◌++◌, Option, Some, None, Ok, Err, refl, sym, ◌∙◌, ap, append-nil}
 use Rattle.flat_script.specs.Forms.{Word, Reading, Form, both, mapped, nothing, whole, place, unless_kind, or_kind, ◌<$>◌, ◌<*>◌}
 
 -- the form gives that value, and leaves those words
@@ -74,6 +74,12 @@ whole_ok form words v is =
     let parts = both_ok (λ w _. w) (form words).0 (nothing (form words).1) v is in
     record { value = parts.first ∙ ap Ok parts.value; left = nothing_ok (form words).1 parts.second }
 
+-- a value of a form of all words
+pub whole_mapped : {A B : Type 0} (h : A → B) (form : Form A) (words : List Word) (v : A) → whole form words ≡ Ok v → whole (h <$> form) words ≡ Ok (h v)
+whole_mapped h form words v is =
+    let given = whole_ok form words v is in
+    ap (λ r. both (λ w _. w) (mapped h r) (nothing (form words).1)) given.value ∙ ap (λ ws. both (λ w _. w) (Ok (h v)) (nothing ws)) given.left
+
 pub record Tested {A : Type 0} (test : Bool) (r : Reading A) (v : A) : Type 0 where
   pub passed : test ≡ true
   pub given : r ≡ Ok v
@@ -88,3 +94,17 @@ unless_ok k false (Err j) v is = absurd (cc)
 pub or_kind_ok : {A : Type 0} (k : ℕ) (o : Option A) (v : A) → or_kind k o ≡ Ok v → o ≡ Some v
 or_kind_ok k (Some a) v is = ap Some (cc)
 or_kind_ok k None v is = absurd (cc)
+
+-- the words that spell a value are read as it, and those that it was read from begin with them
+pub record Shown {A : Type 0} (read : List Word → Reading A) (spelt words : List Word) (v : A) : Type 0 where
+  pub behind : List Word
+  pub begins : words ≡ spelt ++ behind
+  pub again : read spelt ≡ Ok v
+
+-- the words that it was read from spell it
+pub shown_whole : {A : Type 0} (read : List Word → Reading A) (spelt words : List Word) (v : A) → spelt ≡ words → read words ≡ Ok v → Shown read spelt words v
+shown_whole read spelt words v same is = record { behind = []; begins = sym same ∙ sym (append-nil spelt); again = ap read same ∙ is }
+
+-- the same of a value that a function changes
+pub shown_mapped : {A B : Type 0} (f : A → B) (read : List Word → Reading A) (spelt words : List Word) (v : A) → Shown read spelt words v → Shown (λ ws. mapped f (read ws)) spelt words (f v)
+shown_mapped f read spelt words v shown = record { behind = shown.behind; begins = shown.begins; again = ap (mapped f) shown.again }

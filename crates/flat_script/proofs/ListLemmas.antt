@@ -1,7 +1,8 @@
 -- The fences of a list, up to the word that ends it.
-use Rattle.std.proofs.Common.{◌≡◌, suc, ◌+◌, ◌<◌, nat_lt, not, Bool, true, false, ◌||◌, cond, List, [], ◌∷◌, ◌++◌, length, take, drop, Ok, Err, refl, sym, ◌∙◌, ap, arith, codes, if◌then◌else◌}
+use Rattle.std.proofs.Common.{◌≡◌, suc, ◌+◌, ◌<◌, nat_lt, not, Bool, true, false, ◌||◌, cond, List, [], ◌∷◌, ◌++◌, length, take, drop, Ok, Err, refl, sym, ◌∙◌, ap, arith, codes, if◌then◌else◌, ◌⊎◌, inl, inr}
 use Rattle.std.specs.List.{list_any, before_first, after_first, position_or_len}
 use Rattle.std.proofs.lemmas.Bool.Decides.{nat_tests}
+use Rattle.std.proofs.lemmas.Slice.Eq.{bytes_eq-Decides}
 use Rattle.flat_base.specs.declared.ids.FenceNo.{FenceNo}
 use Rattle.flat_text.specs.Pieces.{is_space, pieces_left}
 use Rattle.flat_script.specs.declared.places.Places.{Places}
@@ -182,6 +183,19 @@ by_release test w ws other is = by_other test w ws other ∙ ap (λ b. if b then
 
 pub by_neither : (test : Word → Reading FenceNo) (w : Word) (ws : List Word) → bytes_eq w (codes "acquire") ≡ false → bytes_eq w (codes "release") ≡ false → fence_lists known_words test (w ∷ ws) ≡ Err 8
 by_neither test w ws other is = by_other test w ws other ∙ ap (λ b. if b then both pair_of (Ok []) (one_or_more test ws) else Err 8) is
+
+-- lists that were read begin with one of the keywords
+abbrev pub ListsOk : (Word → Reading FenceNo) → Word → List Word → List FenceNo × List FenceNo → Type 0
+ListsOk test w ws lists =
+    ((w ≡ codes "acquire") × (both pair_of (one_or_more test (before_first (ends_list true) ws)) (behind_end (one_or_more test) ws).0 ≡ Ok lists)) ⊎ ((w ≡ codes "release") × (both pair_of (Ok []) (one_or_more test ws) ≡ Ok lists))
+
+pub lists_ok : (test : Word → Reading FenceNo) (w : Word) (ws : List Word) (lists : List FenceNo × List FenceNo) → fence_lists known_words test (w ∷ ws) ≡ Ok lists → ListsOk test w ws lists
+lists_ok test w ws lists is = by_keyword (bytes_eq w (codes "acquire")) (bytes_eq w (codes "release")) refl refl
+  where
+    by_keyword : (b c : Bool) → bytes_eq w (codes "acquire") ≡ b → bytes_eq w (codes "release") ≡ c → ListsOk test w ws lists
+    by_keyword true c at other = inl ((bytes_eq-Decides w (codes "acquire")).0 at, sym (by_acquire test w ws at) ∙ is)
+    by_keyword false true at other = inr ((bytes_eq-Decides w (codes "release")).0 other, sym (by_release test w ws at other) ∙ is)
+    by_keyword false false at other = absurd (let wrong : Err 8 ≡ Ok lists = sym (by_neither test w ws at other) ∙ is in cc)
 
 pub acquire_read : (test : Word → Reading FenceNo) (old mid past new : Places) (w : Word) (a r : List FenceNo) → left old ≡ w ∷ left mid → mid.fault ≡ old.fault → bytes_eq w (codes "acquire") ≡ true
     → ReadsList (one_or_more test) true mid past a → Reads (behind_end (one_or_more test)) past new r → Reads (all_lists test) old new (a, r)

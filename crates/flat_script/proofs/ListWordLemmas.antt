@@ -1,5 +1,5 @@
 -- The words of fence lists, of conditions and of tables are those that they were read from.
-use Rattle.std.proofs.Common.{◌≡◌, ℕ, Bool, true, false, ◌||◌, List, [], ◌∷◌, ◌++◌, map, Ok, Err, refl, sym, ◌∙◌, ap, codes, if◌then◌else◌}
+use Rattle.std.proofs.Common.{◌≡◌, ℕ, Bool, true, false, ◌||◌, List, [], ◌∷◌, ◌++◌, map, Ok, refl, sym, ◌∙◌, ap, codes, if◌then◌else◌, inl, inr}
 use Rattle.std.specs.List.{list_any, before_first, after_first}
 use Rattle.std.specs.Str.{bytes_eq}
 use Rattle.std.proofs.lemmas.Slice.Eq.{bytes_eq-Decides}
@@ -7,14 +7,14 @@ use Rattle.flat_base.specs.declared.ids.Actor.{Actor}
 use Rattle.flat_base.specs.declared.ids.FenceNo.{FenceNo}
 use Rattle.flat_script.specs.declared.script.Script.{Script}
 use Rattle.flat_script.specs.Known.{known_words}
-use Rattle.flat_script.specs.Forms.{Word, Reading, Table, both, each, one_or_more, at_word}
+use Rattle.flat_script.specs.Forms.{Word, Table, both, each, one_or_more, at_word}
 use Rattle.flat_script.specs.Places.{fence_word as tested_fence}
 use Rattle.flat_script.specs.Body.{fence_lists}
 use Rattle.flat_script.specs.Lists.{ends_list, behind_end}
 use Rattle.flat_script.specs.Print.{fence_word, list_words}
 use Rattle.flat_script.proofs.FormLemmas.{both_ok}
 use Rattle.flat_script.proofs.CallLemmas.{fence_spelt}
-use Rattle.flat_script.proofs.ListLemmas.{stops_before, goes_before, stops_behind, goes_behind, pair_of, by_acquire, by_release, by_neither}
+use Rattle.flat_script.proofs.ListLemmas.{stops_before, goes_before, stops_behind, goes_behind, pair_of, ListsOk, lists_ok}
 
 -- tables
 
@@ -93,18 +93,10 @@ module _ (s : Script) (a : Actor) where
       let none : [] ≡ parts.a = let e = parts.first in cc in
       some_spelt (codes "release") words parts.b parts.second ∙ ap (λ t. list_words s (codes "acquire") t ++ list_words s (codes "release") parts.b) none ∙ ap both_words parts.value
 
-  no_lists : (r : Reading (List FenceNo × List FenceNo)) (lists : List FenceNo × List FenceNo) → r ≡ Err 8 → r ≡ Ok lists → ⊥
-  no_lists (Ok v) lists wrong is = absurd (cc)
-  no_lists (Err k) lists wrong is = absurd (cc)
-
-  by_keyword : (w : Word) (words : List Word) (lists : List FenceNo × List FenceNo) (b c : Bool) → bytes_eq w (codes "acquire") ≡ b → bytes_eq w (codes "release") ≡ c
-      → fence_lists known_words (tested_fence s a) (w ∷ words) ≡ Ok lists → w ∷ words ≡ both_words lists
-  by_keyword w words lists true c at other is =
-      ap (λ v. v ∷ words) ((bytes_eq-Decides w (codes "acquire")).0 at) ∙ both_spelt words lists (sym (by_acquire (tested_fence s a) w words at) ∙ is)
-  by_keyword w words lists false true at other is =
-      ap (λ v. v ∷ words) ((bytes_eq-Decides w (codes "release")).0 other) ∙ release_spelt words lists (sym (by_release (tested_fence s a) w words at other) ∙ is)
-  by_keyword w words lists false false at other is = absurd (no_lists (fence_lists known_words (tested_fence s a) (w ∷ words)) lists (by_neither (tested_fence s a) w words at other) is)
+  lists_by : (w : Word) (words : List Word) (lists : List FenceNo × List FenceNo) → ListsOk (tested_fence s a) w words lists → w ∷ words ≡ both_words lists
+  lists_by w words lists (inl read) = ap (λ v. v ∷ words) read.0 ∙ both_spelt words lists read.1
+  lists_by w words lists (inr read) = ap (λ v. v ∷ words) read.0 ∙ release_spelt words lists read.1
 
   pub lists_spelt : (words : List Word) (lists : List FenceNo × List FenceNo) → fence_lists known_words (tested_fence s a) words ≡ Ok lists → words ≡ both_words lists
   lists_spelt [] lists is = let none : ([], []) ≡ lists = cc in ap both_words none
-  lists_spelt (w ∷ words) lists is = by_keyword w words lists (bytes_eq w (codes "acquire")) (bytes_eq w (codes "release")) refl refl is
+  lists_spelt (w ∷ words) lists is = lists_by w words lists (lists_ok (tested_fence s a) w words lists is)

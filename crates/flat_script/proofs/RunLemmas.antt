@@ -5,6 +5,9 @@ use Rattle.std.proofs.lemmas.Bool.Decides.{nat_tests}
 use Rattle.std.specs.Str.{bytes_eq}
 use Rattle.std.specs.List.{list_all}
 use Rattle.std.proofs.lemmas.Slice.Eq.{bytes_eq-Decides}
+use Rattle.flat_base.specs.declared.ids.Actor.{Actor}
+use Rattle.flat_base.specs.declared.ids.Actor.TheVariants.{Display, Session, Probe}
+use Rattle.flat_scene.specs.declared.script.Body.{Body}
 use Rattle.flat_scene.specs.declared.script.ScriptLine.{ScriptLine}
 use Rattle.flat_text.specs.Pieces.{words_of, lines_of}
 use Rattle.flat_script.specs.declared.script.Script.{Script}
@@ -13,13 +16,13 @@ use Rattle.flat_script.specs.declared.script.Part.TheVariants as part
 use Rattle.flat_script.specs.Known.{known_words}
 use Rattle.flat_script.specs.Forms.{Word, Reading, mapped, whole, give}
 use Rattle.flat_script.specs.Head.{empty, has_display, first_line, head_line, run_line, is_ready, version}
-use Rattle.flat_script.specs.Body.{body_line, is_open, with_line}
+use Rattle.flat_script.specs.Body.{actor_line, body_line, is_open, with_line}
 use Rattle.flat_script.specs.Grammar.{Sofar, is_plain, is_skipped, words_read, line_read, lines_read, IsScript}
-use Rattle.flat_script.specs.Print.{numbered, name_words, display_line_words, buffers_line_words, pair_line_words, fence_line_words, spelled, fed, line_words, body_words, without_number, text_of, script_words, head_words, unnumbered, IsReadBack}
+use Rattle.flat_script.specs.Print.{numbered, name_words, display_line_words, buffers_line_words, pair_line_words, fence_line_words, spelled, fed, actor_word, line_words, body_words, without_number, text_of, script_words, head_words, unnumbered, IsReadBack}
 use Rattle.flat_script.proofs.FormLemmas.{mapped_ok, whole_ok, unless_ok, place_ok}
-use Rattle.flat_script.proofs.TextLemmas.{IsLine, AllLines, line_words_of, spelled-words_of, lines_of_fed, AllLines-append, room_of, length-fed, room_of-append, lines_room, lines_room-lines_of}
+use Rattle.flat_script.proofs.TextLemmas.{IsLine, AllLines, line_words_of, line_front, front_fits, spelled-words_of, lines_of_fed, AllLines-append, room_of, length-fed, room_of-append, lines_room, lines_room-lines_of}
 use Rattle.flat_script.proofs.AgainLemmas.{with_lines, SameLines, times_same, dones_same, Again, body_again}
-use Rattle.flat_script.proofs.BodyWordLemmas.{actor_spelt, body_spelt}
+use Rattle.flat_script.proofs.BodyWordLemmas.{actor_spelt, body_shown}
 use Rattle.flat_script.proofs.StepLemmas.{Step, step_read, size_step, session_step, buffers_step, pair_step, fence_step}
 use Rattle.flat_script.proofs.FoundLemmas.{step_found}
 use Rattle.flat_script.proofs.OrderLemmas.{Chain, Ordered, ordered_empty, insert, lines_kept}
@@ -100,26 +103,53 @@ lines_more : (us ms : List ScriptLine) (x y : ScriptLine) → SameLines us ms �
 lines_more us ms x y same e =
     record { same = map-append without_number us (x ∷ []) ∙ ap (λ l. l ++ without_number x ∷ []) same.same ∙ ap (λ l. map without_number ms ++ l ∷ []) e ∙ sym (map-append without_number ms (y ∷ [])) }
 
+-- the canonical words of a line that was read: they are read alike, and stand at its front
+record Canonical (h : Script) (us ms : List ScriptLine) (n m : ℕ) (ws : List Word) (actor : Actor) (body : Body) : Type 0 where
+  pub good : IsLine (line_words h (record { number = n; actor = actor; body = body }))
+  pub fits : length (spelled (line_words h (record { number = n; actor = actor; body = body }))) ≤ length (spelled ws)
+  pub read : body_line known_words (with_lines h ms) m (line_words h (record { number = n; actor = actor; body = body })) ≡ Ok (with_line (with_lines h ms) m actor body)
+
+some_words : (s : Script) (a : Actor) (ws : List Word) (b : Body) → actor_line known_words s a ws ≡ Ok b → (v : Word) × (more : List Word) × (ws ≡ v ∷ more)
+some_words s a (v ∷ more) b is = (v, more, refl)
+some_words s Display [] b is = absurd (cc)
+some_words s (Session t) [] b is = absurd (cc)
+some_words s (Probe p) [] b is = absurd (cc)
+
+canonical : (h : Script) (us ms : List ScriptLine) (n m : ℕ) (ws : List Word) (u : Script) → IsLine ws → (a : Again h us ms n m ws u) → Canonical h us ms n m ws a.actor a.body
+canonical h us ms n m ws u good a =
+    let shown = body_shown (with_lines h us) a.actor a.rest a.body a.line in
+    let spelt : List Word = body_words h a.body in
+    let name : actor_word h a.actor ≡ a.first = actor_spelt h a.first a.actor a.named in
+    let some = some_words (with_lines h us) a.actor spelt a.body shown.again in
+    let line : ws ≡ a.first ∷ (some.0 ∷ some.1 ++ shown.behind) = a.begins ∙ ap (λ t. a.first ∷ t) (shown.begins ∙ ap (λ t. t ++ shown.behind) some.2) in
+    let same : actor_word h a.actor ∷ spelt ≡ a.first ∷ some.0 ∷ some.1 = ap (λ w. w ∷ spelt) name ∙ ap (λ t. a.first ∷ t) some.2 in
+    let P : List Word → Type 0 = IsLine in
+    record {
+      good = subst P (sym same) (line_front a.first some.0 some.1 shown.behind (subst P line good));
+      fits = (let short = front_fits a.first (some.0 ∷ some.1) shown.behind in let e = ap (λ t. length (spelled t)) line in let f = ap (λ t. length (spelled t)) same in omega arith);
+      read = ap (λ w. body_line known_words (with_lines h ms) m (w ∷ spelt)) name ∙ a.again spelt shown.again;
+    }
+
 one_line : (h : Script) (us ms : List ScriptLine) (n m : ℕ) (ls : List (List ℕ)) (l : List ℕ) (s u : Script) (good : IsLine (words_of l)) → (a : Again h us ms n m (words_of l) u)
     → BodyRun h (us ++ record { number = n; actor = a.actor; body = a.body } ∷ []) (ms ++ record { number = m; actor = a.actor; body = a.body } ∷ []) (m + 1) ls s → BodyRun h us ms m (l ∷ ls) s
 one_line h us ms n m ls l s u good a run =
-    let ws = words_of l in
     let x : ScriptLine = record { number = n; actor = a.actor; body = a.body } in
-    let spelt : line_words h x ≡ ws = ap (λ w. w ∷ body_words (with_lines h us) a.body) (actor_spelt h a.first a.actor a.named) ∙ ap (λ r. a.first ∷ r) (body_spelt (with_lines h us) a.actor a.rest a.body a.line) ∙ sym a.begins in
+    let ws = line_words h x in
+    let c = canonical h us ms n m (words_of l) u good a in
     let here : line_read known_words m (part.Body, with_lines h ms) (spelled ws) ≡ Ok (part.Body, with_line (with_lines h ms) m a.actor a.body) =
-    spelled_read m (part.Body, with_lines h ms) ws good ∙ ap (mapped (λ t. (part.Body, t))) a.again in
+    spelled_read m (part.Body, with_lines h ms) ws c.good ∙ ap (mapped (λ t. (part.Body, t))) c.read in
     let size = spelled-words_of l in
     record {
       more = ws ∷ run.more;
       us' = run.us';
       ms' = run.ms';
       count = run.count;
-      all = (good, run.all);
-      room = (let r = run.room in let e : length (spelled ws) ≡ length l = ap length size in omega arith);
+      all = (c.good, run.all);
+      room = (let r = run.room in let f = c.fits in let e : length (spelled (words_of l)) ≡ length l = ap length size in omega arith);
       same = run.same;
       from = run.from;
       made = run.made;
-      words = run.words ∙ ap (λ t. t ++ run.more) (map-append (line_words h) us (x ∷ [])) ∙ append_assoc (map (line_words h) us) (line_words h x ∷ []) run.more ∙ ap (λ w. map (line_words h) us ++ (w ∷ run.more)) spelt;
+      words = run.words ∙ ap (λ t. t ++ run.more) (map-append (line_words h) us (x ∷ [])) ∙ append_assoc (map (line_words h) us) (ws ∷ []) run.more;
       read = goes_on m (part.Body, with_lines h ms) (part.Body, with_line (with_lines h ms) m a.actor a.body) (spelled ws) (map spelled run.more) here ∙ run.read;
     }
 

@@ -23,7 +23,7 @@ use Rattle.flat_script.specs.declared.script.Script.{Script}
 use Rattle.flat_script.specs.Known.{knows}
 use Rattle.flat_script.specs.Forms.{Word, Reading, Form, both, unless_kind, give, place, whole, one_or_more, named, mapped, ◌<$>◌, ◌<*>◌}
 use Rattle.flat_script.specs.Names.{actor_named, is_actor}
-use Rattle.flat_script.specs.Places.{i32, u32, time, content, session, fence, fence_word}
+use Rattle.flat_script.specs.Places.{u32, time, content, point, session, fence, fence_word}
 use Rattle.flat_script.specs.Calls.{call_named, call_form}
 
 -- Present
@@ -67,13 +67,17 @@ display_condition known s = named known 6 (
 
 -- sessions
 
+-- a get of a viewport
+abbrev pub child_asked : Form Line
+child_asked = (λ c. line.Get (watch.Child c)) <$> content
+
 -- a line of a session that is no call
 abbrev pub other_line : List Word → Script → SessionNo → List Word → Reading Line
 other_line known s a = named known 6 (
     (codes "Present", whole (line.Present <$> present known s a)) ∷
     (codes "GetLayout", whole (give (line.Get watch.Layout))) ∷
     (codes "GetStatus", whole (give (line.Get watch.Status))) ∷
-    (codes "GetChildStatus", whole ((λ c. line.Get (watch.Child c)) <$> content)) ∷
+    (codes "GetChildStatus", whole child_asked) ∷
     (codes "Signal", whole (line.Signal <$> fence s (Session a))) ∷
     (codes "Poll", whole (give line.Poll)) ∷
     (codes "Wait", (λ rest. mapped line.Wait (session_condition known s a rest))) ∷
@@ -136,14 +140,14 @@ display_line known s = named known 6 (
     (codes "done", (λ rest. unless_kind 12 (is_open s) (whole (give display.Done) rest))) ∷
     (codes "Signal", whole (display.Signal <$> fence s Display)) ∷
     (codes "Wait", (λ rest. mapped display.Wait (display_condition known s rest))) ∷
-    (codes "hit", whole ((λ x y. display.Hit x y) <$> i32 <*> i32)) ∷ [])
+    (codes "hit", whole (point (λ x y. display.Hit x y))) ∷ [])
 
 -- probes
 
 -- a line of a probe
 abbrev pub probe_line : List Word → List Word → Reading ProbeLine
 probe_line known = named known 6 (
-    (codes "hit", whole ((λ x y. probe.Hit x y) <$> i32 <*> i32)) ∷ (codes "await", whole (probe.Await <$> u32)) ∷ [])
+    (codes "hit", whole (point (λ x y. probe.Hit x y))) ∷ (codes "await", whole (probe.Await <$> u32)) ∷ [])
 
 -- all actors
 

@@ -24,6 +24,9 @@ known_words =
     codes "AddChild" ∷
     codes "RemoveChild" ∷
     codes "SetRootTransform" ∷
+    codes "CreateViewport" ∷
+    codes "SetViewportProperties" ∷
+    codes "ReleaseViewport" ∷
     codes "CreateImage" ∷
     codes "SetImageSampleRegion" ∷
     codes "SetImageDestinationSize" ∷
@@ -41,16 +44,21 @@ known_words =
     codes "Present" ∷
     codes "acquire" ∷
     codes "release" ∷
+    codes "GetLayout" ∷
+    codes "GetStatus" ∷
+    codes "GetChildStatus" ∷
     codes "Signal" ∷
     codes "Poll" ∷
     codes "Wait" ∷
     codes "frames" ∷
     codes "credits" ∷
     codes "taken" ∷
+    codes "answers" ∷
     codes "presents" ∷
     codes "Disconnect" ∷
     codes "begin" ∷
-    codes "done" ∷ []
+    codes "done" ∷
+    codes "hit" ∷ []
 
 -- the word is one of them
 abbrev pub knows : List (List ℕ) → List ℕ → Bool

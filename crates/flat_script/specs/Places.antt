@@ -69,6 +69,10 @@ content = (λ n. record { 0 = n }) <$> number_below (2 ^ 64)
 abbrev pub int_rect : Form IntRect
 int_rect = (λ x y w h. record { x = x; y = y; w = w; h = h }) <$> i32 <*> i32 <*> i32 <*> i32
 
+-- what is made of x and y
+abbrev pub point : {A : Type 0} → (ℤ → ℤ → A) → Form A
+point make = make <$> i32 <*> i32
+
 -- top, right, bottom and left
 abbrev pub inset : Form Inset
 inset = (λ t r b l. record { top = t; right = r; bottom = b; left = l }) <$> side <*> side <*> side <*> side

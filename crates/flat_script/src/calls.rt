@@ -38,8 +38,8 @@ pub enum CallName {
     Clear,
 }
 
-// The calls that scripts may use so far.
-const KNOWN: [CallName; 26] = [
+// All calls.
+const CALLS: [CallName; 29] = [
     CallName::CreateView,
     CallName::ReleaseView,
     CallName::CreateTransform,
@@ -52,6 +52,9 @@ const KNOWN: [CallName; 26] = [
     CallName::AddChild,
     CallName::RemoveChild,
     CallName::SetRootTransform,
+    CallName::CreateViewport,
+    CallName::SetViewportProperties,
+    CallName::ReleaseViewport,
     CallName::CreateImage,
     CallName::SetImageSampleRegion,
     CallName::SetImageDestinationSize,
@@ -107,11 +110,11 @@ impl CallName {
     }
 }
 
-/// The call that the word names, where scripts may use it so far.
+/// The call that the word names.
 pub fn call_named(word: &[u8]) -> Option<CallName>
     ensures { result ≡ call_named known_words word.now }
 {
-    KNOWN
+    CALLS
         .iter()
         .copied()
         .find(|name| is_word(word, name.text()))

@@ -44,6 +44,12 @@ pub fn session_condition(
             Err(k) => Err(k),
         };
     }
+    if is_word(word, "answers") {
+        return match count(rest) {
+            Ok(n) => Ok(Cond::Answers(n)),
+            Err(k) => Err(k),
+        };
+    }
     if is_word(word, "fence") {
         return match owned_fence(script, Actor::Session(session), rest) {
             Ok(f) => Ok(Cond::Fence(f)),

@@ -6,13 +6,15 @@ ghost use Rattle.flat_script.specs.Forms.{whole, give, unless_kind, mapped};
 ghost use Rattle.flat_script.specs.Names.{is_name, is_declared};
 ghost use Rattle.flat_script.specs.Head as head;
 ghost use Rattle.flat_script.specs.Head.{size, buffers, pair, new_name, has_display_pair, run_line, first_line};
-ghost use Rattle.flat_script.specs.Body.{session_line, other_line, begin_place, begin_times, dones, greatest, present, display_line};
+ghost use Rattle.flat_script.specs.Body.{session_line, other_line, child_asked, begin_place, begin_times, dones, greatest, present, display_line, probe_line};
 ghost use Rattle.flat_script.specs.Index.{IsIndexed};
-ghost use Rattle.flat_script.specs.Places.{fence};
+ghost use Rattle.flat_script.specs.Places.{fence, point};
 ghost use Rattle.flat_script.specs.Reads.{Reaches, ReachesBy};
 ghost use Rattle.flat_script.specs.declared.script.Script.{Script};
 ghost use Rattle.flat_base.specs.declared.ids.SessionNo.{SessionNo};
 ghost use Rattle.flat_scene.specs.declared.script.DisplayLine.TheVariants.{Done};
+ghost use Rattle.flat_scene.specs.declared.script.DisplayLine.TheVariants as display;
+ghost use Rattle.flat_scene.specs.declared.script.ProbeLine.TheVariants as probe;
 
 use crate::call_forms::call;
 use crate::calls::call_named;
@@ -21,7 +23,9 @@ use crate::names::{Indexed, is_word};
 use crate::places::Places;
 use crate::script::LineError;
 use flat_base::{Actor, FenceNo, SessionNo};
-use flat_scene::{BufferDecl, DisplayLine, FenceDecl, Line, PairDecl, PresentArgs};
+use flat_scene::{
+    BufferDecl, DisplayLine, FenceDecl, Line, PairDecl, PresentArgs, ProbeLine, Watch,
+};
 use flat_text::next_piece;
 use std::alloc::Global;
 
@@ -189,6 +193,15 @@ fn private_line(
     requires { IsIndexed script.now }
     ensures { bytes_eq word.now (codes "Present") ≡ false → result ≡ other_line known_words script.now.script session (word.now ∷ pieces_left is_space words.entry) }
 {
+    if is_word(word, "GetLayout") {
+        return alone(Line::Get(Watch::Layout), words);
+    }
+    if is_word(word, "GetStatus") {
+        return alone(Line::Get(Watch::Status), words);
+    }
+    if is_word(word, "GetChildStatus") {
+        return get_child(words);
+    }
     if is_word(word, "Signal") {
         return match owned_fence(script, Actor::Session(session), words) {
             Ok(f) => Ok(Line::Signal(f)),
@@ -236,6 +249,15 @@ fn alone(line: Line, words: Option<&[u8]>) -> Result<Line, u32>
 {
     let places = Places::new(words);
     places.finish(line)
+}
+
+/// A get of a viewport.
+fn get_child(words: Option<&[u8]>) -> Result<Line, u32>
+    ensures { result ≡ whole child_asked (pieces_left is_space words.entry) }
+{
+    let mut places = Places::new(words);
+    let c = places.content();
+    places.finish(Line::Get(Watch::Child(c)))
 }
 
 /// A fence of the actor, and nothing behind it.
@@ -324,5 +346,42 @@ fn timeless_line(script: &Indexed, word: &[u8], words: Option<&[u8]>) -> Result<
             Err(k) => Err(k),
         };
     }
+    if is_word(word, "hit") {
+        return hit(words);
+    }
     Err(6)
+}
+
+/// What a line of a probe writes.
+pub fn probe_line(words: Option<&[u8]>) -> Result<ProbeLine, u32>
+    ensures { result ≡ probe_line known_words (pieces_left is_space words.entry) }
+{
+    let Some(words) = words else {
+        return Err(6);
+    };
+    let (word, rest) = next_piece(words, b' ');
+    if is_word(word, "hit") {
+        return probe_hit(rest);
+    }
+    Err(6)
+}
+
+/// A question of the display, who is hit at a point.
+fn hit(words: Option<&[u8]>) -> Result<DisplayLine, u32>
+    ensures { result ≡ whole (point (λ x y. display.Hit x y)) (pieces_left is_space words.entry) }
+{
+    let mut places = Places::new(words);
+    let x = places.i32();
+    let y = places.i32();
+    places.finish(DisplayLine::Hit(x, y))
+}
+
+/// The same question of a probe.
+fn probe_hit(words: Option<&[u8]>) -> Result<ProbeLine, u32>
+    ensures { result ≡ whole (point (λ x y. probe.Hit x y)) (pieces_left is_space words.entry) }
+{
+    let mut places = Places::new(words);
+    let x = places.i32();
+    let y = places.i32();
+    places.finish(ProbeLine::Hit(x, y))
 }

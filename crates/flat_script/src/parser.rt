@@ -175,8 +175,10 @@ impl Parser {
                 Ok(found) => Ok(Body::Session(found)),
                 Err(e) => Err(e),
             },
-            // No line of a probe is known yet.
-            Actor::Probe(_) => Err(LineError::Kind(6)),
+            Actor::Probe(_) => match forms::probe_line(words) {
+                Ok(found) => Ok(Body::Probe(found)),
+                Err(k) => Err(LineError::Kind(k)),
+            },
         }
     }
 

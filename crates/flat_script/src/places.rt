@@ -381,7 +381,7 @@ impl<'a> Places<'a> {
             return PairNo(0);
         };
         match script.script.setup.pairs.as_slice().get(i as usize) {
-            Some(pair) if is_session(pair.viewport, owner) => PairNo(i),
+            Some(pair) if is_actor(Actor::Session(owner), pair.viewport) => PairNo(i),
             _ => {
                 self.note(10);
                 PairNo(0)
@@ -562,15 +562,6 @@ fn is_actor(a: Actor, b: Actor) -> bool
         (Actor::Display, Actor::Display) => true,
         (Actor::Session(s), Actor::Session(t)) => s == t,
         (Actor::Probe(p), Actor::Probe(q)) => p == q,
-        _ => false,
-    }
-}
-
-fn is_session(actor: Actor, session: SessionNo) -> bool
-    ensures { result ≡ is_actor (Session session) actor }
-{
-    match actor {
-        Actor::Session(s) => s == session,
         _ => false,
     }
 }
