@@ -1,10 +1,12 @@
 -- What the display reads and shows, after one more line of the script.
-use Rattle.std.proofs.Common.{◌≡◌, ℕ, suc, ◌+◌, Bool, true, false, cond, ◌&&◌, not, nat_lt, nat_le, List, [], ◌∷◌, ◌++◌, filter, take, drop, refl, sym, ap, ◌∙◌, subst, arith, append-nil}
+use Rattle.std.proofs.Common.{◌≡◌, ℕ, ℤ, suc, ◌+◌, Bool, true, false, cond, ◌&&◌, not, nat_lt, nat_le, List, [], ◌∷◌, ◌++◌, filter, take, drop, refl, sym, ap, ◌∙◌, subst, arith, append-nil}
 use Rattle.std.proofs.lemmas.Grind.{common_steps}
 use Rattle.flat_base.specs.declared.ids.Actor.TheVariants.{Display}
 use Rattle.flat_base.specs.declared.ids.FenceNo.{FenceNo}
 use Rattle.flat_base.specs.declared.ids.SessionNo.{SessionNo}
+use Rattle.flat_base.specs.declared.ids.FrameNo.{FrameNo}
 use Rattle.flat_scene.specs.declared.frames.FrameOut.{FrameOut}
+use Rattle.flat_scene.specs.declared.frames.Hit as point
 use Rattle.flat_scene.specs.declared.frames.SessionSet.{SessionSet}
 use Rattle.flat_scene.specs.declared.journal.Entry.{Entry}
 use Rattle.flat_scene.specs.declared.journal.Kind.{Kind}
@@ -24,15 +26,21 @@ use Rattle.flat_scene.specs.History.{◌▹◌, is_display, is_begin, is_finish,
 use Rattle.flat_scene.specs.Interleave.{display_lines, display_line, by_display, unread_lines, entry_of_display, FollowsDisplay}
 use Rattle.flat_scene.specs.Setups.{is_declared}
 use Rattle.flat_core.specs.Boards.{Machine, MayCall, HasShare, entry_of}
-use Rattle.flat_core.specs.Ends.{to_begin, has_view}
+use Rattle.flat_core.specs.Ends.{to_begin, to_finished, has_view}
 use Rattle.flat_core.specs.Legal.{is_frame_open, begin_time, frames, is_fence, names_declared, display_may}
 use Rattle.flat_core.specs.Shown.{shown_states}
+use Rattle.flat_topology.specs.declared.Joined.{Joined}
+use Rattle.flat_topology.specs.Connected.{joined_lists}
+use Rattle.flat_topology.specs.Hits.{hits_among}
 use Rattle.flat_topology.specs.Shown.{Shown}
 use Rattle.flat_topology.specs.Views.{is_member}
-use Rattle.flat_report.specs.Report.{finished, frame_at}
+use Rattle.flat_report.specs.declared.report.HitAnswer.{HitAnswer}
+use Rattle.flat_report.specs.Handed.{answer_to, answers_of}
+use Rattle.flat_report.specs.Report.{finished, frame_at, hits_at}
 use Rattle.flat_script.specs.declared.script.Script.{Script}
 use Rattle.flat_playable.specs.Playable.{frames_close, keeps_frames, is_played_display}
-use Rattle.flat_run.specs.Playing.{DisplayStands, FramesStand, IsSpent, lines_by, rest_shares, is_quiet, is_question}
+use Rattle.flat_run.specs.Playing.{DisplayStands, FramesStand, IsSpent, lines_by, rest_shares, is_quiet, AnswersStand}
+use Rattle.flat_run.specs.declared.game.LastFrame.{LastFrame}
 use Rattle.flat_run.proofs.Displayed.{display_more}
 use Rattle.flat_run.proofs.Steps.{At}
 use Rattle.flat_run.proofs.Conditions.{and_left, and_right}
@@ -52,9 +60,9 @@ pub quiet_end : (kind : Kind) → is_quiet kind ≡ true → is_end kind ≡ fal
 quiet_end (End n) quiet = absurd (cc)
 quiet_end _ quiet = refl
 
-pub quiet_question : (kind : Kind) → is_quiet kind ≡ true → is_question kind ≡ false
-quiet_question (Hit x y) quiet = absurd (cc)
-quiet_question _ quiet = refl
+pub quiet_answers : (entry : Entry) (n : ℕ) (hits : ℤ → ℤ → List point.Hit) (kind : Kind) → is_quiet kind ≡ true → answer_to entry n hits kind ≡ []
+quiet_answers entry n hits (Hit x y) quiet = absurd (cc)
+quiet_answers entry n hits _ quiet = refl
 
 -- A history stays, or has one quiet entry more, which isn't the display's.
 pub data QuietStep (old new : List Entry) : Type 0 where
@@ -140,14 +148,14 @@ module _ (script : Script) (place : ℕ) (x : ScriptLine) (at : At script place 
       }
 
   -- a line that begins no frame and ends none
-  pub display_beside : (text : DisplayLine) (kind : Kind) (reply : Reply) → x.body ≡ body.Display text → entry_of_display text ≡ kind → is_quiet kind ≡ true
+  pub display_beside : (text : DisplayLine) (kind : Kind) (reply : Reply) → x.body ≡ body.Display text → entry_of_display text ≡ kind → is_begin kind ≡ false → is_finish kind ≡ false
       → ((o : Bool) (t : ℕ) (follows : Bool → ℕ → Bool) → keeps_frames o t (body.Display text) follows ≡ follows o t)
       → (old : List Entry) → DisplayStands script place old → DisplayStands script (place + 1) (old ▹ entry_of Display x.number [] kind reply)
-  display_beside text kind reply is makes quiet keeps old stands =
+  display_beside text kind reply is makes no_begin no_finish keeps old stands =
       let e : Entry = entry_of Display x.number [] kind reply in
       let rest : List ScriptLine = drop (place + 1) script.lines in
-      let is_open : is_frame_open (old ▹ e) ≡ is_frame_open old = rw (quiet_begin kind quiet, quiet_finish kind quiet) refl in
-      let time : begin_time (old ▹ e) ≡ begin_time old = rw (quiet_begin kind quiet) refl in
+      let is_open : is_frame_open (old ▹ e) ≡ is_frame_open old = rw (no_begin, no_finish) refl in
+      let time : begin_time (old ▹ e) ≡ begin_time old = rw no_begin refl in
       record {
         follows = display_more (display_lines script.lines) (by_display old) e x.number text (display_lines rest) stands.follows (stands.left ∙ next_is text is) (record { line = refl; carried = refl; kind = sym makes });
         left = later_is (by_display old) e refl;
@@ -204,11 +212,11 @@ may_wait_for m (asks.Answers n) share played = absurd (cc)
 
 module _ (setup : Setup) (old : List Entry) (shown : Shown) (views : SessionSet) (done : List FrameOut) (stands : FramesStand setup old shown views done) where
   -- an entry that begins no frame and ends none
-  pub frames_beside : (e : Entry) → is_quiet e.kind ≡ true → FramesStand setup (old ▹ e) shown views done
-  frames_beside e quiet =
-      let begun : to_begin (old ▹ e) ≡ to_begin old = rw (quiet_begin e.kind quiet) refl in
+  pub frames_beside : (e : Entry) → is_begin e.kind ≡ false → is_finish e.kind ≡ false → FramesStand setup (old ▹ e) shown views done
+  frames_beside e no_begin no_finish =
+      let begun : to_begin (old ▹ e) ≡ to_begin old = rw no_begin refl in
       let same_frames : finished setup (old ▹ e) ≡ finished setup old =
-      ap (λ b. finished setup old ++ cond b (frame_at setup (suc (frames old)) (to_begin old) ∷ []) []) (quiet_finish e.kind quiet) ∙ append-nil (finished setup old) in
+      ap (λ b. finished setup old ++ cond b (frame_at setup (suc (frames old)) (to_begin old) ∷ []) []) no_finish ∙ append-nil (finished setup old) in
       record {
         showing = stands.showing ∙ ap (shown_states setup) (sym begun);
         viewing = λ s declared. stands.viewing s declared ∙ ap (λ h. has_view setup h s) (sym begun);
@@ -217,7 +225,7 @@ module _ (setup : Setup) (old : List Entry) (shown : Shown) (views : SessionSet)
 
   pub frames_session : (new : List Entry) → QuietStep old new → FramesStand setup new shown views done
   frames_session new (same now) = let P : List Entry → Type 0 = λ h. FramesStand setup h shown views done in subst P (sym now) stands
-  frames_session new (more e other quiet now) = let P : List Entry → Type 0 = λ h. FramesStand setup h shown views done in subst P (sym now) (frames_beside e quiet)
+  frames_session new (more e other quiet now) = let P : List Entry → Type 0 = λ h. FramesStand setup h shown views done in subst P (sym now) (frames_beside e (quiet_begin e.kind quiet) (quiet_finish e.kind quiet))
 
   pub frames_begin : (n time : ℕ) (new_shown : Shown) (new_views : SessionSet)
       → new_shown ≡ shown_states setup (old ▹ entry_of Display n [] (Begin time) Done)
@@ -236,3 +244,52 @@ module _ (setup : Setup) (old : List Entry) (shown : Shown) (views : SessionSet)
     viewing = stands.viewing;
     finishing = all_is ∙ ap (λ f. done ++ f ∷ []) frame_is ∙ ap (λ fs. fs ++ frame_at setup (suc (frames old)) (to_begin old) ∷ []) stands.finishing;
   }
+
+-- ---- answers
+
+module _ (setup : Setup) (old : List Entry) (last : LastFrame) (answers : List HitAnswer) (stands : AnswersStand setup old last answers) where
+  -- an entry that ends no frame and asks for no point
+  pub answers_beside : (e : Entry) → is_finish e.kind ≡ false → answer_to e (frames old) (hits_at setup (to_finished old)) e.kind ≡ [] → AnswersStand setup (old ▹ e) last answers
+  answers_beside e no_finish none =
+      let ended : to_finished (old ▹ e) ≡ to_finished old = rw no_finish refl in
+      let as_many : frames (old ▹ e) ≡ frames old = rw no_finish refl in
+      record {
+        number = stands.number ∙ sym as_many;
+        joining = stands.joining ∙ ap (λ (h : List Entry). joined_lists setup (shown_states setup h)) (sym ended);
+        answering = stands.answering ∙ sym (append-nil (answers_of setup old)) ∙ ap (λ (more : List HitAnswer). answers_of setup old ++ more) (sym none);
+      }
+
+  pub answers_session : (new : List Entry) → QuietStep old new → AnswersStand setup new last answers
+  answers_session new (same now) = let P : List Entry → Type 0 = λ h. AnswersStand setup h last answers in subst P (sym now) stands
+  answers_session new (more e other quiet now) =
+      let P : List Entry → Type 0 = λ h. AnswersStand setup h last answers in
+      subst P (sym now) (answers_beside e (quiet_finish e.kind quiet) (quiet_answers e (frames old) (hits_at setup (to_finished old)) e.kind quiet))
+
+  -- the end of a frame
+  pub answers_done : (n : ℕ) (then : LastFrame) → then.frame.0 ≡ suc (frames old) → then.joined ≡ joined_lists setup (shown_states setup (to_begin old)) → AnswersStand setup (old ▹ entry_of Display n [] Finish Done) then answers
+  answers_done n then number joined = record {
+    number = number;
+    joining = joined;
+    answering = stands.answering ∙ sym (append-nil (answers_of setup old));
+  }
+
+  -- a point
+  pub answers_point : (n : ℕ) (x y : ℤ) (all : List HitAnswer) → all ≡ answers ++ (record { actor = Display; line = n; frame = last.frame; hits = hits_among last.joined.nodes x y }) ∷ []
+      → AnswersStand setup (old ▹ entry_of Display n [] (Hit x y) Done) last all
+  answers_point n x y all is =
+      let hits : hits_among last.joined.nodes x y ≡ hits_at setup (to_finished old) x y = ap (λ (j : Joined). hits_among j.nodes x y) stands.joining in
+      let one : FrameNo → List point.Hit → List HitAnswer = λ f hs. (record { actor = Display; line = n; frame = f; hits = hs }) ∷ [] in
+      let number : last.frame ≡ record { 0 = frames old } = ap (λ (k : ℕ). let f : FrameNo = record { 0 = k } in f) stands.number in
+      record {
+        number = stands.number;
+        joining = stands.joining;
+        answering = is ∙ ap (λ (as : List HitAnswer). as ++ one last.frame (hits_among last.joined.nodes x y)) stands.answering
+            ∙ ap (λ (f : FrameNo). answers_of setup old ++ one f (hits_among last.joined.nodes x y)) number ∙ ap (λ (hs : List point.Hit). answers_of setup old ++ one (record { 0 = frames old }) hs) hits;
+      }
+
+pub may_hit : (m : Machine) (x y : ℤ) → HasShare m Display → MayCall m Display [] (Hit x y)
+may_hit m x y share = record {
+  may = record { acts = refl; lasts = refl; times = refl; drafted = refl; calls = refl; links = refl; owned = refl; named = refl; tree = refl; watcher = refl };
+  share = share;
+  plain = refl;
+}

@@ -24,12 +24,12 @@ use Rattle.flat_scene.specs.Setups.{is_declared}
 use Rattle.flat_core.specs.Boards.{Machine, HasShare, MayCall, entered, entry_of, made}
 use Rattle.flat_core.specs.Ends.{to_finished}
 use Rattle.flat_core.specs.Legal.{frames}
-use Rattle.flat_report.specs.Handed.{answers_of, answer_to}
+use Rattle.flat_report.specs.Handed.{answers_of}
 use Rattle.flat_report.specs.Report.{finished, hits_at}
 use Rattle.flat_script.specs.declared.script.Script.{Script}
 use Rattle.flat_run.specs.declared.game.Game.{Game}
 use Rattle.flat_run.specs.declared.player.Player.{Player}
-use Rattle.flat_run.specs.Playing.{lines_by, lines_left, is_question, IsOpenAt, IsClosedAt, PlayerStands, DisplayStands, GameStands, HasEnds, EndsStand, HasPlayed}
+use Rattle.flat_run.specs.Playing.{lines_by, lines_left, IsOpenAt, IsClosedAt, PlayerStands, DisplayStands, GameStands, HasEnds, EndsStand, HasPlayed}
 use Rattle.flat_run.proofs.Entering.{IsWaiting, may_end, may_end_closed}
 use Rattle.flat_run.proofs.GameSteps.{has_room, not_same}
 use Rattle.flat_run.proofs.Starting.{sessions_more}
@@ -60,7 +60,7 @@ ends_first script game stands = record {
   };
   unspent = λ k from. let spent = stands.spent.spent (k + 1) in omega arith;
   finishing = stands.shows.finishing;
-  unasked = stands.order.unasked;
+  answering = stands.answers.answering;
 }
 
 -- ---- one session ends
@@ -189,8 +189,8 @@ module _ (script : Script) (before : ℕ) (within : before < script.setup.sessio
         omega (arith, more, none, was)
 
     pub ends_more : (new : Game) (changed : Player) → new.board ≡ entered old.board (Session s) (script.count + 1) player.pending (End player.refused) Done
-        → new.players.items ≡ set old.players.items before changed → new.frames.items ≡ old.frames.items → EndsStand script (before + 1) new
-    ends_more new changed board players same_frames =
+        → new.players.items ≡ set old.players.items before changed → new.frames.items ≡ old.frames.items → new.answers ≡ old.answers → EndsStand script (before + 1) new
+    ends_more new changed board players same_frames same_answers =
         let h : List Entry = old.board.history in
         let grown : (h ▹ last) ≡ new.board.history = sym (ap (λ (m : Machine). m.history) board) in
         let still : List Player = set old.players.items before changed in
@@ -201,7 +201,7 @@ module _ (script : Script) (before : ℕ) (within : before < script.setup.sessio
         let D : List Entry → Type 0 = DisplayStands script (length script.lines) in
         let E : List Entry → Type 0 = HasEnds (before + 1) in
         let U : List Entry → Type 0 = λ es. (k : ℕ) → before + 1 ≤ k → made (k + 1) es ≤ lines_by (k + 1) script.lines in
-        let Q : List Entry → Type 0 = λ es. list_any (λ entry. is_question entry.kind) es ≡ false in
+        let Q : List Entry → Type 0 = λ es. new.answers ≡ answers_of script.setup es in
         let F : List Entry → Type 0 = λ es. new.frames.items ≡ finished script.setup es in
         let waiting : W still (h ▹ last) = (λ k d from inside.
         let other : k ≢ before = (λ same. omega arith) in
@@ -217,7 +217,7 @@ module _ (script : Script) (before : ℕ) (within : before < script.setup.sessio
           has_ends = subst E grown more_ends;
           unspent = subst U grown still_unspent;
           finishing = subst F grown (same_frames ∙ stands.finishing ∙ sym (append-nil (finished script.setup h)));
-          unasked = subst Q grown stands.unasked;
+          answering = subst Q grown (same_answers ∙ stands.answering ∙ sym (append-nil (answers_of script.setup h)));
         }
 
 -- ---- all sessions have ended
@@ -232,17 +232,7 @@ all_to P (suc n) each =
     let Q : ℕ → Type 0 = λ m. P (record { 0 = m }) in
     all_end P (sessions_to n) (record { 0 = suc n }) (all_to P n (λ k below. each k (omega arith))) (subst Q (add-one n) (each n (omega arith)))
 
-no_answer : (entry : Entry) (n : ℕ) (hits : ℤ → ℤ → List Hit) (asked : Kind) → is_question asked ≡ false → answer_to entry n hits asked ≡ []
-no_answer entry n hits (kind.Hit x y) none = absurd (cc)
-no_answer entry n hits _ none = refl
-
-no_answers : (setup : Setup) (history : List Entry) → list_any (λ entry. is_question entry.kind) history ≡ false → answers_of setup history ≡ []
-no_answers setup [] none = refl
-no_answers setup (before ▹ entry) none =
-    ap (λ answers. answers ++ answer_to entry (frames before) (hits_at setup (to_finished before)) entry.kind) (no_answers setup before (or_right (is_question entry.kind) _ none))
-    ∙ no_answer entry (frames before) (hits_at setup (to_finished before)) entry.kind (or_left (is_question entry.kind) _ none)
-
-pub has_played : (script : Script) (game : Game) → EndsStand script script.setup.sessions game → HasPlayed script game.board game.frames.items
+pub has_played : (script : Script) (game : Game) → EndsStand script script.setup.sessions game → HasPlayed script game.board game.frames.items game.answers
 has_played script game stands =
     let h : List Entry = game.board.history in
     let ends = stands.has_ends in
@@ -255,5 +245,5 @@ has_played script game stands =
       };
       written = record { rising = ends.rising; ends = ends.ends; parts = ends.parts; rise = ends.rise; no_end = ends.no_end; in_order = ends.in_order };
       finishing = stands.finishing;
-      unasked = no_answers script.setup h stands.unasked;
+      answering = stands.answering;
     }

@@ -11,7 +11,7 @@ use Rattle.flat_scene.specs.declared.frames.SessionSet.{SessionSet}
 use Rattle.flat_topology.specs.Shown.{Shown}
 use Rattle.flat_scene.specs.declared.journal.Entry.{Entry}
 use Rattle.flat_scene.specs.declared.journal.Kind.{Kind}
-use Rattle.flat_scene.specs.declared.journal.Kind.TheVariants.{Begin, Finish}
+use Rattle.flat_scene.specs.declared.journal.Kind.TheVariants.{Begin, Finish, Hit}
 use Rattle.flat_scene.specs.declared.journal.Reply.{Reply}
 use Rattle.flat_scene.specs.declared.journal.Reply.TheVariants.{Done}
 use Rattle.flat_scene.specs.declared.script.Body.{Body}
@@ -23,20 +23,21 @@ use Rattle.flat_scene.specs.declared.script.ScriptLine.{ScriptLine}
 use Rattle.flat_scene.specs.declared.setup.Setup.{Setup}
 use Rattle.flat_scene.specs.Frames.{sessions_to}
 use Rattle.flat_scene.specs.Interleave.{entry_of_display}
-use Rattle.flat_scene.specs.History.{◌▹◌, is_session}
+use Rattle.flat_scene.specs.History.{◌▹◌, is_begin, is_end, is_finish, is_session}
 use Rattle.flat_scene.specs.Setups.{is_declared}
-use Rattle.flat_core.specs.Boards.{Machine, HasShare, entry_of, made}
-use Rattle.flat_core.specs.Ends.{to_begin, has_view}
+use Rattle.flat_core.specs.Boards.{Machine, HasShare, entered, entry_of, made}
+use Rattle.flat_topology.specs.Connected.{joined_lists}
+use Rattle.flat_core.specs.Ends.{to_begin, to_finished, has_view}
 use Rattle.flat_topology.specs.Views.{is_member}
 use Rattle.flat_core.specs.Legal.{frames}
 use Rattle.flat_core.specs.Shown.{shown_states}
-use Rattle.flat_report.specs.Report.{frame_at}
+use Rattle.flat_report.specs.Report.{frame_at, hits_at}
 use Rattle.flat_script.specs.declared.script.Script.{Script}
 use Rattle.flat_run.specs.declared.game.Game.{Game}
 use Rattle.flat_run.specs.declared.player.Player.{Player}
 use Rattle.flat_playable.specs.Playable.{is_played, is_played_display, keeps_frames}
-use Rattle.flat_run.specs.Playing.{IsSpent, lines_by, shares_of, Grows, grows, stays, is_quiet, PlayerStands, PlayersStand, DisplayStands, FramesStand, GameStands, BeginsFrame, FinishesFrame, EntersBeside, HasViews, session_text, display_text}
-use Rattle.flat_run.proofs.DisplaySteps.{QuietStep, quiet_end, quiet_question, display_session, display_begin, display_done, display_beside, display_share, begin_time_ok, done_ok, may_begin, may_finish, frames_session, frames_beside, frames_begin, frames_done}
+use Rattle.flat_run.specs.Playing.{IsSpent, lines_by, shares_of, Grows, grows, stays, is_quiet, PlayerStands, PlayersStand, DisplayStands, FramesStand, GameStands, BeginsFrame, FinishesFrame, EntersBeside, AsksPoint, AnswersStand, HasViews, session_text, display_text}
+use Rattle.flat_run.proofs.DisplaySteps.{QuietStep, quiet_begin, quiet_finish, quiet_end, quiet_answers, answers_session, answers_beside, answers_done, answers_point, display_session, display_begin, display_done, display_beside, display_share, begin_time_ok, done_ok, may_begin, may_finish, frames_session, frames_beside, frames_begin, frames_done}
 use Rattle.flat_run.proofs.DisplaySteps as quiet
 use Rattle.flat_core.proofs.ShownFits.{length-sessions}
 use Rattle.flat_run.proofs.Steps.{At, Step, same, more, order_more, spent_more, player_other}
@@ -96,7 +97,7 @@ grown_is x s old new actor (grows carries kind reply calm is) =
     record {
       setup = ap (λ (m : Machine). m.setup) is;
       shares = ap (λ (m : Machine). m.shares) is;
-      step = more e (sym actor) refl (quiet_end kind calm) (quiet_question kind calm) (ap (λ (m : Machine). m.history) is);
+      step = more e (sym actor) refl (quiet_end kind calm) (ap (λ (m : Machine). m.history) is);
       calm = quiet.more e refl calm (ap (λ (m : Machine). m.history) is);
     }
 
@@ -144,8 +145,8 @@ module _ (script : Script) (place : ℕ) (x : ScriptLine) (at : At script place 
   -- a line of a session, which its player has played
   pub session_more : (old new : Game) (s : SessionNo) (text : Line) (player : Player) → x.actor ≡ Session s → x.body ≡ body.Session text → is_declared script.setup s ≡ true → GameStands script place old
       → new.players.items ≡ set old.players.items (s.0 - 1) player → PlayerStands script s (place + 1) new.board.history player → Grows old.board new.board (Session s) x.number
-      → new.shown ≡ old.shown → new.with_view ≡ old.with_view → new.frames.items ≡ old.frames.items → GameStands script (place + 1) new
-  session_more old new s text player actor is declared stands players_is mine grown shown_is views_is frames_are =
+      → new.shown ≡ old.shown → new.with_view ≡ old.with_view → new.frames.items ≡ old.frames.items → new.last ≡ old.last → new.answers ≡ old.answers → GameStands script (place + 1) new
+  session_more old new s text player actor is declared stands players_is mine grown shown_is views_is frames_are last_is answers_are =
       let g : Grown x old.board new.board = grown_is x s old.board new.board actor grown in
       let within = below_declared script.setup s declared in
       let inside : s.0 ≤ length old.players.items = let count = stands.players.count in let below = within.1 in omega arith in
@@ -161,6 +162,7 @@ module _ (script : Script) (place : ℕ) (x : ScriptLine) (at : At script place 
         spent = spent_more script place x at old.board.history new.board.history g.step stands.spent;
         views = subst V (sym views_is) stands.views;
         shows = rw (shown_is, views_is, frames_are) (frames_session script.setup old.board.history old.shown old.with_view old.frames.items stands.shows new.board.history g.calm);
+        answers = rw (last_is, answers_are) (answers_session script.setup old.board.history old.last old.answers stands.answers new.board.history g.calm);
       }
 
   -- a line that begins a frame
@@ -170,7 +172,7 @@ module _ (script : Script) (place : ℕ) (x : ScriptLine) (at : At script place 
       let h : List Entry = old.board.history in
       let grown : new.board.history ≡ (h ▹ e) = ap (λ (m : Machine). m.history) begins.board in
       let setup : new.board.setup ≡ script.setup = ap (λ (m : Machine). m.setup) begins.board ∙ stands.setup in
-      let step : Step x h new.board.history = more e (sym actor) refl refl refl grown in
+      let step : Step x h new.board.history = more e (sym actor) refl refl grown in
       let D : List Entry → Type 0 = DisplayStands script (place + 1) in
       let shown : new.shown ≡ shown_states script.setup (h ▹ e) = begins.shown ∙ ap (λ st. shown_states st new.board.history) setup ∙ ap (shown_states script.setup) grown in
       let W : Setup → Type 0 = λ st. HasViews st new.with_view in
@@ -190,6 +192,7 @@ module _ (script : Script) (place : ℕ) (x : ScriptLine) (at : At script place 
         views = subst W setup begins.views;
         shows = subst F (sym grown) (subst K (sym kept)
             (frames_begin script.setup h old.shown old.with_view old.frames.items stands.shows x.number time new.shown new.with_view shown (subst V2 grown (subst V1 setup begins.viewing))));
+        answers = rw (grown, begins.last, begins.answers) (answers_beside script.setup h old.last old.answers stands.answers e refl refl);
       }
 
   -- a line that ends one
@@ -198,7 +201,7 @@ module _ (script : Script) (place : ℕ) (x : ScriptLine) (at : At script place 
       let e : Entry = entry_of Display x.number [] Finish Done in
       let h : List Entry = old.board.history in
       let grown : new.board.history ≡ (h ▹ e) = ap (λ (m : Machine). m.history) finishes.board in
-      let step : Step x h new.board.history = more e (sym actor) refl refl refl grown in
+      let step : Step x h new.board.history = more e (sym actor) refl refl grown in
       let D : List Entry → Type 0 = DisplayStands script (place + 1) in
       let V : SessionSet → Type 0 = HasViews script.setup in
       let F : List Entry → Type 0 = λ es. FramesStand script.setup es new.shown new.with_view new.frames.items in
@@ -215,6 +218,34 @@ module _ (script : Script) (place : ℕ) (x : ScriptLine) (at : At script place 
         views = subst V (sym finishes.with_view) stands.views;
         shows = subst F (sym grown) (rw (finishes.shown, finishes.with_view)
             (frames_done script.setup h old.shown old.with_view old.frames.items stands.shows x.number new.frames.items _ finishes.kept frame));
+        answers = rw (grown, finishes.answers) (answers_done script.setup h old.last old.answers stands.answers x.number new.last (finishes.number ∙ number)
+            (finishes.joined ∙ ap (λ st. joined_lists st old.shown) stands.setup ∙ ap (joined_lists script.setup) stands.shows.showing));
+      }
+
+  -- any of these, by what becomes of the answers
+  entered_more : (old new : Game) (text : DisplayLine) (kind : Kind) (reply : Reply) → x.actor ≡ Display → x.body ≡ body.Display text → entry_of_display text ≡ kind → is_begin kind ≡ false → is_finish kind ≡ false → is_end kind ≡ false
+      → ((o : Bool) (t : ℕ) (follows : Bool → ℕ → Bool) → keeps_frames o t (body.Display text) follows ≡ follows o t)
+      → GameStands script place old → new.board ≡ entered old.board Display x.number [] kind reply → new.shown ≡ old.shown → new.with_view ≡ old.with_view → new.players ≡ old.players → new.frames ≡ old.frames
+      → AnswersStand script.setup (old.board.history ▹ entry_of Display x.number [] kind reply) new.last new.answers → GameStands script (place + 1) new
+  entered_more old new text kind reply actor is makes no_begin no_finish no_end keeps stands board shown_is views_is players_are frames_are answers =
+      let e : Entry = entry_of Display x.number [] kind reply in
+      let h : List Entry = old.board.history in
+      let grown : new.board.history ≡ (h ▹ e) = ap (λ (m : Machine). m.history) board in
+      let step : Step x h new.board.history = more e (sym actor) refl no_end grown in
+      let D : List Entry → Type 0 = DisplayStands script (place + 1) in
+      let V : SessionSet → Type 0 = HasViews script.setup in
+      let F : List Entry → Type 0 = λ es. FramesStand script.setup es new.shown new.with_view new.frames.items in
+      let kept : new.frames.items ≡ old.frames.items = ap (λ v. v.items) frames_are in
+      record {
+        setup = ap (λ (m : Machine). m.setup) board ∙ stands.setup;
+        shares = ap (λ (m : Machine). m.shares) board ∙ stands.shares;
+        players = display_players old.players.items new.players.items h new.board.history actor step (ap (λ v. v.items) players_are) stands.players;
+        display = subst D (sym grown) (display_beside script place x at text kind reply is makes no_begin no_finish keeps h stands.display);
+        order = order_more script place x at h new.board.history step stands.order;
+        spent = spent_more script place x at h new.board.history step stands.spent;
+        views = subst V (sym views_is) stands.views;
+        shows = subst F (sym grown) (rw (shown_is, views_is, kept) (frames_beside script.setup h old.shown old.with_view old.frames.items stands.shows e no_begin no_finish));
+        answers = rw grown answers;
       }
 
   -- a line of the display that begins no frame and ends none
@@ -224,22 +255,14 @@ module _ (script : Script) (place : ℕ) (x : ScriptLine) (at : At script place 
   beside_more old new text kind reply actor is makes calm keeps stands enters =
       let e : Entry = entry_of Display x.number [] kind reply in
       let h : List Entry = old.board.history in
-      let grown : new.board.history ≡ (h ▹ e) = ap (λ (m : Machine). m.history) enters.board in
-      let step : Step x h new.board.history = more e (sym actor) refl (quiet_end kind calm) (quiet_question kind calm) grown in
-      let D : List Entry → Type 0 = DisplayStands script (place + 1) in
-      let V : SessionSet → Type 0 = HasViews script.setup in
-      let F : List Entry → Type 0 = λ es. FramesStand script.setup es new.shown new.with_view new.frames.items in
-      let kept : new.frames.items ≡ old.frames.items = ap (λ v. v.items) enters.kept in
-      record {
-        setup = ap (λ (m : Machine). m.setup) enters.board ∙ stands.setup;
-        shares = ap (λ (m : Machine). m.shares) enters.board ∙ stands.shares;
-        players = display_players old.players.items new.players.items h new.board.history actor step (ap (λ v. v.items) enters.players) stands.players;
-        display = subst D (sym grown) (display_beside script place x at text kind reply is makes calm keeps h stands.display);
-        order = order_more script place x at h new.board.history step stands.order;
-        spent = spent_more script place x at h new.board.history step stands.spent;
-        views = subst V (sym enters.with_view) stands.views;
-        shows = subst F (sym grown) (rw (enters.shown, enters.with_view, kept) (frames_beside script.setup h old.shown old.with_view old.frames.items stands.shows e calm));
-      }
+      entered_more old new text kind reply actor is makes (quiet_begin kind calm) (quiet_finish kind calm) (quiet_end kind calm) keeps stands enters.board enters.shown enters.with_view enters.players enters.kept
+      (rw (enters.last, enters.answers) (answers_beside script.setup h old.last old.answers stands.answers e (quiet_finish kind calm) (quiet_answers e (frames h) (hits_at script.setup (to_finished h)) kind calm)))
+
+  -- a line that asks for a point
+  pub point_more : (old new : Game) (px py : ℤ) → x.actor ≡ Display → x.body ≡ body.Display (display.Hit px py) → GameStands script place old → AsksPoint old new x.number px py → GameStands script (place + 1) new
+  point_more old new px py actor is stands asks =
+      entered_more old new (display.Hit px py) (Hit px py) Done actor is refl refl refl refl (λ o t follows. refl) stands asks.board asks.shown asks.with_view asks.players asks.kept
+      (rw asks.last (answers_point script.setup old.board.history old.last old.answers stands.answers x.number px py new.answers asks.answers))
 
 -- the player of a session
 pub own_player : (script : Script) (place : ℕ) (history : List Entry) (players : List Player) (s : SessionNo) → is_declared script.setup s ≡ true → PlayersStand script place history players
@@ -251,13 +274,6 @@ own_player script place history players s declared stand player is =
     let P : ℕ → Type 0 = λ n. PlayerStands script (record { 0 = n }) place history (get_or players (s.0 - 1) player) in
     let Q : Player → Type 0 = λ p. PlayerStands script s place history p in
     subst Q (sym is) (subst P here (stand.each (s.0 - 1) player inside))
-
--- no line that is played asks for a point
-pub no_hit : (setup : Setup) (text : DisplayLine) (x y : ℤ) → is_played_display setup text ≡ true → text ≡ display.Hit x y → ⊥
-no_hit setup text px py played is = let P : DisplayLine → Type 0 = λ t. is_played_display setup t ≡ true in wrong (subst P is played)
-  where
-    wrong : is_played_display setup (display.Hit px py) ≡ true → ⊥
-    wrong both = cc
 
 -- a session plays lines of a session, the display its own, and a probe none
 pub no_session_text : (setup : Setup) (s : SessionNo) (text : Body) → is_played setup (Session s) text ≡ true → session_text text ≡ None → ⊥

@@ -141,7 +141,7 @@ module _ (script : Script) (playable : is_playable script ≡ true) where
   }
 
   first_order : IsInOrder script 0 []
-  first_order = record { rise = λ k within. absurd (omega arith); last = omega arith; no_ends = tt; unasked = refl }
+  first_order = record { rise = λ k within. absurd (omega arith); last = omega arith; no_ends = tt }
 
   first_spent : IsSpent script 0 []
   first_spent = record { spent = λ seat. omega arith }
@@ -202,16 +202,26 @@ first_shown setup shown views shown_frames count none all nothing = record {
   finishing = nothing;
 }
 
+-- nothing is shown, and no frame is finished
+pub first_answers : (setup : Setup) (shown : Shown) (last : LastFrame) (answers : List HitAnswer) → length shown ≡ setup.sessions → All (λ state. state ≡ None) shown → last.frame.0 ≡ 0 → last.joined ≡ joined_lists setup shown → answers ≡ []
+    → AnswersStand setup [] last answers
+first_answers setup shown last answers count none number joined nothing = record {
+  number = number;
+  joining = joined ∙ ap (joined_lists setup) (nothing-shown setup shown count none);
+  answering = nothing;
+}
+
 pub starts : (script : Script) (game : Game) → is_playable script ≡ true → EmptyStands → game.board ≡ record { setup = script.setup; shares = shares_of script; history = [] }
     → length game.players.items ≡ script.setup.sessions → All (λ player. player ≡ first_player script.setup) game.players.items
-    → FramesStand script.setup [] game.shown game.with_view game.frames.items → list_all not game.with_view.has ≡ true → GameStands script 0 game
-starts script game playable empty board count first shows none =
+    → FramesStand script.setup [] game.shown game.with_view game.frames.items → list_all not game.with_view.has ≡ true → AnswersStand script.setup [] game.last game.answers → GameStands script 0 game
+starts script game playable empty board count first shows none answers =
     let history : [] ≡ game.board.history = sym (ap (λ (m : Machine). m.history) board) in
     let P : List Entry → Type 0 = λ es. PlayersStand script 0 es game.players.items in
     let D : List Entry → Type 0 = DisplayStands script 0 in
     let O : List Entry → Type 0 = IsInOrder script 0 in
     let S : List Entry → Type 0 = IsSpent script 0 in
     let F : List Entry → Type 0 = λ es. FramesStand script.setup es game.shown game.with_view game.frames.items in
+    let A : List Entry → Type 0 = λ es. AnswersStand script.setup es game.last game.answers in
     record {
       setup = ap (λ (m : Machine). m.setup) board;
       shares = ap (λ (m : Machine). m.shares) board;
@@ -221,4 +231,5 @@ starts script game playable empty board count first shows none =
       spent = subst S history (first_spent script playable);
       views = λ s beyond. no_members game.with_view none s;
       shows = subst F history shows;
+      answers = subst A history answers;
     }

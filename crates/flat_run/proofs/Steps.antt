@@ -12,7 +12,7 @@ use Rattle.flat_core.specs.Boards.{made}
 use Rattle.flat_script.specs.declared.script.Script.{Script}
 use Rattle.flat_run.specs.declared.player.Player.{Player}
 use Rattle.flat_playable.specs.Playable.{rise_from, is_played, is_playable}
-use Rattle.flat_run.specs.Playing.{last_number, lines_left, lines_by, PlayerStands, IsOpenAt, IsClosedAt, IsSpent, IsInOrder, is_question}
+use Rattle.flat_run.specs.Playing.{last_number, lines_left, lines_by, PlayerStands, IsOpenAt, IsClosedAt, IsSpent, IsInOrder}
 use Rattle.flat_run.proofs.InOrder.{lines_rise, no_ends_more}
 use Rattle.flat_run.proofs.Places.{drop_at, take_at, split_at, last_more, last_below, rises, played_all}
 use Rattle.flat_run.proofs.Conditions.{all_at}
@@ -44,7 +44,7 @@ at_place script place x playable at =
 -- A line leaves a history as it was, or adds an entry of its actor and number.
 pub data Step (x : ScriptLine) (old new : List Entry) : Type 0 where
   same : new ≡ old → Step x old new
-  more : (e : Entry) → e.actor ≡ x.actor → e.line ≡ x.number → is_end e.kind ≡ false → is_question e.kind ≡ false → new ≡ (old ▹ e) → Step x old new
+  more : (e : Entry) → e.actor ≡ x.actor → e.line ≡ x.number → is_end e.kind ≡ false → new ≡ (old ▹ e) → Step x old new
 
 -- ---- order and room
 
@@ -56,15 +56,14 @@ module _ (script : Script) (place : ℕ) (x : ScriptLine) (at : At script place 
   pub order_more : (old new : List Entry) → Step x old new → IsInOrder script place old → IsInOrder script (place + 1) new
   order_more old new (same is) order =
       let P : List Entry → Type 0 = IsInOrder script (place + 1) in
-      subst P (sym is) (record { rise = order.rise; last = let last = at.last in let above = at.above in let was = order.last in omega arith; no_ends = order.no_ends; unasked = order.unasked })
-  order_more old new (more e actor line goes_on unasked is) order =
+      subst P (sym is) (record { rise = order.rise; last = let last = at.last in let above = at.above in let was = order.last in omega arith; no_ends = order.no_ends })
+  order_more old new (more e actor line goes_on is) order =
       let P : List Entry → Type 0 = IsInOrder script (place + 1) in
       let less : last_line old < e.line = let above = at.above in let was = order.last in omega arith in
       subst P (sym is) (record {
         rise = lines_rise old e order.rise less;
         last = let last = at.last in omega arith;
         no_ends = no_ends_more old e order.no_ends goes_on;
-        unasked = rw unasked order.unasked;
       })
 
   lines_spent : (seat : ℕ) → lines_by seat (drop place script.lines) ≡ lines_by seat (drop (place + 1) script.lines) + cond (seat_number x.actor == seat) 1 0
@@ -74,7 +73,7 @@ module _ (script : Script) (place : ℕ) (x : ScriptLine) (at : At script place 
   spent_more old new (same is) spent =
       let P : List Entry → Type 0 = IsSpent script (place + 1) in
       subst P (sym is) (record { spent = λ seat. let l = lines_spent seat in let s = spent.spent seat in omega arith })
-  spent_more old new (more e actor line goes_on unasked is) spent =
+  spent_more old new (more e actor line goes_on is) spent =
       let P : List Entry → Type 0 = IsSpent script (place + 1) in
       subst P (sym is) (record {
         spent = λ seat.
@@ -88,7 +87,7 @@ module _ (script : Script) (place : ℕ) (x : ScriptLine) (at : At script place 
 
   own_same : (s : SessionNo) → is_session s x.actor ≡ false → (old new : List Entry) → Step x old new → own s new ≡ own s old
   own_same s other old new (same is) = ap (own s) is
-  own_same s other old new (more e actor line goes_on unasked is) =
+  own_same s other old new (more e actor line goes_on is) =
       let out : is_session s e.actor ≡ false = ap (is_session s) actor ∙ other in
       ap (own s) is ∙ rw out refl
 

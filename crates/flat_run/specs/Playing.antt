@@ -1,5 +1,5 @@
 -- How a session stands at a place of the script.
-use Rattle.std.specs.Prelude.{◌≡◌, ℕ, ◌+◌, ◌<◌, ◌≤◌, ◌==◌, Bool, true, false, List, [], ◌∷◌, ◌++◌, length, take, drop, map, reverse, count_by, slice_index_or, Option, Some, None, Ok, option_map}
+use Rattle.std.specs.Prelude.{◌≡◌, ℕ, ℤ, ◌+◌, ◌<◌, ◌≤◌, ◌==◌, Bool, true, false, List, [], ◌∷◌, ◌++◌, length, take, drop, map, reverse, count_by, slice_index_or, Option, Some, None, Ok, option_map}
 use Rattle.std.specs.List.{list_any, list_all, AllByRecursion}
 use Rattle.std.specs.List.Sorted.{IsStrictlyIncreasing}
 use Rattle.std.specs.Arc.{arc_value}
@@ -32,11 +32,14 @@ use Rattle.flat_scene.specs.Misuse.{misuse, first_reason}
 use Rattle.flat_scene.specs.Tree.{present_tests, tree}
 use Rattle.flat_scene.specs.Setups.{is_declared}
 use Rattle.flat_core.specs.Boards.{Machine, entered, made}
-use Rattle.flat_core.specs.Ends.{to_begin, has_view}
+use Rattle.flat_core.specs.Ends.{to_begin, to_finished, has_view}
 use Rattle.flat_core.specs.Legal.{is_frame_open, begin_time, frames}
 use Rattle.flat_core.specs.Shown.{shown_states}
+use Rattle.flat_topology.specs.Connected.{joined_lists}
+use Rattle.flat_topology.specs.Hits.{hits_among}
 use Rattle.flat_topology.specs.Shown.{Shown}
 use Rattle.flat_topology.specs.Views.{is_member}
+use Rattle.flat_report.specs.declared.report.HitAnswer.{HitAnswer}
 use Rattle.flat_report.specs.Handed.{answers_of}
 use Rattle.flat_report.specs.Report.{finished, frame_at}
 use Rattle.flat_draft.specs.State.{DraftState, empty_state}
@@ -47,6 +50,7 @@ use Rattle.flat_run.specs.declared.made.Made.TheVariants as making
 use Rattle.flat_run.specs.declared.player.Player.{Player}
 use Rattle.flat_run.specs.Made.{kind_of}
 use Rattle.flat_run.specs.declared.game.Game.{Game}
+use Rattle.flat_run.specs.declared.game.LastFrame.{LastFrame}
 use Rattle.flat_playable.specs.Playable.{is_private, frames_close}
 
 -- ---- a line, by a session that isn't closed
@@ -143,11 +147,6 @@ pub data Grows (old new : Machine) (who : Actor) (number : ℕ) : Type 0 where
 abbrev pub lines_by : ℕ → List ScriptLine → ℕ
 lines_by seat = count_by (λ next. seat_number next.actor == seat)
 
--- an entry that asks for a point
-abbrev pub is_question : Kind → Bool
-is_question (Hit x y) = true
-is_question _ = false
-
 -- what a board is to give room for: the display's lines, and those of each session with its End
 abbrev pub rest_shares : Script → List ℕ
 rest_shares script = map (λ s. lines_by s.0 script.lines + 1) (sessions_to script.setup.sessions)
@@ -159,12 +158,11 @@ shares_of script = lines_by 0 script.lines ∷ rest_shares script
 pub record IsSpent (script : Script) (place : ℕ) (history : List Entry) : Type 0 where
   pub spent : (seat : ℕ) → made seat history + lines_by seat (drop place script.lines) ≤ lines_by seat script.lines
 
--- The entries are written in order of their lines, up to a place, and none is an End or asks for a point.
+-- The entries are written in order of their lines, up to a place, and none is an End.
 pub record IsInOrder (script : Script) (place : ℕ) (history : List Entry) : Type 0 where
   pub rise : IsStrictlyIncreasing (map (λ entry. entry.line) (reverse history))
   pub last : last_line history ≤ last_number 0 (take place script.lines)
   pub no_ends : AllByRecursion (λ entry. is_end entry.kind ≡ false) (reverse history)
-  pub unasked : list_any (λ entry. is_question entry.kind) history ≡ false
 
 -- The display's entries are the reading of its lines up to a place, and the frames of the lines left go on from there.
 pub record DisplayStands (script : Script) (place : ℕ) (history : List Entry) : Type 0 where
@@ -177,6 +175,12 @@ pub record FramesStand (setup : Setup) (history : List Entry) (shown : Shown) (w
   pub showing : shown ≡ shown_states setup (to_begin history)
   pub viewing : (s : SessionNo) → is_declared setup s ≡ true → is_member with_view s.0 ≡ has_view setup (to_begin history) s
   pub finishing : frames ≡ finished setup history
+
+-- The last finished frame is known, and the points that were asked for are answered.
+pub record AnswersStand (setup : Setup) (history : List Entry) (last : LastFrame) (answers : List HitAnswer) : Type 0 where
+  pub number : last.frame.0 ≡ frames history
+  pub joining : last.joined ≡ joined_lists setup (shown_states setup (to_finished history))
+  pub answering : answers ≡ answers_of setup history
 
 -- a set of sessions has none beyond those of the setup
 abbrev pub HasViews : Setup → SessionSet → Type 0
@@ -197,6 +201,7 @@ pub record GameStands (script : Script) (place : ℕ) (game : Game) : Type 0 whe
   pub spent : IsSpent script place game.board.history
   pub views : HasViews script.setup game.with_view
   pub shows : FramesStand script.setup game.board.history game.shown game.with_view game.frames.items
+  pub answers : AnswersStand script.setup game.board.history game.last game.answers
 
 -- ---- what the display does to a run
 
@@ -208,6 +213,8 @@ pub record BeginsFrame (old new : Game) (number time : ℕ) : Type 0 where
   pub views : HasViews new.board.setup new.with_view
   pub players : new.players ≡ old.players
   pub kept : new.frames ≡ old.frames
+  pub last : new.last ≡ old.last
+  pub answers : new.answers ≡ old.answers
 
 -- A frame is finished, and kept.
 pub record FinishesFrame (old new : Game) (number : ℕ) : Type 0 where
@@ -216,6 +223,9 @@ pub record FinishesFrame (old new : Game) (number : ℕ) : Type 0 where
   pub with_view : new.with_view ≡ old.with_view
   pub players : new.players ≡ old.players
   pub kept : new.frames.items ≡ old.frames.items ++ frame_at old.board.setup (frames new.board.history) (to_begin old.board.history) ∷ []
+  pub number : new.last.frame.0 ≡ frames new.board.history
+  pub joined : new.last.joined ≡ joined_lists old.board.setup old.shown
+  pub answers : new.answers ≡ old.answers
 
 -- The display makes an entry that begins no frame and ends none.
 pub record EntersBeside (old new : Game) (number : ℕ) (kind : Kind) (reply : Reply) : Type 0 where
@@ -224,6 +234,18 @@ pub record EntersBeside (old new : Game) (number : ℕ) (kind : Kind) (reply : R
   pub with_view : new.with_view ≡ old.with_view
   pub players : new.players ≡ old.players
   pub kept : new.frames ≡ old.frames
+  pub last : new.last ≡ old.last
+  pub answers : new.answers ≡ old.answers
+
+-- The display asks for a point, and is answered by the last finished frame.
+pub record AsksPoint (old new : Game) (number : ℕ) (x y : ℤ) : Type 0 where
+  pub board : new.board ≡ entered old.board Display number [] (Hit x y) Done
+  pub shown : new.shown ≡ old.shown
+  pub with_view : new.with_view ≡ old.with_view
+  pub players : new.players ≡ old.players
+  pub kept : new.frames ≡ old.frames
+  pub last : new.last ≡ old.last
+  pub answers : new.answers ≡ old.answers ++ (record { actor = Display; line = number; frame = old.last.frame; hits = hits_among old.last.joined.nodes x y }) ∷ []
 
 -- the line of a session that a body is, and the line of the display
 abbrev pub session_text : Body → Option Line
@@ -262,12 +284,12 @@ pub record EndsStand (script : Script) (ended : ℕ) (game : Game) : Type 0 wher
   pub has_ends : HasEnds ended game.board.history
   pub unspent : (k : ℕ) → ended ≤ k → made (k + 1) game.board.history ≤ lines_by (k + 1) script.lines
   pub finishing : game.frames.items ≡ finished script.setup game.board.history
-  pub unasked : list_any (λ entry. is_question entry.kind) game.board.history ≡ false
+  pub answering : game.answers ≡ answers_of script.setup game.board.history
 
--- A script is played to its end: the history is a legal one, which interleaves the script's actors in written order, and the frames are those that it finishes. It asks for no point.
-pub record HasPlayed (script : Script) (board : Machine) (shown_frames : List FrameOut) : Type 0 where
+-- A script is played to its end: the history is a legal one, which interleaves the script's actors in written order, the frames are those that it finishes, and the answers those to the points that it asks for.
+pub record HasPlayed (script : Script) (board : Machine) (shown_frames : List FrameOut) (answers : List HitAnswer) : Type 0 where
   pub setup : board.setup ≡ script.setup
   pub interleaves : Interleaves script.setup script.count script.lines board.history
   pub written : IsWritten script.setup board.history
   pub finishing : shown_frames ≡ finished script.setup board.history
-  pub unasked : answers_of script.setup board.history ≡ []
+  pub answering : answers ≡ answers_of script.setup board.history

@@ -5,7 +5,8 @@ ghost use Rattle.flat_base.specs.declared.ids.Actor.TheVariants.{Display, Sessio
 ghost use Rattle.flat_scene.specs.declared.script.Body.TheVariants as body;
 ghost use Rattle.std.specs.Option.{option_copied};
 ghost use Rattle.flat_run.specs.Playing.{session_text, display_text};
-ghost use Rattle.flat_scene.specs.declared.journal.Kind.TheVariants.{Begin, Finish, Signal, Wait};
+ghost use Rattle.flat_scene.specs.declared.journal.Kind.TheVariants.{Begin, Finish, Hit, Signal, Wait};
+ghost use Rattle.flat_topology.specs.Connected.{joined_lists};
 ghost use Rattle.flat_scene.specs.declared.journal.Reply.TheVariants.{Done};
 ghost use Rattle.flat_core.specs.Boards.{MayCall};
 ghost use Rattle.flat_core.specs.Shown.{shown_states};
@@ -18,11 +19,28 @@ use crate::player::Player;
 use flat_base::{Actor, FenceNo, FrameNo, NoMemory, SessionNo};
 use flat_compose::compose;
 use flat_core::Board;
+use flat_hit::hits;
+use flat_report::{HitAnswer, HitAnswers};
 use flat_scene::{Body, CallList, Cond, DisplayLine, FrameOut, Line, SessionSet};
 use flat_script::Script;
-use flat_topology::{Shown, join};
+use flat_topology::{Joined, Shown, join};
 use flat_tree::{trees_follow, view_tree};
 use std::alloc::Global;
+
+/// The last finished frame: its number, 0 where there is none, and what its sessions
+/// show, joined.
+#[derive(Debug, Drop)]
+pub struct LastFrame {
+    pub frame: FrameNo,
+    pub joined: Joined,
+}
+
+/// A frame, and the joined tree of which it is composed.
+#[derive(Drop)]
+struct Composed {
+    frame: FrameOut,
+    joined: Joined,
+}
 
 /// A run: the board, the sessions, and what is shown.
 #[derive(Drop)]
@@ -36,28 +54,33 @@ pub struct Game {
     pub with_view: SessionSet,
     /// All finished frames.
     pub frames: Vec<FrameOut>,
+    pub last: LastFrame,
+    /// The answers to the points that were asked for.
+    pub answers: HitAnswers,
 }
 
 impl Game {
-    ghost use Rattle.flat_run.specs.Playing.{GameStands, FramesStand, HasViews, BeginsFrame, FinishesFrame, EntersBeside, EndsStand, HasPlayed};
+    ghost use Rattle.flat_run.specs.Playing.{GameStands, FramesStand, HasViews, BeginsFrame, FinishesFrame, EntersBeside, AsksPoint, EndsStand, HasPlayed};
 
     /// The frame of a number, as it is composed of what the sessions show.
-    fn compose(&self, alloc: Global, number: u32) -> Result<FrameOut, NoMemory>
+    fn compose(&self, alloc: Global, number: u32) -> Result<Composed, NoMemory>
         requires setup { is_setup self.now.board.setup ≡ true }
         requires stands { FramesStand self.now.board.setup self.now.board.history self.now.shown self.now.with_view (finished self.now.board.setup self.now.board.history) }
         requires views { HasViews self.now.board.setup self.now.with_view }
-        ensures { IfOk result (λ frame. frame ≡ frame_at self.now.board.setup number (to_begin self.now.board.history)) }
+        ensures frame { IfOk result (λ composed. composed.frame ≡ frame_at self.now.board.setup number (to_begin self.now.board.history)) }
+        ensures joined { IfOk result (λ composed. composed.joined ≡ joined_lists self.now.board.setup self.now.shown) }
     {
         let _journal = self.board.journal();
         trees_follow();
         let joined = join(alloc, &self.shown, self.board.setup())?;
         let items = compose(alloc, &joined)?;
         let tree = view_tree(alloc, &joined, self.with_view)?;
-        Ok(FrameOut {
+        let frame = FrameOut {
             frame: FrameNo(number),
             items,
             tree,
-        })
+        };
+        Ok(Composed { frame, joined })
     }
 
     /// Begins a frame.
@@ -78,9 +101,13 @@ impl Game {
         requires views { HasViews self.old.board.setup self.old.with_view }
         ensures { OnOk result (FinishesFrame self.old self.new number) }
     {
-        let FrameNo(frame) = self.board.done(number);
-        let frame = self.compose(alloc, frame)?;
+        let done = self.board.done(number);
+        let Composed { frame, joined } = self.compose(alloc, done.0)?;
         self.frames.push(frame)?;
+        self.last = LastFrame {
+            frame: done,
+            joined,
+        };
         Ok(())
     }
 
@@ -100,6 +127,22 @@ impl Game {
     {
         let calls = CallList::new(alloc);
         let _reply = self.board.wait(Actor::Display, number, calls, c);
+    }
+
+    /// Asks what a point of the last finished frame hits.
+    fn hit(&mut self, alloc: Global, number: u32, x: i32, y: i32) -> Result<(), NoMemory>
+        requires { MayCall self.old.board Display [] (Hit x y) }
+        ensures { OnOk result (AsksPoint self.old self.new number x y) }
+    {
+        let hits = hits(alloc, &self.last.joined, x, y)?;
+        self.answers.push(HitAnswer {
+            actor: Actor::Display,
+            line: number,
+            frame: self.last.frame,
+            hits,
+        })?;
+        let _reply = self.board.hit(number, x, y);
+        Ok(())
     }
 
     /// Plays a line of a session.
@@ -153,7 +196,10 @@ impl Game {
                 self.wait(alloc, number, c);
                 Ok(())
             }
-            DisplayLine::Hit(_, _) => unreachable!(),
+            DisplayLine::Hit(x, y) => {
+                self.hit(alloc, number, x, y)?;
+                Ok(())
+            }
         }
     }
 
@@ -201,7 +247,7 @@ impl Game {
     pub fn end_all(&mut self, alloc: Global, script: &Script)
         requires playable { is_playable script.now ≡ true }
         requires stands { GameStands script.now (length script.now.lines) self.old }
-        ensures { HasPlayed script.now self.new.board self.new.frames.items }
+        ensures { HasPlayed script.now self.new.board self.new.frames.items self.new.answers }
     {
         for before in 0..script.setup.sessions {
             self.end_next(alloc, script, before);

@@ -4,14 +4,15 @@ ghost use Rattle.flat_scene.specs.Setups.{is_setup};
 ghost use Rattle.flat_playable.specs.Playable.{is_playable};
 ghost use Rattle.flat_run.specs.Playing.{lines_by, shares_of, first_player, GameStands, HasPlayed};
 
-use crate::game::Game;
+use crate::game::{Game, LastFrame};
 use crate::player::Player;
-use flat_base::{Actor, NoMemory, ShareList, TryCopy};
+use flat_base::{Actor, FrameNo, NoMemory, ShareList, TryCopy};
 use flat_core::Board;
 use flat_draft::{Draft, draft_laws};
 use flat_scene::{CallList, ScriptLine, SessionSet, Setup};
+use flat_report::HitAnswers;
 use flat_script::Script;
-use flat_topology::Shown;
+use flat_topology::{Shown, join};
 use std::alloc::Global;
 
 /// The number of an actor's seat.
@@ -87,12 +88,19 @@ fn start(alloc: Global, script: &Script) -> Result<Game, NoMemory>
     let shares = shares_of(alloc, script)?;
     let setup = script.setup.copy(alloc)?;
     let board = Board::open(alloc, setup, shares)?;
+    let shown = Shown::new(alloc, script.setup.sessions)?;
+    let joined = join(alloc, &shown, &script.setup)?;
     Ok(Game {
         board,
         players: new_players(alloc, &script.setup)?,
-        shown: Shown::new(alloc, script.setup.sessions)?,
+        shown,
         with_view: SessionSet { has: [false; 16] },
         frames: Vec::new(alloc),
+        last: LastFrame {
+            frame: FrameNo(0),
+            joined,
+        },
+        answers: HitAnswers::new(alloc),
     })
 }
 
@@ -112,7 +120,7 @@ fn play_lines(alloc: Global, script: &Script) -> Result<Game, NoMemory>
 /// session. The journal of the board is that of the run.
 pub fn run(alloc: Global, script: &Script) -> Result<Game, NoMemory>
     requires { is_playable script.now ≡ true }
-    ensures { IfOk result (λ game. HasPlayed script.now game.board game.frames.items) }
+    ensures { IfOk result (λ game. HasPlayed script.now game.board game.frames.items game.answers) }
 {
     let mut game = play_lines(alloc, script)?;
     game.end_all(alloc, script);

@@ -13,7 +13,7 @@ use flat_base::{NoMemory, SCRIPT_BYTES_MAX};
 use flat_core::families_are_alone;
 use flat_io::{ReadAll, Sink, Source, read_all, write_all};
 use flat_playable::scripts_are_playable;
-use flat_report::{HitAnswers, print_report};
+use flat_report::print_report;
 use flat_script::{Script, ScriptError, ScriptFault, parse};
 use itoa::Buffer;
 use std::alloc::Global;
@@ -99,7 +99,6 @@ fn played_text(alloc: Global, script: &Script) -> Result<Vec<u8>, NoMemory>
 {
     families_are_alone();
     let game = run(alloc, script)?;
-    let answers = HitAnswers::new(alloc);
     let journal = game.board.journal();
     print_report(
         alloc,
@@ -107,7 +106,7 @@ fn played_text(alloc: Global, script: &Script) -> Result<Vec<u8>, NoMemory>
         journal,
         game.frames.as_slice(),
         &[],
-        &answers,
+        &game.answers,
     )
 }
 

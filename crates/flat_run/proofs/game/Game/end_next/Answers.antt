@@ -41,4 +41,4 @@ returns c =
     let board = c.end.ensures.entry ∙ ap (λ (reply : Reply). entered old.board (Session s) (script.count + 1) c.take_pending-calls.result (End c.take_pending-calls.new.self.refused) reply) c.end.ensures.reply
     ∙ ap (λ (cs : List Call). entered old.board (Session s) (script.count + 1) cs (End c.take_pending-calls.new.self.refused) _) c.take_pending-calls.ensures.calls
     ∙ ap (λ (n : ℕ). entered old.board (Session s) (script.count + 1) player.pending (End n) _) (ap (λ (p : Player). p.refused) c.take_pending-calls.ensures.rest) in
-    ends_more script c.args.before c.requires.within old c.requires.stands player mine _ c.take_pending-calls.new.self board refl refl
+    ends_more script c.args.before c.requires.within old c.requires.stands player mine _ c.take_pending-calls.new.self board refl refl refl

@@ -8,8 +8,8 @@ use Rattle.flat_scene.specs.declared.journal.Kind.TheVariants.{Signal, Wait}
 use Rattle.flat_scene.specs.declared.setup.Setup.{Setup}
 use Rattle.flat_core.specs.Legal.{is_fence}
 use Rattle.flat_playable.specs.Playable.{is_played_display}
-use Rattle.flat_run.proofs.DisplaySteps.{display_share, begin_time_ok, done_ok, may_begin, may_finish, may_signal_fence, may_wait_for}
-use Rattle.flat_run.proofs.GameSteps.{begin_more, finish_more, beside_more, no_hit}
+use Rattle.flat_run.proofs.DisplaySteps.{display_share, begin_time_ok, done_ok, may_begin, may_finish, may_hit, may_signal_fence, may_wait_for}
+use Rattle.flat_run.proofs.GameSteps.{begin_more, finish_more, beside_more, point_more}
 use Rattle.flat_run.proofs.Steps.{At, at_place}
 use Rattle.flat_run.proofs.game.Game.play_display.Goals as goal
 
@@ -51,11 +51,11 @@ wait-requires c =
     (display_share c.args.script.now c.args.place x at c.args.self.now.board c.requires.stands.shares refl c.requires.stands.spent)
     (subst Q (sym c.requires.stands.setup) (subst P c.in-Wait.is at.played))
 
-pub unreachable-requires : goal.unreachable-requires
-unreachable-requires c =
+pub hit-requires : goal.hit-requires
+hit-requires c =
     let x : ScriptLine = record { number = c.args.number; actor = Display; body = body.Display c.args.text } in
     let at : At c.args.script.now c.args.place x = at_place c.args.script.now c.args.place x c.requires.playable c.requires.line in
-    no_hit c.args.script.now.setup c.args.text _ _ at.played c.in-Hit.is
+    may_hit c.args.self.now.board _ _ (display_share c.args.script.now c.args.place x at c.args.self.now.board c.requires.stands.shares refl c.requires.stands.spent)
 
 pub returns-in-Begin : goal.returns-in-Begin
 returns-in-Begin c =
@@ -84,3 +84,10 @@ returns-in-Wait c =
     let at : At c.args.script.now c.args.place x = at_place c.args.script.now c.args.place x c.requires.playable c.requires.line in
     let is : x.body ≡ body.Display (display.Wait c.in-Wait.c) = ap (λ t. body.Display t) c.in-Wait.is in
     beside_more c.args.script.now c.args.place x at c.args.self.now c.wait.new.self (display.Wait c.in-Wait.c) (Wait c.in-Wait.c) _ refl is refl refl (λ o t follows. refl) c.requires.stands c.wait.ensures
+
+pub returns-in_ok-hit-in-Hit : goal.returns-in_ok-hit-in-Hit
+returns-in_ok-hit-in-Hit c =
+    let x : ScriptLine = record { number = c.args.number; actor = Display; body = body.Display c.args.text } in
+    let at : At c.args.script.now c.args.place x = at_place c.args.script.now c.args.place x c.requires.playable c.requires.line in
+    let is : x.body ≡ body.Display (display.Hit c.in-Hit.field-0 c.in-Hit.field-1) = ap (λ t. body.Display t) c.in-Hit.is in
+    point_more c.args.script.now c.args.place x at c.args.self.now c.hit.new.self _ _ refl is c.requires.stands c.in_ok-hit-in-Hit.ensures

@@ -34,4 +34,4 @@ returns c =
     let x : ScriptLine = record { number = c.args.number; actor = Session c.args.s; body = body.Session c.args.text.now } in
     let h = here c.args.script.now c.args.s c.args.place c.args.number c.args.text.now c.requires.playable c.requires.line in
     session_more c.args.script.now c.args.place x (at_place c.args.script.now c.args.place x c.requires.playable c.requires.line) c.args.self.now
-    _ c.args.s c.args.text.now c.play.new.self refl refl h.declared c.requires.stands refl c.in_ok-play.ensures.stands c.in_ok-play.ensures.grows refl refl refl
+    _ c.args.s c.args.text.now c.play.new.self refl refl h.declared c.requires.stands refl c.in_ok-play.ensures.stands c.in_ok-play.ensures.grows refl refl refl refl refl
