@@ -681,6 +681,7 @@ fn printed_insets(rt: HostRuntime) -> Result<(), Fail> {
     let first = print(rt.alloc(), &script)?;
     assert_eq!(rt; first.as_slice(), want.as_slice());
     let again = parse(rt.alloc(), first.as_slice())?;
+    assert_eq!(rt; again.lines.len(), 10);
     match &again.lines.at(0).body {
         Body::Session(Line::Call(Call::CreateViewport { pair, inset, .. })) => {
             assert_eq!(rt; (pair.0, inset.top, inset.left), (1, 0, 0));
