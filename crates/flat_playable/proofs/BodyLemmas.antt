@@ -16,10 +16,10 @@ use Rattle.flat_scene.specs.declared.script.Body.TheVariants as body
 use Rattle.flat_script.specs.declared.script.Script.{Script}
 use Rattle.flat_script.specs.Known.{known_words}
 use Rattle.flat_script.specs.Forms.{Word, Reading, mapped, unless_kind, whole, give}
-use Rattle.flat_script.specs.Body.{time_begun, ends_frame, begin_times, dones, is_open, greatest, in_order, begin_place, display_line, session_line, actor_line, with_line}
+use Rattle.flat_script.specs.Body.{time_begun, ends_frame, begin_times, dones, is_open, greatest, in_order, begin_place, display_line, session_line, probe_line, actor_line, with_line}
 use Rattle.flat_script.specs.Print.{display_words}
 use Rattle.flat_script.proofs.FormLemmas.{place_ok, whole_ok, unless_ok, mapped_ok}
-use Rattle.flat_script.proofs.BodyWordLemmas.{body_spelt}
+use Rattle.flat_script.proofs.BodyWordLemmas.{display_spelt}
 use Rattle.flat_script.proofs.AgainLemmas.{with_lines, Again}
 use Rattle.flat_script.proofs.ParserLemmas.{dones_more}
 use Rattle.flat_playable.specs.Playable.{rise_from, frames_close, is_played}
@@ -142,7 +142,7 @@ display_frames s n a (display.Begin t) opened time kept is = begun_by s n t a op
 display_frames s n a display.Done opened time kept is = done_by s n a opened time kept (unless_ok 12 (is_open s) (whole (give display.Done) []) display.Done is).passed
 display_frames s n a (display.Signal f) opened time kept is = record { opened = opened; time = time; kept = passed s n a (body.Display (display.Signal f)) opened time refl refl (λ o t k c later. refl) kept }
 display_frames s n a (display.Wait c) opened time kept is = record { opened = opened; time = time; kept = passed s n a (body.Display (display.Wait c)) opened time refl refl (λ o t k c later. refl) kept }
-display_frames s n a (display.Hit x y) opened time kept is = absurd (cc)
+display_frames s n a (display.Hit x y) opened time kept is = record { opened = opened; time = time; kept = passed s n a (body.Display (display.Hit x y)) opened time refl refl (λ o t k c later. refl) kept }
 
 frames_at : (s : Script) (n : ℕ) (a : Actor) (b c : Body) → b ≡ c → FramesGoOn (with_line s n a b) → FramesGoOn (with_line s n a c)
 frames_at s n a b c e go = let P : Body → Type 0 = λ x. FramesGoOn (with_line s n a x) in subst P e go
@@ -150,13 +150,13 @@ frames_at s n a b c e go = let P : Body → Type 0 = λ x. FramesGoOn (with_line
 pub line_frames : (s : Script) (n : ℕ) (a : Actor) (words : List Word) (b : Body) (opened : Bool) (time : ℕ) → FramesKept s opened time → actor_line known_words s a words ≡ Ok b → FramesGoOn (with_line s n a b)
 line_frames s n Display words b opened time kept is =
     let m = mapped_ok body.Display (display_line known_words s words) b is in
-    let spelt : display_words s m.a ≡ words = body_spelt s Display words (body.Display m.a) (ap (mapped body.Display) m.given) in
-    frames_at s n Display (body.Display m.a) b m.value (display_frames s n Display m.a opened time kept (ap (display_line known_words s) spelt ∙ m.given))
+    frames_at s n Display (body.Display m.a) b m.value (display_frames s n Display m.a opened time kept (ap (display_line known_words s) (display_spelt s words m.a m.given) ∙ m.given))
 line_frames s n (Session a) words b opened time kept is =
     let m = mapped_ok body.Session (session_line known_words s a words) b is in
     frames_at s n (Session a) (body.Session m.a) b m.value (record { opened = opened; time = time; kept = passed s n (Session a) (body.Session m.a) opened time refl refl (λ o t k c later. refl) kept })
-line_frames s n (Probe p) [] b opened time kept is = absurd (cc)
-line_frames s n (Probe p) (w ∷ words) b opened time kept is = absurd (cc)
+line_frames s n (Probe p) words b opened time kept is =
+    let m = mapped_ok body.Probe (probe_line known_words words) b is in
+    frames_at s n (Probe p) (body.Probe m.a) b m.value (record { opened = opened; time = time; kept = passed s n (Probe p) (body.Probe m.a) opened time refl refl (λ o t k c later. refl) kept })
 
 -- all of a body
 
@@ -198,8 +198,8 @@ above_last last n less = grind (arith, nat_tests)
 one_more : (p : ScriptLine → Bool) (us : List ScriptLine) (x : ScriptLine) → list_all p us ≡ true → p x ≡ true → list_all p (us ++ x ∷ []) ≡ true
 one_more p us x all one = list_all-append p us (x ∷ []) ∙ ap (λ b. b && (p x && true)) all ∙ ap (λ b. b && true) one
 
-pub body_line_kept : (h : Script) (us : List ScriptLine) (n : ℕ) (words : List Word) (u : Script) (a : Again h us us n n words u) → h.setup.sessions ≡ length h.sessions → BodyKept h us n → BodyKept h (us ++ record { number = n; actor = a.actor; body = a.body } ∷ []) (n + 1)
-body_line_kept h us n words u a many kept =
+pub body_line_kept : (h : Script) (us : List ScriptLine) (n : ℕ) (words : List Word) (u : Script) (a : Again h us us n n words u) → h.setup.sessions ≡ length h.sessions → h.probes ≡ [] → BodyKept h us n → BodyKept h (us ++ record { number = n; actor = a.actor; body = a.body } ∷ []) (n + 1)
+body_line_kept h us n words u a many none kept =
     let x : ScriptLine = record { number = n; actor = a.actor; body = a.body } in
     record {
       last = n;
@@ -207,5 +207,5 @@ body_line_kept h us n words u a many kept =
       rise = λ later. ap (rise_from 0) (append_assoc us (x ∷ []) later) ∙ kept.rise (x ∷ later) ∙ ap (λ b. b && rise_from n later) (above_last kept.last n kept.below);
       counted = λ c few. one_more (λ next. nat_le next.number c) us x (kept.counted c (omega arith)) (below_count n c few);
       frames = line_frames (with_lines h us) n a.actor a.rest a.body kept.frames.opened kept.frames.time kept.frames.kept a.line;
-      played = one_more (λ next. is_played h.setup next.actor next.body) us x kept.played (line_played (with_lines h us) a.actor a.rest a.body many (actor_declared h a.first a.actor many a.named) a.line);
+      played = one_more (λ next. is_played h.setup next.actor next.body) us x kept.played (line_played (with_lines h us) a.actor a.rest a.body many (actor_declared h a.first a.actor many none a.named) a.line);
     }

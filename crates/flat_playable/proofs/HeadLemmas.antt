@@ -105,6 +105,7 @@ fence_more setup d is =
 pub record HeadKept (u : Script) : Type 0 where
   pub lines : u.lines ≡ []
   pub probes : u.setup.probes ≡ 0
+  pub probe_names : u.probes ≡ []
   pub sessions : u.setup.sessions ≡ length u.sessions
   pub few_sessions : length u.sessions ≤ 16
   pub buffer_names : length u.setup.buffers ≡ length u.buffers
@@ -123,6 +124,7 @@ pub head_empty : HeadKept empty
 head_empty = record {
   lines = refl;
   probes = refl;
+  probe_names = refl;
   sessions = refl;
   few_sessions = omega arith;
   buffer_names = refl;
@@ -151,6 +153,7 @@ size_kept u ws t x o =
     subst P (sym x.made) (record {
       lines = o.lines;
       probes = o.probes;
+      probe_names = o.probe_names;
       sessions = o.sessions;
       few_sessions = o.few_sessions;
       buffer_names = o.buffer_names;
@@ -174,6 +177,7 @@ session_kept u ws t x o =
     subst P (sym x.made) (record {
       lines = o.lines;
       probes = o.probes;
+      probe_names = o.probe_names;
       sessions = omega (arith, length-append u.sessions (x.name ∷ []));
       few_sessions = room_left u.sessions x.name 16 x.room;
       buffer_names = o.buffer_names;
@@ -199,6 +203,7 @@ buffers_kept u ws t x o =
     subst P (sym x.made) (record {
       lines = o.lines;
       probes = o.probes;
+      probe_names = o.probe_names;
       sessions = o.sessions;
       few_sessions = o.few_sessions;
       buffer_names = few_more u.setup.buffers u.buffers x.decl x.name o.buffer_names;
@@ -265,6 +270,7 @@ pair_kept u ws t x o =
     subst P (sym x.made) (record {
       lines = o.lines;
       probes = o.probes;
+      probe_names = o.probe_names;
       sessions = o.sessions;
       few_sessions = o.few_sessions;
       buffer_names = o.buffer_names;
@@ -302,6 +308,7 @@ fence_kept u ws t x o =
     subst P (sym x.made) (record {
       lines = o.lines;
       probes = o.probes;
+      probe_names = o.probe_names;
       sessions = o.sessions;
       few_sessions = o.few_sessions;
       buffer_names = o.buffer_names;

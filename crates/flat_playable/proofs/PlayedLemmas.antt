@@ -1,5 +1,5 @@
 -- A line of the body that is read is one that is played.
-use Rattle.std.proofs.Common.{◌≡◌, ℕ, ◌+◌, ◌<◌, ◌≤◌, ◌==◌, ◌&&◌, Bool, true, false, ◌||◌, nat_lt, if◌then◌else◌, cond, subst, List, [], ◌∷◌, Option, Some, None, unwrap_or, option_map, Ok, Err, refl, sym, ◌∙◌, ap, codes, arith, slice_get}
+use Rattle.std.proofs.Common.{◌≡◌, ℕ, ◌+◌, ◌<◌, ◌≤◌, ◌==◌, ◌&&◌, Bool, true, false, ◌||◌, nat_lt, if◌then◌else◌, cond, subst, List, [], ◌∷◌, Option, Some, None, unwrap_or, option_map, Ok, Err, refl, sym, ◌∙◌, ap, codes, arith, slice_get, inl, inr}
 use Rattle.std.specs.Option.{option_map_or, option_or}
 use Rattle.std.specs.List.{list_any, list_all, before_first, after_first}
 use Rattle.std.proofs.lemmas.Option.{slice_get_past}
@@ -17,7 +17,7 @@ use Rattle.flat_base.specs.declared.ids.BufferNo.{BufferNo}
 use Rattle.flat_base.specs.declared.ids.ContentId.{ContentId}
 use Rattle.flat_scene.specs.declared.calls.Call.{Call}
 use Rattle.flat_scene.specs.declared.calls.Call.TheVariants as call
-use Rattle.flat_scene.specs.declared.calls.Watch.TheVariants as watch
+use Rattle.flat_scene.specs.declared.calls.Inset.{Inset}
 use Rattle.flat_scene.specs.declared.calls.PresentArgs.{PresentArgs}
 use Rattle.flat_scene.specs.declared.script.Line.{Line}
 use Rattle.flat_scene.specs.declared.script.Line.TheVariants as line
@@ -33,21 +33,21 @@ use Rattle.flat_scene.specs.declared.script.Cond.{Cond}
 use Rattle.flat_scene.specs.declared.script.Cond.TheVariants as asks
 use Rattle.flat_scene.specs.History.{is_session}
 use Rattle.flat_scene.specs.Setups.{is_within, is_declared, may_own}
-use Rattle.flat_core.specs.Legal.{owns_view, owns_fence, owns_buffers, is_fence}
+use Rattle.flat_core.specs.Legal.{owns_view, owns_viewport, owns_fence, owns_buffers, is_fence}
 use Rattle.flat_script.specs.declared.script.Script.{Script}
 use Rattle.flat_script.specs.Known.{known_words}
-use Rattle.flat_script.specs.Forms.{Word, Form, Reading, both, mapped, unless_kind, each, one_or_more, whole, ◌<$>◌, ◌<*>◌}
+use Rattle.flat_script.specs.Forms.{Word, Form, Reading, both, mapped, unless_kind, each, one_or_more, whole, optional, ◌<$>◌, ◌<*>◌}
 use Rattle.flat_script.specs.Names.{place_of, session_named, owner_named, actor_named, is_actor}
-use Rattle.flat_script.specs.Places.{time, u32, content, session, fence, fence_word, owned, view_end, collection}
-use Rattle.flat_script.specs.Calls.{call_form}
-use Rattle.flat_script.specs.declared.calls.CallName.TheVariants.{CreateImage}
+use Rattle.flat_script.specs.Places.{time, u32, content, session, fence, fence_word, owned, view_end, viewport_end, inset, collection}
+use Rattle.flat_script.specs.Calls.{call_form, inset_or_none}
+use Rattle.flat_script.specs.declared.calls.CallName.TheVariants.{CreateViewport, CreateImage}
 use Rattle.flat_script.specs.Lists.{ends_list}
 use Rattle.flat_script.specs.Body.{fence_lists, present, presents_asked, session_line, display_line, actor_line}
-use Rattle.flat_script.specs.Print.{pair_word, buffers_word, session_word, numbers, call_words, lists_words, session_words, display_words}
+use Rattle.flat_script.specs.Print.{pair_word, buffers_word, session_word, numbers, call_fields, call_words, lists_words, session_words, display_words}
 use Rattle.flat_script.specs.Print.{fence_word as fence_name}
 use Rattle.flat_script.proofs.FormLemmas.{apply_ok, map_ok, place_ok, whole_ok, unless_ok, or_kind_ok, mapped_ok, both_ok}
-use Rattle.flat_script.proofs.ListLemmas.{pair_of, by_acquire, by_release, by_neither}
-use Rattle.flat_script.proofs.BodyWordLemmas.{body_spelt}
+use Rattle.flat_script.proofs.ListLemmas.{pair_of, ListsOk, lists_ok}
+use Rattle.flat_script.proofs.BodyWordLemmas.{display_spelt, session_shown}
 use Rattle.flat_playable.specs.Playable.{is_played_call, is_played_condition, is_played_line, is_played_display, is_played}
 
 -- numbers of a range
@@ -79,27 +79,23 @@ owner_by s w a false many is = owner_by_session s w a (session_named s w) many r
 pub owner_declared : (s : Script) (w : Word) (a : Actor) → s.setup.sessions ≡ length s.sessions → owner_named s w ≡ Some a → may_own s.setup a ≡ true
 owner_declared s w a many is = owner_by s w a (bytes_eq w (codes "display")) many is
 
--- an actor is declared unless it's a probe
+-- an actor is the display or a declared session
 abbrev pub may_act : Setup → Actor → Bool
 may_act setup Display = true
 may_act setup (Session s) = is_declared setup s
-may_act setup (Probe p) = true
+may_act setup (Probe p) = false
 
 owner_acts : (setup : Setup) (a : Actor) → may_own setup a ≡ true → may_act setup a ≡ true
 owner_acts setup Display is = refl
 owner_acts setup (Session s) is = is
-owner_acts setup (Probe p) is = refl
+owner_acts setup (Probe p) is = is
 
-actor_by_probe : (s : Script) (a : Actor) (o : Option ℕ) → option_map Probe o ≡ Some a → may_act s.setup a ≡ true
-actor_by_probe s a None is = absurd (cc)
-actor_by_probe s a (Some i) is = let e : Probe i ≡ a = cc in ap (may_act s.setup) (sym e)
-
-actor_by : (s : Script) (w : Word) (a : Actor) (o : Option Actor) → s.setup.sessions ≡ length s.sessions → owner_named s w ≡ o → option_or o (option_map Probe (place_of s.probes w)) ≡ Some a → may_act s.setup a ≡ true
-actor_by s w a None many at is = actor_by_probe s a (place_of s.probes w) is
+actor_by : (s : Script) (w : Word) (a : Actor) (o : Option Actor) → s.setup.sessions ≡ length s.sessions → owner_named s w ≡ o → option_or o None ≡ Some a → may_act s.setup a ≡ true
+actor_by s w a None many at is = absurd (cc)
 actor_by s w a (Some v) many at is = let e : v ≡ a = cc in ap (may_act s.setup) (sym e) ∙ owner_acts s.setup v (owner_declared s w v many at)
 
-pub actor_declared : (s : Script) (w : Word) (a : Actor) → s.setup.sessions ≡ length s.sessions → actor_named s w ≡ Some a → may_act s.setup a ≡ true
-actor_declared s w a many is = actor_by s w a (owner_named s w) many refl is
+pub actor_declared : (s : Script) (w : Word) (a : Actor) → s.setup.sessions ≡ length s.sessions → s.probes ≡ [] → actor_named s w ≡ Some a → may_act s.setup a ≡ true
+actor_declared s w a many none is = actor_by s w a (owner_named s w) many refl (ap (λ names. option_or (owner_named s w) (option_map Probe (place_of names w))) (sym none) ∙ is)
 
 -- calls
 
@@ -117,6 +113,11 @@ owned_owns names decls owns w i is = owned_by names decls owns w i (place_of nam
 same_number : (a b : ℕ) → (a == b) ≡ true → (b == a) ≡ true
 same_number a b is = grind (arith, nat_tests)
 
+owner_is : (a : SessionNo) (who : Actor) → is_actor (Session a) who ≡ true → is_session a who ≡ true
+owner_is a Display is = absurd (cc)
+owner_is a (Session b) is = same_number a.0 b.0 is
+owner_is a (Probe p) is = absurd (cc)
+
 view_owner_is : (a : SessionNo) (o : Option PairDecl) → option_map_or (λ d. is_actor (Session a) (Session d.view)) o false ≡ true → unwrap_or (option_map (λ t. t.0 == a.0) (option_map (λ d. d.view) o)) false ≡ true
 view_owner_is a None is = absurd (cc)
 view_owner_is a (Some d) is = same_number a.0 d.view.0 is
@@ -132,6 +133,33 @@ view_played s a p is =
     let l : line.Call m.a ≡ line.Call (call.CreateView p) = m.value in
     let e : g.a ≡ p = cc in
     ap (owns_view s.setup a) (sym (n.value ∙ e)) ∙ view_owner_is a (slice_get s.setup.pairs n.a) owns
+
+viewport_owner_is : (a : SessionNo) (o : Option PairDecl) → option_map_or (λ d. is_actor (Session a) d.viewport) o false ≡ true → unwrap_or (option_map (is_session a) (option_map (λ d. d.viewport) o)) false ≡ true
+viewport_owner_is a None is = absurd (cc)
+viewport_owner_is a (Some d) is = owner_is a d.viewport is
+
+-- a test that gave a pair gave one whose viewport end is owned
+viewport_owned : (s : Script) (a : SessionNo) (w : Word) (p : PairNo) → mapped (λ i. record { 0 = i }) (owned s.pairs s.setup.pairs (λ d. is_actor (Session a) d.viewport) w) ≡ Ok p → owns_viewport s.setup a p ≡ true
+viewport_owned s a w p is =
+    let n = mapped_ok (λ i. record { 0 = i }) (owned s.pairs s.setup.pairs (λ d. is_actor (Session a) d.viewport) w) p is in
+    let owns = owned_owns s.pairs s.setup.pairs (λ d. is_actor (Session a) d.viewport) w n.a n.given in
+    ap (owns_viewport s.setup a) (sym n.value) ∙ viewport_owner_is a (slice_get s.setup.pairs n.a) owns
+
+viewport_played : (s : Script) (a : SessionNo) (c : ContentId) (p : PairNo) (w h : ℕ) (i : Inset) (words : List Word)
+    → mapped line.Call (whole (call_form s a CreateViewport) words) ≡ Ok (line.Call (call.CreateViewport c p w h i)) → owns_viewport s.setup a p ≡ true
+viewport_played s a c p w h i words is =
+    let g : ContentId → PairNo → ℕ → ℕ → Option Inset → Call = λ d x k m n. call.CreateViewport d x k m (inset_or_none n) in
+    let m = mapped_ok line.Call (whole (call_form s a CreateViewport) words) (line.Call (call.CreateViewport c p w h i)) is in
+    let p5 = apply_ok (g <$> content <*> viewport_end s a <*> u32 <*> u32) (optional inset) words m.a [] (whole_ok (call_form s a CreateViewport) words m.a m.given) in
+    let p4 = apply_ok (g <$> content <*> viewport_end s a <*> u32) u32 words p5.g p5.mid p5.first in
+    let p3 = apply_ok (g <$> content <*> viewport_end s a) u32 words p4.g p4.mid p4.first in
+    let p2 = apply_ok (g <$> content) (viewport_end s a) words p3.g p3.mid p3.first in
+    let p1 = map_ok g content words p2.g p2.mid p2.first in
+    let q = place_ok _ _ p2.a p3.mid p2.second in
+    let made : g p1.a p2.a p3.a p4.a p5.a ≡ m.a = ap (λ f. f p2.a p3.a p4.a p5.a) p1.value ∙ ap (λ f. f p3.a p4.a p5.a) p2.value ∙ ap (λ f. f p4.a p5.a) p3.value ∙ ap (λ f. f p5.a) p4.value ∙ p5.value in
+    let l : line.Call m.a ≡ line.Call (call.CreateViewport c p w h i) = m.value in
+    let e : p2.a ≡ p = cc in
+    ap (owns_viewport s.setup a) (sym e) ∙ viewport_owned s a q.word p2.a q.passes
 
 buffers_owner_is : (a : SessionNo) (o : Option BufferDecl) → option_map_or (λ d. is_actor (Session a) (Session d.owner)) o false ≡ true → unwrap_or (option_map (λ d. d.owner.0 == a.0) o) false ≡ true
 buffers_owner_is a None is = absurd (cc)
@@ -162,16 +190,11 @@ image_played s a c b i w h words is =
 
 call_played : (s : Script) (a : SessionNo) (c : Call) → session_line known_words s a (call_words s c) ≡ Ok (line.Call c) → is_played_call s.setup a c ≡ true
 call_played s a (call.CreateView p) is = view_played s a p is
-call_played s a (call.CreateViewport c p w h i) is = absurd (cc)
+call_played s a (call.CreateViewport c p w h i) is = viewport_played s a c p w h i (call_fields s (call.CreateViewport c p w h i)) is
 call_played s a (call.CreateImage c b i w h) is = image_played s a c b i w h (decimal c.0 ∷ buffers_word s b ∷ numbers (i ∷ w ∷ h ∷ [])) is
 call_played s a _ is = refl
 
 -- fences
-
-owner_is : (a : SessionNo) (who : Actor) → is_actor (Session a) who ≡ true → is_session a who ≡ true
-owner_is a Display is = absurd (cc)
-owner_is a (Session b) is = same_number a.0 b.0 is
-owner_is a (Probe p) is = absurd (cc)
 
 or_true : (x : Bool) → (x || true) ≡ true
 or_true true = refl
@@ -239,24 +262,17 @@ no_fences = Ok []
 none_owned : (s : Script) (a : SessionNo) (fs : List FenceNo) → no_fences ≡ Ok fs → list_all (owns_fence s.setup a) fs ≡ true
 none_owned s a fs is = let none : [] ≡ fs = cc in ap (list_all (owns_fence s.setup a)) (sym none)
 
-by_keyword : (s : Script) (a : SessionNo) (w : Word) (words : List Word) (lists : List FenceNo × List FenceNo) (b c : Bool) → bytes_eq w (codes "acquire") ≡ b → bytes_eq w (codes "release") ≡ c
-    → fence_lists known_words (fence_word s (Session a)) (w ∷ words) ≡ Ok lists → AreOwned s a lists
-by_keyword s a w words lists true c at other is =
-    both_owned s a _ _ lists (sym (by_acquire (fence_word s (Session a)) w words at) ∙ is) (λ fs given. some_owned s a (before_first (ends_list true) words) fs given) (λ fs given. behind_owned s a words fs (list_any (ends_list true) words) given)
-by_keyword s a w words lists false true at other is =
-    both_owned s a _ _ lists (sym (by_release (fence_word s (Session a)) w words at other) ∙ is) (λ fs given. none_owned s a fs given) (λ fs given. some_owned s a words fs given)
-by_keyword s a w words lists false false at other is = absurd (no_lists (fence_lists known_words (fence_word s (Session a)) (w ∷ words)) (by_neither (fence_word s (Session a)) w words at other) is)
-  where
-    no_lists : (r : Reading (List FenceNo × List FenceNo)) → r ≡ Err 8 → r ≡ Ok lists → ⊥
-    no_lists (Ok v) wrong given = absurd (cc)
-    no_lists (Err k) wrong given = absurd (cc)
+lists_by : (s : Script) (a : SessionNo) (w : Word) (words : List Word) (lists : List FenceNo × List FenceNo) → ListsOk (fence_word s (Session a)) w words lists → AreOwned s a lists
+lists_by s a w words lists (inl read) =
+    both_owned s a _ _ lists read.1 (λ fs given. some_owned s a (before_first (ends_list true) words) fs given) (λ fs given. behind_owned s a words fs (list_any (ends_list true) words) given)
+lists_by s a w words lists (inr read) = both_owned s a _ _ lists read.1 (λ fs given. none_owned s a fs given) (λ fs given. some_owned s a words fs given)
 
 lists_owned : (s : Script) (a : SessionNo) (words : List Word) (lists : List FenceNo × List FenceNo) → fence_lists known_words (fence_word s (Session a)) words ≡ Ok lists → AreOwned s a lists
 lists_owned s a [] lists is =
     let none : ([], []) ≡ lists = cc in
     let P : List FenceNo × List FenceNo → Type 0 = AreOwned s a in
     subst P none refl
-lists_owned s a (w ∷ words) lists is = by_keyword s a w words lists (bytes_eq w (codes "acquire")) (bytes_eq w (codes "release")) refl refl is
+lists_owned s a (w ∷ words) lists is = lists_by s a w words lists (lists_ok (fence_word s (Session a)) w words lists is)
 
 -- a form of a fence
 fence_given : (s : Script) (who : Actor) {B : Type 0} (h : FenceNo → B) (words : List Word) (v : B) → whole (h <$> fence s who) words ≡ Ok v → (f : FenceNo) × ((w : Word) × ((fence_word s who w ≡ Ok f) × (h f ≡ v)))
@@ -298,16 +314,14 @@ wait_played : (s : Script) (a : SessionNo) (c : Cond) → session_line known_wor
 wait_played s a (asks.Frames n) is = refl
 wait_played s a (asks.Credits n) is = refl
 wait_played s a (asks.Taken n) is = refl
-wait_played s a (asks.Answers n) is = absurd (cc)
+wait_played s a (asks.Answers n) is = refl
 wait_played s a (asks.Fence f) is = wait_fence_played s a f (fence_name s f ∷ []) is
 wait_played s a (asks.Presents t n) is = absurd (cc)
 
 session_played : (s : Script) (a : SessionNo) (l : Line) → session_line known_words s a (session_words s l) ≡ Ok l → is_played_line s.setup a l ≡ true
 session_played s a (line.Call c) is = call_played s a c is
 session_played s a (line.Present p) is = present_by s a p (decimal p.time ∷ lists_words s p) is
-session_played s a (line.Get watch.Layout) is = absurd (cc)
-session_played s a (line.Get watch.Status) is = absurd (cc)
-session_played s a (line.Get (watch.Child c)) is = absurd (cc)
+session_played s a (line.Get w) is = refl
 session_played s a (line.Signal f) is = signal_played s a f (fence_name s f ∷ []) is
 session_played s a line.Poll is = refl
 session_played s a (line.Wait c) is = wait_played s a c is
@@ -353,17 +367,15 @@ display_played s (display.Wait (asks.Taken n)) many is = absurd (cc)
 display_played s (display.Wait (asks.Answers n)) many is = absurd (cc)
 display_played s (display.Wait (asks.Fence f)) many is = display_wait_fence_played s f (fence_name s f ∷ []) is
 display_played s (display.Wait (asks.Presents t n)) many is = presents_declared s t n (session_word s t ∷ decimal n ∷ []) many is
-display_played s (display.Hit x y) many is = absurd (cc)
+display_played s (display.Hit x y) many is = refl
 
 -- a line behind its actor
 pub line_played : (s : Script) (a : Actor) (words : List Word) (b : Body) → s.setup.sessions ≡ length s.sessions → may_act s.setup a ≡ true → actor_line known_words s a words ≡ Ok b → is_played s.setup a b ≡ true
 line_played s Display words b many may is =
     let m = mapped_ok body.Display (display_line known_words s words) b is in
-    let spelt : display_words s m.a ≡ words = body_spelt s Display words (body.Display m.a) (ap (mapped body.Display) m.given) in
-    ap (is_played s.setup Display) (sym m.value) ∙ display_played s m.a many (ap (display_line known_words s) spelt ∙ m.given)
+    ap (is_played s.setup Display) (sym m.value) ∙ display_played s m.a many (ap (display_line known_words s) (display_spelt s words m.a m.given) ∙ m.given)
 line_played s (Session a) words b many may is =
     let m = mapped_ok body.Session (session_line known_words s a words) b is in
-    let spelt : session_words s m.a ≡ words = body_spelt s (Session a) words (body.Session m.a) (ap (mapped body.Session) m.given) in
-    ap (is_played s.setup (Session a)) (sym m.value) ∙ ap (λ d. d && is_played_line s.setup a m.a) may ∙ session_played s a m.a (ap (session_line known_words s a) spelt ∙ m.given)
-line_played s (Probe p) [] b many may is = absurd (cc)
-line_played s (Probe p) (w ∷ words) b many may is = absurd (cc)
+    let shown = session_shown s a words m.a m.given in
+    ap (is_played s.setup (Session a)) (sym m.value) ∙ ap (λ d. d && is_played_line s.setup a m.a) may ∙ session_played s a m.a shown.again
+line_played s (Probe p) words b many may is = absurd (cc)
