@@ -176,28 +176,24 @@ pub may_begin : (m : Machine) (time : ℕ) → HasShare m Display → (not (is_f
 may_begin m time share times = record {
   may = record { acts = refl; lasts = refl; times = times; drafted = refl; calls = refl; links = refl; owned = refl; named = refl; tree = refl; watcher = refl };
   share = share;
-  plain = refl;
 }
 
 pub may_finish : (m : Machine) → HasShare m Display → is_frame_open m.history ≡ true → MayCall m Display [] Finish
 may_finish m share times = record {
   may = record { acts = refl; lasts = refl; times = times; drafted = refl; calls = refl; links = refl; owned = refl; named = refl; tree = refl; watcher = refl };
   share = share;
-  plain = refl;
 }
 
 pub may_signal_fence : (m : Machine) (f : FenceNo) → HasShare m Display → is_fence m.setup f ≡ true → MayCall m Display [] (Signal f)
 may_signal_fence m f share named = record {
   may = record { acts = refl; lasts = refl; times = refl; drafted = refl; calls = refl; links = refl; owned = refl; named = named; tree = refl; watcher = refl };
   share = share;
-  plain = refl;
 }
 
 waits_for : (m : Machine) (c : Cond) → HasShare m Display → display_may (Wait c) ≡ true → names_declared m.setup (Wait c) ≡ true → MayCall m Display [] (Wait c)
 waits_for m c share acts named = record {
   may = record { acts = acts; lasts = refl; times = refl; drafted = refl; calls = refl; links = refl; owned = refl; named = named; tree = refl; watcher = refl };
   share = share;
-  plain = refl;
 }
 
 pub may_wait_for : (m : Machine) (c : Cond) → HasShare m Display → is_played_display m.setup (display.Wait c) ≡ true → MayCall m Display [] (Wait c)
@@ -291,5 +287,4 @@ pub may_hit : (m : Machine) (x y : ℤ) → HasShare m Display → MayCall m Dis
 may_hit m x y share = record {
   may = record { acts = refl; lasts = refl; times = refl; drafted = refl; calls = refl; links = refl; owned = refl; named = refl; tree = refl; watcher = refl };
   share = share;
-  plain = refl;
 }

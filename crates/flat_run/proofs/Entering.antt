@@ -1,6 +1,7 @@
 -- What a session's line makes may be entered.
 use Rattle.std.proofs.Common.{◌≡◌, ℕ, ◌-◌, ◌<◌, ◌≤◌, Bool, true, false, cond, not, ◌&&◌, ◌||◌, ◌==◌, List, [], ◌∷◌, ◌++◌, length, refl, sym, ap, ◌∙◌, arith, append_assoc, length-append, Option, Some, None, Result, Ok, Err, nat_lt, slice_get, unwrap_or, option_map, is_some}
 use Rattle.std.specs.List.{list_any, list_all}
+use Rattle.std.specs.Option.{option_and_then}
 use Rattle.std.specs.Result.{result_ok}
 use Rattle.std.proofs.lemmas.Bool.{eq-eqb}
 use Rattle.std.proofs.lemmas.Option.{slice_get-get_or, slice_get_past}
@@ -20,9 +21,12 @@ use Rattle.flat_scene.specs.declared.calls.Call.TheVariants.{CreateView, CreateV
 use Rattle.flat_scene.specs.declared.calls.Inset.{Inset}
 use Rattle.flat_scene.specs.declared.calls.PresentArgs.{PresentArgs}
 use Rattle.flat_scene.specs.declared.calls.ViewportProps.{ViewportProps}
-use Rattle.flat_scene.specs.declared.journal.Kind.TheVariants.{View, Viewport, Present, Signal, Poll, Wait, Close, End}
+use Rattle.flat_scene.specs.declared.calls.Watch.{Watch}
+use Rattle.flat_scene.specs.declared.calls.Watch.TheVariants as watch
+use Rattle.flat_scene.specs.declared.journal.Entry.{Entry}
+use Rattle.flat_scene.specs.declared.journal.Kind.TheVariants.{View, Viewport, Present, Get, Signal, Poll, Wait, Close, End}
 use Rattle.flat_scene.specs.declared.setup.Setup.{Setup}
-use Rattle.flat_scene.specs.Draft.{Draft, empty_draft}
+use Rattle.flat_scene.specs.Draft.{Draft, Made, a_viewport, an_image, a_fill, made_of, empty_draft}
 use Rattle.flat_scene.specs.Effect.{draft_of, after_call, after_calls}
 use Rattle.flat_scene.specs.History.{calls, own, is_closed, is_end, is_session}
 use Rattle.flat_scene.specs.Misuse.{first_reason, Test}
@@ -30,6 +34,11 @@ use Rattle.flat_scene.specs.Setups.{is_declared}
 use Rattle.flat_scene.specs.Tree.{tree_tests, present_tests}
 use Rattle.flat_core.specs.Boards.{Machine, MayCall, HasShare}
 use Rattle.flat_core.specs.Legal.{is_link, all_but_last, owns_in_call, owns_in_kind, owns_view, owns_viewport, owns_fence, same_inset, is_fence, names_declared, session_may, has_tree}
+use Rattle.flat_core.specs.Ends.{viewport_uses}
+use Rattle.flat_core.specs.Gets.{watcher_meant}
+use Rattle.flat_core.specs.Watch.{layout_of, status_of, child_of, watcher_in, watcher_of, watcher_of_made}
+use Rattle.flat_content.specs.Table.{pair_of}
+use Rattle.flat_draft.specs.Answers.{pair_watched}
 use Rattle.flat_playable.specs.Playable.{is_private, is_played_call, is_played_condition}
 use Rattle.flat_run.proofs.Conditions.{and_true, or_false, or_left, or_right, all_more, all_also, none_also}
 
@@ -132,6 +141,10 @@ no_tree_viewport : (setup : Setup) (p : PairNo) (props : ViewportProps) (draft :
 no_tree_viewport setup p props None = refl
 no_tree_viewport setup p props (Some d) = refl
 
+no_tree_get : (setup : Setup) (get : Watch) (draft : Option Draft) → has_tree setup draft (Get get) ≡ true
+no_tree_get setup get None = refl
+no_tree_get setup get (Some d) = refl
+
 no_tree_signal : (setup : Setup) (f : FenceNo) (draft : Option Draft) → has_tree setup draft (Signal f) ≡ true
 no_tree_signal setup f None = refl
 no_tree_signal setup f (Some d) = refl
@@ -158,6 +171,23 @@ same_inset_is inset = rw (eq-eqb inset.top inset.top refl, eq-eqb inset.right in
 
 same_viewport : (p : PairNo) (props : ViewportProps) → (p.0 == p.0 && props.w == props.w && props.h == props.h && same_inset props.inset props.inset) ≡ true
 same_viewport p props = rw (eq-eqb p.0 p.0 refl, eq-eqb props.w props.w refl, eq-eqb props.h props.h refl, same_inset_is props.inset) refl
+
+-- ---- which watcher a get means
+
+watched_in : (before : List Entry) (draft : Draft) (get : Watch) (pair : PairNo) → pair_watched draft get ≡ Some pair → watcher_in before draft get ≡ Some (watcher_meant before get pair)
+watched_in before draft watch.Layout pair is = ap (option_map layout_of) is
+watched_in before draft watch.Status pair is = ap (option_map status_of) is
+watched_in before draft (watch.Child c) pair is = by_made (made_of draft c) is
+  where
+    by_made : (made : Option Made) → option_and_then pair_of made ≡ Some pair → option_and_then (watcher_of_made before) made ≡ Some (child_of pair (length (viewport_uses pair before)))
+    by_made None none = cc
+    by_made (Some (a_viewport q props)) some = let same : q ≡ pair = cc in ap (λ (p : PairNo). Some (child_of p (length (viewport_uses p before)))) same
+    by_made (Some (an_image image)) none = cc
+    by_made (Some (a_fill solid)) none = cc
+
+pub get_meant : (m : Machine) (s : SessionNo) (pending : List Call) (draft : Draft) → draft_of m.setup (calls s m.history ++ pending) ≡ Ok draft → (get : Watch) (pair : PairNo) → pair_watched draft get ≡ Some pair
+    → watcher_of m.setup m.history (Session s) pending get ≡ Some (watcher_meant m.history get pair)
+get_meant m s pending draft made get pair meant = ap (λ r. option_and_then (λ d. watcher_in m.history d get) (result_ok r)) made ∙ watched_in m.history draft get pair meant
 
 -- ---- what may be entered
 
@@ -193,7 +223,6 @@ module _ (m : Machine) (s : SessionNo) (pending : List Call) (draft : Draft) (wa
       watcher = refl;
     };
     share = waits.share;
-    plain = refl;
   }
 
   pub may_viewport : (c : ContentId) (p : PairNo) (props : ViewportProps) (after : Draft) → owns_viewport m.setup s p ≡ true → draft_of m.setup (calls s m.history ++ (pending ++ CreateViewport c p props.w props.h props.inset ∷ [])) ≡ Ok after
@@ -214,7 +243,6 @@ module _ (m : Machine) (s : SessionNo) (pending : List Call) (draft : Draft) (wa
           watcher = refl;
         };
         share = waits.share;
-        plain = refl;
       }
 
   pub may_present : (args : PresentArgs) → (list_all (owns_fence m.setup s) args.acquire && list_all (owns_fence m.setup s) args.release) ≡ true → first_reason (present_tests draft args) ≡ None → MayCall m (Session s) pending (Present args)
@@ -232,7 +260,23 @@ module _ (m : Machine) (s : SessionNo) (pending : List Call) (draft : Draft) (wa
       watcher = refl;
     };
     share = waits.share;
-    plain = refl;
+  }
+
+  pub may_get : (get : Watch) (pair : PairNo) → pair_watched draft get ≡ Some pair → MayCall m (Session s) pending (Get get)
+  may_get get pair meant = record {
+    may = record {
+      acts = waits.declared;
+      lasts = goes;
+      times = refl;
+      drafted = rw (waits.unclosed) drafted;
+      calls = refl;
+      links = rw (no_links m.setup s pending waits.private) refl;
+      owned = all_owned m.setup s pending waits.private;
+      named = refl;
+      tree = no_tree_get m.setup get _;
+      watcher = ap is_some (get_meant m s pending draft waits.made get pair meant);
+    };
+    share = waits.share;
   }
 
   pub may_signal : (f : FenceNo) → owns_fence m.setup s f ≡ true → MayCall m (Session s) pending (Signal f)
@@ -250,7 +294,6 @@ module _ (m : Machine) (s : SessionNo) (pending : List Call) (draft : Draft) (wa
       watcher = refl;
     };
     share = waits.share;
-    plain = refl;
   }
 
   pub may_poll : MayCall m (Session s) pending Poll
@@ -268,7 +311,6 @@ module _ (m : Machine) (s : SessionNo) (pending : List Call) (draft : Draft) (wa
       watcher = refl;
     };
     share = waits.share;
-    plain = refl;
   }
 
   waits_for : (c : Cond) → (session_may (Wait c) && is_declared m.setup s) ≡ true → owns_in_kind m.setup s (Wait c) ≡ true → names_declared m.setup (Wait c) ≡ true → MayCall m (Session s) pending (Wait c)
@@ -286,7 +328,6 @@ module _ (m : Machine) (s : SessionNo) (pending : List Call) (draft : Draft) (wa
       watcher = refl;
     };
     share = waits.share;
-    plain = refl;
   }
 
   pub may_wait : (c : Cond) → is_played_condition m.setup s c ≡ true → MayCall m (Session s) pending (Wait c)
@@ -294,7 +335,7 @@ module _ (m : Machine) (s : SessionNo) (pending : List Call) (draft : Draft) (wa
   may_wait (asks.Credits n) played = waits_for (asks.Credits n) waits.declared refl refl
   may_wait (asks.Taken n) played = waits_for (asks.Taken n) waits.declared refl refl
   may_wait (asks.Fence f) played = waits_for (asks.Fence f) waits.declared played (fence_declared m.setup s f played)
-  may_wait (asks.Answers n) played = absurd (cc)
+  may_wait (asks.Answers n) played = waits_for (asks.Answers n) waits.declared refl refl
   may_wait (asks.Presents t n) played = absurd (cc)
 
   -- a call that is a misuse closes
@@ -313,7 +354,6 @@ module _ (m : Machine) (s : SessionNo) (pending : List Call) (draft : Draft) (wa
       watcher = refl;
     };
     share = waits.share;
-    plain = refl;
   }
 
   -- a present that is a misuse closes, and so does a line that wishes it
@@ -332,7 +372,6 @@ module _ (m : Machine) (s : SessionNo) (pending : List Call) (draft : Draft) (wa
       watcher = refl;
     };
     share = waits.share;
-    plain = refl;
   }
 
   -- a session that isn't closed ends
@@ -351,7 +390,6 @@ module _ (m : Machine) (s : SessionNo) (pending : List Call) (draft : Draft) (wa
       watcher = refl;
     };
     share = waits.share;
-    plain = refl;
   }
 
 -- a session that was closed ends
@@ -371,5 +409,4 @@ may_end_closed m s refused share declared unended closed = record {
     watcher = refl;
   };
   share = share;
-  plain = refl;
 }

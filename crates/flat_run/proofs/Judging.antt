@@ -3,9 +3,11 @@ use Rattle.std.proofs.Common.{◌≡◌, Bool, true, false, sym, ap, ◌∙◌, 
 use Rattle.flat_base.specs.declared.errors.Reason.{Reason}
 use Rattle.flat_scene.specs.declared.calls.Call.{Call}
 use Rattle.flat_scene.specs.declared.calls.Call.TheVariants.{CreateView, CreateViewport}
+use Rattle.flat_base.specs.declared.ids.PairNo.{PairNo}
 use Rattle.flat_scene.specs.declared.calls.PresentArgs.{PresentArgs}
+use Rattle.flat_scene.specs.declared.calls.Watch.{Watch}
 use Rattle.flat_scene.specs.declared.journal.Kind.{Kind}
-use Rattle.flat_scene.specs.declared.journal.Kind.TheVariants.{View, Viewport, Present, Signal, Poll, Wait, Close}
+use Rattle.flat_scene.specs.declared.journal.Kind.TheVariants.{View, Viewport, Present, Get, Signal, Poll, Wait, Close}
 use Rattle.flat_scene.specs.declared.script.Line.{Line}
 use Rattle.flat_scene.specs.declared.script.Line.TheVariants as line
 use Rattle.flat_scene.specs.declared.setup.Setup.{Setup}
@@ -15,7 +17,7 @@ use Rattle.flat_scene.specs.Interleave.{entry_of_call, entry_of_line, or_close}
 use Rattle.flat_scene.specs.Misuse.{first_reason}
 use Rattle.flat_scene.specs.Tree.{present_tests, tree}
 use Rattle.flat_draft.specs.declared.fault.DraftFault.TheVariants.{Bad}
-use Rattle.flat_draft.specs.Answers.{IsAnswer, IsRefused, Presents}
+use Rattle.flat_draft.specs.Answers.{IsAnswer, IsRefused, IsWatched, Presents}
 use Rattle.flat_draft.specs.Stands.{StandsFor}
 use Rattle.flat_draft.specs.State.{DraftState}
 use Rattle.flat_run.specs.declared.made.Made.{Made}
@@ -58,7 +60,20 @@ module _ (setup : Setup) (draft : Draft) (old new : DraftState) where
   call_leaves call (Some (made.View pair)) answer kind by = (ap (λ (k : Call). let t : Line = line.Call k in t) by, answer.1, answer.2, answer.3)
   call_leaves call (Some (made.Viewport pair props)) answer kind by = ((by.0, ap (λ (k : Call). let t : Line = line.Call k in t) by.1), answer.1, answer.2, answer.3)
   call_leaves call (Some (made.Present args snapshot)) answer kind by = absurd (no_entry (Present args) refl call kind)
+  call_leaves call (Some (made.Get get pair)) answer kind by = absurd (no_entry (Get get) refl call kind)
   call_leaves call (Some (made.Signal f)) answer kind by = absurd (no_entry (Signal f) refl call kind)
   call_leaves call (Some made.Poll) answer kind by = absurd (no_entry Poll refl call kind)
   call_leaves call (Some (made.Wait c)) answer kind by = absurd (no_entry (Wait c) refl call kind)
   call_leaves call (Some (made.Close why)) answer kind by = tt
+
+  -- a get
+  pub get_closes : (get : Watch) (reason : Reason) → IsWatched draft get old new (Err (Bad reason)) → Some (Close (Some reason)) ≡ entry_of_line setup draft (line.Get get)
+  get_closes get reason answer = ap (λ misused. or_close misused (Some (Get get))) (sym answer.1)
+
+  pub get_makes : (get : Watch) (pair : PairNo) → IsWatched draft get old new (Ok pair) → Some (Get get) ≡ entry_of_line setup draft (line.Get get)
+  get_makes get pair answer = ap (λ misused. or_close misused (Some (Get get))) (sym answer.1)
+
+  pub get_leaves : (get : Watch) (pair : PairNo) → IsWatched draft get old new (Ok pair) → StandsFor setup old draft → LeavesDraft setup draft (line.Get get) new (Some (made.Get get pair))
+  get_leaves get pair answer stands =
+      let P : DraftState → Type 0 = λ s. StandsFor setup s draft in
+      (refl, answer.1, answer.2, subst P (sym answer.3) stands, ap (λ (s : DraftState). s.closed) answer.3 ∙ answer.0)

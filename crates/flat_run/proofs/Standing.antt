@@ -11,7 +11,7 @@ use Rattle.flat_scene.specs.declared.calls.Call.{Call}
 use Rattle.flat_scene.specs.declared.calls.Call.TheVariants.{CreateView, CreateViewport, CreateImage}
 use Rattle.flat_scene.specs.declared.journal.Entry.{Entry}
 use Rattle.flat_scene.specs.declared.journal.Kind.{Kind}
-use Rattle.flat_scene.specs.declared.journal.Kind.TheVariants.{View, Viewport, Present, Signal, Poll, Wait, Close, End}
+use Rattle.flat_scene.specs.declared.journal.Kind.TheVariants.{View, Viewport, Present, Get, Signal, Poll, Wait, Close, End}
 use Rattle.flat_scene.specs.declared.journal.Reply.{Reply}
 use Rattle.flat_scene.specs.declared.script.Line.{Line}
 use Rattle.flat_scene.specs.declared.script.Line.TheVariants as line
@@ -30,10 +30,10 @@ use Rattle.flat_script.specs.declared.script.Script.{Script}
 use Rattle.flat_run.specs.declared.made.Made.{Made}
 use Rattle.flat_run.specs.declared.made.Made.TheVariants as made
 use Rattle.flat_run.specs.declared.player.Player.{Player}
-use Rattle.flat_run.specs.Made.{kind_of, ShowsTree}
+use Rattle.flat_run.specs.Made.{kind_of, IsMeant}
 use Rattle.flat_playable.specs.Playable.{is_private, is_played_call, is_played_line}
-use Rattle.flat_run.specs.Playing.{lines_left, is_judged, IsNoMisuse, LeavesDraft, Judges, IsOpenAt, IsClosedAt, PlayerStands, is_quiet}
-use Rattle.flat_run.proofs.Entering.{IsWaiting, may_view, may_viewport, may_present, may_signal, may_poll, may_wait, may_close_call, may_close_present}
+use Rattle.flat_run.specs.Playing.{lines_left, IsNoMisuse, LeavesDraft, Judges, IsOpenAt, IsClosedAt, PlayerStands, is_quiet}
+use Rattle.flat_run.proofs.Entering.{IsWaiting, get_meant, may_view, may_viewport, may_get, may_present, may_signal, may_poll, may_wait, may_close_call, may_close_present}
 use Rattle.flat_run.proofs.Places.{Here}
 use Rattle.flat_run.proofs.Reading.{IsOpen, IsShut, follows_more, open_after, shut_after}
 use Rattle.flat_run.proofs.Conditions.{or_false, all_more}
@@ -41,16 +41,16 @@ use Rattle.flat_run.proofs.Conditions.{or_false, all_more}
 -- ---- the calls of a line
 
 -- the draft with the call of a line that is no misuse
-after_made : (setup : Setup) (before : List Call) (pending : List Call) (text : Line) (draft : Draft) → is_judged text ≡ true → IsNoMisuse setup draft text → draft_of setup (before ++ pending) ≡ Ok draft
+after_made : (setup : Setup) (before : List Call) (pending : List Call) (text : Line) (draft : Draft) → IsNoMisuse setup draft text → draft_of setup (before ++ pending) ≡ Ok draft
     → draft_of setup (before ++ (pending ++ calls_of_line text)) ≡ Ok (after_line draft text)
-after_made setup before pending (line.Call call) draft judged fine made =
+after_made setup before pending (line.Call call) draft fine made =
     ap (draft_of setup) (sym (append_assoc before pending (call ∷ []))) ∙ (calls_follow setup (before ++ pending) draft call made).done fine
-after_made setup before pending (line.Present args) draft judged fine made = ap (λ p. draft_of setup (before ++ p)) (append-nil pending) ∙ made
-after_made setup before pending (line.Signal f) draft judged fine made = ap (λ p. draft_of setup (before ++ p)) (append-nil pending) ∙ made
-after_made setup before pending line.Poll draft judged fine made = ap (λ p. draft_of setup (before ++ p)) (append-nil pending) ∙ made
-after_made setup before pending (line.Wait c) draft judged fine made = ap (λ p. draft_of setup (before ++ p)) (append-nil pending) ∙ made
-after_made setup before pending line.Disconnect draft judged fine made = ap (λ p. draft_of setup (before ++ p)) (append-nil pending) ∙ made
-after_made setup before pending (line.Get get) draft judged fine made = absurd (cc)
+after_made setup before pending (line.Present args) draft fine made = ap (λ p. draft_of setup (before ++ p)) (append-nil pending) ∙ made
+after_made setup before pending (line.Signal f) draft fine made = ap (λ p. draft_of setup (before ++ p)) (append-nil pending) ∙ made
+after_made setup before pending line.Poll draft fine made = ap (λ p. draft_of setup (before ++ p)) (append-nil pending) ∙ made
+after_made setup before pending (line.Wait c) draft fine made = ap (λ p. draft_of setup (before ++ p)) (append-nil pending) ∙ made
+after_made setup before pending line.Disconnect draft fine made = ap (λ p. draft_of setup (before ++ p)) (append-nil pending) ∙ made
+after_made setup before pending (line.Get get) draft fine made = ap (λ p. draft_of setup (before ++ p)) (append-nil pending) ∙ made
 
 -- a played call that makes no entry is private
 private_played : (setup : Setup) (s : SessionNo) (call : Call) → is_played_call setup s call ≡ true → entry_of_call call ≡ None → is_private setup s call ≡ true
@@ -70,11 +70,7 @@ still_private setup s draft (line.Signal f) pending played fine none private = a
 still_private setup s draft line.Poll pending played fine none private = absurd (cc)
 still_private setup s draft (line.Wait c) pending played fine none private = absurd (cc)
 still_private setup s draft line.Disconnect pending played fine none private = absurd (cc)
-still_private setup s draft (line.Get get) pending played fine none private = absurd (cc)
-
-pub judged_played : (setup : Setup) (s : SessionNo) (text : Line) → is_played_line setup s text ≡ true → is_judged text ≡ true
-judged_played setup s (line.Get get) played = absurd (cc)
-judged_played setup s _ played = refl
+still_private setup s draft (line.Get get) pending played fine none private = ap (list_all (is_private setup s)) (append-nil pending) ∙ private
 
 module _ (script : Script) (s : SessionNo) (place number : ℕ) (text : Line) (here : Here script s place number text) (history : List Entry) where
   -- a line of a session that was closed is counted
@@ -109,7 +105,7 @@ module _ (script : Script) (s : SessionNo) (place number : ℕ) (text : Line) (h
         when_open = λ is. record {
           draft = after_line o.draft text;
           made = ap (λ p. draft_of script.setup (carried (own s history) ++ p)) j.pending
-              ∙ after_made script.setup (carried (own s history)) old.pending text o.draft (judged_played script.setup s text here.played) j.leaves.0 o.made;
+              ∙ after_made script.setup (carried (own s history)) old.pending text o.draft j.leaves.0 o.made;
           next = o.next ∙ ap (next_from script.setup script.count o.draft old.pending) here.left
               ∙ ap (λ made. next_or made number after (next_from script.setup script.count (after_line o.draft text) after (lines_left script s (place + 1)))) none
               ∙ ap (λ p. next_from script.setup script.count (after_line o.draft text) p (lines_left script s (place + 1))) (sym j.pending);
@@ -131,6 +127,7 @@ pub made_quiet : (one : Made) → is_quiet (kind_of one) ≡ true
 made_quiet (made.View pair) = refl
 made_quiet (made.Viewport pair props) = refl
 made_quiet (made.Present args snapshot) = refl
+made_quiet (made.Get get pair) = refl
 made_quiet (made.Signal f) = refl
 made_quiet made.Poll = refl
 made_quiet (made.Wait c) = refl
@@ -140,6 +137,7 @@ made_no_end : (one : Made) → is_end (kind_of one) ≡ false
 made_no_end (made.View pair) = refl
 made_no_end (made.Viewport pair props) = refl
 made_no_end (made.Present args snapshot) = refl
+made_no_end (made.Get get pair) = refl
 made_no_end (made.Signal f) = refl
 made_no_end made.Poll = refl
 made_no_end (made.Wait c) = refl
@@ -164,23 +162,25 @@ left_beside setup s history pending text told draft after is made stands opened 
     subst P (sym is) (made, stands, opened)
 
 -- what is left of the draft, where the entry doesn't close
-left_after : (setup : Setup) (s : SessionNo) (history : List Entry) (pending carries : List Call) (text : Line) (draft : Draft) (after : DraftState) (one : Made) (reply : Reply) → is_judged text ≡ true
+left_after : (setup : Setup) (s : SessionNo) (history : List Entry) (pending carries : List Call) (text : Line) (draft : Draft) (after : DraftState) (one : Made) (reply : Reply)
     → LeavesDraft setup draft text after (Some one) → reply ≡ reply_to setup history (Session s) carries (kind_of one) → closes reply ≡ false → draft_of setup (carried (own s history) ++ pending) ≡ Ok draft
     → (draft_of setup (carried (own s history) ++ (pending ++ calls_of_line text)) ≡ Ok (after_line draft text)) × StandsFor setup after (after_line draft text) × (after.closed ≡ false)
-left_after setup s history pending carries text draft after (made.View pair) reply judged leaves replied goes_on made =
-    (after_made setup (carried (own s history)) pending text draft judged leaves.1 made, leaves.2, leaves.3)
-left_after setup s history pending carries text draft after (made.Viewport pair props) reply judged leaves replied goes_on made =
-    (after_made setup (carried (own s history)) pending text draft judged leaves.1 made, leaves.2, leaves.3)
-left_after setup s history pending carries text draft after (made.Present args snapshot) reply judged leaves replied goes_on made =
+left_after setup s history pending carries text draft after (made.View pair) reply leaves replied goes_on made =
+    (after_made setup (carried (own s history)) pending text draft leaves.1 made, leaves.2, leaves.3)
+left_after setup s history pending carries text draft after (made.Viewport pair props) reply leaves replied goes_on made =
+    (after_made setup (carried (own s history)) pending text draft leaves.1 made, leaves.2, leaves.3)
+left_after setup s history pending carries text draft after (made.Present args snapshot) reply leaves replied goes_on made =
     let P : Line → Type 0 = λ t. (draft_of setup (carried (own s history) ++ (pending ++ calls_of_line t)) ≡ Ok (after_line draft t)) × StandsFor setup after (after_line draft t) × (after.closed ≡ false) in
     subst P (sym leaves.0) (ap (λ p. draft_of setup (carried (own s history) ++ p)) (append-nil pending) ∙ made, leaves.3, leaves.4)
-left_after setup s history pending carries text draft after (made.Signal f) reply judged leaves replied goes_on made =
+left_after setup s history pending carries text draft after (made.Get get pair) reply leaves replied goes_on made =
+    left_beside setup s history pending text (line.Get get) draft after leaves.0 (ap (λ p. draft_of setup (carried (own s history) ++ p)) (append-nil pending) ∙ made) leaves.3 leaves.4
+left_after setup s history pending carries text draft after (made.Signal f) reply leaves replied goes_on made =
     left_beside setup s history pending text (line.Signal f) draft after leaves.0 (ap (λ p. draft_of setup (carried (own s history) ++ p)) (append-nil pending) ∙ made) leaves.1 leaves.2
-left_after setup s history pending carries text draft after made.Poll reply judged leaves replied goes_on made =
+left_after setup s history pending carries text draft after made.Poll reply leaves replied goes_on made =
     left_beside setup s history pending text line.Poll draft after leaves.0 (ap (λ p. draft_of setup (carried (own s history) ++ p)) (append-nil pending) ∙ made) leaves.1 leaves.2
-left_after setup s history pending carries text draft after (made.Wait c) reply judged leaves replied goes_on made =
+left_after setup s history pending carries text draft after (made.Wait c) reply leaves replied goes_on made =
     left_beside setup s history pending text (line.Wait c) draft after leaves.0 (ap (λ p. draft_of setup (carried (own s history) ++ p)) (append-nil pending) ∙ made) leaves.1 leaves.2
-left_after setup s history pending carries text draft after (made.Close why) reply judged leaves replied goes_on made =
+left_after setup s history pending carries text draft after (made.Close why) reply leaves replied goes_on made =
     absurd (let both : true ≡ false = sym (close_closes setup s history carries why) ∙ sym (ap closes replied) ∙ goes_on in cc)
 
 module _ (script : Script) (s : SessionNo) (place number : ℕ) (text : Line) (here : Here script s place number text) (shares : List ℕ) (history : List Entry) where
@@ -214,13 +214,13 @@ module _ (script : Script) (s : SessionNo) (place number : ℕ) (text : Line) (h
         let P : Line → Type 0 = λ t. is_played_line script.setup s t ≡ true in
         let Q : Line → Type 0 = λ t. MayCall board (Session s) (old.pending ++ calls_of_line t) (View pair) in
         let R : Line → Type 0 = λ t. draft_of script.setup (calls s history ++ (old.pending ++ calls_of_line t)) ≡ Ok (after_line was.draft t) in
-        let made : R text = after_made script.setup (calls s history) old.pending text was.draft (judged_played script.setup s text here.played) leaves.1 was.made in
+        let made : R text = after_made script.setup (calls s history) old.pending text was.draft leaves.1 was.made in
         subst Q (sym leaves.0) (may_view board s old.pending was.draft (waits share) pair _ (subst P leaves.0 here.played) (subst R leaves.0 made))
     may_enter_as share (made.Viewport pair props) leaves told is =
         let P : Line → Type 0 = λ t. is_played_line script.setup s t ≡ true in
         let Q : Line → Type 0 = λ t. MayCall board (Session s) (old.pending ++ calls_of_line t) (Viewport pair props) in
         let R : Line → Type 0 = λ t. draft_of script.setup (calls s history ++ (old.pending ++ calls_of_line t)) ≡ Ok (after_line was.draft t) in
-        let made : R text = after_made script.setup (calls s history) old.pending text was.draft (judged_played script.setup s text here.played) leaves.1 was.made in
+        let made : R text = after_made script.setup (calls s history) old.pending text was.draft leaves.1 was.made in
         subst Q (sym leaves.0.1) (may_viewport board s old.pending was.draft (waits share) leaves.0.0 pair props _ (subst P leaves.0.1 here.played) (subst R leaves.0.1 made))
     may_enter_as share (made.Present args snapshot) leaves told is =
         let P : Line → Type 0 = λ t. is_played_line script.setup s t ≡ true in
@@ -228,6 +228,8 @@ module _ (script : Script) (s : SessionNo) (place number : ℕ) (text : Line) (h
         let S : List Call → Type 0 = λ p. MayCall board (Session s) p (Present args) in
         subst Q (sym leaves.0) (subst S (sym (append-nil old.pending))
         (may_present board s old.pending was.draft (waits share) args (subst P leaves.0 here.played) leaves.1))
+    may_enter_as share (made.Get get pair) leaves told is =
+        enters_beside (Get get) (line.Get get) (sym leaves.0) (append-nil old.pending) (may_get board s old.pending was.draft (waits share) get pair leaves.2)
     may_enter_as share (made.Signal f) leaves told is =
         let P : Line → Type 0 = λ t. is_played_line script.setup s t ≡ true in
         enters_beside (Signal f) (line.Signal f) (sym leaves.0) (append-nil old.pending) (may_signal board s old.pending was.draft (waits share) f (subst P leaves.0 here.played))
@@ -253,23 +255,27 @@ module _ (script : Script) (s : SessionNo) (place number : ℕ) (text : Line) (h
         let S : List Call → Type 0 = λ p. MayCall board (Session s) p (kind_of one) in
         subst S (sym j.pending) (may_enter_as share one j.leaves text refl)
 
-    shows_as : (some : Made) → LeavesDraft script.setup was.draft text new.draft (Some some) → ShowsTree board s (old.pending ++ calls_of_line text) some
+    shows_as : (some : Made) → LeavesDraft script.setup was.draft text new.draft (Some some) → IsMeant board s (old.pending ++ calls_of_line text) some
     shows_as (made.View pair) leaves = tt
     shows_as (made.Viewport pair props) leaves = tt
+    shows_as (made.Get get pair) leaves =
+        let P : Line → Type 0 = λ t. IsMeant board s (old.pending ++ calls_of_line t) (made.Get get pair) in
+        let S : List Call → Type 0 = λ p. IsMeant board s p (made.Get get pair) in
+        subst P (sym leaves.0) (subst S (sym (append-nil old.pending)) (get_meant board s old.pending was.draft was.made get pair leaves.2))
     shows_as (made.Signal f) leaves = tt
     shows_as made.Poll leaves = tt
     shows_as (made.Wait c) leaves = tt
     shows_as (made.Close why) leaves = tt
     shows_as (made.Present args snapshot) leaves =
-        let P : Line → Type 0 = λ t. ShowsTree board s (old.pending ++ calls_of_line t) (made.Present args snapshot) in
+        let P : Line → Type 0 = λ t. IsMeant board s (old.pending ++ calls_of_line t) (made.Present args snapshot) in
         let made_of : draft_of script.setup (calls s history ++ (old.pending ++ [])) ≡ Ok was.draft = ap (λ p. draft_of script.setup (calls s history ++ p)) (append-nil old.pending) ∙ was.made in
         subst P (sym leaves.0) (sym (ap (λ r. option_and_then tree (result_ok r)) made_of ∙ leaves.2))
 
-    -- a present shows its tree
-    pub shows : ShowsTree board s new.pending one
+    -- a present shows its tree, and a get means its pair
+    pub shows : IsMeant board s new.pending one
     shows =
         let j : Judges script.setup was.draft text old new (Some one) = judges was.draft was.stands in
-        let S : List Call → Type 0 = λ p. ShowsTree board s p one in
+        let S : List Call → Type 0 = λ p. IsMeant board s p one in
         subst S (sym j.pending) (shows_as one j.leaves)
 
     -- the session after the entry
@@ -298,7 +304,7 @@ module _ (script : Script) (s : SessionNo) (place number : ℕ) (text : Line) (h
           closed = ap (list_any (λ e. closes e.reply)) grown ∙ or_rest (closes reply) _ unclosed;
           few = let zero = j.refused in let none = was.none_refused in omega arith;
           when_open = λ goes_on.
-              let left = left_after script.setup s history old.pending new.pending text was.draft new.draft one reply (judged_played script.setup s text here.played) j.leaves replied goes_on was.made in
+              let left = left_after script.setup s history old.pending new.pending text was.draft new.draft one reply j.leaves replied goes_on was.made in
               let made_after : draft_of script.setup (carried mine ++ new.pending) ≡ Ok (after_line was.draft text) = ap (λ p. draft_of script.setup (carried mine ++ p)) j.pending ∙ left.0 in
               let o : IsOpen script.setup script.count lines (mine ▹ entry) [] (lines_left script s (place + 1)) (after_line was.draft text) =
               open_after script.setup script.count lines mine entry (lines_left script s (place + 1)) (after_line was.draft text) unclosed goes_on unread made_after in

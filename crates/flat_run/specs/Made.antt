@@ -1,6 +1,7 @@
 -- What a line of a session makes.
 use Rattle.std.specs.Prelude.{◌≡◌, List, Option, Some}
 use Rattle.std.specs.Arc.{arc_value}
+use Rattle.flat_base.specs.declared.ids.Actor.TheVariants.{Session}
 use Rattle.flat_base.specs.declared.ids.ContentId.{ContentId}
 use Rattle.flat_base.specs.declared.ids.SessionNo.{SessionNo}
 use Rattle.flat_scene.specs.declared.calls.Call.{Call}
@@ -9,6 +10,8 @@ use Rattle.flat_scene.specs.declared.journal.Kind.{Kind}
 use Rattle.flat_scene.specs.declared.journal.Kind.TheVariants as kind
 use Rattle.flat_core.specs.Boards.{Machine, present_of}
 use Rattle.flat_core.specs.Shown.{tree_of}
+use Rattle.flat_core.specs.Watch.{watcher_of}
+use Rattle.flat_core.specs.Gets.{watcher_meant}
 use Rattle.flat_run.specs.declared.made.Made.{Made}
 use Rattle.flat_run.specs.declared.made.Made.TheVariants as made
 
@@ -17,15 +20,17 @@ abbrev pub kind_of : Made → Kind
 kind_of (made.View pair) = kind.View pair
 kind_of (made.Viewport pair props) = kind.Viewport pair props
 kind_of (made.Present args snapshot) = kind.Present args
+kind_of (made.Get get pair) = kind.Get get
 kind_of (made.Signal f) = kind.Signal f
 kind_of made.Poll = kind.Poll
 kind_of (made.Wait c) = kind.Wait c
 kind_of (made.Close why) = kind.Close why
 
--- a present shows the tree of all calls of its session
-abbrev pub ShowsTree : Machine → SessionNo → List Call → Made → Type 0
-ShowsTree m s calls (made.Present args snapshot) = Some (arc_value snapshot) ≡ tree_of m.setup (present_of m.history s calls args)
-ShowsTree m s calls _ = Unit {0}
+-- a present shows the tree of all calls of its session, and a get is of the pair whose watcher is meant
+abbrev pub IsMeant : Machine → SessionNo → List Call → Made → Type 0
+IsMeant m s calls (made.Present args snapshot) = Some (arc_value snapshot) ≡ tree_of m.setup (present_of m.history s calls args)
+IsMeant m s calls (made.Get get pair) = watcher_of m.setup m.history (Session s) calls get ≡ Some (watcher_meant m.history get pair)
+IsMeant m s calls _ = Unit {0}
 
 -- a View is made by its own CreateView, and a Viewport by its own CreateViewport
 abbrev pub IsMadeBy : Call → Option Made → Type 0

@@ -27,7 +27,7 @@ use Rattle.flat_scene.specs.declared.frames.FrameOut.{FrameOut}
 use Rattle.flat_scene.specs.declared.frames.SessionSet.{SessionSet}
 use Rattle.flat_scene.specs.Frames.{sessions_to}
 use Rattle.flat_scene.specs.History.{own, is_closed, is_end, carried, seat_number}
-use Rattle.flat_scene.specs.Interleave.{next_of, next_from, session_lines, display_lines, by_display, unread_lines, last_line, Follows, FollowsDisplay, entry_of_line, calls_of_line, after_line, Interleaves, IsReading, IsWritten}
+use Rattle.flat_scene.specs.Interleave.{next_of, next_from, session_lines, display_lines, by_display, get_tests, unread_lines, last_line, Follows, FollowsDisplay, entry_of_line, calls_of_line, after_line, Interleaves, IsReading, IsWritten}
 use Rattle.flat_scene.specs.Misuse.{misuse, first_reason}
 use Rattle.flat_scene.specs.Tree.{present_tests, tree}
 use Rattle.flat_scene.specs.Setups.{is_declared}
@@ -43,6 +43,7 @@ use Rattle.flat_report.specs.declared.report.HitAnswer.{HitAnswer}
 use Rattle.flat_report.specs.Handed.{answers_of}
 use Rattle.flat_report.specs.Report.{finished, frame_at}
 use Rattle.flat_draft.specs.State.{DraftState, empty_state}
+use Rattle.flat_draft.specs.Answers.{pair_watched}
 use Rattle.flat_draft.specs.Stands.{StandsFor}
 use Rattle.flat_script.specs.declared.script.Script.{Script}
 use Rattle.flat_run.specs.declared.made.Made.{Made}
@@ -54,11 +55,6 @@ use Rattle.flat_run.specs.declared.game.LastFrame.{LastFrame}
 use Rattle.flat_playable.specs.Playable.{is_private, frames_close}
 
 -- ---- a line, by a session that isn't closed
-
--- a line that is no get
-abbrev pub is_judged : Line → Bool
-is_judged (line.Get get) = false
-is_judged _ = true
 
 -- a call is no misuse
 abbrev pub IsNoMisuse : Setup → Draft → Line → Type 0
@@ -74,6 +70,8 @@ LeavesDraft setup draft text after (Some (making.Viewport pair props)) =
     ((c : ContentId) × (text ≡ line.Call (CreateViewport c pair props.w props.h props.inset))) × IsNoMisuse setup draft text × StandsFor setup after (after_line draft text) × (after.closed ≡ false)
 LeavesDraft setup draft text after (Some (making.Present args snapshot)) =
     (text ≡ line.Present args) × (first_reason (present_tests draft args) ≡ None) × (tree draft ≡ Some (arc_value snapshot)) × StandsFor setup after draft × (after.closed ≡ false)
+LeavesDraft setup draft text after (Some (making.Get get pair)) =
+    (text ≡ line.Get get) × (first_reason (get_tests draft get) ≡ None) × (pair_watched draft get ≡ Some pair) × StandsFor setup after draft × (after.closed ≡ false)
 LeavesDraft setup draft text after (Some (making.Signal f)) = (text ≡ line.Signal f) × StandsFor setup after draft × (after.closed ≡ false)
 LeavesDraft setup draft text after (Some making.Poll) = (text ≡ line.Poll) × StandsFor setup after draft × (after.closed ≡ false)
 LeavesDraft setup draft text after (Some (making.Wait c)) = (text ≡ line.Wait c) × StandsFor setup after draft × (after.closed ≡ false)

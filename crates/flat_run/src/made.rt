@@ -5,7 +5,7 @@ ghost use Rattle.flat_core.specs.Legal.{reply_to};
 
 use flat_base::{Actor, FenceNo, NoMemory, PairNo, Reason, SessionNo};
 use flat_core::{Board, EventList};
-use flat_scene::{CallList, Cond, PresentArgs, Reply, ViewportProps};
+use flat_scene::{CallList, Cond, PresentArgs, Reply, ViewportProps, Watch};
 use flat_snap::Snapshot;
 use std::alloc::Global;
 use std::sync::Arc;
@@ -16,6 +16,8 @@ pub enum Made {
     View(PairNo),
     Viewport(PairNo, ViewportProps),
     Present(PresentArgs, Arc<Snapshot>),
+    /// The pair is the one whose watcher is meant.
+    Get(Watch, PairNo),
     Signal(FenceNo),
     Poll,
     Wait(Cond),
@@ -23,7 +25,7 @@ pub enum Made {
 }
 
 impl Made {
-    ghost use Rattle.flat_run.specs.Made.{kind_of, ShowsTree};
+    ghost use Rattle.flat_run.specs.Made.{kind_of, IsMeant};
 
     /// Makes the entry.
     pub fn enter(
@@ -35,7 +37,7 @@ impl Made {
         calls: CallList,
     ) -> Result<Reply, NoMemory>
         requires may { MayCall board.old (Session s) calls (kind_of self) }
-        requires tree { ShowsTree board.old s calls self }
+        requires meant { IsMeant board.old s calls self }
         ensures reply { IfOk result (λ reply. reply ≡ reply_to board.old.setup board.old.history (Session s) calls (kind_of self)) }
         ensures entry { IfOk result (λ reply. board.new ≡ entered board.old (Session s) number calls (kind_of self) reply) }
     {
@@ -54,6 +56,10 @@ impl Made {
                     Err(_) => Err(NoMemory),
                 }
             }
+            Made::Get(get, pair) => match board.get(s, number, calls, get, pair) {
+                Ok(reply) => Ok(reply),
+                Err(_) => Err(NoMemory),
+            },
             Made::Signal(f) => Ok(board.signal(Actor::Session(s), number, calls, f)),
             Made::Poll => match board.poll(s, number, calls, &mut EventList::new(alloc)) {
                 Ok(reply) => Ok(reply),

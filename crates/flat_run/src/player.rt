@@ -10,13 +10,13 @@ ghost use Rattle.flat_draft.specs.Stands.{StandsFor};
 ghost use Rattle.flat_core.specs.Boards.{HasShare};
 ghost use Rattle.flat_run.specs.Made.{kind_of, IsMadeBy};
 ghost use Rattle.flat_playable.specs.Playable.{is_playable};
-ghost use Rattle.flat_run.specs.Playing.{Judges, HasDraft, LeavesDraft, PlayerStands, Grows, is_judged};
+ghost use Rattle.flat_run.specs.Playing.{Judges, HasDraft, LeavesDraft, PlayerStands, Grows};
 
 use crate::made::Made;
 use flat_base::{NoMemory, SessionNo, TryCopy};
 use flat_core::Board;
 use flat_draft::{Draft, DraftFault};
-use flat_scene::{Call, CallList, Line, PresentArgs, Reply, ViewportProps};
+use flat_scene::{Call, CallList, Line, PresentArgs, Reply, ViewportProps, Watch};
 use flat_script::Script;
 use std::alloc::Global;
 use std::mem;
@@ -87,6 +87,21 @@ fn presented(alloc: Global, draft: &mut Draft, args: &PresentArgs) -> Result<Opt
     }
 }
 
+/// What a get makes of a draft, and the entry that it makes.
+fn asked(draft: &mut Draft, get: Watch) -> Result<Option<Made>, NoMemory>
+    requires stands { HasDraft draft.old }
+    requires opened { draft.old.closed ≡ false }
+    ensures kind { (setup : Setup) (before : scene.Draft) → StandsFor setup draft.old before → IfOk result (λ made. option_map kind_of made ≡ entry_of_line setup before (line.Get get)) }
+    ensures leaves { (setup : Setup) (before : scene.Draft) → StandsFor setup draft.old before → IfOk result (λ made. LeavesDraft setup before (line.Get get) draft.new made) }
+{
+    match draft.get(get) {
+        Ok(pair) => Ok(Some(Made::Get(get, pair))),
+        Err(DraftFault::Bad(reason)) => Ok(Some(Made::Close(Some(reason)))),
+        Err(DraftFault::Memory) => Err(NoMemory),
+        Err(DraftFault::Closed) => unreachable!(),
+    }
+}
+
 impl Player {
     /// Plays a line of the script: it makes its entry, or waits for the next one;
     /// after the session was closed it is counted.
@@ -126,7 +141,6 @@ impl Player {
     /// What a line makes, if the session isn't closed: its entry, or none. The call
     /// waits for the next entry.
     fn judge(&mut self, alloc: Global, text: &Line) -> Result<Option<Made>, NoMemory>
-        requires judged { is_judged text.now ≡ true }
         requires stands { HasDraft self.old.draft }
         requires opened { self.old.draft.closed ≡ false }
         ensures { (setup : Setup) (before : scene.Draft) → StandsFor setup self.old.draft before → IfOk result (Judges setup before text.now self.old self.new) }
@@ -138,7 +152,7 @@ impl Player {
             Line::Poll => Ok(Some(Made::Poll)),
             Line::Wait(c) => Ok(Some(Made::Wait(*c))),
             Line::Disconnect => Ok(Some(Made::Close(None))),
-            Line::Get(_) => unreachable!(),
+            Line::Get(get) => asked(&mut self.draft, *get),
         }
     }
 

@@ -9,10 +9,10 @@ use Rattle.flat_core.specs.Legal.{reply_to}
 use Rattle.flat_draft.specs.Stands.{StandsFor}
 use Rattle.flat_run.specs.declared.made.Made.{Made}
 use Rattle.flat_run.specs.declared.player.Player.{Player}
-use Rattle.flat_run.specs.Made.{kind_of, ShowsTree}
+use Rattle.flat_run.specs.Made.{kind_of, IsMeant}
 use Rattle.flat_run.specs.Playing.{Judges, PlayerStands, grows}
 use Rattle.flat_run.proofs.Places.{here}
-use Rattle.flat_run.proofs.Standing.{refused_more, private_more, judged_played, may_enter, shows, entered_more, made_quiet}
+use Rattle.flat_run.proofs.Standing.{refused_more, private_more, may_enter, shows, entered_more, made_quiet}
 use Rattle.flat_run.proofs.player.Player.play.Goals as goal
 
 pub overflow_add-self : goal.overflow_add-self
@@ -24,11 +24,6 @@ pub returns-then-self-clause-stands : goal.returns-then-self-clause-stands
 returns-then-self-clause-stands c =
     let h = here c.args.script.now c.args.s c.args.place c.args.number c.args.text.now c.requires.playable c.requires.line in
     refused_more c.args.script.now c.args.s c.args.place c.args.number c.args.text.now h c.args.board.now.history c.args.self.now c.if-self.true c.requires.stands
-
-pub judge-requires-clause-judged : goal.judge-requires-clause-judged
-judge-requires-clause-judged c =
-    let h = here c.args.script.now c.args.s c.args.place c.args.number c.args.text.now c.requires.playable c.requires.line in
-    judged_played c.args.script.now.setup c.args.s c.args.text.now h.played
 
 pub returns-in-None-clause-stands : goal.returns-in-None-clause-stands
 returns-in-None-clause-stands c =
@@ -53,8 +48,8 @@ enter-requires-clause-may c =
     subst M (sym same) (subst C (sym c.take_pending-calls.ensures.calls)
     (may_enter script c.args.s c.args.place c.args.number c.args.text.now h board.shares board.history c.args.self.now c.judge.new.self c.if-self.false c.requires.stands c.in-Some.made judges c.requires.share))
 
-pub enter-requires-clause-tree : goal.enter-requires-clause-tree
-enter-requires-clause-tree c =
+pub enter-requires-clause-meant : goal.enter-requires-clause-meant
+enter-requires-clause-meant c =
     let script = c.args.script.now in
     let board : Machine = c.args.board.now in
     let h = here script c.args.s c.args.place c.args.number c.args.text.now c.requires.playable c.requires.line in
@@ -62,8 +57,8 @@ enter-requires-clause-tree c =
     (λ draft stands.
     let P : Option Made → Type 0 = λ made. Judges script.setup draft c.args.text.now c.args.self.now c.judge.new.self made in
     subst P c.in-Some.is (c.in_ok-judge.ensures script.setup draft stands)) in
-    let M : Machine → Type 0 = λ m. ShowsTree m c.args.s c.take_pending-calls.result c.in-Some.made in
-    let C : List Call → Type 0 = λ calls. ShowsTree (record board { setup = script.setup }) c.args.s calls c.in-Some.made in
+    let M : Machine → Type 0 = λ m. IsMeant m c.args.s c.take_pending-calls.result c.in-Some.made in
+    let C : List Call → Type 0 = λ calls. IsMeant (record board { setup = script.setup }) c.args.s calls c.in-Some.made in
     let same : board ≡ record board { setup = script.setup } = ap (λ st. let m : Machine = record board { setup = st } in m) c.requires.setup in
     subst M (sym same) (subst C (sym c.take_pending-calls.ensures.calls)
     (shows script c.args.s c.args.place c.args.number c.args.text.now h board.shares board.history c.args.self.now c.judge.new.self c.if-self.false c.requires.stands c.in-Some.made judges))
