@@ -14,6 +14,7 @@ pub mod FamilyHistory
 pub mod FamilyTheorem
 pub mod FinishEvents
 pub mod FramesLocal
+pub mod GetLists
 pub mod HasView
 pub mod JoinedLocal
 pub mod LegalByTests
