@@ -14,7 +14,10 @@ pub mod FamilyHistory
 pub mod FamilyTheorem
 pub mod FinishEvents
 pub mod FramesLocal
+pub mod GetHistory
 pub mod GetLists
+pub mod GetOrder
+pub mod GetOwners
 pub mod HasView
 pub mod JoinedLocal
 pub mod LegalByTests
