@@ -18,6 +18,7 @@ pub mod GetHistory
 pub mod GetLists
 pub mod GetOrder
 pub mod GetOwners
+pub mod GetSteps
 pub mod HasView
 pub mod JoinedLocal
 pub mod LegalByTests
