@@ -8,6 +8,8 @@ use Rattle.flat_scene.specs.declared.calls.Watch.{Watch}
 use Rattle.flat_scene.specs.declared.calls.Watch.TheVariants as watch
 use Rattle.flat_scene.specs.declared.journal.Entry.{Entry}
 use Rattle.flat_scene.specs.declared.journal.Event.{Event}
+use Rattle.flat_scene.specs.declared.journal.Kind.{Kind}
+use Rattle.flat_scene.specs.declared.journal.Kind.TheVariants.{Get}
 use Rattle.flat_scene.specs.declared.journal.Post.{Post}
 use Rattle.flat_scene.specs.declared.journal.Reply.{Reply}
 use Rattle.flat_scene.specs.declared.journal.Told.{Told}
@@ -138,6 +140,11 @@ pub record Settles (now : Watcher → Option Told) (place : ℕ) (s : SessionNo)
   pub answers : Answers now place s held old new posts after count
 
 -- ---- a get
+
+-- whether an entry is a get
+abbrev pub is_get : Kind → Bool
+is_get (Get get) = true
+is_get _ = false
 
 -- what is answered last after a get, and what is held: nothing changes where it is refused
 abbrev pub answered_get : Bool → Watched → Option Told → Answered → Answered
