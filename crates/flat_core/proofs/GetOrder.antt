@@ -195,7 +195,7 @@ absent f g u same (w ∷ ws) all =
     apart (child_of p m) (layout_of q) is = refl
     apart (child_of p m) (status_of q) is = refl
 
-same-is : (u w : Watcher) → same_watcher u w ≡ true → u ≡ w
+pub same-is : (u w : Watcher) → same_watcher u w ≡ true → u ≡ w
 same-is (layout_of p) (layout_of q) is = let n : p.0 ≡ q.0 = grind (arith, nat_tests) in ap (λ (k : ℕ). layout_of (record { 0 = k })) n
 same-is (status_of p) (status_of q) is = let n : p.0 ≡ q.0 = grind (arith, nat_tests) in ap (λ (k : ℕ). status_of (record { 0 = k })) n
 same-is (child_of p m) (child_of q n) is =

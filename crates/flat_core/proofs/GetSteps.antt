@@ -96,7 +96,7 @@ module _ (setup : Setup) where
       (untold-cond (is_finish e.kind) (at_finish setup h s) [] (untold-finish h s) refl) (untold-cond (is_begin e.kind) (at_begin setup h e s) [] (untold-begin h e s) refl)
       ∙ ap (filter is_told) (told-part setup s h e) ∙ told-answers (told setup (h ▹ e)) (helds_of setup h s)
 
-  answers-more : (h : List Entry) (e : Entry) (s : SessionNo) → is_closed s (h ▹ e) ≡ false
+  pub answers-more : (h : List Entry) (e : Entry) (s : SessionNo) → is_closed s (h ▹ e) ≡ false
       → answers setup s (h ▹ e) ≡ answers setup s h + number_if (is_session s e.actor && is_now e.reply) + length (answers_to (told setup (h ▹ e)) (helds_of setup h s))
   answers-more h e s opened = ap (λ (l : List Event). answers setup s h + number_if (is_session s e.actor && is_now e.reply) + length l) (told-to h e s opened)
 
@@ -119,7 +119,7 @@ module _ (setup : Setup) where
 
   -- ---- an entry at which all its watchers rest
 
-  quiet : (w : Watcher) (h : List Entry) (e : Entry) → asked setup w h e ≡ None → is_open setup (listener setup w) (h ▹ e) ≡ true → watching setup w (h ▹ e) ≡ watching setup w h → answers_to (told setup (h ▹ e)) (held_of setup h w) ≡ []
+  pub quiet : (w : Watcher) (h : List Entry) (e : Entry) → asked setup w h e ≡ None → is_open setup (listener setup w) (h ▹ e) ≡ true → watching setup w (h ▹ e) ≡ watching setup w h → answers_to (told setup (h ▹ e)) (held_of setup h w) ≡ []
   quiet w h e idle listens rests =
       let v : Watching = watching setup w h in
       let settles : settled true (told setup (h ▹ e) w) v ≡ v = ap (λ (b : Bool). settled b (told setup (h ▹ e) w) v) (sym listens) ∙ sym (settled-now setup w h e idle) ∙ rests in
