@@ -46,7 +46,7 @@ use Rattle.flat_core.proofs.Watchers.{after_get, got-one, unasked}
 
 -- ---- what is kept of the watcher that a get means
 
-same-sym : (u w : Watcher) → same_watcher u w ≡ same_watcher w u
+pub same-sym : (u w : Watcher) → same_watcher u w ≡ same_watcher w u
 same-sym (layout_of p) (layout_of q) = grind (arith, nat_tests)
 same-sym (status_of p) (status_of q) = grind (arith, nat_tests)
 same-sym (child_of p m) (child_of q n) = grind (arith, nat_tests)

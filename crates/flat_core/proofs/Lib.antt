@@ -14,6 +14,7 @@ pub mod FamilyHistory
 pub mod FamilyTheorem
 pub mod FinishEvents
 pub mod FramesLocal
+pub mod GetAnswers
 pub mod GetAsked
 pub mod GetHistory
 pub mod GetLists
