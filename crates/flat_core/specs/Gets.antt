@@ -21,7 +21,7 @@ use Rattle.flat_core.specs.declared.gets.HeldGet.{HeldGet}
 use Rattle.flat_core.specs.declared.gets.Watched.{Watched}
 use Rattle.flat_core.specs.declared.gets.Watched.TheVariants as watches
 use Rattle.flat_core.specs.Begins.{post_of}
-use Rattle.flat_core.specs.Ends.{views_of, viewports_of, viewport_uses}
+use Rattle.flat_core.specs.Ends.{views_of, viewports_of, viewport_owner, viewport_uses}
 use Rattle.flat_core.specs.Legal.{answers, got, is_now, number_if}
 use Rattle.flat_core.specs.Local.{pair_watched}
 use Rattle.flat_core.specs.Posts.{event_of, up_to}
@@ -197,3 +197,15 @@ pub record AnsweredAt (setup : Setup) (view viewport : List Entry) (p : PairNo) 
 pub record IsAnswered (setup : Setup) (history : List Entry) (p : PairNo) (a : Answered) : Type 0 where
   pub last : AnsweredAt setup history history p a
   pub uses : a.uses ≡ length (viewport_uses p history)
+
+-- ---- the end of a frame, session by session
+
+-- a history, or the one after an entry where this actor is one of the first sessions, up to that number
+abbrev pub reached : ℕ → Option Actor → List Entry → List Entry → List Entry
+reached n (Some (Session s)) after before = cond (nat_lt 0 s.0 && nat_le s.0 n) after before
+reached n _ after before = before
+
+-- What the watchers of a pair answered last, where an entry has told the first so many sessions.
+pub record AnsweredUpTo (setup : Setup) (n : ℕ) (after before : List Entry) (p : PairNo) (a : Answered) : Type 0 where
+  pub last : AnsweredAt setup (reached n (listener setup (layout_of p)) after before) (reached n (viewport_owner setup p) after before) p a
+  pub uses : a.uses ≡ length (viewport_uses p before)
