@@ -20,7 +20,8 @@ use Rattle.flat_scene.specs.History.{◌▹◌, is_closed, is_session, is_begin,
 use Rattle.flat_core.specs.Legal.{Legal, owns_view, owns_viewport}
 use Rattle.flat_core.specs.Posts.{up_to, event_of, told_event, frame_took, releases_seen, tokens_back, at_finish, at_begin, news_for, events_to}
 use Rattle.flat_core.specs.Local.{pair_watched}
-use Rattle.flat_core.specs.Watch.{Watcher, layout_of, status_of, child_of, Watching, watching, told, answer, answered_by, settled, is_open, listener}
+use Rattle.flat_core.specs.Watch.{Watcher, layout_of, status_of, child_of, watching, told, is_open, listener}
+use Rattle.flat_watch.specs.Told.{Watching, answer, answered_by, settled}
 use Rattle.flat_core.proofs.FramesLocal.{took-only, credits-only}
 use Rattle.flat_core.proofs.Locality.{own-only, same-session}
 use Rattle.flat_core.proofs.ToldLocal.{IsFamilyPair, told-only, viewports-only, begin-only, legal-begin, no-frame, taken-calls-only}

@@ -15,6 +15,14 @@ pub mod FamilyHistory
 pub mod FamilyTheorem
 pub mod FinishEvents
 pub mod FramesLocal
+pub mod GetAnswers
+pub mod GetAsked
+pub mod GetEnds
+pub mod GetHistory
+pub mod GetLists
+pub mod GetOrder
+pub mod GetOwners
+pub mod GetSteps
 pub mod HasView
 pub mod JoinedLocal
 pub mod LegalByTests

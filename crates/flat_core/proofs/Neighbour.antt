@@ -31,7 +31,8 @@ use Rattle.flat_core.specs.Laws.{is_beside, is_get, but_answers, Glimpse, glimps
 use Rattle.flat_core.specs.Legal.{Legal, LegalEntry, is_token_back, may_act, owns_view, owns_viewport, owns_in_kind, has_token, reply_to, reply_to_present, waited}
 use Rattle.flat_core.specs.Local.{GlimpsesDecideOutcomes, OthersPostNone}
 use Rattle.flat_core.specs.Posts.{event_of, told_event, at_finish, at_begin, news_for, events_to, posted, up_to}
-use Rattle.flat_core.specs.Watch.{Watcher, layout_of, status_of, child_of, watching, answer, told}
+use Rattle.flat_core.specs.Watch.{Watcher, layout_of, status_of, child_of, watching, told}
+use Rattle.flat_watch.specs.Told.{answer}
 use Rattle.flat_core.proofs.EventsLocal.{same-credits}
 use Rattle.flat_core.proofs.Locality.{entry-owned, same-session, same-number, not-true}
 use Rattle.flat_core.proofs.RepliesLocal.{any-sent-none, any-sent-same, token-at-finish, token-elsewhere}

@@ -15,7 +15,8 @@ use Rattle.flat_scene.specs.History.{is_begin, is_finish}
 use Rattle.flat_core.specs.Ends.{viewport_uses, views_of, viewports_of}
 use Rattle.flat_scene.specs.Frames.{sessions_to}
 use Rattle.flat_core.specs.Posts.{told_event, up_to, posted, events_to, news_for, at_begin, at_finish, Sent}
-use Rattle.flat_core.specs.Watch.{Watcher, Watching, watching, asked, asked_in, settled, answered_by, asking, answer, told, listener, is_open, layout_of, status_of, child_of}
+use Rattle.flat_core.specs.Watch.{Watcher, watching, asked, asked_in, told, listener, is_open, layout_of, status_of, child_of}
+use Rattle.flat_watch.specs.Told.{Watching, settled, answered_by, asking, answer}
 use Rattle.flat_scene.proofs.Together.{and-left, and-right}
 use Rattle.flat_core.specs.Plain.{is_plain, are_plain}
 

@@ -20,7 +20,8 @@ use Rattle.flat_scene.specs.Frames.{credits, taken, sessions_to}
 use Rattle.flat_scene.specs.History.{◌▹◌, is_closed, is_session, is_begin, is_finish}
 use Rattle.flat_core.specs.Legal.{Legal, is_token_back, is_told, is_poll, is_now, number_if, owns_viewport, has_token, sent_to, unread, answers, frames, is_frame_open, begin_time}
 use Rattle.flat_core.specs.Posts.{Sent, event_of, told_event, tokens_back, at_finish, at_begin, news_for, events_to, posted, up_to, frame_took}
-use Rattle.flat_core.specs.Watch.{Watcher, layout_of, status_of, child_of, watching, answer, told}
+use Rattle.flat_core.specs.Watch.{Watcher, layout_of, status_of, child_of, watching, told}
+use Rattle.flat_watch.specs.Told.{answer}
 use Rattle.flat_core.specs.Ends.{viewport_uses, views_of, viewports_of}
 use Rattle.flat_core.proofs.EventsLocal.{viewports-owned, events-kept, events-dropped}
 use Rattle.flat_core.proofs.Locality.{same-session, not-true, entry-owned}

@@ -17,7 +17,7 @@ use Rattle.flat_scene.specs.History.{◌▹◌, own, calls, closes, is_closed, i
 use Rattle.flat_scene.proofs.Steps.{presents-own, presents-other}
 use Rattle.flat_core.specs.Ends.{happens, taken_calls, has_ended}
 use Rattle.flat_core.specs.Stamps.{first_at, is_seen, IsStamp, stamp_then}
-use Rattle.flat_core.specs.Watch.{or_else}
+use Rattle.flat_watch.specs.Told.{or_else}
 use Rattle.flat_core.proofs.Earlier.{IsEarlier, calls-taken, taken-fits}
 use Rattle.flat_core.proofs.ShownSteps.{closed-before}
 use Rattle.flat_core.proofs.Stamped.{IsLasting, stamped, stamp-other}

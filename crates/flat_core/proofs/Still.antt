@@ -15,7 +15,8 @@ use Rattle.flat_core.specs.Ends.{viewport_uses, uses_view, uses_viewport, is_don
 use Rattle.flat_core.specs.Legal.{owns_view, owns_viewport}
 use Rattle.flat_core.specs.Local.{pair_watched}
 use Rattle.flat_core.specs.Posts.{told_event, event_of, news_for, at_begin, up_to}
-use Rattle.flat_core.specs.Watch.{Watcher, layout_of, status_of, child_of, Watching, watching, told, props_told, asked, asking, settled, answer, or_else, props_seen, props_given, is_open, is_used, listener}
+use Rattle.flat_core.specs.Watch.{Watcher, layout_of, status_of, child_of, watching, told, props_told, asked, props_seen, props_given, is_open, is_used, listener}
+use Rattle.flat_watch.specs.Told.{Watching, asking, settled, answer, or_else}
 use Rattle.flat_core.proofs.EventsLocal.{rest-none, hears-view, hears-viewport, flat-none, views-owned, viewports-owned}
 use Rattle.flat_core.proofs.ShownSteps.{closed-before}
 use Rattle.flat_core.proofs.WatchLocal.{asking-none, settled-twice}

@@ -23,7 +23,8 @@ use Rattle.flat_scene.specs.History.{◌▹◌, calls, presents, is_closed}
 use Rattle.flat_core.specs.Ends.{uses_view, is_done}
 use Rattle.flat_core.specs.Legal.{Legal, MayEnter, is_link}
 use Rattle.flat_core.specs.Shown.{is_pair}
-use Rattle.flat_core.specs.Watch.{Watcher, layout_of, status_of, Watching, watching, told, asked, asked_in, asking, settled, is_open, listener, watcher_of, watcher_in, watcher_of_made, is_watcher, same_watcher}
+use Rattle.flat_core.specs.Watch.{Watcher, layout_of, status_of, watching, told, asked, asked_in, is_open, listener, watcher_of, watcher_in, watcher_of_made, is_watcher, same_watcher}
+use Rattle.flat_watch.specs.Told.{Watching, asking, settled}
 use Rattle.flat_core.proofs.ShownOwned.{ok-is}
 use Rattle.flat_core.proofs.Steps.{viewed-more}
 use Rattle.flat_core.proofs.ViewCalls.{no-links-view, or-none-left}

@@ -22,7 +22,8 @@ use Rattle.flat_scene.specs.History.{◌▹◌, is_session, calls}
 use Rattle.flat_core.specs.Legal.{Legal, owns_view, owns_viewport}
 use Rattle.std.specs.Result.{result_ok}
 use Rattle.flat_core.specs.Local.{pair_watched}
-use Rattle.flat_core.specs.Watch.{Watcher, layout_of, status_of, child_of, Watching, watching, told, asked, asked_in, asking, answer, answered_by, settled, is_open, listener, watcher_of, watcher_in, watcher_of_made, is_watcher, same_watcher, or_else}
+use Rattle.flat_core.specs.Watch.{Watcher, layout_of, status_of, child_of, watching, told, asked, asked_in, is_open, listener, watcher_of, watcher_in, watcher_of_made, is_watcher, same_watcher}
+use Rattle.flat_watch.specs.Told.{Watching, asking, answer, answered_by, settled, or_else}
 use Rattle.flat_core.proofs.ShownOwned.{all-calls-owned, ok-is, joined-at}
 use Rattle.flat_core.proofs.ShownLocal.{linked-back}
 use Rattle.flat_core.proofs.Locality.{own-only, same-number, not-true, same-session}

@@ -14,7 +14,8 @@ use Rattle.flat_scene.specs.declared.setup.Setup.{Setup}
 use Rattle.flat_scene.specs.History.{◌▹◌}
 use Rattle.flat_core.specs.Ends.{views_of, viewport_uses}
 use Rattle.flat_core.specs.Posts.{told_event, event_of, up_to}
-use Rattle.flat_core.specs.Watch.{Watcher, layout_of, status_of, child_of, Watching, watching, told, asked, asked_in, asking, settled, answer, answered_by, news, or_else, is_open, listener, watcher_of, is_watcher, same_watcher}
+use Rattle.flat_core.specs.Watch.{Watcher, layout_of, status_of, child_of, watching, told, asked, asked_in, is_open, listener, watcher_of, is_watcher, same_watcher}
+use Rattle.flat_watch.specs.Told.{Watching, asking, settled, answer, answered_by, news, or_else}
 use Rattle.flat_core.proofs.WatchLocal.{asking-none}
 
 -- ---- one watcher

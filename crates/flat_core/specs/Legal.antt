@@ -33,7 +33,8 @@ use Rattle.flat_scene.specs.Draft.{Draft}
 use Rattle.flat_scene.specs.Misuse.{first_reason}
 use Rattle.flat_scene.specs.Tree.{tree_tests}
 use Rattle.flat_core.specs.Ends.{view_uses, uses_viewport, is_done, viewport_owner, view_owner}
-use Rattle.flat_core.specs.Watch.{Watcher, watching, watcher_of, told, news}
+use Rattle.flat_core.specs.Watch.{Watcher, watching, watcher_of, told}
+use Rattle.flat_watch.specs.Told.{news}
 use Rattle.flat_core.specs.Posts.{posted, events_to}
 
 -- ---- replies

@@ -3,6 +3,7 @@ pub mod Boards
 pub mod Ends
 pub mod Facts
 pub mod Flags
+pub mod Gets
 pub mod Kept
 pub mod Lasts
 pub mod Laws

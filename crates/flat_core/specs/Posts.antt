@@ -13,7 +13,8 @@ use Rattle.flat_scene.specs.History.{◌▹◌, is_begin, is_finish, is_closed}
 use Rattle.flat_scene.specs.Frames.{taken, credits, sessions_to}
 use Rattle.flat_scene.specs.Draft.{empty_draft}
 use Rattle.flat_core.specs.Ends.{to_begin, times, releases_viewport, taken_calls, viewport_uses, views_of, viewports_of}
-use Rattle.flat_core.specs.Watch.{Watcher, layout_of, status_of, child_of, watching, answer, told}
+use Rattle.flat_core.specs.Watch.{Watcher, layout_of, status_of, child_of, watching, told}
+use Rattle.flat_watch.specs.Told.{answer}
 
 -- the numbers from 1 to a number
 abbrev pub up_to : ℕ → List ℕ

@@ -7,7 +7,7 @@ use Rattle.flat_scene.specs.declared.setup.Setup.{Setup}
 use Rattle.flat_scene.specs.Draft.{Draft, of_serial, empty_draft}
 use Rattle.flat_scene.specs.History.{◌▹◌, calls, presents, is_closed}
 use Rattle.flat_core.specs.Ends.{times}
-use Rattle.flat_core.specs.Watch.{or_else}
+use Rattle.flat_watch.specs.Told.{or_else}
 
 -- the stamp of a test of a session's calls: how many presents it had made at the entry with which the test first held
 abbrev pub first_at : (List Call → Bool) → SessionNo → List Entry → Option ℕ

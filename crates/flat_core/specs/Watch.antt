@@ -1,5 +1,5 @@
 -- What the watchers tell, and when a hanging get is answered.
-use Rattle.std.specs.Prelude.{ℕ, Bool, true, false, cond, not, ◌&&◌, ◌==◌, nat_lt, List, [], ◌++◌, length, Option, Some, None, option_map, option_and_then, unwrap_or, is_some}
+use Rattle.std.specs.Prelude.{ℕ, Bool, true, false, cond, not, ◌&&◌, ◌==◌, nat_lt, List, [], ◌++◌, length, Option, Some, None, option_map, option_and_then, unwrap_or}
 use Rattle.flat_base.specs.declared.ids.Actor.{Actor}
 use Rattle.flat_base.specs.declared.ids.Actor.TheVariants.{Display, Session}
 use Rattle.flat_base.specs.declared.ids.PairNo.{PairNo}
@@ -22,6 +22,7 @@ use Rattle.flat_scene.specs.Effect.{draft_of}
 use Rattle.flat_core.specs.Shown.{is_pair, shown_view, is_connected}
 use Rattle.flat_base.specs.declared.limits.TheConstants.{ONE}
 use Rattle.std.specs.Result.{result_ok}
+use Rattle.flat_watch.specs.Told.{Watching, or_else, asking, settled}
 use Rattle.flat_core.specs.Ends.{view_uses, viewport_uses, to_begin, to_finished, props_of, viewport_owner, view_owner, taken_calls, is_viewport_lost, is_view_lost}
 
 -- What a get watches: the layout or the status of a pair's view, or the child of the n-th use of its viewport end.
@@ -30,25 +31,12 @@ pub data Watcher : Type 0 where
   status_of : PairNo → Watcher
   child_of : PairNo → ℕ → Watcher
 
--- whether two watchers are the same, two layouts, and two values
+-- whether two watchers are the same
 abbrev pub same_watcher : Watcher → Watcher → Bool
 same_watcher (layout_of p) (layout_of q) = p.0 == q.0
 same_watcher (status_of p) (status_of q) = p.0 == q.0
 same_watcher (child_of p m) (child_of q n) = p.0 == q.0 && m == n
 same_watcher _ _ = false
-
-abbrev pub same_layout : Layout → Layout → Bool
-same_layout a b =
-    a.w == b.w && a.h == b.h && a.ratio == b.ratio
-    && a.inset.top == b.inset.top && a.inset.right == b.inset.right && a.inset.bottom == b.inset.bottom && a.inset.left == b.inset.left
-
-abbrev pub same_told : Told → Told → Bool
-same_told (tell.Layout a) (tell.Layout b) = same_layout a b
-same_told tell.Connected tell.Connected = true
-same_told tell.Disconnected tell.Disconnected = true
-same_told tell.HasPresented tell.HasPresented = true
-same_told tell.Gone tell.Gone = true
-same_told _ _ = false
 
 -- the display's viewport has no inset
 abbrev pub no_inset : Inset
@@ -57,39 +45,6 @@ no_inset = record { top = 0; right = 0; bottom = 0; left = 0 }
 -- the layout that the properties of a viewport give, in version 1 at the ratio one
 abbrev pub layout_in : ViewportProps → Told
 layout_in props = tell.Layout (record { w = props.w; h = props.h; inset = props.inset; ratio = ONE })
-
--- The value that a watcher answered last, and the get that it holds.
-pub record Watching : Type 0 where
-  pub last : Option Told
-  pub waits : Option Watch
-
--- one value, or another where it isn't there
-abbrev pub or_else : {A : Type 0} → Option A → Option A → Option A
-or_else (Some x) other = Some x
-or_else None other = other
-
--- the value to answer where another was answered last: the one told, where it is there and differs
-abbrev pub news : Option Told → Option Told → Option Told
-news now None = now
-news None (Some last) = None
-news (Some now) (Some last) = cond (same_told now last) None (Some now)
-
--- a get joins, and is held until it is answered
-abbrev pub asking : Option Watch → Watching → Watching
-asking get w = record w { waits = or_else w.waits get }
-
--- the answer to the held get
-abbrev pub answer : Option Told → Watching → Option Told
-answer now w = cond (is_some w.waits) (news now w.last) None
-
--- the watcher after it answered
-abbrev pub answered_by : Option Told → Watching → Watching
-answered_by (Some value) w = record { last = Some value; waits = None }
-answered_by None w = w
-
--- the held get is answered where its session listens and there is news
-abbrev pub settled : Bool → Option Told → Watching → Watching
-settled listens now w = cond listens (answered_by (answer now w) w) w
 
 -- the properties with which an entry uses a viewport end
 abbrev pub props_at : Kind → Option ViewportProps

@@ -9,6 +9,7 @@ mod board;
 mod clock;
 mod dones;
 mod ends;
+mod gets;
 mod laws;
 mod live;
 mod log;
