@@ -5,6 +5,7 @@ pub mod Begun
 pub mod Between
 pub mod BoardBegins
 pub mod Changes
+pub mod ClearMarks
 pub mod Counts
 pub mod CreditLemmas
 pub mod DoneSteps
@@ -65,6 +66,7 @@ pub mod Tokens
 pub mod TokensBack
 pub mod ToldLocal
 pub mod Unwatched
+pub mod UsageSteps
 pub mod Uses
 pub mod ViewCalls
 pub mod ViewHistory

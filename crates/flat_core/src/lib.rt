@@ -6,9 +6,11 @@
 
 mod begins;
 mod board;
+mod clears;
 mod clock;
 mod dones;
 mod ends;
+mod following;
 mod laws;
 mod live;
 mod log;
@@ -18,6 +20,7 @@ mod state;
 #[cfg(test)]
 mod tests;
 mod told;
+mod usage;
 mod viewports;
 mod views;
 
