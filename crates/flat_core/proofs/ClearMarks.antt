@@ -59,7 +59,7 @@ clears-less one live calls k a c is later = record {
 
 no-clear : (name : ContentId) (calls : List Call) → list_any is_clear calls ≡ false → is_cleared name calls ≡ false
 no-clear name [] none = refl
-no-clear name (ReleaseViewport c ∷ calls) none = by_name (no-clear name calls none) (c.0 == name.0)
+no-clear name (ReleaseViewport c ∷ calls) none = by_name (no-clear name calls none) (name.0 == c.0)
   where
     by_name : is_cleared name calls ≡ false → (b : Bool) → cond b false (is_cleared name calls) ≡ false
     by_name rest true = refl

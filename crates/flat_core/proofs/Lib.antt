@@ -14,6 +14,7 @@ pub mod EventsLocal
 pub mod FamilyHistory
 pub mod FamilyTheorem
 pub mod FinishEvents
+pub mod Foreign
 pub mod FramesLocal
 pub mod HasView
 pub mod JoinedLocal

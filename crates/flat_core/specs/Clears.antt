@@ -16,7 +16,7 @@ is_clear _ = false
 -- whether calls clear a live viewport: they do where it isn't released before
 abbrev pub is_cleared : ContentId → List Call → Bool
 is_cleared name [] = false
-is_cleared name (ReleaseViewport c ∷ calls) = cond (c.0 == name.0) false (is_cleared name calls)
+is_cleared name (ReleaseViewport c ∷ calls) = cond (name.0 == c.0) false (is_cleared name calls)
 is_cleared name (Clear ∷ calls) = true
 is_cleared name (_ ∷ calls) = is_cleared name calls
 

@@ -30,7 +30,7 @@ fn is_cleared(name: ContentId, calls: &[Call]) -> bool
     for call in calls {
         match call {
             Call::ReleaseViewport { c } => {
-                if c.0 == name.0 {
+                if name.0 == c.0 {
                     return false;
                 }
             }
