@@ -37,6 +37,7 @@ pub mod Opened
 pub mod Owned
 pub mod OwnedTree
 pub mod PairLaws
+pub mod PairSteps
 pub mod PairTold
 pub mod PollSteps
 pub mod Polled
