@@ -39,6 +39,7 @@ pub mod OwnedTree
 pub mod PairLaws
 pub mod PairSteps
 pub mod PairTold
+pub mod PairUses
 pub mod PollSteps
 pub mod Polled
 pub mod PresentSteps

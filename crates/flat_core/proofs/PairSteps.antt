@@ -170,21 +170,21 @@ module _ (setup : Setup) (s : SessionNo) (h : List Entry) (e : Entry) (carries :
           let opened : is_closed v h ≡ false = ap (λ (t : SessionNo). is_closed t h) (one-session s v e.actor entry.mine theirs) ∙ entry.opened in
           serial-own setup v p (owner-owns setup v p owner) h e entry.legal theirs closing opened same old.serial old.tells
 
--- its own entry that uses no viewport end
-pub pair-own : (setup : Setup) (s : SessionNo) (h : List Entry) (e : Entry) (carries : List Call) (made : ℕ) (live : List Live) → IsOwnEntry setup h e s carries made live → UsesNone e
-    → (view : Option PairNo) → view ≡ view_after None (calls s h) → (i : ℕ) (state : PairState) → IsPairKept setup h (pair i) state
+-- its own entry that doesn't use the pair's viewport end
+pub pair-own : (setup : Setup) (s : SessionNo) (h : List Entry) (e : Entry) (carries : List Call) (made : ℕ) (live : List Live) → IsOwnEntry setup h e s carries made live
+    → (view : Option PairNo) → view ≡ view_after None (calls s h) → (i : ℕ) → (uses_viewport (pair i) e.kind && is_done e.reply) ≡ false → (state : PairState) → IsPairKept setup h (pair i) state
     → IsPairKept setup (h ▹ e) (pair i) (cleared_if (clears_pair (pair i) live carries) made (ended_by i view carries made state))
-pair-own setup s h e carries made live entry no_use view is i state kept = record {
+pair-own setup s h e carries made live entry view is i no_use state kept = record {
   uses = kept.uses ∙ ap (length {A = Entry}) (sym same);
   ended = λ w owner. ended-own setup s h e carries made live entry (pair i) view is w owner state.ended (kept.ended w owner);
   cleared = λ v owner. cleared-own setup s h e carries made live entry (pair i) v owner state.cleared (kept.cleared v owner);
-  serial = λ v owner some. serial-kept setup s h e carries made live entry (pair i) (no_use (pair i)) v owner state.serial (kept.serial v owner (subst (λ (us : List Entry). 0 < length us) same some));
+  serial = λ v owner some. serial-kept setup s h e carries made live entry (pair i) no_use v owner state.serial (kept.serial v owner (subst (λ (us : List Entry). 0 < length us) same some));
   given = kept.given ∙ ap (props_given setup) (sym same);
   seen = λ v owner. kept.seen v owner ∙ seen-same v;
 }
   where
     same : viewport_uses (pair i) (h ▹ e) ≡ viewport_uses (pair i) h
-    same = rw (no_use (pair i)) refl
+    same = rw no_use refl
 
     seen-same : (v : SessionNo) → props_seen setup (pair i) (length (viewport_uses (pair i) h)) v h ≡ props_seen setup (pair i) (length (viewport_uses (pair i) (h ▹ e))) v (h ▹ e)
     seen-same v =
