@@ -14,6 +14,7 @@ pub mod EventsLocal
 pub mod FamilyHistory
 pub mod FamilyTheorem
 pub mod FinishEvents
+pub mod Followed
 pub mod Foreign
 pub mod FramesLocal
 pub mod HasView
@@ -36,6 +37,7 @@ pub mod Ones
 pub mod Opened
 pub mod Owned
 pub mod OwnedTree
+pub mod PairIdle
 pub mod PairLaws
 pub mod PairSteps
 pub mod PairTold
