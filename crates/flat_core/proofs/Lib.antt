@@ -30,6 +30,7 @@ pub mod LowTrees
 pub mod Marks
 pub mod MoreRuns
 pub mod Neighbour
+pub mod NewTies
 pub mod NoAnswers
 pub mod NoNews
 pub mod NoViewports
@@ -66,6 +67,7 @@ pub mod StampSteps
 pub mod Stamped
 pub mod Steps
 pub mod Still
+pub mod TiesSteps
 pub mod TokenLaw
 pub mod Tokens
 pub mod TokensBack

@@ -31,7 +31,7 @@ use Rattle.flat_core.specs.Legal.{Legal, makes_viewport, owns_in_call, owns_all,
 use Rattle.flat_core.specs.Lives.{made_of_pair}
 use Rattle.flat_core.specs.Serials.{IsUseSerial, contents_made, serials_in}
 use Rattle.flat_core.specs.Stamps.{made_by}
-use Rattle.flat_core.specs.Usage.{used_by}
+use Rattle.flat_core.specs.Usage.{IsUse, used_by}
 use Rattle.flat_core.specs.Views.{ended_by, view_after}
 use Rattle.flat_core.specs.Watch.{or_else, props_at, props_given, props_seen}
 use Rattle.flat_core.proofs.Earlier.{begin-earlier, calls-taken, taken-fits}
@@ -98,10 +98,6 @@ below-cap n m cap same below = rw same (grind arith)
 
 one-owner : (s v : SessionNo) → is_session s (Session v) ≡ true → v ≡ s
 one-owner s v is = let same : Session v ≡ Session s = same-session s (Session v) is in cc
-
-pub record IsUse (e : Entry) (p : PairNo) (props : ViewportProps) : Type 0 where
-  pub kind : e.kind ≡ Viewport p props
-  pub reply : e.reply ≡ Done
 
 pub pair-used : (setup : Setup) (s : SessionNo) (h : List Entry) (e : Entry) (carries : List Call) (made : ℕ) (live : List Live) → IsOwnEntry setup h e s carries made live → length h < 2 ^ 32 - 1
     → (p : PairNo) (props : ViewportProps) → IsUse e p props → (serial : ℕ) → serial ≡ capped (length (contents_made (calls s h ++ carries)))

@@ -1,10 +1,20 @@
 -- What a use of a viewport end, and a frame that had viewports, do to what is kept of pairs.
-use Rattle.std.specs.Prelude.{◌≡◌, ◌<◌, ℕ, ◌+◌, ◌-◌, ◌^◌, min, Bool, cond, ◌&&◌, ◌==◌, List, [], ◌∷◌, length, Option, Some, None, slice_index_or}
+use Rattle.std.specs.Prelude.{◌≡◌, ◌<◌, ℕ, ◌+◌, ◌-◌, ◌^◌, min, Bool, cond, ◌&&◌, ◌==◌, List, [], ◌∷◌, length, Option, Some, None, slice_index_or, slice_set}
 use Rattle.flat_base.specs.declared.ids.PairNo.{PairNo}
+use Rattle.flat_base.specs.declared.ids.SessionNo.{SessionNo}
+use Rattle.flat_scene.specs.declared.calls.Call.{Call}
 use Rattle.flat_scene.specs.declared.calls.ViewportProps.{ViewportProps}
+use Rattle.flat_scene.specs.declared.journal.Entry.{Entry}
+use Rattle.flat_scene.specs.declared.journal.Kind.TheVariants.{Viewport}
+use Rattle.flat_scene.specs.declared.journal.Reply.TheVariants.{Done}
 use Rattle.flat_scene.specs.declared.trees.ViewportUse.{ViewportUse}
+use Rattle.flat_core.specs.declared.following.Following.{Following}
+use Rattle.flat_core.specs.declared.live.Live.{Live}
 use Rattle.flat_core.specs.declared.pairs.PairState.{PairState}
+use Rattle.flat_core.specs.Clears.{clears_pair, cleared_if}
 use Rattle.flat_core.specs.Following.{capped}
+use Rattle.flat_core.specs.Serials.{contents_made}
+use Rattle.flat_core.specs.Views.{ended_by, view_after}
 use Rattle.flat_core.specs.Watch.{or_else}
 
 -- a pair's state after a use with these properties, whose viewport has that serial
@@ -29,3 +39,22 @@ seen_by p uses serial state = record state { seen = or_else (props_among p uses 
 pub record SeesUses (uses : List ViewportUse) (old new : List PairState) : Type 0 where
   pub count : length new ≡ length old
   pub each : (i : ℕ) (d : PairState) → i < length old → (n : ℕ) → (slice_index_or old i d).serial ≡ capped n → slice_index_or new i d ≡ seen_by (record { 0 = i }) uses n (slice_index_or old i d)
+
+-- an entry that uses the viewport end of a pair with these properties
+pub record IsUse (entry : Entry) (p : PairNo) (props : ViewportProps) : Type 0 where
+  pub kind : entry.kind ≡ Viewport p props
+  pub reply : entry.reply ≡ Done
+
+-- what is kept of a session after its calls, which leave it so many contents
+abbrev pub followed_by : List Call → ℕ → Following → Following
+followed_by calls contents following = record following { view = view_after following.view calls; contents = contents }
+
+-- What is kept after calls of a session that had made so many presents, and of which these viewports lived.
+pub record NotesCalls (s : SessionNo) (calls : List Call) (presents : ℕ) (live : List Live) (contents : ℕ) (old new : List Following) (pairs after : List PairState) : Type 0 where
+  pub was : Following
+  pub at : was ≡ slice_index_or old (s.0 - 1) was
+  pub session : new ≡ slice_set old (s.0 - 1) (followed_by calls contents was)
+  pub contents_are : (n : ℕ) → was.contents ≡ capped n → contents ≡ capped (n + length (contents_made calls))
+  pub count : length after ≡ length pairs
+  pub each : (i : ℕ) (d : PairState) → i < length pairs
+      → slice_index_or after i d ≡ cleared_if (clears_pair (record { 0 = i }) live calls) presents (ended_by i was.view calls presents (slice_index_or pairs i d))

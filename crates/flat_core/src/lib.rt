@@ -19,6 +19,7 @@ mod polls;
 mod state;
 #[cfg(test)]
 mod tests;
+mod ties;
 mod told;
 mod usage;
 mod viewports;

@@ -31,8 +31,8 @@ pub fn count_contents(count: u64, calls: &[Call]) -> u64
 }
 
 /// The viewport end of a pair is used; the viewport has that serial.
-pub fn use_pair(pairs: &mut [PairState], p: PairNo, serial: u64, props: ViewportProps)
-    ensures { UsesPair p serial props pairs.old pairs.new }
+pub fn use_pair(pairs: &mut Vec<PairState>, p: PairNo, serial: u64, props: ViewportProps)
+    ensures { UsesPair p serial props pairs.old.items pairs.new.items }
 {
     let place = p.0 as usize;
     if place < pairs.len() {
@@ -49,8 +49,8 @@ pub fn use_pair(pairs: &mut [PairState], p: PairNo, serial: u64, props: Viewport
 }
 
 /// A finished frame had this viewport.
-fn see_use(pairs: &mut [PairState], one: &ViewportUse)
-    ensures { SeesUses (one.now ∷ []) pairs.old pairs.new }
+fn see_use(pairs: &mut Vec<PairState>, one: &ViewportUse)
+    ensures { SeesUses (one.now ∷ []) pairs.old.items pairs.new.items }
 {
     let place = one.pair.0 as usize;
     if place < pairs.len() {
@@ -62,8 +62,8 @@ fn see_use(pairs: &mut [PairState], one: &ViewportUse)
 }
 
 /// A finished frame had these viewports.
-pub fn see_uses(pairs: &mut [PairState], uses: &[ViewportUse])
-    ensures { SeesUses uses.now pairs.old pairs.new }
+pub fn see_uses(pairs: &mut Vec<PairState>, uses: &[ViewportUse])
+    ensures { SeesUses uses.now pairs.old.items pairs.new.items }
 {
     for one in uses {
         see_use(pairs, one);
