@@ -67,6 +67,7 @@ pub mod StampSteps
 pub mod Stamped
 pub mod Steps
 pub mod Still
+pub mod TiesBegin
 pub mod TiesSteps
 pub mod TokenLaw
 pub mod Tokens

@@ -59,6 +59,7 @@ new-kept setup i = record {
   ended = λ w owner. record { tells = λ n few. refl; opened = λ o. refl };
   cleared = λ v owner. record { tells = λ n few. refl; opened = λ o. refl };
   serial = λ v owner some. absurd (no-use 0 some);
+  unused = λ none. refl;
   given = refl;
   seen = λ v owner. refl;
 }

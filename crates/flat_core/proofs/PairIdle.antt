@@ -98,6 +98,7 @@ module _ (setup : Setup) (h : List Entry) (e : Entry) (legal : Legal setup (h �
     ended = λ w owner. subst (IsStamp (happens setup (ends_view p)) w (h ▹ e)) (sym ended) (idle-stamp (happens setup (ends_view p)) (happening-lasts setup (ends_view p)) w state.ended (kept.ended w owner));
     cleared = λ v owner. subst (IsStamp (happens setup (clears_viewport p)) v (h ▹ e)) (sym cleared) (idle-stamp (happens setup (clears_viewport p)) (happening-lasts setup (clears_viewport p)) v state.cleared (kept.cleared v owner));
     serial = λ v owner some. subst (IsSerialKept p v (h ▹ e)) (sym serial) (idle-serial p no_use v owner state.serial (kept.serial v owner (subst (λ (us : List Entry). 0 < length us) same some)));
+    unused = λ none. serial ∙ kept.unused (ap (length {A = Entry}) (sym same) ∙ none);
     given = given ∙ kept.given ∙ ap (props_given setup) (sym same);
     seen = λ v owner. seen v owner ∙ ap (λ (us : List Entry). props_seen setup p (length us) v (h ▹ e)) (sym same);
   }

@@ -179,6 +179,7 @@ pair-own setup s h e carries made live entry view is i no_use state kept = recor
   ended = λ w owner. ended-own setup s h e carries made live entry (pair i) view is w owner state.ended (kept.ended w owner);
   cleared = λ v owner. cleared-own setup s h e carries made live entry (pair i) v owner state.cleared (kept.cleared v owner);
   serial = λ v owner some. serial-kept setup s h e carries made live entry (pair i) no_use v owner state.serial (kept.serial v owner (subst (λ (us : List Entry). 0 < length us) same some));
+  unused = λ none. kept.unused (ap (length {A = Entry}) (sym same) ∙ none);
   given = kept.given ∙ ap (props_given setup) (sym same);
   seen = λ v owner. kept.seen v owner ∙ seen-same v;
 }

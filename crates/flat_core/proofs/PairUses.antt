@@ -142,6 +142,7 @@ pair-used setup s h e carries made live entry small p props used serial counted 
                     subst (λ (t : SessionNo). IsUseSerial (pair i) t (h ▹ e) (length (contents_made (calls s h ++ e.calls)))) (sym same)
                     (serial-new setup s (pair i) ours h e entry.legal entry.mine stays entry.opened (λ all. ap (λ (k : Kind). published k e.reply all) used.kind) count props last);
               };
+          unused = λ none. let wrong : 1 ≤ 0 = omega (arith, none, count) in absurd (omega (arith, wrong));
           given = sym (ap (props_given setup) more ∙ ap props_at used.kind);
           seen = λ v owner.
               let same : v ≡ s = one-owner s v (sym (ap (λ (o : Option Actor). unwrap_or (option_map (is_session s) o) false) owner) ∙ ours) in

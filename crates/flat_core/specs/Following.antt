@@ -1,5 +1,5 @@
 -- What is kept of sessions and of pairs, so that what the ends of a pair tell can be told at once.
-use Rattle.std.specs.Prelude.{◌≡◌, ℕ, ◌-◌, ◌^◌, ◌<◌, Bool, true, false, min, List, [], length, Option, Some, None, ◌&&◌, ◌==◌}
+use Rattle.std.specs.Prelude.{◌≡◌, ℕ, ◌-◌, ◌^◌, ◌<◌, Bool, true, false, min, List, [], length, Option, Some, None, ◌&&◌, ◌==◌, option_and_then}
 use Rattle.flat_base.specs.declared.ids.Actor.TheVariants.{Session}
 use Rattle.flat_base.specs.declared.ids.PairNo.{PairNo}
 use Rattle.flat_base.specs.declared.ids.SessionNo.{SessionNo}
@@ -13,16 +13,21 @@ use Rattle.flat_core.specs.declared.following.Following.{Following}
 use Rattle.flat_core.specs.declared.following.Glimpse.{Glimpse}
 use Rattle.flat_core.specs.declared.live.Live.{Live}
 use Rattle.flat_core.specs.declared.pairs.PairState.{PairState}
+use Rattle.flat_core.specs.declared.state.SessionState.{SessionState}
+use Rattle.flat_core.specs.Begins.{begun, finished}
 use Rattle.flat_core.specs.Boards.{number}
 use Rattle.flat_core.specs.Ends.{clears_viewport, ends_view, happens, to_begin, to_finished, view_owner, viewport_owner, viewport_uses, uses_viewport, is_done}
-use Rattle.flat_core.specs.Kept.{AllNumbered}
+use Rattle.flat_core.specs.Kept.{AllNumbered, IsKept, taken_in}
 use Rattle.flat_core.specs.Legal.{Legal}
 use Rattle.flat_core.specs.Lives.{lives_after}
+use Rattle.flat_core.specs.Seen.{seen_of}
 use Rattle.flat_core.specs.Serials.{IsUseSerial, contents_made}
-use Rattle.flat_core.specs.Shown.{is_connected, shown_view}
+use Rattle.flat_core.specs.Shown.{is_connected, shown_states, shown_view}
 use Rattle.flat_core.specs.Stamps.{IsStamp}
 use Rattle.flat_core.specs.Views.{view_after}
 use Rattle.flat_core.specs.Watch.{props_given, props_seen}
+use Rattle.flat_topology.specs.Join.{is_joined}
+use Rattle.flat_topology.specs.Shown.{Shown, state_of}
 
 -- a count that stays at its end, which is beyond every serial of a tree
 abbrev pub capped : ℕ → ℕ
@@ -56,6 +61,7 @@ pub record IsPairKept (setup : Setup) (history : List Entry) (p : PairNo) (state
   pub ended : (w : SessionNo) → view_owner setup p ≡ Some w → IsStamp (happens setup (ends_view p)) w history state.ended
   pub cleared : (v : SessionNo) → viewport_owner setup p ≡ Some (Session v) → IsStamp (happens setup (clears_viewport p)) v history state.cleared
   pub serial : (v : SessionNo) → viewport_owner setup p ≡ Some (Session v) → 0 < length (viewport_uses p history) → IsSerialKept p v history state.serial
+  pub unused : length (viewport_uses p history) ≡ 0 → state.serial ≡ 0
   pub given : state.given ≡ props_given setup (viewport_uses p history)
   pub seen : (v : SessionNo) → viewport_owner setup p ≡ Some (Session v) → state.seen ≡ props_seen setup p (length (viewport_uses p history)) v history
 
@@ -90,3 +96,23 @@ pub record IsIdle (setup : Setup) (history : List Entry) (entry : Entry) : Type 
   pub no_finish : is_finish entry.kind ≡ false
   pub no_use : UsesNone entry
   pub shut : (s : SessionNo) → is_session s entry.actor ≡ true → is_closed s history ≡ true
+
+-- what the begin of a frame sees of a session, by its state and by what is shown
+abbrev pub sight : Setup → Shown → SessionState → SessionNo → Glimpse
+sight setup shown state s = record {
+  closed = state.closed;
+  taken = taken_in state;
+  view = option_and_then (λ t. t.view) (state_of shown s.0);
+  connected = is_joined setup shown s.0;
+}
+
+-- A frame began: what is kept of the sessions, and what is shown, stand for the history with the begin.
+pub record IsBegun (setup : Setup) (history : List Entry) (line time : ℕ) (states : List SessionState) (shows : Shown) : Type 0 where
+  pub legal : Legal setup (begun history line time)
+  pub kept : AllNumbered (λ i. IsKept setup (seen_of setup (begun history line time) (number i))) states
+  pub shown : shows ≡ shown_states setup (begun history line time)
+
+-- A frame ends, of which this is shown.
+pub record IsFinished (setup : Setup) (history : List Entry) (line : ℕ) (shows : Shown) : Type 0 where
+  pub legal : Legal setup (finished history line)
+  pub shown : shows ≡ shown_states setup (to_begin history)

@@ -2,16 +2,20 @@ ghost use Rattle.std.specs.Prelude.{◌≡◌, ℕ, ◌-◌, ◌^◌, ◌<◌, �
 ghost use Rattle.flat_scene.specs.declared.setup.Setup.{Setup};
 ghost use Rattle.flat_scene.specs.declared.journal.Entry.{Entry};
 ghost use Rattle.flat_scene.specs.History.{◌▹◌};
-ghost use Rattle.flat_core.specs.Following.{AreTied, IsOwnEntry, UsesNone};
+ghost use Rattle.flat_core.specs.Following.{AreTied, IsBegun, IsOwnEntry, UsesNone, sight};
+ghost use Rattle.flat_core.specs.Begins.{begun};
+ghost use Rattle.flat_topology.specs.Fit.{FitsSetup};
 ghost use Rattle.flat_core.specs.Usage.{IsUse, NotesCalls};
 
 use crate::clears::note_clears;
 use crate::following::{Following, Glimpse};
 use crate::live::Live;
 use crate::pairs::{PairState, note_views};
+use crate::state::SessionState;
 use crate::usage::{count_contents, use_pair};
 use flat_base::{NoMemory, PairNo, SessionNo};
 use flat_scene::{Call, Setup, ViewportProps};
+use flat_topology::Shown;
 use std::alloc::Global;
 
 /// What a history without a frame says of a session.
@@ -37,6 +41,26 @@ const NEW_PAIR: PairState = PairState {
     given: None,
     seen: None,
 };
+
+/// What the begin of a frame sees of a session.
+fn glimpse(setup: &Setup, shown: &Shown, state: &SessionState, s: SessionNo) -> Glimpse
+    requires some { 0 < s.0 }
+    requires few { s.0 ≤ length shown.now }
+    requires goes { length state.now.going.items ≤ 5 }
+    requires fit { FitsSetup setup.now shown.now }
+    ensures { result ≡ sight setup.now shown.now state.now s }
+{
+    let view = match shown.state(s) {
+        Some(state) => state.view(),
+        None => None,
+    };
+    Glimpse {
+        closed: state.closed,
+        taken: state.taken(),
+        view,
+        connected: shown.connected(setup, s),
+    }
+}
 
 /// What is kept of sessions and of pairs, by which the layout and the status of
 /// each pair's view, and its child, are told at once.
@@ -84,6 +108,22 @@ impl Ties {
     {
         let serial = self.note_calls(s, calls, presents, live);
         use_pair(&mut self.pairs, p, serial, props);
+    }
+
+    /// Notes the begin of a frame, after it took what it takes: what it sees of each
+    /// session. It takes no memory.
+    pub fn begin(&mut self, setup: &Setup, sessions: &[SessionState], shown: &Shown)
+        requires count { length self.old.followings.items ≡ setup.now.sessions }
+        requires all { length sessions.now ≡ setup.now.sessions }
+        requires shown { length shown.now ≡ setup.now.sessions }
+        requires goes { All (λ state. length state.going.items ≤ 5) sessions.now }
+        requires fit { FitsSetup setup.now shown.now }
+        ensures { (h : List Entry) (line time : ℕ) → IsBegun setup.now h line time sessions.now shown.now → AreTied setup.now h self.old.followings.items self.old.pairs.items → AreTied setup.now (begun h line time) self.new.followings.items self.new.pairs.items }
+    {
+        for i in 0..setup.sessions {
+            let state = &sessions[i as usize];
+            self.followings[i as usize].begun = glimpse(setup, shown, state, SessionNo(i + 1));
+        }
     }
 
     /// The same but for uses. Answers how many contents the session's calls made.
