@@ -24,7 +24,7 @@ pair-is : (q r : PairNo) → (q.0 == r.0) ≡ true → q ≡ r
 pair-is q r same = let number : q.0 ≡ r.0 = grind (arith, nat_tests) in ap (λ (n : ℕ). let x : PairNo = record { 0 = n } in x) number
 
 -- an owned pair is none that isn't owned
-owned-differs : (owns : PairNo → Bool) (q p : PairNo) → owns q ≡ true → owns p ≡ false → (b : Bool) → (q.0 == p.0) ≡ b → b ≡ false
+pub owned-differs : (owns : PairNo → Bool) (q p : PairNo) → owns q ≡ true → owns p ≡ false → (b : Bool) → (q.0 == p.0) ≡ b → b ≡ false
 owned-differs owns q p owned foreign false is = refl
 owned-differs owns q p owned foreign true is = let O : PairNo → Type 0 = λ r. owns r ≡ true in let wrong : true ≡ false = sym (subst O (pair-is q p is) owned) ∙ foreign in cc
 

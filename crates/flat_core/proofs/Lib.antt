@@ -16,6 +16,7 @@ pub mod FamilyTheorem
 pub mod FinishEvents
 pub mod Followed
 pub mod Foreign
+pub mod FrameSees
 pub mod FramesLocal
 pub mod HasView
 pub mod JoinedLocal

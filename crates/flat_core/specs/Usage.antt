@@ -7,6 +7,7 @@ use Rattle.flat_scene.specs.declared.calls.ViewportProps.{ViewportProps}
 use Rattle.flat_scene.specs.declared.journal.Entry.{Entry}
 use Rattle.flat_scene.specs.declared.journal.Kind.TheVariants.{Viewport}
 use Rattle.flat_scene.specs.declared.journal.Reply.TheVariants.{Done}
+use Rattle.flat_scene.specs.declared.trees.Tree.{Tree}
 use Rattle.flat_scene.specs.declared.trees.ViewportUse.{ViewportUse}
 use Rattle.flat_core.specs.declared.following.Following.{Following}
 use Rattle.flat_core.specs.declared.live.Live.{Live}
@@ -31,14 +32,24 @@ abbrev pub props_among : PairNo → List ViewportUse → ℕ → Option Viewport
 props_among p [] serial = None
 props_among p (one ∷ more) serial = or_else (props_among p more serial) (cond (one.pair.0 == p.0 && one.serial == serial) (Some one.props) None)
 
--- a pair's state after a finished frame had these viewports, where the last use made one of that serial
-abbrev pub seen_by : PairNo → List ViewportUse → ℕ → PairState → PairState
-seen_by p uses serial state = record state { seen = or_else (props_among p uses serial) state.seen }
+-- a pair's state with other properties seen
+abbrev pub with_seen : PairState → Option ViewportProps → PairState
+with_seen state props = record state { seen = props }
 
--- The states of all pairs after a finished frame had these viewports.
+-- The state of a pair after a finished frame had these viewports: what is seen of the last use changes where one of them has its serial.
+pub record SeesOne (p : PairNo) (uses : List ViewportUse) (old new : PairState) : Type 0 where
+  pub same : new ≡ with_seen old new.seen
+  pub seen : (n : ℕ) → old.serial ≡ capped n → new.seen ≡ or_else (props_among p uses n) old.seen
+
+-- The states of all pairs after that.
 pub record SeesUses (uses : List ViewportUse) (old new : List PairState) : Type 0 where
   pub count : length new ≡ length old
-  pub each : (i : ℕ) (d : PairState) → i < length old → (n : ℕ) → (slice_index_or old i d).serial ≡ capped n → slice_index_or new i d ≡ seen_by (record { 0 = i }) uses n (slice_index_or old i d)
+  pub each : (i : ℕ) (d : PairState) → i < length old → SeesOne (record { 0 = i }) uses (slice_index_or old i d) (slice_index_or new i d)
+
+-- the viewports in use of a tree, if there is one
+abbrev pub uses_in : Option Tree → List ViewportUse
+uses_in None = []
+uses_in (Some tree) = tree.viewports
 
 -- an entry that uses the viewport end of a pair with these properties
 pub record IsUse (entry : Entry) (p : PairNo) (props : ViewportProps) : Type 0 where
