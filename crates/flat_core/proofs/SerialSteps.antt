@@ -253,7 +253,7 @@ module _ (setup : Setup) (s : SessionNo) (p : PairNo) (owned : owns_viewport set
 
 -- ---- what a frame has seen
 
-tree-some : (d : Draft) → first_reason (tree_tests d) ≡ None → (t : Tree) × (tree d ≡ Some t)
+pub tree-some : (d : Draft) → first_reason (tree_tests d) ≡ None → (t : Tree) × (tree d ≡ Some t)
 tree-some d none = by_nodes (all_nodes d) refl
   where
     small : (a b : Bool) (x y : Reason) (rest : Option Reason) → cond a (Some x) (cond b (Some y) rest) ≡ None → b ≡ false

@@ -68,12 +68,12 @@ draft-contents setup calls d good = calls-contents setup empty_draft calls d goo
 
 -- ---- the serials of a pair
 
-made-is : (p : PairNo) (m : Made) → is_made_of p m ≡ is_pair (pair_made m) p
+pub made-is : (p : PairNo) (m : Made) → is_made_of p m ≡ is_pair (pair_made m) p
 made-is p (an_image i) = refl
 made-is p (a_fill x) = refl
 made-is p (a_viewport q props) = refl
 
-serials-are : (p : PairNo) (next : ℕ) (ms : List Made) → serials_of p next ms ≡ serials_in p next (map pair_made ms)
+pub serials-are : (p : PairNo) (next : ℕ) (ms : List Made) → serials_of p next ms ≡ serials_in p next (map pair_made ms)
 serials-are p next [] = refl
 serials-are p next (m ∷ ms) = rw (made-is p m, serials-are p (next + 1) ms) refl
 

@@ -1,8 +1,10 @@
 pub mod Begins
 pub mod Boards
+pub mod Clears
 pub mod Ends
 pub mod Facts
 pub mod Flags
+pub mod Following
 pub mod Gets
 pub mod Kept
 pub mod Lasts
@@ -19,6 +21,7 @@ pub mod Seen
 pub mod Serials
 pub mod Shown
 pub mod Stamps
+pub mod Usage
 pub mod Viewports
 pub mod Views
 pub mod Watch

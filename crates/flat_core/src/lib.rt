@@ -6,10 +6,12 @@
 
 mod begins;
 mod board;
+mod clears;
 mod clock;
 mod dones;
 mod ends;
 mod gets;
+mod following;
 mod laws;
 mod live;
 mod log;
@@ -18,7 +20,9 @@ mod polls;
 mod state;
 #[cfg(test)]
 mod tests;
+mod ties;
 mod told;
+mod usage;
 mod viewports;
 mod views;
 

@@ -15,8 +15,8 @@ pub struct PairState {
     /// How many presents its owner had made at the first Clear while a viewport of
     /// the pair lived.
     pub cleared: Option<u32>,
-    /// The serial of the viewport that the last use made.
-    pub serial: u32,
+    /// The serial of the viewport that the last use made, as far as a count goes.
+    pub serial: u64,
     /// The properties of the last use, as they were given, and as a finished frame
     /// has seen them last.
     pub given: Option<ViewportProps>,

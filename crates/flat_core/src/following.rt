@@ -1,0 +1,26 @@
+use flat_base::PairNo;
+
+/// What the begin of a frame saw of a session.
+#[derive(Clone, Copy, Debug, PartialEq, Eq)]
+pub struct Glimpse {
+    pub closed: bool,
+    /// How many of its presents frames had taken.
+    pub taken: u32,
+    /// The pair of the view that it shows.
+    pub view: Option<PairNo>,
+    /// It is connected to the display.
+    pub connected: bool,
+}
+
+/// What is kept of a session for the ends that it owns.
+#[derive(Clone, Copy, Debug, PartialEq, Eq)]
+pub struct Following {
+    /// The pair of the view that its calls leave it.
+    pub view: Option<PairNo>,
+    /// How many contents its calls made; a count at its end stays there.
+    pub contents: u64,
+    /// By the begin of the last frame.
+    pub begun: Glimpse,
+    /// By the begin of the last frame that is finished.
+    pub finished: Glimpse,
+}
