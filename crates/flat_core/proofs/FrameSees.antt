@@ -26,7 +26,8 @@ use Rattle.flat_core.specs.Legal.{Legal, owns_viewport}
 use Rattle.flat_core.specs.Serials.{IsUseSerial, contents_made, props_at_serial, serials_in}
 use Rattle.flat_core.specs.Shown.{last_taken, tree_of}
 use Rattle.flat_core.specs.Usage.{props_among, uses_in}
-use Rattle.flat_core.specs.Watch.{or_else, props_seen}
+use Rattle.flat_core.specs.Watch.{props_seen}
+use Rattle.flat_watch.specs.Told.{or_else}
 use Rattle.flat_core.proofs.Earlier.{IsEarlier, calls-taken, legal-earlier, taken-fits}
 use Rattle.flat_core.proofs.Foreign.{owned-differs}
 use Rattle.flat_core.proofs.Lives.{pair_made}

@@ -33,7 +33,8 @@ use Rattle.flat_core.specs.Serials.{IsUseSerial, contents_made, serials_in}
 use Rattle.flat_core.specs.Stamps.{made_by}
 use Rattle.flat_core.specs.Usage.{IsUse, used_by}
 use Rattle.flat_core.specs.Views.{ended_by, view_after}
-use Rattle.flat_core.specs.Watch.{or_else, props_at, props_given, props_seen}
+use Rattle.flat_core.specs.Watch.{props_at, props_given, props_seen}
+use Rattle.flat_watch.specs.Told.{or_else}
 use Rattle.flat_core.proofs.Earlier.{begin-earlier, calls-taken, taken-fits}
 use Rattle.flat_core.proofs.LiveCounts.{made-append}
 use Rattle.flat_core.proofs.PairSteps.{cleared-own, ended-own, no-finish, owner-owns, pair-own}

@@ -7,7 +7,7 @@ use Rattle.flat_scene.specs.declared.trees.ViewportUse.{ViewportUse}
 use Rattle.flat_core.specs.declared.pairs.PairState.{PairState}
 use Rattle.flat_core.specs.Following.{capped}
 use Rattle.flat_core.specs.Usage.{props_among, with_seen, SeesUses}
-use Rattle.flat_core.specs.Watch.{or_else}
+use Rattle.flat_watch.specs.Told.{or_else}
 
 or-three : (x y z : Option ViewportProps) → or_else x (or_else y z) ≡ or_else (or_else x y) z
 or-three (Some a) y z = refl

@@ -16,7 +16,7 @@ use Rattle.flat_core.specs.Clears.{clears_pair, cleared_if}
 use Rattle.flat_core.specs.Following.{capped}
 use Rattle.flat_core.specs.Serials.{contents_made}
 use Rattle.flat_core.specs.Views.{ended_by, view_after}
-use Rattle.flat_core.specs.Watch.{or_else}
+use Rattle.flat_watch.specs.Told.{or_else}
 
 -- a pair's state after a use with these properties, whose viewport has that serial
 abbrev pub used_by : ℕ → ViewportProps → PairState → PairState
