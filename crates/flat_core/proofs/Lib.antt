@@ -69,11 +69,13 @@ pub mod Stamped
 pub mod Steps
 pub mod Still
 pub mod TiesBegin
+pub mod TiesFinish
 pub mod TiesSteps
 pub mod TokenLaw
 pub mod Tokens
 pub mod TokensBack
 pub mod ToldLocal
+pub mod Undeclared
 pub mod Unwatched
 pub mod UsageSteps
 pub mod Uses
