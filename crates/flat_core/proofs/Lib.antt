@@ -77,10 +77,12 @@ pub mod Stamped
 pub mod Steps
 pub mod Still
 pub mod TiesBegin
+pub mod TiesFinish
 pub mod TiesSteps
 pub mod TokenLaw
 pub mod TokensBack
 pub mod ToldLocal
+pub mod Undeclared
 pub mod Unwatched
 pub mod UsageSteps
 pub mod UseLast

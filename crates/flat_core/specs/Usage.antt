@@ -51,6 +51,10 @@ abbrev pub uses_in : Option Tree → List ViewportUse
 uses_in None = []
 uses_in (Some tree) = tree.viewports
 
+-- the same where they are looked at
+abbrev pub uses_if : Bool → Option Tree → List ViewportUse
+uses_if took tree = cond took (uses_in tree) []
+
 -- an entry that uses the viewport end of a pair with these properties
 pub record IsUse (entry : Entry) (p : PairNo) (props : ViewportProps) : Type 0 where
   pub kind : entry.kind ≡ Viewport p props

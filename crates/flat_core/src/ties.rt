@@ -2,17 +2,18 @@ ghost use Rattle.std.specs.Prelude.{◌≡◌, ℕ, ◌-◌, ◌^◌, ◌<◌, �
 ghost use Rattle.flat_scene.specs.declared.setup.Setup.{Setup};
 ghost use Rattle.flat_scene.specs.declared.journal.Entry.{Entry};
 ghost use Rattle.flat_scene.specs.History.{◌▹◌};
-ghost use Rattle.flat_core.specs.Following.{AreTied, IsBegun, IsOwnEntry, UsesNone, sight};
-ghost use Rattle.flat_core.specs.Begins.{begun};
+ghost use Rattle.flat_core.specs.Following.{AreTied, IsBegun, IsFinished, IsOwnEntry, UsesNone, sight};
+ghost use Rattle.flat_core.specs.Begins.{begun, finished};
 ghost use Rattle.flat_topology.specs.Fit.{FitsSetup};
-ghost use Rattle.flat_core.specs.Usage.{IsUse, NotesCalls};
+ghost use Rattle.flat_core.specs.Usage.{IsUse, NotesCalls, SeesUses, uses_if};
+ghost use Rattle.flat_topology.specs.Shown.{state_of};
 
 use crate::clears::note_clears;
 use crate::following::{Following, Glimpse};
 use crate::live::Live;
 use crate::pairs::{PairState, note_views};
 use crate::state::SessionState;
-use crate::usage::{count_contents, use_pair};
+use crate::usage::{count_contents, see_uses, use_pair};
 use flat_base::{NoMemory, PairNo, SessionNo};
 use flat_scene::{Call, Setup, ViewportProps};
 use flat_topology::Shown;
@@ -59,6 +60,21 @@ fn glimpse(setup: &Setup, shown: &Shown, state: &SessionState, s: SessionNo) -> 
         taken: state.taken(),
         view,
         connected: shown.connected(setup, s),
+    }
+}
+
+/// A finished frame had what is shown of a session, if it took something from it.
+fn see_taken(pairs: &mut Vec<PairState>, shown: &Shown, s: SessionNo, took: bool)
+    requires some { 0 < s.0 }
+    requires few { s.0 ≤ length shown.now }
+    ensures { SeesUses (uses_if took (state_of shown.now s.0)) pairs.old.items pairs.new.items }
+{
+    if !took {
+        return;
+    }
+    match shown.state(s) {
+        Some(state) => see_uses(pairs, state.viewports().as_slice()),
+        None => {}
     }
 }
 
@@ -123,6 +139,22 @@ impl Ties {
         for i in 0..setup.sessions {
             let state = &sessions[i as usize];
             self.followings[i as usize].begun = glimpse(setup, shown, state, SessionNo(i + 1));
+        }
+    }
+
+    /// Notes the end of a frame, which had this shown: what its begin saw is that of
+    /// the last finished frame from now on. It looks at what is shown of those
+    /// sessions from which the frame took something. It takes no memory.
+    pub fn finish(&mut self, setup: &Setup, shown: &Shown)
+        requires count { length self.old.followings.items ≡ setup.now.sessions }
+        requires shown { length shown.now ≡ setup.now.sessions }
+        ensures { (h : List Entry) (line : ℕ) → IsFinished setup.now h line shown.now → AreTied setup.now h self.old.followings.items self.old.pairs.items → AreTied setup.now (finished h line) self.new.followings.items self.new.pairs.items }
+    {
+        for i in 0..setup.sessions {
+            let one = &mut self.followings[i as usize];
+            let took = one.finished.taken < one.begun.taken;
+            one.finished = one.begun;
+            see_taken(&mut self.pairs, shown, SessionNo(i + 1), took);
         }
     }
 
