@@ -16,13 +16,14 @@ use Rattle.flat_scene.specs.declared.journal.Told.{Told}
 use Rattle.flat_scene.specs.declared.setup.Setup.{Setup}
 use Rattle.flat_scene.specs.History.{◌▹◌, own, closes, is_closed, is_finish, is_session}
 use Rattle.flat_scene.specs.Setups.{is_declared}
+use Rattle.flat_scene.proofs.Together.{and-left, and-right}
 use Rattle.flat_watch.specs.Told.{Watching, or_else, news, answer, answered_by, asking, settled}
 use Rattle.flat_core.specs.declared.gets.Answered.{Answered}
 use Rattle.flat_core.specs.declared.gets.HeldGet.{HeldGet}
 use Rattle.flat_core.specs.declared.gets.Watched.{Watched}
 use Rattle.flat_core.specs.Ends.{is_done, uses_viewport, viewport_owner, viewport_uses, view_owner}
 use Rattle.flat_core.specs.Gets.{watched_by, watched_of, held_of, helds_of, hears, watchers_of, last_of, noted_all, answered_get, answering, is_get, reached, AnsweredAt, AnsweredUpTo, AreGets, Asks, IsAnswered}
-use Rattle.flat_core.specs.Legal.{Legal, got, is_now, owns_view, owns_viewport}
+use Rattle.flat_core.specs.Legal.{Legal, got, is_now, may_act, session_may, owns_view, owns_viewport}
 use Rattle.flat_core.specs.Local.{pair_watched}
 use Rattle.flat_core.specs.Watch.{Watcher, layout_of, status_of, child_of, watching, told, asked, asked_in, is_open, listener, same_watcher, watcher_of, is_watcher}
 use Rattle.flat_core.proofs.Between.{is_viewport}
@@ -30,7 +31,7 @@ use Rattle.flat_core.proofs.GetAnswers.{Fits, noted-by, uses-answered, uses-kept
 use Rattle.flat_core.proofs.GetAsked.{Finds, found, no-waits, other-rests, own-asked, same-sym}
 use Rattle.flat_core.proofs.GetHistory.{own-watcher, owner-hears, hears-open, watchers-heard, fresh-use, next-fresh}
 use Rattle.flat_core.proofs.GetOrder.{meant-found, same-is}
-use Rattle.flat_core.proofs.GetOwners.{IsMeant, of_layout, of_status, of_child, get-meant, get-open, meant-heard}
+use Rattle.flat_core.proofs.GetOwners.{others-unasked, IsMeant, of_layout, of_status, of_child, get-meant, get-open, meant-heard}
 use Rattle.flat_core.proofs.GetSteps.{idle-kind, rests-between, rests-joined, rests-refused}
 use Rattle.flat_core.proofs.ViewHistory.{same-session}
 use Rattle.flat_core.proofs.Watchers.{after_get, got-two, settled-now, unasked, unheld-stays}
@@ -397,3 +398,126 @@ answered-asked setup h e legal s is get asks w means a b its held after total mo
     done.noted ∙ ap (λ (c : Bool). answered_get c (watched_of a.uses get) (news (told setup h w) (last_of (watched_of a.uses get) a)) a) finds.waits
     ∙ ap (λ (l : Option Told). answered_get held_now (watched_of a.uses get) (news (told setup h w) l) a) finds.last ∙ ap (λ (x : Watched). answered_get held_now x new a) finds.watched in
     subst (IsAnswered setup (h ▹ e) (pair_watched w)) (sym noted) (of-pair setup h e legal s is get asks w means a its held_now refl new refl replied)
+
+-- ---- the end of a frame, session by session
+
+module _ (setup : Setup) (h : List Entry) (e : Entry) (legal : Legal setup (h ▹ e)) (no_get : is_get e.kind ≡ false) where
+  reached-none : (o : Option Actor) → reached 0 o (h ▹ e) h ≡ h
+  reached-none None = refl
+  reached-none (Some Display) = refl
+  reached-none (Some (Probe n)) = refl
+  reached-none (Some (Session s)) = let none : (nat_lt 0 s.0 && nat_le s.0 0) ≡ false = grind (arith, nat_tests) in rw none refl
+
+  -- before the first
+  pub upto-first : (p : PairNo) (a : Answered) → IsAnswered setup h p a → AnsweredUpTo setup 0 (h ▹ e) h p a
+  upto-first p a is = record {
+    last = record {
+      layout = is.last.layout ∙ ap (last_told setup (layout_of p)) (sym (reached-none (listener setup (layout_of p))));
+      status = is.last.status ∙ ap (last_told setup (status_of p)) (sym (reached-none (listener setup (layout_of p))));
+      child = is.last.child ∙ ap (last_told setup (child_of p a.uses)) (sym (reached-none (viewport_owner setup p)));
+    };
+    uses = is.uses;
+  }
+
+  -- the next one hears, or it doesn't
+  not-yet : (n : ℕ) (s : SessionNo) → s.0 ≡ n + 1 → (o : Option Actor) → unwrap_or (option_map (is_session s) o) false ≡ true → reached n o (h ▹ e) h ≡ h
+  not-yet n s is None heard = refl
+  not-yet n s is (Some Display) heard = refl
+  not-yet n s is (Some (Probe k)) heard = refl
+  not-yet n s is (Some (Session t)) heard = let above : (nat_lt 0 t.0 && nat_le t.0 n) ≡ false = grind (arith, nat_tests) in rw above refl
+
+  one-more : (n : ℕ) (s : SessionNo) → s.0 ≡ n + 1 → (o : Option Actor) → cond (unwrap_or (option_map (is_session s) o) false) (h ▹ e) (reached n o (h ▹ e) h) ≡ reached (n + 1) o (h ▹ e) h
+  one-more n s is None = refl
+  one-more n s is (Some Display) = refl
+  one-more n s is (Some (Probe k)) = refl
+  one-more n s is (Some (Session t)) = by_session (t.0 == s.0) refl
+    where
+      by_session : (b : Bool) → (t.0 == s.0) ≡ b → cond b (h ▹ e) (cond (nat_lt 0 t.0 && nat_le t.0 n) (h ▹ e) h) ≡ cond (nat_lt 0 t.0 && nat_le t.0 (n + 1)) (h ▹ e) h
+      by_session true same = let within : (nat_lt 0 t.0 && nat_le t.0 (n + 1)) ≡ true = grind (arith, nat_tests) in rw within refl
+      by_session false other =
+          let differ : t.0 ≢ s.0 = λ equal. let wrong : (t.0 == s.0) ≡ true = grind (arith, nat_tests) in let never : true ≡ false = sym wrong ∙ other in cc in
+          let within : nat_le t.0 n ≡ nat_le t.0 (n + 1) = by_le (nat_le t.0 n) refl differ in
+          ap (λ (b : Bool). cond (nat_lt 0 t.0 && b) (h ▹ e) h) within
+        where
+          by_le : (b : Bool) → nat_le t.0 n ≡ b → t.0 ≢ s.0 → b ≡ nat_le t.0 (n + 1)
+          by_le true below differ = grind (arith, nat_tests)
+          by_le false above differ = grind (arith, nat_tests)
+
+  -- where it is open, its held gets are answered
+  pub upto-next : (n : ℕ) (s : SessionNo) → s.0 ≡ n + 1 → is_closed s (h ▹ e) ≡ false → (p : PairNo) (a : Answered) → AnsweredUpTo setup n (h ▹ e) h p a
+      → AnsweredUpTo setup (n + 1) (h ▹ e) h p (noted_all (told setup (h ▹ e)) p.0 (helds_of setup h s) a)
+  upto-next n s is opened p a its =
+      let view : Option Actor = listener setup (layout_of p) in
+      let viewport : Option Actor = viewport_owner setup p in
+      let b : Answered = noted_all (told setup (h ▹ e)) p.0 (helds_of setup h s) a in
+      let settles = pair-settled setup h e legal s opened (λ w heard. idle-kind setup h e no_get w) p a (reached n view (h ▹ e) h) (reached n viewport (h ▹ e) h) its.last (λ heard. not-yet n s is view heard) (λ heard. (not-yet n s is viewport heard, its.uses)) in
+      record {
+        last = record {
+          layout = settles.layout ∙ ap (last_told setup (layout_of p)) (one-more n s is view);
+          status = settles.status ∙ ap (last_told setup (status_of p)) (one-more n s is view);
+          child = settles.child ∙ ap (last_told setup (child_of p b.uses)) (one-more n s is viewport);
+        };
+        uses = uses-kept (told setup (h ▹ e)) p.0 (helds_of setup h s) a ∙ its.uses;
+      }
+
+  -- where it is closed, nothing changes
+  shut-same : (n : ℕ) (s : SessionNo) → s.0 ≡ n + 1 → is_closed s (h ▹ e) ≡ true → (w : Watcher) → last_told setup w (reached n (listener setup w) (h ▹ e) h) ≡ last_told setup w (reached (n + 1) (listener setup w) (h ▹ e) h)
+  shut-same n s is closed w = by_heard (hears setup s w) refl ∙ ap (last_told setup w) (one-more n s is (listener setup w))
+    where
+      by_heard : (b : Bool) → hears setup s w ≡ b → last_told setup w (reached n (listener setup w) (h ▹ e) h) ≡ last_told setup w (cond b (h ▹ e) (reached n (listener setup w) (h ▹ e) h))
+      by_heard false deaf = refl
+      by_heard true heard =
+          ap (last_told setup w) (not-yet n s is (listener setup w) heard)
+          ∙ sym (same-last _ _ (rests-shut setup h e w (heard-shut (listener setup w) s (h ▹ e) heard closed setup) (idle-kind setup h e no_get w)))
+
+  pub upto-closed : (n : ℕ) (s : SessionNo) → s.0 ≡ n + 1 → is_closed s (h ▹ e) ≡ true → (p : PairNo) (a : Answered) → AnsweredUpTo setup n (h ▹ e) h p a → AnsweredUpTo setup (n + 1) (h ▹ e) h p a
+  upto-closed n s is closed p a its = record {
+    last = record {
+      layout = its.last.layout ∙ shut-same n s is closed (layout_of p);
+      status = its.last.status ∙ shut-same n s is closed (status_of p);
+      child = its.last.child ∙ shut-same n s is closed (child_of p a.uses);
+    };
+    uses = its.uses;
+  }
+
+  -- after the last one all are told
+  undeclared-waits : (k : List Entry) → Legal setup k → (t : SessionNo) → is_declared setup t ≡ false → (w : Watcher) → hears setup t w ≡ true → (watching setup w k).waits ≡ None
+  undeclared-waits [] whole t out w heard = refl
+  undeclared-waits (k ▹ x) whole t out w heard =
+      let before : (watching setup w k).waits ≡ None = undeclared-waits k whole.0 t out w heard in
+      ap (λ (v : Watching). v.waits) (unheld-stays setup w k x before (others-unasked setup k x whole t (other x.actor whole.1.may.acts) w heard)) ∙ before
+    where
+      other : (who : Actor) → may_act setup x.kind who ≡ true → is_session t who ≡ false
+      other Display acts = refl
+      other (Probe n) acts = refl
+      other (Session u) acts = by_same (u.0 == t.0) refl
+        where
+          by_same : (b : Bool) → (u.0 == t.0) ≡ b → b ≡ false
+          by_same false differ = refl
+          by_same true same =
+              let number : u.0 ≡ t.0 = grind (arith, nat_tests) in
+              let declared : is_declared setup u ≡ true = and-right (session_may x.kind) (is_declared setup u) acts in
+              sym declared ∙ ap (λ (n : ℕ). nat_lt 0 n && nat_le n setup.sessions) number ∙ out
+
+  last-same : (w : Watcher) → (o : Option Actor) → listener setup w ≡ o → last_told setup w (reached setup.sessions o (h ▹ e) h) ≡ last_told setup w (h ▹ e)
+  last-same w None of = sym (same-last _ _ (rests-shut setup h e w (ap (λ (o : Option Actor). is_open setup o (h ▹ e)) of) (idle-kind setup h e no_get w)))
+  last-same w (Some Display) of = sym (same-last _ _ (rests-shut setup h e w (ap (λ (o : Option Actor). is_open setup o (h ▹ e)) of) (idle-kind setup h e no_get w)))
+  last-same w (Some (Probe n)) of = sym (same-last _ _ (rests-shut setup h e w (ap (λ (o : Option Actor). is_open setup o (h ▹ e)) of) (idle-kind setup h e no_get w)))
+  last-same w (Some (Session t)) of = by_declared (is_declared setup t) refl
+    where
+      by_declared : (b : Bool) → is_declared setup t ≡ b → last_told setup w (cond b (h ▹ e) h) ≡ last_told setup w (h ▹ e)
+      by_declared true in_setup = refl
+      by_declared false out =
+          let itself : (t.0 == t.0) ≡ true = grind (arith, nat_tests) in
+          let heard : hears setup t w ≡ true = ap (λ (o : Option Actor). unwrap_or (option_map (is_session t) o) false) of ∙ itself in
+          sym (same-last _ _ (unheld-stays setup w h e (undeclared-waits h legal.0 t out w heard) (idle-kind setup h e no_get w)))
+
+  pub upto-last : is_viewport e.kind ≡ false → (p : PairNo) (a : Answered) → AnsweredUpTo setup setup.sessions (h ▹ e) h p a → IsAnswered setup (h ▹ e) p a
+  upto-last no_viewport p a its = record {
+    last = record {
+      layout = its.last.layout ∙ last-same (layout_of p) (listener setup (layout_of p)) refl;
+      status = its.last.status ∙ last-same (status_of p) (listener setup (status_of p)) refl;
+      child = its.last.child ∙ last-same (child_of p a.uses) (viewport_owner setup p) refl;
+    };
+    uses = its.uses ∙ sym (no-use setup h e legal no_viewport p);
+  }
