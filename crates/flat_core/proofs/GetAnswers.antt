@@ -59,7 +59,7 @@ module _ (a : Answered) (value : Told) where
   noted-child true false = refl
   noted-child false c = refl
 
-  noted-by : (v : Watcher) → Fits v a → (q : PairNo) (x : Watched) → last_of (watched_by v) (cond (q.0 == (pair_watched v).0) (answering x value a) a) ≡ cond (same_watcher (watcher_for q x) v) (Some value) (last_of (watched_by v) a)
+  pub noted-by : (v : Watcher) → Fits v a → (q : PairNo) (x : Watched) → last_of (watched_by v) (cond (q.0 == (pair_watched v).0) (answering x value a) a) ≡ cond (same_watcher (watcher_for q x) v) (Some value) (last_of (watched_by v) a)
   noted-by (layout_of p) fits q watches.Layout = noted-here (q.0 == p.0) (λ x. x.layout) (record a { layout = Some value }) a refl
   noted-by (layout_of p) fits q watches.Status = noted-plain (q.0 == p.0) (λ x. x.layout) (record a { status = Some value }) a refl
   noted-by (layout_of p) fits q (watches.Child n) = once-noted (q.0 == p.0) (n == a.uses) (λ x. x.layout) (record a { child = Some value }) a refl
@@ -80,7 +80,7 @@ last-noted v a fits one None = same-cond (same_watcher (watcher_of_held one) v) 
 last-noted v a fits one (Some value) = noted-by a value v fits one.pair one.watched
 
 -- the count of uses stays
-uses-answered : (x : Watched) (value : Told) (a : Answered) → (answering x value a).uses ≡ a.uses
+pub uses-answered : (x : Watched) (value : Told) (a : Answered) → (answering x value a).uses ≡ a.uses
 uses-answered watches.Layout value a = refl
 uses-answered watches.Status value a = refl
 uses-answered (watches.Child n) value a = by_use (n == a.uses)

@@ -135,7 +135,7 @@ pub record Finds (setup : Setup) (h : List Entry) (get : Watch) (w : Watcher) (a
   pub waits : is_held_in (pair_watched w) (watched_of a.uses get) held ≡ is_some (watching setup w h).waits
   pub last : last_of (watched_of a.uses get) a ≡ (watching setup w h).last
 
-found : (setup : Setup) (h : List Entry) (s : SessionNo) (carries : List Call) (get : Watch) (w : Watcher) → IsMeant setup h s w → watcher_of setup h (Session s) carries get ≡ Some w → is_closed s h ≡ false
+pub found : (setup : Setup) (h : List Entry) (s : SessionNo) (carries : List Call) (get : Watch) (w : Watcher) → IsMeant setup h s w → watcher_of setup h (Session s) carries get ≡ Some w → is_closed s h ≡ false
     → (a : Answered) → IsAnswered setup h (pair_watched w) a → (held : List HeldGet) (total : ℕ) → AreGets setup h s held total → Finds setup h get w a held
 found setup h s carries get w meant means opened a is held total gets =
     let of : watched_of a.uses get ≡ watched_by w = ap (λ (n : ℕ). watched_of n get) is.uses ∙ means-watched setup h s carries get w means in
@@ -242,7 +242,7 @@ module _ (setup : Setup) (h : List Entry) (e : Entry) (legal : Legal setup (h �
       after = own-asked opened none ∙ ap (λ (o : Option Told). after_get get o (watching setup w h).last) new
 
 -- A get's step over plain variables: whether one is held, and whether there is news.
-no-waits : (o : Option Watch) → is_some o ≡ false → o ≡ None
+pub no-waits : (o : Option Watch) → is_some o ≡ false → o ≡ None
 no-waits None is = refl
 no-waits (Some get) is = cc
 

@@ -293,11 +293,12 @@ module _ (setup : Setup) (h : List Entry) (e : Entry) (legal : Legal setup (h �
       others (child_of p n) heard = (refl, refl)
 
   -- and all stay where the use is refused
+  pub rests-refused : (q : PairNo) (props : ViewportProps) → e.kind ≡ Viewport q props → is_done e.reply ≡ false → (w : Watcher) → watching setup w (h ▹ e) ≡ watching setup w h
+  rests-refused q props is refused w =
+      let k : IsJoin q e.kind = join-kind q props is in
+      watching-same setup w h e (record { no_finish = k.0; no_view = rw (k.2 (pair_watched w)).0 refl; no_viewport = and-none (uses_viewport (pair_watched w) e.kind) (is_done e.reply) refused }) (idle-kind setup h e k.1 w)
+
   pub gets-refused : (s : SessionNo) (q : PairNo) (props : ViewportProps) → e.kind ≡ Viewport q props → is_done e.reply ≡ false → (held : List HeldGet) (total : ℕ) → AreGets setup h s held total → AreGets setup (h ▹ e) s held total
   gets-refused s q props is refused held total gets =
       let k : IsJoin q e.kind = join-kind q props is in
-      gets-kept setup h e s (λ w heard. (idle-kind setup h e k.1 w, watching-same setup w h e (record { no_finish = k.0; no_view = rw (k.2 (pair_watched w)).0 refl; no_viewport = none w }) (idle-kind setup h e k.1 w)))
-      (and-none (is_session s e.actor) (is_now e.reply) (untold-kind setup h e legal k.1)) held total gets
-    where
-      none : (w : Watcher) → (uses_viewport (pair_watched w) e.kind && is_done e.reply) ≡ false
-      none w = and-none (uses_viewport (pair_watched w) e.kind) (is_done e.reply) refused
+      gets-kept setup h e s (λ w heard. (idle-kind setup h e k.1 w, rests-refused q props is refused w)) (and-none (is_session s e.actor) (is_now e.reply) (untold-kind setup h e legal k.1)) held total gets

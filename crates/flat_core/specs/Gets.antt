@@ -22,6 +22,7 @@ use Rattle.flat_core.specs.declared.gets.Watched.{Watched}
 use Rattle.flat_core.specs.declared.gets.Watched.TheVariants as watches
 use Rattle.flat_core.specs.Begins.{post_of}
 use Rattle.flat_core.specs.Ends.{views_of, viewports_of, viewport_owner, viewport_uses}
+use Rattle.flat_core.specs.Kept.{AllNumbered}
 use Rattle.flat_core.specs.Legal.{answers, got, is_now, number_if}
 use Rattle.flat_core.specs.Local.{pair_watched}
 use Rattle.flat_core.specs.Posts.{event_of, up_to}
@@ -198,6 +199,11 @@ pub record IsAnswered (setup : Setup) (history : List Entry) (p : PairNo) (a : A
   pub last : AnsweredAt setup history history p a
   pub uses : a.uses ≡ length (viewport_uses p history)
 
+-- The same of all pairs.
+pub record AllAnswered (setup : Setup) (history : List Entry) (answered : List Answered) : Type 0 where
+  pub count : length answered ≡ length setup.pairs
+  pub each : AllNumbered (λ p. IsAnswered setup history (record { 0 = p })) answered
+
 -- ---- the end of a frame, session by session
 
 -- a history, or the one after an entry where this actor is one of the first sessions, up to that number
@@ -209,3 +215,7 @@ reached n _ after before = before
 pub record AnsweredUpTo (setup : Setup) (n : ℕ) (after before : List Entry) (p : PairNo) (a : Answered) : Type 0 where
   pub last : AnsweredAt setup (reached n (listener setup (layout_of p)) after before) (reached n (viewport_owner setup p) after before) p a
   pub uses : a.uses ≡ length (viewport_uses p before)
+
+pub record AllUpTo (setup : Setup) (n : ℕ) (after before : List Entry) (answered : List Answered) : Type 0 where
+  pub count : length answered ≡ length setup.pairs
+  pub each : AllNumbered (λ p. AnsweredUpTo setup n after before (record { 0 = p })) answered
