@@ -18,19 +18,21 @@ use Rattle.flat_scene.specs.declared.journal.Kind.{Kind}
 use Rattle.flat_scene.specs.declared.journal.Kind.TheVariants.{View, Viewport, Close}
 use Rattle.flat_scene.specs.declared.journal.Reply.{Reply}
 use Rattle.flat_scene.specs.declared.setup.Setup.{Setup}
-use Rattle.flat_scene.specs.History.{◌▹◌, is_closed, is_finish, is_session, presents}
+use Rattle.flat_scene.specs.History.{◌▹◌, is_begin, is_closed, is_finish, is_session, presents}
 use Rattle.flat_scene.specs.Setups.{is_declared}
 use Rattle.flat_core.specs.declared.live.Live.{Live}
 use Rattle.flat_core.specs.declared.live.OutToken.{OutToken}
 use Rattle.flat_core.specs.declared.clock.Clock.{Clock}
 use Rattle.flat_core.specs.declared.state.Account.{Account}
 use Rattle.flat_core.specs.declared.state.SessionState.{SessionState}
+use Rattle.flat_core.specs.declared.ties.Ties.{Ties}
 use Rattle.flat_core.specs.declared.viewports.Viewports.{Viewports}
 use Rattle.flat_core.specs.Boards.{AreEnds, Machine, MayCall, Stands, due_back, entry_of, number}
 use Rattle.flat_core.specs.Ends.{uses_viewport, is_done, viewports_of}
 use Rattle.flat_core.specs.Kept.{IsKept}
 use Rattle.flat_core.specs.Legal.{Legal, all_but_last, is_link, links_alone, makes_view, own_call, reply_to}
-use Rattle.flat_core.specs.Presents.{HasNone, IsNoted, EndsNoted}
+use Rattle.flat_core.specs.Following.{AreTied, UsesNone}
+use Rattle.flat_core.specs.Presents.{HasNone, IsNoted, IsOwn, EndsNoted}
 use Rattle.flat_core.specs.Seen.{is_new_viewport, seen_of}
 use Rattle.flat_core.specs.Viewports.{AreViewports, marked, out_of, outs_of}
 use Rattle.flat_core.proofs.Changes.{changed-one, not-session, is-session, sum-same}
@@ -38,6 +40,7 @@ use Rattle.flat_core.proofs.Counts.{at-session, declared-some, kept-session}
 use Rattle.flat_core.proofs.NoNews.{flat_map-none}
 use Rattle.flat_core.proofs.Ones.{declared-of}
 use Rattle.flat_core.proofs.Steps.{legal-entered}
+use Rattle.flat_core.proofs.TiesSteps.{tied-idle}
 use Rattle.flat_core.proofs.ViewCalls.{split-last}
 use Rattle.flat_core.proofs.ViewportSteps.{viewports-other, viewports-own}
 
@@ -208,17 +211,27 @@ noted-slice n before after same noted = subst (λ (zs : List Call). IsNoted zs n
 
 -- all sessions' viewports after an entry that carries calls
 pub ends-after : (m : Machine) (who : Actor) (line : ℕ) (calls : List Call) (kind : Kind) (reply : Reply) → MayCall m who calls kind → reply ≡ reply_to m.setup m.history who calls kind
-    → is_finish kind ≡ false → may_make kind ≡ false
-    → (clock : Clock) (fences views : List Bool) (sessions : List SessionState) (ends after : List Viewports) → Stands m.setup m.history clock fences views sessions
-    → EndsNoted who calls sessions ends after → AreEnds m.setup m.history ends
-    → AreEnds m.setup (m.history ▹ entry_of who line calls kind reply) after × (sum_by due_back after ≡ sum_by due_back ends)
-ends-after m Display line calls kind reply call replied no_finish quiet clock fences views sessions ends after old noted are =
+    → is_begin kind ≡ false → is_finish kind ≡ false → may_make kind ≡ false
+    → (clock : Clock) (fences views : List Bool) (sessions : List SessionState) (ends after : List Viewports) (tied now : Ties) → Stands m.setup m.history clock fences views sessions
+    → EndsNoted who calls sessions ends after tied now → AreEnds m.setup m.history ends → AreTied m.setup m.history tied.followings.items tied.pairs.items
+    → AreEnds m.setup (m.history ▹ entry_of who line calls kind reply) after × (sum_by due_back after ≡ sum_by due_back ends) × AreTied m.setup (m.history ▹ entry_of who line calls kind reply) now.followings.items now.pairs.items
+ends-after m Display line calls kind reply call replied no_begin no_finish quiet clock fences views sessions ends after tied now old noted are ties =
     let e : Entry = entry_of Display line calls kind reply in
-    rw noted (ends-other m.setup m.history e (old.legal, legal-entered m Display line calls kind reply call replied) no_finish ends (λ j. refl) are, refl)
-ends-after m (Probe p) line calls kind reply call replied no_finish quiet clock fences views sessions ends after old noted are =
+    let legal : Legal m.setup (m.history ▹ e) = (old.legal, legal-entered m Display line calls kind reply call replied) in
+    rw (noted.0, noted.1) (
+      ends-other m.setup m.history e legal no_finish ends (λ j. refl) are,
+      refl,
+      tied-idle m.setup m.history e (record { legal = legal; no_begin = no_begin; no_finish = no_finish; no_use = λ p. no-use kind reply p quiet; shut = λ s mine. cc }) tied.followings.items tied.pairs.items ties,
+    )
+ends-after m (Probe p) line calls kind reply call replied no_begin no_finish quiet clock fences views sessions ends after tied now old noted are ties =
     let e : Entry = entry_of (Probe p) line calls kind reply in
-    rw noted (ends-other m.setup m.history e (old.legal, legal-entered m (Probe p) line calls kind reply call replied) no_finish ends (λ j. refl) are, refl)
-ends-after m (Session s) line calls kind reply call replied no_finish quiet clock fences views sessions ends after old n are =
+    let legal : Legal m.setup (m.history ▹ e) = (old.legal, legal-entered m (Probe p) line calls kind reply call replied) in
+    rw (noted.0, noted.1) (
+      ends-other m.setup m.history e legal no_finish ends (λ j. refl) are,
+      refl,
+      tied-idle m.setup m.history e (record { legal = legal; no_begin = no_begin; no_finish = no_finish; no_use = λ p. no-use kind reply p quiet; shut = λ s mine. cc }) tied.followings.items tied.pairs.items ties,
+    )
+ends-after m (Session s) line calls kind reply call replied no_begin no_finish quiet clock fences views sessions ends after tied now old n are ties =
     let e : Entry = entry_of (Session s) line calls kind reply in
     let declared : IsTrue (is_declared m.setup s) = declared-of m.setup kind s call.may.acts in
     let here = declared-some s.0 m.setup.sessions declared in
@@ -226,9 +239,24 @@ ends-after m (Session s) line calls kind reply call replied no_finish quiet cloc
     let below : s.0 - 1 < length ends = omega (arith, here.0, here.1, count) in
     let kept : IsKept m.setup (seen_of m.setup m.history s) n.state = kept-session m.setup m.history clock fences views sessions s n.state old declared n.of_state in
     let counts : n.state.account.presents ≡ length (presents s m.history) = ap (λ (a : Account). a.presents) kept.account in
+    let legal : Legal m.setup (m.history ▹ e) = (old.legal, legal-entered m (Session s) line calls kind reply call replied) in
+    let own : AreViewports m.setup m.history s n.before.live.items n.before.out.items =
+    at-session (λ t one. AreViewports m.setup m.history t one.live.items one.out.items) ends s n.before are.each here.0 (omega (arith, here.1, count)) n.of_before in
+    let made : IsOwn m.setup m.history e s calls n.state n.before = record {
+      legal = legal;
+      actor = refl;
+      carried = refl;
+      closed = kept.closed;
+      counted = counts;
+      living = own.lives;
+      no_begin = no_begin;
+      no_finish = no_finish;
+    } in
+    let uses : UsesNone e = λ p. no-use kind reply p quiet in
     rw n.new_is (
-      ends-noted m.setup m.history e (old.legal, legal-entered m (Session s) line calls kind reply call replied) no_finish ends s refl declared (λ p. no-use kind reply p quiet) n.before n.after n.of_before n.state.account.presents counts n.noted are,
+      ends-noted m.setup m.history e legal no_finish ends s refl declared uses n.before n.after n.of_before n.state.account.presents counts n.noted are,
       back-noted ends (s.0 - 1) n.before n.after below n.of_before calls n.state.account.presents n.noted,
+      n.ties m.setup m.history e made uses ties,
     )
 
 -- where what is kept of one session is replaced by the same

@@ -77,6 +77,7 @@ pub mod Stamped
 pub mod Steps
 pub mod Still
 pub mod TiesBegin
+pub mod TiedOwn
 pub mod TiesFinish
 pub mod TiesSteps
 pub mod TokenLaw

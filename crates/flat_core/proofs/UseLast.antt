@@ -57,15 +57,15 @@ lives-fewer lives (x ∷ xs) none =
     omega (arith, fewer-one lives x two.0, lives-fewer (lives_then lives x) xs two.1)
 
 -- It makes a viewport of the pair.
-pub record IsUse (p : PairNo) (xs : List Call) (name : ContentId) (w h : ℕ) (inset : Inset) : Type 0 where
+pub record IsUseCall (p : PairNo) (xs : List Call) (name : ContentId) (w h : ℕ) (inset : Inset) : Type 0 where
   pub at : slice_get xs (length xs - 1) ≡ Some (CreateViewport name p w h inset)
 
-pub use-of : (p : PairNo) (xs : List Call) (name : ContentId) (q : PairNo) (w h : ℕ) (inset : Inset) → uses_last p xs ≡ true → slice_get xs (length xs - 1) ≡ Some (CreateViewport name q w h inset) → IsUse p xs name w h inset
+pub use-of : (p : PairNo) (xs : List Call) (name : ContentId) (q : PairNo) (w h : ℕ) (inset : Inset) → uses_last p xs ≡ true → slice_get xs (length xs - 1) ≡ Some (CreateViewport name q w h inset) → IsUseCall p xs name w h inset
 use-of p xs name q w h inset is at =
     let made : makes_one p (CreateViewport name q w h inset) ≡ true = ap (λ (o : Option Call). unwrap_or (option_map (makes_one p) o) false) (sym at) ∙ is in
     record { at = at ∙ ap (λ (r : PairNo). Some (CreateViewport name r w h inset)) (same-pair q p made) }
 
-module _ (p : PairNo) (xs : List Call) (name : ContentId) (w h : ℕ) (inset : Inset) (one : IsUse p xs name w h inset) (lives : List Live) where
+module _ (p : PairNo) (xs : List Call) (name : ContentId) (w h : ℕ) (inset : Inset) (one : IsUseCall p xs name w h inset) (lives : List Live) where
   split : xs ≡ all_but_last xs ++ CreateViewport name p w h inset ∷ []
   split = split-last xs (CreateViewport name p w h inset) one.at
 

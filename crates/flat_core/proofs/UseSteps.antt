@@ -1,11 +1,12 @@
 -- A viewport, made or refused.
-use Rattle.std.proofs.Common.{◌≡◌, ◌≢◌, ◌∙◌, sym, ℕ, ◌+◌, ◌-◌, ◌*◌, ◌<◌, ◌≤◌, Bool, true, false, List, [], ◌∷◌, length, refl, arith, ap, subst, map, None, slice_set, slice_index_or, zero-add}
+use Rattle.std.proofs.Common.{◌^◌, ◌≡◌, ◌≢◌, ◌∙◌, sym, ℕ, ◌+◌, ◌-◌, ◌*◌, ◌<◌, ◌≤◌, Bool, true, false, List, [], ◌∷◌, length, refl, arith, ap, subst, None, slice_set, slice_index_or, zero-add}
 use Rattle.std.specs.Prelude.{IsTrue, cond, not, ◌&&◌, ◌||◌, ◌==◌, Option, Some, option_map, unwrap_or, slice_get}
 use Rattle.std.specs.List.{list_any, list_all}
 use Rattle.std.proofs.lemmas.Bool.Decides.{nat_tests}
 use Rattle.std.proofs.lemmas.List.{length-set}
 use Rattle.std.proofs.lemmas.List.Sums.{sum_by-set}
 use Rattle.flat_base.specs.declared.ids.Actor.TheVariants.{Session}
+use Rattle.flat_base.specs.declared.errors.Reason.{Reason}
 use Rattle.flat_base.specs.declared.ids.PairNo.{PairNo}
 use Rattle.flat_base.specs.declared.ids.SessionNo.{SessionNo}
 use Rattle.flat_scene.specs.declared.calls.Call.{Call}
@@ -13,7 +14,7 @@ use Rattle.flat_scene.specs.declared.calls.Call.TheVariants.{CreateViewport}
 use Rattle.flat_scene.specs.declared.calls.ViewportProps.{ViewportProps}
 use Rattle.flat_scene.specs.declared.journal.Entry.{Entry}
 use Rattle.flat_scene.specs.declared.journal.Kind.{Kind}
-use Rattle.flat_scene.specs.declared.journal.Kind.TheVariants.{Viewport}
+use Rattle.flat_scene.specs.declared.journal.Kind.TheVariants.{Close, Viewport}
 use Rattle.flat_scene.specs.declared.journal.Reply.{Reply}
 use Rattle.flat_scene.specs.declared.journal.Reply.TheVariants.{Done}
 use Rattle.flat_scene.specs.declared.setup.Setup.{Setup}
@@ -24,24 +25,26 @@ use Rattle.flat_core.specs.declared.clock.Clock.{Clock}
 use Rattle.flat_core.specs.declared.live.OutToken.{OutToken}
 use Rattle.flat_core.specs.declared.state.Account.{Account}
 use Rattle.flat_core.specs.declared.state.SessionState.{SessionState}
+use Rattle.flat_core.specs.declared.ties.Ties.{Ties}
 use Rattle.flat_core.specs.declared.viewports.Viewports.{Viewports}
 use Rattle.flat_core.specs.Boards.{AreEnds, HasRoom, Machine, MayCall, Stands, all_due, due, due_back, entry_of, number}
 use Rattle.flat_core.specs.Ends.{is_done, uses_viewport, viewports_of}
 use Rattle.flat_core.specs.Kept.{AllNumbered, IsKept}
 use Rattle.flat_core.specs.Legal.{Legal, all_but_last, goes_on, has_token, links_alone, makes_viewport, number_if, owns_in_call, owns_in_kind, owns_viewport, own_call, refused_token, reply_to}
-use Rattle.flat_core.specs.Lives.{lives_after, makes_one, uses_last}
+use Rattle.flat_core.specs.Lives.{makes_one, uses_last}
 use Rattle.flat_core.specs.Logs.{Logged}
 use Rattle.flat_core.specs.Posts.{posts}
-use Rattle.flat_core.specs.Presents.{after_viewport, use_reply, with_calls}
+use Rattle.flat_core.specs.Following.{AreTied}
+use Rattle.flat_core.specs.Presents.{after_viewport, use_reply, with_calls, IsOwn, IsUsed, TiesUsed}
 use Rattle.flat_core.specs.Seen.{is_new_viewport, seen_of}
-use Rattle.flat_core.specs.Viewports.{AreViewports, marked, out_of, outs_of, with_out}
+use Rattle.flat_core.specs.Viewports.{AreViewports, out_of, outs_of}
 use Rattle.flat_core.proofs.Changes.{IsPlainOne, is-session, kept-closed, kept-noted, seen-closed, seen-noted}
 use Rattle.flat_core.proofs.Counts.{at-session, declared-some, kept-session}
 use Rattle.flat_core.proofs.EndSteps.{ends-one, links-made, not-none, viewports-closed}
 use Rattle.flat_core.proofs.HasView.{found, any-found, both-ways}
 use Rattle.flat_core.proofs.NoNews.{posted-quiet}
 use Rattle.flat_core.proofs.Ones.{declared-of, each-one}
-use Rattle.flat_core.proofs.Steps.{legal-entered, posts-none, room-entered, stands-entered, unchanged}
+use Rattle.flat_core.proofs.Steps.{few-history, legal-entered, posts-none, room-entered, stands-entered, unchanged}
 use Rattle.flat_core.proofs.TokensBack.{any-flat, any-each, and-both, nested, pair-is}
 use Rattle.flat_core.proofs.ViewportUses.{viewports-used}
 
@@ -76,6 +79,9 @@ module _ (setup : Setup) (h : List Entry) (s : SessionNo) (p : PairNo) where
 
 -- ---- what the rules ask of its entry
 
+pub opened-close : (h : List Entry) (s : SessionNo) (why : Option Reason) → goes_on h (Close why) (Session s) ≡ true → is_closed s h ≡ false
+opened-close h s why may = not-none (is_closed s h) (and-right _ _ may)
+
 -- its session is open
 pub opened-viewport : (h : List Entry) (s : SessionNo) (p : PairNo) (props : ViewportProps) → goes_on h (Viewport p props) (Session s) ≡ true → is_closed s h ≡ false
 opened-viewport h s p props may = not-none (is_closed s h) (and-right _ _ may)
@@ -109,12 +115,6 @@ viewport-kept setup h s line calls p props false state kept =
 viewport-due : (calls : List Call) (is_held : Bool) (state : SessionState) → due (with_calls calls (after_viewport is_held state)) ≡ due state
 viewport-due calls true state = refl
 viewport-due calls false state = refl
-
--- What the use of the end did to what is kept of its session's viewports, where the token was held or not.
-pub record IsUsed (p : PairNo) (calls : List Call) (presents : ℕ) (is_held : Bool) (old new : Viewports) : Type 0 where
-  pub live : is_held ≡ true → new.live.items ≡ lives_after old.live.items calls
-  pub out : is_held ≡ true → new.out.items ≡ with_out (record { pair = p; released = None }) (map (marked old.live.items calls presents) old.out.items)
-  pub count : length new.out.items ≡ length old.out.items + number_if is_held
 
 by-token : (is_held : Bool) → use_reply is_held ≡ cond is_held Done refused_token
 by-token true = refl
@@ -164,11 +164,13 @@ module _ (m : Machine) (s : SessionNo) (line : ℕ) (calls : List Call) (p : Pai
       → state ≡ slice_index_or sessions (s.0 - 1) state → before ≡ slice_index_or ends (s.0 - 1) before
       → Stands m.setup m.history clock fences views sessions → HasRoom m.setup m.shares log owed (all_due sessions ends) → AreEnds m.setup m.history ends → log.history ≡ m.history
       → IsUsed p calls state.account.presents is_held before after
+      → (tied now : Ties) → AreTied m.setup m.history tied.followings.items tied.pairs.items → TiesUsed s calls p props is_held state before tied now
       → then.history ≡ (m.history ▹ entry_of (Session s) line calls (Viewport p props) (use_reply is_held)) → then.posts ≡ log.posts → then.room + 1 ≡ log.room → owed + 1 ≤ then.post_room
       → Stands m.setup then.history clock fences views (slice_set sessions (s.0 - 1) (with_calls calls (after_viewport is_held state)))
       × HasRoom m.setup m.shares then (owed + number_if is_held) (all_due (slice_set sessions (s.0 - 1) (with_calls calls (after_viewport is_held state))) (slice_set ends (s.0 - 1) after))
       × AreEnds m.setup then.history (slice_set ends (s.0 - 1) after)
-  kept-used is_held is clock fences views sessions ends log then owed state before after of_state of_before old room are same used history posted spent reserved =
+      × AreTied m.setup then.history now.followings.items now.pairs.items
+  kept-used is_held is clock fences views sessions ends log then owed state before after of_state of_before old room are same used tied now ties uses history posted spent reserved =
       let h : List Entry = m.history in
       let kind : Kind = Viewport p props in
       let e : Entry = entry_of (Session s) line calls kind (use_reply is_held) in
@@ -192,6 +194,10 @@ module _ (m : Machine) (s : SessionNo) (line : ℕ) (calls : List Call) (p : Pai
       let posts_new : posts m.setup (h ▹ e) ≡ posts m.setup h = posts-none m.setup h e (posted-quiet m.setup h e old.plain refl refl) in
       let each : AllNumbered (λ i. IsKept m.setup (seen_of m.setup (h ▹ e) (number i))) (slice_set sessions (s.0 - 1) new) =
       each-one m s line calls kind (use_reply is_held) call refl refl clock fences views sessions state new of_state old (λ k. viewport-kept m.setup h s line calls p props is_held state k) in
+      let own : AreViewports m.setup h s before.live.items before.out.items = at-session (λ t x. AreViewports m.setup h t x.live.items x.out.items) ends s before are.each here.0 (omega (arith, here.1, ends_count)) of_before in
+      let own_entry : IsOwn m.setup h e s calls state before = record { legal = legal; actor = refl; carried = refl; closed = kept.closed; counted = counts; living = own.lives; no_begin = refl; no_finish = refl } in
+      let few = few-history m (Session s) calls kind call old.legal log owed (all_due sessions ends) same room in
+      let small_enough : length h < 2 ^ 32 - 1 = omega (arith, few, room.total) in
       let all : AreEnds m.setup (h ▹ e) (slice_set ends (s.0 - 1) after) = ends-one m.setup h e legal refl ends s refl declared before after of_before (λ own. by_held is_held refl legal own counts) are in (
         rw history (stands-entered m (Session s) line calls kind (use_reply is_held) call says refl refl clock fences fences views views sessions (slice_set sessions (s.0 - 1) new) old
             (unchanged m e fences views (λ sessions g f. refl) (λ p. refl)) (length-set sessions (s.0 - 1) new) each),
@@ -199,6 +205,7 @@ module _ (m : Machine) (s : SessionNo) (line : ℕ) (calls : List Call) (p : Pai
             (history ∙ rw same refl) (posted ∙ posts_old ∙ sym posts_new) spent (omega (arith, few-if is_held, reserved)) (omega (arith, sums, due_new, backs, back_new, ap due of_state, ap due_back of_before, room.due))
             (omega (arith, small, few-if is_held, as_many)),
         rw history all,
+        rw history (uses m.setup h e own_entry opened refl refl small_enough ties),
       )
     where
       by_held : (b : Bool) → is_held ≡ b → Legal m.setup (m.history ▹ entry_of (Session s) line calls (Viewport p props) (use_reply is_held))

@@ -21,8 +21,9 @@ use crate::ends::EndSet;
 use crate::log::Log;
 use crate::polls::{EventList, push_events_from};
 use crate::state::{SessionState, new_states, note, present_in};
+use crate::ties::Ties;
 use crate::viewports::Viewports;
-use crate::views::{new_ends, note_in, view_in, viewport_in, with_view};
+use crate::views::{new_ends, note_ends, note_in, use_ends, view_in, viewport_in, with_view};
 use flat_base::{
     Actor, FenceNo, FlatlandError, FrameNo, NoMemory, PairNo, Reason, SessionNo, ShareList,
 };
@@ -65,16 +66,18 @@ pub struct Board {
     sessions: Vec<SessionState>,
     /// The viewports of each session.
     ends: Vec<Viewports>,
+    ties: Ties,
 }
 
 impl Model for Board {
     ghost use Rattle.flat_core.specs.Boards.{Machine, Stands, HasRoom, AreEnds, all_due};
+    ghost use Rattle.flat_core.specs.Following.{AreTied};
 
     ghost Value = { Machine };
 
     ghost view = { λ b. record { setup = b.setup; shares = b.shares; history = b.log.history } };
 
-    ghost invariant = { λ b. Stands b.setup b.log.history b.clock b.fences b.views b.sessions.items × HasRoom b.setup b.shares b.log b.owed (all_due b.sessions.items b.ends.items) × AreEnds b.setup b.log.history b.ends.items };
+    ghost invariant = { λ b. Stands b.setup b.log.history b.clock b.fences b.views b.sessions.items × HasRoom b.setup b.shares b.log b.owed (all_due b.sessions.items b.ends.items) × AreEnds b.setup b.log.history b.ends.items × AreTied b.setup b.log.history b.ties.followings.items b.ties.pairs.items };
 }
 
 impl Board {
@@ -96,6 +99,7 @@ impl Board {
         let views = EndSet::new(alloc, setup.pairs.len() as u32)?;
         let sessions = new_states(alloc, setup.sessions)?;
         let ends = new_ends(alloc, setup.sessions)?;
+        let ties = Ties::new(alloc, &setup)?;
         Ok(Board {
             alloc,
             setup,
@@ -111,6 +115,7 @@ impl Board {
             views,
             sessions,
             ends,
+            ties,
         })
     }
 
@@ -132,7 +137,13 @@ impl Board {
         self.views.set(p);
         let place = s.0 as usize - 1;
         let state = &mut self.sessions[place];
-        self.ends[place].note_calls(calls.as_slice(), state.account.presents);
+        note_ends(
+            state,
+            &mut self.ends[place],
+            &mut self.ties,
+            s,
+            calls.as_slice(),
+        );
         let reply = view_in(state, is_held);
         note(&mut state.account, calls.as_slice());
         self.log.enter(Entry {
@@ -173,8 +184,8 @@ impl Board {
             }
         }
         let state = &mut self.sessions[place];
-        let presents = state.account.presents;
-        let is_held = self.ends[place].use_end(calls.as_slice(), p, presents);
+        let ends = &mut self.ends[place];
+        let is_held = use_ends(state, ends, &mut self.ties, s, calls.as_slice(), p, props);
         let reply = viewport_in(state, is_held);
         note(&mut state.account, calls.as_slice());
         self.owed += number_if(is_held) as usize;
@@ -227,7 +238,13 @@ impl Board {
         }
         let place = s.0 as usize - 1;
         let state = &mut self.sessions[place];
-        self.ends[place].note_calls(calls.as_slice(), state.account.presents);
+        note_ends(
+            state,
+            &mut self.ends[place],
+            &mut self.ties,
+            s,
+            calls.as_slice(),
+        );
         let reply = present_in(state, snap, copy);
         note(&mut state.account, calls.as_slice());
         self.owed += owes(reply);
@@ -272,8 +289,14 @@ impl Board {
             }
         }
         let count = (into.len() - before) as u32;
+        note_ends(
+            state,
+            &mut self.ends[place],
+            &mut self.ties,
+            s,
+            calls.as_slice(),
+        );
         state.account.polled = posts.len();
-        self.ends[place].note_calls(calls.as_slice(), state.account.presents);
         note(&mut state.account, calls.as_slice());
         self.log.enter(Entry {
             actor: Actor::Session(s),
@@ -292,7 +315,13 @@ impl Board {
         ensures entry { self.new ≡ entered self.old who line calls (Signal f) result }
     {
         self.fences.signal(f);
-        note_in(&mut self.sessions, &mut self.ends, who, calls.as_slice());
+        note_in(
+            &mut self.sessions,
+            &mut self.ends,
+            &mut self.ties,
+            who,
+            calls.as_slice(),
+        );
         self.log.enter(Entry {
             actor: who,
             line,
@@ -312,7 +341,13 @@ impl Board {
     {
         let value = self.value(who, c);
         let reply = wait_reply(asked(c), value);
-        note_in(&mut self.sessions, &mut self.ends, who, calls.as_slice());
+        note_in(
+            &mut self.sessions,
+            &mut self.ends,
+            &mut self.ties,
+            who,
+            calls.as_slice(),
+        );
         self.log.enter(Entry {
             actor: who,
             line,
@@ -331,7 +366,11 @@ impl Board {
         ensures entry { self.new ≡ entered self.old (Session s) line calls (Close why) result }
     {
         let reply = close_reply(why);
-        let state = &mut self.sessions[s.0 as usize - 1];
+        let place = s.0 as usize - 1;
+        let state = &mut self.sessions[place];
+        let live = self.ends[place].live.as_slice();
+        self.ties
+            .note(s, calls.as_slice(), state.account.presents, live);
         state.closed = true;
         note(&mut state.account, calls.as_slice());
         self.log.enter(Entry {
@@ -352,7 +391,13 @@ impl Board {
         ensures entry { self.new ≡ entered self.old (Session s) line calls (End refused) result }
     {
         let who = Actor::Session(s);
-        note_in(&mut self.sessions, &mut self.ends, who, calls.as_slice());
+        note_in(
+            &mut self.sessions,
+            &mut self.ends,
+            &mut self.ties,
+            who,
+            calls.as_slice(),
+        );
         self.log.enter(Entry {
             actor: Actor::Session(s),
             line,
@@ -383,6 +428,7 @@ impl Board {
             &mut self.log,
             into,
         );
+        self.ties.begin(&self.setup, self.sessions.as_slice(), into);
         self.owed -= count;
         let frames = self.clock.frames;
         self.clock = Clock {
@@ -400,13 +446,15 @@ impl Board {
         FrameNo(frames + 1)
     }
 
-    /// Ends the open frame, and answers its number. The release fences of what it
-    /// lets go are signalled. It takes no memory.
-    pub fn done(&mut self, line: u32) -> FrameNo
-        requires { MayCall self.old Display [] Finish }
+    /// Ends the open frame, of which this is shown, and answers its number. The
+    /// release fences of what it lets go are signalled. It takes no memory.
+    pub fn done(&mut self, line: u32, shown: &Shown) -> FrameNo
+        requires may { MayCall self.old Display [] Finish }
+        requires shown { shown.now ≡ shown_states self.old.setup (to_begin self.old.history) }
         ensures entry { self.new ≡ entered self.old Display line [] Finish Done }
         ensures frame { result.0 ≡ frames self.new.history }
     {
+        self.ties.finish(&self.setup, shown);
         let count = done_all(
             &self.setup,
             line,

@@ -1,6 +1,6 @@
 ghost use Rattle.std.specs.Prelude.{◌≡◌, ◌+◌, ◌<◌, ◌≤◌, ◌==◌, ◌^◌, Some, None, [], ◌∷◌, ◌++◌, not, true, false, filter, length, map, OnOk, OnErr, cond, vec_capacity};
 ghost use Rattle.std.specs.List.{list_any};
-ghost use Rattle.flat_core.specs.Legal.{all_but_last, number_if};
+ghost use Rattle.flat_core.specs.Legal.{all_but_last};
 ghost use Rattle.flat_core.specs.Lives.{lives_then, lives_after, pair_named, uses_last};
 ghost use Rattle.flat_core.specs.Seen.{is_new_viewport};
 ghost use Rattle.flat_core.specs.Begins.{post_of};
@@ -215,30 +215,22 @@ impl Viewports {
         let _joined = self.out.insert(place, token);
     }
 
-    /// Uses the viewport end of a pair by the last of these calls, where its token is
-    /// held, and notes the others. Answers whether it was held; where it wasn't,
-    /// nothing changes. It takes no memory.
-    pub fn use_end(&mut self, calls: &[Call], p: PairNo, presents: u32) -> bool
+    /// Uses the viewport end of a pair by the last of these calls, and notes the
+    /// others. It takes no memory.
+    pub fn use_end(&mut self, calls: &[Call], p: PairNo, presents: u32)
         requires others { list_any is_new_viewport (all_but_last calls.now) ≡ false }
         requires last { uses_last p calls.now ≡ true }
         requires room_live { length self.old.live.items < vec_capacity self.old.live }
         requires room_out { length self.old.out.items < vec_capacity self.old.out }
-        ensures held { result ≡ not (list_any (λ one. one.pair.0 == p.0) self.old.out.items) }
-        ensures live { result ≡ true → self.new.live.items ≡ lives_after self.old.live.items calls.now }
-        ensures out { result ≡ true → self.new.out.items ≡ with_out (record { pair = p; released = None }) (map (marked self.old.live.items calls.now presents) self.old.out.items) }
-        ensures same_live { result ≡ false → self.new.live.items ≡ self.old.live.items }
-        ensures same_out { result ≡ false → self.new.out.items ≡ self.old.out.items }
-        ensures count { length self.new.out.items ≡ length self.old.out.items + number_if result }
+        ensures live { self.new.live.items ≡ lives_after self.old.live.items calls.now }
+        ensures out { self.new.out.items ≡ with_out (record { pair = p; released = None }) (map (marked self.old.live.items calls.now presents) self.old.out.items) }
+        ensures count { length self.new.out.items ≡ length self.old.out.items + 1 }
     {
-        if is_out(self.out.as_slice(), p) {
-            return false;
-        }
         let place = calls.len() - 1;
         self.note_calls(&calls[..place], presents);
         if let Call::CreateViewport { c, .. } = &calls[place] {
             self.join(*c, p);
         }
-        true
     }
 
     /// At the end of a frame, of which the first so many presents were taken, the

@@ -1,16 +1,18 @@
-ghost use Rattle.std.specs.Prelude.{◌≡◌, ℕ, ◌<◌, ◌≤◌, All, false, length, slice_index_or, true, IfOk};
+ghost use Rattle.std.specs.Prelude.{◌≡◌, ℕ, ◌<◌, ◌≤◌, ◌==◌, not, All, false, length, slice_index_or, true, vec_capacity, IfOk};
 ghost use Rattle.std.specs.List.{list_any};
 ghost use Rattle.flat_base.specs.declared.limits.TheConstants.{SESSIONS_MAX};
 ghost use Rattle.flat_core.specs.declared.state.SessionState.{SessionState};
 ghost use Rattle.flat_core.specs.Kept.{has_view_in};
-ghost use Rattle.flat_core.specs.Legal.{refused_token};
-ghost use Rattle.flat_core.specs.Presents.{use_reply, after_view, after_viewport, noted_in, IsPlaced, EndsNoted, HasNone};
+ghost use Rattle.flat_core.specs.Legal.{all_but_last, refused_token};
+ghost use Rattle.flat_core.specs.Lives.{uses_last};
+ghost use Rattle.flat_core.specs.Presents.{use_reply, after_view, after_viewport, noted_in, IsPlaced, IsNoted, IsUsed, EndsNoted, TiesNoted, TiesUsed, HasNone};
 ghost use Rattle.flat_core.specs.Seen.{is_new_viewport};
 
 use crate::state::{SessionState, note};
-use crate::viewports::Viewports;
-use flat_base::{Actor, FlatlandError, NoMemory, Reason};
-use flat_scene::{Call, Reply, SessionSet};
+use crate::ties::Ties;
+use crate::viewports::{Viewports, is_out};
+use flat_base::{Actor, FlatlandError, NoMemory, PairNo, Reason, SessionNo};
+use flat_scene::{Call, Reply, SessionSet, ViewportProps};
 use std::alloc::Global;
 
 /// The session is closed, since a token isn't held.
@@ -58,25 +60,82 @@ pub fn new_ends(alloc: Global, n: u32) -> Result<Vec<Viewports>, NoMemory>
     Ok(ends)
 }
 
+/// Notes the calls of an entry of a session by its ends, where it is in this state
+/// before. None of them makes a viewport.
+pub fn note_ends(
+    state: &SessionState,
+    ends: &mut Viewports,
+    ties: &mut Ties,
+    s: SessionNo,
+    calls: &[Call],
+)
+    requires some { 0 < s.0 }
+    requires few { s.0 ≤ length ties.old.followings.items }
+    requires none { list_any is_new_viewport calls.now ≡ false }
+    ensures ends { IsNoted calls.now state.now.account.presents ends.old ends.new }
+    ensures ties { TiesNoted s calls.now state.now ends.old ties.old ties.new }
+{
+    let presents = state.account.presents;
+    if state.closed {
+        ends.note_calls(calls, presents);
+        return;
+    }
+    ties.note(s, calls, presents, ends.live.as_slice());
+    ends.note_calls(calls, presents);
+}
+
+/// Uses the viewport end of a pair by the last of the calls of an entry of a session
+/// that is open, where its token is held, and notes them. Answers whether it was.
+pub fn use_ends(
+    state: &SessionState,
+    ends: &mut Viewports,
+    ties: &mut Ties,
+    s: SessionNo,
+    calls: &[Call],
+    p: PairNo,
+    props: ViewportProps,
+) -> bool
+    requires some { 0 < s.0 }
+    requires few { s.0 ≤ length ties.old.followings.items }
+    requires others { list_any is_new_viewport (all_but_last calls.now) ≡ false }
+    requires last { uses_last p calls.now ≡ true }
+    requires room_live { length ends.old.live.items < vec_capacity ends.old.live }
+    requires room_out { length ends.old.out.items < vec_capacity ends.old.out }
+    ensures held { result ≡ not (list_any (λ one. one.pair.0 == p.0) ends.old.out.items) }
+    ensures used { IsUsed p calls.now state.now.account.presents result ends.old ends.new }
+    ensures ties { TiesUsed s calls.now p props result state.now ends.old ties.old ties.new }
+{
+    let presents = state.account.presents;
+    if is_out(ends.out.as_slice(), p) {
+        ties.note(s, calls, presents, ends.live.as_slice());
+        return false;
+    }
+    ties.use_viewport(s, calls, presents, ends.live.as_slice(), p, props);
+    ends.use_end(calls, p, presents);
+    true
+}
+
 /// Notes the calls that an entry carries, where a session made it. None of them
 /// makes a viewport.
 pub fn note_in(
     sessions: &mut Vec<SessionState>,
     ends: &mut Vec<Viewports>,
+    ties: &mut Ties,
     who: Actor,
     calls: &[Call],
 )
     requires placed { IsPlaced (length sessions.old.items) who }
     requires all { length ends.old.items ≡ length sessions.old.items }
+    requires tied { length ties.old.followings.items ≡ length sessions.old.items }
     requires none { list_any is_new_viewport calls.now ≡ false }
     ensures sessions { sessions.new.items ≡ noted_in who calls.now sessions.old.items }
-    ensures ends { EndsNoted who calls.now sessions.old.items ends.old.items ends.new.items }
+    ensures ends { EndsNoted who calls.now sessions.old.items ends.old.items ends.new.items ties.old ties.new }
 {
     match who {
         Actor::Session(s) => {
             let place = s.0 as usize - 1;
             let state = &mut sessions[place];
-            ends[place].note_calls(calls, state.account.presents);
+            note_ends(state, &mut ends[place], ties, s, calls);
             note(&mut state.account, calls);
         }
         _ => {}

@@ -1,4 +1,3 @@
-use Rattle.flat_core.proofs.GetEnds.{pair-settled}
 use Rattle.flat_core.proofs.gets.told_of.Goals as goal
 
 pub returns-in-Child : goal.returns-in-Child

@@ -22,9 +22,10 @@ returns-in-Session-clause-ends c =
     (record {
       state = c.index_mut-state.result.now;
       before = c.index_mut.result.now;
-      after = c.note_calls.new.self;
+      after = c.note_ends.new.ends;
       of_state = c.index_mut-state.ensures.value;
       of_before = c.index_mut.ensures.value;
-      noted = record { live = c.note_calls.ensures.live; out = c.note_calls.ensures.out };
+      noted = c.note_ends.ensures.ends;
       new_is = refl;
+      ties = c.note_ends.ensures.ties;
     })

@@ -1,4 +1,4 @@
-use Rattle.std.proofs.Common.{◌≡◌, List, [], false, ◌+◌, ◌<◌, ◌^◌, Some, slice_get, refl, sym, ◌∙◌, ap, subst, arith}
+use Rattle.std.proofs.Common.{◌≡◌, List, [], length, false, ◌+◌, ◌<◌, ◌^◌, Some, slice_get, refl, sym, ◌∙◌, ap, subst, arith}
 use Rattle.flat_base.specs.declared.ids.SessionNo.{SessionNo}
 use Rattle.flat_scene.specs.History.{is_closed, Published}
 use Rattle.flat_scene.specs.Frames.{is_signalled, waiting}
@@ -9,9 +9,15 @@ use Rattle.flat_scene.specs.declared.journal.Entry.{Entry}
 use Rattle.flat_scene.specs.declared.journal.Kind.TheVariants.{Begin}
 use Rattle.flat_scene.specs.declared.journal.Reply.TheVariants.{Done}
 use Rattle.flat_scene.specs.History.{◌▹◌}
-use Rattle.flat_core.specs.Boards.{AreEnds, Machine, all_due, entry_of}
+use Rattle.flat_core.specs.declared.state.SessionState.{SessionState}
+use Rattle.flat_core.specs.Boards.{AreEnds, Machine, all_due, entry_of, number}
+use Rattle.flat_core.specs.Kept.{AllNumbered, IsKept}
+use Rattle.flat_core.specs.Seen.{seen_of}
+use Rattle.flat_topology.specs.Fit.{FitsSetup}
+use Rattle.flat_topology.specs.Shown.{Shown}
 use Rattle.flat_core.specs.Legal.{Legal}
 use Rattle.flat_core.proofs.EndSteps.{ends-other}
+use Rattle.flat_core.proofs.ShownFits.{begun-fits, length-sessions}
 use Rattle.flat_core.specs.Begins.{begun, begin_entry}
 use Rattle.flat_core.proofs.Steps.{has-room, legal-entered}
 use Rattle.flat_core.proofs.BoardBegins.{kept-begun, place-small, not-ready}
@@ -33,6 +39,18 @@ overflow_add-result c =
     let few : c.self.inside.clock.frames + 1 < 2 ^ 32 = (place-small _ (Begin c.args.time) may _ _ _ _ _ _ refl c.self.invariant.0 c.self.invariant.1).1 in
     omega (arith, few)
 
+pub begin-requires-clause-shown : goal.begin-requires-clause-shown
+begin-requires-clause-shown c = ap (length {A = _}) c.begin_all-count.ensures.shown ∙ length-sessions _ c.self.inside.setup.sessions
+
+pub begin-requires-clause-fit : goal.begin-requires-clause-fit
+begin-requires-clause-fit c =
+    let may = rw (← c.self.view_is) at c.requires.may in
+    let inside = c.self.inside in
+    let e : Entry = begin_entry c.args.line c.args.time in
+    let m : Machine = record { setup = inside.setup; shares = inside.shares; history = inside.log.history } in
+    let legal : Legal inside.setup (inside.log.history ▹ e) = (c.self.invariant.0.legal, legal-entered m Display c.args.line [] (Begin c.args.time) Done may refl) in
+    subst (λ (shows : Shown). FitsSetup inside.setup shows) (sym c.begin_all-count.ensures.shown) (begun-fits inside.setup (inside.log.history ▹ e) legal)
+
 pub invariant_of-self : goal.invariant_of-self
 invariant_of-self c =
     let may = rw (← c.self.view_is) at c.requires.may in
@@ -46,6 +64,12 @@ invariant_of-self c =
     let legal : Legal inside.setup (inside.log.history ▹ e) = (c.self.invariant.0.legal, legal-entered m Display c.args.line [] (Begin c.args.time) Done may refl) in
     let ends : AreEnds inside.setup (inside.log.history ▹ e) inside.ends.items = ends-other inside.setup inside.log.history e legal refl inside.ends.items (λ j. refl) c.self.invariant.2 in
     let now : c.enter.new.self.history ≡ (inside.log.history ▹ e) = history ∙ ap (λ (h : List Entry). h ▹ e) all.history in
+    let states = c.as_slice.ensures.value in
+    let tied = c.begin.ensures inside.log.history c.args.line c.args.time (record {
+      legal = legal;
+      kept = subst (λ (xs : List SessionState). AllNumbered (λ i. IsKept inside.setup (seen_of inside.setup (begun inside.log.history c.args.line c.args.time) (number i))) xs) (sym states) all.kept;
+      shown = all.shown;
+    }) c.self.invariant.3 in
     let kept = kept-begun m c.args.line c.args.time may _ _ _ _ _ _ _ _ _ _ {dues = all_due inside.sessions.items inside.ends.items} {dues_now = all_due c.begin_all-count.new.sessions.items inside.ends.items} refl c.self.invariant.0 c.self.invariant.1 all.all all.kept
     (record {
       posts = all.posts;
@@ -56,7 +80,7 @@ invariant_of-self c =
       due = omega (arith, all.due);
       entered = record { history = history; posts = log.posts; room = log.room; post_room = log.post_room };
     }) in
-    (kept.0, kept.1, rw now ends)
+    (kept.0, kept.1, rw now ends, rw now tied)
 
 pub returns-clause-next : goal.returns-clause-next
 returns-clause-next c =

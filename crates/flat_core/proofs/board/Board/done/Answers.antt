@@ -1,35 +1,41 @@
-use Rattle.std.proofs.Common.{◌≡◌, List, ◌+◌, ◌<◌, ◌^◌, refl, ◌∙◌, ap, arith}
+use Rattle.std.proofs.Common.{◌≡◌, List, [], length, ◌+◌, ◌<◌, ◌^◌, refl, ◌∙◌, ap, arith}
 use Rattle.flat_base.specs.declared.ids.Actor.TheVariants.{Display}
 use Rattle.flat_scene.specs.declared.calls.Call.{Call}
 use Rattle.flat_scene.specs.declared.journal.Kind.TheVariants.{Finish}
 use Rattle.flat_scene.specs.declared.journal.Reply.TheVariants.{Done}
 use Rattle.flat_scene.specs.History.{◌▹◌}
 use Rattle.flat_scene.specs.declared.journal.Entry.{Entry}
-use Rattle.flat_core.specs.Boards.{entry_of}
+use Rattle.flat_core.specs.Boards.{Machine, entry_of}
+use Rattle.flat_core.proofs.ShownFits.{length-sessions}
 use Rattle.flat_core.specs.Begins.{finish_entry}
-use Rattle.flat_core.proofs.Steps.{has-room}
+use Rattle.flat_core.proofs.Steps.{has-room, legal-entered}
 use Rattle.flat_core.proofs.BoardBegins.{kept-finished, place-small}
 use Rattle.flat_core.proofs.board.Board.done.Goals as goal
 
 pub done_all-count-requires-clause-place : goal.done_all-count-requires-clause-place
 done_all-count-requires-clause-place c =
-    let may = rw (← c.self.view_is) at c.requires in
+    let may = rw (← c.self.view_is) at c.requires.may in
     (place-small _ Finish may _ _ _ _ _ _ refl c.self.invariant.0 c.self.invariant.1).0
+
+pub finish-requires-clause-shown : goal.finish-requires-clause-shown
+finish-requires-clause-shown c =
+    let shown = rw (← c.self.view_is) at c.requires.shown in
+    ap (length {A = _}) shown ∙ length-sessions _ c.self.inside.setup.sessions
 
 pub enter-requires : goal.enter-requires
 enter-requires c =
-    let may = rw (← c.self.view_is) at c.requires in
+    let may = rw (← c.self.view_is) at c.requires.may in
     rw c.done_all-count.ensures.room (has-room _ _ _ _ may c.self.invariant.0.legal _ _ _ refl c.self.invariant.1)
 
 pub overflow_add-frames : goal.overflow_add-frames
 overflow_add-frames c =
-    let may = rw (← c.self.view_is) at c.requires in
+    let may = rw (← c.self.view_is) at c.requires.may in
     let few : c.self.inside.clock.frames + 1 < 2 ^ 32 = (place-small _ Finish may _ _ _ _ _ _ refl c.self.invariant.0 c.self.invariant.1).1 in
     omega (arith, few)
 
 pub invariant_of-self : goal.invariant_of-self
 invariant_of-self c =
-    let may = rw (← c.self.view_is) at c.requires in
+    let may = rw (← c.self.view_is) at c.requires.may in
     let all = c.done_all-count.ensures in
     let log = c.enter.ensures in
     let history : c.enter.new.self.history ≡ (c.done_all-count.new.log.history ▹ finish_entry c.args.line) =
@@ -44,4 +50,12 @@ invariant_of-self c =
       due = all.due;
       entered = record { history = history; posts = log.posts; room = log.room; post_room = log.post_room };
     }) in
-    (kept.0, kept.1, rw (history ∙ ap (λ (h : List Entry). h ▹ finish_entry c.args.line) all.history) all.ends)
+    let now = history ∙ ap (λ (h : List Entry). h ▹ finish_entry c.args.line) all.history in
+    let inside = c.self.inside in
+    let m : Machine = record { setup = inside.setup; shares = inside.shares; history = inside.log.history } in
+    let shown = rw (← c.self.view_is) at c.requires.shown in
+    let tied = c.finish.ensures inside.log.history c.args.line (record {
+      legal = (c.self.invariant.0.legal, legal-entered m Display c.args.line [] Finish Done may refl);
+      shown = shown;
+    }) c.self.invariant.3 in
+    (kept.0, kept.1, rw now all.ends, rw now tied)

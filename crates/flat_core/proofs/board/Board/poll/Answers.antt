@@ -7,6 +7,7 @@ use Rattle.flat_scene.specs.declared.journal.Reply.TheVariants.{Polled}
 use Rattle.flat_core.specs.declared.state.Account.{Account}
 use Rattle.flat_core.specs.Boards.{Machine}
 use Rattle.flat_core.specs.Legal.{reply_to}
+use Rattle.flat_core.specs.Presents.{TiesNoted}
 use Rattle.flat_core.specs.Seen.{is_new_viewport, noted}
 use Rattle.flat_core.proofs.EndSteps.{ends-after, none-new, noted-slice}
 use Rattle.flat_core.proofs.Ones.{kept-one}
@@ -28,8 +29,8 @@ overflow_cast-count c =
     let small : c.len.result - c.len-before.result < 2 ^ 32 = over.small in
     omega (arith, small)
 
-pub note_calls-requires : goal.note_calls-requires
-note_calls-requires c =
+pub note_ends-requires-clause-none : goal.note_ends-requires-clause-none
+note_ends-requires-clause-none c =
     let call = rw (← c.self.view_is) at c.requires in
     ap (list_any is_new_viewport) c.as_slice.ensures ∙ none-new Poll c.args.calls refl call.may.links call.may.calls
 
@@ -51,22 +52,23 @@ invariant_of-self-2 c =
     c.note.ensures ∙ ap (λ (calls : List Call). let a : Account = record state.account { polled = length c.posts-posts.result.now } in noted calls a) c.as_slice-2.ensures in
     let inside = c.self.inside in
     let m : Machine = record { setup = setup; shares = inside.shares; history = h } in
-    let ends = ends-after m (Session c.args.s) c.args.line c.args.calls Poll (Polled (c.len.result - c.len-before.result)) call (ap Polled over.as_many) refl refl inside.clock inside.fences inside.views inside.sessions.items inside.ends.items _ c.self.invariant.0
+    let ends = ends-after m (Session c.args.s) c.args.line c.args.calls Poll (Polled (c.len.result - c.len-before.result)) call (ap Polled over.as_many) refl refl refl inside.clock inside.fences inside.views inside.sessions.items inside.ends.items _ inside.ties c.note_ends.new.ties c.self.invariant.0
     (record {
       state = state;
       before = c.index_mut.result.now;
-      after = c.note_calls.new.self;
+      after = c.note_ends.new.ends;
       of_state = c.index_mut-state.ensures.value;
       of_before = c.index_mut.ensures.value;
-      noted = noted-slice state.account.presents c.index_mut.result.now c.note_calls.new.self c.as_slice.ensures (record { live = c.note_calls.ensures.live; out = c.note_calls.ensures.out });
+      noted = noted-slice state.account.presents c.index_mut.result.now c.note_ends.new.ends c.as_slice.ensures c.note_ends.ensures.ends;
       new_is = refl;
-    }) c.self.invariant.2 in
+      ties = subst (λ (calls : List Call). TiesNoted c.args.s calls state c.index_mut.result.now inside.ties c.note_ends.new.ties) c.as_slice.ensures c.note_ends.ensures.ties;
+    }) c.self.invariant.2 c.self.invariant.3 in
     rw account
     (let kept = kept-one m c.args.s c.args.line c.args.calls Poll (Polled (c.len.result - c.len-before.result)) call (ap Polled over.as_many) refl refl _ _ _ _ _ _ _ _ _
     state _ c.index_mut-state.ensures.value refl c.self.invariant.0 c.self.invariant.1 (unchanged _ _ _ _ (λ sessions g f. refl) (λ p. refl))
     (λ kept. kept-polled setup h c.args.s c.args.line c.args.calls (c.len.result - c.len-before.result) (length c.posts-posts.result.now) state over.place kept)
     refl ends.1 (record { history = log.history; posts = log.posts; room = log.room; post_room = log.post_room }) in
-    (kept.0, kept.1, rw log.history ends.0))
+    (kept.0, kept.1, rw log.history ends.0, rw log.history ends.2))
 
 pub returns-clause-reply : goal.returns-clause-reply
 returns-clause-reply c =

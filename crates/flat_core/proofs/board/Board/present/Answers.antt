@@ -10,7 +10,7 @@ use Rattle.flat_scene.specs.History.{◌▹◌}
 use Rattle.flat_core.specs.Legal.{reply_to}
 use Rattle.flat_scene.specs.declared.journal.Kind.TheVariants.{Present}
 use Rattle.flat_core.specs.Boards.{Machine, entry_of, present_of}
-use Rattle.flat_core.specs.Presents.{present_reply, after_present}
+use Rattle.flat_core.specs.Presents.{present_reply, after_present, TiesNoted}
 use Rattle.flat_core.specs.Seen.{is_new_viewport, noted}
 use Rattle.flat_core.proofs.EndSteps.{ends-after, none-new, noted-slice}
 use Rattle.flat_scene.specs.declared.calls.Call.{Call}
@@ -34,8 +34,8 @@ overflow_add-self c =
     let two : c.owes.result ≤ 2 = rw c.owes.ensures (owed-few c.present_in-reply.result) in
     omega (arith, small, two)
 
-pub note_calls-requires : goal.note_calls-requires
-note_calls-requires c =
+pub note_ends-requires-clause-none : goal.note_ends-requires-clause-none
+note_ends-requires-clause-none c =
     let may = rw (← c.self.view_is) at c.requires.may in
     ap (list_any is_new_viewport) c.as_slice.ensures ∙ none-new (Present c.args.args) c.args.calls refl may.may.links may.may.calls
 
@@ -58,22 +58,23 @@ invariant_of-self-2 c =
     let account : c.note.new.account ≡ noted c.args.calls c.present_in-reply.new.state.account = c.note.ensures ∙ ap (λ (calls : List Call). noted calls c.present_in-reply.new.state.account) c.as_slice-2.ensures in
     let m : Machine = record { setup = inside.setup; shares = inside.shares; history = inside.log.history } in
     let is = present-reply m c.args.s c.args.calls c.args.args may _ _ _ _ _ c.index_mut-state.ensures.value c.self.invariant.0 in
-    let ends = ends-after m (Session c.args.s) c.args.line c.args.calls (Present c.args.args) (present_reply state) may is refl refl inside.clock inside.fences inside.views inside.sessions.items inside.ends.items _ c.self.invariant.0
+    let ends = ends-after m (Session c.args.s) c.args.line c.args.calls (Present c.args.args) (present_reply state) may is refl refl refl inside.clock inside.fences inside.views inside.sessions.items inside.ends.items _ inside.ties c.note_ends.new.ties c.self.invariant.0
     (record {
       state = state;
       before = c.index_mut.result.now;
-      after = c.note_calls.new.self;
+      after = c.note_ends.new.ends;
       of_state = c.index_mut-state.ensures.value;
       of_before = c.index_mut.ensures.value;
-      noted = noted-slice state.account.presents c.index_mut.result.now c.note_calls.new.self c.as_slice.ensures (record { live = c.note_calls.ensures.live; out = c.note_calls.ensures.out });
+      noted = noted-slice state.account.presents c.index_mut.result.now c.note_ends.new.ends c.as_slice.ensures c.note_ends.ensures.ends;
       new_is = refl;
-    }) c.self.invariant.2 in
+      ties = subst (λ (calls : List Call). TiesNoted c.args.s calls state c.index_mut.result.now inside.ties c.note_ends.new.ties) c.as_slice.ensures c.note_ends.ensures.ties;
+    }) c.self.invariant.2 c.self.invariant.3 in
     let room : inside.owed + 2 ≤ c.reserve.new.self.post_room = c.in-Ok-reserve.ensures.ok in
     let history : c.enter.new.self.history ≡ (inside.log.history ▹ entry_of (Session c.args.s) c.args.line c.args.calls (Present c.args.args) (present_reply state)) = log.history ∙ rw (c.reserve.ensures.history, reply) refl in
     rw (account, present_now, c.owes.ensures, reply)
     (let kept = kept-after-present m c.args.s c.args.line c.args.calls c.args.args c.args.snap may tree _ _ _ _ _ c.enter.new.self _ state c.index_mut-state.ensures.value refl c.self.invariant.0 c.self.invariant.1 ends.1
     history (log.posts ∙ c.reserve.ensures.posts) (log.room ∙ c.reserve.ensures.room) (omega (arith, room, log.post_room)) in
-    (kept.0, kept.1, rw history ends.0))
+    (kept.0, kept.1, rw history ends.0, rw history ends.2))
 
 pub returns-clause-reply : goal.returns-clause-reply
 returns-clause-reply c =

@@ -22,6 +22,7 @@ note_in-requires c =
     record {
       placed = placed-of c.self.inside.setup (Signal c.args.f) c.args.who _ c.self.invariant.0.count call.may.acts;
       all = c.self.invariant.2.count ∙ sym c.self.invariant.0.count;
+      tied = c.self.invariant.3.sessions ∙ sym c.self.invariant.0.count;
       none = ap (list_any is_new_viewport) c.as_slice.ensures ∙ none-new (Signal c.args.f) c.args.calls refl call.may.links call.may.calls;
     }
 
@@ -36,9 +37,9 @@ invariant_of-self c =
     let log = c.enter.ensures in
     let inside = c.self.inside in
     let m : Machine = record { setup = inside.setup; shares = inside.shares; history = inside.log.history } in
-    let ends = ends-after m c.args.who c.args.line c.args.calls (Signal c.args.f) Done call refl refl refl inside.clock inside.fences inside.views inside.sessions.items inside.ends.items c.note_in.new.ends.items c.self.invariant.0
-    (subst (λ (calls : List Call). EndsNoted c.args.who calls inside.sessions.items inside.ends.items c.note_in.new.ends.items) c.as_slice.ensures c.note_in.ensures.ends) c.self.invariant.2 in
+    let ends = ends-after m c.args.who c.args.line c.args.calls (Signal c.args.f) Done call refl refl refl refl inside.clock inside.fences inside.views inside.sessions.items inside.ends.items c.note_in.new.ends.items inside.ties c.note_in.new.ties c.self.invariant.0
+    (subst (λ (calls : List Call). EndsNoted c.args.who calls inside.sessions.items inside.ends.items c.note_in.new.ends.items inside.ties c.note_in.new.ties) c.as_slice.ensures c.note_in.ensures.ends) c.self.invariant.2 c.self.invariant.3 in
     let kept = kept-quiet m c.args.who c.args.line c.args.calls (Signal c.args.f) Done call refl (plain-signal _ _ _ _) refl _ _ _ _ _ _ _ _ _ _ refl c.self.invariant.0 c.self.invariant.1
     (signalled _ _ _ _ _ c.args.f c.signal.ensures.size c.signal.ensures.members) (c.note_in.ensures.sessions ∙ ap (λ (calls : List Call). noted_in c.args.who calls inside.sessions.items) c.as_slice.ensures) ends.1
     (record { history = log.history; posts = log.posts; room = log.room; post_room = log.post_room }) in
-    (kept.0, kept.1, rw log.history ends.0)
+    (kept.0, kept.1, rw log.history ends.0, rw log.history ends.2)

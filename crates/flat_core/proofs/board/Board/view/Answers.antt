@@ -8,7 +8,7 @@ use Rattle.flat_scene.specs.declared.journal.Reply.{Reply}
 use Rattle.flat_scene.specs.History.{◌▹◌}
 use Rattle.flat_core.specs.Boards.{Machine, entry_of}
 use Rattle.flat_core.specs.Legal.{reply_to}
-use Rattle.flat_core.specs.Presents.{use_reply}
+use Rattle.flat_core.specs.Presents.{use_reply, TiesNoted}
 use Rattle.flat_core.specs.Seen.{is_new_viewport, noted}
 use Rattle.flat_core.proofs.EndSteps.{ends-after, none-new, noted-slice}
 use Rattle.flat_core.proofs.Ones.{kept-one}
@@ -21,8 +21,8 @@ set-requires c =
     let call = rw (← c.self.view_is) at c.requires in
     view-below _ _ _ c.args.p _ call c.self.invariant.0.view_count
 
-pub note_calls-requires : goal.note_calls-requires
-note_calls-requires c =
+pub note_ends-requires-clause-none : goal.note_ends-requires-clause-none
+note_ends-requires-clause-none c =
     let call = rw (← c.self.view_is) at c.requires in
     ap (list_any is_new_viewport) c.as_slice.ensures ∙ none-new (View c.args.p) c.args.calls refl call.may.links call.may.calls
 
@@ -42,16 +42,17 @@ invariant_of-self c =
     let m : Machine = record { setup = inside.setup; shares = inside.shares; history = inside.log.history } in
     let state = c.index_mut-state.result.now in
     let is = view-replied inside.setup inside.log.history c.args.s c.args.calls c.args.p used (c.is_used-is_held.ensures ∙ c.self.invariant.0.viewed c.args.p) in
-    let ends = ends-after m (Session c.args.s) c.args.line c.args.calls (View c.args.p) (use_reply (not used)) call is refl refl inside.clock inside.fences inside.views inside.sessions.items inside.ends.items _ c.self.invariant.0
+    let ends = ends-after m (Session c.args.s) c.args.line c.args.calls (View c.args.p) (use_reply (not used)) call is refl refl refl inside.clock inside.fences inside.views inside.sessions.items inside.ends.items _ inside.ties c.note_ends.new.ties c.self.invariant.0
     (record {
       state = state;
       before = c.index_mut.result.now;
-      after = c.note_calls.new.self;
+      after = c.note_ends.new.ends;
       of_state = c.index_mut-state.ensures.value;
       of_before = c.index_mut.ensures.value;
-      noted = noted-slice state.account.presents c.index_mut.result.now c.note_calls.new.self c.as_slice.ensures (record { live = c.note_calls.ensures.live; out = c.note_calls.ensures.out });
+      noted = noted-slice state.account.presents c.index_mut.result.now c.note_ends.new.ends c.as_slice.ensures c.note_ends.ensures.ends;
       new_is = refl;
-    }) c.self.invariant.2 in
+      ties = subst (λ (calls : List Call). TiesNoted c.args.s calls state c.index_mut.result.now inside.ties c.note_ends.new.ties) c.as_slice.ensures c.note_ends.ensures.ties;
+    }) c.self.invariant.2 c.self.invariant.3 in
     let history : c.enter.new.self.history ≡ (inside.log.history ▹ entry_of (Session c.args.s) c.args.line c.args.calls (View c.args.p) (use_reply (not used))) =
     log.history ∙ ap (λ (r : Reply). inside.log.history ▹ entry_of (Session c.args.s) c.args.line c.args.calls (View c.args.p) r) reply in
     rw (account, c.view_in-reply.ensures.after)
@@ -61,7 +62,7 @@ invariant_of-self c =
     (record { fence_size = refl; signalled = λ f. or-false _; view_size = c.set.ensures.size; viewed = view-changed _ _ c.args.p used (sym c.is_used-is_held.ensures) c.set.ensures.members })
     (λ kept. view-kept inside.setup inside.log.history c.args.s c.args.line c.args.calls c.args.p (not used) _ kept) (view-due c.args.calls (not used) _) ends.1
     (record { history = history; posts = log.posts; room = log.room; post_room = log.post_room }) in
-    (kept.0, kept.1, rw history ends.0))
+    (kept.0, kept.1, rw history ends.0, rw history ends.2))
 
 pub returns-clause-reply : goal.returns-clause-reply
 returns-clause-reply c =

@@ -17,6 +17,7 @@ note_in-requires c =
     record {
       placed = placed-of c.self.inside.setup (Wait c.args.c) c.args.who _ c.self.invariant.0.count call.may.acts;
       all = c.self.invariant.2.count ∙ sym c.self.invariant.0.count;
+      tied = c.self.invariant.3.sessions ∙ sym c.self.invariant.0.count;
       none = ap (list_any is_new_viewport) c.as_slice.ensures ∙ none-new (Wait c.args.c) c.args.calls refl call.may.links call.may.calls;
     }
 
@@ -35,10 +36,10 @@ invariant_of-self c =
     let inside = c.self.inside in
     let m : Machine = record { setup = inside.setup; shares = inside.shares; history = inside.log.history } in
     let is : c.wait_reply-reply.result ≡ reply_to inside.setup inside.log.history c.args.who c.args.calls (Wait c.args.c) = rw (← asked, ← value) replied in
-    let ends = ends-after m c.args.who c.args.line c.args.calls (Wait c.args.c) c.wait_reply-reply.result call is refl refl inside.clock inside.fences inside.views inside.sessions.items inside.ends.items c.note_in.new.ends.items c.self.invariant.0
-    (subst (λ (calls : List Call). EndsNoted c.args.who calls inside.sessions.items inside.ends.items c.note_in.new.ends.items) c.as_slice.ensures c.note_in.ensures.ends) c.self.invariant.2 in
+    let ends = ends-after m c.args.who c.args.line c.args.calls (Wait c.args.c) c.wait_reply-reply.result call is refl refl refl inside.clock inside.fences inside.views inside.sessions.items inside.ends.items c.note_in.new.ends.items inside.ties c.note_in.new.ties c.self.invariant.0
+    (subst (λ (calls : List Call). EndsNoted c.args.who calls inside.sessions.items inside.ends.items c.note_in.new.ends.items inside.ties c.note_in.new.ties) c.as_slice.ensures c.note_in.ensures.ends) c.self.invariant.2 c.self.invariant.3 in
     let kept = kept-quiet m c.args.who c.args.line c.args.calls (Wait c.args.c) c.wait_reply-reply.result call is (plain-wait _ _ _ _ _)
     (rw replied (closes-waited c.asked.result c.value-value.result)) _ _ _ _ _ _ _ _ _ _ refl c.self.invariant.0 c.self.invariant.1
     (unchanged _ _ _ _ (λ sessions g f. refl) (λ p. refl)) (c.note_in.ensures.sessions ∙ ap (λ (calls : List Call). noted_in c.args.who calls inside.sessions.items) c.as_slice.ensures) ends.1
     (record { history = log.history; posts = log.posts; room = log.room; post_room = log.post_room }) in
-    (kept.0, kept.1, rw log.history ends.0)
+    (kept.0, kept.1, rw log.history ends.0, rw log.history ends.2)

@@ -1,8 +1,8 @@
-use Rattle.std.proofs.Common.{◌≡◌, ◌∙◌, rules, not, arith, ap, sym, length, List, subst}
+use Rattle.std.proofs.Common.{rules, not, arith, ap, length, List, subst}
 use Rattle.std.specs.Prelude.{is_some}
 use Rattle.std.proofs.lemmas.Fn.{filter_same}
 use Rattle.flat_core.specs.declared.gets.HeldGet.{HeldGet}
-use Rattle.flat_core.specs.Gets.{Answers, answers_to, news_of, still_held}
+use Rattle.flat_core.specs.Gets.{Answers, news_of}
 use Rattle.flat_core.specs.Watch.{told}
 use Rattle.flat_core.proofs.GetLists.{answered-or-held}
 use Rattle.flat_core.proofs.gets.Gets.settle.Goals as goal

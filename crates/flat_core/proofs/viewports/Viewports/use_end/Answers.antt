@@ -9,7 +9,7 @@ use Rattle.flat_core.specs.Legal.{all_but_last}
 use Rattle.flat_core.specs.Lives.{lives_after}
 use Rattle.flat_core.specs.Seen.{is_new_viewport}
 use Rattle.flat_core.specs.Viewports.{marked, with_out}
-use Rattle.flat_core.proofs.UseLast.{IsUse, at-get, but-last, is-made, last-some, lives-fewer, use-of, lives-used, marks-used}
+use Rattle.flat_core.proofs.UseLast.{IsUseCall, at-get, but-last, is-made, last-some, lives-fewer, use-of, lives-used, marks-used}
 use Rattle.flat_core.proofs.viewports.Viewports.use_end.Goals as goal
 
 pub note_calls-requires : goal.note_calls-requires
@@ -19,23 +19,23 @@ note_calls-requires c =
     ap (list_any is_new_viewport) (but-last calls one.0 one.1) ∙ c.requires.others
 
 pub returns-in-CreateViewport-clause-live : goal.returns-in-CreateViewport-clause-live
-returns-in-CreateViewport-clause-live c held =
+returns-in-CreateViewport-clause-live c =
     let calls = c.args.calls.now in
     let it = c.in-CreateViewport in
     let one = last-some c.args.p calls (slice_get calls (length calls - 1)) refl c.requires.last in
     let at : slice_get calls (length calls - 1) ≡ Some (CreateViewport it.c it.pair it.w it.h it.inset) = one.1 ∙ ap Some (sym (c.index-calls-place.is ∙ at-get calls (length calls - 1) one.0 c.index-calls-place.result one.1) ∙ it.is) in
-    let is : IsUse c.args.p calls it.c it.w it.h it.inset = use-of c.args.p calls it.c it.pair it.w it.h it.inset c.requires.last at in
+    let is : IsUseCall c.args.p calls it.c it.w it.h it.inset = use-of c.args.p calls it.c it.pair it.w it.h it.inset c.requires.last at in
     let new : List Live = record { name = it.c; pair = c.args.p } ∷ [] in
     c.join.ensures.live ∙ ap (λ (l : List Live). l ++ new) (c.note_calls.ensures.live ∙ ap (lives_after c.args.self.now.live.items) (but-last calls one.0 one.1))
     ∙ sym (lives-used c.args.p calls it.c it.w it.h it.inset is c.args.self.now.live.items)
 
 pub returns-in-CreateViewport-clause-out : goal.returns-in-CreateViewport-clause-out
-returns-in-CreateViewport-clause-out c held =
+returns-in-CreateViewport-clause-out c =
     let calls = c.args.calls.now in
     let it = c.in-CreateViewport in
     let one = last-some c.args.p calls (slice_get calls (length calls - 1)) refl c.requires.last in
     let at : slice_get calls (length calls - 1) ≡ Some (CreateViewport it.c it.pair it.w it.h it.inset) = one.1 ∙ ap Some (sym (c.index-calls-place.is ∙ at-get calls (length calls - 1) one.0 c.index-calls-place.result one.1) ∙ it.is) in
-    let is : IsUse c.args.p calls it.c it.w it.h it.inset = use-of c.args.p calls it.c it.pair it.w it.h it.inset c.requires.last at in
+    let is : IsUseCall c.args.p calls it.c it.w it.h it.inset = use-of c.args.p calls it.c it.pair it.w it.h it.inset c.requires.last at in
     let lives = c.args.self.now.live.items in
     let outs = c.args.self.now.out.items in
     let token : OutToken = record { pair = c.args.p; released = None } in
