@@ -1,5 +1,5 @@
 -- The stamps of cleared viewports, one live viewport after another.
-use Rattle.std.proofs.Common.{◌≡◌, ◌∙◌, sym, ℕ, ◌<◌, Bool, true, false, List, [], ◌∷◌, length, refl, arith, ap, Some, None, slice_index_or}
+use Rattle.std.proofs.Common.{◌≡◌, ◌∙◌, sym, ℕ, Bool, true, false, List, [], ◌∷◌, refl, arith, ap, Some, None, slice_index_or}
 use Rattle.std.specs.Prelude.{Option, ◌||◌, ◌&&◌, ◌==◌, cond}
 use Rattle.std.specs.List.{list_any}
 use Rattle.flat_base.specs.declared.ids.ContentId.{ContentId}

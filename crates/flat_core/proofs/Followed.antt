@@ -1,6 +1,6 @@
 -- What an entry does to what is kept of a session for the ends that it owns.
-use Rattle.std.proofs.Common.{◌≡◌, ◌∙◌, sym, ℕ, ◌+◌, Bool, true, false, List, ◌++◌, length, refl, arith, ap, None, length-append}
-use Rattle.std.specs.Prelude.{Option, cond}
+use Rattle.std.proofs.Common.{◌≡◌, ◌∙◌, sym, ℕ, ◌+◌, Bool, true, false, List, ◌++◌, length, refl, ap, None, length-append}
+use Rattle.std.specs.Prelude.{Option}
 use Rattle.flat_base.specs.declared.ids.PairNo.{PairNo}
 use Rattle.flat_base.specs.declared.ids.SessionNo.{SessionNo}
 use Rattle.flat_scene.specs.declared.calls.Call.{Call}
@@ -8,13 +8,12 @@ use Rattle.flat_scene.specs.declared.journal.Entry.{Entry}
 use Rattle.flat_scene.specs.declared.setup.Setup.{Setup}
 use Rattle.flat_scene.specs.History.{◌▹◌, own, calls, is_begin, is_closed, is_finish, is_session}
 use Rattle.flat_core.specs.declared.following.Following.{Following}
-use Rattle.flat_core.specs.declared.following.Glimpse.{Glimpse}
 use Rattle.flat_core.specs.Ends.{to_begin, to_finished}
 use Rattle.flat_core.specs.Following.{IsFollowed, capped, glimpse_of}
 use Rattle.flat_core.specs.Serials.{contents_made}
 use Rattle.flat_core.specs.Views.{view_after}
 use Rattle.flat_core.proofs.PairIdle.{shut-stays}
-use Rattle.flat_core.proofs.PairTold.{view-own, view-other}
+use Rattle.flat_core.proofs.PairTold.{view-own}
 use Rattle.flat_core.proofs.Serials.{contents-append}
 use Rattle.flat_core.proofs.ShownSteps.{closed-before}
 

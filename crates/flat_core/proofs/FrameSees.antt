@@ -37,7 +37,6 @@ use Rattle.flat_core.proofs.SerialSteps.{Has, seen-props, tree-some}
 use Rattle.flat_core.proofs.Serials.{draft-contents, serials-are, uses-props}
 use Rattle.flat_core.proofs.ShownFits.{IsGood, IsSound, MaySound, found-sound, presents-sound}
 use Rattle.flat_core.proofs.ShownSteps.{serial-zero}
-use Rattle.flat_core.proofs.ViewLaw.{made_at}
 
 -- ---- the viewports of a draft
 

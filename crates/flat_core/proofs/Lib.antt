@@ -75,6 +75,7 @@ pub mod TokenLaw
 pub mod Tokens
 pub mod TokensBack
 pub mod ToldLocal
+pub mod ToldTies
 pub mod Undeclared
 pub mod Unwatched
 pub mod UsageSteps

@@ -1,8 +1,7 @@
 -- What is kept before any entry.
-use Rattle.std.proofs.Common.{◌≡◌, ◌∙◌, sym, subst, ℕ, zero, suc, ◌+◌, ◌<◌, ◌≤◌, Bool, true, false, List, [], ◌∷◌, length, map, replicate, refl, arith, ap, Some, None, slice_index_or}
-use Rattle.std.specs.Prelude.{Option, ◌==◌}
+use Rattle.std.proofs.Common.{◌≡◌, ◌∙◌, sym, subst, ℕ, zero, suc, ◌+◌, ◌<◌, Bool, false, List, [], ◌∷◌, length, map, replicate, refl, arith, ap, Some, None, slice_index_or}
+use Rattle.std.specs.Prelude.{Option}
 use Rattle.std.proofs.lemmas.List.{get_or-replicate, length-replicate}
-use Rattle.flat_base.specs.declared.ids.Actor.TheVariants.{Session}
 use Rattle.flat_base.specs.declared.ids.SessionNo.{SessionNo}
 use Rattle.flat_scene.specs.declared.setup.Setup.{Setup}
 use Rattle.flat_scene.specs.declared.trees.Tree.{Tree}
@@ -13,7 +12,7 @@ use Rattle.flat_core.specs.declared.pairs.PairState.{PairState}
 use Rattle.flat_core.specs.Boards.{number}
 use Rattle.flat_core.specs.Following.{AreTied, IsFollowed, IsPairKept, glimpse_of, pair}
 use Rattle.flat_core.specs.Shown.{shown, shown_states, is_connected}
-use Rattle.flat_topology.specs.Join.{Viewer, viewer_from, viewed, led_to, led_from, sessions_in, is_joined, join}
+use Rattle.flat_topology.specs.Join.{viewer_from, led_to, led_from, sessions_in, join}
 use Rattle.flat_topology.specs.Pairs.{display_pair}
 use Rattle.flat_topology.specs.Shown.{Shown}
 

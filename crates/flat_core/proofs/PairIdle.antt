@@ -1,9 +1,8 @@
 -- An entry that is none of a session that was open leaves what is kept of pairs as it is.
-use Rattle.std.proofs.Common.{◌≡◌, ◌∙◌, sym, subst, ℕ, ◌+◌, ◌<◌, ◌≤◌, Bool, true, false, List, [], ◌∷◌, ◌++◌, length, refl, arith, ap, Some, None}
+use Rattle.std.proofs.Common.{◌≡◌, ◌∙◌, sym, subst, ℕ, ◌<◌, ◌≤◌, Bool, true, false, List, [], ◌∷◌, ◌++◌, length, refl, ap, Some}
 use Rattle.std.specs.Prelude.{Option, cond, not, ◌&&◌, ◌||◌}
 use Rattle.std.specs.List.{list_any}
 use Rattle.std.proofs.lemmas.List.{append-nil}
-use Rattle.flat_base.specs.declared.ids.Actor.{Actor}
 use Rattle.flat_base.specs.declared.ids.Actor.TheVariants.{Session}
 use Rattle.flat_base.specs.declared.ids.PairNo.{PairNo}
 use Rattle.flat_base.specs.declared.ids.SessionNo.{SessionNo}
@@ -15,10 +14,9 @@ use Rattle.flat_scene.specs.declared.journal.Reply.{Reply}
 use Rattle.flat_scene.specs.declared.setup.Setup.{Setup}
 use Rattle.flat_scene.specs.History.{◌▹◌, own, calls, closes, is_closed, is_end, is_finish, is_session, presents, published, Published}
 use Rattle.flat_scene.proofs.Steps.{presents-own}
-use Rattle.flat_scene.proofs.Together.{and-right}
 use Rattle.flat_core.specs.declared.pairs.PairState.{PairState}
-use Rattle.flat_core.specs.Ends.{clears_viewport, ends_view, happens, is_done, uses_viewport, view_owner, viewport_owner, viewport_uses}
-use Rattle.flat_core.specs.Following.{IsPairKept, IsSerialKept, pair}
+use Rattle.flat_core.specs.Ends.{clears_viewport, ends_view, happens, is_done, uses_viewport, viewport_owner, viewport_uses}
+use Rattle.flat_core.specs.Following.{IsPairKept, IsSerialKept}
 use Rattle.flat_core.specs.Legal.{Legal, goes_on}
 use Rattle.flat_core.specs.Serials.{IsUseSerial}
 use Rattle.flat_core.specs.Stamps.{IsStamp, is_seen}

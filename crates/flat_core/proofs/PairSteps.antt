@@ -1,47 +1,41 @@
 -- What an entry does to what is kept of a pair.
-use Rattle.std.proofs.Common.{◌≡◌, ◌∙◌, sym, subst, ℕ, ◌+◌, ◌-◌, ◌<◌, ◌≤◌, Bool, true, false, List, [], ◌∷◌, ◌++◌, length, refl, arith, ap, Some, None}
-use Rattle.std.specs.Prelude.{Option, cond, not, ◌&&◌, ◌||◌, ◌==◌, nat_lt, nat_le, option_map, unwrap_or}
+use Rattle.std.proofs.Common.{◌≡◌, ◌∙◌, sym, subst, ℕ, ◌<◌, Bool, true, false, List, [], ◌∷◌, length, refl, arith, ap, Some, None}
+use Rattle.std.specs.Prelude.{Option, cond, not, ◌&&◌, ◌==◌, nat_lt}
 use Rattle.std.specs.List.{list_any, list_all}
 use Rattle.std.proofs.lemmas.Bool.Decides.{nat_tests}
-use Rattle.std.proofs.lemmas.List.{append-nil}
 use Rattle.std.proofs.lemmas.List.Folds.{list_all-append}
 use Rattle.flat_base.specs.declared.ids.Actor.{Actor}
-use Rattle.flat_base.specs.declared.ids.Actor.TheVariants.{Display, Session, Probe}
+use Rattle.flat_base.specs.declared.ids.Actor.TheVariants.{Session}
 use Rattle.flat_base.specs.declared.ids.PairNo.{PairNo}
 use Rattle.flat_base.specs.declared.ids.SessionNo.{SessionNo}
 use Rattle.flat_scene.specs.declared.calls.Call.{Call}
 use Rattle.flat_scene.specs.declared.journal.Entry.{Entry}
 use Rattle.flat_scene.specs.declared.journal.Kind.{Kind}
-use Rattle.flat_scene.specs.declared.journal.Kind.TheVariants.{View, Viewport, Close, Begin, Finish, End, Present}
-use Rattle.flat_scene.specs.declared.journal.Reply.{Reply}
+use Rattle.flat_scene.specs.declared.journal.Kind.TheVariants.{View, Viewport, Close, Begin, Finish}
 use Rattle.flat_scene.specs.declared.setup.Setup.{Setup}
-use Rattle.flat_scene.specs.Draft.{of_serial}
-use Rattle.flat_scene.specs.History.{◌▹◌, own, calls, closes, is_begin, is_closed, is_end, is_finish, is_session, presents, published, Published}
-use Rattle.flat_scene.proofs.Steps.{presents-own}
+use Rattle.flat_scene.specs.History.{◌▹◌, calls, closes, is_begin, is_closed, is_finish, is_session, presents}
 use Rattle.flat_scene.proofs.Together.{and-left, and-right}
 use Rattle.flat_core.specs.declared.live.Live.{Live}
 use Rattle.flat_core.specs.declared.pairs.PairState.{PairState}
 use Rattle.flat_core.specs.Clears.{clears_pair, cleared_if}
 use Rattle.flat_core.specs.Ends.{clears_viewport, ends_view, happens, is_done, uses_viewport, view_owner, viewport_owner, viewport_uses}
-use Rattle.flat_core.specs.Following.{IsOwnEntry, IsIdle, IsPairKept, IsSerialKept, UsesNone, pair}
-use Rattle.flat_core.specs.Legal.{Legal, all_but_last, goes_on, is_link, links_alone, may_act, owns_in_call, owns_view, owns_viewport, session_may}
-use Rattle.flat_core.specs.Lives.{lives_after, clears_live, count_of}
-use Rattle.flat_core.specs.Serials.{IsUseSerial, contents_made, serials_in}
+use Rattle.flat_core.specs.Following.{IsOwnEntry, IsPairKept, IsSerialKept, pair}
+use Rattle.flat_core.specs.Legal.{Legal, all_but_last, is_link, links_alone, may_act, owns_in_call, owns_view, owns_viewport, session_may}
+use Rattle.flat_core.specs.Lives.{clears_live, count_of}
+use Rattle.flat_core.specs.Serials.{IsUseSerial}
 use Rattle.flat_core.specs.Shown.{is_pair}
-use Rattle.flat_core.specs.Stamps.{IsStamp, first_at, is_seen, stamp_then}
+use Rattle.flat_core.specs.Stamps.{IsStamp, stamp_then}
 use Rattle.flat_core.specs.Views.{ended_by, ends_of, view_after}
 use Rattle.flat_core.specs.Watch.{props_given, props_seen}
 use Rattle.flat_core.proofs.Foreign.{AreTame, clears-count, foreign-live, foreign-view}
 use Rattle.flat_core.proofs.Marks.{stamp-none}
 use Rattle.flat_core.proofs.PairTold.{clear-stamp, view-stamp}
-use Rattle.flat_core.proofs.SerialSteps.{Has, serial-closing, serial-other, serial-own}
+use Rattle.flat_core.proofs.SerialSteps.{serial-closing, serial-other, serial-own}
 use Rattle.flat_core.proofs.ShownOwned.{all-calls-owned}
-use Rattle.flat_core.proofs.ShownSteps.{closed-before}
 use Rattle.flat_core.proofs.StampSteps.{other-stamp}
 use Rattle.flat_core.proofs.Stamped.{happening-lasts}
 use Rattle.flat_core.proofs.ViewCalls.{or-none-left, or-none-right}
 use Rattle.flat_core.proofs.ViewHistory.{same-session}
-use Rattle.flat_core.proofs.ViewLaw.{made_at}
 
 -- ---- entries of sessions
 

@@ -1,6 +1,6 @@
 -- What a use of its viewport end does to what is kept of a pair.
-use Rattle.std.proofs.Common.{◌≡◌, ◌∙◌, sym, subst, ℕ, suc, ◌+◌, ◌-◌, ◌^◌, ◌<◌, ◌≤◌, Bool, true, false, List, [], ◌∷◌, ◌++◌, length, filter, min, refl, arith, ap, Some, None, Ok, Err}
-use Rattle.std.specs.Prelude.{Option, Result, cond, ◌&&◌, ◌==◌, nat_lt, option_and_then, option_map, unwrap_or, slice_get}
+use Rattle.std.proofs.Common.{◌≡◌, ◌∙◌, sym, subst, ℕ, ◌+◌, ◌-◌, ◌^◌, ◌<◌, ◌≤◌, Bool, true, false, List, [], ◌∷◌, ◌++◌, length, min, refl, arith, ap, None, Ok, Err}
+use Rattle.std.specs.Prelude.{Option, Result, cond, ◌&&◌, ◌==◌, option_and_then, option_map, unwrap_or, slice_get}
 use Rattle.std.specs.Result.{result_ok}
 use Rattle.std.specs.List.{list_all}
 use Rattle.std.proofs.lemmas.Bool.Decides.{nat_tests}
@@ -13,21 +13,19 @@ use Rattle.flat_scene.specs.declared.calls.Call.{Call}
 use Rattle.flat_scene.specs.declared.calls.ViewportProps.{ViewportProps}
 use Rattle.flat_scene.specs.declared.journal.Entry.{Entry}
 use Rattle.flat_scene.specs.declared.journal.Kind.{Kind}
-use Rattle.flat_scene.specs.declared.journal.Kind.TheVariants.{Viewport}
 use Rattle.flat_scene.specs.declared.journal.Reply.{Reply}
-use Rattle.flat_scene.specs.declared.journal.Reply.TheVariants.{Done}
 use Rattle.flat_scene.specs.declared.setup.Setup.{Setup}
 use Rattle.flat_scene.specs.Draft.{Draft, of_serial}
 use Rattle.flat_scene.specs.Effect.{draft_of}
 use Rattle.flat_scene.specs.Frames.{taken}
-use Rattle.flat_scene.specs.History.{◌▹◌, calls, closes, is_closed, is_finish, is_session, presents, published}
+use Rattle.flat_scene.specs.History.{◌▹◌, calls, closes, is_finish, is_session, published}
 use Rattle.flat_scene.proofs.Together.{and-left}
 use Rattle.flat_core.specs.declared.live.Live.{Live}
 use Rattle.flat_core.specs.declared.pairs.PairState.{PairState}
 use Rattle.flat_core.specs.Clears.{clears_pair, cleared_if}
-use Rattle.flat_core.specs.Ends.{is_done, live_props, props_of, serials_of, taken_calls, to_begin, uses_viewport, viewport_owner, viewport_uses}
+use Rattle.flat_core.specs.Ends.{is_done, live_props, props_of, serials_of, taken_calls, to_begin, uses_viewport, viewport_uses}
 use Rattle.flat_core.specs.Following.{IsOwnEntry, IsPairKept, capped, pair}
-use Rattle.flat_core.specs.Legal.{Legal, makes_viewport, owns_in_call, owns_all, owns_in_kind, owns_viewport, own_call}
+use Rattle.flat_core.specs.Legal.{makes_viewport, owns_in_call, owns_all, owns_in_kind, owns_viewport, own_call}
 use Rattle.flat_core.specs.Lives.{made_of_pair}
 use Rattle.flat_core.specs.Serials.{IsUseSerial, contents_made, serials_in}
 use Rattle.flat_core.specs.Stamps.{made_by}
@@ -36,7 +34,7 @@ use Rattle.flat_core.specs.Views.{ended_by, view_after}
 use Rattle.flat_core.specs.Watch.{or_else, props_at, props_given, props_seen}
 use Rattle.flat_core.proofs.Earlier.{begin-earlier, calls-taken, taken-fits}
 use Rattle.flat_core.proofs.LiveCounts.{made-append}
-use Rattle.flat_core.proofs.PairSteps.{cleared-own, ended-own, no-finish, owner-owns, pair-own}
+use Rattle.flat_core.proofs.PairSteps.{cleared-own, ended-own, no-finish, pair-own}
 use Rattle.flat_core.proofs.SerialSteps.{made-begins, serial-new}
 use Rattle.flat_core.proofs.Serials.{draft-contents, serials-are, serials-count}
 use Rattle.flat_core.proofs.Uses.{uses-made}
@@ -103,8 +101,8 @@ pub pair-used : (setup : Setup) (s : SessionNo) (h : List Entry) (e : Entry) (ca
     → (p : PairNo) (props : ViewportProps) → IsUse e p props → (serial : ℕ) → serial ≡ capped (length (contents_made (calls s h ++ carries)))
     → (view : Option PairNo) → view ≡ view_after None (calls s h) → (i : ℕ) (state : PairState) → IsPairKept setup h (pair i) state
     → IsPairKept setup (h ▹ e) (pair i)
-        (cond (p.0 == i) (used_by serial props (cleared_if (clears_pair (pair i) live carries) made (ended_by i view carries made state)))
-            (cleared_if (clears_pair (pair i) live carries) made (ended_by i view carries made state)))
+    (cond (p.0 == i) (used_by serial props (cleared_if (clears_pair (pair i) live carries) made (ended_by i view carries made state)))
+    (cleared_if (clears_pair (pair i) live carries) made (ended_by i view carries made state)))
 pair-used setup s h e carries made live entry small p props used serial counted view is i state kept = by_pair (p.0 == i) refl
   where
     state_now : PairState

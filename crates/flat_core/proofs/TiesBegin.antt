@@ -1,13 +1,10 @@
 -- A begin, for what is kept of sessions and pairs.
-use Rattle.std.proofs.Common.{◌≡◌, ◌≢◌, ◌∙◌, sym, subst, ℕ, zero, suc, ◌+◌, ◌<◌, ◌≤◌, Bool, true, false, List, length, refl, arith, ap, None, slice_set, slice_index_or, add-one}
-use Rattle.std.specs.Prelude.{Option, cond, nat_lt, option_and_then}
-use Rattle.flat_base.specs.declared.ids.PairNo.{PairNo}
-use Rattle.flat_base.specs.declared.ids.SessionNo.{SessionNo}
+use Rattle.std.proofs.Common.{◌≡◌, ◌∙◌, sym, subst, ℕ, suc, ◌+◌, ◌<◌, true, false, List, length, refl, arith, ap, None, slice_set, slice_index_or, add-one}
+use Rattle.std.specs.Prelude.{cond, nat_lt, option_and_then}
 use Rattle.flat_scene.specs.declared.journal.Entry.{Entry}
 use Rattle.flat_scene.specs.declared.setup.Setup.{Setup}
 use Rattle.flat_scene.specs.declared.trees.Tree.{Tree}
 use Rattle.flat_core.specs.declared.following.Following.{Following}
-use Rattle.flat_core.specs.declared.following.Glimpse.{Glimpse}
 use Rattle.flat_core.specs.declared.pairs.PairState.{PairState}
 use Rattle.flat_core.specs.declared.state.SessionState.{SessionState}
 use Rattle.flat_core.specs.Begins.{begun, begin_entry}

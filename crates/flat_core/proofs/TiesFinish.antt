@@ -1,9 +1,8 @@
 -- The end of a frame, for what is kept of sessions and pairs.
-use Rattle.std.proofs.Common.{◌≡◌, ◌≢◌, ◌∙◌, sym, subst, ℕ, zero, suc, ◌+◌, ◌-◌, ◌<◌, ◌≤◌, Bool, true, false, List, [], ◌∷◌, length, drop, refl, arith, ap, Some, None, slice_set, slice_index_or}
+use Rattle.std.proofs.Common.{◌≡◌, ◌∙◌, sym, subst, ℕ, ◌+◌, ◌<◌, ◌≤◌, Bool, true, false, List, [], length, refl, arith, ap, Some, None, slice_set, slice_index_or}
 use Rattle.std.specs.Prelude.{Option, cond, nat_lt, nat_le, ◌&&◌, ◌==◌, option_and_then, option_map, unwrap_or}
 use Rattle.std.specs.Result.{result_ok}
 use Rattle.std.proofs.lemmas.Bool.Decides.{nat_tests}
-use Rattle.flat_base.specs.declared.ids.Actor.{Actor}
 use Rattle.flat_base.specs.declared.ids.Actor.TheVariants.{Session}
 use Rattle.flat_base.specs.declared.ids.PairNo.{PairNo}
 use Rattle.flat_base.specs.declared.ids.SessionNo.{SessionNo}
@@ -12,11 +11,10 @@ use Rattle.flat_scene.specs.declared.calls.ViewportProps.{ViewportProps}
 use Rattle.flat_scene.specs.declared.journal.Entry.{Entry}
 use Rattle.flat_scene.specs.declared.setup.Setup.{Setup}
 use Rattle.flat_scene.specs.declared.trees.Tree.{Tree}
-use Rattle.flat_scene.specs.declared.trees.ViewportUse.{ViewportUse}
-use Rattle.flat_scene.specs.Draft.{Draft, of_serial}
+use Rattle.flat_scene.specs.Draft.{Draft}
 use Rattle.flat_scene.specs.Effect.{draft_of}
 use Rattle.flat_scene.specs.Frames.{taken}
-use Rattle.flat_scene.specs.History.{◌▹◌, is_closed, is_session, presents, Published}
+use Rattle.flat_scene.specs.History.{is_closed, presents, Published}
 use Rattle.flat_scene.specs.Setups.{is_declared}
 use Rattle.flat_core.specs.declared.following.Following.{Following}
 use Rattle.flat_core.specs.declared.following.Glimpse.{Glimpse}
@@ -24,19 +22,18 @@ use Rattle.flat_core.specs.declared.pairs.PairState.{PairState}
 use Rattle.flat_core.specs.Begins.{finished, finish_entry}
 use Rattle.flat_core.specs.Boards.{number}
 use Rattle.flat_core.specs.Ends.{live_props, props_of, serials_of, taken_calls, to_begin, to_finished, viewport_owner, viewport_uses}
-use Rattle.flat_core.specs.Following.{AreTied, IsFinished, IsFollowed, IsPairKept, capped, glimpse_of, pair}
+use Rattle.flat_core.specs.Following.{AreTied, IsFinished, IsFollowed, IsPairKept, capped, pair}
 use Rattle.flat_core.specs.Kept.{AllNumbered}
 use Rattle.flat_core.specs.Legal.{Legal, is_frame_open, owns_viewport}
 use Rattle.flat_core.specs.Shown.{last_taken, shown, tree_of}
 use Rattle.flat_core.specs.Usage.{SeesOne, SeesUses, props_among, uses_if, uses_in, with_seen}
 use Rattle.flat_core.specs.Watch.{or_else, props_seen}
-use Rattle.flat_core.proofs.BeginLoop.{all-below, none-below, not-below, this-side}
-use Rattle.flat_core.proofs.Earlier.{IsEarlier, begin-earlier, calls-taken, finished-earlier, legal-earlier, taken-begin, taken-begun, taken-earlier}
+use Rattle.flat_core.proofs.Earlier.{begin-earlier, calls-taken, finished-earlier, legal-earlier, taken-begin, taken-begun, taken-earlier}
 use Rattle.flat_core.proofs.Followed.{followed-still}
 use Rattle.flat_core.proofs.FrameSees.{closed-took, foreign-uses, last-uses, no-uses, seen-already}
 use Rattle.flat_core.proofs.PairIdle.{pair-still}
 use Rattle.flat_core.proofs.ShownSteps.{serial-zero}
-use Rattle.flat_core.proofs.TiesBegin.{FollowedUpTo, followed-end, followed-here, followed-on, followed-start, state-at}
+use Rattle.flat_core.proofs.TiesBegin.{FollowedUpTo, followed-end, followed-here, followed-on, state-at}
 use Rattle.flat_core.proofs.Undeclared.{none-taken}
 use Rattle.flat_core.proofs.ViewLaw.{made_at}
 use Rattle.flat_topology.specs.Shown.{Shown, state_of}
@@ -138,7 +135,7 @@ module _ (setup : Setup) (h : List Entry) (line : ℕ) (shows : Shown) (ends : I
           sees.seen 0 (same ∙ kept.unused zero_uses)
           ∙ ap (λ (t : Option Tree). or_else (props_among p (uses_in t) 0) state.seen) tree_is
           ∙ ap (λ (o : Option ViewportProps). or_else o state.seen)
-              (no-uses setup v (to_begin h) h legal (begin-earlier h) p ∙ sym (ap (λ (n : ℕ). option_and_then (props_of p n) (result_ok (draft_of setup (taken_calls setup (to_begin h) v)))) zero_uses ∙ nothing-of-none p (result_ok (draft_of setup (taken_calls setup (to_begin h) v)))))
+          (no-uses setup v (to_begin h) h legal (begin-earlier h) p ∙ sym (ap (λ (n : ℕ). option_and_then (props_of p n) (result_ok (draft_of setup (taken_calls setup (to_begin h) v)))) zero_uses ∙ nothing-of-none p (result_ok (draft_of setup (taken_calls setup (to_begin h) v)))))
 
   -- the owner's session, from which it took nothing
   seen-old : (p : PairNo) (v : SessionNo) → took v ≡ false → or_else (had p v) (props_seen setup p (length (viewport_uses p h)) v h) ≡ props_seen setup p (length (viewport_uses p h)) v h

@@ -1,17 +1,14 @@
 -- What an entry does to what is kept of all sessions and pairs.
-use Rattle.std.proofs.Common.{◌≡◌, ◌≢◌, ◌∙◌, sym, subst, ℕ, suc, ◌+◌, ◌-◌, ◌^◌, ◌<◌, ◌≤◌, Bool, true, false, List, [], ◌∷◌, ◌++◌, length, refl, arith, ap, Some, None, slice_set, slice_index_or}
+use Rattle.std.proofs.Common.{◌≡◌, ◌≢◌, ◌∙◌, sym, subst, ℕ, ◌-◌, ◌^◌, ◌<◌, ◌≤◌, true, false, List, ◌++◌, length, refl, arith, ap, None, slice_index_or}
 use Rattle.std.specs.Prelude.{Option, cond, ◌==◌}
-use Rattle.std.proofs.lemmas.Bool.Decides.{nat_tests}
 use Rattle.std.proofs.lemmas.List.{length-set}
-use Rattle.flat_base.specs.declared.ids.Actor.{Actor}
-use Rattle.flat_base.specs.declared.ids.Actor.TheVariants.{Session}
 use Rattle.flat_base.specs.declared.ids.PairNo.{PairNo}
 use Rattle.flat_base.specs.declared.ids.SessionNo.{SessionNo}
 use Rattle.flat_scene.specs.declared.calls.Call.{Call}
 use Rattle.flat_scene.specs.declared.calls.ViewportProps.{ViewportProps}
 use Rattle.flat_scene.specs.declared.journal.Entry.{Entry}
 use Rattle.flat_scene.specs.declared.setup.Setup.{Setup}
-use Rattle.flat_scene.specs.History.{◌▹◌, calls, is_closed, is_session}
+use Rattle.flat_scene.specs.History.{◌▹◌, calls, is_session}
 use Rattle.flat_core.specs.declared.following.Following.{Following}
 use Rattle.flat_core.specs.declared.live.Live.{Live}
 use Rattle.flat_core.specs.declared.pairs.PairState.{PairState}
@@ -33,7 +30,7 @@ use Rattle.flat_core.proofs.ViewHistory.{same-session}
 use Rattle.std.proofs.Common.{length-append}
 
 module _ (setup : Setup) (s : SessionNo) (h : List Entry) (e : Entry) (carries : List Call) (made : ℕ) (live : List Live) (entry : IsOwnEntry setup h e s carries made live) (some : 0 < s.0)
-  (contents : ℕ) (old new : List Following) (few : s.0 ≤ length old) (pairs after : List PairState) (notes : NotesCalls s carries made live contents old new pairs after) (tied : AreTied setup h old pairs) where
+    (contents : ℕ) (old new : List Following) (few : s.0 ≤ length old) (pairs after : List PairState) (notes : NotesCalls s carries made live contents old new pairs after) (tied : AreTied setup h old pairs) where
   was-followed : IsFollowed setup h s notes.was
   was-followed = at-session (IsFollowed setup h) old s notes.was tied.each_session some few notes.at
 

@@ -1,11 +1,10 @@
 -- What a frame's viewports do to what is kept of pairs, one viewport after another.
-use Rattle.std.proofs.Common.{◌≡◌, ◌∙◌, sym, ℕ, ◌<◌, List, [], ◌∷◌, length, refl, arith, ap, Some, None, slice_index_or}
+use Rattle.std.proofs.Common.{◌≡◌, ◌∙◌, List, [], ◌∷◌, refl, arith, ap, Some, None, slice_index_or}
 use Rattle.std.specs.Prelude.{Option, cond, ◌==◌, ◌&&◌}
 use Rattle.flat_base.specs.declared.ids.PairNo.{PairNo}
 use Rattle.flat_scene.specs.declared.calls.ViewportProps.{ViewportProps}
 use Rattle.flat_scene.specs.declared.trees.ViewportUse.{ViewportUse}
 use Rattle.flat_core.specs.declared.pairs.PairState.{PairState}
-use Rattle.flat_core.specs.Following.{capped}
 use Rattle.flat_core.specs.Usage.{props_among, with_seen, SeesUses}
 use Rattle.flat_core.specs.Watch.{or_else}
 

@@ -1,4 +1,4 @@
-use Rattle.std.proofs.Common.{◌≡◌, ◌∙◌, sym, ap, drop, ◌+◌, [], ◌∷◌, List, subst, slice_index_or}
+use Rattle.std.proofs.Common.{◌≡◌, ◌∙◌, sym, drop, ◌+◌, [], ◌∷◌, List, subst, slice_index_or}
 use Rattle.flat_core.specs.declared.live.Live.{Live}
 use Rattle.flat_core.specs.declared.pairs.PairState.{PairState}
 use Rattle.flat_core.specs.Clears.{ClearsLive}
@@ -19,14 +19,14 @@ loop-one-preserved c =
     let onward : (last : List PairState) → ClearsLive (one ∷ rest) calls k c.loop-one.pairs last → ClearsLive live calls k c.args.pairs.now last =
     λ last all. c.loop-one.invariant last (subst (λ (l : List Live). ClearsLive l calls k c.loop-one.pairs last) (sym is) all) in
     elim c.if-is_cleared.branch [
-      then-is_cleared w ↦
-        (λ last later.
-        onward last (clears-more one rest calls k c.loop-one.pairs w.clear_pair.new.pairs last (sym c.is_cleared.ensures ∙ w.if-is_cleared.true) w.clear_pair.ensures
-        (subst (λ (ps : List PairState). ClearsLive rest calls k ps last) w.pairs-is later)))
+      | then-is_cleared w ↦
+          (λ last later.
+          onward last (clears-more one rest calls k c.loop-one.pairs w.clear_pair.new.pairs last (sym c.is_cleared.ensures ∙ w.if-is_cleared.true) w.clear_pair.ensures
+          (subst (λ (ps : List PairState). ClearsLive rest calls k ps last) w.pairs-is later)))
       | else-is_cleared w ↦
-        (λ last later.
-        onward last (clears-less one rest calls k c.loop-one.pairs last (sym c.is_cleared.ensures ∙ w.if-is_cleared.false)
-        (subst (λ (ps : List PairState). ClearsLive rest calls k ps last) w.pairs-is later)))
+          (λ last later.
+          onward last (clears-less one rest calls k c.loop-one.pairs last (sym c.is_cleared.ensures ∙ w.if-is_cleared.false)
+          (subst (λ (ps : List PairState). ClearsLive rest calls k ps last) w.pairs-is later)))
     ]
 
 pub returns : goal.returns

@@ -1,4 +1,4 @@
-use Rattle.std.proofs.Common.{◌≡◌, ◌∙◌, sym, ap, subst, ℕ, ◌+◌, ◌<◌, ◌≤◌, arith, length, List, refl}
+use Rattle.std.proofs.Common.{◌≡◌, ◌∙◌, subst, ℕ, ◌<◌, arith, length, List, refl}
 use Rattle.std.proofs.lemmas.List.{length-set}
 use Rattle.flat_scene.specs.declared.trees.ViewportUse.{ViewportUse}
 use Rattle.flat_core.specs.declared.following.Following.{Following}
