@@ -76,13 +76,14 @@ pub mod StampSteps
 pub mod Stamped
 pub mod Steps
 pub mod Still
-pub mod TiesBegin
 pub mod TiedOwn
+pub mod TiesBegin
 pub mod TiesFinish
 pub mod TiesSteps
 pub mod TokenLaw
 pub mod TokensBack
 pub mod ToldLocal
+pub mod ToldTies
 pub mod Undeclared
 pub mod Unwatched
 pub mod UsageSteps

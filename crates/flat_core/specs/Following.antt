@@ -21,7 +21,7 @@ use Rattle.flat_core.specs.Legal.{Legal}
 use Rattle.flat_core.specs.Lives.{lives_after}
 use Rattle.flat_core.specs.Seen.{seen_of}
 use Rattle.flat_core.specs.Serials.{IsUseSerial, contents_made}
-use Rattle.flat_core.specs.Shown.{is_connected, shown_states, shown_view}
+use Rattle.flat_core.specs.Shown.{is_connected, is_pair, shown_states, shown_view}
 use Rattle.flat_core.specs.Stamps.{IsStamp}
 use Rattle.flat_core.specs.Views.{view_after}
 use Rattle.flat_core.specs.Watch.{props_given, props_seen}
@@ -115,3 +115,10 @@ pub record IsBegun (setup : Setup) (history : List Entry) (line time : ℕ) (sta
 pub record IsFinished (setup : Setup) (history : List Entry) (line : ℕ) (shows : Shown) : Type 0 where
   pub legal : Legal setup (finished history line)
   pub shown : shows ≡ shown_states setup (to_begin history)
+
+-- What the begin of the last finished frame saw of a session, as far as it is told. A session that isn't declared shows nothing.
+pub record IsLastSight (setup : Setup) (history : List Entry) (s : SessionNo) (sight : Glimpse) : Type 0 where
+  pub closed : sight.closed ≡ is_closed s (to_finished history)
+  pub took : sight.taken ≡ taken setup (to_finished history) s
+  pub view : sight.view ≡ shown_view setup (to_finished history) s
+  pub connected : (p : PairNo) → (is_pair sight.view p && sight.connected) ≡ (is_pair (shown_view setup (to_finished history) s) p && is_connected setup (to_finished history) s)

@@ -18,6 +18,7 @@ mod log;
 mod pairs;
 mod polls;
 mod state;
+mod telling;
 #[cfg(test)]
 mod tests;
 mod ties;

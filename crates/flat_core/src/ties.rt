@@ -20,7 +20,7 @@ use flat_topology::Shown;
 use std::alloc::Global;
 
 /// What a history without a frame says of a session.
-const NOTHING: Glimpse = Glimpse {
+pub const NOTHING: Glimpse = Glimpse {
     closed: false,
     taken: 0,
     view: None,
