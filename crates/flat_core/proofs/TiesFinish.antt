@@ -27,12 +27,8 @@ use Rattle.flat_core.specs.Kept.{AllNumbered}
 use Rattle.flat_core.specs.Legal.{Legal, is_frame_open, owns_viewport}
 use Rattle.flat_core.specs.Shown.{last_taken, shown, tree_of}
 use Rattle.flat_core.specs.Usage.{SeesOne, SeesUses, props_among, uses_if, uses_in, with_seen}
-<<<<<<< HEAD
 use Rattle.flat_core.specs.Watch.{props_seen}
 use Rattle.flat_watch.specs.Told.{or_else}
-=======
-use Rattle.flat_core.specs.Watch.{or_else, props_seen}
->>>>>>> 43b8db557c1294c2f666c1bb87121a4a4ccb5cd8
 use Rattle.flat_core.proofs.Earlier.{begin-earlier, calls-taken, finished-earlier, legal-earlier, taken-begin, taken-begun, taken-earlier}
 use Rattle.flat_core.proofs.Followed.{followed-still}
 use Rattle.flat_core.proofs.FrameSees.{closed-took, foreign-uses, last-uses, no-uses, seen-already}
