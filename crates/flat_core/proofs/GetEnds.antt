@@ -22,7 +22,7 @@ use Rattle.flat_core.specs.declared.gets.Answered.{Answered}
 use Rattle.flat_core.specs.declared.gets.HeldGet.{HeldGet}
 use Rattle.flat_core.specs.declared.gets.Watched.{Watched}
 use Rattle.flat_core.specs.Ends.{is_done, uses_viewport, viewport_owner, viewport_uses, view_owner}
-use Rattle.flat_core.specs.Gets.{watched_by, watched_of, held_of, helds_of, hears, watchers_of, last_of, noted_all, answered_get, answering, is_get, reached, AnsweredAt, AnsweredUpTo, AreGets, Asks, IsAnswered}
+use Rattle.flat_core.specs.Gets.{watched_by, watched_of, held_of, helds_of, hears, watchers_of, last_of, noted_all, answered_get, answering, is_get, reached, started, AnsweredAt, AnsweredUpTo, AreGets, Asks, IsAnswered}
 use Rattle.flat_core.specs.Legal.{Legal, got, is_now, may_act, session_may, owns_view, owns_viewport}
 use Rattle.flat_core.specs.Local.{pair_watched}
 use Rattle.flat_core.specs.Watch.{Watcher, layout_of, status_of, child_of, watching, told, asked, asked_in, is_open, listener, same_watcher, watcher_of, is_watcher}
@@ -203,10 +203,6 @@ module _ (setup : Setup) (h : List Entry) (e : Entry) (legal : Legal setup (h �
       none false = refl
 
   -- ---- a viewport end is used
-
-  -- its child is that of the new use
-  abbrev pub started : Answered → Answered
-  started a = record a { child = None; uses = a.uses + 1 }
 
   apart-view : (q p : PairNo) → (p.0 == q.0) ≡ false → (w : Watcher) → pair_watched w ≡ p → (same_watcher w (layout_of q) ≡ false) × (same_watcher w (status_of q) ≡ false)
   apart-view q p other (layout_of r) of = (ap (λ (x : PairNo). x.0 == q.0) of ∙ other, refl)

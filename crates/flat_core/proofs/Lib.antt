@@ -16,6 +16,7 @@ pub mod FinishEvents
 pub mod FramesLocal
 pub mod GetAnswers
 pub mod GetAsked
+pub mod GetBoards
 pub mod GetEnds
 pub mod GetHistory
 pub mod GetLists

@@ -1,4 +1,4 @@
-use Rattle.flat_core.proofs.GetEnds.{pair-settled}
+use Rattle.flat_core.proofs.GetBoards.{all-new}
 use Rattle.flat_core.proofs.gets.told_of.Goals as goal
 
 pub returns-in-Child : goal.returns-in-Child
