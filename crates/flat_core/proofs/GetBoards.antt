@@ -14,6 +14,7 @@ use Rattle.flat_scene.specs.declared.journal.Kind.TheVariants.{Viewport, Get}
 use Rattle.flat_scene.specs.declared.journal.Post.{Post}
 use Rattle.flat_scene.specs.declared.journal.Told.{Told}
 use Rattle.flat_scene.specs.declared.setup.Setup.{Setup}
+use Rattle.flat_scene.specs.Setups.{is_declared}
 use Rattle.flat_scene.specs.History.{◌▹◌, is_closed, is_finish, is_session}
 use Rattle.flat_core.specs.declared.gets.Answered.{Answered}
 use Rattle.flat_core.specs.declared.gets.HeldGet.{HeldGet}
@@ -25,7 +26,7 @@ use Rattle.flat_core.specs.Local.{pair_watched}
 use Rattle.flat_core.specs.Watch.{Watcher, told, is_open, watcher_of}
 use Rattle.flat_core.proofs.Between.{is_viewport}
 use Rattle.flat_core.proofs.EventsLocal.{flat-nothing}
-use Rattle.flat_core.proofs.GetEnds.{answered-between, answered-refused, answered-apart, answered-shut, answered-joined, answered-started, answered-aside, answered-asked, upto-first, upto-next, upto-closed, upto-last}
+use Rattle.flat_core.proofs.GetEnds.{answered-between, answered-refused, answered-apart, answered-shut, answered-foreign, answered-joined, answered-started, answered-aside, answered-asked, upto-first, upto-next, upto-closed, upto-last}
 use Rattle.flat_core.proofs.GetOwners.{get-open}
 
 abbrev pair_at : ℕ → PairNo
@@ -117,6 +118,16 @@ module _ (setup : Setup) (h : List Entry) (e : Entry) (legal : Legal setup (h �
     each =
         numbered-set (λ p. IsAnswered setup h (pair_at p)) (λ p. IsAnswered setup (h ▹ e) (pair_at p)) answered q.0 _ (λ p x other. answered-apart setup h e legal q props kind (pair_at p) other x)
         (answered-shut setup h e legal q props kind done shut (slice_index_or answered q.0 d) (all.each q.0 d (omega (arith, within, all.count)))) all.each;
+  }
+
+  -- where the owner isn't declared
+  pub all-foreign : (t : SessionNo) → is_declared setup t ≡ false → (q : PairNo) (props : ViewportProps) → e.kind ≡ Viewport q props → is_done e.reply ≡ true → owns_view setup t q ≡ true → q.0 < length setup.pairs
+      → (answered : List Answered) (d : Answered) → AllAnswered setup h answered → AllAnswered setup (h ▹ e) (slice_set answered q.0 (started (slice_index_or answered q.0 d)))
+  all-foreign t out q props kind done owned within answered d all = record {
+    count = length-set answered q.0 _ ∙ all.count;
+    each =
+        numbered-set (λ p. IsAnswered setup h (pair_at p)) (λ p. IsAnswered setup (h ▹ e) (pair_at p)) answered q.0 _ (λ p x other. answered-apart setup h e legal q props kind (pair_at p) other x)
+        (answered-foreign setup h e legal t out q props kind done owned (slice_index_or answered q.0 d) (all.each q.0 d (omega (arith, within, all.count)))) all.each;
   }
 
   -- where it is open, and its held gets were answered

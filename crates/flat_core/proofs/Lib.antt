@@ -22,6 +22,7 @@ pub mod GetHistory
 pub mod GetLists
 pub mod GetOrder
 pub mod GetOwners
+pub mod GetPosts
 pub mod GetSteps
 pub mod HasView
 pub mod JoinedLocal
