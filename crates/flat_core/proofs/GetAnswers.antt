@@ -1,36 +1,23 @@
 -- What was answered last, pair by pair, after each kind of entry.
-use Rattle.std.proofs.Common.{◌≡◌, ◌∙◌, sym, subst, ℕ, zero, suc, ◌+◌, ◌<◌, ◌≤◌, Bool, true, false, List, [], ◌∷◌, ◌++◌, length, refl, arith, ap, Some, None}
-use Rattle.std.specs.Prelude.{cond, not, Option, is_some, flat_map, option_map, unwrap_or, ◌==◌, ◌&&◌, ◌||◌, nat_lt, nat_le}
-use Rattle.std.specs.List.{list_all, list_any}
-use Rattle.std.proofs.lemmas.Bool.Decides.{nat_tests}
-use Rattle.flat_base.specs.declared.ids.Actor.{Actor}
-use Rattle.flat_base.specs.declared.ids.Actor.TheVariants.{Display, Session, Probe}
+use Rattle.std.proofs.Common.{◌≡◌, ◌∙◌, sym, ℕ, Bool, true, false, List, [], ◌∷◌, ◌++◌, refl, ap, Some, None}
+use Rattle.std.specs.Prelude.{cond, Option, flat_map, ◌==◌, ◌&&◌, ◌||◌}
+use Rattle.std.specs.List.{list_any}
 use Rattle.flat_base.specs.declared.ids.PairNo.{PairNo}
-use Rattle.flat_base.specs.declared.ids.SessionNo.{SessionNo}
-use Rattle.flat_scene.specs.declared.calls.ViewportProps.{ViewportProps}
 use Rattle.flat_scene.specs.declared.calls.Watch.{Watch}
 use Rattle.flat_scene.specs.declared.journal.Entry.{Entry}
-use Rattle.flat_scene.specs.declared.journal.Kind.{Kind}
-use Rattle.flat_scene.specs.declared.journal.Kind.TheVariants.{Viewport, Get}
 use Rattle.flat_scene.specs.declared.journal.Told.{Told}
 use Rattle.flat_scene.specs.declared.setup.Setup.{Setup}
-use Rattle.flat_scene.specs.History.{◌▹◌, is_closed, is_finish, is_session}
-use Rattle.flat_watch.specs.Told.{Watching, or_else, news, answer, answered_by, settled}
+use Rattle.flat_watch.specs.Told.{or_else, news, answer, answered_by, settled}
 use Rattle.flat_core.specs.declared.gets.Answered.{Answered}
 use Rattle.flat_core.specs.declared.gets.HeldGet.{HeldGet}
 use Rattle.flat_core.specs.declared.gets.Watched.{Watched}
 use Rattle.flat_core.specs.declared.gets.Watched.TheVariants as watches
-use Rattle.flat_core.specs.Ends.{is_done, uses_viewport, viewport_owner, viewport_uses, view_owner}
-use Rattle.flat_core.specs.Gets.{watched_by, watcher_for, watcher_of_held, held_with, held_of, helds_of, hears, watchers_of, news_of, answering, last_of, noted_one, noted_all, is_get, AnsweredAt, IsAnswered}
-use Rattle.flat_core.specs.Legal.{Legal, owns_view, owns_viewport}
+use Rattle.flat_core.specs.Gets.{watched_by, watcher_for, watcher_of_held, held_with, held_of, news_of, answering, last_of, noted_one, noted_all}
 use Rattle.flat_core.specs.Local.{pair_watched}
-use Rattle.flat_core.specs.Watch.{Watcher, layout_of, status_of, child_of, watching, told, asked, is_open, listener, same_watcher}
-use Rattle.flat_core.proofs.GetAsked.{same-sym}
-use Rattle.flat_core.proofs.GetHistory.{own-watcher, hears-open, watchers-heard}
-use Rattle.flat_core.proofs.GetOrder.{meant-found, same-is}
-use Rattle.flat_core.proofs.GetOwners.{IsMeant, of_layout, of_status, of_child}
+use Rattle.flat_core.specs.Watch.{Watcher, layout_of, status_of, child_of, watching, same_watcher}
+use Rattle.flat_core.proofs.GetHistory.{own-watcher}
+use Rattle.flat_core.proofs.GetOrder.{same-is}
 use Rattle.flat_core.proofs.ViewCalls.{or-none-left, or-none-right}
-use Rattle.flat_core.proofs.Watchers.{settled-now}
 
 -- ---- one answer
 

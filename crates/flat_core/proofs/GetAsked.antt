@@ -1,7 +1,7 @@
 -- A get of a session: its reply, and what is held after it.
-use Rattle.std.proofs.Common.{◌≡◌, ◌∙◌, sym, subst, ℕ, ◌+◌, ◌<◌, ◌≤◌, Bool, true, false, List, [], ◌∷◌, ◌++◌, length, map, refl, arith, ap, Some, None, inl, inr, ◌⊎◌}
-use Rattle.std.specs.Prelude.{cond, not, Option, is_some, flat_map, option_map, option_and_then, ◌==◌, ◌&&◌, ◌||◌}
-use Rattle.std.specs.List.{list_all, list_any}
+use Rattle.std.proofs.Common.{◌≡◌, ◌∙◌, sym, subst, ℕ, ◌+◌, ◌≤◌, Bool, true, false, List, [], ◌∷◌, ◌++◌, length, refl, arith, ap, Some, None, inl, inr, ◌⊎◌}
+use Rattle.std.specs.Prelude.{Option, is_some, flat_map, option_map, option_and_then, ◌==◌, ◌&&◌, ◌||◌}
+use Rattle.std.specs.List.{list_any}
 use Rattle.std.specs.Result.{result_ok}
 use Rattle.std.proofs.lemmas.Bool.Decides.{nat_tests}
 use Rattle.flat_base.specs.declared.ids.Actor.{Actor}
@@ -20,26 +20,25 @@ use Rattle.flat_scene.specs.declared.journal.Told.{Told}
 use Rattle.flat_scene.specs.declared.setup.Setup.{Setup}
 use Rattle.flat_scene.specs.Draft.{Draft, Made, an_image, a_fill, a_viewport, made_of}
 use Rattle.flat_scene.specs.Effect.{draft_of}
-use Rattle.flat_scene.specs.History.{◌▹◌, own, calls, closes, is_closed, is_finish, is_begin, is_session}
-use Rattle.flat_watch.specs.Told.{Watching, news}
+use Rattle.flat_scene.specs.History.{◌▹◌, own, calls, closes, is_closed, is_finish, is_session}
+use Rattle.flat_watch.specs.Told.{news}
 use Rattle.flat_core.specs.declared.gets.Answered.{Answered}
 use Rattle.flat_core.specs.declared.gets.HeldGet.{HeldGet}
 use Rattle.flat_core.specs.declared.gets.Watched.{Watched}
 use Rattle.flat_core.specs.declared.gets.Watched.TheVariants as watches
 use Rattle.flat_core.specs.Boards.{entry_of}
-use Rattle.flat_core.specs.Ends.{is_done, uses_view, uses_viewport, viewport_uses}
-use Rattle.flat_core.specs.Gets.{watched_by, watcher_for, watched_of, watcher_of_held, held_with, held_by, held_of, helds_of, hears, watchers_of, is_held_in, with_held, news_of, answers_to, last_of, answered_get, held_get, is_get, AreGets, Asks, IsAnswered}
+use Rattle.flat_core.specs.Ends.{uses_view, uses_viewport, viewport_uses}
+use Rattle.flat_core.specs.Gets.{watched_by, watcher_for, watched_of, held_with, held_by, held_of, helds_of, hears, watchers_of, is_held_in, with_held, news_of, answers_to, last_of, held_get, AreGets, Asks, IsAnswered}
 use Rattle.flat_core.specs.Legal.{Legal, MayEnter, answers, got, is_now, number_if, reply_to}
 use Rattle.flat_core.specs.Local.{pair_watched}
 use Rattle.flat_core.specs.Posts.{event_of}
-use Rattle.flat_core.specs.Watch.{Watcher, layout_of, status_of, child_of, watching, told, asked, is_open, listener, same_watcher, watcher_of, watcher_in, watcher_of_made, is_watcher}
+use Rattle.flat_core.specs.Watch.{Watcher, layout_of, status_of, child_of, watching, told, asked, same_watcher, watcher_of, watcher_in, watcher_of_made, is_watcher}
 use Rattle.flat_core.proofs.EventsLocal.{flat-each, flat-none}
 use Rattle.flat_core.proofs.GetHistory.{own-watcher, hears-open, watchers-heard, watchers-more, flat-nested}
 use Rattle.flat_core.proofs.GetLists.{with-more}
 use Rattle.flat_core.proofs.GetOrder.{AreOwn, insert-held, meant-found, same-is, watchers-order}
 use Rattle.flat_core.proofs.GetOwners.{IsMeant, of_layout, of_status, of_child, get-meant, get-open, meant-heard}
 use Rattle.flat_core.proofs.GetSteps.{answers-more, quiet}
-use Rattle.flat_core.proofs.ShownSteps.{closed-before}
 use Rattle.flat_core.proofs.Still.{IsStill, told-same, watching-same}
 use Rattle.flat_core.proofs.ViewHistory.{closes-first}
 use Rattle.flat_core.proofs.Watchers.{after_get, got-one, unasked}

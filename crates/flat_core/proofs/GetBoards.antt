@@ -1,9 +1,8 @@
 -- What the board keeps of gets, of all pairs and all sessions: the steps that its calls make.
-use Rattle.std.proofs.Common.{◌≡◌, ◌≢◌, ◌∙◌, sym, subst, ℕ, zero, suc, ◌+◌, ◌<◌, ◌≤◌, Bool, true, false, List, [], ◌∷◌, ◌++◌, length, replicate, refl, arith, ap, Some, None, slice_set, slice_index_or, inl, inr, ◌⊎◌}
-use Rattle.std.specs.Prelude.{cond, Option, is_some, flat_map, map, option_map, ◌==◌, ◌&&◌, nat_lt}
-use Rattle.std.proofs.lemmas.Bool.Decides.{nat_tests, eqb_tells}
+use Rattle.std.proofs.Common.{◌≡◌, ◌≢◌, ◌∙◌, sym, subst, ℕ, zero, suc, ◌+◌, ◌<◌, true, false, List, [], length, replicate, refl, arith, ap, Some, slice_set, slice_index_or, inl, inr, ◌⊎◌}
+use Rattle.std.specs.Prelude.{Option, option_map, ◌==◌}
+use Rattle.std.proofs.lemmas.Bool.Decides.{eqb_tells}
 use Rattle.std.proofs.lemmas.List.{get_or-set_other, get_or-set_same, length-set}
-use Rattle.flat_base.specs.declared.ids.Actor.{Actor}
 use Rattle.flat_base.specs.declared.ids.Actor.TheVariants.{Session}
 use Rattle.flat_base.specs.declared.ids.PairNo.{PairNo}
 use Rattle.flat_base.specs.declared.ids.SessionNo.{SessionNo}
@@ -15,10 +14,10 @@ use Rattle.flat_scene.specs.declared.journal.Post.{Post}
 use Rattle.flat_scene.specs.declared.journal.Told.{Told}
 use Rattle.flat_scene.specs.declared.setup.Setup.{Setup}
 use Rattle.flat_scene.specs.Setups.{is_declared}
-use Rattle.flat_scene.specs.History.{◌▹◌, is_closed, is_finish, is_session}
+use Rattle.flat_scene.specs.History.{◌▹◌, is_closed, is_finish}
 use Rattle.flat_core.specs.declared.gets.Answered.{Answered}
 use Rattle.flat_core.specs.declared.gets.HeldGet.{HeldGet}
-use Rattle.flat_core.specs.Ends.{is_done, view_owner, viewports_of, views_of}
+use Rattle.flat_core.specs.Ends.{is_done, view_owner}
 use Rattle.flat_core.specs.Gets.{helds_of, held_of, watchers_of, noted_all, started, unanswered, is_get, AllAnswered, AllUpTo, AnsweredUpTo, AreGets, Asks, Changes, IsAnswered, Settles}
 use Rattle.flat_core.specs.Kept.{AllNumbered}
 use Rattle.flat_core.specs.Legal.{Legal, owns_view}
@@ -27,7 +26,6 @@ use Rattle.flat_core.specs.Watch.{Watcher, told, is_open, watcher_of}
 use Rattle.flat_core.proofs.Between.{is_viewport}
 use Rattle.flat_core.proofs.EventsLocal.{flat-nothing}
 use Rattle.flat_core.proofs.GetEnds.{answered-between, answered-refused, answered-apart, answered-shut, answered-foreign, answered-joined, answered-started, answered-aside, answered-asked, upto-first, upto-next, upto-closed, upto-last}
-use Rattle.flat_core.proofs.GetOwners.{get-open}
 
 abbrev pair_at : ℕ → PairNo
 pair_at n = record { 0 = n }

@@ -1,6 +1,6 @@
 -- What the watchers of each pair answered last, entry by entry.
-use Rattle.std.proofs.Common.{◌≡◌, ◌≢◌, ◌∙◌, sym, subst, ℕ, zero, suc, ◌+◌, ◌<◌, ◌≤◌, Bool, true, false, List, [], ◌∷◌, ◌++◌, length, refl, arith, ap, Some, None}
-use Rattle.std.specs.Prelude.{cond, not, Option, is_some, flat_map, option_map, unwrap_or, ◌==◌, ◌&&◌, ◌||◌, nat_lt, nat_le}
+use Rattle.std.proofs.Common.{◌≡◌, ◌≢◌, ◌∙◌, sym, subst, ℕ, ◌+◌, ◌<◌, Bool, true, false, List, [], ◌∷◌, length, refl, arith, ap, Some, None}
+use Rattle.std.specs.Prelude.{cond, Option, is_some, option_map, unwrap_or, ◌==◌, ◌&&◌, ◌||◌, nat_lt, nat_le}
 use Rattle.std.specs.List.{list_all, list_any}
 use Rattle.std.proofs.lemmas.Bool.Decides.{nat_tests}
 use Rattle.flat_base.specs.declared.ids.Actor.{Actor}
@@ -16,16 +16,16 @@ use Rattle.flat_scene.specs.declared.journal.Told.{Told}
 use Rattle.flat_scene.specs.declared.setup.Setup.{Setup}
 use Rattle.flat_scene.specs.History.{◌▹◌, own, closes, is_closed, is_finish, is_session}
 use Rattle.flat_scene.specs.Setups.{is_declared}
-use Rattle.flat_scene.proofs.Together.{and-left, and-right}
-use Rattle.flat_watch.specs.Told.{Watching, or_else, news, answer, answered_by, asking, settled}
+use Rattle.flat_scene.proofs.Together.{and-right}
+use Rattle.flat_watch.specs.Told.{Watching, news, settled}
 use Rattle.flat_core.specs.declared.gets.Answered.{Answered}
 use Rattle.flat_core.specs.declared.gets.HeldGet.{HeldGet}
 use Rattle.flat_core.specs.declared.gets.Watched.{Watched}
 use Rattle.flat_core.specs.Ends.{is_done, uses_viewport, viewport_owner, viewport_uses, view_owner}
-use Rattle.flat_core.specs.Gets.{watched_by, watched_of, held_of, helds_of, hears, watchers_of, last_of, noted_all, answered_get, answering, is_get, reached, started, AnsweredAt, AnsweredUpTo, AreGets, Asks, IsAnswered}
-use Rattle.flat_core.specs.Legal.{Legal, got, is_now, may_act, session_may, owns_view, owns_viewport}
+use Rattle.flat_core.specs.Gets.{watched_by, watched_of, helds_of, hears, watchers_of, last_of, noted_all, answered_get, answering, is_get, reached, started, AnsweredAt, AnsweredUpTo, AreGets, Asks, IsAnswered}
+use Rattle.flat_core.specs.Legal.{Legal, got, may_act, session_may, owns_view}
 use Rattle.flat_core.specs.Local.{pair_watched}
-use Rattle.flat_core.specs.Watch.{Watcher, layout_of, status_of, child_of, watching, told, asked, asked_in, is_open, listener, same_watcher, watcher_of, is_watcher}
+use Rattle.flat_core.specs.Watch.{Watcher, layout_of, status_of, child_of, watching, told, asked, is_open, listener, same_watcher, watcher_of, is_watcher}
 use Rattle.flat_core.proofs.Between.{is_viewport}
 use Rattle.flat_core.proofs.GetAnswers.{Fits, noted-by, uses-answered, uses-kept, last-apart, last-among}
 use Rattle.flat_core.proofs.GetAsked.{Finds, found, no-waits, other-rests, own-asked, same-sym}

@@ -1,6 +1,6 @@
 -- What the watchers of a session hold, and what an entry that asks none of them answers.
-use Rattle.std.proofs.Common.{◌≡◌, ◌≢◌, ◌∙◌, sym, subst, ℕ, zero, suc, ◌+◌, ◌<◌, ◌≤◌, Bool, true, false, List, [], ◌∷◌, ◌++◌, length, map, filter, refl, arith, ap, Some, None, append_assoc, inl, inr, ◌⊎◌}
-use Rattle.std.specs.Prelude.{cond, not, Option, is_some, flat_map, option_and_then, option_map, unwrap_or, ◌==◌, ◌&&◌, nat_lt}
+use Rattle.std.proofs.Common.{◌≡◌, ◌≢◌, ◌∙◌, sym, subst, ℕ, suc, ◌<◌, Bool, true, false, List, [], ◌∷◌, ◌++◌, length, map, filter, refl, arith, ap, Some, None, append_assoc, inl, inr, ◌⊎◌}
+use Rattle.std.specs.Prelude.{cond, not, Option, is_some, flat_map, option_and_then, option_map, unwrap_or, ◌==◌, ◌&&◌}
 use Rattle.std.specs.List.{list_all}
 use Rattle.std.specs.Result.{result_ok}
 use Rattle.std.proofs.lemmas.Bool.Decides.{nat_tests}
@@ -14,24 +14,21 @@ use Rattle.flat_scene.specs.declared.calls.Watch.{Watch}
 use Rattle.flat_scene.specs.declared.calls.Watch.TheVariants as watch
 use Rattle.flat_scene.specs.declared.journal.Entry.{Entry}
 use Rattle.flat_scene.specs.declared.journal.Event.{Event}
-use Rattle.flat_scene.specs.declared.journal.Kind.{Kind}
-use Rattle.flat_scene.specs.declared.journal.Kind.TheVariants.{Get}
 use Rattle.flat_scene.specs.declared.journal.Told.{Told}
 use Rattle.flat_scene.specs.declared.setup.Setup.{Setup}
 use Rattle.flat_scene.specs.Draft.{Draft, Made, an_image, a_fill, a_viewport, made_of}
 use Rattle.flat_scene.specs.Effect.{draft_of}
 use Rattle.flat_scene.specs.History.{◌▹◌, calls, is_closed, is_finish, is_begin, is_session}
-use Rattle.flat_watch.specs.Told.{Watching, answered_by, answer, asking, news, settled}
+use Rattle.flat_watch.specs.Told.{Watching, answered_by, answer, news, settled}
 use Rattle.flat_core.specs.declared.gets.HeldGet.{HeldGet}
 use Rattle.flat_core.specs.Ends.{is_done, uses_viewport, view_owner, viewport_owner, viewport_uses, views_of, viewports_of}
-use Rattle.flat_core.specs.Gets.{watched_by, watcher_for, watcher_of_held, held_with, held_by, held_of, helds_of, hears, watchers_of, news_of, answers_to, still_held}
-use Rattle.flat_core.specs.Legal.{Legal, owns_view, owns_viewport}
+use Rattle.flat_core.specs.Gets.{watched_by, watcher_for, held_with, held_by, held_of, helds_of, hears, watchers_of, news_of, answers_to, still_held}
+use Rattle.flat_core.specs.Legal.{owns_view, owns_viewport}
 use Rattle.flat_core.specs.Local.{pair_watched}
-use Rattle.flat_core.specs.Posts.{told_event, event_of, news_for, events_to, at_finish, at_begin, up_to}
-use Rattle.flat_core.specs.Watch.{Watcher, layout_of, status_of, child_of, watching, told, asked, asked_in, is_open, listener, watcher_of, watcher_in, watcher_of_made, is_watcher, same_watcher}
+use Rattle.flat_core.specs.Posts.{told_event, event_of, events_to, at_finish, at_begin, up_to}
+use Rattle.flat_core.specs.Watch.{Watcher, layout_of, status_of, child_of, watching, told, asked, is_open, listener, watcher_of, watcher_in, watcher_of_made, is_watcher}
 use Rattle.flat_core.proofs.EventsLocal.{flat-each, flat-same, views-owned, viewports-owned}
 use Rattle.flat_core.proofs.ViewHistory.{same-session}
-use Rattle.flat_core.proofs.WatchLocal.{asking-none}
 use Rattle.flat_core.proofs.Watchers.{settled-now, unasked}
 use Rattle.flat_core.proofs.ViewportSteps.{flat-filtered}
 
@@ -159,8 +156,8 @@ module _ (setup : Setup) where
       let third : flat_map t children ≡ flat_map (λ p. flat_map (λ n. told_event setup p (child_of p n) h e) (uses p)) (viewports_of setup s) =
       flat-nested t (λ p. map (child_of p) (uses p)) (viewports_of setup s) ∙ flat-each (λ p. flat_map t (map (child_of p) (uses p))) (λ p. flat_map (λ n. told_event setup p (child_of p n) h e) (uses p)) inner (viewports_of setup s) in
       let whole : flat_map t (watchers_of setup h s)
-          ≡ (flat_map (λ p. told_event setup p (layout_of p) h e) views ++ flat_map (λ p. told_event setup p (status_of p) h e) views
-          ++ flat_map (λ p. flat_map (λ n. told_event setup p (child_of p n) h e) (uses p)) (viewports_of setup s)) =
+      ≡ (flat_map (λ p. told_event setup p (layout_of p) h e) views ++ flat_map (λ p. told_event setup p (status_of p) h e) views
+      ++ flat_map (λ p. flat_map (λ n. told_event setup p (child_of p n) h e) (uses p)) (viewports_of setup s)) =
       flat-append t (map layout_of views ++ map status_of views) children ∙ ap (λ (l : List Event). l ++ flat_map t children) (flat-append t (map layout_of views) (map status_of views))
       ∙ three-same (flat-map t layout_of views) (flat-map t status_of views) third in
       sym whole ∙ flat-each t f (λ w. event-after w h e) (watchers_of setup h s) ∙ sym (flat-nested (λ one. event_of one.pair (Some one.get) (news_of now one)) (held_of setup h) (watchers_of setup h s))

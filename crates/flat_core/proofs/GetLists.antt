@@ -1,8 +1,7 @@
 -- Lists of held gets: places, answers, and what they note.
-use Rattle.std.proofs.Common.{◌≡◌, ◌∙◌, sym, subst, ℕ, ◌+◌, ◌<◌, Bool, true, false, List, [], ◌∷◌, ◌++◌, length, map, filter, refl, arith, ap, Some, None, slice_index_or, add-one, length-append}
-use Rattle.std.specs.Prelude.{cond, not, Option, is_some, flat_map, ◌==◌}
+use Rattle.std.proofs.Common.{◌≡◌, ◌∙◌, sym, subst, ℕ, ◌+◌, ◌<◌, Bool, true, false, List, [], ◌∷◌, ◌++◌, length, map, refl, arith, ap, Some, None, slice_index_or, add-one, length-append}
+use Rattle.std.specs.Prelude.{cond, not, Option, is_some}
 use Rattle.std.specs.List.{insert}
-use Rattle.std.proofs.lemmas.Bool.Decides.{nat_tests}
 use Rattle.std.proofs.lemmas.List.{append-nil, append_assoc, map-append}
 use Rattle.flat_base.specs.declared.ids.PairNo.{PairNo}
 use Rattle.flat_base.specs.declared.ids.SessionNo.{SessionNo}

@@ -1,6 +1,6 @@
 -- The watchers of a session stand in order, so that one more held get has its place among the others.
-use Rattle.std.proofs.Common.{◌≡◌, ◌≢◌, ◌∙◌, sym, subst, ℕ, zero, suc, ◌+◌, ◌<◌, ◌≤◌, Bool, true, false, List, [], ◌∷◌, ◌++◌, length, map, refl, arith, ap, Some, None, inl, inr, ◌⊎◌}
-use Rattle.std.specs.Prelude.{cond, not, Option, flat_map, option_map, unwrap_or, slice_get, ◌==◌, ◌&&◌, ◌||◌, nat_lt, nat_le}
+use Rattle.std.proofs.Common.{◌≡◌, ◌∙◌, sym, subst, ℕ, zero, suc, ◌+◌, ◌<◌, Bool, true, false, List, [], ◌∷◌, ◌++◌, length, map, refl, arith, ap, Some, None, inl, inr, ◌⊎◌}
+use Rattle.std.specs.Prelude.{cond, Option, flat_map, option_map, unwrap_or, slice_get, ◌==◌, ◌&&◌, ◌||◌, nat_lt}
 use Rattle.std.specs.List.{list_all, list_any}
 use Rattle.std.proofs.lemmas.Bool.Decides.{nat_tests}
 use Rattle.std.proofs.lemmas.List.{map-append}
@@ -12,7 +12,7 @@ use Rattle.flat_scene.specs.declared.setup.Setup.{Setup}
 use Rattle.flat_scene.specs.History.{is_session}
 use Rattle.flat_core.specs.declared.gets.HeldGet.{HeldGet}
 use Rattle.flat_core.specs.Ends.{pairs_where, views_of, viewports_of, viewport_uses}
-use Rattle.flat_core.specs.Gets.{rank, use_of, watched_by, watcher_for, comes_before, with_held, watchers_of}
+use Rattle.flat_core.specs.Gets.{rank, use_of, watched_by, comes_before, with_held, watchers_of}
 use Rattle.flat_core.specs.Legal.{owns_view, owns_viewport}
 use Rattle.flat_core.specs.Local.{pair_watched}
 use Rattle.flat_core.specs.Posts.{up_to}
@@ -324,10 +324,10 @@ meant-found setup h s w (of_child q owned some) =
     let block : PairNo → List Watcher = λ p. map (child_of p) (up_to (length (viewport_uses p h))) in
     any-append o views (flat_map block (viewports_of setup s)) ∙ or-right (list_any o views) _
     (any-flat o (λ p. p.0 == q.0) block (λ p is.
-      let number : p.0 ≡ q.0 = grind (arith, nat_tests) in
-      let same : q ≡ p = ap (λ (n : ℕ). let r : PairNo = record { 0 = n } in r) (sym number) in
-      let B : PairNo → Type 0 = λ r. list_any o (block r) ≡ true in
-      subst B same (last-found q (length (viewport_uses q h)) some)) (viewports_of setup s) (viewports-found setup s q owned))
+    let number : p.0 ≡ q.0 = grind (arith, nat_tests) in
+    let same : q ≡ p = ap (λ (n : ℕ). let r : PairNo = record { 0 = n } in r) (sym number) in
+    let B : PairNo → Type 0 = λ r. list_any o (block r) ≡ true in
+    subst B same (last-found q (length (viewport_uses q h)) some)) (viewports_of setup s) (viewports-found setup s q owned))
   where
     last-found : (p : PairNo) (n : ℕ) → 0 < n → list_any (same_watcher (child_of p n)) (map (child_of p) (up_to n)) ≡ true
     last-found p zero some = absurd (omega (arith, some))

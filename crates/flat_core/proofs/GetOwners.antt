@@ -1,30 +1,28 @@
 -- A get is of a watcher of its own session; so others ask nothing of it.
-use Rattle.std.proofs.Common.{◌≡◌, ◌∙◌, sym, subst, ℕ, ◌+◌, ◌-◌, ◌<◌, ◌≤◌, Bool, true, false, List, [], ◌∷◌, ◌++◌, length, map, refl, arith, ap, Some, None, Ok}
-use Rattle.std.specs.Prelude.{cond, not, Option, option_and_then, option_map, unwrap_or, ◌==◌, ◌&&◌}
-use Rattle.std.specs.List.{list_all, list_any}
+use Rattle.std.proofs.Common.{◌≡◌, ◌∙◌, sym, subst, ℕ, ◌+◌, ◌-◌, ◌<◌, Bool, true, false, List, [], ◌∷◌, ◌++◌, length, map, refl, arith, ap, Some, None, Ok}
+use Rattle.std.specs.Prelude.{cond, not, Option, option_and_then, option_map, unwrap_or, ◌==◌}
+use Rattle.std.specs.List.{list_any}
 use Rattle.std.specs.Result.{result_ok}
 use Rattle.std.proofs.lemmas.Bool.Decides.{nat_tests}
 use Rattle.flat_base.specs.declared.ids.Actor.{Actor}
 use Rattle.flat_base.specs.declared.ids.Actor.TheVariants.{Display, Session, Probe}
 use Rattle.flat_base.specs.declared.ids.PairNo.{PairNo}
 use Rattle.flat_base.specs.declared.ids.SessionNo.{SessionNo}
-use Rattle.flat_scene.specs.declared.calls.Call.{Call}
 use Rattle.flat_scene.specs.declared.calls.Watch.{Watch}
 use Rattle.flat_scene.specs.declared.calls.Watch.TheVariants as watch
 use Rattle.flat_scene.specs.declared.journal.Entry.{Entry}
 use Rattle.flat_scene.specs.declared.journal.Kind.{Kind}
 use Rattle.flat_scene.specs.declared.journal.Kind.TheVariants.{Get}
 use Rattle.flat_scene.specs.declared.setup.Setup.{Setup}
-use Rattle.flat_scene.specs.Draft.{Draft, Made, an_image, a_fill, a_viewport, made_of, of_serial, content_of}
+use Rattle.flat_scene.specs.Draft.{Draft, Made, an_image, a_fill, a_viewport, of_serial, content_of}
 use Rattle.flat_scene.specs.Effect.{draft_of}
 use Rattle.flat_scene.specs.History.{◌▹◌, calls, is_closed, is_session}
-use Rattle.flat_core.specs.Ends.{view_owner, viewport_owner, viewport_uses}
+use Rattle.flat_core.specs.Ends.{view_owner, viewport_uses}
 use Rattle.flat_core.specs.Gets.{hears}
 use Rattle.flat_core.specs.Legal.{Legal, MayEnter, is_link, owns_view, owns_viewport}
-use Rattle.flat_core.specs.Lives.{made_of_pair}
 use Rattle.flat_core.specs.Serials.{contents_made, serials_in}
 use Rattle.flat_core.specs.Shown.{is_pair}
-use Rattle.flat_core.specs.Watch.{Watcher, layout_of, status_of, child_of, watching, asked, asked_in, listener, watcher_of, watcher_in, watcher_of_made, is_watcher, same_watcher}
+use Rattle.flat_core.specs.Watch.{Watcher, layout_of, status_of, child_of, asked, listener, watcher_of, watcher_in, watcher_of_made, is_watcher, same_watcher}
 use Rattle.flat_core.proofs.GetHistory.{owner-hears}
 use Rattle.flat_core.proofs.LiveCounts.{made-append}
 use Rattle.flat_core.proofs.Lives.{pair_made}

@@ -1,6 +1,6 @@
 -- What entries post of held gets.
 use Rattle.std.proofs.Common.{◌≡◌, ◌≢◌, ◌∙◌, sym, subst, ℕ, zero, suc, ◌+◌, ◌<◌, ◌≤◌, Bool, true, false, List, [], ◌∷◌, ◌++◌, length, map, filter, refl, arith, ap, Some, None, inl, inr, ◌⊎◌}
-use Rattle.std.specs.Prelude.{cond, Option, is_some, flat_map, option_map, slice_get, unwrap_or, ◌==◌, ◌&&◌, nat_lt, nat_le}
+use Rattle.std.specs.Prelude.{cond, Option, flat_map, option_map, slice_get, unwrap_or, ◌==◌, ◌&&◌, nat_lt, nat_le}
 use Rattle.std.proofs.lemmas.Bool.Decides.{nat_tests}
 use Rattle.std.proofs.lemmas.List.{append-nil}
 use Rattle.std.proofs.lemmas.Option.{slice_get_past}
@@ -8,31 +8,30 @@ use Rattle.flat_base.specs.declared.ids.Actor.{Actor}
 use Rattle.flat_base.specs.declared.ids.Actor.TheVariants.{Display, Session, Probe}
 use Rattle.flat_base.specs.declared.ids.PairNo.{PairNo}
 use Rattle.flat_base.specs.declared.ids.SessionNo.{SessionNo}
-use Rattle.flat_scene.specs.declared.calls.Call.{Call}
 use Rattle.flat_scene.specs.declared.calls.ViewportProps.{ViewportProps}
 use Rattle.flat_scene.specs.declared.calls.Watch.{Watch}
 use Rattle.flat_scene.specs.declared.journal.Entry.{Entry}
 use Rattle.flat_scene.specs.declared.journal.Event.{Event}
 use Rattle.flat_scene.specs.declared.journal.Kind.{Kind}
-use Rattle.flat_scene.specs.declared.journal.Kind.TheVariants.{View, Viewport, Get}
+use Rattle.flat_scene.specs.declared.journal.Kind.TheVariants.{View, Viewport}
 use Rattle.flat_scene.specs.declared.journal.Post.{Post}
 use Rattle.flat_scene.specs.declared.journal.Reply.{Reply}
 use Rattle.flat_scene.specs.declared.journal.Told.{Told}
 use Rattle.flat_scene.specs.declared.setup.PairDecl.{PairDecl}
 use Rattle.flat_scene.specs.declared.setup.Setup.{Setup}
 use Rattle.flat_scene.specs.Frames.{sessions_to, taken}
-use Rattle.flat_scene.specs.History.{◌▹◌, is_begin, is_closed, is_finish, is_session}
+use Rattle.flat_scene.specs.History.{◌▹◌, is_begin, is_closed, is_finish}
 use Rattle.flat_scene.specs.Setups.{is_declared}
 use Rattle.flat_scene.proofs.Together.{and-left}
 use Rattle.flat_core.specs.declared.gets.Answered.{Answered}
 use Rattle.flat_core.specs.declared.gets.HeldGet.{HeldGet}
 use Rattle.flat_core.specs.declared.live.Live.{Live}
 use Rattle.flat_core.specs.declared.live.OutToken.{OutToken}
-use Rattle.flat_core.specs.Begins.{finish_entry, finished, post_of, posts_to}
-use Rattle.flat_core.specs.Ends.{is_done, pair_of, uses_view, view_owner, view_uses, viewport_owner, viewport_uses}
-use Rattle.flat_core.specs.Gets.{answers_to, held_get, helds_of, hears, is_get, AreGets, Asks}
-use Rattle.flat_core.specs.Legal.{Legal, MayEnter, is_frame_open, owns_view, owns_in_call}
-use Rattle.flat_core.specs.Posts.{at_finish, events_to, frame_took, posts}
+use Rattle.flat_core.specs.Begins.{finish_entry, finished, post_of}
+use Rattle.flat_core.specs.Ends.{is_done, pair_of, uses_view, view_owner, view_uses, viewport_uses}
+use Rattle.flat_core.specs.Gets.{answers_to, held_get, helds_of, is_get, Asks, Settles}
+use Rattle.flat_core.specs.Legal.{Legal, MayEnter, is_frame_open, owns_view}
+use Rattle.flat_core.specs.Posts.{events_to, frame_took, posts}
 use Rattle.flat_core.specs.Viewports.{AreViewports, back_events}
 use Rattle.flat_core.specs.Watch.{Watcher, layout_of, status_of, child_of, told}
 use Rattle.flat_core.proofs.BeginLoop.{flat-on}
@@ -40,9 +39,9 @@ use Rattle.flat_core.proofs.Between.{events-joined}
 use Rattle.flat_core.proofs.BoardBegins.{posts-all}
 use Rattle.flat_core.proofs.FinishEvents.{took_event}
 use Rattle.flat_core.proofs.GetAsked.{kept-length}
+use Rattle.flat_core.proofs.GetLists.{answered-or-held}
 use Rattle.flat_core.proofs.GetHistory.{events-finished, events-told}
 use Rattle.flat_core.proofs.GetSteps.{idle-kind, quiet-all, rests-refused}
-use Rattle.flat_core.proofs.ShownSteps.{closed-before}
 use Rattle.flat_core.proofs.ViewportUses.{tokens-finish}
 
 -- ---- one session's posts
@@ -164,6 +163,10 @@ finish-posts setup h line s declared legal going opened live out kept =
     ∙ ap (λ (l : List Event). answers_to (told setup (finished h line)) (helds_of setup h s) ++ (took_event (frame_took setup h s) ++ l)) (tokens-finish setup s declared h legal opened going live out kept)
 
 -- ---- how many
+
+-- those answered and those that wait on are all
+pub settled-all : (now : Watcher → Option Told) (place : ℕ) (s : SessionNo) (held left : List HeldGet) (old new : List Answered) (posts after : List Post) (count : ℕ) → Settles now place s held left old new posts after count → length left + count ≡ length held
+settled-all now place s held left old new posts after count settles = omega (arith, answered-or-held now held, ap (length {A = HeldGet}) settles.waiting, settles.answers.counted)
 
 held-few : (b : Bool) (o : Option Told) (one : HeldGet) (held after : List HeldGet) → after ≡ held_get b o one held → length after ≤ length held + 1
 held-few b o one held after is = omega (arith, ap (length {A = HeldGet}) is, kept-length b o one held)

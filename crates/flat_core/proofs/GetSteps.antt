@@ -1,7 +1,6 @@
 -- The gets of a session after each kind of entry: kept, settled, or one more.
-use Rattle.std.proofs.Common.{◌≡◌, ◌∙◌, sym, subst, ℕ, zero, suc, ◌+◌, ◌-◌, ◌<◌, ◌≤◌, Bool, true, false, List, [], ◌∷◌, ◌++◌, length, map, filter, drop, refl, arith, ap, Some, None, length-append, inl, inr, ◌⊎◌}
-use Rattle.std.specs.Prelude.{cond, not, Option, is_some, flat_map, option_map, unwrap_or, replicate, ◌==◌, ◌&&◌, nat_lt, nat_le}
-use Rattle.std.specs.List.{list_all}
+use Rattle.std.proofs.Common.{◌≡◌, ◌∙◌, sym, subst, ℕ, zero, suc, ◌+◌, ◌-◌, Bool, true, false, List, [], ◌∷◌, ◌++◌, length, filter, drop, refl, arith, ap, Some, None}
+use Rattle.std.specs.Prelude.{cond, Option, flat_map, option_map, unwrap_or, replicate, ◌==◌, ◌&&◌, nat_lt, nat_le}
 use Rattle.std.proofs.lemmas.Bool.Decides.{nat_tests}
 use Rattle.std.proofs.lemmas.List.{append-nil}
 use Rattle.std.proofs.lemmas.List.Elements.{filter-append}
@@ -9,7 +8,6 @@ use Rattle.flat_base.specs.declared.ids.Actor.{Actor}
 use Rattle.flat_base.specs.declared.ids.Actor.TheVariants.{Display, Session, Probe}
 use Rattle.flat_base.specs.declared.ids.PairNo.{PairNo}
 use Rattle.flat_base.specs.declared.ids.SessionNo.{SessionNo}
-use Rattle.flat_scene.specs.declared.calls.Call.{Call}
 use Rattle.flat_scene.specs.declared.calls.ViewportProps.{ViewportProps}
 use Rattle.flat_scene.specs.declared.calls.Watch.{Watch}
 use Rattle.flat_scene.specs.declared.journal.Entry.{Entry}
@@ -25,19 +23,18 @@ use Rattle.flat_scene.specs.declared.setup.Setup.{Setup}
 use Rattle.flat_scene.specs.Frames.{credits}
 use Rattle.flat_scene.proofs.Together.{and-left, and-right}
 use Rattle.flat_scene.specs.History.{◌▹◌, own, is_closed, is_finish, is_begin, is_session}
-use Rattle.flat_watch.specs.Told.{Watching, answered_by, answer, asking, news, settled}
+use Rattle.flat_watch.specs.Told.{Watching, answer, settled}
 use Rattle.flat_core.specs.declared.gets.Answered.{Answered}
 use Rattle.flat_core.specs.declared.gets.HeldGet.{HeldGet}
-use Rattle.flat_core.specs.declared.gets.Watched.{Watched}
-use Rattle.flat_core.specs.Ends.{is_done, to_begin, view_owner, uses_view, uses_viewport, view_uses, viewport_uses, views_of, viewports_of}
-use Rattle.flat_core.specs.Gets.{watched_by, watcher_for, watcher_of_held, held_with, held_by, held_of, helds_of, hears, watchers_of, news_of, answers_to, still_held, AreGets, Answers, Settles, is_get}
-use Rattle.flat_core.specs.Legal.{Legal, LegalEntry, answers, asked_of, got, has_token, is_now, is_told, number_if, owns_view, refused_token, reply_to, reply_to_present, sent_to, value_of}
+use Rattle.flat_core.specs.Ends.{is_done, to_begin, view_owner, uses_view, uses_viewport, view_uses, viewports_of}
+use Rattle.flat_core.specs.Gets.{held_of, helds_of, hears, watchers_of, news_of, answers_to, still_held, AreGets, Settles, is_get}
+use Rattle.flat_core.specs.Legal.{Legal, answers, asked_of, has_token, is_now, is_told, number_if, owns_view, refused_token, reply_to, reply_to_present, value_of}
 use Rattle.flat_core.specs.Local.{pair_watched}
-use Rattle.flat_core.specs.Posts.{releases_seen, told_event, event_of, news_for, events_to, at_finish, at_begin, frame_took, tokens_back, up_to}
-use Rattle.flat_core.specs.Watch.{Watcher, layout_of, status_of, child_of, watching, told, asked, asked_in, is_open, listener, same_watcher, watcher_of}
+use Rattle.flat_core.specs.Posts.{releases_seen, event_of, events_to, at_finish, at_begin, frame_took, tokens_back}
+use Rattle.flat_core.specs.Watch.{Watcher, layout_of, status_of, child_of, watching, told, asked, asked_in, is_open, listener, same_watcher}
 use Rattle.flat_core.proofs.Between.{is_viewport}
-use Rattle.flat_core.proofs.EventsLocal.{rest-none, flat-none, flat-same}
-use Rattle.flat_core.proofs.GetHistory.{event-after, events-told, helds-kept, helds-settled, hears-open, told-part, watchers-heard, flat-nested}
+use Rattle.flat_core.proofs.EventsLocal.{rest-none, flat-none}
+use Rattle.flat_core.proofs.GetHistory.{event-after, helds-kept, helds-settled, hears-open, told-part, watchers-heard, flat-nested}
 use Rattle.flat_core.proofs.GetLists.{answered-or-held}
 use Rattle.flat_core.proofs.GetOwners.{others-unasked}
 use Rattle.flat_core.proofs.ShownSteps.{closed-before}

@@ -18,6 +18,7 @@ pub mod GetAnswers
 pub mod GetAsked
 pub mod GetBoards
 pub mod GetEnds
+pub mod GetExamples
 pub mod GetHistory
 pub mod GetLists
 pub mod GetOrder

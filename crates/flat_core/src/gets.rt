@@ -373,13 +373,11 @@ impl Gets {
         answered: &mut [Answered],
         log: &mut Log,
     ) -> usize
-        requires stands { (setup : Setup) × ((history : List Entry) × T.stands tells.now setup history) }
         requires place { length log.old.history < 2 ^ 32 }
         requires room { length self.old.held.items ≤ log.old.post_room }
         requires few { self.old.answers + length self.old.held.items < 2 ^ 32 }
         ensures settles { (setup : Setup) (history : List Entry) → T.stands tells.now setup history → Settles (told setup history) (length log.old.history) s self.old.held.items self.new.held.items answered.old answered.new log.old.posts log.new.posts result }
         ensures answers { self.new.answers ≡ self.old.answers + result }
-        ensures due { length self.new.held.items + result ≡ length self.old.held.items }
         ensures history { log.new.history ≡ log.old.history }
         ensures room { log.new.room ≡ log.old.room }
         ensures post_room { log.new.post_room + result ≡ log.old.post_room }

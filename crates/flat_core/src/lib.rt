@@ -9,6 +9,8 @@ mod board;
 mod clock;
 mod dones;
 mod ends;
+#[cfg(test)]
+mod get_tests;
 mod gets;
 mod laws;
 mod live;

@@ -1,5 +1,3 @@
-use Rattle.flat_core.proofs.GetBoards.{all-new}
-use Rattle.flat_core.proofs.GetPosts.{uses-few}
 use Rattle.flat_core.proofs.gets.told_of.Goals as goal
 
 pub returns-in-Child : goal.returns-in-Child

@@ -1,4 +1,4 @@
-use Rattle.std.proofs.Common.{◌≡◌, ◌∙◌, sym, ℕ, List, None, ap}
+use Rattle.std.proofs.Common.{◌≡◌, ◌∙◌, sym, ℕ, List, ap}
 use Rattle.std.specs.List.{insert}
 use Rattle.std.specs.Prelude.{is_ok, length, vec_len}
 use Rattle.flat_core.specs.declared.gets.HeldGet.{HeldGet}
