@@ -245,7 +245,7 @@ pub no-waits : (o : Option Watch) → is_some o ≡ false → o ≡ None
 no-waits None is = refl
 no-waits (Some get) is = cc
 
-kept-length : (b : Bool) (o : Option Told) (one : HeldGet) (held : List HeldGet) → length (held_get b o one held) + number_if (is_now (got b o)) ≤ length held + 1
+pub kept-length : (b : Bool) (o : Option Told) (one : HeldGet) (held : List HeldGet) → length (held_get b o one held) + number_if (is_now (got b o)) ≤ length held + 1
 kept-length true o one held = omega arith
 kept-length false (Some value) one held = omega arith
 kept-length false None one held = omega (arith, with-more one held)

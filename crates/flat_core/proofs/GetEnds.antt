@@ -22,7 +22,7 @@ use Rattle.flat_core.specs.declared.gets.Answered.{Answered}
 use Rattle.flat_core.specs.declared.gets.HeldGet.{HeldGet}
 use Rattle.flat_core.specs.declared.gets.Watched.{Watched}
 use Rattle.flat_core.specs.Ends.{is_done, uses_viewport, viewport_owner, viewport_uses, view_owner}
-use Rattle.flat_core.specs.Gets.{watched_by, watched_of, helds_of, hears, watchers_of, last_of, noted_all, answered_get, answering, is_get, reached, AnsweredAt, AnsweredUpTo, AreGets, Asks, IsAnswered}
+use Rattle.flat_core.specs.Gets.{watched_by, watched_of, helds_of, hears, watchers_of, last_of, noted_all, answered_get, answering, is_get, reached, started, AnsweredAt, AnsweredUpTo, AreGets, Asks, IsAnswered}
 use Rattle.flat_core.specs.Legal.{Legal, got, may_act, session_may, owns_view}
 use Rattle.flat_core.specs.Local.{pair_watched}
 use Rattle.flat_core.specs.Watch.{Watcher, layout_of, status_of, child_of, watching, told, asked, is_open, listener, same_watcher, watcher_of, is_watcher}
@@ -153,6 +153,25 @@ module _ (setup : Setup) (h : List Entry) (e : Entry) (legal : Legal setup (h �
 
 -- ---- watchers that rest
 
+-- a session that isn't declared waits for nothing
+pub undeclared-waits : (setup : Setup) (k : List Entry) → Legal setup k → (t : SessionNo) → is_declared setup t ≡ false → (w : Watcher) → hears setup t w ≡ true → (watching setup w k).waits ≡ None
+undeclared-waits setup [] whole t out w heard = refl
+undeclared-waits setup (k ▹ x) whole t out w heard =
+    let before : (watching setup w k).waits ≡ None = undeclared-waits setup k whole.0 t out w heard in
+    ap (λ (v : Watching). v.waits) (unheld-stays setup w k x before (others-unasked setup k x whole t (other x.actor whole.1.may.acts) w heard)) ∙ before
+  where
+    other : (who : Actor) → may_act setup x.kind who ≡ true → is_session t who ≡ false
+    other Display acts = refl
+    other (Probe n) acts = refl
+    other (Session u) acts = by_same (u.0 == t.0) refl
+      where
+        by_same : (b : Bool) → (u.0 == t.0) ≡ b → b ≡ false
+        by_same false differ = refl
+        by_same true same =
+            let number : u.0 ≡ t.0 = grind (arith, nat_tests) in
+            let declared : is_declared setup u ≡ true = and-right (session_may x.kind) (is_declared setup u) acts in
+            sym declared ∙ ap (λ (n : ℕ). nat_lt 0 n && nat_le n setup.sessions) number ∙ out
+
 -- a watcher whose session doesn't listen rests
 pub rests-shut : (setup : Setup) (h : List Entry) (e : Entry) (w : Watcher) → is_open setup (listener setup w) (h ▹ e) ≡ false → asked setup w h e ≡ None → watching setup w (h ▹ e) ≡ watching setup w h
 rests-shut setup h e w shut idle = settled-now setup w h e idle ∙ ap (λ (b : Bool). settled b (told setup (h ▹ e) w) (watching setup w h)) shut
@@ -204,10 +223,6 @@ module _ (setup : Setup) (h : List Entry) (e : Entry) (legal : Legal setup (h �
 
   -- ---- a viewport end is used
 
-  -- its child is that of the new use
-  abbrev pub started : Answered → Answered
-  started a = record a { child = None; uses = a.uses + 1 }
-
   apart-view : (q p : PairNo) → (p.0 == q.0) ≡ false → (w : Watcher) → pair_watched w ≡ p → (same_watcher w (layout_of q) ≡ false) × (same_watcher w (status_of q) ≡ false)
   apart-view q p other (layout_of r) of = (ap (λ (x : PairNo). x.0 == q.0) of ∙ other, refl)
   apart-view q p other (status_of r) of = (refl, ap (λ (x : PairNo). x.0 == q.0) of ∙ other)
@@ -230,18 +245,33 @@ module _ (setup : Setup) (h : List Entry) (e : Entry) (legal : Legal setup (h �
   answered-apart q props kind p other a is = rested setup h (h ▹ e) p a is (λ w of. same-last _ _ (rests-joined setup h e legal q props kind w (apart-view q p other w of))) (other-uses q props kind p other)
 
   -- and this one has a new use
-  pub answered-shut : (q : PairNo) (props : ViewportProps) → e.kind ≡ Viewport q props → is_done e.reply ≡ true → is_open setup (option_map Session (view_owner setup q)) (h ▹ e) ≡ false → (a : Answered) → IsAnswered setup h q a → IsAnswered setup (h ▹ e) q (started a)
-  answered-shut q props kind done shut a is =
-      let k : IsUse q e.kind = use-kind q props kind in
+  pub answered-alone : (q : PairNo) (props : ViewportProps) → e.kind ≡ Viewport q props → is_done e.reply ≡ true → (watching setup (layout_of q) (h ▹ e) ≡ watching setup (layout_of q) h) × (watching setup (status_of q) (h ▹ e) ≡ watching setup (status_of q) h)
+      → (a : Answered) → IsAnswered setup h q a → IsAnswered setup (h ▹ e) q (started a)
+  answered-alone q props kind done rests a is =
       let past : length (viewport_uses q h) < a.uses + 1 = omega (arith, is.uses) in
       record {
         last = record {
-          layout = is.last.layout ∙ sym (ap (λ (w : Watching). w.last) (rests-shut setup h e (layout_of q) shut (idle-kind setup h e k.0 (layout_of q))));
-          status = is.last.status ∙ sym (ap (λ (w : Watching). w.last) (rests-shut setup h e (status_of q) shut (idle-kind setup h e k.0 (status_of q))));
+          layout = is.last.layout ∙ sym (ap (λ (w : Watching). w.last) rests.0);
+          status = is.last.status ∙ sym (ap (λ (w : Watching). w.last) rests.1);
           child = sym (ap (λ (w : Watching). w.last) (next-fresh setup q (a.uses + 1) h e past (fresh-use setup q (a.uses + 1) h past)));
         };
         uses = omega (arith, is.uses, new-use q props kind done);
       }
+
+  pub answered-shut : (q : PairNo) (props : ViewportProps) → e.kind ≡ Viewport q props → is_done e.reply ≡ true → is_open setup (option_map Session (view_owner setup q)) (h ▹ e) ≡ false → (a : Answered) → IsAnswered setup h q a → IsAnswered setup (h ▹ e) q (started a)
+  answered-shut q props kind done shut a is =
+      let k : IsUse q e.kind = use-kind q props kind in
+      answered-alone q props kind done (rests-shut setup h e (layout_of q) shut (idle-kind setup h e k.0 (layout_of q)), rests-shut setup h e (status_of q) shut (idle-kind setup h e k.0 (status_of q))) a is
+
+  -- the owner of its view isn't declared
+  pub answered-foreign : (t : SessionNo) → is_declared setup t ≡ false → (q : PairNo) (props : ViewportProps) → e.kind ≡ Viewport q props → is_done e.reply ≡ true → owns_view setup t q ≡ true → (a : Answered) → IsAnswered setup h q a → IsAnswered setup (h ▹ e) q (started a)
+  answered-foreign t out q props kind done owned a is =
+      let k : IsUse q e.kind = use-kind q props kind in
+      let heard : hears setup t (layout_of q) ≡ true = owner-hears t (view_owner setup q) owned in
+      answered-alone q props kind done (
+        unheld-stays setup (layout_of q) h e (undeclared-waits setup h legal.0 t out (layout_of q) heard) (idle-kind setup h e k.0 (layout_of q)),
+        unheld-stays setup (status_of q) h e (undeclared-waits setup h legal.0 t out (status_of q) heard) (idle-kind setup h e k.0 (status_of q)),
+      ) a is
 
   -- where it is open, and its held gets were answered
   pub answered-joined : (t : SessionNo) → is_closed t (h ▹ e) ≡ false → (q : PairNo) (props : ViewportProps) → e.kind ≡ Viewport q props → (p : PairNo) → (p.0 == q.0) ≡ false → (a : Answered) → IsAnswered setup h p a
@@ -481,24 +511,6 @@ module _ (setup : Setup) (h : List Entry) (e : Entry) (legal : Legal setup (h �
   }
 
   -- after the last one all are told
-  undeclared-waits : (k : List Entry) → Legal setup k → (t : SessionNo) → is_declared setup t ≡ false → (w : Watcher) → hears setup t w ≡ true → (watching setup w k).waits ≡ None
-  undeclared-waits [] whole t out w heard = refl
-  undeclared-waits (k ▹ x) whole t out w heard =
-      let before : (watching setup w k).waits ≡ None = undeclared-waits k whole.0 t out w heard in
-      ap (λ (v : Watching). v.waits) (unheld-stays setup w k x before (others-unasked setup k x whole t (other x.actor whole.1.may.acts) w heard)) ∙ before
-    where
-      other : (who : Actor) → may_act setup x.kind who ≡ true → is_session t who ≡ false
-      other Display acts = refl
-      other (Probe n) acts = refl
-      other (Session u) acts = by_same (u.0 == t.0) refl
-        where
-          by_same : (b : Bool) → (u.0 == t.0) ≡ b → b ≡ false
-          by_same false differ = refl
-          by_same true same =
-              let number : u.0 ≡ t.0 = grind (arith, nat_tests) in
-              let declared : is_declared setup u ≡ true = and-right (session_may x.kind) (is_declared setup u) acts in
-              sym declared ∙ ap (λ (n : ℕ). nat_lt 0 n && nat_le n setup.sessions) number ∙ out
-
   last-same : (w : Watcher) → (o : Option Actor) → listener setup w ≡ o → last_told setup w (reached setup.sessions o (h ▹ e) h) ≡ last_told setup w (h ▹ e)
   last-same w None of = sym (same-last _ _ (rests-shut setup h e w (ap (λ (o : Option Actor). is_open setup o (h ▹ e)) of) (idle-kind setup h e no_get w)))
   last-same w (Some Display) of = sym (same-last _ _ (rests-shut setup h e w (ap (λ (o : Option Actor). is_open setup o (h ▹ e)) of) (idle-kind setup h e no_get w)))
@@ -510,7 +522,7 @@ module _ (setup : Setup) (h : List Entry) (e : Entry) (legal : Legal setup (h �
       by_declared false out =
           let itself : (t.0 == t.0) ≡ true = grind (arith, nat_tests) in
           let heard : hears setup t w ≡ true = ap (λ (o : Option Actor). unwrap_or (option_map (is_session t) o) false) of ∙ itself in
-          sym (same-last _ _ (unheld-stays setup w h e (undeclared-waits h legal.0 t out w heard) (idle-kind setup h e no_get w)))
+          sym (same-last _ _ (unheld-stays setup w h e (undeclared-waits setup h legal.0 t out w heard) (idle-kind setup h e no_get w)))
 
   pub upto-last : is_viewport e.kind ≡ false → (p : PairNo) (a : Answered) → AnsweredUpTo setup setup.sessions (h ▹ e) h p a → IsAnswered setup (h ▹ e) p a
   upto-last no_viewport p a its = record {

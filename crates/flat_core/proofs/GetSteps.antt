@@ -122,7 +122,7 @@ module _ (setup : Setup) where
       let settles : settled true (told setup (h ▹ e) w) v ≡ v = ap (λ (b : Bool). settled b (told setup (h ▹ e) w) v) (sym listens) ∙ sym (settled-now setup w h e idle) ∙ rests in
       sym (event-after setup w h e) ∙ rest-none (pair_watched w) (answer (told setup (h ▹ e) w) v) v settles
 
-  quiet-all : (h : List Entry) (e : Entry) (s : SessionNo) → is_closed s (h ▹ e) ≡ false → ((w : Watcher) → hears setup s w ≡ true → (asked setup w h e ≡ None) × (watching setup w (h ▹ e) ≡ watching setup w h))
+  pub quiet-all : (h : List Entry) (e : Entry) (s : SessionNo) → is_closed s (h ▹ e) ≡ false → ((w : Watcher) → hears setup s w ≡ true → (asked setup w h e ≡ None) × (watching setup w (h ▹ e) ≡ watching setup w h))
       → answers_to (told setup (h ▹ e)) (helds_of setup h s) ≡ []
   quiet-all h e s opened rests =
       let now : Watcher → Option Told = told setup (h ▹ e) in

@@ -21,11 +21,14 @@ pub mod FrameSees
 pub mod FramesLocal
 pub mod GetAnswers
 pub mod GetAsked
+pub mod GetBoards
 pub mod GetEnds
+pub mod GetExamples
 pub mod GetHistory
 pub mod GetLists
 pub mod GetOrder
 pub mod GetOwners
+pub mod GetPosts
 pub mod GetSteps
 pub mod HasView
 pub mod JoinedLocal

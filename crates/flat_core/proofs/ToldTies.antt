@@ -25,7 +25,8 @@ use Rattle.flat_core.specs.Legal.{Legal}
 use Rattle.flat_core.specs.Shown.{is_pair, shown_view, tree_of}
 use Rattle.flat_core.specs.Stamps.{is_seen}
 use Rattle.flat_core.specs.Views.{child_by, status_by}
-use Rattle.flat_core.specs.Watch.{are_joined, child_of, or_else, props_seen, props_told, status_of, told}
+use Rattle.flat_core.specs.Watch.{are_joined, child_of, props_seen, props_told, status_of, told}
+use Rattle.flat_watch.specs.Told.{or_else}
 use Rattle.flat_core.proofs.Earlier.{finished-earlier, legal-earlier}
 use Rattle.flat_core.proofs.NewTies.{nothing}
 use Rattle.flat_core.proofs.PairTold.{child-told, status-told, view-lost, viewport-lost}

@@ -102,11 +102,19 @@ still_held now = filter (λ one. not (is_some (news_of now one)))
 
 -- ---- what was answered last
 
+-- nothing was
+abbrev pub unanswered : Answered
+unanswered = record { layout = None; status = None; child = None; uses = 0 }
+
 -- it is of a pair with this value answered; a child's, if it is that of the last use
 abbrev pub answering : Watched → Told → Answered → Answered
 answering watches.Layout value a = record a { layout = Some value }
 answering watches.Status value a = record a { status = Some value }
 answering (watches.Child n) value a = cond (n == a.uses) (record a { child = Some value }) a
+
+-- its viewport end is used anew, and nothing was asked of the new child
+abbrev pub started : Answered → Answered
+started a = record a { child = None; uses = a.uses + 1 }
 
 -- the value that was answered last of this
 abbrev pub last_of : Watched → Answered → Option Told

@@ -1,8 +1,8 @@
-ghost use Rattle.std.specs.Prelude.{◌≡◌, ℕ, ◌+◌, ◌<◌, ◌≤◌, ◌^◌, ◌==◌, Some, None, true, false, [], ◌∷◌, ◌++◌, length, slice_index_or, vec_capacity, OnOk, List};
+ghost use Rattle.std.specs.Prelude.{◌≡◌, ℕ, ◌+◌, ◌<◌, ◌≤◌, ◌^◌, ◌==◌, Some, None, true, false, [], ◌∷◌, ◌++◌, length, slice_index_or, vec_capacity, replicate, IfOk, OnOk, List};
 ghost use Rattle.flat_scene.specs.declared.journal.Entry.{Entry};
 ghost use Rattle.flat_scene.specs.declared.setup.Setup.{Setup};
 ghost use Rattle.flat_watch.specs.Told.{news};
-ghost use Rattle.flat_core.specs.Gets.{watched_of, rank, use_of, comes_before, watcher_of_held, watcher_for, is_held_in, with_held, place_in, news_of, still_held, answers_to, answering, last_of, noted_one, Changes, Answers, Settles, Asks};
+ghost use Rattle.flat_core.specs.Gets.{watched_of, rank, use_of, comes_before, watcher_of_held, watcher_for, is_held_in, with_held, place_in, news_of, still_held, answers_to, answering, last_of, noted_one, started, unanswered, Changes, Answers, Settles, Asks};
 ghost use Rattle.flat_core.specs.Watch.{layout_of, status_of, child_of, told, same_watcher};
 
 use crate::log::Log;
@@ -149,7 +149,7 @@ impl HeldGet {
 impl Answered {
     /// Nothing was answered.
     pub fn new() -> Answered
-        ensures { result ≡ record { layout = None; status = None; child = None; uses = 0 } }
+        ensures { result ≡ unanswered }
     {
         Answered {
             layout: None,
@@ -188,11 +188,19 @@ impl Answered {
     /// The viewport end is used anew. Nothing was asked of its child yet.
     pub fn start_use(&mut self)
         requires { self.old.uses + 1 < 2 ^ 32 }
-        ensures { self.new ≡ record self.old { child = None; uses = self.old.uses + 1 } }
+        ensures { self.new ≡ started self.old }
     {
         self.child = None;
         self.uses += 1;
     }
+}
+
+/// For so many pairs, of which nothing was answered.
+pub fn new_answers(alloc: Global, pairs: usize) -> Result<Vec<Answered>, NoMemory>
+    ensures { IfOk result (λ answered. answered.items ≡ replicate pairs unanswered) }
+{
+    let answered = Vec::from_elem(alloc, Answered::new(), pairs)?;
+    Ok(answered)
 }
 
 /// A held get is answered by this value.
@@ -365,13 +373,11 @@ impl Gets {
         answered: &mut [Answered],
         log: &mut Log,
     ) -> usize
-        requires stands { (setup : Setup) × ((history : List Entry) × T.stands tells.now setup history) }
         requires place { length log.old.history < 2 ^ 32 }
         requires room { length self.old.held.items ≤ log.old.post_room }
         requires few { self.old.answers + length self.old.held.items < 2 ^ 32 }
         ensures settles { (setup : Setup) (history : List Entry) → T.stands tells.now setup history → Settles (told setup history) (length log.old.history) s self.old.held.items self.new.held.items answered.old answered.new log.old.posts log.new.posts result }
         ensures answers { self.new.answers ≡ self.old.answers + result }
-        ensures due { length self.new.held.items + result ≡ length self.old.held.items }
         ensures history { log.new.history ≡ log.old.history }
         ensures room { log.new.room ≡ log.old.room }
         ensures post_room { log.new.post_room + result ≡ log.old.post_room }

@@ -11,6 +11,8 @@ mod clock;
 mod dones;
 mod ends;
 mod following;
+#[cfg(test)]
+mod get_tests;
 mod gets;
 mod laws;
 mod live;
