@@ -37,7 +37,7 @@ use Rattle.flat_core.specs.Watch.{Watcher, layout_of, status_of, child_of, told}
 use Rattle.flat_core.proofs.BeginLoop.{flat-on}
 use Rattle.flat_core.proofs.Between.{events-joined}
 use Rattle.flat_core.proofs.BoardBegins.{posts-all}
-use Rattle.flat_core.proofs.FinishEvents.{took_event}
+use Rattle.flat_core.specs.Begins.{took_event}
 use Rattle.flat_core.proofs.GetAsked.{kept-length}
 use Rattle.flat_core.proofs.GetLists.{answered-or-held}
 use Rattle.flat_core.proofs.GetHistory.{events-finished, events-told}

@@ -79,6 +79,7 @@ pub mod StampSteps
 pub mod Stamped
 pub mod Steps
 pub mod Still
+pub mod TellingSteps
 pub mod TiedOwn
 pub mod TiesBegin
 pub mod TiesFinish

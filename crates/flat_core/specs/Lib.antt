@@ -25,3 +25,4 @@ pub mod Usage
 pub mod Viewports
 pub mod Views
 pub mod Watch
+pub mod Watchers

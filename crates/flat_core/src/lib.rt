@@ -28,6 +28,7 @@ mod told;
 mod usage;
 mod viewports;
 mod views;
+mod watching;
 
 ghost use Rattle.flat_core.specs.Laws.{CreditsAddUp};
 

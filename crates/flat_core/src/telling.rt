@@ -1,3 +1,4 @@
+ghost use Rattle.flat_core.specs.Watchers.{IsTelling};
 ghost use Rattle.std.specs.Prelude.{◌≡◌, ℕ, ◌<◌, ◌||◌, ◌&&◌, List, length, nat_lt};
 ghost use Rattle.flat_scene.specs.declared.setup.Setup.{Setup};
 ghost use Rattle.flat_scene.specs.declared.journal.Entry.{Entry};
@@ -10,7 +11,9 @@ ghost use Rattle.flat_watch.specs.Told.{or_else};
 ghost use Rattle.flat_core.specs.Watch.{are_joined, props_told, told, layout_of, status_of, child_of};
 ghost use Rattle.flat_core.specs.Ends.{viewport_owner};
 
+use crate::ends::EndSet;
 use crate::following::Glimpse;
+use crate::gets::Tells;
 use crate::ties::{NOTHING, Ties};
 use crate::told::{child_by, is_seen, layout_by, status_by};
 use flat_base::{Actor, PairNo, SessionNo};
@@ -59,7 +62,7 @@ impl Ties {
     /// Whether the viewport end of a pair is lost for its view.
     fn is_viewport_lost(&self, setup: &Setup, p: PairNo) -> bool
         requires known { p.0 < length setup.now.pairs }
-        requires count { length self.now.pairs.items ≡ length setup.now.pairs }
+        requires kept { p.0 < length self.now.pairs.items }
         ensures { (h : List Entry) → AreTied setup.now h self.now.followings.items self.now.pairs.items → Legal setup.now h → result ≡ is_viewport_lost setup.now (to_finished h) p }
     {
         match setup.pairs.at(p.0 as usize).viewport {
@@ -71,7 +74,7 @@ impl Ties {
     /// Whether both ends were used, where it is known of the view end.
     fn are_joined(&self, setup: &Setup, p: PairNo, is_viewed: bool) -> bool
         requires known { p.0 < length setup.now.pairs }
-        requires count { length self.now.pairs.items ≡ length setup.now.pairs }
+        requires kept { p.0 < length self.now.pairs.items }
         ensures { (h : List Entry) → AreTied setup.now h self.now.followings.items self.now.pairs.items → is_viewed ≡ nat_lt 0 (length (view_uses p h)) → result ≡ are_joined setup.now h p }
     {
         is_viewed
@@ -84,7 +87,7 @@ impl Ties {
     /// The properties of the viewport that the last use made.
     fn props(&self, setup: &Setup, p: PairNo) -> Option<ViewportProps>
         requires known { p.0 < length setup.now.pairs }
-        requires count { length self.now.pairs.items ≡ length setup.now.pairs }
+        requires kept { p.0 < length self.now.pairs.items }
         ensures { (h : List Entry) → AreTied setup.now h self.now.followings.items self.now.pairs.items → result ≡ props_told setup.now (viewport_owner setup.now p) h p }
     {
         match setup.pairs.at(p.0 as usize).viewport {
@@ -109,7 +112,7 @@ impl Ties {
     /// The layout of a pair's view, where it is known whether its view end was used.
     pub fn layout(&self, setup: &Setup, p: PairNo, is_viewed: bool) -> Option<Told>
         requires known { p.0 < length setup.now.pairs }
-        requires count { length self.now.pairs.items ≡ length setup.now.pairs }
+        requires kept { p.0 < length self.now.pairs.items }
         ensures { (h : List Entry) → AreTied setup.now h self.now.followings.items self.now.pairs.items → Legal setup.now h → is_viewed ≡ nat_lt 0 (length (view_uses p h)) → result ≡ told setup.now h (layout_of p) }
     {
         layout_by(
@@ -122,7 +125,7 @@ impl Ties {
     /// The status of a pair's view, where it is known whether its view end was used.
     pub fn status(&self, setup: &Setup, p: PairNo, is_viewed: bool) -> Option<Told>
         requires known { p.0 < length setup.now.pairs }
-        requires count { length self.now.pairs.items ≡ length setup.now.pairs }
+        requires kept { p.0 < length self.now.pairs.items }
         ensures { (h : List Entry) → AreTied setup.now h self.now.followings.items self.now.pairs.items → Legal setup.now h → is_viewed ≡ nat_lt 0 (length (view_uses p h)) → result ≡ told setup.now h (status_of p) }
     {
         let owner = self.last_sight(setup.pairs.at(p.0 as usize).view);
@@ -136,7 +139,7 @@ impl Ties {
     /// Whether the child of a pair's viewports has presented; the same for each use.
     pub fn child(&self, setup: &Setup, p: PairNo) -> Option<Told>
         requires known { p.0 < length setup.now.pairs }
-        requires count { length self.now.pairs.items ≡ length setup.now.pairs }
+        requires kept { p.0 < length self.now.pairs.items }
         ensures { (h : List Entry) (n : ℕ) → AreTied setup.now h self.now.followings.items self.now.pairs.items → Legal setup.now h → result ≡ told setup.now h (child_of p n) }
     {
         let owner = self.last_sight(setup.pairs.at(p.0 as usize).view);
@@ -144,5 +147,51 @@ impl Ties {
             is_lost(owner, self.pairs[p.0 as usize].ended),
             is_pair(owner.view, p),
         )
+    }
+}
+
+/// What pairs tell, by what is kept.
+pub struct Telling<'a> {
+    pub setup: &'a Setup,
+    pub ties: &'a Ties,
+    /// The view ends that were used.
+    pub views: &'a EndSet,
+}
+
+impl Telling<'_> {
+    /// Whether a pair is one of those that are declared.
+    fn knows(&self, p: PairNo) -> bool
+        ensures { result ≡ (nat_lt p.0 (length self.now.setup.now.pairs) && nat_lt p.0 (length self.now.ties.now.pairs.items)) }
+    {
+        let place = p.0 as usize;
+        place < self.setup.pairs.len() && place < self.ties.pairs.len()
+    }
+}
+
+impl Tells for Telling<'_> {
+    ghost stands = { λ telling setup history. IsTelling telling.setup.now telling.ties.now telling.views.now setup history };
+
+    fn layout(&self, p: PairNo) -> Option<Told> {
+        if self.knows(p) {
+            self.ties.layout(self.setup, p, self.views.is_used(p))
+        } else {
+            None
+        }
+    }
+
+    fn status(&self, p: PairNo) -> Option<Told> {
+        if self.knows(p) {
+            self.ties.status(self.setup, p, self.views.is_used(p))
+        } else {
+            None
+        }
+    }
+
+    fn child(&self, p: PairNo) -> Option<Told> {
+        if self.knows(p) {
+            self.ties.child(self.setup, p)
+        } else {
+            None
+        }
     }
 }
