@@ -23,8 +23,5 @@ own-none setup s undeclared (h ▹ e) legal = by_actor (own-none setup s undecla
         let acts : may_act setup e.kind (Session s) ≡ true = ap (may_act setup e.kind) (sym (same-session s e.actor mine)) ∙ legal.1.may.acts in
         let wrong : true ≡ false = sym (and-right (session_may e.kind) (is_declared setup s) acts) ∙ undeclared in cc
 
-empty-serial : (n : ℕ) → of_serial {A = Published} [] n ≡ None
-empty-serial n = refl
-
 pub none-taken : (setup : Setup) (s : SessionNo) → is_declared setup s ≡ false → (h : List Entry) → Legal setup h → last_taken setup h s ≡ None
-none-taken setup s undeclared h legal = ap (λ (xs : List Entry). of_serial (published_all xs) (taken setup h s)) (own-none setup s undeclared h legal) ∙ empty-serial (taken setup h s)
+none-taken setup s undeclared h legal = ap (λ (xs : List Entry). of_serial (published_all xs) (taken setup h s)) (own-none setup s undeclared h legal)
