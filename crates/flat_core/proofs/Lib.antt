@@ -69,6 +69,7 @@ pub mod Stamped
 pub mod Steps
 pub mod Still
 pub mod TiesBegin
+pub mod TiesCalls
 pub mod TiesFinish
 pub mod TiesSteps
 pub mod TokenLaw
