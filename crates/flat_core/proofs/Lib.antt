@@ -71,6 +71,7 @@ pub mod Still
 pub mod TiesBegin
 pub mod TiesCalls
 pub mod TiesFinish
+pub mod TiesRun
 pub mod TiesSteps
 pub mod TokenLaw
 pub mod Tokens
