@@ -1,13 +1,12 @@
 -- Which entries leave what is kept of sessions and pairs as it is, and what a begin may look at.
-use Rattle.std.proofs.Common.{◌≡◌, ◌∙◌, sym, subst, ℕ, ◌<◌, ◌≤◌, Bool, true, false, List, length, All, refl, ap, slice_index_or}
-use Rattle.std.specs.Prelude.{◌&&◌, ◌||◌, not}
-use Rattle.flat_base.specs.declared.ids.Actor.{Actor}
+use Rattle.std.proofs.Common.{◌≡◌, ◌∙◌, sym, subst, ℕ, ◌≤◌, Bool, true, false, List, length, All, refl, ap}
+use Rattle.std.specs.Prelude.{◌&&◌}
 use Rattle.flat_base.specs.declared.ids.Actor.TheVariants.{Display, Session}
 use Rattle.flat_base.specs.declared.ids.PairNo.{PairNo}
 use Rattle.flat_base.specs.declared.ids.SessionNo.{SessionNo}
 use Rattle.flat_scene.specs.declared.journal.Entry.{Entry}
 use Rattle.flat_scene.specs.declared.journal.Kind.{Kind}
-use Rattle.flat_scene.specs.declared.journal.Kind.TheVariants.{End, Viewport}
+use Rattle.flat_scene.specs.declared.journal.Kind.TheVariants.{Viewport}
 use Rattle.flat_scene.specs.declared.setup.Setup.{Setup}
 use Rattle.flat_scene.specs.History.{◌▹◌, is_begin, is_closed, is_end, is_finish, is_session}
 use Rattle.flat_core.specs.declared.state.SessionState.{SessionState}
@@ -18,7 +17,6 @@ use Rattle.flat_core.specs.Following.{IsBegun, IsIdle, UsesNone}
 use Rattle.flat_core.specs.Kept.{AllNumbered, IsKept}
 use Rattle.flat_core.specs.Legal.{Legal, display_may, goes_on, may_act}
 use Rattle.flat_core.specs.Seen.{seen_of}
-use Rattle.flat_core.specs.Shown.{shown_states}
 use Rattle.flat_core.proofs.PairIdle.{an-end}
 use Rattle.flat_core.proofs.PairSteps.{no-begin, no-finish, one-session}
 use Rattle.flat_core.proofs.ShownFits.{states-fit}

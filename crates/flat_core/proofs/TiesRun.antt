@@ -1,9 +1,8 @@
 -- What is kept of sessions and pairs, on a small history.
 use Rattle.std.proofs.Common.{◌≡◌, true, false, ◌∷◌, [], drop, refl, Some, None, length}
-use Rattle.flat_base.specs.declared.ids.Actor.TheVariants.{Session}
 use Rattle.flat_scene.specs.declared.calls.Call.TheVariants as call
-use Rattle.flat_core.specs.Clears.{clears_pair, is_cleared}
-use Rattle.flat_core.specs.Ends.{clears_viewport, ends_view, happens, to_begin, to_finished}
+use Rattle.flat_core.specs.Clears.{clears_pair}
+use Rattle.flat_core.specs.Ends.{clears_viewport, happens, to_finished}
 use Rattle.flat_core.specs.Following.{capped, glimpse_of}
 use Rattle.flat_core.specs.Serials.{contents_made}
 use Rattle.flat_core.specs.Stamps.{first_at}

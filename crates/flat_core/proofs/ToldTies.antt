@@ -1,6 +1,6 @@
 -- What is told, by what is kept of sessions and pairs.
 use Rattle.std.proofs.Common.{◌≡◌, ◌≢◌, ◌∙◌, sym, subst, ℕ, ◌-◌, ◌<◌, ◌≤◌, Bool, true, false, List, [], length, refl, arith, ap, Some, None, slice_get, slice_index_or}
-use Rattle.std.specs.Prelude.{Option, cond, ◌||◌, ◌&&◌, option_and_then}
+use Rattle.std.specs.Prelude.{Option, cond, ◌||◌, option_and_then}
 use Rattle.std.specs.List.{list_any}
 use Rattle.std.proofs.lemmas.Bool.Decides.{nat_tests}
 use Rattle.flat_base.specs.declared.ids.Actor.{Actor}
@@ -24,11 +24,11 @@ use Rattle.flat_core.specs.Following.{AreTied, IsLastSight, IsPairKept}
 use Rattle.flat_core.specs.Legal.{Legal}
 use Rattle.flat_core.specs.Shown.{is_pair, shown_view, tree_of}
 use Rattle.flat_core.specs.Stamps.{is_seen}
-use Rattle.flat_core.specs.Views.{child_by, status_by}
-use Rattle.flat_core.specs.Watch.{are_joined, child_of, or_else, props_seen, props_told, status_of, told}
+use Rattle.flat_core.specs.Views.{child_by}
+use Rattle.flat_core.specs.Watch.{child_of, or_else, props_seen, props_told, told}
 use Rattle.flat_core.proofs.Earlier.{finished-earlier, legal-earlier}
 use Rattle.flat_core.proofs.NewTies.{nothing}
-use Rattle.flat_core.proofs.PairTold.{child-told, status-told, view-lost, viewport-lost}
+use Rattle.flat_core.proofs.PairTold.{child-told, view-lost, viewport-lost}
 use Rattle.flat_core.proofs.Undeclared.{none-taken, own-none}
 
 -- ---- who isn't declared
