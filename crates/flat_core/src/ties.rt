@@ -2,11 +2,11 @@ ghost use Rattle.std.specs.Prelude.{◌≡◌, ℕ, ◌-◌, ◌^◌, ◌<◌, �
 ghost use Rattle.flat_scene.specs.declared.setup.Setup.{Setup};
 ghost use Rattle.flat_scene.specs.declared.journal.Entry.{Entry};
 ghost use Rattle.flat_scene.specs.History.{◌▹◌};
-ghost use Rattle.flat_core.specs.Following.{AreTied, IsBegun, IsFinished, IsOwnEntry, UsesNone, sight};
-ghost use Rattle.flat_core.specs.Begins.{begun, finished};
 ghost use Rattle.flat_topology.specs.Fit.{FitsSetup};
-ghost use Rattle.flat_core.specs.Usage.{IsUse, NotesCalls, SeesUses, uses_if};
 ghost use Rattle.flat_topology.specs.Shown.{state_of};
+ghost use Rattle.flat_core.specs.Begins.{begun, finished};
+ghost use Rattle.flat_core.specs.Following.{AreTied, IsBegun, IsFinished, IsOwnEntry, UsesNone, sight};
+ghost use Rattle.flat_core.specs.Usage.{IsUse, NotesCalls, SeesUses, uses_if};
 
 use crate::clears::note_clears;
 use crate::following::{Following, Glimpse};
