@@ -71,3 +71,14 @@ no-clear name (_ ∷ calls) none = no-clear name calls none
 pub clears-nothing : (live : List Live) (calls : List Call) (k : ℕ) (pairs : List PairState) → list_any is_clear calls ≡ false → ClearsLive live calls k pairs pairs
 clears-nothing [] calls k pairs none = clears-none calls k pairs
 clears-nothing (one ∷ live) calls k pairs none = clears-less one live calls k pairs pairs (no-clear one.name calls none) (clears-nothing live calls k pairs none)
+
+-- calls that clear the same viewports do the same
+same-pair : (p : PairNo) (live : List Live) (calls calls' : List Call) → ((name : ContentId) → is_cleared name calls' ≡ is_cleared name calls) → clears_pair p live calls' ≡ clears_pair p live calls
+same-pair p [] calls calls' same = refl
+same-pair p (one ∷ live) calls calls' same = rw (same one.name, same-pair p live calls calls' same) refl
+
+pub clears-same : (live : List Live) (calls calls' : List Call) (k : ℕ) (a b : List PairState) → ((name : ContentId) → is_cleared name calls' ≡ is_cleared name calls) → ClearsLive live calls' k a b → ClearsLive live calls k a b
+clears-same live calls calls' k a b same clears = record {
+  count = clears.count;
+  each = λ i d below. let q : PairNo = record { 0 = i } in clears.each i d below ∙ ap (λ (t : Bool). cleared_if t k (slice_index_or a i d)) (same-pair q live calls calls' same);
+}

@@ -82,7 +82,9 @@ pub mod Still
 pub mod TellingSteps
 pub mod TiedOwn
 pub mod TiesBegin
+pub mod TiesCalls
 pub mod TiesFinish
+pub mod TiesRun
 pub mod TiesSteps
 pub mod TokenLaw
 pub mod TokensBack

@@ -32,7 +32,7 @@ use Rattle.flat_core.proofs.ViewLaw.{made_at}
 abbrev pub IsShut : List Entry → Entry → Type 0
 IsShut h e = (s : SessionNo) → is_session s e.actor ≡ true → is_closed s h ≡ true
 
-an-end : (a b c : Bool) → (a && (b || not c)) ≡ true → c ≡ true → b ≡ true
+pub an-end : (a b c : Bool) → (a && (b || not c)) ≡ true → c ≡ true → b ≡ true
 an-end true true c h shut = refl
 an-end true false true h shut = let wrong : false ≡ true = h in cc
 an-end true false false h shut = let wrong : false ≡ true = shut in cc

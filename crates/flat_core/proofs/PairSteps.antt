@@ -77,7 +77,7 @@ tame-kind (Viewport p props) carries alone = is-not (list_any is_link (all_but_l
 tame-kind (Close reason) carries alone = is-not (list_any is_link (all_but_last carries)) alone
 tame-kind _ carries alone = any-first carries (is-not (list_any is_link carries) alone)
 
-one-session : (s t : SessionNo) (who : Actor) → is_session s who ≡ true → is_session t who ≡ true → t ≡ s
+pub one-session : (s t : SessionNo) (who : Actor) → is_session s who ≡ true → is_session t who ≡ true → t ≡ s
 one-session s t who mine theirs = let same : Session t ≡ Session s = sym (same-session t who theirs) ∙ same-session s who mine in cc
 
 another : (s t : SessionNo) (who : Actor) → is_session s who ≡ true → is_session t who ≡ false → (t.0 == s.0) ≡ false

@@ -1,6 +1,6 @@
 -- What is told, by what is kept of sessions and pairs.
 use Rattle.std.proofs.Common.{◌≡◌, ◌≢◌, ◌∙◌, sym, subst, ℕ, ◌-◌, ◌<◌, ◌≤◌, Bool, true, false, List, [], length, refl, arith, ap, Some, None, slice_get, slice_index_or}
-use Rattle.std.specs.Prelude.{Option, cond, ◌||◌, ◌&&◌, option_and_then}
+use Rattle.std.specs.Prelude.{Option, cond, ◌||◌, option_and_then}
 use Rattle.std.specs.List.{list_any}
 use Rattle.std.proofs.lemmas.Bool.Decides.{nat_tests}
 use Rattle.flat_base.specs.declared.ids.Actor.{Actor}
@@ -24,12 +24,17 @@ use Rattle.flat_core.specs.Following.{AreTied, IsLastSight, IsPairKept}
 use Rattle.flat_core.specs.Legal.{Legal}
 use Rattle.flat_core.specs.Shown.{is_pair, shown_view, tree_of}
 use Rattle.flat_core.specs.Stamps.{is_seen}
+<<<<<<< HEAD
 use Rattle.flat_core.specs.Views.{child_by, status_by}
 use Rattle.flat_core.specs.Watch.{are_joined, child_of, props_seen, props_told, status_of, told}
 use Rattle.flat_watch.specs.Told.{or_else}
+=======
+use Rattle.flat_core.specs.Views.{child_by}
+use Rattle.flat_core.specs.Watch.{child_of, or_else, props_seen, props_told, told}
+>>>>>>> bab02c6030230f333cf7186967b8701b231ef729
 use Rattle.flat_core.proofs.Earlier.{finished-earlier, legal-earlier}
 use Rattle.flat_core.proofs.NewTies.{nothing}
-use Rattle.flat_core.proofs.PairTold.{child-told, status-told, view-lost, viewport-lost}
+use Rattle.flat_core.proofs.PairTold.{child-told, view-lost, viewport-lost}
 use Rattle.flat_core.proofs.Undeclared.{none-taken, own-none}
 
 -- ---- who isn't declared
@@ -101,12 +106,3 @@ module _ (setup : Setup) (h : List Entry) (p : PairNo) where
       ∙ ap (λ (view : Option PairNo). child_by (is_closed decl.view (to_finished h) || is_seen state.ended (taken setup (to_finished h) decl.view)) (is_pair view p)) sight.view
       ∙ ap (λ (b : Bool). child_by b (is_pair (shown_view setup (to_finished h) decl.view) p)) (sym (view-lost setup h p decl.view owned state.ended (kept.ended decl.view owned)))
       ∙ sym (child-told setup h p decl.view n owned)
-
-  pub status-kept : (decl : PairDecl) → slice_get setup.pairs p.0 ≡ Some decl → (owner : Glimpse) → IsLastSight setup h decl.view owner → (lost joined : Bool) → lost ≡ is_viewport_lost setup (to_finished h) p → joined ≡ are_joined setup h p
-      → status_by lost joined (is_pair owner.view p && owner.connected) ≡ told setup h (status_of p)
-  status-kept decl at owner sight lost joined lost_is joined_is =
-      let owned : view_owner setup p ≡ Some decl.view = rw at refl in
-      ap (λ (b : Bool). status_by b joined (is_pair owner.view p && owner.connected)) lost_is
-      ∙ ap (λ (b : Bool). status_by (is_viewport_lost setup (to_finished h) p) b (is_pair owner.view p && owner.connected)) joined_is
-      ∙ ap (status_by (is_viewport_lost setup (to_finished h) p) (are_joined setup h p)) (sight.connected p)
-      ∙ sym (status-told setup h p decl.view owned)

@@ -20,6 +20,12 @@ is_cleared name (ReleaseViewport c ∷ calls) = cond (name.0 == c.0) false (is_c
 is_cleared name (Clear ∷ calls) = true
 is_cleared name (_ ∷ calls) = is_cleared name calls
 
+-- whether a call decides what is cleared: it may release a viewport, or it clears them
+abbrev pub decides : Call → Bool
+decides (ReleaseViewport c) = true
+decides Clear = true
+decides _ = false
+
 -- whether they clear the viewport of a pair that is among the live ones
 abbrev pub clears_pair : PairNo → List Live → List Call → Bool
 clears_pair p live calls = list_any (λ one. one.pair.0 == p.0 && is_cleared one.name calls) live

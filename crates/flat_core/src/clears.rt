@@ -1,6 +1,7 @@
 ghost use Rattle.std.specs.Prelude.{◌≡◌};
 ghost use Rattle.std.specs.List.{list_any};
-ghost use Rattle.flat_core.specs.Clears.{is_clear, is_cleared, ClearsOne, ClearsLive};
+ghost use Rattle.flat_base.specs.declared.ids.ContentId.{ContentId};
+ghost use Rattle.flat_core.specs.Clears.{decides, is_clear, is_cleared, ClearsOne, ClearsLive};
 
 use crate::live::Live;
 use crate::pairs::PairState;
@@ -41,6 +42,29 @@ fn is_cleared(name: ContentId, calls: &[Call]) -> bool
     false
 }
 
+/// Whether a call may release a viewport or clears them.
+fn decides(call: &Call) -> bool
+    ensures { result ≡ decides call.now }
+{
+    match call {
+        Call::ReleaseViewport { .. } => true,
+        Call::Clear => true,
+        _ => false,
+    }
+}
+
+/// The calls from the first on that decides what is cleared.
+fn from_first(calls: &[Call]) -> &[Call]
+    ensures { (name : ContentId) → is_cleared name result.now ≡ is_cleared name calls.now }
+{
+    for (i, call) in calls.iter().enumerate() {
+        if decides(call) {
+            return &calls[i..];
+        }
+    }
+    &calls[calls.len()..]
+}
+
 /// The viewport of a pair is cleared.
 fn clear_pair(pairs: &mut [PairState], p: PairNo, presents: u32)
     ensures { ClearsOne p presents pairs.old pairs.new }
@@ -64,11 +88,13 @@ fn clear_live(pairs: &mut [PairState], live: &[Live], calls: &[Call], presents: 
 }
 
 /// Notes what the calls of an entry clear, where these viewports of its session
-/// lived, and it had made so many presents, before. It takes no memory.
+/// lived, and it had made so many presents, before. It takes no memory. Where there
+/// is a Clear, each live viewport is looked for among the calls from the first
+/// release up to it.
 pub fn note_clears(pairs: &mut [PairState], live: &[Live], calls: &[Call], presents: u32)
     ensures { ClearsLive live.now calls.now presents pairs.old pairs.new }
 {
     if has_clear(calls) {
-        clear_live(pairs, live, calls, presents);
+        clear_live(pairs, live, from_first(calls), presents);
     }
 }

@@ -24,6 +24,8 @@ mod telling;
 #[cfg(test)]
 mod tests;
 mod ties;
+#[cfg(test)]
+mod ties_tests;
 mod told;
 mod usage;
 mod viewports;

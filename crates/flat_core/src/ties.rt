@@ -2,11 +2,11 @@ ghost use Rattle.std.specs.Prelude.{◌≡◌, ℕ, ◌-◌, ◌^◌, ◌<◌, �
 ghost use Rattle.flat_scene.specs.declared.setup.Setup.{Setup};
 ghost use Rattle.flat_scene.specs.declared.journal.Entry.{Entry};
 ghost use Rattle.flat_scene.specs.History.{◌▹◌};
-ghost use Rattle.flat_core.specs.Following.{AreTied, IsBegun, IsFinished, IsOwnEntry, UsesNone, sight};
-ghost use Rattle.flat_core.specs.Begins.{begun, finished};
 ghost use Rattle.flat_topology.specs.Fit.{FitsSetup};
-ghost use Rattle.flat_core.specs.Usage.{IsUse, NotesCalls, SeesUses, uses_if};
 ghost use Rattle.flat_topology.specs.Shown.{state_of};
+ghost use Rattle.flat_core.specs.Begins.{begun, finished};
+ghost use Rattle.flat_core.specs.Following.{AreTied, IsBegun, IsFinished, IsOwnEntry, UsesNone, sight};
+ghost use Rattle.flat_core.specs.Usage.{IsUse, NotesCalls, SeesUses, uses_if};
 
 use crate::clears::note_clears;
 use crate::following::{Following, Glimpse};
@@ -103,7 +103,9 @@ impl Ties {
     pub fn note(&mut self, s: SessionNo, calls: &[Call], presents: u32, live: &[Live])
         requires some { 0 < s.0 }
         requires few { s.0 ≤ length self.old.followings.items }
-        ensures { (setup : Setup) (h : List Entry) (e : Entry) → IsOwnEntry setup h e s calls.now presents live.now → UsesNone e → AreTied setup h self.old.followings.items self.old.pairs.items → AreTied setup (h ▹ e) self.new.followings.items self.new.pairs.items }
+        ensures sessions { length self.new.followings.items ≡ length self.old.followings.items }
+        ensures count { length self.new.pairs.items ≡ length self.old.pairs.items }
+        ensures tied { (setup : Setup) (h : List Entry) (e : Entry) → IsOwnEntry setup h e s calls.now presents live.now → UsesNone e → AreTied setup h self.old.followings.items self.old.pairs.items → AreTied setup (h ▹ e) self.new.followings.items self.new.pairs.items }
     {
         self.note_calls(s, calls, presents, live);
     }
@@ -120,7 +122,9 @@ impl Ties {
     )
         requires some { 0 < s.0 }
         requires few { s.0 ≤ length self.old.followings.items }
-        ensures { (setup : Setup) (h : List Entry) (e : Entry) → IsOwnEntry setup h e s calls.now presents live.now → IsUse e p props → length h < 2 ^ 32 - 1 → AreTied setup h self.old.followings.items self.old.pairs.items → AreTied setup (h ▹ e) self.new.followings.items self.new.pairs.items }
+        ensures sessions { length self.new.followings.items ≡ length self.old.followings.items }
+        ensures count { length self.new.pairs.items ≡ length self.old.pairs.items }
+        ensures tied { (setup : Setup) (h : List Entry) (e : Entry) → IsOwnEntry setup h e s calls.now presents live.now → IsUse e p props → length h < 2 ^ 32 - 1 → AreTied setup h self.old.followings.items self.old.pairs.items → AreTied setup (h ▹ e) self.new.followings.items self.new.pairs.items }
     {
         let serial = self.note_calls(s, calls, presents, live);
         use_pair(&mut self.pairs, p, serial, props);
@@ -134,7 +138,9 @@ impl Ties {
         requires shown { length shown.now ≡ setup.now.sessions }
         requires goes { All (λ state. length state.going.items ≤ 5) sessions.now }
         requires fit { FitsSetup setup.now shown.now }
-        ensures { (h : List Entry) (line time : ℕ) → IsBegun setup.now h line time sessions.now shown.now → AreTied setup.now h self.old.followings.items self.old.pairs.items → AreTied setup.now (begun h line time) self.new.followings.items self.new.pairs.items }
+        ensures sessions { length self.new.followings.items ≡ length self.old.followings.items }
+        ensures count { length self.new.pairs.items ≡ length self.old.pairs.items }
+        ensures tied { (h : List Entry) (line time : ℕ) → IsBegun setup.now h line time sessions.now shown.now → AreTied setup.now h self.old.followings.items self.old.pairs.items → AreTied setup.now (begun h line time) self.new.followings.items self.new.pairs.items }
     {
         for i in 0..setup.sessions {
             let state = &sessions[i as usize];
@@ -148,7 +154,9 @@ impl Ties {
     pub fn finish(&mut self, setup: &Setup, shown: &Shown)
         requires count { length self.old.followings.items ≡ setup.now.sessions }
         requires shown { length shown.now ≡ setup.now.sessions }
-        ensures { (h : List Entry) (line : ℕ) → IsFinished setup.now h line shown.now → AreTied setup.now h self.old.followings.items self.old.pairs.items → AreTied setup.now (finished h line) self.new.followings.items self.new.pairs.items }
+        ensures sessions { length self.new.followings.items ≡ length self.old.followings.items }
+        ensures count { length self.new.pairs.items ≡ length self.old.pairs.items }
+        ensures tied { (h : List Entry) (line : ℕ) → IsFinished setup.now h line shown.now → AreTied setup.now h self.old.followings.items self.old.pairs.items → AreTied setup.now (finished h line) self.new.followings.items self.new.pairs.items }
     {
         for i in 0..setup.sessions {
             let one = &mut self.followings[i as usize];

@@ -1,11 +1,10 @@
 ghost use Rattle.std.specs.Prelude.{◌≡◌};
 ghost use Rattle.flat_core.specs.Stamps.{is_seen, stamp_then};
-ghost use Rattle.flat_core.specs.Serials.{props_at_serial};
 ghost use Rattle.flat_core.specs.Views.{layout_by, status_by, child_by};
 ghost use Rattle.flat_core.specs.Watch.{layout_in};
 
 use flat_base::ONE;
-use flat_scene::{Layout, Told, ViewportProps, ViewportUse};
+use flat_scene::{Layout, Told, ViewportProps};
 
 /// Whether the first so many presents have seen what has that stamp.
 pub fn is_seen(stamp: Option<u32>, taken: u32) -> bool
@@ -79,16 +78,4 @@ pub fn child_by(lost: bool, shown: bool) -> Option<Told>
     } else {
         None
     }
-}
-
-/// The properties of the viewport of a serial, among those that a tree has.
-pub fn props_at_serial(uses: &[ViewportUse], serial: u32) -> Option<ViewportProps>
-    ensures { result ≡ props_at_serial uses.now serial }
-{
-    for one in uses {
-        if one.serial == serial {
-            return Some(one.props);
-        }
-    }
-    None
 }

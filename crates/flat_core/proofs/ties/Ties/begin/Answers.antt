@@ -20,8 +20,8 @@ loop-i-preserved c =
           subst (λ (g : Glimpse). AllNumbered (FollowedUpTo c.args.setup.now h (begun h line time) (c.loop-i.i + 1)) (slice_set c.loop-i.self.followings.items c.loop-i.i (let new : Following = record c.index_mut.result.now { begun = g } in new))) (sym c.glimpse.ensures) on;
     }
 
-pub returns : goal.returns
-returns c h line time begins tied =
+pub returns-clause-tied : goal.returns-clause-tied
+returns-clause-tied c h line time begins tied =
     let inv = c.loop-i.invariant in
     let ends : c.loop-i.i ≡ c.args.setup.now.sessions = omega (arith, c.loop-i.auto.i-end, c.loop-i-test.false) in
     tied-begun c.args.setup.now h line time c.args.sessions.now c.args.shown.now begins c.args.self.now.followings.items c.loop-i.self.followings.items c.args.self.now.pairs.items c.loop-i.self.pairs.items inv.pairs inv.count

@@ -35,8 +35,8 @@ loop-i-preserved c =
           (subst (λ (us : List ViewportUse). SeesUses us c.loop-i.self.pairs.items c.see_taken.new.pairs.items) looked c.see_taken.ensures) (inv.each h line ends tied);
     }
 
-pub returns : goal.returns
-returns c h line ends tied =
+pub returns-clause-tied : goal.returns-clause-tied
+returns-clause-tied c h line ends tied =
     let inv = c.loop-i.invariant in
     let all : c.loop-i.i ≡ c.args.setup.now.sessions = omega (arith, c.loop-i.auto.i-end, c.loop-i-test.false) in
     tied-finished c.args.setup.now h line c.args.shown.now ends c.loop-i.self.followings.items c.loop-i.self.pairs.items inv.count (inv.many ∙ tied.count)

@@ -1,0 +1,78 @@
+-- Which entries leave what is kept of sessions and pairs as it is, and what a begin may look at.
+use Rattle.std.proofs.Common.{◌≡◌, ◌∙◌, sym, subst, ℕ, ◌≤◌, Bool, true, false, List, length, All, refl, ap}
+use Rattle.std.specs.Prelude.{◌&&◌}
+use Rattle.flat_base.specs.declared.ids.Actor.TheVariants.{Display, Session}
+use Rattle.flat_base.specs.declared.ids.PairNo.{PairNo}
+use Rattle.flat_base.specs.declared.ids.SessionNo.{SessionNo}
+use Rattle.flat_scene.specs.declared.journal.Entry.{Entry}
+use Rattle.flat_scene.specs.declared.journal.Kind.{Kind}
+use Rattle.flat_scene.specs.declared.journal.Kind.TheVariants.{Viewport}
+use Rattle.flat_scene.specs.declared.setup.Setup.{Setup}
+use Rattle.flat_scene.specs.History.{◌▹◌, is_begin, is_closed, is_end, is_finish, is_session}
+use Rattle.flat_core.specs.declared.state.SessionState.{SessionState}
+use Rattle.flat_core.specs.Begins.{begun}
+use Rattle.flat_core.specs.Boards.{number}
+use Rattle.flat_core.specs.Ends.{is_done, uses_viewport}
+use Rattle.flat_core.specs.Following.{IsBegun, IsIdle, UsesNone}
+use Rattle.flat_core.specs.Kept.{AllNumbered, IsKept}
+use Rattle.flat_core.specs.Legal.{Legal, display_may, goes_on, may_act}
+use Rattle.flat_core.specs.Seen.{seen_of}
+use Rattle.flat_core.proofs.PairIdle.{an-end}
+use Rattle.flat_core.proofs.PairSteps.{no-begin, no-finish, one-session}
+use Rattle.flat_core.proofs.ShownFits.{states-fit}
+use Rattle.flat_core.proofs.ViewHistory.{same-session}
+use Rattle.flat_topology.specs.Fit.{FitsSetup}
+use Rattle.flat_topology.specs.Shown.{Shown}
+
+and-none : (a b : Bool) → b ≡ false → (a && b) ≡ false
+and-none true b is = is
+and-none false b is = refl
+
+first-none : (a b : Bool) → a ≡ false → (a && b) ≡ false
+first-none true b is = let wrong : true ≡ false = is in cc
+first-none false b is = refl
+
+-- what isn't done uses nothing
+pub undone-uses : (e : Entry) → is_done e.reply ≡ false → UsesNone e
+undone-uses e undone p = and-none (uses_viewport p e.kind) (is_done e.reply) undone
+
+no-display : (p : PairNo) (kind : Kind) → display_may kind ≡ true → uses_viewport p kind ≡ false
+no-display p (Viewport q props) may = let wrong : false ≡ true = may in cc
+no-display p _ may = refl
+
+no-end : (p : PairNo) (kind : Kind) → is_end kind ≡ true → uses_viewport p kind ≡ false
+no-end p (Viewport q props) is = let wrong : false ≡ true = is in cc
+no-end p _ is = refl
+
+module _ (setup : Setup) (h : List Entry) (e : Entry) (legal : Legal setup (h ▹ e)) where
+  -- an entry of the display that is of no frame
+  pub display-idle : e.actor ≡ Display → is_begin e.kind ≡ false → is_finish e.kind ≡ false → IsIdle setup h e
+  display-idle who no_begin no_finish =
+      let may : display_may e.kind ≡ true = ap (may_act setup e.kind) (sym who) ∙ legal.1.may.acts in
+      record {
+        legal = legal;
+        no_begin = no_begin;
+        no_finish = no_finish;
+        no_use = λ p. first-none (uses_viewport p e.kind) (is_done e.reply) (no-display p e.kind may);
+        shut = λ s mine. let wrong : false ≡ true = ap (is_session s) (sym who) ∙ mine in cc;
+      }
+
+  -- an entry of a session that was closed: it is an End
+  pub shut-idle : (s : SessionNo) → is_session s e.actor ≡ true → is_closed s h ≡ true → IsIdle setup h e
+  shut-idle s mine shut =
+      let lasts : goes_on h e.kind (Session s) ≡ true = ap (goes_on h e.kind) (sym (same-session s e.actor mine)) ∙ legal.1.may.lasts in
+      let ends : is_end e.kind ≡ true = an-end _ (is_end e.kind) (is_closed s h) lasts shut in
+      record {
+        legal = legal;
+        no_begin = no-begin setup s h e legal mine;
+        no_finish = no-finish setup s h e legal mine;
+        no_use = λ p. first-none (uses_viewport p e.kind) (is_done e.reply) (no-end p e.kind ends);
+        shut = λ t theirs. ap (λ (r : SessionNo). is_closed r h) (one-session s t e.actor mine theirs) ∙ shut;
+      }
+
+-- what a begin shows fits, and each session lets go of five presents at most
+pub begin-fits : (setup : Setup) (h : List Entry) (line time : ℕ) (states : List SessionState) (shows : Shown) → IsBegun setup h line time states shows → FitsSetup setup shows
+begin-fits setup h line time states shows begins = subst (FitsSetup setup) (sym begins.shown) (states-fit setup (begun h line time) begins.legal)
+
+pub begin-goes : (setup : Setup) (k : List Entry) (states : List SessionState) → AllNumbered (λ i. IsKept setup (seen_of setup k (number i))) states → All (λ state. length state.going.items ≤ 5) states
+begin-goes setup k states kept i d below = (kept i d below).goes
