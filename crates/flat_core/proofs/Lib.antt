@@ -106,4 +106,5 @@ pub mod ViewportUses
 pub mod WatchLocal
 pub mod Watchers
 pub mod WatchersLocal
+pub mod WatchingSteps
 pub mod WithView

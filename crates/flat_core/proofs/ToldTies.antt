@@ -24,14 +24,9 @@ use Rattle.flat_core.specs.Following.{AreTied, IsLastSight, IsPairKept}
 use Rattle.flat_core.specs.Legal.{Legal}
 use Rattle.flat_core.specs.Shown.{is_pair, shown_view, tree_of}
 use Rattle.flat_core.specs.Stamps.{is_seen}
-<<<<<<< HEAD
-use Rattle.flat_core.specs.Views.{child_by, status_by}
-use Rattle.flat_core.specs.Watch.{are_joined, child_of, props_seen, props_told, status_of, told}
-use Rattle.flat_watch.specs.Told.{or_else}
-=======
 use Rattle.flat_core.specs.Views.{child_by}
-use Rattle.flat_core.specs.Watch.{child_of, or_else, props_seen, props_told, told}
->>>>>>> bab02c6030230f333cf7186967b8701b231ef729
+use Rattle.flat_core.specs.Watch.{child_of, props_seen, props_told, told}
+use Rattle.flat_watch.specs.Told.{or_else}
 use Rattle.flat_core.proofs.Earlier.{finished-earlier, legal-earlier}
 use Rattle.flat_core.proofs.NewTies.{nothing}
 use Rattle.flat_core.proofs.PairTold.{child-told, view-lost, viewport-lost}

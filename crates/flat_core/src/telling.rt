@@ -7,13 +7,8 @@ ghost use Rattle.flat_core.specs.Following.{AreTied, IsLastSight};
 ghost use Rattle.flat_core.specs.Legal.{Legal};
 ghost use Rattle.flat_core.specs.Stamps.{is_seen};
 ghost use Rattle.flat_core.specs.Shown.{is_pair};
-<<<<<<< HEAD
 ghost use Rattle.flat_watch.specs.Told.{or_else};
 ghost use Rattle.flat_core.specs.Watch.{are_joined, props_told, told, layout_of, status_of, child_of};
-ghost use Rattle.flat_core.specs.Ends.{viewport_owner};
-=======
-ghost use Rattle.flat_core.specs.Watch.{or_else, are_joined, props_told, told, layout_of, status_of, child_of};
->>>>>>> bab02c6030230f333cf7186967b8701b231ef729
 
 use crate::ends::EndSet;
 use crate::following::Glimpse;
