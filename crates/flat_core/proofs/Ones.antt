@@ -40,7 +40,7 @@ looks-declared setup c s may = declared-of setup (Wait c) s may
 one-back : (n : ℕ) → 0 < n → n - 1 + 1 ≡ n
 one-back n some = omega arith
 
-same-number : (s : SessionNo) → 0 < s.0 → number (s.0 - 1) ≡ s
+pub same-number : (s : SessionNo) → 0 < s.0 → number (s.0 - 1) ≡ s
 same-number s some = ap (λ (n : ℕ). let r : SessionNo = record { 0 = n } in r) (one-back s.0 some)
 
 -- the sessions after an entry of one of them
