@@ -1,3 +1,4 @@
+pub mod AllOrSome
 pub mod Backs
 pub mod BeginLoop
 pub mod BeginSteps
@@ -56,6 +57,7 @@ pub mod Reached
 pub mod ReachedSteps
 pub mod RepliesLocal
 pub mod Runs
+pub mod SameWatchers
 pub mod Samples
 pub mod SerialSteps
 pub mod Serials

@@ -1,5 +1,6 @@
 -- What is kept of held gets, and what answers them.
 use Rattle.std.specs.Prelude.{◌≡◌, ◌≤◌, ◌<◌, ◌+◌, ℕ, Bool, true, false, cond, not, ◌&&◌, ◌||◌, ◌==◌, nat_le, nat_lt, List, [], ◌∷◌, ◌++◌, filter, flat_map, map, length, slice_index_or, Option, Some, None, is_some, unwrap_or, option_map}
+use Rattle.std.specs.List.{list_any}
 use Rattle.flat_base.specs.declared.ids.Actor.{Actor}
 use Rattle.flat_base.specs.declared.ids.Actor.TheVariants.{Session}
 use Rattle.flat_base.specs.declared.ids.PairNo.{PairNo}
@@ -76,8 +77,7 @@ held_by watcher w = held_with watcher w.last w.waits
 
 -- a get of this is held
 abbrev pub is_held_in : PairNo → Watched → List HeldGet → Bool
-is_held_in p watched [] = false
-is_held_in p watched (one ∷ more) = same_watcher (watcher_of_held one) (watcher_for p watched) || is_held_in p watched more
+is_held_in p watched held = list_any (λ one. same_watcher (watcher_of_held one) (watcher_for p watched)) held
 
 -- one held get more, in its place, and that place
 abbrev pub with_held : HeldGet → List HeldGet → List HeldGet
