@@ -22,6 +22,7 @@ pub mod GetEnds
 pub mod GetExamples
 pub mod GetHistory
 pub mod GetLists
+pub mod GetMeans
 pub mod GetOrder
 pub mod GetOwners
 pub mod GetPosts
