@@ -16,7 +16,7 @@ use Rattle.flat_core.specs.Gets.{watched_by, watcher_for, watcher_of_held, held_
 use Rattle.flat_core.specs.Local.{pair_watched}
 use Rattle.flat_core.specs.Watch.{Watcher, layout_of, status_of, child_of, watching, same_watcher}
 use Rattle.flat_core.proofs.GetHistory.{own-watcher}
-use Rattle.flat_core.proofs.GetOrder.{same-is}
+use Rattle.flat_core.proofs.SameWatchers.{same-is}
 use Rattle.flat_core.proofs.ViewCalls.{or-none-left, or-none-right}
 
 -- ---- one answer

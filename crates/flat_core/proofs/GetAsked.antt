@@ -33,10 +33,12 @@ use Rattle.flat_core.specs.Legal.{Legal, MayEnter, answers, got, is_now, number_
 use Rattle.flat_core.specs.Local.{pair_watched}
 use Rattle.flat_core.specs.Posts.{event_of}
 use Rattle.flat_core.specs.Watch.{Watcher, layout_of, status_of, child_of, watching, told, asked, same_watcher, watcher_of, watcher_in, watcher_of_made, is_watcher}
+use Rattle.flat_core.proofs.AllOrSome.{flat-nested}
+use Rattle.flat_core.proofs.SameWatchers.{same-is, same-sym}
 use Rattle.flat_core.proofs.EventsLocal.{flat-each, flat-none}
-use Rattle.flat_core.proofs.GetHistory.{own-watcher, hears-open, watchers-heard, watchers-more, flat-nested}
+use Rattle.flat_core.proofs.GetHistory.{own-watcher, hears-open, watchers-heard, watchers-more}
 use Rattle.flat_core.proofs.GetLists.{with-more}
-use Rattle.flat_core.proofs.GetOrder.{AreOwn, insert-held, meant-found, same-is, watchers-order}
+use Rattle.flat_core.proofs.GetOrder.{AreOwn, insert-held, meant-found, watchers-order}
 use Rattle.flat_core.proofs.GetOwners.{IsMeant, of_layout, of_status, of_child, get-meant, get-open, meant-heard}
 use Rattle.flat_core.proofs.GetSteps.{answers-more, quiet}
 use Rattle.flat_core.proofs.Still.{IsStill, told-same, watching-same}
@@ -44,17 +46,6 @@ use Rattle.flat_core.proofs.ViewHistory.{closes-first}
 use Rattle.flat_core.proofs.Watchers.{after_get, got-one, unasked}
 
 -- ---- what is kept of the watcher that a get means
-
-pub same-sym : (u w : Watcher) → same_watcher u w ≡ same_watcher w u
-same-sym (layout_of p) (layout_of q) = grind (arith, nat_tests)
-same-sym (status_of p) (status_of q) = grind (arith, nat_tests)
-same-sym (child_of p m) (child_of q n) = grind (arith, nat_tests)
-same-sym (layout_of p) (status_of q) = refl
-same-sym (layout_of p) (child_of q n) = refl
-same-sym (status_of p) (layout_of q) = refl
-same-sym (status_of p) (child_of q n) = refl
-same-sym (child_of p m) (layout_of q) = refl
-same-sym (child_of p m) (status_of q) = refl
 
 module _ (setup : Setup) (h : List Entry) where
   abbrev waits_for : Watcher → Bool

@@ -1,8 +1,8 @@
 -- What the board keeps of gets, of all pairs and all sessions: the steps that its calls make.
-use Rattle.std.proofs.Common.{◌≡◌, ◌≢◌, ◌∙◌, sym, subst, ℕ, zero, suc, ◌+◌, ◌<◌, true, false, List, [], length, replicate, refl, arith, ap, Some, slice_set, slice_index_or, inl, inr, ◌⊎◌}
+use Rattle.std.proofs.Common.{◌≡◌, ◌≢◌, ◌∙◌, sym, subst, ℕ, ◌+◌, ◌<◌, true, false, List, [], length, replicate, refl, arith, ap, Some, slice_set, slice_index_or, inl, inr, ◌⊎◌}
 use Rattle.std.specs.Prelude.{Option, option_map, ◌==◌}
 use Rattle.std.proofs.lemmas.Bool.Decides.{eqb_tells}
-use Rattle.std.proofs.lemmas.List.{get_or-set_other, get_or-set_same, length-set}
+use Rattle.std.proofs.lemmas.List.{get_or-replicate, length-replicate, get_or-set_other, get_or-set_same, length-set}
 use Rattle.flat_base.specs.declared.ids.Actor.TheVariants.{Session}
 use Rattle.flat_base.specs.declared.ids.PairNo.{PairNo}
 use Rattle.flat_base.specs.declared.ids.SessionNo.{SessionNo}
@@ -62,20 +62,11 @@ gets-new setup s = record {
   few = omega arith;
 }
 
-same-items : (n i : ℕ) (a d : Answered) → i < length (replicate n a) → slice_index_or (replicate n a) i d ≡ a
-same-items zero i a d below = absurd (omega (arith, below))
-same-items (suc n) zero a d below = refl
-same-items (suc n) (suc i) a d below = same-items n i a d (omega (arith, below))
-
-length-replicate : (n : ℕ) (a : Answered) → length (replicate n a) ≡ n
-length-replicate zero a = refl
-length-replicate (suc n) a = rw (length-replicate n a) refl
-
 -- nothing was answered
 pub all-new : (setup : Setup) → AllAnswered setup [] (replicate (length setup.pairs) unanswered)
 all-new setup = record {
   count = length-replicate (length setup.pairs) unanswered;
-  each = λ i d below. subst (IsAnswered setup [] (pair_at i)) (sym (same-items (length setup.pairs) i unanswered d below)) (record { last = record { layout = refl; status = refl; child = refl }; uses = refl });
+  each = λ i d below. subst (IsAnswered setup [] (pair_at i)) (sym (get_or-replicate (length setup.pairs) i unanswered d (omega (arith, below, length-replicate (length setup.pairs) unanswered)))) (record { last = record { layout = refl; status = refl; child = refl }; uses = refl });
 }
 
 -- ---- entry by entry

@@ -26,11 +26,13 @@ use Rattle.flat_core.specs.Gets.{watched_by, watched_of, helds_of, hears, watche
 use Rattle.flat_core.specs.Legal.{Legal, got, may_act, session_may, owns_view}
 use Rattle.flat_core.specs.Local.{pair_watched}
 use Rattle.flat_core.specs.Watch.{Watcher, layout_of, status_of, child_of, watching, told, asked, is_open, listener, same_watcher, watcher_of, is_watcher}
+use Rattle.flat_core.proofs.AllOrSome.{any-same}
+use Rattle.flat_core.proofs.SameWatchers.{nothing-settled, same-is, same-sym}
 use Rattle.flat_core.proofs.Between.{is_viewport}
 use Rattle.flat_core.proofs.GetAnswers.{Fits, noted-by, uses-answered, uses-kept, last-apart, last-among}
-use Rattle.flat_core.proofs.GetAsked.{Finds, found, no-waits, other-rests, own-asked, same-sym}
-use Rattle.flat_core.proofs.GetHistory.{own-watcher, owner-hears, hears-open, watchers-heard, fresh-use, next-fresh}
-use Rattle.flat_core.proofs.GetOrder.{meant-found, same-is}
+use Rattle.flat_core.proofs.GetAsked.{Finds, found, no-waits, other-rests, own-asked}
+use Rattle.flat_core.proofs.GetHistory.{owner-heard, own-watcher, owner-hears, hears-open, watchers-heard, fresh-use, next-fresh}
+use Rattle.flat_core.proofs.GetOrder.{meant-found}
 use Rattle.flat_core.proofs.GetOwners.{others-unasked, IsMeant, of_layout, of_status, of_child, get-meant, get-open, meant-heard}
 use Rattle.flat_core.proofs.GetSteps.{idle-kind, rests-between, rests-joined, rests-refused}
 use Rattle.flat_core.proofs.ViewHistory.{same-session}
@@ -59,10 +61,6 @@ never-asked setup h e legal p = unasked setup (child_of p 0) h e (λ get asks. b
         by_watcher None means = refl
         by_watcher (Some u) means = other t u (get-meant setup h e legal t is get asks u means)
 
-nothing-settled : (listens : Bool) (now : Option Told) → settled listens now (record { last = None; waits = None }) ≡ record { last = None; waits = None }
-nothing-settled true now = refl
-nothing-settled false now = refl
-
 unused-fresh : (setup : Setup) (h : List Entry) → Legal setup h → (p : PairNo) → watching setup (child_of p 0) h ≡ record { last = None; waits = None }
 unused-fresh setup [] legal p = refl
 unused-fresh setup (h ▹ e) legal p =
@@ -70,10 +68,6 @@ unused-fresh setup (h ▹ e) legal p =
     ∙ ap (λ (v : Watching). settled (is_open setup (viewport_owner setup p) (h ▹ e)) (told setup (h ▹ e) (child_of p 0)) v) (unused-fresh setup h legal.0 p) ∙ nothing-settled (is_open setup (viewport_owner setup p) (h ▹ e)) (told setup (h ▹ e) (child_of p 0))
 
 -- ---- a session's held gets are answered
-
-any-same : {X : Type 0} (o q : X → Bool) → ((x : X) → o x ≡ q x) → (xs : List X) → list_any o xs ≡ list_any q xs
-any-same o q each [] = refl
-any-same o q each (x ∷ xs) = rw (each x, any-same o q each xs) refl
 
 module _ (setup : Setup) (h : List Entry) (e : Entry) (legal : Legal setup (h ▹ e)) (s : SessionNo) (opened : is_closed s (h ▹ e) ≡ false) (idle : (w : Watcher) → hears setup s w ≡ true → asked setup w h e ≡ None) where
   abbrev among : Watcher → Bool
@@ -128,11 +122,7 @@ module _ (setup : Setup) (h : List Entry) (e : Entry) (legal : Legal setup (h �
       }
     where
       owned : hears setup s (layout_of p) ≡ true → owns_view setup s p ≡ true
-      owned heard = by_owner (view_owner setup p) heard
-        where
-          by_owner : (o : Option SessionNo) → unwrap_or (option_map (is_session s) (option_map Session o)) false ≡ true → unwrap_or (option_map (λ t. t.0 == s.0) o) false ≡ true
-          by_owner None h' = h'
-          by_owner (Some t) h' = h'
+      owned heard = owner-heard s (view_owner setup p) heard
 
       wrong_view : (v : Watcher) → IsMeant setup h s v → among v ≡ false → (watching setup v (h ▹ e)).last ≡ (watching setup v h).last
       wrong_view v meant gone = let wrong : true ≡ false = sym (meant-among v meant) ∙ gone in cc

@@ -1,5 +1,5 @@
 -- What the watchers of a session hold, and what an entry that asks none of them answers.
-use Rattle.std.proofs.Common.{◌≡◌, ◌≢◌, ◌∙◌, sym, subst, ℕ, suc, ◌<◌, Bool, true, false, List, [], ◌∷◌, ◌++◌, length, map, filter, refl, arith, ap, Some, None, append_assoc, inl, inr, ◌⊎◌}
+use Rattle.std.proofs.Common.{◌≡◌, ◌≢◌, ◌∙◌, sym, subst, ℕ, suc, ◌<◌, Bool, true, false, List, [], ◌∷◌, ◌++◌, length, map, filter, refl, arith, ap, Some, None, inl, inr, ◌⊎◌}
 use Rattle.std.specs.Prelude.{cond, not, Option, is_some, flat_map, option_and_then, option_map, unwrap_or, ◌==◌, ◌&&◌}
 use Rattle.std.specs.List.{list_all}
 use Rattle.std.specs.Result.{result_ok}
@@ -27,49 +27,23 @@ use Rattle.flat_core.specs.Legal.{owns_view, owns_viewport}
 use Rattle.flat_core.specs.Local.{pair_watched}
 use Rattle.flat_core.specs.Posts.{told_event, event_of, events_to, at_finish, at_begin, up_to}
 use Rattle.flat_core.specs.Watch.{Watcher, layout_of, status_of, child_of, watching, told, asked, is_open, listener, watcher_of, watcher_in, watcher_of_made, is_watcher}
+use Rattle.flat_core.proofs.AllOrSome.{all-append, all-every, all-flat, all-map, flat-map, flat-nested}
+use Rattle.flat_core.proofs.SameWatchers.{nothing-settled}
+use Rattle.std.proofs.lemmas.Grind.{flat_map-append}
 use Rattle.flat_core.proofs.EventsLocal.{flat-each, flat-same, views-owned, viewports-owned}
 use Rattle.flat_core.proofs.ViewHistory.{same-session}
 use Rattle.flat_core.proofs.Watchers.{settled-now, unasked}
 use Rattle.flat_core.proofs.ViewportSteps.{flat-filtered}
-
--- ---- lists
-
-pub flat-map : {X Y Z : Type 0} (f : Y → List Z) (g : X → Y) (xs : List X) → flat_map f (map g xs) ≡ flat_map (λ x. f (g x)) xs
-flat-map f g [] = refl
-flat-map f g (x ∷ xs) = ap (λ l. f (g x) ++ l) (flat-map f g xs)
-
-pub flat-append : {X Y : Type 0} (f : X → List Y) (xs ys : List X) → flat_map f (xs ++ ys) ≡ flat_map f xs ++ flat_map f ys
-flat-append f [] ys = refl
-flat-append f (x ∷ xs) ys = ap (λ l. f x ++ l) (flat-append f xs ys) ∙ sym (append_assoc (f x) (flat_map f xs) (flat_map f ys))
-
-pub flat-nested : {X Y Z : Type 0} (f : Y → List Z) (g : X → List Y) (xs : List X) → flat_map f (flat_map g xs) ≡ flat_map (λ x. flat_map f (g x)) xs
-flat-nested f g [] = refl
-flat-nested f g (x ∷ xs) = flat-append f (g x) (flat_map g xs) ∙ ap (λ l. flat_map f (g x) ++ l) (flat-nested f g xs)
-
-all-append : {X : Type 0} (o : X → Bool) (xs ys : List X) → list_all o xs ≡ true → list_all o ys ≡ true → list_all o (xs ++ ys) ≡ true
-all-append o [] ys first second = second
-all-append o (x ∷ xs) ys first second = let rest : list_all o (xs ++ ys) ≡ true = all-append o xs ys (grind arith) second in grind arith
-
-all-map : {X Y : Type 0} (o : Y → Bool) (q : X → Bool) (g : X → Y) → ((x : X) → q x ≡ true → o (g x) ≡ true) → (xs : List X) → list_all q xs ≡ true → list_all o (map g xs) ≡ true
-all-map o q g each [] all = refl
-all-map o q g each (x ∷ xs) all =
-    let first : o (g x) ≡ true = each x (grind arith) in
-    let rest : list_all o (map g xs) ≡ true = all-map o q g each xs (grind arith) in
-    rw (first, rest) refl
-
-all-flat : {X Y : Type 0} (o : Y → Bool) (q : X → Bool) (g : X → List Y) → ((x : X) → q x ≡ true → list_all o (g x) ≡ true) → (xs : List X) → list_all q xs ≡ true → list_all o (flat_map g xs) ≡ true
-all-flat o q g each [] all = refl
-all-flat o q g each (x ∷ xs) all = all-append o (g x) (flat_map g xs) (each x (grind arith)) (all-flat o q g each xs (grind arith))
-
-all-same : {X Y : Type 0} (o : Y → Bool) (g : X → Y) → ((x : X) → o (g x) ≡ true) → (xs : List X) → list_all o (map g xs) ≡ true
-all-same o g each [] = refl
-all-same o g each (x ∷ xs) = rw (each x, all-same o g each xs) refl
 
 -- ---- who hears
 
 pub owner-hears : (s : SessionNo) (o : Option SessionNo) → unwrap_or (option_map (λ t. t.0 == s.0) o) false ≡ true → unwrap_or (option_map (is_session s) (option_map Session o)) false ≡ true
 owner-hears s None owned = owned
 owner-hears s (Some t) owned = owned
+
+pub owner-heard : (s : SessionNo) (o : Option SessionNo) → unwrap_or (option_map (is_session s) (option_map Session o)) false ≡ true → unwrap_or (option_map (λ t. t.0 == s.0) o) false ≡ true
+owner-heard s None heard = heard
+owner-heard s (Some t) heard = heard
 
 module _ (setup : Setup) where
   -- a session is told of all its watchers
@@ -80,7 +54,7 @@ module _ (setup : Setup) where
       let views : (p : PairNo) → owns_view setup s p ≡ true → unwrap_or (option_map (is_session s) (option_map Session (view_owner setup p))) false ≡ true = λ p owned. owner-hears s (view_owner setup p) owned in
       all-append o (map layout_of (views_of setup s) ++ map status_of (views_of setup s)) _
       (all-append o (map layout_of (views_of setup s)) _ (all-map o (owns_view setup s) layout_of views (views_of setup s) (views-owned setup s)) (all-map o (owns_view setup s) status_of views (views_of setup s) (views-owned setup s)))
-      (all-flat o (owns_viewport setup s) children (λ p owned. all-same o (child_of p) (λ n. owned) (up_to (length (viewport_uses p h)))) (viewports_of setup s) (viewports-owned setup s))
+      (all-flat o (owns_viewport setup s) children (λ p owned. all-map o (λ n. true) (child_of p) (λ n any. owned) (up_to (length (viewport_uses p h))) (all-every (λ n. true) (λ n. refl) (up_to (length (viewport_uses p h))))) (viewports_of setup s) (viewports-owned setup s))
 
   heard-open : (o : Option Actor) (s : SessionNo) (h : List Entry) → unwrap_or (option_map (is_session s) o) false ≡ true → is_closed s h ≡ false → is_open setup o h ≡ true
   heard-open None s h heard opened = cc
@@ -158,7 +132,7 @@ module _ (setup : Setup) where
       let whole : flat_map t (watchers_of setup h s)
       ≡ (flat_map (λ p. told_event setup p (layout_of p) h e) views ++ flat_map (λ p. told_event setup p (status_of p) h e) views
       ++ flat_map (λ p. flat_map (λ n. told_event setup p (child_of p n) h e) (uses p)) (viewports_of setup s)) =
-      flat-append t (map layout_of views ++ map status_of views) children ∙ ap (λ (l : List Event). l ++ flat_map t children) (flat-append t (map layout_of views) (map status_of views))
+      flat_map-append t (map layout_of views ++ map status_of views) children ∙ ap (λ (l : List Event). l ++ flat_map t children) (flat_map-append t (map layout_of views) (map status_of views))
       ∙ three-same (flat-map t layout_of views) (flat-map t status_of views) third in
       sym whole ∙ flat-each t f (λ w. event-after w h e) (watchers_of setup h s) ∙ sym (flat-nested (λ one. event_of one.pair (Some one.get) (news_of now one)) (held_of setup h) (watchers_of setup h s))
     where
@@ -242,10 +216,6 @@ module _ (setup : Setup) (p : PairNo) (m : ℕ) where
       by_draft None = refl
       by_draft (Some d) = same-use setup p m h (watcher_in setup h d get) past (means-in setup h d get)
 
-  nothing-settled : (listens : Bool) (now : Option Told) → settled listens now (record { last = None; waits = None }) ≡ record { last = None; waits = None }
-  nothing-settled true now = refl
-  nothing-settled false now = refl
-
   fewer-uses : (b : Bool) (e : Entry) (xs : List Entry) → length (cond b (e ∷ xs) xs) < m → length xs < m
   fewer-uses true e xs past = omega (arith, past)
   fewer-uses false e xs past = past
@@ -275,7 +245,7 @@ module _ (setup : Setup) where
       let past : length (viewport_uses p h) < suc n = omega (arith, is) in
       let none : held_of setup (h ▹ e) (child_of p (suc n)) ≡ [] = ap (held_by (child_of p (suc n))) (next-fresh setup p (suc n) h e past (fresh-use setup p (suc n) h past)) in
       ap (λ (k : ℕ). flat_map (held_of setup (h ▹ e)) (map (child_of p) (up_to k))) next ∙ flat-map (held_of setup (h ▹ e)) (child_of p) (up_to n ++ suc n ∷ [])
-      ∙ flat-append (λ k. held_of setup (h ▹ e) (child_of p k)) (up_to n) (suc n ∷ []) ∙ ap (λ l. flat_map (λ k. held_of setup (h ▹ e) (child_of p k)) (up_to n) ++ (l ++ [])) none
+      ∙ flat_map-append (λ k. held_of setup (h ▹ e) (child_of p k)) (up_to n) (suc n ∷ []) ∙ ap (λ l. flat_map (λ k. held_of setup (h ▹ e) (child_of p k)) (up_to n) ++ (l ++ [])) none
       ∙ append-nil _ ∙ sym (flat-map (held_of setup (h ▹ e)) (child_of p) (up_to n))
 
   -- a new use adds nothing
@@ -286,9 +256,9 @@ module _ (setup : Setup) where
       let new : PairNo → List Watcher = λ p. map (child_of p) (up_to (length (viewport_uses p (h ▹ e)))) in
       let old : PairNo → List Watcher = λ p. map (child_of p) (up_to (length (viewport_uses p h))) in
       let each : (p : PairNo) → flat_map f (new p) ≡ flat_map f (old p) = λ p. held-uses p h e (uses_viewport p e.kind && is_done e.reply) (length (viewport_uses p h)) (length (viewport_uses p (h ▹ e))) refl refl in
-      flat-append f views (flat_map new (viewports_of setup s))
+      flat_map-append f views (flat_map new (viewports_of setup s))
       ∙ ap (λ l. flat_map f views ++ l) (flat-nested f new (viewports_of setup s) ∙ flat-each (λ p. flat_map f (new p)) (λ p. flat_map f (old p)) each (viewports_of setup s) ∙ sym (flat-nested f old (viewports_of setup s)))
-      ∙ sym (flat-append f views (flat_map old (viewports_of setup s)))
+      ∙ sym (flat_map-append f views (flat_map old (viewports_of setup s)))
 
   -- an entry that asks none of a session's watchers answers its held gets by what is told after it
   pub helds-settled : (s : SessionNo) (h : List Entry) (e : Entry) → is_closed s (h ▹ e) ≡ false → ((w : Watcher) → hears setup s w ≡ true → asked setup w h e ≡ None) → helds_of setup (h ▹ e) s ≡ still_held (told setup (h ▹ e)) (helds_of setup h s)

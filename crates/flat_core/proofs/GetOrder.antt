@@ -17,6 +17,9 @@ use Rattle.flat_core.specs.Legal.{owns_view, owns_viewport}
 use Rattle.flat_core.specs.Local.{pair_watched}
 use Rattle.flat_core.specs.Posts.{up_to}
 use Rattle.flat_core.specs.Watch.{Watcher, layout_of, status_of, child_of, same_watcher}
+use Rattle.flat_core.proofs.AllOrSome.{all-append, all-every, all-flat, all-map, and-both, any-flat, any-map, or-left, or-right}
+use Rattle.flat_core.proofs.SameWatchers.{same-is}
+use Rattle.std.proofs.lemmas.List.Folds.{list_any-append}
 use Rattle.flat_core.proofs.GetOwners.{IsMeant, of_layout, of_status, of_child}
 
 -- one watcher answers before another
@@ -37,29 +40,6 @@ precedes-once : (u w : Watcher) → precedes u w ≡ true → precedes w u ≡ f
 precedes-once u w is = earlier-once (rank (watched_by u)) (pair_watched u).0 (use_of (watched_by u)) (rank (watched_by w)) (pair_watched w).0 (use_of (watched_by w)) is
 
 -- ---- lists in order
-
-and-both : (a b : Bool) → a ≡ true → b ≡ true → (a && b) ≡ true
-and-both true b first second = second
-and-both false b first second = cc
-
-all-append : {X : Type 0} (o : X → Bool) (xs ys : List X) → list_all o xs ≡ true → list_all o ys ≡ true → list_all o (xs ++ ys) ≡ true
-all-append o [] ys first second = second
-all-append o (x ∷ xs) ys first second = let rest : list_all o (xs ++ ys) ≡ true = all-append o xs ys (grind arith) second in grind arith
-
-all-every : {X : Type 0} (o : X → Bool) → ((x : X) → o x ≡ true) → (xs : List X) → list_all o xs ≡ true
-all-every o each [] = refl
-all-every o each (x ∷ xs) = rw (each x, all-every o each xs) refl
-
-all-mapped : {X Y : Type 0} (o : Y → Bool) (q : X → Bool) (g : X → Y) → ((x : X) → q x ≡ true → o (g x) ≡ true) → (xs : List X) → list_all q xs ≡ true → list_all o (map g xs) ≡ true
-all-mapped o q g each [] all = refl
-all-mapped o q g each (x ∷ xs) all =
-    let first : o (g x) ≡ true = each x (grind arith) in
-    let rest : list_all o (map g xs) ≡ true = all-mapped o q g each xs (grind arith) in
-    rw (first, rest) refl
-
-all-flat : {X Y : Type 0} (o : Y → Bool) (q : X → Bool) (g : X → List Y) → ((x : X) → q x ≡ true → list_all o (g x) ≡ true) → (xs : List X) → list_all q xs ≡ true → list_all o (flat_map g xs) ≡ true
-all-flat o q g each [] all = refl
-all-flat o q g each (x ∷ xs) all = all-append o (g x) (flat_map g xs) (each x (grind arith)) (all-flat o q g each xs (grind arith))
 
 order-append : (us ws : List Watcher) → in_order us ≡ true → in_order ws ≡ true → list_all (λ u. list_all (precedes u) ws) us ≡ true → in_order (us ++ ws) ≡ true
 order-append [] ws first second across = second
@@ -94,7 +74,7 @@ pairs-rise test n (pair ∷ pairs) = by_test (pairs-rise test (n + 1) pairs) (te
 order-pairs : (f : PairNo → Watcher) → ((p q : PairNo) → nat_lt p.0 q.0 ≡ true → precedes (f p) (f q) ≡ true) → (ps : List PairNo) → rising ps ≡ true → in_order (map f ps) ≡ true
 order-pairs f keeps [] rise = refl
 order-pairs f keeps (p ∷ ps) rise =
-    and-both _ _ (all-mapped (precedes (f p)) (λ q. nat_lt p.0 q.0) f (keeps p) ps (grind arith)) (order-pairs f keeps ps (grind arith))
+    and-both _ _ (all-map (precedes (f p)) (λ q. nat_lt p.0 q.0) f (keeps p) ps (grind arith)) (order-pairs f keeps ps (grind arith))
 
 same-rank : (r p q n m : ℕ) → nat_lt p q ≡ true → earlier r p n r q m ≡ true
 same-rank r p q n m less = grind (arith, nat_tests)
@@ -112,7 +92,7 @@ order-uses p zero = refl
 order-uses p (suc n) =
     ap in_order (map-append (child_of p) (up_to n) (suc n ∷ []))
     ∙ order-append (map (child_of p) (up_to n)) (child_of p (suc n) ∷ []) (order-uses p n) refl
-    (all-mapped (λ u. list_all (precedes u) (child_of p (suc n) ∷ [])) (λ k. nat_lt k (suc n)) (child_of p) (λ k less. one k less) (up_to n) (below n (suc n) (omega arith)))
+    (all-map (λ u. list_all (precedes u) (child_of p (suc n) ∷ [])) (λ k. nat_lt k (suc n)) (child_of p) (λ k less. one k less) (up_to n) (below n (suc n) (omega arith)))
   where
     below : (n m : ℕ) → n < m → list_all (λ k. nat_lt k m) (up_to n) ≡ true
     below zero m less = refl
@@ -127,8 +107,8 @@ order-children uses (p ∷ ps) rise =
     let block : PairNo → List Watcher = λ q. map (child_of q) (up_to (uses q)) in
     let above : list_all (λ q. nat_lt p.0 q.0) ps ≡ true = grind arith in
     order-append (block p) (flat_map block ps) (order-uses p (uses p)) (order-children uses ps (grind arith))
-    (all-mapped (λ u. list_all (precedes u) (flat_map block ps)) (λ k. true) (child_of p)
-    (λ k any. all-flat (precedes (child_of p k)) (λ q. nat_lt p.0 q.0) block (λ q less. all-mapped (precedes (child_of p k)) (λ m. true) (child_of q) (λ m ever. same-rank 2 p.0 q.0 k m less) (up_to (uses q)) (all-every (λ m. true) (λ m. refl) (up_to (uses q)))) ps above)
+    (all-map (λ u. list_all (precedes u) (flat_map block ps)) (λ k. true) (child_of p)
+    (λ k any. all-flat (precedes (child_of p k)) (λ q. nat_lt p.0 q.0) block (λ q less. all-map (precedes (child_of p k)) (λ m. true) (child_of q) (λ m ever. same-rank 2 p.0 q.0 k m less) (up_to (uses q)) (all-every (λ m. true) (λ m. refl) (up_to (uses q)))) ps above)
     (up_to (uses p)) (all-every (λ k. true) (λ k. refl) (up_to (uses p))))
 
 all-true : {X : Type 0} (xs : List X) → list_all (λ x. true) xs ≡ true
@@ -143,14 +123,14 @@ watchers-order setup h s =
     let children : List Watcher = flat_map block (viewports_of setup s) in
     let rise : rising views ≡ true = pairs-rise (λ pair. pair.view.0 == s.0) 0 setup.pairs in
     let to_children : (u : Watcher) → ((q : PairNo) (m : ℕ) → precedes u (child_of q m) ≡ true) → list_all (precedes u) children ≡ true =
-    λ u each. all-flat (precedes u) (λ q. true) block (λ q t. all-mapped (precedes u) (λ m. true) (child_of q) (λ m t'. each q m) (up_to (length (viewport_uses q h))) (all-true (up_to (length (viewport_uses q h))))) (viewports_of setup s) (all-true (viewports_of setup s)) in
+    λ u each. all-flat (precedes u) (λ q. true) block (λ q t. all-map (precedes u) (λ m. true) (child_of q) (λ m t'. each q m) (up_to (length (viewport_uses q h))) (all-true (up_to (length (viewport_uses q h))))) (viewports_of setup s) (all-true (viewports_of setup s)) in
     order-append (layouts ++ statuses) children
     (order-append layouts statuses (order-pairs layout_of (λ p q less. same-rank 0 p.0 q.0 0 0 less) views rise) (order-pairs status_of (λ p q less. same-rank 1 p.0 q.0 0 0 less) views rise)
-    (all-mapped (λ u. list_all (precedes u) statuses) (λ p. true) layout_of (λ p t. all-mapped (precedes (layout_of p)) (λ q. true) status_of (λ q t'. refl) views (all-true views)) views (all-true views)))
+    (all-map (λ u. list_all (precedes u) statuses) (λ p. true) layout_of (λ p t. all-map (precedes (layout_of p)) (λ q. true) status_of (λ q t'. refl) views (all-true views)) views (all-true views)))
     (order-children (λ p. length (viewport_uses p h)) (viewports_of setup s) (pairs-rise (λ pair. is_session s pair.viewport) 0 setup.pairs))
     (all-append (λ u. list_all (precedes u) children) layouts statuses
-    (all-mapped (λ u. list_all (precedes u) children) (λ p. true) layout_of (λ p t. to_children (layout_of p) (λ q m. refl)) views (all-true views))
-    (all-mapped (λ u. list_all (precedes u) children) (λ p. true) status_of (λ p t. to_children (status_of p) (λ q m. refl)) views (all-true views)))
+    (all-map (λ u. list_all (precedes u) children) (λ p. true) layout_of (λ p t. to_children (layout_of p) (λ q m. refl)) views (all-true views))
+    (all-map (λ u. list_all (precedes u) children) (λ p. true) status_of (λ p t. to_children (status_of p) (λ q m. refl)) views (all-true views)))
 
 -- ---- one held get more
 
@@ -195,20 +175,6 @@ absent f g u same (w ∷ ws) all =
     apart (child_of p m) (layout_of q) is = refl
     apart (child_of p m) (status_of q) is = refl
 
-pub same-is : (u w : Watcher) → same_watcher u w ≡ true → u ≡ w
-same-is (layout_of p) (layout_of q) is = let n : p.0 ≡ q.0 = grind (arith, nat_tests) in ap (λ (k : ℕ). layout_of (record { 0 = k })) n
-same-is (status_of p) (status_of q) is = let n : p.0 ≡ q.0 = grind (arith, nat_tests) in ap (λ (k : ℕ). status_of (record { 0 = k })) n
-same-is (child_of p m) (child_of q n) is =
-    let pairs : p.0 ≡ q.0 = grind (arith, nat_tests) in
-    let uses : m ≡ n = grind (arith, nat_tests) in
-    ap (λ (k : ℕ). child_of (record { 0 = k }) m) pairs ∙ ap (child_of q) uses
-same-is (layout_of p) (status_of q) is = cc
-same-is (layout_of p) (child_of q n) is = cc
-same-is (status_of p) (layout_of q) is = cc
-same-is (status_of p) (child_of q n) is = cc
-same-is (child_of p m) (layout_of q) is = cc
-same-is (child_of p m) (status_of q) is = cc
-
 found-follows : (u w : Watcher) (ws : List Watcher) → list_all (precedes w) ws ≡ true → list_any (same_watcher u) ws ≡ true → precedes w u ≡ true
 found-follows u w [] all some = cc
 found-follows u w (v ∷ ws) all some = by_same (found-follows u w ws (grind arith)) (same_watcher u v) refl some
@@ -248,38 +214,6 @@ insert-held one u pair watched f g own none new others (w ∷ ws) order some = b
 
 -- ---- a watcher that a get means is the session's
 
-any-append : {X : Type 0} (o : X → Bool) (xs ys : List X) → list_any o (xs ++ ys) ≡ (list_any o xs || list_any o ys)
-any-append o [] ys = refl
-any-append o (x ∷ xs) ys = by_first (o x) (any-append o xs ys)
-  where
-    by_first : (b : Bool) → list_any o (xs ++ ys) ≡ (list_any o xs || list_any o ys) → (b || list_any o (xs ++ ys)) ≡ ((b || list_any o xs) || list_any o ys)
-    by_first true rest = refl
-    by_first false rest = rest
-
-or-left : (a b : Bool) → a ≡ true → (a || b) ≡ true
-or-left true b is = refl
-or-left false b is = cc
-
-or-right : (a b : Bool) → b ≡ true → (a || b) ≡ true
-or-right true b is = refl
-or-right false b is = is
-
-any-mapped : {X Y : Type 0} (o : Y → Bool) (q : X → Bool) (g : X → Y) → ((x : X) → q x ≡ true → o (g x) ≡ true) → (xs : List X) → list_any q xs ≡ true → list_any o (map g xs) ≡ true
-any-mapped o q g each [] some = cc
-any-mapped o q g each (x ∷ xs) some = by_first (any-mapped o q g each xs) (q x) refl some
-  where
-    by_first : (list_any q xs ≡ true → list_any o (map g xs) ≡ true) → (b : Bool) → q x ≡ b → (b || list_any q xs) ≡ true → (o (g x) || list_any o (map g xs)) ≡ true
-    by_first later true is some' = or-left (o (g x)) (list_any o (map g xs)) (each x is)
-    by_first later false is some' = or-right (o (g x)) (list_any o (map g xs)) (later some')
-
-any-flat : {X Y : Type 0} (o : Y → Bool) (q : X → Bool) (g : X → List Y) → ((x : X) → q x ≡ true → list_any o (g x) ≡ true) → (xs : List X) → list_any q xs ≡ true → list_any o (flat_map g xs) ≡ true
-any-flat o q g each [] some = cc
-any-flat o q g each (x ∷ xs) some = any-append o (g x) (flat_map g xs) ∙ by_first (any-flat o q g each xs) (q x) refl some
-  where
-    by_first : (list_any q xs ≡ true → list_any o (flat_map g xs) ≡ true) → (b : Bool) → q x ≡ b → (b || list_any q xs) ≡ true → (list_any o (g x) || list_any o (flat_map g xs)) ≡ true
-    by_first later true is some' = or-left (list_any o (g x)) (list_any o (flat_map g xs)) (each x is)
-    by_first later false is some' = or-right (list_any o (g x)) (list_any o (flat_map g xs)) (later some')
-
 pair-found : (test : PairDecl → Bool) (n k : ℕ) (pairs : List PairDecl) (q : PairNo) → q.0 ≡ n + k → unwrap_or (option_map test (slice_get pairs k)) false ≡ true → list_any (λ p. p.0 == q.0) (pairs_where test n pairs) ≡ true
 pair-found test n k [] q at here = cc
 pair-found test n zero (pair ∷ pairs) q at here = let same : (n == q.0) ≡ true = grind (arith, nat_tests) in rw (here, same) refl
@@ -309,20 +243,20 @@ meant-found setup h s w (of_layout q owned) =
     let layouts : List Watcher = map layout_of (views_of setup s) in
     let statuses : List Watcher = map status_of (views_of setup s) in
     let o : Watcher → Bool = same_watcher (layout_of q) in
-    any-append o (layouts ++ statuses) _ ∙ or-left (list_any o (layouts ++ statuses)) _ (any-append o layouts statuses ∙ or-left (list_any o layouts) (list_any o statuses)
-    (any-mapped o (λ p. p.0 == q.0) layout_of (λ p is. grind (arith, nat_tests)) (views_of setup s) (views-found setup s q owned)))
+    list_any-append o (layouts ++ statuses) _ ∙ or-left (list_any o (layouts ++ statuses)) _ (list_any-append o layouts statuses ∙ or-left (list_any o layouts) (list_any o statuses)
+    (any-map o (λ p. p.0 == q.0) layout_of (λ p is. grind (arith, nat_tests)) (views_of setup s) (views-found setup s q owned)))
 meant-found setup h s w (of_status q owned) =
     let layouts : List Watcher = map layout_of (views_of setup s) in
     let statuses : List Watcher = map status_of (views_of setup s) in
     let o : Watcher → Bool = same_watcher (status_of q) in
-    any-append o (layouts ++ statuses) _ ∙ or-left (list_any o (layouts ++ statuses)) _ (any-append o layouts statuses ∙ or-right (list_any o layouts) (list_any o statuses)
-    (any-mapped o (λ p. p.0 == q.0) status_of (λ p is. grind (arith, nat_tests)) (views_of setup s) (views-found setup s q owned)))
+    list_any-append o (layouts ++ statuses) _ ∙ or-left (list_any o (layouts ++ statuses)) _ (list_any-append o layouts statuses ∙ or-right (list_any o layouts) (list_any o statuses)
+    (any-map o (λ p. p.0 == q.0) status_of (λ p is. grind (arith, nat_tests)) (views_of setup s) (views-found setup s q owned)))
 meant-found setup h s w (of_child q owned some) =
     let views : List Watcher = map layout_of (views_of setup s) ++ map status_of (views_of setup s) in
     let u : ℕ = length (viewport_uses q h) in
     let o : Watcher → Bool = same_watcher (child_of q (length (viewport_uses q h))) in
     let block : PairNo → List Watcher = λ p. map (child_of p) (up_to (length (viewport_uses p h))) in
-    any-append o views (flat_map block (viewports_of setup s)) ∙ or-right (list_any o views) _
+    list_any-append o views (flat_map block (viewports_of setup s)) ∙ or-right (list_any o views) _
     (any-flat o (λ p. p.0 == q.0) block (λ p is.
     let number : p.0 ≡ q.0 = grind (arith, nat_tests) in
     let same : q ≡ p = ap (λ (n : ℕ). let r : PairNo = record { 0 = n } in r) (sym number) in
@@ -334,4 +268,4 @@ meant-found setup h s w (of_child q owned some) =
     last-found p (suc n) some =
         let o : Watcher → Bool = same_watcher (child_of p (suc n)) in
         let itself : same_watcher (child_of p (suc n)) (child_of p (suc n)) ≡ true = grind (arith, nat_tests) in
-        ap (list_any o) (map-append (child_of p) (up_to n) (suc n ∷ [])) ∙ any-append o (map (child_of p) (up_to n)) (child_of p (suc n) ∷ []) ∙ or-right (list_any o (map (child_of p) (up_to n))) _ (rw itself refl)
+        ap (list_any o) (map-append (child_of p) (up_to n) (suc n ∷ [])) ∙ list_any-append o (map (child_of p) (up_to n)) (child_of p (suc n) ∷ []) ∙ or-right (list_any o (map (child_of p) (up_to n))) _ (rw itself refl)

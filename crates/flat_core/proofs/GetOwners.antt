@@ -29,6 +29,7 @@ use Rattle.flat_core.proofs.Lives.{pair_made}
 use Rattle.flat_core.proofs.Owned.{IsOwned, draft-owned, made_owned, view_owned}
 use Rattle.flat_core.proofs.OwnedTree.{at-serial}
 use Rattle.flat_core.proofs.Serials.{draft-contents, serials-count}
+use Rattle.flat_core.proofs.SameWatchers.{same-is}
 use Rattle.flat_core.proofs.ShownOwned.{all-calls-owned, ok-is}
 use Rattle.flat_core.proofs.Uses.{uses-made, none-made}
 use Rattle.flat_core.proofs.ViewHistory.{same-session}
@@ -134,20 +135,6 @@ module _ (setup : Setup) where
       let first : who ≡ Session s = same-session s who a in
       let second : who ≡ Session t = same-session t who b in
       let same : Session s ≡ Session t = sym first ∙ second in cc
-
-  same-is : (u w : Watcher) → same_watcher u w ≡ true → u ≡ w
-  same-is (layout_of p) (layout_of q) is = let n : p.0 ≡ q.0 = grind (arith, nat_tests) in ap (λ (k : ℕ). layout_of (record { 0 = k })) n
-  same-is (status_of p) (status_of q) is = let n : p.0 ≡ q.0 = grind (arith, nat_tests) in ap (λ (k : ℕ). status_of (record { 0 = k })) n
-  same-is (child_of p m) (child_of q n) is =
-      let pairs : p.0 ≡ q.0 = grind (arith, nat_tests) in
-      let uses : m ≡ n = grind (arith, nat_tests) in
-      ap (λ (k : ℕ). child_of (record { 0 = k }) m) pairs ∙ ap (child_of q) uses
-  same-is (layout_of p) (status_of q) is = cc
-  same-is (layout_of p) (child_of q n) is = cc
-  same-is (status_of p) (layout_of q) is = cc
-  same-is (status_of p) (child_of q n) is = cc
-  same-is (child_of p m) (layout_of q) is = cc
-  same-is (child_of p m) (status_of q) is = cc
 
   -- another session's get asks nothing of a session's watchers
   pub others-unasked : (h : List Entry) (e : Entry) → Legal setup (h ▹ e) → (s : SessionNo) → is_session s e.actor ≡ false → (w : Watcher) → hears setup s w ≡ true → asked setup w h e ≡ None

@@ -34,7 +34,8 @@ use Rattle.flat_core.specs.Posts.{releases_seen, event_of, events_to, at_finish,
 use Rattle.flat_core.specs.Watch.{Watcher, layout_of, status_of, child_of, watching, told, asked, asked_in, is_open, listener, same_watcher}
 use Rattle.flat_core.proofs.Between.{is_viewport}
 use Rattle.flat_core.proofs.EventsLocal.{rest-none, flat-none}
-use Rattle.flat_core.proofs.GetHistory.{event-after, helds-kept, helds-settled, hears-open, told-part, watchers-heard, flat-nested}
+use Rattle.flat_core.proofs.AllOrSome.{flat-nested}
+use Rattle.flat_core.proofs.GetHistory.{owner-heard, event-after, helds-kept, helds-settled, hears-open, told-part, watchers-heard}
 use Rattle.flat_core.proofs.GetLists.{answered-or-held}
 use Rattle.flat_core.proofs.GetOwners.{others-unasked}
 use Rattle.flat_core.proofs.ShownSteps.{closed-before}
@@ -178,10 +179,6 @@ untold-kind setup h e legal no_get = ap is_now legal.1.reply ∙ by_kind e.actor
 and-none : (a b : Bool) → b ≡ false → (a && b) ≡ false
 and-none true b is = is
 and-none false b is = refl
-
-owner-heard : (s : SessionNo) (o : Option SessionNo) → unwrap_or (option_map (is_session s) (option_map Session o)) false ≡ true → unwrap_or (option_map (λ t. t.0 == s.0) o) false ≡ true
-owner-heard s None heard = heard
-owner-heard s (Some t) heard = heard
 
 -- a view that isn't refused wasn't made before
 new-view : (n : ℕ) (reply : Reply) (b : Bool) → (n == 0) ≡ b → reply ≡ cond b Done refused_token → is_done reply ≡ true → nat_lt 0 n ≡ false

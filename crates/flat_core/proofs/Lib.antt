@@ -1,3 +1,4 @@
+pub mod AllOrSome
 pub mod Backs
 pub mod BeginLoop
 pub mod BeginSteps
@@ -26,6 +27,7 @@ pub mod GetEnds
 pub mod GetExamples
 pub mod GetHistory
 pub mod GetLists
+pub mod GetMeans
 pub mod GetOrder
 pub mod GetOwners
 pub mod GetPosts
@@ -64,6 +66,7 @@ pub mod Reached
 pub mod ReachedSteps
 pub mod RepliesLocal
 pub mod Runs
+pub mod SameWatchers
 pub mod Samples
 pub mod SerialSteps
 pub mod Serials

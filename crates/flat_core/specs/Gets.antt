@@ -1,5 +1,6 @@
 -- What is kept of held gets, and what answers them.
 use Rattle.std.specs.Prelude.{◌≡◌, ◌≤◌, ◌<◌, ◌+◌, ℕ, Bool, true, false, cond, not, ◌&&◌, ◌||◌, ◌==◌, nat_le, nat_lt, List, [], ◌∷◌, ◌++◌, filter, flat_map, map, length, slice_index_or, Option, Some, None, is_some, unwrap_or, option_map}
+use Rattle.std.specs.List.{list_any}
 use Rattle.flat_base.specs.declared.ids.Actor.{Actor}
 use Rattle.flat_base.specs.declared.ids.Actor.TheVariants.{Session}
 use Rattle.flat_base.specs.declared.ids.PairNo.{PairNo}
@@ -20,10 +21,12 @@ use Rattle.flat_core.specs.declared.gets.Answered.{Answered}
 use Rattle.flat_core.specs.declared.gets.HeldGet.{HeldGet}
 use Rattle.flat_core.specs.declared.gets.Watched.{Watched}
 use Rattle.flat_core.specs.declared.gets.Watched.TheVariants as watches
+use Rattle.flat_core.specs.declared.live.Live.{Live}
 use Rattle.flat_core.specs.Begins.{post_of}
 use Rattle.flat_core.specs.Ends.{views_of, viewports_of, viewport_owner, viewport_uses}
 use Rattle.flat_core.specs.Kept.{AllNumbered}
 use Rattle.flat_core.specs.Legal.{answers, got, is_now, number_if}
+use Rattle.flat_core.specs.Lives.{pair_named}
 use Rattle.flat_core.specs.Local.{pair_watched}
 use Rattle.flat_core.specs.Posts.{event_of, up_to}
 use Rattle.flat_core.specs.Watch.{Watcher, layout_of, status_of, child_of, watching, listener, same_watcher}
@@ -46,6 +49,12 @@ abbrev pub watched_of : ℕ → Watch → Watched
 watched_of uses watch.Layout = watches.Layout
 watched_of uses watch.Status = watches.Status
 watched_of uses (watch.Child c) = watches.Child uses
+
+-- the pair that a get means, where its session's calls leave it this view and these live viewports
+abbrev pub means_pair : Option PairNo → List Live → Watch → Option PairNo
+means_pair view lives watch.Layout = view
+means_pair view lives watch.Status = view
+means_pair view lives (watch.Child c) = pair_named lives c.0
 
 -- the order in which watchers are answered: layouts, statuses, children; by rising pairs; by rising uses
 abbrev pub rank : Watched → ℕ
@@ -76,8 +85,7 @@ held_by watcher w = held_with watcher w.last w.waits
 
 -- a get of this is held
 abbrev pub is_held_in : PairNo → Watched → List HeldGet → Bool
-is_held_in p watched [] = false
-is_held_in p watched (one ∷ more) = same_watcher (watcher_of_held one) (watcher_for p watched) || is_held_in p watched more
+is_held_in p watched held = list_any (λ one. same_watcher (watcher_of_held one) (watcher_for p watched)) held
 
 -- one held get more, in its place, and that place
 abbrev pub with_held : HeldGet → List HeldGet → List HeldGet
