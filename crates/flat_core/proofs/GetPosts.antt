@@ -121,7 +121,7 @@ module _ (setup : Setup) (h : List Entry) (e : Entry) (legal : Legal setup (h �
               let differ : u.0 ≢ m = λ equal. other (sym equal ∙ same) in
               grind (arith, nat_tests)
 
-  one-owner : (o : Option SessionNo) (s t : SessionNo) → unwrap_or (option_map (λ u. u.0 == s.0) o) false ≡ true → unwrap_or (option_map (λ u. u.0 == t.0) o) false ≡ true → s.0 ≡ t.0
+  pub one-owner : (o : Option SessionNo) (s t : SessionNo) → unwrap_or (option_map (λ u. u.0 == s.0) o) false ≡ true → unwrap_or (option_map (λ u. u.0 == t.0) o) false ≡ true → s.0 ≡ t.0
   one-owner None s t a b = cc
   one-owner (Some u) s t a b = grind (arith, nat_tests)
 

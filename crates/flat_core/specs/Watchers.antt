@@ -1,5 +1,5 @@
 -- What is kept of the gets of all sessions, and of what all watchers answered last.
-use Rattle.std.specs.Prelude.{◌≡◌, ◌⊎◌, ◌<◌, ◌+◌, ◌-◌, ◌^◌, ℕ, Bool, true, false, nat_lt, List, length, slice_index_or, slice_set, Option}
+use Rattle.std.specs.Prelude.{◌≡◌, ◌⊎◌, ◌<◌, ◌+◌, ◌-◌, ◌^◌, ℕ, Bool, true, false, nat_lt, cond, List, length, slice_index_or, slice_set, Option}
 use Rattle.flat_base.specs.declared.ids.PairNo.{PairNo}
 use Rattle.flat_base.specs.declared.ids.SessionNo.{SessionNo}
 use Rattle.flat_scene.specs.declared.calls.ViewportProps.{ViewportProps}
@@ -7,7 +7,8 @@ use Rattle.flat_scene.specs.declared.calls.Watch.{Watch}
 use Rattle.flat_scene.specs.declared.journal.Entry.{Entry}
 use Rattle.flat_scene.specs.declared.journal.Kind.TheVariants.{Viewport}
 use Rattle.flat_scene.specs.declared.journal.Post.{Post}
-use Rattle.flat_scene.specs.declared.journal.Reply.TheVariants.{Done}
+use Rattle.flat_scene.specs.declared.journal.Reply.{Reply}
+use Rattle.flat_scene.specs.declared.journal.Reply.TheVariants.{Done, Held}
 use Rattle.flat_scene.specs.declared.journal.Told.{Told}
 use Rattle.flat_scene.specs.declared.setup.Setup.{Setup}
 use Rattle.flat_scene.specs.History.{◌▹◌, is_closed}
@@ -19,33 +20,42 @@ use Rattle.flat_core.specs.Boards.{number}
 use Rattle.flat_core.specs.Ends.{view_uses, viewport_uses}
 use Rattle.flat_core.specs.Flags.{has_end}
 use Rattle.flat_core.specs.Following.{AreTied}
-use Rattle.flat_core.specs.Gets.{AllAnswered, AreGets, Settles, watched_of, watcher_for}
+use Rattle.flat_core.specs.Gets.{AllAnswered, AllUpTo, AreGets, Asks, Settles, watched_of, watcher_for}
 use Rattle.flat_core.specs.Kept.{AllNumbered}
 use Rattle.flat_core.specs.Legal.{Legal, answers, owns_view}
-use Rattle.flat_core.specs.Watch.{Watcher}
+use Rattle.flat_core.specs.Watch.{Watcher, told}
 
 -- the watcher of a pair that a get means
 abbrev pub watcher_meant : List Entry → Watch → PairNo → Watcher
 watcher_meant history get p = watcher_for p (watched_of (length (viewport_uses p history)) get)
 
 -- What is kept of the gets of a session stands for them; how many answers it has had is known also of a closed one.
-pub record AreOwnGets (setup : Setup) (history : List Entry) (i : ℕ) (gets : Gets) : Type 0 where
-  pub held : AreGets setup history (number i) gets.held.items gets.answers
-  pub counted : gets.answers ≡ answers setup (number i) history
+pub record AreOwnGets (setup : Setup) (history : List Entry) (s : SessionNo) (gets : Gets) : Type 0 where
+  pub held : AreGets setup history s gets.held.items gets.answers
+  pub counted : gets.answers ≡ answers setup s history
 
 -- The same of all sessions, and of all pairs.
 pub record AreWatched (setup : Setup) (history : List Entry) (gets : List Gets) (last : List Answered) : Type 0 where
   pub count : length gets ≡ setup.sessions
-  pub each : AllNumbered (AreOwnGets setup history) gets
+  pub each : AllNumbered (λ i. AreOwnGets setup history (number i)) gets
   pub answered : AllAnswered setup history last
+
+-- whether a get waits by its reply
+abbrev pub is_held : Reply → Bool
+is_held Held = true
+is_held _ = false
 
 -- how many events may still be posted for a session's gets that wait
 abbrev pub due_told : Gets → ℕ
 due_told gets = length gets.held.items
 
--- its answers and its gets that wait are few
+-- its answers and its gets that wait are few, with one more
 abbrev pub is_few : ℕ → Gets → Type 0
-is_few i gets = gets.answers + length gets.held.items < 2 ^ 32
+is_few i gets = gets.answers + length gets.held.items + 1 < 2 ^ 32
+
+-- a pair's viewport end was used few times
+abbrev pub is_seldom : ℕ → Answered → Type 0
+is_seldom i one = one.uses + 1 < 2 ^ 32
 
 -- The gets of a session that wait are answered where there is news, and others aren't.
 pub record IsSettled (now : Watcher → Option Told) (place : ℕ) (s : SessionNo) (old new : List Gets) (was last : List Answered) (posts after : List Post) (count : ℕ) : Type 0 where
@@ -55,6 +65,24 @@ pub record IsSettled (now : Watcher → Option Told) (place : ℕ) (s : SessionN
   pub new_is : new ≡ slice_set old (s.0 - 1) then
   pub settles : Settles now place s before.held.items then.held.items was last posts after count
   pub total : then.answers ≡ before.answers + count
+
+-- A session asks for a value of a pair, as it is told after the history.
+pub record IsAsked (setup : Setup) (history : List Entry) (s : SessionNo) (p : PairNo) (get : Watch) (reply : Reply) (old new : List Gets) (was last : List Answered) : Type 0 where
+  pub before : Gets
+  pub then : Gets
+  pub pair : Answered
+  pub asked : Answered
+  pub of_before : before ≡ slice_index_or old (s.0 - 1) before
+  pub new_is : new ≡ slice_set old (s.0 - 1) then
+  pub of_pair : pair ≡ slice_index_or was p.0 pair
+  pub last_is : last ≡ slice_set was p.0 asked
+  pub asks : Asks p get (told setup history (watcher_for p (watched_of pair.uses get))) pair asked before.held.items then.held.items before.answers then.answers reply
+
+-- What is kept at the end of a frame, where the first so many sessions were told.
+pub record WatchedUpTo (setup : Setup) (n : ℕ) (after before : List Entry) (gets : List Gets) (last : List Answered) : Type 0 where
+  pub count : length gets ≡ setup.sessions
+  pub each : AllNumbered (λ i. AreOwnGets setup (cond (nat_lt i n) after before) (number i)) gets
+  pub answered : AllUpTo setup n after before last
 
 -- An entry uses the viewport end of a pair, whose view this session owns. It is closed, or isn't one of the setup.
 pub record IsJoin (setup : Setup) (history : List Entry) (entry : Entry) (owner : SessionNo) (shut : Bool) (p : PairNo) : Type 0 where

@@ -72,7 +72,7 @@ fn news(now: Option<Told>, last: Option<Told>) -> Option<Told>
 }
 
 /// What is told of this.
-fn told_of<T: Tells>(tells: &T, pair: PairNo, watched: Watched) -> Option<Told>
+pub fn told_of<T: Tells>(tells: &T, pair: PairNo, watched: Watched) -> Option<Told>
     ensures { (setup : Setup) (history : List Entry) → T.stands tells.now setup history → result ≡ told setup history (watcher_for pair watched) }
 {
     match watched {

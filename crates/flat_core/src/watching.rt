@@ -1,16 +1,17 @@
-ghost use Rattle.std.specs.Prelude.{◌≡◌, ◌+◌, ◌-◌, ◌<◌, ◌≤◌, ◌^◌, ℕ, true, false, [], List, length, slice_index_or, sum_by, IfOk};
+ghost use Rattle.std.specs.Prelude.{◌≡◌, ◌+◌, ◌-◌, ◌<◌, ◌≤◌, ◌^◌, ℕ, true, false, [], List, length, slice_index_or, sum_by, IfErr, IfOk};
 ghost use Rattle.flat_scene.specs.declared.journal.Entry.{Entry};
 ghost use Rattle.flat_scene.specs.declared.setup.Setup.{Setup};
 ghost use Rattle.flat_scene.specs.History.{◌▹◌};
 ghost use Rattle.flat_core.specs.Kept.{AllNumbered};
+ghost use Rattle.flat_core.specs.Legal.{number_if};
 ghost use Rattle.flat_core.specs.Posts.{posts};
 ghost use Rattle.flat_core.specs.Watch.{told};
-ghost use Rattle.flat_core.specs.Watchers.{AreWatched, IsJoin, IsSettled, due_told, is_few};
+ghost use Rattle.flat_core.specs.Watchers.{AreWatched, IsJoin, IsAsked, IsSettled, WatchedUpTo, due_told, is_few, is_held, is_seldom};
 
-use crate::gets::{Answered, Gets, Tells, new_answers};
+use crate::gets::{Answered, Gets, Tells, Watched, new_answers, told_of};
 use crate::log::Log;
 use flat_base::{NoMemory, PairNo, SessionNo};
-use flat_scene::Setup;
+use flat_scene::{Reply, Setup, Watch};
 use std::alloc::Global;
 
 /// What is kept of the gets of all sessions, and what the watchers of all pairs
@@ -70,6 +71,39 @@ impl Watchers {
         gets.settle(s, tells, self.answered.as_mut_slice(), log)
     }
 
+    /// A session asks for a value of a pair. The room is made for one get more that
+    /// waits, and for so many posts.
+    pub fn ask<T: Tells>(
+        &mut self,
+        s: SessionNo,
+        p: PairNo,
+        get: Watch,
+        tells: &T,
+        log: &mut Log,
+        posts: usize,
+    ) -> Result<Reply, NoMemory>
+        requires some { 0 < s.0 }
+        requires within { s.0 ≤ length self.old.gets.items }
+        requires known { p.0 < length self.old.answered.items }
+        requires few { AllNumbered is_few self.old.gets.items }
+        ensures asked { IfOk result (λ reply. (setup : Setup) (history : List Entry) → T.stands tells.now setup history → IsAsked setup history s p get reply self.old.gets.items self.new.gets.items self.old.answered.items self.new.answered.items) }
+        ensures due { IfOk result (λ reply. sum_by due_told self.new.gets.items ≤ sum_by due_told self.old.gets.items + number_if (is_held reply)) }
+        ensures reserved { IfOk result (λ reply. posts ≤ log.new.post_room) }
+        ensures watched { IfErr result (λ e. (setup : Setup) (history : List Entry) → AreWatched setup history self.old.gets.items self.old.answered.items → AreWatched setup history self.new.gets.items self.new.answered.items) }
+        ensures same_due { IfErr result (λ e. sum_by due_told self.new.gets.items ≡ sum_by due_told self.old.gets.items) }
+        ensures history { log.new.history ≡ log.old.history }
+        ensures posts { log.new.posts ≡ log.old.posts }
+        ensures room { log.new.room ≡ log.old.room }
+        ensures post_room { log.old.post_room ≤ log.new.post_room }
+    {
+        log.reserve(posts)?;
+        let gets = &mut self.gets[s.0 as usize - 1];
+        gets.reserve()?;
+        let pair = &mut self.answered[p.0 as usize];
+        let now = told_of(tells, p, Watched::of(get, pair.uses));
+        Ok(gets.ask(p, get, now, pair))
+    }
+
     /// A viewport end is used anew: the gets of the owner of the pair's view are
     /// answered for which there is news, unless it is closed. Answers how many. It
     /// takes no memory.
@@ -88,7 +122,7 @@ impl Watchers {
         requires place { length log.old.history < 2 ^ 32 - 1 }
         requires room { sum_by due_told self.old.gets.items ≤ log.old.post_room }
         requires few { AllNumbered is_few self.old.gets.items }
-        requires uses { AllNumbered (λ i one. one.uses + 1 < 2 ^ 32) self.old.answered.items }
+        requires uses { AllNumbered is_seldom self.old.answered.items }
         ensures watched { (setup : Setup) (history : List Entry) (entry : Entry) → IsJoin setup history entry owner closed p → T.stands tells.now setup (history ▹ entry) → log.old.history ≡ history → log.old.posts ≡ posts setup history → AreWatched setup history self.old.gets.items self.old.answered.items
             → AreWatched setup (history ▹ entry) self.new.gets.items self.new.answered.items × (log.new.posts ≡ posts setup (history ▹ entry)) }
         ensures due { sum_by due_told self.new.gets.items + result ≡ sum_by due_told self.old.gets.items }

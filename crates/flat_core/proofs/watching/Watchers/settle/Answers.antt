@@ -1,4 +1,4 @@
-use Rattle.std.proofs.Common.{◌≡◌, ◌+◌, ◌-◌, ◌<◌, List, length, refl, arith, ap, sym, ◌∙◌, subst}
+use Rattle.std.proofs.Common.{◌≡◌, ◌+◌, ◌-◌, ◌<◌, slice_set, List, length, refl, arith, ap, sym, ◌∙◌, subst}
 use Rattle.flat_core.specs.declared.gets.Answered.{Answered}
 use Rattle.flat_core.specs.Gets.{Settles}
 use Rattle.flat_core.specs.Watch.{told}
@@ -15,8 +15,8 @@ returns-clause-settled g c opened = λ setup history stands.
     let now = told setup history in
     let S : List Answered → Type 0 = λ was. Settles now place c.args.s before.held.items c.settle.new.self.held.items was c.settle.new.answered c.args.log.now.posts c.settle.new.log.posts c.settle.result in
     let settles : S own.answered.items = subst S c.as_mut_slice.ensures.value (c.settle.ensures.settles setup history stands) in
-    let whole = written-back own.answered.len c.settle.new.answered own.answered.items own.answered.len_is settles.answers.pairs.count in
-    let I : List Answered → Type 0 = λ last. IsSettled now place c.args.s own.gets.items _ own.answered.items last c.args.log.now.posts c.settle.new.log.posts c.settle.result in
+    let whole = written-back own.answered.len c.settle.new.answered own.answered.items own.answered.ok.0 settles.answers.pairs.count in
+    let I : List Answered → Type 0 = λ last. IsSettled now place c.args.s own.gets.items (slice_set own.gets.items (c.args.s.0 - 1) c.settle.new.self) own.answered.items last c.args.log.now.posts c.settle.new.log.posts c.settle.result in
     subst I (sym whole)
     (settled-at now place c.args.s own.gets.items before c.settle.new.self own.answered.items c.settle.new.answered c.args.log.now.posts c.settle.new.log.posts c.settle.result c.index_mut-gets.ensures.value settles c.settle.ensures.answers)
 
