@@ -28,13 +28,13 @@ use Rattle.flat_snap.specs.declared.snapshot.Snapshot.{Snapshot}
 use Rattle.flat_core.specs.declared.state.SessionState.{SessionState}
 use Rattle.flat_core.specs.Begins.{begun, begin_entry}
 use Rattle.flat_core.specs.Kept.{IsKept, kept_of, meant}
+use Rattle.flat_core.specs.Legal.{Legal}
 use Rattle.flat_core.specs.Lasts.{last_from}
-use Rattle.flat_core.specs.Plain.{are_plain}
 use Rattle.flat_core.specs.Presents.{TookReady}
 use Rattle.flat_core.specs.Seen.{Seen, seen_of}
 use Rattle.flat_core.proofs.Begun.{seen-begun-open, ready-same, kept-ready, then-same}
 use Rattle.flat_core.proofs.Counts.{kept-waiting}
-use Rattle.flat_core.proofs.NoNews.{news-plain}
+use Rattle.flat_core.proofs.Between.{events-between}
 use Rattle.flat_core.proofs.PresentSteps.{stays}
 use Rattle.flat_core.proofs.ShownSteps.{serial-get, get-drop, get-map, last-get, last-none, shown-kept}
 
@@ -121,12 +121,12 @@ shown-none setup h line time s opened none =
 
 -- ---- what is posted
 
-pub events-begun : (setup : Setup) (h : List Entry) (line time : ℕ) (s : SessionNo) → are_plain h ≡ true → is_closed s h ≡ false
+pub events-begun : (setup : Setup) (h : List Entry) (line time : ℕ) (s : SessionNo) → Legal setup (begun h line time) → is_closed s h ≡ false
     → events_to setup h (begin_entry line time) s
     ≡ cond (nat_lt (taken setup h s) (taken setup h s + ready_count setup h time s)) (event.Credits (credits setup (begun h line time) s - credits setup h s) ∷ []) []
-events-begun setup h line time s plain opened =
+events-begun setup h line time s legal opened =
     let long : length (ready_prefix time (is_signalled setup h) (waiting setup h s)) ≡ ready_count setup h time s = length-prefix_len (λ present. is_ready time (is_signalled setup h) present.args) (waiting setup h s) in
-    rw (news-plain setup h (begin_entry line time) s plain, opened, long) refl
+    events-between setup h (begin_entry line time) legal s refl refl ∙ rw (opened, long) refl
 
 more-than : (m n : ℕ) → 0 < n → nat_lt m (m + n) ≡ true
 more-than m n some = grind (arith, nat_tests)
@@ -148,14 +148,14 @@ credits-line setup seen state kept here =
     let waits : length state.queue.waiting ≡ length seen.waiting = kept-waiting setup seen state kept false here in
     rw (kept.taken here, waits) refl
 
-pub events-some : (setup : Setup) (h : List Entry) (line time : ℕ) (s : SessionNo) (gained : ℕ) → are_plain h ≡ true → is_closed s h ≡ false → 0 < ready_count setup h time s
+pub events-some : (setup : Setup) (h : List Entry) (line time : ℕ) (s : SessionNo) (gained : ℕ) → Legal setup (begun h line time) → is_closed s h ≡ false → 0 < ready_count setup h time s
     → gained ≡ credits setup (begun h line time) s - credits setup h s → events_to setup h (begin_entry line time) s ≡ event.Credits gained ∷ []
-events-some setup h line time s gained plain opened some is =
+events-some setup h line time s gained legal opened some is =
     let more : nat_lt (taken setup h s) (taken setup h s + ready_count setup h time s) ≡ true = more-than (taken setup h s) (ready_count setup h time s) some in
-    events-begun setup h line time s plain opened ∙ rw (more, is) refl
+    events-begun setup h line time s legal opened ∙ rw (more, is) refl
 
-pub events-none : (setup : Setup) (h : List Entry) (line time : ℕ) (s : SessionNo) → are_plain h ≡ true → is_closed s h ≡ false → ready_count setup h time s ≡ 0
+pub events-none : (setup : Setup) (h : List Entry) (line time : ℕ) (s : SessionNo) → Legal setup (begun h line time) → is_closed s h ≡ false → ready_count setup h time s ≡ 0
     → events_to setup h (begin_entry line time) s ≡ []
-events-none setup h line time s plain opened none =
+events-none setup h line time s legal opened none =
     let more : nat_lt (taken setup h s) (taken setup h s + 0) ≡ false = not-more (taken setup h s) in
-    events-begun setup h line time s plain opened ∙ rw (none, more) refl
+    events-begun setup h line time s legal opened ∙ rw (none, more) refl

@@ -30,7 +30,8 @@ use Rattle.flat_core.specs.Logs.{Logged}
 use Rattle.flat_core.specs.Seen.{Seen, seen_of}
 use Rattle.flat_core.proofs.DoneSteps.{released_to}
 use Rattle.flat_core.proofs.Begun.{seen-begun-open}
-use Rattle.flat_core.proofs.Steps.{Entered, legal-entered, both, frames-quiet, or-false, room-entered, few-history}
+use Rattle.flat_core.proofs.Entered.{Entered}
+use Rattle.flat_core.proofs.Steps.{legal-entered, both, frames-quiet, or-false, room-entered, few-history}
 
 map-flat : {A B C : Type 0} (f : B → C) (g : A → List B) (xs : List A) → map f (flat_map g xs) ≡ flat_map (λ x. map f (g x)) xs
 map-flat f g [] = refl
@@ -90,7 +91,6 @@ kept-begun m line time call clock fences views sessions after log mid then owed 
     let ticks : clock.frames ≡ frames h = ap (λ (c : Clock). c.frames) old.timed in
     let is : Stands m.setup (h ▹ e) (record { frames = clock.frames; is_open = true; time = time }) fences views after = record {
       legal = (old.legal, legal-entered m Display line [] (Begin time) Done call refl);
-      plain = both _ _ call.plain old.plain;
       timed = rw (frames-quiet h e refl, ticks) refl;
       fence_count = old.fence_count;
       signalled = λ f. old.signalled f ∙ or-false _;
@@ -151,7 +151,6 @@ kept-finished m line call clock fences signalled_now views sessions after log mi
     let more : frames (h ▹ e) ≡ frames h + 1 = sym (add-one (frames h)) in
     let is : Stands m.setup (h ▹ e) (record { frames = clock.frames + 1; is_open = false; time = clock.time }) signalled_now views after = record {
       legal = (old.legal, legal-entered m Display line [] Finish Done call refl);
-      plain = both _ _ call.plain old.plain;
       timed = rw (more, ticks, times) refl;
       fence_count = size ∙ old.fence_count;
       signalled = λ f. members f ∙ ap (λ b. b || released_to m.setup h m.setup.sessions f) (old.signalled f);

@@ -21,24 +21,10 @@ use Rattle.flat_core.specs.declared.viewports.Viewports.{Viewports}
 use Rattle.flat_core.specs.Begins.{finished, finish_entry, took_event}
 use Rattle.flat_core.specs.Boards.{number}
 use Rattle.flat_core.specs.Kept.{IsKept, AllNumbered, release_of}
-use Rattle.flat_core.specs.Plain.{are_plain}
 use Rattle.flat_core.specs.Seen.{seen_of}
 use Rattle.flat_core.proofs.BeginLoop.{same-side, this-side, not-below, none-below, all-below, sessions-on}
 use Rattle.flat_core.proofs.Changes.{changed-one}
-use Rattle.flat_core.proofs.NoNews.{news-plain}
 use Rattle.flat_core.proofs.ViewportUses.{tokens-finish}
-
--- what the end of a frame posts
-pub events-finished : (setup : Setup) (h : List Entry) (line : ℕ) (s : SessionNo) → is_declared setup s ≡ true → are_plain h ≡ true → Legal setup h → is_frame_open h ≡ true
-    → (live : List Live) (out : List OutToken) → AreViewports setup h s live out
-    → events_to setup h (finish_entry line) s ≡ cond (is_closed s h) [] (took_event (frame_took setup h s) ++ back_events (taken setup h s) out)
-events-finished setup h line s declared plain legal going live out kept = by_closed (is_closed s h) refl
-  where
-    by_closed : (b : Bool) → is_closed s h ≡ b → cond b [] (news_for setup h (finish_entry line) s) ≡ cond b [] (took_event (frame_took setup h s) ++ back_events (taken setup h s) out)
-    by_closed true closed = refl
-    by_closed false opened =
-        news-plain setup h (finish_entry line) s plain ∙ append-nil (at_finish setup h s)
-        ∙ ap (λ (tokens : List Event). took_event (frame_took setup h s) ++ tokens) (tokens-finish setup s declared h legal opened going live out kept)
 
 -- ---- session by session
 

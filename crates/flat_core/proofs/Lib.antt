@@ -12,6 +12,7 @@ pub mod CreditLemmas
 pub mod DoneSteps
 pub mod Earlier
 pub mod EndSteps
+pub mod Entered
 pub mod EventsLocal
 pub mod FamilyHistory
 pub mod FamilyTheorem

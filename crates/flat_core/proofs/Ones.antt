@@ -29,7 +29,9 @@ use Rattle.flat_core.specs.Presents.{reply_to_close, noted_in, with_calls, IsPla
 use Rattle.flat_core.specs.Seen.{seen_of}
 use Rattle.flat_core.proofs.Changes.{IsPlainOne, seen-other, seen-noted, kept-noted, changed-one, changed-set, changed-each, sum-changed, length-changed, not-session, is-session, sum-same}
 use Rattle.flat_core.proofs.Counts.{kept-session, declared-some, lt-of}
-use Rattle.flat_core.proofs.Steps.{Changed, Entered, kept-entered}
+use Rattle.flat_core.proofs.Between.{is_viewport}
+use Rattle.flat_core.proofs.Entered.{Entered, kept-entered}
+use Rattle.flat_core.proofs.Steps.{Changed}
 
 pub declared-of : (setup : Setup) (kind : Kind) (s : SessionNo) → may_act setup kind (Session s) ≡ true → IsTrue (is_declared setup s)
 declared-of setup kind s may = and-right (session_may kind) (is_declared setup s) may
@@ -64,7 +66,7 @@ both-same p q = omega (arith, p, q)
 
 -- all that is kept, where the session owes as before
 pub kept-one : (m : Machine) (s : SessionNo) (line : ℕ) (calls : List Call) (kind : Kind) (reply : Reply) → MayCall m (Session s) calls kind → reply ≡ reply_to m.setup m.history (Session s) calls kind
-    → is_begin kind ≡ false → is_finish kind ≡ false
+    → is_begin kind ≡ false → is_finish kind ≡ false → is_viewport kind ≡ false
     → (clock : Clock) (fences fences_now views views_now : List Bool) (sessions : List SessionState) (log then : Logged) (owed : ℕ) {due_back due_back_now : ℕ} (state new : SessionState)
     → state ≡ slice_index_or sessions (s.0 - 1) state → log.history ≡ m.history
     → Stands m.setup log.history clock fences views sessions → HasRoom m.setup m.shares log owed (sum_by due sessions + due_back)
@@ -72,12 +74,12 @@ pub kept-one : (m : Machine) (s : SessionNo) (line : ℕ) (calls : List Call) (k
     → (IsKept m.setup (seen_of m.setup m.history s) state → IsKept m.setup (seen_of m.setup (m.history ▹ entry_of (Session s) line calls kind reply) s) new)
     → due new ≡ due state → due_back_now ≡ due_back → Entered log then (entry_of (Session s) line calls kind reply)
     → Stands m.setup then.history clock fences_now views_now (slice_set sessions (s.0 - 1) new) × HasRoom m.setup m.shares then owed (sum_by due (slice_set sessions (s.0 - 1) new) + due_back_now)
-kept-one m s line calls kind reply call replied no_begin no_finish clock fences fences_now views views_now sessions log then owed {due_back} {due_back_now} state new is same stands room changed step owes comes entered =
+kept-one m s line calls kind reply call replied no_begin no_finish no_viewport clock fences fences_now views views_now sessions log then owed {due_back} {due_back_now} state new is same stands room changed step owes comes entered =
     let old : Stands m.setup m.history clock fences views sessions = rw (← same) stands in
     let here = declared-some s.0 m.setup.sessions (declared-of m.setup kind s call.may.acts) in
     let count : length sessions ≡ m.setup.sessions = old.count in
     let below : s.0 - 1 < length sessions = omega (arith, here.0, here.1, count) in
-    kept-entered m (Session s) line calls kind reply call replied no_begin no_finish clock fences fences_now views views_now sessions (slice_set sessions (s.0 - 1) new) log then owed (sum_by due sessions + due_back) (sum_by due (slice_set sessions (s.0 - 1) new) + due_back_now) same stands room changed
+    kept-entered m (Session s) line calls kind reply call replied no_begin no_finish no_viewport clock fences fences_now views views_now sessions (slice_set sessions (s.0 - 1) new) log then owed (sum_by due sessions + due_back) (sum_by due (slice_set sessions (s.0 - 1) new) + due_back_now) same stands room changed
     (length-set sessions (s.0 - 1) new) (each-one m s line calls kind reply call no_begin no_finish clock fences views sessions state new is old step)
     (both-same (sum-same due sessions (s.0 - 1) new state below is owes) comes) entered
 
@@ -139,15 +141,15 @@ sum-noted (Session s) calls sessions = sum-changed due (with_calls calls) s.0 se
 
 -- all that is kept, after an entry that only carries calls
 pub kept-quiet : (m : Machine) (who : Actor) (line : ℕ) (calls : List Call) (kind : Kind) (reply : Reply) → MayCall m who calls kind → reply ≡ reply_to m.setup m.history who calls kind
-    → IsPlainOne (entry_of who line calls kind reply) → closes reply ≡ false
+    → IsPlainOne (entry_of who line calls kind reply) → closes reply ≡ false → is_viewport kind ≡ false
     → (clock : Clock) (fences fences_now views views_now : List Bool) (sessions after : List SessionState) (log then : Logged) (owed : ℕ) {due_back due_back_now : ℕ} → log.history ≡ m.history
     → Stands m.setup log.history clock fences views sessions → HasRoom m.setup m.shares log owed (sum_by due sessions + due_back)
     → Changed m (entry_of who line calls kind reply) fences fences_now views views_now → after ≡ noted_in who calls sessions → due_back_now ≡ due_back → Entered log then (entry_of who line calls kind reply)
     → Stands m.setup then.history clock fences_now views_now after × HasRoom m.setup m.shares then owed (sum_by due after + due_back_now)
-kept-quiet m who line calls kind reply call replied quiet stays clock fences fences_now views views_now sessions after log then owed {due_back} {due_back_now} same stands room changed noted comes entered =
+kept-quiet m who line calls kind reply call replied quiet stays no_viewport clock fences fences_now views views_now sessions after log then owed {due_back} {due_back_now} same stands room changed noted comes entered =
     let old : Stands m.setup m.history clock fences views sessions = rw (← same) stands in
     rw noted
-    (kept-entered m who line calls kind reply call replied quiet.no_begin quiet.no_finish clock fences fences_now views views_now sessions (noted_in who calls sessions) log then owed (sum_by due sessions + due_back) (sum_by due (noted_in who calls sessions) + due_back_now) same stands room changed
+    (kept-entered m who line calls kind reply call replied quiet.no_begin quiet.no_finish no_viewport clock fences fences_now views views_now sessions (noted_in who calls sessions) log then owed (sum_by due sessions + due_back) (sum_by due (noted_in who calls sessions) + due_back_now) same stands room changed
     (length-noted who calls sessions) (each-noted m who line calls kind reply call quiet stays clock fences views sessions old) (both-same (sum-noted who calls sessions) comes) entered)
 
 -- a fence that may be signalled is declared

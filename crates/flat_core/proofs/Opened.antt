@@ -70,7 +70,6 @@ pub opened : (setup : Setup) (shares : List ℕ) (log : Logged) (fences views : 
 opened setup shares log fences views sessions total limits actors few is history posts room size none view_size no_view count new =
     let stands : Stands setup [] (record { frames = 0; is_open = false; time = 0 }) fences views sessions = record {
       legal = tt;
-      plain = refl;
       timed = refl;
       fence_count = size;
       signalled = none;

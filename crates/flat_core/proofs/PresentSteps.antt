@@ -39,10 +39,10 @@ use Rattle.flat_core.specs.Seen.{Seen, seen_of}
 use Rattle.flat_core.specs.Shown.{tree_of}
 use Rattle.flat_core.proofs.Changes.{IsPlainOne, is-session, seen-closed, kept-closed, kept-noted}
 use Rattle.flat_core.proofs.Counts.{kept-waiting, kept-session, declared-some}
-use Rattle.flat_core.proofs.NoNews.{posted-quiet}
+use Rattle.flat_core.proofs.Between.{posted-between}
 use Rattle.flat_core.proofs.Ones.{declared-of, each-one}
 use Rattle.flat_core.proofs.Presented.{seen-presented, kept-presented, presents-few}
-use Rattle.flat_core.proofs.Steps.{unchanged, stands-entered, few-history, room-entered, posts-none}
+use Rattle.flat_core.proofs.Steps.{unchanged, stands-entered, few-history, legal-entered, room-entered, posts-none}
 
 not-true : (b : Bool) → not b ≡ true → b ≡ false
 not-true true h = cc
@@ -139,7 +139,7 @@ kept-after-present m s line calls args snap call tree clock fences views session
     let small : length log.posts + owed ≤ 2 * length m.history = rw (← same) room.small in
     let as_many : length then.posts ≡ length log.posts = ap length posted in
     let posts_old : log.posts ≡ posts m.setup m.history = rw (← same) room.posts in
-    let posts_new : posts m.setup (m.history ▹ e) ≡ posts m.setup m.history = posts-none m.setup m.history e (posted-quiet m.setup m.history e old.plain refl refl) in
+    let posts_new : posts m.setup (m.history ▹ e) ≡ posts m.setup m.history = posts-none m.setup m.history e (posted-between m.setup m.history e (old.legal, legal-entered m (Session s) line calls (Present args) (present_reply state) call replied) refl refl refl) in
     let sums = sum_by-set due sessions (s.0 - 1) new state below in
     let each : AllNumbered (λ i. IsKept m.setup (seen_of m.setup (m.history ▹ e) (number i))) (slice_set sessions (s.0 - 1) new) =
     each-one m s line calls (Present args) (present_reply state) call refl refl clock fences views sessions state new is old

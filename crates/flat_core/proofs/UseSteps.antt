@@ -1,10 +1,11 @@
 -- A viewport, made or refused.
-use Rattle.std.proofs.Common.{◌^◌, ◌≡◌, ◌≢◌, ◌∙◌, sym, ℕ, ◌+◌, ◌-◌, ◌*◌, ◌<◌, ◌≤◌, Bool, true, false, List, [], ◌∷◌, length, refl, arith, ap, subst, None, slice_set, slice_index_or, zero-add}
-use Rattle.std.specs.Prelude.{IsTrue, cond, not, ◌&&◌, ◌||◌, ◌==◌, Option, Some, option_map, unwrap_or, slice_get}
+use Rattle.std.proofs.Common.{◌^◌, ◌≡◌, ◌≢◌, ◌∙◌, sym, ℕ, ◌+◌, ◌-◌, ◌*◌, ◌<◌, ◌≤◌, Bool, true, false, List, [], ◌∷◌, length, refl, arith, ap, subst, None, slice_set, slice_index_or, zero-add, inl, inr, ◌⊎◌}
+use Rattle.std.specs.Prelude.{IsTrue, cond, not, ◌&&◌, ◌||◌, ◌==◌, nat_le, nat_lt, Option, Some, option_map, unwrap_or, slice_get, sum_by}
 use Rattle.std.specs.List.{list_any, list_all}
 use Rattle.std.proofs.lemmas.Bool.Decides.{nat_tests}
 use Rattle.std.proofs.lemmas.List.{length-set}
 use Rattle.std.proofs.lemmas.List.Sums.{sum_by-set}
+use Rattle.std.proofs.lemmas.Option.{get_or_from_slice_get, slice_get_cases, slice_get_within}
 use Rattle.flat_base.specs.declared.ids.Actor.TheVariants.{Session}
 use Rattle.flat_base.specs.declared.errors.Reason.{Reason}
 use Rattle.flat_base.specs.declared.ids.PairNo.{PairNo}
@@ -17,6 +18,7 @@ use Rattle.flat_scene.specs.declared.journal.Kind.{Kind}
 use Rattle.flat_scene.specs.declared.journal.Kind.TheVariants.{Close, Viewport}
 use Rattle.flat_scene.specs.declared.journal.Reply.{Reply}
 use Rattle.flat_scene.specs.declared.journal.Reply.TheVariants.{Done}
+use Rattle.flat_scene.specs.declared.setup.PairDecl.{PairDecl}
 use Rattle.flat_scene.specs.declared.setup.Setup.{Setup}
 use Rattle.flat_scene.specs.History.{◌▹◌, is_closed, is_session, presents}
 use Rattle.flat_scene.specs.Setups.{is_declared}
@@ -38,11 +40,11 @@ use Rattle.flat_core.specs.Following.{AreTied}
 use Rattle.flat_core.specs.Presents.{after_viewport, use_reply, with_calls, IsOwn, IsUsed, TiesUsed}
 use Rattle.flat_core.specs.Seen.{is_new_viewport, seen_of}
 use Rattle.flat_core.specs.Viewports.{AreViewports, out_of, outs_of}
+use Rattle.flat_core.specs.Watchers.{IsJoin, IsTelling, is_shut}
 use Rattle.flat_core.proofs.Changes.{IsPlainOne, is-session, kept-closed, kept-noted, seen-closed, seen-noted}
 use Rattle.flat_core.proofs.Counts.{at-session, declared-some, kept-session}
 use Rattle.flat_core.proofs.EndSteps.{ends-one, links-made, not-none, viewports-closed}
 use Rattle.flat_core.proofs.HasView.{found, any-found, both-ways}
-use Rattle.flat_core.proofs.NoNews.{posted-quiet}
 use Rattle.flat_core.proofs.Ones.{declared-of, each-one}
 use Rattle.flat_core.proofs.Steps.{few-history, legal-entered, posts-none, room-entered, stands-entered, unchanged}
 use Rattle.flat_core.proofs.TokensBack.{any-flat, any-each, and-both, nested, pair-is}
@@ -98,6 +100,52 @@ made-one p props (Some _) is = cc
 -- and the last does
 pub last-uses : (p : PairNo) (props : ViewportProps) (calls : List Call) → own_call (Viewport p props) (slice_get calls (length calls - 1)) ≡ true → uses_last p calls ≡ true
 last-uses p props calls own = made-one p props (slice_get calls (length calls - 1)) own
+
+-- ---- whether a session is closed
+
+slice_get_none : {A : Type 0} (xs : List A) (i : ℕ) → slice_get xs i ≡ None → length xs ≤ i
+slice_get_none {A = A} xs i none = by_case (slice_get_cases xs i).1
+  where
+    by_case : ((x : A) × (i < length xs) × (slice_get xs i ≡ Some x) × (slice_index_or xs i x ≡ x)) ⊎ ((length xs ≤ i) × (slice_get xs i ≡ None)) → length xs ≤ i
+    by_case (inl found) = let wrong : Some found.0 ≡ None = sym found.2 ∙ none in cc
+    by_case (inr past) = past.0
+
+pub shut-known : (setup : Setup) (h : List Entry) (clock : Clock) (fences views : List Bool) (sessions : List SessionState) (t : SessionNo) → Stands setup h clock fences views sessions
+    → (is_shut sessions t ≡ false → (is_declared setup t ≡ true) × (is_closed t h ≡ false)) × (is_shut sessions t ≡ true → (is_declared setup t ≡ false) ⊎ (is_closed t h ≡ true))
+shut-known setup h clock fences views sessions t old = by_place (t.0 == 0) refl (slice_get sessions (t.0 - 1)) refl
+  where
+    S : Bool → Option SessionState → Bool
+    S zero_place o = cond zero_place true (unwrap_or (option_map (λ (state : SessionState). state.closed) o) true)
+
+    by_place : (z : Bool) → (t.0 == 0) ≡ z → (o : Option SessionState) → slice_get sessions (t.0 - 1) ≡ o
+        → (S z o ≡ false → (is_declared setup t ≡ true) × (is_closed t h ≡ false)) × (S z o ≡ true → (is_declared setup t ≡ false) ⊎ (is_closed t h ≡ true))
+    by_place true first o at = (λ no. cc, λ shut. inl (let it : t.0 ≡ 0 = grind (arith, nat_tests) in let none : nat_lt 0 t.0 ≡ false = grind (arith, nat_tests) in rw none refl))
+    by_place false later None at =
+        (λ no. cc,
+        λ shut. inl (past (nat_lt 0 t.0) (nat_le t.0 setup.sessions) (few-none (slice_get_none sessions (t.0 - 1) at))))
+      where
+        few-none : length sessions ≤ t.0 - 1 → nat_le t.0 setup.sessions ≡ false
+        few-none past = let some : t.0 ≢ 0 = λ it. let wrong : (t.0 == 0) ≡ true = grind (arith, nat_tests) in let never : true ≡ false = sym wrong ∙ later in cc in let count : length sessions ≡ setup.sessions = old.count in let over : setup.sessions < t.0 = omega (arith, past, some, count) in grind (arith, nat_tests)
+
+        past : (a b : Bool) → b ≡ false → (a && b) ≡ false
+        past true b is = is
+        past false b is = refl
+    by_place false later (Some state) at =
+        let within : t.0 - 1 < length sessions = slice_get_within sessions (t.0 - 1) state at in
+        let count : length sessions ≡ setup.sessions = old.count in
+        let declared : is_declared setup t ≡ true = inside within count in
+        let is : state ≡ slice_index_or sessions (t.0 - 1) state = sym (get_or_from_slice_get sessions (t.0 - 1) state state at) in
+        let kept : IsKept setup (seen_of setup h t) state = kept-session setup h clock fences views sessions t state old declared is in
+        (λ opened. (declared, sym kept.closed ∙ opened), λ shut. inr (sym kept.closed ∙ shut))
+      where
+        inside : t.0 - 1 < length sessions → length sessions ≡ setup.sessions → is_declared setup t ≡ true
+        inside within count =
+            let some : t.0 ≢ 0 = λ it. let wrong : (t.0 == 0) ≡ true = grind (arith, nat_tests) in let never : true ≡ false = sym wrong ∙ later in cc in
+            let few : t.0 ≤ setup.sessions = omega (arith, within, count, some) in
+            let above : 0 < t.0 = omega (arith, some) in
+            let first : nat_lt 0 t.0 ≡ true = grind (arith, nat_tests) in
+            let last : nat_le t.0 setup.sessions ≡ true = grind (arith, nat_tests) in
+            rw (first, last) refl
 
 -- ---- what is kept of its session
 
@@ -158,22 +206,25 @@ module _ (m : Machine) (s : SessionNo) (line : ℕ) (calls : List Call) (p : Pai
   pub replied : (is_held : Bool) → is_held ≡ has_token m.setup p m.history → use_reply is_held ≡ reply_to m.setup m.history (Session s) calls (Viewport p props)
   replied is_held is = by-token is_held ∙ ap (λ b. cond b Done refused_token) is
 
-  -- all that is kept, after it
+  -- its entry
+  abbrev used_entry : Bool → Entry
+  used_entry is_held = entry_of (Session s) line calls (Viewport p props) (use_reply is_held)
+
+  -- all that is kept but the journal, after it
   pub kept-used : (is_held : Bool) → is_held ≡ has_token m.setup p m.history
-      → (clock : Clock) (fences views : List Bool) (sessions : List SessionState) (ends : List Viewports) (log then : Logged) (owed : ℕ) (state : SessionState) (before after : Viewports)
+      → (clock : Clock) (fences views : List Bool) (sessions : List SessionState) (ends : List Viewports) (state : SessionState) (before after : Viewports)
       → state ≡ slice_index_or sessions (s.0 - 1) state → before ≡ slice_index_or ends (s.0 - 1) before
-      → Stands m.setup m.history clock fences views sessions → HasRoom m.setup m.shares log owed (all_due sessions ends) → AreEnds m.setup m.history ends → log.history ≡ m.history
-      → IsUsed p calls state.account.presents is_held before after
-      → (tied now : Ties) → AreTied m.setup m.history tied.followings.items tied.pairs.items → TiesUsed s calls p props is_held state before tied now
-      → then.history ≡ (m.history ▹ entry_of (Session s) line calls (Viewport p props) (use_reply is_held)) → then.posts ≡ log.posts → then.room + 1 ≡ log.room → owed + 1 ≤ then.post_room
-      → Stands m.setup then.history clock fences views (slice_set sessions (s.0 - 1) (with_calls calls (after_viewport is_held state)))
-      × HasRoom m.setup m.shares then (owed + number_if is_held) (all_due (slice_set sessions (s.0 - 1) (with_calls calls (after_viewport is_held state))) (slice_set ends (s.0 - 1) after))
-      × AreEnds m.setup then.history (slice_set ends (s.0 - 1) after)
-      × AreTied m.setup then.history now.followings.items now.pairs.items
-  kept-used is_held is clock fences views sessions ends log then owed state before after of_state of_before old room are same used tied now ties uses history posted spent reserved =
+      → Stands m.setup m.history clock fences views sessions → AreEnds m.setup m.history ends → IsUsed p calls state.account.presents is_held before after
+      → (tied now : Ties) → AreTied m.setup m.history tied.followings.items tied.pairs.items → TiesUsed s calls p props is_held state before tied now → length m.history < 2 ^ 32 - 1
+      → Legal m.setup (m.history ▹ used_entry is_held)
+      × Stands m.setup (m.history ▹ used_entry is_held) clock fences views (slice_set sessions (s.0 - 1) (with_calls calls (after_viewport is_held state)))
+      × AreEnds m.setup (m.history ▹ used_entry is_held) (slice_set ends (s.0 - 1) after)
+      × AreTied m.setup (m.history ▹ used_entry is_held) now.followings.items now.pairs.items
+      × ((told : ℕ) → sum_by due (slice_set sessions (s.0 - 1) (with_calls calls (after_viewport is_held state))) + (sum_by due_back (slice_set ends (s.0 - 1) after) + told) ≡ sum_by due sessions + (sum_by due_back ends + told) + number_if is_held)
+  kept-used is_held is clock fences views sessions ends state before after of_state of_before old are used tied now ties uses small_enough =
       let h : List Entry = m.history in
       let kind : Kind = Viewport p props in
-      let e : Entry = entry_of (Session s) line calls kind (use_reply is_held) in
+      let e : Entry = used_entry is_held in
       let new : SessionState = with_calls calls (after_viewport is_held state) in
       let says = replied is_held is in
       let legal : Legal m.setup (h ▹ e) = (old.legal, legal-entered m (Session s) line calls kind (use_reply is_held) call says) in
@@ -188,24 +239,17 @@ module _ (m : Machine) (s : SessionNo) (line : ℕ) (calls : List Call) (p : Pai
       let due_new : due new ≡ due state = viewport-due calls is_held state in
       let backs = sum_by-set due_back ends (s.0 - 1) after before within in
       let back_new : due_back after ≡ due_back before + number_if is_held = used.count in
-      let small : length log.posts + owed ≤ 2 * length h = rw (← same) room.small in
-      let as_many : length then.posts ≡ length log.posts = ap length posted in
-      let posts_old : log.posts ≡ posts m.setup h = rw (← same) room.posts in
-      let posts_new : posts m.setup (h ▹ e) ≡ posts m.setup h = posts-none m.setup h e (posted-quiet m.setup h e old.plain refl refl) in
       let each : AllNumbered (λ i. IsKept m.setup (seen_of m.setup (h ▹ e) (number i))) (slice_set sessions (s.0 - 1) new) =
       each-one m s line calls kind (use_reply is_held) call refl refl clock fences views sessions state new of_state old (λ k. viewport-kept m.setup h s line calls p props is_held state k) in
       let own : AreViewports m.setup h s before.live.items before.out.items = at-session (λ t x. AreViewports m.setup h t x.live.items x.out.items) ends s before are.each here.0 (omega (arith, here.1, ends_count)) of_before in
       let own_entry : IsOwn m.setup h e s calls state before = record { legal = legal; actor = refl; carried = refl; closed = kept.closed; counted = counts; living = own.lives; no_begin = refl; no_finish = refl } in
-      let few = few-history m (Session s) calls kind call old.legal log owed (all_due sessions ends) same room in
-      let small_enough : length h < 2 ^ 32 - 1 = omega (arith, few, room.total) in
       let all : AreEnds m.setup (h ▹ e) (slice_set ends (s.0 - 1) after) = ends-one m.setup h e legal refl ends s refl declared before after of_before (λ own. by_held is_held refl legal own counts) are in (
-        rw history (stands-entered m (Session s) line calls kind (use_reply is_held) call says refl refl clock fences fences views views sessions (slice_set sessions (s.0 - 1) new) old
-            (unchanged m e fences views (λ sessions g f. refl) (λ p. refl)) (length-set sessions (s.0 - 1) new) each),
-        room-entered m (Session s) line calls kind (use_reply is_held) call log then owed (owed + number_if is_held) (all_due sessions ends) (all_due (slice_set sessions (s.0 - 1) new) (slice_set ends (s.0 - 1) after)) same room
-            (history ∙ rw same refl) (posted ∙ posts_old ∙ sym posts_new) spent (omega (arith, few-if is_held, reserved)) (omega (arith, sums, due_new, backs, back_new, ap due of_state, ap due_back of_before, room.due))
-            (omega (arith, small, few-if is_held, as_many)),
-        rw history all,
-        rw history (uses m.setup h e own_entry opened refl refl small_enough ties),
+        legal,
+        stands-entered m (Session s) line calls kind (use_reply is_held) call says refl refl clock fences fences views views sessions (slice_set sessions (s.0 - 1) new) old
+            (unchanged m e fences views (λ sessions g f. refl) (λ p. refl)) (length-set sessions (s.0 - 1) new) each,
+        all,
+        uses m.setup h e own_entry opened refl refl small_enough ties,
+        λ told. omega (arith, sums, due_new, backs, back_new, ap due of_state, ap due_back of_before),
       )
     where
       by_held : (b : Bool) → is_held ≡ b → Legal m.setup (m.history ▹ entry_of (Session s) line calls (Viewport p props) (use_reply is_held))
@@ -220,3 +264,34 @@ module _ (m : Machine) (s : SessionNo) (line : ℕ) (calls : List Call) (p : Pai
           let step = viewports-used m.setup s declared m.history (entry_of (Session s) line calls (Viewport p props) (use_reply is_held)) legal (is-session s) refl p owned uses (other-pair p props) (sym is ∙ some) props call.may.calls
           before.live.items before.out.items own in
           rw (used.live some, used.out some, counts) step
+
+  -- what pairs tell then
+  pub telling-used : (is_held : Bool) (clock : Clock) (fences views : List Bool) (sessions : List SessionState) (now : Ties) → Stands m.setup m.history clock fences views sessions → Legal m.setup (m.history ▹ used_entry is_held)
+      → AreTied m.setup (m.history ▹ used_entry is_held) now.followings.items now.pairs.items → IsTelling m.setup now views m.setup (m.history ▹ used_entry is_held)
+  telling-used is_held clock fences views sessions now old legal tied = record { same = refl; legal = legal; tied = tied; viewed = old.viewed }
+
+  -- and who hears of it
+  pub join-used : (is_held : Bool) (clock : Clock) (fences views : List Bool) (sessions : List SessionState) (pair : PairDecl) → Stands m.setup m.history clock fences views sessions → Legal m.setup (m.history ▹ used_entry is_held)
+      → slice_get m.setup.pairs p.0 ≡ Some pair → IsJoin m.setup m.history (used_entry is_held) is_held pair.view (is_shut sessions pair.view) p
+  join-used is_held clock fences views sessions pair old legal at =
+      let known = shut-known m.setup m.history clock fences views sessions pair.view old in
+      let itself : (pair.view.0 == pair.view.0) ≡ true = grind (arith, nat_tests) in
+      record {
+        legal = legal;
+        props = props;
+        kind = refl;
+        replied = refl;
+        owned = rw at itself;
+        known = slice_get_within m.setup.pairs p.0 pair at;
+        opened = known.0;
+        closed = known.1;
+      }
+
+  -- the journal after it, where so many events were posted
+  pub room-used : (is_held : Bool) (log then : Logged) (owed dues dues_now count : ℕ) → log.history ≡ m.history → HasRoom m.setup m.shares log owed dues → then.history ≡ (log.history ▹ used_entry is_held)
+      → then.posts ≡ posts m.setup (m.history ▹ used_entry is_held) → length then.posts ≡ length log.posts + count → then.room + 1 ≡ log.room → then.post_room + count ≡ log.post_room → owed + 1 ≤ log.post_room
+      → dues_now + count ≡ dues + number_if is_held → HasRoom m.setup m.shares then (owed + number_if is_held - count) dues_now
+  room-used is_held log then owed dues dues_now count same room history posted longer spent used reserved owes =
+      let small : length log.posts + owed ≤ 2 * length m.history = rw (← same) room.small in
+      room-entered m (Session s) line calls (Viewport p props) (use_reply is_held) call log then owed (owed + number_if is_held - count) dues dues_now same room history posted spent
+      (omega (arith, used, reserved, few-if is_held, owes, room.due)) (omega (arith, owes, room.due)) (omega (arith, longer, small, few-if is_held, owes, room.due))

@@ -10,6 +10,7 @@ use Rattle.flat_base.specs.declared.ids.Actor.{Actor}
 use Rattle.flat_base.specs.declared.ids.Actor.TheVariants.{Session}
 use Rattle.flat_base.specs.declared.ids.PairNo.{PairNo}
 use Rattle.flat_base.specs.declared.ids.SessionNo.{SessionNo}
+use Rattle.flat_scene.specs.declared.calls.Call.{Call}
 use Rattle.flat_scene.specs.declared.calls.ViewportProps.{ViewportProps}
 use Rattle.flat_scene.specs.declared.calls.Watch.{Watch}
 use Rattle.flat_scene.specs.declared.journal.Entry.{Entry}
@@ -30,15 +31,15 @@ use Rattle.flat_core.specs.declared.gets.HeldGet.{HeldGet}
 use Rattle.flat_core.specs.declared.gets.Watched.{Watched}
 use Rattle.flat_core.specs.declared.gets.Watched.TheVariants as watches
 use Rattle.flat_core.specs.Begins.{post_of}
-use Rattle.flat_core.specs.Boards.{number}
+use Rattle.flat_core.specs.Boards.{Machine, MayCall, due_told, entry_of, number}
 use Rattle.flat_core.specs.Ends.{is_done, view_owner, viewport_uses}
 use Rattle.flat_core.specs.Gets.{answers_to, hears, held_get, helds_of, is_get, is_held_in, last_of, started, watched_of, watcher_for, AllAnswered, AreGets, Asks, IsAnswered, Settles}
 use Rattle.flat_core.specs.Kept.{AllNumbered}
-use Rattle.flat_core.specs.Legal.{Legal, answers, got, is_now, is_told, number_if, owns_view, sent_to}
+use Rattle.flat_core.specs.Legal.{Legal, answers, got, is_now, is_told, number_if, owns_view, reply_to, sent_to}
 use Rattle.flat_core.specs.Local.{pair_watched}
 use Rattle.flat_core.specs.Posts.{events_to, news_for, posts}
 use Rattle.flat_core.specs.Watch.{Watcher, is_open, told, watcher_of}
-use Rattle.flat_core.specs.Watchers.{AreOwnGets, AreWatched, IsAsked, IsJoin, IsSettled, due_told, is_few, is_held, is_seldom, watcher_meant}
+use Rattle.flat_core.specs.Watchers.{AreOwnGets, AreWatched, IsAsked, IsJoin, IsSettled, is_few, is_held, is_seldom, watcher_meant}
 use Rattle.flat_core.proofs.Between.{is_viewport}
 use Rattle.flat_core.proofs.Changes.{changed-one, not-session}
 use Rattle.flat_core.proofs.Counts.{at-session, declared-some}
@@ -51,6 +52,7 @@ use Rattle.flat_core.proofs.GetOwners.{get-open}
 use Rattle.flat_core.proofs.GetPosts.{closed-posts, foreign-posts, joined-posts, one-owner, refused-posts, uses-few}
 use Rattle.flat_core.proofs.GetSteps.{gets-between, gets-elsewhere, gets-refused, gets-settled, idle-kind, untold-kind}
 use Rattle.flat_core.proofs.Ones.{same-number}
+use Rattle.flat_core.proofs.Steps.{legal-entered}
 
 -- ---- lists
 
@@ -196,14 +198,17 @@ module _ (setup : Setup) (h : List Entry) (e : Entry) (legal : Legal setup (h �
 
     -- a refused use of a viewport end
     pub watched-refused : is_done e.reply ≡ false → (gets : List Gets) (last : List Answered) → AreWatched setup h gets last → AreWatched setup (h ▹ e) gets last × (posts setup (h ▹ e) ≡ posts setup h)
-    watched-refused refused gets last old = (record {
+    watched-refused refused gets last old = (
+      record {
         count = old.count;
         each = λ i d below.
             let own = old.each i d below in
             let held = gets-refused setup h e legal (number i) q props is refused _ _ own.held in
             record { held = held; counted = counted-more (number i) _ _ _ held own.counted (λ closed. (not-told no-get (number i), refl)) };
         answered = all-refused setup h e legal q props is refused last old.answered;
-      }, refused-posts setup h e legal q props is refused)
+      },
+      refused-posts setup h e legal q props is refused,
+    )
 
     module _ (t : SessionNo) (done : is_done e.reply ≡ true) (owned : owns_view setup t q ≡ true) (within : q.0 < length setup.pairs) where
       -- a session that doesn't own the view
@@ -225,12 +230,13 @@ module _ (setup : Setup) (h : List Entry) (e : Entry) (legal : Legal setup (h �
           → AreWatched setup (h ▹ e) gets (slice_set last q.0 (started (slice_index_or last q.0 d))) × (posts setup (h ▹ e) ≡ posts setup h)
       watched-shut closed gets last d old =
           let now : is_closed t (h ▹ e) ≡ true = still-closed t closed in (
-          record {
-            count = old.count;
-            each = λ i x below. by_owner i (slice_index_or gets i x) (owns_view setup (number i) q) refl (old.each i x below);
-            answered = all-shut setup h e legal q props is done (not-open setup q t (h ▹ e) owned now) within last d old.answered;
-          },
-          closed-posts setup h e legal q props is t owned now)
+            record {
+              count = old.count;
+              each = λ i x below. by_owner i (slice_index_or gets i x) (owns_view setup (number i) q) refl (old.each i x below);
+              answered = all-shut setup h e legal q props is done (not-open setup q t (h ▹ e) owned now) within last d old.answered;
+            },
+            closed-posts setup h e legal q props is t owned now,
+          )
         where
           by_owner : (i : ℕ) (one : Gets) (b : Bool) → owns_view setup (number i) q ≡ b → AreOwnGets setup h (number i) one → AreOwnGets setup (h ▹ e) (number i) one
           by_owner i one false foreign own = elsewhere (number i) one foreign own
@@ -242,12 +248,14 @@ module _ (setup : Setup) (h : List Entry) (e : Entry) (legal : Legal setup (h �
       -- or isn't declared
       pub watched-foreign : is_declared setup t ≡ false → (gets : List Gets) (last : List Answered) (d : Answered) → AreWatched setup h gets last
           → AreWatched setup (h ▹ e) gets (slice_set last q.0 (started (slice_index_or last q.0 d))) × (posts setup (h ▹ e) ≡ posts setup h)
-      watched-foreign out gets last d old = (record {
-            count = old.count;
-            each = λ i x below. by_owner i (slice_index_or gets i x) (number-declared setup i (length gets) old.count below) (owns_view setup (number i) q) refl (old.each i x below);
-            answered = all-foreign setup h e legal t out q props is done owned within last d old.answered;
-          },
-          foreign-posts setup h e legal q props is t owned out)
+      watched-foreign out gets last d old = (
+        record {
+          count = old.count;
+          each = λ i x below. by_owner i (slice_index_or gets i x) (number-declared setup i (length gets) old.count below) (owns_view setup (number i) q) refl (old.each i x below);
+          answered = all-foreign setup h e legal t out q props is done owned within last d old.answered;
+        },
+        foreign-posts setup h e legal q props is t owned out,
+      )
         where
           by_owner : (i : ℕ) (one : Gets) → is_declared setup (number i) ≡ true → (b : Bool) → owns_view setup (number i) q ≡ b → AreOwnGets setup h (number i) one → AreOwnGets setup (h ▹ e) (number i) one
           by_owner i one declared false foreign own = elsewhere (number i) one foreign own
@@ -271,17 +279,18 @@ module _ (setup : Setup) (h : List Entry) (e : Entry) (legal : Legal setup (h �
           let N : SessionNo → Type 0 = λ s. AreOwnGets setup (h ▹ e) s settled.then in
           let told_is = joined-posts setup h e legal q props is t declared owned opened in
           let waits : settled.before.held.items ≡ helds_of setup h t = own.held.waiting open_before in (
-          record {
-            count = ap (length {A = Gets}) settled.new_is ∙ length-set gets (t.0 - 1) settled.then ∙ old.count;
-            each =
-                let P : List Gets → Type 0 = AllNumbered (λ i. AreOwnGets setup (h ▹ e) (number i)) in
-                subst P (sym settled.new_is)
-                (changed-one (λ i. AreOwnGets setup h (number i)) (λ i. AreOwnGets setup (h ▹ e) (number i)) gets (t.0 - 1) settled.then
-                (λ j one other kept. elsewhere (number j) one (not-owner j here.0 other) kept) (subst N (sym (same-number t here.0)) then_own) old.each);
-            answered = all-joined setup h e legal t opened q props is done owned within (length h) settled.before.held.items settled.then.held.items last mid before after count settled.before.answers d own.held open_before old.answered settled.settles;
-          },
-          settled.settles.answers.posted ∙ ap (λ (ps : List Post). ps ++ map (post_of (length h) t) (answers_to (told setup (h ▹ e)) settled.before.held.items)) posted
-          ∙ ap (λ (l : List HeldGet). posts setup h ++ map (post_of (length h) t) (answers_to (told setup (h ▹ e)) l)) waits ∙ sym told_is)
+            record {
+              count = ap (length {A = Gets}) settled.new_is ∙ length-set gets (t.0 - 1) settled.then ∙ old.count;
+              each =
+                  let P : List Gets → Type 0 = AllNumbered (λ i. AreOwnGets setup (h ▹ e) (number i)) in
+                  subst P (sym settled.new_is)
+                  (changed-one (λ i. AreOwnGets setup h (number i)) (λ i. AreOwnGets setup (h ▹ e) (number i)) gets (t.0 - 1) settled.then
+                  (λ j one other kept. elsewhere (number j) one (not-owner j here.0 other) kept) (subst N (sym (same-number t here.0)) then_own) old.each);
+              answered = all-joined setup h e legal t opened q props is done owned within (length h) settled.before.held.items settled.then.held.items last mid before after count settled.before.answers d own.held open_before old.answered settled.settles;
+            },
+            settled.settles.answers.posted ∙ ap (λ (ps : List Post). ps ++ map (post_of (length h) t) (answers_to (told setup (h ▹ e)) settled.before.held.items)) posted
+                ∙ ap (λ (l : List HeldGet). posts setup h ++ map (post_of (length h) t) (answers_to (told setup (h ▹ e)) l)) waits ∙ sym told_is,
+          )
         where
           not-owner : (j : ℕ) → 0 < t.0 → j ≢ t.0 - 1 → owns_view setup (number j) q ≡ false
           not-owner j some other = by_owner (owns_view setup (number j) q) refl
@@ -354,7 +363,13 @@ settled-seldom now place s gets new was last before after count settled all i d 
     let same = ap (λ (a : Answered). a.uses) (pairs.each i d within) ∙ uses-kept now i settled.before.held.items (slice_index_or was i d) in
     omega (arith, old, same)
 
-pub joined-is : (setup : Setup) (h : List Entry) (e : Entry) (t : SessionNo) (shut : Bool) (q : PairNo) → IsJoin setup h e t shut q → (gets new : List Gets) (last mid : List Answered) (before after : List Post) (count : ℕ) (a b : Answered)
+pub unjoined-is : (setup : Setup) (h : List Entry) (e : Entry) (t : SessionNo) (shut : Bool) (q : PairNo) → IsJoin setup h e false t shut q → (gets : List Gets) (last : List Answered) (before : List Post) → before ≡ posts setup h → AreWatched setup h gets last
+    → AreWatched setup (h ▹ e) gets last × (before ≡ posts setup (h ▹ e))
+unjoined-is setup h e t shut q join gets last before posted old =
+    let two = watched-refused setup h e join.legal q join.props join.kind (ap is_done join.replied) gets last old in
+    (two.0, posted ∙ sym two.1)
+
+pub joined-is : (setup : Setup) (h : List Entry) (e : Entry) (t : SessionNo) (shut : Bool) (q : PairNo) → IsJoin setup h e true t shut q → (gets new : List Gets) (last mid : List Answered) (before after : List Post) (count : ℕ) (a b : Answered)
     → (shut ≡ false → IsSettled (told setup (h ▹ e)) (length h) t gets new last mid before after count) → (shut ≡ true → (new ≡ gets) × (mid ≡ last) × (after ≡ before))
     → a ≡ slice_index_or mid q.0 a → b ≡ started a → before ≡ posts setup h → AreWatched setup h gets last
     → AreWatched setup (h ▹ e) new (slice_set mid q.0 b) × (after ≡ posts setup (h ▹ e))
@@ -364,10 +379,10 @@ joined-is setup h e t shut q join gets new last mid before after count a b settl
     subst R is (by_shut shut refl)
   where
     done : is_done e.reply ≡ true
-    done = ap is_done join.done
+    done = ap is_done join.replied
 
     stays : closes e.reply ≡ false
-    stays = ap closes join.done
+    stays = ap closes join.replied
 
     by_shut : (b : Bool) → shut ≡ b → AreWatched setup (h ▹ e) new (slice_set mid q.0 (started (slice_index_or mid q.0 a))) × (after ≡ posts setup (h ▹ e))
     by_shut false is =
@@ -397,3 +412,15 @@ asked-due gets place before then below is p get now a b count total reply asks =
     let more = held-one (is_held_in p (watched_of a.uses get) before.held.items) (news now (last_of (watched_of a.uses get) a)) one before.held.items in
     let says = ap (λ (r : Reply). number_if (is_held r)) asks.replied in
     omega (arith, sum_by-set due_told gets place then before below, ap due_told is, ap (length {A = HeldGet}) asks.kept, more, says)
+
+-- ---- a board's entry that posts nothing and asks nothing
+
+pub watched-after : (m : Machine) (who : Actor) (line : ℕ) (calls : List Call) (kind : Kind) (reply : Reply) → MayCall m who calls kind → reply ≡ reply_to m.setup m.history who calls kind
+    → is_finish kind ≡ false → is_viewport kind ≡ false → is_get kind ≡ false → Legal m.setup m.history → (gets : List Gets) (last : List Answered) → AreWatched m.setup m.history gets last
+    → AreWatched m.setup (m.history ▹ entry_of who line calls kind reply) gets last
+watched-after m who line calls kind reply call replied no_finish no_viewport no_get old gets last watched =
+    watched-between m.setup m.history (entry_of who line calls kind reply) (old, legal-entered m who line calls kind reply call replied) no_finish no_viewport no_get gets last watched
+
+-- as much may still be told
+pub told-too : {a b : ℕ} (gets : List Gets) → a ≡ b → a + sum_by due_told gets ≡ b + sum_by due_told gets
+told-too gets same = ap (λ (n : ℕ). n + sum_by due_told gets) same

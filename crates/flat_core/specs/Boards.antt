@@ -17,6 +17,7 @@ use Rattle.flat_scene.specs.Setups.{is_within_limits}
 use Rattle.flat_scene.specs.Frames.{is_signalled}
 use Rattle.flat_fence.specs.Fences.{has}
 use Rattle.flat_core.specs.declared.clock.Clock.{Clock}
+use Rattle.flat_core.specs.declared.gets.Gets.{Gets}
 use Rattle.flat_core.specs.declared.state.SessionState.{SessionState}
 use Rattle.flat_core.specs.declared.viewports.Viewports.{Viewports}
 use Rattle.flat_core.specs.Ends.{view_uses}
@@ -24,7 +25,6 @@ use Rattle.flat_core.specs.Flags.{has_end}
 use Rattle.flat_core.specs.Kept.{IsKept, AllNumbered}
 use Rattle.flat_core.specs.Legal.{Legal, MayEnter, may_act, names_declared, frames, is_frame_open, begin_time}
 use Rattle.flat_core.specs.Logs.{Logged}
-use Rattle.flat_core.specs.Plain.{is_plain, are_plain}
 use Rattle.flat_core.specs.Posts.{posts}
 use Rattle.flat_core.specs.Seen.{seen_of}
 use Rattle.flat_core.specs.Viewports.{AreViewports}
@@ -57,11 +57,10 @@ made seat = count_by (λ entry. seat_number entry.actor == seat)
 abbrev pub HasShare : Machine → Actor → Type 0
 HasShare m who = made (seat_number who) m.history < slice_index m.shares (seat_number who)
 
--- An actor may make a call that enters this: by the rules, and within its share. As yet it is no get.
+-- An actor may make a call that enters this: by the rules, and within its share.
 pub record MayCall (m : Machine) (who : Actor) (calls : List Call) (kind : Kind) : Type 0 where
   pub may : MayEnter m.setup m.history who calls kind
   pub share : HasShare m who
-  pub plain : IsTrue (is_plain kind)
 
 -- An actor may look at the value of a condition.
 pub record MayLook (setup : Setup) (who : Actor) (c : Cond) : Type 0 where
@@ -85,14 +84,17 @@ due state = 2 * length state.queue.waiting + cond (nat_lt 0 state.took) 1 0
 abbrev pub due_back : Viewports → ℕ
 due_back ends = length ends.out.items
 
+-- and for its gets that wait
+abbrev pub due_told : Gets → ℕ
+due_told gets = length gets.held.items
+
 -- to all sessions
-abbrev pub all_due : List SessionState → List Viewports → ℕ
-all_due sessions ends = sum_by due sessions + sum_by due_back ends
+abbrev pub all_due : List SessionState → List Viewports → List Gets → ℕ
+all_due sessions ends gets = sum_by due sessions + (sum_by due_back ends + sum_by due_told gets)
 
 -- The parts that stand for the history.
 pub record Stands (setup : Setup) (history : List Entry) (clock : Clock) (fences views : List Bool) (sessions : List SessionState) : Type 0 where
   pub legal : Legal setup history
-  pub plain : IsTrue (are_plain history)
   pub timed : clock ≡ clock_of history
   pub fence_count : length fences ≡ length setup.fences
   pub signalled : (f : FenceNo) → has fences f ≡ is_signalled setup history f

@@ -16,7 +16,7 @@ use Rattle.flat_scene.specs.declared.journal.Entry.{Entry}
 use Rattle.flat_scene.specs.declared.journal.Kind.TheVariants.{Viewport}
 use Rattle.flat_scene.specs.declared.journal.Reply.{Reply}
 use Rattle.flat_scene.specs.declared.setup.Setup.{Setup}
-use Rattle.flat_scene.specs.History.{◌▹◌, calls, is_begin, is_closed, is_finish, presents}
+use Rattle.flat_scene.specs.History.{◌▹◌, calls, closes, is_begin, is_closed, is_finish, presents}
 use Rattle.flat_scene.specs.declared.journal.Reply.TheVariants.{Done, Presented, Closed}
 use Rattle.flat_scene.specs.Draft.{changed_at}
 use Rattle.flat_queue.specs.Line.{credits_of, pushed, ready_of}
@@ -102,6 +102,10 @@ after_view false state = record state { closed = true }
 abbrev pub after_viewport : Bool → SessionState → SessionState
 after_viewport true state = state
 after_viewport false state = record state { closed = true }
+
+-- the same by the reply to a get
+abbrev pub after_get : Reply → SessionState → SessionState
+after_get reply state = cond (closes reply) (record state { closed = true }) state
 
 -- a session's state with the calls of one more entry
 abbrev pub with_calls : List Call → SessionState → SessionState

@@ -1,5 +1,5 @@
 -- What is kept of the gets of all sessions, and of what all watchers answered last.
-use Rattle.std.specs.Prelude.{◌≡◌, ◌⊎◌, ◌<◌, ◌+◌, ◌-◌, ◌^◌, ℕ, Bool, true, false, nat_lt, cond, List, length, slice_index_or, slice_set, Option}
+use Rattle.std.specs.Prelude.{◌≡◌, ◌⊎◌, ◌<◌, ◌+◌, ◌-◌, ◌^◌, ℕ, Bool, true, false, nat_lt, cond, ◌==◌, option_map, unwrap_or, slice_get, List, length, slice_index_or, slice_set, Option}
 use Rattle.flat_base.specs.declared.ids.PairNo.{PairNo}
 use Rattle.flat_base.specs.declared.ids.SessionNo.{SessionNo}
 use Rattle.flat_scene.specs.declared.calls.ViewportProps.{ViewportProps}
@@ -8,13 +8,14 @@ use Rattle.flat_scene.specs.declared.journal.Entry.{Entry}
 use Rattle.flat_scene.specs.declared.journal.Kind.TheVariants.{Viewport}
 use Rattle.flat_scene.specs.declared.journal.Post.{Post}
 use Rattle.flat_scene.specs.declared.journal.Reply.{Reply}
-use Rattle.flat_scene.specs.declared.journal.Reply.TheVariants.{Done, Held}
+use Rattle.flat_scene.specs.declared.journal.Reply.TheVariants.{Held}
 use Rattle.flat_scene.specs.declared.journal.Told.{Told}
 use Rattle.flat_scene.specs.declared.setup.Setup.{Setup}
 use Rattle.flat_scene.specs.History.{◌▹◌, is_closed}
 use Rattle.flat_scene.specs.Setups.{is_declared}
 use Rattle.flat_core.specs.declared.gets.Answered.{Answered}
 use Rattle.flat_core.specs.declared.gets.Gets.{Gets}
+use Rattle.flat_core.specs.declared.state.SessionState.{SessionState}
 use Rattle.flat_core.specs.declared.ties.Ties.{Ties}
 use Rattle.flat_core.specs.Boards.{number}
 use Rattle.flat_core.specs.Ends.{view_uses, viewport_uses}
@@ -23,6 +24,7 @@ use Rattle.flat_core.specs.Following.{AreTied}
 use Rattle.flat_core.specs.Gets.{AllAnswered, AllUpTo, AreGets, Asks, Settles, watched_of, watcher_for}
 use Rattle.flat_core.specs.Kept.{AllNumbered}
 use Rattle.flat_core.specs.Legal.{Legal, answers, owns_view}
+use Rattle.flat_core.specs.Presents.{use_reply}
 use Rattle.flat_core.specs.Watch.{Watcher, told}
 
 -- the watcher of a pair that a get means
@@ -40,14 +42,14 @@ pub record AreWatched (setup : Setup) (history : List Entry) (gets : List Gets) 
   pub each : AllNumbered (λ i. AreOwnGets setup history (number i)) gets
   pub answered : AllAnswered setup history last
 
+-- whether a session is closed by its state, or isn't one of these
+abbrev pub is_shut : List SessionState → SessionNo → Bool
+is_shut sessions s = cond (s.0 == 0) true (unwrap_or (option_map (λ state. state.closed) (slice_get sessions (s.0 - 1))) true)
+
 -- whether a get waits by its reply
 abbrev pub is_held : Reply → Bool
 is_held Held = true
 is_held _ = false
-
--- how many events may still be posted for a session's gets that wait
-abbrev pub due_told : Gets → ℕ
-due_told gets = length gets.held.items
 
 -- its answers and its gets that wait are few, with one more
 abbrev pub is_few : ℕ → Gets → Type 0
@@ -84,12 +86,12 @@ pub record WatchedUpTo (setup : Setup) (n : ℕ) (after before : List Entry) (ge
   pub each : AllNumbered (λ i. AreOwnGets setup (cond (nat_lt i n) after before) (number i)) gets
   pub answered : AllUpTo setup n after before last
 
--- An entry uses the viewport end of a pair, whose view this session owns. It is closed, or isn't one of the setup.
-pub record IsJoin (setup : Setup) (history : List Entry) (entry : Entry) (owner : SessionNo) (shut : Bool) (p : PairNo) : Type 0 where
+-- An entry uses the viewport end of a pair, whose view this session owns, or is refused to. The session is shut where it is closed, or isn't one of the setup.
+pub record IsJoin (setup : Setup) (history : List Entry) (entry : Entry) (is_held : Bool) (owner : SessionNo) (shut : Bool) (p : PairNo) : Type 0 where
   pub legal : Legal setup (history ▹ entry)
   pub props : ViewportProps
   pub kind : entry.kind ≡ Viewport p props
-  pub done : entry.reply ≡ Done
+  pub replied : entry.reply ≡ use_reply is_held
   pub owned : owns_view setup owner p ≡ true
   pub known : p.0 < length setup.pairs
   pub opened : shut ≡ false → (is_declared setup owner ≡ true) × (is_closed owner history ≡ false)

@@ -6,7 +6,7 @@ ghost use Rattle.flat_core.specs.Begins.{begun, begin_entry, post_of, posts_to};
 ghost use Rattle.flat_core.specs.Boards.{due, number};
 ghost use Rattle.flat_core.specs.Ends.{to_begin};
 ghost use Rattle.flat_core.specs.Kept.{IsKept, AllNumbered};
-ghost use Rattle.flat_core.specs.Plain.{are_plain};
+ghost use Rattle.flat_core.specs.Legal.{Legal};
 ghost use Rattle.flat_core.specs.Posts.{events_to};
 ghost use Rattle.flat_core.specs.Seen.{seen_of};
 ghost use Rattle.flat_core.specs.Shown.{shown, shown_states};
@@ -29,7 +29,7 @@ pub fn begin_one(
     log: &mut Log,
     into: &mut Shown,
 ) -> usize
-    requires plain { are_plain log.old.history ≡ true }
+    requires legal { Legal setup.now (begun log.old.history line time) }
     requires place { length log.old.history < 2 ^ 32 }
     requires some { 0 < s.0 }
     requires few { s.0 ≤ length into.old }
@@ -82,7 +82,7 @@ pub fn begin_all(
     log: &mut Log,
     into: &mut Shown,
 ) -> usize
-    requires plain { are_plain log.old.history ≡ true }
+    requires legal { Legal setup.now (begun log.old.history line time) }
     requires place { length log.old.history < 2 ^ 32 }
     requires fences { (f : FenceNo) → has fences.now f ≡ is_signalled setup.now log.old.history f }
     requires count { length fences.now ≡ length setup.now.fences }

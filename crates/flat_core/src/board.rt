@@ -5,7 +5,6 @@ ghost use Rattle.flat_scene.specs.Frames.{is_ready, is_signalled, waiting};
 ghost use Rattle.flat_scene.specs.History.{is_closed, history_of, Published};
 ghost use Rattle.flat_scene.specs.Setups.{is_declared, is_within_limits};
 ghost use Rattle.flat_topology.specs.Views.{is_member};
-ghost use Rattle.flat_core.specs.Plain.{are_plain};
 ghost use Rattle.flat_core.specs.Boards.{MayCall, MayLook, entered, present_of};
 ghost use Rattle.flat_core.specs.Ends.{has_view, to_begin};
 ghost use Rattle.flat_core.specs.Legal.{asked_of, frames, number_if, reply_to, value_of, waited, Legal};
@@ -13,6 +12,8 @@ ghost use Rattle.flat_core.specs.Polls.{unread_events};
 ghost use Rattle.flat_core.specs.Posts.{posts};
 ghost use Rattle.flat_core.specs.Presents.{owed_for, reply_to_close};
 ghost use Rattle.flat_core.specs.Shown.{shown_states, tree_of};
+ghost use Rattle.flat_core.specs.Watch.{watcher_of};
+ghost use Rattle.flat_core.specs.Watchers.{is_held, is_shut, watcher_meant};
 
 use crate::begins::begin_all;
 use crate::clock::Clock;
@@ -21,15 +22,20 @@ use crate::ends::EndSet;
 use crate::log::Log;
 use crate::polls::{EventList, push_events_from};
 use crate::state::{SessionState, new_states, note, present_in};
+use crate::telling::Telling;
 use crate::ties::Ties;
 use crate::viewports::Viewports;
-use crate::views::{new_ends, note_ends, note_in, use_ends, view_in, viewport_in, with_view};
+use crate::views::{
+    get_in, new_ends, note_ends, note_in, use_ends, view_in, viewport_in, with_view,
+};
+use crate::watching::Watchers;
 use flat_base::{
     Actor, FenceNo, FlatlandError, FrameNo, NoMemory, PairNo, Reason, SessionNo, ShareList,
 };
 use flat_fence::FenceSet;
 use flat_scene::{
     CallList, Cond, Entry, Journal, Kind, PresentArgs, Reply, SessionSet, Setup, ViewportProps,
+    Watch,
 };
 use flat_snap::Snapshot;
 use flat_topology::Shown;
@@ -67,22 +73,24 @@ pub struct Board {
     /// The viewports of each session.
     ends: Vec<Viewports>,
     ties: Ties,
+    watchers: Watchers,
 }
 
 impl Model for Board {
     ghost use Rattle.flat_core.specs.Boards.{Machine, Stands, HasRoom, AreEnds, all_due};
     ghost use Rattle.flat_core.specs.Following.{AreTied};
+    ghost use Rattle.flat_core.specs.Watchers.{AreWatched};
 
     ghost Value = { Machine };
 
     ghost view = { λ b. record { setup = b.setup; shares = b.shares; history = b.log.history } };
 
-    ghost invariant = { λ b. Stands b.setup b.log.history b.clock b.fences b.views b.sessions.items × HasRoom b.setup b.shares b.log b.owed (all_due b.sessions.items b.ends.items) × AreEnds b.setup b.log.history b.ends.items × AreTied b.setup b.log.history b.ties.followings.items b.ties.pairs.items };
+    ghost invariant = { λ b. Stands b.setup b.log.history b.clock b.fences b.views b.sessions.items × HasRoom b.setup b.shares b.log b.owed (all_due b.sessions.items b.ends.items b.watchers.gets.items) × AreEnds b.setup b.log.history b.ends.items × AreTied b.setup b.log.history b.ties.followings.items b.ties.pairs.items × AreWatched b.setup b.log.history b.watchers.gets.items b.watchers.answered.items };
 }
 
 impl Board {
     ghost use Rattle.flat_base.specs.declared.ids.Actor.TheVariants.{Display, Session};
-    ghost use Rattle.flat_scene.specs.declared.journal.Kind.TheVariants.{Begin, Close, End, Finish, Hit, Poll, Present, Signal, View, Viewport, Wait};
+    ghost use Rattle.flat_scene.specs.declared.journal.Kind.TheVariants.{Begin, Close, End, Finish, Get, Hit, Poll, Present, Signal, View, Viewport, Wait};
     ghost use Rattle.flat_scene.specs.declared.journal.Reply.TheVariants.{Done};
 
     /// A board before any entry, with room for all that the shares allow: those of
@@ -100,6 +108,7 @@ impl Board {
         let sessions = new_states(alloc, setup.sessions)?;
         let ends = new_ends(alloc, setup.sessions)?;
         let ties = Ties::new(alloc, &setup)?;
+        let watchers = Watchers::new(alloc, &setup)?;
         Ok(Board {
             alloc,
             setup,
@@ -116,6 +125,7 @@ impl Board {
             sessions,
             ends,
             ties,
+            watchers,
         })
     }
 
@@ -172,6 +182,8 @@ impl Board {
         ensures same { IfErr result (λ back. self.new ≡ self.old) }
         ensures back { IfErr result (λ back. back ≡ record { calls = calls; args = None; snap = None }) }
     {
+        let owner = self.setup.pairs.at(p.0 as usize).view;
+        let is_shut = is_shut(self.sessions.as_slice(), owner);
         let place = s.0 as usize - 1;
         match self.ends[place].reserve_with(&mut self.log, self.owed + 1) {
             Ok(()) => {}
@@ -188,12 +200,76 @@ impl Board {
         let is_held = use_ends(state, ends, &mut self.ties, s, calls.as_slice(), p, props);
         let reply = viewport_in(state, is_held);
         note(&mut state.account, calls.as_slice());
-        self.owed += number_if(is_held) as usize;
+        let telling = Telling {
+            setup: &self.setup,
+            ties: &self.ties,
+            views: &self.views,
+        };
+        let told = self
+            .watchers
+            .join(is_held, owner, is_shut, p, &telling, &mut self.log);
+        self.owed = self.owed + number_if(is_held) as usize - told;
         self.log.enter(Entry {
             actor: Actor::Session(s),
             line,
             calls,
             kind: Kind::Viewport(p, props),
+            reply,
+        });
+        Ok(reply)
+    }
+
+    /// Asks for a value of this pair: what is told now if it is news, or else later
+    /// by an event; the session is closed where a get of that watcher waits.
+    pub fn get(
+        &mut self,
+        s: SessionNo,
+        line: u32,
+        calls: CallList,
+        get: Watch,
+        p: PairNo,
+    ) -> Result<Reply, Back>
+        requires may { MayCall self.old (Session s) calls (Get get) }
+        requires meant { watcher_of self.old.setup self.old.history (Session s) calls get ≡ Some (watcher_meant self.old.history get p) }
+        requires known { p.0 < length self.old.setup.pairs }
+        ensures reply { IfOk result (λ reply. reply ≡ reply_to self.old.setup self.old.history (Session s) calls (Get get)) }
+        ensures entry { IfOk result (λ reply. self.new ≡ entered self.old (Session s) line calls (Get get) reply) }
+        ensures same { IfErr result (λ back. self.new ≡ self.old) }
+        ensures back { IfErr result (λ back. back ≡ record { calls = calls; args = None; snap = None }) }
+    {
+        let telling = Telling {
+            setup: &self.setup,
+            ties: &self.ties,
+            views: &self.views,
+        };
+        let posts = self.owed + 1;
+        let reply = match self.watchers.ask(s, p, get, &telling, &mut self.log, posts) {
+            Ok(reply) => reply,
+            Err(_) => {
+                return Err(Back {
+                    calls,
+                    args: None,
+                    snap: None,
+                });
+            }
+        };
+        let place = s.0 as usize - 1;
+        let state = &mut self.sessions[place];
+        note_ends(
+            state,
+            &mut self.ends[place],
+            &mut self.ties,
+            s,
+            calls.as_slice(),
+        );
+        get_in(state, reply);
+        note(&mut state.account, calls.as_slice());
+        self.owed += number_if(is_held(reply)) as usize;
+        self.log.enter(Entry {
+            actor: Actor::Session(s),
+            line,
+            calls,
+            kind: Kind::Get(get),
             reply,
         });
         Ok(reply)
@@ -455,12 +531,19 @@ impl Board {
         ensures frame { result.0 ≡ frames self.new.history }
     {
         self.ties.finish(&self.setup, shown);
+        let telling = Telling {
+            setup: &self.setup,
+            ties: &self.ties,
+            views: &self.views,
+        };
         let count = done_all(
             &self.setup,
             line,
             &mut self.fences,
             &mut self.sessions,
             &mut self.ends,
+            &mut self.watchers,
+            &telling,
             &mut self.log,
         );
         self.owed -= count;
@@ -515,7 +598,10 @@ impl Board {
                 Actor::Session(s) => self.sessions[s.0 as usize - 1].taken(),
                 _ => 0,
             },
-            Cond::Answers(_) => 0,
+            Cond::Answers(_) => match who {
+                Actor::Session(s) => self.watchers.gets[s.0 as usize - 1].answers,
+                _ => 0,
+            },
         }
     }
 
@@ -534,7 +620,6 @@ impl Board {
         ensures entries { history_of result.now.entries.items ≡ self.now.history }
         ensures posts { result.now.posts.items ≡ posts self.now.setup self.now.history }
         ensures legal { Legal self.now.setup self.now.history }
-        ensures plain { are_plain self.now.history ≡ true }
     {
         self.log.journal()
     }
@@ -566,6 +651,29 @@ fn number_if(is_signalled: bool) -> u32
     ensures { result ≡ number_if is_signalled }
 {
     if is_signalled { 1 } else { 0 }
+}
+
+/// Whether a get waits by its reply.
+fn is_held(reply: Reply) -> bool
+    ensures { result ≡ is_held reply }
+{
+    match reply {
+        Reply::Held => true,
+        _ => false,
+    }
+}
+
+/// Whether a session is closed, or isn't one of these.
+fn is_shut(sessions: &[SessionState], s: SessionNo) -> bool
+    ensures { result ≡ is_shut sessions.now s }
+{
+    if s.0 == 0 {
+        return true;
+    }
+    match sessions.get(s.0 as usize - 1) {
+        Some(state) => state.closed,
+        None => true,
+    }
 }
 
 fn wait_reply(wanted: u32, value: u32) -> Reply

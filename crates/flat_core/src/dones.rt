@@ -1,23 +1,26 @@
-ghost use Rattle.std.specs.Prelude.{◌≡◌, true, ◌+◌, ◌^◌, ◌<◌, ◌≤◌, ◌||◌, ◌++◌, [], cond, nat_lt, length, map, All};
+ghost use Rattle.std.specs.Prelude.{◌≡◌, true, ◌+◌, ◌-◌, ◌^◌, ◌<◌, ◌≤◌, ◌||◌, ◌++◌, [], cond, nat_lt, length, map, sum_by, All};
 ghost use Rattle.std.specs.List.{list_any};
 ghost use Rattle.flat_base.specs.declared.ids.Actor.TheVariants.{Display};
 ghost use Rattle.flat_base.specs.declared.ids.FenceNo.{FenceNo};
 ghost use Rattle.flat_fence.specs.Fences.{has};
 ghost use Rattle.flat_scene.specs.declared.journal.Kind.TheVariants.{Finish};
-ghost use Rattle.flat_scene.specs.Frames.{going, is_among, is_released_by, sessions_to};
+ghost use Rattle.flat_scene.specs.Frames.{going, is_among, is_released_by, sessions_to, taken};
+ghost use Rattle.flat_scene.specs.History.{is_closed};
 ghost use Rattle.flat_scene.specs.Setups.{is_declared};
 ghost use Rattle.flat_core.specs.Begins.{finished, finish_entry, post_of, posts_to, took_event};
-ghost use Rattle.flat_core.specs.Boards.{AreEnds, all_due, due, due_back, number};
+ghost use Rattle.flat_core.specs.Boards.{AreEnds, all_due, due, due_back, due_told, number};
 ghost use Rattle.flat_core.specs.Kept.{IsKept, AllNumbered, Below};
 ghost use Rattle.flat_core.specs.Legal.{is_frame_open, Legal, MayEnter};
-ghost use Rattle.flat_core.specs.Plain.{are_plain};
-ghost use Rattle.flat_core.specs.Posts.{events_to};
+ghost use Rattle.flat_core.specs.Posts.{events_to, frame_took};
 ghost use Rattle.flat_core.specs.Seen.{seen_of};
-ghost use Rattle.flat_core.specs.Viewports.{AreViewports};
+ghost use Rattle.flat_core.specs.Viewports.{AreViewports, back_events};
+ghost use Rattle.flat_core.specs.Watchers.{AreWatched, WatchedUpTo};
 
+use crate::gets::Tells;
 use crate::log::Log;
 use crate::state::SessionState;
 use crate::viewports::Viewports;
+use crate::watching::Watchers;
 use flat_base::{FenceList, FenceNo, SessionNo};
 use flat_fence::FenceSet;
 use flat_scene::{Event, Post, Setup};
@@ -64,8 +67,9 @@ fn post_took(took: u32, s: SessionNo, log: &mut Log) -> usize
     1
 }
 
-/// What the end of a frame does for one session. Answers how many events it posts.
-pub fn done_one(
+/// What the end of a frame does for one session, but for its gets. Answers how many
+/// events it posts.
+fn done_one(
     setup: &Setup,
     line: u32,
     s: SessionNo,
@@ -74,7 +78,6 @@ pub fn done_one(
     fences: &mut FenceSet,
     log: &mut Log,
 ) -> usize
-    requires plain { are_plain log.old.history ≡ true }
     requires legal { Legal setup.now log.old.history }
     requires may { MayEnter setup.now log.old.history Display [] Finish }
     requires declared { is_declared setup.now s ≡ true }
@@ -88,7 +91,7 @@ pub fn done_one(
     ensures ends { AreViewports setup.now (finished log.old.history line) s ends.new.live.items ends.new.out.items }
     ensures size { length fences.new ≡ length fences.old }
     ensures members { (g : FenceNo) → has fences.new g ≡ (has fences.old g || is_released_by (going setup.now log.old.history s) g) }
-    ensures posts { log.new.posts ≡ log.old.posts ++ map (post_of (length log.old.history) s) (events_to setup.now log.old.history (finish_entry line) s) }
+    ensures posts { log.new.posts ≡ log.old.posts ++ map (post_of (length log.old.history) s) (cond (is_closed s log.old.history) [] (took_event (frame_took setup.now log.old.history s) ++ back_events (taken setup.now log.old.history s) ends.old.out.items)) }
     ensures count { length log.new.posts ≡ length log.old.posts + result }
     ensures history { log.new.history ≡ log.old.history }
     ensures room { log.new.room ≡ log.old.room }
@@ -106,29 +109,74 @@ pub fn done_one(
     presented + back
 }
 
+/// What the end of a frame does for one session: its gets are answered, and then it
+/// hears of the frame and of its tokens. Answers how many events it posts.
+fn finish_one<T: Tells>(
+    setup: &Setup,
+    line: u32,
+    s: SessionNo,
+    state: &mut SessionState,
+    ends: &mut Viewports,
+    fences: &mut FenceSet,
+    watchers: &mut Watchers,
+    tells: &T,
+    log: &mut Log,
+) -> usize
+    requires legal { Legal setup.now log.old.history }
+    requires may { MayEnter setup.now log.old.history Display [] Finish }
+    requires tells { T.stands tells.now setup.now (finished log.old.history line) }
+    requires some { 0 < s.0 }
+    requires few { s.0 ≤ setup.now.sessions }
+    requires place { length log.old.history < 2 ^ 32 - 1 }
+    requires opened { is_frame_open log.old.history ≡ true }
+    requires count { length fences.old ≡ length setup.now.fences }
+    requires kept { IsKept setup.now (seen_of setup.now log.old.history s) state.old }
+    requires ends { AreViewports setup.now log.old.history s ends.old.live.items ends.old.out.items }
+    requires watched { WatchedUpTo setup.now (s.0 - 1) (finished log.old.history line) log.old.history watchers.old.gets.items watchers.old.answered.items }
+    requires room { due state.old + due_back ends.old + sum_by due_told watchers.old.gets.items ≤ log.old.post_room }
+    ensures kept { IsKept setup.now (seen_of setup.now (finished log.old.history line) s) state.new }
+    ensures ends { AreViewports setup.now (finished log.old.history line) s ends.new.live.items ends.new.out.items }
+    ensures watched { WatchedUpTo setup.now s.0 (finished log.old.history line) log.old.history watchers.new.gets.items watchers.new.answered.items }
+    ensures size { length fences.new ≡ length fences.old }
+    ensures members { (g : FenceNo) → has fences.new g ≡ (has fences.old g || is_released_by (going setup.now log.old.history s) g) }
+    ensures posts { log.new.posts ≡ log.old.posts ++ map (post_of (length log.old.history) s) (events_to setup.now log.old.history (finish_entry line) s) }
+    ensures count { length log.new.posts ≡ length log.old.posts + result }
+    ensures history { log.new.history ≡ log.old.history }
+    ensures room { log.new.room ≡ log.old.room }
+    ensures post_room { log.new.post_room + result ≡ log.old.post_room }
+    ensures due { due state.new + due_back ends.new + sum_by due_told watchers.new.gets.items + result ≤ due state.old + due_back ends.old + sum_by due_told watchers.old.gets.items }
+{
+    let told = watchers.settle(s, state.closed, tells, log);
+    told + done_one(setup, line, s, state, ends, fences, log)
+}
+
 /// What the end of a frame does for all sessions. Answers how many events it posts.
-pub fn done_all(
+pub fn done_all<T: Tells>(
     setup: &Setup,
     line: u32,
     fences: &mut FenceSet,
     sessions: &mut Vec<SessionState>,
     ends: &mut Vec<Viewports>,
+    watchers: &mut Watchers,
+    tells: &T,
     log: &mut Log,
 ) -> usize
-    requires plain { are_plain log.old.history ≡ true }
+    requires tells { T.stands tells.now setup.now (finished log.old.history line) }
+    requires watched { AreWatched setup.now log.old.history watchers.old.gets.items watchers.old.answered.items }
     requires legal { Legal setup.now log.old.history }
     requires may { MayEnter setup.now log.old.history Display [] Finish }
-    requires place { length log.old.history < 2 ^ 32 }
+    requires place { length log.old.history < 2 ^ 32 - 1 }
     requires opened { is_frame_open log.old.history ≡ true }
     requires count { length fences.old ≡ length setup.now.fences }
     requires all { length sessions.old.items ≡ setup.now.sessions }
     requires kept { AllNumbered (λ i. IsKept setup.now (seen_of setup.now log.old.history (number i))) sessions.old.items }
     requires ends { AreEnds setup.now log.old.history ends.old.items }
-    requires room { all_due sessions.old.items ends.old.items ≤ log.old.post_room }
-    requires small { all_due sessions.old.items ends.old.items < 2 ^ 64 }
+    requires room { all_due sessions.old.items ends.old.items watchers.old.gets.items ≤ log.old.post_room }
+    requires small { all_due sessions.old.items ends.old.items watchers.old.gets.items < 2 ^ 64 }
     ensures all { length sessions.new.items ≡ setup.now.sessions }
     ensures kept { AllNumbered (λ i. IsKept setup.now (seen_of setup.now (finished log.old.history line) (number i))) sessions.new.items }
     ensures ends { AreEnds setup.now (finished log.old.history line) ends.new.items }
+    ensures watched { AreWatched setup.now (finished log.old.history line) watchers.new.gets.items watchers.new.answered.items }
     ensures size { length fences.new ≡ length fences.old }
     ensures members { (g : FenceNo) → has fences.new g ≡ (has fences.old g || list_any (λ s. is_released_by (going setup.now log.old.history s) g) (sessions_to setup.now.sessions)) }
     ensures posts { log.new.posts ≡ log.old.posts ++ posts_to setup.now log.old.history (finish_entry line) setup.now.sessions }
@@ -136,13 +184,23 @@ pub fn done_all(
     ensures history { log.new.history ≡ log.old.history }
     ensures room { log.new.room ≡ log.old.room }
     ensures post_room { log.new.post_room + result ≡ log.old.post_room }
-    ensures due { all_due sessions.new.items ends.new.items + result ≤ all_due sessions.old.items ends.old.items }
+    ensures due { all_due sessions.new.items ends.new.items watchers.new.gets.items + result ≤ all_due sessions.old.items ends.old.items watchers.old.gets.items }
 {
     let mut count = 0usize;
     for i in 0..setup.sessions {
         let state = &mut sessions[i as usize];
         let one = &mut ends[i as usize];
-        count += done_one(setup, line, SessionNo(i + 1), state, one, fences, log);
+        count += finish_one(
+            setup,
+            line,
+            SessionNo(i + 1),
+            state,
+            one,
+            fences,
+            watchers,
+            tells,
+            log,
+        );
     }
     count
 }

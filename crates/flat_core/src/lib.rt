@@ -1,7 +1,7 @@
 //! The machine of the scene service: which histories are legal, what is told to
 //! whom and when, and which events are posted; and the machine itself, `Board`,
 //! which takes entries one by one, answers them by these rules, and keeps the
-//! journal. As yet it takes no get.
+//! journal.
 #![tactic(auto)]
 
 mod begins;

@@ -150,6 +150,7 @@ impl Ties {
 }
 
 /// What pairs tell, by what is kept.
+#[derive(Clone, Copy)]
 pub struct Telling<'a> {
     pub setup: &'a Setup,
     pub ties: &'a Ties,

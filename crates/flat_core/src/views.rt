@@ -5,7 +5,7 @@ ghost use Rattle.flat_core.specs.declared.state.SessionState.{SessionState};
 ghost use Rattle.flat_core.specs.Kept.{has_view_in};
 ghost use Rattle.flat_core.specs.Legal.{all_but_last, refused_token};
 ghost use Rattle.flat_core.specs.Lives.{uses_last};
-ghost use Rattle.flat_core.specs.Presents.{use_reply, after_view, after_viewport, noted_in, IsPlaced, IsNoted, IsUsed, EndsNoted, TiesNoted, TiesUsed, HasNone};
+ghost use Rattle.flat_core.specs.Presents.{use_reply, after_get, after_view, after_viewport, noted_in, IsPlaced, IsNoted, IsUsed, EndsNoted, TiesNoted, TiesUsed, HasNone};
 ghost use Rattle.flat_core.specs.Seen.{is_new_viewport};
 
 use crate::state::{SessionState, note};
@@ -46,6 +46,15 @@ pub fn viewport_in(state: &mut SessionState, is_held: bool) -> Reply
     ensures after { state.new ≡ after_viewport is_held state.old }
 {
     if is_held { Reply::Done } else { refuse(state) }
+}
+
+/// The session has this reply to a get, by which it may be closed.
+pub fn get_in(state: &mut SessionState, reply: Reply)
+    ensures { state.new ≡ after_get reply state.old }
+{
+    if let Reply::Closed(..) = reply {
+        state.closed = true;
+    }
 }
 
 /// What is kept of sessions' viewports before any entry.

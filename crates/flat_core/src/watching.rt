@@ -2,11 +2,12 @@ ghost use Rattle.std.specs.Prelude.{◌≡◌, ◌+◌, ◌-◌, ◌<◌, ◌≤
 ghost use Rattle.flat_scene.specs.declared.journal.Entry.{Entry};
 ghost use Rattle.flat_scene.specs.declared.setup.Setup.{Setup};
 ghost use Rattle.flat_scene.specs.History.{◌▹◌};
+ghost use Rattle.flat_core.specs.Boards.{due_told};
 ghost use Rattle.flat_core.specs.Kept.{AllNumbered};
 ghost use Rattle.flat_core.specs.Legal.{number_if};
 ghost use Rattle.flat_core.specs.Posts.{posts};
 ghost use Rattle.flat_core.specs.Watch.{told};
-ghost use Rattle.flat_core.specs.Watchers.{AreWatched, IsJoin, IsAsked, IsSettled, WatchedUpTo, due_told, is_few, is_held, is_seldom};
+ghost use Rattle.flat_core.specs.Watchers.{AreWatched, IsJoin, IsAsked, IsSettled, WatchedUpTo, is_few, is_held, is_seldom};
 
 use crate::gets::{Answered, Gets, Tells, Watched, new_answers, told_of};
 use crate::log::Log;
@@ -47,7 +48,13 @@ impl Watchers {
 
     /// Answers the gets of a session that wait and for which there is news, unless
     /// it is closed. Answers how many. It takes no memory.
-    pub fn settle<T: Tells>(&mut self, s: SessionNo, closed: bool, tells: &T, log: &mut Log) -> usize
+    pub fn settle<T: Tells>(
+        &mut self,
+        s: SessionNo,
+        closed: bool,
+        tells: &T,
+        log: &mut Log,
+    ) -> usize
         requires stands { (setup : Setup) × ((history : List Entry) × T.stands tells.now setup history) }
         requires some { closed ≡ false → 0 < s.0 }
         requires within { closed ≡ false → s.0 ≤ length self.old.gets.items }
@@ -104,11 +111,12 @@ impl Watchers {
         Ok(gets.ask(p, get, now, pair))
     }
 
-    /// A viewport end is used anew: the gets of the owner of the pair's view are
-    /// answered for which there is news, unless it is closed. Answers how many. It
-    /// takes no memory.
+    /// A viewport end is used anew, if its token was held: the gets of the owner of
+    /// the pair's view are answered for which there is news, unless it is closed.
+    /// Answers how many. It takes no memory.
     pub fn join<T: Tells>(
         &mut self,
+        is_held: bool,
         owner: SessionNo,
         closed: bool,
         p: PairNo,
@@ -123,7 +131,7 @@ impl Watchers {
         requires room { sum_by due_told self.old.gets.items ≤ log.old.post_room }
         requires few { AllNumbered is_few self.old.gets.items }
         requires uses { AllNumbered is_seldom self.old.answered.items }
-        ensures watched { (setup : Setup) (history : List Entry) (entry : Entry) → IsJoin setup history entry owner closed p → T.stands tells.now setup (history ▹ entry) → log.old.history ≡ history → log.old.posts ≡ posts setup history → AreWatched setup history self.old.gets.items self.old.answered.items
+        ensures watched { (setup : Setup) (history : List Entry) (entry : Entry) → IsJoin setup history entry is_held owner closed p → T.stands tells.now setup (history ▹ entry) → log.old.history ≡ history → log.old.posts ≡ posts setup history → AreWatched setup history self.old.gets.items self.old.answered.items
             → AreWatched setup (history ▹ entry) self.new.gets.items self.new.answered.items × (log.new.posts ≡ posts setup (history ▹ entry)) }
         ensures due { sum_by due_told self.new.gets.items + result ≡ sum_by due_told self.old.gets.items }
         ensures count { length log.new.posts ≡ length log.old.posts + result }
@@ -131,6 +139,9 @@ impl Watchers {
         ensures room { log.new.room ≡ log.old.room }
         ensures post_room { log.new.post_room + result ≡ log.old.post_room }
     {
+        if !is_held {
+            return 0;
+        }
         let count = self.settle(owner, closed, tells, log);
         self.answered[p.0 as usize].start_use();
         count

@@ -54,10 +54,10 @@ returns-in-Some-clause-posts c =
     c.credits.ensures.credits ∙ credits-line c.args.setup.now (seen_of c.args.setup.now (begun h c.args.line c.args.time) c.args.s) c.take_ready.new.state (returns-in-Some-clause-kept c) (c.take_ready.ensures.let_go ∙ here) in
     let gained : c.saturating_sub-gained.result ≡ credits c.args.setup.now (begun h c.args.line c.args.time) c.args.s - credits c.args.setup.now h c.args.s =
     c.saturating_sub-gained.ensures ∙ rw (old, new) refl in
-    rw (events-some c.args.setup.now h c.args.line c.args.time c.args.s c.saturating_sub-gained.result c.requires.plain opened some gained) (c.post.ensures.posts ∙ rw c.len.ensures refl)
+    rw (events-some c.args.setup.now h c.args.line c.args.time c.args.s c.saturating_sub-gained.result c.requires.legal opened some gained) (c.post.ensures.posts ∙ rw c.len.ensures refl)
 
 pub returns-in-None-clause-posts : goal.returns-in-None-clause-posts
 returns-in-None-clause-posts c =
     let opened : is_closed c.args.s c.args.log.now.history ≡ false = sym c.requires.kept.closed ∙ c.if-state.false in
     let none = no-ready c.args.setup.now c.args.log.now.history c.args.time c.args.s (has c.args.fences.now) c.args.state.now c.requires.kept c.if-state.false c.requires.fences c.in-None.ensures.last in
-    rw (events-none c.args.setup.now c.args.log.now.history c.args.line c.args.time c.args.s c.requires.plain opened none) (sym (append-nil _))
+    rw (events-none c.args.setup.now c.args.log.now.history c.args.line c.args.time c.args.s c.requires.legal opened none) (sym (append-nil _))

@@ -21,6 +21,7 @@ use Rattle.flat_core.proofs.ShownFits.{begun-fits, length-sessions}
 use Rattle.flat_core.specs.Begins.{begun, begin_entry}
 use Rattle.flat_core.proofs.Steps.{has-room, legal-entered}
 use Rattle.flat_core.proofs.BoardBegins.{kept-begun, place-small, not-ready}
+use Rattle.flat_core.proofs.WatchingSteps.{watched-after}
 use Rattle.flat_core.proofs.board.Board.begin.Goals as goal
 
 pub begin_all-count-requires-clause-place : goal.begin_all-count-requires-clause-place
@@ -65,12 +66,12 @@ invariant_of-self c =
     let ends : AreEnds inside.setup (inside.log.history ▹ e) inside.ends.items = ends-other inside.setup inside.log.history e legal refl inside.ends.items (λ j. refl) c.self.invariant.2 in
     let now : c.enter.new.self.history ≡ (inside.log.history ▹ e) = history ∙ ap (λ (h : List Entry). h ▹ e) all.history in
     let states = c.as_slice.ensures.value in
-    let tied = c.begin.ensures inside.log.history c.args.line c.args.time (record {
+    let tied = c.begin.ensures.tied inside.log.history c.args.line c.args.time (record {
       legal = legal;
       kept = subst (λ (xs : List SessionState). AllNumbered (λ i. IsKept inside.setup (seen_of inside.setup (begun inside.log.history c.args.line c.args.time) (number i))) xs) (sym states) all.kept;
       shown = all.shown;
     }) c.self.invariant.3 in
-    let kept = kept-begun m c.args.line c.args.time may _ _ _ _ _ _ _ _ _ _ {dues = all_due inside.sessions.items inside.ends.items} {dues_now = all_due c.begin_all-count.new.sessions.items inside.ends.items} refl c.self.invariant.0 c.self.invariant.1 all.all all.kept
+    let kept = kept-begun m c.args.line c.args.time may _ _ _ _ _ _ _ _ _ _ {dues = all_due inside.sessions.items inside.ends.items inside.watchers.gets.items} {dues_now = all_due c.begin_all-count.new.sessions.items inside.ends.items inside.watchers.gets.items} refl c.self.invariant.0 c.self.invariant.1 all.all all.kept
     (record {
       posts = all.posts;
       posted = all.count;
@@ -80,7 +81,7 @@ invariant_of-self c =
       due = omega (arith, all.due);
       entered = record { history = history; posts = log.posts; room = log.room; post_room = log.post_room };
     }) in
-    (kept.0, kept.1, rw now ends, rw now tied)
+    (kept.0, kept.1, rw now ends, rw now tied, rw now (watched-after m Display c.args.line [] (Begin c.args.time) Done may refl refl refl refl c.self.invariant.0.legal inside.watchers.gets.items inside.watchers.answered.items c.self.invariant.4))
 
 pub returns-clause-next : goal.returns-clause-next
 returns-clause-next c =

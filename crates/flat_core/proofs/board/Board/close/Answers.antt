@@ -17,6 +17,7 @@ use Rattle.flat_core.proofs.EndSteps.{ends-closed}
 use Rattle.flat_core.proofs.UseSteps.{opened-close}
 use Rattle.flat_core.proofs.Ones.{declared-of, kept-one, plain-close, reply-close, closes-close}
 use Rattle.flat_core.proofs.Steps.{has-room, legal-entered, unchanged}
+use Rattle.flat_core.proofs.WatchingSteps.{told-too, watched-after}
 use Rattle.flat_core.proofs.board.Board.close.Goals as goal
 
 pub enter-requires : goal.enter-requires
@@ -45,7 +46,7 @@ invariant_of-self c =
     at-session (λ t one. AreViewports setup h t one.live.items one.out.items) c.self.inside.ends.items c.args.s c.index.result.now c.self.invariant.2.each who.0 (omega (arith, who.1, all)) c.index.ensures in
     let before : IsKept setup (seen_of setup h c.args.s) state = kept-session setup h _ _ _ c.self.inside.sessions.items c.args.s state c.self.invariant.0 (declared-of setup (Close c.args.why) c.args.s call.may.acts) c.index_mut-state.ensures.value in
     let open_now : is_closed c.args.s h ≡ false = opened-close h c.args.s c.args.why call.may.lasts in
-    let tied = c.note.ensures setup h e (record {
+    let tied = c.note.ensures.tied setup h e (record {
       legal = legal;
       mine = is-session c.args.s;
       opened = open_now;
@@ -54,9 +55,9 @@ invariant_of-self c =
       living = c.as_slice-live.ensures.value ∙ own.lives open_now;
     }) (λ p. refl) c.self.invariant.3 in
     rw account
-    (let kept = kept-one m c.args.s c.args.line c.args.calls (Close c.args.why) c.close_reply-reply.result call is refl refl _ _ _ _ _ _ _ c.enter.new.self _
+    (let kept = kept-one m c.args.s c.args.line c.args.calls (Close c.args.why) c.close_reply-reply.result call is refl refl refl _ _ _ _ _ _ _ c.enter.new.self _
     c.index_mut-state.result.now (with_calls c.args.calls (record c.index_mut-state.result.now { closed = true })) c.index_mut-state.ensures.value refl c.self.invariant.0 c.self.invariant.1 (unchanged _ _ _ _ (λ sessions g f. refl) (λ p. refl))
     (λ kept. rw (seen-closed setup h (entry_of (Session c.args.s) c.args.line c.args.calls (Close c.args.why) c.close_reply-reply.result) c.args.s (plain-close _ _ _ _ _) (rw reply (closes-close c.args.why)) (is-session c.args.s))
     (kept-noted setup _ _ c.args.calls (kept-closed setup _ _ kept)))
     refl refl (record { history = log.history; posts = log.posts; room = log.room; post_room = log.post_room }) in
-    (kept.0, kept.1, rw log.history ends, rw log.history tied))
+    (kept.0, kept.1, rw log.history ends, rw log.history tied, rw log.history (watched-after m (Session c.args.s) c.args.line c.args.calls (Close c.args.why) c.close_reply-reply.result call is refl refl refl c.self.invariant.0.legal c.self.inside.watchers.gets.items c.self.inside.watchers.answered.items c.self.invariant.4)))

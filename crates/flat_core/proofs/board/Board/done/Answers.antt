@@ -54,7 +54,7 @@ invariant_of-self c =
     let inside = c.self.inside in
     let m : Machine = record { setup = inside.setup; shares = inside.shares; history = inside.log.history } in
     let shown = rw (← c.self.view_is) at c.requires.shown in
-    let tied = c.finish.ensures inside.log.history c.args.line (record {
+    let tied = c.finish.ensures.tied inside.log.history c.args.line (record {
       legal = (c.self.invariant.0.legal, legal-entered m Display c.args.line [] Finish Done may refl);
       shown = shown;
     }) c.self.invariant.3 in

@@ -11,6 +11,7 @@ use Rattle.flat_scene.specs.declared.journal.Kind.TheVariants.{End}
 use Rattle.flat_scene.specs.declared.journal.Reply.TheVariants.{Done}
 use Rattle.flat_core.proofs.Ones.{kept-quiet, placed-of, plain-end}
 use Rattle.flat_core.proofs.Steps.{has-room, unchanged}
+use Rattle.flat_core.proofs.WatchingSteps.{told-too, watched-after}
 use Rattle.flat_core.proofs.board.Board.end.Goals as goal
 
 pub note_in-requires : goal.note_in-requires
@@ -37,7 +38,7 @@ invariant_of-self c =
     let who : Actor = Session c.args.s in
     let ends = ends-after m who c.args.line c.args.calls (End c.args.refused) Done call refl refl refl refl inside.clock inside.fences inside.views inside.sessions.items inside.ends.items c.note_in.new.ends.items inside.ties c.note_in.new.ties c.self.invariant.0
     (subst (λ (calls : List Call). EndsNoted who calls inside.sessions.items inside.ends.items c.note_in.new.ends.items inside.ties c.note_in.new.ties) c.as_slice.ensures c.note_in.ensures.ends) c.self.invariant.2 c.self.invariant.3 in
-    let kept = kept-quiet m who c.args.line c.args.calls (End c.args.refused) Done call refl (plain-end _ _ _ _) refl _ _ _ _ _ _ _ _ _ _ refl c.self.invariant.0 c.self.invariant.1
-    (unchanged _ _ _ _ (λ sessions g f. refl) (λ p. refl)) (c.note_in.ensures.sessions ∙ ap (λ (calls : List Call). noted_in who calls inside.sessions.items) c.as_slice.ensures) ends.1
+    let kept = kept-quiet m who c.args.line c.args.calls (End c.args.refused) Done call refl (plain-end _ _ _ _) refl refl _ _ _ _ _ _ _ _ _ _ refl c.self.invariant.0 c.self.invariant.1
+    (unchanged _ _ _ _ (λ sessions g f. refl) (λ p. refl)) (c.note_in.ensures.sessions ∙ ap (λ (calls : List Call). noted_in who calls inside.sessions.items) c.as_slice.ensures) (told-too inside.watchers.gets.items ends.1)
     (record { history = log.history; posts = log.posts; room = log.room; post_room = log.post_room }) in
-    (kept.0, kept.1, rw log.history ends.0, rw log.history ends.2)
+    (kept.0, kept.1, rw log.history ends.0, rw log.history ends.2, rw log.history (watched-after m who c.args.line c.args.calls (End c.args.refused) Done call refl refl refl refl c.self.invariant.0.legal inside.watchers.gets.items inside.watchers.answered.items c.self.invariant.4))

@@ -14,6 +14,7 @@ use Rattle.flat_core.proofs.Ones.{kept-one}
 use Rattle.flat_core.proofs.Polled.{kept-polled}
 use Rattle.flat_core.proofs.PollSteps.{polled-within, handed}
 use Rattle.flat_core.proofs.Steps.{has-room, unchanged}
+use Rattle.flat_core.proofs.WatchingSteps.{told-too, watched-after}
 use Rattle.flat_core.proofs.board.Board.poll.Goals as goal
 
 pub push_events_from-requires : goal.push_events_from-requires
@@ -64,11 +65,11 @@ invariant_of-self-2 c =
       ties = subst (λ (calls : List Call). TiesNoted c.args.s calls state c.index_mut.result.now inside.ties c.note_ends.new.ties) c.as_slice.ensures c.note_ends.ensures.ties;
     }) c.self.invariant.2 c.self.invariant.3 in
     rw account
-    (let kept = kept-one m c.args.s c.args.line c.args.calls Poll (Polled (c.len.result - c.len-before.result)) call (ap Polled over.as_many) refl refl _ _ _ _ _ _ _ _ _
+    (let kept = kept-one m c.args.s c.args.line c.args.calls Poll (Polled (c.len.result - c.len-before.result)) call (ap Polled over.as_many) refl refl refl _ _ _ _ _ _ _ _ _
     state _ c.index_mut-state.ensures.value refl c.self.invariant.0 c.self.invariant.1 (unchanged _ _ _ _ (λ sessions g f. refl) (λ p. refl))
     (λ kept. kept-polled setup h c.args.s c.args.line c.args.calls (c.len.result - c.len-before.result) (length c.posts-posts.result.now) state over.place kept)
-    refl ends.1 (record { history = log.history; posts = log.posts; room = log.room; post_room = log.post_room }) in
-    (kept.0, kept.1, rw log.history ends.0, rw log.history ends.2))
+    refl (told-too inside.watchers.gets.items ends.1) (record { history = log.history; posts = log.posts; room = log.room; post_room = log.post_room }) in
+    (kept.0, kept.1, rw log.history ends.0, rw log.history ends.2, rw log.history (watched-after m (Session c.args.s) c.args.line c.args.calls Poll (Polled (c.len.result - c.len-before.result)) call (ap Polled over.as_many) refl refl refl c.self.invariant.0.legal inside.watchers.gets.items inside.watchers.answered.items c.self.invariant.4)))
 
 pub returns-clause-reply : goal.returns-clause-reply
 returns-clause-reply c =

@@ -14,6 +14,7 @@ use Rattle.flat_core.proofs.EndSteps.{ends-after, none-new, noted-slice}
 use Rattle.flat_core.proofs.Ones.{kept-one}
 use Rattle.flat_core.proofs.Steps.{has-room, or-false}
 use Rattle.flat_core.proofs.ViewSteps.{view-replied, view-changed, view-below, view-kept, view-due}
+use Rattle.flat_core.proofs.WatchingSteps.{told-too, watched-after}
 use Rattle.flat_core.proofs.board.Board.view.Goals as goal
 
 pub set-requires : goal.set-requires
@@ -57,12 +58,12 @@ invariant_of-self c =
     log.history ∙ ap (λ (r : Reply). inside.log.history ▹ entry_of (Session c.args.s) c.args.line c.args.calls (View c.args.p) r) reply in
     rw (account, c.view_in-reply.ensures.after)
     (let kept = kept-one m c.args.s c.args.line c.args.calls (View c.args.p) (use_reply (not used)) call
-    is refl refl _ _ _ _ _ _ _ _ _
+    is refl refl refl _ _ _ _ _ _ _ _ _
     c.index_mut-state.result.now _ c.index_mut-state.ensures.value refl c.self.invariant.0 c.self.invariant.1
     (record { fence_size = refl; signalled = λ f. or-false _; view_size = c.set.ensures.size; viewed = view-changed _ _ c.args.p used (sym c.is_used-is_held.ensures) c.set.ensures.members })
-    (λ kept. view-kept inside.setup inside.log.history c.args.s c.args.line c.args.calls c.args.p (not used) _ kept) (view-due c.args.calls (not used) _) ends.1
+    (λ kept. view-kept inside.setup inside.log.history c.args.s c.args.line c.args.calls c.args.p (not used) _ kept) (view-due c.args.calls (not used) _) (told-too inside.watchers.gets.items ends.1)
     (record { history = history; posts = log.posts; room = log.room; post_room = log.post_room }) in
-    (kept.0, kept.1, rw history ends.0, rw history ends.2))
+    (kept.0, kept.1, rw history ends.0, rw history ends.2, rw history (watched-after m (Session c.args.s) c.args.line c.args.calls (View c.args.p) (use_reply (not used)) call is refl refl refl c.self.invariant.0.legal inside.watchers.gets.items inside.watchers.answered.items c.self.invariant.4)))
 
 pub returns-clause-reply : goal.returns-clause-reply
 returns-clause-reply c =

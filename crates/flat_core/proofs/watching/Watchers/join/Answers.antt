@@ -5,8 +5,8 @@ use Rattle.flat_core.specs.declared.gets.Answered.{Answered}
 use Rattle.flat_core.specs.declared.watching.Watchers.{Watchers}
 use Rattle.flat_core.specs.Kept.{AllNumbered}
 use Rattle.flat_core.specs.Watch.{told}
-use Rattle.flat_core.specs.Watchers.{IsSettled, is_seldom}
-use Rattle.flat_core.proofs.WatchingSteps.{joined-is, settled-seldom}
+use Rattle.flat_core.specs.Watchers.{IsJoin, IsSettled, is_seldom}
+use Rattle.flat_core.proofs.WatchingSteps.{joined-is, settled-seldom, unjoined-is}
 use Rattle.flat_core.proofs.watching.Watchers.join.Goals as goal
 
 pub start_use-requires : goal.start_use-requires
@@ -20,8 +20,15 @@ start_use-requires g c =
         let s = c.requires.stands in
         settled-seldom _ _ _ _ _ _ _ _ _ _ (c.settle-count.ensures.settled is s.0 s.1.0 s.1.1) c.requires.uses
 
+pub returns-then-not-is_held-clause-watched : goal.returns-then-not-is_held-clause-watched
+returns-then-not-is_held-clause-watched g c = λ setup history entry join stands same posted watched.
+    let own = c.args.self.now in
+    let is : c.args.is_held ≡ false = c.if-not-is_held.true in
+    unjoined-is setup history entry c.args.owner c.args.closed c.args.p (subst (λ (b : Bool). IsJoin setup history entry b c.args.owner c.args.closed c.args.p) is join) own.gets.items own.answered.items c.args.log.now.posts posted watched
+
 pub returns-clause-watched : goal.returns-clause-watched
-returns-clause-watched g c = λ setup history entry join stands same posted watched.
+returns-clause-watched g c = λ setup history entry asked stands same posted watched.
+    let join : IsJoin setup history entry true c.args.owner c.args.closed c.args.p = subst (λ (b : Bool). IsJoin setup history entry b c.args.owner c.args.closed c.args.p) c.if-not-is_held.false asked in
     let own = c.args.self.now in
     let then = c.settle-count.new.self in
     joined-is setup history entry c.args.owner c.args.closed c.args.p join own.gets.items then.gets.items own.answered.items then.answered.items c.args.log.now.posts c.settle-count.new.log.posts c.settle-count.result c.index_mut.result.now c.start_use.new.self
