@@ -24,6 +24,7 @@ pub mod FramesLocal
 pub mod GetAnswers
 pub mod GetAsked
 pub mod GetBoards
+pub mod GetCalls
 pub mod GetEnds
 pub mod GetExamples
 pub mod GetHistory

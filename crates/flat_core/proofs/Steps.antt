@@ -1,5 +1,5 @@
 -- What one more entry does to the parts of a board.
-use Rattle.std.proofs.Common.{◌≡◌, ℕ, suc, ◌+◌, ◌*◌, ◌<◌, ◌≤◌, ◌^◌, Bool, true, false, List, [], ◌∷◌, length, refl, arith, sym, ◌∙◌, ap, slice_index, sum}
+use Rattle.std.proofs.Common.{◌≡◌, ℕ, suc, ◌+◌, ◌-◌, ◌*◌, ◌<◌, ◌≤◌, ◌^◌, Bool, true, false, List, [], ◌∷◌, length, refl, arith, sym, ◌∙◌, ap, slice_index, sum}
 use Rattle.std.proofs.lemmas.List.{append-nil}
 use Rattle.std.specs.Prelude.{IsTrue, cond, ◌&&◌, ◌||◌, ◌==◌, nat_le, nat_lt}
 use Rattle.std.proofs.lemmas.Bool.Decides.{nat_tests}
@@ -124,6 +124,11 @@ few-history m who calls kind call legal log owed dues same room =
     let fair : (p : ℕ) → p < length m.shares → made p m.history ≤ slice_index m.shares p = rw (← same) room.fair in
     let placed : seat_number who < length m.shares = rw room.actors (place-within m.setup kind who call.may.acts) in
     few-entries m.shares m.history (seat_number who) (all-placed m.setup m.history (length m.shares) room.actors legal) placed fair call.share
+
+-- so the history is short
+pub short-history : (m : Machine) (who : Actor) (calls : List Call) (kind : Kind) → MayCall m who calls kind → Legal m.setup m.history
+    → (log : Logged) (owed dues : ℕ) → log.history ≡ m.history → HasRoom m.setup m.shares log owed dues → length m.history < 2 ^ 32 - 1
+short-history m who calls kind call legal log owed dues same room = omega (arith, few-history m who calls kind call legal log owed dues same room, room.total)
 
 -- who may enter has room
 pub has-room : (m : Machine) (who : Actor) (calls : List Call) (kind : Kind) → MayCall m who calls kind → Legal m.setup m.history

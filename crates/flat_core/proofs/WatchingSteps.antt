@@ -2,7 +2,7 @@
 use Rattle.std.proofs.Common.{◌≡◌, ◌≢◌, ◌∙◌, sym, subst, ℕ, suc, ◌+◌, ◌-◌, ◌<◌, ◌≤◌, ◌^◌, Bool, true, false, List, [], ◌∷◌, ◌++◌, length, map, refl, arith, ap, take, drop, slice_set, slice_index_or, inl, inr, ◌⊎◌, None, Some}
 use Rattle.std.specs.Prelude.{◌&&◌, ◌||◌, ◌==◌, cond, nat_lt, nat_le, Option, option_map, unwrap_or, sum_by, filter}
 use Rattle.std.specs.List.{list_any}
-use Rattle.std.proofs.lemmas.Bool.Decides.{nat_tests}
+use Rattle.std.proofs.lemmas.Bool.Decides.{eqb_tells, nat_tests}
 use Rattle.std.proofs.Math.Seq.{drop-length, take-length}
 use Rattle.std.proofs.lemmas.List.{append-nil, length-set}
 use Rattle.std.proofs.lemmas.List.Sums.{sum_by-cons, sum_by-set}
@@ -30,24 +30,27 @@ use Rattle.flat_core.specs.declared.gets.Gets.{Gets}
 use Rattle.flat_core.specs.declared.gets.HeldGet.{HeldGet}
 use Rattle.flat_core.specs.declared.gets.Watched.{Watched}
 use Rattle.flat_core.specs.declared.gets.Watched.TheVariants as watches
-use Rattle.flat_core.specs.Begins.{post_of}
+use Rattle.flat_core.specs.Begins.{finish_entry, finished, post_of}
 use Rattle.flat_core.specs.Boards.{Machine, MayCall, due_told, entry_of, number}
 use Rattle.flat_core.specs.Ends.{is_done, view_owner, viewport_uses}
 use Rattle.flat_core.specs.Gets.{answers_to, hears, held_get, helds_of, is_get, is_held_in, last_of, started, watched_of, watcher_for, AllAnswered, AreGets, Asks, IsAnswered, Settles}
 use Rattle.flat_core.specs.Kept.{AllNumbered}
-use Rattle.flat_core.specs.Legal.{Legal, answers, got, is_now, is_told, number_if, owns_view, reply_to, sent_to}
+use Rattle.flat_core.specs.Legal.{Legal, MayEnter, answers, got, is_now, is_told, number_if, owns_view, reply_to, sent_to}
 use Rattle.flat_core.specs.Local.{pair_watched}
 use Rattle.flat_core.specs.Posts.{events_to, news_for, posts}
 use Rattle.flat_core.specs.Watch.{Watcher, is_open, told, watcher_of}
-use Rattle.flat_core.specs.Watchers.{AreOwnGets, AreWatched, IsAsked, IsJoin, IsSettled, is_few, is_held, is_seldom, watcher_meant}
+use Rattle.flat_core.specs.Watchers.{AreOwnGets, AreWatched, IsAsked, IsJoin, IsSettled, WatchedUpTo, is_few, is_held, is_seldom, watcher_meant}
+use Rattle.flat_core.proofs.BeginLoop.{not-below, same-side, this-side}
 use Rattle.flat_core.proofs.Between.{is_viewport}
 use Rattle.flat_core.proofs.Changes.{changed-one, not-session}
 use Rattle.flat_core.proofs.Counts.{at-session, declared-some}
+use Rattle.flat_core.proofs.DoneSteps.{UpTo, up-end, up-here, up-next, up-start}
 use Rattle.flat_core.proofs.EndSteps.{number-declared}
 use Rattle.flat_core.proofs.GetAnswers.{uses-kept}
-use Rattle.flat_core.proofs.GetAsked.{gets-asked}
-use Rattle.flat_core.proofs.GetBoards.{all-asked, all-between, all-foreign, all-joined, all-new, all-refused, all-shut, gets-new}
+use Rattle.flat_core.proofs.GetAsked.{get-replied, gets-asked}
+use Rattle.flat_core.proofs.GetBoards.{all-asked, all-between, all-closed, all-first, all-foreign, all-joined, all-last, all-new, all-next, all-refused, all-shut, gets-new}
 use Rattle.flat_core.proofs.GetLists.{with-more}
+use Rattle.flat_core.proofs.GetMeans.{get-within}
 use Rattle.flat_core.proofs.GetOwners.{get-open}
 use Rattle.flat_core.proofs.GetPosts.{closed-posts, foreign-posts, joined-posts, one-owner, refused-posts, uses-few}
 use Rattle.flat_core.proofs.GetSteps.{gets-between, gets-elsewhere, gets-refused, gets-settled, idle-kind, untold-kind}
@@ -398,6 +401,30 @@ joined-is setup h e t shut q join gets new last mid before after count a b settl
 
 -- ---- a get, by what was asked
 
+-- its reply is that of the rules
+pub asked-replied : (setup : Setup) (h : List Entry) → Legal setup h → (s : SessionNo) → is_declared setup s ≡ true → (carries : List Call) (get : Watch) → MayEnter setup h (Session s) carries (Get get)
+    → (p : PairNo) → p.0 < length setup.pairs → watcher_of setup h (Session s) carries get ≡ Some (watcher_meant h get p)
+    → (gets new : List Gets) (last now : List Answered) (reply : Reply) → IsAsked setup h s p get reply gets new last now → AreWatched setup h gets last → reply ≡ reply_to setup h (Session s) carries (Get get)
+asked-replied setup h legal s declared carries get may p within means gets new last now reply asked old =
+    let here = declared-some s.0 setup.sessions declared in
+    let own : AreOwnGets setup h s asked.before = at-session (AreOwnGets setup h) gets s asked.before old.each here.0 (omega (arith, here.1, old.count)) asked.of_before in
+    let I : Answered → Type 0 = IsAnswered setup h p in
+    let pair_is : IsAnswered setup h p asked.pair = subst I (sym asked.of_pair) (old.answered.each p.0 asked.pair (omega (arith, within, old.answered.count))) in
+    let W : ℕ → Type 0 = λ n. Asks p get (told setup h (watcher_for p (watched_of n get))) asked.pair asked.asked asked.before.held.items asked.then.held.items asked.before.answers asked.then.answers reply in
+    let done = subst W pair_is.uses asked.asks in
+    let w : Watcher = watcher_meant h get p in
+    let pair : pair_watched w ≡ p = watched-pair p (watched_of (length (viewport_uses p h)) get) in
+    let A : PairNo → Type 0 = λ r. Asks r get (told setup h w) asked.pair asked.asked asked.before.held.items asked.then.held.items asked.before.answers asked.then.answers reply in
+    let J : PairNo → Type 0 = λ r. IsAnswered setup h r asked.pair in
+    get-replied setup h legal s carries get may w means asked.pair asked.asked (subst J (sym pair) pair_is) asked.before.held.items asked.then.held.items asked.before.answers asked.then.answers reply own.held (subst A (sym pair) done)
+
+-- its pair is declared
+pub asked-known : (setup : Setup) (h : List Entry) → Legal setup h → (s : SessionNo) (carries : List Call) (get : Watch) → MayEnter setup h (Session s) carries (Get get) → (p : PairNo) → watcher_of setup h (Session s) carries get ≡ Some (watcher_meant h get p)
+    → p.0 < length setup.pairs
+asked-known setup h legal s carries get may p means =
+    let L : PairNo → Type 0 = λ r. r.0 < length setup.pairs in
+    subst L (watched-pair p (watched_of (length (viewport_uses p h)) get)) (get-within setup h legal s carries get may (watcher_meant h get p) means)
+
 held-one : (b : Bool) (o : Option Told) (one : HeldGet) (held : List HeldGet) → length (held_get b o one held) ≤ length held + number_if (is_held (got b o))
 held-one true o one held = omega arith
 held-one false (Some value) one held = omega arith
@@ -424,3 +451,83 @@ watched-after m who line calls kind reply call replied no_finish no_viewport no_
 -- as much may still be told
 pub told-too : {a b : ℕ} (gets : List Gets) → a ≡ b → a + sum_by due_told gets ≡ b + sum_by due_told gets
 told-too gets same = ap (λ (n : ℕ). n + sum_by due_told gets) same
+
+-- ---- the end of a frame
+
+module _ (setup : Setup) (h : List Entry) (line : ℕ) (legal : Legal setup (finished h line)) where
+  -- before the first session
+  pub watched-first : (gets : List Gets) (last : List Answered) → AreWatched setup h gets last → WatchedUpTo setup 0 (finished h line) h gets last
+  watched-first gets last old = record {
+    count = old.count;
+    each = up-start (λ k i. AreOwnGets setup k (number i)) h (finished h line) gets old.each;
+    answered = all-first setup h (finish_entry line) legal refl last old.answered;
+  }
+
+  -- after the last
+  pub watched-last : (gets : List Gets) (last : List Answered) → WatchedUpTo setup setup.sessions (finished h line) h gets last → AreWatched setup (finished h line) gets last
+  watched-last gets last old = record {
+    count = old.count;
+    each = up-end (λ k i. AreOwnGets setup k (number i)) h (finished h line) setup.sessions gets old.count old.each;
+    answered = all-last setup h (finish_entry line) legal refl refl last old.answered;
+  }
+
+  -- what is kept of one that wasn't told yet
+  own-here : (n : ℕ) (gets : List Gets) (last : List Answered) → WatchedUpTo setup n (finished h line) h gets last → (one : Gets) → n < length gets → one ≡ slice_index_or gets n one → AreOwnGets setup h (number n) one
+  own-here n gets last old one below is = up-here (λ k i. AreOwnGets setup k (number i)) h (finished h line) n gets one old.each below is
+
+  -- the next one, where it is open and was answered: what is kept then, and the posts
+  pub watched-told : (s : SessionNo) → 0 < s.0 → s.0 ≤ setup.sessions → is_closed s h ≡ false → (gets new : List Gets) (last now : List Answered) (before after : List Post) (count : ℕ)
+      → IsSettled (told setup (finished h line)) (length h) s gets new last now before after count → WatchedUpTo setup (s.0 - 1) (finished h line) h gets last
+      → WatchedUpTo setup s.0 (finished h line) h new now × (after ≡ before ++ map (post_of (length h) s) (answers_to (told setup (finished h line)) (helds_of setup h s)))
+  watched-told s some few opened gets new last now before after count settled old =
+      let e : Entry = finish_entry line in
+      let n : ℕ = s.0 - 1 in
+      let below : n < length gets = omega (arith, some, few, old.count) in
+      let same : number n ≡ s = same-number s some in
+      let O : SessionNo → Type 0 = λ t. AreOwnGets setup h t settled.before in
+      let own : AreOwnGets setup h s settled.before = subst O same (own-here n gets last old settled.before below settled.of_before) in
+      let held = gets-settled setup h e s (λ w heard. idle-kind setup h e refl w) refl (length h) settled.before.held.items settled.then.held.items last now before after count settled.before.answers own.held settled.settles in
+      let T : ℕ → Type 0 = λ m. AreGets setup (h ▹ e) s settled.then.held.items m in
+      let then_held : AreGets setup (h ▹ e) s settled.then.held.items settled.then.answers = subst T (sym settled.total) held in
+      let then_own : AreOwnGets setup (h ▹ e) s settled.then = record { held = then_held; counted = then_held.answers opened } in
+      let N : SessionNo → Type 0 = λ t. AreOwnGets setup (h ▹ e) t settled.then in
+      let next : n + 1 ≡ s.0 = omega (arith, some) in
+      let place : s.0 ≡ n + 1 = omega (arith, some) in
+      let E : List Gets → Type 0 = λ xs. AllNumbered (UpTo (λ k i. AreOwnGets setup k (number i)) h (finished h line) (n + 1)) xs in
+      let W : ℕ → Type 0 = λ m. WatchedUpTo setup m (finished h line) h new now in
+      let waits : settled.before.held.items ≡ helds_of setup h s = own.held.waiting opened in (
+        subst W next (record {
+          count = ap (length {A = Gets}) settled.new_is ∙ length-set gets n settled.then ∙ old.count;
+          each = subst E (sym settled.new_is) (up-next (λ k i. AreOwnGets setup k (number i)) h (finished h line) n gets settled.then old.each (subst N (sym same) then_own));
+          answered = all-next setup h e legal refl n s place opened opened (length h) settled.before.held.items settled.then.held.items last now before after count settled.before.answers own.held settled.settles old.answered;
+        }),
+        settled.settles.answers.posted ∙ ap (λ (l : List HeldGet). before ++ map (post_of (length h) s) (answers_to (told setup (finished h line)) l)) waits,
+      )
+
+  -- and where it is closed
+  pub watched-passed : (s : SessionNo) → 0 < s.0 → s.0 ≤ setup.sessions → is_closed s h ≡ true → (gets : List Gets) (last : List Answered) → WatchedUpTo setup (s.0 - 1) (finished h line) h gets last → WatchedUpTo setup s.0 (finished h line) h gets last
+  watched-passed s some few closed gets last old =
+      let e : Entry = finish_entry line in
+      let n : ℕ = s.0 - 1 in
+      let same : number n ≡ s = same-number s some in
+      let shut : is_closed (number n) (h ▹ e) ≡ true = ap (λ (t : SessionNo). is_closed t h) same ∙ closed in
+      let next : n + 1 ≡ s.0 = omega (arith, some) in
+      let place : s.0 ≡ n + 1 = omega (arith, some) in
+      let W : ℕ → Type 0 = λ m. WatchedUpTo setup m (finished h line) h gets last in
+      subst W next (record {
+        count = old.count;
+        each = λ i d below. by_place i d below (eqb_tells i n);
+        answered = all-closed setup h e legal refl n s place closed last old.answered;
+      })
+    where
+      by_place : (i : ℕ) (d : Gets) → i < length gets → ((i == (s.0 - 1)) ≡ true) × (i ≡ (s.0 - 1)) ⊎ ((i == (s.0 - 1)) ≡ false) × (i ≢ (s.0 - 1)) → AreOwnGets setup (cond (nat_lt i (s.0 - 1 + 1)) (finished h line) h) (number i) (slice_index_or gets i d)
+      by_place i d below (inl here) =
+          let n : ℕ = s.0 - 1 in
+          let own : AreOwnGets setup h (number i) (slice_index_or gets i d) = rw (ap (nat_lt i) (sym here.1) ∙ not-below i) at (old.each i d below) in
+          let it : number i ≡ s = ap number here.1 ∙ same-number s some in
+          let shut : is_closed (number i) (h ▹ finish_entry line) ≡ true = ap (λ (t : SessionNo). is_closed t h) it ∙ closed in
+          let held = gets-shut setup h (finish_entry line) legal (number i) shut _ _ own.held.few in
+          let then_own : AreOwnGets setup (finished h line) (number i) (slice_index_or gets i d) = record { held = held; counted = counted-more setup h (finish_entry line) legal (number i) _ _ _ held own.counted (λ c. (refl, refl)) } in
+          let within : nat_lt i (n + 1) ≡ true = ap (λ (m : ℕ). nat_lt i (m + 1)) (sym here.1) ∙ this-side i in
+          rw within then_own
+      by_place i d below (inr other) = rw (← same-side (s.0 - 1) i other.1) (old.each i d below)

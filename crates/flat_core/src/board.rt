@@ -231,7 +231,6 @@ impl Board {
     ) -> Result<Reply, Back>
         requires may { MayCall self.old (Session s) calls (Get get) }
         requires meant { watcher_of self.old.setup self.old.history (Session s) calls get ≡ Some (watcher_meant self.old.history get p) }
-        requires known { p.0 < length self.old.setup.pairs }
         ensures reply { IfOk result (λ reply. reply ≡ reply_to self.old.setup self.old.history (Session s) calls (Get get)) }
         ensures entry { IfOk result (λ reply. self.new ≡ entered self.old (Session s) line calls (Get get) reply) }
         ensures same { IfErr result (λ back. self.new ≡ self.old) }

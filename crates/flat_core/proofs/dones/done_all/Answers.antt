@@ -1,18 +1,19 @@
-use Rattle.std.proofs.Common.{◌≡◌, ◌<◌, List, length, arith, ◌∙◌, ap, subst}
+use Rattle.std.proofs.Common.{◌≡◌, ◌+◌, ◌<◌, List, length, arith, ◌∙◌, ap, subst}
 use Rattle.flat_scene.specs.declared.journal.Entry.{Entry}
 use Rattle.std.proofs.lemmas.List.{length-set}
 use Rattle.std.proofs.lemmas.List.Sums.{sum_by-set}
 use Rattle.flat_fence.specs.Fences.{has}
 use Rattle.flat_core.specs.Boards.{due, due_back}
 use Rattle.flat_core.specs.Begins.{finish_entry, finished}
+use Rattle.flat_core.specs.Watchers.{WatchedUpTo}
 use Rattle.flat_core.proofs.BeginLoop.{posts-next}
 use Rattle.flat_core.proofs.DoneSteps.{EndsOf, done-next, members-next, up-next}
 use Rattle.flat_core.proofs.dones.done_all.Goals as goal
 
 pub loop-i-preserved : goal.loop-i-preserved
-loop-i-preserved c =
+loop-i-preserved g c =
     let inv = c.loop-i.invariant in
-    let e = c.done_one-count.ensures in
+    let e = c.finish_one-count.ensures in
     let i = c.loop-i.i in
     let setup = c.args.setup.now in
     let h = c.args.log.now.history in
@@ -20,19 +21,20 @@ loop-i-preserved c =
     let is = c.index_mut-state.ensures.value in
     let below : i < length c.loop-i.sessions.items = omega (arith, inv.all, c.loop-i-test.true) in
     let same : c.loop-i.log.history ≡ h = inv.history in
-    let sums = sum_by-set due c.loop-i.sessions.items i c.done_one-count.new.state c.index_mut-state.result.now below in
+    let sums = sum_by-set due c.loop-i.sessions.items i c.finish_one-count.new.state c.index_mut-state.result.now below in
     let within : i < length c.loop-i.ends.items = omega (arith, inv.ends_all, c.loop-i-test.true) in
-    let backs = sum_by-set due_back c.loop-i.ends.items i c.done_one-count.new.ends c.index_mut-one.result.now within in
+    let backs = sum_by-set due_back c.loop-i.ends.items i c.finish_one-count.new.ends c.index_mut-one.result.now within in
     let one_is = c.index_mut-one.ensures.value in
-    let ends : EndsOf setup (finished h line) i c.done_one-count.new.ends = subst (λ (k : List Entry). EndsOf setup (finished k line) i c.done_one-count.new.ends) same e.ends in
+    let ends : EndsOf setup (finished h line) i c.finish_one-count.new.ends = subst (λ (k : List Entry). EndsOf setup (finished k line) i c.finish_one-count.new.ends) same e.ends in
     record {
-      all = length-set c.loop-i.sessions.items i c.done_one-count.new.state ∙ inv.all;
-      kept = done-next setup c.loop-i.log.history h line i c.loop-i.sessions.items c.done_one-count.new.state same inv.kept e.kept;
-      ends_all = length-set c.loop-i.ends.items i c.done_one-count.new.ends ∙ inv.ends_all;
-      ends = up-next (EndsOf setup) h (finished h line) i c.loop-i.ends.items c.done_one-count.new.ends inv.ends ends;
+      all = length-set c.loop-i.sessions.items i c.finish_one-count.new.state ∙ inv.all;
+      kept = done-next setup c.loop-i.log.history h line i c.loop-i.sessions.items c.finish_one-count.new.state same inv.kept e.kept;
+      ends_all = length-set c.loop-i.ends.items i c.finish_one-count.new.ends ∙ inv.ends_all;
+      ends = up-next (EndsOf setup) h (finished h line) i c.loop-i.ends.items c.finish_one-count.new.ends inv.ends ends;
+      watched = subst (λ (k : List Entry). WatchedUpTo setup (i + 1) (finished k line) k c.finish_one-count.new.watchers.gets.items c.finish_one-count.new.watchers.answered.items) same e.watched;
       size = e.size ∙ inv.size;
-      members = λ g. members-next setup c.loop-i.log.history h i g (has c.args.fences.now g) (has c.loop-i.fences g) (has c.done_one-count.new.fences g) same (inv.members g) (e.members g);
-      posts = posts-next setup c.loop-i.log.history h (finish_entry line) i c.args.log.now.posts c.loop-i.log.posts c.done_one-count.new.log.posts same inv.posts e.posts;
+      members = λ g. members-next setup c.loop-i.log.history h i g (has c.args.fences.now g) (has c.loop-i.fences g) (has c.finish_one-count.new.fences g) same (inv.members g) (e.members g);
+      posts = posts-next setup c.loop-i.log.history h (finish_entry line) i c.args.log.now.posts c.loop-i.log.posts c.finish_one-count.new.log.posts same inv.posts e.posts;
       posted = omega (arith, e.count, inv.posted);
       history = e.history ∙ same;
       room = e.room ∙ inv.room;

@@ -2,9 +2,10 @@ use Rattle.std.proofs.Common.{◌≡◌, ◌+◌, ◌≤◌, ◌++◌, length}
 use Rattle.std.specs.Prelude.{◌||◌}
 use Rattle.flat_base.specs.declared.ids.FenceNo.{FenceNo}
 use Rattle.flat_fence.specs.Fences.{has}
-use Rattle.flat_core.specs.Begins.{finish_entry, posts_to}
+use Rattle.flat_core.specs.Begins.{finish_entry, finished, posts_to}
 use Rattle.flat_core.specs.Boards.{all_due}
 use Rattle.flat_core.specs.Kept.{AllNumbered}
+use Rattle.flat_core.specs.Watchers.{WatchedUpTo}
 use Rattle.flat_core.proofs.DoneSteps.{DoneUpTo, EndsUpTo, released_to}
 use Rattle.flat_core.proofs.dones.done_all.Given as goal
 
@@ -13,6 +14,7 @@ invariant-loop-i l = record {
   all : length l.sessions.items ≡ l.setup.sessions;
   kept : AllNumbered (DoneUpTo l.setup l.fn.log.history l.line l.i) l.sessions.items;
   ends_all : length l.ends.items ≡ l.setup.sessions;
+  watched : WatchedUpTo l.setup l.i (finished l.fn.log.history l.line) l.fn.log.history l.watchers.gets.items l.watchers.answered.items;
   ends : AllNumbered (EndsUpTo l.setup l.fn.log.history l.line l.i) l.ends.items;
   size : length l.fences ≡ length l.fn.fences;
   members : (g : FenceNo) → has l.fences g ≡ (has l.fn.fences g || released_to l.setup l.fn.log.history l.i g);
@@ -21,5 +23,5 @@ invariant-loop-i l = record {
   history : l.log.history ≡ l.fn.log.history;
   room : l.log.room ≡ l.fn.log.room;
   post_room : l.log.post_room + l.count ≡ l.fn.log.post_room;
-  due : all_due l.sessions.items l.ends.items + l.count ≤ all_due l.fn.sessions.items l.fn.ends.items;
+  due : all_due l.sessions.items l.ends.items l.watchers.gets.items + l.count ≤ all_due l.fn.sessions.items l.fn.ends.items l.fn.watchers.gets.items;
 }

@@ -1,4 +1,4 @@
-use Rattle.std.proofs.Common.{◌≡◌, ℕ, Bool, true, false, List, ◌++◌, length, refl, ap, sym, ◌∙◌, append_assoc}
+use Rattle.std.proofs.Common.{◌≡◌, ℕ, Bool, true, false, List, [], ◌++◌, length, refl, ap, sym, ◌∙◌, append_assoc}
 use Rattle.std.specs.Prelude.{cond, map}
 use Rattle.std.proofs.lemmas.List.{append-nil, map-append}
 use Rattle.flat_fence.specs.Fences.{has}
@@ -17,7 +17,7 @@ use Rattle.flat_core.specs.Posts.{events_to}
 use Rattle.flat_core.specs.Seen.{seen_of}
 use Rattle.flat_core.specs.Viewports.{back_events}
 use Rattle.flat_core.proofs.Counts.{seen-count, taken-kept}
-use Rattle.flat_core.proofs.DoneSteps.{members-done, events-finished}
+use Rattle.flat_core.proofs.DoneSteps.{members-done}
 use Rattle.flat_core.proofs.ViewportUses.{viewports-finish}
 use Rattle.flat_core.proofs.dones.done_one.Goals as goal
 
@@ -32,7 +32,7 @@ returns-clause-members c g =
 pub returns-then-state-clause-posts : goal.returns-then-state-clause-posts
 returns-then-state-clause-posts c =
     let closed : is_closed c.args.s c.args.log.now.history ≡ true = sym c.requires.kept.closed ∙ c.if-state.true in
-    rw (events-finished c.args.setup.now c.args.log.now.history c.args.line c.args.s c.requires.declared c.requires.plain c.requires.legal c.requires.opened _ _ c.requires.ends, closed) (sym (append-nil _))
+    rw closed (sym (append-nil _))
 
 took-is : (b : Bool) (n took : ℕ) → b ≡ true → took ≡ cond b n 0 → took ≡ n
 took-is true n took opened is = is
@@ -61,8 +61,7 @@ returns-clause-posts c =
     let opened : is_closed s h ≡ false = sym c.requires.kept.closed ∙ c.if-state.false in
     let took : c.args.state.now.took ≡ frame_took setup h s = took-is (is_frame_open h) (frame_took setup h s) c.args.state.now.took c.requires.opened c.requires.kept.took in
     let taken_is : c.taken.result ≡ taken setup h s = c.taken.ensures ∙ taken-kept setup (seen_of setup h s) c.args.state.now c.requires.kept (seen-count setup h s) in
-    let all : events_to setup h (finish_entry c.args.line) s ≡ took_event c.args.state.now.took ++ back_events c.taken.result outs =
-    events-finished setup h c.args.line s c.requires.declared c.requires.plain c.requires.legal c.requires.opened c.args.ends.now.live.items outs c.requires.ends ∙ rw (opened, took, taken_is) refl in
+    let all : cond (is_closed s h) [] (took_event (frame_took setup h s) ++ back_events (taken setup h s) outs) ≡ took_event c.args.state.now.took ++ back_events c.taken.result outs = rw (opened, took, taken_is) refl in
     let second : c.take_back-back.new.log.posts ≡ c.post_took-presented.new.log.posts ++ map (post_of (length h) s) (back_events c.taken.result outs) =
     c.take_back-back.ensures.posts ∙ ap (λ (k : List Entry). c.post_took-presented.new.log.posts ++ map (post_of (length k) s) (back_events c.taken.result outs)) c.post_took-presented.ensures.history in
     posts-two (post_of (length h) s) c.args.log.now.posts c.post_took-presented.new.log.posts c.take_back-back.new.log.posts (took_event c.args.state.now.took) (back_events c.taken.result outs) _ c.post_took-presented.ensures.posts second all

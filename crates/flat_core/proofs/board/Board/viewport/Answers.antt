@@ -1,1 +1,197 @@
-use Rattle.flat_core.proofs.UseSteps.{kept-used, telling-used, join-used, room-used}
+use Rattle.std.proofs.Common.{◌≡◌, ◌+◌, ◌-◌, ◌<◌, ◌≤◌, ◌^◌, refl, sym, ◌∙◌, ap, arith, List, subst, length, slice_set}
+use Rattle.flat_base.specs.declared.ids.Actor.TheVariants.{Session}
+use Rattle.flat_scene.specs.declared.calls.Call.{Call}
+use Rattle.flat_scene.specs.declared.journal.Kind.TheVariants.{Viewport}
+use Rattle.flat_scene.specs.History.{◌▹◌}
+use Rattle.flat_core.specs.declared.viewports.Viewports.{Viewports}
+use Rattle.flat_core.specs.Boards.{HasRoom, Machine, all_due, due, due_back, due_told, entry_of}
+use Rattle.flat_core.specs.Watchers.{IsJoin, IsTelling, is_shut}
+use Rattle.flat_scene.specs.declared.journal.Entry.{Entry}
+use Rattle.flat_core.specs.declared.state.SessionState.{SessionState}
+use Rattle.std.specs.Prelude.{sum_by}
+use Rattle.flat_scene.specs.Setups.{is_declared}
+use Rattle.flat_core.specs.Ends.{is_done}
+use Rattle.flat_core.specs.Gets.{started}
+use Rattle.flat_core.proofs.UseSteps.{shut-known}
+use Rattle.std.proofs.lemmas.Option.{slice_get_within}
+use Rattle.flat_core.specs.Legal.{has_token, reply_to}
+use Rattle.flat_core.specs.Presents.{use_reply, IsUsed, TiesUsed}
+use Rattle.flat_core.specs.Seen.{noted}
+use Rattle.flat_core.proofs.Counts.{declared-some}
+use Rattle.flat_core.proofs.EndSteps.{ends-same}
+use Rattle.flat_core.proofs.Ones.{declared-of}
+use Rattle.flat_core.proofs.Steps.{has-room, owed-small, room-more, short-history}
+use Rattle.flat_core.proofs.WatchingSteps.{few-all, seldom-all, told-too}
+use Rattle.flat_core.proofs.UseSteps.{few-if, held-told, join-used, kept-used, last-uses, others-none, replied, room-used, telling-used}
+use Rattle.flat_core.proofs.board.Board.viewport.Goals as goal
+
+pub overflow_add-self-inside : goal.overflow_add-self-inside
+overflow_add-self-inside c =
+    let call = rw (← c.self.view_is) at c.requires in
+    let small : c.self.inside.owed + 2 < 2 ^ 64 = owed-small _ _ _ _ call c.self.invariant.0.legal _ _ _ refl c.self.invariant.1 in
+    omega (arith, small)
+
+pub invariant_of-self : goal.invariant_of-self
+invariant_of-self c =
+    let call = rw (← c.self.view_is) at c.requires in
+    let inside = c.self.inside in
+    let ends = inside.ends.items in
+    let here = declared-some c.args.s.0 inside.setup.sessions (declared-of inside.setup (Viewport c.args.p c.args.props) c.args.s call.may.acts) in
+    let count : length ends ≡ inside.setup.sessions = c.self.invariant.2.count in
+    let below : c.args.s.0 - 1 < length ends = omega (arith, here.0, here.1, count) in
+    let log = c.reserve_with.ensures in
+    let same = ends-same inside.setup inside.log.history ends (c.args.s.0 - 1) c.index_mut.result.now c.reserve_with.new.self c.index_mut.ensures.value below log.live log.out c.self.invariant.2 in (
+      rw log.history c.self.invariant.0,
+      room-more inside.setup inside.shares inside.log c.reserve_with.new.log inside.owed _ _ c.self.invariant.1 log.history log.posts log.room log.post_room (omega (arith, same.1)),
+      rw log.history same.0,
+      rw log.history c.self.invariant.3,
+      rw log.history c.self.invariant.4,
+    )
+
+pub use_ends-is_held-requires-clause-others : goal.use_ends-is_held-requires-clause-others
+use_ends-is_held-requires-clause-others c =
+    let call = rw (← c.self.view_is) at c.requires in
+    rw c.as_slice-2.ensures (others-none c.args.p c.args.props c.args.calls call.may.links)
+
+pub use_ends-is_held-requires-clause-last : goal.use_ends-is_held-requires-clause-last
+use_ends-is_held-requires-clause-last c =
+    let call = rw (← c.self.view_is) at c.requires in
+    rw c.as_slice-2.ensures (last-uses c.args.p c.args.props c.args.calls call.may.calls)
+
+pub join-told-requires-clause-stands : goal.join-told-requires-clause-stands
+join-told-requires-clause-stands c =
+    let call = rw (← c.self.view_is) at c.requires in
+    let inside = c.self.inside in
+    let h = inside.log.history in
+    let ends = inside.ends.items in
+    let place = c.args.s.0 - 1 in
+    let here = declared-some c.args.s.0 inside.setup.sessions (declared-of inside.setup (Viewport c.args.p c.args.props) c.args.s call.may.acts) in
+    let count : length ends ≡ inside.setup.sessions = c.self.invariant.2.count in
+    let below : c.args.s.0 - 1 < length ends = omega (arith, here.0, here.1, count) in
+    let took = c.reserve_with.ensures in
+    let same = ends-same inside.setup h ends place c.index_mut.result.now c.reserve_with.new.self c.index_mut.ensures.value below took.live took.out c.self.invariant.2 in
+    let roomy : List Viewports = slice_set ends place c.reserve_with.new.self in
+    let m : Machine = record { setup = inside.setup; shares = inside.shares; history = h } in
+    let held = c.use_ends-is_held.result in
+    let state = c.index_mut-state.result.now in
+    let did = c.use_ends-is_held.ensures in
+    let is : held ≡ has_token inside.setup c.args.p h = held-told m c.args.s c.args.line c.args.calls c.args.p c.args.props call roomy c.index_mut-ends.result.now c.index_mut-ends.ensures.value same.0 held did.held in
+    let used_by = subst (λ (calls : List Call). IsUsed c.args.p calls state.account.presents held c.index_mut-ends.result.now c.use_ends-is_held.new.ends) c.as_slice-2.ensures did.used in
+    let ties = subst (λ (calls : List Call). TiesUsed c.args.s calls c.args.p c.args.props held state c.index_mut-ends.result.now inside.ties c.use_ends-is_held.new.ties) c.as_slice-2.ensures did.ties in
+    let short = short-history m _ _ _ call c.self.invariant.0.legal _ _ _ refl c.self.invariant.1 in
+    let e : Entry = entry_of (Session c.args.s) c.args.line c.args.calls (Viewport c.args.p c.args.props) (use_reply held) in
+    let used = kept-used m c.args.s c.args.line c.args.calls c.args.p c.args.props call held is inside.clock inside.fences inside.views inside.sessions.items roomy state c.index_mut-ends.result.now c.use_ends-is_held.new.ends
+    c.index_mut-state.ensures.value c.index_mut-ends.ensures.value c.self.invariant.0 same.0 used_by inside.ties c.use_ends-is_held.new.ties c.self.invariant.3 ties short in
+    let telling = telling-used m c.args.s c.args.line c.args.calls c.args.p c.args.props call held inside.clock inside.fences inside.views inside.sessions.items c.use_ends-is_held.new.ties c.self.invariant.0 used.0 used.3 in
+    (inside.setup, (h ▹ e, telling))
+
+pub join-told-requires-clause-some : goal.join-told-requires-clause-some
+join-told-requires-clause-some c opened =
+    let inside = c.self.inside in
+    let known = shut-known inside.setup inside.log.history inside.clock inside.fences inside.views inside.sessions.items c.at.result.now.view c.self.invariant.0 in
+    (declared-some c.at.result.now.view.0 inside.setup.sessions (known.0 (ap (λ (xs : List SessionState). is_shut xs c.at.result.now.view) (sym c.as_slice.ensures.value) ∙ sym c.is_shut-is_shut.ensures ∙ opened)).0).0
+
+pub join-told-requires-clause-within : goal.join-told-requires-clause-within
+join-told-requires-clause-within c opened =
+    let inside = c.self.inside in
+    let known = shut-known inside.setup inside.log.history inside.clock inside.fences inside.views inside.sessions.items c.at.result.now.view c.self.invariant.0 in
+    let here = declared-some c.at.result.now.view.0 inside.setup.sessions (known.0 (ap (λ (xs : List SessionState). is_shut xs c.at.result.now.view) (sym c.as_slice.ensures.value) ∙ sym c.is_shut-is_shut.ensures ∙ opened)).0 in
+    omega (arith, here.1, c.self.invariant.4.count)
+
+pub join-told-requires-clause-known : goal.join-told-requires-clause-known
+join-told-requires-clause-known c =
+    let known : c.args.p.0 < length c.self.inside.setup.pairs = slice_get_within c.self.inside.setup.pairs c.args.p.0 c.at.result.now c.at.ensures in
+    omega (arith, known, c.self.invariant.4.answered.count)
+
+pub join-told-requires-clause-place : goal.join-told-requires-clause-place
+join-told-requires-clause-place c =
+    let call = rw (← c.self.view_is) at c.requires in
+    rw c.reserve_with.ensures.history (short-history _ _ _ _ call c.self.invariant.0.legal _ _ _ refl c.self.invariant.1)
+
+pub join-told-requires-clause-few : goal.join-told-requires-clause-few
+join-told-requires-clause-few c =
+    let call = rw (← c.self.view_is) at c.requires in
+    few-all _ _ _ _ c.self.invariant.4 (short-history _ _ _ _ call c.self.invariant.0.legal _ _ _ refl c.self.invariant.1)
+
+pub join-told-requires-clause-uses : goal.join-told-requires-clause-uses
+join-told-requires-clause-uses c =
+    let call = rw (← c.self.view_is) at c.requires in
+    seldom-all _ _ _ _ c.self.invariant.4 (short-history _ _ _ _ call c.self.invariant.0.legal _ _ _ refl c.self.invariant.1)
+
+pub overflow_add-self : goal.overflow_add-self
+overflow_add-self c =
+    let call = rw (← c.self.view_is) at c.requires in
+    let small : c.self.inside.owed + 2 < 2 ^ 64 = owed-small _ _ _ _ call c.self.invariant.0.legal _ _ _ refl c.self.invariant.1 in
+    let few : c.number_if.result ≤ 1 = rw c.number_if.ensures (few-if c.use_ends-is_held.result) in
+    omega (arith, small, few)
+
+pub enter-requires : goal.enter-requires
+enter-requires c =
+    let call = rw (← c.self.view_is) at c.requires in
+    rw (c.join-told.ensures.room, c.reserve_with.ensures.room) (has-room _ _ _ _ call c.self.invariant.0.legal _ _ _ refl c.self.invariant.1)
+
+pub invariant_of-self-2 : goal.invariant_of-self-2
+invariant_of-self-2 c =
+    let call = rw (← c.self.view_is) at c.requires in
+    let inside = c.self.inside in
+    let h = inside.log.history in
+    let ends = inside.ends.items in
+    let place = c.args.s.0 - 1 in
+    let here = declared-some c.args.s.0 inside.setup.sessions (declared-of inside.setup (Viewport c.args.p c.args.props) c.args.s call.may.acts) in
+    let count : length ends ≡ inside.setup.sessions = c.self.invariant.2.count in
+    let below : c.args.s.0 - 1 < length ends = omega (arith, here.0, here.1, count) in
+    let took = c.reserve_with.ensures in
+    let same = ends-same inside.setup h ends place c.index_mut.result.now c.reserve_with.new.self c.index_mut.ensures.value below took.live took.out c.self.invariant.2 in
+    let roomy : List Viewports = slice_set ends place c.reserve_with.new.self in
+    let m : Machine = record { setup = inside.setup; shares = inside.shares; history = h } in
+    let held = c.use_ends-is_held.result in
+    let state = c.index_mut-state.result.now in
+    let did = c.use_ends-is_held.ensures in
+    let is : held ≡ has_token inside.setup c.args.p h = held-told m c.args.s c.args.line c.args.calls c.args.p c.args.props call roomy c.index_mut-ends.result.now c.index_mut-ends.ensures.value same.0 held did.held in
+    let used_by = subst (λ (calls : List Call). IsUsed c.args.p calls state.account.presents held c.index_mut-ends.result.now c.use_ends-is_held.new.ends) c.as_slice-2.ensures did.used in
+    let ties = subst (λ (calls : List Call). TiesUsed c.args.s calls c.args.p c.args.props held state c.index_mut-ends.result.now inside.ties c.use_ends-is_held.new.ties) c.as_slice-2.ensures did.ties in
+    let short = short-history m _ _ _ call c.self.invariant.0.legal _ _ _ refl c.self.invariant.1 in
+    let e : Entry = entry_of (Session c.args.s) c.args.line c.args.calls (Viewport c.args.p c.args.props) (use_reply held) in
+    let used = kept-used m c.args.s c.args.line c.args.calls c.args.p c.args.props call held is inside.clock inside.fences inside.views inside.sessions.items roomy state c.index_mut-ends.result.now c.use_ends-is_held.new.ends
+    c.index_mut-state.ensures.value c.index_mut-ends.ensures.value c.self.invariant.0 same.0 used_by inside.ties c.use_ends-is_held.new.ties c.self.invariant.3 ties short in
+    let telling = telling-used m c.args.s c.args.line c.args.calls c.args.p c.args.props call held inside.clock inside.fences inside.views inside.sessions.items c.use_ends-is_held.new.ties c.self.invariant.0 used.0 used.3 in
+    let room : HasRoom inside.setup inside.shares c.reserve_with.new.log inside.owed (all_due inside.sessions.items roomy inside.watchers.gets.items) =
+    room-more inside.setup inside.shares inside.log c.reserve_with.new.log inside.owed _ (all_due inside.sessions.items roomy inside.watchers.gets.items) c.self.invariant.1 took.history took.posts took.room took.post_room (omega (arith, same.1)) in
+    let asks = join-used m c.args.s c.args.line c.args.calls c.args.p c.args.props call held inside.clock inside.fences inside.views inside.sessions.items c.at.result.now c.self.invariant.0 used.0 c.at.ensures in
+    let shut : c.is_shut-is_shut.result ≡ is_shut inside.sessions.items c.at.result.now.view = c.is_shut-is_shut.ensures ∙ ap (λ (xs : List SessionState). is_shut xs c.at.result.now.view) c.as_slice.ensures.value in
+    let join : IsJoin inside.setup h e held c.at.result.now.view c.is_shut-is_shut.result c.args.p = rw shut asks in
+    let told = c.join-told.ensures.watched inside.setup h e join telling took.history (took.posts ∙ c.self.invariant.1.posts) c.self.invariant.4 in
+    let log = c.enter.ensures in
+    let history : c.enter.new.self.history ≡ (h ▹ e) = log.history ∙ rw (c.join-told.ensures.history, took.history, c.viewport_in-reply.ensures.reply) refl in
+    let account : c.note.new.account ≡ noted c.args.calls c.viewport_in-reply.new.state.account = c.note.ensures ∙ ap (λ (calls : List Call). noted calls c.viewport_in-reply.new.state.account) c.as_slice-3.ensures in
+    let dues = used.4 (sum_by due_told c.join-told.new.self.gets.items) in
+    rw (account, c.viewport_in-reply.ensures.after, c.number_if.ensures) (
+      rw history used.1,
+      room-used m c.args.s c.args.line c.args.calls c.args.p c.args.props call held c.reserve_with.new.log c.enter.new.self inside.owed (all_due inside.sessions.items roomy inside.watchers.gets.items) _ c.join-told.result took.history room
+          (history ∙ rw took.history refl) (log.posts ∙ told.1) (omega (arith, ap length log.posts, c.join-told.ensures.count)) (omega (arith, log.room, c.join-told.ensures.room)) (omega (arith, log.post_room, c.join-told.ensures.post_room)) c.in-Ok.ensures.reserved
+          (omega (arith, dues, c.join-told.ensures.due)),
+      rw history used.2,
+      rw history used.3,
+      rw history told.0,
+    )
+
+pub returns-clause-reply : goal.returns-clause-reply
+returns-clause-reply c =
+    let call = rw (← c.self.view_is) at c.requires in
+    let inside = c.self.inside in
+    let h = inside.log.history in
+    let ends = inside.ends.items in
+    let place = c.args.s.0 - 1 in
+    let here = declared-some c.args.s.0 inside.setup.sessions (declared-of inside.setup (Viewport c.args.p c.args.props) c.args.s call.may.acts) in
+    let count : length ends ≡ inside.setup.sessions = c.self.invariant.2.count in
+    let below : c.args.s.0 - 1 < length ends = omega (arith, here.0, here.1, count) in
+    let took = c.reserve_with.ensures in
+    let same = ends-same inside.setup h ends place c.index_mut.result.now c.reserve_with.new.self c.index_mut.ensures.value below took.live took.out c.self.invariant.2 in
+    let roomy : List Viewports = slice_set ends place c.reserve_with.new.self in
+    let m : Machine = record { setup = inside.setup; shares = inside.shares; history = h } in
+    let held = c.use_ends-is_held.result in
+    let state = c.index_mut-state.result.now in
+    let did = c.use_ends-is_held.ensures in
+    let is : held ≡ has_token inside.setup c.args.p h = held-told m c.args.s c.args.line c.args.calls c.args.p c.args.props call roomy c.index_mut-ends.result.now c.index_mut-ends.ensures.value same.0 held did.held in
+    let P : Machine → Type 0 = λ k. c.viewport_in-reply.result ≡ reply_to k.setup k.history (Session c.args.s) c.args.calls (Viewport c.args.p c.args.props) in
+    subst P c.self.view_is (c.viewport_in-reply.ensures.reply ∙ replied m c.args.s c.args.line c.args.calls c.args.p c.args.props call held is)

@@ -1,0 +1,121 @@
+use Rattle.std.proofs.Common.{◌≡◌, ◌+◌, ◌-◌, ◌<◌, ◌≤◌, ◌^◌, refl, sym, ◌∙◌, ap, arith, List, subst, length, slice_set, Some}
+use Rattle.std.specs.Prelude.{sum_by}
+use Rattle.std.specs.List.{list_any}
+use Rattle.flat_base.specs.declared.ids.Actor.TheVariants.{Session}
+use Rattle.flat_scene.specs.declared.calls.Call.{Call}
+use Rattle.flat_scene.specs.declared.journal.Entry.{Entry}
+use Rattle.flat_scene.specs.declared.journal.Kind.TheVariants.{Get}
+use Rattle.flat_scene.specs.History.{◌▹◌}
+use Rattle.flat_core.specs.Boards.{Machine, all_due, due, due_told, entry_of}
+use Rattle.flat_core.specs.Legal.{Legal, reply_to}
+use Rattle.flat_core.specs.Presents.{TiesNoted, after_get}
+use Rattle.flat_core.specs.Seen.{is_new_viewport, noted}
+use Rattle.flat_core.specs.Watch.{watcher_of}
+use Rattle.flat_core.specs.Watchers.{IsAsked, IsTelling, watcher_meant}
+use Rattle.flat_core.proofs.EndSteps.{ends-after, none-new, noted-slice}
+use Rattle.flat_core.proofs.GetCalls.{few-held, kept-got, room-got}
+use Rattle.flat_core.proofs.Ones.{declared-of}
+use Rattle.flat_core.proofs.Steps.{has-room, legal-entered, owed-small, room-more, short-history}
+use Rattle.flat_core.proofs.WatchingSteps.{asked-known, asked-replied, few-all, watched-asked}
+use Rattle.flat_core.proofs.board.Board.get.Goals as goal
+
+pub overflow_add-posts : goal.overflow_add-posts
+overflow_add-posts c =
+    let call = rw (← c.self.view_is) at c.requires.may in
+    let small : c.self.inside.owed + 2 < 2 ^ 64 = owed-small _ _ _ _ call c.self.invariant.0.legal _ _ _ refl c.self.invariant.1 in
+    omega (arith, small)
+
+pub ask-requires-clause-known : goal.ask-requires-clause-known
+ask-requires-clause-known c =
+    let call = rw (← c.self.view_is) at c.requires.may in
+    let means = rw (← c.self.view_is) at c.requires.meant in
+    let known = asked-known c.self.inside.setup c.self.inside.log.history c.self.invariant.0.legal c.args.s c.args.calls c.args.get call.may c.args.p means in
+    omega (arith, known, c.self.invariant.4.answered.count)
+
+pub ask-requires-clause-few : goal.ask-requires-clause-few
+ask-requires-clause-few c =
+    let call = rw (← c.self.view_is) at c.requires.may in
+    few-all _ _ _ _ c.self.invariant.4 (short-history _ _ _ _ call c.self.invariant.0.legal _ _ _ refl c.self.invariant.1)
+
+pub invariant_of-self : goal.invariant_of-self
+invariant_of-self c =
+    let inside = c.self.inside in
+    let log = c.ask.ensures in (
+      rw log.history c.self.invariant.0,
+      room-more inside.setup inside.shares inside.log c.ask.new.log inside.owed _ _ c.self.invariant.1 log.history log.posts log.room log.post_room (omega (arith, c.in-Err.ensures.same_due)),
+      rw log.history c.self.invariant.2,
+      rw log.history c.self.invariant.3,
+      rw log.history (c.in-Err.ensures.watched inside.setup inside.log.history c.self.invariant.4),
+    )
+
+pub note_ends-requires-clause-none : goal.note_ends-requires-clause-none
+note_ends-requires-clause-none c =
+    let call = rw (← c.self.view_is) at c.requires.may in
+    ap (list_any is_new_viewport) c.as_slice.ensures ∙ none-new (Get c.args.get) c.args.calls refl call.may.links call.may.calls
+
+pub overflow_add-self : goal.overflow_add-self
+overflow_add-self c =
+    let call = rw (← c.self.view_is) at c.requires.may in
+    let small : c.self.inside.owed + 2 < 2 ^ 64 = owed-small _ _ _ _ call c.self.invariant.0.legal _ _ _ refl c.self.invariant.1 in
+    let few : c.number_if.result ≤ 1 = rw c.number_if.ensures (few-held c.is_held.result) in
+    omega (arith, small, few)
+
+pub enter-requires : goal.enter-requires
+enter-requires c =
+    let call = rw (← c.self.view_is) at c.requires.may in
+    rw c.ask.ensures.room (has-room _ _ _ _ call c.self.invariant.0.legal _ _ _ refl c.self.invariant.1)
+
+pub invariant_of-self-2 : goal.invariant_of-self-2
+invariant_of-self-2 c =
+    let call = rw (← c.self.view_is) at c.requires.may in
+    let means = rw (← c.self.view_is) at c.requires.meant in
+    let inside = c.self.inside in
+    let h = inside.log.history in
+    let m : Machine = record { setup = inside.setup; shares = inside.shares; history = h } in
+    let state = c.index_mut-state.result.now in
+    let reply = c.in-Ok.reply in
+    let log = c.enter.ensures in
+    let telling : IsTelling inside.setup inside.ties inside.views inside.setup h = record { same = refl; legal = c.self.invariant.0.legal; tied = c.self.invariant.3; viewed = c.self.invariant.0.viewed } in
+    let asked = c.in-Ok.ensures.asked inside.setup h telling in
+    let declared = declared-of inside.setup (Get c.args.get) c.args.s call.may.acts in
+    let known = asked-known inside.setup h c.self.invariant.0.legal c.args.s c.args.calls c.args.get call.may c.args.p means in
+    let replied : reply ≡ reply_to inside.setup h (Session c.args.s) c.args.calls (Get c.args.get) =
+    asked-replied inside.setup h c.self.invariant.0.legal c.args.s declared c.args.calls c.args.get call.may c.args.p known means _ _ _ _ reply asked c.self.invariant.4 in
+    let ends = ends-after m (Session c.args.s) c.args.line c.args.calls (Get c.args.get) reply call replied refl refl refl inside.clock inside.fences inside.views inside.sessions.items inside.ends.items _ inside.ties c.note_ends.new.ties c.self.invariant.0
+    (record {
+      state = state;
+      before = c.index_mut.result.now;
+      after = c.note_ends.new.ends;
+      of_state = c.index_mut-state.ensures.value;
+      of_before = c.index_mut.ensures.value;
+      noted = noted-slice state.account.presents c.index_mut.result.now c.note_ends.new.ends c.as_slice.ensures c.note_ends.ensures.ends;
+      new_is = refl;
+      ties = subst (λ (calls : List Call). TiesNoted c.args.s calls state c.index_mut.result.now inside.ties c.note_ends.new.ties) c.as_slice.ensures c.note_ends.ensures.ties;
+    }) c.self.invariant.2 c.self.invariant.3 in
+    let e : Entry = entry_of (Session c.args.s) c.args.line c.args.calls (Get c.args.get) reply in
+    let legal : Legal inside.setup (h ▹ e) = (c.self.invariant.0.legal, legal-entered m (Session c.args.s) c.args.line c.args.calls (Get c.args.get) reply call replied) in
+    let watched = watched-asked inside.setup h e legal c.args.s refl declared c.args.get refl c.args.p known means _ _ _ _ asked c.self.invariant.4 in
+    let history : c.enter.new.self.history ≡ (h ▹ e) = log.history ∙ rw c.ask.ensures.history refl in
+    let account : c.note.new.account ≡ noted c.args.calls c.get_in.new.state.account = c.note.ensures ∙ ap (λ (calls : List Call). noted calls c.get_in.new.state.account) c.as_slice-2.ensures in
+    let kept = kept-got m c.args.s c.args.line c.args.calls c.args.get call reply replied inside.clock inside.fences inside.views inside.sessions.items state c.index_mut-state.ensures.value c.self.invariant.0 in
+    rw (account, c.get_in.ensures, c.number_if.ensures, c.is_held.ensures) (
+      rw history kept.0,
+      room-got m c.args.s c.args.line c.args.calls c.args.get call reply replied inside.clock inside.fences inside.views inside.sessions.items c.self.invariant.0 inside.log c.ask.new.log c.enter.new.self inside.owed _ _ refl c.self.invariant.1
+          c.ask.ensures.history c.ask.ensures.posts c.ask.ensures.room c.in-Ok.ensures.reserved log.history log.posts log.room log.post_room (omega (arith, kept.1, ends.1, c.in-Ok.ensures.due)),
+      rw history ends.0,
+      rw history ends.2,
+      rw history watched,
+    )
+
+pub returns-clause-reply : goal.returns-clause-reply
+returns-clause-reply c =
+    let call = rw (← c.self.view_is) at c.requires.may in
+    let means = rw (← c.self.view_is) at c.requires.meant in
+    let inside = c.self.inside in
+    let h = inside.log.history in
+    let telling : IsTelling inside.setup inside.ties inside.views inside.setup h = record { same = refl; legal = c.self.invariant.0.legal; tied = c.self.invariant.3; viewed = c.self.invariant.0.viewed } in
+    let asked = c.in-Ok.ensures.asked inside.setup h telling in
+    let declared = declared-of inside.setup (Get c.args.get) c.args.s call.may.acts in
+    let known = asked-known inside.setup h c.self.invariant.0.legal c.args.s c.args.calls c.args.get call.may c.args.p means in
+    let P : Machine → Type 0 = λ m. c.in-Ok.reply ≡ reply_to m.setup m.history (Session c.args.s) c.args.calls (Get c.args.get) in
+    subst P c.self.view_is (asked-replied inside.setup h c.self.invariant.0.legal c.args.s declared c.args.calls c.args.get call.may c.args.p known means _ _ _ _ c.in-Ok.reply asked c.self.invariant.4)
