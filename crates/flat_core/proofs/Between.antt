@@ -20,7 +20,7 @@ use Rattle.flat_core.specs.Ends.{view_uses, uses_view, uses_viewport, is_done, p
 use Rattle.flat_core.specs.Legal.{Legal, reply_to, refused_token, owns_view}
 use Rattle.flat_core.specs.Posts.{told_event, news_for, events_to, at_begin, posted, Sent}
 use Rattle.flat_core.specs.Watch.{layout_of, status_of}
-use Rattle.flat_core.proofs.NoNews.{flat_map-none}
+use Rattle.flat_core.proofs.ListLemmas.{flat_map-none}
 use Rattle.flat_core.proofs.ShownSteps.{closed-before}
 use Rattle.flat_core.proofs.Still.{IsStill, IsSilent, still-silent, told-unheld, told-nothing, told-same, news-silent, news-between}
 use Rattle.flat_core.proofs.Unwatched.{unwatched, is_layout, is_status}

@@ -31,7 +31,7 @@ use Rattle.flat_core.specs.Seen.{Seen, seen_of}
 use Rattle.flat_core.proofs.DoneSteps.{released_to}
 use Rattle.flat_core.proofs.Begun.{seen-begun-open}
 use Rattle.flat_core.proofs.Entered.{Entered}
-use Rattle.flat_core.proofs.Steps.{legal-entered, both, frames-quiet, or-false, room-entered, few-history}
+use Rattle.flat_core.proofs.Steps.{legal-entered, frames-quiet, or-false, room-entered, few-history}
 
 map-flat : {A B C : Type 0} (f : B → C) (g : A → List B) (xs : List A) → map f (flat_map g xs) ≡ flat_map (λ x. map f (g x)) xs
 map-flat f g [] = refl

@@ -1,30 +1,31 @@
 -- The end of a frame, for one session and for all.
-use Rattle.std.proofs.Common.{◌≡◌, ℕ, ◌+◌, ◌<◌, Bool, true, false, List, [], ◌∷◌, ◌++◌, length, refl, sym, ◌∙◌, ap, map, slice_set, slice_index_or, subst}
+use Rattle.std.proofs.Common.{◌≡◌, ℕ, ◌+◌, ◌<◌, Bool, true, false, List, [], ◌∷◌, ◌++◌, length, refl, sym, ◌∙◌, ap, map, slice_set, slice_index_or, subst, append_assoc}
 use Rattle.std.specs.List.{list_any}
 use Rattle.std.specs.Prelude.{cond, ◌||◌, nat_lt}
-use Rattle.std.proofs.lemmas.List.{append-nil}
+use Rattle.std.proofs.lemmas.List.{map-append}
+use Rattle.flat_scene.specs.declared.journal.Post.{Post}
 use Rattle.flat_base.specs.declared.ids.FenceNo.{FenceNo}
 use Rattle.flat_base.specs.declared.ids.SessionNo.{SessionNo}
 use Rattle.flat_scene.specs.declared.journal.Entry.{Entry}
 use Rattle.flat_scene.specs.declared.journal.Event.{Event}
 use Rattle.flat_scene.specs.declared.setup.Setup.{Setup}
-use Rattle.flat_scene.specs.History.{is_closed, Published}
-use Rattle.flat_scene.specs.Frames.{going, is_among, is_released_by, sessions_to, taken}
-use Rattle.flat_scene.specs.Setups.{is_declared}
-use Rattle.flat_core.specs.declared.live.Live.{Live}
-use Rattle.flat_core.specs.declared.live.OutToken.{OutToken}
-use Rattle.flat_core.specs.Legal.{is_frame_open, Legal}
-use Rattle.flat_core.specs.Viewports.{AreViewports, back_events}
-use Rattle.flat_core.specs.Posts.{at_finish, events_to, frame_took, news_for}
+use Rattle.flat_scene.specs.History.{Published}
+use Rattle.flat_scene.specs.Frames.{going, is_among, is_released_by, sessions_to}
+use Rattle.flat_core.specs.Viewports.{AreViewports}
 use Rattle.flat_core.specs.declared.state.SessionState.{SessionState}
 use Rattle.flat_core.specs.declared.viewports.Viewports.{Viewports}
-use Rattle.flat_core.specs.Begins.{finished, finish_entry, took_event}
+use Rattle.flat_core.specs.Begins.{finished}
 use Rattle.flat_core.specs.Boards.{number}
 use Rattle.flat_core.specs.Kept.{IsKept, AllNumbered, release_of}
 use Rattle.flat_core.specs.Seen.{seen_of}
 use Rattle.flat_core.proofs.BeginLoop.{same-side, this-side, not-below, none-below, all-below, sessions-on}
 use Rattle.flat_core.proofs.Changes.{changed-one}
-use Rattle.flat_core.proofs.ViewportUses.{tokens-finish}
+
+-- ---- two runs of posts
+
+pub told-then : (f : Event → Post) (old mid new : List Post) (xs ys events : List Event) → mid ≡ old ++ map f xs → new ≡ mid ++ map f ys → events ≡ xs ++ ys → new ≡ old ++ map f events
+told-then f old mid new xs ys events first second all =
+    second ∙ ap (λ (ps : List Post). ps ++ map f ys) first ∙ append_assoc old (map f xs) (map f ys) ∙ ap (λ (ps : List Post). old ++ ps) (sym (map-append f xs ys)) ∙ ap (λ (es : List Event). old ++ map f es) (sym all)
 
 -- ---- session by session
 

@@ -37,7 +37,7 @@ use Rattle.flat_core.specs.Seen.{is_new_viewport, seen_of}
 use Rattle.flat_core.specs.Viewports.{AreViewports, marked, out_of, outs_of}
 use Rattle.flat_core.proofs.Changes.{changed-one, not-session, is-session, sum-same}
 use Rattle.flat_core.proofs.Counts.{at-session, declared-some, kept-session}
-use Rattle.flat_core.proofs.NoNews.{flat_map-none}
+use Rattle.flat_core.proofs.ListLemmas.{flat_map-none}
 use Rattle.flat_core.proofs.Ones.{declared-of}
 use Rattle.flat_core.proofs.Steps.{legal-entered}
 use Rattle.flat_core.proofs.TiesSteps.{tied-idle}

@@ -1,35 +1,19 @@
 -- What one more entry does to a board, where it posts nothing.
-use Rattle.std.proofs.Common.{◌≡◌, ℕ, suc, ◌+◌, ◌*◌, ◌<◌, ◌≤◌, ◌^◌, Bool, true, false, List, [], ◌∷◌, length, refl, arith, sym, ◌∙◌, ap, slice_index, sum}
-use Rattle.std.proofs.lemmas.List.{append-nil}
-use Rattle.std.specs.Prelude.{IsTrue, cond, ◌&&◌, ◌||◌, ◌==◌, nat_le, nat_lt}
-use Rattle.std.proofs.lemmas.Bool.Decides.{nat_tests}
+use Rattle.std.proofs.Common.{◌≡◌, ℕ, ◌+◌, ◌*◌, ◌≤◌, Bool, false, List, length, refl, arith, sym, ◌∙◌, ap}
 use Rattle.flat_base.specs.declared.ids.Actor.{Actor}
-use Rattle.flat_base.specs.declared.ids.Actor.TheVariants.{Display, Session, Probe}
-use Rattle.flat_base.specs.declared.ids.FenceNo.{FenceNo}
-use Rattle.flat_base.specs.declared.ids.PairNo.{PairNo}
-use Rattle.flat_base.specs.declared.ids.SessionNo.{SessionNo}
 use Rattle.flat_scene.specs.declared.calls.Call.{Call}
 use Rattle.flat_scene.specs.declared.journal.Entry.{Entry}
 use Rattle.flat_scene.specs.declared.journal.Kind.{Kind}
-use Rattle.flat_scene.specs.declared.journal.Kind.TheVariants.{Signal}
 use Rattle.flat_scene.specs.declared.journal.Reply.{Reply}
-use Rattle.flat_scene.specs.declared.setup.Setup.{Setup}
-use Rattle.flat_scene.specs.History.{◌▹◌, is_begin, is_finish, seat_number, Published}
-use Rattle.flat_scene.specs.Setups.{is_declared}
-use Rattle.flat_scene.specs.Frames.{signals, going, sessions_to}
-use Rattle.flat_scene.proofs.Together.{and-right}
-use Rattle.flat_fence.specs.Fences.{has}
+use Rattle.flat_scene.specs.History.{◌▹◌, is_begin, is_finish}
 use Rattle.flat_core.specs.declared.clock.Clock.{Clock}
 use Rattle.flat_core.specs.declared.state.SessionState.{SessionState}
-use Rattle.flat_core.specs.Boards.{Machine, MayCall, Stands, HasRoom, entry_of, made, clock_of, number}
-use Rattle.flat_core.specs.Ends.{view_uses, uses_view, is_done}
-use Rattle.flat_core.specs.Flags.{has_end}
+use Rattle.flat_core.specs.Boards.{Machine, MayCall, Stands, HasRoom, entry_of, number}
 use Rattle.flat_core.specs.Kept.{IsKept, AllNumbered}
-use Rattle.flat_core.specs.Legal.{Legal, LegalEntry, reply_to, may_act, session_may, frames}
+use Rattle.flat_core.specs.Legal.{Legal, reply_to}
 use Rattle.flat_core.specs.Logs.{Logged}
 use Rattle.flat_core.specs.Posts.{posts, posted}
 use Rattle.flat_core.specs.Seen.{seen_of}
-use Rattle.flat_core.proofs.Shares.{AllPlaced, few-entries, fair-more}
 use Rattle.flat_core.proofs.Between.{is_viewport, posted-between}
 use Rattle.flat_core.proofs.Steps.{Changed, legal-entered, posts-none, room-entered, stands-entered}
 

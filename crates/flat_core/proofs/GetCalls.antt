@@ -1,5 +1,5 @@
 -- What a get does to the parts of a board.
-use Rattle.std.proofs.Common.{◌≡◌, ◌∙◌, sym, ℕ, suc, ◌+◌, ◌-◌, ◌*◌, ◌<◌, ◌≤◌, Bool, true, false, List, length, refl, arith, ap, slice_set, slice_index_or}
+use Rattle.std.proofs.Common.{◌≡◌, ◌∙◌, sym, ℕ, ◌+◌, ◌-◌, ◌*◌, ◌<◌, ◌≤◌, Bool, true, false, List, length, refl, arith, ap, slice_set, slice_index_or}
 use Rattle.std.specs.Prelude.{IsTrue, cond, sum_by}
 use Rattle.std.proofs.lemmas.List.{length-set}
 use Rattle.flat_base.specs.declared.ids.Actor.TheVariants.{Session}

@@ -48,8 +48,6 @@ pub mod Marks
 pub mod MoreRuns
 pub mod Neighbour
 pub mod NewTies
-pub mod NoAnswers
-pub mod NoNews
 pub mod Ones
 pub mod Opened
 pub mod Owned

@@ -1,7 +1,7 @@
 -- What one more entry does to the parts of a board.
 use Rattle.std.proofs.Common.{◌≡◌, ℕ, suc, ◌+◌, ◌-◌, ◌*◌, ◌<◌, ◌≤◌, ◌^◌, Bool, true, false, List, [], ◌∷◌, length, refl, arith, sym, ◌∙◌, ap, slice_index, sum}
 use Rattle.std.proofs.lemmas.List.{append-nil}
-use Rattle.std.specs.Prelude.{IsTrue, cond, ◌&&◌, ◌||◌, ◌==◌, nat_le, nat_lt}
+use Rattle.std.specs.Prelude.{cond, ◌&&◌, ◌||◌, ◌==◌, nat_le, nat_lt}
 use Rattle.std.proofs.lemmas.Bool.Decides.{nat_tests}
 use Rattle.flat_base.specs.declared.ids.Actor.{Actor}
 use Rattle.flat_base.specs.declared.ids.Actor.TheVariants.{Display, Session, Probe}
@@ -127,8 +127,11 @@ few-history m who calls kind call legal log owed dues same room =
 
 -- so the history is short
 pub short-history : (m : Machine) (who : Actor) (calls : List Call) (kind : Kind) → MayCall m who calls kind → Legal m.setup m.history
-    → (log : Logged) (owed dues : ℕ) → log.history ≡ m.history → HasRoom m.setup m.shares log owed dues → length m.history < 2 ^ 32 - 1
+    → (log : Logged) (owed dues : ℕ) → log.history ≡ m.history → HasRoom m.setup m.shares log owed dues → length m.history < 2 ^ 31
 short-history m who calls kind call legal log owed dues same room = omega (arith, few-history m who calls kind call legal log owed dues same room, room.total)
+
+pub short-enough : {n : ℕ} → n < 2 ^ 31 → n < 2 ^ 32 - 1
+short-enough short = omega (arith, short)
 
 -- who may enter has room
 pub has-room : (m : Machine) (who : Actor) (calls : List Call) (kind : Kind) → MayCall m who calls kind → Legal m.setup m.history

@@ -29,7 +29,7 @@ use Rattle.flat_core.specs.declared.state.Account.{Account}
 use Rattle.flat_core.specs.declared.state.SessionState.{SessionState}
 use Rattle.flat_core.specs.declared.ties.Ties.{Ties}
 use Rattle.flat_core.specs.declared.viewports.Viewports.{Viewports}
-use Rattle.flat_core.specs.Boards.{AreEnds, HasRoom, Machine, MayCall, Stands, all_due, due, due_back, entry_of, number}
+use Rattle.flat_core.specs.Boards.{AreEnds, HasRoom, Machine, MayCall, Stands, due, due_back, entry_of, number}
 use Rattle.flat_core.specs.Ends.{is_done, uses_viewport, viewports_of}
 use Rattle.flat_core.specs.Kept.{AllNumbered, IsKept}
 use Rattle.flat_core.specs.Legal.{Legal, all_but_last, goes_on, has_token, links_alone, makes_viewport, number_if, owns_in_call, owns_in_kind, owns_viewport, own_call, refused_token, reply_to}
@@ -46,7 +46,7 @@ use Rattle.flat_core.proofs.Counts.{at-session, declared-some, kept-session}
 use Rattle.flat_core.proofs.EndSteps.{ends-one, links-made, not-none, viewports-closed}
 use Rattle.flat_core.proofs.HasView.{found, any-found, both-ways}
 use Rattle.flat_core.proofs.Ones.{declared-of, each-one}
-use Rattle.flat_core.proofs.Steps.{few-history, legal-entered, posts-none, room-entered, stands-entered, unchanged}
+use Rattle.flat_core.proofs.Steps.{legal-entered, room-entered, stands-entered, unchanged}
 use Rattle.flat_core.proofs.TokensBack.{any-flat, any-each, and-both, nested, pair-is}
 use Rattle.flat_core.proofs.ViewportUses.{viewports-used}
 
@@ -120,9 +120,10 @@ shut-known setup h clock fences views sessions t old = by_place (t.0 == 0) refl 
     by_place : (z : Bool) → (t.0 == 0) ≡ z → (o : Option SessionState) → slice_get sessions (t.0 - 1) ≡ o
         → (S z o ≡ false → (is_declared setup t ≡ true) × (is_closed t h ≡ false)) × (S z o ≡ true → (is_declared setup t ≡ false) ⊎ (is_closed t h ≡ true))
     by_place true first o at = (λ no. cc, λ shut. inl (let it : t.0 ≡ 0 = grind (arith, nat_tests) in let none : nat_lt 0 t.0 ≡ false = grind (arith, nat_tests) in rw none refl))
-    by_place false later None at =
-        (λ no. cc,
-        λ shut. inl (past (nat_lt 0 t.0) (nat_le t.0 setup.sessions) (few-none (slice_get_none sessions (t.0 - 1) at))))
+    by_place false later None at = (
+      λ no. cc,
+      λ shut. inl (past (nat_lt 0 t.0) (nat_le t.0 setup.sessions) (few-none (slice_get_none sessions (t.0 - 1) at))),
+    )
       where
         few-none : length sessions ≤ t.0 - 1 → nat_le t.0 setup.sessions ≡ false
         few-none past = let some : t.0 ≢ 0 = λ it. let wrong : (t.0 == 0) ≡ true = grind (arith, nat_tests) in let never : true ≡ false = sym wrong ∙ later in cc in let count : length sessions ≡ setup.sessions = old.count in let over : setup.sessions < t.0 = omega (arith, past, some, count) in grind (arith, nat_tests)

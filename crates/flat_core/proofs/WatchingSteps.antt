@@ -1,6 +1,6 @@
 -- What is kept of all gets and of all last answers, entry by entry.
 use Rattle.std.proofs.Common.{◌≡◌, ◌≢◌, ◌∙◌, sym, subst, ℕ, suc, ◌+◌, ◌-◌, ◌<◌, ◌≤◌, ◌^◌, Bool, true, false, List, [], ◌∷◌, ◌++◌, length, map, refl, arith, ap, take, drop, slice_set, slice_index_or, inl, inr, ◌⊎◌, None, Some}
-use Rattle.std.specs.Prelude.{◌&&◌, ◌||◌, ◌==◌, cond, nat_lt, nat_le, Option, option_map, unwrap_or, sum_by, filter}
+use Rattle.std.specs.Prelude.{◌&&◌, ◌||◌, ◌==◌, cond, nat_lt, Option, option_map, unwrap_or, sum_by, filter}
 use Rattle.std.specs.List.{list_any}
 use Rattle.std.proofs.lemmas.Bool.Decides.{eqb_tells, nat_tests}
 use Rattle.std.proofs.Math.Seq.{drop-length, take-length}
@@ -48,7 +48,7 @@ use Rattle.flat_core.proofs.DoneSteps.{UpTo, up-end, up-here, up-next, up-start}
 use Rattle.flat_core.proofs.EndSteps.{number-declared}
 use Rattle.flat_core.proofs.GetAnswers.{uses-kept}
 use Rattle.flat_core.proofs.GetAsked.{get-replied, gets-asked}
-use Rattle.flat_core.proofs.GetBoards.{all-asked, all-between, all-closed, all-first, all-foreign, all-joined, all-last, all-new, all-next, all-refused, all-shut, gets-new}
+use Rattle.flat_core.proofs.GetBoards.{all-asked, all-between, all-closed, all-first, all-foreign, all-joined, all-last, all-next, all-refused, all-shut, gets-new}
 use Rattle.flat_core.proofs.GetLists.{with-more}
 use Rattle.flat_core.proofs.GetMeans.{get-within}
 use Rattle.flat_core.proofs.GetOwners.{get-open}
@@ -99,6 +99,13 @@ pub few-all : (setup : Setup) (h : List Entry) (gets : List Gets) (last : List A
 few-all setup h gets last are short i d below =
     let own = are.each i d below in
     omega (arith, own.held.few, short)
+
+pub few-to : (setup : Setup) (n : ℕ) (h : List Entry) (line : ℕ) (gets : List Gets) (last : List Answered) → WatchedUpTo setup n (finished h line) h gets last → length h < 2 ^ 32 - 2 → AllNumbered is_few gets
+few-to setup n h line gets last are short i d below = by_side (nat_lt i n) (are.each i d below)
+  where
+    by_side : (b : Bool) → AreOwnGets setup (cond b (finished h line) h) (number i) (slice_index_or gets i d) → is_few i (slice_index_or gets i d)
+    by_side true own = omega (arith, own.held.few, short)
+    by_side false own = omega (arith, own.held.few, short)
 
 pub seldom-all : (setup : Setup) (h : List Entry) (gets : List Gets) (last : List Answered) → AreWatched setup h gets last → length h < 2 ^ 32 - 1 → AllNumbered is_seldom last
 seldom-all setup h gets last are short i d below =

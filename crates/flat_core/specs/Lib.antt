@@ -13,7 +13,6 @@ pub mod Legal
 pub mod Lives
 pub mod Local
 pub mod Logs
-pub mod Plain
 pub mod Polls
 pub mod Posts
 pub mod Presents

@@ -127,7 +127,7 @@ fn finish_one<T: Tells>(
     requires tells { T.stands tells.now setup.now (finished log.old.history line) }
     requires some { 0 < s.0 }
     requires few { s.0 ≤ setup.now.sessions }
-    requires place { length log.old.history < 2 ^ 32 - 1 }
+    requires place { length log.old.history < 2 ^ 32 - 2 }
     requires opened { is_frame_open log.old.history ≡ true }
     requires count { length fences.old ≡ length setup.now.fences }
     requires kept { IsKept setup.now (seen_of setup.now log.old.history s) state.old }
@@ -165,7 +165,7 @@ pub fn done_all<T: Tells>(
     requires watched { AreWatched setup.now log.old.history watchers.old.gets.items watchers.old.answered.items }
     requires legal { Legal setup.now log.old.history }
     requires may { MayEnter setup.now log.old.history Display [] Finish }
-    requires place { length log.old.history < 2 ^ 32 - 1 }
+    requires place { length log.old.history < 2 ^ 32 - 2 }
     requires opened { is_frame_open log.old.history ≡ true }
     requires count { length fences.old ≡ length setup.now.fences }
     requires all { length sessions.old.items ≡ setup.now.sessions }

@@ -1,13 +1,15 @@
-use Rattle.std.proofs.Common.{◌≡◌, ◌+◌, ◌<◌, List, length, arith, ◌∙◌, ap, subst}
+use Rattle.std.proofs.Common.{◌≡◌, refl, ℕ, ◌+◌, ◌<◌, List, length, arith, ◌∙◌, ap, subst}
 use Rattle.flat_scene.specs.declared.journal.Entry.{Entry}
 use Rattle.std.proofs.lemmas.List.{length-set}
 use Rattle.std.proofs.lemmas.List.Sums.{sum_by-set}
 use Rattle.flat_fence.specs.Fences.{has}
 use Rattle.flat_core.specs.Boards.{due, due_back}
 use Rattle.flat_core.specs.Begins.{finish_entry, finished}
+use Rattle.flat_core.specs.Legal.{Legal, LegalEntry}
 use Rattle.flat_core.specs.Watchers.{WatchedUpTo}
 use Rattle.flat_core.proofs.BeginLoop.{posts-next}
 use Rattle.flat_core.proofs.DoneSteps.{EndsOf, done-next, members-next, up-next}
+use Rattle.flat_core.proofs.WatchingSteps.{watched-last}
 use Rattle.flat_core.proofs.dones.done_all.Goals as goal
 
 pub loop-i-preserved : goal.loop-i-preserved
@@ -41,3 +43,13 @@ loop-i-preserved g c =
       post_room = omega (arith, e.post_room, inv.post_room);
       due = omega (arith, sums, backs, ap due is, ap due_back one_is, e.due, inv.due);
     }
+
+pub returns-clause-watched : goal.returns-clause-watched
+returns-clause-watched g c =
+    let setup = c.args.setup.now in
+    let h = c.args.log.now.history in
+    let inv = c.loop-i.invariant in
+    let last : c.loop-i.i ≡ setup.sessions = omega (arith, c.loop-i.auto.i-end, c.loop-i-test.false) in
+    let legal : Legal setup (finished h c.args.line) = (c.requires.legal, (let one : LegalEntry setup h (finish_entry c.args.line) = record { may = c.requires.may; reply = refl } in one)) in
+    let W : ℕ → Type 0 = λ n. WatchedUpTo setup n (finished h c.args.line) h c.loop-i.watchers.gets.items c.loop-i.watchers.answered.items in
+    watched-last setup h c.args.line legal c.loop-i.watchers.gets.items c.loop-i.watchers.answered.items (subst W last inv.watched)

@@ -10,7 +10,7 @@ use Rattle.flat_core.proofs.DoneSteps.{DoneUpTo, EndsUpTo, released_to}
 use Rattle.flat_core.proofs.dones.done_all.Given as goal
 
 abbrev pub invariant-loop-i : goal.invariant-loop-i
-invariant-loop-i l = record {
+invariant-loop-i g l = record {
   all : length l.sessions.items ≡ l.setup.sessions;
   kept : AllNumbered (DoneUpTo l.setup l.fn.log.history l.line l.i) l.sessions.items;
   ends_all : length l.ends.items ≡ l.setup.sessions;

@@ -1,24 +1,22 @@
-use Rattle.std.proofs.Common.{◌≡◌, ℕ, Bool, true, false, List, [], ◌++◌, length, refl, ap, sym, ◌∙◌, append_assoc}
+use Rattle.std.proofs.Common.{◌≡◌, ℕ, Bool, true, false, List, [], ◌++◌, length, refl, ap, sym, ◌∙◌}
 use Rattle.std.specs.Prelude.{cond, map}
-use Rattle.std.proofs.lemmas.List.{append-nil, map-append}
+use Rattle.std.proofs.lemmas.List.{append-nil}
 use Rattle.flat_fence.specs.Fences.{has}
 use Rattle.flat_scene.specs.History.{is_closed}
 use Rattle.flat_core.specs.Legal.{is_frame_open}
 use Rattle.flat_core.specs.Posts.{frame_took}
 use Rattle.flat_scene.specs.Frames.{going}
 use Rattle.flat_scene.specs.declared.journal.Entry.{Entry}
-use Rattle.flat_scene.specs.declared.journal.Event.{Event}
-use Rattle.flat_scene.specs.declared.journal.Post.{Post}
 use Rattle.flat_scene.specs.Frames.{taken}
 use Rattle.flat_scene.specs.History.{◌▹◌}
 use Rattle.flat_core.specs.Begins.{finish_entry, post_of, took_event}
 use Rattle.flat_core.specs.Legal.{Legal, LegalEntry}
-use Rattle.flat_core.specs.Posts.{events_to}
 use Rattle.flat_core.specs.Seen.{seen_of}
 use Rattle.flat_core.specs.Viewports.{back_events}
 use Rattle.flat_core.proofs.Counts.{seen-count, taken-kept}
 use Rattle.flat_core.proofs.DoneSteps.{members-done}
 use Rattle.flat_core.proofs.ViewportUses.{viewports-finish}
+use Rattle.flat_core.proofs.DoneSteps.{told-then}
 use Rattle.flat_core.proofs.dones.done_one.Goals as goal
 
 pub returns-then-state-clause-members : goal.returns-then-state-clause-members
@@ -37,10 +35,6 @@ returns-then-state-clause-posts c =
 took-is : (b : Bool) (n took : ℕ) → b ≡ true → took ≡ cond b n 0 → took ≡ n
 took-is true n took opened is = is
 took-is false n took opened is = cc
-
-posts-two : (f : Event → Post) (old mid new : List Post) (xs ys events : List Event) → mid ≡ old ++ map f xs → new ≡ mid ++ map f ys → events ≡ xs ++ ys → new ≡ old ++ map f events
-posts-two f old mid new xs ys events first second all =
-    second ∙ ap (λ (ps : List Post). ps ++ map f ys) first ∙ append_assoc old (map f xs) (map f ys) ∙ ap (λ (ps : List Post). old ++ ps) (sym (map-append f xs ys)) ∙ ap (λ (es : List Event). old ++ map f es) (sym all)
 
 pub returns-clause-ends : goal.returns-clause-ends
 returns-clause-ends c =
@@ -64,4 +58,4 @@ returns-clause-posts c =
     let all : cond (is_closed s h) [] (took_event (frame_took setup h s) ++ back_events (taken setup h s) outs) ≡ took_event c.args.state.now.took ++ back_events c.taken.result outs = rw (opened, took, taken_is) refl in
     let second : c.take_back-back.new.log.posts ≡ c.post_took-presented.new.log.posts ++ map (post_of (length h) s) (back_events c.taken.result outs) =
     c.take_back-back.ensures.posts ∙ ap (λ (k : List Entry). c.post_took-presented.new.log.posts ++ map (post_of (length k) s) (back_events c.taken.result outs)) c.post_took-presented.ensures.history in
-    posts-two (post_of (length h) s) c.args.log.now.posts c.post_took-presented.new.log.posts c.take_back-back.new.log.posts (took_event c.args.state.now.took) (back_events c.taken.result outs) _ c.post_took-presented.ensures.posts second all
+    told-then (post_of (length h) s) c.args.log.now.posts c.post_took-presented.new.log.posts c.take_back-back.new.log.posts (took_event c.args.state.now.took) (back_events c.taken.result outs) _ c.post_took-presented.ensures.posts second all

@@ -17,7 +17,7 @@ use Rattle.flat_core.proofs.EndSteps.{ends-closed}
 use Rattle.flat_core.proofs.UseSteps.{opened-close}
 use Rattle.flat_core.proofs.Ones.{declared-of, kept-one, plain-close, reply-close, closes-close}
 use Rattle.flat_core.proofs.Steps.{has-room, legal-entered, unchanged}
-use Rattle.flat_core.proofs.WatchingSteps.{told-too, watched-after}
+use Rattle.flat_core.proofs.WatchingSteps.{watched-after}
 use Rattle.flat_core.proofs.board.Board.close.Goals as goal
 
 pub enter-requires : goal.enter-requires

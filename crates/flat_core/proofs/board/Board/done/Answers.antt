@@ -7,20 +7,32 @@ use Rattle.flat_scene.specs.History.{◌▹◌}
 use Rattle.flat_scene.specs.declared.journal.Entry.{Entry}
 use Rattle.flat_core.specs.Boards.{Machine, entry_of}
 use Rattle.flat_core.proofs.ShownFits.{length-sessions}
-use Rattle.flat_core.specs.Begins.{finish_entry}
-use Rattle.flat_core.proofs.Steps.{has-room, legal-entered}
+use Rattle.flat_core.specs.Begins.{finish_entry, finished}
+use Rattle.flat_core.specs.Legal.{Legal}
+use Rattle.flat_core.proofs.Steps.{has-room, legal-entered, short-history}
 use Rattle.flat_core.proofs.BoardBegins.{kept-finished, place-small}
 use Rattle.flat_core.proofs.board.Board.done.Goals as goal
 
 pub done_all-count-requires-clause-place : goal.done_all-count-requires-clause-place
 done_all-count-requires-clause-place c =
     let may = rw (← c.self.view_is) at c.requires.may in
-    (place-small _ Finish may _ _ _ _ _ _ refl c.self.invariant.0 c.self.invariant.1).0
+    let short = short-history _ _ _ _ may c.self.invariant.0.legal _ _ _ refl c.self.invariant.1 in
+    omega (arith, short)
 
 pub finish-requires-clause-shown : goal.finish-requires-clause-shown
 finish-requires-clause-shown c =
     let shown = rw (← c.self.view_is) at c.requires.shown in
     ap (length {A = _}) shown ∙ length-sessions _ c.self.inside.setup.sessions
+
+pub done_all-count-requires-clause-tells : goal.done_all-count-requires-clause-tells
+done_all-count-requires-clause-tells c =
+    let may = rw (← c.self.view_is) at c.requires.may in
+    let inside = c.self.inside in
+    let m : Machine = record { setup = inside.setup; shares = inside.shares; history = inside.log.history } in
+    let shown = rw (← c.self.view_is) at c.requires.shown in
+    let legal : Legal inside.setup (finished inside.log.history c.args.line) = (c.self.invariant.0.legal, legal-entered m Display c.args.line [] Finish Done may refl) in
+    let tied = c.finish.ensures.tied inside.log.history c.args.line (record { legal = legal; shown = shown }) c.self.invariant.3 in
+    record { same = refl; legal = legal; tied = tied; viewed = c.self.invariant.0.viewed }
 
 pub enter-requires : goal.enter-requires
 enter-requires c =
@@ -58,4 +70,4 @@ invariant_of-self c =
       legal = (c.self.invariant.0.legal, legal-entered m Display c.args.line [] Finish Done may refl);
       shown = shown;
     }) c.self.invariant.3 in
-    (kept.0, kept.1, rw now all.ends, rw now tied)
+    (kept.0, kept.1, rw now all.ends, rw now tied, rw now all.watched)

@@ -1,21 +1,19 @@
-use Rattle.std.proofs.Common.{◌≡◌, ◌+◌, ◌-◌, ◌<◌, ◌≤◌, ◌^◌, refl, sym, ◌∙◌, ap, arith, List, subst, length, slice_set, Some}
-use Rattle.std.specs.Prelude.{sum_by}
+use Rattle.std.proofs.Common.{◌≡◌, ◌+◌, ◌<◌, ◌≤◌, ◌^◌, refl, ◌∙◌, ap, arith, List, subst}
 use Rattle.std.specs.List.{list_any}
 use Rattle.flat_base.specs.declared.ids.Actor.TheVariants.{Session}
 use Rattle.flat_scene.specs.declared.calls.Call.{Call}
 use Rattle.flat_scene.specs.declared.journal.Entry.{Entry}
 use Rattle.flat_scene.specs.declared.journal.Kind.TheVariants.{Get}
 use Rattle.flat_scene.specs.History.{◌▹◌}
-use Rattle.flat_core.specs.Boards.{Machine, all_due, due, due_told, entry_of}
+use Rattle.flat_core.specs.Boards.{Machine, entry_of}
 use Rattle.flat_core.specs.Legal.{Legal, reply_to}
-use Rattle.flat_core.specs.Presents.{TiesNoted, after_get}
+use Rattle.flat_core.specs.Presents.{TiesNoted}
 use Rattle.flat_core.specs.Seen.{is_new_viewport, noted}
-use Rattle.flat_core.specs.Watch.{watcher_of}
-use Rattle.flat_core.specs.Watchers.{IsAsked, IsTelling, watcher_meant}
+use Rattle.flat_core.specs.Watchers.{IsTelling}
 use Rattle.flat_core.proofs.EndSteps.{ends-after, none-new, noted-slice}
 use Rattle.flat_core.proofs.GetCalls.{few-held, kept-got, room-got}
 use Rattle.flat_core.proofs.Ones.{declared-of}
-use Rattle.flat_core.proofs.Steps.{has-room, legal-entered, owed-small, room-more, short-history}
+use Rattle.flat_core.proofs.Steps.{has-room, legal-entered, owed-small, room-more, short-enough, short-history}
 use Rattle.flat_core.proofs.WatchingSteps.{asked-known, asked-replied, few-all, watched-asked}
 use Rattle.flat_core.proofs.board.Board.get.Goals as goal
 
@@ -35,7 +33,7 @@ ask-requires-clause-known c =
 pub ask-requires-clause-few : goal.ask-requires-clause-few
 ask-requires-clause-few c =
     let call = rw (← c.self.view_is) at c.requires.may in
-    few-all _ _ _ _ c.self.invariant.4 (short-history _ _ _ _ call c.self.invariant.0.legal _ _ _ refl c.self.invariant.1)
+    few-all _ _ _ _ c.self.invariant.4 (short-enough (short-history _ _ _ _ call c.self.invariant.0.legal _ _ _ refl c.self.invariant.1))
 
 pub invariant_of-self : goal.invariant_of-self
 invariant_of-self c =

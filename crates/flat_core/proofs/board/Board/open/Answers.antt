@@ -10,6 +10,10 @@ invariant_of-result c =
     let ends = c.in_ok-ends.ends.items in
     let two = opened c.args.setup c.args.shares c.in_ok-log.log c.in_ok-fences.fences c.in_ok-views.views c.in_ok-sessions.sessions.items c.total_of-total.result c.requires.limits c.requires.actors c.requires.total total
     c.in_ok-log.ensures.history c.in_ok-log.ensures.posts c.in_ok-log.ensures.room (c.in_ok-fences.ensures.size ∙ c.len.ensures) c.in_ok-fences.ensures.none
-    (c.in_ok-views.ensures.size ∙ c.len-2.ensures) c.in_ok-views.ensures.none c.in_ok-sessions.ensures.count c.in_ok-sessions.ensures.new in
-    (two.0, rw (back-new ends c.in_ok-ends.ensures.none, c.in_ok-watchers.ensures.none) two.1, rw c.in_ok-log.ensures.history (ends-new c.args.setup ends c.in_ok-ends.ensures.count c.in_ok-ends.ensures.none), rw c.in_ok-log.ensures.history c.in_ok-ties.ensures,
-    rw c.in_ok-log.ensures.history c.in_ok-watchers.ensures.watched)
+    (c.in_ok-views.ensures.size ∙ c.len-2.ensures) c.in_ok-views.ensures.none c.in_ok-sessions.ensures.count c.in_ok-sessions.ensures.new in (
+      two.0,
+      rw (back-new ends c.in_ok-ends.ensures.none, c.in_ok-watchers.ensures.none) two.1,
+      rw c.in_ok-log.ensures.history (ends-new c.args.setup ends c.in_ok-ends.ensures.count c.in_ok-ends.ensures.none),
+      rw c.in_ok-log.ensures.history c.in_ok-ties.ensures,
+      rw c.in_ok-log.ensures.history c.in_ok-watchers.ensures.watched,
+    )

@@ -1,4 +1,4 @@
-use Rattle.std.proofs.Common.{◌≡◌, ◌≤◌, ℕ, length, sym, subst, ◌∙◌}
+use Rattle.std.proofs.Common.{◌≡◌, sym, subst, ◌∙◌}
 use Rattle.flat_scene.specs.declared.setup.Setup.{Setup}
 use Rattle.flat_core.specs.Following.{AreTied}
 use Rattle.flat_core.specs.Legal.{Legal}

@@ -1,4 +1,4 @@
-use Rattle.std.proofs.Common.{◌≡◌, ◌∙◌, ap, sym, subst, refl, arith, ℕ, ◌+◌, ◌-◌, ◌<◌, List, length}
+use Rattle.std.proofs.Common.{◌≡◌, ◌∙◌, ap, subst, refl, arith, ℕ, ◌-◌, ◌<◌, List, length}
 use Rattle.std.specs.Prelude.{Option}
 use Rattle.flat_scene.specs.declared.journal.Told.{Told}
 use Rattle.flat_core.specs.declared.gets.HeldGet.{HeldGet}

@@ -1,4 +1,4 @@
-use Rattle.std.proofs.Common.{◌≡◌, ◌∙◌, ap, sym, subst, refl, arith, ℕ, ◌+◌, ◌<◌, Bool, true, false, List, length, ◌^◌}
+use Rattle.std.proofs.Common.{◌≡◌, ap, subst, refl, arith, Bool, true, false, List, length}
 use Rattle.flat_scene.specs.declared.journal.Entry.{Entry}
 use Rattle.flat_scene.specs.History.{◌▹◌}
 use Rattle.flat_core.specs.declared.gets.Answered.{Answered}

@@ -1,4 +1,4 @@
-use Rattle.std.proofs.Common.{◌≡◌, ◌+◌, ◌-◌, ◌<◌, slice_set, List, length, refl, arith, ap, sym, ◌∙◌, subst}
+use Rattle.std.proofs.Common.{◌-◌, slice_set, List, length, arith, sym, subst}
 use Rattle.flat_core.specs.declared.gets.Answered.{Answered}
 use Rattle.flat_core.specs.Gets.{Settles}
 use Rattle.flat_core.specs.Watch.{told}
