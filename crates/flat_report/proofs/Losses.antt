@@ -10,9 +10,8 @@ use Rattle.flat_core.specs.Legal.{frames}
 use Rattle.flat_report.specs.FrameLines.{lost_line}
 use Rattle.flat_report.specs.Report.{lost_at, is_lost_before, is_loss}
 use Rattle.flat_report.specs.Words.{number}
-use Rattle.flat_report.proofs.Named.{and-both}
 use Rattle.flat_report.proofs.Openings.{NoLoss, lost_words}
-use Rattle.flat_report.proofs.Sheets.{laid, line_on, sheet, laid-same, told-next, number-word}
+use Rattle.flat_report.proofs.Sheets.{and-both, laid, line_on, sheet, laid-same, told-next, number-word}
 
 -- the numbers of displays have 32 bits
 abbrev pub is_small : Lost → Bool

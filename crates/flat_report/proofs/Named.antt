@@ -14,7 +14,7 @@ use Rattle.flat_core.specs.Legal.{may_act, session_may}
 use Rattle.flat_script.specs.declared.script.Script.{Script}
 use Rattle.flat_script.specs.Names.{is_name, is_name_byte, is_reserved, place_of}
 use Rattle.flat_report.specs.Words.{Word, name_at, session_name, actor_name}
-use Rattle.flat_report.proofs.Sheets.{is_word}
+use Rattle.flat_report.proofs.Sheets.{is_word, and-both}
 
 -- ---- what the reader gives
 
@@ -38,10 +38,6 @@ is_spoken (Probe p) _ = false
 is_spoken _ _ = true
 
 -- ---- names are words
-
-pub and-both : (a b : Bool) → (a && b) ≡ true → (a ≡ true) × (b ≡ true)
-and-both true b is = (refl, is)
-and-both false b is = absurd (cc)
 
 name-byte : (b : ℕ) → is_name_byte b ≡ true → nat_lt 32 b ≡ true
 name-byte b fine = let high : 32 < b = search (rules, tests) in grind (arith, nat_tests)

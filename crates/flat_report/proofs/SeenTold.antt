@@ -1,5 +1,5 @@
 -- The frames that probes saw are told by the lines of the probes.
-use Rattle.std.proofs.Common.{◌≡◌, ℕ, zero, suc, ◌+◌, ◌<◌, ◌≤◌, ◌^◌, ◌&&◌, nat_lt, nat_le, Bool, true, false, cond, List, [], ◌∷◌, ◌++◌, length, map, codes, refl, sym, ap, ◌∙◌, arith}
+use Rattle.std.proofs.Common.{◌≡◌, ℕ, zero, suc, ◌+◌, ◌<◌, ◌≤◌, ◌^◌, ◌&&◌, nat_lt, nat_le, Bool, true, false, cond, List, [], ◌∷◌, length, map, codes, refl, sym, ap, ◌∙◌, arith}
 use Rattle.std.specs.List.{list_all, flat_map, zip}
 use Rattle.std.specs.Fmt.{signed_decimal}
 use Rattle.std.proofs.lemmas.Bool.Decides.{nat_tests}
@@ -17,9 +17,9 @@ use Rattle.flat_script.specs.declared.script.Script.{Script}
 use Rattle.flat_report.specs.EntryLines.{hit_words, said_words}
 use Rattle.flat_report.specs.Report.{begin_of, hits_at, is_probe, probe_lines_of, probe_lines, numbers_from, seen_words, seen_line}
 use Rattle.flat_report.specs.Words.{Word, number, name_at, actor_name}
-use Rattle.flat_report.proofs.Named.{IsNamed, and-both, is_spoken, name-word, not-display, no-probe-name, actor-word}
+use Rattle.flat_report.proofs.Named.{IsNamed, is_spoken, name-word, not-display, no-probe-name, actor-word}
 use Rattle.flat_report.proofs.Openings.{NoEntry, NoLoss, lost_words}
-use Rattle.flat_report.proofs.Sheets.{laid, line_on, sheet, told, told-next, laid-same, number-word}
+use Rattle.flat_report.proofs.Sheets.{and-both, behind-words, laid, line_on, sheet, told, told-next, laid-same, number-word}
 
 -- ---- the lines of probes
 
@@ -58,14 +58,6 @@ pub probe-lines-are : (script : Script) → list_all (λ (line : ScriptLine). is
 probe-lines-are script spoken = of-all script.setup.probes 0 script.setup.probes script.lines (omega arith) spoken
 
 -- ---- one line
-
--- what stands behind the same words is the same
-behind-words : (us ws vs : List Word) (a b : List ℕ) → laid (us ++ ws) a ≡ laid (us ++ vs) b → laid ws a ≡ laid vs b
-behind-words [] ws vs a b is = is
-behind-words (u ∷ us) ws vs a b is = behind-words us ws vs a b (append_cancel_left u (laid (us ++ ws) a) (laid (us ++ vs) b) (tailed 32 _ _ is))
-  where
-    tailed : (c : ℕ) (xs ys : List ℕ) → c ∷ xs ≡ c ∷ ys → xs ≡ ys
-    tailed c xs ys is = cc
 
 frame-said : (script : Script) (history : List Entry) (f f' : ℕ) (actor : Actor) (text : Body) (a a' : List ℕ) → f < 2 ^ 64 → f' < 2 ^ 64 → is_spoken actor text ≡ true → (p : ℕ) → actor ≡ Probe p
     → laid (seen_words script history f text) a ≡ laid (seen_words script history f' text) a' → f ≡ f'

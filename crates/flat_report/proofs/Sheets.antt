@@ -53,6 +53,11 @@ pub laid-same : (ws : List Word) (a b : List ℕ) → laid ws a ≡ laid ws b �
 laid-same [] a b is = behind-one 10 a b is
 laid-same (w ∷ ws) a b is = laid-same ws a b (append_cancel_left w (laid ws a) (laid ws b) (behind-one 32 _ _ is))
 
+-- what stands behind the same words of a line is the same
+pub behind-words : (us ws vs : List Word) (a b : List ℕ) → laid (us ++ ws) a ≡ laid (us ++ vs) b → laid ws a ≡ laid vs b
+behind-words [] ws vs a b is = is
+behind-words (u ∷ us) ws vs a b is = behind-words us ws vs a b (append_cancel_left u (laid (us ++ ws) a) (laid (us ++ vs) b) (behind-one 32 _ _ is))
+
 pub line-same : (words : List Word) (a b : List ℕ) → line_on words a ≡ line_on words b → a ≡ b
 line-same [] a b is = behind-one 10 a b is
 line-same (w ∷ ws) a b is = laid-same ws a b (append_cancel_left w (laid ws a) (laid ws b) is)
@@ -67,9 +72,9 @@ sheet-same (words ∷ lines) a b is = sheet-same lines a b (line-same words (she
 abbrev pub is_word : Word → Bool
 is_word w = list_all (nat_lt 32) w
 
-and-first : (a b : Bool) → (a && b) ≡ true → (a ≡ true) × (b ≡ true)
-and-first true b is = (refl, is)
-and-first false b is = absurd (cc)
+pub and-both : (a b : Bool) → (a && b) ≡ true → (a ≡ true) × (b ≡ true)
+and-both true b is = (refl, is)
+and-both false b is = absurd (cc)
 
 split-differs : (b c : ℕ) → nat_lt 32 b ≡ true → nat_lt 32 c ≡ false → b ≡ c → ⊥
 split-differs b c high low is = cc
@@ -81,12 +86,12 @@ word-told : (w v : Word) (c d : ℕ) (xs ys : List ℕ) → is_word w ≡ true �
     → w ++ c ∷ xs ≡ v ++ d ∷ ys → (w ≡ v) × (c ∷ xs ≡ d ∷ ys)
 word-told [] [] c d xs ys of_w of_v low_c low_d is = (refl, is)
 word-told [] (b ∷ v) c d xs ys of_w of_v low_c low_d is =
-    absurd (split-differs b c (and-first (nat_lt 32 b) (is_word v) of_v).0 low_c (sym (heads c b xs (v ++ d ∷ ys) is).0))
+    absurd (split-differs b c (and-both (nat_lt 32 b) (is_word v) of_v).0 low_c (sym (heads c b xs (v ++ d ∷ ys) is).0))
 word-told (b ∷ w) [] c d xs ys of_w of_v low_c low_d is =
-    absurd (split-differs b d (and-first (nat_lt 32 b) (is_word w) of_w).0 low_d (heads b d (w ++ c ∷ xs) ys is).0)
+    absurd (split-differs b d (and-both (nat_lt 32 b) (is_word w) of_w).0 low_d (heads b d (w ++ c ∷ xs) ys is).0)
 word-told (a ∷ w) (b ∷ v) c d xs ys of_w of_v low_c low_d is =
     let first = heads a b (w ++ c ∷ xs) (v ++ d ∷ ys) is in
-    let later = word-told w v c d xs ys (and-first (nat_lt 32 a) (is_word w) of_w).1 (and-first (nat_lt 32 b) (is_word v) of_v).1 low_c low_d first.1 in
+    let later = word-told w v c d xs ys (and-both (nat_lt 32 a) (is_word w) of_w).1 (and-both (nat_lt 32 b) (is_word v) of_v).1 low_c low_d first.1 in
     (ap (λ x. x ∷ w) first.0 ∙ ap (λ t. b ∷ t) later.0, later.1)
 
 -- the first words of two lines that begin the same text
@@ -133,8 +138,8 @@ number-digits n = digits-onto 64 n [] refl
 digits-word : (xs : List ℕ) → list_all is_digit xs ≡ true → is_word xs ≡ true
 digits-word [] fine = refl
 digits-word (c ∷ xs) fine =
-    let parts = and-first (is_digit c) (list_all is_digit xs) fine in
-    both (nat_lt 32 c) (is_word xs) (high c (and-first (nat_le 48 c) (nat_le c 57) parts.0).0) (digits-word xs parts.1)
+    let parts = and-both (is_digit c) (list_all is_digit xs) fine in
+    both (nat_lt 32 c) (is_word xs) (high c (and-both (nat_le 48 c) (nat_le c 57) parts.0).0) (digits-word xs parts.1)
   where
     high : (c : ℕ) → nat_le 48 c ≡ true → nat_lt 32 c ≡ true
     high c fine = grind (arith, nat_tests)

@@ -1,5 +1,5 @@
 -- A script, the entries before, and whose turn it is determine the next entry.
-use Rattle.std.proofs.Common.{◌≡◌, ℕ, zero, suc, ◌<◌, ◌≤◌, ◌&&◌, nat_le, Bool, true, false, cond, List, [], ◌∷◌, ◌++◌, refl, subst, sym, ◌∙◌, arith}
+use Rattle.std.proofs.Common.{◌≡◌, ℕ, zero, suc, ◌<◌, ◌≤◌, nat_le, Bool, true, false, cond, List, [], ◌∷◌, ◌++◌, refl, subst, sym, ◌∙◌, arith}
 use Rattle.std.specs.List.{AllByRecursion}
 use Rattle.std.proofs.lemmas.Bool.Decides.{nat_tests}
 use Rattle.flat_base.specs.declared.ids.Actor.{Actor}
@@ -16,6 +16,7 @@ use Rattle.flat_scene.specs.Interleave.{Follows, FollowsDisplay, IsFirstLine, Is
 use Rattle.flat_scene.specs.Setups.{is_declared}
 use Rattle.flat_core.specs.Legal.{Legal, may_act, session_may}
 use Rattle.flat_core.proofs.Locality.{same-number}
+use Rattle.flat_report.proofs.Sheets.{and-both}
 use Rattle.flat_report.proofs.Tails.{onto}
 
 -- ---- the sessions that are declared
@@ -44,10 +45,6 @@ pub record Stands (setup : Setup) (count : ℕ) (lines : List ScriptLine) (histo
 same-entry : (e e' : Entry) → e.actor ≡ e'.actor → e.line ≡ e'.line → e.calls ≡ e'.calls → e.kind ≡ e'.kind → e.reply ≡ e'.reply → e ≡ e'
 same-entry e e' actor line calls kind reply =
     λ i. record { actor = actor i; line = line i; calls = calls i; kind = kind i; reply = reply i }
-
-and-parts : (a b : Bool) → (a && b) ≡ true → (a ≡ true) × (b ≡ true)
-and-parts true b is = (refl, is)
-and-parts false b is = absurd (cc)
 
 module _ (setup : Setup) (count : ℕ) (lines : List ScriptLine) where
   pub stands : (history : List Entry) → Legal setup history → Interleaves setup count lines history → Stands setup count lines history
@@ -90,7 +87,7 @@ module _ (setup : Setup) (count : ℕ) (lines : List ScriptLine) where
   determined (Session s) before e e' is is' acts follows follows' =
       let own_e : is_session s e.actor ≡ true = rw is (same-number s.0) in
       let own_e' : is_session s e'.actor ≡ true = rw is' (same-number s.0) in
-      let declared : is_declared setup s ≡ true = (and-parts (session_may e.kind) (is_declared setup s) (acts-at (Session s) e is acts)).1 in
+      let declared : is_declared setup s ≡ true = (and-both (session_may e.kind) (is_declared setup s) (acts-at (Session s) e is acts)).1 in
       same-next (next_of setup count (own s before) (session_lines s lines)) e e' (session-next s before e own_e (follows.sessions s declared)) (session-next s before e' own_e' (follows'.sessions s declared))
   determined Display before e e' is is' acts follows follows' =
       same-first (unread_lines (by_display before) (display_lines lines)) e e' (display-next before e is follows.display) (display-next before e' is' follows'.display)

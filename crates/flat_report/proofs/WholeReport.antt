@@ -13,11 +13,10 @@ use Rattle.flat_report.specs.Words.{Word, number}
 use Rattle.flat_report.proofs.Determined.{Tells, later-told}
 use Rattle.flat_report.proofs.FewFrames.{few-frames}
 use Rattle.flat_report.proofs.Losses.{losses-same}
-use Rattle.flat_report.proofs.Named.{and-both}
 use Rattle.flat_report.proofs.Openings.{NoEntry, NoLoss, end-no-entry, end-no-loss}
 use Rattle.flat_report.proofs.Reading.{Kept, read-kept}
 use Rattle.flat_report.proofs.SeenTold.{probe-lines-are, seen-no-entry, seen-no-loss, seen-told}
-use Rattle.flat_report.proofs.Sheets.{line_on, sheet, sheet-append, line-same, text-is}
+use Rattle.flat_report.proofs.Sheets.{and-both, line_on, sheet, sheet-append, line-same, text-is}
 use Rattle.flat_report.proofs.Tails.{onto, onto-reverse, tail, grows}
 use Rattle.flat_report.proofs.Turns.{Stands, stands}
 
