@@ -1,5 +1,5 @@
 -- The reports of worked cases of the same names, computed line by line.
-use Rattle.std.proofs.Common.{◌≡◌, List, [], ◌∷◌, refl}
+use Rattle.std.proofs.Common.{◌≡◌, [], ◌∷◌, refl}
 use Rattle.std.specs.Prelude.{map, codes}
 use Rattle.std.specs.Fmt.{digits}
 use Rattle.flat_script.specs.declared.script.Script.{Script}

@@ -1,4 +1,14 @@
+pub mod Determined
 pub mod Examples
+pub mod FewFrames
+pub mod Losses
+pub mod Named
+pub mod Openings
 pub mod PageLemmas
+pub mod Reading
+pub mod SeenTold
+pub mod Sheets
 pub mod Tails
+pub mod Turns
+pub mod WholeReport
 pub mod Written

@@ -1,10 +1,9 @@
 -- Pages written one after another.
-use Rattle.std.proofs.Common.{◌≡◌, ℕ, List, [], ◌∷◌, ◌++◌, refl, sym, ap, ◌∙◌, subst, append_assoc, append-nil, take, ◌<◌, length, get_or, map, ◌+◌, arith, length-append, length-take}
+use Rattle.std.proofs.Common.{◌≡◌, ℕ, List, [], ◌∷◌, ◌++◌, refl, sym, ap, ◌∙◌, subst, append_assoc, append-nil, take, ◌<◌, length, get_or, map, ◌+◌}
 use Rattle.std.specs.List.{flat_map}
 use Rattle.std.proofs.lemmas.List.{take_more, map-append}
 use Rattle.std.proofs.lemmas.Grind.{flat_map-append}
 use Rattle.flat_report.specs.declared.page.Page.{Page}
-use Rattle.flat_report.specs.declared.page.Page.TheVariants.{Count, Text}
 use Rattle.flat_report.specs.Words.{Word, spaced, text_of, line_of}
 use Rattle.flat_report.specs.Pages.{IsText, Puts, Writes, WritesLines}
 

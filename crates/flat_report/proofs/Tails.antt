@@ -1,9 +1,8 @@
 -- What is said of the entries after some others.
-use Rattle.std.proofs.Common.{◌≡◌, ℕ, zero, suc, ℤ, ◌+◌, ◌<◌, ◌≤◌, Bool, true, false, ◌==◌, cond, List, [], ◌∷◌, ◌++◌, length, reverse, map, take, drop, take_while, get_or, refl, sym, ap, ◌∙◌, subst, append_assoc, append-nil, arith, length-append}
+use Rattle.std.proofs.Common.{◌≡◌, ℕ, suc, ℤ, ◌+◌, ◌<◌, Bool, true, false, ◌==◌, cond, List, [], ◌∷◌, ◌++◌, length, reverse, map, take, drop, take_while, get_or, refl, sym, ap, ◌∙◌, append_assoc, append-nil, arith}
 use Rattle.std.proofs.lemmas.Bool.Decides.{nat_tests}
-use Rattle.std.proofs.lemmas.List.{take_more, map-append, reverse-append}
+use Rattle.std.proofs.lemmas.List.{take_more, reverse-append}
 use Rattle.std.proofs.lemmas.List.Sums.{take_while-cons}
-use Rattle.flat_base.specs.declared.ids.SessionNo.{SessionNo}
 use Rattle.flat_scene.specs.declared.frames.FrameOut.{FrameOut}
 use Rattle.flat_scene.specs.declared.frames.Hit.{Hit}
 use Rattle.flat_scene.specs.declared.frames.Lost.{Lost}
@@ -16,13 +15,13 @@ use Rattle.flat_scene.specs.declared.setup.Setup.{Setup}
 use Rattle.flat_scene.specs.History.{◌▹◌, is_finish}
 use Rattle.flat_core.specs.Ends.{to_begin, to_finished}
 use Rattle.flat_core.specs.Legal.{frames}
-use Rattle.flat_core.specs.Posts.{Sent, posted, posts}
+use Rattle.flat_core.specs.Posts.{Sent, posted}
 use Rattle.flat_script.specs.declared.script.Script.{Script}
 use Rattle.flat_report.specs.declared.report.HitAnswer.{HitAnswer}
-use Rattle.flat_report.specs.EntryLines.{point_words, answer_words, said_words, entry_line, event_line}
-use Rattle.flat_report.specs.Handed.{answer_to, answers_of, post_line, first_hits, first_frame_lines, frames_after, is_hit, answers_after, handed_lines}
-use Rattle.flat_report.specs.Report.{frame_at, finished, hits_at, lost_at, shown_lines, entry_lines, history_lines}
-use Rattle.flat_report.specs.Words.{Word, number, actor_name}
+use Rattle.flat_report.specs.EntryLines.{point_words, said_words, entry_line, event_line}
+use Rattle.flat_report.specs.Handed.{answer_to, post_line, first_hits, first_frame_lines, frames_after, answers_after, handed_lines}
+use Rattle.flat_report.specs.Report.{frame_at, hits_at, shown_lines, entry_lines}
+use Rattle.flat_report.specs.Words.{number, actor_name}
 
 -- ---- histories, from the oldest entry on
 

@@ -1,8 +1,8 @@
 -- The report, entry by entry.
-use Rattle.std.proofs.Common.{◌≡◌, ◌≤◌, ◌<◌, ◌^◌, ℕ, suc, ◌+◌, cond, Bool, true, false, ◌==◌, List, [], ◌∷◌, ◌++◌, filter, take, take_while, drop, length, reverse, get_or, refl, sym, ap, ◌∙◌, subst, arith, append-nil, append_assoc, add-one, length-take, length-append, codes, map}
+use Rattle.std.proofs.Common.{◌≡◌, ◌≤◌, ◌<◌, ◌^◌, ℕ, suc, ◌+◌, cond, Bool, true, false, ◌==◌, List, [], ◌∷◌, ◌++◌, filter, take, take_while, drop, length, reverse, get_or, refl, sym, ap, ◌∙◌, subst, arith, append-nil, add-one, length-take, length-append, codes, map}
 use Rattle.std.specs.List.{flat_map, zip}
 use Rattle.std.proofs.Math.Seq.{drop-cons, take-append_seam, drop-append_seam}
-use Rattle.std.proofs.lemmas.List.{take_all, length-take-le, length-reverse}
+use Rattle.std.proofs.lemmas.List.{take_all, length-reverse}
 use Rattle.flat_scene.specs.declared.frames.FrameOut.{FrameOut}
 use Rattle.flat_scene.specs.declared.frames.Lost.{Lost}
 use Rattle.flat_scene.specs.declared.journal.Entry.{Entry}

@@ -1,5 +1,5 @@
 -- The lines of a frame's parts.
-use Rattle.std.specs.Prelude.{ℕ, ℤ, pos, cond, List, [], ◌∷◌, ◌++◌, map, slice_index, Option, Some, None, codes}
+use Rattle.std.specs.Prelude.{ℕ, pos, cond, List, [], ◌∷◌, ◌++◌, map, slice_index, Option, Some, None, codes}
 use Rattle.flat_base.specs.declared.ids.SessionNo.{SessionNo}
 use Rattle.flat_base.specs.declared.shapes.Rect.{Rect}
 use Rattle.flat_scene.specs.declared.calls.BlendMode.{BlendMode}

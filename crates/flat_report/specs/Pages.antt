@@ -1,5 +1,5 @@
 -- What stands on a page.
-use Rattle.std.specs.Prelude.{◌≡◌, ◌≤◌, ℕ, Bool, true, false, List, [], ◌∷◌, ◌++◌, length, vec_capacity, ⊤}
+use Rattle.std.specs.Prelude.{◌≡◌, ◌≤◌, ℕ, Bool, true, false, List, ◌++◌, length, vec_capacity, ⊤}
 use Rattle.flat_report.specs.declared.page.Page.{Page}
 use Rattle.flat_report.specs.declared.page.Page.TheVariants.{Count, Text}
 use Rattle.flat_report.specs.Words.{Word, spaced, text_of}

@@ -4,10 +4,12 @@
 mod entry_lines;
 mod entry_words;
 mod frame_words;
+mod laws;
 mod names;
 mod page;
 mod report;
 #[cfg(test)]
 mod tests;
 
+pub use laws::reports_determine_histories;
 pub use report::{HitAnswer, HitAnswers, print_report};

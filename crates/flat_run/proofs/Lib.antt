@@ -8,6 +8,7 @@ pub mod Entering
 pub mod GameSteps
 pub mod InOrder
 pub mod Judging
+pub mod OneHistory
 pub mod Places
 pub mod Reading
 pub mod Reporting

@@ -2,6 +2,7 @@
 #![tactic(auto)]
 
 mod game;
+mod laws;
 mod made;
 mod player;
 mod run;
@@ -9,5 +10,6 @@ mod run;
 mod tests;
 mod top;
 
+pub use laws::plays_have_one_history;
 pub use made::Made;
 pub use top::flatland;

@@ -1,4 +1,4 @@
-use Rattle.std.proofs.Common.{◌≡◌, ◌<◌, ◌^◌, ℕ, length, arith, refl, subst, sym, ap, ◌∙◌, List, get_or}
+use Rattle.std.proofs.Common.{◌≡◌, ◌<◌, ◌^◌, length, arith, ap, ◌∙◌, List, get_or}
 use Rattle.flat_scene.specs.declared.journal.Entry.{Entry}
 use Rattle.flat_report.proofs.Written.{written_first, written_next, written_all}
 use Rattle.flat_report.proofs.report.push_history.Goals as goal

@@ -1,5 +1,4 @@
-use Rattle.std.proofs.Common.{◌≡◌, ℕ, List, [], ◌∷◌, ◌++◌, length, reverse, map, codes, ap, sym, ◌∙◌, refl}
-use Rattle.std.specs.List.{flat_map, zip}
+use Rattle.std.proofs.Common.{length, ap, refl}
 use Rattle.flat_scene.specs.declared.journal.Entry.{Entry}
 use Rattle.flat_report.proofs.Written.{all_lines}
 use Rattle.flat_report.proofs.report.push_report.Goals as goal

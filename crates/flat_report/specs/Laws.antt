@@ -1,0 +1,25 @@
+-- What a report says of the run: all of it.
+use Rattle.std.specs.Prelude.{◌≡◌, ◌^◌, ℕ, nat_lt, IsTrue, List}
+use Rattle.std.specs.List.{list_all}
+use Rattle.flat_scene.specs.declared.frames.Lost.{Lost}
+use Rattle.flat_scene.specs.declared.journal.Entry.{Entry}
+use Rattle.flat_scene.specs.Interleave.{Interleaves}
+use Rattle.flat_core.specs.Legal.{Legal}
+use Rattle.flat_script.specs.declared.script.Script.{Script}
+use Rattle.flat_script.specs.Grammar.{IsScript}
+use Rattle.flat_report.specs.Report.{report, is_loss, is_seeing}
+
+-- What may be reported of a script: a legal history that interleaves its actors, displays lost at finished frames, and frames seen by its probes' lines.
+-- The numbers of displays are of 32 bits, since a number is written with 64 digits at most.
+pub record IsRun (script : Script) (history : List Entry) (lost : List Lost) (seen : List ℕ) : Type 0 where
+  pub legal : Legal script.setup history
+  pub interleaves : Interleaves script.setup script.count script.lines history
+  pub loss : IsTrue (is_loss history lost)
+  pub numbered : IsTrue (list_all (λ one. nat_lt one.display (2 ^ 32)) lost)
+  pub seeing : IsTrue (is_seeing script history seen)
+
+-- two runs of a script that is read from a text, with the same report, are one
+abbrev pub ReportsDetermineHistories : Type 0
+ReportsDetermineHistories = (bytes : List ℕ) (script : Script) → IsScript bytes script
+    → (history history' : List Entry) (lost lost' : List Lost) (seen seen' : List ℕ) → IsRun script history lost seen → IsRun script history' lost' seen'
+    → report script history lost seen ≡ report script history' lost' seen' → (history ≡ history') × (lost ≡ lost') × (seen ≡ seen')
