@@ -11,7 +11,7 @@ use Rattle.flat_scene.specs.declared.journal.Kind.TheVariants as kind
 use Rattle.flat_core.specs.Boards.{Machine, present_of}
 use Rattle.flat_core.specs.Shown.{tree_of}
 use Rattle.flat_core.specs.Watch.{watcher_of}
-use Rattle.flat_core.specs.Gets.{watcher_meant}
+use Rattle.flat_core.specs.Watchers.{watcher_meant}
 use Rattle.flat_run.specs.declared.made.Made.{Made}
 use Rattle.flat_run.specs.declared.made.Made.TheVariants as made
 
