@@ -279,7 +279,7 @@ module _ (setup : Setup) (old : List Entry) (last : LastFrame) (answers : List H
       record {
         number = stands.number;
         joining = stands.joining;
-        answering = is ∙ ap (λ (as : List HitAnswer). as ++ one last.frame (hits_among last.joined.nodes x y)) stands.answering
+        answering = is ∙ ap (λ (given : List HitAnswer). given ++ one last.frame (hits_among last.joined.nodes x y)) stands.answering
             ∙ ap (λ (f : FrameNo). answers_of setup old ++ one f (hits_among last.joined.nodes x y)) number ∙ ap (λ (hs : List point.Hit). answers_of setup old ++ one (record { 0 = frames old }) hs) hits;
       }
 

@@ -1,5 +1,5 @@
 -- How the sessions end.
-use Rattle.std.proofs.Common.{◌≡◌, ◌≢◌, ℕ, ℤ, zero, suc, ◌+◌, ◌<◌, ◌≤◌, Bool, true, false, cond, ◌==◌, nat_lt, nat_le, List, [], ◌∷◌, ◌++◌, length, drop, map, reverse, get_or, set, refl, sym, ap, ◌∙◌, subst, arith, add-one, append-nil, append_assoc, get_or-set_other}
+use Rattle.std.proofs.Common.{◌≡◌, ◌≢◌, ℕ, zero, suc, ◌+◌, ◌<◌, ◌≤◌, Bool, true, false, cond, ◌==◌, nat_lt, nat_le, List, [], ◌∷◌, ◌++◌, length, drop, map, reverse, get_or, set, refl, sym, ap, ◌∙◌, subst, arith, add-one, append-nil, append_assoc, get_or-set_other}
 use Rattle.std.specs.List.{list_any, list_all, AllByRecursion}
 use Rattle.flat_playable.specs.Playable.{is_private}
 use Rattle.std.proofs.lemmas.List.{length-set, map-append, reverse-append}
@@ -9,11 +9,8 @@ use Rattle.std.proofs.lemmas.Grind.{common_steps}
 use Rattle.flat_base.specs.declared.ids.Actor.TheVariants.{Session}
 use Rattle.flat_base.specs.declared.ids.SessionNo.{SessionNo}
 use Rattle.flat_scene.specs.declared.calls.Call.{Call}
-use Rattle.flat_scene.specs.declared.frames.Hit.{Hit}
 use Rattle.flat_scene.specs.declared.journal.Entry.{Entry}
-use Rattle.flat_scene.specs.declared.journal.Kind.{Kind}
 use Rattle.flat_scene.specs.declared.journal.Kind.TheVariants.{End}
-use Rattle.flat_scene.specs.declared.journal.Kind.TheVariants as kind
 use Rattle.flat_scene.specs.declared.journal.Reply.TheVariants.{Done}
 use Rattle.flat_scene.specs.declared.setup.Setup.{Setup}
 use Rattle.flat_scene.specs.Effect.{draft_of}
@@ -22,10 +19,8 @@ use Rattle.flat_scene.specs.History.{◌▹◌, own, is_end, closes, calls}
 use Rattle.flat_scene.specs.Interleave.{Next, IsNext, next_of, next_from, session_lines, display_lines, Follows, IsReading}
 use Rattle.flat_scene.specs.Setups.{is_declared}
 use Rattle.flat_core.specs.Boards.{Machine, HasShare, MayCall, entered, entry_of, made}
-use Rattle.flat_core.specs.Ends.{to_finished}
-use Rattle.flat_core.specs.Legal.{frames}
 use Rattle.flat_report.specs.Handed.{answers_of}
-use Rattle.flat_report.specs.Report.{finished, hits_at}
+use Rattle.flat_report.specs.Report.{finished}
 use Rattle.flat_script.specs.declared.script.Script.{Script}
 use Rattle.flat_run.specs.declared.game.Game.{Game}
 use Rattle.flat_run.specs.declared.player.Player.{Player}
@@ -33,7 +28,7 @@ use Rattle.flat_run.specs.Playing.{lines_by, lines_left, IsOpenAt, IsClosedAt, P
 use Rattle.flat_run.proofs.Entering.{IsWaiting, may_end, may_end_closed}
 use Rattle.flat_run.proofs.GameSteps.{has_room, not_same}
 use Rattle.flat_run.proofs.Starting.{sessions_more}
-use Rattle.flat_run.proofs.Conditions.{and_true, or_left, or_right}
+use Rattle.flat_run.proofs.Conditions.{and_true}
 
 drop_all : {A : Type 0} (xs : List A) → drop (length xs) xs ≡ []
 drop_all [] = refl

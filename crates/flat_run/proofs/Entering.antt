@@ -174,12 +174,12 @@ same_viewport p props = rw (eq-eqb p.0 p.0 refl, eq-eqb props.w props.w refl, eq
 
 -- ---- which watcher a get means
 
-watched_in : (before : List Entry) (draft : Draft) (get : Watch) (pair : PairNo) → pair_watched draft get ≡ Some pair → watcher_in before draft get ≡ Some (watcher_meant before get pair)
-watched_in before draft watch.Layout pair is = ap (option_map layout_of) is
-watched_in before draft watch.Status pair is = ap (option_map status_of) is
-watched_in before draft (watch.Child c) pair is = by_made (made_of draft c) is
+watched_in : (setup : Setup) (before : List Entry) (draft : Draft) (get : Watch) (pair : PairNo) → pair_watched draft get ≡ Some pair → watcher_in setup before draft get ≡ Some (watcher_meant before get pair)
+watched_in setup before draft watch.Layout pair is = ap (option_map layout_of) is
+watched_in setup before draft watch.Status pair is = ap (option_map status_of) is
+watched_in setup before draft (watch.Child c) pair is = by_made (made_of draft c) is
   where
-    by_made : (made : Option Made) → option_and_then pair_of made ≡ Some pair → option_and_then (watcher_of_made before) made ≡ Some (child_of pair (length (viewport_uses pair before)))
+    by_made : (made : Option Made) → option_and_then pair_of made ≡ Some pair → option_and_then (watcher_of_made setup before) made ≡ Some (child_of pair (length (viewport_uses pair before)))
     by_made None none = cc
     by_made (Some (a_viewport q props)) some = let same : q ≡ pair = cc in ap (λ (p : PairNo). Some (child_of p (length (viewport_uses p before)))) same
     by_made (Some (an_image image)) none = cc
@@ -187,7 +187,7 @@ watched_in before draft (watch.Child c) pair is = by_made (made_of draft c) is
 
 pub get_meant : (m : Machine) (s : SessionNo) (pending : List Call) (draft : Draft) → draft_of m.setup (calls s m.history ++ pending) ≡ Ok draft → (get : Watch) (pair : PairNo) → pair_watched draft get ≡ Some pair
     → watcher_of m.setup m.history (Session s) pending get ≡ Some (watcher_meant m.history get pair)
-get_meant m s pending draft made get pair meant = ap (λ r. option_and_then (λ d. watcher_in m.history d get) (result_ok r)) made ∙ watched_in m.history draft get pair meant
+get_meant m s pending draft made get pair meant = ap (λ r. option_and_then (λ d. watcher_in m.setup m.history d get) (result_ok r)) made ∙ watched_in m.setup m.history draft get pair meant
 
 -- ---- what may be entered
 

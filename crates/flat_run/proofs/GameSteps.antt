@@ -35,7 +35,7 @@ use Rattle.flat_report.specs.Report.{frame_at, hits_at}
 use Rattle.flat_script.specs.declared.script.Script.{Script}
 use Rattle.flat_run.specs.declared.game.Game.{Game}
 use Rattle.flat_run.specs.declared.player.Player.{Player}
-use Rattle.flat_playable.specs.Playable.{is_played, is_played_display, keeps_frames}
+use Rattle.flat_playable.specs.Playable.{is_played, keeps_frames}
 use Rattle.flat_run.specs.Playing.{IsSpent, lines_by, shares_of, Grows, grows, stays, is_quiet, PlayerStands, PlayersStand, DisplayStands, FramesStand, GameStands, BeginsFrame, FinishesFrame, EntersBeside, AsksPoint, AnswersStand, HasViews, session_text, display_text}
 use Rattle.flat_run.proofs.DisplaySteps.{QuietStep, quiet_begin, quiet_finish, quiet_end, quiet_answers, answers_session, answers_beside, answers_done, answers_point, display_session, display_begin, display_done, display_beside, display_share, begin_time_ok, done_ok, may_begin, may_finish, frames_session, frames_beside, frames_begin, frames_done}
 use Rattle.flat_run.proofs.DisplaySteps as quiet
@@ -218,7 +218,7 @@ module _ (script : Script) (place : ℕ) (x : ScriptLine) (at : At script place 
         views = subst V (sym finishes.with_view) stands.views;
         shows = subst F (sym grown) (rw (finishes.shown, finishes.with_view)
             (frames_done script.setup h old.shown old.with_view old.frames.items stands.shows x.number new.frames.items _ finishes.kept frame));
-        answers = rw (grown, finishes.answers) (answers_done script.setup h old.last old.answers stands.answers x.number new.last (finishes.number ∙ number)
+        answers = rw (grown, finishes.answers) (answers_done script.setup h old.last old.answers stands.answers x.number new.last (finishes.shows ∙ number)
             (finishes.joined ∙ ap (λ st. joined_lists st old.shown) stands.setup ∙ ap (joined_lists script.setup) stands.shows.showing));
       }
 

@@ -6,6 +6,7 @@ use Rattle.flat_scene.specs.Setups.{is_within_limits, owners_declared}
 use Rattle.flat_core.specs.Boards.{Machine}
 use Rattle.flat_core.specs.Legal.{Legal}
 use Rattle.flat_core.specs.Local.{FamiliesAreAlone}
+use Rattle.flat_report.specs.declared.report.HitAnswer.{HitAnswer}
 use Rattle.flat_report.specs.Report.{report}
 use Rattle.flat_script.specs.declared.script.Script.{Script}
 use Rattle.flat_playable.specs.Playable.{is_playable}
@@ -23,9 +24,9 @@ owners_are : (script : Script) → is_playable script ≡ true → owners_declar
 owners_are script playable = and_right (is_within_limits script.setup) (owners_declared script.setup) (and_left _ _ (setup_is script playable))
 
 -- the report of a run that was played to its end
-pub reported : (script : Script) (board : Machine) (frames : List FrameOut) (text : List ℕ) → is_playable script ≡ true → HasPlayed script board frames → FamiliesAreAlone → Legal board.setup board.history
+pub reported : (script : Script) (board : Machine) (frames : List FrameOut) (answers : List HitAnswer) (text : List ℕ) → is_playable script ≡ true → HasPlayed script board frames answers → FamiliesAreAlone → Legal board.setup board.history
     → text ≡ report script board.history [] [] → Reports script text
-reported script board frames text playable played alone legal is =
+reported script board frames answers text playable played alone legal is =
     let L : Setup → Type 0 = λ st. Legal st board.history in
     let legal_here : L script.setup = subst L played.setup legal in
     record {

@@ -21,6 +21,8 @@ use Rattle.flat_scene.specs.Setups.{is_setup, is_within_limits}
 use Rattle.flat_core.proofs.ShownList.{length-listed, nothing-shown}
 use Rattle.flat_core.specs.Boards.{Machine}
 use Rattle.flat_core.specs.Ends.{has_view, views_of}
+use Rattle.flat_topology.specs.Connected.{joined_lists}
+use Rattle.flat_report.specs.declared.report.HitAnswer.{HitAnswer}
 use Rattle.flat_topology.specs.Shown.{Shown}
 use Rattle.flat_topology.specs.Views.{is_member}
 use Rattle.flat_draft.specs.Laws.{EmptyStands}
@@ -28,7 +30,10 @@ use Rattle.flat_script.specs.declared.script.Script.{Script}
 use Rattle.flat_playable.specs.Playable.{rise_from, is_playable}
 use Rattle.flat_run.specs.declared.game.Game.{Game}
 use Rattle.flat_run.specs.declared.player.Player.{Player}
-use Rattle.flat_run.specs.Playing.{lines_by, rest_shares, shares_of, first_player, PlayerStands, PlayersStand, DisplayStands, IsInOrder, IsSpent, FramesStand, GameStands}
+use Rattle.flat_topology.specs.Fit.{FitsSetup}
+use Rattle.flat_core.proofs.ShownFits.{begun-fits}
+use Rattle.flat_run.specs.declared.game.LastFrame.{LastFrame}
+use Rattle.flat_run.specs.Playing.{AnswersStand, lines_by, rest_shares, shares_of, first_player, PlayerStands, PlayersStand, DisplayStands, IsInOrder, IsSpent, FramesStand, GameStands}
 use Rattle.flat_run.proofs.Places.{few_lines, rises, counted, frames_are, setup_is, session_numbered}
 use Rattle.flat_run.proofs.DisplaySteps.{display_numbered}
 use Rattle.flat_run.proofs.Conditions.{and_left, and_right}
@@ -201,6 +206,10 @@ first_shown setup shown views shown_frames count none all nothing = record {
   viewing = λ s declared. no_members views all s.0 ∙ sym (no_view setup s);
   finishing = nothing;
 }
+
+-- what shows nothing fits
+pub nothing_fits : (setup : Setup) (shown : Shown) → length shown ≡ setup.sessions → All (λ state. state ≡ None) shown → FitsSetup setup shown
+nothing_fits setup shown count none = subst (FitsSetup setup) (sym (nothing-shown setup shown count none)) (begun-fits setup [] tt)
 
 -- nothing is shown, and no frame is finished
 pub first_answers : (setup : Setup) (shown : Shown) (last : LastFrame) (answers : List HitAnswer) → length shown ≡ setup.sessions → All (λ state. state ≡ None) shown → last.frame.0 ≡ 0 → last.joined ≡ joined_lists setup shown → answers ≡ []

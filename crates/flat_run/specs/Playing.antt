@@ -221,7 +221,7 @@ pub record FinishesFrame (old new : Game) (number : ℕ) : Type 0 where
   pub with_view : new.with_view ≡ old.with_view
   pub players : new.players ≡ old.players
   pub kept : new.frames.items ≡ old.frames.items ++ frame_at old.board.setup (frames new.board.history) (to_begin old.board.history) ∷ []
-  pub number : new.last.frame.0 ≡ frames new.board.history
+  pub shows : new.last.frame.0 ≡ frames new.board.history
   pub joined : new.last.joined ≡ joined_lists old.board.setup old.shown
   pub answers : new.answers ≡ old.answers
 

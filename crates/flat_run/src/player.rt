@@ -41,7 +41,11 @@ fn made_by(call: &Call) -> Option<Made>
     match call {
         Call::CreateView { pair } => Some(Made::View(*pair)),
         Call::CreateViewport {
-            pair, w, h, inset, ..
+            pair,
+            w,
+            h,
+            inset,
+            ..
         } => {
             let props = ViewportProps {
                 w: *w,
@@ -152,8 +156,17 @@ impl Player {
             Line::Poll => Ok(Some(Made::Poll)),
             Line::Wait(c) => Ok(Some(Made::Wait(*c))),
             Line::Disconnect => Ok(Some(Made::Close(None))),
-            Line::Get(get) => asked(&mut self.draft, *get),
+            Line::Get(get) => self.judge_get(*get),
         }
+    }
+
+    fn judge_get(&mut self, get: Watch) -> Result<Option<Made>, NoMemory>
+        requires stands { HasDraft self.old.draft }
+        requires opened { self.old.draft.closed ≡ false }
+        ensures { (setup : Setup) (before : scene.Draft) → StandsFor setup self.old.draft before → IfOk result (Judges setup before (line.Get get) self.old self.new) }
+    {
+        let made = asked(&mut self.draft, get)?;
+        Ok(made)
     }
 
     fn judge_call(&mut self, alloc: Global, call: &Call) -> Result<Option<Made>, NoMemory>

@@ -1,5 +1,8 @@
-use Rattle.std.proofs.Common.{◌≡◌, true, false, sym, ◌∙◌, subst, Err, Ok, Result}
-use Rattle.flat_base.specs.declared.ids.PairNo.{PairNo}
+use Rattle.std.proofs.Common.{◌≡◌, true, false, sym, ◌∙◌, subst, Err, Some}
+use Rattle.flat_base.specs.declared.errors.Reason.{Reason}
+use Rattle.flat_scene.specs.declared.journal.Kind.TheVariants.{Close}
+use Rattle.flat_scene.specs.declared.script.Line.TheVariants as line
+use Rattle.flat_scene.specs.Interleave.{entry_of_line}
 use Rattle.flat_draft.specs.declared.fault.DraftFault.{DraftFault}
 use Rattle.flat_draft.specs.declared.fault.DraftFault.TheVariants.{Closed}
 use Rattle.flat_draft.specs.Answers.{IsWatched}
@@ -17,7 +20,8 @@ unreachable-requires c =
 pub returns-in-Err-Bad-clause-kind : goal.returns-in-Err-Bad-clause-kind
 returns-in-Err-Bad-clause-kind c = λ setup before stands.
     let P : DraftFault → Type 0 = λ e. IsWatched before c.args.get c.args.draft.now c.get.new.self (Err e) in
-    get_closes setup before c.args.draft.now c.get.new.self c.args.get c.in-Err-Bad.reason (subst P c.in-Err-Bad.field-0-is (c.in-Err-Bad.ensures.answered setup before stands))
+    let R : Reason → Type 0 = λ reason. Some (Close (Some reason)) ≡ entry_of_line setup before (line.Get c.args.get) in
+    subst R (sym c.in-Err-Bad.reason-is) (get_closes setup before c.args.draft.now c.get.new.self c.args.get c.in-Err-Bad.reason (subst P c.in-Err-Bad.field-0-is (c.in-Err-Bad.ensures.answered setup before stands)))
 
 pub returns-in-Ok-clause-kind : goal.returns-in-Ok-clause-kind
 returns-in-Ok-clause-kind c = λ setup before stands.

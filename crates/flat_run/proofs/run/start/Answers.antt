@@ -3,7 +3,7 @@ use Rattle.flat_scene.specs.declared.setup.Setup.{Setup}
 use Rattle.flat_scene.specs.Setups.{is_within_limits}
 use Rattle.flat_core.specs.Boards.{Machine}
 use Rattle.flat_run.proofs.Places.{setup_is}
-use Rattle.flat_run.proofs.Starting.{few, limits_are, shares_length, shares_small, starts, first_shown}
+use Rattle.flat_run.proofs.Starting.{few, first_answers, nothing_fits, limits_are, shares_length, shares_small, starts, first_shown}
 use Rattle.flat_run.proofs.run.start.Goals as goal
 
 pub shares_of-requires : goal.shares_of-requires
@@ -23,10 +23,14 @@ open-requires-clause-total c =
 pub new_players-requires : goal.new_players-requires
 new_players-requires c = setup_is c.args.script.now c.requires
 
+pub join-requires-clause-fit : goal.join-requires-clause-fit
+join-requires-clause-fit c = nothing_fits c.args.script.now.setup c.in_ok-shown.shown c.in_ok-shown.ensures.size c.in_ok-shown.ensures.none
+
 pub returns : goal.returns
 returns c =
     let script = c.args.script.now in
     let board = c.in_ok-board.ensures ∙ ap (λ s. let m : Machine = record { setup = s; shares = c.in_ok-shares.shares; history = [] } in m) c.in_ok-setup.ensures
     ∙ ap (λ xs. let m : Machine = record { setup = script.setup; shares = xs; history = [] } in m) c.in_ok-shares.ensures in
-    starts script _ c.requires c.draft_laws.ensures.empty_stands board c.in_ok-new_players.ensures.count c.in_ok-new_players.ensures.first
-    (first_shown script.setup _ _ _ c.in_ok-new.ensures.size c.in_ok-new.ensures.none refl c.new-2.ensures.items) refl
+    starts script _ c.requires c.draft_laws.ensures.empty_stands (c.board.view_is ∙ board) c.in_ok-new_players.ensures.count c.in_ok-new_players.ensures.first
+    (first_shown script.setup _ _ _ c.in_ok-shown.ensures.size c.in_ok-shown.ensures.none refl c.new-2.ensures.items) refl
+    (first_answers script.setup _ _ _ c.in_ok-shown.ensures.size c.in_ok-shown.ensures.none refl c.in_ok-joined.ensures.lists c.new-3.ensures)

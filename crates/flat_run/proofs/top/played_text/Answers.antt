@@ -12,5 +12,5 @@ returns c =
     let entries = c.journal-journal.result.now.entries.items in
     if_ok (λ text. text.items ≡ report script (history_of entries) [] []) (λ text. Reports script text.items) c.print_report.result
     (λ text is.
-    reported script game.board game.frames.items text.items c.requires c.in_ok-game.ensures c.families_are_alone.ensures c.journal-journal.ensures.legal
+    reported script game.board game.frames.items game.answers text.items c.requires c.in_ok-game.ensures c.families_are_alone.ensures c.journal-journal.ensures.legal
     (is ∙ ap (λ h. report script h [] []) c.journal-journal.ensures.entries)) c.print_report.ensures

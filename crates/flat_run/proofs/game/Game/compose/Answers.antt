@@ -18,8 +18,11 @@ join-requires-clause-fit c =
     (shown_fits c.args.self.now.board.setup c.args.self.now.board.history c.args.self.now.shown c.args.self.now.with_view (finished c.args.self.now.board.setup c.args.self.now.board.history) c.requires.stands
     c.journal-journal.ensures.legal)
 
-pub returns : goal.returns
-returns c =
+pub returns-clause-frame : goal.returns-clause-frame
+returns-clause-frame c =
     composed c.args.self.now.board.setup c.args.self.now.board.history c.args.self.now.shown c.args.self.now.with_view (finished c.args.self.now.board.setup c.args.self.now.board.history) c.requires.stands
     c.args.number c.in_ok-joined.joined c.in_ok-items.items c.in_ok-tree.tree c.requires.setup c.trees_follow.ensures c.requires.views
     (c.in_ok-joined.ensures.lists ∙ ap (λ s. joined_lists s c.args.self.now.shown) c.setup.ensures) c.in_ok-items.ensures c.in_ok-tree.ensures
+
+pub returns-clause-joined : goal.returns-clause-joined
+returns-clause-joined c = c.in_ok-joined.ensures.lists ∙ ap (λ s. joined_lists s c.args.self.now.shown) c.setup.ensures

@@ -1,4 +1,5 @@
-use Rattle.std.proofs.Common.{◌≡◌, true, refl, sym, ap, subst}
+use Rattle.flat_run.specs.Playing.{AsksPoint}
+use Rattle.std.proofs.Common.{rules, ◌≡◌, true, refl, sym, ap, subst}
 use Rattle.flat_base.specs.declared.ids.Actor.TheVariants.{Display}
 use Rattle.flat_scene.specs.declared.script.Body.TheVariants as body
 use Rattle.flat_scene.specs.declared.script.DisplayLine.{DisplayLine}
@@ -89,5 +90,6 @@ pub returns-in_ok-hit-in-Hit : goal.returns-in_ok-hit-in-Hit
 returns-in_ok-hit-in-Hit c =
     let x : ScriptLine = record { number = c.args.number; actor = Display; body = body.Display c.args.text } in
     let at : At c.args.script.now c.args.place x = at_place c.args.script.now c.args.place x c.requires.playable c.requires.line in
-    let is : x.body ≡ body.Display (display.Hit c.in-Hit.field-0 c.in-Hit.field-1) = ap (λ t. body.Display t) c.in-Hit.is in
-    point_more c.args.script.now c.args.place x at c.args.self.now c.hit.new.self _ _ refl is c.requires.stands c.in_ok-hit-in-Hit.ensures
+    let is : x.body ≡ body.Display (display.Hit c.in-Hit.x c.in-Hit.y) = ap (λ t. body.Display t) c.in-Hit.is in
+    let asks : AsksPoint c.args.self.now c.hit.new.self c.args.number c.in-Hit.x c.in-Hit.y = search rules in
+    point_more c.args.script.now c.args.place x at c.args.self.now c.hit.new.self c.in-Hit.x c.in-Hit.y refl is c.requires.stands asks
