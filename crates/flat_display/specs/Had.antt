@@ -1,6 +1,6 @@
 -- what each display has had after a list of frames was shown to all, one after another
-use Rattle.std.specs.Prelude.{◌≡◌, ⊤, ℕ, suc, ◌≤◌, ◌==◌, Bool, true, not, List, [], ◌∷◌, Option, None, Some, IsTrue}
-use Rattle.std.specs.List.{list_any, take_while}
+use Rattle.std.specs.Prelude.{if◌then◌else◌, ◌≡◌, ⊤, ℕ, suc, ◌≤◌, ◌==◌, Bool, true, List, [], ◌∷◌, Option, None, Some, IsTrue}
+use Rattle.std.specs.List.{list_any}
 use Rattle.flat_io.specs.Counts.{has_risen}
 use Rattle.flat_base.specs.declared.ids.FrameNo.{FrameNo}
 use Rattle.flat_scene.specs.declared.frames.FrameOut.{FrameOut}
@@ -16,10 +16,15 @@ is_numbered number frame = frame.frame.0 == number.0
 abbrev pub is_among : List FrameOut → FrameNo → Bool
 is_among frames number = list_any (is_numbered number) frames
 
+-- the frames before the first one of that number
+abbrev pub frames_until : FrameNo → List FrameOut → List FrameOut
+frames_until number [] = []
+frames_until number (frame ∷ frames) = if is_numbered number frame then [] else frame ∷ frames_until number frames
+
 -- The frames before the one at which a display was lost; all of them where it wasn't.
 abbrev pub frames_before : Option FrameNo → List FrameOut → List FrameOut
 frames_before None frames = frames
-frames_before (Some number) frames = take_while (λ frame. not (is_numbered number frame)) frames
+frames_before (Some number) frames = frames_until number frames
 
 -- Each was lost at one of the frames.
 abbrev pub AreLostAt : List FrameOut → List Lost → Type 0

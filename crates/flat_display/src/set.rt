@@ -53,7 +53,10 @@ impl DisplaySet {
     /// stays in the vector, and is lost. It takes no memory.
     pub fn show(&mut self, displays: &mut Vec<Box<dyn Display>>, frame: &FrameOut)
         requires { length displays.old.items ≡ self.old.displays }
-        ensures { (more : List Lost) × (self.new ≡ record self.old { lost = self.old.lost ++ more }) × Shows (λ d. shown d) (λ d. faults d) frame.now self.old.lost 1 displays.old.items displays.new.items more }
+        ensures shows { (more : List Lost) × (self.new ≡ record self.old { lost = self.old.lost ++ more }) × Shows (λ d. shown d) (λ d. faults d) frame.now self.old.lost 1 displays.old.items displays.new.items more }
+        // So the vector still has as many displays as the set.
+        ensures same { self.new.displays ≡ self.old.displays }
+        ensures length { length displays.new.items ≡ length displays.old.items }
     {
         for place in 0..self.displays {
             self.show_to(displays, place, frame);

@@ -16,8 +16,16 @@ loop-place-preserved g c =
     (so_far.0 ++ step.2, next.0, next.1)
 
 -- src/set.rt:54:5
-pub returns : goal.returns
-returns g c =
+pub returns-clause-same : goal.returns-clause-same
+returns-clause-same g c = ap (λ v. v.displays) c.loop-place.invariant.1
+
+-- src/set.rt:54:5
+pub returns-clause-length : goal.returns-clause-length
+returns-clause-length g c = c.loop-place.invariant.2.same_length
+
+-- src/set.rt:54:5
+pub returns-clause-shows : goal.returns-clause-shows
+returns-clause-shows g c =
     let so_far = c.loop-place.invariant in
     let many : c.self.inside.displays ≡ c.args.self.now.displays = ap (λ v. v.displays) c.self.view_is in
     (so_far.0, so_far.1, all_shown _ _ _ _ _ _ _ _ (omega (arith, c.loop-place-test.false, many, c.requires)) so_far.2)
