@@ -33,8 +33,8 @@ fn a_load_of_three(rt: HostRuntime) -> Result<(), Fail> {
     let text = script(rt.alloc(), 3)?;
     assert_eq!(rt; text.len(), 33_996);
     for (place, wanted) in LINES.iter() {
-        let line = text.split(|b| *b == b'\n').nth(*place);
-        assert_eq!(rt; line, Some(wanted.as_bytes()));
+        let line = text.split(|b| *b == b'\n').nth(*place).ok_or("no line")?;
+        assert_eq!(rt; line, wanted.as_bytes());
     }
     Ok(())
 }
