@@ -192,12 +192,21 @@ have_none told count n [] = tt
 have_none told count n (d ∷ ds) = (record { gains = gains_none (told d); grows = omega arith; risen = λ lost. absurd (grind arith) }, have_none told count (suc n) ds)
 
 -- Before any frame was shown.
-pub driven_none : {D : Type 0} (told : D → Option (List FrameOut)) (count : D → ℕ) (ds : List D) → AreDriven told count [] [] ds ds
-driven_none told count ds = record { have_had = have_none told count 1 ds; lost_at_frames = tt }
+pub driven_none : {D : Type 0} (told : D → Option (List FrameOut)) (count : D → ℕ) (lost : List Lost) (ds : List D) → lost ≡ [] → AreDriven told count lost [] ds ds
+driven_none {D} told count lost ds is =
+    let P : List Lost → Type 0 = λ ls. AreDriven told count ls [] ds ds in
+    subst P (sym is) (record { have_had = have_none told count 1 ds; lost_at_frames = tt })
 
 -- One frame more, of a new number.
-pub driven_more : {D : Type 0} (told : D → Option (List FrameOut)) (count : D → ℕ) (frame : FrameOut) (frames : List FrameOut) (lost more : List Lost) (olds mids news : List D) → is_among frames frame.frame ≡ false → AreDriven told count lost frames olds mids → Shows told count frame lost 1 mids news more → AreDriven told count (lost ++ more) (frames ++ frame ∷ []) olds news
-driven_more told count frame frames lost more olds mids news fresh driven shows = record {
-  have_had = have_more told count frame lost (lost ++ more) more frames 1 olds mids news driven.lost_at_frames fresh (λ k h. refl) shows driven.have_had;
-  lost_at_frames = at_append (frames ++ frame ∷ []) lost more (at_more frames (frame ∷ []) lost driven.lost_at_frames) (shows_at told count frame frames lost 1 mids news more shows);
-}
+pub driven_more : {D : Type 0} (told : D → Option (List FrameOut)) (count : D → ℕ) (frame : FrameOut) (frames frames' : List FrameOut) (lost lost' more : List Lost) (olds mids news : List D) → is_among frames frame.frame ≡ false → frames' ≡ frames ++ frame ∷ [] → lost' ≡ lost ++ more → AreDriven told count lost frames olds mids → Shows told count frame lost 1 mids news more → AreDriven told count lost' frames' olds news
+driven_more told count frame frames frames' lost lost' more olds mids news fresh is is' driven shows =
+    let P : List FrameOut → Type 0 = λ fs. AreDriven told count lost' fs olds news in
+    let Q : List Lost → Type 0 = λ ls. AreDriven told count ls (frames ++ frame ∷ []) olds news in
+    subst P (sym is) (subst Q (sym is') (record {
+      have_had = have_more told count frame lost (lost ++ more) more frames 1 olds mids news driven.lost_at_frames fresh (λ k h. refl) shows driven.have_had;
+      lost_at_frames = at_append (frames ++ frame ∷ []) lost more (at_more frames (frame ∷ []) lost driven.lost_at_frames) (shows_at told count frame frames lost 1 mids news more shows);
+    }))
+
+-- the same frames
+pub driven_same : {D : Type 0} (told : D → Option (List FrameOut)) (count : D → ℕ) (frames frames' : List FrameOut) (lost : List Lost) (olds news : List D) → frames ≡ frames' → AreDriven told count lost frames olds news → AreDriven told count lost frames' olds news
+driven_same told count frames frames' lost olds news e driven = let P : List FrameOut → Type 0 = λ fs. AreDriven told count lost fs olds news in subst P e driven

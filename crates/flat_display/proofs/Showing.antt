@@ -54,7 +54,7 @@ shows-against told count frame lost before m d _ more free (passed is none) = pa
 shows-against told count frame lost before m d d' more free (took is t none) = took (same_lost lost before m false free is) t none
 shows-against told count frame lost before m d d' more free (failed is t none) = failed (same_lost lost before m false free is) t none
 
-take-more : {X : Type 0} (xs : List X) (i : ℕ) (x : X) → slice_get xs i ≡ Some x → take (i + 1) xs ≡ take i xs ++ x ∷ []
+pub take-more : {X : Type 0} (xs : List X) (i : ℕ) (x : X) → slice_get xs i ≡ Some x → take (i + 1) xs ≡ take i xs ++ x ∷ []
 take-more {X} xs i x is = let P : List X → Type 0 = λ zs. take (i + 1) zs ≡ take i xs ++ x ∷ [] in subst P (set_same xs i x is) (take_more_set xs i x (slice_get_within xs i x is))
 
 set_elsewhere : {X : Type 0} (ys : List X) (i k : ℕ) (x : X) → i < k → slice_get (slice_set ys i x) k ≡ slice_get ys k

@@ -1,4 +1,7 @@
+ghost use Rattle.std.specs.Prelude.{◌≡◌, ℕ, [], Some, false, length, take, slice_get};
 ghost use Rattle.flat_io.specs.Counts.{count_end};
+ghost use Rattle.flat_scene.specs.declared.frames.FrameOut.{FrameOut};
+ghost use Rattle.flat_display.specs.Had.{is_among, AreDriven};
 
 use crate::{Display, DisplaySet, MemDisplay, Tally};
 use flat_base::{FrameNo, Items};
@@ -84,6 +87,32 @@ fn lost_of(alloc: Global, set: &DisplaySet) -> Result<Vec<(u32, u32)>, AllocErro
         all.push((lost.display, lost.frame.0))?;
     }
     Ok(all)
+}
+
+// Shows frames of different numbers, as a caller's loop would, to displays of which
+// none is lost.
+fn show_all(set: &mut DisplaySet, displays: &mut Vec<Box<dyn Display>>, frames: &[FrameOut])
+    requires length { length displays.old.items ≡ set.old.displays }
+    requires whole { set.old.lost ≡ [] }
+    requires new { (i : ℕ) (frame : FrameOut) → slice_get frames.now i ≡ Some frame → is_among (take i frames.now) frame.frame ≡ false }
+    ensures { AreDriven (λ d. shown d) (λ d. faults d) set.new.lost frames.now displays.old.items displays.new.items }
+{
+    for frame in frames {
+        set.show(displays, frame);
+    }
+}
+
+#[test]
+fn one_frame_to_all(rt: HostRuntime) -> Result<(), Fail> {
+    let alloc = rt.alloc();
+    let mut displays: Vec<Box<dyn Display>> = Vec::new(alloc);
+    displays.push(Box::new(alloc, Tally::new())?)?;
+    displays.push(Box::new(alloc, MemDisplay::new(alloc, vec![in alloc; 1]?))?)?;
+    let mut set = DisplaySet::new(alloc, 2)?;
+    let frame = frame_of(alloc, 7);
+    show_all(&mut set, &mut displays, &[frame]);
+    assert_eq!(rt; lost_of(alloc, &set)?.as_slice(), [(2, 7)].as_slice());
+    Ok(())
 }
 
 #[test]
