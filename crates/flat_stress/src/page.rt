@@ -11,6 +11,7 @@ use flat_text::push_number;
 pub enum Word {
     /// As it stands.
     Text(&'static str),
+    /// In decimal.
     Number(u32),
     /// The name of a session.
     Session(u32),

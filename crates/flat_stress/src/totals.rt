@@ -9,8 +9,11 @@ use std::alloc::Global;
 /// What a run of the load comes to.
 #[derive(Clone, Copy, Debug, PartialEq, Eq)]
 pub struct Totals {
+    /// The frames that were finished.
     pub frames: u32,
+    /// The entries of the history.
     pub entries: u32,
+    /// The presents among them.
     pub presents: u32,
     /// The items of the last frame.
     pub items: u32,
