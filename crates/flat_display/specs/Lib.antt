@@ -1,0 +1,5 @@
+pub mod Had
+pub mod Kept
+pub mod Lost
+pub mod Shows
+pub mod Told

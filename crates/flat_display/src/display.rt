@@ -1,0 +1,25 @@
+ghost use Rattle.std.specs.Prelude.{◌≡◌, ℕ, ◌≤◌, ◌∷◌, [], List, Option, None, IsTrue, OnOk, OnErr};
+ghost use Rattle.flat_io.specs.Counts.{has_risen};
+ghost use Rattle.flat_display.specs.Told.{Gains};
+ghost use Rattle.flat_scene.specs.declared.frames.FrameOut.{FrameOut};
+
+use flat_io::Failed;
+use flat_scene::FrameOut;
+
+/// A taker of frames.
+pub trait Display: Drop {
+    // The frames that it took, where it tells them.
+    ghost shown: { Self → Option (List FrameOut) } = { λ _. None };
+
+    // How many of its shows failed. The count never falls, and stands still at 2^64 - 1.
+    ghost faults: { Self → ℕ };
+
+    /// Takes a frame. `Failed` comes only where the count of faults rose in this
+    /// call (a count that stands at its end counts as risen); then what was shown
+    /// is as before.
+    fn show(&mut self, frame: &FrameOut) -> Result<(), Failed>
+        ensures shown { OnOk result (Gains (frame.now ∷ []) (shown self.old) (shown self.new)) }
+        ensures failed { OnErr result (IsTrue (has_risen (faults self.old) (faults self.new))) }
+        ensures same { OnErr result (shown self.new ≡ shown self.old) }
+        ensures faults { faults self.old ≤ faults self.new };
+}

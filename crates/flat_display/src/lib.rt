@@ -1,0 +1,18 @@
+//! Displays that are shown frames, and may fail.
+//!
+//! What a display was shown is *told* where its type says so. A display that
+//! fails is lost: it is shown no more, and the others go on.
+#![tactic(auto)]
+
+mod counts;
+mod display;
+mod memory;
+mod set;
+mod tally;
+#[cfg(test)]
+mod tests;
+
+pub use display::Display;
+pub use memory::MemDisplay;
+pub use set::DisplaySet;
+pub use tally::Tally;

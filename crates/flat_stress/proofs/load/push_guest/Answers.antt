@@ -1,0 +1,12 @@
+use Rattle.std.proofs.Common.{◌*◌, ◌++◌, ◌∷◌, []}
+use Rattle.std.specs.List.{flat_map}
+use Rattle.flat_stress.specs.Words.{from_to}
+use Rattle.flat_stress.specs.Load.{opening, node, move, fill, present}
+use Rattle.flat_stress.proofs.Writing.{two}
+use Rattle.flat_stress.proofs.load.push_guest.Goals as goal
+
+pub returns : goal.returns
+returns c =
+    let i = c.args.i in
+    let fills = flat_map (λ j. node i j ++ move i j (3 * j) (2 * j) ∷ fill i j) (from_to 2 33) in
+    two (opening i ++ fills) (present i 0 ∷ []) _ _ _ (two (opening i) fills _ _ _ c.in_ok-push_opening.ensures c.in_ok-push_fills.ensures) c.in_ok-push_present.ensures

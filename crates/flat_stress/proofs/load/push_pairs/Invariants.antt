@@ -1,0 +1,6 @@
+use Rattle.std.proofs.Common.{◌≡◌, ◌++◌, ◌∷◌, [], map, codes}
+use Rattle.flat_stress.specs.Words.{text_of, between, session, pair}
+use Rattle.flat_stress.proofs.load.push_pairs.Given as goal
+
+abbrev pub invariant-loop-i : goal.invariant-loop-i
+invariant-loop-i l = l.out.items ≡ l.initial.out.items ++ text_of (map (λ i. codes "pair" ∷ pair i ∷ session 1 ∷ session i ∷ []) (between 2 l.i))

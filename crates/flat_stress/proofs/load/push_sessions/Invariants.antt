@@ -1,0 +1,6 @@
+use Rattle.std.proofs.Common.{◌≡◌, ◌++◌, ◌∷◌, [], map, codes}
+use Rattle.flat_stress.specs.Words.{text_of, between, session}
+use Rattle.flat_stress.proofs.load.push_sessions.Given as goal
+
+abbrev pub invariant-loop-i : goal.invariant-loop-i
+invariant-loop-i l = l.out.items ≡ l.initial.out.items ++ text_of (map (λ i. codes "session" ∷ session i ∷ []) (between 1 l.i))

@@ -1,0 +1,4 @@
+pub mod Load
+pub mod Spelling
+pub mod Summary
+pub mod Words

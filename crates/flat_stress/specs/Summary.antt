@@ -1,0 +1,10 @@
+-- the line that sums up the run of a load
+use Rattle.std.specs.Prelude.{ℕ, List, [], ◌∷◌, codes}
+use Rattle.flat_stress.specs.declared.totals.Totals.{Totals}
+use Rattle.flat_stress.specs.Words.{number, line_text}
+
+unfoldable pub summary_line : Totals → List ℕ
+summary_line t =
+    line_text
+    (codes "stress" ∷ number t.frames ∷ codes "sessions" ∷ number 8 ∷ codes "entries" ∷ number t.entries ∷ codes "frames" ∷ number t.frames
+    ∷ codes "presents" ∷ number t.presents ∷ codes "items" ∷ number t.items ∷ [])

@@ -1,0 +1,14 @@
+//! The load of the service, as a script, and the line that sums its run up.
+//!
+//! A host session shows seven guests in viewports of its own, each guest shows 32
+//! small fills, and in each later frame everything moves a little.
+#![tactic(auto)]
+
+mod load;
+mod page;
+#[cfg(test)]
+mod tests;
+mod totals;
+
+pub use load::script;
+pub use totals::{Totals, summary};

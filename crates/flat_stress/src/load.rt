@@ -1,0 +1,245 @@
+ghost use Rattle.std.specs.Prelude.{◌≡◌, ℕ, ◌+◌, ◌*◌, ◌%◌, ◌≤◌, ◌++◌, ◌∷◌, [], map, OnOk, IfOk, codes};
+ghost use Rattle.std.specs.List.{flat_map};
+ghost use Rattle.flat_stress.specs.Words.{text_of, session, pair, from_to};
+ghost use Rattle.flat_stress.specs.Load.{head, opening, node, move, fill, viewport, present, host, guest, frame, later, load, load_text};
+
+use crate::page::{Word, push_lines};
+use Word::{Number, Pair, Session, Text};
+use flat_base::NoMemory;
+use std::alloc::Global;
+
+// What the load's text takes at most: before its second frame, and for each frame.
+const START_BYTES: usize = 34_000;
+
+const FRAME_BYTES: usize = 600;
+
+/// The load of so many frames, as a script.
+pub fn script(alloc: Global, n: u32) -> Result<Vec<u8>, NoMemory>
+    requires first { 1 ≤ n }
+    requires last { n ≤ 500 }
+    ensures { IfOk result (λ text. text.items ≡ load_text n) }
+{
+    let room = START_BYTES + n as usize * FRAME_BYTES;
+    let mut text = Vec::with_capacity(alloc, room)?;
+    push_load(&mut text, n)?;
+    Ok(text)
+}
+
+fn push_load(out: &mut Vec<u8>, n: u32) -> Result<(), NoMemory>
+    requires first { 1 ≤ n }
+    requires last { n ≤ 500 }
+    ensures { OnOk result (out.new.items ≡ out.old.items ++ load_text n) }
+{
+    push_head(out)?;
+    push_host(out)?;
+    push_guests(out)?;
+    push_frame(out, 1)?;
+    push_later_frames(out, n)?;
+    Ok(())
+}
+
+fn push_head(out: &mut Vec<u8>) -> Result<(), NoMemory>
+    ensures { OnOk result (out.new.items ≡ out.old.items ++ text_of head) }
+{
+    let version = [Text("flatland"), Number(1)];
+    let display = [Text("display"), Number(1000), Number(1000)];
+    let first_pair = [Text("pair"), Pair(1), Text("display"), Session(1)];
+    push_lines(out, &[&version, &display])?;
+    push_sessions(out)?;
+    push_lines(out, &[&first_pair])?;
+    push_pairs(out)?;
+    push_lines(out, &[&[Text("run")]])?;
+    Ok(())
+}
+
+fn push_sessions(out: &mut Vec<u8>) -> Result<(), NoMemory>
+    ensures { OnOk result (out.new.items ≡ out.old.items ++ text_of (map (λ i. codes "session" ∷ session i ∷ []) (from_to 1 8))) }
+{
+    for i in 1..9 {
+        push_lines(out, &[&[Text("session"), Session(i)]])?;
+    }
+    Ok(())
+}
+
+fn push_pairs(out: &mut Vec<u8>) -> Result<(), NoMemory>
+    ensures { OnOk result (out.new.items ≡ out.old.items ++ text_of (map (λ i. codes "pair" ∷ pair i ∷ session 1 ∷ session i ∷ []) (from_to 2 8))) }
+{
+    for i in 2..9 {
+        push_lines(out, &[&[Text("pair"), Pair(i), Session(1), Session(i)]])?;
+    }
+    Ok(())
+}
+
+// What each session does first.
+fn push_opening(out: &mut Vec<u8>, i: u32) -> Result<(), NoMemory>
+    ensures { OnOk result (out.new.items ≡ out.old.items ++ text_of (opening i)) }
+{
+    let view = [Session(i), Text("CreateView"), Pair(i)];
+    let transform = [Session(i), Text("CreateTransform"), Number(1)];
+    let root = [Session(i), Text("SetRootTransform"), Number(1)];
+    push_lines(out, &[&view, &transform, &root])
+}
+
+// A node below the root.
+fn push_node(out: &mut Vec<u8>, i: u32, j: u32) -> Result<(), NoMemory>
+    ensures { OnOk result (out.new.items ≡ out.old.items ++ text_of (node i j)) }
+{
+    let transform = [Session(i), Text("CreateTransform"), Number(j)];
+    let child = [Session(i), Text("AddChild"), Number(1), Number(j)];
+    push_lines(out, &[&transform, &child])
+}
+
+fn push_move(out: &mut Vec<u8>, i: u32, j: u32, x: u32, y: u32) -> Result<(), NoMemory>
+    ensures { OnOk result (out.new.items ≡ out.old.items ++ text_of (move i j x y ∷ [])) }
+{
+    push_lines(
+        out,
+        &[&[
+            Session(i),
+            Text("SetTranslation"),
+            Number(j),
+            Number(x),
+            Number(y),
+        ]],
+    )
+}
+
+fn push_fill(out: &mut Vec<u8>, i: u32, j: u32) -> Result<(), NoMemory>
+    ensures { OnOk result (out.new.items ≡ out.old.items ++ text_of (fill i j)) }
+{
+    let made = [Session(i), Text("CreateFilledRect"), Number(j)];
+    let painted = [
+        Session(i),
+        Text("SetSolidFill"),
+        Number(j),
+        Number(j),
+        Number(0),
+        Number(0),
+        Number(255),
+        Number(4),
+        Number(4),
+    ];
+    let shown = [Session(i), Text("SetContent"), Number(j), Number(j)];
+    push_lines(out, &[&made, &painted, &shown])
+}
+
+// A viewport of the host.
+fn push_viewport(out: &mut Vec<u8>, i: u32) -> Result<(), NoMemory>
+    ensures { OnOk result (out.new.items ≡ out.old.items ++ text_of (viewport i)) }
+{
+    let made = [
+        Session(1),
+        Text("CreateViewport"),
+        Number(i),
+        Pair(i),
+        Number(100),
+        Number(100),
+    ];
+    let shown = [Session(1), Text("SetContent"), Number(i), Number(i)];
+    push_lines(out, &[&made, &shown])
+}
+
+fn push_present(out: &mut Vec<u8>, i: u32, time: u32) -> Result<(), NoMemory>
+    ensures { OnOk result (out.new.items ≡ out.old.items ++ text_of (present i time ∷ [])) }
+{
+    push_lines(out, &[&[Session(i), Text("Present"), Number(time)]])
+}
+
+fn push_host(out: &mut Vec<u8>) -> Result<(), NoMemory>
+    ensures { OnOk result (out.new.items ≡ out.old.items ++ text_of host) }
+{
+    push_opening(out, 1)?;
+    push_viewports(out)?;
+    push_present(out, 1, 0)?;
+    Ok(())
+}
+
+fn push_viewports(out: &mut Vec<u8>) -> Result<(), NoMemory>
+    ensures { OnOk result (out.new.items ≡ out.old.items ++ text_of (flat_map (λ i. node 1 i ++ viewport i) (from_to 2 8))) }
+{
+    for i in 2..9 {
+        push_node(out, 1, i)?;
+        push_viewport(out, i)?;
+    }
+    Ok(())
+}
+
+fn push_guests(out: &mut Vec<u8>) -> Result<(), NoMemory>
+    ensures { OnOk result (out.new.items ≡ out.old.items ++ text_of (flat_map guest (from_to 2 8))) }
+{
+    for i in 2..9 {
+        push_guest(out, i)?;
+    }
+    Ok(())
+}
+
+fn push_guest(out: &mut Vec<u8>, i: u32) -> Result<(), NoMemory>
+    ensures { OnOk result (out.new.items ≡ out.old.items ++ text_of (guest i)) }
+{
+    push_opening(out, i)?;
+    push_fills(out, i)?;
+    push_present(out, i, 0)?;
+    Ok(())
+}
+
+fn push_fills(out: &mut Vec<u8>, i: u32) -> Result<(), NoMemory>
+    ensures { OnOk result (out.new.items ≡ out.old.items ++ text_of (flat_map (λ j. node i j ++ move i j (3 * j) (2 * j) ∷ fill i j) (from_to 2 33))) }
+{
+    for j in 2..34 {
+        push_node(out, i, j)?;
+        push_move(out, i, j, 3 * j, 2 * j)?;
+        push_fill(out, i, j)?;
+    }
+    Ok(())
+}
+
+fn push_frame(out: &mut Vec<u8>, k: u32) -> Result<(), NoMemory>
+    ensures { OnOk result (out.new.items ≡ out.old.items ++ text_of (frame k)) }
+{
+    let begin = [Text("display"), Text("begin"), Number(k)];
+    let done = [Text("display"), Text("done")];
+    push_lines(out, &[&begin, &done])
+}
+
+// The frames after the first one.
+fn push_later_frames(out: &mut Vec<u8>, n: u32) -> Result<(), NoMemory>
+    requires first { 1 ≤ n }
+    requires last { n ≤ 500 }
+    ensures { OnOk result (out.new.items ≡ out.old.items ++ text_of (flat_map later (from_to 2 n))) }
+{
+    for k in 2..n + 1 {
+        push_later(out, k)?;
+    }
+    Ok(())
+}
+
+fn push_later(out: &mut Vec<u8>, k: u32) -> Result<(), NoMemory>
+    requires { k ≤ 500 }
+    ensures { OnOk result (out.new.items ≡ out.old.items ++ text_of (later k)) }
+{
+    push_host_moves(out, k)?;
+    push_present(out, 1, k)?;
+    push_guest_moves(out, k)?;
+    push_frame(out, k)?;
+    Ok(())
+}
+
+fn push_host_moves(out: &mut Vec<u8>, k: u32) -> Result<(), NoMemory>
+    requires { k ≤ 500 }
+    ensures { OnOk result (out.new.items ≡ out.old.items ++ text_of (map (λ i. move 1 i ((100 * i + k) % 900) ((50 * i + k) % 900)) (from_to 2 8))) }
+{
+    for i in 2..9 {
+        push_move(out, 1, i, (100 * i + k) % 900, (50 * i + k) % 900)?;
+    }
+    Ok(())
+}
+
+fn push_guest_moves(out: &mut Vec<u8>, k: u32) -> Result<(), NoMemory>
+    ensures { OnOk result (out.new.items ≡ out.old.items ++ text_of (flat_map (λ i. move i 2 (k % 90) 0 ∷ present i k ∷ []) (from_to 2 8))) }
+{
+    for i in 2..9 {
+        push_move(out, i, 2, k % 90, 0)?;
+        push_present(out, i, k)?;
+    }
+    Ok(())
+}

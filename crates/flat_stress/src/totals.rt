@@ -1,0 +1,47 @@
+ghost use Rattle.std.specs.Prelude.{◌≡◌, IfOk};
+ghost use Rattle.flat_stress.specs.Summary.{summary_line};
+
+use crate::page::{Word, push_line};
+use Word::{Number, Text};
+use flat_base::NoMemory;
+use std::alloc::Global;
+
+/// What a run of the load comes to.
+#[derive(Clone, Copy, Debug, PartialEq, Eq)]
+pub struct Totals {
+    /// The frames that were finished.
+    pub frames: u32,
+    /// The entries of the history.
+    pub entries: u32,
+    /// The presents among them.
+    pub presents: u32,
+    /// The items of the last frame.
+    pub items: u32,
+}
+
+// What the line takes at most.
+const LINE_BYTES: usize = 128;
+
+/// The line that sums up a run of the load.
+#[tactic(auto, unfolding(crate::specs::Summary::summary_line))]
+pub fn summary(alloc: Global, totals: Totals) -> Result<Vec<u8>, NoMemory>
+    ensures { IfOk result (λ line. line.items ≡ summary_line totals) }
+{
+    let mut line = Vec::with_capacity(alloc, LINE_BYTES)?;
+    let words = [
+        Text("stress"),
+        Number(totals.frames),
+        Text("sessions"),
+        Number(8),
+        Text("entries"),
+        Number(totals.entries),
+        Text("frames"),
+        Number(totals.frames),
+        Text("presents"),
+        Number(totals.presents),
+        Text("items"),
+        Number(totals.items),
+    ];
+    push_line(&mut line, &words)?;
+    Ok(line)
+}

@@ -1,0 +1,21 @@
+-- the words that call the service
+use Rattle.std.specs.Prelude.{◌≡◌, ⊤, ℕ, ◌≤◌, List, [], ◌∷◌, codes}
+use Rattle.std.specs.Fmt.{decimal}
+use Rattle.flat_words.specs.declared.form.Form.{Form}
+use Rattle.flat_words.specs.declared.form.Form.TheVariants.{Play, Race, Stress}
+
+-- how a form is written
+abbrev pub words_of : Form → List (List ℕ)
+words_of Play = codes "play" ∷ []
+words_of Race = codes "race" ∷ []
+words_of (Stress frames) = codes "stress" ∷ decimal frames ∷ []
+
+-- A load has at least one frame, and no more than are allowed.
+abbrev pub IsAllowed : Form → Type 0
+IsAllowed Play = ⊤
+IsAllowed Race = ⊤
+IsAllowed (Stress frames) = (1 ≤ frames) × (frames ≤ 500)
+
+-- The words call for a form.
+abbrev pub CallFor : List (List ℕ) → Form → Type 0
+CallFor words form = (words ≡ words_of form) × IsAllowed form
