@@ -21,12 +21,10 @@ use Rattle.flat_core.specs.declared.gets.Answered.{Answered}
 use Rattle.flat_core.specs.declared.gets.HeldGet.{HeldGet}
 use Rattle.flat_core.specs.declared.gets.Watched.{Watched}
 use Rattle.flat_core.specs.declared.gets.Watched.TheVariants as watches
-use Rattle.flat_core.specs.declared.live.Live.{Live}
 use Rattle.flat_core.specs.Begins.{post_of}
 use Rattle.flat_core.specs.Ends.{views_of, viewports_of, viewport_owner, viewport_uses}
 use Rattle.flat_core.specs.Kept.{AllNumbered}
 use Rattle.flat_core.specs.Legal.{answers, got, is_now, number_if}
-use Rattle.flat_core.specs.Lives.{pair_named}
 use Rattle.flat_core.specs.Local.{pair_watched}
 use Rattle.flat_core.specs.Posts.{event_of, up_to}
 use Rattle.flat_core.specs.Watch.{Watcher, layout_of, status_of, child_of, watching, listener, same_watcher}
@@ -49,12 +47,6 @@ abbrev pub watched_of : ℕ → Watch → Watched
 watched_of uses watch.Layout = watches.Layout
 watched_of uses watch.Status = watches.Status
 watched_of uses (watch.Child c) = watches.Child uses
-
--- the pair that a get means, where its session's calls leave it this view and these live viewports
-abbrev pub means_pair : Option PairNo → List Live → Watch → Option PairNo
-means_pair view lives watch.Layout = view
-means_pair view lives watch.Status = view
-means_pair view lives (watch.Child c) = pair_named lives c.0
 
 -- the order in which watchers are answered: layouts, statuses, children; by rising pairs; by rising uses
 abbrev pub rank : Watched → ℕ

@@ -2,12 +2,10 @@ ghost use Rattle.std.specs.Prelude.{◌≡◌, ℕ, ◌+◌, ◌<◌, ◌≤◌,
 ghost use Rattle.flat_scene.specs.declared.journal.Entry.{Entry};
 ghost use Rattle.flat_scene.specs.declared.setup.Setup.{Setup};
 ghost use Rattle.flat_watch.specs.Told.{news};
-ghost use Rattle.flat_core.specs.Gets.{means_pair, watched_of, rank, use_of, comes_before, watcher_of_held, watcher_for, is_held_in, with_held, place_in, news_of, still_held, answers_to, answering, last_of, noted_one, started, unanswered, Changes, Answers, Settles, Asks};
+ghost use Rattle.flat_core.specs.Gets.{watched_of, rank, use_of, comes_before, watcher_of_held, watcher_for, is_held_in, with_held, place_in, news_of, still_held, answers_to, answering, last_of, noted_one, started, unanswered, Changes, Answers, Settles, Asks};
 ghost use Rattle.flat_core.specs.Watch.{layout_of, status_of, child_of, told, same_watcher};
 
-use crate::live::Live;
 use crate::log::Log;
-use crate::viewports::pair_named;
 use flat_base::{FlatlandError, NoMemory, PairNo, SessionNo};
 use flat_scene::{Event, Post, Reply, Told, Watch};
 use std::alloc::Global;
@@ -118,18 +116,6 @@ impl Watched {
             Watched::Child(number) => number,
             _ => 0,
         }
-    }
-}
-
-/// The pair that a get means, where its session's calls leave it this view and these
-/// live viewports.
-pub fn means_pair(view: Option<PairNo>, lives: &[Live], get: Watch) -> Option<PairNo>
-    ensures { result ≡ means_pair view lives.now get }
-{
-    match get {
-        Watch::Layout => view,
-        Watch::Status => view,
-        Watch::Child(c) => pair_named(lives, c),
     }
 }
 
