@@ -6,6 +6,8 @@
 
 mod begins;
 mod board;
+#[cfg(test)]
+mod board_tests;
 mod clears;
 mod clock;
 mod dones;

@@ -13,7 +13,7 @@ use std::sync::Arc;
 use std::test::Fail;
 
 /// The display shows session 1, which shows session 2.
-fn two_sessions(alloc: Global) -> Result<Setup, NoMemory>
+pub fn two_sessions(alloc: Global) -> Result<Setup, NoMemory>
     ensures { IfOk result (λ setup. setup ≡ record {
       width = 100;
       height = 50;
