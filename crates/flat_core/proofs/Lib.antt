@@ -72,6 +72,7 @@ pub mod SerialSteps
 pub mod Serials
 pub mod Shares
 pub mod ShellRun
+pub mod ShownFirst
 pub mod ShownFits
 pub mod ShownList
 pub mod ShownLocal
