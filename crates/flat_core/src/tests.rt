@@ -1,6 +1,6 @@
 use crate::{Board, EventList};
 use flat_base::{Items, NoMemory, SessionNo, ShareList};
-use flat_scene::{CallList, Event, PresentArgs, Reply, Setup};
+use flat_scene::{CallList, PresentArgs, Reply, Setup};
 use flat_snap::SnapshotBuilder;
 use flat_topology::Shown;
 use std::sync::Arc;
@@ -63,12 +63,6 @@ fn a_present_is_taken(rt: HostRuntime) -> Result<(), Fail> {
         Ok(reply) => reply,
         Err(_) => return Err(Fail::from(NoMemory)),
     };
-    board.begin(2, 5, &mut shown);
-    board.done(3, &shown);
-    let mut events = EventList::new(alloc);
-    let polled = board
-        .poll(SessionNo(1), 4, CallList::new(alloc), &mut events)
-        .ok();
     assert!(rt;
         reply
             == Reply::Presented {
@@ -76,7 +70,7 @@ fn a_present_is_taken(rt: HostRuntime) -> Result<(), Fail> {
                 credits: 0
             }
     );
-    assert!(rt; polled == Some(Reply::Polled(2)));
-    assert!(rt; events.as_slice() == [Event::Credits(5), Event::FramePresented(1)].as_slice());
+    board.begin(2, 5, &mut shown);
+    assert_eq!(rt; board.journal().posts.len(), 1);
     Ok(())
 }

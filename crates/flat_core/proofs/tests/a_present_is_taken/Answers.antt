@@ -3,7 +3,6 @@ use Rattle.flat_scene.specs.declared.journal.Entry.{Entry}
 use Rattle.flat_core.specs.Boards.{Machine}
 use Rattle.flat_core.specs.Ends.{to_begin}
 use Rattle.flat_core.specs.Shown.{shown_states}
-use Rattle.flat_core.proofs.ShownFirst.{begun-shown}
 use Rattle.flat_core.proofs.ShownList.{nothing-shown}
 use Rattle.flat_core.proofs.tests.a_present_is_taken.Goals as goal
 
@@ -16,6 +15,3 @@ begin-requires-clause-shown g c =
     let P : Machine → Type 0 = λ m. shown ≡ shown_states m.setup (to_begin m.history) in
     subst P (sym c.in-Ok.ensures.entry)
     (nothing-shown board.setup shown (c.in_ok-shown.ensures.size ∙ sym one) c.in_ok-shown.ensures.none ∙ ap (λ (h : List Entry). shown_states board.setup (to_begin h)) (sym none))
-
-pub done-requires-clause-shown : goal.done-requires-clause-shown
-done-requires-clause-shown g c = begun-shown c.present.new.self c.begin.new.self c.begin.new.into 2 5 c.begin.ensures.entry c.begin.ensures.shown
