@@ -6,5 +6,5 @@ use Rattle.flat_stress.specs.Words.{number, line_text}
 unfoldable pub summary_line : Totals → List ℕ
 summary_line t =
     line_text
-    (codes "stress" ∷ number t.frames ∷ codes "sessions" ∷ number 8 ∷ codes "entries" ∷ number t.entries ∷ codes "frames" ∷ number t.frames
+    (codes "stress" ∷ number t.load ∷ codes "sessions" ∷ number t.sessions ∷ codes "entries" ∷ number t.entries ∷ codes "frames" ∷ number t.frames
     ∷ codes "presents" ∷ number t.presents ∷ codes "items" ∷ number t.items ∷ [])

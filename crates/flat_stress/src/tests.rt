@@ -42,8 +42,10 @@ fn a_load_of_three(rt: HostRuntime) -> Result<(), Fail> {
 #[test]
 fn the_line_of_500(rt: HostRuntime) -> Result<(), Fail> {
     let totals = Totals {
-        frames: 500,
+        load: 500,
+        sessions: 8,
         entries: 5023,
+        frames: 500,
         presents: 4000,
         items: 224,
     };

@@ -9,10 +9,14 @@ use std::alloc::Global;
 /// What a run of the load comes to.
 #[derive(Clone, Copy, Debug, PartialEq, Eq)]
 pub struct Totals {
-    /// The frames that were finished.
-    pub frames: u32,
+    /// The load's number, that of the frames it asks for.
+    pub load: u32,
+    /// The sessions.
+    pub sessions: u32,
     /// The entries of the history.
     pub entries: u32,
+    /// The frames that were finished.
+    pub frames: u32,
     /// The presents among them.
     pub presents: u32,
     /// The items of the last frame.
@@ -30,9 +34,9 @@ pub fn summary(alloc: Global, totals: Totals) -> Result<Vec<u8>, NoMemory>
     let mut line = Vec::with_capacity(alloc, LINE_BYTES)?;
     let words = [
         Text("stress"),
-        Number(totals.frames),
+        Number(totals.load),
         Text("sessions"),
-        Number(8),
+        Number(totals.sessions),
         Text("entries"),
         Number(totals.entries),
         Text("frames"),
