@@ -1,2 +1,7 @@
 mod Examples
 pub mod Writing
+pub mod LineLemmas
+pub mod PlaceLemmas
+pub mod SaidLemmas
+pub mod AfterLemmas
+pub mod LoadLemmas

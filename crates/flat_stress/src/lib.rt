@@ -4,11 +4,13 @@
 //! small fills, and in each later frame everything moves a little.
 #![tactic(auto)]
 
+mod laws;
 mod load;
 mod page;
 #[cfg(test)]
 mod tests;
 mod totals;
 
+pub use laws::loads_are_scripts;
 pub use load::script;
 pub use totals::{Totals, summary};
