@@ -5,7 +5,8 @@ check.py PROGRAM [case ..] [--only GLOB] [--skip GLOB] [--stage LABEL] [--up-to 
                            [--at LABEL] [--time SECONDS] [--list]
 
 A case is a folder with
-  words            the command words on one line
+  words            the command words on one line, or
+  words.exact      the command words as bytes, each ended by a NUL
   stdin            the bytes on standard input
   stdout           the exact bytes expected, or
   stdout.contains  the lines that must come, in this order, others between them allowed
@@ -78,7 +79,8 @@ def first_difference(want, got):
 
 def run(program, case, at, limit):
     """None where the case passes, else what is wrong, on one line"""
-    words = (text(case, "words") or "").split()
+    exact = read(case, "words.exact")
+    words = (text(case, "words") or "").split() if exact is None else exact.split(b"\0")[:-1]
     stdin = read(case, "stdin")
     want = read(case, "stdout")
     for label in STAGES[:at + 1]:

@@ -1,8 +1,12 @@
 //! The program `flatland`: the service over standard input and standard output.
 #![tactic(auto)]
 
+ghost use Rattle.std.specs.Prelude.{◌≡◌, IfOk, length};
+
+use flat_display::{Display, Tally};
 use flat_io::{StdSink, StdSource};
 use flat_run::flatland;
+use std::alloc::{AllocError, Global};
 use std::process::ExitCode;
 use std::{env, io};
 
@@ -21,8 +25,26 @@ fn main(rt: HostRuntime) -> ExitCode {
         }
         Err(_) => Vec::new(rt.alloc()),
     };
-    let status = flatland(rt.alloc(), words.as_slice(), &mut source, &mut sink);
+    let Ok(mut displays) = displays(rt.alloc()) else {
+        return ExitCode::from(NO_MEMORY);
+    };
+    let status = flatland(
+        rt.alloc(),
+        words.as_slice(),
+        &mut source,
+        &mut sink,
+        &mut displays,
+    );
     ExitCode::from(status)
+}
+
+/// The displays of the program: one, which counts its frames.
+fn displays(alloc: Global) -> Result<Vec<Box<dyn Display>>, AllocError>
+    ensures { IfOk result (λ displays. length displays.items ≡ 1) }
+{
+    let mut displays: Vec<Box<dyn Display>> = Vec::new(alloc);
+    displays.push(Box::new(alloc, Tally::new())?)?;
+    Ok(displays)
 }
 
 /// The words after the program's name.

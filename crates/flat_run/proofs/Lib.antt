@@ -8,10 +8,13 @@ pub mod Entering
 pub mod GameSteps
 pub mod InOrder
 pub mod Judging
+pub mod Loads
+pub mod Losses
 pub mod OneHistory
 pub mod Places
 pub mod Reading
 pub mod Reporting
+pub mod Seen
 pub mod Standing
 pub mod Starting
 pub mod Steps

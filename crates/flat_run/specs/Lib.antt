@@ -3,3 +3,5 @@ pub mod Laws
 pub mod Made
 pub mod Playing
 pub mod Promise
+pub mod Showing
+pub mod Totals

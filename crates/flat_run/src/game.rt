@@ -14,6 +14,7 @@ ghost use Rattle.flat_core.specs.Ends.{to_begin};
 ghost use Rattle.flat_core.specs.Legal.{frames, reply_to};
 ghost use Rattle.flat_report.specs.Report.{frame_at, finished};
 ghost use Rattle.flat_playable.specs.Playable.{is_playable};
+ghost use Rattle.flat_run.specs.Showing.{Finishes};
 
 use crate::player::Player;
 use flat_base::{Actor, FenceNo, FrameNo, NoMemory, SessionNo};
@@ -158,14 +159,15 @@ impl Game {
         requires line { slice_get script.now.lines place ≡ Some (record { number = number; actor = Session s; body = body.Session text.now }) }
         requires playable { is_playable script.now ≡ true }
         requires stands { GameStands script.now place self.old }
-        ensures { OnOk result (GameStands script.now (place + 1) self.new) }
+        ensures stands { OnOk result (GameStands script.now (place + 1) self.new) }
+        ensures frames { OnOk result (self.new.frames ≡ self.old.frames) }
     {
         let player = &mut self.players[s.0 as usize - 1];
         player.play(alloc, &mut self.board, script, place, s, number, text)?;
         Ok(())
     }
 
-    /// Plays a line of the display.
+    /// Plays a line of the display, and answers whether it finished a frame.
     fn play_display(
         &mut self,
         alloc: Global,
@@ -173,52 +175,58 @@ impl Game {
         place: usize,
         number: u32,
         text: DisplayLine,
-    ) -> Result<(), NoMemory>
+    ) -> Result<bool, NoMemory>
         requires line { slice_get script.now.lines place ≡ Some (record { number = number; actor = Display; body = body.Display text }) }
         requires playable { is_playable script.now ≡ true }
         requires stands { GameStands script.now place self.old }
-        ensures { OnOk result (GameStands script.now (place + 1) self.new) }
+        ensures stands { IfOk result (λ _. GameStands script.now (place + 1) self.new) }
+        ensures frames { IfOk result (λ finishes. Finishes finishes self.old.frames.items self.new.frames.items) }
     {
         match text {
             DisplayLine::Begin(time) => {
                 self.begin(number, time);
-                Ok(())
+                Ok(false)
             }
             DisplayLine::Done => {
                 self.finish(alloc, number)?;
-                Ok(())
+                Ok(true)
             }
             DisplayLine::Signal(f) => {
                 self.signal(alloc, number, f);
-                Ok(())
+                Ok(false)
             }
             DisplayLine::Wait(c) => {
                 self.wait(alloc, number, c);
-                Ok(())
+                Ok(false)
             }
             DisplayLine::Hit(x, y) => {
                 self.hit(alloc, number, x, y)?;
-                Ok(())
+                Ok(false)
             }
         }
     }
 
-    /// Plays the line at a place of the script.
+    /// Plays the line at a place of the script, and answers whether it finished a
+    /// frame, which is then the last one.
     pub fn play_line(
         &mut self,
         alloc: Global,
         script: &Script,
         place: usize,
-    ) -> Result<(), NoMemory>
+    ) -> Result<bool, NoMemory>
         requires place { place < length script.now.lines }
         requires playable { is_playable script.now ≡ true }
         requires stands { GameStands script.now place self.old }
-        ensures { OnOk result (GameStands script.now (place + 1) self.new) }
+        ensures stands { IfOk result (λ _. GameStands script.now (place + 1) self.new) }
+        ensures frames { IfOk result (λ finishes. Finishes finishes self.old.frames.items self.new.frames.items) }
     {
         let line = script.lines.at(place);
         match line.actor {
             Actor::Session(s) => match session_text(&line.body) {
-                Some(text) => self.play_session(alloc, script, place, s, line.number, text),
+                Some(text) => {
+                    self.play_session(alloc, script, place, s, line.number, text)?;
+                    Ok(false)
+                }
                 None => unreachable!(),
             },
             Actor::Display => match display_text(&line.body) {
@@ -234,7 +242,8 @@ impl Game {
         requires within { before < script.now.setup.sessions }
         requires playable { is_playable script.now ≡ true }
         requires stands { EndsStand script.now before self.old }
-        ensures { EndsStand script.now (before + 1) self.new }
+        ensures stands { EndsStand script.now (before + 1) self.new }
+        ensures frames { self.new.frames ≡ self.old.frames }
     {
         let player = &mut self.players[before as usize];
         let calls = player.take_pending(alloc);
@@ -247,7 +256,8 @@ impl Game {
     pub fn end_all(&mut self, alloc: Global, script: &Script)
         requires playable { is_playable script.now ≡ true }
         requires stands { GameStands script.now (length script.now.lines) self.old }
-        ensures { HasPlayed script.now self.new.board self.new.frames.items self.new.answers }
+        ensures played { HasPlayed script.now self.new.board self.new.frames.items self.new.answers }
+        ensures frames { self.new.frames ≡ self.old.frames }
     {
         for before in 0..script.setup.sessions {
             self.end_next(alloc, script, before);

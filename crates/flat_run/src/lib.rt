@@ -1,8 +1,10 @@
 //! The service at work on a script: words, reading, the run and the report.
 #![tactic(auto)]
 
+mod answers;
 mod game;
 mod laws;
+mod load;
 mod made;
 mod player;
 mod run;

@@ -1,16 +1,21 @@
-ghost use Rattle.std.specs.Prelude.{◌≡◌, ◌+◌, ◌<◌, ◌≤◌, ◌==◌, ◌^◌, [], true, length, sum, count_by, map, All, OnOk, IfOk};
+ghost use Rattle.std.specs.Prelude.{◌≡◌, ◌+◌, ◌<◌, ◌==◌, ◌^◌, [], ◌∷◌, ◌++◌, List, true, length, All, IfOk};
 ghost use Rattle.flat_scene.specs.History.{seat_number};
 ghost use Rattle.flat_scene.specs.Setups.{is_setup};
 ghost use Rattle.flat_playable.specs.Playable.{is_playable};
+ghost use Rattle.flat_scene.specs.declared.frames.FrameOut.{FrameOut};
+ghost use Rattle.flat_scene.specs.declared.frames.Lost.{Lost};
+ghost use Rattle.flat_display.specs.Shows.{Shows};
 ghost use Rattle.flat_run.specs.Playing.{lines_by, shares_of, first_player, GameStands, HasPlayed};
+ghost use Rattle.flat_run.specs.Showing.{HaveSeen};
 
 use crate::game::{Game, LastFrame};
 use crate::player::Player;
 use flat_base::{Actor, FrameNo, NoMemory, ShareList, TryCopy};
 use flat_core::Board;
+use flat_display::{Display, DisplaySet};
 use flat_draft::{Draft, draft_laws};
 use flat_report::HitAnswers;
-use flat_scene::{CallList, ScriptLine, SessionSet, Setup};
+use flat_scene::{CallList, FrameOut, ScriptLine, SessionSet, Setup};
 use flat_script::Script;
 use flat_topology::{Shown, join};
 use std::alloc::Global;
@@ -82,7 +87,8 @@ fn new_players(alloc: Global, setup: &Setup) -> Result<Vec<Player>, NoMemory>
 /// A run of which no line is played.
 fn start(alloc: Global, script: &Script) -> Result<Game, NoMemory>
     requires { is_playable script.now ≡ true }
-    ensures { IfOk result (GameStands script.now 0) }
+    ensures stands { IfOk result (λ game. GameStands script.now 0 game) }
+    ensures none { IfOk result (λ game. game.frames.items ≡ []) }
 {
     draft_laws();
     let shares = shares_of(alloc, script)?;
@@ -104,25 +110,65 @@ fn start(alloc: Global, script: &Script) -> Result<Game, NoMemory>
     })
 }
 
-/// Plays all lines of a script, in written order.
-fn play_lines(alloc: Global, script: &Script) -> Result<Game, NoMemory>
-    requires { is_playable script.now ≡ true }
-    ensures { IfOk result (GameStands script.now (length script.now.lines)) }
+/// Shows the last of some frames to the displays that aren't lost.
+fn show_last(set: &mut DisplaySet, displays: &mut Vec<Box<dyn Display>>, frames: &[FrameOut])
+    requires { length displays.old.items ≡ set.old.displays }
+    ensures shows { (before : List FrameOut) (frame : FrameOut) → frames.now ≡ before ++ frame ∷ [] → (more : List Lost) × (set.new ≡ record set.old { lost = set.old.lost ++ more }) × Shows (λ d. shown d) (λ d. faults d) frame set.old.lost 1 displays.old.items displays.new.items more }
+    ensures same { set.new.displays ≡ set.old.displays }
+    ensures length { length displays.new.items ≡ length displays.old.items }
+{
+    if let Some(frame) = frames.last() {
+        set.show(displays, frame);
+    }
+}
+
+/// Plays all lines of a script, in written order, and shows each frame to the
+/// displays when it is finished.
+fn play_lines(
+    alloc: Global,
+    script: &Script,
+    set: &mut DisplaySet,
+    displays: &mut Vec<Box<dyn Display>>,
+) -> Result<Game, NoMemory>
+    requires playable { is_playable script.now ≡ true }
+    requires number { length displays.old.items ≡ set.old.displays }
+    requires few { set.old.displays < 2 ^ 32 }
+    requires none { set.old.lost ≡ [] }
+    ensures stands { IfOk result (λ game. GameStands script.now (length script.now.lines) game) }
+    ensures seen { IfOk result (λ game. HaveSeen (λ d. shown d) (λ d. faults d) game set.new.lost displays.old.items displays.new.items) }
 {
     let mut game = start(alloc, script)?;
     for place in 0..script.lines.len() {
-        game.play_line(alloc, script, place)?;
+        if game.play_line(alloc, script, place)? {
+            show_last(set, displays, game.frames.as_slice());
+        }
     }
     Ok(game)
 }
 
+/// A script that was played to its end.
+#[derive(Drop)]
+pub struct Played {
+    /// The journal of the board is that of the run.
+    pub game: Game,
+    /// Which displays were lost.
+    pub set: DisplaySet,
+}
+
 /// Plays a script to its end: its lines in written order, and then an End of each
-/// session. The journal of the board is that of the run.
-pub fn run(alloc: Global, script: &Script) -> Result<Game, NoMemory>
-    requires { is_playable script.now ≡ true }
-    ensures { IfOk result (λ game. HasPlayed script.now game.board game.frames.items game.answers) }
+/// session. Each frame is shown to the displays when it is finished.
+pub fn run(
+    alloc: Global,
+    script: &Script,
+    displays: &mut Vec<Box<dyn Display>>,
+) -> Result<Played, NoMemory>
+    requires playable { is_playable script.now ≡ true }
+    requires few { length displays.old.items < 2 ^ 32 }
+    ensures played { IfOk result (λ played. HasPlayed script.now played.game.board played.game.frames.items played.game.answers) }
+    ensures seen { IfOk result (λ played. HaveSeen (λ d. shown d) (λ d. faults d) played.game played.set.lost displays.old.items displays.new.items) }
 {
-    let mut game = play_lines(alloc, script)?;
+    let mut set = DisplaySet::new(alloc, displays.len() as u32)?;
+    let mut game = play_lines(alloc, script, &mut set, displays)?;
     game.end_all(alloc, script);
-    Ok(game)
+    Ok(Played { game, set })
 }

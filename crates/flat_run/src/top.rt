@@ -1,32 +1,27 @@
-ghost use Rattle.std.specs.Prelude.{◌≡◌, ◌≢◌, ◌||◌, ◌==◌, ◌↔◌, ◌++◌, ℕ, List, true, false, map, IfOk, IsTrue, Some, Ok, Err, codes, string_bytes};
+ghost use Rattle.std.specs.Prelude.{◌≡◌, ◌≢◌, ◌<◌, ◌^◌, ◌||◌, ◌==◌, ◌++◌, ℕ, List, false, length, map, IfOk, IfSome, IsTrue, None, Some, Ok, Err};
+ghost use Rattle.std.specs.String.{string_bytes};
 ghost use Rattle.flat_io.specs.Counts.{has_risen};
 ghost use Rattle.flat_io.specs.Told.{Appends};
 ghost use Rattle.flat_io.specs.Whole.{AppendsPrefix};
-ghost use Rattle.flat_playable.specs.Playable.{is_playable};
+ghost use Rattle.flat_display.specs.Had.{AreDriven};
 ghost use Rattle.flat_script.specs.Grammar.{text_read};
 ghost use Rattle.flat_script.specs.declared.script.Script.{Script};
-ghost use Rattle.flat_run.specs.Answering.{IsAnswer};
-ghost use Rattle.flat_run.specs.Promise.{play_words, fault_line, Reports, IsText, IsWhole, IsCutOff};
+ghost use Rattle.flat_words.specs.declared.form.Form.TheVariants.{Play, Race, Stress};
+ghost use Rattle.flat_words.specs.Forms.{CallFor, IsAllowed};
+ghost use Rattle.flat_run.specs.Promise.{play_words, CallForNothing, IsAnswerTo, IsWhole, IsCutOff};
 
-use crate::run::run;
-use flat_base::{NoMemory, SCRIPT_BYTES_MAX};
-use flat_core::families_are_alone;
-use flat_io::{ReadAll, Sink, Source, read_all, write_all};
-use flat_playable::scripts_are_playable;
-use flat_report::print_report;
-use flat_script::{Script, ScriptError, ScriptFault, parse};
-use itoa::Buffer;
+use crate::answers::{Answer, DONE, REFUSED, Unanswered, play};
+use crate::load::stress;
+use flat_display::Display;
+use flat_io::{Sink, Source, write_all};
+use flat_words::{Form, read};
 use std::alloc::Global;
 
-/// What is written where the words are no command form.
+/// What is written where the words are no form that runs.
 const USAGE: &[u8] = b"usage: flatland play | race | stress N\n";
 
-/// The statuses of a call.
-const DONE: u8 = 0;
-
+/// The other statuses of a call.
 const USED_WRONGLY: u8 = 2;
-
-const REFUSED: u8 = 3;
 
 const READ_FAULT: u8 = 4;
 
@@ -34,111 +29,36 @@ const WRITE_FAULT: u8 = 5;
 
 const NO_MEMORY: u8 = 6;
 
-/// What is to be written, and the status of a call that wrote it.
-#[derive(Drop)]
-struct Answer {
-    status: u8,
-    text: Vec<u8>,
-}
-
-/// Why there is nothing to be written.
-#[derive(Drop)]
-enum Unanswered {
-    /// A read failed.
-    Fault,
-    /// Memory ran out.
-    Memory,
-}
-
-/// Whether the words ask for a script to be played.
-fn is_play(words: &[String]) -> bool
-    ensures { IsTrue result ↔ (map string_bytes words.now ≡ play_words) }
+/// The form for which the words call, where it is one that runs: a race isn't yet.
+fn form_to_run(words: &[String]) -> Option<Form>
+    ensures form { IfSome result (λ form. CallFor (map string_bytes words.now) form × (form ≢ Race)) }
+    ensures none { result ≡ None → CallForNothing (map string_bytes words.now) }
 {
-    match words {
-        [word] => is_play_word(word),
-        _ => false,
+    match read(words) {
+        Some(Form::Race) => None,
+        form => form,
     }
 }
 
-fn is_play_word(word: &String) -> bool
-    ensures { IsTrue result ↔ (string_bytes word.now ≡ codes "play") }
-{
-    word.as_str() == "play"
-}
-
-/// The line that tells a fault of a script.
-fn fault_text(alloc: Global, fault: ScriptFault) -> Result<Vec<u8>, NoMemory>
-    ensures { IfOk result (λ text. text.items ≡ fault_line fault) }
-{
-    let mut line = Buffer::new();
-    let mut kind = Buffer::new();
-    let mut text = Vec::new(alloc);
-    text.extend_from_slice(b"script line ")?;
-    text.extend_from_slice(line.format(fault.line).as_bytes())?;
-    text.extend_from_slice(b" kind ")?;
-    text.extend_from_slice(kind.format(fault.kind).as_bytes())?;
-    text.extend_from_slice(b"\n")?;
-    Ok(text)
-}
-
-/// The answer to a text that is no script.
-fn refusal(alloc: Global, fault: ScriptFault) -> Result<Answer, NoMemory>
-    ensures status { IfOk result (λ answer. answer.status ≡ REFUSED) }
-    ensures text { IfOk result (λ answer. answer.text.items ≡ fault_line fault) }
-{
-    Ok(Answer {
-        status: REFUSED,
-        text: fault_text(alloc, fault)?,
-    })
-}
-
-/// Plays a script, and reports its run.
-fn played_text(alloc: Global, script: &Script) -> Result<Vec<u8>, NoMemory>
-    requires { is_playable script.now ≡ true }
-    ensures { IfOk result (λ text. Reports script.now text.items) }
-{
-    families_are_alone();
-    let game = run(alloc, script)?;
-    let journal = game.board.journal();
-    print_report(
-        alloc,
-        script,
-        journal,
-        game.frames.as_slice(),
-        &[],
-        &game.answers,
-    )
-}
-
-/// The answer to a text that was read whole.
-fn answer_to(alloc: Global, bytes: &[u8]) -> Result<Answer, NoMemory>
-    ensures { IfOk result (λ answer. IsAnswer bytes.now answer.status answer.text.items) }
-{
-    scripts_are_playable();
-    match parse(alloc, bytes) {
-        Ok(script) => Ok(Answer {
-            status: DONE,
-            text: played_text(alloc, &script)?,
-        }),
-        Err(ScriptError::Fault(fault)) => refusal(alloc, fault),
-        Err(ScriptError::Memory) => Err(NoMemory),
-    }
-}
-
-/// The answer to what a source gives.
-fn make_answer<R: Source>(alloc: Global, source: &mut R) -> Result<Answer, Unanswered>
-    ensures text { IfOk result (λ answer. IsText play_words (R.left source.old) (R.left source.new) answer.status answer.text.items) }
+/// The answer to a form that runs.
+fn answer_to<R: Source>(
+    alloc: Global,
+    form: Form,
+    source: &mut R,
+    displays: &mut Vec<Box<dyn Display>>,
+) -> Result<Answer, Unanswered>
+    requires allowed { IsAllowed form }
+    requires runs { form ≢ Race }
+    requires few { length displays.old.items < 2 ^ 32 }
+    ensures text { IfOk result (λ answer. IsAnswerTo (λ frames lost. AreDriven (λ d. shown d) (λ d. (⟦<dyn Display as Display>⟧ d.vtable).faults d.value) lost frames displays.old.items displays.new.items) (R.left source.old) (R.left source.new) form answer.status answer.text.items) }
     ensures fault { result ≡ Err Unanswered.Fault → IsTrue (has_risen (R.faults source.old) (R.faults source.new)) }
+    ensures reads { result ≡ Err Unanswered.Fault → form ≡ Play }
+    ensures unread { form ≢ Play → source.new ≡ source.old }
 {
-    let answer = match read_all(alloc, source, SCRIPT_BYTES_MAX) {
-        Ok(bytes) => answer_to(alloc, bytes.as_slice()),
-        Err(ReadAll::TooLong) => refusal(alloc, ScriptFault { line: 0, kind: 1 }),
-        Err(ReadAll::Fault) => return Err(Unanswered::Fault),
-        Err(ReadAll::Memory) => return Err(Unanswered::Memory),
-    };
-    match answer {
-        Ok(answer) => Ok(answer),
-        Err(_) => Err(Unanswered::Memory),
+    match form {
+        Form::Play => play(alloc, source, displays),
+        Form::Stress(frames) => Ok(stress(alloc, frames, displays)?),
+        Form::Race => unreachable!(),
     }
 }
 
@@ -157,34 +77,43 @@ fn write_text<W: Sink>(sink: &mut W, text: &[u8], status: u8) -> u8
 }
 
 /// A call of the service, with the words after the program's name: what is to be
-/// read is read from the source, and what is answered is written to the sink. It
-/// answers the status.
+/// read is read from the source, and what is answered is written to the sink. Each
+/// frame is shown to the displays when it is finished; one that fails is shown no
+/// more, and the report says so. It answers the status.
 ///
-/// Statuses 0, 2 and 3 come only where the whole text was written: a report, the
-/// usage, or the fault of a script. Status 5 comes only where the counts of the
-/// sink rose, and then the first bytes of such a text were written; 4 only where
-/// the count of the source rose. With 4 and with 6, want of memory, nothing was
-/// written. Where a script was given and no count rose, the status is 0 or 6.
+/// Statuses 0, 2 and 3 come only where the whole text was written: a report or the
+/// summary of a load, the usage, or the fault of a script. Status 5 comes only where
+/// the counts of the sink rose, and then the first bytes of such a text were written;
+/// 4 only where the count of the source rose. With 4 and with 6, want of memory,
+/// nothing was written. Where a script or a load was asked for and no count rose, the
+/// status is 0 or 6. A display that fails changes no status.
+///
+/// With status 0, and with 5 where there is a script, each display that tells its
+/// frames has had those of the history, in order and once, or those before the frame
+/// at which it was lost. With 6 nothing is said of what displays have had.
 pub fn flatland<R: Source, W: Sink>(
     alloc: Global,
     words: &[String],
     source: &mut R,
     sink: &mut W,
+    displays: &mut Vec<Box<dyn Display>>,
 ) -> u8
-    ensures whole { result ≢ READ_FAULT → result ≢ WRITE_FAULT → result ≢ NO_MEMORY → IsWhole (map string_bytes words.now) (R.left source.old) (R.left source.new) (W.held sink.old) (W.held sink.new) result }
-    ensures cut_off { result ≡ WRITE_FAULT → IsCutOff (map string_bytes words.now) (R.left source.old) (R.left source.new) (W.held sink.old) (W.held sink.new) }
+    requires { length displays.old.items < 2 ^ 32 }
+    ensures whole { result ≢ READ_FAULT → result ≢ WRITE_FAULT → result ≢ NO_MEMORY → IsWhole (λ frames lost. AreDriven (λ d. shown d) (λ d. (⟦<dyn Display as Display>⟧ d.vtable).faults d.value) lost frames displays.old.items displays.new.items) (map string_bytes words.now) (R.left source.old) (R.left source.new) (W.held sink.old) (W.held sink.new) result }
+    ensures cut_off { result ≡ WRITE_FAULT → IsCutOff (λ frames lost. AreDriven (λ d. shown d) (λ d. (⟦<dyn Display as Display>⟧ d.vtable).faults d.value) lost frames displays.old.items displays.new.items) (map string_bytes words.now) (R.left source.old) (R.left source.new) (W.held sink.old) (W.held sink.new) }
     ensures write_fault { result ≡ WRITE_FAULT → IsTrue (has_risen (W.faults sink.old) (W.faults sink.new) || has_risen (W.stalls sink.old) (W.stalls sink.new)) }
     ensures read_fault { result ≡ READ_FAULT → IsTrue (has_risen (R.faults source.old) (R.faults source.new)) }
     ensures unwritten { IsTrue (result == READ_FAULT || result == NO_MEMORY) → sink.new ≡ sink.old }
-    ensures usage { map string_bytes words.now ≢ play_words → IsTrue (result == USED_WRONGLY || result == WRITE_FAULT) }
+    ensures usage { CallForNothing (map string_bytes words.now) → IsTrue (result == USED_WRONGLY || result == WRITE_FAULT) }
     ensures unread { map string_bytes words.now ≢ play_words → source.new ≡ source.old }
     ensures complete { (given after : List ℕ) (script : Script) → map string_bytes words.now ≡ play_words → R.left source.old ≡ Some (given ++ after) → R.left source.new ≡ Some after → text_read given ≡ Ok script → has_risen (R.faults source.old) (R.faults source.new) ≡ false → (has_risen (W.faults sink.old) (W.faults sink.new) || has_risen (W.stalls sink.old) (W.stalls sink.new)) ≡ false → IsTrue (result == DONE || result == NO_MEMORY) }
+    ensures summed { (frames : ℕ) → CallFor (map string_bytes words.now) (Stress frames) → (has_risen (W.faults sink.old) (W.faults sink.new) || has_risen (W.stalls sink.old) (W.stalls sink.new)) ≡ false → IsTrue (result == DONE || result == NO_MEMORY) }
     ensures statuses { IsTrue (result == DONE || result == USED_WRONGLY || result == REFUSED || result == READ_FAULT || result == WRITE_FAULT || result == NO_MEMORY) }
 {
-    if !is_play(words) {
+    let Some(form) = form_to_run(words) else {
         return write_text(sink, USAGE, USED_WRONGLY);
-    }
-    match make_answer(alloc, source) {
+    };
+    match answer_to(alloc, form, source, displays) {
         Ok(answer) => write_text(sink, answer.text.as_slice(), answer.status),
         Err(Unanswered::Fault) => READ_FAULT,
         Err(Unanswered::Memory) => NO_MEMORY,

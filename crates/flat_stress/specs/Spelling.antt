@@ -1,10 +1,11 @@
 -- how the words of the code are spelled
 use Rattle.flat_stress.specs.declared.page.Word as word
-use Rattle.flat_stress.specs.declared.page.Word.TheVariants.{Text, Number, Session, Pair}
+use Rattle.flat_stress.specs.declared.page.Word.TheVariants.{Text, Number, Count, Session, Pair}
 use Rattle.flat_stress.specs.Words.{Word, number, session, pair}
 
 abbrev pub spelling : word.Word → Word
 spelling (Text text) = text.now
 spelling (Number n) = number n
+spelling (Count n) = number n
 spelling (Session n) = session n
 spelling (Pair n) = pair n

@@ -13,6 +13,8 @@ pub enum Word {
     Text(&'static str),
     /// In decimal.
     Number(u32),
+    /// How many there are of something, in decimal.
+    Count(usize),
     /// The name of a session.
     Session(u32),
     /// The name of the pair whose view is that session's.
@@ -57,6 +59,7 @@ fn push_word(out: &mut Vec<u8>, word: Word) -> Result<(), NoMemory>
     match word {
         Word::Text(text) => out.extend_from_slice(text.as_bytes())?,
         Word::Number(n) => push_number(out, i128::from(n))?,
+        Word::Count(n) => push_number(out, n as i128)?,
         Word::Session(n) => push_named(out, b'S', n)?,
         Word::Pair(n) => push_named(out, b't', n)?,
     }

@@ -2,7 +2,7 @@ ghost use Rattle.std.specs.Prelude.{◌≡◌, IfOk};
 ghost use Rattle.flat_stress.specs.Summary.{summary_line};
 
 use crate::page::{Word, push_line};
-use Word::{Number, Text};
+use Word::{Count, Number, Text};
 use flat_base::NoMemory;
 use std::alloc::Global;
 
@@ -14,13 +14,13 @@ pub struct Totals {
     /// The sessions.
     pub sessions: u32,
     /// The entries of the history.
-    pub entries: u32,
+    pub entries: usize,
     /// The frames that were finished.
-    pub frames: u32,
-    /// The presents among them.
-    pub presents: u32,
+    pub frames: usize,
+    /// The presents among the entries.
+    pub presents: usize,
     /// The items of the last frame.
-    pub items: u32,
+    pub items: usize,
 }
 
 // What the line takes at most.
@@ -38,13 +38,13 @@ pub fn summary(alloc: Global, totals: Totals) -> Result<Vec<u8>, NoMemory>
         Text("sessions"),
         Number(totals.sessions),
         Text("entries"),
-        Number(totals.entries),
+        Count(totals.entries),
         Text("frames"),
-        Number(totals.frames),
+        Count(totals.frames),
         Text("presents"),
-        Number(totals.presents),
+        Count(totals.presents),
         Text("items"),
-        Number(totals.items),
+        Count(totals.items),
     ];
     push_line(&mut line, &words)?;
     Ok(line)

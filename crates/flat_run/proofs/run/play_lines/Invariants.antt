@@ -1,5 +1,12 @@
+use Rattle.std.proofs.Common.{◌≡◌, length}
 use Rattle.flat_run.specs.Playing.{GameStands}
+use Rattle.flat_run.specs.Showing.{HaveSeen}
 use Rattle.flat_run.proofs.run.play_lines.Given as goal
 
 abbrev pub invariant-loop-place : goal.invariant-loop-place
-invariant-loop-place l = GameStands l.script l.place l.game
+invariant-loop-place g l = record {
+  stands : GameStands l.script l.place l.game;
+  seen : HaveSeen (λ b. (goal.Display-dyn g (b.vtable, b.value)).shown b.value) (λ b. (goal.Display-dyn g (b.vtable, b.value)).faults b.value) l.game l.set.lost l.initial.displays.items l.displays.items;
+  number : length l.displays.items ≡ l.set.displays;
+  same : l.set.displays ≡ l.initial.set.displays;
+}

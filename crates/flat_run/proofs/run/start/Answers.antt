@@ -26,8 +26,8 @@ new_players-requires c = setup_is c.args.script.now c.requires
 pub join-requires-clause-fit : goal.join-requires-clause-fit
 join-requires-clause-fit c = nothing_fits c.args.script.now.setup c.in_ok-shown.shown c.in_ok-shown.ensures.size c.in_ok-shown.ensures.none
 
-pub returns : goal.returns
-returns c =
+pub returns-clause-stands : goal.returns-clause-stands
+returns-clause-stands c =
     let script = c.args.script.now in
     let board = c.in_ok-board.ensures ∙ ap (λ s. let m : Machine = record { setup = s; shares = c.in_ok-shares.shares; history = [] } in m) c.in_ok-setup.ensures
     ∙ ap (λ xs. let m : Machine = record { setup = script.setup; shares = xs; history = [] } in m) c.in_ok-shares.ensures in

@@ -1,24 +1,10 @@
-use Rattle.std.proofs.Common.{Result, Ok, Err, IfOk, List, ℕ, ◌≡◌, subst}
-use Rattle.flat_script.specs.declared.script.ScriptFault.{ScriptFault}
-use Rattle.flat_script.specs.declared.script.ScriptError.TheVariants as error
-use Rattle.flat_script.specs.Grammar.{text_read}
-use Rattle.flat_script.specs.Progress.{Fails}
-use Rattle.flat_run.specs.declared.top.Answer.{Answer}
-use Rattle.flat_run.specs.Answering.{IsAnswer}
-use Rattle.flat_run.specs.Promise.{fault_line}
-use Rattle.flat_run.proofs.Answering.{refused}
+use Rattle.flat_run.proofs.Answering.{form_same, form_same_result, load_text_of}
 use Rattle.flat_run.proofs.top.answer_to.Goals as goal
 
-refused_result : {E : Type 0} (bytes : List ℕ) (fault : ScriptFault) → text_read bytes ≡ Err fault → (r : Result Answer E) → IfOk r (λ a. a.status ≡ 3) → IfOk r (λ a. a.text.items ≡ fault_line fault) → IfOk r (λ a. IsAnswer bytes a.status a.text.items)
-refused_result bytes fault read (Ok a) is_3 is = refused bytes fault read a.status a.text.items is_3 is
-refused_result bytes fault read (Err e) is_3 is = tt
+pub returns-in-Play-clause-text : goal.returns-in-Play-clause-text
+returns-in-Play-clause-text g c = form_same_result _ _ _ _ _ c.play.result c.in-Play.is c.play.ensures.text
 
-pub returns-in_ok-played_text-in-Ok : goal.returns-in_ok-played_text-in-Ok
-returns-in_ok-played_text-in-Ok c = IsAnswer.report_of (record { script = c.in-Ok.script; read = c.in-Ok.ensures; reports = c.in_ok-played_text-in-Ok.ensures })
-
-pub returns-in-Err-Fault : goal.returns-in-Err-Fault
-returns-in-Err-Fault c =
-    let whole = c.in-Err-Fault.is in
-    let why = c.in-Err-Fault.field-0-is in
-    let is : c.in-Err-Fault.field-0 ≡ error.Fault c.in-Err-Fault.fault = cc in
-    refused_result c.args.bytes.now c.in-Err-Fault.fault (subst (λ e. Fails e (text_read c.args.bytes.now)) is c.in-Err-Fault.ensures) c.refusal.result c.refusal.ensures.status c.refusal.ensures.text
+pub returns-in_ok-stress-in-Stress-clause-text : goal.returns-in_ok-stress-in-Stress-clause-text
+returns-in_ok-stress-in-Stress-clause-text g c =
+    let x = c.in_ok-stress-in-Stress.field-0 in
+    form_same _ _ _ _ _ x.status x.text.items c.in-Stress.is (load_text_of _ _ _ c.in-Stress.frames x.status x.text.items c.in_ok-stress-in-Stress.ensures.status c.in_ok-stress-in-Stress.ensures.text)

@@ -31,8 +31,8 @@ end-requires c =
     subst Q (sym (ap (λ (p : Player). p.refused) c.take_pending-calls.ensures.rest))
     (subst P (sym c.take_pending-calls.ensures.calls) (may_be_ended script c.args.before c.requires.within old c.requires.stands player mine))
 
-pub returns : goal.returns
-returns c =
+pub returns-clause-stands : goal.returns-clause-stands
+returns-clause-stands c =
     let script = c.args.script.now in
     let old = c.args.self.now in
     let player = c.index_mut-player.result.now in

@@ -11,6 +11,7 @@ use Rattle.flat_core.specs.Legal.{is_fence}
 use Rattle.flat_playable.specs.Playable.{is_played_display}
 use Rattle.flat_run.proofs.DisplaySteps.{display_share, begin_time_ok, done_ok, may_begin, may_finish, may_hit, may_signal_fence, may_wait_for}
 use Rattle.flat_run.proofs.GameSteps.{begin_more, finish_more, beside_more, point_more}
+use Rattle.flat_run.proofs.Seen.{finishes_one}
 use Rattle.flat_run.proofs.Steps.{At, at_place}
 use Rattle.flat_run.proofs.game.Game.play_display.Goals as goal
 
@@ -58,38 +59,41 @@ hit-requires c =
     let at : At c.args.script.now c.args.place x = at_place c.args.script.now c.args.place x c.requires.playable c.requires.line in
     may_hit c.args.self.now.board _ _ (display_share c.args.script.now c.args.place x at c.args.self.now.board c.requires.stands.shares refl c.requires.stands.spent)
 
-pub returns-in-Begin : goal.returns-in-Begin
-returns-in-Begin c =
+pub returns-in-Begin-clause-stands : goal.returns-in-Begin-clause-stands
+returns-in-Begin-clause-stands c =
     let x : ScriptLine = record { number = c.args.number; actor = Display; body = body.Display c.args.text } in
     let at : At c.args.script.now c.args.place x = at_place c.args.script.now c.args.place x c.requires.playable c.requires.line in
     let is : x.body ≡ body.Display (display.Begin c.in-Begin.time) = ap (λ t. body.Display t) c.in-Begin.is in
     begin_more c.args.script.now c.args.place x at c.args.self.now c.begin.new.self c.in-Begin.time refl is c.requires.stands c.begin.ensures
 
-pub returns-in_ok-finish-in-Done : goal.returns-in_ok-finish-in-Done
-returns-in_ok-finish-in-Done c =
+pub returns-in_ok-finish-in-Done-clause-stands : goal.returns-in_ok-finish-in-Done-clause-stands
+returns-in_ok-finish-in-Done-clause-stands c =
     let x : ScriptLine = record { number = c.args.number; actor = Display; body = body.Display c.args.text } in
     let at : At c.args.script.now c.args.place x = at_place c.args.script.now c.args.place x c.requires.playable c.requires.line in
     let is : x.body ≡ body.Display display.Done = ap (λ t. body.Display t) c.in-Done.is in
     finish_more c.args.script.now c.args.place x at c.args.self.now c.finish.new.self refl is c.requires.stands c.in_ok-finish-in-Done.ensures
 
-pub returns-in-Signal : goal.returns-in-Signal
-returns-in-Signal c =
+pub returns-in-Signal-clause-stands : goal.returns-in-Signal-clause-stands
+returns-in-Signal-clause-stands c =
     let x : ScriptLine = record { number = c.args.number; actor = Display; body = body.Display c.args.text } in
     let at : At c.args.script.now c.args.place x = at_place c.args.script.now c.args.place x c.requires.playable c.requires.line in
     let is : x.body ≡ body.Display (display.Signal c.in-Signal.f) = ap (λ t. body.Display t) c.in-Signal.is in
     beside_more c.args.script.now c.args.place x at c.args.self.now c.signal.new.self (display.Signal c.in-Signal.f) (Signal c.in-Signal.f) _ refl is refl refl (λ o t follows. refl) c.requires.stands c.signal.ensures
 
-pub returns-in-Wait : goal.returns-in-Wait
-returns-in-Wait c =
+pub returns-in-Wait-clause-stands : goal.returns-in-Wait-clause-stands
+returns-in-Wait-clause-stands c =
     let x : ScriptLine = record { number = c.args.number; actor = Display; body = body.Display c.args.text } in
     let at : At c.args.script.now c.args.place x = at_place c.args.script.now c.args.place x c.requires.playable c.requires.line in
     let is : x.body ≡ body.Display (display.Wait c.in-Wait.c) = ap (λ t. body.Display t) c.in-Wait.is in
     beside_more c.args.script.now c.args.place x at c.args.self.now c.wait.new.self (display.Wait c.in-Wait.c) (Wait c.in-Wait.c) _ refl is refl refl (λ o t follows. refl) c.requires.stands c.wait.ensures
 
-pub returns-in_ok-hit-in-Hit : goal.returns-in_ok-hit-in-Hit
-returns-in_ok-hit-in-Hit c =
+pub returns-in_ok-hit-in-Hit-clause-stands : goal.returns-in_ok-hit-in-Hit-clause-stands
+returns-in_ok-hit-in-Hit-clause-stands c =
     let x : ScriptLine = record { number = c.args.number; actor = Display; body = body.Display c.args.text } in
     let at : At c.args.script.now c.args.place x = at_place c.args.script.now c.args.place x c.requires.playable c.requires.line in
     let is : x.body ≡ body.Display (display.Hit c.in-Hit.x c.in-Hit.y) = ap (λ t. body.Display t) c.in-Hit.is in
     let asks : AsksPoint c.args.self.now c.hit.new.self c.args.number c.in-Hit.x c.in-Hit.y = search rules in
     point_more c.args.script.now c.args.place x at c.args.self.now c.hit.new.self c.in-Hit.x c.in-Hit.y refl is c.requires.stands asks
+
+pub returns-in_ok-finish-in-Done-clause-frames : goal.returns-in_ok-finish-in-Done-clause-frames
+returns-in_ok-finish-in-Done-clause-frames c = finishes_one c.args.script.now c.args.place c.args.self.now c.finish.new.self c.args.number c.requires.stands c.in_ok-finish-in-Done.ensures

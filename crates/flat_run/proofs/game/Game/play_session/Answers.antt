@@ -29,8 +29,8 @@ play-requires-clause-stands c =
     let h = here c.args.script.now c.args.s c.args.place c.args.number c.args.text.now c.requires.playable c.requires.line in
     own_player c.args.script.now c.args.place c.args.self.now.board.history c.args.self.now.players.items c.args.s h.declared c.requires.stands.players c.index_mut-player.result.now c.index_mut-player.ensures.value
 
-pub returns : goal.returns
-returns c =
+pub returns-clause-stands : goal.returns-clause-stands
+returns-clause-stands c =
     let x : ScriptLine = record { number = c.args.number; actor = Session c.args.s; body = body.Session c.args.text.now } in
     let h = here c.args.script.now c.args.s c.args.place c.args.number c.args.text.now c.requires.playable c.requires.line in
     session_more c.args.script.now c.args.place x (at_place c.args.script.now c.args.place x c.requires.playable c.requires.line) c.args.self.now

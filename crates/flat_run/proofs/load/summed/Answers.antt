@@ -1,0 +1,34 @@
+use Rattle.std.proofs.Common.{◌≡◌, List, ap, sym, ◌∙◌}
+use Rattle.flat_scene.specs.declared.journal.Entry.{Entry}
+use Rattle.flat_report.specs.Report.{finished}
+use Rattle.flat_stress.specs.Load.{load_text}
+use Rattle.flat_stress.specs.Summary.{summary_line}
+use Rattle.flat_run.specs.Totals.{totals_of}
+use Rattle.flat_run.proofs.Reporting.{if_ok, has_run, have_had}
+use Rattle.flat_run.proofs.load.summed.Goals as goal
+
+pub totals_of-totals-requires : goal.totals_of-totals-requires
+totals_of-totals-requires g c = c.as_slice.ensures.value ∙ c.in_ok-played.ensures.played.finishing ∙ ap (λ (h : List Entry). finished c.args.script.now.setup h) (sym c.journal-journal.ensures.entries)
+
+pub returns : goal.returns
+returns g c =
+    let script = c.args.script.now in
+    let game = c.in_ok-played.played.game in
+    let lost = c.in_ok-played.played.set.lost in
+    let playable = c.scripts_are_playable.ensures.playable (load_text c.args.frames) script c.requires.read in
+    let played = c.in_ok-played.ensures.played in
+    let journal = c.journal-journal.ensures in
+    let ran = has_run _ _ script game lost _ _ playable played c.in_ok-played.ensures.seen c.families_are_alone.ensures journal.legal in
+    let had = have_had _ _ script game lost _ _ played c.in_ok-played.ensures.seen in
+    if_ok (λ text. text.items ≡ summary_line c.totals_of-totals.result) _ c.summary.result
+    (λ text is. (
+      record {
+        script = script;
+        read = c.requires.read;
+        history = game.board.history;
+        lost = lost;
+        ran = ran;
+        is = is ∙ ap summary_line c.totals_of-totals.ensures ∙ ap (λ (h : List Entry). summary_line (totals_of c.args.frames script.setup h)) journal.entries;
+      },
+      had,
+    )) c.summary.ensures

@@ -1,0 +1,31 @@
+-- What a run of the load comes to.
+use Rattle.std.specs.Prelude.{ℕ, Bool, true, false, List, length, count_by}
+use Rattle.std.specs.Option.{option_map_or}
+use Rattle.flat_base.specs.Last.{last_item}
+use Rattle.flat_scene.specs.declared.frames.FrameOut.{FrameOut}
+use Rattle.flat_scene.specs.declared.journal.Entry.{Entry}
+use Rattle.flat_scene.specs.declared.journal.Kind.{Kind}
+use Rattle.flat_scene.specs.declared.journal.Kind.TheVariants.{Present}
+use Rattle.flat_scene.specs.declared.setup.Setup.{Setup}
+use Rattle.flat_core.specs.Legal.{frames}
+use Rattle.flat_report.specs.Report.{finished}
+use Rattle.flat_stress.specs.declared.totals.Totals.{Totals}
+
+unfoldable pub is_present : Kind → Bool
+is_present (Present args) = true
+is_present _ = false
+
+-- how many items the last frame has
+abbrev pub last_items : List FrameOut → ℕ
+last_items shown = option_map_or (λ frame. length frame.items) (last_item shown) 0
+
+-- the numbers of a history, for a load of so many frames
+abbrev pub totals_of : ℕ → Setup → List Entry → Totals
+totals_of asked setup history = record {
+  load = asked;
+  sessions = setup.sessions;
+  entries = length history;
+  frames = frames history;
+  presents = count_by (λ entry. is_present entry.kind) history;
+  items = last_items (finished setup history);
+}

@@ -1,0 +1,108 @@
+ghost use Rattle.std.specs.Prelude.{◌≡◌, ◌<◌, ◌≤◌, ◌^◌, length, count_by, IfOk, Ok, Some, None};
+ghost use Rattle.flat_display.specs.Had.{AreDriven};
+ghost use Rattle.flat_report.specs.Report.{finished};
+ghost use Rattle.flat_scene.specs.History.{history_of};
+ghost use Rattle.flat_script.specs.Grammar.{text_read};
+ghost use Rattle.flat_stress.specs.Load.{load_text};
+ghost use Rattle.flat_run.specs.Promise.{IsSummary};
+ghost use Rattle.flat_run.specs.Totals.{is_present, last_items, totals_of};
+
+use crate::answers::{Answer, DONE};
+use crate::run::run;
+use flat_base::NoMemory;
+use flat_core::families_are_alone;
+use flat_display::Display;
+use flat_playable::scripts_are_playable;
+use flat_scene::{Entry, FrameOut, Journal, Kind, Setup};
+use flat_script::{Script, ScriptError, parse};
+use flat_stress::{Totals, loads_are_scripts, summary};
+use std::alloc::Global;
+
+/// How many of some entries are presents.
+fn presents(entries: &[Entry]) -> usize
+    ensures { result ≡ count_by (λ entry. is_present entry.kind) entries.now }
+{
+    let mut found = 0;
+    for entry in entries {
+        found += usize::from(is_present(&entry.kind));
+    }
+    found
+}
+
+#[tactic(auto, unfolding(crate::specs::Totals::is_present))]
+fn is_present(kind: &Kind) -> bool
+    ensures { result ≡ is_present kind.now }
+{
+    matches!(kind, Kind::Present(_))
+}
+
+/// How many items the last of some frames has.
+fn last_items(frames: &[FrameOut]) -> usize
+    ensures { result ≡ last_items frames.now }
+{
+    match frames.last() {
+        Some(frame) => frame.items.len(),
+        None => 0,
+    }
+}
+
+/// What a run of the load of so many frames comes to, by its setup, its journal and
+/// the frames that it finished.
+fn totals_of(frames: u32, setup: &Setup, journal: &Journal, shown: &[FrameOut]) -> Totals
+    requires { shown.now ≡ finished setup.now (history_of journal.now.entries.items) }
+    ensures { result ≡ totals_of frames setup.now (history_of journal.now.entries.items) }
+{
+    let entries = journal.entries.as_slice();
+    Totals {
+        load: frames,
+        sessions: setup.sessions,
+        entries: entries.len(),
+        frames: shown.len(),
+        presents: presents(entries),
+        items: last_items(shown),
+    }
+}
+
+/// Plays the script of the load of so many frames, and sums its run up.
+fn summed(
+    alloc: Global,
+    frames: u32,
+    script: &Script,
+    displays: &mut Vec<Box<dyn Display>>,
+) -> Result<Vec<u8>, NoMemory>
+    requires read { text_read (load_text frames) ≡ Ok script.now }
+    requires few { length displays.old.items < 2 ^ 32 }
+    ensures { IfOk result (λ text. IsSummary (λ shown_frames lost. AreDriven (λ d. shown d) (λ d. faults d) lost shown_frames displays.old.items displays.new.items) frames text.items) }
+{
+    families_are_alone();
+    scripts_are_playable();
+    let played = run(alloc, script, displays)?;
+    let game = &played.game;
+    let journal = game.board.journal();
+    let totals = totals_of(frames, &script.setup, journal, game.frames.as_slice());
+    summary(alloc, totals)
+}
+
+/// Plays the load of so many frames.
+pub fn stress(
+    alloc: Global,
+    frames: u32,
+    displays: &mut Vec<Box<dyn Display>>,
+) -> Result<Answer, NoMemory>
+    requires first { 1 ≤ frames }
+    requires last { frames ≤ 500 }
+    requires few { length displays.old.items < 2 ^ 32 }
+    ensures status { IfOk result (λ answer. answer.status ≡ DONE) }
+    ensures text { IfOk result (λ answer. IsSummary (λ shown_frames lost. AreDriven (λ d. shown d) (λ d. faults d) lost shown_frames displays.old.items displays.new.items) frames answer.text.items) }
+{
+    loads_are_scripts();
+    let load = flat_stress::script(alloc, frames)?;
+    match parse(alloc, load.as_slice()) {
+        Ok(script) => Ok(Answer {
+            status: DONE,
+            text: summed(alloc, frames, &script, displays)?,
+        }),
+        Err(ScriptError::Fault(_)) => unreachable!(),
+        Err(ScriptError::Memory) => Err(NoMemory),
+    }
+}
