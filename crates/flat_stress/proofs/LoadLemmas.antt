@@ -1,20 +1,22 @@
 -- The text of each load is a script.
-use Rattle.std.proofs.Common.{◌≡◌, ℕ, zero, suc, ◌+◌, ◌-◌, ◌*◌, ◌<◌, ◌≤◌, false, nat_lt, List, [], ◌∷◌, ◌++◌, length, map, Ok, refl, sym, ◌∙◌, ap, codes, arith, append-nil, append_assoc, length-append}
+use Rattle.std.proofs.Common.{◌≡◌, ℕ, zero, suc, ◌+◌, ◌-◌, ◌*◌, ◌<◌, ◌≤◌, false, nat_lt, List, [], ◌∷◌, ◌++◌, length, map, Result, Ok, refl, sym, ◌∙◌, ap, codes, arith, append-nil, append_assoc, length-append}
 use Rattle.std.specs.List.{flat_map, range_with_len}
 use Rattle.std.specs.Fmt.{digits}
 use Rattle.std.proofs.lemmas.Bool.Decides.{nat_tests}
 use Rattle.std.proofs.lemmas.List.{map-append}
 use Rattle.flat_script.specs.declared.script.Part.TheVariants as part
 use Rattle.flat_script.specs.declared.script.Script.{Script}
+use Rattle.flat_script.specs.declared.script.ScriptFault.{ScriptFault}
 use Rattle.flat_script.specs.Known.{known_words}
 use Rattle.flat_script.specs.Head.{empty}
+use Rattle.flat_script.specs.Body.{dones}
 use Rattle.flat_script.specs.Grammar.{lines_read, text_read, IsScript}
 use Rattle.flat_script.specs.Print.{spelled}
 use Rattle.flat_script.proofs.TextLemmas.{AllLines, AllLines-append}
 use Rattle.flat_script.proofs.AgainLemmas.{with_lines}
 use Rattle.flat_stress.specs.Words.{Word, number, session, pair, from_to, text_of}
 use Rattle.flat_stress.specs.Load.{head, host, guest, frame, later, load_text}
-use Rattle.flat_stress.specs.Laws.{LoadsAreScripts}
+use Rattle.flat_stress.specs.Laws.{LoadsAreScripts, LoadsHaveTheirFrames}
 use Rattle.flat_stress.proofs.LineLemmas.{line_good, lines_of_text, text_fits, tested, number_solid, named_solid}
 use Rattle.flat_stress.proofs.PlaceLemmas.{start}
 use Rattle.flat_stress.proofs.SaidLemmas.{host_said, guests_said}
@@ -98,16 +100,17 @@ text_is wss good few =
     rw test (ap (lines_read known_words 1 (part.Start, empty)) (lines_of_text wss good))
 
 -- what the head and such lines are a text of
-record Made (wss : List (List Word)) : Type 0 where
+record Made (wss : List (List Word)) (n : ℕ) : Type 0 where
   pub script : Script
   pub is : IsScript (text_of (head ++ wss)) script
   pub sessions : script.setup.sessions ≡ 8
+  pub frames : dones script ≡ n
 
 start_sessions : start.setup.sessions ≡ 8
 unfolding start
 start_sessions = refl
 
-made : (wss : List (List Word)) (n : ℕ) → After [] 20 wss n → length wss ≤ 13382 → Made wss
+made : (wss : List (List Word)) (n : ℕ) → After [] 20 wss n → length wss ≤ 13382 → Made wss n
 made wss n x few =
     let made : Script = record (with_lines start x.behind) { count = 20 + length wss - 1 } in
     let shut = closed x.behind n x.frames in
@@ -119,6 +122,7 @@ made wss n x few =
           text_is (head ++ wss) (AllLines-append head wss head_good x.good) (omega (arith, length-append head wss, head_many))
           ∙ ap (lines_read known_words 1 (part.Start, empty)) lines ∙ head_read (map spelled wss ++ []) ∙ x.read [] ∙ ended;
       sessions = start_sessions;
+      frames = x.frames.ends;
     }
   where
     head_many : length head ≡ 19
@@ -127,8 +131,20 @@ made wss n x few =
 four_parts : (h o g f l : List (List Word)) → h ++ o ++ g ++ f ++ l ≡ h ++ (o ++ g ++ f ++ l)
 four_parts h o g f l = ap (λ t. t ++ f ++ l) (append_assoc h o g) ∙ ap (λ t. t ++ l) (append_assoc h (o ++ g) f) ∙ append_assoc h (o ++ g ++ f) l
 
-pub loads_are_scripts : LoadsAreScripts
+load_made : (n : ℕ) → 1 ≤ n → n ≤ 500 → Made (acts n) n
+load_made n some few = made (acts n) n (acts_after n some few) (acts_many n some few)
+
+load_is : (n : ℕ) → load_text n ≡ text_of (head ++ acts n)
 unfolding load_text
-loads_are_scripts n some few =
-    let x = made (acts n) n (acts_after n some few) (acts_many n some few) in
-    (x.script, ap (λ wss. text_read (text_of wss)) (four_parts head host (flat_map guest (from_to 2 8)) (frame 1) (flat_map later (from_to 2 n))) ∙ x.is, x.sessions)
+load_is n = ap text_of (four_parts head host (flat_map guest (from_to 2 8)) (frame 1) (flat_map later (from_to 2 n)))
+
+pub loads_are_scripts : LoadsAreScripts
+loads_are_scripts n some few = let x = load_made n some few in (x.script, ap text_read (load_is n) ∙ x.is, x.sessions)
+
+same_script : (r : Result Script ScriptFault) (s t : Script) → r ≡ Ok s → r ≡ Ok t → s ≡ t
+same_script r s t one other = cc
+
+pub loads_have_their_frames : LoadsHaveTheirFrames
+loads_have_their_frames n script some few is =
+    let x = load_made n some few in
+    ap dones (same_script (text_read (text_of (head ++ acts n))) script x.script (ap text_read (sym (load_is n)) ∙ is) x.is) ∙ x.frames

@@ -11,6 +11,6 @@ mod page;
 mod tests;
 mod totals;
 
-pub use laws::loads_are_scripts;
+pub use laws::{loads_are_scripts, loads_have_their_frames};
 pub use load::script;
 pub use totals::{Totals, summary};
