@@ -56,7 +56,7 @@ clears-one p d _ tidy = refl
 
 -- ---- several calls
 
-count-is : (b : Bool) → count_if (Some b) ≡ number_if b
+pub count-is : (b : Bool) → count_if (Some b) ≡ number_if b
 count-is true = refl
 count-is false = refl
 
