@@ -1,5 +1,5 @@
 -- What a family's entries are answered depends on the family's entries and the frames alone.
-use Rattle.std.proofs.Common.{◌≡◌, ℕ, zero, suc, ◌+◌, ◌-◌, Bool, true, false, cond, List, [], ◌∷◌, ◌++◌, refl, arith, ap, sym, ◌∙◌}
+use Rattle.std.proofs.Common.{◌≡◌, ℕ, zero, suc, ◌+◌, ◌-◌, Bool, true, false, cond, List, [], ◌∷◌, ◌++◌, refl, arith, ap, sym, ◌∙◌, Option, Some, None}
 use Rattle.std.specs.Prelude.{◌==◌, ◌&&◌, length, flat_map, map, replicate, filter, nat_lt}
 use Rattle.std.specs.List.{list_all, list_any}
 use Rattle.std.proofs.lemmas.Grind.{common_steps}
@@ -17,7 +17,7 @@ use Rattle.flat_scene.specs.Family.{IsClosedFamily, only, is_kept, keeps}
 use Rattle.flat_scene.specs.Frames.{credits, taken, sessions_to}
 use Rattle.flat_scene.specs.History.{◌▹◌, is_closed, is_session, is_begin, is_finish}
 use Rattle.flat_core.specs.Legal.{Legal, is_token_back, is_told, is_poll, is_now, number_if, owns_viewport, has_token, sent_to, unread, answers, frames, is_frame_open, begin_time}
-use Rattle.flat_core.specs.Posts.{Sent, told_event, tokens_back, at_finish, at_begin, news_for, events_to, posted, up_to, frame_took}
+use Rattle.flat_core.specs.Posts.{Sent, told_event, tokens_back, at_finish, at_begin, news_for, events_to, posted, up_to, frame_took, event_of}
 use Rattle.flat_core.specs.Watch.{Watcher, layout_of, status_of, child_of, watching, told}
 use Rattle.flat_watch.specs.Told.{answer}
 use Rattle.flat_core.specs.Ends.{viewport_uses, views_of, viewports_of}
@@ -25,7 +25,13 @@ use Rattle.flat_core.proofs.EventsLocal.{viewports-owned, events-kept, events-dr
 use Rattle.flat_core.proofs.Locality.{same-session, entry-owned}
 use Rattle.flat_core.proofs.ToldLocal.{IsFamilyPair, no-frame, no-viewport}
 use Rattle.std.proofs.lemmas.Bool.{false_from_ne_true}
-use Rattle.flat_core.proofs.TokensBack.{no-told}
+use Rattle.flat_scene.specs.declared.calls.Watch.{Watch}
+use Rattle.flat_scene.specs.declared.journal.Told.{Told}
+
+pub no-told : (p q : PairNo) (get : Option Watch) (value : Option Told) → list_any (is_token_back p) (event_of q get value) ≡ false
+no-told p q None value = refl
+no-told p q (Some get) None = refl
+no-told p q (Some get) (Some value) = refl
 
 -- an event, and to whom it goes
 abbrev pub to_session : SessionNo → Event → Sent
