@@ -1,13 +1,10 @@
 -- Lists where all items pass a test, or some do.
 use Rattle.std.proofs.Common.{◌≡◌, ◌∙◌, Bool, true, false, List, [], ◌∷◌, ◌++◌, map, refl, arith, ap}
-use Rattle.std.specs.Prelude.{flat_map, ◌&&◌, ◌||◌}
+use Rattle.std.specs.Prelude.{flat_map, ◌||◌}
 use Rattle.std.specs.List.{list_all, list_any}
 use Rattle.std.proofs.lemmas.Grind.{flat_map-append}
 use Rattle.std.proofs.lemmas.List.Folds.{list_all-append, list_any-append}
-
-pub flat-map : {X Y Z : Type 0} (f : Y → List Z) (g : X → Y) (xs : List X) → flat_map f (map g xs) ≡ flat_map (λ x. f (g x)) xs
-flat-map f g [] = refl
-flat-map f g (x ∷ xs) = ap (λ l. f (g x) ++ l) (flat-map f g xs)
+use Rattle.std.proofs.lemmas.Bool.{or_right, or_left, and_from}
 
 pub flat-nested : {X Y Z : Type 0} (f : Y → List Z) (g : X → List Y) (xs : List X) → flat_map f (flat_map g xs) ≡ flat_map (λ x. flat_map f (g x)) xs
 flat-nested f g [] = refl
@@ -15,12 +12,8 @@ flat-nested f g (x ∷ xs) = flat_map-append f (g x) (flat_map g xs) ∙ ap (λ 
 
 -- ---- all
 
-pub and-both : (a b : Bool) → a ≡ true → b ≡ true → (a && b) ≡ true
-and-both true b first second = second
-and-both false b first second = cc
-
 pub all-append : {X : Type 0} (o : X → Bool) (xs ys : List X) → list_all o xs ≡ true → list_all o ys ≡ true → list_all o (xs ++ ys) ≡ true
-all-append o xs ys first second = list_all-append o xs ys ∙ and-both (list_all o xs) (list_all o ys) first second
+all-append o xs ys first second = list_all-append o xs ys ∙ and_from (list_all o xs) (list_all o ys) first second
 
 pub all-every : {X : Type 0} (o : X → Bool) → ((x : X) → o x ≡ true) → (xs : List X) → list_all o xs ≡ true
 all-every o each [] = refl
@@ -39,14 +32,6 @@ all-flat o q g each (x ∷ xs) all = all-append o (g x) (flat_map g xs) (each x 
 
 -- ---- some
 
-pub or-left : (a b : Bool) → a ≡ true → (a || b) ≡ true
-or-left true b is = refl
-or-left false b is = cc
-
-pub or-right : (a b : Bool) → b ≡ true → (a || b) ≡ true
-or-right true b is = refl
-or-right false b is = is
-
 pub any-same : {X : Type 0} (o q : X → Bool) → ((x : X) → o x ≡ q x) → (xs : List X) → list_any o xs ≡ list_any q xs
 any-same o q each [] = refl
 any-same o q each (x ∷ xs) = rw (each x, any-same o q each xs) refl
@@ -56,13 +41,13 @@ any-map o q g each [] some = cc
 any-map o q g each (x ∷ xs) some = by_first (any-map o q g each xs) (q x) refl some
   where
     by_first : (list_any q xs ≡ true → list_any o (map g xs) ≡ true) → (b : Bool) → q x ≡ b → (b || list_any q xs) ≡ true → (o (g x) || list_any o (map g xs)) ≡ true
-    by_first later true is some' = or-left (o (g x)) (list_any o (map g xs)) (each x is)
-    by_first later false is some' = or-right (o (g x)) (list_any o (map g xs)) (later some')
+    by_first later true is some' = or_left (o (g x)) (list_any o (map g xs)) (each x is)
+    by_first later false is some' = or_right (o (g x)) (list_any o (map g xs)) (later some')
 
 pub any-flat : {X Y : Type 0} (o : Y → Bool) (q : X → Bool) (g : X → List Y) → ((x : X) → q x ≡ true → list_any o (g x) ≡ true) → (xs : List X) → list_any q xs ≡ true → list_any o (flat_map g xs) ≡ true
 any-flat o q g each [] some = cc
 any-flat o q g each (x ∷ xs) some = list_any-append o (g x) (flat_map g xs) ∙ by_first (any-flat o q g each xs) (q x) refl some
   where
     by_first : (list_any q xs ≡ true → list_any o (flat_map g xs) ≡ true) → (b : Bool) → q x ≡ b → (b || list_any q xs) ≡ true → (list_any o (g x) || list_any o (flat_map g xs)) ≡ true
-    by_first later true is some' = or-left (list_any o (g x)) (list_any o (flat_map g xs)) (each x is)
-    by_first later false is some' = or-right (list_any o (g x)) (list_any o (flat_map g xs)) (later some')
+    by_first later true is some' = or_left (list_any o (g x)) (list_any o (flat_map g xs)) (each x is)
+    by_first later false is some' = or_right (list_any o (g x)) (list_any o (flat_map g xs)) (later some')

@@ -1,13 +1,10 @@
 -- Tokens that come back, and places of tokens.
-use Rattle.std.proofs.Common.{◌≡◌, ◌∙◌, ℕ, zero, suc, ◌+◌, ◌≤◌, Bool, true, false, List, [], ◌∷◌, map, filter, take, length, refl, arith, ap, add-one}
+use Rattle.std.proofs.Common.{◌≡◌, ◌∙◌, ℕ, zero, suc, ◌+◌, ◌≤◌, Bool, true, false, List, [], ◌∷◌, filter, take, length, refl, arith, ap, add-one}
 use Rattle.std.specs.Prelude.{cond, not, nat_lt, if◌then◌else◌}
 use Rattle.std.specs.List.{insert}
 use Rattle.flat_core.specs.declared.live.OutToken.{OutToken}
 use Rattle.flat_core.specs.Viewports.{with_out, place_of, is_back, back_events, still_out}
-
-mapped-long : {A B : Type 0} (f : A → B) (xs : List A) → length (map f xs) ≡ length xs
-mapped-long f [] = refl
-mapped-long f (x ∷ xs) = rw (mapped-long f xs) refl
+use Rattle.std.proofs.lemmas.List.{length-map}
 
 -- those that pass a test, and the others, are all
 parted : {A : Type 0} (q : A → Bool) (xs : List A) → length (filter (λ x. not (q x)) xs) + length (filter q xs) ≡ length xs
@@ -20,7 +17,7 @@ parted q (x ∷ xs) = by_test (parted q xs) (q x)
     by_test rest false = omega (arith, rest)
 
 pub back-or-out : (t : ℕ) (outs : List OutToken) → length (still_out t outs) + length (back_events t outs) ≡ length outs
-back-or-out t outs = ap (λ (n : ℕ). length (still_out t outs) + n) (mapped-long _ (filter (is_back t) outs)) ∙ parted (is_back t) outs
+back-or-out t outs = ap (λ (n : ℕ). length (still_out t outs) + n) (length-map (filter (is_back t) outs) _) ∙ parted (is_back t) outs
 
 take-few : {A : Type 0} (i : ℕ) (xs : List A) → length (take i xs) ≤ i
 take-few zero xs = omega arith

@@ -1,5 +1,5 @@
 -- What a begin changes of what is kept of a session.
-use Rattle.std.proofs.Common.{◌≡◌, ℕ, zero, suc, ◌+◌, ◌-◌, ◌≤◌, Bool, true, false, List, [], ◌∷◌, length, refl, arith, sym, ◌∙◌, ap, map, take, drop, All, length-drop, add-zero}
+use Rattle.std.proofs.Common.{◌≡◌, ℕ, zero, suc, ◌+◌, ◌-◌, ◌≤◌, Bool, true, false, List, [], ◌∷◌, length, refl, arith, sym, ◌∙◌, ap, map, take, drop, length-drop, add-zero}
 use Rattle.std.proofs.lemmas.List.{drop-drop, length-map, length-take}
 use Rattle.std.proofs.lemmas.List.Elements.{All-map, All-take, All-drop}
 use Rattle.std.specs.Prelude.{vec_capacity}
@@ -21,6 +21,7 @@ use Rattle.flat_core.specs.Begins.{begun}
 use Rattle.flat_core.specs.Kept.{IsKept, Below, kept_of, meant, release_of}
 use Rattle.flat_core.specs.Presents.{LetGo}
 use Rattle.flat_core.specs.Seen.{Seen, seen_of}
+use Rattle.flat_core.proofs.ListLemmas.{All-none}
 
 -- of a closed session nothing is taken, and all that waits goes
 pub seen-begun-closed : (setup : Setup) (h : List Entry) (line time : ℕ) (s : SessionNo) → is_closed s h ≡ true
@@ -103,9 +104,6 @@ kept-gone setup seen state kept gone = record {
   goes = kept.goes;
   room = kept.room;
 }
-
-All-none : {A : Type 0} (P : A → Type 0) (xs : List A) → xs ≡ [] → All P xs
-All-none P xs none = rw none (λ k d below. absurd (omega (arith, below)))
 
 pub kept-let_go : (setup : Setup) (seen : Seen) (state new : SessionState) → IsKept setup seen state → state.let_go ≡ false → state.closed ≡ true → LetGo state new
     → IsKept setup (record seen { going = seen.waiting; took = 0 }) new

@@ -27,6 +27,7 @@ use Rattle.flat_core.proofs.Unwatched.{unwatched, is_layout, is_status}
 use Rattle.flat_core.proofs.ViewHistory.{used_in}
 use Rattle.flat_core.proofs.EventsLocal.{hears-view, flat-same, views-owned}
 use Rattle.flat_core.proofs.ViewSteps.{same-pair}
+use Rattle.flat_core.proofs.OwnedTree.{pair_no}
 
 -- whether an entry uses a viewport end, or is refused it
 abbrev pub is_viewport : Kind → Bool
@@ -36,7 +37,7 @@ is_viewport _ = false
 -- ---- a view that is made
 
 -- a view that isn't refused wasn't made before
-fresh-view : (n : ℕ) (reply : Reply) (b : Bool) → (n == 0) ≡ b → reply ≡ cond b Done refused_token → is_done reply ≡ true → nat_lt 0 n ≡ false
+pub fresh-view : (n : ℕ) (reply : Reply) (b : Bool) → (n == 0) ≡ b → reply ≡ cond b Done refused_token → is_done reply ≡ true → nat_lt 0 n ≡ false
 fresh-view n reply true is replied done = grind (arith, nat_tests)
 fresh-view n reply false is replied done = let wrong : false ≡ true = ap is_done (sym replied) ∙ done in cc
 
@@ -110,39 +111,41 @@ flat-here : (f : PairNo → List Event) (b : Bool) (p : PairNo) (more : List Pai
 flat-here f true p more none = ap (λ (l : List Event). f p ++ l) none ∙ append-nil (f p)
 flat-here f false p more none = none
 
-abbrev numbered : ℕ → PairNo
-numbered n = record { 0 = n }
-
-none-later : (f : PairNo → List Event) (test : PairDecl → Bool) (n k : ℕ) (pairs : List PairDecl) → ((m : ℕ) → m ≢ k → f (numbered m) ≡ []) → nat_lt k n ≡ true → flat_map f (pairs_where test n pairs) ≡ []
+none-later : (f : PairNo → List Event) (test : PairDecl → Bool) (n k : ℕ) (pairs : List PairDecl) → ((m : ℕ) → m ≢ k → f (pair_no m) ≡ []) → nat_lt k n ≡ true → flat_map f (pairs_where test n pairs) ≡ []
 none-later f test n k [] others less = refl
 none-later f test n k (pair ∷ pairs) others less =
-    flat-first f (test pair) (numbered n) (pairs_where test (n + 1) pairs) (others n (λ same. let wrong : nat_lt k n ≡ false = grind (arith, nat_tests) in cc))
+    flat-first f (test pair) (pair_no n) (pairs_where test (n + 1) pairs) (others n (λ same. let wrong : nat_lt k n ≡ false = grind (arith, nat_tests) in cc))
     ∙ none-later f test (n + 1) k pairs others (grind (arith, nat_tests))
 
-flat-one : (f : PairNo → List Event) (test : PairDecl → Bool) (n k : ℕ) (pairs : List PairDecl) → ((m : ℕ) → m ≢ n + k → f (numbered m) ≡ [])
-    → flat_map f (pairs_where test n pairs) ≡ cond (unwrap_or (option_map test (slice_get pairs k)) false) (f (numbered (n + k))) []
+flat-one : (f : PairNo → List Event) (test : PairDecl → Bool) (n k : ℕ) (pairs : List PairDecl) → ((m : ℕ) → m ≢ n + k → f (pair_no m) ≡ [])
+    → flat_map f (pairs_where test n pairs) ≡ cond (unwrap_or (option_map test (slice_get pairs k)) false) (f (pair_no (n + k))) []
 flat-one f test n k [] others = refl
 flat-one f test n zero (pair ∷ pairs) others =
     let later : flat_map f (pairs_where test (n + 1) pairs) ≡ [] = none-later f test (n + 1) n pairs (λ m other. others m (λ same. other (omega arith))) (grind (arith, nat_tests)) in
-    flat-here f (test pair) (numbered n) (pairs_where test (n + 1) pairs) later ∙ ap (λ (m : ℕ). cond (test pair) (f (numbered m)) []) (sym (add-zero n))
+    flat-here f (test pair) (pair_no n) (pairs_where test (n + 1) pairs) later ∙ ap (λ (m : ℕ). cond (test pair) (f (pair_no m)) []) (sym (add-zero n))
 flat-one f test n (suc k) (pair ∷ pairs) others =
     let place : n + 1 + k ≡ n + suc k = omega arith in
-    flat-first f (test pair) (numbered n) (pairs_where test (n + 1) pairs) (others n (λ same. absurd (omega arith)))
+    flat-first f (test pair) (pair_no n) (pairs_where test (n + 1) pairs) (others n (λ same. absurd (omega arith)))
     ∙ flat-one f test (n + 1) k pairs (λ m other. others m (λ same. other (omega arith)))
-    ∙ ap (λ (m : ℕ). cond (unwrap_or (option_map test (slice_get pairs k)) false) (f (numbered m)) []) place
+    ∙ ap (λ (m : ℕ). cond (unwrap_or (option_map test (slice_get pairs k)) false) (f (pair_no m)) []) place
 
-nested : (s : SessionNo) (o : Option PairDecl) → unwrap_or (option_map (λ (pair : PairDecl). pair.view.0 == s.0) o) false ≡ unwrap_or (option_map (λ (t : SessionNo). t.0 == s.0) (option_map (λ (pair : PairDecl). pair.view) o)) false
-nested s None = refl
-nested s (Some pair) = refl
+-- what is asked of an owner is asked of its pair
+pub view-nested : (s : SessionNo) (o : Option PairDecl) → unwrap_or (option_map (λ (pair : PairDecl). pair.view.0 == s.0) o) false ≡ unwrap_or (option_map (λ (t : SessionNo). t.0 == s.0) (option_map (λ (pair : PairDecl). pair.view) o)) false
+view-nested s None = refl
+view-nested s (Some pair) = refl
+
+pub viewport-nested : (s : SessionNo) (o : Option PairDecl) → unwrap_or (option_map (λ (pair : PairDecl). is_session s pair.viewport) o) false ≡ unwrap_or (option_map (is_session s) (option_map (λ (pair : PairDecl). pair.viewport) o)) false
+viewport-nested s None = refl
+viewport-nested s (Some pair) = refl
 
 -- of all pairs whose view end a session owns
 views-at : (setup : Setup) (s : SessionNo) (q : PairNo) (f : PairNo → List Event) → ((p : PairNo) → p.0 ≢ q.0 → f p ≡ []) → flat_map f (views_of setup s) ≡ cond (owns_view setup s q) (f q) []
 views-at setup s q f others =
     let test : PairDecl → Bool = λ pair. pair.view.0 == s.0 in
     let place : 0 + q.0 ≡ q.0 = omega arith in
-    flat-one f test 0 q.0 setup.pairs (λ m other. others (numbered m) (λ same. other (omega (arith, same))))
-    ∙ ap (λ (m : ℕ). cond (unwrap_or (option_map test (slice_get setup.pairs q.0)) false) (f (numbered m)) []) place
-    ∙ ap (λ b. cond b (f q) []) (nested s (slice_get setup.pairs q.0))
+    flat-one f test 0 q.0 setup.pairs (λ m other. others (pair_no m) (λ same. other (omega (arith, same))))
+    ∙ ap (λ (m : ℕ). cond (unwrap_or (option_map test (slice_get setup.pairs q.0)) false) (f (pair_no m)) []) place
+    ∙ ap (λ b. cond b (f q) []) (view-nested s (slice_get setup.pairs q.0))
 
 owned-none : (b : Bool) (xs : List Event) → (b ≡ true → xs ≡ []) → cond b xs [] ≡ []
 owned-none true xs none = none refl

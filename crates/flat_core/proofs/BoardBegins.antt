@@ -1,8 +1,7 @@
 -- All that is kept, after a begin.
 use Rattle.std.proofs.Common.{◌≡◌, ℕ, ◌+◌, ◌-◌, ◌*◌, ◌<◌, ◌≤◌, ◌^◌, Bool, true, false, List, [], ◌∷◌, ◌++◌, length, refl, arith, sym, ◌∙◌, ap, map, drop, Some, slice_get, one-add, add-one}
-use Rattle.std.specs.Prelude.{cond, ◌||◌, flat_map}
+use Rattle.std.specs.Prelude.{cond, ◌||◌}
 use Rattle.std.specs.List.{prefix_len}
-use Rattle.std.proofs.lemmas.List.{map-append}
 use Rattle.std.proofs.lemmas.List.Sums.{count_by-le-length, length-filter}
 use Rattle.std.proofs.lemmas.List.Folds.{length-prefix_len}
 use Rattle.flat_base.specs.declared.ids.Actor.TheVariants.{Display}
@@ -32,18 +31,11 @@ use Rattle.flat_core.proofs.DoneSteps.{released_to}
 use Rattle.flat_core.proofs.Begun.{seen-begun-open}
 use Rattle.flat_core.proofs.Entered.{Entered}
 use Rattle.flat_core.proofs.Steps.{legal-entered, frames-quiet, or-false, room-entered, few-history}
-
-map-flat : {A B C : Type 0} (f : B → C) (g : A → List B) (xs : List A) → map f (flat_map g xs) ≡ flat_map (λ x. map f (g x)) xs
-map-flat f g [] = refl
-map-flat f g (x ∷ xs) = rw (map-append, map-flat f g xs) refl
+use Rattle.flat_core.proofs.ListLemmas.{flat-mapped, flat-each}
 
 map-twice : {A B C : Type 0} (f : B → C) (g : A → B) (xs : List A) → map f (map g xs) ≡ map (λ x. f (g x)) xs
 map-twice f g [] = refl
 map-twice f g (x ∷ xs) = rw (map-twice f g xs) refl
-
-flat-same : {A B : Type 0} (f g : A → List B) (xs : List A) → ((x : A) → f x ≡ g x) → flat_map f xs ≡ flat_map g xs
-flat-same f g [] same = refl
-flat-same f g (x ∷ xs) same = rw (same x, flat-same f g xs same) refl
 
 -- the posts of an entry, session by session
 pub posts-all : (setup : Setup) (h : List Entry) (e : Entry) → posts setup (h ▹ e) ≡ posts setup h ++ posts_to setup h e setup.sessions
@@ -51,8 +43,8 @@ posts-all setup h e =
     let send : SessionNo → List Sent = λ s. map (λ event. record { to = s; event = event }) (events_to setup h e s) in
     let post : Sent → Post = λ sent. record { entry = length h; session = sent.to; event = sent.event } in
     ap (λ more. posts setup h ++ more)
-    (map-flat post send (sessions_to setup.sessions)
-    ∙ flat-same (λ s. map post (send s)) (λ s. map (post_of (length h) s) (events_to setup h e s)) (sessions_to setup.sessions) (λ s. map-twice post (λ event. record { to = s; event = event }) (events_to setup h e s)))
+    (flat-mapped post send (sessions_to setup.sessions)
+    ∙ flat-each (λ s. map post (send s)) (λ s. map (post_of (length h) s) (events_to setup h e s)) (λ s. map-twice post (λ event. record { to = s; event = event }) (events_to setup h e s)) (sessions_to setup.sessions))
 
 -- What the entry of a frame did, from the log before to the log after: so many events were posted.
 pub record Framed (setup : Setup) (h : List Entry) (e : Entry) (log mid then : Logged) (count dues dues_now : ℕ) : Type 0 where

@@ -11,6 +11,7 @@ use Rattle.flat_core.specs.declared.pairs.PairState.{PairState}
 use Rattle.flat_core.specs.Clears.{is_clear, is_cleared, clears_pair, cleared_if, ClearsOne, ClearsLive}
 use Rattle.flat_core.specs.Stamps.{stamp_then}
 use Rattle.flat_core.proofs.Marks.{stamp-none}
+use Rattle.std.proofs.lemmas.Bool.{and_right}
 
 abbrev with_clear : PairState → Option ℕ → PairState
 with_clear state stamp = record state { cleared = stamp }
@@ -31,10 +32,6 @@ and-true : (a b : Bool) → b ≡ true → (a && b) ≡ a
 and-true true b is = is
 and-true false b is = refl
 
-and-false : (a b : Bool) → b ≡ false → (a && b) ≡ false
-and-false true b is = is
-and-false false b is = refl
-
 -- one that the calls clear, and then the others
 pub clears-more : (one : Live) (live : List Live) (calls : List Call) (k : ℕ) (a b c : List PairState) → is_cleared one.name calls ≡ true → ClearsOne one.pair k a b → ClearsLive live calls k b c → ClearsLive (one ∷ live) calls k a c
 clears-more one live calls k a b c is first later = record {
@@ -54,7 +51,7 @@ clears-less one live calls k a c is later = record {
   each = λ i d below.
       let q : PairNo = record { 0 = i } in
       let x : PairState = slice_index_or a i d in
-      later.each i d below ∙ ap (λ (t : Bool). with_clear x (stamp_then x.cleared (t || clears_pair q live calls) k)) (sym (and-false (one.pair.0 == i) (is_cleared one.name calls) is));
+      later.each i d below ∙ ap (λ (t : Bool). with_clear x (stamp_then x.cleared (t || clears_pair q live calls) k)) (sym (and_right (one.pair.0 == i) (is_cleared one.name calls) is));
 }
 
 no-clear : (name : ContentId) (calls : List Call) → list_any is_clear calls ≡ false → is_cleared name calls ≡ false

@@ -1,5 +1,5 @@
 -- What is taken and what waits are the presents.
-use Rattle.std.proofs.Common.{◌≡◌, ℕ, ◌+◌, ◌-◌, ◌<◌, ◌≤◌, Bool, true, false, List, length, refl, arith, sym, ◌∙◌, ap, map, length-drop}
+use Rattle.std.proofs.Common.{◌≡◌, ℕ, ◌+◌, ◌-◌, ◌<◌, ◌≤◌, Bool, true, false, List, length, refl, arith, sym, ◌∙◌, ap, length-drop}
 use Rattle.std.proofs.lemmas.List.{length-map}
 use Rattle.std.proofs.lemmas.List.Sums.{prefix_len-le-length}
 use Rattle.std.proofs.lemmas.List.Folds.{length-prefix_len}
@@ -21,6 +21,7 @@ use Rattle.flat_core.specs.declared.state.Account.{Account}
 use Rattle.flat_core.specs.declared.state.SessionState.{SessionState}
 use Rattle.flat_core.specs.Kept.{IsKept, taken_in, waiting_in, credits_in, release_of, kept_of, meant}
 use Rattle.flat_core.specs.Seen.{Seen, seen_of}
+use Rattle.flat_core.specs.Legal.{number_if}
 
 pub length-take_while : {A : Type 0} (p : A → Bool) (xs : List A) → length (take_while p xs) ≤ length xs
 length-take_while p xs = rw (length-prefix_len p xs) (prefix_len-le-length p xs)
@@ -28,15 +29,12 @@ length-take_while p xs = rw (length-prefix_len p xs) (prefix_len-le-length p xs)
 pub seen-count : (setup : Setup) (h : List Entry) (s : SessionNo) → taken setup h s + length (waiting setup h s) ≡ length (presents s h)
 seen-count setup h s = omega (arith, taken-made setup s h, length-drop (taken setup h s) (presents s h))
 
-mapped-length : {A B : Type 0} (f : A → B) (xs : List A) → length (map f xs) ≡ length xs
-mapped-length f xs = simp length-map
-
 -- what a session's state answers is what the definitions say
 pub kept-waiting : (setup : Setup) (seen : Seen) (state : SessionState) → IsKept setup seen state → (gone : Bool) → state.let_go ≡ gone → cond gone (length state.going.items) (length state.queue.waiting) ≡ length seen.waiting
 kept-waiting setup seen state kept true gone =
-    ap length kept.going ∙ mapped-length release_of seen.going ∙ ap length (kept.let_go gone).2
+    ap length kept.going ∙ length-map seen.going release_of ∙ ap length (kept.let_go gone).2
 kept-waiting setup seen state kept false gone =
-    sym (mapped-length kept_of state.queue.waiting) ∙ ap length (kept.waiting gone) ∙ mapped-length (meant setup) seen.waiting
+    sym (length-map state.queue.waiting kept_of) ∙ ap length (kept.waiting gone) ∙ length-map seen.waiting (meant setup)
 
 pub waiting-kept : (setup : Setup) (seen : Seen) (state : SessionState) → IsKept setup seen state → waiting_in state ≡ length seen.waiting
 waiting-kept setup seen state kept = kept-waiting setup seen state kept state.let_go refl
@@ -55,15 +53,18 @@ pub credits-kept : (setup : Setup) (seen : Seen) (state : SessionState) → IsKe
     → credits_in state ≡ cond (seen.taken == 0) 1 5 - length seen.waiting
 credits-kept setup seen state kept count = rw (taken-kept setup seen state kept count, waiting-kept setup seen state kept) refl
 
-one-back : (n : ℕ) → 0 < n → n - 1 + 1 ≡ n
+pub one-back : (n : ℕ) → 0 < n → n - 1 + 1 ≡ n
 one-back n some = omega arith
+
+-- the session at a session's place
+pub same-number : (s : SessionNo) → 0 < s.0 → number (s.0 - 1) ≡ s
+same-number s some = ap (λ (n : ℕ). let r : SessionNo = record { 0 = n } in r) (one-back s.0 some)
 
 -- what holds of all by their places holds of a session
 pub at-session : {A : Type 0} (P : SessionNo → A → Type 0) (xs : List A) (s : SessionNo) (x : A) → AllNumbered (λ i. P (number i)) xs → 0 < s.0 → s.0 ≤ length xs → x ≡ slice_index_or xs (s.0 - 1) x → P s x
 at-session P xs s x each some few is =
     let here : P (number (s.0 - 1)) (slice_index_or xs (s.0 - 1) x) = each (s.0 - 1) x (omega arith) in
-    let same : number (s.0 - 1) ≡ s = ap (λ (n : ℕ). let r : SessionNo = record { 0 = n } in r) (one-back s.0 some) in
-    rw (← same) (rw is here)
+    rw (← same-number s some) (rw is here)
 
 pub lt-of : (m n : ℕ) → nat_lt m n ≡ true → m < n
 lt-of m n h = grind (arith, nat_tests)
@@ -80,3 +81,7 @@ pub kept-session : (setup : Setup) (h : List Entry) (clock : Clock) (fences view
 kept-session setup h clock fences views sessions s state stands declared is =
     let here = declared-some s.0 setup.sessions declared in
     at-session (λ s. IsKept setup (seen_of setup h s)) sessions s state stands.each here.0 (rw stands.count here.1) is
+
+pub few-if : (b : Bool) → number_if b ≤ 1
+few-if true = omega arith
+few-if false = omega arith

@@ -20,6 +20,9 @@ use Rattle.flat_core.specs.Kept.{IsKept, AllNumbered, release_of}
 use Rattle.flat_core.specs.Seen.{seen_of}
 use Rattle.flat_core.proofs.BeginLoop.{same-side, this-side, not-below, none-below, all-below, sessions-on}
 use Rattle.flat_core.proofs.Changes.{changed-one}
+use Rattle.flat_core.proofs.Steps.{or-false}
+use Rattle.std.proofs.lemmas.List.Folds.{list_any-append}
+use Rattle.std.proofs.Math.Bool.{or_assoc}
 
 -- ---- two runs of posts
 
@@ -28,14 +31,6 @@ told-then f old mid new xs ys events first second all =
     second ∙ ap (λ (ps : List Post). ps ++ map f ys) first ∙ append_assoc old (map f xs) (map f ys) ∙ ap (λ (ps : List Post). old ++ ps) (sym (map-append f xs ys)) ∙ ap (λ (es : List Event). old ++ map f es) (sym all)
 
 -- ---- session by session
-
-or-group : (a b c : Bool) → (a || (b || c)) ≡ ((a || b) || c)
-or-group true b c = refl
-or-group false b c = refl
-
-any-append : {A : Type 0} (f : A → Bool) (xs ys : List A) → list_any f (xs ++ ys) ≡ (list_any f xs || list_any f ys)
-any-append f [] ys = refl
-any-append f (x ∷ xs) ys = rw (any-append f xs ys) (or-group (f x) (list_any f xs) (list_any f ys))
 
 or-last : (a b : Bool) → (a || (b || false)) ≡ (a || b)
 or-last true b = refl
@@ -49,7 +44,7 @@ released_to setup h n g = list_any (λ s. is_released_by (going setup h s) g) (s
 pub released-on : (setup : Setup) (h : List Entry) (i : ℕ) (g : FenceNo) → released_to setup h (i + 1) g ≡ (released_to setup h i g || is_released_by (going setup h (number i)) g)
 released-on setup h i g =
     let f : SessionNo → Bool = λ s. is_released_by (going setup h s) g in
-    ap (list_any f) (sessions-on i) ∙ any-append f (sessions_to i) (number i ∷ []) ∙ or-last (list_any f (sessions_to i)) (f (number i))
+    ap (list_any f) (sessions-on i) ∙ list_any-append f (sessions_to i) (number i ∷ []) ∙ or-last (list_any f (sessions_to i)) (f (number i))
 
 abbrev pub DoneUpTo : Setup → List Entry → ℕ → ℕ → ℕ → SessionState → Type 0
 DoneUpTo setup h line i j = IsKept setup (seen_of setup (cond (nat_lt j i) (finished h line) h) (number j))
@@ -111,11 +106,7 @@ pub members-next : (setup : Setup) (was h : List Entry) (i : ℕ) (g : FenceNo) 
     → new ≡ (first || released_to setup h (i + 1) g)
 members-next setup was h i g first old new same so_far more =
     more ∙ ap (λ b. b || is_released_by (going setup was (number i)) g) so_far ∙ ap (λ (k : List Entry). (first || released_to setup h i g) || is_released_by (going setup k (number i)) g) same
-    ∙ sym (or-group first (released_to setup h i g) (is_released_by (going setup h (number i)) g)) ∙ ap (λ b. first || b) (sym (released-on setup h i g))
-
-or-none : (b : Bool) → b ≡ (b || false)
-or-none true = refl
-or-none false = refl
+    ∙ or_assoc first (released_to setup h i g) (is_released_by (going setup h (number i)) g) ∙ ap (λ b. first || b) (sym (released-on setup h i g))
 
 pub members-start : (setup : Setup) (h : List Entry) (g : FenceNo) (b : Bool) → b ≡ (b || released_to setup h 0 g)
-members-start setup h g b = or-none b
+members-start setup h g b = or-false b

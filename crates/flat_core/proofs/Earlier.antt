@@ -21,6 +21,7 @@ use Rattle.flat_core.specs.Stamps.{is_seen, first_at}
 use Rattle.flat_core.proofs.Quiet.{taken-quiet}
 use Rattle.flat_core.proofs.Stamped.{stamped, often-lasts}
 use Rattle.flat_core.proofs.ViewLaw.{made_at, made-earlier}
+use Rattle.std.proofs.lemmas.Bool.{not-true}
 
 -- ---- a history without its newest entries
 
@@ -133,11 +134,7 @@ taken-finished setup s (h ▹ e) rests = by_kind (λ r. taken-finished setup s h
     by_kind before false quiet false goes r = taken-quiet setup h e s quiet ∙ before (rw (quiet, goes) at r)
 
 frame-rests : (h : List Entry) (kind : Kind) → keeps_time h kind ≡ true → is_begin kind ≡ true → is_frame_open h ≡ false
-frame-rests h (Begin time) keeps is = by_open (is_frame_open h) (and-left (not (is_frame_open h)) (nat_le (begin_time h) time) keeps)
-  where
-    by_open : (b : Bool) → not b ≡ true → b ≡ false
-    by_open true h' = cc
-    by_open false h' = refl
+frame-rests h (Begin time) keeps is = not-true (is_frame_open h) (and-left (not (is_frame_open h)) (nat_le (begin_time h) time) keeps)
 frame-rests h _ keeps is = cc
 
 -- what was taken before the open frame began is what the last finished one had taken
@@ -192,3 +189,8 @@ times-rise setup test s h n m less fits = by_count (times setup test (Ok empty_d
         let few : n ≤ length (presents s h) = omega (arith, less, fits) in
         let then : enough (made_at (presents s h) m) ≡ true = stamps.seen m fits ∙ seen-later (first_at enough s h) (sym (stamps.seen n few) ∙ here) in
         grind (arith, nat_tests)
+
+-- a history had taken no less than one entry before
+pub taken-drop : (setup : Setup) (s : SessionNo) (h : List Entry) → taken setup (drop 1 h) s ≤ taken setup h s
+taken-drop setup s [] = omega arith
+taken-drop setup s (h ▹ e) = omega arith

@@ -1,6 +1,6 @@
 -- What entries do to what is kept of all sessions' viewports.
 use Rattle.std.proofs.Common.{◌≡◌, ◌∙◌, sym, ℕ, ◌+◌, ◌-◌, ◌<◌, Bool, true, false, List, [], ◌∷◌, length, refl, arith, ap, subst, All, slice_set, slice_index_or}
-use Rattle.std.specs.Prelude.{IsTrue, Option, Some, None, option_map, unwrap_or, slice_get, ◌++◌, ◌&&◌, ◌||◌, ◌==◌, nat_lt, nat_le, sum_by, not}
+use Rattle.std.specs.Prelude.{IsTrue, Option, Some, None, option_map, unwrap_or, slice_get, ◌++◌, ◌&&◌, ◌==◌, nat_lt, nat_le, sum_by}
 use Rattle.std.specs.List.{list_any}
 use Rattle.std.proofs.lemmas.Bool.Decides.{nat_tests}
 use Rattle.std.proofs.lemmas.List.{length-set, length-map}
@@ -36,13 +36,14 @@ use Rattle.flat_core.specs.Presents.{HasNone, IsNoted, IsOwn, EndsNoted}
 use Rattle.flat_core.specs.Seen.{is_new_viewport, seen_of}
 use Rattle.flat_core.specs.Viewports.{AreViewports, marked, out_of, outs_of}
 use Rattle.flat_core.proofs.Changes.{changed-one, not-session, is-session, sum-same}
-use Rattle.flat_core.proofs.Counts.{at-session, declared-some, kept-session}
+use Rattle.flat_core.proofs.Counts.{at-session, declared-some, kept-session, same-number}
 use Rattle.flat_core.proofs.ListLemmas.{flat_map-none}
 use Rattle.flat_core.proofs.Ones.{declared-of}
 use Rattle.flat_core.proofs.Steps.{legal-entered}
 use Rattle.flat_core.proofs.TiesSteps.{tied-idle}
 use Rattle.flat_core.proofs.ViewCalls.{split-last}
 use Rattle.flat_core.proofs.ViewportSteps.{viewports-other, viewports-own}
+use Rattle.std.proofs.lemmas.Bool.{not-true, or_parts}
 
 -- ---- lists
 
@@ -57,12 +58,6 @@ le-number i n below = by_tests (nat_lt 0 (i + 1)) (nat_le (i + 1) n) refl refl
 -- the session at a place is declared
 pub number-declared : (setup : Setup) (i n : ℕ) → n ≡ setup.sessions → i < n → is_declared setup (number i) ≡ true
 number-declared setup i n same below = le-number i setup.sessions (omega (arith, same, below))
-
-one-back : (n : ℕ) → 0 < n → n - 1 + 1 ≡ n
-one-back n some = omega arith
-
-same-number : (s : SessionNo) → 0 < s.0 → number (s.0 - 1) ≡ s
-same-number s some = ap (λ (n : ℕ). let r : SessionNo = record { 0 = n } in r) (one-back s.0 some)
 
 -- ---- a session that is closed
 
@@ -164,10 +159,6 @@ may_make (Viewport p props) = true
 may_make (Close reason) = true
 may_make _ = false
 
-pub neither : (a b : Bool) → (a || b) ≡ false → (a ≡ false) × (b ≡ false)
-neither true b none = cc
-neither false b none = (refl, none)
-
 link-made : (call : Call) → is_link call ≡ false → is_new_viewport call ≡ false
 link-made (CreateViewport c p w h inset) none = cc
 link-made _ none = refl
@@ -175,12 +166,8 @@ link-made _ none = refl
 pub links-made : (xs : List Call) → list_any is_link xs ≡ false → list_any is_new_viewport xs ≡ false
 links-made [] none = refl
 links-made (x ∷ xs) none =
-    let two = neither (is_link x) (list_any is_link xs) none in
+    let two = or_parts (is_link x) (list_any is_link xs) none in
     rw (link-made x two.0, links-made xs two.1) refl
-
-pub not-none : (b : Bool) → not b ≡ true → b ≡ false
-not-none true h = cc
-not-none false h = refl
 
 view-made : (p : PairNo) (call : Option Call) → makes_view p call ≡ true → (c : Call) → call ≡ Some c → is_new_viewport c ≡ false
 view-made p None is c same = cc
@@ -196,10 +183,10 @@ last-view p xs (Some call) at is none =
 
 -- none of them makes one
 pub none-new : (kind : Kind) (xs : List Call) → may_make kind ≡ false → links_alone kind xs ≡ true → own_call kind (slice_get xs (length xs - 1)) ≡ true → list_any is_new_viewport xs ≡ false
-none-new (View p) xs quiet alone own = last-view p xs (slice_get xs (length xs - 1)) refl own (not-none _ alone)
+none-new (View p) xs quiet alone own = last-view p xs (slice_get xs (length xs - 1)) refl own (not-true _ alone)
 none-new (Viewport p props) xs quiet alone own = cc
 none-new (Close reason) xs quiet alone own = cc
-none-new kind xs quiet alone own = links-made xs (not-none _ alone)
+none-new kind xs quiet alone own = links-made xs (not-true _ alone)
 
 no-use : (kind : Kind) (reply : Reply) (p : PairNo) → may_make kind ≡ false → (uses_viewport p kind && is_done reply) ≡ false
 no-use (Viewport q props) reply p quiet = cc

@@ -26,6 +26,7 @@ use Rattle.flat_core.proofs.FramesLocal.{took-only, credits-only}
 use Rattle.flat_core.proofs.Locality.{own-only, same-session}
 use Rattle.flat_core.proofs.ToldLocal.{IsFamilyPair, told-only, viewports-only, begin-only, legal-begin, no-frame, taken-calls-only}
 use Rattle.flat_core.proofs.WatchLocal.{watching-only, at-rest, pair-of-viewport, pair-of-view}
+use Rattle.flat_core.proofs.ListLemmas.{flat-each, flat_map-none}
 
 -- ---- lists
 
@@ -37,20 +38,12 @@ flat-same o f g same (x ∷ xs) all =
     let rest : flat_map f xs ≡ flat_map g xs = flat-same o f g same xs (grind arith) in
     rw (first, rest) refl
 
-pub flat-each : {X Y : Type 0} (f g : X → List Y) → ((x : X) → f x ≡ g x) → (xs : List X) → flat_map f xs ≡ flat_map g xs
-flat-each f g same [] = refl
-flat-each f g same (x ∷ xs) = rw (same x, flat-each f g same xs) refl
-
 pub flat-none : {X Y : Type 0} (o : X → Bool) (f : X → List Y) → ((x : X) → o x ≡ true → f x ≡ []) → (xs : List X) → list_all o xs ≡ true → flat_map f xs ≡ []
 flat-none o f none [] all = refl
 flat-none o f none (x ∷ xs) all =
     let first : f x ≡ [] = none x (grind arith) in
     let rest : flat_map f xs ≡ [] = flat-none o f none xs (grind arith) in
     rw (first, rest) refl
-
-pub flat-nothing : {X Y : Type 0} (f : X → List Y) → ((x : X) → f x ≡ []) → (xs : List X) → flat_map f xs ≡ []
-flat-nothing f none [] = refl
-flat-nothing f none (x ∷ xs) = rw (none x, flat-nothing f none xs) refl
 
 -- five parts in a row
 pub five-same : {X : Type 0} (a a' b b' c c' d d' e e' : List X) → a ≡ a' → b ≡ b' → c ≡ c' → d ≡ d' → e ≡ e' → (a ++ b ++ c ++ d ++ e) ≡ (a' ++ b' ++ c' ++ d' ++ e')
@@ -207,7 +200,7 @@ module _ (setup : Setup) (of_family : SessionNo → Bool) (closed : IsClosedFami
     told-none p watcher pair listens =
         let still : told setup (before ▹ e) watcher ≡ told setup before watcher =
         sym (told-only setup of_family closed watcher pair (before ▹ e) legal) ∙ (ap (λ (h : List Entry). told setup h watcher) dropped-is ∙ told-only setup of_family closed watcher pair before legal.0) in
-        let rests : settled true (told setup before watcher) (watching setup watcher before) ≡ watching setup watcher before = rw listens at (at-rest setup of_family closed watcher before) in
+        let rests : settled true (told setup before watcher) (watching setup watcher before) ≡ watching setup watcher before = rw listens at (at-rest setup watcher before) in
         rw still (rest-none p (answer (told setup before watcher) (watching setup watcher before)) (watching setup watcher before) rests)
 
     still-open : (s : SessionNo) → of_family s ≡ true → is_closed s (before ▹ e) ≡ is_closed s before
@@ -219,7 +212,7 @@ module _ (setup : Setup) (of_family : SessionNo → Bool) (closed : IsClosedFami
         (flat-none (owns_view setup s) _ (λ p owns. told-none p (layout_of p) (pair-of-view setup of_family closed p s mine owns) (hears-view setup (view_owner setup p) s before owns going)) (views_of setup s) (views-owned setup s))
         (flat-none (owns_view setup s) _ (λ p owns. told-none p (status_of p) (pair-of-view setup of_family closed p s mine owns) (hears-view setup (view_owner setup p) s before owns going)) (views_of setup s) (views-owned setup s))
         (flat-none (owns_viewport setup s) _ (λ p owns.
-        flat-nothing _ (λ n. told-none p (child_of p n) (pair-of-viewport setup of_family closed p s mine owns) (hears-viewport setup (viewport_owner setup p) s before owns going)) (up_to (length (viewport_uses p before)))) (viewports_of setup s) (viewports-owned setup s))
+        flat_map-none _ (up_to (length (viewport_uses p before))) (λ n. told-none p (child_of p n) (pair-of-viewport setup of_family closed p s mine owns) (hears-viewport setup (viewport_owner setup p) s before owns going))) (viewports_of setup s) (viewports-owned setup s))
         (ap (λ (b : Bool). cond b (at_finish setup before s) []) (no-frame setup of_family closed e.kind e.actor out legal.1.may.acts).1)
         (ap (λ (b : Bool). cond b (at_begin setup before e s) []) (no-frame setup of_family closed e.kind e.actor out legal.1.may.acts).0)
 

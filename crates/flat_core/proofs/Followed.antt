@@ -9,7 +9,7 @@ use Rattle.flat_scene.specs.declared.setup.Setup.{Setup}
 use Rattle.flat_scene.specs.History.{◌▹◌, own, calls, is_begin, is_closed, is_finish, is_session}
 use Rattle.flat_core.specs.declared.following.Following.{Following}
 use Rattle.flat_core.specs.Ends.{to_begin, to_finished}
-use Rattle.flat_core.specs.Following.{IsFollowed, capped, glimpse_of}
+use Rattle.flat_core.specs.Following.{IsFollowed, capped, sight_of}
 use Rattle.flat_core.specs.Serials.{contents_made}
 use Rattle.flat_core.specs.Views.{view_after}
 use Rattle.flat_core.proofs.PairIdle.{shut-stays}
@@ -41,13 +41,13 @@ module _ (setup : Setup) (s : SessionNo) (h : List Entry) (e : Entry) where
     contents = λ o.
         contents (length (contents_made (calls s h))) (old.contents (before-open o)) ∙ ap (λ (cs : List Call). capped (length (contents_made (calls s h)) + length (contents_made cs))) (sym carried)
         ∙ ap capped (sym (contents-own mine));
-    begun = begun ∙ old.begun ∙ ap (λ (k : List Entry). glimpse_of setup k s) (sym (begin-same no_begin));
-    finished = finished ∙ old.finished ∙ ap (λ (k : List Entry). glimpse_of setup k s) (sym (finished-same no_finish));
+    begun = begun ∙ old.begun ∙ ap (λ (k : List Entry). sight_of setup k s) (sym (begin-same no_begin));
+    finished = finished ∙ old.finished ∙ ap (λ (k : List Entry). sight_of setup k s) (sym (finished-same no_finish));
   }
 
   -- another's, and its own once it was closed: the calls that count stay
   pub followed-still : (is_session s e.actor ≡ true → is_closed s h ≡ true) → (state new : Following) → new.view ≡ state.view → new.contents ≡ state.contents
-      → new.begun ≡ glimpse_of setup (to_begin (h ▹ e)) s → new.finished ≡ glimpse_of setup (to_finished (h ▹ e)) s → IsFollowed setup h s state → IsFollowed setup (h ▹ e) s new
+      → new.begun ≡ sight_of setup (to_begin (h ▹ e)) s → new.finished ≡ sight_of setup (to_finished (h ▹ e)) s → IsFollowed setup h s state → IsFollowed setup (h ▹ e) s new
   followed-still shut state new view contents begun finished old = record {
     view = λ o. view ∙ old.view (before-open o) ∙ ap (view_after None) (sym (same o));
     contents = λ o. contents ∙ old.contents (before-open o) ∙ ap (λ (cs : List Call). capped (length (contents_made cs))) (sym (same o));
@@ -64,4 +64,4 @@ module _ (setup : Setup) (s : SessionNo) (h : List Entry) (e : Entry) where
 
   pub followed-idle : (is_session s e.actor ≡ true → is_closed s h ≡ true) → is_begin e.kind ≡ false → is_finish e.kind ≡ false → (state : Following) → IsFollowed setup h s state → IsFollowed setup (h ▹ e) s state
   followed-idle shut no_begin no_finish state old =
-      followed-still shut state state refl refl (old.begun ∙ ap (λ (k : List Entry). glimpse_of setup k s) (sym (begin-same no_begin))) (old.finished ∙ ap (λ (k : List Entry). glimpse_of setup k s) (sym (finished-same no_finish))) old
+      followed-still shut state state refl refl (old.begun ∙ ap (λ (k : List Entry). sight_of setup k s) (sym (begin-same no_begin))) (old.finished ∙ ap (λ (k : List Entry). sight_of setup k s) (sym (finished-same no_finish))) old

@@ -16,25 +16,23 @@ use Rattle.flat_core.specs.Legal.{owns_view, owns_viewport, owns_in_call, is_lin
 use Rattle.flat_core.specs.Lives.{lives_then, lives_after, clears_live, count_of}
 use Rattle.flat_core.specs.Shown.{is_pair}
 use Rattle.flat_core.specs.Views.{view_then, view_after, ends_it, ends_of}
-use Rattle.flat_core.proofs.ViewCalls.{or-none-left, or-none-right}
+use Rattle.std.proofs.lemmas.Bool.{or_parts}
+use Rattle.flat_core.proofs.ViewSteps.{same-pair}
 
 -- ---- what isn't owned
-
-pair-is : (q r : PairNo) → (q.0 == r.0) ≡ true → q ≡ r
-pair-is q r same = let number : q.0 ≡ r.0 = grind (arith, nat_tests) in ap (λ (n : ℕ). let x : PairNo = record { 0 = n } in x) number
 
 -- an owned pair is none that isn't owned
 pub owned-differs : (owns : PairNo → Bool) (q p : PairNo) → owns q ≡ true → owns p ≡ false → (b : Bool) → (q.0 == p.0) ≡ b → b ≡ false
 owned-differs owns q p owned foreign false is = refl
-owned-differs owns q p owned foreign true is = let O : PairNo → Type 0 = λ r. owns r ≡ true in let wrong : true ≡ false = sym (subst O (pair-is q p is) owned) ∙ foreign in cc
+owned-differs owns q p owned foreign true is = let O : PairNo → Type 0 = λ r. owns r ≡ true in let wrong : true ≡ false = sym (subst O (same-pair q p is) owned) ∙ foreign in cc
 
 any-append : {A : Type 0} (f : A → Bool) (xs ys : List A) → list_any f xs ≡ false → list_any f ys ≡ false → list_any f (xs ++ ys) ≡ false
 any-append f [] ys none more = more
-any-append f (x ∷ xs) ys none more = rw (or-none-left (f x) (list_any f xs) none) (any-append f xs ys (or-none-right (f x) (list_any f xs) none) more)
+any-append f (x ∷ xs) ys none more = rw (or_parts (f x) (list_any f xs) none).0 (any-append f xs ys (or_parts (f x) (list_any f xs) none).1 more)
 
 any-kept : {A : Type 0} (f keep : A → Bool) (xs : List A) → list_any f xs ≡ false → list_any f (filter keep xs) ≡ false
 any-kept f keep [] none = refl
-any-kept {A} f keep (x ∷ xs) none = by_keep (any-kept f keep xs (or-none-right (f x) (list_any f xs) none)) (or-none-left (f x) (list_any f xs) none) (keep x)
+any-kept {A} f keep (x ∷ xs) none = by_keep (any-kept f keep xs (or_parts (f x) (list_any f xs) none).1) (or_parts (f x) (list_any f xs) none).0 (keep x)
   where
     by_keep : list_any f (filter keep xs) ≡ false → f x ≡ false → (b : Bool) → list_any f (cond b (x ∷ filter keep xs) (filter keep xs)) ≡ false
     by_keep rest this true = rw this rest
@@ -94,11 +92,11 @@ all-more call next calls = let some : (length (next ∷ calls) == 0) ≡ false =
 
 tame-rest : (call : Call) (calls : List Call) → AreTame (call ∷ calls) → AreTame calls
 tame-rest call [] tame = refl
-tame-rest call (next ∷ calls) tame = or-none-right (is_link call) (list_any is_link (all_but_last (next ∷ calls))) (ap (list_any is_link) (sym (all-more call next calls)) ∙ tame)
+tame-rest call (next ∷ calls) tame = (or_parts (is_link call) (list_any is_link (all_but_last (next ∷ calls))) (ap (list_any is_link) (sym (all-more call next calls)) ∙ tame)).1
 
 tame-link : (call : Call) (calls : List Call) → AreTame (call ∷ calls) → is_link call ≡ true → calls ≡ []
 tame-link call [] tame link = refl
-tame-link call (next ∷ calls) tame link = let wrong : true ≡ false = sym link ∙ or-none-left (is_link call) (list_any is_link (all_but_last (next ∷ calls))) (ap (list_any is_link) (sym (all-more call next calls)) ∙ tame) in cc
+tame-link call (next ∷ calls) tame link = let wrong : true ≡ false = sym link ∙ (or_parts (is_link call) (list_any is_link (all_but_last (next ∷ calls))) (ap (list_any is_link) (sym (all-more call next calls)) ∙ tame)).0 in cc
 
 nothing-lives : (p : PairNo) (calls : List Call) → AreTame calls → count_of (clears_live p) [] calls ≡ 0
 nothing-lives p [] tame = refl

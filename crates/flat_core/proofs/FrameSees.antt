@@ -35,15 +35,14 @@ use Rattle.flat_core.proofs.Owned.{made_owned}
 use Rattle.flat_core.proofs.OwnedTree.{at-serial}
 use Rattle.flat_core.proofs.PairSteps.{no-begin}
 use Rattle.flat_core.proofs.SerialSteps.{Has, seen-props, tree-some}
-use Rattle.flat_core.proofs.Serials.{draft-contents, serials-are, uses-props}
+use Rattle.flat_core.proofs.Serials.{draft-contents, serials-are, uses-props, either}
 use Rattle.flat_core.proofs.ShownFits.{IsGood, IsSound, MaySound, found-sound, presents-sound}
 use Rattle.flat_core.proofs.ShownSteps.{serial-zero}
+use Rattle.std.proofs.lemmas.Bool.{and_right}
+use Rattle.std.proofs.lemmas.List.{length-map}
+use Rattle.flat_core.proofs.ListLemmas.{serial-within}
 
 -- ---- the viewports of a draft
-
-either : (b : Bool) → cond {A = Option ViewportProps} b None None ≡ None
-either true = refl
-either false = refl
 
 or-none : (o : Option ViewportProps) → or_else o None ≡ o
 or-none (Some x) = refl
@@ -79,12 +78,8 @@ among-uses p d serial fits (v ∷ vs) = by_made (among-uses p d serial fits vs) 
     by_made later (Some (an_image i)) at b is = rw at (later ∙ skipped (Some (an_image i)) at refl b is)
     by_made later (Some (a_fill x)) at b is = rw at (later ∙ skipped (Some (a_fill x)) at refl b is)
     by_made later (Some (a_viewport q props)) at false is =
-        let off : (q.0 == p.0 && v == serial) ≡ false = never (q.0 == p.0) (v == serial) is in
+        let off : (q.0 == p.0 && v == serial) ≡ false = and_right (q.0 == p.0) (v == serial) is in
         rw at (ap (λ (b : Bool). or_else (props_among p (filter_map (use_of d) vs) serial) (cond b (Some props) None)) off ∙ or-none (props_among p (filter_map (use_of d) vs) serial) ∙ later)
-      where
-        never : (a b : Bool) → b ≡ false → (a && b) ≡ false
-        never true b off = off
-        never false b off = refl
     by_made later (Some (a_viewport q props)) at true is =
         let found : of_serial d.contents serial ≡ Some (a_viewport q props) = here (a_viewport q props) at is in
         let mine : (q.0 == p.0) ≡ true = fits (a_viewport q props) found in
@@ -131,24 +126,12 @@ serial-pair p next (first ∷ ms) n x is = by_pair (λ k h. serial-pair p (next 
     by_pair rest true mine h = by_place rest mine (n == 1) h
     by_pair rest false other h = later (rest n h)
 
-within : {A : Type 0} (xs : List A) (k : ℕ) (x : A) → of_serial xs k ≡ Some x → k ≤ length xs
-within [] k x is = cc
-within (y ∷ ys) k x is = by_place (λ h. within ys (k - 1) x h) (k == 1) refl is
-  where
-    by_place : (of_serial ys (k - 1) ≡ Some x → k - 1 ≤ length ys) → (b : Bool) → (k == 1) ≡ b → cond b (Some y) (of_serial ys (k - 1)) ≡ Some x → k ≤ length (y ∷ ys)
-    by_place rest true e h = grind (arith, nat_tests)
-    by_place rest false e h = omega (arith, rest h)
-
-mapped : (ms : List Made) → length (map pair_made ms) ≡ length ms
-mapped [] = refl
-mapped (m ∷ ms) = rw (mapped ms) refl
-
 -- the content of the last use's serial is of the pair
 serial-fits : (setup : Setup) (cs : List Call) (d : Draft) → draft_of setup cs ≡ Ok d → (p : PairNo) (n serial : ℕ) → Has p n serial cs → (m : Made) → of_serial d.contents serial ≡ Some m → is_made_of p m ≡ true
 serial-fits setup cs d good p n serial has m at =
     let contents : map pair_made d.contents ≡ contents_made cs = draft-contents setup cs d good in
-    let count : length (contents_made cs) ≡ length d.contents = ap (length {A = Option PairNo}) (sym contents) ∙ mapped d.contents in
-    let few : serial ≤ length d.contents = within d.contents serial m at in
+    let count : length (contents_made cs) ≡ length d.contents = ap (length {A = Option PairNo}) (sym contents) ∙ length-map d.contents pair_made in
+    let few : serial ≤ length d.contents = serial-within d.contents serial m at in
     let fits : nat_le serial (length (contents_made cs)) ≡ true = grind (arith, nat_tests) in
     let found : of_serial (serials_of p 1 d.contents) n ≡ Some serial =
     ap (λ (l : List ℕ). of_serial l n) (serials-are p 1 d.contents ∙ ap (serials_in p 1) contents) ∙ has ∙ ap (λ b. cond b (Some serial) None) fits in

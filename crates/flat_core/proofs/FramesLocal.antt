@@ -14,7 +14,8 @@ use Rattle.flat_scene.specs.Setups.{owners_declared}
 use Rattle.flat_scene.proofs.FamilyLeast.{family-is-least}
 use Rattle.flat_core.specs.Legal.{Legal, owns_fence}
 use Rattle.flat_core.specs.Local.{PresentsAreLocal, SignalledIsLocal, TakenIsLocal, CreditsAreLocal, GoingIsLocal, ReleasedIsLocal}
-use Rattle.flat_core.proofs.Locality.{IsOfFamily, frames-local, own-only, released-same, any-same}
+use Rattle.flat_core.proofs.Locality.{IsOfFamily, frames-local, own-only, released-same}
+use Rattle.flat_core.proofs.AllOrSome.{any-same}
 
 pub closed-family : (setup : Setup) → owners_declared setup ≡ true → (s : SessionNo) → IsClosedFamily setup (family setup s)
 closed-family setup owners s = (family-is-least setup owners s).closed

@@ -17,7 +17,7 @@ use Rattle.flat_core.specs.Local.{pair_watched}
 use Rattle.flat_core.specs.Watch.{Watcher, layout_of, status_of, child_of, watching, same_watcher}
 use Rattle.flat_core.proofs.GetHistory.{own-watcher}
 use Rattle.flat_core.proofs.SameWatchers.{same-is}
-use Rattle.flat_core.proofs.ViewCalls.{or-none-left, or-none-right}
+use Rattle.std.proofs.lemmas.Bool.{or_parts}
 
 -- ---- one answer
 
@@ -121,8 +121,8 @@ module _ (setup : Setup) (h : List Entry) (now : Watcher → Option Told) where
   last-apart v (u ∷ ws) apart a fits =
       let p : ℕ = (pair_watched v).0 in
       let b : Answered = noted_all now p (held_of setup h u) a in
-      let here : same_watcher u v ≡ false = or-none-left (same_watcher u v) (list_any (λ u. same_watcher u v) ws) apart in
-      let later : list_any (λ u. same_watcher u v) ws ≡ false = or-none-right (same_watcher u v) (list_any (λ u. same_watcher u v) ws) apart in
+      let here : same_watcher u v ≡ false = (or_parts (same_watcher u v) (list_any (λ u. same_watcher u v) ws) apart).0 in
+      let later : list_any (λ u. same_watcher u v) ws ≡ false = (or_parts (same_watcher u v) (list_any (λ u. same_watcher u v) ws) apart).1 in
       ap (last_of (watched_by v)) (noted-append now p (held_of setup h u) (flat_map (held_of setup h) ws) a)
       ∙ last-apart v ws later b (fits-on v a b (uses-kept now p (held_of setup h u) a) fits)
       ∙ last-step v a fits u ∙ ap (λ (c : Bool). cond c (step u (last_of (watched_by v) a)) (last_of (watched_by v) a)) here

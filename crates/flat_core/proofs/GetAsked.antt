@@ -35,7 +35,7 @@ use Rattle.flat_core.specs.Posts.{event_of}
 use Rattle.flat_core.specs.Watch.{Watcher, layout_of, status_of, child_of, watching, told, asked, same_watcher, watcher_of, watcher_in, watcher_of_made, is_watcher}
 use Rattle.flat_core.proofs.AllOrSome.{flat-nested}
 use Rattle.flat_core.proofs.SameWatchers.{same-is, same-sym}
-use Rattle.flat_core.proofs.EventsLocal.{flat-each, flat-none}
+use Rattle.flat_core.proofs.EventsLocal.{flat-none}
 use Rattle.flat_core.proofs.GetHistory.{own-watcher, hears-open, watchers-heard, watchers-more}
 use Rattle.flat_core.proofs.GetLists.{with-more}
 use Rattle.flat_core.proofs.GetOrder.{AreOwn, insert-held, meant-found, watchers-order}
@@ -44,6 +44,7 @@ use Rattle.flat_core.proofs.GetSteps.{answers-more, quiet}
 use Rattle.flat_core.proofs.Still.{IsStill, told-same, watching-same}
 use Rattle.flat_core.proofs.ViewHistory.{closes-first}
 use Rattle.flat_core.proofs.Watchers.{after_get, got-one, unasked}
+use Rattle.flat_core.proofs.ListLemmas.{flat-each, not-some}
 
 -- ---- what is kept of the watcher that a get means
 
@@ -231,11 +232,6 @@ module _ (setup : Setup) (h : List Entry) (e : Entry) (legal : Legal setup (h �
       after : watching setup w (h ▹ e) ≡ record { last = (watching setup w h).last; waits = Some get }
       after = own-asked opened none ∙ ap (λ (o : Option Told). after_get get o (watching setup w h).last) new
 
--- A get's step over plain variables: whether one is held, and whether there is news.
-pub no-waits : (o : Option Watch) → is_some o ≡ false → o ≡ None
-no-waits None is = refl
-no-waits (Some get) is = cc
-
 pub kept-length : (b : Bool) (o : Option Told) (one : HeldGet) (held : List HeldGet) → length (held_get b o one held) + number_if (is_now (got b o)) ≤ length held + 1
 kept-length true o one held = omega arith
 kept-length false (Some value) one held = omega arith
@@ -279,7 +275,7 @@ gets-asked setup h e legal s is get asks w means a b its held after total more g
         stays = let mine : is_session s e.actor ≡ true = rw is itself in (closes-first (is_session s e.actor) e (own s h) o).0 mine
 
         by_held : (b : Bool) → is_some (watching setup w h).waits ≡ b → (watching setup w h).waits ≡ None
-        by_held false none = no-waits (watching setup w h).waits none
+        by_held false none = not-some (watching setup w h).waits none
         by_held true some = let wrong : true ≡ false = sym (ap (λ (b : Bool). closes (got b new)) some) ∙ sym (ap closes replied) ∙ stays in cc
 
     after_news : is_closed s (h ▹ e) ≡ false → (watching setup w h).waits ≡ None → (n : Option Told) → news (told setup h w) (watching setup w h).last ≡ n → held ≡ helds_of setup h s

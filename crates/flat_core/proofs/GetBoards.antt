@@ -18,17 +18,15 @@ use Rattle.flat_scene.specs.History.{◌▹◌, is_closed, is_finish}
 use Rattle.flat_core.specs.declared.gets.Answered.{Answered}
 use Rattle.flat_core.specs.declared.gets.HeldGet.{HeldGet}
 use Rattle.flat_core.specs.Ends.{is_done, view_owner}
-use Rattle.flat_core.specs.Gets.{helds_of, held_of, watchers_of, noted_all, started, unanswered, is_get, AllAnswered, AllUpTo, AnsweredUpTo, AreGets, Asks, Changes, IsAnswered, Settles}
+use Rattle.flat_core.specs.Gets.{helds_of, held_of, watchers_of, noted_all, started, unanswered, AllAnswered, AllUpTo, AnsweredUpTo, AreGets, Asks, Changes, IsAnswered, Settles}
 use Rattle.flat_core.specs.Kept.{AllNumbered}
-use Rattle.flat_core.specs.Legal.{Legal, owns_view}
+use Rattle.flat_core.specs.Legal.{Legal, owns_view, is_get}
 use Rattle.flat_core.specs.Local.{pair_watched}
 use Rattle.flat_core.specs.Watch.{Watcher, told, is_open, watcher_of}
 use Rattle.flat_core.proofs.Between.{is_viewport}
-use Rattle.flat_core.proofs.EventsLocal.{flat-nothing}
 use Rattle.flat_core.proofs.GetEnds.{answered-between, answered-refused, answered-apart, answered-shut, answered-foreign, answered-joined, answered-started, answered-aside, answered-asked, upto-first, upto-next, upto-closed, upto-last}
-
-abbrev pair_at : ℕ → PairNo
-pair_at n = record { 0 = n }
+use Rattle.flat_core.proofs.ListLemmas.{flat_map-none}
+use Rattle.flat_core.proofs.OwnedTree.{pair_no}
 
 -- ---- lists with their places
 
@@ -57,7 +55,7 @@ numbered-changes P Q f xs ys changes each all i d below =
 -- nobody waits
 pub gets-new : (setup : Setup) (s : SessionNo) → AreGets setup [] s [] 0
 gets-new setup s = record {
-  waiting = λ o. sym (flat-nothing (held_of setup []) (λ w. refl) (watchers_of setup [] s));
+  waiting = λ o. sym (flat_map-none (held_of setup []) (watchers_of setup [] s) (λ w. refl));
   answers = λ o. refl;
   few = omega arith;
 }
@@ -66,7 +64,7 @@ gets-new setup s = record {
 pub all-new : (setup : Setup) → AllAnswered setup [] (replicate (length setup.pairs) unanswered)
 all-new setup = record {
   count = length-replicate (length setup.pairs) unanswered;
-  each = λ i d below. subst (IsAnswered setup [] (pair_at i)) (sym (get_or-replicate (length setup.pairs) i unanswered d (omega (arith, below, length-replicate (length setup.pairs) unanswered)))) (record { last = record { layout = refl; status = refl; child = refl }; uses = refl });
+  each = λ i d below. subst (IsAnswered setup [] (pair_no i)) (sym (get_or-replicate (length setup.pairs) i unanswered d (omega (arith, below, length-replicate (length setup.pairs) unanswered)))) (record { last = record { layout = refl; status = refl; child = refl }; uses = refl });
 }
 
 -- ---- entry by entry
@@ -76,14 +74,14 @@ module _ (setup : Setup) (h : List Entry) (e : Entry) (legal : Legal setup (h �
   pub all-between : is_finish e.kind ≡ false → is_viewport e.kind ≡ false → is_get e.kind ≡ false → (answered : List Answered) → AllAnswered setup h answered → AllAnswered setup (h ▹ e) answered
   all-between no_finish no_viewport no_get answered all = record {
     count = all.count;
-    each = numbered-same (λ p. IsAnswered setup h (pair_at p)) (λ p. IsAnswered setup (h ▹ e) (pair_at p)) answered (λ p a. answered-between setup h e legal no_finish no_viewport no_get (pair_at p) a) all.each;
+    each = numbered-same (λ p. IsAnswered setup h (pair_no p)) (λ p. IsAnswered setup (h ▹ e) (pair_no p)) answered (λ p a. answered-between setup h e legal no_finish no_viewport no_get (pair_no p) a) all.each;
   }
 
   -- a refused use of a viewport end
   pub all-refused : (q : PairNo) (props : ViewportProps) → e.kind ≡ Viewport q props → is_done e.reply ≡ false → (answered : List Answered) → AllAnswered setup h answered → AllAnswered setup (h ▹ e) answered
   all-refused q props kind refused answered all = record {
     count = all.count;
-    each = numbered-same (λ p. IsAnswered setup h (pair_at p)) (λ p. IsAnswered setup (h ▹ e) (pair_at p)) answered (λ p a. answered-refused setup h e legal q props kind refused (pair_at p) a) all.each;
+    each = numbered-same (λ p. IsAnswered setup h (pair_no p)) (λ p. IsAnswered setup (h ▹ e) (pair_no p)) answered (λ p a. answered-refused setup h e legal q props kind refused (pair_no p) a) all.each;
   }
 
   -- a get
@@ -93,7 +91,7 @@ module _ (setup : Setup) (h : List Entry) (e : Entry) (legal : Legal setup (h �
   all-asked s is get asks w means answered all a b its held after total more gets done = record {
     count = length-set answered (pair_watched w).0 b ∙ all.count;
     each =
-        numbered-set (λ p. IsAnswered setup h (pair_at p)) (λ p. IsAnswered setup (h ▹ e) (pair_at p)) answered (pair_watched w).0 b (λ p x other. answered-aside setup h e legal s is get asks w means (pair_at p) other x)
+        numbered-set (λ p. IsAnswered setup h (pair_no p)) (λ p. IsAnswered setup (h ▹ e) (pair_no p)) answered (pair_watched w).0 b (λ p x other. answered-aside setup h e legal s is get asks w means (pair_no p) other x)
         (answered-asked setup h e legal s is get asks w means a b its held after total more gets done) all.each;
   }
 
@@ -105,7 +103,7 @@ module _ (setup : Setup) (h : List Entry) (e : Entry) (legal : Legal setup (h �
   all-shut q props kind done shut within answered d all = record {
     count = length-set answered q.0 _ ∙ all.count;
     each =
-        numbered-set (λ p. IsAnswered setup h (pair_at p)) (λ p. IsAnswered setup (h ▹ e) (pair_at p)) answered q.0 _ (λ p x other. answered-apart setup h e legal q props kind (pair_at p) other x)
+        numbered-set (λ p. IsAnswered setup h (pair_no p)) (λ p. IsAnswered setup (h ▹ e) (pair_no p)) answered q.0 _ (λ p x other. answered-apart setup h e legal q props kind (pair_no p) other x)
         (answered-shut setup h e legal q props kind done shut (slice_index_or answered q.0 d) (all.each q.0 d (omega (arith, within, all.count)))) all.each;
   }
 
@@ -115,7 +113,7 @@ module _ (setup : Setup) (h : List Entry) (e : Entry) (legal : Legal setup (h �
   all-foreign t out q props kind done owned within answered d all = record {
     count = length-set answered q.0 _ ∙ all.count;
     each =
-        numbered-set (λ p. IsAnswered setup h (pair_at p)) (λ p. IsAnswered setup (h ▹ e) (pair_at p)) answered q.0 _ (λ p x other. answered-apart setup h e legal q props kind (pair_at p) other x)
+        numbered-set (λ p. IsAnswered setup h (pair_no p)) (λ p. IsAnswered setup (h ▹ e) (pair_no p)) answered q.0 _ (λ p x other. answered-apart setup h e legal q props kind (pair_no p) other x)
         (answered-foreign setup h e legal t out q props kind done owned (slice_index_or answered q.0 d) (all.each q.0 d (omega (arith, within, all.count)))) all.each;
   }
 
@@ -132,7 +130,7 @@ module _ (setup : Setup) (h : List Entry) (e : Entry) (legal : Legal setup (h �
       now = told setup (h ▹ e)
 
       Q : ℕ → Answered → Type 0
-      Q p a = IsAnswered setup (h ▹ e) (pair_at p) a
+      Q p a = IsAnswered setup (h ▹ e) (pair_no p) a
 
       P : ℕ → Answered → Type 0
       P p a = (p ≡ q.0 → Q q.0 (started a)) × ((p == q.0) ≡ false → Q p a)
@@ -140,18 +138,18 @@ module _ (setup : Setup) (h : List Entry) (e : Entry) (legal : Legal setup (h �
       same : held ≡ helds_of setup h t
       same = gets.waiting before
 
-      step : (p : ℕ) (a : Answered) → IsAnswered setup h (pair_at p) a → P p (noted_all now p held a)
+      step : (p : ℕ) (a : Answered) → IsAnswered setup h (pair_no p) a → P p (noted_all now p held a)
       step p a its = (
         λ here.
-            let pair : pair_at p ≡ q = ap pair_at here in
+            let pair : pair_no p ≡ q = ap pair_no here in
             let mine : IsAnswered setup h q a = subst (λ (r : PairNo). IsAnswered setup h r a) pair its in
             let moved : noted_all now p held a ≡ noted_all now q.0 (helds_of setup h t) a = ap (λ (n : ℕ). noted_all now n held a) here ∙ ap (λ (l : List HeldGet). noted_all now q.0 l a) same in
             subst (λ (x : Answered). Q q.0 (started x)) (sym moved) (answered-started setup h e legal t opened q props kind done owned a mine),
-        λ other. subst (λ (l : List HeldGet). Q p (noted_all now p l a)) (sym same) (answered-joined setup h e legal t opened q props kind (pair_at p) other a its),
+        λ other. subst (λ (l : List HeldGet). Q p (noted_all now p l a)) (sym same) (answered-joined setup h e legal t opened q props kind (pair_no p) other a its),
       )
 
       numbered : AllNumbered P mid
-      numbered = numbered-changes (λ p. IsAnswered setup h (pair_at p)) P (λ p. noted_all now p held) old mid settles.answers.pairs step all.each
+      numbered = numbered-changes (λ p. IsAnswered setup h (pair_no p)) P (λ p. noted_all now p held) old mid settles.answers.pairs step all.each
 
   -- ---- the end of a frame
 
@@ -160,7 +158,7 @@ module _ (setup : Setup) (h : List Entry) (e : Entry) (legal : Legal setup (h �
     pub all-first : (answered : List Answered) → AllAnswered setup h answered → AllUpTo setup 0 (h ▹ e) h answered
     all-first answered all = record {
       count = all.count;
-      each = numbered-same (λ p. IsAnswered setup h (pair_at p)) (λ p. AnsweredUpTo setup 0 (h ▹ e) h (pair_at p)) answered (λ p a. upto-first setup h e legal no_get (pair_at p) a) all.each;
+      each = numbered-same (λ p. IsAnswered setup h (pair_no p)) (λ p. AnsweredUpTo setup 0 (h ▹ e) h (pair_no p)) answered (λ p a. upto-first setup h e legal no_get (pair_no p) a) all.each;
     }
 
     -- the next one, where it is open and its held gets were answered
@@ -169,20 +167,20 @@ module _ (setup : Setup) (h : List Entry) (e : Entry) (legal : Legal setup (h �
     all-next n s is opened before place held left old new posts after count total gets settles all = record {
       count = settles.answers.pairs.count ∙ all.count;
       each =
-          numbered-changes (λ p. AnsweredUpTo setup n (h ▹ e) h (pair_at p)) (λ p. AnsweredUpTo setup (n + 1) (h ▹ e) h (pair_at p)) (λ p. noted_all (told setup (h ▹ e)) p held) old new settles.answers.pairs
-          (λ p a its. subst (λ (l : List HeldGet). AnsweredUpTo setup (n + 1) (h ▹ e) h (pair_at p) (noted_all (told setup (h ▹ e)) p l a)) (sym (gets.waiting before)) (upto-next setup h e legal no_get n s is opened (pair_at p) a its)) all.each;
+          numbered-changes (λ p. AnsweredUpTo setup n (h ▹ e) h (pair_no p)) (λ p. AnsweredUpTo setup (n + 1) (h ▹ e) h (pair_no p)) (λ p. noted_all (told setup (h ▹ e)) p held) old new settles.answers.pairs
+          (λ p a its. subst (λ (l : List HeldGet). AnsweredUpTo setup (n + 1) (h ▹ e) h (pair_no p) (noted_all (told setup (h ▹ e)) p l a)) (sym (gets.waiting before)) (upto-next setup h e legal no_get n s is opened (pair_no p) a its)) all.each;
     }
 
     -- and where it is closed
     pub all-closed : (n : ℕ) (s : SessionNo) → s.0 ≡ n + 1 → is_closed s (h ▹ e) ≡ true → (answered : List Answered) → AllUpTo setup n (h ▹ e) h answered → AllUpTo setup (n + 1) (h ▹ e) h answered
     all-closed n s is closed answered all = record {
       count = all.count;
-      each = numbered-same (λ p. AnsweredUpTo setup n (h ▹ e) h (pair_at p)) (λ p. AnsweredUpTo setup (n + 1) (h ▹ e) h (pair_at p)) answered (λ p a. upto-closed setup h e legal no_get n s is closed (pair_at p) a) all.each;
+      each = numbered-same (λ p. AnsweredUpTo setup n (h ▹ e) h (pair_no p)) (λ p. AnsweredUpTo setup (n + 1) (h ▹ e) h (pair_no p)) answered (λ p a. upto-closed setup h e legal no_get n s is closed (pair_no p) a) all.each;
     }
 
     -- after the last one
     pub all-last : is_viewport e.kind ≡ false → (answered : List Answered) → AllUpTo setup setup.sessions (h ▹ e) h answered → AllAnswered setup (h ▹ e) answered
     all-last no_viewport answered all = record {
       count = all.count;
-      each = numbered-same (λ p. AnsweredUpTo setup setup.sessions (h ▹ e) h (pair_at p)) (λ p. IsAnswered setup (h ▹ e) (pair_at p)) answered (λ p a. upto-last setup h e legal no_get no_viewport (pair_at p) a) all.each;
+      each = numbered-same (λ p. AnsweredUpTo setup setup.sessions (h ▹ e) h (pair_no p)) (λ p. IsAnswered setup (h ▹ e) (pair_no p)) answered (λ p a. upto-last setup h e legal no_get no_viewport (pair_no p) a) all.each;
     }

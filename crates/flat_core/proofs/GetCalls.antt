@@ -24,7 +24,7 @@ use Rattle.flat_core.specs.Seen.{seen_of}
 use Rattle.flat_core.specs.Watchers.{is_held}
 use Rattle.flat_core.proofs.Between.{posted-between}
 use Rattle.flat_core.proofs.Changes.{IsPlainOne, is-session, kept-closed, kept-noted, seen-closed, seen-noted, sum-same}
-use Rattle.flat_core.proofs.Counts.{declared-some}
+use Rattle.flat_core.proofs.Counts.{declared-some, few-if}
 use Rattle.flat_core.proofs.Ones.{declared-of, each-one}
 use Rattle.flat_core.proofs.Steps.{legal-entered, posts-none, room-entered, stands-entered, unchanged}
 
@@ -43,10 +43,6 @@ get-kept setup h s line calls get reply state true closing kept =
 get-due : (calls : List Call) (b : Bool) (state : SessionState) → due (with_calls calls (cond b (let shut : SessionState = record state { closed = true } in shut) state)) ≡ due state
 get-due calls true state = refl
 get-due calls false state = refl
-
-pub few-held : (b : Bool) → number_if b ≤ 1
-few-held true = omega arith
-few-held false = omega arith
 
 module _ (m : Machine) (s : SessionNo) (line : ℕ) (calls : List Call) (get : Watch) (call : MayCall m (Session s) calls (Get get)) (reply : Reply) (replied : reply ≡ reply_to m.setup m.history (Session s) calls (Get get)) where
   -- the parts after it
@@ -80,4 +76,4 @@ module _ (m : Machine) (s : SessionNo) (line : ℕ) (calls : List Call) (get : W
       let posts_old : log.posts ≡ posts m.setup h = rw (← same) room.posts in
       let posts_new = posts-none m.setup h e (posted-between m.setup h e (old.legal, legal-entered m (Session s) line calls (Get get) reply call replied) refl refl refl) in
       room-entered m (Session s) line calls (Get get) reply call log then owed (owed + number_if (is_held reply)) dues dues_now same room (history ∙ rw mid_history refl) (posted ∙ mid_posts ∙ posts_old ∙ sym posts_new) (spent ∙ mid_room)
-      (omega (arith, kept, reserved, few-held (is_held reply))) (omega (arith, owes, room.due)) (omega (arith, small, as_many, few-held (is_held reply)))
+      (omega (arith, kept, reserved, few-if (is_held reply))) (omega (arith, owes, room.due)) (omega (arith, small, as_many, few-if (is_held reply)))

@@ -22,21 +22,22 @@ use Rattle.flat_core.specs.declared.gets.Answered.{Answered}
 use Rattle.flat_core.specs.declared.gets.HeldGet.{HeldGet}
 use Rattle.flat_core.specs.declared.gets.Watched.{Watched}
 use Rattle.flat_core.specs.Ends.{is_done, uses_viewport, viewport_owner, viewport_uses, view_owner}
-use Rattle.flat_core.specs.Gets.{watched_by, watched_of, helds_of, hears, watchers_of, last_of, noted_all, answered_get, answering, is_get, reached, started, AnsweredAt, AnsweredUpTo, AreGets, Asks, IsAnswered}
-use Rattle.flat_core.specs.Legal.{Legal, got, may_act, session_may, owns_view}
+use Rattle.flat_core.specs.Gets.{watched_by, watched_of, helds_of, hears, watchers_of, last_of, noted_all, answered_get, answering, reached, started, AnsweredAt, AnsweredUpTo, AreGets, Asks, IsAnswered}
+use Rattle.flat_core.specs.Legal.{Legal, got, may_act, session_may, owns_view, is_get}
 use Rattle.flat_core.specs.Local.{pair_watched}
 use Rattle.flat_core.specs.Watch.{Watcher, layout_of, status_of, child_of, watching, told, asked, is_open, listener, same_watcher, watcher_of, is_watcher}
 use Rattle.flat_core.proofs.AllOrSome.{any-same}
 use Rattle.flat_core.proofs.SameWatchers.{nothing-settled, same-is, same-sym}
 use Rattle.flat_core.proofs.Between.{is_viewport}
 use Rattle.flat_core.proofs.GetAnswers.{Fits, noted-by, uses-answered, uses-kept, last-apart, last-among}
-use Rattle.flat_core.proofs.GetAsked.{Finds, found, no-waits, other-rests, own-asked}
+use Rattle.flat_core.proofs.GetAsked.{Finds, found, other-rests, own-asked}
 use Rattle.flat_core.proofs.GetHistory.{owner-heard, own-watcher, owner-hears, hears-open, watchers-heard, fresh-use, next-fresh}
 use Rattle.flat_core.proofs.GetOrder.{meant-found}
 use Rattle.flat_core.proofs.GetOwners.{others-unasked, IsMeant, of_layout, of_status, of_child, get-meant, get-open, meant-heard}
 use Rattle.flat_core.proofs.GetSteps.{idle-kind, rests-between, rests-joined, rests-refused}
 use Rattle.flat_core.proofs.ViewHistory.{same-session}
 use Rattle.flat_core.proofs.Watchers.{after_get, got-two, settled-now, unasked, unheld-stays}
+use Rattle.flat_core.proofs.ListLemmas.{not-some}
 
 -- ---- the child of no use
 
@@ -360,7 +361,7 @@ module _ (setup : Setup) (h : List Entry) (e : Entry) (legal : Legal setup (h �
   of-pair a its false unheld None new replied = rested setup h (h ▹ e) (pair_watched w) a its (λ v of. by_same v (same_watcher v w) refl) (no-use setup h e legal no-join (pair_watched w))
     where
       none : (watching setup w h).waits ≡ None
-      none = no-waits (watching setup w h).waits unheld
+      none = not-some (watching setup w h).waits unheld
 
       after : watching setup w (h ▹ e) ≡ record { last = (watching setup w h).last; waits = Some get }
       after = own-asked setup h e legal s is get asks w means (still-open (ap closes replied)) none ∙ ap (λ (o : Option Told). after_get get o (watching setup w h).last) new
@@ -381,7 +382,7 @@ module _ (setup : Setup) (h : List Entry) (e : Entry) (legal : Legal setup (h �
   }
     where
       none : (watching setup w h).waits ≡ None
-      none = no-waits (watching setup w h).waits unheld
+      none = not-some (watching setup w h).waits unheld
 
       uses : (answering (watched_by w) value a).uses ≡ a.uses
       uses = uses-answered (watched_by w) value a

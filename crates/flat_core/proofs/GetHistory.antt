@@ -1,5 +1,5 @@
 -- What the watchers of a session hold, and what an entry that asks none of them answers.
-use Rattle.std.proofs.Common.{◌≡◌, ◌≢◌, ◌∙◌, sym, subst, ℕ, suc, ◌<◌, Bool, true, false, List, [], ◌∷◌, ◌++◌, length, map, filter, refl, arith, ap, Some, None, inl, inr, ◌⊎◌}
+use Rattle.std.proofs.Common.{◌≡◌, ◌≢◌, ◌∙◌, sym, ℕ, suc, ◌<◌, Bool, true, false, List, [], ◌∷◌, ◌++◌, length, map, filter, refl, arith, ap, Some, None, inl, inr, ◌⊎◌}
 use Rattle.std.specs.Prelude.{cond, not, Option, is_some, flat_map, option_and_then, option_map, unwrap_or, ◌==◌, ◌&&◌}
 use Rattle.std.specs.List.{list_all}
 use Rattle.std.specs.Result.{result_ok}
@@ -27,13 +27,14 @@ use Rattle.flat_core.specs.Legal.{owns_view, owns_viewport}
 use Rattle.flat_core.specs.Local.{pair_watched}
 use Rattle.flat_core.specs.Posts.{told_event, event_of, events_to, at_finish, at_begin, up_to}
 use Rattle.flat_core.specs.Watch.{Watcher, layout_of, status_of, child_of, watching, told, asked, is_open, listener, watcher_of, watcher_in, watcher_of_made, is_watcher}
-use Rattle.flat_core.proofs.AllOrSome.{all-append, all-every, all-flat, all-map, flat-map, flat-nested}
+use Rattle.flat_core.proofs.AllOrSome.{all-append, all-every, all-flat, all-map, flat-nested}
 use Rattle.flat_core.proofs.SameWatchers.{nothing-settled}
 use Rattle.std.proofs.lemmas.Grind.{flat_map-append}
-use Rattle.flat_core.proofs.EventsLocal.{flat-each, flat-same, views-owned, viewports-owned}
-use Rattle.flat_core.proofs.ViewHistory.{same-session}
+use Rattle.flat_core.proofs.EventsLocal.{flat-same, views-owned, viewports-owned, hears-viewport}
 use Rattle.flat_core.proofs.Watchers.{settled-now, unasked}
 use Rattle.flat_core.proofs.ViewportSteps.{flat-filtered}
+use Rattle.flat_core.proofs.ListLemmas.{flat-each}
+use Rattle.std.proofs.lemmas.List.Folds.{flat_map-map}
 
 -- ---- who hears
 
@@ -56,17 +57,8 @@ module _ (setup : Setup) where
       (all-append o (map layout_of (views_of setup s)) _ (all-map o (owns_view setup s) layout_of views (views_of setup s) (views-owned setup s)) (all-map o (owns_view setup s) status_of views (views_of setup s) (views-owned setup s)))
       (all-flat o (owns_viewport setup s) children (λ p owned. all-map o (λ n. true) (child_of p) (λ n any. owned) (up_to (length (viewport_uses p h))) (all-every (λ n. true) (λ n. refl) (up_to (length (viewport_uses p h))))) (viewports_of setup s) (viewports-owned setup s))
 
-  heard-open : (o : Option Actor) (s : SessionNo) (h : List Entry) → unwrap_or (option_map (is_session s) o) false ≡ true → is_closed s h ≡ false → is_open setup o h ≡ true
-  heard-open None s h heard opened = cc
-  heard-open (Some Display) s h heard opened = cc
-  heard-open (Some (Probe n)) s h heard opened = cc
-  heard-open (Some (Session t)) s h heard opened =
-      let same : Session t ≡ Session s = same-session s (Session t) heard in
-      let O : Actor → Type 0 = λ who. is_open setup (Some who) h ≡ true in
-      subst O (sym same) (rw opened refl)
-
   pub hears-open : (s : SessionNo) (w : Watcher) (h : List Entry) → hears setup s w ≡ true → is_closed s h ≡ false → is_open setup (listener setup w) h ≡ true
-  hears-open s w h heard opened = heard-open (listener setup w) s h heard opened
+  hears-open s w h heard opened = hears-viewport setup (listener setup w) s h heard opened
 
 shaped : (closed ends begins : Bool) (all finish begin : List Event) → closed ≡ false → begins ≡ false → cond closed [] (all ++ cond ends finish [] ++ cond begins begin []) ≡ (all ++ cond ends finish [])
 shaped true ends begins all finish begin opened no_begin = cc
@@ -126,14 +118,14 @@ module _ (setup : Setup) where
       let views : List PairNo = views_of setup s in
       let uses : PairNo → List ℕ = λ p. up_to (length (viewport_uses p h)) in
       let children : List Watcher = flat_map (λ p. map (child_of p) (uses p)) (viewports_of setup s) in
-      let inner : (p : PairNo) → flat_map t (map (child_of p) (uses p)) ≡ flat_map (λ n. told_event setup p (child_of p n) h e) (uses p) = λ p. flat-map t (child_of p) (uses p) in
+      let inner : (p : PairNo) → flat_map t (map (child_of p) (uses p)) ≡ flat_map (λ n. told_event setup p (child_of p n) h e) (uses p) = λ p. flat_map-map t (child_of p) (uses p) in
       let third : flat_map t children ≡ flat_map (λ p. flat_map (λ n. told_event setup p (child_of p n) h e) (uses p)) (viewports_of setup s) =
       flat-nested t (λ p. map (child_of p) (uses p)) (viewports_of setup s) ∙ flat-each (λ p. flat_map t (map (child_of p) (uses p))) (λ p. flat_map (λ n. told_event setup p (child_of p n) h e) (uses p)) inner (viewports_of setup s) in
       let whole : flat_map t (watchers_of setup h s)
       ≡ (flat_map (λ p. told_event setup p (layout_of p) h e) views ++ flat_map (λ p. told_event setup p (status_of p) h e) views
       ++ flat_map (λ p. flat_map (λ n. told_event setup p (child_of p n) h e) (uses p)) (viewports_of setup s)) =
       flat_map-append t (map layout_of views ++ map status_of views) children ∙ ap (λ (l : List Event). l ++ flat_map t children) (flat_map-append t (map layout_of views) (map status_of views))
-      ∙ three-same (flat-map t layout_of views) (flat-map t status_of views) third in
+      ∙ three-same (flat_map-map t layout_of views) (flat_map-map t status_of views) third in
       sym whole ∙ flat-each t f (λ w. event-after w h e) (watchers_of setup h s) ∙ sym (flat-nested (λ one. event_of one.pair (Some one.get) (news_of now one)) (held_of setup h) (watchers_of setup h s))
     where
       three-same : {a a' b b' c c' : List Event} → a ≡ a' → b ≡ b' → c ≡ c' → (a ++ b ++ c) ≡ (a' ++ b' ++ c')
@@ -244,9 +236,9 @@ module _ (setup : Setup) where
       let next : m ≡ suc n = now ∙ omega (arith, is) in
       let past : length (viewport_uses p h) < suc n = omega (arith, is) in
       let none : held_of setup (h ▹ e) (child_of p (suc n)) ≡ [] = ap (held_by (child_of p (suc n))) (next-fresh setup p (suc n) h e past (fresh-use setup p (suc n) h past)) in
-      ap (λ (k : ℕ). flat_map (held_of setup (h ▹ e)) (map (child_of p) (up_to k))) next ∙ flat-map (held_of setup (h ▹ e)) (child_of p) (up_to n ++ suc n ∷ [])
+      ap (λ (k : ℕ). flat_map (held_of setup (h ▹ e)) (map (child_of p) (up_to k))) next ∙ flat_map-map (held_of setup (h ▹ e)) (child_of p) (up_to n ++ suc n ∷ [])
       ∙ flat_map-append (λ k. held_of setup (h ▹ e) (child_of p k)) (up_to n) (suc n ∷ []) ∙ ap (λ l. flat_map (λ k. held_of setup (h ▹ e) (child_of p k)) (up_to n) ++ (l ++ [])) none
-      ∙ append-nil _ ∙ sym (flat-map (held_of setup (h ▹ e)) (child_of p) (up_to n))
+      ∙ append-nil _ ∙ sym (flat_map-map (held_of setup (h ▹ e)) (child_of p) (up_to n))
 
   -- a new use adds nothing
   pub watchers-more : (s : SessionNo) (h : List Entry) (e : Entry) → helds_of setup (h ▹ e) s ≡ flat_map (held_of setup (h ▹ e)) (watchers_of setup h s)

@@ -1,6 +1,6 @@
 -- The watchers of a session stand in order, so that one more held get has its place among the others.
-use Rattle.std.proofs.Common.{◌≡◌, ◌∙◌, sym, subst, ℕ, zero, suc, ◌+◌, ◌<◌, Bool, true, false, List, [], ◌∷◌, ◌++◌, length, map, refl, arith, ap, Some, None, inl, inr, ◌⊎◌}
-use Rattle.std.specs.Prelude.{cond, Option, flat_map, option_map, unwrap_or, slice_get, ◌==◌, ◌&&◌, ◌||◌, nat_lt}
+use Rattle.std.proofs.Common.{◌≡◌, ◌∙◌, sym, subst, ℕ, zero, suc, ◌+◌, ◌<◌, Bool, true, false, List, [], ◌∷◌, ◌++◌, length, map, refl, arith, ap, inl, inr, ◌⊎◌}
+use Rattle.std.specs.Prelude.{cond, flat_map, option_map, unwrap_or, slice_get, ◌==◌, ◌&&◌, ◌||◌, nat_lt}
 use Rattle.std.specs.List.{list_all, list_any}
 use Rattle.std.proofs.lemmas.Bool.Decides.{nat_tests}
 use Rattle.std.proofs.lemmas.List.{map-append}
@@ -17,10 +17,12 @@ use Rattle.flat_core.specs.Legal.{owns_view, owns_viewport}
 use Rattle.flat_core.specs.Local.{pair_watched}
 use Rattle.flat_core.specs.Posts.{up_to}
 use Rattle.flat_core.specs.Watch.{Watcher, layout_of, status_of, child_of, same_watcher}
-use Rattle.flat_core.proofs.AllOrSome.{all-append, all-every, all-flat, all-map, and-both, any-flat, any-map, or-left, or-right}
+use Rattle.flat_core.proofs.AllOrSome.{all-append, all-every, all-flat, all-map, any-flat, any-map}
 use Rattle.flat_core.proofs.SameWatchers.{same-is}
 use Rattle.std.proofs.lemmas.List.Folds.{list_any-append}
 use Rattle.flat_core.proofs.GetOwners.{IsMeant, of_layout, of_status, of_child}
+use Rattle.std.proofs.lemmas.Bool.{or_right, or_left, and_from}
+use Rattle.flat_core.proofs.Between.{view-nested, viewport-nested}
 
 -- one watcher answers before another
 abbrev pub precedes : Watcher → Watcher → Bool
@@ -47,7 +49,7 @@ order-append (u ∷ us) ws first second across =
     let here : list_all (precedes u) us ≡ true = grind arith in
     let later : list_all (precedes u) ws ≡ true = grind arith in
     let rest : in_order (us ++ ws) ≡ true = order-append us ws (grind arith) second (grind arith) in
-    and-both _ _ (all-append (precedes u) us ws here later) rest
+    and_from _ _ (all-append (precedes u) us ws here later) rest
 
 -- pairs that rise
 abbrev rising : List PairNo → Bool
@@ -68,13 +70,13 @@ pairs-rise test n [] = refl
 pairs-rise test n (pair ∷ pairs) = by_test (pairs-rise test (n + 1) pairs) (test pair)
   where
     by_test : rising (pairs_where test (n + 1) pairs) ≡ true → (b : Bool) → rising (cond b ((let p : PairNo = record { 0 = n } in p) ∷ pairs_where test (n + 1) pairs) (pairs_where test (n + 1) pairs)) ≡ true
-    by_test rest true = and-both _ _ (pairs-above test n (n + 1) pairs (omega arith)) rest
+    by_test rest true = and_from _ _ (pairs-above test n (n + 1) pairs (omega arith)) rest
     by_test rest false = rest
 
 order-pairs : (f : PairNo → Watcher) → ((p q : PairNo) → nat_lt p.0 q.0 ≡ true → precedes (f p) (f q) ≡ true) → (ps : List PairNo) → rising ps ≡ true → in_order (map f ps) ≡ true
 order-pairs f keeps [] rise = refl
 order-pairs f keeps (p ∷ ps) rise =
-    and-both _ _ (all-map (precedes (f p)) (λ q. nat_lt p.0 q.0) f (keeps p) ps (grind arith)) (order-pairs f keeps ps (grind arith))
+    and_from _ _ (all-map (precedes (f p)) (λ q. nat_lt p.0 q.0) f (keeps p) ps (grind arith)) (order-pairs f keeps ps (grind arith))
 
 same-rank : (r p q n m : ℕ) → nat_lt p q ≡ true → earlier r p n r q m ≡ true
 same-rank r p q n m less = grind (arith, nat_tests)
@@ -221,16 +223,8 @@ pair-found test n (suc k) (pair ∷ pairs) q at here = by_test (pair-found test 
   where
     by_test : list_any (λ p. p.0 == q.0) (pairs_where test (n + 1) pairs) ≡ true → (b : Bool)
         → list_any (λ p. p.0 == q.0) (cond b ((let p : PairNo = record { 0 = n } in p) ∷ pairs_where test (n + 1) pairs) (pairs_where test (n + 1) pairs)) ≡ true
-    by_test rest true = or-right (n == q.0) _ rest
+    by_test rest true = or_right (n == q.0) _ rest
     by_test rest false = rest
-
-view-nested : (s : SessionNo) (o : Option PairDecl) → unwrap_or (option_map (λ (pair : PairDecl). pair.view.0 == s.0) o) false ≡ unwrap_or (option_map (λ (t : SessionNo). t.0 == s.0) (option_map (λ (pair : PairDecl). pair.view) o)) false
-view-nested s None = refl
-view-nested s (Some pair) = refl
-
-viewport-nested : (s : SessionNo) (o : Option PairDecl) → unwrap_or (option_map (λ (pair : PairDecl). is_session s pair.viewport) o) false ≡ unwrap_or (option_map (is_session s) (option_map (λ (pair : PairDecl). pair.viewport) o)) false
-viewport-nested s None = refl
-viewport-nested s (Some pair) = refl
 
 views-found : (setup : Setup) (s : SessionNo) (q : PairNo) → owns_view setup s q ≡ true → list_any (λ p. p.0 == q.0) (views_of setup s) ≡ true
 views-found setup s q owned = pair-found (λ pair. pair.view.0 == s.0) 0 q.0 setup.pairs q (omega arith) (view-nested s (slice_get setup.pairs q.0) ∙ owned)
@@ -243,20 +237,20 @@ meant-found setup h s w (of_layout q owned) =
     let layouts : List Watcher = map layout_of (views_of setup s) in
     let statuses : List Watcher = map status_of (views_of setup s) in
     let o : Watcher → Bool = same_watcher (layout_of q) in
-    list_any-append o (layouts ++ statuses) _ ∙ or-left (list_any o (layouts ++ statuses)) _ (list_any-append o layouts statuses ∙ or-left (list_any o layouts) (list_any o statuses)
+    list_any-append o (layouts ++ statuses) _ ∙ or_left (list_any o (layouts ++ statuses)) _ (list_any-append o layouts statuses ∙ or_left (list_any o layouts) (list_any o statuses)
     (any-map o (λ p. p.0 == q.0) layout_of (λ p is. grind (arith, nat_tests)) (views_of setup s) (views-found setup s q owned)))
 meant-found setup h s w (of_status q owned) =
     let layouts : List Watcher = map layout_of (views_of setup s) in
     let statuses : List Watcher = map status_of (views_of setup s) in
     let o : Watcher → Bool = same_watcher (status_of q) in
-    list_any-append o (layouts ++ statuses) _ ∙ or-left (list_any o (layouts ++ statuses)) _ (list_any-append o layouts statuses ∙ or-right (list_any o layouts) (list_any o statuses)
+    list_any-append o (layouts ++ statuses) _ ∙ or_left (list_any o (layouts ++ statuses)) _ (list_any-append o layouts statuses ∙ or_right (list_any o layouts) (list_any o statuses)
     (any-map o (λ p. p.0 == q.0) status_of (λ p is. grind (arith, nat_tests)) (views_of setup s) (views-found setup s q owned)))
 meant-found setup h s w (of_child q owned some) =
     let views : List Watcher = map layout_of (views_of setup s) ++ map status_of (views_of setup s) in
     let u : ℕ = length (viewport_uses q h) in
     let o : Watcher → Bool = same_watcher (child_of q (length (viewport_uses q h))) in
     let block : PairNo → List Watcher = λ p. map (child_of p) (up_to (length (viewport_uses p h))) in
-    list_any-append o views (flat_map block (viewports_of setup s)) ∙ or-right (list_any o views) _
+    list_any-append o views (flat_map block (viewports_of setup s)) ∙ or_right (list_any o views) _
     (any-flat o (λ p. p.0 == q.0) block (λ p is.
     let number : p.0 ≡ q.0 = grind (arith, nat_tests) in
     let same : q ≡ p = ap (λ (n : ℕ). let r : PairNo = record { 0 = n } in r) (sym number) in
@@ -268,4 +262,4 @@ meant-found setup h s w (of_child q owned some) =
     last-found p (suc n) some =
         let o : Watcher → Bool = same_watcher (child_of p (suc n)) in
         let itself : same_watcher (child_of p (suc n)) (child_of p (suc n)) ≡ true = grind (arith, nat_tests) in
-        ap (list_any o) (map-append (child_of p) (up_to n) (suc n ∷ [])) ∙ list_any-append o (map (child_of p) (up_to n)) (child_of p (suc n) ∷ []) ∙ or-right (list_any o (map (child_of p) (up_to n))) _ (rw itself refl)
+        ap (list_any o) (map-append (child_of p) (up_to n) (suc n ∷ [])) ∙ list_any-append o (map (child_of p) (up_to n)) (child_of p (suc n) ∷ []) ∙ or_right (list_any o (map (child_of p) (up_to n))) _ (rw itself refl)

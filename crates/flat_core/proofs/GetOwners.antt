@@ -1,6 +1,6 @@
 -- A get is of a watcher of its own session; so others ask nothing of it.
 use Rattle.std.proofs.Common.{◌≡◌, ◌∙◌, sym, subst, ℕ, ◌+◌, ◌-◌, ◌<◌, Bool, true, false, List, [], ◌∷◌, ◌++◌, length, map, refl, arith, ap, Some, None, Ok}
-use Rattle.std.specs.Prelude.{cond, not, Option, option_and_then, option_map, unwrap_or, ◌==◌}
+use Rattle.std.specs.Prelude.{cond, Option, option_and_then, option_map, ◌==◌}
 use Rattle.std.specs.List.{list_any}
 use Rattle.std.specs.Result.{result_ok}
 use Rattle.std.proofs.lemmas.Bool.Decides.{nat_tests}
@@ -32,12 +32,9 @@ use Rattle.flat_core.proofs.Serials.{draft-contents, serials-count}
 use Rattle.flat_core.proofs.SameWatchers.{same-is}
 use Rattle.flat_core.proofs.ShownOwned.{all-calls-owned, ok-is}
 use Rattle.flat_core.proofs.Uses.{uses-made, none-made}
-use Rattle.flat_core.proofs.ViewHistory.{same-session}
 use Rattle.flat_core.proofs.Watchers.{unasked}
-
-not-open : (b : Bool) → not b ≡ true → b ≡ false
-not-open true is = cc
-not-open false is = refl
+use Rattle.std.proofs.lemmas.Bool.{not-true}
+use Rattle.flat_core.proofs.WatchLocal.{one-viewport}
 
 -- ---- a viewport of a draft was used
 
@@ -83,14 +80,14 @@ module _ (setup : Setup) (h : List Entry) (e : Entry) (legal : Legal setup (h �
 
   -- the session is open
   pub get-open : is_closed t h ≡ false
-  get-open = let m : MayEnter setup h (Session t) e.calls (Get get) = may in not-open (is_closed t h) (grind (arith, m.lasts))
+  get-open = let m : MayEnter setup h (Session t) e.calls (Get get) = may in not-true (is_closed t h) (grind (arith, m.lasts))
 
   owned-draft : (d : Draft) → draft_of setup (calls t h ++ e.calls) ≡ Ok d → IsOwned setup t d
   owned-draft d good = draft-owned setup t (calls t h ++ e.calls) (all-calls-owned setup h e legal t mine) d good
 
   used-viewport : (d : Draft) → draft_of setup (calls t h ++ e.calls) ≡ Ok d → (q : PairNo) → owns_viewport setup t q ≡ true → (n : ℕ) (props : _) → of_serial d.contents n ≡ Some (a_viewport q props) → 0 < length (viewport_uses q h)
   used-viewport d good q owned n props at =
-      let no_link : list_any is_link e.calls ≡ false = not-open (list_any is_link e.calls) may.links in
+      let no_link : list_any is_link e.calls ≡ false = not-true (list_any is_link e.calls) may.links in
       let some : 0 < length (serials_in q 1 (map pair_made d.contents)) = some-serial q 1 d.contents n props at in
       let same : length (serials_in q 1 (map pair_made d.contents)) ≡ length (serials_in q 1 (contents_made (calls t h ++ e.calls))) = ap (λ l. length (serials_in q 1 l)) (draft-contents setup (calls t h ++ e.calls) d good) in
       omega (arith, some, same, serials-count q 1 (calls t h ++ e.calls), made-append q (calls t h) e.calls, none-made q e.calls no_link, uses-made setup t q owned h legal.0 get-open)
@@ -129,13 +126,6 @@ module _ (setup : Setup) (h : List Entry) (e : Entry) (legal : Legal setup (h �
 -- ---- who isn't asked
 
 module _ (setup : Setup) where
-  one-listener : (o : Option Actor) (s t : SessionNo) → unwrap_or (option_map (is_session s) o) false ≡ true → unwrap_or (option_map (is_session t) o) false ≡ true → s ≡ t
-  one-listener None s t a b = cc
-  one-listener (Some who) s t a b =
-      let first : who ≡ Session s = same-session s who a in
-      let second : who ≡ Session t = same-session t who b in
-      let same : Session s ≡ Session t = sym first ∙ second in cc
-
   -- another session's get asks nothing of a session's watchers
   pub others-unasked : (h : List Entry) (e : Entry) → Legal setup (h ▹ e) → (s : SessionNo) → is_session s e.actor ≡ false → (w : Watcher) → hears setup s w ≡ true → asked setup w h e ≡ None
   others-unasked h e legal s other w heard = unasked setup w h e (λ get asks. by_actor get asks e.actor refl)
@@ -151,7 +141,7 @@ module _ (setup : Setup) where
               let theirs : hears setup t u ≡ true = meant-heard setup h t u (get-meant setup h e legal t is get asks u means) in
               let it : w ≡ u = same-is w u same in
               let H : Watcher → Type 0 = λ v. hears setup t v ≡ true in
-              let sessions : s ≡ t = one-listener (listener setup w) s t heard (subst H (sym it) theirs) in
+              let sessions : s ≡ t = one-viewport (listener setup w) s t heard (subst H (sym it) theirs) in
               let S : SessionNo → Type 0 = λ r. is_session r e.actor ≡ false in
               let wrong : is_session t e.actor ≡ false = subst S sessions other in
               let right : is_session t e.actor ≡ true = mine setup h e legal t is get asks in

@@ -3,7 +3,6 @@ use Rattle.std.proofs.Common.{◌≡◌, ◌≢◌, ◌∙◌, sym, subst, ℕ, 
 use Rattle.std.specs.Prelude.{cond, Option, flat_map, option_map, slice_get, unwrap_or, ◌==◌, ◌&&◌, nat_lt, nat_le}
 use Rattle.std.proofs.lemmas.Bool.Decides.{nat_tests}
 use Rattle.std.proofs.lemmas.List.{append-nil}
-use Rattle.std.proofs.lemmas.List.Sums.{count_by-le-length, length-filter}
 use Rattle.std.proofs.lemmas.Option.{slice_get_past}
 use Rattle.flat_base.specs.declared.ids.Actor.{Actor}
 use Rattle.flat_base.specs.declared.ids.Actor.TheVariants.{Display, Session, Probe}
@@ -29,9 +28,9 @@ use Rattle.flat_core.specs.declared.gets.HeldGet.{HeldGet}
 use Rattle.flat_core.specs.declared.live.Live.{Live}
 use Rattle.flat_core.specs.declared.live.OutToken.{OutToken}
 use Rattle.flat_core.specs.Begins.{finish_entry, finished, post_of}
-use Rattle.flat_core.specs.Ends.{is_done, uses_viewport, pair_of, uses_view, view_owner, view_uses, viewport_uses}
-use Rattle.flat_core.specs.Gets.{answers_to, held_get, helds_of, is_get, Asks, Settles}
-use Rattle.flat_core.specs.Legal.{Legal, MayEnter, is_frame_open, owns_view}
+use Rattle.flat_core.specs.Ends.{is_done, pair_of, uses_view, view_owner, view_uses}
+use Rattle.flat_core.specs.Gets.{answers_to, held_get, helds_of, Asks, Settles}
+use Rattle.flat_core.specs.Legal.{Legal, MayEnter, is_frame_open, owns_view, is_get}
 use Rattle.flat_core.specs.Posts.{events_to, frame_took, posts}
 use Rattle.flat_core.specs.Viewports.{AreViewports, back_events}
 use Rattle.flat_core.specs.Watch.{Watcher, layout_of, status_of, child_of, told}
@@ -175,12 +174,6 @@ held-few b o one held after is = omega (arith, ap (length {A = HeldGet}) is, kep
 -- a get adds one at most
 pub asked-few : (pair : PairNo) (get : Watch) (now : Option Told) (old new : Answered) (held after : List HeldGet) (count total : ℕ) (reply : Reply) → Asks pair get now old new held after count total reply → length after ≤ length held + 1
 asked-few pair get now old new held after count total reply done = held-few _ _ _ held after done.kept
-
--- a viewport end was used at most once an entry
-pub uses-few : (p : PairNo) (h : List Entry) → length (viewport_uses p h) ≤ length h
-uses-few p h =
-    let test : Entry → Bool = λ entry. uses_viewport p entry.kind && is_done entry.reply in
-    omega (arith, length-filter test h, count_by-le-length test h)
 
 -- ---- what isn't declared
 

@@ -27,12 +27,12 @@ use Rattle.flat_watch.specs.Told.{Watching, answer, settled}
 use Rattle.flat_core.specs.declared.gets.Answered.{Answered}
 use Rattle.flat_core.specs.declared.gets.HeldGet.{HeldGet}
 use Rattle.flat_core.specs.Ends.{is_done, to_begin, view_owner, uses_view, uses_viewport, view_uses, viewports_of}
-use Rattle.flat_core.specs.Gets.{held_of, helds_of, hears, watchers_of, news_of, answers_to, still_held, AreGets, Settles, is_get}
-use Rattle.flat_core.specs.Legal.{Legal, answers, asked_of, has_token, is_now, is_told, number_if, owns_view, refused_token, reply_to, reply_to_present, value_of}
+use Rattle.flat_core.specs.Gets.{held_of, helds_of, hears, watchers_of, news_of, answers_to, still_held, AreGets, Settles}
+use Rattle.flat_core.specs.Legal.{Legal, answers, asked_of, has_token, is_now, is_told, number_if, owns_view, refused_token, reply_to, reply_to_present, value_of, is_get}
 use Rattle.flat_core.specs.Local.{pair_watched}
 use Rattle.flat_core.specs.Posts.{releases_seen, event_of, events_to, at_finish, at_begin, frame_took, tokens_back}
 use Rattle.flat_core.specs.Watch.{Watcher, layout_of, status_of, child_of, watching, told, asked, asked_in, is_open, listener, same_watcher}
-use Rattle.flat_core.proofs.Between.{is_viewport}
+use Rattle.flat_core.proofs.Between.{is_viewport, fresh-view}
 use Rattle.flat_core.proofs.EventsLocal.{rest-none, flat-none}
 use Rattle.flat_core.proofs.AllOrSome.{flat-nested}
 use Rattle.flat_core.proofs.GetHistory.{owner-heard, event-after, helds-kept, helds-settled, hears-open, told-part, watchers-heard}
@@ -44,6 +44,7 @@ use Rattle.flat_core.proofs.Unwatched.{unwatched, is_layout, is_status}
 use Rattle.flat_core.proofs.ViewHistory.{used_in}
 use Rattle.flat_core.proofs.ViewSteps.{same-pair}
 use Rattle.flat_core.proofs.Watchers.{settled-now, unheld-stays}
+use Rattle.std.proofs.lemmas.Bool.{and_right}
 
 -- ---- which events tell
 
@@ -176,15 +177,6 @@ untold-kind setup h e legal no_get = ap is_now legal.1.reply ∙ by_kind e.actor
     by_kind who (Close (Some reason)) is = refl
     by_kind who _ is = refl
 
-and-none : (a b : Bool) → b ≡ false → (a && b) ≡ false
-and-none true b is = is
-and-none false b is = refl
-
--- a view that isn't refused wasn't made before
-new-view : (n : ℕ) (reply : Reply) (b : Bool) → (n == 0) ≡ b → reply ≡ cond b Done refused_token → is_done reply ≡ true → nat_lt 0 n ≡ false
-new-view n reply true is replied done = grind (arith, nat_tests)
-new-view n reply false is replied done = let wrong : false ≡ true = ap is_done (sym replied) ∙ done in cc
-
 module _ (setup : Setup) (h : List Entry) (e : Entry) (legal : Legal setup (h ▹ e)) where
   -- a view that is made wasn't watched
   view-rests : (q : PairNo) → e.kind ≡ View q → (w : Watcher) → asked setup w h e ≡ None → watching setup w (h ▹ e) ≡ watching setup w h
@@ -211,7 +203,7 @@ module _ (setup : Setup) (h : List Entry) (e : Entry) (legal : Legal setup (h �
               let R : Kind → Type 0 = λ kind. e.reply ≡ reply_to setup h e.actor e.calls kind in
               let replied : e.reply ≡ cond (length (view_uses q h) == 0) Done refused_token = subst R is legal.1.reply in
               let U : PairNo → Type 0 = λ r. used_in h r ≡ false in
-              unheld-stays setup v h e (unused (subst U pair (new-view (length (view_uses q h)) e.reply (length (view_uses q h) == 0) refl replied done))) none
+              unheld-stays setup v h e (unused (subst U pair (fresh-view (length (view_uses q h)) e.reply (length (view_uses q h) == 0) refl replied done))) none
 
       by_watcher : (v : Watcher) → asked setup v h e ≡ None → watching setup v (h ▹ e) ≡ watching setup v h
       by_watcher (layout_of p) none = of_pair (layout_of p) p refl none (λ unused. ap (λ (x : Watching). x.waits) (unwatched setup p h (layout_of p) is_layout legal.0 unused))
@@ -269,7 +261,7 @@ module _ (setup : Setup) (h : List Entry) (e : Entry) (legal : Legal setup (h �
   pub gets-elsewhere : (s : SessionNo) (q : PairNo) (props : ViewportProps) → e.kind ≡ Viewport q props → owns_view setup s q ≡ false → (held : List HeldGet) (total : ℕ) → AreGets setup h s held total → AreGets setup (h ▹ e) s held total
   gets-elsewhere s q props is foreign held total gets =
       let k : IsJoin q e.kind = join-kind q props is in
-      gets-kept setup h e s (λ w heard. (idle-kind setup h e k.1 w, rests-joined q props is w (others w heard))) (and-none (is_session s e.actor) (is_now e.reply) (untold-kind setup h e legal k.1)) held total gets
+      gets-kept setup h e s (λ w heard. (idle-kind setup h e k.1 w, rests-joined q props is w (others w heard))) (and_right (is_session s e.actor) (is_now e.reply) (untold-kind setup h e legal k.1)) held total gets
     where
       no_view : (p : PairNo) → unwrap_or (option_map (is_session s) (option_map Session (view_owner setup p))) false ≡ true → (p.0 == q.0) ≡ false
       no_view p heard = by_same (p.0 == q.0) refl
@@ -290,9 +282,9 @@ module _ (setup : Setup) (h : List Entry) (e : Entry) (legal : Legal setup (h �
   pub rests-refused : (q : PairNo) (props : ViewportProps) → e.kind ≡ Viewport q props → is_done e.reply ≡ false → (w : Watcher) → watching setup w (h ▹ e) ≡ watching setup w h
   rests-refused q props is refused w =
       let k : IsJoin q e.kind = join-kind q props is in
-      watching-same setup w h e (record { no_finish = k.0; no_view = rw (k.2 (pair_watched w)).0 refl; no_viewport = and-none (uses_viewport (pair_watched w) e.kind) (is_done e.reply) refused }) (idle-kind setup h e k.1 w)
+      watching-same setup w h e (record { no_finish = k.0; no_view = rw (k.2 (pair_watched w)).0 refl; no_viewport = and_right (uses_viewport (pair_watched w) e.kind) (is_done e.reply) refused }) (idle-kind setup h e k.1 w)
 
   pub gets-refused : (s : SessionNo) (q : PairNo) (props : ViewportProps) → e.kind ≡ Viewport q props → is_done e.reply ≡ false → (held : List HeldGet) (total : ℕ) → AreGets setup h s held total → AreGets setup (h ▹ e) s held total
   gets-refused s q props is refused held total gets =
       let k : IsJoin q e.kind = join-kind q props is in
-      gets-kept setup h e s (λ w heard. (idle-kind setup h e k.1 w, rests-refused q props is refused w)) (and-none (is_session s e.actor) (is_now e.reply) (untold-kind setup h e legal k.1)) held total gets
+      gets-kept setup h e s (λ w heard. (idle-kind setup h e k.1 w, rests-refused q props is refused w)) (and_right (is_session s e.actor) (is_now e.reply) (untold-kind setup h e legal k.1)) held total gets

@@ -1,6 +1,6 @@
 -- A session has a view exactly where it is open, made one, and frames have taken no more presents than stood with the last one.
 use Rattle.std.proofs.Common.{◌≡◌, ◌∙◌, sym, subst, ℕ, zero, suc, ◌+◌, ◌<◌, ◌≤◌, Bool, true, false, List, [], ◌∷◌, refl, arith, ap, Some, None, inl, inr, ◌⊎◌, add-zero, zero-add}
-use Rattle.std.specs.Prelude.{cond, not, ◌&&◌, ◌||◌, ◌==◌, nat_le, Option, option_map, unwrap_or, slice_get}
+use Rattle.std.specs.Prelude.{cond, not, ◌&&◌, ◌==◌, nat_le, Option, option_map, unwrap_or, slice_get}
 use Rattle.std.specs.List.{list_any}
 use Rattle.std.proofs.lemmas.Bool.Decides.{nat_tests}
 use Rattle.flat_base.specs.declared.ids.Actor.TheVariants.{Session}
@@ -19,12 +19,8 @@ use Rattle.flat_core.specs.Seen.{has_viewed, stood_at}
 use Rattle.flat_core.proofs.Counts.{le-of}
 use Rattle.flat_core.proofs.ViewHistory.{ViewingOf, viewing-of, used_in}
 use Rattle.flat_core.proofs.ViewLaw.{made_at, ended}
-
--- two tests that imply each other
-pub both-ways : (a b : Bool) → (a ≡ true → b ≡ true) → (b ≡ true → a ≡ true) → a ≡ b
-both-ways true b there back = sym (there refl)
-both-ways false true there back = back refl
-both-ways false false there back = refl
+use Rattle.std.proofs.lemmas.Bool.{not-true, or_right}
+use Rattle.std.specs.Cmp.{both_ways}
 
 -- ---- the pairs of which a test holds
 
@@ -56,12 +52,8 @@ pub found : (f : PairNo → Bool) (test : PairDecl → Bool) (n : ℕ) (pairs : 
 found f test n [] any = let wrong : false ≡ true = any in cc
 found f test n (pair ∷ pairs) any = found-first f test n pair pairs (test pair) refl (found f test (n + 1) pairs) any
 
-or-right : (a b : Bool) → b ≡ true → (a || b) ≡ true
-or-right true b is = refl
-or-right false b is = is
-
 any-first : (f : PairNo → Bool) (b : Bool) (p : PairNo) (more : List PairNo) → list_any f more ≡ true → list_any f (cond b (p ∷ more) more) ≡ true
-any-first f true p more rest = or-right (f p) (list_any f more) rest
+any-first f true p more rest = or_right (f p) (list_any f more) rest
 any-first f false p more rest = rest
 
 pub any-found : (f : PairNo → Bool) (test : PairDecl → Bool) (n k : ℕ) (pairs : List PairDecl) → unwrap_or (option_map test (slice_get pairs k)) false ≡ true → f (record { 0 = n + k }) ≡ true → list_any f (pairs_where test n pairs) ≡ true
@@ -94,10 +86,6 @@ lost-is : (setup : Setup) (h : List Entry) (s : SessionNo) (p : PairNo) → owns
     → is_view_lost setup h p ≡ ended setup p (made_at (presents s h) (taken setup h s))
 lost-is setup h s p owned opened = lost-by setup h s p (view_owner setup p) owned opened
 
-not-is : (b : Bool) → not b ≡ true → b ≡ false
-not-is true is = let wrong : false ≡ true = is in cc
-not-is false is = refl
-
 by-order : (m n : ℕ) (b : Bool) → nat_le m n ≡ b → (n < m → false ≡ true) → b ≡ true
 by-order m n true is never = refl
 by-order m n false is never = let less : n < m = grind (arith, nat_tests) in never less
@@ -107,7 +95,7 @@ opened-view : (setup : Setup) (s : SessionNo) (h : List Entry) → ViewingOf set
 opened-view setup s h view opened =
     let f : PairNo → Bool = λ p. used_in h p && not (is_view_lost setup h p) in
     let test : PairDecl → Bool = λ pair. pair.view.0 == s.0 in
-    both-ways (list_any f (views_of setup s)) (has_viewed s h && nat_le (taken setup h s) (stood_at s h))
+    both_ways (list_any f (views_of setup s)) (has_viewed s h && nat_le (taken setup h s) (stood_at s h))
     (λ any.
     let one = found f test 0 setup.pairs any in
     let p : PairNo = record { 0 = one.0 } in
@@ -115,7 +103,7 @@ opened-view setup s h view opened =
     let F : ℕ → Type 0 = λ m. f (record { 0 = m }) ≡ true in
     let is : f p ≡ true = subst F (zero-add one.0) one.2 in
     let used : used_in h p ≡ true = and-left (used_in h p) (not (is_view_lost setup h p)) is in
-    let kept : is_view_lost setup h p ≡ false = not-is (is_view_lost setup h p) (and-right (used_in h p) (not (is_view_lost setup h p)) is) in
+    let kept : is_view_lost setup h p ≡ false = not-true (is_view_lost setup h p) (and-right (used_in h p) (not (is_view_lost setup h p)) is) in
     let unended : ended setup p (made_at (presents s h) (taken setup h s)) ≡ false = sym (lost-is setup h s p owned opened) ∙ kept in
     let few : nat_le (taken setup h s) (stood_at s h) ≡ true =
     by-order (taken setup h s) (stood_at s h) (nat_le (taken setup h s) (stood_at s h)) refl (λ less. sym unended ∙ view.later p owned used (taken setup h s) less (taken-made setup s h)) in

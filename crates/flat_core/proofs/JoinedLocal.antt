@@ -1,9 +1,9 @@
 -- Which sessions of a family are in the joined tree, where the ends of pairs link no session of it to one outside.
-use Rattle.std.proofs.Common.{◌≡◌, ℕ, zero, suc, ◌+◌, Bool, true, false, List, [], ◌∷◌, ◌++◌, refl, arith, ap, sym, ◌∙◌, subst, length, map, get_or}
+use Rattle.std.proofs.Common.{◌≡◌, ℕ, zero, suc, ◌+◌, Bool, true, false, List, [], ◌∷◌, ◌++◌, refl, arith, ap, sym, ◌∙◌, length, map}
 use Rattle.std.specs.Prelude.{◌==◌, ◌&&◌, Option, Some, None, option_map}
 use Rattle.std.specs.List.{list_any, list_all}
 use Rattle.std.proofs.lemmas.Grind.{common_steps}
-use Rattle.std.proofs.lemmas.List.{length-map, map-append}
+use Rattle.std.proofs.lemmas.List.{length-map}
 use Rattle.std.proofs.lemmas.List.Folds.{list_any-append, list_all-append}
 use Rattle.flat_base.specs.declared.ids.PairNo.{PairNo}
 use Rattle.flat_base.specs.declared.ids.SessionNo.{SessionNo}
@@ -22,31 +22,14 @@ use Rattle.flat_topology.specs.Shown.{state_of, view_of, nodes_of, pair_in, pair
 use Rattle.flat_topology.proofs.Distances.{viewer-state}
 use Rattle.flat_core.specs.Ends.{view_owner}
 use Rattle.flat_core.specs.Legal.{owns_view}
-use Rattle.flat_core.proofs.Locality.{not-true, same-session}
+use Rattle.flat_core.proofs.Locality.{same-session}
 use Rattle.flat_core.proofs.Owned.{view_owned}
 use Rattle.flat_core.proofs.OwnedTree.{owns, pair_no}
 use Rattle.flat_core.proofs.ShownOwned.{IsShownOwned, joined-at, joined-back}
+use Rattle.std.proofs.lemmas.Bool.{false_from_ne_true}
+use Rattle.flat_core.proofs.ShownList.{within-or-past}
 
 -- ---- the states of all sessions
-
-at-snoc : {A : Type 0} (P : A → Type 0) (xs : List A) (y d : A) (k : ℕ) → P (get_or xs k d) → (k ≡ length xs → P y) → P (get_or (xs ++ y ∷ []) k d)
-at-snoc P [] y d zero before last = last refl
-at-snoc P [] y d (suc k) before last = before
-at-snoc P (x ∷ xs) y d zero before last = before
-at-snoc P (x ∷ xs) y d (suc k) before last = at-snoc P xs y d k before (λ is. last (ap suc is))
-
-length-sessions : (n : ℕ) → length (sessions_to n) ≡ n
-length-sessions zero = refl
-length-sessions (suc n) = grind (arith, common_steps, length-sessions n)
-
--- a place of the list has what the function gives of its session, or is past the end
-within-or-past : {A : Type 0} (P : A → Type 0) (f : SessionNo → A) (d : A) (n k : ℕ) → P d → P (f (record { 0 = suc k })) → P (get_or (map f (sessions_to n)) k d)
-within-or-past P f d zero k past here = past
-within-or-past {A = A} P f d (suc n) k past here =
-    let Q : List A → Type 0 = λ xs. P (get_or xs k d) in
-    subst Q (sym (map-append f (sessions_to n) ((record { 0 = suc n }) ∷ [])))
-    (at-snoc P (map f (sessions_to n)) (f (record { 0 = suc n })) d k (within-or-past P f d n k past here)
-    (λ is. let long : length (map f (sessions_to n)) ≡ length (sessions_to n) = simp length-map in let same : k ≡ n = is ∙ long ∙ length-sessions n in let R : ℕ → Type 0 = λ m. P (f (record { 0 = suc m })) in subst R same here))
 
 state-at : (P : Option Tree → Type 0) (f : SessionNo → Option Tree) (n k : ℕ) → P None → P (f (record { 0 = k })) → P (state_of (map f (sessions_to n)) k)
 state-at P f n zero none here = none
@@ -138,7 +121,7 @@ module _ (setup : Setup) (of_family : SessionNo → Bool) (closed : IsClosedFami
         closed.grows t u mine link;
   }
   on-its-side false t q out over = record {
-    view = λ u under. not-true (of_family u) (λ mine.
+    view = λ u under. false_from_ne_true (of_family u) (λ mine.
         let link : is_linked setup u t ≡ true = grind (arith, joined-back setup.pairs q t u over under) in
         let too : of_family t ≡ true = closed.grows u t mine link in cc);
   }
@@ -185,7 +168,7 @@ module _ (setup : Setup) (of_family : SessionNo → Bool) (closed : IsClosedFami
             let t : SessionNo = record { 0 = viewer.session } in
             let shows : IsViewed f p viewer = found-viewed f n p viewer is in
             let apart : of_family t ≡ false = out.view t (viewer-owns p viewer shows) in
-            let other : (viewer.session == s.0) ≡ false = not-true (viewer.session == s.0) (λ same.
+            let other : (viewer.session == s.0) ≡ false = false_from_ne_true (viewer.session == s.0) (λ same.
             let one : t ≡ s = same-session s t same in
             let both : of_family t ≡ of_family s = ap of_family one in cc) in
             let below : stands s.0 (joined_nodes (led_to (map f (sessions_to n)) views) viewer.session viewer.nodes) ≡ false =
@@ -211,7 +194,7 @@ module _ (setup : Setup) (of_family : SessionNo → Bool) (closed : IsClosedFami
         where
           by_side : (b : Bool) → of_family t ≡ b → is_view_of p (view_of (f t)) ≡ is_view_of p (view_of (g t))
           by_side true mine = rw (kept t mine) refl
-          by_side false out = rw (dropped t out) (not-true (is_view_of p (view_of (f t))) (λ is. let mine : of_family t ≡ true = sees p inside t is in cc))
+          by_side false out = rw (dropped t out) (false_from_ne_true (is_view_of p (view_of (f t))) (λ is. let mine : of_family t ≡ true = sees p inside t is in cc))
 
       -- a pair of the family leads to the same
       led-same : (n views p : ℕ) → IsInside true p → led_to (map g (sessions_to n)) views p ≡ led_to (map f (sessions_to n)) views p

@@ -11,6 +11,7 @@ use Rattle.flat_scene.specs.Effect.{on_image, on_viewport, on_fill, is_serial}
 use Rattle.flat_scene.proofs.Together.{and-left, and-right}
 use Rattle.flat_core.specs.declared.live.Live.{Live}
 use Rattle.flat_core.specs.Lives.{pair_named}
+use Rattle.std.proofs.lemmas.Bool.{not-true}
 
 -- ---- names and what they name
 
@@ -110,14 +111,6 @@ changed-pair f same n k (m ∷ ms) = by_place (changed-pair f same (n - 1) (k - 
     by_place rest true = pick-pair f same true (k == 1) m (of_serial ms (k - 1)) (of_serial ms (k - 1)) refl
     by_place rest false = pick-pair f same false (k == 1) m (of_serial (changed_at (n - 1) f ms) (k - 1)) (of_serial ms (k - 1)) rest
 
-pub changed-length : (f : Made → Made) (n : ℕ) (ms : List Made) → length (changed_at n f ms) ≡ length ms
-changed-length f n [] = refl
-changed-length f n (m ∷ ms) = by_place (changed-length f (n - 1) ms) (n == 1)
-  where
-    by_place : length (changed_at (n - 1) f ms) ≡ length ms → (b : Bool) → length (cond b (f m ∷ ms) (m ∷ changed_at (n - 1) f ms)) ≡ length (m ∷ ms)
-    by_place rest true = refl
-    by_place rest false = rw rest refl
-
 pub image-pair : (f : _) (m : Made) → pair_made (on_image f m) ≡ pair_made m
 image-pair f (an_image i) = refl
 image-pair f (a_fill x) = refl
@@ -147,10 +140,6 @@ serials-apart x (y ∷ ys) apart =
     let here : is_apart x y ≡ true = and-left (is_apart x y) (list_all (is_apart x) ys) apart in
     rw (and-right (not (y.id == x.id)) (not (y.serial == x.serial)) here, serials-apart x ys (and-right (is_apart x y) (list_all (is_apart x) ys) apart)) refl
 
-pub is-not : (b : Bool) → not b ≡ true → b ≡ false
-is-not true is = cc
-is-not false is = refl
-
 same-id : (x : Name) (id : ℕ) (xs : List Name) → (x.id == id) ≡ true → list_all (λ (y : Name). not (y.id == x.id)) xs ≡ true → list_all (λ (y : Name). not (y.id == id)) xs ≡ true
 same-id x id xs same all = let number : x.id ≡ id = grind (arith, nat_tests) in subst (λ (n : ℕ). list_all (λ (y : Name). not (y.id == n)) xs ≡ true) number all
 
@@ -163,7 +152,7 @@ unnamed-kept id (x ∷ xs) none =
 unnamed-live : (f : ℕ → Option PairNo) (id : ℕ) (xs : List Name) → list_all (λ (y : Name). not (y.id == id)) xs ≡ true → pair_named (lives_by f xs) id ≡ None
 unnamed-live f id [] none = refl
 unnamed-live f id (x ∷ xs) none =
-    by_pair (is-not (x.id == id) (and-left (not (x.id == id)) (list_all (λ (y : Name). not (y.id == id)) xs) none))
+    by_pair (not-true (x.id == id) (and-left (not (x.id == id)) (list_all (λ (y : Name). not (y.id == id)) xs) none))
     (unnamed-live f id xs (and-right (not (x.id == id)) (list_all (λ (y : Name). not (y.id == id)) xs) none)) (f x.serial)
   where
     by_pair : (x.id == id) ≡ false → pair_named (lives_by f xs) id ≡ None → (o : Option PairNo) → pair_named (live_at x o ++ lives_by f xs) id ≡ None
@@ -242,7 +231,7 @@ other-serials f n (x ∷ xs) others =
 named-other : (n id : ℕ) (xs : List Name) → list_all (λ (y : Name). not (y.serial == n)) xs ≡ true → is_serial (named xs id) n ≡ false
 named-other n id [] others = refl
 named-other n id (x ∷ xs) others =
-    by_id (is-not (x.serial == n) (and-left (not (x.serial == n)) (list_all (λ (y : Name). not (y.serial == n)) xs) others))
+    by_id (not-true (x.serial == n) (and-left (not (x.serial == n)) (list_all (λ (y : Name). not (y.serial == n)) xs) others))
     (named-other n id xs (and-right (not (x.serial == n)) (list_all (λ (y : Name). not (y.serial == n)) xs) others)) (x.id == id)
   where
     by_id : (x.serial == n) ≡ false → is_serial (named xs id) n ≡ false → (b : Bool) → is_serial (cond b (Some x.serial) (named xs id)) n ≡ false
@@ -291,7 +280,7 @@ pub apart-more : (n id : ℕ) (xs : List Name) → are_within n xs ≡ true → 
 apart-more n id [] within new apart = refl
 apart-more n id (x ∷ xs) within new apart =
     let serial : nat_le x.serial n ≡ true = and-left (nat_le x.serial n) (are_within n xs) within in
-    let other_id : (x.id == id) ≡ false = is-not (x.id == id) (and-left (not (x.id == id)) (list_all (λ (y : Name). not (y.id == id)) xs) new) in
+    let other_id : (x.id == id) ≡ false = not-true (x.id == id) (and-left (not (x.id == id)) (list_all (λ (y : Name). not (y.id == id)) xs) new) in
     let id_differs : (id == x.id) ≡ false = grind (arith, nat_tests) in
     let serial_differs : (n + 1 == x.serial) ≡ false = grind (arith, nat_tests) in
     let rest = apart-more n id xs (and-right (nat_le x.serial n) (are_within n xs) within) (and-right (not (x.id == id)) (list_all (λ (y : Name). not (y.id == id)) xs) new) (and-right (list_all (is_apart x) xs) (are_apart xs) apart) in

@@ -1,5 +1,5 @@
 -- What frames take of a family's sessions depends on the entries of the family and on the frames and signals alone.
-use Rattle.std.proofs.Common.{◌≡◌, ℕ, zero, suc, List, [], ◌∷◌, ◌++◌, refl, Bool, true, false, ap, ◌∙◌, sym, arith, drop, cond, subst}
+use Rattle.std.proofs.Common.{◌≡◌, ℕ, zero, suc, List, [], ◌∷◌, ◌++◌, refl, Bool, true, false, ap, ◌∙◌, sym, arith, drop, cond, subst, Option, None}
 use Rattle.std.specs.Prelude.{◌==◌, Some, slice_get, ◌&&◌, option_map, unwrap_or}
 use Rattle.std.specs.List.{list_any, list_all}
 use Rattle.std.proofs.lemmas.Grind.{common_steps}
@@ -23,12 +23,8 @@ use Rattle.flat_scene.specs.Frames.{is_signalled, taken, going, takes, signals, 
 use Rattle.flat_scene.specs.Family.{IsClosedFamily, is_linked, shares, keeps, is_kept, only}
 use Rattle.flat_core.specs.Legal.{owns_fence, owns_in_kind, owns_all, may_act, Legal, LegalEntry}
 use Rattle.flat_scene.proofs.Steps.{own-kept, own-dropped, presents-own, presents-other}
-
--- an element that passes the test shows that one does
-pub any-at : {X : Type 0} (p : X → Bool) (xs : List X) (i : ℕ) (x : X) → slice_get xs i ≡ Some x → p x ≡ true → list_any p xs ≡ true
-any-at p [] i x at pass = cc
-any-at p (y ∷ ys) zero x at pass = grind arith
-any-at p (y ∷ ys) (suc i) x at pass = grind (arith, any-at p ys i x at pass)
+use Rattle.std.proofs.lemmas.Bool.{false_from_ne_true}
+use Rattle.flat_core.proofs.AllOrSome.{any-same}
 
 -- whether a session is among the owners of the fence declared there
 abbrev pub owns_at : List FenceDecl → ℕ → SessionNo → Bool
@@ -39,10 +35,6 @@ pub both-own : (fences : List FenceDecl) (n : ℕ) (s t : SessionNo) → owns_at
 both-own [] n s t of_s of_t = cc
 both-own (fence ∷ fences) zero s t of_s of_t = grind arith
 both-own (fence ∷ fences) (suc n) s t of_s of_t = grind (arith, both-own fences n s t of_s of_t)
-
--- a Bool that isn't true is false
-pub not-true : (b : Bool) → (b ≡ true → ⊥) → b ≡ false
-not-true b wrong = elim b as (λ v. (v ≡ true → ⊥) → v ≡ false) [ true ↦ λ h. absurd (h refl) | false ↦ λ h. refl ] wrong
 
 -- a session that an actor is
 pub same-session : (s t : SessionNo) → is_session s (Session t) ≡ true → t ≡ s
@@ -60,11 +52,6 @@ kept-by of_family kind s (Probe p) is = cc
 pub all-same : {X : Type 0} (o f g : X → Bool) → ((x : X) → o x ≡ true → f x ≡ g x) → (xs : List X) → list_all o xs ≡ true → list_all f xs ≡ list_all g xs
 all-same o f g same [] all = refl
 all-same o f g same (x ∷ xs) all = grind (arith, same x, all-same o f g same xs)
-
--- a test that is the same of each element
-pub any-same : {X : Type 0} (f g : X → Bool) → ((x : X) → f x ≡ g x) → (xs : List X) → list_any f xs ≡ list_any g xs
-any-same f g same [] = refl
-any-same f g same (x ∷ xs) = rw (same x, any-same f g same xs) refl
 
 -- whether a session owns what a present names
 abbrev pub owns_fences_of : (FenceNo → Bool) → Published → Bool
@@ -121,7 +108,7 @@ pub not-among : (o : FenceNo → Bool) (xs : List FenceNo) (f : FenceNo) → lis
 not-among o [] f all none = refl
 not-among o (x ∷ xs) f all none =
     let rest : is_among xs f ≡ false = not-among o xs f (grind arith) none in
-    let first : (x.0 == f.0) ≡ false = not-true (x.0 == f.0) (λ is.
+    let first : (x.0 == f.0) ≡ false = false_from_ne_true (x.0 == f.0) (λ is.
     let same : x.0 ≡ f.0 = grind (arith, common_steps) in
     let owns_x : o x ≡ true = grind arith in
     let as_f : o f ≡ o x = ap (λ (n : ℕ). let h : FenceNo = record { 0 = n } in o h) (sym same) in cc) in
@@ -200,7 +187,7 @@ module _ (setup : Setup) (of_family : SessionNo → Bool) (closed : IsClosedFami
 
   -- no other session owns it
   pub not-others : (f : FenceNo) → IsOfFamily f → (t : SessionNo) → of_family t ≡ false → owns_fence setup t f ≡ false
-  not-others f of_it t other = not-true (owns_fence setup t f) (λ owns.
+  not-others f of_it t other = false_from_ne_true (owns_fence setup t f) (λ owns.
       let linked : is_linked setup of_it.s t ≡ true = grind (arith, both-own setup.fences f.0 of_it.s t of_it.owns owns) in
       let too : of_family t ≡ true = closed.grows of_it.s t of_it.mine linked in cc)
 
@@ -215,7 +202,7 @@ module _ (setup : Setup) (of_family : SessionNo → Bool) (closed : IsClosedFami
   quiet Finish (Probe p) f g of_it out acts owns = cc
   quiet (Signal h) Display f g of_it out acts owns = cc
   quiet (Signal h) (Probe p) f g of_it out acts owns = cc
-  quiet (Signal h) (Session t) f g of_it out acts owns = not-true (h.0 == f.0) (λ is.
+  quiet (Signal h) (Session t) f g of_it out acts owns = false_from_ne_true (h.0 == f.0) (λ is.
       let same : h.0 ≡ f.0 = grind (arith, common_steps) in
       let owns_h : owns_fence setup t h ≡ true = owns t (same-number t.0) in
       let not_f : owns_fence setup t f ≡ false = not-others f of_it t out in
@@ -301,3 +288,7 @@ module _ (setup : Setup) (of_family : SessionNo → Bool) (closed : IsClosedFami
   pub frames-local : (history : List Entry) → Legal setup history → IsSame history
   frames-local [] legal = record { signalled = λ f of_it. refl; took = λ s mine. refl; goes = λ s mine. refl }
   frames-local (before ▹ e) legal = all-same-by before e (frames-local before legal.0) legal (is_kept of_family e) refl
+
+pub session-of : (o : Option SessionNo) (v : SessionNo) → option_map Session o ≡ Some (Session v) → o ≡ Some v
+session-of None v is = cc
+session-of (Some u) v is = let same : u ≡ v = cc in ap (λ (x : SessionNo). let r : Option SessionNo = Some x in r) same

@@ -1,5 +1,5 @@
 -- No transform and no image of a draft has too great an opacity.
-use Rattle.std.proofs.Common.{◌≡◌, ℕ, ◌-◌, Bool, true, false, cond, ◌&&◌, ◌==◌, nat_lt, nat_le, List, [], ◌∷◌, ◌++◌, map, refl, sym, ap, ◌∙◌, subst, arith, Option, Some, None, Ok, Err}
+use Rattle.std.proofs.Common.{◌≡◌, ℕ, ◌-◌, Bool, true, false, cond, ◌==◌, nat_lt, nat_le, List, [], ◌∷◌, ◌++◌, map, refl, sym, ap, ◌∙◌, subst, arith, Option, Some, None, Ok, Err}
 use Rattle.std.specs.List.{list_all}
 use Rattle.std.proofs.lemmas.Bool.Decides.{nat_tests}
 use Rattle.flat_base.specs.declared.errors.Reason.{Reason}
@@ -13,6 +13,7 @@ use Rattle.flat_scene.specs.Effect.{effect, on_image, on_viewport, on_fill, draf
 use Rattle.flat_scene.specs.Misuse.{misuse, first_reason, Test, names_transform, names_content, is_image}
 use Rattle.flat_scene.proofs.Together.{and-left as and_left, and-right as and_right}
 use Rattle.flat_core.proofs.ViewCalls.{after-refused as after_error}
+use Rattle.std.proofs.lemmas.Bool.{and_from}
 
 -- ---- drafts
 
@@ -30,17 +31,14 @@ pub record IsLowDraft (draft : Draft) : Type 0 where
   pub contents : list_all is_low draft.contents ≡ true
   pub transforms : list_all is_dim draft.transforms ≡ true
 
-and_true : {a b : Bool} → a ≡ true → b ≡ true → (a && b) ≡ true
-and_true first second = rw (first, second) refl
-
 all_more : {A : Type 0} (p : A → Bool) (xs : List A) (x : A) → list_all p xs ≡ true → p x ≡ true → list_all p (xs ++ x ∷ []) ≡ true
-all_more p [] x all one = and_true one refl
-all_more p (y ∷ xs) x all one = and_true (and_left (p y) (list_all p xs) all) (all_more p xs x (and_right (p y) (list_all p xs) all) one)
+all_more p [] x all one = and_from _ _ one refl
+all_more p (y ∷ xs) x all one = and_from _ _ (and_left (p y) (list_all p xs) all) (all_more p xs x (and_right (p y) (list_all p xs) all) one)
 
 module _ {A : Type 0} (p : A → Bool) (f : A → A) (keeps : (x : A) → p x ≡ true → p (f x) ≡ true) where
   pick : (b : Bool) (x : A) (xs changed : List A) → p x ≡ true → list_all p xs ≡ true → list_all p changed ≡ true → list_all p (cond b (f x ∷ xs) (x ∷ changed)) ≡ true
-  pick true x xs changed here all more = and_true (keeps x here) all
-  pick false x xs changed here all more = and_true here more
+  pick true x xs changed here all more = and_from _ _ (keeps x here) all
+  pick false x xs changed here all more = and_from _ _ here more
 
   all_changed : (n : ℕ) (xs : List A) → list_all p xs ≡ true → list_all p (changed_at n f xs) ≡ true
   all_changed n [] all = refl
@@ -53,7 +51,7 @@ module _ {A : Type 0} (p : A → Bool) (f : A → A) (keeps : (x : A) → p x �
 
 all_mapped : {A : Type 0} (p : A → Bool) (f : A → A) → ((x : A) → p (f x) ≡ p x) → (xs : List A) → list_all p xs ≡ true → list_all p (map f xs) ≡ true
 all_mapped p f same [] all = refl
-all_mapped p f same (x ∷ xs) all = and_true (same x ∙ and_left (p x) (list_all p xs) all) (all_mapped p f same xs (and_right (p x) (list_all p xs) all))
+all_mapped p f same (x ∷ xs) all = and_from _ _ (same x ∙ and_left (p x) (list_all p xs) all) (all_mapped p f same xs (and_right (p x) (list_all p xs) all))
 
 rest_none : (t : Bool) (r : Reason) (more : Option Reason) → cond t (Some r) more ≡ None → more ≡ None
 rest_none true r more none = absurd (cc)

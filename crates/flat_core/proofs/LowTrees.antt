@@ -147,7 +147,7 @@ tree_low d t good is =
 not_large : (all : Option Children) (children : Children) → all ≡ Some children → is_too_large all ≡ false → node_count children ≤ TREE_NODES_MAX
 not_large all children is small = let fits : nat_lt TREE_NODES_MAX (node_count children) ≡ false = ap is_too_large (sym is) ∙ small in grind (arith, nat_tests)
 
-second_none : (a b : Bool) (r q : Reason) (more : Option Reason) → cond a (Some r) (cond b (Some q) more) ≡ None → b ≡ false
+pub second_none : (a b : Bool) (r q : Reason) (more : Option Reason) → cond a (Some r) (cond b (Some q) more) ≡ None → b ≡ false
 second_none true b r q more none = absurd (cc)
 second_none false true r q more none = absurd (cc)
 second_none false false r q more none = refl

@@ -1,6 +1,6 @@
 -- What a session's neighbours can't change.
 use Rattle.std.proofs.Common.{◌≡◌, ℕ, suc, ◌-◌, Bool, true, false, cond, List, [], ◌∷◌, ◌++◌, refl, arith, ap, sym, ◌∙◌, subst, drop}
-use Rattle.std.specs.Prelude.{◌==◌, ◌&&◌, ◌||◌, not, Option, Some, None, length, flat_map, map, filter, replicate, nat_le, nat_lt, Ok}
+use Rattle.std.specs.Prelude.{◌==◌, ◌&&◌, ◌||◌, not, Option, Some, None, length, flat_map, map, filter, replicate, nat_lt, Ok}
 use Rattle.std.specs.List.{list_all, list_any}
 use Rattle.std.proofs.lemmas.Grind.{common_steps}
 use Rattle.std.proofs.lemmas.List.Sums.{take_while-cons}
@@ -19,7 +19,7 @@ use Rattle.flat_scene.specs.declared.journal.Event.TheVariants as event
 use Rattle.flat_scene.specs.declared.journal.Kind.{Kind}
 use Rattle.flat_scene.specs.declared.journal.Kind.TheVariants.{View, Viewport, Present, Get, Signal, Poll, Wait, Close, End, Begin, Finish, Hit}
 use Rattle.flat_scene.specs.declared.journal.Reply.{Reply}
-use Rattle.flat_scene.specs.declared.journal.Reply.TheVariants.{Done, Met, Unmet}
+use Rattle.flat_scene.specs.declared.journal.Reply.TheVariants.{Done}
 use Rattle.flat_scene.specs.declared.journal.Told.{Told}
 use Rattle.flat_scene.specs.declared.setup.Setup.{Setup}
 use Rattle.flat_scene.specs.Draft.{empty_draft}
@@ -27,17 +27,20 @@ use Rattle.flat_core.specs.Ends.{views_of, viewports_of, is_done, uses_view, use
 use Rattle.flat_scene.specs.Family.{IsClosedFamily}
 use Rattle.flat_scene.specs.Frames.{taken, takes, credits, is_signalled, is_ready, ready_prefix, sessions_to}
 use Rattle.flat_scene.specs.History.{◌▹◌, is_closed, is_session, closes, presents, published, Published, calls, is_begin, is_finish}
-use Rattle.flat_core.specs.Laws.{is_beside, is_get, but_answers, Glimpse, glimpse, glimpses, is_own_event, has_own_reply, Outcome, outcome, outcomes, own_events}
-use Rattle.flat_core.specs.Legal.{Legal, LegalEntry, is_token_back, may_act, owns_view, owns_viewport, owns_in_kind, has_token, reply_to, reply_to_present, waited}
+use Rattle.flat_core.specs.Laws.{is_beside, but_answers, Glimpse, glimpse, glimpses, is_own_event, has_own_reply, Outcome, outcome, outcomes, own_events}
+use Rattle.flat_core.specs.Legal.{Legal, LegalEntry, is_token_back, may_act, owns_view, owns_viewport, owns_in_kind, has_token, reply_to, reply_to_present, is_get}
 use Rattle.flat_core.specs.Local.{GlimpsesDecideOutcomes, OthersPostNone}
 use Rattle.flat_core.specs.Posts.{event_of, told_event, at_finish, at_begin, news_for, events_to, posted, up_to}
 use Rattle.flat_core.specs.Watch.{Watcher, layout_of, status_of, child_of, watching, told}
 use Rattle.flat_watch.specs.Told.{answer}
 use Rattle.flat_core.proofs.EventsLocal.{same-credits}
-use Rattle.flat_core.proofs.Locality.{entry-owned, same-session, same-number, not-true}
+use Rattle.flat_core.proofs.Locality.{entry-owned, same-session, same-number}
 use Rattle.flat_core.proofs.RepliesLocal.{any-sent-none, any-sent-same, token-at-finish, token-elsewhere}
 use Rattle.flat_scene.proofs.Steps.{presents-own, presents-other}
 use Rattle.flat_core.proofs.WatchLocal.{one-view, one-viewport}
+use Rattle.std.proofs.lemmas.Bool.{false_from_ne_true}
+use Rattle.flat_core.proofs.Ones.{closes-waited}
+use Rattle.flat_core.proofs.Quiet.{takes-none}
 
 -- all sessions are a closed family
 pub everyone : (setup : Setup) → IsClosedFamily setup (λ t. true)
@@ -78,10 +81,6 @@ takes-agree (Begin time) f g is_shut n xs same =
     ap (λ (ready : List Published). cond is_shut [] ready) (ready-agree time f g (drop n xs) later)
 takes-agree _ f g is_shut n xs same = refl
 
-takes-none : (kind : Kind) (f : FenceNo → Bool) (is_shut : Bool) (xs : List Published) → is_begin kind ≡ false → takes kind f is_shut xs ≡ []
-takes-none (Begin time) f is_shut xs is = absurd (let h : true ≡ false = is in cc)
-takes-none _ f is_shut xs is = refl
-
 -- ---- a session's own events
 
 flat-own : {X : Type 0} (f : X → List Event) → ((x : X) → filter is_own_event (f x) ≡ []) → (xs : List X) → filter is_own_event (flat_map f xs) ≡ []
@@ -107,13 +106,6 @@ token-is-own p (event.TokenBack q ∷ es) = rw (token-is-own p es) refl
 
 -- ---- replies
 
-closes-waited : (m n : ℕ) → closes (waited m n) ≡ false
-closes-waited m n = by_test (nat_le m n)
-  where
-    by_test : (b : Bool) → closes (cond b (Met n) (Unmet n)) ≡ false
-    by_test true = refl
-    by_test false = refl
-
 own-kind : (kind : Kind) → has_own_reply kind ≡ true → (is_begin kind ≡ false) × (is_finish kind ≡ false)
 own-kind (View p) own = (refl, refl)
 own-kind (Viewport p props) own = (refl, refl)
@@ -138,10 +130,10 @@ module _ (setup : Setup) (s : SessionNo) where
       → ((t : SessionNo) → is_session t actor ≡ true → owns_in_kind setup t kind ≡ true) → uses_view p kind ≡ false
   others-view p mine (View q) Display other acts owns = absurd (let h : false ≡ true = acts in cc)
   others-view p mine (View q) (Probe n) other acts owns = absurd (let h : false ≡ true = acts in cc)
-  others-view p mine (View q) (Session t) other acts owns = not-true (q.0 == p.0) (λ is.
+  others-view p mine (View q) (Session t) other acts owns = false_from_ne_true (q.0 == p.0) (λ is.
       let same : q.0 ≡ p.0 = grind (arith, common_steps) in
       let moved : owns_view setup t q ≡ owns_view setup t p = ap (λ (n : ℕ). let r : PairNo = record { 0 = n } in owns_view setup t r) same in
-      let one : s ≡ t = one-view setup (λ u. true) (everyone setup) (view_owner setup p) s t mine (sym moved ∙ owns t (same-number t.0)) in
+      let one : s ≡ t = one-view (view_owner setup p) s t mine (sym moved ∙ owns t (same-number t.0)) in
       let here : is_session s (Session t) ≡ true = subst (λ (u : SessionNo). is_session u (Session t) ≡ true) (sym one) (same-number t.0) in
       let both : true ≡ false = sym here ∙ other in cc)
   others-view p mine _ actor other acts owns = refl
@@ -150,10 +142,10 @@ module _ (setup : Setup) (s : SessionNo) where
       → ((t : SessionNo) → is_session t actor ≡ true → owns_in_kind setup t kind ≡ true) → uses_viewport p kind ≡ false
   others-viewport p mine (Viewport q props) Display other acts owns = absurd (let h : false ≡ true = acts in cc)
   others-viewport p mine (Viewport q props) (Probe n) other acts owns = absurd (let h : false ≡ true = acts in cc)
-  others-viewport p mine (Viewport q props) (Session t) other acts owns = not-true (q.0 == p.0) (λ is.
+  others-viewport p mine (Viewport q props) (Session t) other acts owns = false_from_ne_true (q.0 == p.0) (λ is.
       let same : q.0 ≡ p.0 = grind (arith, common_steps) in
       let moved : owns_viewport setup t q ≡ owns_viewport setup t p = ap (λ (n : ℕ). let r : PairNo = record { 0 = n } in owns_viewport setup t r) same in
-      let one : s ≡ t = one-viewport setup (λ u. true) (everyone setup) (viewport_owner setup p) s t mine (sym moved ∙ owns t (same-number t.0)) in
+      let one : s ≡ t = one-viewport (viewport_owner setup p) s t mine (sym moved ∙ owns t (same-number t.0)) in
       let here : is_session s (Session t) ≡ true = subst (λ (u : SessionNo). is_session u (Session t) ≡ true) (sym one) (same-number t.0) in
       let both : true ≡ false = sym here ∙ other in cc)
   others-viewport p mine _ actor other acts owns = refl
@@ -368,7 +360,7 @@ module _ (setup : Setup) (s : SessionNo) where
       where
         by_owner : (t : SessionNo) (v : Bool) → owns_viewport setup t p ≡ v → list_any (is_token_back p) (events_to setup b e t) ≡ list_any (is_token_back p) (events_to setup b' (with_reply e n r) t)
         by_owner t true owns =
-            let one : s ≡ t = one-viewport setup (λ u. true) (everyone setup) (viewport_owner setup p) s t mine owns in
+            let one : s ≡ t = one-viewport (viewport_owner setup p) s t mine owns in
             subst (λ (u : SessionNo). list_any (is_token_back p) (events_to setup b e u) ≡ list_any (is_token_back p) (events_to setup b' (with_reply e n r) u)) one
             (token-is-own p (events_to setup b e s) ∙ (ap (list_any (is_token_back p)) step-events ∙ sym (token-is-own p (events_to setup b' (with_reply e n r) s))))
         by_owner t false other = token-elsewhere setup p t other b e ∙ sym (token-elsewhere setup p t other b' (with_reply e n r))

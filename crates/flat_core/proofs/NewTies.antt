@@ -7,16 +7,16 @@ use Rattle.flat_scene.specs.declared.setup.Setup.{Setup}
 use Rattle.flat_scene.specs.declared.trees.Tree.{Tree}
 use Rattle.flat_scene.specs.Frames.{sessions_to}
 use Rattle.flat_core.specs.declared.following.Following.{Following}
-use Rattle.flat_core.specs.declared.following.Glimpse.{Glimpse}
+use Rattle.flat_core.specs.declared.following.Sight.{Sight}
 use Rattle.flat_core.specs.declared.pairs.PairState.{PairState}
 use Rattle.flat_core.specs.Boards.{number}
-use Rattle.flat_core.specs.Following.{AreTied, IsFollowed, IsPairKept, glimpse_of, pair}
+use Rattle.flat_core.specs.Following.{AreTied, IsFollowed, IsPairKept, sight_of, pair}
 use Rattle.flat_core.specs.Shown.{shown, shown_states, is_connected}
 use Rattle.flat_topology.specs.Join.{viewer_from, led_to, led_from, sessions_in, join}
 use Rattle.flat_topology.specs.Pairs.{display_pair}
 use Rattle.flat_topology.specs.Shown.{Shown}
 
-abbrev pub nothing : Glimpse
+abbrev pub nothing : Sight
 nothing = record { closed = false; taken = 0; view = None; connected = false }
 
 abbrev pub new_following : Following
@@ -43,8 +43,8 @@ not-connected setup s =
     let none : sessions_in (join setup (shown_states setup [])) ≡ [] = from-nowhere (shown_states setup []) (λ n p. no-viewer (shown setup []) (λ t. refl) n p (sessions_to setup.sessions)) (display_pair setup) in
     rw none refl
 
-nothing-seen : (setup : Setup) (s : SessionNo) → nothing ≡ glimpse_of setup [] s
-nothing-seen setup s = ap (λ (b : Bool). let g : Glimpse = record { closed = false; taken = 0; view = None; connected = b } in g) (sym (not-connected setup s))
+nothing-seen : (setup : Setup) (s : SessionNo) → nothing ≡ sight_of setup [] s
+nothing-seen setup s = ap (λ (b : Bool). let g : Sight = record { closed = false; taken = 0; view = None; connected = b } in g) (sym (not-connected setup s))
 
 new-followed : (setup : Setup) (s : SessionNo) → IsFollowed setup [] s new_following
 new-followed setup s = record { view = λ o. refl; contents = λ o. refl; begun = nothing-seen setup s; finished = nothing-seen setup s }

@@ -27,23 +27,18 @@ use Rattle.flat_core.specs.Legal.{reply_to, may_act, session_may, waited}
 use Rattle.flat_core.specs.Logs.{Logged}
 use Rattle.flat_core.specs.Presents.{reply_to_close, noted_in, with_calls, IsPlaced}
 use Rattle.flat_core.specs.Seen.{seen_of}
-use Rattle.flat_core.proofs.Changes.{IsPlainOne, seen-other, seen-noted, kept-noted, changed-one, changed-set, changed-each, sum-changed, length-changed, not-session, is-session, sum-same}
-use Rattle.flat_core.proofs.Counts.{kept-session, declared-some, lt-of}
+use Rattle.flat_core.proofs.Changes.{IsPlainOne, seen-other, seen-noted, kept-noted, changed-one, changed-set, changed-each, sum-changed, not-session, is-session, sum-same}
+use Rattle.flat_core.proofs.Counts.{kept-session, declared-some, lt-of, same-number}
 use Rattle.flat_core.proofs.Between.{is_viewport}
 use Rattle.flat_core.proofs.Entered.{Entered, kept-entered}
 use Rattle.flat_core.proofs.Steps.{Changed}
+use Rattle.flat_core.proofs.ListLemmas.{length-changed}
 
 pub declared-of : (setup : Setup) (kind : Kind) (s : SessionNo) → may_act setup kind (Session s) ≡ true → IsTrue (is_declared setup s)
 declared-of setup kind s may = and-right (session_may kind) (is_declared setup s) may
 
 pub looks-declared : (setup : Setup) (c : Cond) (s : SessionNo) → may_act setup (Wait c) (Session s) ≡ true → IsTrue (is_declared setup s)
 looks-declared setup c s may = declared-of setup (Wait c) s may
-
-one-back : (n : ℕ) → 0 < n → n - 1 + 1 ≡ n
-one-back n some = omega arith
-
-pub same-number : (s : SessionNo) → 0 < s.0 → number (s.0 - 1) ≡ s
-same-number s some = ap (λ (n : ℕ). let r : SessionNo = record { 0 = n } in r) (one-back s.0 some)
 
 -- the sessions after an entry of one of them
 pub each-one : (m : Machine) (s : SessionNo) (line : ℕ) (calls : List Call) (kind : Kind) (reply : Reply) → MayCall m (Session s) calls kind → is_begin kind ≡ false → is_finish kind ≡ false

@@ -19,9 +19,7 @@ use Rattle.flat_core.specs.Kept.{IsKept, Below}
 use Rattle.flat_core.specs.Logs.{Logged}
 use Rattle.flat_core.specs.Presents.{IsNew}
 use Rattle.flat_core.specs.Seen.{seen_of}
-
-All-none : {A : Type 0} (P : A → Type 0) (xs : List A) → xs ≡ [] → All P xs
-All-none P xs none = rw none (λ k d below. absurd (omega (arith, below)))
+use Rattle.flat_core.proofs.ListLemmas.{All-none}
 
 kept-new : (setup : Setup) (s : SessionNo) (state : SessionState) → IsNew state → IsKept setup (seen_of setup [] s) state
 kept-new setup s state new = record {

@@ -27,6 +27,7 @@ use Rattle.flat_core.proofs.StampSteps.{other-stamp}
 use Rattle.flat_core.proofs.Stamped.{IsLasting, happening-lasts}
 use Rattle.flat_core.proofs.ViewHistory.{same-session}
 use Rattle.flat_core.proofs.ViewLaw.{made_at}
+use Rattle.std.proofs.lemmas.Bool.{or_right}
 
 -- an entry that is none of a session that was open
 abbrev pub IsShut : List Entry → Entry → Type 0
@@ -42,16 +43,12 @@ end-quiet : (kind : Kind) (reply : Reply) (made : List Call) → is_end kind ≡
 end-quiet (End refused) reply made is = refl
 end-quiet _ reply made is = cc
 
-or-right : (a b : Bool) → b ≡ true → (a || b) ≡ true
-or-right true b is = refl
-or-right false b is = is
-
 -- a closed session stays so, and presents nothing more
 pub shut-stays : (s : SessionNo) (h : List Entry) (e : Entry) → is_closed s h ≡ true → is_closed s (h ▹ e) ≡ true
 shut-stays s h e shut = by_owner (is_session s e.actor)
   where
     by_owner : (b : Bool) → list_any (λ entry. closes entry.reply) (cond b (e ∷ own s h) (own s h)) ≡ true
-    by_owner true = or-right (closes e.reply) _ shut
+    by_owner true = or_right (closes e.reply) _ shut
     by_owner false = shut
 
 pub shut-presents : (setup : Setup) (s : SessionNo) (h : List Entry) (e : Entry) → Legal setup (h ▹ e) → is_session s e.actor ≡ true → is_closed s h ≡ true → presents s (h ▹ e) ≡ presents s h

@@ -1,6 +1,6 @@
 -- Tokens, told by the stamp of the last use's release.
 use Rattle.std.proofs.Common.{◌≡◌, ◌∙◌, sym, subst, ℕ, ◌+◌, ◌-◌, ◌≤◌, Bool, true, false, List, [], ◌∷◌, ◌++◌, length, refl, arith, ap, Some, None, drop}
-use Rattle.std.specs.Prelude.{cond, not, ◌&&◌, ◌==◌, nat_le, Option, is_some, slice_get}
+use Rattle.std.specs.Prelude.{cond, not, ◌&&◌, ◌==◌, nat_le, Option, slice_get}
 use Rattle.std.proofs.lemmas.Bool.Decides.{nat_tests}
 use Rattle.flat_base.specs.declared.ids.PairNo.{PairNo}
 use Rattle.flat_base.specs.declared.ids.SessionNo.{SessionNo}
@@ -10,7 +10,7 @@ use Rattle.flat_scene.specs.declared.calls.ViewportProps.{ViewportProps}
 use Rattle.flat_scene.specs.declared.journal.Entry.{Entry}
 use Rattle.flat_scene.specs.declared.setup.Setup.{Setup}
 use Rattle.flat_scene.specs.Frames.{taken}
-use Rattle.flat_scene.specs.History.{◌▹◌, calls, is_closed}
+use Rattle.flat_scene.specs.History.{calls, is_closed}
 use Rattle.flat_scene.specs.Setups.{is_declared}
 use Rattle.flat_scene.proofs.Together.{and-left}
 use Rattle.flat_core.specs.declared.live.Live.{Live}
@@ -19,13 +19,14 @@ use Rattle.flat_core.specs.Legal.{Legal, has_token, owns_viewport, is_frame_open
 use Rattle.flat_core.specs.Lives.{held_of, lives_after, lives_then}
 use Rattle.flat_core.specs.Posts.{releases_seen}
 use Rattle.flat_core.specs.Stamps.{first_at, is_seen, IsStamp, happens_often}
-use Rattle.flat_core.proofs.Earlier.{begin-earlier, begun-earlier, finished-earlier, taken-begun}
+use Rattle.flat_core.proofs.Earlier.{begin-earlier, begun-earlier, finished-earlier, taken-begun, taken-drop}
 use Rattle.flat_core.proofs.LiveCounts.{held-append, lives-append}
 use Rattle.flat_core.proofs.StampSteps.{stamp-of, stamp-taken}
 use Rattle.flat_core.proofs.Stamped.{stamped, often-lasts}
 use Rattle.flat_core.proofs.TokenLaw.{counted, balanced, seen-rises, seen-then, released, live_in}
 use Rattle.flat_core.proofs.TokensBack.{came}
 use Rattle.flat_core.proofs.ViewCalls.{split-last}
+use Rattle.flat_core.proofs.ListLemmas.{not-some}
 
 module _ (setup : Setup) (s : SessionNo) (p : PairNo) (owned : owns_viewport setup s p ≡ true) (declared : is_declared setup s ≡ true) where
   -- the stamp of the release of the last of so many uses
@@ -70,7 +71,7 @@ module _ (setup : Setup) (s : SessionNo) (p : PairNo) (owned : owns_viewport set
       let last : taken setup (drop 1 (to_begin h)) s ≡ taken setup (to_finished h) s = taken-begun setup s h legal going in
       let before_it : f ≤ released setup s p h = seen-rises setup s p (drop 1 (to_begin h)) (to_finished h) h (begun-earlier h) (finished-earlier h) (omega (arith, last)) in
       let after_it : released setup s p h ≤ f = seen-rises setup s p (to_finished h) (drop 1 (to_begin h)) h (finished-earlier h) (begun-earlier h) (omega (arith, last)) in
-      let less : taken setup (drop 1 (to_begin h)) s ≤ taken setup (to_begin h) s = drop-taken (to_begin h) in
+      let less : taken setup (drop 1 (to_begin h)) s ≤ taken setup (to_begin h) s = taken-drop setup s (to_begin h) in
       let rises : f ≤ b = seen-rises setup s p (drop 1 (to_begin h)) (to_begin h) h (begun-earlier h) (begin-earlier h) less in
       let seen = seen-then setup s p (to_begin h) h (begin-earlier h) in
       let all = balanced setup s p owned h legal opened in
@@ -78,16 +79,8 @@ module _ (setup : Setup) (s : SessionNo) (p : PairNo) (owned : owns_viewport set
       let now : nat_le u b ≡ is_seen stamp (taken setup (to_begin h) s) = stamp-taken setup test s (to_begin h) h stamp (begin-earlier h) is in
       let then : nat_le u f ≡ is_seen stamp (taken setup (to_finished h) s) = stamp-taken setup test s (drop 1 (to_begin h)) h stamp (begun-earlier h) is ∙ ap (is_seen stamp) last in
       counts u f b rises (omega (arith, seen, all)) (omega (arith, near, before_it, after_it)) ∙ rw (now, then) refl
-    where
-      drop-taken : (k : List Entry) → taken setup (drop 1 k) s ≤ taken setup k s
-      drop-taken [] = omega arith
-      drop-taken (k ▹ x) = omega arith
 
   -- ---- a new use
-
-  none-some : (o : Option ℕ) → is_some o ≡ false → o ≡ None
-  none-some None is = refl
-  none-some (Some k) is = cc
 
   -- it isn't released yet
   pub fresh-stamp : (h : List Entry) → Legal setup h → is_closed s h ≡ false → 1 ≤ held_of p (live_in s h) → IsReleaseStamp (length (viewport_uses p h)) h None
@@ -97,7 +90,7 @@ module _ (setup : Setup) (s : SessionNo) (p : PairNo) (owned : owns_viewport set
       let all = balanced setup s p owned h legal opened in
       let lasting = often-lasts setup (releases_viewport p) u (omega (arith, all, lives)) in
       let none : test (calls s h) ≡ false = grind (arith, nat_tests) in
-      let is : first_at test s h ≡ None = none-some (first_at test s h) ((stamped test lasting s h).some ∙ none) in
+      let is : first_at test s h ≡ None = not-some (first_at test s h) ((stamped test lasting s h).some ∙ none) in
       subst (IsStamp test s h) is (stamp-of test lasting s h)
 
 -- the last call of a viewport's entry leaves it alive

@@ -1,6 +1,6 @@
 -- What an entry does to what is kept of a pair.
 use Rattle.std.proofs.Common.{◌≡◌, ◌∙◌, sym, subst, ℕ, ◌<◌, Bool, true, false, List, [], ◌∷◌, length, refl, arith, ap, Some, None}
-use Rattle.std.specs.Prelude.{Option, cond, not, ◌&&◌, ◌==◌, nat_lt}
+use Rattle.std.specs.Prelude.{Option, cond, ◌&&◌, ◌==◌, nat_lt}
 use Rattle.std.specs.List.{list_any, list_all}
 use Rattle.std.proofs.lemmas.Bool.Decides.{nat_tests}
 use Rattle.std.proofs.lemmas.List.Folds.{list_all-append}
@@ -34,14 +34,10 @@ use Rattle.flat_core.proofs.SerialSteps.{serial-closing, serial-other, serial-ow
 use Rattle.flat_core.proofs.ShownOwned.{all-calls-owned}
 use Rattle.flat_core.proofs.StampSteps.{other-stamp}
 use Rattle.flat_core.proofs.Stamped.{happening-lasts}
-use Rattle.flat_core.proofs.ViewCalls.{or-none-left, or-none-right}
 use Rattle.flat_core.proofs.ViewHistory.{same-session}
+use Rattle.std.proofs.lemmas.Bool.{not-true, or_parts}
 
 -- ---- entries of sessions
-
-is-not : (b : Bool) → not b ≡ true → b ≡ false
-is-not true is = cc
-is-not false is = refl
 
 may-begin : (kind : Kind) → session_may kind ≡ true → is_begin kind ≡ false
 may-begin (Begin time) is = let wrong : false ≡ true = is in cc
@@ -65,17 +61,17 @@ no-finish setup s h e legal mine = may-finish e.kind (session-may setup s h e le
 
 any-first : (xs : List Call) → list_any is_link xs ≡ false → AreTame xs
 any-first [] none = refl
-any-first (x ∷ xs) none = by_length (length xs == 0) (any-first xs (or-none-right (is_link x) (list_any is_link xs) none)) (or-none-left (is_link x) (list_any is_link xs) none)
+any-first (x ∷ xs) none = by_length (length xs == 0) (any-first xs (or_parts (is_link x) (list_any is_link xs) none).1) (or_parts (is_link x) (list_any is_link xs) none).0
   where
     by_length : (b : Bool) → AreTame xs → is_link x ≡ false → list_any is_link (cond b [] (x ∷ all_but_last xs)) ≡ false
     by_length true rest this = refl
     by_length false rest this = rw this rest
 
 tame-kind : (kind : Kind) (carries : List Call) → links_alone kind carries ≡ true → AreTame carries
-tame-kind (View p) carries alone = is-not (list_any is_link (all_but_last carries)) alone
-tame-kind (Viewport p props) carries alone = is-not (list_any is_link (all_but_last carries)) alone
-tame-kind (Close reason) carries alone = is-not (list_any is_link (all_but_last carries)) alone
-tame-kind _ carries alone = any-first carries (is-not (list_any is_link carries) alone)
+tame-kind (View p) carries alone = not-true (list_any is_link (all_but_last carries)) alone
+tame-kind (Viewport p props) carries alone = not-true (list_any is_link (all_but_last carries)) alone
+tame-kind (Close reason) carries alone = not-true (list_any is_link (all_but_last carries)) alone
+tame-kind _ carries alone = any-first carries (not-true (list_any is_link carries) alone)
 
 pub one-session : (s t : SessionNo) (who : Actor) → is_session s who ≡ true → is_session t who ≡ true → t ≡ s
 one-session s t who mine theirs = let same : Session t ≡ Session s = sym (same-session t who theirs) ∙ same-session s who mine in cc

@@ -16,7 +16,7 @@ use Rattle.flat_scene.specs.Frames.{taken}
 use Rattle.flat_scene.specs.History.{◌▹◌, calls, closes, is_closed, is_session, presents}
 use Rattle.flat_scene.specs.Misuse.{misuse}
 use Rattle.flat_core.specs.declared.live.Live.{Live}
-use Rattle.flat_core.specs.Ends.{times, happens, count_if, ends_view, clears_viewport, loses, is_viewport_lost, is_view_lost, viewport_owner, view_owner, to_finished}
+use Rattle.flat_core.specs.Ends.{times, happens, ends_view, clears_viewport, loses, is_viewport_lost, is_view_lost, viewport_owner, view_owner, to_finished}
 use Rattle.flat_core.specs.Legal.{Legal, number_if}
 use Rattle.flat_core.specs.Lives.{lives_after, clears_live, count_of}
 use Rattle.flat_core.specs.Shown.{is_pair, shown_view, is_connected}
@@ -24,7 +24,7 @@ use Rattle.flat_core.specs.Stamps.{IsStamp, is_seen, stamp_then}
 use Rattle.flat_core.specs.Views.{view_then, view_after, ends_it, ends_of, layout_by, status_by, child_by}
 use Rattle.flat_core.specs.Watch.{told, layout_of, status_of, child_of, are_joined, props_told}
 use Rattle.flat_core.proofs.Earlier.{finished-earlier}
-use Rattle.flat_core.proofs.LiveCounts.{lived-all, lived, Lived}
+use Rattle.flat_core.proofs.LiveCounts.{lived-all, lived, Lived, count-is}
 use Rattle.flat_core.proofs.StampSteps.{own-stamp, stamp-ended}
 use Rattle.flat_core.proofs.Stamped.{stamped, happening-lasts}
 use Rattle.flat_core.proofs.ViewCalls.{times-append, after-refused}
@@ -43,10 +43,6 @@ call-ends : (p : PairNo) (d : Draft) (call : Call) → ends_view p d call ≡ en
 call-ends p d ReleaseView = refl
 call-ends p d Clear = refl
 call-ends p d _ = refl
-
-count-is : (b : Bool) → count_if (Some b) ≡ number_if b
-count-is true = refl
-count-is false = refl
 
 -- The view after calls without a misuse, and how often they end that of a pair.
 pub record Viewed (setup : Setup) (d : Draft) (calls : List Call) (d' : Draft) : Type 0 where

@@ -1,12 +1,11 @@
 -- What a use of its viewport end does to what is kept of a pair.
-use Rattle.std.proofs.Common.{◌≡◌, ◌∙◌, sym, subst, ℕ, ◌+◌, ◌-◌, ◌^◌, ◌<◌, ◌≤◌, Bool, true, false, List, [], ◌∷◌, ◌++◌, length, min, refl, arith, ap, None, Ok, Err}
+use Rattle.std.proofs.Common.{◌≡◌, ◌∙◌, sym, subst, ℕ, ◌+◌, ◌-◌, ◌^◌, ◌<◌, ◌≤◌, Bool, true, false, List, [], ◌++◌, length, min, refl, arith, ap, None, Ok, Err}
 use Rattle.std.specs.Prelude.{Option, Result, cond, ◌&&◌, ◌==◌, option_and_then, option_map, unwrap_or, slice_get}
 use Rattle.std.specs.Result.{result_ok}
 use Rattle.std.specs.List.{list_all}
 use Rattle.std.proofs.lemmas.Bool.Decides.{nat_tests}
 use Rattle.flat_base.specs.declared.errors.Reason.{Reason}
 use Rattle.flat_base.specs.declared.ids.Actor.{Actor}
-use Rattle.flat_base.specs.declared.ids.Actor.TheVariants.{Session}
 use Rattle.flat_base.specs.declared.ids.PairNo.{PairNo}
 use Rattle.flat_base.specs.declared.ids.SessionNo.{SessionNo}
 use Rattle.flat_scene.specs.declared.calls.Call.{Call}
@@ -15,7 +14,7 @@ use Rattle.flat_scene.specs.declared.journal.Entry.{Entry}
 use Rattle.flat_scene.specs.declared.journal.Kind.{Kind}
 use Rattle.flat_scene.specs.declared.journal.Reply.{Reply}
 use Rattle.flat_scene.specs.declared.setup.Setup.{Setup}
-use Rattle.flat_scene.specs.Draft.{Draft, of_serial}
+use Rattle.flat_scene.specs.Draft.{Draft}
 use Rattle.flat_scene.specs.Effect.{draft_of}
 use Rattle.flat_scene.specs.Frames.{taken}
 use Rattle.flat_scene.specs.History.{◌▹◌, calls, closes, is_finish, is_session, published}
@@ -38,16 +37,12 @@ use Rattle.flat_core.proofs.LiveCounts.{made-append}
 use Rattle.flat_core.proofs.PairSteps.{cleared-own, ended-own, no-finish, pair-own}
 use Rattle.flat_core.proofs.SerialSteps.{made-begins, serial-new}
 use Rattle.flat_core.proofs.Serials.{draft-contents, serials-are, serials-count}
-use Rattle.flat_core.proofs.Uses.{uses-made}
+use Rattle.flat_core.proofs.Uses.{uses-made, uses-few}
+use Rattle.flat_core.proofs.ListLemmas.{serial-beyond}
+use Rattle.flat_core.proofs.Locality.{same-session as session-is}
 use Rattle.flat_core.proofs.ViewHistory.{same-session}
 
 -- ---- no frame has seen a use that wasn't made
-
-past-none : (xs : List ℕ) (k : ℕ) → length xs < k → of_serial xs k ≡ None
-past-none [] k over = refl
-past-none (x ∷ xs) k over =
-    let not_first : (k == 1) ≡ false = grind (arith, nat_tests) in
-    rw not_first (past-none xs (k - 1) (omega (arith, over)))
 
 -- a draft whose calls made fewer viewports of the pair has no properties of the use
 unmade : (setup : Setup) (p : PairNo) (n : ℕ) (cs : List Call) → made_of_pair p cs < n → (r : Result Draft Reason) → draft_of setup cs ≡ r → option_and_then (props_of p n) (result_ok r) ≡ None
@@ -55,7 +50,7 @@ unmade setup p n cs few (Err reason) is = refl
 unmade setup p n cs few (Ok d) is =
     let serials : serials_of p 1 d.contents ≡ serials_in p 1 (contents_made cs) = serials-are p 1 d.contents ∙ ap (serials_in p 1) (draft-contents setup cs d is) in
     let count : length (serials_of p 1 d.contents) ≡ made_of_pair p cs = ap (length {A = ℕ}) serials ∙ serials-count p 1 cs in
-    ap (option_and_then (live_props d)) (past-none (serials_of p 1 d.contents) n (omega (arith, count, few)))
+    ap (option_and_then (live_props d)) (serial-beyond (serials_of p 1 d.contents) n (omega (arith, count, few)))
 
 made-fewer : (p : PairNo) (cs more all : List Call) → all ≡ cs ++ more → made_of_pair p cs ≤ made_of_pair p all
 made-fewer p cs more all is = omega (arith, made-append p cs more, ap (made_of_pair p) is)
@@ -84,19 +79,8 @@ unseen setup p v n (h ▹ e) few =
 
 -- ---- a use
 
-uses-few : (p : PairNo) (h : List Entry) → length (viewport_uses p h) ≤ length h
-uses-few p [] = omega arith
-uses-few p (h ▹ e) = by_use (uses_viewport p e.kind && is_done e.reply) (uses-few p h)
-  where
-    by_use : (b : Bool) → length (viewport_uses p h) ≤ length h → length (cond b (e ∷ viewport_uses p h) (viewport_uses p h)) ≤ length (e ∷ h)
-    by_use true few = omega (arith, few)
-    by_use false few = omega (arith, few)
-
 below-cap : (n m cap : ℕ) → n ≡ m → m < cap → min (n + 1) cap ≡ m + 1
 below-cap n m cap same below = rw same (grind arith)
-
-one-owner : (s v : SessionNo) → is_session s (Session v) ≡ true → v ≡ s
-one-owner s v is = let same : Session v ≡ Session s = same-session s (Session v) is in cc
 
 pub pair-used : (setup : Setup) (s : SessionNo) (h : List Entry) (e : Entry) (carries : List Call) (made : ℕ) (live : List Live) → IsOwnEntry setup h e s carries made live → length h < 2 ^ 32 - 1
     → (p : PairNo) (props : ViewportProps) → IsUse e p props → (serial : ℕ) → serial ≡ capped (length (contents_made (calls s h ++ carries)))
@@ -133,7 +117,7 @@ pair-used setup s h e carries made live entry small p props used serial counted 
           ended = λ w owner. ended-own setup s h e carries made live entry (pair i) view is w owner state.ended (kept.ended w owner);
           cleared = λ v owner. cleared-own setup s h e carries made live entry (pair i) v owner state.cleared (kept.cleared v owner);
           serial = λ v owner some.
-              let same : v ≡ s = one-owner s v (sym (ap (λ (o : Option Actor). unwrap_or (option_map (is_session s) o) false) owner) ∙ ours) in
+              let same : v ≡ s = session-is s v (sym (ap (λ (o : Option Actor). unwrap_or (option_map (is_session s) o) false) owner) ∙ ours) in
               record {
                 serial = length (contents_made (calls s h ++ e.calls));
                 is = counted ∙ ap (λ (cs : List Call). capped (length (contents_made (calls s h ++ cs)))) (sym entry.carried);
@@ -144,7 +128,7 @@ pair-used setup s h e carries made live entry small p props used serial counted 
           unused = λ none. let wrong : 1 ≤ 0 = omega (arith, none, count) in absurd (omega (arith, wrong));
           given = sym (ap (props_given setup) more ∙ ap props_at used.kind);
           seen = λ v owner.
-              let same : v ≡ s = one-owner s v (sym (ap (λ (o : Option Actor). unwrap_or (option_map (is_session s) o) false) owner) ∙ ours) in
+              let same : v ≡ s = session-is s v (sym (ap (λ (o : Option Actor). unwrap_or (option_map (is_session s) o) false) owner) ∙ ours) in
               let quiet : is_finish e.kind ≡ false = no-finish setup s h e entry.legal entry.mine in
               let few : made_of_pair (pair i) (calls v h) < length (viewport_uses (pair i) (h ▹ e)) =
               omega (arith, count, made_before, ap (λ (t : SessionNo). made_of_pair (pair i) (calls t h)) same) in

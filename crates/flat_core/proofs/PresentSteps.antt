@@ -1,6 +1,6 @@
 -- A present, accepted or not.
 use Rattle.std.proofs.Common.{◌≡◌, ℕ, zero, suc, ◌+◌, ◌-◌, ◌*◌, ◌<◌, ◌≤◌, ◌^◌, Bool, true, false, List, [], ◌∷◌, length, refl, arith, sym, ◌∙◌, ap, slice_set, slice_index_or, length-append, Some, None}
-use Rattle.std.specs.Prelude.{cond, not, ◌==◌, nat_lt, IsTrue, slice_get, option_map, unwrap_or, sum_by}
+use Rattle.std.specs.Prelude.{cond, ◌==◌, nat_lt, IsTrue, slice_get, option_map, unwrap_or, sum_by}
 use Rattle.std.specs.List.{list_any, list_all}
 use Rattle.std.specs.Arc.{arc_value}
 use Rattle.std.specs.declared.sync.Arc.{Arc}
@@ -43,10 +43,7 @@ use Rattle.flat_core.proofs.Between.{posted-between}
 use Rattle.flat_core.proofs.Ones.{declared-of, each-one}
 use Rattle.flat_core.proofs.Presented.{seen-presented, kept-presented, presents-few}
 use Rattle.flat_core.proofs.Steps.{unchanged, stands-entered, few-history, legal-entered, room-entered, posts-none}
-
-not-true : (b : Bool) → not b ≡ true → b ≡ false
-not-true true h = cc
-not-true false h = refl
+use Rattle.std.proofs.lemmas.Bool.{not-true}
 
 -- a session that makes a present is open
 opened-session : (h : List Entry) (s : SessionNo) (args : PresentArgs) → goes_on h (Present args) (Session s) ≡ true → is_closed s h ≡ false

@@ -31,7 +31,7 @@ publish-skip false e xs none = refl
 pub presents-quiet : (h : List Entry) (e : Entry) (s : SessionNo) → ((made : List Call) → published e.kind e.reply made ≡ []) → presents s (h ▹ e) ≡ presents s h
 presents-quiet h e s none = publish-skip (is_session s e.actor) e (own s h) none
 
-takes-none : (kind : Kind) (signalled : FenceNo → Bool) (closed : Bool) (w : List Published) → is_begin kind ≡ false → takes kind signalled closed w ≡ []
+pub takes-none : (kind : Kind) (signalled : FenceNo → Bool) (closed : Bool) (w : List Published) → is_begin kind ≡ false → takes kind signalled closed w ≡ []
 takes-none (Begin time) signalled closed w no_begin = cc
 takes-none kind signalled closed w no_begin = refl
 

@@ -9,6 +9,7 @@ use Rattle.flat_scene.specs.Draft.{Draft, Transform, Made, Name, named, of_seria
 use Rattle.flat_scene.specs.Effect.{changed_if}
 use Rattle.flat_scene.proofs.Together.{and-left, and-right}
 use Rattle.flat_core.proofs.Lives.{pair_made, pair_at}
+use Rattle.flat_core.proofs.ListLemmas.{length-changed}
 
 -- whether a number is in a list
 abbrev pub has : List ℕ → ℕ → Bool
@@ -67,23 +68,11 @@ changed-later p f keeps (suc k) n (x ∷ xs) all = by_place (changed-later p f k
     by_place rest true = all
     by_place rest false = rest
 
-pub changed-long : {A : Type 0} (f : A → A) (n : ℕ) (xs : List A) → length (changed_at n f xs) ≡ length xs
-changed-long f n [] = refl
-changed-long f n (x ∷ xs) = by_place (changed-long f (n - 1) xs) (n == 1)
-  where
-    by_place : length (changed_at (n - 1) f xs) ≡ length xs → (b : Bool) → length (cond b (f x ∷ xs) (x ∷ changed_at (n - 1) f xs)) ≡ length (x ∷ xs)
-    by_place rest true = refl
-    by_place rest false = rw rest refl
-
 pub mapped-later : {A : Type 0} (p q : A → Bool) (f : A → A) → ((x : A) → p x ≡ true → q (f x) ≡ true) → (k : ℕ) (xs : List A) → list_all p (drop k xs) ≡ true → list_all q (drop k (map f xs)) ≡ true
 mapped-later p q f keeps zero [] all = refl
 mapped-later p q f keeps zero (x ∷ xs) all = rw (keeps x (and-left (p x) (list_all p xs) all), mapped-later p q f keeps zero xs (and-right (p x) (list_all p xs) all)) refl
 mapped-later p q f keeps (suc k) [] all = refl
 mapped-later p q f keeps (suc k) (x ∷ xs) all = mapped-later p q f keeps k xs all
-
-pub mapped-long : {A : Type 0} (f : A → A) (xs : List A) → length (map f xs) ≡ length xs
-mapped-long f [] = refl
-mapped-long f (x ∷ xs) = rw (mapped-long f xs) refl
 
 pub one-later : {A : Type 0} (p : A → Bool) (k : ℕ) (xs : List A) (x : A) → k ≤ length xs → list_all p (drop k xs) ≡ true → p x ≡ true → list_all p (drop k (xs ++ x ∷ [])) ≡ true
 one-later p zero xs x fits all here = list_all-append p xs (x ∷ []) ∙ rw (all, here) refl
@@ -113,7 +102,7 @@ module _ (d : Draft) (r : IsReached d) where
   with-changed None f keeps = record { first = r.first; fits = r.fits; names = r.names; root = r.root; later = r.later }
   with-changed (Some n) f keeps = record {
     first = r.first;
-    fits = omega (arith, r.fits, changed-long f n d.transforms);
+    fits = omega (arith, r.fits, length-changed f n d.transforms);
     names = r.names;
     root = r.root;
     later = changed-later test f keeps r.first n d.transforms r.later;

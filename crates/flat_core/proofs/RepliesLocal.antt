@@ -1,6 +1,6 @@
 -- What a family's entries are answered depends on the family's entries and the frames alone.
-use Rattle.std.proofs.Common.{◌≡◌, ℕ, zero, suc, ◌+◌, ◌-◌, Bool, true, false, cond, List, [], ◌∷◌, ◌++◌, refl, arith, ap, sym, ◌∙◌}
-use Rattle.std.specs.Prelude.{◌==◌, ◌&&◌, Option, Some, None, length, flat_map, map, replicate, filter, nat_lt}
+use Rattle.std.proofs.Common.{◌≡◌, ℕ, zero, suc, ◌+◌, ◌-◌, Bool, true, false, cond, List, [], ◌∷◌, ◌++◌, refl, arith, ap, sym, ◌∙◌, Option, Some, None}
+use Rattle.std.specs.Prelude.{◌==◌, ◌&&◌, length, flat_map, map, replicate, filter, nat_lt}
 use Rattle.std.specs.List.{list_all, list_any}
 use Rattle.std.proofs.lemmas.Grind.{common_steps}
 use Rattle.std.proofs.lemmas.List.Folds.{list_any-append}
@@ -8,24 +8,30 @@ use Rattle.flat_base.specs.declared.ids.Actor.{Actor}
 use Rattle.flat_base.specs.declared.ids.Actor.TheVariants.{Display, Session, Probe}
 use Rattle.flat_base.specs.declared.ids.PairNo.{PairNo}
 use Rattle.flat_base.specs.declared.ids.SessionNo.{SessionNo}
-use Rattle.flat_scene.specs.declared.calls.Watch.{Watch}
 use Rattle.flat_scene.specs.declared.journal.Entry.{Entry}
 use Rattle.flat_scene.specs.declared.journal.Event.{Event}
 use Rattle.flat_scene.specs.declared.journal.Event.TheVariants as event
 use Rattle.flat_scene.specs.declared.journal.Kind.{Kind}
-use Rattle.flat_scene.specs.declared.journal.Told.{Told}
 use Rattle.flat_scene.specs.declared.setup.Setup.{Setup}
 use Rattle.flat_scene.specs.Family.{IsClosedFamily, only, is_kept, keeps}
 use Rattle.flat_scene.specs.Frames.{credits, taken, sessions_to}
 use Rattle.flat_scene.specs.History.{◌▹◌, is_closed, is_session, is_begin, is_finish}
 use Rattle.flat_core.specs.Legal.{Legal, is_token_back, is_told, is_poll, is_now, number_if, owns_viewport, has_token, sent_to, unread, answers, frames, is_frame_open, begin_time}
-use Rattle.flat_core.specs.Posts.{Sent, event_of, told_event, tokens_back, at_finish, at_begin, news_for, events_to, posted, up_to, frame_took}
+use Rattle.flat_core.specs.Posts.{Sent, told_event, tokens_back, at_finish, at_begin, news_for, events_to, posted, up_to, frame_took, event_of}
 use Rattle.flat_core.specs.Watch.{Watcher, layout_of, status_of, child_of, watching, told}
 use Rattle.flat_watch.specs.Told.{answer}
 use Rattle.flat_core.specs.Ends.{viewport_uses, views_of, viewports_of}
 use Rattle.flat_core.proofs.EventsLocal.{viewports-owned, events-kept, events-dropped}
-use Rattle.flat_core.proofs.Locality.{same-session, not-true, entry-owned}
+use Rattle.flat_core.proofs.Locality.{same-session, entry-owned}
 use Rattle.flat_core.proofs.ToldLocal.{IsFamilyPair, no-frame, no-viewport}
+use Rattle.std.proofs.lemmas.Bool.{false_from_ne_true}
+use Rattle.flat_scene.specs.declared.calls.Watch.{Watch}
+use Rattle.flat_scene.specs.declared.journal.Told.{Told}
+
+pub no-told : (p q : PairNo) (get : Option Watch) (value : Option Told) → list_any (is_token_back p) (event_of q get value) ≡ false
+no-told p q None value = refl
+no-told p q (Some get) None = refl
+no-told p q (Some get) (Some value) = refl
 
 -- an event, and to whom it goes
 abbrev pub to_session : SessionNo → Event → Sent
@@ -86,11 +92,6 @@ pub any-flat-nothing : {X : Type 0} (test : Event → Bool) (f : X → List Even
 any-flat-nothing test f none [] = refl
 any-flat-nothing test f none (x ∷ xs) = rw (list_any-append test (f x) (flat_map f xs), none x, any-flat-nothing test f none xs) refl
 
-pub event-no-token : (p q : PairNo) (w : Option Watch) (a : Option Told) → list_any (is_token_back p) (event_of q w a) ≡ false
-event-no-token p q (Some get) (Some value) = refl
-event-no-token p q (Some get) None = refl
-event-no-token p q None a = refl
-
 replicate-no-token : (p q : PairNo) → (q.0 == p.0) ≡ false → (n : ℕ) → list_any (is_token_back p) (replicate n (event.TokenBack q)) ≡ false
 replicate-no-token p q other zero = refl
 replicate-no-token p q other (suc n) = rw (other, replicate-no-token p q other n) refl
@@ -129,14 +130,14 @@ module _ (setup : Setup) where
       (none-if (is_token_back p) (is_begin e.kind) (at_begin setup before e s) (none-if (is_token_back p) (nat_lt (taken setup before s) (taken setup (before ▹ e) s)) (event.Credits (credits setup (before ▹ e) s - credits setup before s) ∷ []) refl)))
     where
       told_none : (q : PairNo) (watcher : Watcher) → list_any (is_token_back p) (told_event setup q watcher before e) ≡ false
-      told_none q watcher = event-no-token p q (watching setup watcher before).waits (answer (told setup (before ▹ e) watcher) (watching setup watcher before))
+      told_none q watcher = no-told p q (watching setup watcher before).waits (answer (told setup (before ▹ e) watcher) (watching setup watcher before))
 
   -- a session is sent back only the tokens of its own pairs
   pub token-elsewhere : (p : PairNo) (s : SessionNo) → owns_viewport setup s p ≡ false → (before : List Entry) (e : Entry) → list_any (is_token_back p) (events_to setup before e s) ≡ false
   token-elsewhere p s not_its before e = token-at-finish p s before e (none-if (is_token_back p) (is_finish e.kind) (at_finish setup before s) finish_none)
     where
       other_pair : (q : PairNo) → owns_viewport setup s q ≡ true → (q.0 == p.0) ≡ false
-      other_pair q owns = not-true (q.0 == p.0) (λ is.
+      other_pair q owns = false_from_ne_true (q.0 == p.0) (λ is.
           let same : q.0 ≡ p.0 = grind (arith, common_steps) in
           let moved : owns_viewport setup s q ≡ owns_viewport setup s p = ap (λ (n : ℕ). let r : PairNo = record { 0 = n } in owns_viewport setup s r) same in
           cc)
@@ -180,7 +181,7 @@ module _ (setup : Setup) (of_family : SessionNo → Bool) (closed : IsClosedFami
   -- ---- tokens
 
   not-outside : (p : PairNo) → IsFamilyPair setup of_family closed p → (s : SessionNo) → of_family s ≡ false → owns_viewport setup s p ≡ false
-  not-outside p pair s out = not-true (owns_viewport setup s p) (λ owns. let inside : of_family s ≡ true = pair.viewport s owns in cc)
+  not-outside p pair s out = false_from_ne_true (owns_viewport setup s p) (λ owns. let inside : of_family s ≡ true = pair.viewport s owns in cc)
 
   back-kept : (p : PairNo) → IsFamilyPair setup of_family closed p → (before : List Entry) (e : Entry) → Legal setup (before ▹ e) → is_kept of_family e ≡ true
       → list_any (λ sent. is_token_back p sent.event) (posted setup (only of_family before) e) ≡ list_any (λ sent. is_token_back p sent.event) (posted setup before e)
@@ -224,7 +225,7 @@ module _ (setup : Setup) (of_family : SessionNo → Bool) (closed : IsClosedFami
   not-its : (s : SessionNo) → of_family s ≡ true → (kind : Kind) (actor : Actor) → keeps of_family kind actor ≡ false → is_session s actor ≡ false
   not-its s mine kind Display out = refl
   not-its s mine kind (Probe p) out = refl
-  not-its s mine kind (Session t) out = not-true (t.0 == s.0) (λ is. let same : of_family t ≡ of_family s = ap of_family (same-session s t is) in cc)
+  not-its s mine kind (Session t) out = false_from_ne_true (t.0 == s.0) (λ is. let same : of_family t ≡ of_family s = ap of_family (same-session s t is) in cc)
 
   pub unread-only : (s : SessionNo) → of_family s ≡ true → (history : List Entry) → Legal setup history → unread setup s (only of_family history) ≡ unread setup s history
   unread-only s mine [] legal = refl

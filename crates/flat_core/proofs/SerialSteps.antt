@@ -4,7 +4,6 @@ use Rattle.std.specs.Prelude.{◌==◌, nat_le, Option, option_and_then, option_
 use Rattle.std.specs.Result.{result_ok}
 use Rattle.std.proofs.lemmas.Bool.Decides.{nat_tests}
 use Rattle.std.proofs.lemmas.List.{append-nil, append_assoc}
-use Rattle.flat_base.specs.declared.errors.Reason.{Reason}
 use Rattle.flat_base.specs.declared.errors.Reason.TheVariants.{Cycle, TreeTooLarge}
 use Rattle.flat_base.specs.declared.ids.PairNo.{PairNo}
 use Rattle.flat_base.specs.declared.ids.SessionNo.{SessionNo}
@@ -39,6 +38,8 @@ use Rattle.flat_core.proofs.Uses.{uses-other, uses-own, uses-made}
 use Rattle.flat_core.proofs.ViewCalls.{split-last}
 use Rattle.flat_core.proofs.ViewHistory.{published-made}
 use Rattle.flat_core.proofs.ViewLaw.{made_at, MadeOf, made-earlier, le-or-lt}
+use Rattle.flat_core.proofs.ListLemmas.{serial-within, serial-beyond}
+use Rattle.flat_core.proofs.LowTrees.{second_none}
 
 -- ---- the calls up to a present are the first of all calls
 
@@ -87,17 +88,9 @@ has-more p n serial cs more at fits =
     let serials : serials_in p 1 (contents_made (cs ++ more)) ≡ serials_in p 1 (contents_made cs) ++ serials_in p (1 + length (contents_made cs)) (contents_made more) =
     ap (serials_in p 1) all ∙ serials-append p 1 (contents_made cs) (contents_made more) in
     let long : length (contents_made (cs ++ more)) ≡ length (contents_made cs) + length (contents_made more) = ap (length {A = Option PairNo}) all ∙ length-append (contents_made cs) (contents_made more) in (
-      ap (λ (l : List ℕ). of_serial l n) serials ∙ serial-append (serials_in p 1 (contents_made cs)) (serials_in p (1 + length (contents_made cs)) (contents_made more)) n (within (serials_in p 1 (contents_made cs)) n serial at) ∙ at,
+      ap (λ (l : List ℕ). of_serial l n) serials ∙ serial-append (serials_in p 1 (contents_made cs)) (serials_in p (1 + length (contents_made cs)) (contents_made more)) n (serial-within (serials_in p 1 (contents_made cs)) n serial at) ∙ at,
       omega (arith, fits, long),
     )
-  where
-    within : (xs : List ℕ) (k x : ℕ) → of_serial xs k ≡ Some x → k ≤ length xs
-    within [] k x is = cc
-    within (y ∷ ys) k x is = by_place (λ h. within ys (k - 1) x h) (k == 1) refl is
-      where
-        by_place : (of_serial ys (k - 1) ≡ Some x → k - 1 ≤ length ys) → (b : Bool) → (k == 1) ≡ b → cond b (Some y) (of_serial ys (k - 1)) ≡ Some x → k ≤ length (y ∷ ys)
-        by_place rest true e h = grind (arith, nat_tests)
-        by_place rest false e h = omega (arith, rest h)
 
 has-some : (p : PairNo) (n serial : ℕ) (cs : List Call) → (of_serial (serials_in p 1 (contents_made cs)) n ≡ Some serial) × (serial ≤ length (contents_made cs)) → Has p n serial cs
 has-some p n serial cs both = let fits : nat_le serial (length (contents_made cs)) ≡ true = fits_is both.1 in both.0 ∙ sym (rw fits refl)
@@ -109,16 +102,10 @@ has-some p n serial cs both = let fits : nat_le serial (length (contents_made cs
 has-none : (p : PairNo) (n serial : ℕ) (cs : List Call) → made_of_pair p cs < n → length (contents_made cs) < serial → Has p n serial cs
 has-none p n serial cs few short =
     let over : nat_le serial (length (contents_made cs)) ≡ false = over_is short in
-    beyond (serials_in p 1 (contents_made cs)) n (omega (arith, few, serials-count p 1 cs)) ∙ sym (rw over refl)
+    serial-beyond (serials_in p 1 (contents_made cs)) n (omega (arith, few, serials-count p 1 cs)) ∙ sym (rw over refl)
   where
     over_is : length (contents_made cs) < serial → nat_le serial (length (contents_made cs)) ≡ false
     over_is short' = grind (arith, nat_tests)
-
-    beyond : (xs : List ℕ) (k : ℕ) → length xs < k → of_serial xs k ≡ None
-    beyond [] k less = refl
-    beyond (x ∷ xs) k less =
-        let not_first : (k == 1) ≡ false = grind (arith, nat_tests) in
-        rw not_first (beyond xs (k - 1) (omega (arith, less)))
 
 -- ---- one entry more
 
@@ -256,14 +243,9 @@ module _ (setup : Setup) (s : SessionNo) (p : PairNo) (owned : owns_viewport set
 pub tree-some : (d : Draft) → first_reason (tree_tests d) ≡ None → (t : Tree) × (tree d ≡ Some t)
 tree-some d none = by_nodes (all_nodes d) refl
   where
-    small : (a b : Bool) (x y : Reason) (rest : Option Reason) → cond a (Some x) (cond b (Some y) rest) ≡ None → b ≡ false
-    small true b x y rest is = cc
-    small false true x y rest is = cc
-    small false false x y rest is = refl
-
     by_nodes : (all : Option Children) → all_nodes d ≡ all → (t : Tree) × (tree d ≡ Some t)
     by_nodes None is =
-        let fits : is_too_large (all_nodes d) ≡ false = small (is_cyclic d) (is_too_large (all_nodes d)) Cycle TreeTooLarge _ none in
+        let fits : is_too_large (all_nodes d) ≡ false = second_none (is_cyclic d) (is_too_large (all_nodes d)) Cycle TreeTooLarge _ none in
         let wrong : true ≡ false = ap is_too_large (sym is) ∙ fits in cc
     by_nodes (Some all) is = (record { view = d.view; root = head_of all; viewports = filter_map (use_of d) d.viewports }, rw is refl)
 

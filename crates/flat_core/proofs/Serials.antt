@@ -1,9 +1,9 @@
 -- What a tree has of the viewport of a pair's last use.
-use Rattle.std.proofs.Common.{◌≡◌, ◌∙◌, sym, ℕ, ◌+◌, ◌-◌, Bool, true, false, cond, List, [], ◌∷◌, ◌++◌, length, map, filter_map, refl, arith, ap, Some, None, Ok, Err, length-append}
+use Rattle.std.proofs.Common.{◌≡◌, ◌∙◌, sym, ℕ, ◌+◌, ◌-◌, Bool, true, false, cond, List, [], ◌∷◌, ◌++◌, length, map, filter_map, refl, arith, ap, Some, None, Ok, Err, length-append, ◌<◌}
 use Rattle.std.specs.Prelude.{◌||◌, ◌==◌, nat_le, Option, option_map, option_and_then}
 use Rattle.std.specs.List.{list_any}
 use Rattle.std.proofs.lemmas.Bool.Decides.{nat_tests}
-use Rattle.std.proofs.lemmas.List.{append-nil, append_assoc, map-append}
+use Rattle.std.proofs.lemmas.List.{append-nil, append_assoc, map-append, length-map}
 use Rattle.flat_base.specs.declared.errors.Reason.{Reason}
 use Rattle.flat_base.specs.declared.ids.PairNo.{PairNo}
 use Rattle.flat_scene.specs.declared.calls.Call.{Call}
@@ -24,6 +24,7 @@ use Rattle.flat_core.specs.Serials.{makes_content, contents_made, serials_in, pr
 use Rattle.flat_core.specs.Shown.{is_pair}
 use Rattle.flat_core.proofs.Lives.{pair_made, image-pair, viewport-pair, fill-pair}
 use Rattle.flat_core.proofs.ViewCalls.{after-refused}
+use Rattle.flat_core.proofs.ListLemmas.{serial-beyond}
 
 -- ---- the contents of a draft
 
@@ -108,7 +109,7 @@ serials-count p next (c ∷ cs) =
 
 -- ---- what a tree has
 
-either : (b : Bool) → cond {A = Option ViewportProps} b None None ≡ None
+pub either : (b : Bool) → cond {A = Option ViewportProps} b None None ≡ None
 either true = refl
 either false = refl
 
@@ -150,26 +151,19 @@ pub use-props : (setup : Setup) (calls : List Call) (d : Draft) → draft_of set
 use-props setup calls d good t is p n serial tells =
     let contents = draft-contents setup calls d good in
     let serials : serials_of p 1 d.contents ≡ serials_in p 1 (contents_made calls) = serials-are p 1 d.contents ∙ ap (serials_in p 1) contents in
-    let count : length (contents_made calls) ≡ length d.contents = ap (length {A = Option PairNo}) (sym contents) ∙ mapped d.contents in
+    let count : length (contents_made calls) ≡ length d.contents = ap (length {A = Option PairNo}) (sym contents) ∙ length-map d.contents pair_made in
     let used : of_serial (serials_of p 1 d.contents) n ≡ cond (nat_le serial (length d.contents)) (Some serial) None =
     ap (λ (l : List ℕ). of_serial l n) serials ∙ tells ∙ ap (λ (k : ℕ). cond (nat_le serial k) (Some serial) None) count in
     ap (option_and_then (live_props d)) used ∙ by_count (nat_le serial (length d.contents)) refl ∙ sym (uses-props d serial d.viewports)
     ∙ ap (λ (us : List ViewportUse). props_at_serial us serial) (viewports_are (all_nodes d) is)
   where
-    mapped : (ms : List Made) → length (map pair_made ms) ≡ length ms
-    mapped [] = refl
-    mapped (m ∷ ms) = rw (mapped ms) refl
-
-    beyond : (ms : List Made) (k : ℕ) → nat_le k (length ms) ≡ false → of_serial ms k ≡ None
-    beyond [] k over = refl
-    beyond (m ∷ ms) k over =
-        let not_first : (k == 1) ≡ false = grind (arith, nat_tests) in
-        rw not_first (beyond ms (k - 1) (grind (arith, nat_tests)))
+    past : nat_le serial (length d.contents) ≡ false → length d.contents < serial
+    past over = grind (arith, nat_tests)
 
     by_count : (b : Bool) → nat_le serial (length d.contents) ≡ b
         → option_and_then (live_props d) (cond b (Some serial) None) ≡ cond (list_any (λ live. live == serial) d.viewports) (option_and_then props_in (of_serial d.contents serial)) None
     by_count true fits = refl
-    by_count false over = sym (rw (beyond d.contents serial over) (either (list_any (λ live. live == serial) d.viewports)))
+    by_count false over = sym (rw (serial-beyond d.contents serial (past over)) (either (list_any (λ live. live == serial) d.viewports)))
 
     viewports_are : (all : Option Children) → option_map (λ all. let u : Tree = record { view = d.view; root = head_of all; viewports = filter_map (use_of d) d.viewports } in u) all ≡ Some t → filter_map (use_of d) d.viewports ≡ t.viewports
     viewports_are None h = cc

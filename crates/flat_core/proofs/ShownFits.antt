@@ -1,10 +1,9 @@
 -- What the sessions of a legal history show fits the setup.
-use Rattle.std.proofs.Common.{◌≡◌, ◌≢◌, ℕ, zero, suc, ◌+◌, ◌-◌, ◌≤◌, Bool, true, false, cond, ◌==◌, not, List, [], ◌∷◌, ◌++◌, length, map, get_or, refl, sym, ap, ◌∙◌, subst, arith, length-append, Option, Some, None, Ok, Err, Result, slice_get, is_none, inl, inr}
+use Rattle.std.proofs.Common.{◌≡◌, ◌≢◌, ℕ, zero, suc, ◌-◌, ◌≤◌, Bool, true, false, cond, ◌==◌, List, [], ◌∷◌, ◌++◌, refl, sym, ap, ◌∙◌, subst, arith, Option, Some, None, Ok, Err, Result, slice_get, is_none, inl, inr}
 use Rattle.std.specs.List.{list_all, AllByRecursion, Contains, AllPairs}
 use Rattle.std.specs.Option.{option_map, option_and_then, unwrap_or}
 use Rattle.std.specs.Result.{result_ok}
-use Rattle.std.proofs.lemmas.Bool.{eqb-true}
-use Rattle.std.proofs.lemmas.List.{map-append}
+use Rattle.std.proofs.lemmas.Bool.{eqb-true, not-true}
 use Rattle.flat_base.specs.declared.ids.Actor.{Actor}
 use Rattle.flat_base.specs.declared.ids.Actor.TheVariants.{Session}
 use Rattle.flat_base.specs.declared.ids.PairNo.{PairNo}
@@ -25,7 +24,7 @@ use Rattle.flat_scene.specs.declared.trees.Children.{Children}
 use Rattle.flat_scene.specs.declared.trees.Tree.{Tree}
 use Rattle.flat_scene.specs.Draft.{Draft, Made, an_image, a_fill, a_viewport, of_serial}
 use Rattle.flat_scene.specs.Effect.{draft_of}
-use Rattle.flat_scene.specs.Frames.{taken, sessions_to}
+use Rattle.flat_scene.specs.Frames.{taken}
 use Rattle.flat_scene.specs.History.{◌▹◌, is_session, is_closed, calls, presents, published, Published}
 use Rattle.flat_scene.specs.Misuse.{first_reason}
 use Rattle.flat_scene.specs.Setups.{is_declared}
@@ -53,6 +52,7 @@ use Rattle.flat_topology.proofs.Distinct.{In, in-contains, pairs-distinct}
 use Rattle.flat_topology.specs.Fit.{FitsSetup, greatest_opacity}
 use Rattle.flat_topology.specs.Pairs.{OwnsView, OwnsViewport}
 use Rattle.flat_topology.specs.Shown.{state_of, view_of, nodes_of, pairs_in}
+use Rattle.flat_core.proofs.ShownList.{within-or-past}
 
 -- What is known of a draft that is presented: it names what its session owns, it has a tree, and no two viewports of a pair live.
 pub record IsGood (setup : Setup) (s : SessionNo) (calls : List Call) (draft : Draft) : Type 0 where
@@ -64,10 +64,6 @@ pub record IsGood (setup : Setup) (s : SessionNo) (calls : List Call) (draft : D
 -- the same of a present
 abbrev pub IsSound : Setup → SessionNo → Published → Type 0
 IsSound setup s present = (d : Draft) × IsGood setup s present.made d
-
-is-not : (b : Bool) → not b ≡ true → b ≡ false
-is-not true is = cc
-is-not false is = refl
 
 module _ (setup : Setup) (s : SessionNo) where
   -- ---- presents
@@ -86,7 +82,7 @@ module _ (setup : Setup) (s : SessionNo) where
           subst K kind (subst M who legal.1.may)
 
       opened : is_closed s before ≡ false
-      opened = is-not (is_closed s before) (grind (arith, may.lasts))
+      opened = not-true (is_closed s before) (grind (arith, may.lasts))
 
       still : is_closed s (before ▹ e) ≡ false
       still = rw (mine, reply) opened
@@ -259,24 +255,6 @@ module _ (setup : Setup) (s : SessionNo) where
       }
 
 -- ---- the states of all sessions
-
-pub length-sessions : {A : Type 0} (f : SessionNo → A) (n : ℕ) → length (map f (sessions_to n)) ≡ n
-length-sessions f zero = refl
-length-sessions f (suc n) = ap (length {A = _}) (map-append f (sessions_to n) ((record { 0 = suc n }) ∷ [])) ∙ length-append (map f (sessions_to n)) (f (record { 0 = suc n }) ∷ []) ∙ ap (λ m. m + 1) (length-sessions f n) ∙ omega arith
-
-at-snoc : {A : Type 0} (P : A → Type 0) (xs : List A) (y d : A) (k : ℕ) → P (get_or xs k d) → (k ≡ length xs → P y) → P (get_or (xs ++ y ∷ []) k d)
-at-snoc P [] y d zero before last = last refl
-at-snoc P [] y d (suc k) before last = before
-at-snoc P (x ∷ xs) y d zero before last = before
-at-snoc P (x ∷ xs) y d (suc k) before last = at-snoc P xs y d k before (λ is. last (ap suc is))
-
-within-or-past : {A : Type 0} (P : A → Type 0) (f : SessionNo → A) (d : A) (n k : ℕ) → P d → P (f (record { 0 = suc k })) → P (get_or (map f (sessions_to n)) k d)
-within-or-past P f d zero k past here = past
-within-or-past {A = A} P f d (suc n) k past here =
-    let Q : List A → Type 0 = λ xs. P (get_or xs k d) in
-    subst Q (sym (map-append f (sessions_to n) ((record { 0 = suc n }) ∷ [])))
-    (at-snoc P (map f (sessions_to n)) (f (record { 0 = suc n })) d k (within-or-past P f d n k past here)
-    (λ is. let same : k ≡ n = is ∙ length-sessions f n in let R : ℕ → Type 0 = λ m. P (f (record { 0 = suc m })) in subst R same here))
 
 module _ (setup : Setup) (history : List Entry) (legal : Legal setup history) where
   each-fits : (s : ℕ) → StateFits setup (record { 0 = s }) (state_of (shown_states setup history) s)

@@ -1,5 +1,5 @@
 -- The shown states, session by session.
-use Rattle.std.proofs.Common.{◌≡◌, ◌≢◌, ◌∙◌, sym, ℕ, true, false, zero, suc, ◌<◌, List, [], ◌∷◌, ◌++◌, length, map, refl, arith, ap, All, None, length-append, add-one, inl, inr, ◌⊎◌}
+use Rattle.std.proofs.Common.{◌≡◌, ◌≢◌, ◌∙◌, sym, ℕ, true, false, zero, suc, ◌<◌, List, [], ◌∷◌, ◌++◌, length, map, get_or, subst, refl, arith, ap, All, None, length-append, add-one, inl, inr, ◌⊎◌}
 use Rattle.std.specs.Prelude.{◌==◌, slice_index_or, Option}
 use Rattle.std.proofs.lemmas.Bool.Decides.{eqb_tells}
 use Rattle.std.proofs.lemmas.List.{map-append, length-map, ext_get_or, get_or_append_left, get_or_push}
@@ -17,6 +17,21 @@ length-sessions (suc n) = let before : length (sessions_to n) ≡ n = length-ses
 
 pub length-listed : {B : Type 0} (f : SessionNo → B) (n : ℕ) → length (map f (sessions_to n)) ≡ n
 length-listed f n = rw length-map (length-sessions n)
+
+at-snoc : {A : Type 0} (P : A → Type 0) (xs : List A) (y d : A) (k : ℕ) → P (get_or xs k d) → (k ≡ length xs → P y) → P (get_or (xs ++ y ∷ []) k d)
+at-snoc P [] y d zero before last = last refl
+at-snoc P [] y d (suc k) before last = before
+at-snoc P (x ∷ xs) y d zero before last = before
+at-snoc P (x ∷ xs) y d (suc k) before last = at-snoc P xs y d k before (λ is. last (ap suc is))
+
+-- a place of such a list has what the function gives of its session, or is past the end
+pub within-or-past : {A : Type 0} (P : A → Type 0) (f : SessionNo → A) (d : A) (n k : ℕ) → P d → P (f (record { 0 = suc k })) → P (get_or (map f (sessions_to n)) k d)
+within-or-past P f d zero k past here = past
+within-or-past {A = A} P f d (suc n) k past here =
+    let Q : List A → Type 0 = λ xs. P (get_or xs k d) in
+    subst Q (sym (map-append f (sessions_to n) ((record { 0 = suc n }) ∷ [])))
+    (at-snoc P (map f (sessions_to n)) (f (record { 0 = suc n })) d k (within-or-past P f d n k past here)
+    (λ is. let same : k ≡ n = is ∙ length-listed f n in let R : ℕ → Type 0 = λ m. P (f (record { 0 = suc m })) in subst R same here))
 
 by-test : (i n : ℕ) → i < suc n → ((n == i) ≡ true) × (n ≡ i) ⊎ ((n == i) ≡ false) × (n ≢ i) → (i < n) ⊎ (n ≡ i)
 by-test i n below (inl p) = inr p.1

@@ -11,8 +11,9 @@ use Rattle.flat_core.specs.Legal.{Legal}
 use Rattle.flat_core.specs.Shown.{shown, is_connected}
 use Rattle.flat_core.proofs.FramesLocal.{took-only}
 use Rattle.flat_core.proofs.JoinedLocal.{joined-same}
-use Rattle.flat_core.proofs.Locality.{own-only, own-others, any-same}
+use Rattle.flat_core.proofs.Locality.{own-only, own-others}
 use Rattle.flat_core.proofs.ShownOwned.{shown-owned}
+use Rattle.flat_core.proofs.AllOrSome.{any-same}
 
 pub or-swap : (a b : Bool) → (a || b) ≡ (b || a)
 or-swap a b = grind arith

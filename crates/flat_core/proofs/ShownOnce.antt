@@ -20,6 +20,7 @@ use Rattle.flat_core.proofs.Lives.{pair_made, pair_at, live_at, serial_at, lives
 use Rattle.flat_core.proofs.Reached.{has, is_alive, is_reached, is_root_after, IsReached}
 use Rattle.flat_topology.proofs.Distinct.{In, Distinct}
 use Rattle.flat_topology.specs.Shown.{pair_in, pairs_in}
+use Rattle.std.proofs.lemmas.Bool.{or_parts}
 
 -- ---- the tree of a draft
 
@@ -206,23 +207,11 @@ in-has (x ∷ xs) k (inr on) lives all = in-has xs k on lives (and-right (has li
 in-twice : (xs : List ℕ) (x : ℕ) → In x xs → list_any (λ y. x == y) xs ≡ false → ⊥
 in-twice [] x on none = on
 in-twice (y ∷ ys) x (inl same) none = grind (arith, nat_tests)
-in-twice (y ∷ ys) x (inr on) none = in-twice ys x on (second (x == y) (list_any (λ z. x == z) ys) none)
-  where
-    second : (a b : Bool) → (a || b) ≡ false → b ≡ false
-    second true b h = cc
-    second false b h = h
+in-twice (y ∷ ys) x (inr on) none = in-twice ys x on (or_parts (x == y) (list_any (λ z. x == z) ys) none).1
 
 once-distinct : (xs : List ℕ) → has_twice xs ≡ false → Distinct xs
 once-distinct [] none = tt
-once-distinct (x ∷ xs) none = (λ on. in-twice xs x on (first (list_any (λ y. x == y) xs) (has_twice xs) none), once-distinct xs (second (list_any (λ y. x == y) xs) (has_twice xs) none))
-  where
-    first : (a b : Bool) → (a || b) ≡ false → a ≡ false
-    first true b h = cc
-    first false b h = refl
-
-    second : (a b : Bool) → (a || b) ≡ false → b ≡ false
-    second true b h = cc
-    second false b h = h
+once-distinct (x ∷ xs) none = (λ on. in-twice xs x on (or_parts (list_any (λ y. x == y) xs) (has_twice xs) none).0, once-distinct xs (or_parts (list_any (λ y. x == y) xs) (has_twice xs) none).1)
 
 in-map : (g : ℕ → ℕ) (ks : List ℕ) (y : ℕ) → In y (map g ks) → (k : ℕ) × (In k ks × (y ≡ g k))
 in-map g [] y on = absurd on

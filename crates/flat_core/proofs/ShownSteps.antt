@@ -1,6 +1,6 @@
 -- What is shown after a begin.
 use Rattle.std.proofs.Common.{◌≡◌, ℕ, zero, suc, ◌+◌, ◌-◌, ◌<◌, ◌≤◌, Bool, true, false, List, [], ◌∷◌, ◌++◌, length, refl, arith, sym, ◌∙◌, ap, map, take, drop, Some, None, zero-add, suc-add, slice_get}
-use Rattle.std.specs.Prelude.{cond, ◌||◌, ◌==◌, Option, option_map, option_and_then}
+use Rattle.std.specs.Prelude.{cond, ◌==◌, Option, option_map, option_and_then}
 use Rattle.std.specs.List.{list_any}
 use Rattle.std.proofs.lemmas.Grind.{common_steps}
 use Rattle.std.proofs.lemmas.Bool.Decides.{nat_tests}
@@ -16,6 +16,7 @@ use Rattle.flat_core.specs.Shown.{shown, tree_of, last_taken}
 use Rattle.flat_core.specs.Lasts.{last_from}
 use Rattle.flat_scene.proofs.TakingLemmas.{taken-made}
 use Rattle.flat_core.proofs.Quiet.{taken-quiet}
+use Rattle.std.proofs.lemmas.Bool.{or_parts}
 
 -- ---- items by their serials
 
@@ -63,14 +64,10 @@ pub last-none : {A : Type 0} (xs : List A) → last_from None xs ≡ None → xs
 last-none [] none = refl
 last-none (x ∷ xs) none = sym (last-some x xs none)
 
-or-right : (a b : Bool) → (a || b) ≡ false → b ≡ false
-or-right true b h = cc
-or-right false b h = h
-
 -- ---- what is shown stays until the next begin
 
 pub closed-before : (b : Bool) (e : Entry) (xs : List Entry) → list_any (λ entry. closes entry.reply) (cond b (e ∷ xs) xs) ≡ false → list_any (λ entry. closes entry.reply) xs ≡ false
-closed-before true e xs opened = or-right (closes e.reply) _ opened
+closed-before true e xs opened = (or_parts (closes e.reply) _ opened).1
 closed-before false e xs opened = opened
 
 serial-more : (b : Bool) (e : Entry) (xs : List Entry) (n : ℕ) → n ≤ length (published_all xs) → of_serial (published_all (cond b (e ∷ xs) xs)) n ≡ of_serial (published_all xs) n

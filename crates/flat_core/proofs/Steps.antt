@@ -40,9 +40,6 @@ pub legal-entered : (m : Machine) (who : Actor) (line : ℕ) (calls : List Call)
     → LegalEntry m.setup m.history (entry_of who line calls kind reply)
 legal-entered m who line calls kind reply call replied = record { may = call.may; reply = replied }
 
-pub both : (a b : Bool) → a ≡ true → b ≡ true → (a && b) ≡ true
-both a b p q = rw (p, q) refl
-
 pub frames-quiet : (h : List Entry) (e : Entry) → is_finish e.kind ≡ false → frames (h ▹ e) ≡ frames h
 frames-quiet h e no_finish = rw no_finish refl
 

@@ -1,6 +1,6 @@
 -- What is told changes at the end of a frame and at a use of the pair's ends alone; else watchers are at rest, and post nothing.
 use Rattle.std.proofs.Common.{◌≡◌, ◌∙◌, ℕ, Bool, true, false, List, [], ◌∷◌, ◌++◌, length, refl, ap, Option, Some, None}
-use Rattle.std.specs.Prelude.{cond, not, ◌&&◌, flat_map, option_map}
+use Rattle.std.specs.Prelude.{cond, ◌&&◌, flat_map, option_map}
 use Rattle.flat_base.specs.declared.ids.Actor.{Actor}
 use Rattle.flat_base.specs.declared.ids.Actor.TheVariants.{Display, Session, Probe}
 use Rattle.flat_base.specs.declared.ids.PairNo.{PairNo}
@@ -19,7 +19,8 @@ use Rattle.flat_core.specs.Watch.{Watcher, layout_of, status_of, child_of, watch
 use Rattle.flat_watch.specs.Told.{Watching, asking, settled, answer, or_else}
 use Rattle.flat_core.proofs.EventsLocal.{rest-none, hears-view, hears-viewport, flat-none, views-owned, viewports-owned}
 use Rattle.flat_core.proofs.ShownSteps.{closed-before}
-use Rattle.flat_core.proofs.WatchLocal.{asking-none, settled-twice}
+use Rattle.flat_core.proofs.WatchLocal.{asking-none, at-rest}
+use Rattle.std.proofs.lemmas.Bool.{not-true}
 
 -- An entry that ends no frame and uses no end of this pair.
 pub record IsStill (p : PairNo) (entry : Entry) : Type 0 where
@@ -32,21 +33,9 @@ pub open-before : (setup : Setup) (actor : Option Actor) (before : List Entry) (
 open-before setup None before e is = is
 open-before setup (Some Display) before e is = is
 open-before setup (Some (Probe n)) before e is = is
-open-before setup (Some (Session s)) before e is = rw (closed-before (is_session s e.actor) e (own s before) (opened (is_closed s (before ▹ e)) is)) refl
-  where
-    opened : (b : Bool) → not b ≡ true → b ≡ false
-    opened true h = cc
-    opened false h = refl
+open-before setup (Some (Session s)) before e is = rw (closed-before (is_session s e.actor) e (own s before) (not-true (is_closed s (before ▹ e)) is)) refl
 
 module _ (setup : Setup) where
-  pub at-rest : (watcher : Watcher) (history : List Entry) → settled (is_open setup (listener setup watcher) history) (told setup history watcher) (watching setup watcher history) ≡ watching setup watcher history
-  at-rest watcher [] = by_open (is_open setup (listener setup watcher) [])
-    where
-      by_open : (b : Bool) → settled b (told setup [] watcher) (record { last = None; waits = None }) ≡ record { last = None; waits = None }
-      by_open true = refl
-      by_open false = refl
-  at-rest watcher (before ▹ e) = settled-twice (is_open setup (listener setup watcher) (before ▹ e)) (told setup (before ▹ e) watcher) (asking (asked setup watcher before e) (watching setup watcher before))
-
   -- ---- what is told
 
   props-same : (owner : Option Actor) (p : PairNo) (before : List Entry) (e : Entry) → IsStill p e → props_told setup owner (before ▹ e) p ≡ props_told setup owner before p
@@ -89,7 +78,7 @@ module _ (setup : Setup) where
       by_open false is = refl
       by_open true is =
           let open_then : is_open setup (listener setup watcher) before ≡ true = open-before setup (listener setup watcher) before e is in
-          rw open_then at (at-rest watcher before)
+          rw open_then at (at-rest setup watcher before)
 
   pub watching-same : (watcher : Watcher) (before : List Entry) (e : Entry) → IsStill (pair_watched watcher) e → asked setup watcher before e ≡ None
       → watching setup watcher (before ▹ e) ≡ watching setup watcher before
@@ -105,7 +94,7 @@ module _ (setup : Setup) where
   pub told-nothing : (p : PairNo) (watcher : Watcher) (before : List Entry) (e : Entry) → told setup (before ▹ e) watcher ≡ told setup before watcher → is_open setup (listener setup watcher) before ≡ true
       → told_event setup p watcher before e ≡ []
   told-nothing p watcher before e same listens =
-      let resting : settled true (told setup before watcher) (watching setup watcher before) ≡ watching setup watcher before = rw listens at (at-rest watcher before) in
+      let resting : settled true (told setup before watcher) (watching setup watcher before) ≡ watching setup watcher before = rw listens at (at-rest setup watcher before) in
       ap (λ (now : Option Told). event_of p (watching setup watcher before).waits (answer now (watching setup watcher before))) same
       ∙ rest-none p (answer (told setup before watcher) (watching setup watcher before)) (watching setup watcher before) resting
 

@@ -9,7 +9,7 @@ use Rattle.flat_core.specs.declared.pairs.PairState.{PairState}
 use Rattle.flat_core.specs.declared.state.SessionState.{SessionState}
 use Rattle.flat_core.specs.Begins.{begun, begin_entry}
 use Rattle.flat_core.specs.Boards.{number}
-use Rattle.flat_core.specs.Following.{AreTied, IsBegun, IsFollowed, glimpse_of, pair, sight}
+use Rattle.flat_core.specs.Following.{AreTied, IsBegun, IsFollowed, sight_of, pair, sight_of_state}
 use Rattle.flat_core.specs.Kept.{AllNumbered, IsKept, taken_in}
 use Rattle.flat_core.specs.Seen.{seen_of}
 use Rattle.flat_core.specs.Shown.{shown, shown_states}
@@ -50,22 +50,22 @@ followed-here setup h after i followings state each below is =
     subst (IsFollowed setup h (number i)) (sym is) here
 
 module _ (setup : Setup) (h : List Entry) (line time : ℕ) (states : List SessionState) (shows : Shown) (begins : IsBegun setup h line time states shows) where
-  sight-is : (i : ℕ) (state : SessionState) → i < setup.sessions → IsKept setup (seen_of setup (begun h line time) (number i)) state → sight setup shows state (number i) ≡ glimpse_of setup (begun h line time) (number i)
+  sight-is : (i : ℕ) (state : SessionState) → i < setup.sessions → IsKept setup (seen_of setup (begun h line time) (number i)) state → sight_of_state setup shows state (number i) ≡ sight_of setup (begun h line time) (number i)
   sight-is i state below kept =
       let k : List Entry = begun h line time in
-      let closed : state.closed ≡ (glimpse_of setup (begun h line time) (number i)).closed = kept.closed in
-      let took : taken_in state ≡ (glimpse_of setup (begun h line time) (number i)).taken = taken-kept setup (seen_of setup (begun h line time) (number i)) state kept (seen-count setup (begun h line time) (number i)) in
-      let view : option_and_then (λ (t : Tree). t.view) (state_of shows (number i).0) ≡ (glimpse_of setup (begun h line time) (number i)).view = ap (option_and_then (λ (t : Tree). t.view)) (state-at setup (begun h line time) shows i begins.shown below) in
-      let connected : is_joined setup shows (number i).0 ≡ (glimpse_of setup (begun h line time) (number i)).connected = ap (λ (states : Shown). is_joined setup states (number i).0) begins.shown in
+      let closed : state.closed ≡ (sight_of setup (begun h line time) (number i)).closed = kept.closed in
+      let took : taken_in state ≡ (sight_of setup (begun h line time) (number i)).taken = taken-kept setup (seen_of setup (begun h line time) (number i)) state kept (seen-count setup (begun h line time) (number i)) in
+      let view : option_and_then (λ (t : Tree). t.view) (state_of shows (number i).0) ≡ (sight_of setup (begun h line time) (number i)).view = ap (option_and_then (λ (t : Tree). t.view)) (state-at setup (begun h line time) shows i begins.shown below) in
+      let connected : is_joined setup shows (number i).0 ≡ (sight_of setup (begun h line time) (number i)).connected = ap (λ (states : Shown). is_joined setup states (number i).0) begins.shown in
       rw (closed, took, view, connected) refl
 
   -- one session more
   pub begun-on : (i : ℕ) (followings : List Following) (was : Following) (state : SessionState) → i < setup.sessions → length states ≡ setup.sessions → length followings ≡ setup.sessions → state ≡ slice_index_or states i state → was ≡ slice_index_or followings i was
-      → AllNumbered (FollowedUpTo setup h (begun h line time) i) followings → AllNumbered (FollowedUpTo setup h (begun h line time) (i + 1)) (slice_set followings i (let new : Following = record was { begun = sight setup shows state (number i) } in new))
+      → AllNumbered (FollowedUpTo setup h (begun h line time) i) followings → AllNumbered (FollowedUpTo setup h (begun h line time) (i + 1)) (slice_set followings i (let new : Following = record was { begun = sight_of_state setup shows state (number i) } in new))
   begun-on i followings was state below all count at is each =
       let kept : IsKept setup (seen_of setup (begun h line time) (number i)) state = subst (IsKept setup (seen_of setup (begun h line time) (number i))) (sym at) (begins.kept i state (omega (arith, below, all))) in
       let old : IsFollowed setup h (number i) was = followed-here setup h (begun h line time) i followings was each (omega (arith, below, count)) is in
-      let new : Following = record was { begun = sight setup shows state (number i) } in
+      let new : Following = record was { begun = sight_of_state setup shows state (number i) } in
       let now : IsFollowed setup (begun h line time) (number i) new =
       followed-still setup (number i) h (begin_entry line time) (λ mine. let wrong : false ≡ true = mine in cc) was new refl refl (sight-is i state below kept) old.finished old in
       followed-on setup h (begun h line time) i followings new each now

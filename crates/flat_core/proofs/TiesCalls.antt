@@ -1,6 +1,5 @@
 -- Which entries leave what is kept of sessions and pairs as it is, and what a begin may look at.
-use Rattle.std.proofs.Common.{◌≡◌, ◌∙◌, sym, subst, ℕ, ◌≤◌, Bool, true, false, List, length, All, refl, ap}
-use Rattle.std.specs.Prelude.{◌&&◌}
+use Rattle.std.proofs.Common.{◌≡◌, ◌∙◌, sym, subst, ℕ, ◌≤◌, true, false, List, length, All, refl, ap}
 use Rattle.flat_base.specs.declared.ids.Actor.TheVariants.{Display, Session}
 use Rattle.flat_base.specs.declared.ids.PairNo.{PairNo}
 use Rattle.flat_base.specs.declared.ids.SessionNo.{SessionNo}
@@ -23,18 +22,11 @@ use Rattle.flat_core.proofs.ShownFits.{states-fit}
 use Rattle.flat_core.proofs.ViewHistory.{same-session}
 use Rattle.flat_topology.specs.Fit.{FitsSetup}
 use Rattle.flat_topology.specs.Shown.{Shown}
-
-and-none : (a b : Bool) → b ≡ false → (a && b) ≡ false
-and-none true b is = is
-and-none false b is = refl
-
-first-none : (a b : Bool) → a ≡ false → (a && b) ≡ false
-first-none true b is = let wrong : true ≡ false = is in cc
-first-none false b is = refl
+use Rattle.std.proofs.lemmas.Bool.{and_right, and_left}
 
 -- what isn't done uses nothing
 pub undone-uses : (e : Entry) → is_done e.reply ≡ false → UsesNone e
-undone-uses e undone p = and-none (uses_viewport p e.kind) (is_done e.reply) undone
+undone-uses e undone p = and_right (uses_viewport p e.kind) (is_done e.reply) undone
 
 no-display : (p : PairNo) (kind : Kind) → display_may kind ≡ true → uses_viewport p kind ≡ false
 no-display p (Viewport q props) may = let wrong : false ≡ true = may in cc
@@ -53,7 +45,7 @@ module _ (setup : Setup) (h : List Entry) (e : Entry) (legal : Legal setup (h �
         legal = legal;
         no_begin = no_begin;
         no_finish = no_finish;
-        no_use = λ p. first-none (uses_viewport p e.kind) (is_done e.reply) (no-display p e.kind may);
+        no_use = λ p. and_left (uses_viewport p e.kind) (is_done e.reply) (no-display p e.kind may);
         shut = λ s mine. let wrong : false ≡ true = ap (is_session s) (sym who) ∙ mine in cc;
       }
 
@@ -66,7 +58,7 @@ module _ (setup : Setup) (h : List Entry) (e : Entry) (legal : Legal setup (h �
         legal = legal;
         no_begin = no-begin setup s h e legal mine;
         no_finish = no-finish setup s h e legal mine;
-        no_use = λ p. first-none (uses_viewport p e.kind) (is_done e.reply) (no-end p e.kind ends);
+        no_use = λ p. and_left (uses_viewport p e.kind) (is_done e.reply) (no-end p e.kind ends);
         shut = λ t theirs. ap (λ (r : SessionNo). is_closed r h) (one-session s t e.actor mine theirs) ∙ shut;
       }
 

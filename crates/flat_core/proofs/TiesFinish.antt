@@ -17,7 +17,7 @@ use Rattle.flat_scene.specs.Frames.{taken}
 use Rattle.flat_scene.specs.History.{is_closed, presents, Published}
 use Rattle.flat_scene.specs.Setups.{is_declared}
 use Rattle.flat_core.specs.declared.following.Following.{Following}
-use Rattle.flat_core.specs.declared.following.Glimpse.{Glimpse}
+use Rattle.flat_core.specs.declared.following.Sight.{Sight}
 use Rattle.flat_core.specs.declared.pairs.PairState.{PairState}
 use Rattle.flat_core.specs.Begins.{finished, finish_entry}
 use Rattle.flat_core.specs.Boards.{number}
@@ -242,8 +242,8 @@ module _ (setup : Setup) (h : List Entry) (line : ℕ) (shows : Shown) (ends : I
       → uses_if (nat_lt was.finished.taken was.begun.taken) (state_of shows (number i).0) ≡ uses_if (took (number i)) (shown setup (to_begin h) (number i))
   looked-at i followings was below within is each =
       let old : IsFollowed setup h (number i) was = followed-here setup h (finished h line) i followings was each below is in
-      let before : was.finished.taken ≡ taken setup (to_finished h) (number i) = ap (λ (g : Glimpse). g.taken) old.finished in
-      let now : was.begun.taken ≡ taken setup (to_begin h) (number i) = ap (λ (g : Glimpse). g.taken) old.begun in
+      let before : was.finished.taken ≡ taken setup (to_finished h) (number i) = ap (λ (g : Sight). g.taken) old.finished in
+      let now : was.begun.taken ≡ taken setup (to_begin h) (number i) = ap (λ (g : Sight). g.taken) old.begun in
       ap (λ (n : ℕ). uses_if (nat_lt n was.begun.taken) (state_of shows (number i).0)) before
       ∙ ap (λ (n : ℕ). uses_if (nat_lt (taken setup (to_finished h) (number i)) n) (state_of shows (number i).0)) now
       ∙ ap (uses_if (took (number i))) (state-at setup (to_begin h) shows i ends.shown within)

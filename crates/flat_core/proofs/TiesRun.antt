@@ -3,7 +3,7 @@ use Rattle.std.proofs.Common.{◌≡◌, true, false, ◌∷◌, [], drop, refl,
 use Rattle.flat_scene.specs.declared.calls.Call.TheVariants as call
 use Rattle.flat_core.specs.Clears.{clears_pair}
 use Rattle.flat_core.specs.Ends.{clears_viewport, happens, to_finished}
-use Rattle.flat_core.specs.Following.{capped, glimpse_of}
+use Rattle.flat_core.specs.Following.{capped, sight_of}
 use Rattle.flat_core.specs.Serials.{contents_made}
 use Rattle.flat_core.specs.Stamps.{first_at}
 use Rattle.flat_core.specs.Usage.{props_among}
@@ -13,11 +13,11 @@ use Rattle.flat_core.proofs.ShellRun.{shell_with_two_apps-setup, shell_with_two_
 use Rattle.flat_scene.specs.History.{calls}
 
 -- the application has presented, is shown and connected
-app-seen : glimpse_of shell_with_two_apps-setup (to_finished shell_with_two_apps-history) (s 2) ≡ record { closed = false; taken = 2; view = Some (p 1); connected = true }
+app-seen : sight_of shell_with_two_apps-setup (to_finished shell_with_two_apps-history) (s 2) ≡ record { closed = false; taken = 2; view = Some (p 1); connected = true }
 app-seen = refl
 
 -- the first frame took nothing of it, as its fence wasn't signalled
-app-before : glimpse_of shell_with_two_apps-setup (to_finished (drop 11 shell_with_two_apps-history)) (s 2) ≡ record { closed = false; taken = 0; view = None; connected = false }
+app-before : sight_of shell_with_two_apps-setup (to_finished (drop 11 shell_with_two_apps-history)) (s 2) ≡ record { closed = false; taken = 0; view = None; connected = false }
 app-before = refl
 
 -- the shell made two viewports; frames have seen the properties of the second as they were given

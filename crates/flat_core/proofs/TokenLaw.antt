@@ -1,5 +1,5 @@
 -- A viewport end can be used exactly where frames that are finished have seen each of its uses released. No two viewports of a pair live at once.
-use Rattle.std.proofs.Common.{◌≡◌, ◌∙◌, sym, subst, ℕ, suc, ◌+◌, ◌-◌, ◌≤◌, Bool, true, false, List, [], ◌∷◌, length, refl, arith, ap, Ok, drop}
+use Rattle.std.proofs.Common.{◌≡◌, ◌∙◌, sym, subst, ℕ, ◌+◌, ◌-◌, ◌≤◌, Bool, true, false, List, [], ◌∷◌, length, refl, arith, ap, Ok, drop}
 use Rattle.std.specs.Prelude.{cond, not, ◌&&◌, ◌||◌, ◌==◌, nat_lt, nat_le}
 use Rattle.std.specs.List.{list_any}
 use Rattle.std.proofs.lemmas.Bool.Decides.{nat_tests}
@@ -22,15 +22,23 @@ use Rattle.flat_core.specs.Ends.{to_begin, to_finished, times, releases_viewport
 use Rattle.flat_core.specs.Legal.{Legal, reply_to, refused_token, has_token, is_token_back, owns_viewport, is_frame_open, keeps_time, may_act}
 use Rattle.flat_core.specs.Lives.{held_of, lives_after, made_of_pair}
 use Rattle.flat_core.specs.Posts.{posted, releases_seen, Sent}
-use Rattle.flat_core.proofs.Earlier.{begin-earlier, begun-earlier, finished-earlier, calls-taken, taken-fits, taken-begun, times-seen, times-rise, IsEarlier}
+use Rattle.flat_core.proofs.Earlier.{begin-earlier, begun-earlier, finished-earlier, calls-taken, taken-fits, taken-begun, times-seen, times-rise, IsEarlier, taken-drop}
 use Rattle.flat_core.proofs.LiveCounts.{lived-all, balance, lives-append}
 use Rattle.flat_core.proofs.TokensBack.{no-token, token-finish}
 use Rattle.flat_core.proofs.Uses.{uses-made, uses-other, uses-own}
 use Rattle.flat_core.proofs.ViewHistory.{viewing-of, closes-first}
+use Rattle.flat_scene.proofs.Together.{and-left, and-right}
+use Rattle.flat_core.proofs.ListLemmas.{none-put}
 
 -- the live viewports of a session
 abbrev pub live_in : SessionNo → List Entry → List Live
 live_in s h = lives_after [] (calls s h)
+
+-- a token that is neither used nor comes back stays where it is
+pub token-kept : (a b c : Bool) → a ≡ false → c ≡ false → (not a && (b || c)) ≡ b
+token-kept true b c na nc = cc
+token-kept false true c na nc = refl
+token-kept false false c na nc = nc
 
 module _ (setup : Setup) (s : SessionNo) (p : PairNo) where
   -- how often the viewport end was used, and how often frames that are finished have seen it released
@@ -74,11 +82,6 @@ module _ (setup : Setup) (s : SessionNo) (p : PairNo) where
   -- ---- one entry more
 
   module _ (owned : owns_viewport setup s p ≡ true) (h : List Entry) (e : Entry) (legal : Legal setup (h ▹ e)) (opened : is_closed s h ≡ false) where
-    token-kept : (a b c : Bool) → a ≡ false → c ≡ false → (not a && (b || c)) ≡ b
-    token-kept true b c na nc = cc
-    token-kept false true c na nc = refl
-    token-kept false false c na nc = nc
-
     token-gone : (a b : Bool) → a ≡ true → (not a && b) ≡ false
     token-gone true b is = refl
     token-gone false b is = cc
@@ -89,16 +92,12 @@ module _ (setup : Setup) (s : SessionNo) (p : PairNo) where
         let same : viewport_uses p (h ▹ e) ≡ viewport_uses p h = uses-other setup s p owned h e legal.1 other in
         let n : uses (h ▹ e) ≡ uses h = ap (length {A = Entry}) same in
         let r : released (h ▹ e) ≡ released h = rw no_finish refl in
-        let none : (uses_viewport p e.kind && is_done e.reply) ≡ false = no-use (uses_viewport p e.kind && is_done e.reply) same in
+        let none : (uses_viewport p e.kind && is_done e.reply) ≡ false = none-put e (viewport_uses p h) (uses_viewport p e.kind && is_done e.reply) same in
         record {
           token = token-kept (uses_viewport p e.kind && is_done e.reply) (has_token setup p h) _ none (no-token setup p h e no_finish) ∙ old.token ∙ rw (n, r) refl;
           near = omega (arith, n, r, old.near);
           few = rw other old.few;
         }
-      where
-        no-use : (b : Bool) → cond b (e ∷ viewport_uses p h) (viewport_uses p h) ≡ viewport_uses p h → b ≡ false
-        no-use true is = let long : suc (length (viewport_uses p h)) ≡ length (viewport_uses p h) = ap (length {A = Entry}) is in absurd (omega (arith, long))
-        no-use false is = refl
 
     -- its own, which closes nothing
     held-own : is_session s e.actor ≡ true → (n : ℕ) → held_of p (live_in s h) + made_of_pair p e.calls ≤ n → held_of p (live_in s (h ▹ e)) ≤ n
@@ -114,19 +113,11 @@ module _ (setup : Setup) (s : SessionNo) (p : PairNo) where
     -- what a use asks for
     used-held : (kind : Kind) (reply : Reply) → reply ≡ reply_to setup h e.actor e.calls kind → (uses_viewport p kind && is_done reply) ≡ true → has_token setup p h ≡ true
     used-held (Viewport q props) reply replied used =
-        let here : (q.0 == p.0) ≡ true = first (q.0 == p.0) (is_done reply) used in
+        let here : (q.0 == p.0) ≡ true = and-left (q.0 == p.0) (is_done reply) used in
         let number : q.0 ≡ p.0 = grind (arith, nat_tests) in
         let T : ℕ → Type 0 = λ n. has_token setup (record { 0 = n }) h ≡ true in
-        subst T number (by_token (has_token setup q h) replied (second (q.0 == p.0) (is_done reply) used))
+        subst T number (by_token (has_token setup q h) replied (and-right (q.0 == p.0) (is_done reply) used))
       where
-        first : (a b : Bool) → (a && b) ≡ true → a ≡ true
-        first true b both = refl
-        first false b both = both
-
-        second : (a b : Bool) → (a && b) ≡ true → b ≡ true
-        second true b both = both
-        second false b both = cc
-
         by_token : (b : Bool) → reply ≡ cond b Done refused_token → is_done reply ≡ true → b ≡ true
         by_token true is done = refl
         by_token false is done = let wrong : false ≡ true = ap is_done (sym is) ∙ done in cc
@@ -200,7 +191,7 @@ module _ (setup : Setup) (s : SessionNo) (p : PairNo) where
         let before_it : f ≤ released h = seen-rises (drop 1 (to_begin h)) (to_finished h) h (begun-earlier h) (finished-earlier h) (omega (arith, last)) in
         let after_it : released h ≤ f = seen-rises (to_finished h) (drop 1 (to_begin h)) h (finished-earlier h) (begun-earlier h) (omega (arith, last)) in
         let same : f ≡ released h = omega (arith, before_it, after_it) in
-        let less : taken setup (drop 1 (to_begin h)) s ≤ taken setup (to_begin h) s = drop-taken (to_begin h) in
+        let less : taken setup (drop 1 (to_begin h)) s ≤ taken setup (to_begin h) s = taken-drop setup s (to_begin h) in
         let rises : f ≤ b = seen-rises (drop 1 (to_begin h)) (to_begin h) h (begun-earlier h) (begin-earlier h) less in
         let seen = seen-then (to_begin h) h (begin-earlier h) in
         let all = balanced owned h legal.0 opened in
@@ -215,10 +206,6 @@ module _ (setup : Setup) (s : SessionNo) (p : PairNo) where
           near = omega (arith, n, now, near, rises);
           few = rw other old.few;
         }
-      where
-        drop-taken : (k : List Entry) → taken setup (drop 1 k) s ≤ taken setup k s
-        drop-taken [] = omega arith
-        drop-taken (k ▹ x) = omega arith
 
   -- ---- all of a history
 

@@ -8,11 +8,9 @@ use Rattle.flat_base.specs.declared.ids.Actor.{Actor}
 use Rattle.flat_base.specs.declared.ids.Actor.TheVariants.{Display, Session, Probe}
 use Rattle.flat_base.specs.declared.ids.PairNo.{PairNo}
 use Rattle.flat_base.specs.declared.ids.SessionNo.{SessionNo}
-use Rattle.flat_scene.specs.declared.calls.Watch.{Watch}
 use Rattle.flat_scene.specs.declared.journal.Entry.{Entry}
 use Rattle.flat_scene.specs.declared.journal.Event.{Event}
 use Rattle.flat_scene.specs.declared.journal.Event.TheVariants as event
-use Rattle.flat_scene.specs.declared.journal.Told.{Told}
 use Rattle.flat_scene.specs.declared.setup.PairDecl.{PairDecl}
 use Rattle.flat_scene.specs.declared.setup.Setup.{Setup}
 use Rattle.flat_scene.specs.Frames.{taken, credits, sessions_to}
@@ -20,9 +18,15 @@ use Rattle.flat_scene.specs.History.{◌▹◌, is_begin, is_finish, is_closed, 
 use Rattle.flat_scene.specs.Setups.{is_within, is_declared}
 use Rattle.flat_core.specs.Ends.{to_begin, views_of, viewports_of, viewport_uses, viewport_owner}
 use Rattle.flat_core.specs.Legal.{is_token_back, owns_viewport}
-use Rattle.flat_core.specs.Posts.{Sent, told_event, event_of, frame_took, releases_seen, tokens_back, at_finish, at_begin, news_for, events_to, posted, up_to}
+use Rattle.flat_core.specs.Posts.{Sent, told_event, frame_took, releases_seen, tokens_back, at_finish, at_begin, news_for, events_to, posted, up_to}
 use Rattle.flat_core.specs.Watch.{layout_of, status_of, child_of}
-use Rattle.flat_core.proofs.HasView.{found, any-found, both-ways}
+use Rattle.flat_core.proofs.HasView.{found, any-found}
+use Rattle.std.specs.Cmp.{both_ways}
+use Rattle.std.proofs.Math.Bool.{and-false, or-false}
+use Rattle.std.proofs.lemmas.Bool.{and_parts}
+use Rattle.flat_core.proofs.Between.{viewport-nested}
+use Rattle.flat_core.proofs.RepliesLocal.{no-told, any-flat-nothing}
+use Rattle.flat_core.proofs.AllOrSome.{any-same}
 
 -- ---- tests over lists of lists
 
@@ -34,13 +38,6 @@ any-none : {A : Type 0} (f : A → Bool) (xs : List A) → ((x : A) → f x ≡ 
 any-none f [] none = refl
 any-none f (x ∷ xs) none = rw (none x) (any-none f xs none)
 
-pub any-each : {A : Type 0} (f g : A → Bool) (xs : List A) → ((x : A) → f x ≡ g x) → list_any f xs ≡ list_any g xs
-any-each f g [] same = refl
-any-each f g (x ∷ xs) same = rw (same x, any-each f g xs same) refl
-
-flat-none : {A B : Type 0} (f : B → Bool) (g : A → List B) (xs : List A) → ((x : A) → list_any f (g x) ≡ false) → list_any f (flat_map g xs) ≡ false
-flat-none f g xs none = any-flat f g xs ∙ any-none (λ x. list_any f (g x)) xs none
-
 any-copies : (p q : PairNo) (n : ℕ) → list_any (is_token_back p) (replicate n (event.TokenBack q)) ≡ (nat_lt 0 n && q.0 == p.0)
 any-copies p q zero = refl
 any-copies p q (suc n) = by_pair (q.0 == p.0) (any-copies p q n)
@@ -48,10 +45,6 @@ any-copies p q (suc n) = by_pair (q.0 == p.0) (any-copies p q n)
     by_pair : (b : Bool) → list_any (is_token_back p) (replicate n (event.TokenBack q)) ≡ (nat_lt 0 n && b) → (b || list_any (is_token_back p) (replicate n (event.TokenBack q))) ≡ (nat_lt 0 (suc n) && b)
     by_pair true rest = grind (arith, nat_tests)
     by_pair false rest = rest ∙ and-false (nat_lt 0 n) ∙ sym (and-false (nat_lt 0 (suc n)))
-      where
-        and-false : (a : Bool) → (a && false) ≡ false
-        and-false true = refl
-        and-false false = refl
 
 -- five parts in a row
 five-parts : (f : Event → Bool) (a b c d e : List Event) → list_any f a ≡ false → list_any f b ≡ false → list_any f c ≡ false → list_any f e ≡ false → list_any f (a ++ b ++ c ++ d ++ e) ≡ list_any f d
@@ -59,17 +52,8 @@ five-parts f a b c d e na nb nc ne =
     list_any-append f (a ++ b ++ c ++ d) e
     ∙ ap (λ x. x || list_any f e) (list_any-append f (a ++ b ++ c) d ∙ ap (λ x. x || list_any f d) (list_any-append f (a ++ b) c ∙ ap (λ x. x || list_any f c) (list_any-append f a b)))
     ∙ rw (na, nb, nc, ne) (or-false (list_any f d))
-  where
-    or-false : (b : Bool) → (b || false) ≡ b
-    or-false true = refl
-    or-false false = refl
 
 -- ---- what an entry tells a session
-
-no-told : (p q : PairNo) (get : Option Watch) (value : Option Told) → list_any (is_token_back p) (event_of q get value) ≡ false
-no-told p q None value = refl
-no-told p q (Some get) None = refl
-no-told p q (Some get) (Some value) = refl
 
 module _ (setup : Setup) (p : PairNo) where
   no-credits : (before : List Entry) (e : Entry) (t : SessionNo) (b : Bool) → list_any (is_token_back p) (cond b (at_begin setup before e t) []) ≡ false
@@ -88,10 +72,9 @@ module _ (setup : Setup) (p : PairNo) where
       (flat_map (λ q. flat_map (λ n. told_event setup q (child_of q n) before e) (up_to (length (viewport_uses q before)))) (viewports_of setup t))
       (cond (is_finish e.kind) (at_finish setup before t) [])
       (cond (is_begin e.kind) (at_begin setup before e t) [])
-      (flat-none (is_token_back p) (λ q. told_event setup q (layout_of q) before e) (views_of setup t) (λ q. no-told p q _ _))
-      (flat-none (is_token_back p) (λ q. told_event setup q (status_of q) before e) (views_of setup t) (λ q. no-told p q _ _))
-      (flat-none (is_token_back p) (λ q. flat_map (λ n. told_event setup q (child_of q n) before e) (up_to (length (viewport_uses q before)))) (viewports_of setup t)
-      (λ q. flat-none (is_token_back p) (λ n. told_event setup q (child_of q n) before e) (up_to (length (viewport_uses q before))) (λ n. no-told p q _ _)))
+      (any-flat-nothing (is_token_back p) (λ q. told_event setup q (layout_of q) before e) (λ q. no-told p q _ _) (views_of setup t))
+      (any-flat-nothing (is_token_back p) (λ q. told_event setup q (status_of q) before e) (λ q. no-told p q _ _) (views_of setup t))
+      (any-flat-nothing (is_token_back p) (λ q. flat_map (λ n. told_event setup q (child_of q n) before e) (up_to (length (viewport_uses q before)))) (λ q. any-flat-nothing (is_token_back p) (λ n. told_event setup q (child_of q n) before e) (λ n. no-told p q _ _) (up_to (length (viewport_uses q before)))) (viewports_of setup t))
       (no-credits before e t (is_begin e.kind))
 
   any-sent : (t : SessionNo) (events : List Event) → list_any (λ (sent : Sent). is_token_back p sent.event) (map (λ event. let sent : Sent = record { to = t; event = event } in sent) events) ≡ list_any (is_token_back p) events
@@ -102,7 +85,7 @@ module _ (setup : Setup) (p : PairNo) where
       → list_any (λ (sent : Sent). is_token_back p sent.event) (posted setup before e) ≡ list_any (λ t. list_any (is_token_back p) (events_to setup before e t)) (sessions_to setup.sessions)
   posted-tokens before e =
       any-flat (λ (sent : Sent). is_token_back p sent.event) (λ t. map (λ event. let sent : Sent = record { to = t; event = event } in sent) (events_to setup before e t)) (sessions_to setup.sessions)
-      ∙ any-each _ _ (sessions_to setup.sessions) (λ t. any-sent t (events_to setup before e t))
+      ∙ any-same _ _ (λ t. any-sent t (events_to setup before e t)) (sessions_to setup.sessions)
 
   none-closed : (b : Bool) (news : List Event) → list_any (is_token_back p) news ≡ false → list_any (is_token_back p) (cond b [] news) ≡ false
   none-closed true news none = refl
@@ -124,15 +107,7 @@ module _ (setup : Setup) (p : PairNo) where
   any-pairs : (before : List Entry) (t : SessionNo) → list_any (is_token_back p) (tokens_back setup before t) ≡ list_any (λ q. nat_lt 0 (came before t q) && q.0 == p.0) (viewports_of setup t)
   any-pairs before t =
       any-flat (is_token_back p) (λ q. replicate (came before t q) (event.TokenBack q)) (viewports_of setup t)
-      ∙ any-each _ _ (viewports_of setup t) (λ q. any-copies p q (came before t q))
-
-  pub nested : (t : SessionNo) (o : Option PairDecl) → unwrap_or (option_map (λ (pair : PairDecl). is_session t pair.viewport) o) false ≡ unwrap_or (option_map (is_session t) (option_map (λ (pair : PairDecl). pair.viewport) o)) false
-  nested t None = refl
-  nested t (Some pair) = refl
-
-  pub and-both : (a b : Bool) → (a && b) ≡ true → (a ≡ true) × (b ≡ true)
-  and-both true b both = (refl, both)
-  and-both false b both = cc
+      ∙ any-same _ _ (λ q. any-copies p q (came before t q)) (viewports_of setup t)
 
   pub pair-is : (n : ℕ) → (n == p.0) ≡ true → (let q : PairNo = record { 0 = n } in q) ≡ p
   pair-is n same = let number : n ≡ p.0 = grind (arith, nat_tests) in ap (λ (k : ℕ). let x : PairNo = record { 0 = k } in x) number
@@ -142,22 +117,22 @@ module _ (setup : Setup) (p : PairNo) where
   one-pair before t =
       let f : PairNo → Bool = λ q. nat_lt 0 (came before t q) && q.0 == p.0 in
       let test : PairDecl → Bool = λ pair. is_session t pair.viewport in
-      both-ways (list_any f (viewports_of setup t)) (owns_viewport setup t p && nat_lt 0 (came before t p))
+      both_ways (list_any f (viewports_of setup t)) (owns_viewport setup t p && nat_lt 0 (came before t p))
       (λ any.
       let one = found f test 0 setup.pairs any in
       let q : PairNo = record { 0 = 0 + one.0 } in
-      let holds = and-both (nat_lt 0 (came before t q)) (q.0 == p.0) one.2 in
+      let holds = and_parts (nat_lt 0 (came before t q)) (q.0 == p.0) one.2 in
       let same : q ≡ p = pair-is (0 + one.0) holds.1 in
       let number : one.0 ≡ p.0 = grind (arith, nat_tests) in
-      let owns : owns_viewport setup t p ≡ true = sym (nested t (slice_get setup.pairs p.0)) ∙ ap (λ (k : ℕ). unwrap_or (option_map test (slice_get setup.pairs k)) false) (sym number) ∙ one.1 in
+      let owns : owns_viewport setup t p ≡ true = sym (viewport-nested t (slice_get setup.pairs p.0)) ∙ ap (λ (k : ℕ). unwrap_or (option_map test (slice_get setup.pairs k)) false) (sym number) ∙ one.1 in
       let some : nat_lt 0 (came before t p) ≡ true = ap (λ (r : PairNo). nat_lt 0 (came before t r)) (sym same) ∙ holds.0 in
       rw (owns, some) refl)
       (λ both.
-      let holds = and-both (owns_viewport setup t p) (nat_lt 0 (came before t p)) both in
+      let holds = and_parts (owns_viewport setup t p) (nat_lt 0 (came before t p)) both in
       let itself : (p.0 == p.0) ≡ true = grind (arith, nat_tests) in
       let here : f p ≡ true = rw (holds.1, itself) refl in
       let F : ℕ → Type 0 = λ m. f (record { 0 = m }) ≡ true in
-      any-found f test 0 p.0 setup.pairs (nested t (slice_get setup.pairs p.0) ∙ holds.0) (subst F (sym (zero-add p.0)) here))
+      any-found f test 0 p.0 setup.pairs (viewport-nested t (slice_get setup.pairs p.0) ∙ holds.0) (subst F (sym (zero-add p.0)) here))
 
   finish-tokens : (before : List Entry) (e : Entry) → is_finish e.kind ≡ true → (t : SessionNo)
       → list_any (is_token_back p) (events_to setup before e t) ≡ (not (is_closed t (before ▹ e)) && (owns_viewport setup t p && nat_lt 0 (came before t p)))
@@ -210,22 +185,14 @@ module _ (setup : Setup) (p : PairNo) where
       by_place true is false y z p q r = absurd (grind (arith, nat_tests))
       by_place true is true false true p q r =
           let same : g (record { 0 = suc n }) ≡ v = ap g (session-is (suc n) s is) ∙ here in
-          rw same (last v)
-        where
-          last : (v : Bool) → (v || false) ≡ v
-          last true = refl
-          last false = refl
+          rw same (or-false v)
       by_place false is x y z p q r =
           let none : g (record { 0 = suc n }) ≡ false = others (record { 0 = suc n }) is in
           rw none (same_test x y z p q r)
         where
           same_test : (x y z : Bool) → nat_lt 0 s.0 ≡ x → nat_le s.0 n ≡ y → nat_le s.0 (suc n) ≡ z → (((x && y) && v) || false) ≡ ((x && z) && v)
           same_test false y z p q r = refl
-          same_test true true true p q r = last v
-            where
-              last : (v : Bool) → (v || false) ≡ v
-              last true = refl
-              last false = refl
+          same_test true true true p q r = or-false v
           same_test true false false p q r = refl
           same_test true true false p q r = absurd (grind (arith, nat_tests))
           same_test true false true p q r = absurd (grind (arith, nat_tests))
@@ -240,7 +207,3 @@ module _ (setup : Setup) (p : PairNo) where
       ∙ any-to g (nat_lt 0 (came before s p)) s
       (λ t other. finish-tokens before e ends t ∙ rw (one-owner (viewport_owner setup p) t s owned, other) (and-false (not (is_closed t (before ▹ e))))) here setup.sessions
       ∙ rw declared refl
-    where
-      and-false : (a : Bool) → (a && false) ≡ false
-      and-false true = refl
-      and-false false = refl

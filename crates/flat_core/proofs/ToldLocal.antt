@@ -21,8 +21,9 @@ use Rattle.flat_core.specs.Shown.{shown_view, is_pair, is_connected}
 use Rattle.flat_core.specs.Local.{pair_watched}
 use Rattle.flat_core.specs.Watch.{Watcher, layout_of, status_of, child_of, told, shows_view, is_connected_by, are_joined, is_used, props_seen, props_told}
 use Rattle.flat_core.proofs.FramesLocal.{took-only}
-use Rattle.flat_core.proofs.Locality.{own-only, entry-owned, same-number, not-true}
+use Rattle.flat_core.proofs.Locality.{own-only, entry-owned, same-number, session-of}
 use Rattle.flat_core.proofs.ShownLocal.{shown-only, connected-only}
+use Rattle.std.proofs.lemmas.Bool.{false_from_ne_true}
 
 module _ (setup : Setup) (of_family : SessionNo → Bool) (closed : IsClosedFamily setup of_family) where
   -- ---- frames
@@ -85,7 +86,7 @@ module _ (setup : Setup) (of_family : SessionNo → Bool) (closed : IsClosedFami
       → ((t : SessionNo) → is_session t actor ≡ true → owns_in_kind setup t kind ≡ true) → uses_view p kind ≡ false
   no-view p pair (View q) Display out acts owns = absurd (let h : false ≡ true = acts in cc)
   no-view p pair (View q) (Probe n) out acts owns = absurd (let h : false ≡ true = acts in cc)
-  no-view p pair (View q) (Session t) out acts owns = not-true (q.0 == p.0) (λ is.
+  no-view p pair (View q) (Session t) out acts owns = false_from_ne_true (q.0 == p.0) (λ is.
       let same : q.0 ≡ p.0 = grind (arith, common_steps) in
       let owns_q : owns_view setup t q ≡ true = owns t (same-number t.0) in
       let moved : owns_view setup t q ≡ owns_view setup t p = ap (λ (n : ℕ). let r : PairNo = record { 0 = n } in owns_view setup t r) same in
@@ -105,7 +106,7 @@ module _ (setup : Setup) (of_family : SessionNo → Bool) (closed : IsClosedFami
       → ((t : SessionNo) → is_session t actor ≡ true → owns_in_kind setup t kind ≡ true) → uses_viewport p kind ≡ false
   no-viewport p pair (Viewport q props) Display out acts owns = absurd (let h : false ≡ true = acts in cc)
   no-viewport p pair (Viewport q props) (Probe n) out acts owns = absurd (let h : false ≡ true = acts in cc)
-  no-viewport p pair (Viewport q props) (Session t) out acts owns = not-true (q.0 == p.0) (λ is.
+  no-viewport p pair (Viewport q props) (Session t) out acts owns = false_from_ne_true (q.0 == p.0) (λ is.
       let same : q.0 ≡ p.0 = grind (arith, common_steps) in
       let owns_q : owns_viewport setup t q ≡ true = owns t (same-number t.0) in
       let moved : owns_viewport setup t q ≡ owns_viewport setup t p = ap (λ (n : ℕ). let r : PairNo = record { 0 = n } in owns_viewport setup t r) same in
@@ -154,11 +155,7 @@ module _ (setup : Setup) (of_family : SessionNo → Bool) (closed : IsClosedFami
 
   pub view-lost-only : (p : PairNo) → IsFamilyPair p → (history : List Entry) → Legal setup history → is_view_lost setup (to_finished (only of_family history)) p ≡ is_view_lost setup (to_finished history) p
   view-lost-only p pair history legal =
-      rw (finished-only history legal) (lost-only (ends_view p) (to_finished history) (legal-finished history legal) (option_map Session (view_owner setup p)) (λ v is. view-in p pair v (unwrapped (view_owner setup p) v is)))
-    where
-      unwrapped : (o : Option SessionNo) (v : SessionNo) → option_map Session o ≡ Some (Session v) → o ≡ Some v
-      unwrapped None v is = cc
-      unwrapped (Some u) v is = let same : u ≡ v = cc in ap (λ (x : SessionNo). let r : Option SessionNo = Some x in r) same
+      rw (finished-only history legal) (lost-only (ends_view p) (to_finished history) (legal-finished history legal) (option_map Session (view_owner setup p)) (λ v is. view-in p pair v (session-of (view_owner setup p) v is)))
 
   -- whether a pair's view is shown, and hangs below the display
   pub shows-only : (p : PairNo) → IsFamilyPair p → (history : List Entry) → Legal setup history → shows_view setup (only of_family history) p ≡ shows_view setup history p

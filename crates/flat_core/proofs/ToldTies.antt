@@ -17,7 +17,7 @@ use Rattle.flat_scene.specs.History.{closes, is_closed, own, presents, published
 use Rattle.flat_scene.specs.Setups.{is_declared}
 use Rattle.flat_scene.proofs.TakingLemmas.{taken-made}
 use Rattle.flat_core.specs.declared.following.Following.{Following}
-use Rattle.flat_core.specs.declared.following.Glimpse.{Glimpse}
+use Rattle.flat_core.specs.declared.following.Sight.{Sight}
 use Rattle.flat_core.specs.declared.pairs.PairState.{PairState}
 use Rattle.flat_core.specs.Ends.{is_viewport_lost, to_finished, view_owner, viewport_owner, viewport_uses}
 use Rattle.flat_core.specs.Following.{AreTied, IsLastSight, IsPairKept}
@@ -78,7 +78,7 @@ owner-at : (setup : Setup) (p : PairNo) (decl : PairDecl) → slice_get setup.pa
 owner-at setup p decl at = rw at refl
 
 module _ (setup : Setup) (h : List Entry) (p : PairNo) where
-  pub lost-told : (v : SessionNo) (decl : PairDecl) → slice_get setup.pairs p.0 ≡ Some decl → decl.viewport ≡ Session v → (state : PairState) → IsPairKept setup h p state → (owner : Glimpse) → IsLastSight setup h v owner
+  pub lost-told : (v : SessionNo) (decl : PairDecl) → slice_get setup.pairs p.0 ≡ Some decl → decl.viewport ≡ Session v → (state : PairState) → IsPairKept setup h p state → (owner : Sight) → IsLastSight setup h v owner
       → (owner.closed || is_seen state.cleared owner.taken) ≡ is_viewport_lost setup (to_finished h) p
   lost-told v decl at is state kept owner sight =
       let owned : viewport_owner setup p ≡ Some (Session v) = owner-at setup p decl at ∙ ap (λ (a : Actor). Some a) is in
@@ -92,7 +92,7 @@ module _ (setup : Setup) (h : List Entry) (p : PairNo) where
       ap (λ (o : Option ViewportProps). or_else o state.given) (kept.seen v owned) ∙ ap (or_else (props_seen setup p (length (viewport_uses p h)) v h)) kept.given
       ∙ sym (ap (λ (o : Option Actor). props_told setup o h p) owned)
 
-  pub child-kept : (n : ℕ) (decl : PairDecl) → slice_get setup.pairs p.0 ≡ Some decl → (state : PairState) → IsPairKept setup h p state → (owner : Glimpse) → IsLastSight setup h decl.view owner
+  pub child-kept : (n : ℕ) (decl : PairDecl) → slice_get setup.pairs p.0 ≡ Some decl → (state : PairState) → IsPairKept setup h p state → (owner : Sight) → IsLastSight setup h decl.view owner
       → child_by (owner.closed || is_seen state.ended owner.taken) (is_pair owner.view p) ≡ told setup h (child_of p n)
   child-kept n decl at state kept owner sight =
       let owned : view_owner setup p ≡ Some decl.view = rw at refl in

@@ -1,6 +1,6 @@
 -- Of a view that wasn't made no get of its layout or status is held.
 use Rattle.std.proofs.Common.{◌≡◌, ◌∙◌, sym, Bool, true, false, List, [], ◌++◌, length, refl, arith, ap, Option, Some, None, Ok}
-use Rattle.std.specs.Prelude.{not, ◌&&◌, ◌==◌, option_map, option_and_then}
+use Rattle.std.specs.Prelude.{◌&&◌, ◌==◌, option_map, option_and_then}
 use Rattle.std.specs.List.{list_any}
 use Rattle.std.specs.Result.{result_ok}
 use Rattle.std.proofs.lemmas.Bool.Decides.{nat_tests}
@@ -15,7 +15,6 @@ use Rattle.flat_scene.specs.declared.calls.Watch.TheVariants as watch
 use Rattle.flat_scene.specs.declared.journal.Entry.{Entry}
 use Rattle.flat_scene.specs.declared.journal.Kind.{Kind}
 use Rattle.flat_scene.specs.declared.journal.Kind.TheVariants.{Get}
-use Rattle.flat_scene.specs.declared.journal.Told.{Told}
 use Rattle.flat_scene.specs.declared.setup.Setup.{Setup}
 use Rattle.flat_scene.specs.Draft.{Draft, Made, an_image, a_fill, a_viewport, made_of}
 use Rattle.flat_scene.specs.Effect.{draft_of}
@@ -27,21 +26,19 @@ use Rattle.flat_core.specs.Watch.{Watcher, layout_of, status_of, watching, told,
 use Rattle.flat_watch.specs.Told.{Watching, asking, settled}
 use Rattle.flat_core.proofs.ShownOwned.{ok-is}
 use Rattle.flat_core.proofs.Steps.{viewed-more}
-use Rattle.flat_core.proofs.ViewCalls.{no-links-view, or-none-left}
+use Rattle.flat_core.proofs.ViewCalls.{no-links-view}
 use Rattle.flat_core.proofs.ViewHistory.{used_in, viewing-of}
 use Rattle.flat_core.proofs.ViewLaw.{viewing-more, MadeOf}
-
-not-open : (b : Bool) → not b ≡ true → b ≡ false
-not-open true is = cc
-not-open false is = refl
+use Rattle.std.proofs.lemmas.Bool.{not-true, or_parts}
+use Rattle.flat_core.proofs.SameWatchers.{nothing-settled}
 
 -- the draft of a get has a view that was made before
 pub watched-used : (setup : Setup) (before : List Entry) (carries : List Call) (t : SessionNo) (get : Watch) → Legal setup before → MayEnter setup before (Session t) carries (Get get)
     → (d : Draft) → draft_of setup (calls t before ++ carries) ≡ Ok d → (q : PairNo) → is_pair d.view q ≡ true → used_in before q ≡ true
 watched-used setup before carries t get legal may d good q here =
-    let opened : is_closed t before ≡ false = not-open (is_closed t before) (grind (arith, may.lasts)) in
+    let opened : is_closed t before ≡ false = not-true (is_closed t before) (grind (arith, may.lasts)) in
     let view = viewing-of setup t before legal opened in
-    let no_link : list_any is_link carries ≡ false = not-open (list_any is_link carries) may.links in
+    let no_link : list_any is_link carries ≡ false = not-true (list_any is_link carries) may.links in
     let none : MadeOf (presents t before) [] (calls t before ++ carries) = λ n past few. let same : length (presents t before ++ []) ≡ length (presents t before) = ap length (append-nil (presents t before)) in absurd (omega (arith, past, few, same)) in
     let more = viewing-more setup t (used_in before) (calls t before) (presents t before) _ _ _ view carries [] d (no-links-view carries no_link) good none in
     let same : Ok more.draft ≡ Ok d = sym more.good ∙ good in
@@ -92,15 +89,11 @@ module _ (setup : Setup) (q : PairNo) where
   unasked before w is e legal (Get get) may unused = rw (by-actor before w is e.actor e.calls get legal may unused) refl
   unasked before w is e legal _ may unused = refl
 
-  nothing-settled : (listens : Bool) (now : Option Told) → settled listens now (record { last = None; waits = None }) ≡ record { last = None; waits = None }
-  nothing-settled true now = refl
-  nothing-settled false now = refl
-
   -- what wasn't made wasn't asked
   pub unwatched : (h : List Entry) (w : Watcher) → IsOfView w → Legal setup h → used_in h q ≡ false → watching setup w h ≡ record { last = None; waits = None }
   unwatched [] w is legal unused = refl
   unwatched (h ▹ e) w is legal unused =
-      let before : used_in h q ≡ false = or-none-left (used_in h q) (uses_view q e.kind && is_done e.reply) (sym (viewed-more q e h) ∙ unused) in
+      let before : used_in h q ≡ false = (or_parts (used_in h q) (uses_view q e.kind && is_done e.reply) (sym (viewed-more q e h) ∙ unused)).0 in
       let old : watching setup w h ≡ record { last = None; waits = None } = unwatched h w is legal.0 before in
       let none : asked setup w h e ≡ None = unasked h w is e legal.0 e.kind legal.1.may before in
       let fresh : Watching = record { last = None; waits = None } in

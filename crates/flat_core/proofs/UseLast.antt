@@ -15,10 +15,10 @@ use Rattle.flat_core.specs.Legal.{all_but_last}
 use Rattle.flat_core.specs.Lives.{lives_after, lives_then, count_of, makes_one, releases_live, uses_last}
 use Rattle.flat_core.specs.Seen.{is_new_viewport}
 use Rattle.flat_core.specs.Viewports.{marked}
-use Rattle.flat_core.proofs.EndSteps.{neither}
 use Rattle.flat_core.proofs.LiveCounts.{count-append, lives-append}
 use Rattle.flat_core.proofs.ViewCalls.{split-last}
 use Rattle.flat_core.proofs.ViewSteps.{same-pair}
+use Rattle.std.proofs.lemmas.Bool.{or_parts}
 
 -- the calls before the last
 pub but-last : (xs : List Call) (x : Call) → slice_get xs (length xs - 1) ≡ Some x → take (length xs - 1) xs ≡ all_but_last xs
@@ -53,7 +53,7 @@ fewer-one lives call none = omega arith
 pub lives-fewer : (lives : List Live) (xs : List Call) → list_any is_new_viewport xs ≡ false → length (lives_after lives xs) ≤ length lives
 lives-fewer lives [] none = omega arith
 lives-fewer lives (x ∷ xs) none =
-    let two = neither (is_new_viewport x) (list_any is_new_viewport xs) none in
+    let two = or_parts (is_new_viewport x) (list_any is_new_viewport xs) none in
     omega (arith, fewer-one lives x two.0, lives-fewer (lives_then lives x) xs two.1)
 
 -- It makes a viewport of the pair.

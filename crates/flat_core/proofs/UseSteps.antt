@@ -1,6 +1,6 @@
 -- A viewport, made or refused.
 use Rattle.std.proofs.Common.{◌^◌, ◌≡◌, ◌≢◌, ◌∙◌, sym, ℕ, ◌+◌, ◌-◌, ◌*◌, ◌<◌, ◌≤◌, Bool, true, false, List, [], ◌∷◌, length, refl, arith, ap, subst, None, slice_set, slice_index_or, zero-add, inl, inr, ◌⊎◌}
-use Rattle.std.specs.Prelude.{IsTrue, cond, not, ◌&&◌, ◌||◌, ◌==◌, nat_le, nat_lt, Option, Some, option_map, unwrap_or, slice_get, sum_by}
+use Rattle.std.specs.Prelude.{IsTrue, cond, not, ◌&&◌, ◌==◌, nat_le, nat_lt, Option, Some, option_map, unwrap_or, slice_get, sum_by}
 use Rattle.std.specs.List.{list_any, list_all}
 use Rattle.std.proofs.lemmas.Bool.Decides.{nat_tests}
 use Rattle.std.proofs.lemmas.List.{length-set}
@@ -42,55 +42,56 @@ use Rattle.flat_core.specs.Seen.{is_new_viewport, seen_of}
 use Rattle.flat_core.specs.Viewports.{AreViewports, out_of, outs_of}
 use Rattle.flat_core.specs.Watchers.{IsJoin, IsTelling, is_shut}
 use Rattle.flat_core.proofs.Changes.{IsPlainOne, is-session, kept-closed, kept-noted, seen-closed, seen-noted}
-use Rattle.flat_core.proofs.Counts.{at-session, declared-some, kept-session}
-use Rattle.flat_core.proofs.EndSteps.{ends-one, links-made, not-none, viewports-closed}
-use Rattle.flat_core.proofs.HasView.{found, any-found, both-ways}
+use Rattle.flat_core.proofs.Counts.{at-session, declared-some, kept-session, few-if}
+use Rattle.flat_core.proofs.EndSteps.{ends-one, links-made, viewports-closed}
+use Rattle.flat_core.proofs.HasView.{found, any-found}
 use Rattle.flat_core.proofs.Ones.{declared-of, each-one}
 use Rattle.flat_core.proofs.Steps.{legal-entered, room-entered, stands-entered, unchanged}
-use Rattle.flat_core.proofs.TokensBack.{any-flat, any-each, and-both, nested, pair-is}
+use Rattle.flat_core.proofs.TokensBack.{any-flat, pair-is}
 use Rattle.flat_core.proofs.ViewportUses.{viewports-used}
+use Rattle.std.proofs.lemmas.Bool.{not-true, and_right, and_parts}
+use Rattle.std.specs.Cmp.{both_ways}
+use Rattle.flat_core.proofs.Between.{viewport-nested}
+use Rattle.std.proofs.Math.Bool.{or-false}
+use Rattle.flat_core.proofs.AllOrSome.{any-same}
 
 -- ---- the token
 
 any-one : (p q : PairNo) (b : Bool) (released : Option ℕ) → list_any (λ (one : OutToken). one.pair.0 == p.0) (cond b [] ((record { pair = q; released = released }) ∷ [])) ≡ (not b && q.0 == p.0)
 any-one p q true released = refl
-any-one p q false released = or-none (q.0 == p.0)
-  where
-    or-none : (b : Bool) → (b || false) ≡ b
-    or-none true = refl
-    or-none false = refl
+any-one p q false released = or-false (q.0 == p.0)
 
 module _ (setup : Setup) (h : List Entry) (s : SessionNo) (p : PairNo) where
   -- a token is out exactly where it is listed
   pub out-listed : owns_viewport setup s p ≡ true → list_any (λ (one : OutToken). one.pair.0 == p.0) (outs_of setup h s) ≡ not (has_token setup p h)
   out-listed owned =
       any-flat (λ (one : OutToken). one.pair.0 == p.0) (out_of setup h s) (viewports_of setup s)
-      ∙ any-each _ _ (viewports_of setup s) (λ q. any-one p q (has_token setup q h) _)
-      ∙ both-ways (list_any (λ q. not (has_token setup q h) && q.0 == p.0) (viewports_of setup s)) (not (has_token setup p h))
+      ∙ any-same _ _ (λ q. any-one p q (has_token setup q h) _) (viewports_of setup s)
+      ∙ both_ways (list_any (λ q. not (has_token setup q h) && q.0 == p.0) (viewports_of setup s)) (not (has_token setup p h))
       (λ any.
       let one = found (λ q. not (has_token setup q h) && q.0 == p.0) (λ pair. is_session s pair.viewport) 0 setup.pairs any in
       let q : PairNo = record { 0 = 0 + one.0 } in
-      let holds = and-both setup p (not (has_token setup q h)) (q.0 == p.0) one.2 in
+      let holds = and_parts (not (has_token setup q h)) (q.0 == p.0) one.2 in
       let same : q ≡ p = pair-is setup p (0 + one.0) holds.1 in
       ap (λ (r : PairNo). not (has_token setup r h)) (sym same) ∙ holds.0)
       (λ out.
       let itself : (p.0 == p.0) ≡ true = grind (arith, nat_tests) in
       let here : (not (has_token setup p h) && p.0 == p.0) ≡ true = rw (out, itself) refl in
       let F : ℕ → Type 0 = λ m. (let q : PairNo = record { 0 = m } in not (has_token setup q h) && q.0 == p.0) ≡ true in
-      any-found (λ q. not (has_token setup q h) && q.0 == p.0) (λ pair. is_session s pair.viewport) 0 p.0 setup.pairs (nested setup p s (slice_get setup.pairs p.0) ∙ owned) (subst F (sym (zero-add p.0)) here))
+      any-found (λ q. not (has_token setup q h) && q.0 == p.0) (λ pair. is_session s pair.viewport) 0 p.0 setup.pairs (viewport-nested s (slice_get setup.pairs p.0) ∙ owned) (subst F (sym (zero-add p.0)) here))
 
 -- ---- what the rules ask of its entry
 
 pub opened-close : (h : List Entry) (s : SessionNo) (why : Option Reason) → goes_on h (Close why) (Session s) ≡ true → is_closed s h ≡ false
-opened-close h s why may = not-none (is_closed s h) (and-right _ _ may)
+opened-close h s why may = not-true (is_closed s h) (and-right _ _ may)
 
 -- its session is open
 pub opened-viewport : (h : List Entry) (s : SessionNo) (p : PairNo) (props : ViewportProps) → goes_on h (Viewport p props) (Session s) ≡ true → is_closed s h ≡ false
-opened-viewport h s p props may = not-none (is_closed s h) (and-right _ _ may)
+opened-viewport h s p props may = not-true (is_closed s h) (and-right _ _ may)
 
 -- no call but the last makes one
 pub others-none : (p : PairNo) (props : ViewportProps) (calls : List Call) → links_alone (Viewport p props) calls ≡ true → list_any is_new_viewport (all_but_last calls) ≡ false
-others-none p props calls alone = links-made (all_but_last calls) (not-none _ alone)
+others-none p props calls alone = links-made (all_but_last calls) (not-true _ alone)
 
 made-one : (p : PairNo) (props : ViewportProps) (call : Option Call) → makes_viewport p props call ≡ true → unwrap_or (option_map (makes_one p) call) false ≡ true
 made-one p props None is = cc
@@ -108,7 +109,7 @@ slice_get_none {A = A} xs i none = by_case (slice_get_cases xs i).1
   where
     by_case : ((x : A) × (i < length xs) × (slice_get xs i ≡ Some x) × (slice_index_or xs i x ≡ x)) ⊎ ((length xs ≤ i) × (slice_get xs i ≡ None)) → length xs ≤ i
     by_case (inl found) = let wrong : Some found.0 ≡ None = sym found.2 ∙ none in cc
-    by_case (inr past) = past.0
+    by_case (inr and_right) = and_right.0
 
 pub shut-known : (setup : Setup) (h : List Entry) (clock : Clock) (fences views : List Bool) (sessions : List SessionState) (t : SessionNo) → Stands setup h clock fences views sessions
     → (is_shut sessions t ≡ false → (is_declared setup t ≡ true) × (is_closed t h ≡ false)) × (is_shut sessions t ≡ true → (is_declared setup t ≡ false) ⊎ (is_closed t h ≡ true))
@@ -122,15 +123,11 @@ shut-known setup h clock fences views sessions t old = by_place (t.0 == 0) refl 
     by_place true first o at = (λ no. cc, λ shut. inl (let it : t.0 ≡ 0 = grind (arith, nat_tests) in let none : nat_lt 0 t.0 ≡ false = grind (arith, nat_tests) in rw none refl))
     by_place false later None at = (
       λ no. cc,
-      λ shut. inl (past (nat_lt 0 t.0) (nat_le t.0 setup.sessions) (few-none (slice_get_none sessions (t.0 - 1) at))),
+      λ shut. inl (and_right (nat_lt 0 t.0) (nat_le t.0 setup.sessions) (few-none (slice_get_none sessions (t.0 - 1) at))),
     )
       where
         few-none : length sessions ≤ t.0 - 1 → nat_le t.0 setup.sessions ≡ false
-        few-none past = let some : t.0 ≢ 0 = λ it. let wrong : (t.0 == 0) ≡ true = grind (arith, nat_tests) in let never : true ≡ false = sym wrong ∙ later in cc in let count : length sessions ≡ setup.sessions = old.count in let over : setup.sessions < t.0 = omega (arith, past, some, count) in grind (arith, nat_tests)
-
-        past : (a b : Bool) → b ≡ false → (a && b) ≡ false
-        past true b is = is
-        past false b is = refl
+        few-none and_right = let some : t.0 ≢ 0 = λ it. let wrong : (t.0 == 0) ≡ true = grind (arith, nat_tests) in let never : true ≡ false = sym wrong ∙ later in cc in let count : length sessions ≡ setup.sessions = old.count in let over : setup.sessions < t.0 = omega (arith, and_right, some, count) in grind (arith, nat_tests)
     by_place false later (Some state) at =
         let within : t.0 - 1 < length sessions = slice_get_within sessions (t.0 - 1) state at in
         let count : length sessions ≡ setup.sessions = old.count in
@@ -168,10 +165,6 @@ viewport-due calls false state = refl
 by-token : (is_held : Bool) → use_reply is_held ≡ cond is_held Done refused_token
 by-token true = refl
 by-token false = refl
-
-pub few-if : (is_held : Bool) → number_if is_held ≤ 1
-few-if true = omega arith
-few-if false = omega arith
 
 other-pair : (p : PairNo) (props : ViewportProps) (q : PairNo) → q.0 ≢ p.0 → uses_viewport q (Viewport p props) ≡ false
 other-pair p props q other = by_test (p.0 == q.0) refl

@@ -1,6 +1,6 @@
 -- The uses of a viewport end are the calls of its owner that made viewports of the pair, while the owner is open.
-use Rattle.std.proofs.Common.{◌≡◌, ◌∙◌, sym, subst, ℕ, ◌+◌, ◌-◌, Bool, true, false, List, [], ◌∷◌, ◌++◌, length, refl, arith, ap, Some, None}
-use Rattle.std.specs.Prelude.{cond, not, ◌&&◌, ◌==◌, Option, option_map, unwrap_or, slice_get}
+use Rattle.std.proofs.Common.{◌≡◌, ◌∙◌, sym, subst, ℕ, ◌+◌, ◌-◌, Bool, true, false, List, [], ◌∷◌, ◌++◌, length, refl, arith, ap, Some, None, ◌≤◌}
+use Rattle.std.specs.Prelude.{cond, ◌&&◌, ◌==◌, Option, option_map, unwrap_or, slice_get}
 use Rattle.std.specs.List.{list_any, list_all}
 use Rattle.std.proofs.lemmas.Bool.Decides.{nat_tests}
 use Rattle.flat_base.specs.declared.ids.Actor.{Actor}
@@ -22,14 +22,13 @@ use Rattle.flat_core.specs.Ends.{viewport_uses, uses_viewport, is_done, viewport
 use Rattle.flat_core.specs.Legal.{Legal, LegalEntry, MayEnter, reply_to, refused_token, is_link, all_but_last, owns_viewport, owns_in_call, makes_view, makes_viewport, number_if, has_token}
 use Rattle.flat_core.specs.Lives.{makes_one, made_of_pair}
 use Rattle.flat_core.proofs.LiveCounts.{made-append}
-use Rattle.flat_core.proofs.ViewCalls.{or-none-left, or-none-right, split-last}
+use Rattle.flat_core.proofs.ViewCalls.{split-last}
 use Rattle.flat_core.proofs.ViewHistory.{same-session, closes-first}
+use Rattle.std.proofs.lemmas.Bool.{not-true, or_parts}
+use Rattle.flat_core.proofs.ViewSteps.{same-pair}
+use Rattle.std.proofs.lemmas.List.Sums.{length-filter, count_by-le-length}
 
 -- ---- calls that use no end, and those that a viewport's or a view's entry carries
-
-is-not : (b : Bool) → not b ≡ true → b ≡ false
-is-not true is = cc
-is-not false is = refl
 
 no-one : (p : PairNo) (call : Call) → is_link call ≡ false → makes_one p call ≡ false
 no-one p (CreateViewport c q w h inset) none = let wrong : true ≡ false = none in cc
@@ -38,7 +37,7 @@ no-one p _ none = refl
 pub none-made : (p : PairNo) (cs : List Call) → list_any is_link cs ≡ false → made_of_pair p cs ≡ 0
 none-made p [] none = refl
 none-made p (call ∷ cs) none =
-    rw (no-one p call (or-none-left (is_link call) (list_any is_link cs) none), none-made p cs (or-none-right (is_link call) (list_any is_link cs) none)) refl
+    rw (no-one p call (or_parts (is_link call) (list_any is_link cs) none).0, none-made p cs (or_parts (is_link call) (list_any is_link cs) none).1) refl
 
 last-view : (p q : PairNo) (call : Call) → makes_view q (Some call) ≡ true → makes_one p call ≡ false
 last-view p q (CreateView r) is = refl
@@ -70,9 +69,6 @@ module _ (setup : Setup) (s : SessionNo) (p : PairNo) (owned : owns_viewport set
   one-owner (Some (Probe n)) t u a b = cc
   one-owner (Some (Session v)) t u a b = grind (arith, nat_tests)
 
-  pair-is : (q r : PairNo) → (q.0 == r.0) ≡ true → q ≡ r
-  pair-is q r same = let number : q.0 ≡ r.0 = grind (arith, nat_tests) in ap (λ (n : ℕ). let x : PairNo = record { 0 = n } in x) number
-
   -- another's entry is no use
   other-use : (h : List Entry) (who : Actor) (carries : List Call) (kind : Kind) → MayEnter setup h who carries kind → is_session s who ≡ false → uses_viewport p kind ≡ false
   other-use h Display carries (Viewport q props) may other = let wrong : false ≡ true = may.acts in cc
@@ -83,7 +79,7 @@ module _ (setup : Setup) (s : SessionNo) (p : PairNo) (owned : owns_viewport set
       by_pair false is = refl
       by_pair true is =
           let O : PairNo → Type 0 = λ r. owns_viewport setup t r ≡ true in
-          let theirs : owns_viewport setup t p ≡ true = subst O (pair-is q p is) (and-left (owns_viewport setup t q) (list_all (owns_in_call setup t) carries) may.owned) in
+          let theirs : owns_viewport setup t p ≡ true = subst O (same-pair q p is) (and-left (owns_viewport setup t q) (list_all (owns_in_call setup t) carries) may.owned) in
           let same : (t.0 == s.0) ≡ true = one-owner (viewport_owner setup p) t s theirs owned in
           let wrong : true ≡ false = sym same ∙ other in cc
   other-use h who carries _ may other = refl
@@ -96,7 +92,7 @@ module _ (setup : Setup) (s : SessionNo) (p : PairNo) (owned : owns_viewport set
   own-use h who carries (View q) reply may replied stays =
       made-last p carries false (slice_get carries (length carries - 1)) refl
       (λ c is. last-view p q c (ap (makes_view q) (sym is) ∙ may.calls)) (λ is. ap (makes_view q) (sym is) ∙ may.calls)
-      (is-not (list_any is_link (all_but_last carries)) may.links)
+      (not-true (list_any is_link (all_but_last carries)) may.links)
   own-use h who carries (Viewport q props) reply may replied stays = by_token (has_token setup q h) replied
     where
       by_token : (b : Bool) → reply ≡ cond b Done refused_token → made_of_pair p carries ≡ number_if ((q.0 == p.0) && is_done reply)
@@ -106,13 +102,13 @@ module _ (setup : Setup) (s : SessionNo) (p : PairNo) (owned : owns_viewport set
           let made : made_of_pair p carries ≡ number_if (q.0 == p.0) =
           made-last p carries (q.0 == p.0) (slice_get carries (length carries - 1)) refl
           (λ c at. last-viewport p q props c (ap (makes_viewport q props) (sym at) ∙ may.calls)) (λ at. ap (makes_viewport q props) (sym at) ∙ may.calls)
-          (is-not (list_any is_link (all_but_last carries)) may.links) in
+          (not-true (list_any is_link (all_but_last carries)) may.links) in
           made ∙ ap number_if (and-true (q.0 == p.0) (is_done reply) done)
         where
           and-true : (a b : Bool) → b ≡ true → a ≡ (a && b)
           and-true true b is = sym is
           and-true false b is = refl
-  own-use h who carries _ reply may replied stays = none-made p carries (is-not (list_any is_link carries) may.links)
+  own-use h who carries _ reply may replied stays = none-made p carries (not-true (list_any is_link carries) may.links)
 
   uses-more : (b : Bool) (e : Entry) (xs : List Entry) → length (cond b (e ∷ xs) xs) ≡ length xs + number_if b
   uses-more true e xs = omega arith
@@ -144,3 +140,9 @@ module _ (setup : Setup) (s : SessionNo) (p : PairNo) (owned : owns_viewport set
           let here : length (viewport_uses p (h ▹ e)) ≡ made_of_pair p (calls s h ++ e.calls) = omega (arith, uses-own h e legal.1 mine (stays mine), before, all) in
           here ∙ rw mine refl
       by_owner before stays false other = ap (length {A = Entry}) (uses-other h e legal.1 other) ∙ before ∙ rw other refl
+
+-- a viewport end was used at most once an entry
+pub uses-few : (p : PairNo) (h : List Entry) → length (viewport_uses p h) ≤ length h
+uses-few p h =
+    let test : Entry → Bool = λ entry. uses_viewport p entry.kind && is_done entry.reply in
+    omega (arith, length-filter test h, count_by-le-length test h)

@@ -19,6 +19,7 @@ use Rattle.flat_core.specs.Legal.{is_link, all_but_last, makes_view, makes_viewp
 use Rattle.flat_core.specs.Seen.{holds_then, holds_after, is_new_view}
 use Rattle.flat_core.specs.Shown.{is_pair}
 use Rattle.flat_core.proofs.ViewSteps.{same-pair}
+use Rattle.std.proofs.lemmas.Bool.{or_from, or_parts}
 
 -- ---- several calls, one after the other
 
@@ -37,7 +38,7 @@ pub after-refused : (setup : Setup) (reason : Reason) (xs : List Call) → after
 after-refused setup reason [] = refl
 after-refused setup reason (x ∷ xs) = after-refused setup reason xs
 
-good-one : (setup : Setup) (d d' : Draft) (calls : List Call) (reason : Option Reason) → after_calls setup (unless reason d) calls ≡ Ok d' → after_calls setup (Ok d) calls ≡ Ok d'
+pub good-one : (setup : Setup) (d d' : Draft) (calls : List Call) (reason : Option Reason) → after_calls setup (unless reason d) calls ≡ Ok d' → after_calls setup (Ok d) calls ≡ Ok d'
 good-one setup d d' calls None good = good
 good-one setup d d' calls (Some reason) good = let wrong : Err reason ≡ Ok d' = sym (after-refused setup reason calls) ∙ good in cc
 
@@ -91,14 +92,6 @@ calm-one p d ReleaseView no_link = calm-end (is_pair d.view p)
 calm-one p d Clear no_link = calm-end (is_pair d.view p)
 calm-one p d _ no_link = calm-same (is_pair d.view p)
 
-pub or-none-left : (a b : Bool) → (a || b) ≡ false → a ≡ false
-or-none-left true b none = none
-or-none-left false b none = refl
-
-pub or-none-right : (a b : Bool) → (a || b) ≡ false → b ≡ false
-or-none-right true b none = let wrong : true ≡ false = none in cc
-or-none-right false b none = none
-
 ended-one : (setup : Setup) (p : PairNo) (d : Draft) (calls : List Call) (reason : Option Reason) (d1 d' : Draft) → after_calls setup (unless reason d1) calls ≡ Ok d'
     → times setup (ends_view p) (unless reason d1) calls ≡ times setup (ends_view p) (Ok d1) calls
 ended-one setup p d calls None d1 d' good = refl
@@ -111,8 +104,8 @@ calm setup p (call ∷ calls) d d' no_link good =
     let after : Draft = effect d call in
     rw (ended-one setup p d calls (misuse setup d call) after d' good)
     (calm-then (is_pair d.view p) (is_pair after.view p) (is_pair d'.view p) (count_if (Some (ends_view p d call))) (times setup (ends_view p) (Ok after) calls)
-    (calm-one p d call (or-none-left (is_new_view call) (list_any is_new_view calls) no_link))
-    (calm setup p calls after d' (or-none-right (is_new_view call) (list_any is_new_view calls) no_link) (good-one setup after d' calls (misuse setup d call) good)))
+    (calm-one p d call (or_parts (is_new_view call) (list_any is_new_view calls) no_link).0)
+    (calm setup p calls after d' (or_parts (is_new_view call) (list_any is_new_view calls) no_link).1 (good-one setup after d' calls (misuse setup d call) good)))
 
 -- ---- a view is made
 
@@ -157,9 +150,6 @@ last-made q (Some call) is = ap Some (made-last q call is)
 
 -- ---- calls that use no end make no view
 
-or-both : (a b : Bool) → a ≡ false → b ≡ false → (a || b) ≡ false
-or-both a b p q = rw (p, q) refl
-
 no-link-view : (call : Call) → is_link call ≡ false → is_new_view call ≡ false
 no-link-view (CreateView p) none = none
 no-link-view _ none = refl
@@ -167,8 +157,8 @@ no-link-view _ none = refl
 pub no-links-view : (calls : List Call) → list_any is_link calls ≡ false → list_any is_new_view calls ≡ false
 no-links-view [] none = refl
 no-links-view (call ∷ calls) none =
-    or-both (is_new_view call) (list_any is_new_view calls) (no-link-view call (or-none-left (is_link call) (list_any is_link calls) none))
-    (no-links-view calls (or-none-right (is_link call) (list_any is_link calls) none))
+    or_from (is_new_view call) (list_any is_new_view calls) (no-link-view call (or_parts (is_link call) (list_any is_link calls) none).0)
+    (no-links-view calls (or_parts (is_link call) (list_any is_link calls) none).1)
 
 -- nor do those of an entry whose last call alone makes a viewport
 viewport-no-view : (p : PairNo) (props : ViewportProps) (call : Call) → makes_viewport p props (Some call) ≡ true → is_new_view call ≡ false
@@ -180,4 +170,4 @@ pub viewport-alone : (p : PairNo) (props : ViewportProps) (carries : List Call) 
 viewport-alone p props carries None at is none = let wrong : false ≡ true = is in cc
 viewport-alone p props carries (Some call) at is none =
     ap (list_any is_new_view) (split-last carries call at) ∙ list_any-append is_new_view (all_but_last carries) (call ∷ [])
-    ∙ or-both (list_any is_new_view (all_but_last carries)) (is_new_view call || false) (no-links-view (all_but_last carries) none) (or-both (is_new_view call) false (viewport-no-view p props call is) refl)
+    ∙ or_from (list_any is_new_view (all_but_last carries)) (is_new_view call || false) (no-links-view (all_but_last carries) none) (or_from (is_new_view call) false (viewport-no-view p props call is) refl)

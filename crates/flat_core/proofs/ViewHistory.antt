@@ -1,6 +1,6 @@
 -- Which sessions have a view, read off a history.
 use Rattle.std.proofs.Common.{◌≡◌, ◌∙◌, sym, subst, ℕ, ◌+◌, ◌-◌, Bool, true, false, List, [], ◌∷◌, ◌++◌, length, refl, arith, ap, Some, None, Ok, Err, length-append, add-one}
-use Rattle.std.specs.Prelude.{cond, not, ◌&&◌, ◌||◌, ◌==◌, nat_lt, Option, Result, option_map, is_some, unwrap_or, slice_get}
+use Rattle.std.specs.Prelude.{cond, ◌&&◌, ◌||◌, ◌==◌, nat_lt, Option, Result, option_map, is_some, unwrap_or, slice_get}
 use Rattle.std.specs.List.{list_all, list_any}
 use Rattle.std.specs.Result.{result_ok}
 use Rattle.std.proofs.lemmas.Bool.Decides.{nat_tests}
@@ -28,9 +28,11 @@ use Rattle.flat_core.specs.Legal.{Legal, LegalEntry, MayEnter, reply_to, refused
 use Rattle.flat_core.specs.Seen.{holds_then, holds_view, has_viewed, stood_at, makes_it, holds_after, is_new_view}
 use Rattle.flat_core.proofs.ShownSteps.{serial-get}
 use Rattle.flat_core.proofs.Steps.{viewed-more, or-false}
-use Rattle.flat_core.proofs.ViewCalls.{or-none-left, or-none-right, split-last, last-made, no-links-view, viewport-alone}
+use Rattle.flat_core.proofs.ViewCalls.{split-last, last-made, no-links-view, viewport-alone}
 use Rattle.flat_core.proofs.ViewLaw.{Viewing, viewing-first, viewing-more, viewing-made, viewing-same, made_at, MadeOf}
 use Rattle.flat_core.proofs.ViewSteps.{same-pair}
+use Rattle.std.proofs.lemmas.Bool.{not-true, and_left, or_parts}
+use Rattle.std.proofs.Math.Bool.{and-true}
 
 abbrev pub used_in : List Entry → PairNo → Bool
 used_in h p = nat_lt 0 (length (view_uses p h))
@@ -39,10 +41,6 @@ abbrev pub ViewingOf : Setup → SessionNo → List Entry → Type 0
 ViewingOf setup s h = Viewing setup s (used_in h) (calls s h) (presents s h) (holds_view s h) (has_viewed s h) (stood_at s h)
 
 -- ---- another's entry
-
-and-none : (a b : Bool) → a ≡ false → (a && b) ≡ false
-and-none true b none = let wrong : true ≡ false = none in cc
-and-none false b none = refl
 
 -- a session makes only views whose ends it owns
 owned-use : (setup : Setup) (s t : SessionNo) (q p : PairNo) (same : Bool) → (q.0 == p.0) ≡ same → owns_view setup t q ≡ true → owns_view setup s p ≡ true → (t.0 == s.0) ≡ false → same ≡ false
@@ -70,7 +68,7 @@ viewing-other : (setup : Setup) (s : SessionNo) (h : List Entry) (e : Entry) →
 viewing-other setup s h e legal other old =
     let here : Viewing setup s (used_in (h ▹ e)) (calls s h) (presents s h) (holds_view s h) (has_viewed s h) (stood_at s h) =
     viewing-same setup s (used_in h) (used_in (h ▹ e)) (calls s h) (presents s h) (holds_view s h) (has_viewed s h) (stood_at s h)
-    (λ p mine. same-uses p e h (and-none (uses_view p e.kind) (is_done e.reply) (no-use setup h s p e.actor e.calls e.kind legal.may other mine))) old in
+    (λ p mine. same-uses p e h (and_left (uses_view p e.kind) (is_done e.reply) (no-use setup h s p e.actor e.calls e.kind legal.may other mine))) old in
     rw other here
 
 -- ---- its own
@@ -98,10 +96,6 @@ or-open : (a b : Bool) → a ≡ false → (a || b) ≡ true → b ≡ true
 or-open true b opened is = let wrong : true ≡ false = opened in cc
 or-open false b opened is = is
 
-not-any : (b : Bool) → not b ≡ true → b ≡ false
-not-any true is = let wrong : false ≡ true = is in cc
-not-any false is = refl
-
 -- an own entry that makes no view
 own-plain : (setup : Setup) (s : SessionNo) (h : List Entry) (e : Entry) → is_session s e.actor ≡ true → list_any is_new_view e.calls ≡ false → is_some (result_ok (draft_of setup (calls s h ++ e.calls))) ≡ true
     → makes_it e.kind e.reply ≡ false → ((p : PairNo) → (uses_view p e.kind && is_done e.reply) ≡ false) → ViewingOf setup s h → ViewingOf setup s (h ▹ e)
@@ -119,10 +113,6 @@ own-plain setup s h e mine no_link drafted no_view no_use old =
 holds-append : (b : Bool) (xs ys : List Call) → holds_after b (xs ++ ys) ≡ holds_after (holds_after b xs) ys
 holds-append b [] ys = refl
 holds-append b (x ∷ xs) ys = holds-append (holds_then b x) xs ys
-
-and-true : (b : Bool) → (b && true) ≡ b
-and-true true = refl
-and-true false = refl
 
 -- one that makes a view
 own-view : (setup : Setup) (s : SessionNo) (h : List Entry) (who : Actor) (line : ℕ) (carries : List Call) (q : PairNo) → is_session s who ≡ true → list_any is_new_view (all_but_last carries) ≡ false
@@ -149,7 +139,7 @@ view-reply setup s h who line carries q reply n true mine may none uses replied 
     let unused : used_in h q ≡ false = ap (λ (k : ℕ). nat_lt 0 k) (sym uses) ∙ grind (arith, nat_tests) in
     let P : Reply → Type 0 = λ r. ViewingOf setup s (h ▹ entry_of who line carries (View q) r) in
     subst P (sym replied)
-    (own-view setup s h who line carries q mine (no-links-view (all_but_last carries) (not-any (list_any is_link (all_but_last carries)) may.links)) may.calls
+    (own-view setup s h who line carries q mine (no-links-view (all_but_last carries) (not-true (list_any is_link (all_but_last carries)) may.links)) may.calls
     (or-open (is_closed s h) (is_some (result_ok (draft_of setup (calls s h ++ carries)))) opened may.drafted)
     (and-left (owns_view setup s q) (list_all (owns_in_call setup s) carries) may.owned) unused old)
 
@@ -157,14 +147,14 @@ viewing-own : (setup : Setup) (s : SessionNo) (h : List Entry) (who : Actor) (li
     → reply ≡ reply_to setup h (Session s) carries kind → closes reply ≡ false → is_closed s h ≡ false → ViewingOf setup s h → ViewingOf setup s (h ▹ entry_of who line carries kind reply)
 viewing-own setup s h who line carries (Viewport p props) reply mine may replied stays opened old =
     own-plain setup s h (entry_of who line carries (Viewport p props) reply) mine
-    (viewport-alone p props carries (slice_get carries (length carries - 1)) refl may.calls (not-any (list_any is_link (all_but_last carries)) may.links))
+    (viewport-alone p props carries (slice_get carries (length carries - 1)) refl may.calls (not-true (list_any is_link (all_but_last carries)) may.links))
     (or-open (is_closed s h) (is_some (result_ok (draft_of setup (calls s h ++ carries)))) opened may.drafted) refl (λ p. refl) old
 viewing-own setup s h who line carries (Close None) reply mine may replied stays opened old = let wrong : true ≡ false = sym (ap closes replied) ∙ stays in cc
 viewing-own setup s h who line carries (Close (Some reason)) reply mine may replied stays opened old = let wrong : true ≡ false = sym (ap closes replied) ∙ stays in cc
 viewing-own setup s h who line carries (View q) reply mine may replied stays opened old =
     view-reply setup s h who line carries q reply (length (view_uses q h)) (length (view_uses q h) == 0) mine may refl refl replied stays opened old
 viewing-own setup s h who line carries kind reply mine may replied stays opened old =
-    own-plain setup s h (entry_of who line carries kind reply) mine (no-links-view carries (not-any (list_any is_link carries) may.links))
+    own-plain setup s h (entry_of who line carries kind reply) mine (no-links-view carries (not-true (list_any is_link carries) may.links))
     (or-open (is_closed s h) (is_some (result_ok (draft_of setup (calls s h ++ carries)))) opened may.drafted) refl (λ p. refl) old
 
 -- ---- the whole history
@@ -177,7 +167,7 @@ same-session s (Session t) is =
     ap (λ (n : ℕ). let r : Actor = Session (record { 0 = n }) in r) number
 
 pub closes-first : (b : Bool) (e : Entry) (xs : List Entry) → list_any (λ entry. closes entry.reply) (cond b (e ∷ xs) xs) ≡ false → (b ≡ true → closes e.reply ≡ false) × (list_any (λ entry. closes entry.reply) xs ≡ false)
-closes-first true e xs opened = (λ is. or-none-left (closes e.reply) _ opened, or-none-right (closes e.reply) _ opened)
+closes-first true e xs opened = (λ is. (or_parts (closes e.reply) _ opened).0, (or_parts (closes e.reply) _ opened).1)
 closes-first false e xs opened = (λ is. let wrong : false ≡ true = is in cc, opened)
 
 by-owner : (setup : Setup) (s : SessionNo) (h : List Entry) (e : Entry) → LegalEntry setup h e → (is_session s e.actor ≡ true → closes e.reply ≡ false) → is_closed s h ≡ false → ViewingOf setup s h

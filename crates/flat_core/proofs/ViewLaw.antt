@@ -19,6 +19,7 @@ use Rattle.flat_core.specs.Shown.{is_pair}
 use Rattle.flat_core.proofs.ShownSteps.{serial-append}
 use Rattle.flat_core.proofs.ViewCalls.{Calm, calm, creates, after-append, times-append, view-holds}
 use Rattle.flat_core.proofs.ViewSteps.{same-pair}
+use Rattle.std.proofs.lemmas.Bool.{or_right, or_parts}
 
 -- the calls of the n-th present; none for number 0
 abbrev pub made_at : List Published → ℕ → List Call
@@ -225,14 +226,6 @@ made-times setup p q calls d d0 good =
     let last : times setup (ends_view p) (after_calls setup (Ok d) calls) (CreateView q ∷ []) ≡ 0 = ap (λ (r : Result Draft Reason). times setup (ends_view p) r (CreateView q ∷ [])) good ∙ none in
     omega (arith, times-append setup (ends_view p) (Ok d) calls (CreateView q ∷ []), last)
 
-or-right : (a b : Bool) → b ≡ true → (a || b) ≡ true
-or-right true b is = refl
-or-right false b is = is
-
-both-false : (a b : Bool) → (a || b) ≡ false → (a ≡ false) × (b ≡ false)
-both-false true b none = let wrong : true ≡ false = none in cc
-both-false false b none = (refl, none)
-
 -- what stood is ended, since there was no view before the new one
 ended-before : (a : Bool) (m n : ℕ) (gone : Bool) → Calm a false n → gone ≡ nat_lt 0 (m + n) → (a ≡ true) ⊎ (nat_lt 0 m ≡ true) → gone ≡ true
 ended-before a m n gone quiet is (inr before) = is ∙ ended-stays m n before
@@ -277,12 +270,12 @@ viewing-made setup s used cs ps holds viewed stood old q first d' no_link good o
       held = λ p is.
           let same : q ≡ p = here p is in
           let H : PairNo → Type 0 = λ r. (owns_view setup s r ≡ true) × (used' r ≡ true) × (ended setup r all ≡ false) in
-          subst H same (owned_q, uses q ∙ or-right (used q) (q.0 == q.0) own_pair, unended q owned_q unused);
-      fresh = λ p owned none. unended p owned (both-false (used p) (q.0 == p.0) (sym (uses p) ∙ none)).0;
+          subst H same (owned_q, uses q ∙ or_right (used q) (q.0 == q.0) own_pair, unended q owned_q unused);
+      fresh = λ p owned none. unended p owned (or_parts (used p) (q.0 == p.0) (sym (uses p) ∙ none)).0;
       early = early;
       fits = omega arith;
       later = λ p owned is k less few. absurd (omega (arith, less, few));
-      some = λ is. (q, owned_q, uses q ∙ or-right (used q) (q.0 == q.0) own_pair, λ k few. early q (unended q owned_q unused) k few);
+      some = λ is. (q, owned_q, uses q ∙ or_right (used q) (q.0 == q.0) own_pair, λ k few. early q (unended q owned_q unused) k few);
       known = λ p owned is. refl;
     }
 

@@ -1,9 +1,8 @@
 -- What an entry does to what is kept of a session's viewports.
-use Rattle.std.proofs.Common.{◌≡◌, ◌∙◌, sym, ℕ, suc, ◌+◌, ◌≤◌, ◌<◌, Bool, true, false, cond, List, [], ◌∷◌, ◌++◌, length, map, filter, refl, arith, ap, None, Ok}
-use Rattle.std.specs.Prelude.{Result, not, ◌&&◌, ◌||◌, nat_lt, nat_le, Option, is_some, flat_map}
+use Rattle.std.proofs.Common.{◌≡◌, ◌∙◌, sym, ℕ, ◌+◌, ◌≤◌, ◌<◌, Bool, true, false, cond, List, [], ◌∷◌, ◌++◌, length, map, filter, refl, arith, ap, None, Ok}
+use Rattle.std.specs.Prelude.{Result, ◌&&◌, nat_lt, nat_le, Option, is_some, flat_map}
 use Rattle.std.specs.List.{list_any}
 use Rattle.std.proofs.lemmas.Bool.Decides.{nat_tests}
-use Rattle.std.proofs.lemmas.List.{map-append}
 use Rattle.flat_base.specs.declared.errors.Reason.{Reason}
 use Rattle.flat_base.specs.declared.ids.PairNo.{PairNo}
 use Rattle.flat_base.specs.declared.ids.SessionNo.{SessionNo}
@@ -29,26 +28,16 @@ use Rattle.flat_core.proofs.PairLaws.{unused-token}
 use Rattle.flat_core.proofs.ShownSteps.{closed-before}
 use Rattle.flat_core.proofs.StampSteps.{stamp-of, own-stamp}
 use Rattle.flat_core.proofs.Stamped.{often-lasts, stamp-other, stamped, IsLasting}
-use Rattle.flat_core.proofs.TokenLaw.{counted, seen-then}
+use Rattle.flat_core.proofs.TokenLaw.{counted, seen-then, token-kept}
 use Rattle.flat_core.proofs.TokensBack.{no-token}
 use Rattle.flat_core.proofs.Uses.{uses-other}
 use Rattle.flat_core.proofs.ViewCalls.{times-append}
 use Rattle.flat_core.proofs.ViewHistory.{viewing-of}
 use Rattle.flat_core.proofs.ViewLaw.{good-more}
+use Rattle.flat_core.proofs.ListLemmas.{flat-mapped, none-put}
+use Rattle.std.proofs.lemmas.List.Elements.{filter-append}
 
 -- ---- lists
-
-pub flat-mapped : {A B C : Type 0} (g : B → C) (f : A → List B) (xs : List A) → map g (flat_map f xs) ≡ flat_map (λ x. map g (f x)) xs
-flat-mapped g f [] = refl
-flat-mapped g f (x ∷ xs) = map-append g (f x) (flat_map f xs) ∙ ap (λ l. map g (f x) ++ l) (flat-mapped g f xs)
-
-pub filter-append : {A : Type 0} (q : A → Bool) (xs ys : List A) → filter q (xs ++ ys) ≡ filter q xs ++ filter q ys
-filter-append q [] ys = refl
-filter-append {A = A} q (x ∷ xs) ys = by_test (filter-append q xs ys) (q x)
-  where
-    by_test : filter q (xs ++ ys) ≡ filter q xs ++ filter q ys → (b : Bool) → cond b (x ∷ filter q (xs ++ ys)) (filter q (xs ++ ys)) ≡ cond b (x ∷ filter q xs) (filter q xs) ++ filter q ys
-    by_test rest true = ap (λ (l : List A). x ∷ l) rest
-    by_test rest false = rest
 
 pub flat-filtered : {A B : Type 0} (q : B → Bool) (f : A → List B) (xs : List A) → filter q (flat_map f xs) ≡ flat_map (λ x. filter q (f x)) xs
 flat-filtered q f [] = refl
@@ -57,11 +46,6 @@ flat-filtered q f (x ∷ xs) = filter-append q (f x) (flat_map f xs) ∙ ap (λ 
 -- ---- tokens, entry by entry
 
 module _ (setup : Setup) (s : SessionNo) (declared : is_declared setup s ≡ true) where
-  token-kept : (a b c : Bool) → a ≡ false → c ≡ false → (not a && (b || c)) ≡ b
-  token-kept true b c na nc = cc
-  token-kept false true c na nc = refl
-  token-kept false false c na nc = nc
-
   -- no use, and no end of a frame
   pub still-token : (p : PairNo) (h : List Entry) (e : Entry) → (uses_viewport p e.kind && is_done e.reply) ≡ false → is_finish e.kind ≡ false → has_token setup p (h ▹ e) ≡ has_token setup p h
   still-token p h e none no_finish =
@@ -87,11 +71,7 @@ module _ (setup : Setup) (s : SessionNo) (declared : is_declared setup s ≡ tru
       same = uses-other setup s p owned h e legal.1 other
 
       no_use : (uses_viewport p e.kind && is_done e.reply) ≡ false
-      no_use = none (uses_viewport p e.kind && is_done e.reply) same
-        where
-          none : (b : Bool) → cond b (e ∷ viewport_uses p h) (viewport_uses p h) ≡ viewport_uses p h → b ≡ false
-          none true is = let long : suc (length (viewport_uses p h)) ≡ length (viewport_uses p h) = ap (length {A = Entry}) is in absurd (omega (arith, long))
-          none false is = refl
+      no_use = none-put e (viewport_uses p h) (uses_viewport p e.kind && is_done e.reply) same
 
       kept : has_token setup p (h ▹ e) ≡ has_token setup p h
       kept = still-token p h e no_use no_finish

@@ -1,5 +1,5 @@
 -- A new use of a viewport end, and the tokens that the end of a frame brings back.
-use Rattle.std.proofs.Common.{◌≡◌, ◌≢◌, ◌∙◌, sym, subst, ℕ, zero, suc, ◌+◌, ◌-◌, ◌≤◌, Bool, true, false, cond, List, [], ◌∷◌, length, map, filter, refl, arith, ap, Some, None, add-zero, inl, inr, ◌⊎◌}
+use Rattle.std.proofs.Common.{◌≡◌, ◌≢◌, ◌∙◌, sym, subst, ℕ, zero, suc, ◌+◌, ◌-◌, ◌≤◌, Bool, true, false, cond, List, [], ◌∷◌, length, map, filter, refl, arith, ap, None, add-zero, inl, inr, ◌⊎◌}
 use Rattle.std.specs.Prelude.{not, ◌&&◌, ◌==◌, nat_lt, Option, flat_map, replicate, slice_get, option_map, unwrap_or}
 use Rattle.std.proofs.lemmas.Bool.Decides.{nat_tests}
 use Rattle.flat_base.specs.declared.ids.PairNo.{PairNo}
@@ -28,12 +28,12 @@ use Rattle.flat_core.proofs.ShownSteps.{closed-before}
 use Rattle.flat_core.proofs.StampSteps.{stamp-of}
 use Rattle.flat_core.proofs.Stamped.{often-lasts, stamp-other, IsLasting}
 use Rattle.flat_core.proofs.TokensBack.{came}
-use Rattle.flat_core.proofs.ViewportSteps.{flat-mapped, flat-filtered, out-used, own-out, lives-own}
+use Rattle.flat_core.proofs.ViewportSteps.{flat-filtered, out-used, own-out, lives-own}
+use Rattle.flat_core.proofs.Between.{viewport-nested}
+use Rattle.flat_core.proofs.ListLemmas.{flat-mapped}
+use Rattle.flat_core.proofs.OwnedTree.{pair_no}
 
 -- ---- one token more, in its place
-
-abbrev numbered : ℕ → PairNo
-numbered n = record { 0 = n }
 
 -- What gives each pair a token of its own at most.
 abbrev pub AreSingle : (PairNo → List OutToken) → Type 0
@@ -45,76 +45,72 @@ with-first one x xs less = rw less refl
 insert-front : (one : OutToken) (f : PairNo → List OutToken) → AreSingle f → (test : PairDecl → Bool) (n : ℕ) (pairs : List PairDecl) → nat_lt one.pair.0 n ≡ true
     → with_out one (flat_map f (pairs_where test n pairs)) ≡ one ∷ flat_map f (pairs_where test n pairs)
 insert-front one f single test n [] less = refl
-insert-front one f single test n (pair ∷ pairs) less = by_test (insert-front one f single test (n + 1) pairs (grind (arith, nat_tests))) (test pair) (single (numbered n))
+insert-front one f single test n (pair ∷ pairs) less = by_test (insert-front one f single test (n + 1) pairs (grind (arith, nat_tests))) (test pair) (single (pair_no n))
   where
     rest : List OutToken
     rest = flat_map f (pairs_where test (n + 1) pairs)
 
-    by_test : with_out one rest ≡ one ∷ rest → (b : Bool) → (f (numbered n) ≡ []) ⊎ ((x : OutToken) × ((f (numbered n) ≡ x ∷ []) × (x.pair ≡ numbered n)))
-        → with_out one (flat_map f (cond b (numbered n ∷ pairs_where test (n + 1) pairs) (pairs_where test (n + 1) pairs))) ≡ one ∷ flat_map f (cond b (numbered n ∷ pairs_where test (n + 1) pairs) (pairs_where test (n + 1) pairs))
+    by_test : with_out one rest ≡ one ∷ rest → (b : Bool) → (f (pair_no n) ≡ []) ⊎ ((x : OutToken) × ((f (pair_no n) ≡ x ∷ []) × (x.pair ≡ pair_no n)))
+        → with_out one (flat_map f (cond b (pair_no n ∷ pairs_where test (n + 1) pairs) (pairs_where test (n + 1) pairs))) ≡ one ∷ flat_map f (cond b (pair_no n ∷ pairs_where test (n + 1) pairs) (pairs_where test (n + 1) pairs))
     by_test later false here = later
     by_test later true (inl none) = rw none later
     by_test later true (inr some) =
         let place : nat_lt one.pair.0 some.0.pair.0 ≡ true = ap (λ (p : PairNo). nat_lt one.pair.0 p.0) some.1.1 ∙ less in
         rw some.1.0 (with-first one some.0 rest place)
 
-same-later : (f g : PairNo → List OutToken) (test : PairDecl → Bool) (n : ℕ) (pairs : List PairDecl) → ((m : ℕ) → n ≤ m → g (numbered m) ≡ f (numbered m)) → flat_map g (pairs_where test n pairs) ≡ flat_map f (pairs_where test n pairs)
+same-later : (f g : PairNo → List OutToken) (test : PairDecl → Bool) (n : ℕ) (pairs : List PairDecl) → ((m : ℕ) → n ≤ m → g (pair_no m) ≡ f (pair_no m)) → flat_map g (pairs_where test n pairs) ≡ flat_map f (pairs_where test n pairs)
 same-later f g test n [] same = refl
 same-later f g test n (pair ∷ pairs) same = by_test (same-later f g test (n + 1) pairs (λ m less. same m (omega (arith, less)))) (test pair)
   where
     by_test : flat_map g (pairs_where test (n + 1) pairs) ≡ flat_map f (pairs_where test (n + 1) pairs) → (b : Bool)
-        → flat_map g (cond b (numbered n ∷ pairs_where test (n + 1) pairs) (pairs_where test (n + 1) pairs)) ≡ flat_map f (cond b (numbered n ∷ pairs_where test (n + 1) pairs) (pairs_where test (n + 1) pairs))
+        → flat_map g (cond b (pair_no n ∷ pairs_where test (n + 1) pairs) (pairs_where test (n + 1) pairs)) ≡ flat_map f (cond b (pair_no n ∷ pairs_where test (n + 1) pairs) (pairs_where test (n + 1) pairs))
     by_test rest true = rw (same n (omega arith), rest) refl
     by_test rest false = rest
 
 insert-at : (one : OutToken) (f g : PairNo → List OutToken) → AreSingle f → (test : PairDecl → Bool) (n k : ℕ) (pairs : List PairDecl) → one.pair.0 ≡ n + k → unwrap_or (option_map test (slice_get pairs k)) false ≡ true
-    → f (numbered (n + k)) ≡ [] → g (numbered (n + k)) ≡ one ∷ [] → ((m : ℕ) → m ≢ n + k → g (numbered m) ≡ f (numbered m))
+    → f (pair_no (n + k)) ≡ [] → g (pair_no (n + k)) ≡ one ∷ [] → ((m : ℕ) → m ≢ n + k → g (pair_no m) ≡ f (pair_no m))
     → with_out one (flat_map f (pairs_where test n pairs)) ≡ flat_map g (pairs_where test n pairs)
 insert-at one f g single test n k [] at here none new others = let wrong : false ≡ true = here in cc
 insert-at one f g single test n zero (pair ∷ pairs) at here none new others =
-    let F : ℕ → Type 0 = λ m. f (numbered m) ≡ [] in
-    let G : ℕ → Type 0 = λ m. g (numbered m) ≡ one ∷ [] in
-    let gone : f (numbered n) ≡ [] = subst F (add-zero n) none in
-    let added : g (numbered n) ≡ one ∷ [] = subst G (add-zero n) new in
+    let F : ℕ → Type 0 = λ m. f (pair_no m) ≡ [] in
+    let G : ℕ → Type 0 = λ m. g (pair_no m) ≡ one ∷ [] in
+    let gone : f (pair_no n) ≡ [] = subst F (add-zero n) none in
+    let added : g (pair_no n) ≡ one ∷ [] = subst G (add-zero n) new in
     let less : nat_lt one.pair.0 (n + 1) ≡ true = grind (arith, nat_tests) in
     let later : flat_map g (pairs_where test (n + 1) pairs) ≡ flat_map f (pairs_where test (n + 1) pairs) = same-later f g test (n + 1) pairs (λ m above. others m (λ same. absurd (omega (arith, above, same)))) in
     rw (here, gone, added) (insert-front one f single test (n + 1) pairs less ∙ ap (λ (l : List OutToken). one ∷ l) (sym later))
 insert-at one f g single test n (suc k) (pair ∷ pairs) at here none new others =
     let place : n + suc k ≡ n + 1 + k = omega arith in
-    let F : ℕ → Type 0 = λ m. f (numbered m) ≡ [] in
-    let G : ℕ → Type 0 = λ m. g (numbered m) ≡ one ∷ [] in
+    let F : ℕ → Type 0 = λ m. f (pair_no m) ≡ [] in
+    let G : ℕ → Type 0 = λ m. g (pair_no m) ≡ one ∷ [] in
     by_test
     (insert-at one f g single test (n + 1) k pairs (at ∙ place) here (subst F place none) (subst G place new) (λ m other. others m (λ same. other (same ∙ place))))
-    (others n (λ same. absurd (omega (arith, same)))) (test pair) (single (numbered n))
+    (others n (λ same. absurd (omega (arith, same)))) (test pair) (single (pair_no n))
   where
-    not_less : (x : OutToken) → x.pair ≡ numbered n → nat_lt one.pair.0 x.pair.0 ≡ false
+    not_less : (x : OutToken) → x.pair ≡ pair_no n → nat_lt one.pair.0 x.pair.0 ≡ false
     not_less x is =
         let number : x.pair.0 ≡ n = ap (λ (p : PairNo). p.0) is in
         let above : one.pair.0 ≡ n + suc k = at in
         grind (arith, nat_tests)
 
-    by_test : with_out one (flat_map f (pairs_where test (n + 1) pairs)) ≡ flat_map g (pairs_where test (n + 1) pairs) → g (numbered n) ≡ f (numbered n) → (b : Bool)
-        → (f (numbered n) ≡ []) ⊎ ((x : OutToken) × ((f (numbered n) ≡ x ∷ []) × (x.pair ≡ numbered n)))
-        → with_out one (flat_map f (cond b (numbered n ∷ pairs_where test (n + 1) pairs) (pairs_where test (n + 1) pairs))) ≡ flat_map g (cond b (numbered n ∷ pairs_where test (n + 1) pairs) (pairs_where test (n + 1) pairs))
+    by_test : with_out one (flat_map f (pairs_where test (n + 1) pairs)) ≡ flat_map g (pairs_where test (n + 1) pairs) → g (pair_no n) ≡ f (pair_no n) → (b : Bool)
+        → (f (pair_no n) ≡ []) ⊎ ((x : OutToken) × ((f (pair_no n) ≡ x ∷ []) × (x.pair ≡ pair_no n)))
+        → with_out one (flat_map f (cond b (pair_no n ∷ pairs_where test (n + 1) pairs) (pairs_where test (n + 1) pairs))) ≡ flat_map g (cond b (pair_no n ∷ pairs_where test (n + 1) pairs) (pairs_where test (n + 1) pairs))
     by_test later same false one_of = later
     by_test later same true (inl none') = rw (same, none') later
     by_test later same true (inr some) =
         let past : nat_lt one.pair.0 some.0.pair.0 ≡ false = not_less some.0 some.1.1 in
         rw (same, some.1.0) (rw past (ap (λ (l : List OutToken). some.0 ∷ l) later))
 
-nested : (t : SessionNo) (o : Option PairDecl) → unwrap_or (option_map (λ (pair : PairDecl). is_session t pair.viewport) o) false ≡ unwrap_or (option_map (is_session t) (option_map (λ (pair : PairDecl). pair.viewport) o)) false
-nested t None = refl
-nested t (Some pair) = refl
-
 -- one more among those of the pairs that a session owns
 pub insert-owned : (setup : Setup) (s : SessionNo) (p : PairNo) → owns_viewport setup s p ≡ true → (one : OutToken) → one.pair ≡ p → (f g : PairNo → List OutToken) → AreSingle f → f p ≡ [] → g p ≡ one ∷ []
     → ((q : PairNo) → q.0 ≢ p.0 → g q ≡ f q) → with_out one (flat_map f (viewports_of setup s)) ≡ flat_map g (viewports_of setup s)
 insert-owned setup s p owned one is f g single none new others =
     let place : p.0 ≡ 0 + p.0 = omega arith in
-    let F : ℕ → Type 0 = λ m. f (numbered m) ≡ [] in
-    let G : ℕ → Type 0 = λ m. g (numbered m) ≡ one ∷ [] in
-    insert-at one f g single (λ pair. is_session s pair.viewport) 0 p.0 setup.pairs (ap (λ (q : PairNo). q.0) is ∙ place) (nested s (slice_get setup.pairs p.0) ∙ owned) (subst F place none) (subst G place new)
-    (λ m other. others (numbered m) (λ same. other (same ∙ place)))
+    let F : ℕ → Type 0 = λ m. f (pair_no m) ≡ [] in
+    let G : ℕ → Type 0 = λ m. g (pair_no m) ≡ one ∷ [] in
+    insert-at one f g single (λ pair. is_session s pair.viewport) 0 p.0 setup.pairs (ap (λ (q : PairNo). q.0) is ∙ place) (viewport-nested s (slice_get setup.pairs p.0) ∙ owned) (subst F place none) (subst G place new)
+    (λ m other. others (pair_no m) (λ same. other (same ∙ place)))
 
 -- ---- a new use
 

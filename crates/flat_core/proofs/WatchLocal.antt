@@ -26,10 +26,12 @@ use Rattle.flat_core.specs.Watch.{Watcher, layout_of, status_of, child_of, watch
 use Rattle.flat_watch.specs.Told.{Watching, asking, answer, answered_by, settled, or_else}
 use Rattle.flat_core.proofs.ShownOwned.{all-calls-owned, ok-is, joined-at}
 use Rattle.flat_core.proofs.ShownLocal.{linked-back}
-use Rattle.flat_core.proofs.Locality.{own-only, same-number, not-true, same-session}
+use Rattle.flat_core.proofs.Locality.{own-only, same-number, same-session, session-of}
 use Rattle.flat_core.proofs.Owned.{IsOwned, draft-owned, made_owned, view_owned}
 use Rattle.flat_core.proofs.OwnedTree.{at-serial}
 use Rattle.flat_core.proofs.ToldLocal.{IsFamilyPair, told-only, viewports-only, view-in, viewport-in}
+use Rattle.std.proofs.lemmas.Bool.{false_from_ne_true}
+use Rattle.flat_core.proofs.SameWatchers.{nothing-settled}
 
 -- ---- a watcher at rest
 
@@ -49,30 +51,29 @@ settled-twice true now w = by_answer (answer now w) refl
     by_answer None is = rw is refl
     by_answer (Some value) is = refl
 
-module _ (setup : Setup) (of_family : SessionNo → Bool) (closed : IsClosedFamily setup of_family) where
-  pub at-rest : (watcher : Watcher) (history : List Entry) → settled (is_open setup (listener setup watcher) history) (told setup history watcher) (watching setup watcher history) ≡ watching setup watcher history
-  at-rest watcher [] = by_open (is_open setup (listener setup watcher) [])
-    where
-      by_open : (b : Bool) → settled b (told setup [] watcher) (record { last = None; waits = None }) ≡ record { last = None; waits = None }
-      by_open true = refl
-      by_open false = refl
-  at-rest watcher (before ▹ e) = settled-twice (is_open setup (listener setup watcher) (before ▹ e)) (told setup (before ▹ e) watcher) (asking (asked setup watcher before e) (watching setup watcher before))
+pub at-rest : (setup : Setup) (watcher : Watcher) (history : List Entry)
+    → settled (is_open setup (listener setup watcher) history) (told setup history watcher) (watching setup watcher history) ≡ watching setup watcher history
+at-rest setup watcher [] = nothing-settled (is_open setup (listener setup watcher) []) (told setup [] watcher)
+at-rest setup watcher (before ▹ e) = settled-twice (is_open setup (listener setup watcher) (before ▹ e)) (told setup (before ▹ e) watcher) (asking (asked setup watcher before e) (watching setup watcher before))
 
+-- ---- one owner
+
+pub one-viewport : (o : Option Actor) (s t : SessionNo) → unwrap_or (option_map (is_session s) o) false ≡ true → unwrap_or (option_map (is_session t) o) false ≡ true → s ≡ t
+one-viewport None s t a b = cc
+one-viewport (Some Display) s t a b = cc
+one-viewport (Some (Probe n)) s t a b = cc
+one-viewport (Some (Session u)) s t a b = sym (same-session s u a) ∙ same-session t u b
+
+pub one-view : (o : Option SessionNo) (s t : SessionNo) → unwrap_or (option_map (λ u. u.0 == s.0) o) false ≡ true → unwrap_or (option_map (λ u. u.0 == t.0) o) false ≡ true → s ≡ t
+one-view None s t a b = cc
+one-view (Some u) s t a b = sym (same-session s u a) ∙ same-session t u b
+
+module _ (setup : Setup) (of_family : SessionNo → Bool) (closed : IsClosedFamily setup of_family) where
   -- ---- pairs of the family
 
   -- the other end of a pair that one of the family owns is the family's too
   pub linked-ends : (p : PairNo) (s t : SessionNo) → owns_viewport setup s p ≡ true → owns_view setup t p ≡ true → is_linked setup s t ≡ true
   linked-ends p s t over under = grind (arith, joined-at setup.pairs p.0 s t over under)
-
-  pub one-viewport : (o : Option Actor) (s t : SessionNo) → unwrap_or (option_map (is_session s) o) false ≡ true → unwrap_or (option_map (is_session t) o) false ≡ true → s ≡ t
-  one-viewport None s t a b = cc
-  one-viewport (Some Display) s t a b = cc
-  one-viewport (Some (Probe n)) s t a b = cc
-  one-viewport (Some (Session u)) s t a b = sym (same-session s u a) ∙ same-session t u b
-
-  pub one-view : (o : Option SessionNo) (s t : SessionNo) → unwrap_or (option_map (λ u. u.0 == s.0) o) false ≡ true → unwrap_or (option_map (λ u. u.0 == t.0) o) false ≡ true → s ≡ t
-  one-view None s t a b = cc
-  one-view (Some u) s t a b = sym (same-session s u a) ∙ same-session t u b
 
   pub pair-of-viewport : (p : PairNo) (s : SessionNo) → of_family s ≡ true → owns_viewport setup s p ≡ true → IsFamilyPair setup of_family closed p
   pair-of-viewport p s mine over = record {
@@ -166,7 +167,7 @@ module _ (setup : Setup) (of_family : SessionNo → Bool) (closed : IsClosedFami
   -- a get from outside has a watcher of another pair
   outside-view : (watcher : Watcher) → IsFamilyPair setup of_family closed (pair_watched watcher) → (t : SessionNo) → of_family t ≡ false → (p : PairNo) → owns_view setup t p ≡ true
       → ((pair_watched watcher).0 == p.0) ≡ false
-  outside-view watcher pair t out p owns = not-true ((pair_watched watcher).0 == p.0) (λ is.
+  outside-view watcher pair t out p owns = false_from_ne_true ((pair_watched watcher).0 == p.0) (λ is.
       let same : (pair_watched watcher).0 ≡ p.0 = grind (arith, common_steps) in
       let moved : owns_view setup t (pair_watched watcher) ≡ owns_view setup t p = ap (λ (n : ℕ). let r : PairNo = record { 0 = n } in owns_view setup t r) same in
       let inside : of_family t ≡ true = pair.view t (moved ∙ owns) in
@@ -174,7 +175,7 @@ module _ (setup : Setup) (of_family : SessionNo → Bool) (closed : IsClosedFami
 
   outside-viewport : (watcher : Watcher) → IsFamilyPair setup of_family closed (pair_watched watcher) → (t : SessionNo) → of_family t ≡ false → (p : PairNo) → owns_viewport setup t p ≡ true
       → ((pair_watched watcher).0 == p.0) ≡ false
-  outside-viewport watcher pair t out p owns = not-true ((pair_watched watcher).0 == p.0) (λ is.
+  outside-viewport watcher pair t out p owns = false_from_ne_true ((pair_watched watcher).0 == p.0) (λ is.
       let same : (pair_watched watcher).0 ≡ p.0 = grind (arith, common_steps) in
       let moved : owns_viewport setup t (pair_watched watcher) ≡ owns_viewport setup t p = ap (λ (n : ℕ). let r : PairNo = record { 0 = n } in owns_viewport setup t r) same in
       let inside : of_family t ≡ true = pair.viewport t (moved ∙ owns) in
@@ -241,10 +242,6 @@ module _ (setup : Setup) (of_family : SessionNo → Bool) (closed : IsClosedFami
   open-only (Some (Probe n)) inside history = refl
   open-only (Some (Session v)) inside history = rw (own-only setup of_family v (inside v refl) history) refl
 
-  session-of : (o : Option SessionNo) (v : SessionNo) → option_map Session o ≡ Some (Session v) → o ≡ Some v
-  session-of None v is = cc
-  session-of (Some u) v is = let same : u ≡ v = cc in ap (λ (x : SessionNo). let r : Option SessionNo = Some x in r) same
-
   listener-in : (watcher : Watcher) → IsFamilyPair setup of_family closed (pair_watched watcher) → (v : SessionNo) → listener setup watcher ≡ Some (Session v) → of_family v ≡ true
   listener-in (layout_of p) pair v is = view-in setup of_family closed p pair v (session-of (view_owner setup p) v is)
   listener-in (status_of p) pair v is = view-in setup of_family closed p pair v (session-of (view_owner setup p) v is)
@@ -278,4 +275,4 @@ module _ (setup : Setup) (of_family : SessionNo → Bool) (closed : IsClosedFami
           let idle : asking (asked setup watcher before e) (watching setup watcher before) ≡ watching setup watcher before =
           ap (λ (a : Option Watch). asking a (watching setup watcher before)) (not-asked watcher pair before e legal e.kind out) ∙ asking-none (watching setup watcher before) in
           rw (out, earlier, still, same_open)
-          (sym (ap (λ (w : Watching). settled (is_open setup (listener setup watcher) before) (told setup before watcher) w) idle ∙ at-rest watcher before))
+          (sym (ap (λ (w : Watching). settled (is_open setup (listener setup watcher) before) (told setup before watcher) w) idle ∙ at-rest setup watcher before))

@@ -17,6 +17,7 @@ use Rattle.flat_core.specs.Posts.{told_event, event_of, up_to}
 use Rattle.flat_core.specs.Watch.{Watcher, layout_of, status_of, child_of, watching, told, asked, asked_in, is_open, listener, watcher_of, is_watcher, same_watcher}
 use Rattle.flat_watch.specs.Told.{Watching, asking, settled, answer, answered_by, news, or_else}
 use Rattle.flat_core.proofs.WatchLocal.{asking-none}
+use Rattle.flat_core.proofs.ListLemmas.{not-some}
 
 -- ---- one watcher
 
@@ -155,10 +156,6 @@ flat-held q f none (x ∷ xs) = by_test (flat-held q f none xs) (q x) refl
 module _ (setup : Setup) where
   abbrev pub is_held : List Entry → Watcher → Bool
   is_held history watcher = is_some (watching setup watcher history).waits
-
-  not-some : (o : Option Watch) → is_some o ≡ false → o ≡ None
-  not-some None is = refl
-  not-some (Some get) is = cc
 
   unheld-event : (p : PairNo) (watcher : Watcher) (before : List Entry) (e : Entry) → is_held before watcher ≡ false → told_event setup p watcher before e ≡ []
   unheld-event p watcher before e none = rw (not-some (watching setup watcher before).waits none) refl

@@ -1,6 +1,6 @@
 -- What is kept of all gets and of all last answers, entry by entry.
 use Rattle.std.proofs.Common.{◌≡◌, ◌≢◌, ◌∙◌, sym, subst, ℕ, suc, ◌+◌, ◌-◌, ◌<◌, ◌≤◌, ◌^◌, Bool, true, false, List, [], ◌∷◌, ◌++◌, length, map, refl, arith, ap, take, drop, slice_set, slice_index_or, inl, inr, ◌⊎◌, None, Some}
-use Rattle.std.specs.Prelude.{◌&&◌, ◌||◌, ◌==◌, cond, nat_lt, Option, option_map, unwrap_or, sum_by, filter}
+use Rattle.std.specs.Prelude.{◌&&◌, ◌==◌, cond, nat_lt, Option, option_map, unwrap_or, sum_by, filter}
 use Rattle.std.specs.List.{list_any}
 use Rattle.std.proofs.lemmas.Bool.Decides.{eqb_tells, nat_tests}
 use Rattle.std.proofs.Math.Seq.{drop-length, take-length}
@@ -33,9 +33,9 @@ use Rattle.flat_core.specs.declared.gets.Watched.TheVariants as watches
 use Rattle.flat_core.specs.Begins.{finish_entry, finished, post_of}
 use Rattle.flat_core.specs.Boards.{Machine, MayCall, due_told, entry_of, number}
 use Rattle.flat_core.specs.Ends.{is_done, view_owner, viewport_uses}
-use Rattle.flat_core.specs.Gets.{answers_to, hears, held_get, helds_of, is_get, is_held_in, last_of, started, watched_of, watcher_for, AllAnswered, AreGets, Asks, IsAnswered, Settles}
+use Rattle.flat_core.specs.Gets.{answers_to, hears, held_get, helds_of, is_held_in, last_of, started, watched_of, watcher_for, AllAnswered, AreGets, Asks, IsAnswered, Settles}
 use Rattle.flat_core.specs.Kept.{AllNumbered}
-use Rattle.flat_core.specs.Legal.{Legal, MayEnter, answers, got, is_now, is_told, number_if, owns_view, reply_to, sent_to}
+use Rattle.flat_core.specs.Legal.{Legal, MayEnter, answers, got, is_now, is_told, number_if, owns_view, reply_to, sent_to, is_get}
 use Rattle.flat_core.specs.Local.{pair_watched}
 use Rattle.flat_core.specs.Posts.{events_to, news_for, posts}
 use Rattle.flat_core.specs.Watch.{Watcher, is_open, told, watcher_of}
@@ -43,7 +43,7 @@ use Rattle.flat_core.specs.Watchers.{AreOwnGets, AreWatched, IsAsked, IsJoin, Is
 use Rattle.flat_core.proofs.BeginLoop.{not-below, same-side, this-side}
 use Rattle.flat_core.proofs.Between.{is_viewport}
 use Rattle.flat_core.proofs.Changes.{changed-one, not-session}
-use Rattle.flat_core.proofs.Counts.{at-session, declared-some}
+use Rattle.flat_core.proofs.Counts.{at-session, declared-some, same-number}
 use Rattle.flat_core.proofs.DoneSteps.{UpTo, up-end, up-here, up-next, up-start}
 use Rattle.flat_core.proofs.EndSteps.{number-declared}
 use Rattle.flat_core.proofs.GetAnswers.{uses-kept}
@@ -52,10 +52,12 @@ use Rattle.flat_core.proofs.GetBoards.{all-asked, all-between, all-closed, all-f
 use Rattle.flat_core.proofs.GetLists.{with-more}
 use Rattle.flat_core.proofs.GetMeans.{get-within}
 use Rattle.flat_core.proofs.GetOwners.{get-open}
-use Rattle.flat_core.proofs.GetPosts.{closed-posts, foreign-posts, joined-posts, one-owner, refused-posts, uses-few}
+use Rattle.flat_core.proofs.GetPosts.{closed-posts, foreign-posts, joined-posts, one-owner, refused-posts}
 use Rattle.flat_core.proofs.GetSteps.{gets-between, gets-elsewhere, gets-refused, gets-settled, idle-kind, untold-kind}
-use Rattle.flat_core.proofs.Ones.{same-number}
 use Rattle.flat_core.proofs.Steps.{legal-entered}
+use Rattle.std.proofs.lemmas.Bool.{and_right}
+use Rattle.std.proofs.Math.Bool.{or-true}
+use Rattle.flat_core.proofs.Uses.{uses-few}
 
 -- ---- lists
 
@@ -114,17 +116,9 @@ seldom-all setup h gets last are short i d below =
 
 -- ---- tests
 
-and-none : (a b : Bool) → b ≡ false → (a && b) ≡ false
-and-none true b is = is
-and-none false b is = refl
-
 -- what closed a session before does so after one more entry
 pub closed-after : (b : Bool) (e : Entry) (xs : List Entry) → list_any (λ entry. closes entry.reply) xs ≡ true → list_any (λ entry. closes entry.reply) (cond b (e ∷ xs) xs) ≡ true
 closed-after true e xs closed = rw closed (or-true (closes e.reply))
-  where
-    or-true : (b : Bool) → (b || true) ≡ true
-    or-true true = refl
-    or-true false = refl
 closed-after false e xs closed = closed
 
 -- the entry that closes an open session
@@ -163,6 +157,27 @@ not-open setup q t h owned closed = by_owner (view_owner setup q) owned
 
 -- ---- entries
 
+-- What the step of a get finds: what is kept of the session and of the pair, and what the step does, for the watcher that the get means.
+record OfAsked (setup : Setup) (h : List Entry) (s : SessionNo) (p : PairNo) (get : Watch) (reply : Reply) (before then : Gets) (pair asked : Answered) : Type 0 where
+  own : AreOwnGets setup h s before
+  pair_is : pair_watched (watcher_meant h get p) ≡ p
+  its : IsAnswered setup h (pair_watched (watcher_meant h get p)) pair
+  done : Asks (pair_watched (watcher_meant h get p)) get (told setup h (watcher_meant h get p)) pair asked before.held.items then.held.items before.answers then.answers reply
+
+of-asked : (setup : Setup) (h : List Entry) (s : SessionNo) → is_declared setup s ≡ true → (get : Watch) (p : PairNo) → p.0 < length setup.pairs → (gets new : List Gets) (last now : List Answered) (reply : Reply)
+    → (asked : IsAsked setup h s p get reply gets new last now) → AreWatched setup h gets last → OfAsked setup h s p get reply asked.before asked.then asked.pair asked.asked
+of-asked setup h s declared get p within gets new last now reply asked old =
+    let here = declared-some s.0 setup.sessions declared in
+    let own : AreOwnGets setup h s asked.before = at-session (AreOwnGets setup h) gets s asked.before old.each here.0 (omega (arith, here.1, old.count)) asked.of_before in
+    let I : Answered → Type 0 = IsAnswered setup h p in
+    let pair_is : IsAnswered setup h p asked.pair = subst I (sym asked.of_pair) (old.answered.each p.0 asked.pair (omega (arith, within, old.answered.count))) in
+    let W : ℕ → Type 0 = λ n. Asks p get (told setup h (watcher_for p (watched_of n get))) asked.pair asked.asked asked.before.held.items asked.then.held.items asked.before.answers asked.then.answers reply in
+    let w : Watcher = watcher_meant h get p in
+    let pair : pair_watched w ≡ p = watched-pair p (watched_of (length (viewport_uses p h)) get) in
+    let A : PairNo → Type 0 = λ r. Asks r get (told setup h w) asked.pair asked.asked asked.before.held.items asked.then.held.items asked.before.answers asked.then.answers reply in
+    let J : PairNo → Type 0 = λ r. IsAnswered setup h r asked.pair in
+    record { own = own; pair_is = pair; its = subst J (sym pair) pair_is; done = subst A (sym pair) (subst W pair_is.uses asked.asks) }
+
 module _ (setup : Setup) (h : List Entry) (e : Entry) (legal : Legal setup (h ▹ e)) where
   -- of a session that is closed nothing but its size is asked
   gets-shut : (s : SessionNo) → is_closed s (h ▹ e) ≡ true → (held : List HeldGet) (total : ℕ) → total + length held ≤ length h → AreGets setup (h ▹ e) s held total
@@ -189,7 +204,7 @@ module _ (setup : Setup) (h : List Entry) (e : Entry) (legal : Legal setup (h �
       by_closed true closed = (shut closed).1 ∙ was ∙ sym (answers-shut s closed (shut closed).0)
 
   not-told : is_get e.kind ≡ false → (s : SessionNo) → (is_session s e.actor && is_now e.reply) ≡ false
-  not-told no_get s = and-none (is_session s e.actor) (is_now e.reply) (untold-kind setup h e legal no_get)
+  not-told no_get s = and_right (is_session s e.actor) (is_now e.reply) (untold-kind setup h e legal no_get)
 
   -- an entry that ends no frame, uses no viewport end and is no get
   pub watched-between : is_finish e.kind ≡ false → is_viewport e.kind ≡ false → is_get e.kind ≡ false → (gets : List Gets) (last : List Answered) → AreWatched setup h gets last → AreWatched setup (h ▹ e) gets last
@@ -317,22 +332,13 @@ module _ (setup : Setup) (h : List Entry) (e : Entry) (legal : Legal setup (h �
       → (gets new : List Gets) (last now : List Answered) → IsAsked setup h s p get e.reply gets new last now → AreWatched setup h gets last → AreWatched setup (h ▹ e) new now
   watched-asked s is declared get asks p within means gets new last now asked old =
       let here = declared-some s.0 setup.sessions declared in
-      let own : AreOwnGets setup h s asked.before = at-session (AreOwnGets setup h) gets s asked.before old.each here.0 (omega (arith, here.1, old.count)) asked.of_before in
-      let I : Answered → Type 0 = IsAnswered setup h p in
-      let pair_is : IsAnswered setup h p asked.pair = subst I (sym asked.of_pair) (old.answered.each p.0 asked.pair (omega (arith, within, old.answered.count))) in
-      let W : ℕ → Type 0 = λ n. Asks p get (told setup h (watcher_for p (watched_of n get))) asked.pair asked.asked asked.before.held.items asked.then.held.items asked.before.answers asked.then.answers e.reply in
-      let done = subst W pair_is.uses asked.asks in
+      let of = of-asked setup h s declared get p within gets new last now e.reply asked old in
       let w : Watcher = watcher_meant h get p in
-      let pair : pair_watched w ≡ p = watched-pair p (watched_of (length (viewport_uses p h)) get) in
-      let A : PairNo → Type 0 = λ r. Asks r get (told setup h w) asked.pair asked.asked asked.before.held.items asked.then.held.items asked.before.answers asked.then.answers e.reply in
-      let done_it : Asks (pair_watched w) get (told setup h w) asked.pair asked.asked asked.before.held.items asked.then.held.items asked.before.answers asked.then.answers e.reply = subst A (sym pair) done in
-      let J : PairNo → Type 0 = λ r. IsAnswered setup h r asked.pair in
-      let its : IsAnswered setup h (pair_watched w) asked.pair = subst J (sym pair) pair_is in
-      let then_held = gets-asked setup h e legal s is get asks w means asked.pair asked.asked its asked.before.held.items asked.then.held.items asked.before.answers asked.then.answers own.held done_it in
+      let then_held = gets-asked setup h e legal s is get asks w means asked.pair asked.asked of.its asked.before.held.items asked.then.held.items asked.before.answers asked.then.answers of.own.held of.done in
       let opened : is_closed s h ≡ false = get-open setup h e legal s is get asks in
-      let then_own : AreOwnGets setup (h ▹ e) s asked.then = record { held = then_held; counted = counted-more s _ _ _ then_held own.counted (λ closed. closed-untold opened closed) } in
+      let then_own : AreOwnGets setup (h ▹ e) s asked.then = record { held = then_held; counted = counted-more s _ _ _ then_held of.own.counted (λ closed. closed-untold opened closed) } in
       let N : SessionNo → Type 0 = λ t. AreOwnGets setup (h ▹ e) t asked.then in
-      let all = all-asked setup h e legal s is get asks w means last old.answered asked.pair asked.asked its asked.before.held.items asked.then.held.items asked.before.answers asked.then.answers own.held done_it in
+      let all = all-asked setup h e legal s is get asks w means last old.answered asked.pair asked.asked of.its asked.before.held.items asked.then.held.items asked.before.answers asked.then.answers of.own.held of.done in
       let B : PairNo → Type 0 = λ r. AllAnswered setup (h ▹ e) (slice_set last r.0 asked.asked) in
       let C : List Answered → Type 0 = AllAnswered setup (h ▹ e) in
       record {
@@ -341,7 +347,7 @@ module _ (setup : Setup) (h : List Entry) (e : Entry) (legal : Legal setup (h �
             let P : List Gets → Type 0 = AllNumbered (λ i. AreOwnGets setup (h ▹ e) (number i)) in
             subst P (sym asked.new_is)
             (changed-one (λ i. AreOwnGets setup h (number i)) (λ i. AreOwnGets setup (h ▹ e) (number i)) gets (s.0 - 1) asked.then (λ j one other kept. by_other j here.0 other one kept) (subst N (sym (same-number s here.0)) then_own) old.each);
-        answered = subst C (sym asked.last_is) (subst B pair all);
+        answered = subst C (sym asked.last_is) (subst B of.pair_is all);
       }
     where
       K : Kind → Type 0
@@ -360,7 +366,7 @@ module _ (setup : Setup) (h : List Entry) (e : Entry) (legal : Legal setup (h �
       closed-untold opened closed =
           let none : is_now e.reply ≡ false = closing-untold e.reply (closes-last (is_session s e.actor) e (own s h) opened closed) in
           let nothing : number_if (is_now e.reply) ≡ 0 = ap number_if none in
-          (and-none (is_session s e.actor) (is_now e.reply) none, omega (arith, asked.asks.counted, nothing))
+          (and_right (is_session s e.actor) (is_now e.reply) none, omega (arith, asked.asks.counted, nothing))
 
 -- ---- a viewport's use, by what was settled
 
@@ -413,17 +419,8 @@ pub asked-replied : (setup : Setup) (h : List Entry) → Legal setup h → (s : 
     → (p : PairNo) → p.0 < length setup.pairs → watcher_of setup h (Session s) carries get ≡ Some (watcher_meant h get p)
     → (gets new : List Gets) (last now : List Answered) (reply : Reply) → IsAsked setup h s p get reply gets new last now → AreWatched setup h gets last → reply ≡ reply_to setup h (Session s) carries (Get get)
 asked-replied setup h legal s declared carries get may p within means gets new last now reply asked old =
-    let here = declared-some s.0 setup.sessions declared in
-    let own : AreOwnGets setup h s asked.before = at-session (AreOwnGets setup h) gets s asked.before old.each here.0 (omega (arith, here.1, old.count)) asked.of_before in
-    let I : Answered → Type 0 = IsAnswered setup h p in
-    let pair_is : IsAnswered setup h p asked.pair = subst I (sym asked.of_pair) (old.answered.each p.0 asked.pair (omega (arith, within, old.answered.count))) in
-    let W : ℕ → Type 0 = λ n. Asks p get (told setup h (watcher_for p (watched_of n get))) asked.pair asked.asked asked.before.held.items asked.then.held.items asked.before.answers asked.then.answers reply in
-    let done = subst W pair_is.uses asked.asks in
-    let w : Watcher = watcher_meant h get p in
-    let pair : pair_watched w ≡ p = watched-pair p (watched_of (length (viewport_uses p h)) get) in
-    let A : PairNo → Type 0 = λ r. Asks r get (told setup h w) asked.pair asked.asked asked.before.held.items asked.then.held.items asked.before.answers asked.then.answers reply in
-    let J : PairNo → Type 0 = λ r. IsAnswered setup h r asked.pair in
-    get-replied setup h legal s carries get may w means asked.pair asked.asked (subst J (sym pair) pair_is) asked.before.held.items asked.then.held.items asked.before.answers asked.then.answers reply own.held (subst A (sym pair) done)
+    let of = of-asked setup h s declared get p within gets new last now reply asked old in
+    get-replied setup h legal s carries get may (watcher_meant h get p) means asked.pair asked.asked of.its asked.before.held.items asked.then.held.items asked.before.answers asked.then.answers reply of.own.held of.done
 
 -- its pair is declared
 pub asked-known : (setup : Setup) (h : List Entry) → Legal setup h → (s : SessionNo) (carries : List Call) (get : Watch) → MayEnter setup h (Session s) carries (Get get) → (p : PairNo) → watcher_of setup h (Session s) carries get ≡ Some (watcher_meant h get p)

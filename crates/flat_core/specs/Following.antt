@@ -9,7 +9,7 @@ use Rattle.flat_scene.specs.declared.setup.Setup.{Setup}
 use Rattle.flat_scene.specs.Frames.{taken}
 use Rattle.flat_scene.specs.History.{◌▹◌, calls, is_closed, is_session, is_begin, is_finish, presents}
 use Rattle.flat_core.specs.declared.following.Following.{Following}
-use Rattle.flat_core.specs.declared.following.Glimpse.{Glimpse}
+use Rattle.flat_core.specs.declared.following.Sight.{Sight}
 use Rattle.flat_core.specs.declared.live.Live.{Live}
 use Rattle.flat_core.specs.declared.pairs.PairState.{PairState}
 use Rattle.flat_core.specs.declared.state.SessionState.{SessionState}
@@ -33,8 +33,8 @@ abbrev pub capped : ℕ → ℕ
 capped n = min n (2 ^ 64 - 1)
 
 -- what a history says of a session, where it ends with the begin of a frame
-abbrev pub glimpse_of : Setup → List Entry → SessionNo → Glimpse
-glimpse_of setup history s = record {
+abbrev pub sight_of : Setup → List Entry → SessionNo → Sight
+sight_of setup history s = record {
   closed = is_closed s history;
   taken = taken setup history s;
   view = shown_view setup history s;
@@ -45,8 +45,8 @@ glimpse_of setup history s = record {
 pub record IsFollowed (setup : Setup) (history : List Entry) (s : SessionNo) (following : Following) : Type 0 where
   pub view : is_closed s history ≡ false → following.view ≡ view_after None (calls s history)
   pub contents : is_closed s history ≡ false → following.contents ≡ capped (length (contents_made (calls s history)))
-  pub begun : following.begun ≡ glimpse_of setup (to_begin history) s
-  pub finished : following.finished ≡ glimpse_of setup (to_finished history) s
+  pub begun : following.begun ≡ sight_of setup (to_begin history) s
+  pub finished : following.finished ≡ sight_of setup (to_finished history) s
 
 -- The number stands for the serial of the viewport that the last use of a pair made.
 pub record IsSerialKept (p : PairNo) (v : SessionNo) (history : List Entry) (kept : ℕ) : Type 0 where
@@ -97,8 +97,8 @@ pub record IsIdle (setup : Setup) (history : List Entry) (entry : Entry) : Type 
   pub shut : (s : SessionNo) → is_session s entry.actor ≡ true → is_closed s history ≡ true
 
 -- what the begin of a frame sees of a session, by its state and by what is shown
-abbrev pub sight : Setup → Shown → SessionState → SessionNo → Glimpse
-sight setup shown state s = record {
+abbrev pub sight_of_state : Setup → Shown → SessionState → SessionNo → Sight
+sight_of_state setup shown state s = record {
   closed = state.closed;
   taken = taken_in state;
   view = option_and_then (λ t. t.view) (state_of shown s.0);
@@ -117,7 +117,7 @@ pub record IsFinished (setup : Setup) (history : List Entry) (line : ℕ) (shows
   pub shown : shows ≡ shown_states setup (to_begin history)
 
 -- What the begin of the last finished frame saw of a session, as far as it is told. A session that isn't declared shows nothing.
-pub record IsLastSight (setup : Setup) (history : List Entry) (s : SessionNo) (sight : Glimpse) : Type 0 where
+pub record IsLastSight (setup : Setup) (history : List Entry) (s : SessionNo) (sight : Sight) : Type 0 where
   pub closed : sight.closed ≡ is_closed s (to_finished history)
   pub took : sight.taken ≡ taken setup (to_finished history) s
   pub view : sight.view ≡ shown_view setup (to_finished history) s

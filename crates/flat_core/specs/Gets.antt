@@ -1,5 +1,5 @@
 -- What is kept of held gets, and what answers them.
-use Rattle.std.specs.Prelude.{◌≡◌, ◌≤◌, ◌<◌, ◌+◌, ℕ, Bool, true, false, cond, not, ◌&&◌, ◌||◌, ◌==◌, nat_le, nat_lt, List, [], ◌∷◌, ◌++◌, filter, flat_map, map, length, slice_index_or, Option, Some, None, is_some, unwrap_or, option_map}
+use Rattle.std.specs.Prelude.{◌≡◌, ◌≤◌, ◌<◌, ◌+◌, ℕ, Bool, false, cond, not, ◌&&◌, ◌||◌, ◌==◌, nat_le, nat_lt, List, [], ◌∷◌, ◌++◌, filter, flat_map, map, length, slice_index_or, Option, Some, None, is_some, unwrap_or, option_map}
 use Rattle.std.specs.List.{list_any}
 use Rattle.flat_base.specs.declared.ids.Actor.{Actor}
 use Rattle.flat_base.specs.declared.ids.Actor.TheVariants.{Session}
@@ -9,8 +9,6 @@ use Rattle.flat_scene.specs.declared.calls.Watch.{Watch}
 use Rattle.flat_scene.specs.declared.calls.Watch.TheVariants as watch
 use Rattle.flat_scene.specs.declared.journal.Entry.{Entry}
 use Rattle.flat_scene.specs.declared.journal.Event.{Event}
-use Rattle.flat_scene.specs.declared.journal.Kind.{Kind}
-use Rattle.flat_scene.specs.declared.journal.Kind.TheVariants.{Get}
 use Rattle.flat_scene.specs.declared.journal.Post.{Post}
 use Rattle.flat_scene.specs.declared.journal.Reply.{Reply}
 use Rattle.flat_scene.specs.declared.journal.Told.{Told}
@@ -149,11 +147,6 @@ pub record Settles (now : Watcher → Option Told) (place : ℕ) (s : SessionNo)
   pub answers : Answers now place s held old new posts after count
 
 -- ---- a get
-
--- whether an entry is a get
-abbrev pub is_get : Kind → Bool
-is_get (Get get) = true
-is_get _ = false
 
 -- what is answered last after a get, and what is held: nothing changes where it is refused
 abbrev pub answered_get : Bool → Watched → Option Told → Answered → Answered

@@ -1,20 +1,24 @@
--- What holds of a legal history: its credits, and how it is seen by one session or one family.
-use Rattle.std.specs.Prelude.{◌≡◌, ◌+◌, Bool, true, false, ◌||◌, ◌==◌, List, [], ◌∷◌, filter, map, length, cond}
+-- What holds of a legal history: its credits, what its sessions show, and how it is seen by one session or one family.
+use Rattle.std.specs.Prelude.{◌≡◌, ◌+◌, Bool, true, false, ◌||◌, ◌==◌, List, [], ◌∷◌, filter, map, length, cond, ℕ, Option, None, All}
 use Rattle.std.specs.List.{list_all}
 use Rattle.flat_base.specs.declared.ids.SessionNo.{SessionNo}
 use Rattle.flat_scene.specs.declared.journal.Entry.{Entry}
 use Rattle.flat_scene.specs.declared.journal.Event.{Event}
 use Rattle.flat_scene.specs.declared.journal.Event.TheVariants as event
 use Rattle.flat_scene.specs.declared.journal.Kind.{Kind}
-use Rattle.flat_scene.specs.declared.journal.Kind.TheVariants.{View, Viewport, Present, Get}
+use Rattle.flat_scene.specs.declared.journal.Kind.TheVariants.{View, Viewport, Present}
 use Rattle.flat_scene.specs.declared.journal.Reply.{Reply}
 use Rattle.flat_scene.specs.declared.journal.Reply.TheVariants.{Done}
 use Rattle.flat_scene.specs.declared.setup.Setup.{Setup}
 use Rattle.flat_scene.specs.History.{◌▹◌, is_begin, is_finish, is_session, presents}
-use Rattle.flat_scene.specs.Frames.{is_signalled, waiting, credits, most_waiting}
+use Rattle.flat_scene.specs.Frames.{is_signalled, waiting, credits, most_waiting, sessions_to}
 use Rattle.flat_scene.specs.Family.{only, is_kept}
-use Rattle.flat_core.specs.Legal.{Legal}
+use Rattle.flat_core.specs.Legal.{Legal, is_get}
 use Rattle.flat_core.specs.Posts.{events_to}
+use Rattle.flat_scene.specs.declared.trees.Tree.{Tree}
+use Rattle.flat_topology.specs.Fit.{FitsSetup}
+use Rattle.flat_core.specs.Ends.{to_begin}
+use Rattle.flat_core.specs.Shown.{shown_states}
 
 -- ---- credits
 
@@ -22,6 +26,28 @@ use Rattle.flat_core.specs.Posts.{events_to}
 abbrev pub CreditsAddUp : Type 0
 CreditsAddUp = (setup : Setup) (history : List Entry) → Legal setup history
     → (s : SessionNo) → credits setup history s + length (waiting setup history s) ≡ most_waiting setup history s
+
+-- ---- what is shown
+
+-- what the sessions show fits the setup: only ends that they own, each pair once, and trees that are small enough
+abbrev pub ShownStatesFit : Type 0
+ShownStatesFit = (setup : Setup) (history : List Entry) → Legal setup history → FitsSetup setup (shown_states setup history)
+
+-- so does what the last frame that began shows of them
+abbrev pub BegunStatesFit : Type 0
+BegunStatesFit = (setup : Setup) (history : List Entry) → Legal setup history → FitsSetup setup (shown_states setup (to_begin history))
+
+-- each session of the setup has one state
+abbrev pub EachSessionHasOneState : Type 0
+EachSessionHasOneState = (setup : Setup) (history : List Entry) → length (shown_states setup history) ≡ setup.sessions
+
+-- before the first entry no session shows anything
+abbrev pub NothingIsShownAtFirst : Type 0
+NothingIsShownAtFirst = (setup : Setup) (states : List (Option Tree)) → length states ≡ setup.sessions → All (λ state. state ≡ None) states → states ≡ shown_states setup []
+
+-- the sessions up to a number are so many
+abbrev pub SessionsAreCounted : Type 0
+SessionsAreCounted = (n : ℕ) → length (sessions_to n) ≡ n
 
 -- ---- the family law
 
@@ -55,11 +81,6 @@ pub record IsFamilyLaw (setup : Setup) (of_family : SessionNo → Bool) (history
 -- the entries of a session, and where frames begin and finish
 abbrev pub is_beside : SessionNo → Entry → Bool
 is_beside s entry = is_session s entry.actor || is_begin entry.kind || is_finish entry.kind
-
--- whether it is a get
-abbrev pub is_get : Kind → Bool
-is_get (Get get) = true
-is_get _ = false
 
 -- an entry without its line, and without its reply but for that of a get
 abbrev pub but_answers : Entry → Entry

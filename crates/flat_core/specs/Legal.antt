@@ -56,6 +56,10 @@ abbrev pub is_poll : Kind → Bool
 is_poll Poll = true
 is_poll _ = false
 
+abbrev pub is_get : Kind → Bool
+is_get (Get get) = true
+is_get _ = false
+
 abbrev pub is_now : Reply → Bool
 is_now (Now value) = true
 is_now _ = false

@@ -2,7 +2,7 @@ use flat_base::PairNo;
 
 /// What the begin of a frame saw of a session.
 #[derive(Clone, Copy, Debug, PartialEq, Eq)]
-pub struct Glimpse {
+pub struct Sight {
     pub closed: bool,
     /// How many of its presents frames had taken.
     pub taken: u32,
@@ -20,7 +20,7 @@ pub struct Following {
     /// How many contents its calls made; a count at its end stays there.
     pub contents: u64,
     /// By the begin of the last frame.
-    pub begun: Glimpse,
+    pub begun: Sight,
     /// By the begin of the last frame that is finished.
-    pub finished: Glimpse,
+    pub finished: Sight,
 }

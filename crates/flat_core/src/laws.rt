@@ -1,8 +1,24 @@
+ghost use Rattle.flat_core.specs.Laws.{ShownStatesFit, BegunStatesFit, EachSessionHasOneState, NothingIsShownAtFirst, SessionsAreCounted};
 ghost use Rattle.flat_core.specs.Local.{PresentsAreLocal, SignalledIsLocal, TakenIsLocal, CreditsAreLocal, GoingIsLocal, ReleasedIsLocal, ShownIsLocal, ConnectedIsLocal, ToldIsLocal, WatchingIsLocal, AnswersAreLocal, FamiliesAreAlone, GlimpsesDecideOutcomes, OthersPostNone};
 
 // The calls here do nothing. Their contracts are laws about the definitions. Those
 // on families hold of every legal history, so also at each entry of one, where the
 // owners that the setup names are declared.
+
+/// What the sessions of a legal history show fits the setup, and so does what the
+/// last frame that began shows of them: a view or a viewport that is shown is of an
+/// end that its session owns, no session shows a pair twice, and no tree is too
+/// large. Each session of the setup has one state, and before the first entry none
+/// shows anything.
+///
+/// The call does nothing. Its contract is a law about the definitions.
+pub fn shown_states_fit()
+    ensures fits { ShownStatesFit }
+    ensures begun { BegunStatesFit }
+    ensures each { EachSessionHasOneState }
+    ensures nothing { NothingIsShownAtFirst }
+    ensures sessions { SessionsAreCounted }
+{}
 
 /// The presents of a session are those in what its family and the compositor did.
 ///

@@ -11,7 +11,7 @@ ghost use Rattle.flat_watch.specs.Told.{or_else};
 ghost use Rattle.flat_core.specs.Watch.{are_joined, props_told, told, layout_of, status_of, child_of};
 
 use crate::ends::EndSet;
-use crate::following::Glimpse;
+use crate::following::Sight;
 use crate::gets::Tells;
 use crate::ties::{NOTHING, Ties};
 use crate::told::{child_by, is_seen, layout_by, status_by};
@@ -19,7 +19,7 @@ use flat_base::{Actor, PairNo, SessionNo};
 use flat_scene::{Inset, Setup, Told, ViewportProps};
 
 /// Whether an end is lost, by its owner and by the stamp of what loses it.
-fn is_lost(owner: Glimpse, stamp: Option<u32>) -> bool
+fn is_lost(owner: Sight, stamp: Option<u32>) -> bool
     ensures { result ≡ (owner.closed || is_seen stamp owner.taken) }
 {
     owner.closed || is_seen(stamp, owner.taken)
@@ -46,7 +46,7 @@ fn latest(seen: Option<ViewportProps>, given: Option<ViewportProps>) -> Option<V
 
 impl Ties {
     /// What the begin of the last finished frame saw of a session.
-    fn last_sight(&self, s: SessionNo) -> Glimpse
+    fn last_sight(&self, s: SessionNo) -> Sight
         ensures { (setup : Setup) (h : List Entry) → AreTied setup h self.now.followings.items self.now.pairs.items → Legal setup h → IsLastSight setup h s result }
     {
         if s.0 == 0 {

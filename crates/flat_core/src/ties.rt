@@ -5,11 +5,11 @@ ghost use Rattle.flat_scene.specs.History.{◌▹◌};
 ghost use Rattle.flat_topology.specs.Fit.{FitsSetup};
 ghost use Rattle.flat_topology.specs.Shown.{state_of};
 ghost use Rattle.flat_core.specs.Begins.{begun, finished};
-ghost use Rattle.flat_core.specs.Following.{AreTied, IsBegun, IsFinished, IsOwnEntry, UsesNone, sight};
+ghost use Rattle.flat_core.specs.Following.{AreTied, IsBegun, IsFinished, IsOwnEntry, UsesNone, sight_of_state};
 ghost use Rattle.flat_core.specs.Usage.{IsUse, NotesCalls, SeesUses, uses_if};
 
 use crate::clears::note_clears;
-use crate::following::{Following, Glimpse};
+use crate::following::{Following, Sight};
 use crate::live::Live;
 use crate::pairs::{PairState, note_views};
 use crate::state::SessionState;
@@ -20,7 +20,7 @@ use flat_topology::Shown;
 use std::alloc::Global;
 
 /// What a history without a frame says of a session.
-pub const NOTHING: Glimpse = Glimpse {
+pub const NOTHING: Sight = Sight {
     closed: false,
     taken: 0,
     view: None,
@@ -44,18 +44,18 @@ const NEW_PAIR: PairState = PairState {
 };
 
 /// What the begin of a frame sees of a session.
-fn glimpse(setup: &Setup, shown: &Shown, state: &SessionState, s: SessionNo) -> Glimpse
+fn see_session(setup: &Setup, shown: &Shown, state: &SessionState, s: SessionNo) -> Sight
     requires some { 0 < s.0 }
     requires few { s.0 ≤ length shown.now }
     requires goes { length state.now.going.items ≤ 5 }
     requires fit { FitsSetup setup.now shown.now }
-    ensures { result ≡ sight setup.now shown.now state.now s }
+    ensures { result ≡ sight_of_state setup.now shown.now state.now s }
 {
     let view = match shown.state(s) {
         Some(state) => state.view(),
         None => None,
     };
-    Glimpse {
+    Sight {
         closed: state.closed,
         taken: state.taken(),
         view,
@@ -144,7 +144,7 @@ impl Ties {
     {
         for i in 0..setup.sessions {
             let state = &sessions[i as usize];
-            self.followings[i as usize].begun = glimpse(setup, shown, state, SessionNo(i + 1));
+            self.followings[i as usize].begun = see_session(setup, shown, state, SessionNo(i + 1));
         }
     }
 

@@ -1,7 +1,7 @@
 ghost use Rattle.std.specs.Prelude.{◌≡◌, [], ◌∷◌, IfOk};
 ghost use Rattle.flat_base.specs.declared.ids.Actor.TheVariants.{Display, Session};
 
-use crate::following::Glimpse;
+use crate::following::Sight;
 use crate::live::Live;
 use crate::ties::{NOTHING, Ties};
 use flat_base::{Actor, ContentId, Items, NoMemory, PairNo, SessionNo};
@@ -65,8 +65,8 @@ fn layout(w: u32, h: u32) -> Option<Told> {
 }
 
 /// What a frame saw of an open session from which it took that many presents.
-fn sight(taken: u32, view: u32, connected: bool) -> Glimpse {
-    Glimpse {
+fn open_sight(taken: u32, view: u32, connected: bool) -> Sight {
+    Sight {
         closed: false,
         taken,
         view: Some(PairNo(view)),
@@ -146,8 +146,8 @@ fn a_frame_is_told_when_it_ends(rt: HostRuntime) -> Result<(), Fail> {
     let state = SnapshotBuilder::new(alloc, 0)?.finish(Some(PairNo(0)), uses);
     let mut shown = Shown::new(alloc, 2)?;
     shown.set(SessionNo(1), Some(Arc::new(alloc, state)?));
-    ties.followings[0].begun = sight(1, 0, true);
-    ties.followings[1].begun = sight(1, 1, true);
+    ties.followings[0].begun = open_sight(1, 0, true);
+    ties.followings[1].begun = open_sight(1, 1, true);
     assert_eq!(rt;
         ties.status(&setup, PairNo(1), true),
         Some(Told::Disconnected)
@@ -177,13 +177,13 @@ fn an_end_is_lost_once_a_frame_has_seen_it(rt: HostRuntime) -> Result<(), Fail> 
         props(10, 20),
     );
     ties.note(SessionNo(1), [Call::Clear].as_slice(), 1, [live].as_slice());
-    ties.followings[0].finished = sight(1, 0, true);
+    ties.followings[0].finished = open_sight(1, 0, true);
     assert_eq!(rt; ties.layout(&setup, PairNo(1), true), layout(10, 20));
-    ties.followings[0].finished = sight(2, 0, true);
+    ties.followings[0].finished = open_sight(2, 0, true);
     assert_eq!(rt; ties.layout(&setup, PairNo(1), true), Some(Told::Gone));
     assert_eq!(rt; ties.status(&setup, PairNo(1), true), Some(Told::Gone));
     assert_eq!(rt; ties.child(&setup, PairNo(1)), None);
-    ties.followings[1].finished = Glimpse {
+    ties.followings[1].finished = Sight {
         closed: true,
         ..NOTHING
     };

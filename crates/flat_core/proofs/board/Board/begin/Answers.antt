@@ -17,12 +17,13 @@ use Rattle.flat_topology.specs.Fit.{FitsSetup}
 use Rattle.flat_topology.specs.Shown.{Shown}
 use Rattle.flat_core.specs.Legal.{Legal}
 use Rattle.flat_core.proofs.EndSteps.{ends-other}
-use Rattle.flat_core.proofs.ShownFits.{begun-fits, length-sessions}
+use Rattle.flat_core.proofs.ShownFits.{begun-fits}
 use Rattle.flat_core.specs.Begins.{begun, begin_entry}
 use Rattle.flat_core.proofs.Steps.{has-room, legal-entered}
 use Rattle.flat_core.proofs.BoardBegins.{kept-begun, place-small, not-ready}
 use Rattle.flat_core.proofs.WatchingSteps.{watched-after}
 use Rattle.flat_core.proofs.board.Board.begin.Goals as goal
+use Rattle.flat_core.proofs.ShownList.{length-listed}
 
 pub begin_all-count-requires-clause-place : goal.begin_all-count-requires-clause-place
 begin_all-count-requires-clause-place c =
@@ -41,7 +42,7 @@ overflow_add-result c =
     omega (arith, few)
 
 pub begin-requires-clause-shown : goal.begin-requires-clause-shown
-begin-requires-clause-shown c = ap (length {A = _}) c.begin_all-count.ensures.shown ∙ length-sessions _ c.self.inside.setup.sessions
+begin-requires-clause-shown c = ap (length {A = _}) c.begin_all-count.ensures.shown ∙ length-listed _ c.self.inside.setup.sessions
 
 pub begin-requires-clause-fit : goal.begin-requires-clause-fit
 begin-requires-clause-fit c =

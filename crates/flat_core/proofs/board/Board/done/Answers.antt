@@ -6,12 +6,12 @@ use Rattle.flat_scene.specs.declared.journal.Reply.TheVariants.{Done}
 use Rattle.flat_scene.specs.History.{◌▹◌}
 use Rattle.flat_scene.specs.declared.journal.Entry.{Entry}
 use Rattle.flat_core.specs.Boards.{Machine, entry_of}
-use Rattle.flat_core.proofs.ShownFits.{length-sessions}
 use Rattle.flat_core.specs.Begins.{finish_entry, finished}
 use Rattle.flat_core.specs.Legal.{Legal}
 use Rattle.flat_core.proofs.Steps.{has-room, legal-entered, short-history}
 use Rattle.flat_core.proofs.BoardBegins.{kept-finished, place-small}
 use Rattle.flat_core.proofs.board.Board.done.Goals as goal
+use Rattle.flat_core.proofs.ShownList.{length-listed}
 
 pub done_all-count-requires-clause-place : goal.done_all-count-requires-clause-place
 done_all-count-requires-clause-place c =
@@ -22,7 +22,7 @@ done_all-count-requires-clause-place c =
 pub finish-requires-clause-shown : goal.finish-requires-clause-shown
 finish-requires-clause-shown c =
     let shown = rw (← c.self.view_is) at c.requires.shown in
-    ap (length {A = _}) shown ∙ length-sessions _ c.self.inside.setup.sessions
+    ap (length {A = _}) shown ∙ length-listed _ c.self.inside.setup.sessions
 
 pub done_all-count-requires-clause-tells : goal.done_all-count-requires-clause-tells
 done_all-count-requires-clause-tells c =

@@ -11,11 +11,12 @@ use Rattle.flat_core.specs.Presents.{TiesNoted}
 use Rattle.flat_core.specs.Seen.{is_new_viewport, noted}
 use Rattle.flat_core.specs.Watchers.{IsTelling}
 use Rattle.flat_core.proofs.EndSteps.{ends-after, none-new, noted-slice}
-use Rattle.flat_core.proofs.GetCalls.{few-held, kept-got, room-got}
+use Rattle.flat_core.proofs.GetCalls.{kept-got, room-got}
 use Rattle.flat_core.proofs.Ones.{declared-of}
 use Rattle.flat_core.proofs.Steps.{has-room, legal-entered, owed-small, room-more, short-enough, short-history}
 use Rattle.flat_core.proofs.WatchingSteps.{asked-known, asked-replied, few-all, watched-asked}
 use Rattle.flat_core.proofs.board.Board.get.Goals as goal
+use Rattle.flat_core.proofs.Counts.{few-if}
 
 pub overflow_add-posts : goal.overflow_add-posts
 overflow_add-posts c =
@@ -55,7 +56,7 @@ pub overflow_add-self : goal.overflow_add-self
 overflow_add-self c =
     let call = rw (← c.self.view_is) at c.requires.may in
     let small : c.self.inside.owed + 2 < 2 ^ 64 = owed-small _ _ _ _ call c.self.invariant.0.legal _ _ _ refl c.self.invariant.1 in
-    let few : c.number_if.result ≤ 1 = rw c.number_if.ensures (few-held c.is_held.result) in
+    let few : c.number_if.result ≤ 1 = rw c.number_if.ensures (few-if c.is_held.result) in
     omega (arith, small, few)
 
 pub enter-requires : goal.enter-requires

@@ -14,12 +14,12 @@ use Rattle.std.proofs.lemmas.Option.{slice_get_within}
 use Rattle.flat_core.specs.Legal.{has_token, reply_to}
 use Rattle.flat_core.specs.Presents.{use_reply, IsUsed, TiesUsed}
 use Rattle.flat_core.specs.Seen.{noted}
-use Rattle.flat_core.proofs.Counts.{declared-some}
+use Rattle.flat_core.proofs.Counts.{declared-some, few-if}
 use Rattle.flat_core.proofs.EndSteps.{ends-same}
 use Rattle.flat_core.proofs.Ones.{declared-of}
 use Rattle.flat_core.proofs.Steps.{has-room, owed-small, room-more, short-enough, short-history}
 use Rattle.flat_core.proofs.WatchingSteps.{few-all, seldom-all}
-use Rattle.flat_core.proofs.UseSteps.{few-if, held-told, join-used, kept-used, last-uses, others-none, replied, room-used, telling-used}
+use Rattle.flat_core.proofs.UseSteps.{held-told, join-used, kept-used, last-uses, others-none, replied, room-used, telling-used}
 use Rattle.flat_core.proofs.board.Board.viewport.Goals as goal
 
 pub overflow_add-self-inside : goal.overflow_add-self-inside

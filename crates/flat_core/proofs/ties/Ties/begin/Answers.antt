@@ -1,7 +1,7 @@
 use Rattle.std.proofs.Common.{◌≡◌, ◌∙◌, sym, subst, ℕ, ◌+◌, arith, slice_set}
 use Rattle.std.proofs.lemmas.List.{length-set}
 use Rattle.flat_core.specs.declared.following.Following.{Following}
-use Rattle.flat_core.specs.declared.following.Glimpse.{Glimpse}
+use Rattle.flat_core.specs.declared.following.Sight.{Sight}
 use Rattle.flat_core.specs.Begins.{begun}
 use Rattle.flat_core.specs.Kept.{AllNumbered}
 use Rattle.flat_core.proofs.TiesBegin.{FollowedUpTo, begun-on, tied-begun}
@@ -17,7 +17,7 @@ loop-i-preserved c =
       pairs = inv.pairs;
       followed = λ h line time begins tied.
           let on = begun-on c.args.setup.now h line time c.args.sessions.now c.args.shown.now begins i c.loop-i.self.followings.items was c.index-sessions-i.result c.loop-i-test.true c.requires.all inv.count c.index-sessions-i.is c.index_mut.ensures.value (inv.followed h line time begins tied) in
-          subst (λ (g : Glimpse). AllNumbered (FollowedUpTo c.args.setup.now h (begun h line time) (c.loop-i.i + 1)) (slice_set c.loop-i.self.followings.items c.loop-i.i (let new : Following = record c.index_mut.result.now { begun = g } in new))) (sym c.glimpse.ensures) on;
+          subst (λ (g : Sight). AllNumbered (FollowedUpTo c.args.setup.now h (begun h line time) (c.loop-i.i + 1)) (slice_set c.loop-i.self.followings.items c.loop-i.i (let new : Following = record c.index_mut.result.now { begun = g } in new))) (sym c.see_session.ensures) on;
     }
 
 pub returns-clause-tied : goal.returns-clause-tied

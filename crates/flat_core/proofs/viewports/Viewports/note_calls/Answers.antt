@@ -4,8 +4,8 @@ use Rattle.flat_scene.specs.declared.calls.Call.{Call}
 use Rattle.flat_core.specs.Seen.{is_new_viewport}
 use Rattle.flat_core.specs.Viewports.{marked}
 use Rattle.flat_core.proofs.Marks.{drop-is, drop-end, left-next, marked-none}
-use Rattle.flat_core.proofs.ViewCalls.{or-none-right}
 use Rattle.flat_core.proofs.viewports.Viewports.note_calls.Goals as goal
+use Rattle.std.proofs.lemmas.Bool.{or_parts}
 
 pub loop-call-preserved : goal.loop-call-preserved
 loop-call-preserved c =
@@ -20,7 +20,7 @@ loop-call-preserved c =
     record {
       live = left.live;
       out = left.out;
-      none = or-none-right (is_new_viewport call) (list_any is_new_viewport rest) (ap (list_any is_new_viewport) (sym is) ∙ inv.none);
+      none = (or_parts (is_new_viewport call) (list_any is_new_viewport rest) (ap (list_any is_new_viewport) (sym is) ∙ inv.none)).1;
       room_live = e.room_live ∙ inv.room_live;
       room_out = e.room_out ∙ inv.room_out;
     }
