@@ -129,19 +129,12 @@ impl Board {
         })
     }
 
-    /// Makes a view: done, or the session is closed where the token isn't held.
-    pub fn view(
-        &mut self,
-        s: SessionNo,
-        line: u32,
-        calls: CallList,
-        p: PairNo,
-    ) -> Result<Reply, Back>
+    /// Makes a view: done, or the session is closed where the token isn't held. It
+    /// takes no memory.
+    pub fn view(&mut self, s: SessionNo, line: u32, calls: CallList, p: PairNo) -> Reply
         requires { MayCall self.old (Session s) calls (View p) }
-        ensures reply { IfOk result (λ reply. reply ≡ reply_to self.old.setup self.old.history (Session s) calls (View p)) }
-        ensures entry { IfOk result (λ reply. self.new ≡ entered self.old (Session s) line calls (View p) reply) }
-        ensures same { IfErr result (λ back. self.new ≡ self.old) }
-        ensures back { IfErr result (λ back. back ≡ record { calls = calls; args = None; snap = None }) }
+        ensures reply { result ≡ reply_to self.old.setup self.old.history (Session s) calls (View p) }
+        ensures entry { self.new ≡ entered self.old (Session s) line calls (View p) result }
     {
         let is_held = !self.views.is_used(p);
         self.views.set(p);
@@ -163,7 +156,7 @@ impl Board {
             kind: Kind::View(p),
             reply,
         });
-        Ok(reply)
+        reply
     }
 
     /// Makes a viewport, by the last of the calls: done, or the session is closed

@@ -90,7 +90,7 @@ fn a_value_is_told_once(rt: HostRuntime) -> Result<(), Fail> {
     let alloc = rt.alloc();
     let mut board = opened(alloc)?;
     let make = one_call(alloc, Call::CreateView { pair: SHELLS })?;
-    let made = reply_of(board.view(SHELL, 1, make, SHELLS))?;
+    let made = board.view(SHELL, 1, make, SHELLS);
     assert!(rt; made == Reply::Done);
     let status = reply_of(board.get(SHELL, 2, no_calls(alloc), Watch::Status, SHELLS))?;
     assert!(rt; status == Reply::Now(Told::Disconnected));

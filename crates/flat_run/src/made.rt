@@ -42,10 +42,7 @@ impl Made {
         ensures entry { IfOk result (λ reply. board.new ≡ entered board.old (Session s) number calls (kind_of self) reply) }
     {
         match self {
-            Made::View(pair) => match board.view(s, number, calls, pair) {
-                Ok(reply) => Ok(reply),
-                Err(_) => Err(NoMemory),
-            },
+            Made::View(pair) => Ok(board.view(s, number, calls, pair)),
             Made::Viewport(pair, props) => match board.viewport(s, number, calls, pair, props) {
                 Ok(reply) => Ok(reply),
                 Err(_) => Err(NoMemory),
