@@ -22,7 +22,7 @@ use Rattle.flat_tree.specs.Laws.{TreesFollow, IsSetOf}
 use Rattle.flat_tree.specs.Trees.{tree_from}
 use Rattle.flat_report.specs.Report.{frame_at}
 use Rattle.flat_run.specs.Playing.{FramesStand, HasViews}
-use Rattle.flat_core.proofs.ShownFits.{begun-fits, length-sessions}
+use Rattle.flat_core.specs.Laws.{BegunStatesFit, EachSessionHasOneState}
 use Rattle.flat_run.proofs.Conditions.{and_left, and_right, and_true}
 
 pub few_sessions : (setup : Setup) → is_setup setup ≡ true → setup.sessions ≤ SESSIONS_MAX
@@ -32,11 +32,11 @@ few_sessions setup is =
     grind (arith, nat_tests)
 
 module _ (setup : Setup) (history : List Entry) (shown : Shown) (views : SessionSet) (done : List FrameOut) (stands : FramesStand setup history shown views done) where
-  pub shown_count : length shown ≡ setup.sessions
-  shown_count = ap (length {A = _}) stands.showing ∙ length-sessions _ setup.sessions
+  pub shown_count : EachSessionHasOneState → length shown ≡ setup.sessions
+  shown_count each = ap (length {A = _}) stands.showing ∙ each setup (to_begin history)
 
-  pub shown_fits : Legal setup history → FitsSetup setup shown
-  shown_fits legal = let P : Shown → Type 0 = FitsSetup setup in subst P (sym stands.showing) (begun-fits setup history legal)
+  pub shown_fits : BegunStatesFit → Legal setup history → FitsSetup setup shown
+  shown_fits begun legal = let P : Shown → Type 0 = FitsSetup setup in subst P (sym stands.showing) (begun setup history legal)
 
   set_of : HasViews setup views → IsSetOf setup (λ s. has_view setup (to_begin history) (record { 0 = s })) views
   set_of none = record {

@@ -39,7 +39,7 @@ use Rattle.flat_playable.specs.Playable.{is_played, keeps_frames}
 use Rattle.flat_run.specs.Playing.{IsSpent, lines_by, shares_of, Grows, grows, stays, is_quiet, PlayerStands, PlayersStand, DisplayStands, FramesStand, GameStands, BeginsFrame, FinishesFrame, EntersBeside, AsksPoint, AnswersStand, HasViews, session_text, display_text}
 use Rattle.flat_run.proofs.DisplaySteps.{QuietStep, quiet_begin, quiet_finish, quiet_end, quiet_answers, answers_session, answers_beside, answers_done, answers_point, display_session, display_begin, display_done, display_beside, display_share, begin_time_ok, done_ok, may_begin, may_finish, frames_session, frames_beside, frames_begin, frames_done}
 use Rattle.flat_run.proofs.DisplaySteps as quiet
-use Rattle.flat_core.proofs.ShownFits.{length-sessions}
+use Rattle.flat_core.proofs.ShownList.{length-listed}
 use Rattle.flat_run.proofs.Steps.{At, Step, same, more, order_more, spent_more, player_other}
 use Rattle.flat_run.proofs.Conditions.{and_left, and_right}
 
@@ -52,11 +52,11 @@ last_share : (script : Script) (n k : ℕ) (b : Bool) → nat_lt k n ≡ b → k
     → get_or (map (share_of script) (sessions_to n) ++ (lines_by (suc n) script.lines + 1) ∷ []) k 0 ≡ lines_by (suc k) script.lines + 1
 last_share script n k true is below earlier =
     let less : k < n = grind (arith, nat_tests) in
-    let inside : k < length (map (share_of script) (sessions_to n)) = let count : length (map (share_of script) (sessions_to n)) ≡ n = length-sessions (share_of script) n in omega arith in
+    let inside : k < length (map (share_of script) (sessions_to n)) = let count : length (map (share_of script) (sessions_to n)) ≡ n = length-listed (share_of script) n in omega arith in
     get_or_append_left (map (share_of script) (sessions_to n)) ((lines_by (suc n) script.lines + 1) ∷ []) 0 k inside ∙ earlier less
 last_share script n k false is below earlier =
     let same : k ≡ n = grind (arith, nat_tests) in
-    let count : length (map (share_of script) (sessions_to n)) ≡ n = length-sessions (share_of script) n in
+    let count : length (map (share_of script) (sessions_to n)) ≡ n = length-listed (share_of script) n in
     ap (get_or (map (share_of script) (sessions_to n) ++ (lines_by (suc n) script.lines + 1) ∷ []) k) refl
     ∙ ap (λ i. get_or (map (share_of script) (sessions_to n) ++ (lines_by (suc n) script.lines + 1) ∷ []) i 0) (same ∙ sym count)
     ∙ get_or-append_seam (map (share_of script) (sessions_to n)) (lines_by (suc n) script.lines + 1) [] 0

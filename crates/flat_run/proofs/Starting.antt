@@ -18,7 +18,8 @@ use Rattle.flat_scene.specs.Frames.{sessions_to}
 use Rattle.flat_scene.specs.History.{seat_number, is_session}
 use Rattle.flat_scene.specs.Interleave.{session_lines, session_line, display_line, unread_lines, next_from}
 use Rattle.flat_scene.specs.Setups.{is_setup, is_within_limits}
-use Rattle.flat_core.proofs.ShownList.{length-listed, nothing-shown}
+use Rattle.flat_core.proofs.ShownList.{length-listed}
+use Rattle.flat_core.specs.Laws.{BegunStatesFit, NothingIsShownAtFirst}
 use Rattle.flat_core.specs.Boards.{Machine}
 use Rattle.flat_core.specs.Ends.{has_view, views_of}
 use Rattle.flat_topology.specs.Connected.{joined_lists}
@@ -31,7 +32,6 @@ use Rattle.flat_playable.specs.Playable.{rise_from, is_playable}
 use Rattle.flat_run.specs.declared.game.Game.{Game}
 use Rattle.flat_run.specs.declared.player.Player.{Player}
 use Rattle.flat_topology.specs.Fit.{FitsSetup}
-use Rattle.flat_core.proofs.ShownFits.{begun-fits}
 use Rattle.flat_run.specs.declared.game.LastFrame.{LastFrame}
 use Rattle.flat_run.specs.Playing.{AnswersStand, lines_by, rest_shares, shares_of, first_player, PlayerStands, PlayersStand, DisplayStands, IsInOrder, IsSpent, FramesStand, GameStands}
 use Rattle.flat_run.proofs.Places.{few_lines, rises, counted, frames_are, setup_is, session_numbered}
@@ -199,24 +199,24 @@ pub no_members : (set : SessionSet) → list_all not set.has ≡ true → (s : �
 no_members set all zero = refl
 no_members set all (suc before) = all_false set.has all before
 
-pub first_shown : (setup : Setup) (shown : Shown) (views : SessionSet) (shown_frames : List FrameOut) → length shown ≡ setup.sessions → All (λ state. state ≡ None) shown
+pub first_shown : NothingIsShownAtFirst → (setup : Setup) (shown : Shown) (views : SessionSet) (shown_frames : List FrameOut) → length shown ≡ setup.sessions → All (λ state. state ≡ None) shown
     → list_all not views.has ≡ true → shown_frames ≡ [] → FramesStand setup [] shown views shown_frames
-first_shown setup shown views shown_frames count none all nothing = record {
-  showing = nothing-shown setup shown count none;
+first_shown at_first setup shown views shown_frames count none all nothing = record {
+  showing = at_first setup shown count none;
   viewing = λ s declared. no_members views all s.0 ∙ sym (no_view setup s);
   finishing = nothing;
 }
 
 -- what shows nothing fits
-pub nothing_fits : (setup : Setup) (shown : Shown) → length shown ≡ setup.sessions → All (λ state. state ≡ None) shown → FitsSetup setup shown
-nothing_fits setup shown count none = subst (FitsSetup setup) (sym (nothing-shown setup shown count none)) (begun-fits setup [] tt)
+pub nothing_fits : BegunStatesFit → NothingIsShownAtFirst → (setup : Setup) (shown : Shown) → length shown ≡ setup.sessions → All (λ state. state ≡ None) shown → FitsSetup setup shown
+nothing_fits begun at_first setup shown count none = subst (FitsSetup setup) (sym (at_first setup shown count none)) (begun setup [] tt)
 
 -- nothing is shown, and no frame is finished
-pub first_answers : (setup : Setup) (shown : Shown) (last : LastFrame) (answers : List HitAnswer) → length shown ≡ setup.sessions → All (λ state. state ≡ None) shown → last.frame.0 ≡ 0 → last.joined ≡ joined_lists setup shown → answers ≡ []
+pub first_answers : NothingIsShownAtFirst → (setup : Setup) (shown : Shown) (last : LastFrame) (answers : List HitAnswer) → length shown ≡ setup.sessions → All (λ state. state ≡ None) shown → last.frame.0 ≡ 0 → last.joined ≡ joined_lists setup shown → answers ≡ []
     → AnswersStand setup [] last answers
-first_answers setup shown last answers count none number joined nothing = record {
+first_answers at_first setup shown last answers count none number joined nothing = record {
   number = number;
-  joining = joined ∙ ap (joined_lists setup) (nothing-shown setup shown count none);
+  joining = joined ∙ ap (joined_lists setup) (at_first setup shown count none);
   answering = nothing;
 }
 

@@ -19,7 +19,7 @@ ghost use Rattle.flat_run.specs.Showing.{Finishes};
 use crate::player::Player;
 use flat_base::{Actor, FenceNo, FrameNo, NoMemory, SessionNo};
 use flat_compose::compose;
-use flat_core::Board;
+use flat_core::{Board, shown_states_fit};
 use flat_hit::hits;
 use flat_report::{HitAnswer, HitAnswers};
 use flat_scene::{Body, CallList, Cond, DisplayLine, FrameOut, Line, SessionSet};
@@ -73,6 +73,7 @@ impl Game {
     {
         let _journal = self.board.journal();
         trees_follow();
+        shown_states_fit();
         let joined = join(alloc, &self.shown, self.board.setup())?;
         let items = compose(alloc, &joined)?;
         let tree = view_tree(alloc, &joined, self.with_view)?;

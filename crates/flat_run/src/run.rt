@@ -11,7 +11,7 @@ ghost use Rattle.flat_run.specs.Showing.{HaveSeen};
 use crate::game::{Game, LastFrame};
 use crate::player::Player;
 use flat_base::{Actor, FrameNo, NoMemory, ShareList, TryCopy};
-use flat_core::Board;
+use flat_core::{Board, shown_states_fit};
 use flat_display::{Display, DisplaySet};
 use flat_draft::{Draft, draft_laws};
 use flat_report::HitAnswers;
@@ -91,6 +91,7 @@ fn start(alloc: Global, script: &Script) -> Result<Game, NoMemory>
     ensures none { IfOk result (λ game. game.frames.items ≡ []) }
 {
     draft_laws();
+    shown_states_fit();
     let shares = shares_of(alloc, script)?;
     let setup = script.setup.copy(alloc)?;
     let board = Board::open(alloc, setup, shares)?;

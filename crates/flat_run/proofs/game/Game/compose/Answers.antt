@@ -8,7 +8,7 @@ use Rattle.flat_run.proofs.game.Game.compose.Goals as goal
 
 pub join-requires-clause-made : goal.join-requires-clause-made
 join-requires-clause-made c =
-    shown_count c.args.self.now.board.setup c.args.self.now.board.history c.args.self.now.shown c.args.self.now.with_view (finished c.args.self.now.board.setup c.args.self.now.board.history) c.requires.stands
+    shown_count c.args.self.now.board.setup c.args.self.now.board.history c.args.self.now.shown c.args.self.now.with_view (finished c.args.self.now.board.setup c.args.self.now.board.history) c.requires.stands c.shown_states_fit.ensures.each
     ∙ ap (λ (s : Setup). s.sessions) (sym c.setup.ensures)
 
 pub join-requires-clause-fit : goal.join-requires-clause-fit
@@ -16,7 +16,7 @@ join-requires-clause-fit c =
     let P : Setup → Type 0 = λ s. FitsSetup s c.args.self.now.shown in
     subst P (sym c.setup.ensures)
     (shown_fits c.args.self.now.board.setup c.args.self.now.board.history c.args.self.now.shown c.args.self.now.with_view (finished c.args.self.now.board.setup c.args.self.now.board.history) c.requires.stands
-    c.journal-journal.ensures.legal)
+    c.shown_states_fit.ensures.begun c.journal-journal.ensures.legal)
 
 pub returns-clause-frame : goal.returns-clause-frame
 returns-clause-frame c =
