@@ -59,6 +59,12 @@ fn play(
     Ok((status, sink))
 }
 
+/// A display that fails at one of its shows.
+fn failing(alloc: Global, fault: u32) -> Result<Box<dyn Display>, Fail> {
+    let display = MemDisplay::new(alloc, vec![in alloc; fault]?);
+    Ok(Box::new(alloc, display)?)
+}
+
 #[test]
 fn where_a_read_fails_nothing_is_written(rt: HostRuntime) -> Result<(), Fail> {
     let alloc = rt.alloc();
@@ -91,10 +97,8 @@ fn displays_that_fail_are_lost(rt: HostRuntime) -> Result<(), Fail> {
     let alloc = rt.alloc();
     for (first, second, lines) in LOSSES.iter() {
         let mut displays: Vec<Box<dyn Display>> = Vec::new(alloc);
-        for fault in [*first, *second] {
-            let display = MemDisplay::new(alloc, vec![in alloc; fault]?);
-            displays.push(Box::new(alloc, display)?)?;
-        }
+        displays.push(failing(alloc, *first)?)?;
+        displays.push(failing(alloc, *second)?)?;
         let (status, sink) = play(alloc, THREE_FRAMES, &[], &[], &mut displays)?;
         assert_eq!(rt; status, 0);
         let mut lost = Vec::new(alloc);
