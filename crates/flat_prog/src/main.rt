@@ -1,12 +1,14 @@
 //! The program `flatland`: the service over standard input and standard output.
 #![tactic(auto)]
 
-ghost use Rattle.std.specs.Prelude.{◌≡◌, IfOk, length};
+ghost use Rattle.std.specs.Prelude.{◌||◌, ◌==◌, map, IfOk, IsTrue};
+ghost use Rattle.std.specs.String.{string_bytes};
+ghost use Rattle.flat_run.specs.Promise.{CallForNothing};
 
 use flat_display::{Display, Tally};
 use flat_io::{StdSink, StdSource};
 use flat_run::flatland;
-use std::alloc::{AllocError, Global};
+use std::alloc::AllocError;
 use std::process::ExitCode;
 use std::{env, io};
 
@@ -16,8 +18,6 @@ const NO_MEMORY: u8 = 6;
 /// Answers the words after the program's name. Words that are no text are no
 /// command form.
 fn main(rt: HostRuntime) -> ExitCode {
-    let mut source = StdSource::new(rt.reader());
-    let mut sink = StdSink::new(io::writer(&rt));
     let words = match words(&rt) {
         Ok(words) => words,
         Err(error) if error.kind() == io::ErrorKind::OutOfMemory => {
@@ -25,26 +25,7 @@ fn main(rt: HostRuntime) -> ExitCode {
         }
         Err(_) => Vec::new(rt.alloc()),
     };
-    let Ok(mut displays) = displays(rt.alloc()) else {
-        return ExitCode::from(NO_MEMORY);
-    };
-    let status = flatland(
-        rt.alloc(),
-        words.as_slice(),
-        &mut source,
-        &mut sink,
-        &mut displays,
-    );
-    ExitCode::from(status)
-}
-
-/// The displays of the program: one, which counts its frames.
-fn displays(alloc: Global) -> Result<Vec<Box<dyn Display>>, AllocError>
-    ensures { IfOk result (λ displays. length displays.items ≡ 1) }
-{
-    let mut displays: Vec<Box<dyn Display>> = Vec::new(alloc);
-    displays.push(Box::new(alloc, Tally::new())?)?;
-    Ok(displays)
+    ExitCode::from(status(&rt, words.as_slice()).unwrap_or(NO_MEMORY))
 }
 
 /// The words after the program's name.
@@ -54,4 +35,18 @@ fn words(rt: &HostRuntime) -> io::Result<Vec<String>> {
         words.push(word)?;
     }
     Ok(words)
+}
+
+/// The status of the call for these words, with one display, which counts its
+/// frames.
+fn status(rt: &HostRuntime, words: &[String]) -> Result<u8, AllocError>
+    ensures statuses { IfOk result (λ s. IsTrue (s == 0 || s == 2 || s == 3 || s == 4 || s == 5 || s == 6)) }
+    ensures usage { CallForNothing (map string_bytes words.now) → IfOk result (λ s. IsTrue (s == 2 || s == 5)) }
+{
+    let alloc = rt.alloc();
+    let mut source = StdSource::new(rt.reader());
+    let mut sink = StdSink::new(io::writer(rt));
+    let mut displays: Vec<Box<dyn Display>> = Vec::new(alloc);
+    displays.push(Box::new(alloc, Tally::new())?)?;
+    Ok(flatland(alloc, words, &mut source, &mut sink, &mut displays))
 }
