@@ -8,25 +8,24 @@ use Rattle.flat_base.specs.declared.ids.Actor.{Actor}
 use Rattle.flat_base.specs.declared.ids.Actor.TheVariants.{Display, Session, Probe}
 use Rattle.flat_base.specs.declared.ids.PairNo.{PairNo}
 use Rattle.flat_base.specs.declared.ids.SessionNo.{SessionNo}
-use Rattle.flat_scene.specs.declared.calls.Watch.{Watch}
 use Rattle.flat_scene.specs.declared.journal.Entry.{Entry}
 use Rattle.flat_scene.specs.declared.journal.Event.{Event}
 use Rattle.flat_scene.specs.declared.journal.Event.TheVariants as event
-use Rattle.flat_scene.specs.declared.journal.Told.{Told}
 use Rattle.flat_scene.specs.declared.setup.PairDecl.{PairDecl}
 use Rattle.flat_scene.specs.declared.setup.Setup.{Setup}
 use Rattle.flat_scene.specs.Frames.{taken, credits, sessions_to}
 use Rattle.flat_scene.specs.History.{◌▹◌, is_begin, is_finish, is_closed, is_session}
 use Rattle.flat_scene.specs.Setups.{is_within, is_declared}
-use Rattle.flat_core.specs.Ends.{to_begin, views_of, viewports_of, viewport_uses, viewport_owner}
-use Rattle.flat_core.specs.Legal.{is_token_back, owns_viewport}
-use Rattle.flat_core.specs.Posts.{Sent, told_event, event_of, frame_took, releases_seen, tokens_back, at_finish, at_begin, news_for, events_to, posted, up_to}
-use Rattle.flat_core.specs.Watch.{layout_of, status_of, child_of}
+use Rattle.flat_rules.specs.Ends.{to_begin, views_of, viewports_of, viewport_uses, viewport_owner}
+use Rattle.flat_rules.specs.Legal.{is_token_back, owns_viewport}
+use Rattle.flat_rules.specs.Posts.{Sent, told_event, frame_took, releases_seen, tokens_back, at_finish, at_begin, news_for, events_to, posted, up_to}
+use Rattle.flat_rules.specs.Watch.{layout_of, status_of, child_of}
 use Rattle.flat_core.proofs.HasView.{found, any-found}
 use Rattle.std.specs.Cmp.{both_ways}
 use Rattle.std.proofs.Math.Bool.{and-false, or-false}
 use Rattle.std.proofs.lemmas.Bool.{and_parts}
 use Rattle.flat_core.proofs.Between.{viewport-nested}
+use Rattle.flat_rules.proofs.RepliesLocal.{no-told}
 
 -- ---- tests over lists of lists
 
@@ -61,11 +60,6 @@ five-parts f a b c d e na nb nc ne =
     ∙ rw (na, nb, nc, ne) (or-false (list_any f d))
 
 -- ---- what an entry tells a session
-
-pub no-told : (p q : PairNo) (get : Option Watch) (value : Option Told) → list_any (is_token_back p) (event_of q get value) ≡ false
-no-told p q None value = refl
-no-told p q (Some get) None = refl
-no-told p q (Some get) (Some value) = refl
 
 module _ (setup : Setup) (p : PairNo) where
   no-credits : (before : List Entry) (e : Entry) (t : SessionNo) (b : Bool) → list_any (is_token_back p) (cond b (at_begin setup before e t) []) ≡ false

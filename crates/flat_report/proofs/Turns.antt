@@ -14,10 +14,10 @@ use Rattle.flat_scene.specs.Frames.{sessions_to}
 use Rattle.flat_scene.specs.History.{◌▹◌, own, is_session, is_display}
 use Rattle.flat_scene.specs.Interleave.{Follows, FollowsDisplay, IsFirstLine, IsNext, Interleaves, IsReading, Next, next_of, session_lines, display_lines, by_display, unread_lines}
 use Rattle.flat_scene.specs.Setups.{is_declared}
-use Rattle.flat_core.specs.Legal.{Legal, may_act, session_may}
-use Rattle.flat_core.proofs.Locality.{same-number}
+use Rattle.flat_rules.specs.Legal.{Legal, may_act, session_may}
 use Rattle.flat_report.proofs.Sheets.{and-both}
 use Rattle.flat_report.proofs.Tails.{onto}
+use Rattle.std.proofs.lemmas.Bool.{eq-eqb}
 
 -- ---- the sessions that are declared
 
@@ -85,8 +85,8 @@ module _ (setup : Setup) (count : ℕ) (lines : List ScriptLine) where
   determined : (actor : Actor) (before : List Entry) (e e' : Entry) → e.actor ≡ actor → e'.actor ≡ actor → may_act setup e.kind e.actor ≡ true
       → Stands setup count lines (before ▹ e) → Stands setup count lines (before ▹ e') → (e.line ≡ e'.line) × (e.calls ≡ e'.calls) × (e.kind ≡ e'.kind)
   determined (Session s) before e e' is is' acts follows follows' =
-      let own_e : is_session s e.actor ≡ true = rw is (same-number s.0) in
-      let own_e' : is_session s e'.actor ≡ true = rw is' (same-number s.0) in
+      let own_e : is_session s e.actor ≡ true = rw is (eq-eqb s.0 s.0 refl) in
+      let own_e' : is_session s e'.actor ≡ true = rw is' (eq-eqb s.0 s.0 refl) in
       let declared : is_declared setup s ≡ true = (and-both (session_may e.kind) (is_declared setup s) (acts-at (Session s) e is acts)).1 in
       same-next (next_of setup count (own s before) (session_lines s lines)) e e' (session-next s before e own_e (follows.sessions s declared)) (session-next s before e' own_e' (follows'.sessions s declared))
   determined Display before e e' is is' acts follows follows' =
