@@ -15,6 +15,7 @@ use Rattle.flat_content.specs.declared.stored.Stored.{Stored}
 use Rattle.flat_content.proofs.Serials.{changed-alike}
 use Rattle.flat_content.specs.Limits.{are_sides}
 use Rattle.flat_content.specs.Table.{TableState, IsSound, IsTable, HasRoom, change_at, change_named, released, with_stored}
+use Rattle.std.proofs.lemmas.Bool.{and_parts}
 
 pub sound-released : (table : TableState) (id : ℕ) → IsSound table → IsSound (released table id)
 sound-released table id t = record {
@@ -92,16 +93,8 @@ set-by table id serial was now change contents named there same put =
 
 sides-get : (buffers : List BufferDecl) (i : ℕ) (decl : BufferDecl) → list_all are_sides buffers ≡ true → slice_get buffers i ≡ Some decl → are_sides decl ≡ true
 sides-get [] i decl all e = absurd (cc)
-sides-get (b ∷ bs) zero decl all e = let it : b ≡ decl = cc in rw it at (first (are_sides b) (list_all are_sides bs) all)
-  where
-    first : (x y : Bool) → x && y ≡ true → x ≡ true
-    first true y e = refl
-    first false y e = e
-sides-get (b ∷ bs) (suc i) decl all e = sides-get bs i decl (second (are_sides b) (list_all are_sides bs) all) e
-  where
-    second : (x y : Bool) → x && y ≡ true → y ≡ true
-    second true y e = e
-    second false y e = absurd (cc)
+sides-get (b ∷ bs) zero decl all e = let it : b ≡ decl = cc in rw it at (and_parts (are_sides b) (list_all are_sides bs) all).0
+sides-get (b ∷ bs) (suc i) decl all e = sides-get bs i decl (and_parts (are_sides b) (list_all are_sides bs) all).1 e
 
 -- what is no bad image fits 31 bits
 pub image-fits : (buffers : List BufferDecl) (i w h index : ℕ) → list_all are_sides buffers ≡ true → is_bad_image (slice_get buffers i) w h ≡ false → is_bad_index (slice_get buffers i) index ≡ false

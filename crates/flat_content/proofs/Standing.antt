@@ -38,6 +38,7 @@ use Rattle.flat_content.proofs.Serials.{of_serial-some}
 use Rattle.flat_content.specs.Reasons.{create_tests, image_tests, new_tests, properties_tests, room_tests, sort_tests, solid_tests, viewport_tests}
 use Rattle.flat_content.specs.Stands.{StandsFor}
 use Rattle.flat_content.specs.Laws.{IsCall, CallsStand, ContentCallsStand}
+use Rattle.std.proofs.lemmas.Bool.{not-false}
 
 none-some : (x : Option ℕ) → is_some x ≡ false → x ≡ None
 none-some None e = refl
@@ -54,10 +55,6 @@ first-none false reason rest e = (refl, e)
 
 not-zero : (n : ℕ) → (n == 0) ≡ false → n ≢ 0
 not-zero n e zero = let no : ◌≡◌ {A = Bool} true false = rw zero at e in absurd (cc)
-
-not-false : (b : Bool) → not b ≡ false → b ≡ true
-not-false true e = refl
-not-false false e = absurd (cc)
 
 -- a change of one content, in the table and in the draft
 changed-made : (serial : ℕ) (f : Stored → Stored) (g : Made → Made) (contents : List Stored) (stored : Stored) → of_serial contents serial ≡ Some stored → as_made (f stored) ≡ g (as_made stored)

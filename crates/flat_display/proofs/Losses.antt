@@ -1,10 +1,11 @@
 -- losses: each display once, so there are no more losses than displays
-use Rattle.std.proofs.Common.{◌≡◌, ◌≢◌, ℕ, ◌+◌, ◌<◌, ◌≤◌, ◌==◌, ◌||◌, List, [], ◌∷◌, ◌++◌, length, map, Bool, true, false, arith, refl, eqb}
+use Rattle.std.proofs.Common.{◌≡◌, ◌≢◌, ℕ, ◌+◌, ◌<◌, ◌≤◌, ◌==◌, ◌||◌, List, [], ◌∷◌, ◌++◌, length, map, true, false, arith, refl, eqb}
 use Rattle.std.specs.List.{list_any, IsDistinct, AllByRecursion}
 use Rattle.std.proofs.lemmas.List.Folds.{list_any-append}
 use Rattle.std.proofs.lemmas.Map.Steps.{length-le_from_distinct_below}
 use Rattle.flat_scene.specs.declared.frames.Lost.{Lost}
 use Rattle.flat_display.specs.Lost.{is_lost, IsOnce, AreWithin}
+use Rattle.std.proofs.lemmas.Bool.{or_from}
 
 pub within-more : (n : ℕ) (ls : List Lost) (l : Lost) → AreWithin n ls → 1 ≤ l.display → l.display ≤ n → AreWithin n (ls ++ l ∷ [])
 within-more n [] l w low high = (low, high, tt)
@@ -22,12 +23,9 @@ not_later x xs n h = grind arith
 not_alone : (l : Lost) (n : ℕ) → n ≢ l.display → is_lost (l ∷ []) n ≡ false
 not_alone l n h = grind arith
 
-not_either : (a b : Bool) → a ≡ false → b ≡ false → (a || b) ≡ false
-not_either a b h k = grind arith
-
 pub once-more : (ls : List Lost) (l : Lost) → IsOnce ls → is_lost ls l.display ≡ false → IsOnce (ls ++ l ∷ [])
 once-more [] l o new = (refl, tt)
-once-more (x ∷ xs) l (first, o) new = (rw (lost-append xs (l ∷ []) x.display) (not_either _ _ first (not_alone l x.display (not_first x xs l.display new))), once-more xs l o (not_later x xs l.display new))
+once-more (x ∷ xs) l (first, o) new = (rw (lost-append xs (l ∷ []) x.display) (or_from _ _ first (not_alone l x.display (not_first x xs l.display new))), once-more xs l o (not_later x xs l.display new))
 
 -- the numbers of those that are lost
 abbrev numbers : List Lost → List ℕ

@@ -4,7 +4,6 @@
 //! fails is lost: it is shown no more, and the others go on.
 #![tactic(auto)]
 
-mod counts;
 mod display;
 mod memory;
 mod set;

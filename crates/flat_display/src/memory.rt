@@ -3,10 +3,9 @@ ghost use Rattle.flat_io.specs.Counts.{counted};
 ghost use Rattle.flat_io.specs.Kept.{is_next_among};
 ghost use Rattle.flat_display.specs.Kept.{FailingDisplay, told_frames, after_fault, after_keeping, after_silence};
 
-use crate::counts::counted;
 use crate::display::Display;
 use flat_base::{Items, NoMemory, TryCopy};
-use flat_io::Failed;
+use flat_io::{Failed, counted, is_next_among};
 use flat_scene::FrameOut;
 use std::alloc::Global;
 use std::marker::Model;
@@ -97,12 +96,4 @@ impl Display for MemDisplay {
         }
         Ok(())
     }
-}
-
-/// Whether the call after so many is one of those listed.
-fn is_next_among(numbers: &[u32], calls: u64) -> bool
-    ensures { result ≡ is_next_among numbers.now calls }
-{
-    let next = counted(calls);
-    numbers.iter().any(|n| u64::from(*n) == next)
 }

@@ -1,9 +1,8 @@
 ghost use Rattle.std.specs.Prelude.{◌≡◌, Ok};
 ghost use Rattle.flat_io.specs.Counts.{counted};
 
-use crate::counts::counted;
 use crate::display::Display;
-use flat_io::Failed;
+use flat_io::{Failed, counted};
 use flat_scene::FrameOut;
 use std::marker::Model;
 

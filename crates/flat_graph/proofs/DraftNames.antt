@@ -5,15 +5,9 @@ use Rattle.std.specs.Option.{option_map}
 use Rattle.std.proofs.lemmas.Bool.Decides.{nat_tests}
 use Rattle.flat_scene.specs.Draft.{Name, named, without_name, of_serial, changed_at}
 use Rattle.flat_graph.specs.Stands.{IsOnce}
+use Rattle.flat_graph.proofs.NameLemmas.{both-first}
 
 -- ---- names
-
-both-first : (b c : Bool) (n m other : ℕ) (x y : Option ℕ) (rest : Option ℕ) → b ≡ (n == other) → c ≡ (m == other) → n ≢ m
-    → cond c y (cond b x rest) ≡ cond b x (cond c y rest)
-both-first true true n m other x y rest e f apart = absurd (apart (grind (arith, nat_tests)))
-both-first true false n m other x y rest e f apart = refl
-both-first false true n m other x y rest e f apart = refl
-both-first false false n m other x y rest e f apart = refl
 
 first-other : (b : Bool) (id : ℕ) (m : Name) (ms : List Name) → b ≡ (m.id == id) → cond b (Some m.serial) (named ms id) ≡ None → (m.id ≢ id) × (named ms id ≡ None)
 first-other true id m ms e none = absurd (cc)

@@ -9,7 +9,7 @@ use Rattle.flat_graph.specs.Names.{key_if, key_named, names_but, names_with, IsB
 
 -- ---- a name more
 
-both-first : (b c : Bool) (n m other : ℕ) (x y rest : Option ℕ) → b ≡ (n == other) → c ≡ (m == other) → n ≢ m
+pub both-first : (b c : Bool) (n m other : ℕ) (x y rest : Option ℕ) → b ≡ (n == other) → c ≡ (m == other) → n ≢ m
     → cond c y (cond b x rest) ≡ cond b x (cond c y rest)
 both-first true true n m other x y rest e f apart = absurd (apart (grind (arith, nat_tests)))
 both-first true false n m other x y rest e f apart = refl

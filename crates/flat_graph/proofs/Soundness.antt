@@ -221,7 +221,7 @@ node-without serial [] k = refl
 node-without serial (slot ∷ slots) zero = refl
 node-without serial (slot ∷ slots) (suc k) = node-without serial slots k
 
-some-map : {A B : Type 0} (f : A → B) (x : Option A) → is_some (option_map f x) ≡ is_some x
+pub some-map : {A B : Type 0} (f : A → B) (x : Option A) → is_some (option_map f x) ≡ is_some x
 some-map f None = refl
 some-map f (Some x) = refl
 

@@ -17,12 +17,8 @@ use Rattle.flat_graph.specs.State.{GraphState, IsSound, IsKept, IsMarked, MayKee
 use Rattle.flat_graph.specs.Stands.{StandsFor, IsHeld, serial_at, serial_of, node_serial, as_transform}
 use Rattle.flat_graph.proofs.NameLemmas as keys
 use Rattle.flat_graph.proofs.DraftNames.{named-append, once-append, named-without, once-without, length-without, of_serial-append, of_serial-last, of_serial-low, of_serial-map}
-use Rattle.flat_graph.proofs.Soundness.{AddsNode, created, sound-created, sound-released, sound-without, sound-marked, node-added, node-without, node-kept, node-marked, was-node}
+use Rattle.flat_graph.proofs.Soundness.{AddsNode, created, sound-created, sound-released, sound-without, sound-marked, node-added, node-without, node-kept, node-marked, was-node, some-map}
 use Rattle.flat_graph.proofs.Standing.{option_map-same, transform-same}
-
-some-map : {A B : Type 0} (f : A → B) (x : Option A) → is_some (option_map f x) ≡ is_some x
-some-map f None = refl
-some-map f (Some x) = refl
 
 pub stands-empty : StandsFor empty_graph empty_draft
 stands-empty = record {

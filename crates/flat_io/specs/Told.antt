@@ -1,5 +1,5 @@
 -- what is known of bytes that a source has left, or that a sink holds, before and after a call
-use Rattle.std.specs.Prelude.{◌≡◌, ⊤, ℕ, ◌<◌, List, [], ◌++◌, Option, None, Some, length, take}
+use Rattle.std.specs.Prelude.{◌≡◌, ⊤, ℕ, List, ◌++◌, Option, None, Some, take}
 
 -- Where the bytes are told after a call, they were told before it too, and stand in this relation.
 abbrev pub WhereTold : Option (List ℕ) → Option (List ℕ) → (List ℕ → List ℕ → Type 0) → Type 0

@@ -1,5 +1,5 @@
 -- what is said of a whole text that is read or written
-use Rattle.std.specs.Prelude.{◌≡◌, ⊤, ℕ, ◌<◌, ◌≤◌, List, [], ◌++◌, Option, length, take, Result, Ok, Err}
+use Rattle.std.specs.Prelude.{◌≡◌, ℕ, ◌<◌, ◌≤◌, List, ◌++◌, Option, take}
 use Rattle.flat_io.specs.declared.whole.ReadAll.{ReadAll}
 use Rattle.flat_io.specs.declared.whole.ReadAll.TheVariants.{Fault, TooLong, Memory}
 use Rattle.flat_io.specs.Told.{WhereTold}

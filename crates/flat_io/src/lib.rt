@@ -13,6 +13,7 @@ mod system;
 mod tests;
 mod whole;
 
+pub use counts::{counted, is_next_among};
 pub use memory::{MemSink, MemSource};
 pub use sink::Sink;
 pub use source::{Failed, Source};

@@ -2,7 +2,7 @@ ghost use Rattle.std.specs.Prelude.{◌≡◌, ◌+◌, ◌<◌, ◌≤◌, ◌+
 ghost use Rattle.flat_io.specs.Counts.{counted};
 ghost use Rattle.flat_io.specs.Kept.{FailingSource, FailingSink, told_bytes, is_next_among, stalls_after, after_write};
 
-use crate::counts::counted;
+use crate::counts::{counted, is_next_among};
 use crate::sink::Sink;
 use crate::source::{Failed, Source};
 use crate::steady::{SteadySink, SteadySource};
@@ -146,14 +146,6 @@ impl Sink for MemSink {
         }
         self.inner.write(piece)
     }
-}
-
-/// Whether the call after so many is one of those listed.
-fn is_next_among(numbers: &[u32], calls: u64) -> bool
-    ensures { result ≡ is_next_among numbers.now calls }
-{
-    let next = counted(calls);
-    numbers.iter().any(|n| u64::from(*n) == next)
 }
 
 /// The count of stalls after a write that took nothing of this piece.

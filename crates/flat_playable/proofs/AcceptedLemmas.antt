@@ -1,8 +1,7 @@
 -- Every script that the reader accepts is playable.
 use Rattle.std.proofs.Common.{◌≡◌, ℕ, ◌+◌, ◌-◌, ◌*◌, ◌<◌, ◌≤◌, ◌==◌, ◌⊎◌, inl, inr, not, Bool, true, false, cond, nat_lt, nat_le, List, [], ◌∷◌, ◌++◌, length, Result, Ok, Err, refl, sym, ◌∙◌, ap, codes, arith, append-nil, subst}
 use Rattle.std.specs.Str.{bytes_eq}
-use Rattle.std.specs.List.{list_all, slice_split, onto_first}
-use Rattle.std.proofs.lemmas.List.Splits.{length-slice_split}
+use Rattle.std.specs.List.{list_all, slice_split}
 use Rattle.std.proofs.lemmas.Bool.Decides.{nat_tests}
 use Rattle.flat_base.specs.declared.limits.TheConstants.{SCRIPT_BYTES_MAX}
 use Rattle.flat_scene.specs.declared.script.ScriptLine.{ScriptLine}
@@ -12,44 +11,19 @@ use Rattle.flat_script.specs.declared.script.Script.{Script}
 use Rattle.flat_script.specs.declared.script.ScriptFault.{ScriptFault}
 use Rattle.flat_script.specs.declared.script.Part.TheVariants as part
 use Rattle.flat_script.specs.Known.{known_words}
-use Rattle.flat_script.specs.Forms.{Word, Reading, mapped, whole, give}
+use Rattle.flat_script.specs.Forms.{Word, mapped, whole, give}
 use Rattle.flat_script.specs.Head.{empty, first_line, head_line, run_line, is_ready}
 use Rattle.flat_script.specs.Body.{body_line, is_open}
-use Rattle.flat_script.specs.Grammar.{Sofar, is_plain, is_skipped, words_read, line_read, lines_read, IsScript}
+use Rattle.flat_script.specs.Grammar.{Sofar, words_read, lines_read, IsScript}
 use Rattle.flat_script.proofs.FormLemmas.{mapped_ok, unless_ok}
 use Rattle.flat_script.proofs.AgainLemmas.{with_lines, body_again}
 use Rattle.flat_script.proofs.FoundLemmas.{step_found}
 use Rattle.flat_playable.specs.Playable.{is_playable, rise_from, frames_close, is_played}
 use Rattle.flat_playable.proofs.BodyLemmas.{FramesKept, open_is, BodyKept, body_empty, body_skipped, body_line_kept}
-use Rattle.flat_playable.proofs.HeadLemmas.{HeadKept, head_empty, step_kept, setup_given, both_true}
-
--- one line of a text
-
--- what a line makes of a text that is a script, and what the lines behind it make of that
-record NextOk (n : ℕ) (sofar : Sofar) (l : List ℕ) (ls : List (List ℕ)) (s : Script) : Type 0 where
-  pub next : Sofar
-  pub read : line_read known_words n sofar l ≡ Ok next
-  pub rest : lines_read known_words (n + 1) next ls ≡ Ok s
-
-next_by : (n : ℕ) (sofar : Sofar) (l : List ℕ) (ls : List (List ℕ)) (s : Script) (r : Reading Sofar) → line_read known_words n sofar l ≡ r → lines_read known_words n sofar (l ∷ ls) ≡ Ok s → NextOk n sofar l ls s
-next_by n sofar l ls s (Ok next) e is = record { next = next; read = e; rest = rw e at is }
-next_by n sofar l ls s (Err k) e is = absurd (let wrong = rw e at is in cc)
-
-next_ok : (n : ℕ) (sofar : Sofar) (l : List ℕ) (ls : List (List ℕ)) (s : Script) → lines_read known_words n sofar (l ∷ ls) ≡ Ok s → NextOk n sofar l ls s
-next_ok n sofar l ls s is = next_by n sofar l ls s (line_read known_words n sofar l) refl is
-
-line_by : (n : ℕ) (sofar next : Sofar) (l : List ℕ) (p q r : Bool)
-    → cond {A = Reading Sofar} (not p) (Err 2) (cond {A = Reading Sofar} q (Err 3) (cond {A = Reading Sofar} r (Ok sofar) (words_read known_words n sofar (words_of l)))) ≡ Ok next → (sofar ≡ next) ⊎ (words_read known_words n sofar (words_of l) ≡ Ok next)
-line_by n sofar next l false q r is = absurd (cc)
-line_by n sofar next l true true r is = absurd (cc)
-line_by n sofar next l true false true is = inl (cc)
-line_by n sofar next l true false false is = inr is
-
-line_ok : (n : ℕ) (sofar next : Sofar) (l : List ℕ) → line_read known_words n sofar l ≡ Ok next → (sofar ≡ next) ⊎ (words_read known_words n sofar (words_of l) ≡ Ok next)
-line_ok n sofar next l is = line_by n sofar next l (list_all is_plain l) (nat_lt 1024 (length l)) (is_skipped l) is
-
-read_at : (n : ℕ) (a b : Sofar) (ls : List (List ℕ)) (s : Script) → a ≡ b → lines_read known_words n b ls ≡ Ok s → lines_read known_words n a ls ≡ Ok s
-read_at n a b ls s e is = ap (λ x. lines_read known_words n x ls) e ∙ is
+use Rattle.flat_playable.proofs.HeadLemmas.{HeadKept, head_empty, step_kept, setup_given}
+use Rattle.std.proofs.lemmas.Bool.{and_from}
+use Rattle.flat_script.proofs.RunLemmas.{NextOk, next_ok, read_at, line_ok, Read}
+use Rattle.flat_script.proofs.TextLemmas.{lines_room, split_room, some_parts}
 
 -- the body
 
@@ -73,10 +47,10 @@ abbrev BodyEnds : Script → List (List ℕ) → Script → Type 0
 BodyEnds h ls s = (us : List ScriptLine) (n : ℕ) → BodyKept h us n → lines_read known_words n (part.Body, with_lines h us) ls ≡ Ok s → BodyEnd h (n + length ls) s
 
 body_by : (h : Script) (ls : List (List ℕ)) (us : List ScriptLine) (n : ℕ) (s : Script) (l : List ℕ) (next : NextOk n (part.Body, with_lines h us) l ls s) → h.setup.sessions ≡ length h.sessions → h.probes ≡ [] → BodyKept h us n
-    → ((part.Body, with_lines h us) ≡ next.next) ⊎ (words_read known_words n (part.Body, with_lines h us) (words_of l) ≡ Ok next.next) → BodyEnds h ls s → BodyEnd h (n + 1 + length ls) s
+    → ((part.Body, with_lines h us) ≡ next.next) ⊎ Read n (part.Body, with_lines h us) next.next l → BodyEnds h ls s → BodyEnd h (n + 1 + length ls) s
 body_by h ls us n s l next many none kept (inl e) ends = ends us (n + 1) (body_skipped h us n kept) (read_at (n + 1) (part.Body, with_lines h us) next.next ls s e next.rest)
 body_by h ls us n s l next many none kept (inr r) ends =
-    let t = mapped_ok (λ v. (part.Body, v)) (body_line known_words (with_lines h us) n (words_of l)) next.next r in
+    let t = mapped_ok (λ v. (part.Body, v)) (body_line known_words (with_lines h us) n (words_of l)) next.next r.words in
     let a = body_again h us us n n (words_of l) t.a (record { same = refl }) t.given in
     let x : ScriptLine = record { number = n; actor = a.actor; body = a.body } in
     let here : (part.Body, with_lines h (us ++ x ∷ [])) ≡ next.next = ap (λ v. (part.Body, v)) (sym a.read) ∙ t.value in
@@ -122,9 +96,9 @@ head_words_by u n s ls next [] kept rest read ends = absurd (cc)
 head_words_by u n s ls next (w ∷ words) kept rest read ends = head_by u n s ls next w words (bytes_eq w (codes "run")) kept rest read ends
 
 head_line_by : (u : Script) (n : ℕ) (s : Script) (l : List ℕ) (ls : List (List ℕ)) (next : NextOk n (part.Head, u) l ls s) → HeadKept u
-    → ((part.Head, u) ≡ next.next) ⊎ (words_read known_words n (part.Head, u) (words_of l) ≡ Ok next.next) → HeadEnds ls s → HeadEnd (n + 1 + length ls) s
+    → ((part.Head, u) ≡ next.next) ⊎ Read n (part.Head, u) next.next l → HeadEnds ls s → HeadEnd (n + 1 + length ls) s
 head_line_by u n s l ls next kept (inl e) ends = ends u (n + 1) (omega arith) kept (read_at (n + 1) (part.Head, u) next.next ls s e next.rest)
-head_line_by u n s l ls next kept (inr r) ends = head_words_by u n s ls next.next (words_of l) kept next.rest r ends
+head_line_by u n s l ls next kept (inr r) ends = head_words_by u n s ls next.next (words_of l) kept next.rest r.words ends
 
 head_end : (ls : List (List ℕ)) (u : Script) (n : ℕ) (s : Script) → 0 < n → HeadKept u → lines_read known_words n (part.Head, u) ls ≡ Ok s → HeadEnd (n + length ls) s
 head_end [] u n s some kept is = absurd (cc)
@@ -138,10 +112,10 @@ head_end (l ∷ ls) u n s some kept is =
 abbrev StartEnds : List (List ℕ) → Script → Type 0
 StartEnds ls s = (n : ℕ) → lines_read known_words n (part.Start, empty) ls ≡ Ok s → HeadEnd (n + length ls) s
 
-start_line_by : (n : ℕ) (s : Script) (l : List ℕ) (ls : List (List ℕ)) (next : NextOk n (part.Start, empty) l ls s) → ((part.Start, empty) ≡ next.next) ⊎ (words_read known_words n (part.Start, empty) (words_of l) ≡ Ok next.next) → StartEnds ls s → HeadEnd (n + 1 + length ls) s
+start_line_by : (n : ℕ) (s : Script) (l : List ℕ) (ls : List (List ℕ)) (next : NextOk n (part.Start, empty) l ls s) → ((part.Start, empty) ≡ next.next) ⊎ Read n (part.Start, empty) next.next l → StartEnds ls s → HeadEnd (n + 1 + length ls) s
 start_line_by n s l ls next (inl e) ends = ends (n + 1) (read_at (n + 1) (part.Start, empty) next.next ls s e next.rest)
 start_line_by n s l ls next (inr r) ends =
-    let m = mapped_ok (λ _. (part.Head, empty)) (first_line (words_of l)) next.next r in
+    let m = mapped_ok (λ _. (part.Head, empty)) (first_line (words_of l)) next.next r.words in
     head_end ls empty (n + 1) s (omega arith) head_empty (read_at (n + 1) (part.Head, empty) next.next ls s m.value next.rest)
 
 start_end : (ls : List (List ℕ)) (n : ℕ) (s : Script) → lines_read known_words n (part.Start, empty) ls ≡ Ok s → HeadEnd (n + length ls) s
@@ -152,31 +126,11 @@ start_end (l ∷ ls) n s is =
 
 -- how many lines a text has
 
--- the bytes of some lines, with one more for each
-abbrev room : List (List ℕ) → ℕ
-room [] = 0
-room (l ∷ ls) = 1 + length l + room ls
-
-onto_room : (x : ℕ) (parts : List (List ℕ)) → 0 < length parts → room (onto_first x parts) ≡ 1 + room parts
-onto_room x [] some = absurd (omega arith)
-onto_room x (l ∷ ls) some = omega arith
-
-some_parts : (p : ℕ → Bool) (xs : List ℕ) → 0 < length (slice_split p xs)
-some_parts p xs = omega (arith, length-slice_split p xs)
-
-split_room : (p : ℕ → Bool) (xs : List ℕ) → room (slice_split p xs) ≡ length xs + 1
-split_room p [] = refl
-split_room p (x ∷ xs) = by_test (p x) (split_room p xs) (some_parts p xs)
-  where
-    by_test : (b : Bool) → room (slice_split p xs) ≡ length xs + 1 → 0 < length (slice_split p xs) → room (cond b ([] ∷ slice_split p xs) (onto_first x (slice_split p xs))) ≡ length (x ∷ xs) + 1
-    by_test true rest some = omega arith
-    by_test false rest some = onto_room x (slice_split p xs) some ∙ omega arith
-
-few_pieces : (ls : List (List ℕ)) → 0 < length ls → length (without_empty_end ls) + 1 ≤ room ls
+few_pieces : (ls : List (List ℕ)) → 0 < length ls → length (without_empty_end ls) + 1 ≤ lines_room ls
 few_pieces [] some = absurd (omega arith)
 few_pieces (x ∷ []) some = by_test (length x == 0) refl
   where
-    by_test : (b : Bool) → (length x == 0) ≡ b → length (cond b [] (x ∷ [])) + 1 ≤ room (x ∷ [])
+    by_test : (b : Bool) → (length x == 0) ≡ b → length (cond b [] (x ∷ [])) + 1 ≤ lines_room (x ∷ [])
     by_test true at = omega arith
     by_test false at = let full : 0 < length x = grind (arith, nat_tests) in omega arith
 few_pieces (x ∷ y ∷ ls) some = omega (arith, few_pieces (y ∷ ls) (omega arith))
@@ -233,4 +187,4 @@ accepted bytes s is = by_size bytes s (nat_lt (16 * 1024 * 1024) (length bytes))
 -- all of the parts
 pub playable_of : (s : Script) → Accepted s → is_playable s ≡ true
 playable_of s a =
-    both_true _ _ (both_true _ _ (both_true _ _ (both_true _ _ (both_true _ _ (both_true _ _ a.setup a.probes) a.count) a.rise) a.counted) a.frames) a.played
+    and_from _ _ (and_from _ _ (and_from _ _ (and_from _ _ (and_from _ _ (and_from _ _ a.setup a.probes) a.count) a.rise) a.counted) a.frames) a.played

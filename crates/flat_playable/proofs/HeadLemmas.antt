@@ -1,5 +1,5 @@
 -- What the lines of a head keep, as they are read.
-use Rattle.std.proofs.Common.{◌≡◌, ℕ, ◌+◌, ◌<◌, ◌≤◌, ◌==◌, ◌&&◌, ◌||◌, Bool, true, false, cond, nat_lt, nat_le, List, [], ◌∷◌, ◌++◌, length, Option, Some, None, option_and_then, option_map, if◌then◌else◌, Ok, refl, sym, ◌∙◌, ap, codes, arith, length-append, subst}
+use Rattle.std.proofs.Common.{◌≡◌, ℕ, ◌+◌, ◌<◌, ◌≤◌, ◌==◌, ◌&&◌, ◌||◌, Bool, true, false, cond, nat_lt, nat_le, List, [], ◌∷◌, ◌++◌, length, Option, Some, None, option_map, Ok, refl, sym, ◌∙◌, ap, codes, arith, length-append, subst}
 use Rattle.std.specs.Prelude.{filter}
 use Rattle.std.specs.List.{list_all, list_any}
 use Rattle.std.specs.Str.{bytes_eq}
@@ -24,35 +24,22 @@ use Rattle.flat_script.specs.Head.{empty, size, side, owner_word, has_display, h
 use Rattle.flat_script.proofs.FormLemmas.{both_ok, or_kind_ok, whole_ok, apply_ok, map_ok, place_ok}
 use Rattle.flat_script.proofs.StepLemmas.{SizeStep, SessionStep, BuffersStep, PairStep, FenceStep, Step, size_step, session_step, buffers_step, pair_step, fence_step}
 use Rattle.flat_playable.proofs.PlayedLemmas.{within_of, session_declared, owner_declared}
+use Rattle.std.proofs.lemmas.Bool.{and_parts, and_from}
+use Rattle.flat_script.proofs.OrderLemmas.{test_passes}
 
 -- tests
 
-and_both : (a b : Bool) → (a && b) ≡ true → (a ≡ true) × (b ≡ true)
-and_both true b h = (refl, h)
-and_both false b h = absurd (cc)
-
-pub both_true : (a b : Bool) → a ≡ true → b ≡ true → (a && b) ≡ true
-both_true a b p q = ap (λ x. x && b) p ∙ q
-
 all_more : {A : Type 0} (p q : A → Bool) (xs : List A) → ((x : A) → p x ≡ true → q x ≡ true) → list_all p xs ≡ true → list_all q xs ≡ true
 all_more p q [] more all = refl
-all_more p q (x ∷ xs) more all = let b = and_both (p x) (list_all p xs) all in both_true (q x) (list_all q xs) (more x b.0) (all_more p q xs more b.1)
+all_more p q (x ∷ xs) more all = let b = and_parts (p x) (list_all p xs) all in and_from (q x) (list_all q xs) (more x b.0) (all_more p q xs more b.1)
 
 one_more : {A : Type 0} (p : A → Bool) (xs : List A) (x : A) → list_all p xs ≡ true → p x ≡ true → list_all p (xs ++ x ∷ []) ≡ true
-one_more p xs x all one = list_all-append p xs (x ∷ []) ∙ both_true _ _ all (both_true (p x) true one refl)
+one_more p xs x all one = list_all-append p xs (x ∷ []) ∙ and_from _ _ all (and_from (p x) true one refl)
 
 -- numbers of a range
 
-passes_by : (p : ℕ → Bool) (n v : ℕ) (b : Bool) → p n ≡ b → cond b (Some n) None ≡ Some v → p v ≡ true
-passes_by p n v true at is = let e : n ≡ v = cc in ap p (sym e) ∙ at
-passes_by p n v false at is = absurd (cc)
-
-test_passes : (p : ℕ → Bool) (o : Option ℕ) (v : ℕ) → option_and_then (λ n. if p n then Some n else None) o ≡ Some v → p v ≡ true
-test_passes p None v is = absurd (cc)
-test_passes p (Some n) v is = passes_by p n v (p n) refl is
-
 is_within_of : (most n : ℕ) → (nat_le 1 n && nat_le n most) ≡ true → is_within most n ≡ true
-is_within_of most n is = let b = and_both (nat_le 1 n) (nat_le n most) is in ranged b.0 b.1
+is_within_of most n is = let b = and_parts (nat_le 1 n) (nat_le n most) is in ranged b.0 b.1
   where
     ranged : nat_le 1 n ≡ true → nat_le n most ≡ true → is_within most n ≡ true
     ranged p q = let some : 0 < n = grind (arith, nat_tests) in let few : n ≤ most = grind (arith, nat_tests) in within_of most n some few
@@ -72,7 +59,7 @@ size_taken words w h is =
 
 -- a declared session stays declared when there is one session more
 declared_more : (setup : Setup) (s : SessionNo) → is_declared setup s ≡ true → is_declared (record setup { sessions = setup.sessions + 1 }) s ≡ true
-declared_more setup s is = let b = and_both (nat_lt 0 s.0) (nat_le s.0 setup.sessions) is in both_true _ _ b.0 (wider s.0 setup.sessions b.1)
+declared_more setup s is = let b = and_parts (nat_lt 0 s.0) (nat_le s.0 setup.sessions) is in and_from _ _ b.0 (wider s.0 setup.sessions b.1)
   where
     wider : (n m : ℕ) → nat_le n m ≡ true → nat_le n (m + 1) ≡ true
     wider n m q = grind (arith, nat_tests)
@@ -83,23 +70,23 @@ owner_more setup (Session s) is = declared_more setup s is
 owner_more setup (Probe p) is = absurd (cc)
 
 pair_more : (setup : Setup) (d : PairDecl) → is_pair_declared setup d ≡ true → is_pair_declared (record setup { sessions = setup.sessions + 1 }) d ≡ true
-pair_more setup d is = let b = and_both (may_own setup d.viewport) (is_declared setup d.view) is in both_true _ _ (owner_more setup d.viewport b.0) (declared_more setup d.view b.1)
+pair_more setup d is = let b = and_parts (may_own setup d.viewport) (is_declared setup d.view) is in and_from _ _ (owner_more setup d.viewport b.0) (declared_more setup d.view b.1)
 
 buffer_more : (setup : Setup) (d : BufferDecl) → is_buffer_declared setup d ≡ true → is_buffer_declared (record setup { sessions = setup.sessions + 1 }) d ≡ true
 buffer_more setup d is =
     let count = is_within 64 d.count in
     let w = is_within 65536 d.w in
     let h = is_within 65536 d.h in
-    let c = and_both (is_declared setup d.owner && count && w) h is in
-    let b = and_both (is_declared setup d.owner && count) w c.0 in
-    let a = and_both (is_declared setup d.owner) count b.0 in
+    let c = and_parts (is_declared setup d.owner && count && w) h is in
+    let b = and_parts (is_declared setup d.owner && count) w c.0 in
+    let a = and_parts (is_declared setup d.owner) count b.0 in
     let more = is_declared (record setup { sessions = setup.sessions + 1 }) d.owner in
-    both_true (more && count && w) h (both_true (more && count) w (both_true more count (declared_more setup d.owner a.0) a.1) b.1) c.1
+    and_from (more && count && w) h (and_from (more && count) w (and_from more count (declared_more setup d.owner a.0) a.1) b.1) c.1
 
 fence_more : (setup : Setup) (d : FenceDecl) → is_fence_declared setup d ≡ true → is_fence_declared (record setup { sessions = setup.sessions + 1 }) d ≡ true
 fence_more setup d is =
-    let b = and_both (nat_lt 0 (length d.owners)) (list_all (may_own setup) d.owners) is in
-    both_true _ _ b.0 (all_more (may_own setup) (may_own (record setup { sessions = setup.sessions + 1 })) d.owners (owner_more setup) b.1)
+    let b = and_parts (nat_lt 0 (length d.owners)) (list_all (may_own setup) d.owners) is in
+    and_from _ _ b.0 (all_more (may_own setup) (may_own (record setup { sessions = setup.sessions + 1 })) d.owners (owner_more setup) b.1)
 
 -- what a head keeps
 pub record HeadKept (u : Script) : Type 0 where
@@ -197,9 +184,9 @@ buffers_kept : (u : Script) (ws : List Word) (t : Script) → BuffersStep u ws t
 buffers_kept u ws t x o =
     let P : Script → Type 0 = HeadKept in
     let owned = session_declared u x.owner x.decl.owner o.sessions x.owned in
-    let count = both_true (is_declared u.setup x.decl.owner) (is_within 64 x.decl.count) owned (from_one 64 x.a x.decl.count x.count) in
-    let width = both_true _ (is_within 65536 x.decl.w) count (from_one 65536 x.b x.decl.w x.width) in
-    let good : is_buffer_declared u.setup x.decl ≡ true = both_true _ (is_within 65536 x.decl.h) width (from_one 65536 x.c x.decl.h x.height) in
+    let count = and_from (is_declared u.setup x.decl.owner) (is_within 64 x.decl.count) owned (from_one 64 x.a x.decl.count x.count) in
+    let width = and_from _ (is_within 65536 x.decl.w) count (from_one 65536 x.b x.decl.w x.width) in
+    let good : is_buffer_declared u.setup x.decl ≡ true = and_from _ (is_within 65536 x.decl.h) width (from_one 65536 x.c x.decl.h x.height) in
     subst P (sym x.made) (record {
       lines = o.lines;
       probes = o.probes;
@@ -266,7 +253,7 @@ pair_alone u w a true shows named single = let word = display_named_by u w a (by
 pair_kept : (u : Script) (ws : List Word) (t : Script) → PairStep u ws t → HeadKept u → HeadKept t
 pair_kept u ws t x o =
     let P : Script → Type 0 = HeadKept in
-    let good : is_pair_declared u.setup x.decl ≡ true = both_true (may_own u.setup x.decl.viewport) (is_declared u.setup x.decl.view) (owner_declared u x.x x.decl.viewport o.sessions x.viewport) (session_declared u x.y x.decl.view o.sessions x.view) in
+    let good : is_pair_declared u.setup x.decl ≡ true = and_from (may_own u.setup x.decl.viewport) (is_declared u.setup x.decl.view) (owner_declared u x.x x.decl.viewport o.sessions x.viewport) (session_declared u x.y x.decl.view o.sessions x.view) in
     subst P (sym x.made) (record {
       lines = o.lines;
       probes = o.probes;
@@ -291,13 +278,13 @@ owners_each : (u : Script) (ws : List Word) (actors : List Actor) → u.setup.se
 owners_each u [] actors many is = let e : [] ≡ actors = cc in ap (list_all (may_own u.setup)) (sym e)
 owners_each u (w ∷ ws) actors many is =
     let parts = both_ok (λ a rest. a ∷ rest) (owner_word u w) (each (owner_word u) ws) actors is in
-    ap (list_all (may_own u.setup)) (sym parts.value) ∙ both_true (may_own u.setup parts.a) (list_all (may_own u.setup) parts.b) (owner_declared u w parts.a many (or_kind_ok 9 (owner_named u w) parts.a parts.first)) (owners_each u ws parts.b many parts.second)
+    ap (list_all (may_own u.setup)) (sym parts.value) ∙ and_from (may_own u.setup parts.a) (list_all (may_own u.setup) parts.b) (owner_declared u w parts.a many (or_kind_ok 9 (owner_named u w) parts.a parts.first)) (owners_each u ws parts.b many parts.second)
 
 owners_some : (u : Script) (ws : List Word) (d : FenceDecl) → u.setup.sessions ≡ length u.sessions → one_or_more (owner_word u) ws ≡ Ok d.owners → is_fence_declared u.setup d ≡ true
 owners_some u [] d many is = absurd (cc)
 owners_some u (w ∷ ws) d many is =
     let parts = both_ok (λ a rest. a ∷ rest) (owner_word u w) (each (owner_word u) ws) d.owners is in
-    both_true (nat_lt 0 (length d.owners)) (list_all (may_own u.setup) d.owners) (ap (λ l. nat_lt 0 (length l)) (sym parts.value) ∙ some parts.a parts.b) (owners_each u (w ∷ ws) d.owners many is)
+    and_from (nat_lt 0 (length d.owners)) (list_all (may_own u.setup) d.owners) (ap (λ l. nat_lt 0 (length l)) (sym parts.value) ∙ some parts.a parts.b) (owners_each u (w ∷ ws) d.owners many is)
   where
     some : (x : Actor) (xs : List Actor) → nat_lt 0 (length (x ∷ xs)) ≡ true
     some x xs = grind (arith, nat_tests)
@@ -341,8 +328,8 @@ one_shown u o has = ap (λ n. n == 1) (o.shown ∙ ap (λ b. cond b 1 0) has)
 
 pub setup_given : (u : Script) → HeadKept u → is_ready u ≡ true → is_setup u.setup ≡ true
 setup_given u o ready =
-    let r = and_both (has_display u && nat_lt 0 (length u.sessions)) (has_display_pair u) ready in
-    let q = and_both (has_display u) (nat_lt 0 (length u.sessions)) r.0 in
+    let r = and_parts (has_display u && nat_lt 0 (length u.sessions)) (has_display_pair u) ready in
+    let q = and_parts (has_display u) (nat_lt 0 (length u.sessions)) r.0 in
     let sizes = o.sizes q.0 in
     let some : 0 < length u.sessions = positive (length u.sessions) q.1 in
     let sessions : is_within 16 u.setup.sessions ≡ true = ap (is_within 16) o.sessions ∙ within_of 16 (length u.sessions) some o.few_sessions in
@@ -351,9 +338,9 @@ setup_given u o ready =
     let buffers = within_most (length u.setup.buffers) (length u.buffers) 256 o.buffer_names o.few_buffers in
     let fences = within_most (length u.setup.fences) (length u.fences) 4096 o.fence_names o.few_fences in
     let limits : is_within_limits u.setup ≡ true =
-    both_true _ (nat_le (length u.setup.fences) 4096) (both_true _ (nat_le (length u.setup.buffers) 256) (both_true _ (nat_le (length u.setup.pairs) 4096) (both_true _ (nat_le u.setup.probes 8) (both_true _ (is_within 16 u.setup.sessions) (both_true (is_within 65536 u.setup.width) (is_within 65536 u.setup.height) sizes.0 sizes.1) sessions) probes) pairs) buffers) fences in
-    let owners : owners_declared u.setup ≡ true = both_true _ (list_all (is_fence_declared u.setup) u.setup.fences) (both_true (list_all (is_pair_declared u.setup) u.setup.pairs) (list_all (is_buffer_declared u.setup) u.setup.buffers) o.pairs_owned o.buffers_owned) o.fences_owned in
-    both_true _ (has_one_display_pair u.setup) (both_true (is_within_limits u.setup) (owners_declared u.setup) limits owners) (one_shown u o r.1)
+    and_from _ (nat_le (length u.setup.fences) 4096) (and_from _ (nat_le (length u.setup.buffers) 256) (and_from _ (nat_le (length u.setup.pairs) 4096) (and_from _ (nat_le u.setup.probes 8) (and_from _ (is_within 16 u.setup.sessions) (and_from (is_within 65536 u.setup.width) (is_within 65536 u.setup.height) sizes.0 sizes.1) sessions) probes) pairs) buffers) fences in
+    let owners : owners_declared u.setup ≡ true = and_from _ (list_all (is_fence_declared u.setup) u.setup.fences) (and_from (list_all (is_pair_declared u.setup) u.setup.pairs) (list_all (is_buffer_declared u.setup) u.setup.buffers) o.pairs_owned o.buffers_owned) o.fences_owned in
+    and_from _ (has_one_display_pair u.setup) (and_from (is_within_limits u.setup) (owners_declared u.setup) limits owners) (one_shown u o r.1)
   where
     positive : (n : ℕ) → nat_lt 0 n ≡ true → 0 < n
     positive n is = grind (arith, nat_tests)

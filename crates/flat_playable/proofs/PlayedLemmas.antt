@@ -49,6 +49,7 @@ use Rattle.flat_script.proofs.FormLemmas.{apply_ok, map_ok, place_ok, whole_ok, 
 use Rattle.flat_script.proofs.ListLemmas.{pair_of, ListsOk, lists_ok}
 use Rattle.flat_script.proofs.BodyWordLemmas.{display_spelt, session_shown}
 use Rattle.flat_playable.specs.Playable.{is_played_call, is_played_condition, is_played_line, is_played_display, is_played}
+use Rattle.std.proofs.Math.Bool.{or-true}
 
 -- numbers of a range
 
@@ -196,13 +197,9 @@ call_played s a _ is = refl
 
 -- fences
 
-or_true : (x : Bool) → (x || true) ≡ true
-or_true true = refl
-or_true false = refl
-
 first_owner : (x y p q b : Bool) → x ≡ b → (x ≡ true → p ≡ true) → (y ≡ true → q ≡ true) → (x || y) ≡ true → (p || q) ≡ true
 first_owner x y p q true at first rest is = ap (λ v. v || q) (first at)
-first_owner x y p q false at first rest is = ap (λ v. p || v) (rest (ap (λ v. v || y) (sym at) ∙ is)) ∙ or_true p
+first_owner x y p q false at first rest is = ap (λ v. p || v) (rest (ap (λ v. v || y) (sym at) ∙ is)) ∙ or-true p
 
 any_owner : (a : SessionNo) (owners : List Actor) → list_any (is_actor (Session a)) owners ≡ true → list_any (is_session a) owners ≡ true
 any_owner a [] is = absurd (cc)

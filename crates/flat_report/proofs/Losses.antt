@@ -11,7 +11,8 @@ use Rattle.flat_report.specs.FrameLines.{lost_line}
 use Rattle.flat_report.specs.Report.{lost_at, is_lost_before, is_loss}
 use Rattle.flat_report.specs.Words.{number}
 use Rattle.flat_report.proofs.Openings.{NoLoss, lost_words}
-use Rattle.flat_report.proofs.Sheets.{and-both, laid, line_on, sheet, laid-same, told-next, number-word}
+use Rattle.flat_report.proofs.Sheets.{laid, line_on, sheet, laid-same, told-next, number-word}
+use Rattle.std.proofs.lemmas.Bool.{and_parts}
 
 -- the numbers of displays have 32 bits
 abbrev pub is_small : Lost → Bool
@@ -34,8 +35,8 @@ same-frame n x y of_x of_y = grind (arith, nat_tests)
 
 first-loss : (n : ℕ) (x y : Lost) (a b : List ℕ) → is_at n x ≡ true → is_at n y ≡ true → line_on (lost_line x) a ≡ line_on (lost_line y) b → (x ≡ y) × (a ≡ b)
 first-loss n x y a b at_x at_y is =
-    let of_x = and-both (x.frame.0 == n) (is_small x) at_x in
-    let of_y = and-both (y.frame.0 == n) (is_small y) at_y in
+    let of_x = and_parts (x.frame.0 == n) (is_small x) at_x in
+    let of_y = and_parts (y.frame.0 == n) (is_small y) at_y in
     let behind = append_cancel_left (codes "display") (laid (number x.display ∷ codes "lost" ∷ lost_words x) a) (laid (number y.display ∷ codes "lost" ∷ lost_words y) b) is in
     let parts = told-next (number x.display) (number y.display) (codes "lost" ∷ lost_words x) (codes "lost" ∷ lost_words y) a b (number-word x.display) (number-word y.display) behind in
     let display : x.display ≡ y.display = decimal_injective x.display y.display (small x of_x.1) (small y of_y.1) parts.0 in
@@ -50,8 +51,8 @@ losses-told n [] [] a b of_xs of_ys none_a none_b is = (refl, is)
 losses-told n [] (y ∷ ys) a b of_xs of_ys none_a none_b is = absurd (none_a y (sheet (map lost_line ys) b) is)
 losses-told n (x ∷ xs) [] a b of_xs of_ys none_a none_b is = absurd (none_b x (sheet (map lost_line xs) a) (sym is))
 losses-told n (x ∷ xs) (y ∷ ys) a b of_xs of_ys none_a none_b is =
-    let of_x = and-both (is_at n x) (list_all (is_at n) xs) of_xs in
-    let of_y = and-both (is_at n y) (list_all (is_at n) ys) of_ys in
+    let of_x = and_parts (is_at n x) (list_all (is_at n) xs) of_xs in
+    let of_y = and_parts (is_at n y) (list_all (is_at n) ys) of_ys in
     let here = first-loss n x y (sheet (map lost_line xs) a) (sheet (map lost_line ys) b) of_x.0 of_y.0 is in
     let later = losses-told n xs ys a b of_x.1 of_y.1 none_a none_b here.1 in
     (ap (λ (z : Lost). z ∷ xs) here.0 ∙ ap (λ zs. y ∷ zs) later.0, later.1)
@@ -60,7 +61,7 @@ losses-told n (x ∷ xs) (y ∷ ys) a b of_xs of_ys none_a none_b is =
 pub all-at : (n : ℕ) (lost : List Lost) → list_all is_small lost ≡ true → list_all (is_at n) (lost_at n lost) ≡ true
 all-at n [] fits = refl
 all-at n (one ∷ lost) fits =
-    let parts = and-both (is_small one) (list_all is_small lost) fits in
+    let parts = and_parts (is_small one) (list_all is_small lost) fits in
     by_test (one.frame.0 == n) refl parts.0 (all-at n lost parts.1)
   where
     by_test : (b : Bool) → (one.frame.0 == n) ≡ b → is_small one ≡ true → list_all (is_at n) (lost_at n lost) ≡ true → list_all (is_at n) (cond b (one ∷ lost_at n lost) (lost_at n lost)) ≡ true
@@ -81,7 +82,7 @@ is_rising to (a ∷ later) = nat_lt 0 a.frame.0 && nat_le a.frame.0 to && list_a
 none-at : (n : ℕ) (a : ℕ) (ys : List Lost) → n < a → list_all (λ b. nat_le a b.frame.0) ys ≡ true → lost_at n ys ≡ []
 none-at n a [] less later = refl
 none-at n a (y ∷ ys) less later =
-    let parts = and-both (nat_le a y.frame.0) (list_all (λ b. nat_le a b.frame.0) ys) later in
+    let parts = and_parts (nat_le a y.frame.0) (list_all (λ b. nat_le a b.frame.0) ys) later in
     let other : (y.frame.0 == n) ≡ false = (let above = parts.0 in grind (arith, nat_tests)) in
     rw other (none-at n a ys less parts.1)
 
@@ -93,9 +94,9 @@ record Rises (to : ℕ) (a : Lost) (later : List Lost) : Type 0 where
 
 rises : (to : ℕ) (a : Lost) (later : List Lost) → is_rising to (a ∷ later) ≡ true → Rises to a later
 rises to a later is =
-    let four = and-both (nat_lt 0 a.frame.0 && nat_le a.frame.0 to && list_all (λ b. nat_le a.frame.0 b.frame.0) later) (is_rising to later) is in
-    let three = and-both (nat_lt 0 a.frame.0 && nat_le a.frame.0 to) (list_all (λ b. nat_le a.frame.0 b.frame.0) later) four.0 in
-    let two = and-both (nat_lt 0 a.frame.0) (nat_le a.frame.0 to) three.0 in
+    let four = and_parts (nat_lt 0 a.frame.0 && nat_le a.frame.0 to && list_all (λ b. nat_le a.frame.0 b.frame.0) later) (is_rising to later) is in
+    let three = and_parts (nat_lt 0 a.frame.0 && nat_le a.frame.0 to) (list_all (λ b. nat_le a.frame.0 b.frame.0) later) four.0 in
+    let two = and_parts (nat_lt 0 a.frame.0) (nat_le a.frame.0 to) three.0 in
     let some = two.0 in
     let within = two.1 in
     record { some = grind (arith, nat_tests); within = grind (arith, nat_tests); above = three.1; rest = four.1 }
@@ -156,14 +157,14 @@ before-rises a b is = grind (arith, nat_tests)
 all-before : (a : Lost) (later : List Lost) → list_all (λ b. is_lost_before a b && not (b.display == a.display)) later ≡ true → list_all (λ (b : Lost). nat_le a.frame.0 b.frame.0) later ≡ true
 all-before a [] is = refl
 all-before a (b ∷ later) is =
-    let parts = and-both (is_lost_before a b && not (b.display == a.display)) (list_all (λ b. is_lost_before a b && not (b.display == a.display)) later) is in
-    rw (before-rises a b (and-both (is_lost_before a b) (not (b.display == a.display)) parts.0).0) (all-before a later parts.1)
+    let parts = and_parts (is_lost_before a b && not (b.display == a.display)) (list_all (λ b. is_lost_before a b && not (b.display == a.display)) later) is in
+    rw (before-rises a b (and_parts (is_lost_before a b) (not (b.display == a.display)) parts.0).0) (all-before a later parts.1)
 
 loss-rises : (history : List Entry) (lost : List Lost) → is_loss history lost ≡ true → is_rising (frames history) lost ≡ true
 loss-rises history [] is = refl
 loss-rises history (a ∷ later) is =
-    let four = and-both (nat_lt 0 a.frame.0 && nat_le a.frame.0 (frames history) && list_all (λ b. is_lost_before a b && not (b.display == a.display)) later) (is_loss history later) is in
-    let three = and-both (nat_lt 0 a.frame.0 && nat_le a.frame.0 (frames history)) (list_all (λ b. is_lost_before a b && not (b.display == a.display)) later) four.0 in
+    let four = and_parts (nat_lt 0 a.frame.0 && nat_le a.frame.0 (frames history) && list_all (λ b. is_lost_before a b && not (b.display == a.display)) later) (is_loss history later) is in
+    let three = and_parts (nat_lt 0 a.frame.0 && nat_le a.frame.0 (frames history)) (list_all (λ b. is_lost_before a b && not (b.display == a.display)) later) four.0 in
     rw (three.0, all-before a later three.1) (loss-rises history later four.1)
 
 -- losses that agree at each finished frame are the same

@@ -14,7 +14,8 @@ use Rattle.flat_rules.specs.Legal.{may_act, session_may}
 use Rattle.flat_script.specs.declared.script.Script.{Script}
 use Rattle.flat_script.specs.Names.{is_name, is_name_byte, is_reserved, place_of}
 use Rattle.flat_report.specs.Words.{Word, name_at, session_name, actor_name}
-use Rattle.flat_report.proofs.Sheets.{is_word, and-both}
+use Rattle.flat_report.proofs.Sheets.{is_word}
+use Rattle.std.proofs.lemmas.Bool.{and_parts}
 
 -- ---- what the reader gives
 
@@ -45,14 +46,14 @@ name-byte b fine = let high : 32 < b = search (rules, tests) in grind (arith, na
 bytes-word : (w : Word) → list_all is_name_byte w ≡ true → is_word w ≡ true
 bytes-word [] fine = refl
 bytes-word (b ∷ w) fine =
-    let parts = and-both (is_name_byte b) (list_all is_name_byte w) fine in
+    let parts = and_parts (is_name_byte b) (list_all is_name_byte w) fine in
     rw (name-byte b parts.0) (bytes-word w parts.1)
 
 pub name-word : (w : Word) → is_name w ≡ true → is_word w ≡ true
 name-word w named =
-    let three = (and-both (is_ascii_alphabetic (slice_index w 0) && list_all is_name_byte w && nat_le (length w) 16) (not (is_reserved w)) named).0 in
-    let two = (and-both (is_ascii_alphabetic (slice_index w 0) && list_all is_name_byte w) (nat_le (length w) 16) three).0 in
-    bytes-word w (and-both (is_ascii_alphabetic (slice_index w 0)) (list_all is_name_byte w) two).1
+    let three = (and_parts (is_ascii_alphabetic (slice_index w 0) && list_all is_name_byte w && nat_le (length w) 16) (not (is_reserved w)) named).0 in
+    let two = (and_parts (is_ascii_alphabetic (slice_index w 0) && list_all is_name_byte w) (nat_le (length w) 16) three).0 in
+    bytes-word w (and_parts (is_ascii_alphabetic (slice_index w 0)) (list_all is_name_byte w) two).1
 
 pub not-display : (w : Word) → is_name w ≡ true → w ≡ codes "display" → ⊥
 not-display w named is = let wrong : is_name (codes "display") ≡ true = ap is_name (sym is) ∙ named in let e : false ≡ true = wrong in cc
@@ -67,7 +68,7 @@ Acts script (Probe p) = ⊥
 
 pub acts : (script : Script) (kind : Kind) (actor : Actor) → may_act script.setup kind actor ≡ true → Acts script actor
 acts script kind Display may = tt
-acts script kind (Session s) may = (and-both (session_may kind) (is_declared script.setup s) may).1
+acts script kind (Session s) may = (and_parts (session_may kind) (is_declared script.setup s) may).1
 acts script kind (Probe p) may = cc
 
 module _ (script : Script) (named : IsNamed script) where

@@ -6,6 +6,7 @@ use Rattle.std.proofs.lemmas.Grind.{flat_map-append}
 use Rattle.flat_report.specs.declared.page.Page.{Page}
 use Rattle.flat_report.specs.Words.{Word, spaced, text_of, line_of}
 use Rattle.flat_report.specs.Pages.{IsText, Puts, Writes, WritesLines}
+use Rattle.flat_script.proofs.WordLemmas.{spaced-append}
 
 -- ---- bytes
 
@@ -20,9 +21,6 @@ pub puts_same : {xs ys : List ℕ} {old new : Page} → xs ≡ ys → Puts xs ol
 puts_same {old = old} {new = new} same puts = let P : List ℕ → Type 0 = λ t. Puts t old new in subst P same puts
 
 -- ---- words
-
-spaced-append : (xs ys : List Word) → spaced (xs ++ ys) ≡ spaced xs ++ spaced ys
-spaced-append xs ys = flat_map-append (λ word. 32 ∷ word) xs ys
 
 pub none : (page : Page) → Writes [] page page
 none page = record { puts = puts_none page }

@@ -27,6 +27,7 @@ use Rattle.flat_script.proofs.StepLemmas.{SessionStep, Step, size_step, session_
 use Rattle.flat_script.proofs.TextLemmas.{lines_room, lines_room-lines_of}
 use Rattle.flat_report.specs.Words.{name_at}
 use Rattle.flat_report.proofs.Named.{AreNames, IsNamed, is_spoken}
+use Rattle.flat_script.proofs.OrderLemmas.{name_at_seam, lines_kept}
 
 -- ---- what every line keeps
 
@@ -42,10 +43,6 @@ at-old : (names ys : List Word) (i : ℕ) → i < length names → name_at (name
 at-old [] ys i below = absurd (omega arith)
 at-old (w ∷ names) ys zero below = refl
 at-old (w ∷ names) ys (suc i) below = at-old names ys i (omega (arith, below))
-
-at-new : (names ys : List Word) (name : Word) → name_at (names ++ name ∷ ys) (length names) ≡ name
-at-new [] ys name = refl
-at-new (w ∷ names) ys name = at-new names ys name
 
 no-place-some : (i : ℕ) → None ≡ Some i → ⊥
 no-place-some i is = cc
@@ -69,14 +66,14 @@ names-more names name are proper none = record { proper = λ i below. proper_at 
 
     proper_at : (b : Bool) (i : ℕ) → nat_lt i (length names) ≡ b → i < length (names ++ name ∷ []) → is_name (name_at (names ++ name ∷ []) i) ≡ true
     proper_at true i is below = ap is_name (at-old names (name ∷ []) i (within i is)) ∙ are.proper i (within i is)
-    proper_at false i is below = subst (λ (k : ℕ). is_name (name_at (names ++ name ∷ []) k) ≡ true) (last i is below) (ap is_name (at-new names [] name) ∙ proper)
+    proper_at false i is below = subst (λ (k : ℕ). is_name (name_at (names ++ name ∷ []) k) ≡ true) (last i is below) (ap is_name (name_at_seam names [] name) ∙ proper)
 
     placed_at : (b : Bool) (i : ℕ) → nat_lt i (length names) ≡ b → i < length (names ++ name ∷ []) → place_of (names ++ name ∷ []) (name_at (names ++ name ∷ []) i) ≡ Some i
     placed_at true i is below =
         let placed = are.placed i (within i is) in
         ap (place_of (names ++ name ∷ [])) (at-old names (name ∷ []) i (within i is)) ∙ place_else names name (name_at names i) (other-name names name (name_at names i) i none placed) ∙ placed
     placed_at false i is below =
-        subst (λ (k : ℕ). place_of (names ++ name ∷ []) (name_at (names ++ name ∷ []) k) ≡ Some k) (last i is below) (ap (place_of (names ++ name ∷ [])) (at-new names [] name) ∙ place_there names name none)
+        subst (λ (k : ℕ). place_of (names ++ name ∷ []) (name_at (names ++ name ∷ []) k) ≡ Some k) (last i is below) (ap (place_of (names ++ name ∷ [])) (name_at_seam names [] name) ∙ place_there names name none)
 
 session-named : (u : Script) (ws : List Word) (t : Script) → SessionStep u ws t → IsNamed u → IsNamed t
 session-named u ws t x is =
@@ -110,13 +107,6 @@ step-named u ws t (buffers_step x) is = let m = x.made in same-names u t (ap (λ
 step-named u ws t (pair_step x) is = let m = x.made in same-names u t (ap (λ (s : Script). s.setup.sessions) m) (ap (λ (s : Script). s.setup.probes) m) (ap (λ (s : Script). s.sessions) m) (ap (λ (s : Script). s.probes) m) is
 step-named u ws t (fence_step x) is = let m = x.made in same-names u t (ap (λ (s : Script). s.setup.sessions) m) (ap (λ (s : Script). s.setup.probes) m) (ap (λ (s : Script). s.sessions) m) (ap (λ (s : Script). s.probes) m) is
 
-step-lines : (u : Script) (ws : List Word) (t : Script) → Step u ws t → t.lines ≡ u.lines
-step-lines u ws t (session_step x) = ap (λ (s : Script). s.lines) x.made
-step-lines u ws t (size_step x) = ap (λ (s : Script). s.lines) x.made
-step-lines u ws t (buffers_step x) = ap (λ (s : Script). s.lines) x.made
-step-lines u ws t (pair_step x) = ap (λ (s : Script). s.lines) x.made
-step-lines u ws t (fence_step x) = ap (λ (s : Script). s.lines) x.made
-
 -- ---- one line more
 
 kept-on : (n : ℕ) (s : Script) → Kept n s → Kept (n + 1) s
@@ -127,7 +117,7 @@ kept-at n u t same kept = let P : Script → Type 0 = Kept n in subst P same kep
 
 head-kept : (n : ℕ) (u : Script) (ws : List Word) (t : Script) → Step u ws t → Kept n u → Kept (n + 1) t
 head-kept n u ws t step kept =
-    let lines = step-lines u ws t step in
+    let lines = lines_kept u ws t step in
     let few = kept.few in
     record {
       named = step-named u ws t step kept.named;

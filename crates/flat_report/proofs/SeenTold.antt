@@ -19,7 +19,8 @@ use Rattle.flat_report.specs.Report.{begin_of, hits_at, is_probe, probe_lines_of
 use Rattle.flat_report.specs.Words.{Word, number, name_at, actor_name}
 use Rattle.flat_report.proofs.Named.{IsNamed, is_spoken, name-word, not-display, no-probe-name, actor-word}
 use Rattle.flat_report.proofs.Openings.{NoEntry, NoLoss, lost_words}
-use Rattle.flat_report.proofs.Sheets.{and-both, behind-words, laid, line_on, sheet, told, told-next, laid-same, number-word}
+use Rattle.flat_report.proofs.Sheets.{behind-words, laid, line_on, sheet, told, told-next, laid-same, number-word}
+use Rattle.std.proofs.lemmas.Bool.{and_parts}
 
 -- ---- the lines of probes
 
@@ -34,7 +35,7 @@ is_of_probe most line = probe_below most line.actor && is_spoken line.actor line
 of-one : (most n : ℕ) (lines : List ScriptLine) → n < most → list_all (λ (line : ScriptLine). is_spoken line.actor line.body) lines ≡ true → list_all (is_of_probe most) (probe_lines_of n lines) ≡ true
 of-one most n [] below spoken = refl
 of-one most n (line ∷ lines) below spoken =
-    let parts = and-both (is_spoken line.actor line.body) (list_all (λ (line : ScriptLine). is_spoken line.actor line.body) lines) spoken in
+    let parts = and_parts (is_spoken line.actor line.body) (list_all (λ (line : ScriptLine). is_spoken line.actor line.body) lines) spoken in
     by_test (is_probe n line.actor) refl parts.0 (of-one most n lines below parts.1)
   where
     of_it : (actor : Actor) (text : Body) (number : ℕ) → is_probe n actor ≡ true → is_spoken actor text ≡ true → is_of_probe most (record { number = number; actor = actor; body = text }) ≡ true
@@ -88,7 +89,7 @@ of-probe most line fine = by_actor line.actor refl fine
   where
     by_actor : (actor : Actor) → line.actor ≡ actor → is_of_probe most (record { number = line.number; actor = actor; body = line.body }) ≡ true → OfProbe most line
     by_actor (Probe p) is fine =
-        let parts = and-both (nat_lt p most) (is_spoken (Probe p) line.body) fine in
+        let parts = and_parts (nat_lt p most) (is_spoken (Probe p) line.body) fine in
         let less = parts.0 in
         record { p = p; is = is; below = grind (arith, nat_tests); spoken = ap (λ (a : Actor). is_spoken a line.body) is ∙ parts.1 }
     by_actor Display is fine = absurd (let e : false ≡ true = fine in cc)
@@ -123,9 +124,9 @@ seen-told script history most frames [] [] (f' ∷ seen') a a' few of many many'
 seen-told script history most frames (line ∷ lines) [] seen' a a' few of many many' low low' is = absurd (longer (length lines) many)
 seen-told script history most frames (line ∷ lines) (f ∷ seen) [] a a' few of many many' low low' is = absurd (longer (length lines) many')
 seen-told script history most frames (line ∷ lines) (f ∷ seen) (f' ∷ seen') a a' few of many many' low low' is =
-    let ofs = and-both (is_of_probe most line) (list_all (is_of_probe most) lines) of in
-    let lows = and-both (nat_le f frames) (list_all (λ f. nat_le f frames) seen) low in
-    let lows' = and-both (nat_le f' frames) (list_all (λ f. nat_le f frames) seen') low' in
+    let ofs = and_parts (is_of_probe most line) (list_all (is_of_probe most) lines) of in
+    let lows = and_parts (nat_le f frames) (list_all (λ f. nat_le f frames) seen) low in
+    let lows' = and_parts (nat_le f' frames) (list_all (λ f. nat_le f frames) seen') low' in
     let here = one-seen script history most line f f' (sheet (map (seen_line script history) (zip lines seen)) a) (sheet (map (seen_line script history) (zip lines seen')) a')
     (low-frame frames f few lows.0) (low-frame frames f' few lows'.0) (of-probe most line ofs.0) is in
     let later = seen-told script history most frames lines seen seen' a a' few ofs.1 (one-longer (length seen) (length lines) many) (one-longer (length seen') (length lines) many') lows.1 lows'.1 here.1 in
@@ -147,7 +148,7 @@ module _ (script : Script) (named : IsNamed script) where
   seen-no-entry history [] seen rest of none = none
   seen-no-entry history (line ∷ lines) [] rest of none = none
   seen-no-entry history (line ∷ lines) (f ∷ seen) rest of none = λ frames hits entry rest' acting is.
-      let it = of-probe script.setup.probes line (and-both (is_of_probe script.setup.probes line) (list_all (is_of_probe script.setup.probes) lines) of).0 in
+      let it = of-probe script.setup.probes line (and_parts (is_of_probe script.setup.probes line) (list_all (is_of_probe script.setup.probes) lines) of).0 in
       let name = probe-proper line it in
       let word = ap (λ (w : Word). list_all (nat_lt 32) w) name.0 ∙ name-word (name_at script.probes it.p) (named.probes.proper it.p name.1) in
       let same = (told (actor_name script line.actor) (actor_name script entry.actor) (number line.number ∷ seen_words script history f line.body) (said_words script frames hits entry.line entry.kind entry.reply)
@@ -158,7 +159,7 @@ module _ (script : Script) (named : IsNamed script) where
   seen-no-loss history [] seen rest of none = none
   seen-no-loss history (line ∷ lines) [] rest of none = none
   seen-no-loss history (line ∷ lines) (f ∷ seen) rest of none = λ one rest' is.
-      let it = of-probe script.setup.probes line (and-both (is_of_probe script.setup.probes line) (list_all (is_of_probe script.setup.probes) lines) of).0 in
+      let it = of-probe script.setup.probes line (and_parts (is_of_probe script.setup.probes line) (list_all (is_of_probe script.setup.probes) lines) of).0 in
       let name = probe-proper line it in
       let proper = named.probes.proper it.p name.1 in
       let word = ap (λ (w : Word). list_all (nat_lt 32) w) name.0 ∙ name-word (name_at script.probes it.p) proper in

@@ -5,6 +5,7 @@ use Rattle.std.specs.Fmt.{digits, digits_onto, digit_glyph}
 use Rattle.std.proofs.lemmas.Bool.Decides.{nat_tests}
 use Rattle.std.proofs.lemmas.List.{append_cancel_left}
 use Rattle.flat_report.specs.Words.{Word, spaced, line_of, text_of, number}
+use Rattle.std.proofs.lemmas.Bool.{and_parts, and_from}
 
 -- ---- texts from the front
 
@@ -72,10 +73,6 @@ sheet-same (words ∷ lines) a b is = sheet-same lines a b (line-same words (she
 abbrev pub is_word : Word → Bool
 is_word w = list_all (nat_lt 32) w
 
-pub and-both : (a b : Bool) → (a && b) ≡ true → (a ≡ true) × (b ≡ true)
-and-both true b is = (refl, is)
-and-both false b is = absurd (cc)
-
 split-differs : (b c : ℕ) → nat_lt 32 b ≡ true → nat_lt 32 c ≡ false → b ≡ c → ⊥
 split-differs b c high low is = cc
 
@@ -86,12 +83,12 @@ word-told : (w v : Word) (c d : ℕ) (xs ys : List ℕ) → is_word w ≡ true �
     → w ++ c ∷ xs ≡ v ++ d ∷ ys → (w ≡ v) × (c ∷ xs ≡ d ∷ ys)
 word-told [] [] c d xs ys of_w of_v low_c low_d is = (refl, is)
 word-told [] (b ∷ v) c d xs ys of_w of_v low_c low_d is =
-    absurd (split-differs b c (and-both (nat_lt 32 b) (is_word v) of_v).0 low_c (sym (heads c b xs (v ++ d ∷ ys) is).0))
+    absurd (split-differs b c (and_parts (nat_lt 32 b) (is_word v) of_v).0 low_c (sym (heads c b xs (v ++ d ∷ ys) is).0))
 word-told (b ∷ w) [] c d xs ys of_w of_v low_c low_d is =
-    absurd (split-differs b d (and-both (nat_lt 32 b) (is_word w) of_w).0 low_d (heads b d (w ++ c ∷ xs) ys is).0)
+    absurd (split-differs b d (and_parts (nat_lt 32 b) (is_word w) of_w).0 low_d (heads b d (w ++ c ∷ xs) ys is).0)
 word-told (a ∷ w) (b ∷ v) c d xs ys of_w of_v low_c low_d is =
     let first = heads a b (w ++ c ∷ xs) (v ++ d ∷ ys) is in
-    let later = word-told w v c d xs ys (and-both (nat_lt 32 a) (is_word w) of_w).1 (and-both (nat_lt 32 b) (is_word v) of_v).1 low_c low_d first.1 in
+    let later = word-told w v c d xs ys (and_parts (nat_lt 32 a) (is_word w) of_w).1 (and_parts (nat_lt 32 b) (is_word v) of_v).1 low_c low_d first.1 in
     (ap (λ x. x ∷ w) first.0 ∙ ap (λ t. b ∷ t) later.0, later.1)
 
 -- the first words of two lines that begin the same text
@@ -117,14 +114,10 @@ glyph d low = let one : nat_lt d 10 ≡ true = grind (arith, nat_tests) in rw on
     digit : (d : ℕ) → d < 10 → (nat_le 48 (48 + d) && nat_le (48 + d) 57) ≡ true
     digit d low = grind (arith, nat_tests)
 
-both : (a b : Bool) → a ≡ true → b ≡ true → (a && b) ≡ true
-both true b p q = q
-both false b p q = absurd (cc)
-
 digits-onto : (k n : ℕ) (acc : List ℕ) → list_all is_digit acc ≡ true → list_all is_digit (digits_onto k 10 false n acc) ≡ true
 digits-onto zero n acc fine = fine
 digits-onto (suc k) n acc fine =
-    let more : list_all is_digit (digit_glyph false (n % 10) ∷ acc) ≡ true = both (is_digit (digit_glyph false (n % 10))) (list_all is_digit acc) (glyph (n % 10) (omega arith)) fine in
+    let more : list_all is_digit (digit_glyph false (n % 10) ∷ acc) ≡ true = and_from (is_digit (digit_glyph false (n % 10))) (list_all is_digit acc) (glyph (n % 10) (omega arith)) fine in
     by_last (n / 10 == 0) (digit_glyph false (n % 10) ∷ acc) (digits_onto k 10 false (n / 10) (digit_glyph false (n % 10) ∷ acc)) more (digits-onto k (n / 10) (digit_glyph false (n % 10) ∷ acc) more)
   where
     by_last : (b : Bool) (xs ys : List ℕ) → list_all is_digit xs ≡ true → list_all is_digit ys ≡ true → list_all is_digit (cond b xs ys) ≡ true
@@ -138,8 +131,8 @@ number-digits n = digits-onto 64 n [] refl
 digits-word : (xs : List ℕ) → list_all is_digit xs ≡ true → is_word xs ≡ true
 digits-word [] fine = refl
 digits-word (c ∷ xs) fine =
-    let parts = and-both (is_digit c) (list_all is_digit xs) fine in
-    both (nat_lt 32 c) (is_word xs) (high c (and-both (nat_le 48 c) (nat_le c 57) parts.0).0) (digits-word xs parts.1)
+    let parts = and_parts (is_digit c) (list_all is_digit xs) fine in
+    and_from (nat_lt 32 c) (is_word xs) (high c (and_parts (nat_le 48 c) (nat_le c 57) parts.0).0) (digits-word xs parts.1)
   where
     high : (c : ℕ) → nat_le 48 c ≡ true → nat_lt 32 c ≡ true
     high c fine = grind (arith, nat_tests)

@@ -15,9 +15,8 @@ use Rattle.flat_scene.specs.History.{◌▹◌, own, is_session, is_display}
 use Rattle.flat_scene.specs.Interleave.{Follows, FollowsDisplay, IsFirstLine, IsNext, Interleaves, IsReading, Next, next_of, session_lines, display_lines, by_display, unread_lines}
 use Rattle.flat_scene.specs.Setups.{is_declared}
 use Rattle.flat_rules.specs.Legal.{Legal, may_act, session_may}
-use Rattle.flat_report.proofs.Sheets.{and-both}
 use Rattle.flat_report.proofs.Tails.{onto}
-use Rattle.std.proofs.lemmas.Bool.{eq-eqb}
+use Rattle.std.proofs.lemmas.Bool.{and_parts, eq-eqb}
 
 -- ---- the sessions that are declared
 
@@ -87,7 +86,7 @@ module _ (setup : Setup) (count : ℕ) (lines : List ScriptLine) where
   determined (Session s) before e e' is is' acts follows follows' =
       let own_e : is_session s e.actor ≡ true = rw is (eq-eqb s.0 s.0 refl) in
       let own_e' : is_session s e'.actor ≡ true = rw is' (eq-eqb s.0 s.0 refl) in
-      let declared : is_declared setup s ≡ true = (and-both (session_may e.kind) (is_declared setup s) (acts-at (Session s) e is acts)).1 in
+      let declared : is_declared setup s ≡ true = (and_parts (session_may e.kind) (is_declared setup s) (acts-at (Session s) e is acts)).1 in
       same-next (next_of setup count (own s before) (session_lines s lines)) e e' (session-next s before e own_e (follows.sessions s declared)) (session-next s before e' own_e' (follows'.sessions s declared))
   determined Display before e e' is is' acts follows follows' =
       same-first (unread_lines (by_display before) (display_lines lines)) e e' (display-next before e is follows.display) (display-next before e' is' follows'.display)

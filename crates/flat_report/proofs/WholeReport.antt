@@ -16,9 +16,10 @@ use Rattle.flat_report.proofs.Losses.{losses-same}
 use Rattle.flat_report.proofs.Openings.{NoEntry, NoLoss, end-no-entry, end-no-loss}
 use Rattle.flat_report.proofs.Reading.{Kept, read-kept}
 use Rattle.flat_report.proofs.SeenTold.{probe-lines-are, seen-no-entry, seen-no-loss, seen-told}
-use Rattle.flat_report.proofs.Sheets.{and-both, line_on, sheet, sheet-append, line-same, text-is}
+use Rattle.flat_report.proofs.Sheets.{line_on, sheet, sheet-append, line-same, text-is}
 use Rattle.flat_report.proofs.Tails.{onto, onto-reverse, tail, grows}
 use Rattle.flat_report.proofs.Turns.{Stands, stands}
+use Rattle.std.proofs.lemmas.Bool.{and_parts}
 
 -- a history is its entries, from the oldest on
 from-oldest : (history : List Entry) → onto [] (reverse history) ≡ history
@@ -56,8 +57,8 @@ module _ (script : Script) where
 
   sees : (history : List Entry) (lost : List Lost) (seen : List ℕ) → IsRun script history lost seen → Sees history seen
   sees history lost seen run =
-      let two = (and-both ((length seen == length (probe_lines script)) && list_all (λ f. nat_le f (frames history)) seen) (never_falls (zip (probe_lines script) seen)) run.seeing).0 in
-      let parts = and-both (length seen == length (probe_lines script)) (list_all (λ f. nat_le f (frames history)) seen) two in
+      let two = (and_parts ((length seen == length (probe_lines script)) && list_all (λ f. nat_le f (frames history)) seen) (never_falls (zip (probe_lines script) seen)) run.seeing).0 in
+      let parts = and_parts (length seen == length (probe_lines script)) (list_all (λ f. nat_le f (frames history)) seen) two in
       let count = parts.0 in
       record { long = grind (arith, nat_tests); low = parts.1 }
 

@@ -43,6 +43,7 @@ use Rattle.flat_script.specs.Calls.{call_form, call_named, call_names, text, no_
 use Rattle.flat_script.specs.Known.{known_words}
 use Rattle.flat_script.specs.Print.{name_at, pair_word, buffers_word, fence_word, call_fields, call_name, rect_words, inset_words, region_words, orientation_number, blend_number, flip_number, interaction_number}
 use Rattle.flat_script.proofs.FormLemmas.{mapped_ok, unless_ok, Gives, apply_ok, map_ok, place_ok, whole_ok, or_kind_ok, both_ok, Shown, shown_whole}
+use Rattle.flat_script.proofs.ParserLemmas.{is_zero}
 
 -- a form that gives a value takes the words that spell it, whatever stands behind them
 pub record Spells {A : Type 0} (form : Form A) (spell : A → List Word) : Type 0 where
@@ -602,9 +603,6 @@ all_four true true true false is = absurd (cc)
 all_four true true false s is = absurd (cc)
 all_four true false r s is = absurd (cc)
 all_four false q r s is = absurd (cc)
-
-is_zero : (n : ℕ) → (n == 0) ≡ true → n ≡ 0
-is_zero n is = grind (arith, nat_tests)
 
 no_inset_is : (i : Inset) → has_no_inset i ≡ true → no_inset ≡ i
 no_inset_is i is =

@@ -16,10 +16,7 @@ use Rattle.flat_script.specs.Head.{head_line, display_line, session_line, buffer
 use Rattle.flat_script.proofs.FormLemmas.{Gives, apply_ok, map_ok, place_ok, whole_ok, unless_ok, mapped_ok, or_kind_ok}
 use Rattle.flat_script.proofs.IndexLemmas.{new_name_ok}
 use Rattle.flat_script.proofs.StepLemmas.{SizeStep, SessionStep, BuffersStep, PairStep, FenceStep, Step, size_step, session_step, buffers_step, pair_step, fence_step}
-
-not_true : (b : Bool) → not b ≡ true → b ≡ false
-not_true false h = refl
-not_true true h = absurd (cc)
+use Rattle.std.proofs.lemmas.Bool.{not-true}
 
 tested_word : (b : Bool) (w v : Word) → cond {A = Reading Word} b (Ok w) (Err 4) ≡ Ok v → w ≡ v
 tested_word true w v is = cc
@@ -34,7 +31,7 @@ size_found : (u : Script) (words : List Word) (t : Script) → display_line u wo
 size_found u words t is =
     let m = mapped_ok (λ d. with_display u d.0 d.1) _ t is in
     let tested = unless_ok 4 (not (has_display u)) (whole size words) m.a m.given in
-    record { rest = words; w = m.a.0; h = m.a.1; begins = refl; first = not_true (has_display u) tested.passed; read = tested.given; made = sym m.value }
+    record { rest = words; w = m.a.0; h = m.a.1; begins = refl; first = not-true (has_display u) tested.passed; read = tested.given; made = sym m.value }
 
 session_found : (u : Script) (words : List Word) (t : Script) → session_line u words ≡ Ok t → SessionStep u (codes "session" ∷ words) t
 session_found u words t is =
@@ -82,7 +79,7 @@ pair_found u words t is =
       begins = ap (λ r. codes "pair" ∷ r) (new_name_word u words first.a next.mid first.given ∙ ap (λ r. first.a ∷ r) (x.begins ∙ ap (λ r. x.word ∷ r) y.begins));
       room = tested.passed;
       fresh = new_name_ok u words first.a next.mid first.given;
-      single = not_true _ lone.passed;
+      single = not-true _ lone.passed;
       viewport = or_kind_ok 9 _ next.a lone.given;
       view = or_kind_ok 9 _ last.a y.passes;
       made = sym m.value ∙ ap (λ d. with_pair u d.0 d.1) (sym value);

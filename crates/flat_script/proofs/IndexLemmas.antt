@@ -1,5 +1,5 @@
 -- The index of names after one more name.
-use Rattle.std.proofs.Common.{◌≡◌, ℕ, ◌+◌, ◌≤◌, ◌==◌, Bool, true, false, ◌||◌, ◌&&◌, not, cond, nat_lt, List, [], ◌∷◌, ◌++◌, length, Option, Some, None, is_some, Ok, Err, refl, sym, ◌∙◌, ap, arith, length-append, if◌then◌else◌}
+use Rattle.std.proofs.Common.{◌≡◌, ℕ, ◌+◌, ◌≤◌, ◌==◌, Bool, true, false, ◌&&◌, not, cond, nat_lt, List, [], ◌∷◌, ◌++◌, length, Option, Some, None, is_some, Ok, Err, refl, sym, ◌∙◌, ap, arith, length-append, if◌then◌else◌}
 use Rattle.std.proofs.lemmas.Bool.Decides.{nat_tests, same_from_decides, Decides-like}
 use Rattle.std.proofs.lemmas.List.Sums.{prefix_len-le-length}
 use Rattle.std.proofs.lemmas.Slice.Eq.{bytes_eq-Decides}
@@ -17,6 +17,7 @@ use Rattle.flat_script.specs.Names.{place_of, is_name, is_declared}
 use Rattle.flat_script.specs.Head.{new_name, with_session, with_buffers, with_pair, with_fence}
 use Rattle.flat_script.specs.Index.{Means, session_place, probe_place, buffers_place, pair_place, fence_place}
 use Rattle.flat_script.proofs.FormLemmas.{Gives, place_ok}
+use Rattle.std.proofs.lemmas.Bool.{or_parts}
 
 -- a name that may be declared
 pub record IsFresh (s : Script) (w : Word) : Type 0 where
@@ -103,21 +104,17 @@ pub record NoPlace (s : Script) (w : Word) : Type 0 where
   pub pairs : place_of s.pairs w ≡ None
   pub fences : place_of s.fences w ≡ None
 
-or_false : (a b : Bool) → (a || b) ≡ false → (a ≡ false) × (b ≡ false)
-or_false true b h = absurd (cc)
-or_false false b h = (refl, h)
-
 none : {A : Type 0} (o : Option A) → is_some o ≡ false → o ≡ None
 none None h = refl
 none (Some a) h = absurd (cc)
 
 pub no_place : (s : Script) (w : Word) → is_declared s w ≡ false → NoPlace s w
 no_place s w fresh =
-    let one = or_false (is_some (place_of s.sessions w)) _ fresh in
-    let two = or_false (is_some (place_of s.probes w)) _ one.1 in
-    let three = or_false (is_some (place_of s.buffers w)) _ two.1 in
-    let four = or_false (is_some (place_of s.pairs w)) _ three.1 in
-    let five = or_false (is_some (place_of s.fences w)) _ four.1 in
+    let one = or_parts (is_some (place_of s.sessions w)) _ fresh in
+    let two = or_parts (is_some (place_of s.probes w)) _ one.1 in
+    let three = or_parts (is_some (place_of s.buffers w)) _ two.1 in
+    let four = or_parts (is_some (place_of s.pairs w)) _ three.1 in
+    let five = or_parts (is_some (place_of s.fences w)) _ four.1 in
     record { sessions = none _ one.0; probes = none _ two.0; buffers = none _ three.0; pairs = none _ four.0; fences = none _ five.0 }
 
 pub finds_sessions : (s : Script) (name w : Word) (o o' : Option Meaning) → IsFresh s name → o' ≡ cond (bytes_eq w name) (Some (Session (length s.sessions))) o → Means o s w → Means o' (with_session s name) w

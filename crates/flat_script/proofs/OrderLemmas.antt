@@ -26,6 +26,7 @@ use Rattle.flat_script.specs.Print.{spelled}
 use Rattle.flat_script.proofs.WordLemmas.{numbered-append}
 use Rattle.flat_script.proofs.StepLemmas.{SizeStep, SessionStep, BuffersStep, PairStep, FenceStep, Step, size_step, session_step, buffers_step, pair_step, fence_step, sort}
 use Rattle.flat_script.proofs.SwapLemmas.{swap}
+use Rattle.std.proofs.lemmas.Bool.{and_parts}
 
 -- chains of steps, none of an earlier sort than k
 
@@ -147,23 +148,19 @@ passes_by : (p : ℕ → Bool) (n v : ℕ) (b : Bool) → p n ≡ b → cond b (
 passes_by p n v true at is = let e : n ≡ v = cc in ap p (sym e) ∙ at
 passes_by p n v false at is = absurd (cc)
 
-test_passes : (p : ℕ → Bool) (o : Option ℕ) (v : ℕ) → option_and_then (λ n. if p n then Some n else None) o ≡ Some v → p v ≡ true
+pub test_passes : (p : ℕ → Bool) (o : Option ℕ) (v : ℕ) → option_and_then (λ n. if p n then Some n else None) o ≡ Some v → p v ≡ true
 test_passes p None v is = absurd (cc)
 test_passes p (Some n) v is = passes_by p n v (p n) refl is
-
-and_first : (a b : Bool) → (a && b) ≡ true → a ≡ true
-and_first true b h = refl
-and_first false b h = h
 
 range_ok : (least most : ℕ) (w : Word) (n : ℕ) → (number_from least most (w ∷ [])).0 ≡ Ok n → (decimal n ≡ w) × (nat_le least n ≡ true)
 range_ok least most w n is =
     let found = or_kind_ok 7 _ n is in
     let test = λ (k : ℕ). nat_le least k && nat_le k most in
-    ((decimal-natural w n (test_ok test (natural w) n found)).0, and_first (nat_le least n) (nat_le n most) (test_passes test (natural w) n found))
+    ((decimal-natural w n (test_ok test (natural w) n found)).0, (and_parts (nat_le least n) (nat_le n most) (test_passes test (natural w) n found)).0)
 
 -- names behind more names
 
-name_at_seam : (names ys : List Word) (n : Word) → name_at (names ++ n ∷ ys) (length names) ≡ n
+pub name_at_seam : (names ys : List Word) (n : Word) → name_at (names ++ n ∷ ys) (length names) ≡ n
 name_at_seam names ys n = ap (λ o. unwrap_or o []) (slice_get-get_or (names ++ n ∷ ys) (length names) [] (omega (arith, length-append names (n ∷ ys)))) ∙ get_or-append_seam names n ys []
 
 name_at_end : (names ys : List Word) (n : Word) (k : ℕ) → k ≡ length names → name_at ((names ++ n ∷ []) ++ ys) k ≡ n

@@ -11,18 +11,12 @@ use Rattle.flat_scene.specs.declared.script.ScriptLine.{ScriptLine}
 use Rattle.flat_script.specs.Names.{is_actor}
 use Rattle.flat_script.specs.Slots.{slot, IsCounted}
 use Rattle.flat_script.specs.Body.{greatest, time_begun, ends_frame}
-
-or_assoc : (a b c : Bool) → (a || (b || c)) ≡ ((a || b) || c)
-or_assoc true b c = refl
-or_assoc false b c = refl
-
-or_false : (c : Bool) → c ≡ (c || false)
-or_false true = refl
-or_false false = refl
+use Rattle.std.proofs.lemmas.Bool.{and_parts}
+use Rattle.std.proofs.Math.Bool.{or-false, or_assoc}
 
 one_more : {A : Type 0} (p : A → Bool) (x : A) (ys : List A) → (list_any p ys || p x) ≡ list_any p (ys ++ x ∷ [])
-one_more p x [] = or_false (p x)
-one_more p x (y ∷ ys) = sym (or_assoc (p y) (list_any p ys) (p x)) ∙ ap (λ c. p y || c) (one_more p x ys)
+one_more p x [] = sym (or-false (p x))
+one_more p x (y ∷ ys) = or_assoc (p y) (list_any p ys) (p x) ∙ ap (λ c. p y || c) (one_more p x ys)
 
 pub any_more : {A : Type 0} (p : A → Bool) (xs ys : List A) (x : A) (a b : Bool) → ys ≡ xs ++ x ∷ [] → a ≡ list_any p xs → b ≡ (a || p x) → b ≡ list_any p ys
 any_more p xs ys x a b now here there = there ∙ ap (λ y. y || p x) here ∙ one_more p x xs ∙ ap (list_any p) (sym now)
@@ -98,14 +92,10 @@ abbrev pub all_zeros : List ℕ → Bool
 all_zeros [] = true
 all_zeros (x ∷ xs) = (x == 0) && all_zeros xs
 
-and_true : (a b : Bool) → (a && b) ≡ true → (a ≡ true) × (b ≡ true)
-and_true true b h = (refl, h)
-and_true false b h = absurd (cc)
-
-is_zero : (x : ℕ) → (x == 0) ≡ true → x ≡ 0
+pub is_zero : (x : ℕ) → (x == 0) ≡ true → x ≡ 0
 is_zero x h = grind (arith, nat_tests)
 
 pub zeros_at : (xs : List ℕ) (k : ℕ) → all_zeros xs ≡ true → get_or xs k 0 ≡ 0
 zeros_at [] k none = refl
-zeros_at (x ∷ xs) zero none = is_zero x (and_true (x == 0) (all_zeros xs) none).0
-zeros_at (x ∷ xs) (suc k) none = zeros_at xs k (and_true (x == 0) (all_zeros xs) none).1
+zeros_at (x ∷ xs) zero none = is_zero x (and_parts (x == 0) (all_zeros xs) none).0
+zeros_at (x ∷ xs) (suc k) none = zeros_at xs k (and_parts (x == 0) (all_zeros xs) none).1

@@ -38,7 +38,7 @@ next_by : (n : ℕ) (sofar : Sofar) (l : List ℕ) (ls : List (List ℕ)) (s : S
 next_by n sofar l ls s (Ok next) e is = record { next = next; read = e; rest = rw e at is }
 next_by n sofar l ls s (Err k) e is = absurd (let wrong = rw e at is in cc)
 
-next_ok : (n : ℕ) (sofar : Sofar) (l : List ℕ) (ls : List (List ℕ)) (s : Script) → lines_read known_words n sofar (l ∷ ls) ≡ Ok s → NextOk n sofar l ls s
+pub next_ok : (n : ℕ) (sofar : Sofar) (l : List ℕ) (ls : List (List ℕ)) (s : Script) → lines_read known_words n sofar (l ∷ ls) ≡ Ok s → NextOk n sofar l ls s
 next_ok n sofar l ls s is = next_by n sofar l ls s (line_read known_words n sofar l) refl is
 
 goes_on : (n : ℕ) (sofar next : Sofar) (l : List ℕ) (ls : List (List ℕ)) → line_read known_words n sofar l ≡ Ok next → lines_read known_words n sofar (l ∷ ls) ≡ lines_read known_words (n + 1) next ls
@@ -55,7 +55,7 @@ line_by n sofar next l true true r a b c is = absurd (cc)
 line_by n sofar next l true false true a b c is = inl (cc)
 line_by n sofar next l true false false a b c is = inr (record { line = line_words_of l a b c; words = is })
 
-line_ok : (n : ℕ) (sofar next : Sofar) (l : List ℕ) → line_read known_words n sofar l ≡ Ok next → (sofar ≡ next) ⊎ Read n sofar next l
+pub line_ok : (n : ℕ) (sofar next : Sofar) (l : List ℕ) → line_read known_words n sofar l ≡ Ok next → (sofar ≡ next) ⊎ Read n sofar next l
 line_ok n sofar next l is = line_by n sofar next l (list_all is_plain l) (nat_lt 1024 (length l)) (is_skipped l) refl refl refl is
 
 spelled_read : (n : ℕ) (sofar : Sofar) (ws : List Word) → IsLine ws → line_read known_words n sofar (spelled ws) ≡ words_read known_words n sofar ws
@@ -171,7 +171,7 @@ skipped_line h us ms m l ls s run = record {
 abbrev BodyRuns : Script → List (List ℕ) → Script → Type 0
 BodyRuns h ls s = (us ms : List ScriptLine) (n m : ℕ) → SameLines us ms → lines_read known_words n (part.Body, with_lines h us) ls ≡ Ok s → BodyRun h us ms m ls s
 
-read_at : (n : ℕ) (a b : Sofar) (ls : List (List ℕ)) (s : Script) → a ≡ b → lines_read known_words n b ls ≡ Ok s → lines_read known_words n a ls ≡ Ok s
+pub read_at : (n : ℕ) (a b : Sofar) (ls : List (List ℕ)) (s : Script) → a ≡ b → lines_read known_words n b ls ≡ Ok s → lines_read known_words n a ls ≡ Ok s
 read_at n a b ls s e is = ap (λ x. lines_read known_words n x ls) e ∙ is
 
 body_by : (h : Script) (ls : List (List ℕ)) (us ms : List ScriptLine) (n m : ℕ) (s : Script) (l : List ℕ) (next : NextOk n (part.Body, with_lines h us) l ls s) → SameLines us ms

@@ -1,5 +1,5 @@
 -- Lines and words of a canonical text.
-use Rattle.std.proofs.Common.{zero, suc, get_or, ◌≡◌, ℕ, ◌+◌, ◌<◌, ◌≤◌, ◌==◌, ◌&&◌, ◌||◌, cond, Bool, true, false, nat_lt, nat_le, List, [], ◌∷◌, ◌++◌, length, map, refl, sym, ◌∙◌, ap, arith, append-nil, append_assoc, length-append}
+use Rattle.std.proofs.Common.{zero, suc, get_or, ◌≡◌, ℕ, ◌+◌, ◌<◌, ◌≤◌, ◌==◌, ◌||◌, cond, Bool, true, false, nat_lt, nat_le, List, [], ◌∷◌, ◌++◌, length, map, refl, sym, ◌∙◌, ap, arith, append-nil, append_assoc, length-append}
 use Rattle.std.specs.Prelude.{All}
 use Rattle.std.specs.List.{list_all, slice_split, onto_first, join_with_byte}
 use Rattle.std.proofs.lemmas.List.Splits.{length-slice_split, join_with_byte-slice_split, slice_split_at, slice_split_none}
@@ -9,6 +9,8 @@ use Rattle.flat_text.specs.Pieces.{is_feed, is_space, words_of, lines_of, withou
 use Rattle.flat_script.specs.Forms.{Word}
 use Rattle.flat_script.specs.Grammar.{is_plain, is_skipped}
 use Rattle.flat_script.specs.Print.{spelled, spaced, fed}
+use Rattle.std.proofs.lemmas.Bool.{and_parts}
+use Rattle.flat_script.proofs.WordLemmas.{spaced-append}
 
 spelled-join : (ws : List Word) → spelled ws ≡ join_with_byte 32 ws
 spelled-join [] = refl
@@ -31,10 +33,6 @@ line_words_of line plain short kept =
     record { plain = ap (list_all is_plain) same ∙ plain; short = ap (λ t. nat_lt 1024 (length t)) same ∙ short; kept = ap is_skipped same ∙ kept; words = ap words_of same }
 
 -- the front words of a line
-
-and_true : (a b : Bool) → (a && b) ≡ true → (a ≡ true) × (b ≡ true)
-and_true true b h = (refl, h)
-and_true false b h = absurd (cc)
 
 -- a first piece has no space, and the pieces behind it are those of what stands behind its space
 cut : (w t : List ℕ) (rest : List Word) → words_of (w ++ 32 ∷ t) ≡ w ∷ rest → (words_of w ≡ w ∷ []) × (words_of t ≡ rest)
@@ -72,15 +70,11 @@ front_words_of w (v ∷ more) behind is =
     let both = cut w (spelled (v ∷ more ++ behind)) (v ∷ more ++ behind) is in
     words_join w (spelled (v ∷ more)) ∙ ap (λ ps. ps ++ words_of (spelled (v ∷ more))) both.0 ∙ ap (λ ps. w ∷ ps) (front_words_of v more behind both.1)
 
-spaced-append : (xs ys : List Word) → spaced (xs ++ ys) ≡ spaced xs ++ spaced ys
-spaced-append [] ys = refl
-spaced-append (x ∷ xs) ys = ap (λ t. 32 ∷ (x ++ t)) (spaced-append xs ys) ∙ ap (λ t. 32 ∷ t) (sym (append_assoc x (spaced xs) (spaced ys)))
-
 spelled-append : (w : Word) (more behind : List Word) → spelled (w ∷ more ++ behind) ≡ spelled (w ∷ more) ++ spaced behind
 spelled-append w more behind = ap (λ t. w ++ t) (spaced-append more behind) ∙ sym (append_assoc w (spaced more) (spaced behind))
 
 plain_front : (xs ys : List ℕ) → list_all is_plain (xs ++ ys) ≡ true → list_all is_plain xs ≡ true
-plain_front xs ys plain = (and_true (list_all is_plain xs) (list_all is_plain ys) (sym (list_all-append is_plain xs ys) ∙ plain)).0
+plain_front xs ys plain = (and_parts (list_all is_plain xs) (list_all is_plain ys) (sym (list_all-append is_plain xs ys) ∙ plain)).0
 
 short_front : (xs ys : List ℕ) → nat_lt 1024 (length (xs ++ ys)) ≡ false → nat_lt 1024 (length xs) ≡ false
 short_front xs ys short = let long = length-append xs ys in grind (arith, nat_tests)
@@ -121,12 +115,12 @@ AllLines-append [] ys a b = b
 AllLines-append (x ∷ xs) ys a b = (a.0, AllLines-append xs ys a.1 b)
 
 no_feed : (b : ℕ) → is_plain b ≡ true → is_feed b ≡ false
-no_feed b h = let parts = and_true (nat_le 32 b) (nat_le b 126) h in let low = parts.0 in grind (arith, nat_tests)
+no_feed b h = let parts = and_parts (nat_le 32 b) (nat_le b 126) h in let low = parts.0 in grind (arith, nat_tests)
 
 no_feed_at : (xs : List ℕ) → list_all is_plain xs ≡ true → (k d : ℕ) → k < length xs → is_feed (get_or xs k d) ≡ false
 no_feed_at [] h k d within = absurd (omega arith)
-no_feed_at (x ∷ xs) h zero d within = no_feed x (and_true (is_plain x) (list_all is_plain xs) h).0
-no_feed_at (x ∷ xs) h (suc k) d within = no_feed_at xs (and_true (is_plain x) (list_all is_plain xs) h).1 k d (omega arith)
+no_feed_at (x ∷ xs) h zero d within = no_feed x (and_parts (is_plain x) (list_all is_plain xs) h).0
+no_feed_at (x ∷ xs) h (suc k) d within = no_feed_at xs (and_parts (is_plain x) (list_all is_plain xs) h).1 k d (omega arith)
 
 no_feeds : (xs : List ℕ) → list_all is_plain xs ≡ true → All (λ x. is_feed x ≡ false) xs
 no_feeds xs h = λ k d within. no_feed_at xs h k d (omega arith)
@@ -169,10 +163,10 @@ onto_room : (x : ℕ) (parts : List (List ℕ)) → 0 < length parts → lines_r
 onto_room x [] some = absurd (omega arith)
 onto_room x (l ∷ ls) some = omega arith
 
-some_parts : (p : ℕ → Bool) (xs : List ℕ) → 0 < length (slice_split p xs)
+pub some_parts : (p : ℕ → Bool) (xs : List ℕ) → 0 < length (slice_split p xs)
 some_parts p xs = omega (arith, length-slice_split p xs)
 
-split_room : (p : ℕ → Bool) (xs : List ℕ) → lines_room (slice_split p xs) ≡ length xs + 1
+pub split_room : (p : ℕ → Bool) (xs : List ℕ) → lines_room (slice_split p xs) ≡ length xs + 1
 split_room p [] = refl
 split_room p (x ∷ xs) = by_test (p x) (split_room p xs) (some_parts p xs)
   where

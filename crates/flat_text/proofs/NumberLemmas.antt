@@ -1,5 +1,5 @@
 -- A word is a number just where it is the decimal text of that number.
-use Rattle.std.proofs.Common.{◌≡◌, ℕ, zero, suc, ◌+◌, ◌*◌, ◌-◌, ◌/◌, ◌%◌, ◌^◌, ◌<◌, ◌≤◌, ◌==◌, Bool, true, false, cond, List, [], ◌∷◌, ◌++◌, length, Option, Some, None, refl, sym, ◌∙◌, ap, arith, rules, append_assoc, ℤ, pos, negsuc, neg_ℤ, nat_lt, get_or, lit<, lit≤, ◌&&◌, if◌then◌else◌, tests, append-nil, length-append, ◌≢◌, unwrap_or, option_map}
+use Rattle.std.proofs.Common.{◌≡◌, ℕ, zero, suc, ◌+◌, ◌*◌, ◌-◌, ◌/◌, ◌%◌, ◌^◌, ◌<◌, ◌≤◌, ◌==◌, Bool, true, false, cond, List, [], ◌∷◌, ◌++◌, length, Option, Some, None, refl, sym, ◌∙◌, ap, arith, rules, append_assoc, ℤ, pos, negsuc, neg_ℤ, nat_lt, get_or, lit<, lit≤, if◌then◌else◌, tests, append-nil, length-append, ◌≢◌, unwrap_or, option_map}
 use Rattle.std.proofs.lemmas.Bool.Decides.{nat_tests}
 use Rattle.std.proofs.lemmas.Grind.{pow_more}
 use Rattle.std.proofs.Math.Nat.{pow-le-pow_right}
@@ -10,6 +10,7 @@ use Rattle.std.specs.Fmt.{decimal, signed_decimal}
 use Rattle.std.proofs.lemmas.Fmt.{decimal_is_IsNumeral_wide, decimal_step_wide, decimal_digit, decimal_by_steps_wide, length-decimal-le_wide}
 use Rattle.std.proofs.lemmas.Str.Parse.{IsNumeralModel, numerals_by_fold}
 use Rattle.flat_text.specs.Number.{digits_after, positive, natural, signed}
+use Rattle.std.proofs.lemmas.Bool.{and_parts}
 
 abbrev read_on : ℕ → List ℕ → ℕ
 read_on n [] = n
@@ -17,10 +18,6 @@ read_on n (c ∷ cs) = read_on (n * 10 + (c - 48)) cs
 
 own : IsNumeralModel (λ ds. all_ascii_digits ds ≡ true) (read_on 0)
 own = numerals_by_fold _ (search rules) read_on (search rules)
-
-and_true : (a b : Bool) → (a && b) ≡ true → (a ≡ true) × (b ≡ true)
-and_true true b h = (refl, h)
-and_true false b h = absurd (cc)
 
 -- a choice that gave a value
 chosen : {A : Type 0} (b : Bool) (x : Option A) (y : A) → (if b then x else None) ≡ Some y → (b ≡ true) × (x ≡ Some y)
@@ -33,7 +30,7 @@ digit_range c h = search (rules, tests)
 digits_after-read_on : (n : ℕ) (ds : List ℕ) → all_ascii_digits ds ≡ true → digits_after n ds ≡ Some (read_on n ds)
 digits_after-read_on n [] h = refl
 digits_after-read_on n (c ∷ cs) h =
-    let both = and_true (is_ascii_digit c) (all_ascii_digits cs) h in
+    let both = and_parts (is_ascii_digit c) (all_ascii_digits cs) h in
     rw both.0 (digits_after-read_on (n * 10 + (c - 48)) cs both.1)
 
 -- the digits of a number give the number

@@ -4,7 +4,7 @@ use Rattle.std.specs.Prelude.{◌==◌, ◌↔◌, IsTrue}
 use Rattle.std.specs.List.{Contains, list_any}
 use Rattle.std.proofs.lemmas.Bool.{cases_lt}
 use Rattle.std.proofs.lemmas.List.{get_or_past}
-use Rattle.std.proofs.lemmas.List.Folds.{list_any-append, list_any_more, list_any_at}
+use Rattle.std.proofs.lemmas.List.Folds.{list_any-append, list_any_more}
 use Rattle.flat_scene.specs.declared.setup.Setup.{Setup}
 use Rattle.flat_scene.specs.declared.trees.Children.{Children}
 use Rattle.flat_scene.specs.declared.trees.Children.TheVariants.{Empty}
@@ -25,6 +25,7 @@ use Rattle.flat_topology.proofs.Distinct.{in-contains, contains-in}
 use Rattle.flat_topology.proofs.Distances.{viewport-owner, below-one, below-none}
 use Rattle.flat_topology.proofs.Whole.{found-in, in-found, distance-low}
 use Rattle.flat_topology.proofs.Walking.{rooted-alone}
+use Rattle.std.proofs.Math.Bool.{or-false, or_assoc}
 
 -- ---- a search
 
@@ -33,22 +34,11 @@ got [] i x d e = absurd (cc)
 got (y ∷ xs) zero x d e = (omega arith, cc)
 got (y ∷ xs) (suc i) x d e = let rest = got xs i x d e in (omega (arith, rest.0), rest.1)
 
-pub any-found : {X : Type 0} (test : X → Bool) (xs : List X) (i : ℕ) (x : X) → slice_get xs i ≡ Some x → test x ≡ true → list_any test xs ≡ true
-any-found test xs i x at passes = let g = got xs i x x at in list_any_at test xs i x g.0 (ap test g.1 ∙ passes)
-
 pub any-next : {X : Type 0} (test : X → Bool) (xs : List X) (i : ℕ) (x : X) → slice_get xs i ≡ Some x → test x ≡ false → list_any test (take i xs) ≡ false
     → list_any test (take (i + 1) xs) ≡ false
 any-next test xs i x at fails before = let g = got xs i x x at in list_any_more test xs i x g.0 ∙ rw (before, g.1) fails
 
 -- ---- the viewports of a flat list
-
-or-false : (a : Bool) → (a || false) ≡ a
-or-false true = refl
-or-false false = refl
-
-or-assoc : (a b c : Bool) → (a || (b || c)) ≡ ((a || b) || c)
-or-assoc true b c = refl
-or-assoc false b c = refl
 
 any-pair : (p : ℕ) (what : Option Content) → list_any (λ q. q == p) (pair_in what) ≡ leads_to p what
 any-pair p None = refl
@@ -71,7 +61,7 @@ any-flat p next (first serial scale turn place clip opacity hits what children r
     let right : list_any (λ q. q == p) ((pair_in what ++ pairs_in children) ++ pairs_in rest) ≡ ((here || below) || after)
     = list_any-append (λ q. q == p) (pair_in what ++ pairs_in children) (pairs_in rest)
     ∙ ap (λ (b : Bool). b || after) (list_any-append (λ q. q == p) (pair_in what) (pairs_in children) ∙ ap (λ (b : Bool). b || below) (any-pair p what)) in
-    ap (λ (b : Bool). here || b) left ∙ or-assoc here below after ∙ sym right
+    ap (λ (b : Bool). here || b) left ∙ sym (or_assoc here below after) ∙ sym right
 
 pub shown-flat : (shown : Shown) (p s : ℕ) (tree shared : Tree) → tree ≡ shared → Some shared ≡ state_of shown s
     → list_any (λ n. leads_to p n.content) (flat_nodes tree) ≡ is_shown_by shown p s

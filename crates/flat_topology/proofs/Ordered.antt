@@ -10,6 +10,8 @@ use Rattle.flat_scene.proofs.Members.{IsIn, in-left, in-right, in-contained}
 use Rattle.flat_topology.specs.declared.Placed.{Placed}
 use Rattle.flat_topology.specs.Place.{Space, display_space, placed_node, node_space, linked_space, placed_in}
 use Rattle.flat_topology.specs.Preorder.{Address, comes_before, are_in_order, node_at, addresses, Kept, kept_of, kept_by}
+use Rattle.std.proofs.lemmas.Bool.{and_from}
+use Rattle.std.proofs.lemmas.List.Folds.{list_all-append}
 
 -- an address begins with this number or a greater one
 abbrev from : ℕ → Address → Bool
@@ -19,8 +21,7 @@ from first (n ∷ rest) = nat_le first n
 -- ---- tests of each item
 
 all-append : {A : Type 0} (p : A → Bool) (xs ys : List A) → list_all p xs ≡ true → list_all p ys ≡ true → list_all p (xs ++ ys) ≡ true
-all-append p [] ys left right = right
-all-append p (x ∷ xs) ys left right = let rest = all-append p xs ys (grind arith) right in grind (arith, rest)
+all-append p xs ys left right = list_all-append p xs ys ∙ and_from (list_all p xs) (list_all p ys) left right
 
 all-map : {A B : Type 0} (p : B → Bool) (f : A → B) (q : A → Bool) → ((x : A) → q x ≡ true → p (f x) ≡ true) → (xs : List A) → list_all q xs ≡ true → list_all p (map f xs) ≡ true
 all-map p f q step [] all = refl

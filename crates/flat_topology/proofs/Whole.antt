@@ -1,9 +1,9 @@
 -- The joined tree is whole: no session is farther from the display than there are sessions.
-use Rattle.std.proofs.Common.{Bool, sym, ℕ, zero, suc, ◌+◌, ◌<◌, ◌≤◌, ◌≡◌, ◌≢◌, ◌⊎◌, inl, inr, refl, ap, true, false, ◌||◌, eqb, List, [], ◌∷◌, length, Option, Some, None, slice_index_or, arith}
+use Rattle.std.proofs.Common.{sym, ℕ, zero, suc, ◌+◌, ◌<◌, ◌≤◌, ◌≡◌, ◌≢◌, ◌⊎◌, inl, inr, refl, ap, true, false, ◌||◌, eqb, List, [], ◌∷◌, length, Option, Some, None, slice_index_or, arith}
 use Rattle.std.specs.List.{IsDistinct, AllByRecursion, list_any}
 use Rattle.std.proofs.lemmas.Bool.Decides.{eqb_tells}
 use Rattle.std.proofs.lemmas.List.{get_or_past}
-use Rattle.std.proofs.lemmas.Bool.{cases_lt}
+use Rattle.std.proofs.lemmas.Bool.{cases_lt, or_right}
 use Rattle.std.proofs.lemmas.Map.Steps.{length-le_from_distinct_below}
 use Rattle.flat_scene.specs.declared.setup.Setup.{Setup}
 use Rattle.flat_scene.specs.declared.trees.Children.{Children}
@@ -51,11 +51,7 @@ in-found x (y ∷ ys) (inl same) = by_test (eqb_tells y x)
     by_test : ((eqb y x ≡ true) × (y ≡ x)) ⊎ ((eqb y x ≡ false) × (y ≢ x)) → (eqb y x || list_any (λ z. eqb z x) ys) ≡ true
     by_test (inl here) = rw here.0 refl
     by_test (inr apart) = absurd (apart.1 (sym same))
-in-found x (y ∷ ys) (inr on) = or_true (eqb y x) (list_any (λ z. eqb z x) ys) (in-found x ys on)
-  where
-    or_true : (a b : Bool) → b ≡ true → (a || b) ≡ true
-    or_true true b e = refl
-    or_true false b e = e
+in-found x (y ∷ ys) (inr on) = or_right (eqb y x) (list_any (λ z. eqb z x) ys) (in-found x ys on)
 
 in-any : (x : ℕ) (xs : List ℕ) → list_any (eqb x) xs ≡ true → In x xs
 in-any x [] e = absurd (cc)

@@ -1,4 +1,4 @@
-use Rattle.std.proofs.Common.{inl, inr, ℕ, ◌+◌, ◌*◌, ◌<◌, ◌≤◌, ◌≡◌, Bool, true, false, ◌∷◌, length, Option, Some, None, refl, sym, arith}
+use Rattle.std.proofs.Common.{inl, inr, ℕ, ◌+◌, ◌*◌, ◌<◌, ◌≤◌, ◌≡◌, true, ◌∷◌, length, Option, Some, None, refl, sym, arith}
 use Rattle.flat_base.specs.declared.limits.TheConstants.{TREE_NODES_MAX}
 use Rattle.flat_scene.specs.declared.setup.Setup.{Setup}
 use Rattle.flat_topology.specs.Shown.{Shown}
@@ -18,6 +18,7 @@ use Rattle.std.proofs.lemmas.List.Elements.{All-nil}
 use Rattle.flat_topology.proofs.Viewing.{length-placed}
 use Rattle.flat_topology.proofs.Parents.{connected-in-both}
 use Rattle.flat_topology.proofs.links_make_a_tree.Goals as goal
+use Rattle.std.specs.Cmp.{both_ways}
 
 -- ---- the joined tree has the connected sessions
 
@@ -85,14 +86,9 @@ returns-clause-low c = λ setup shown fit. low_from setup shown fit (display_pai
 
 -- ---- a group with all parents decides
 
-same_tests : (a b : Bool) → (a ≡ true → b ≡ true) → (b ≡ true → a ≡ true) → a ≡ b
-same_tests true b to from = sym (to refl)
-same_tests false true to from = from refl
-same_tests false false to from = refl
-
 pub returns-clause-decided : goal.returns-clause-decided
 returns-clause-decided c = λ setup shown other fit fit' group parents agree s is.
-    same_tests (is_joined setup shown s) (is_joined setup other s)
+    both_ways (is_joined setup shown s) (is_joined setup other s)
     (λ joined.
     let connected = joined_connected setup shown fit s joined in
     connected_joined setup other fit' s (connected.0, connected-in-both setup shown other fit group parents agree connected.0 s is connected.1))

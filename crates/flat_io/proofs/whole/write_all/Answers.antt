@@ -1,6 +1,5 @@
-use Rattle.std.proofs.Common.{ℕ, ◌+◌, ◌≤◌, List, length, take, drop, Option, arith}
+use Rattle.std.proofs.Common.{◌≤◌, length, drop, arith}
 use Rattle.std.proofs.lemmas.List.{length-drop}
-use Rattle.flat_io.specs.Told.{Appends}
 use Rattle.flat_io.proofs.Loops.{written-more, rest-whole}
 use Rattle.flat_io.proofs.whole.write_all.Goals as goal
 
