@@ -137,11 +137,3 @@ sum-first f g false x xs ys same rest = sum_by-cons f x ys ∙ ap (λ (n : ℕ).
 pub sum-changed : {A : Type 0} (f : A → ℕ) (g : A → A) (n : ℕ) (xs : List A) → ((x : A) → f (g x) ≡ f x) → sum_by f (changed_at n g xs) ≡ sum_by f xs
 sum-changed f g n [] same = refl
 sum-changed f g n (x ∷ xs) same = sum-first f g (n == 1) x xs (changed_at (n - 1) g xs) (same x) (sum-changed f g (n - 1) xs same)
-
-length-first : {A : Type 0} (g : A → A) (b : Bool) (x : A) (xs ys : List A) → length ys ≡ length xs → length (cond b (g x ∷ xs) (x ∷ ys)) ≡ length (x ∷ xs)
-length-first g true x xs ys same = refl
-length-first g false x xs ys same = rw same refl
-
-pub length-changed : {A : Type 0} (g : A → A) (n : ℕ) (xs : List A) → length (changed_at n g xs) ≡ length xs
-length-changed g n [] = refl
-length-changed g n (x ∷ xs) = length-first g (n == 1) x xs (changed_at (n - 1) g xs) (length-changed g (n - 1) xs)

@@ -18,7 +18,7 @@ use Rattle.flat_core.specs.Lives.{lives_then, lives_after, pair_named, held_of, 
 use Rattle.flat_rules.specs.Shown.{is_pair}
 use Rattle.flat_core.proofs.Lives.{pair_made, pair_at, live_at, serial_at, lives_by, serials_by, lives_of, IsTidy, tidy-empty, pair-named}
 use Rattle.flat_core.proofs.LiveSteps.{Follows, follows}
-use Rattle.flat_core.proofs.ViewCalls.{after-refused}
+use Rattle.flat_core.proofs.ViewCalls.{after-refused, good-one}
 
 -- ---- one call
 
@@ -84,17 +84,13 @@ lived-more setup d call calls d' tidy None is rest good =
           ∙ ap (λ (n : ℕ). number_if (clears_live p (lives_of d) call) + n) (later.clears p ∙ ap (λ (l : List Live). count_of (clears_live p) l calls) here.lives));
     }
 
-refused-first : (setup : Setup) (d d1 d' : Draft) (calls : List Call) (reason : Option Reason) → after_calls setup (unless reason d1) calls ≡ Ok d' → after_calls setup (Ok d1) calls ≡ Ok d'
-refused-first setup d d1 d' calls None good = good
-refused-first setup d d1 d' calls (Some reason) good = let wrong : Err reason ≡ Ok d' = sym (after-refused setup reason calls) ∙ good in cc
-
 pub lived : (setup : Setup) (d : Draft) (calls : List Call) (d' : Draft) → IsTidy d → after_calls setup (Ok d) calls ≡ Ok d' → Lived setup d calls d'
 lived setup d [] d' tidy good =
     let same : d ≡ d' = cc in
     record { tidy = subst IsTidy same tidy; lives = ap lives_of (sym same); releases = λ p. refl; clears = λ p. refl }
 lived setup d (call ∷ calls) d' tidy good =
     lived-more setup d call calls d' tidy (misuse setup d call) refl
-    (λ here. lived setup (effect d call) calls d' here.tidy (refused-first setup d (effect d call) d' calls (misuse setup d call) good)) good
+    (λ here. lived setup (effect d call) calls d' here.tidy (good-one setup (effect d call) d' calls (misuse setup d call) good)) good
 
 -- from no call on
 pub lived-all : (setup : Setup) (calls : List Call) (d : Draft) → draft_of setup calls ≡ Ok d → Lived setup empty_draft calls d

@@ -15,8 +15,9 @@ use Rattle.flat_scene.specs.Effect.{effect, changed_if, on_image, on_viewport, o
 use Rattle.flat_scene.specs.Misuse.{misuse, is_image, is_fill}
 use Rattle.flat_core.specs.declared.live.Live.{Live}
 use Rattle.flat_core.specs.Lives.{lives_then}
-use Rattle.flat_core.proofs.Lives.{pair_made, pair_at, live_at, serial_at, lives_by, serials_by, are_apart, are_within, lives_of, IsTidy, lives-same, serials-same, within-more, lives-append, serials-append, changed-pair, changed-length, image-pair, viewport-pair, fill-pair, none-named, lives-without, lives-unnamed, serials-without, serials-unnamed, all-fewer, apart-fewer, apart-more}
+use Rattle.flat_core.proofs.Lives.{pair_made, pair_at, live_at, serial_at, lives_by, serials_by, are_apart, are_within, lives_of, IsTidy, lives-same, serials-same, within-more, lives-append, serials-append, changed-pair, image-pair, viewport-pair, fill-pair, none-named, lives-without, lives-unnamed, serials-without, serials-unnamed, all-fewer, apart-fewer, apart-more}
 use Rattle.flat_rules.proofs.ShownSteps.{serial-append}
+use Rattle.flat_rules.proofs.ListLemmas.{length-changed}
 
 -- ---- what the tests of a call say
 
@@ -74,7 +75,7 @@ tidy-changed d f same None tidy = (record { within = tidy.within; apart = tidy.a
 tidy-changed d f same (Some n) tidy =
     let alike : (k : ℕ) → k ≤ length d.contents → pair_at (changed_at n f d.contents) k ≡ pair_at d.contents k = λ k fits. changed-pair f same n k d.contents in (
       record {
-        within = rw (changed-length f n d.contents) tidy.within;
+        within = rw (length-changed f n d.contents) tidy.within;
         apart = tidy.apart;
         viewports = tidy.viewports ∙ sym (serials-same (length d.contents) (pair_at (changed_at n f d.contents)) (pair_at d.contents) alike d.content_names tidy.within);
       },

@@ -111,14 +111,6 @@ changed-pair f same n k (m ∷ ms) = by_place (changed-pair f same (n - 1) (k - 
     by_place rest true = pick-pair f same true (k == 1) m (of_serial ms (k - 1)) (of_serial ms (k - 1)) refl
     by_place rest false = pick-pair f same false (k == 1) m (of_serial (changed_at (n - 1) f ms) (k - 1)) (of_serial ms (k - 1)) rest
 
-pub changed-length : (f : Made → Made) (n : ℕ) (ms : List Made) → length (changed_at n f ms) ≡ length ms
-changed-length f n [] = refl
-changed-length f n (m ∷ ms) = by_place (changed-length f (n - 1) ms) (n == 1)
-  where
-    by_place : length (changed_at (n - 1) f ms) ≡ length ms → (b : Bool) → length (cond b (f m ∷ ms) (m ∷ changed_at (n - 1) f ms)) ≡ length (m ∷ ms)
-    by_place rest true = refl
-    by_place rest false = rw rest refl
-
 pub image-pair : (f : _) (m : Made) → pair_made (on_image f m) ≡ pair_made m
 image-pair f (an_image i) = refl
 image-pair f (a_fill x) = refl

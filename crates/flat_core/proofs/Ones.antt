@@ -28,11 +28,12 @@ use Rattle.flat_rules.specs.Legal.{reply_to, may_act, session_may}
 use Rattle.flat_core.specs.Logs.{Logged}
 use Rattle.flat_core.specs.Presents.{reply_to_close, noted_in, with_calls, IsPlaced}
 use Rattle.flat_core.specs.Seen.{seen_of}
-use Rattle.flat_core.proofs.Changes.{IsPlainOne, seen-other, seen-noted, kept-noted, changed-one, changed-set, changed-each, sum-changed, length-changed, not-session, is-session, sum-same}
+use Rattle.flat_core.proofs.Changes.{IsPlainOne, seen-other, seen-noted, kept-noted, changed-one, changed-set, changed-each, sum-changed, not-session, is-session, sum-same}
 use Rattle.flat_core.proofs.Counts.{kept-session, declared-some, lt-of, same-number}
 use Rattle.flat_core.proofs.Between.{is_viewport}
 use Rattle.flat_core.proofs.Entered.{Entered, kept-entered}
 use Rattle.flat_core.proofs.Steps.{Changed}
+use Rattle.flat_rules.proofs.ListLemmas.{length-changed}
 
 pub declared-of : (setup : Setup) (kind : Kind) (s : SessionNo) → may_act setup kind (Session s) ≡ true → IsTrue (is_declared setup s)
 declared-of setup kind s may = and-right (session_may kind) (is_declared setup s) may

@@ -9,7 +9,7 @@ use Rattle.flat_scene.specs.Draft.{Draft, Transform, Made, Name, named, of_seria
 use Rattle.flat_scene.specs.Effect.{changed_if}
 use Rattle.flat_scene.proofs.Together.{and-left, and-right}
 use Rattle.flat_core.proofs.Lives.{pair_made, pair_at}
-use Rattle.flat_core.proofs.Changes.{length-changed}
+use Rattle.flat_rules.proofs.ListLemmas.{length-changed}
 
 -- whether a number is in a list
 abbrev pub has : List ℕ → ℕ → Bool
@@ -73,10 +73,6 @@ mapped-later p q f keeps zero [] all = refl
 mapped-later p q f keeps zero (x ∷ xs) all = rw (keeps x (and-left (p x) (list_all p xs) all), mapped-later p q f keeps zero xs (and-right (p x) (list_all p xs) all)) refl
 mapped-later p q f keeps (suc k) [] all = refl
 mapped-later p q f keeps (suc k) (x ∷ xs) all = mapped-later p q f keeps k xs all
-
-pub mapped-long : {A : Type 0} (f : A → A) (xs : List A) → length (map f xs) ≡ length xs
-mapped-long f [] = refl
-mapped-long f (x ∷ xs) = rw (mapped-long f xs) refl
 
 pub one-later : {A : Type 0} (p : A → Bool) (k : ℕ) (xs : List A) (x : A) → k ≤ length xs → list_all p (drop k xs) ≡ true → p x ≡ true → list_all p (drop k (xs ++ x ∷ [])) ≡ true
 one-later p zero xs x fits all here = list_all-append p xs (x ∷ []) ∙ rw (all, here) refl

@@ -2,7 +2,7 @@
 use Rattle.std.proofs.Common.{◌≡◌, ◌∙◌, sym, subst, ℕ, ◌+◌, ◌≤◌, Bool, true, false, cond, List, [], ◌∷◌, ◌++◌, length, filter, refl, arith, ap, Some, None, Ok, Err, length-append}
 use Rattle.std.specs.Prelude.{not, ◌||◌, ◌==◌, nat_lt, Option, is_some}
 use Rattle.std.proofs.lemmas.Bool.Decides.{nat_tests}
-use Rattle.std.proofs.lemmas.List.{append-nil}
+use Rattle.std.proofs.lemmas.List.{append-nil, length-map}
 use Rattle.std.proofs.lemmas.List.Folds.{list_all-append, list_any-append}
 use Rattle.flat_base.specs.declared.errors.Reason.{Reason}
 use Rattle.flat_base.specs.declared.ids.PairNo.{PairNo}
@@ -14,7 +14,7 @@ use Rattle.flat_scene.specs.Effect.{effect, after_calls, unless, changed_if, is_
 use Rattle.flat_scene.specs.Misuse.{misuse}
 use Rattle.flat_core.proofs.Lives.{pair_made, pair_at, serial_at, serials_by, IsTidy, tidy-empty, changed-pair, image-pair, viewport-pair, fill-pair, all-fewer}
 use Rattle.flat_core.proofs.LiveSteps.{follows}
-use Rattle.flat_core.proofs.Reached.{has, is_alive, is_reached, IsReached, reached-empty, with-changed, with-contents, child-after, fewer-after, parts, alive-same, alive-made, one-later, drop-all, named-all, mapped-later, mapped-long}
+use Rattle.flat_core.proofs.Reached.{has, is_alive, is_reached, IsReached, reached-empty, with-changed, with-contents, child-after, fewer-after, parts, alive-same, alive-made, one-later, drop-all, named-all, mapped-later}
 use Rattle.flat_core.proofs.ViewCalls.{after-refused}
 
 -- a viewport that is named is alive
@@ -122,7 +122,7 @@ reached-call d (CreateFilledRect c) tidy r =
     ap (λ (l : List ℕ). is_alive (pair_at (d.contents ++ a_fill None ∷ [])) l o) (sym (append-nil d.viewports)) ∙ alive)
 reached-call d (ReleaseViewport c) tidy r = record {
   first = r.first;
-  fits = omega (arith, r.fits, mapped-long (without (content_of d c)) d.transforms);
+  fits = omega (arith, r.fits, length-map d.transforms (without (content_of d c)));
   names = r.names;
   root = r.root;
   later = mapped-later (is_reached r.first (pair_at d.contents) d.viewports) (is_reached r.first (pair_at d.contents) (filter (λ (k : ℕ). not (is_serial (content_of d c) k)) d.viewports)) (without (content_of d c))

@@ -25,7 +25,8 @@ use Rattle.std.specs.Cmp.{both_ways}
 use Rattle.std.proofs.Math.Bool.{and-false, or-false}
 use Rattle.std.proofs.lemmas.Bool.{and_parts}
 use Rattle.flat_core.proofs.Between.{viewport-nested}
-use Rattle.flat_rules.proofs.RepliesLocal.{no-told}
+use Rattle.flat_rules.proofs.RepliesLocal.{no-told, any-flat-nothing}
+use Rattle.flat_rules.proofs.AllOrSome.{any-same}
 
 -- ---- tests over lists of lists
 
@@ -36,13 +37,6 @@ any-flat f g (x ∷ xs) = list_any-append f (g x) (flat_map g xs) ∙ ap (λ b. 
 any-none : {A : Type 0} (f : A → Bool) (xs : List A) → ((x : A) → f x ≡ false) → list_any f xs ≡ false
 any-none f [] none = refl
 any-none f (x ∷ xs) none = rw (none x) (any-none f xs none)
-
-pub any-each : {A : Type 0} (f g : A → Bool) (xs : List A) → ((x : A) → f x ≡ g x) → list_any f xs ≡ list_any g xs
-any-each f g [] same = refl
-any-each f g (x ∷ xs) same = rw (same x, any-each f g xs same) refl
-
-flat-none : {A B : Type 0} (f : B → Bool) (g : A → List B) (xs : List A) → ((x : A) → list_any f (g x) ≡ false) → list_any f (flat_map g xs) ≡ false
-flat-none f g xs none = any-flat f g xs ∙ any-none (λ x. list_any f (g x)) xs none
 
 any-copies : (p q : PairNo) (n : ℕ) → list_any (is_token_back p) (replicate n (event.TokenBack q)) ≡ (nat_lt 0 n && q.0 == p.0)
 any-copies p q zero = refl
@@ -78,10 +72,9 @@ module _ (setup : Setup) (p : PairNo) where
       (flat_map (λ q. flat_map (λ n. told_event setup q (child_of q n) before e) (up_to (length (viewport_uses q before)))) (viewports_of setup t))
       (cond (is_finish e.kind) (at_finish setup before t) [])
       (cond (is_begin e.kind) (at_begin setup before e t) [])
-      (flat-none (is_token_back p) (λ q. told_event setup q (layout_of q) before e) (views_of setup t) (λ q. no-told p q _ _))
-      (flat-none (is_token_back p) (λ q. told_event setup q (status_of q) before e) (views_of setup t) (λ q. no-told p q _ _))
-      (flat-none (is_token_back p) (λ q. flat_map (λ n. told_event setup q (child_of q n) before e) (up_to (length (viewport_uses q before)))) (viewports_of setup t)
-      (λ q. flat-none (is_token_back p) (λ n. told_event setup q (child_of q n) before e) (up_to (length (viewport_uses q before))) (λ n. no-told p q _ _)))
+      (any-flat-nothing (is_token_back p) (λ q. told_event setup q (layout_of q) before e) (λ q. no-told p q _ _) (views_of setup t))
+      (any-flat-nothing (is_token_back p) (λ q. told_event setup q (status_of q) before e) (λ q. no-told p q _ _) (views_of setup t))
+      (any-flat-nothing (is_token_back p) (λ q. flat_map (λ n. told_event setup q (child_of q n) before e) (up_to (length (viewport_uses q before)))) (λ q. any-flat-nothing (is_token_back p) (λ n. told_event setup q (child_of q n) before e) (λ n. no-told p q _ _) (up_to (length (viewport_uses q before)))) (viewports_of setup t))
       (no-credits before e t (is_begin e.kind))
 
   any-sent : (t : SessionNo) (events : List Event) → list_any (λ (sent : Sent). is_token_back p sent.event) (map (λ event. let sent : Sent = record { to = t; event = event } in sent) events) ≡ list_any (is_token_back p) events
@@ -92,7 +85,7 @@ module _ (setup : Setup) (p : PairNo) where
       → list_any (λ (sent : Sent). is_token_back p sent.event) (posted setup before e) ≡ list_any (λ t. list_any (is_token_back p) (events_to setup before e t)) (sessions_to setup.sessions)
   posted-tokens before e =
       any-flat (λ (sent : Sent). is_token_back p sent.event) (λ t. map (λ event. let sent : Sent = record { to = t; event = event } in sent) (events_to setup before e t)) (sessions_to setup.sessions)
-      ∙ any-each _ _ (sessions_to setup.sessions) (λ t. any-sent t (events_to setup before e t))
+      ∙ any-same _ _ (λ t. any-sent t (events_to setup before e t)) (sessions_to setup.sessions)
 
   none-closed : (b : Bool) (news : List Event) → list_any (is_token_back p) news ≡ false → list_any (is_token_back p) (cond b [] news) ≡ false
   none-closed true news none = refl
@@ -114,7 +107,7 @@ module _ (setup : Setup) (p : PairNo) where
   any-pairs : (before : List Entry) (t : SessionNo) → list_any (is_token_back p) (tokens_back setup before t) ≡ list_any (λ q. nat_lt 0 (came before t q) && q.0 == p.0) (viewports_of setup t)
   any-pairs before t =
       any-flat (is_token_back p) (λ q. replicate (came before t q) (event.TokenBack q)) (viewports_of setup t)
-      ∙ any-each _ _ (viewports_of setup t) (λ q. any-copies p q (came before t q))
+      ∙ any-same _ _ (λ q. any-copies p q (came before t q)) (viewports_of setup t)
 
   pub pair-is : (n : ℕ) → (n == p.0) ≡ true → (let q : PairNo = record { 0 = n } in q) ≡ p
   pair-is n same = let number : n ≡ p.0 = grind (arith, nat_tests) in ap (λ (k : ℕ). let x : PairNo = record { 0 = k } in x) number

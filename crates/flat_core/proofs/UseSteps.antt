@@ -48,12 +48,13 @@ use Rattle.flat_core.proofs.EndSteps.{ends-one, links-made, viewports-closed}
 use Rattle.flat_core.proofs.HasView.{found, any-found}
 use Rattle.flat_core.proofs.Ones.{declared-of, each-one}
 use Rattle.flat_core.proofs.Steps.{legal-entered, room-entered, stands-entered, unchanged}
-use Rattle.flat_core.proofs.TokensBack.{any-flat, any-each, pair-is}
+use Rattle.flat_core.proofs.TokensBack.{any-flat, pair-is}
 use Rattle.flat_core.proofs.ViewportUses.{viewports-used}
 use Rattle.std.proofs.lemmas.Bool.{not-true, and_right, and_parts}
 use Rattle.std.specs.Cmp.{both_ways}
 use Rattle.flat_core.proofs.Between.{viewport-nested}
 use Rattle.std.proofs.Math.Bool.{or-false}
+use Rattle.flat_rules.proofs.AllOrSome.{any-same}
 
 -- ---- the token
 
@@ -66,7 +67,7 @@ module _ (setup : Setup) (h : List Entry) (s : SessionNo) (p : PairNo) where
   pub out-listed : owns_viewport setup s p ≡ true → list_any (λ (one : OutToken). one.pair.0 == p.0) (outs_of setup h s) ≡ not (has_token setup p h)
   out-listed owned =
       any-flat (λ (one : OutToken). one.pair.0 == p.0) (out_of setup h s) (viewports_of setup s)
-      ∙ any-each _ _ (viewports_of setup s) (λ q. any-one p q (has_token setup q h) _)
+      ∙ any-same _ _ (λ q. any-one p q (has_token setup q h) _) (viewports_of setup s)
       ∙ both_ways (list_any (λ q. not (has_token setup q h) && q.0 == p.0) (viewports_of setup s)) (not (has_token setup p h))
       (λ any.
       let one = found (λ q. not (has_token setup q h) && q.0 == p.0) (λ pair. is_session s pair.viewport) 0 setup.pairs any in

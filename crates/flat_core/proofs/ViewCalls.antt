@@ -38,7 +38,7 @@ pub after-refused : (setup : Setup) (reason : Reason) (xs : List Call) → after
 after-refused setup reason [] = refl
 after-refused setup reason (x ∷ xs) = after-refused setup reason xs
 
-good-one : (setup : Setup) (d d' : Draft) (calls : List Call) (reason : Option Reason) → after_calls setup (unless reason d) calls ≡ Ok d' → after_calls setup (Ok d) calls ≡ Ok d'
+pub good-one : (setup : Setup) (d d' : Draft) (calls : List Call) (reason : Option Reason) → after_calls setup (unless reason d) calls ≡ Ok d' → after_calls setup (Ok d) calls ≡ Ok d'
 good-one setup d d' calls None good = good
 good-one setup d d' calls (Some reason) good = let wrong : Err reason ≡ Ok d' = sym (after-refused setup reason calls) ∙ good in cc
 

@@ -12,18 +12,12 @@ use Rattle.flat_graph.specs.Reasons.{links_of, children_at, children_of, has_key
 use Rattle.flat_graph.specs.State.{GraphState, IsKept, node_at}
 use Rattle.flat_graph.specs.Stands.{StandsFor, serial_at, node_serial}
 use Rattle.flat_graph.proofs.Standing.{same-test}
-
-some-map : (f : ℕ → ℕ) (x : Option ℕ) → is_some (option_map f x) ≡ is_some x
-some-map f None = refl
-some-map f (Some x) = refl
+use Rattle.flat_graph.proofs.Soundness.{some-map}
+use Rattle.std.proofs.lemmas.List.{length-map}
 
 none-map : (f : ℕ → ℕ) (x : Option ℕ) → is_none (option_map f x) ≡ is_none x
 none-map f None = refl
 none-map f (Some x) = refl
-
-length-map : (f : ℕ → ℕ) (xs : List ℕ) → length (map f xs) ≡ length xs
-length-map f [] = refl
-length-map f (x ∷ xs) = ap suc (length-map f xs)
 
 module _ (graph : GraphState) (draft : Draft) (s : StandsFor graph draft) where
   pub some-same : (t : TransformId) → is_some (key_named graph.names t.0) ≡ is_some (transform_of draft t)
@@ -48,7 +42,7 @@ module _ (graph : GraphState) (draft : Draft) (s : StandsFor graph draft) where
       ∙ children-at (key_named graph.names t.0) (s.sound.names_kept t.0)
 
   pub count-same : (t : TransformId) → length (children_of graph t.0) ≡ length (misuse.children_of draft t)
-  count-same t = sym (ap length (children-same t) ∙ length-map (serial_at graph) (children_of graph t.0))
+  count-same t = sym (ap length (children-same t) ∙ length-map (children_of graph t.0) (serial_at graph))
 
   any-same : (k : ℕ) → IsKept graph.nodes k → (xs : List ℕ) → ((x : ℕ) → Contains xs x → IsKept graph.nodes x)
       → list_any (λ child. child == serial_at graph k) (map (serial_at graph) xs) ≡ list_any (λ other. other == k) xs

@@ -9,6 +9,8 @@ use Rattle.flat_links.specs.declared.pairs.Pair.{Pair}
 use Rattle.flat_links.specs.Pairs.{new_pair, has_view_token, has_token, is_display}
 use Rattle.flat_links.specs.Calls.{LinkCall, join_view, join_viewport, release_viewport, token_back, lose_viewport, lose_view, ◌▹◌, is_granted, done, played, granted, is_join_view, is_join_viewport, is_release, is_token_back, is_lose_view, is_lose_viewport, props_given, since_use, view_uses, viewport_uses}
 use Rattle.flat_links.specs.Laws.{ViewIsUsedOnce, EndsStayThere}
+use Rattle.std.proofs.lemmas.Bool.{not-true, not-false}
+use Rattle.std.proofs.Math.Bool.{or-true}
 
 -- a pair by its calls, and by those that were granted
 pub record IsMade (owners : PairDecl) (calls uses : List LinkCall) (pair : Pair) : Type 0 where
@@ -47,18 +49,6 @@ one_more n count e = omega arith
 above_zero : (n : ℕ) → nat_lt 0 (min (n + 1) (2 ^ 32 - 1)) ≡ true
 above_zero n = grind (arith, nat_tests)
 
-was_unused : (b : Bool) → not b ≡ true → b ≡ false
-was_unused true e = (cc)
-was_unused false e = refl
-
-was_used : (b : Bool) → not b ≡ false → b ≡ true
-was_used true e = refl
-was_used false e = (cc)
-
-or-true : (b : Bool) → (b || true) ≡ true
-or-true true = refl
-or-true false = refl
-
 -- where the token is out, there was a use
 out_by_use : (token any back : Bool) → token ≡ (not any || back) → token ≡ false → any ≡ true
 out_by_use token true back e f = refl
@@ -71,7 +61,7 @@ module _ (owners : PairDecl) (calls uses : List LinkCall) (pair : Pair) (made : 
   view-joined first = record {
     owned = made.owned;
     used = refl;
-    once = (let e : view_uses uses ≡ 0 = made.once ∙ ap (λ b. cond b 1 0) (was_unused pair.view.used first) in omega arith);
+    once = (let e : view_uses uses ≡ 0 = made.once ∙ ap (λ b. cond b 1 0) (not-true pair.view.used first) in omega arith);
     held = made.held;
     count = made.count;
     there = made.there;
@@ -85,7 +75,7 @@ module _ (owners : PairDecl) (calls uses : List LinkCall) (pair : Pair) (made : 
   view-refused : has_view_token pair ≡ false → IsMade owners (calls ▹ join_view) uses pair
   view-refused again = record {
     owned = made.owned;
-    used = was_used pair.view.used again;
+    used = not-false pair.view.used again;
     once = made.once;
     held = made.held;
     count = made.count;

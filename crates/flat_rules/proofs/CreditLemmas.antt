@@ -20,6 +20,7 @@ use Rattle.flat_scene.proofs.Steps.{presents-own, presents-other}
 use Rattle.flat_scene.proofs.TakingLemmas.{taken-made}
 use Rattle.flat_rules.specs.Legal.{Legal, LegalEntry, reply_to, reply_to_present}
 use Rattle.flat_rules.specs.Laws.{CreditsAddUp}
+use Rattle.flat_rules.proofs.Locality.{same-session}
 
 -- how many may wait, by how many were taken
 abbrev most : ℕ → ℕ
@@ -36,11 +37,6 @@ adds-up : (made made' took took' : ℕ) → took ≤ made → made - took ≤ mo
 adds-up made made' took took' fits few (inl (same, more)) = omega (arith, same, more, more-most took took' more)
 adds-up made made' took took' fits few (inr (one, same, less)) =
     let no_less : most took ≤ most took' = more-most took took' (omega (arith, same)) in omega (arith, one, same, less, no_less)
-
--- a session of that number is that session
-same-session : (s t : SessionNo) → (t.0 == s.0) ≡ true → t ≡ s
-same-session s t is =
-    let number : t.0 ≡ s.0 = grind (arith, common_steps) in ap (λ (n : ℕ). let u : SessionNo = record { 0 = n } in u) number
 
 -- a present is accepted only where there was a credit
 accepted : (setup : Setup) (before : List Entry) (s : SessionNo) (actor : Actor) (number left : ℕ) → is_session s actor ≡ true
