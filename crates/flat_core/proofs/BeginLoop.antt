@@ -10,14 +10,15 @@ use Rattle.flat_scene.specs.declared.journal.Entry.{Entry}
 use Rattle.flat_scene.specs.declared.journal.Post.{Post}
 use Rattle.flat_scene.specs.declared.setup.Setup.{Setup}
 use Rattle.flat_scene.specs.declared.trees.Tree.{Tree}
-use Rattle.flat_core.specs.Ends.{to_begin}
+use Rattle.flat_rules.specs.Ends.{to_begin}
 use Rattle.flat_scene.specs.Frames.{sessions_to}
-use Rattle.flat_core.specs.Posts.{events_to}
-use Rattle.flat_core.specs.Shown.{shown}
+use Rattle.flat_rules.specs.Posts.{events_to}
+use Rattle.flat_rules.specs.Shown.{shown}
 use Rattle.flat_core.specs.declared.state.SessionState.{SessionState}
 use Rattle.flat_core.specs.Begins.{begun, post_of, posts_to}
-use Rattle.flat_core.specs.Boards.{number, due}
-use Rattle.flat_core.specs.Kept.{IsKept, AllNumbered}
+use Rattle.flat_core.specs.Boards.{due}
+use Rattle.flat_rules.specs.Numbers.{number, AllNumbered}
+use Rattle.flat_core.specs.Kept.{IsKept}
 use Rattle.flat_core.specs.Seen.{seen_of}
 use Rattle.flat_core.proofs.Changes.{changed-one}
 

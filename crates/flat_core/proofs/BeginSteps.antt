@@ -17,10 +17,10 @@ use Rattle.flat_scene.specs.declared.setup.Setup.{Setup}
 use Rattle.flat_scene.specs.declared.trees.Tree.{Tree}
 use Rattle.flat_scene.specs.History.{is_closed, presents, Published}
 use Rattle.flat_scene.specs.Draft.{of_serial}
-use Rattle.flat_core.specs.Ends.{to_begin}
+use Rattle.flat_rules.specs.Ends.{to_begin}
 use Rattle.flat_scene.specs.Frames.{is_signalled, taken, waiting, ready_prefix, credits}
-use Rattle.flat_core.specs.Posts.{events_to}
-use Rattle.flat_core.specs.Shown.{shown, tree_of}
+use Rattle.flat_rules.specs.Posts.{events_to}
+use Rattle.flat_rules.specs.Shown.{shown, tree_of}
 use Rattle.flat_queue.specs.declared.queue.Kept.{Kept}
 use Rattle.flat_scene.specs.Frames.{is_ready}
 use Rattle.flat_queue.specs.Line.{ready_of, credits_of}
@@ -28,15 +28,15 @@ use Rattle.flat_snap.specs.declared.snapshot.Snapshot.{Snapshot}
 use Rattle.flat_core.specs.declared.state.SessionState.{SessionState}
 use Rattle.flat_core.specs.Begins.{begun, begin_entry}
 use Rattle.flat_core.specs.Kept.{IsKept, kept_of, meant}
-use Rattle.flat_core.specs.Legal.{Legal}
-use Rattle.flat_core.specs.Lasts.{last_from}
+use Rattle.flat_rules.specs.Legal.{Legal}
+use Rattle.flat_rules.specs.Lasts.{last_from}
 use Rattle.flat_core.specs.Presents.{TookReady}
 use Rattle.flat_core.specs.Seen.{Seen, seen_of}
 use Rattle.flat_core.proofs.Begun.{seen-begun-open, ready-same, kept-ready, then-same}
 use Rattle.flat_core.proofs.Counts.{kept-waiting}
 use Rattle.flat_core.proofs.Between.{events-between}
 use Rattle.flat_core.proofs.PresentSteps.{stays}
-use Rattle.flat_core.proofs.ShownSteps.{serial-get, get-drop, get-map, last-get, last-none, shown-kept}
+use Rattle.flat_rules.proofs.ShownSteps.{serial-get, get-drop, get-map, last-get, last-none, shown-kept}
 
 -- how many presents are ready
 abbrev pub ready_count : Setup → List Entry → ℕ → SessionNo → ℕ

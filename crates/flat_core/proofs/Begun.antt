@@ -21,7 +21,7 @@ use Rattle.flat_core.specs.Begins.{begun}
 use Rattle.flat_core.specs.Kept.{IsKept, Below, kept_of, meant, release_of}
 use Rattle.flat_core.specs.Presents.{LetGo}
 use Rattle.flat_core.specs.Seen.{Seen, seen_of}
-use Rattle.flat_core.proofs.ListLemmas.{All-none}
+use Rattle.flat_rules.proofs.ListLemmas.{All-none}
 
 -- of a closed session nothing is taken, and all that waits goes
 pub seen-begun-closed : (setup : Setup) (h : List Entry) (line time : ℕ) (s : SessionNo) → is_closed s h ≡ true

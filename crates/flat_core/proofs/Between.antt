@@ -16,18 +16,18 @@ use Rattle.flat_scene.specs.declared.setup.PairDecl.{PairDecl}
 use Rattle.flat_scene.specs.declared.setup.Setup.{Setup}
 use Rattle.flat_scene.specs.Frames.{sessions_to}
 use Rattle.flat_scene.specs.History.{◌▹◌, own, is_session, is_begin, is_finish, is_closed}
-use Rattle.flat_core.specs.Ends.{view_uses, uses_view, uses_viewport, is_done, pairs_where, views_of}
-use Rattle.flat_core.specs.Legal.{Legal, reply_to, refused_token, owns_view}
-use Rattle.flat_core.specs.Posts.{told_event, news_for, events_to, at_begin, posted, Sent}
-use Rattle.flat_core.specs.Watch.{layout_of, status_of}
-use Rattle.flat_core.proofs.ListLemmas.{flat_map-none}
-use Rattle.flat_core.proofs.ShownSteps.{closed-before}
-use Rattle.flat_core.proofs.Still.{IsStill, IsSilent, still-silent, told-unheld, told-nothing, told-same, news-silent, news-between}
+use Rattle.flat_rules.specs.Ends.{view_uses, uses_view, uses_viewport, is_done, pairs_where, views_of}
+use Rattle.flat_rules.specs.Legal.{Legal, reply_to, refused_token, owns_view}
+use Rattle.flat_rules.specs.Posts.{told_event, news_for, events_to, at_begin, posted, Sent}
+use Rattle.flat_rules.specs.Watch.{layout_of, status_of}
+use Rattle.flat_rules.proofs.ListLemmas.{flat_map-none}
+use Rattle.flat_rules.proofs.ShownSteps.{closed-before}
+use Rattle.flat_rules.proofs.Still.{IsStill, IsSilent, still-silent, told-unheld, told-nothing, told-same, news-silent, news-between}
 use Rattle.flat_core.proofs.Unwatched.{unwatched, is_layout, is_status}
 use Rattle.flat_core.proofs.ViewHistory.{used_in}
-use Rattle.flat_core.proofs.EventsLocal.{hears-view, flat-same, views-owned}
+use Rattle.flat_rules.proofs.EventsLocal.{hears-view, flat-same, views-owned}
 use Rattle.flat_core.proofs.ViewSteps.{same-pair}
-use Rattle.flat_core.proofs.OwnedTree.{pair_no}
+use Rattle.flat_rules.proofs.OwnedTree.{pair_no}
 
 -- whether an entry uses a viewport end, or is refused it
 abbrev pub is_viewport : Kind → Bool

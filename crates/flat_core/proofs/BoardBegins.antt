@@ -16,22 +16,23 @@ use Rattle.flat_scene.specs.declared.setup.Setup.{Setup}
 use Rattle.flat_scene.specs.History.{◌▹◌, is_closed, Published}
 use Rattle.flat_scene.specs.History.{is_finish}
 use Rattle.flat_scene.specs.Frames.{sessions_to, waiting, is_signalled, ready_prefix}
-use Rattle.flat_core.specs.Legal.{frames, begin_time}
-use Rattle.flat_core.specs.Posts.{posts, events_to, Sent}
+use Rattle.flat_rules.specs.Legal.{frames, begin_time}
+use Rattle.flat_rules.specs.Posts.{posts, events_to, Sent}
 use Rattle.flat_fence.specs.Fences.{has}
 use Rattle.flat_scene.specs.Frames.{is_ready}
 use Rattle.flat_core.specs.declared.clock.Clock.{Clock}
 use Rattle.flat_core.specs.declared.state.SessionState.{SessionState}
 use Rattle.flat_core.specs.Begins.{begun, begin_entry, finished, finish_entry, post_of, posts_to}
-use Rattle.flat_core.specs.Boards.{Machine, MayCall, Stands, HasRoom, entry_of, number}
-use Rattle.flat_core.specs.Kept.{IsKept, AllNumbered}
+use Rattle.flat_core.specs.Boards.{Machine, MayCall, Stands, HasRoom, entry_of}
+use Rattle.flat_rules.specs.Numbers.{number, AllNumbered}
+use Rattle.flat_core.specs.Kept.{IsKept}
 use Rattle.flat_core.specs.Logs.{Logged}
 use Rattle.flat_core.specs.Seen.{Seen, seen_of}
 use Rattle.flat_core.proofs.DoneSteps.{released_to}
 use Rattle.flat_core.proofs.Begun.{seen-begun-open}
 use Rattle.flat_core.proofs.Entered.{Entered}
 use Rattle.flat_core.proofs.Steps.{legal-entered, frames-quiet, or-false, room-entered, few-history}
-use Rattle.flat_core.proofs.ListLemmas.{flat-mapped, flat-each}
+use Rattle.flat_rules.proofs.ListLemmas.{flat-mapped, flat-each}
 
 map-twice : {A B C : Type 0} (f : B → C) (g : A → B) (xs : List A) → map f (map g xs) ≡ map (λ x. f (g x)) xs
 map-twice f g [] = refl

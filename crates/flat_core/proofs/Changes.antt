@@ -13,11 +13,11 @@ use Rattle.flat_scene.specs.Draft.{changed_at}
 use Rattle.flat_scene.specs.History.{◌▹◌, is_begin, is_finish, is_session, published, closes}
 use Rattle.flat_core.specs.declared.state.Account.{Account}
 use Rattle.flat_core.specs.declared.state.SessionState.{SessionState}
-use Rattle.flat_core.specs.Boards.{number}
-use Rattle.flat_core.specs.Kept.{IsKept, AllNumbered}
-use Rattle.flat_core.specs.Legal.{is_poll}
+use Rattle.flat_rules.specs.Numbers.{number, AllNumbered}
+use Rattle.flat_core.specs.Kept.{IsKept}
+use Rattle.flat_rules.specs.Legal.{is_poll}
 use Rattle.flat_core.specs.Seen.{Seen, seen_of, account_of, noted, makes_it}
-use Rattle.flat_core.proofs.Quiet.{closed-quiet, presents-quiet, taken-quiet, going-quiet, took-quiet}
+use Rattle.flat_rules.proofs.Quiet.{closed-quiet, presents-quiet, taken-quiet, going-quiet, took-quiet}
 
 -- another's entry changes nothing
 pub seen-other : (setup : Setup) (h : List Entry) (e : Entry) (s : SessionNo) → is_begin e.kind ≡ false → is_finish e.kind ≡ false → is_session s e.actor ≡ false

@@ -9,7 +9,7 @@ use Rattle.flat_scene.specs.declared.calls.Call.TheVariants.{ReleaseViewport, Cl
 use Rattle.flat_core.specs.declared.live.Live.{Live}
 use Rattle.flat_core.specs.declared.pairs.PairState.{PairState}
 use Rattle.flat_core.specs.Clears.{is_clear, is_cleared, clears_pair, cleared_if, ClearsOne, ClearsLive}
-use Rattle.flat_core.specs.Stamps.{stamp_then}
+use Rattle.flat_rules.specs.Stamps.{stamp_then}
 use Rattle.flat_core.proofs.Marks.{stamp-none}
 use Rattle.std.proofs.lemmas.Bool.{and_right}
 

@@ -8,8 +8,8 @@ use Rattle.std.specs.Prelude.{nat_lt, nat_le, slice_index_or, IsTrue}
 use Rattle.flat_scene.proofs.TakingLemmas.{taken-made}
 use Rattle.flat_core.specs.declared.clock.Clock.{Clock}
 use Rattle.flat_scene.specs.Setups.{is_declared}
-use Rattle.flat_core.specs.Boards.{Stands, number}
-use Rattle.flat_core.specs.Kept.{AllNumbered}
+use Rattle.flat_core.specs.Boards.{Stands}
+use Rattle.flat_rules.specs.Numbers.{number, AllNumbered}
 use Rattle.flat_scene.proofs.Together.{and-left, and-right}
 use Rattle.std.specs.Prelude.{cond, ◌&&◌, ◌==◌, take_while}
 use Rattle.flat_base.specs.declared.ids.SessionNo.{SessionNo}
@@ -21,7 +21,7 @@ use Rattle.flat_core.specs.declared.state.Account.{Account}
 use Rattle.flat_core.specs.declared.state.SessionState.{SessionState}
 use Rattle.flat_core.specs.Kept.{IsKept, taken_in, waiting_in, credits_in, release_of, kept_of, meant}
 use Rattle.flat_core.specs.Seen.{Seen, seen_of}
-use Rattle.flat_core.specs.Legal.{number_if}
+use Rattle.flat_rules.specs.Legal.{number_if}
 
 pub length-take_while : {A : Type 0} (p : A → Bool) (xs : List A) → length (take_while p xs) ≤ length xs
 length-take_while p xs = rw (length-prefix_len p xs) (prefix_len-le-length p xs)

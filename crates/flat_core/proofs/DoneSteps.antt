@@ -15,8 +15,8 @@ use Rattle.flat_core.specs.Viewports.{AreViewports}
 use Rattle.flat_core.specs.declared.state.SessionState.{SessionState}
 use Rattle.flat_core.specs.declared.viewports.Viewports.{Viewports}
 use Rattle.flat_core.specs.Begins.{finished}
-use Rattle.flat_core.specs.Boards.{number}
-use Rattle.flat_core.specs.Kept.{IsKept, AllNumbered, release_of}
+use Rattle.flat_rules.specs.Numbers.{number, AllNumbered}
+use Rattle.flat_core.specs.Kept.{IsKept, release_of}
 use Rattle.flat_core.specs.Seen.{seen_of}
 use Rattle.flat_core.proofs.BeginLoop.{same-side, this-side, not-below, none-below, all-below, sessions-on}
 use Rattle.flat_core.proofs.Changes.{changed-one}

@@ -15,10 +15,10 @@ use Rattle.flat_scene.specs.History.{◌▹◌, is_begin, is_finish, is_session,
 use Rattle.flat_scene.proofs.Steps.{presents-own, presents-other}
 use Rattle.flat_scene.proofs.TakingLemmas.{taken-made}
 use Rattle.flat_scene.proofs.Together.{and-left}
-use Rattle.flat_core.specs.Ends.{to_begin, to_finished, taken_calls, times}
-use Rattle.flat_core.specs.Legal.{Legal, is_frame_open, keeps_time, begin_time}
-use Rattle.flat_core.specs.Stamps.{is_seen, first_at}
-use Rattle.flat_core.proofs.Quiet.{taken-quiet}
+use Rattle.flat_rules.specs.Ends.{to_begin, to_finished, taken_calls, times}
+use Rattle.flat_rules.specs.Legal.{Legal, is_frame_open, keeps_time, begin_time}
+use Rattle.flat_rules.specs.Stamps.{is_seen, first_at}
+use Rattle.flat_rules.proofs.Quiet.{taken-quiet}
 use Rattle.flat_core.proofs.Stamped.{stamped, often-lasts}
 use Rattle.flat_core.proofs.ViewLaw.{made_at, made-earlier}
 use Rattle.std.proofs.lemmas.Bool.{not-true}

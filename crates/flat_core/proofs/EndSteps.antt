@@ -27,17 +27,18 @@ use Rattle.flat_core.specs.declared.state.Account.{Account}
 use Rattle.flat_core.specs.declared.state.SessionState.{SessionState}
 use Rattle.flat_core.specs.declared.ties.Ties.{Ties}
 use Rattle.flat_core.specs.declared.viewports.Viewports.{Viewports}
-use Rattle.flat_core.specs.Boards.{AreEnds, Machine, MayCall, Stands, due_back, entry_of, number}
-use Rattle.flat_core.specs.Ends.{uses_viewport, is_done, viewports_of}
+use Rattle.flat_core.specs.Boards.{AreEnds, Machine, MayCall, Stands, due_back, entry_of}
+use Rattle.flat_rules.specs.Numbers.{number}
+use Rattle.flat_rules.specs.Ends.{uses_viewport, is_done, viewports_of}
 use Rattle.flat_core.specs.Kept.{IsKept}
-use Rattle.flat_core.specs.Legal.{Legal, all_but_last, is_link, links_alone, makes_view, own_call, reply_to}
+use Rattle.flat_rules.specs.Legal.{Legal, all_but_last, is_link, links_alone, makes_view, own_call, reply_to}
 use Rattle.flat_core.specs.Following.{AreTied, UsesNone}
 use Rattle.flat_core.specs.Presents.{HasNone, IsNoted, IsOwn, EndsNoted}
 use Rattle.flat_core.specs.Seen.{is_new_viewport, seen_of}
 use Rattle.flat_core.specs.Viewports.{AreViewports, marked, out_of, outs_of}
 use Rattle.flat_core.proofs.Changes.{changed-one, not-session, is-session, sum-same}
 use Rattle.flat_core.proofs.Counts.{at-session, declared-some, kept-session, same-number}
-use Rattle.flat_core.proofs.ListLemmas.{flat_map-none}
+use Rattle.flat_rules.proofs.ListLemmas.{flat_map-none}
 use Rattle.flat_core.proofs.Ones.{declared-of}
 use Rattle.flat_core.proofs.Steps.{legal-entered}
 use Rattle.flat_core.proofs.TiesSteps.{tied-idle}

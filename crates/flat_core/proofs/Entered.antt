@@ -8,11 +8,12 @@ use Rattle.flat_scene.specs.declared.journal.Reply.{Reply}
 use Rattle.flat_scene.specs.History.{◌▹◌, is_begin, is_finish}
 use Rattle.flat_core.specs.declared.clock.Clock.{Clock}
 use Rattle.flat_core.specs.declared.state.SessionState.{SessionState}
-use Rattle.flat_core.specs.Boards.{Machine, MayCall, Stands, HasRoom, entry_of, number}
-use Rattle.flat_core.specs.Kept.{IsKept, AllNumbered}
-use Rattle.flat_core.specs.Legal.{Legal, reply_to}
+use Rattle.flat_core.specs.Boards.{Machine, MayCall, Stands, HasRoom, entry_of}
+use Rattle.flat_rules.specs.Numbers.{number, AllNumbered}
+use Rattle.flat_core.specs.Kept.{IsKept}
+use Rattle.flat_rules.specs.Legal.{Legal, reply_to}
 use Rattle.flat_core.specs.Logs.{Logged}
-use Rattle.flat_core.specs.Posts.{posts, posted}
+use Rattle.flat_rules.specs.Posts.{posts, posted}
 use Rattle.flat_core.specs.Seen.{seen_of}
 use Rattle.flat_core.proofs.Between.{is_viewport, posted-between}
 use Rattle.flat_core.proofs.Steps.{Changed, legal-entered, posts-none, room-entered, stands-entered}

@@ -12,14 +12,14 @@ use Rattle.flat_scene.specs.Setups.{is_declared}
 use Rattle.flat_core.specs.declared.live.Live.{Live}
 use Rattle.flat_core.specs.declared.live.OutToken.{OutToken}
 use Rattle.flat_core.specs.Begins.{finish_entry, took_event}
-use Rattle.flat_core.specs.Ends.{views_of, viewports_of, viewport_uses}
-use Rattle.flat_core.specs.Legal.{Legal, is_frame_open}
-use Rattle.flat_core.specs.Posts.{told_event, events_to, news_for, frame_took, tokens_back, up_to}
+use Rattle.flat_rules.specs.Ends.{views_of, viewports_of, viewport_uses}
+use Rattle.flat_rules.specs.Legal.{Legal, is_frame_open}
+use Rattle.flat_rules.specs.Posts.{told_event, events_to, news_for, frame_took, tokens_back, up_to}
 use Rattle.flat_core.specs.Viewports.{AreViewports, back_events}
-use Rattle.flat_core.specs.Watch.{layout_of, status_of, child_of}
+use Rattle.flat_rules.specs.Watch.{layout_of, status_of, child_of}
 use Rattle.flat_core.proofs.ViewportUses.{tokens-finish}
-use Rattle.flat_core.proofs.Watchers.{is_held, layouts-held, statuses-held, children-held}
-use Rattle.flat_core.proofs.ListLemmas.{flat-each}
+use Rattle.flat_rules.proofs.Watchers.{is_held, layouts-held, statuses-held, children-held}
+use Rattle.flat_rules.proofs.ListLemmas.{flat-each}
 
 -- the answers to a session's held gets, in order: layouts, statuses, children
 abbrev pub held_answers : Setup → List Entry → Entry → SessionNo → List Event

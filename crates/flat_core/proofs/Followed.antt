@@ -8,14 +8,14 @@ use Rattle.flat_scene.specs.declared.journal.Entry.{Entry}
 use Rattle.flat_scene.specs.declared.setup.Setup.{Setup}
 use Rattle.flat_scene.specs.History.{◌▹◌, own, calls, is_begin, is_closed, is_finish, is_session}
 use Rattle.flat_core.specs.declared.following.Following.{Following}
-use Rattle.flat_core.specs.Ends.{to_begin, to_finished}
+use Rattle.flat_rules.specs.Ends.{to_begin, to_finished}
 use Rattle.flat_core.specs.Following.{IsFollowed, capped, sight_of}
-use Rattle.flat_core.specs.Serials.{contents_made}
+use Rattle.flat_rules.specs.Serials.{contents_made}
 use Rattle.flat_core.specs.Views.{view_after}
 use Rattle.flat_core.proofs.PairIdle.{shut-stays}
 use Rattle.flat_core.proofs.PairTold.{view-own}
 use Rattle.flat_core.proofs.Serials.{contents-append}
-use Rattle.flat_core.proofs.ShownSteps.{closed-before}
+use Rattle.flat_rules.proofs.ShownSteps.{closed-before}
 
 module _ (setup : Setup) (s : SessionNo) (h : List Entry) (e : Entry) where
   begin-same : is_begin e.kind ≡ false → to_begin (h ▹ e) ≡ to_begin h

@@ -12,9 +12,9 @@ use Rattle.flat_scene.specs.declared.setup.Setup.{Setup}
 use Rattle.flat_scene.proofs.Together.{and-left, and-right}
 use Rattle.flat_core.specs.declared.live.Live.{Live}
 use Rattle.flat_core.specs.Clears.{is_cleared, clears_pair}
-use Rattle.flat_core.specs.Legal.{owns_view, owns_viewport, owns_in_call, is_link, all_but_last, number_if}
+use Rattle.flat_rules.specs.Legal.{owns_view, owns_viewport, owns_in_call, is_link, all_but_last, number_if}
 use Rattle.flat_core.specs.Lives.{lives_then, lives_after, clears_live, count_of}
-use Rattle.flat_core.specs.Shown.{is_pair}
+use Rattle.flat_rules.specs.Shown.{is_pair}
 use Rattle.flat_core.specs.Views.{view_then, view_after, ends_it, ends_of}
 use Rattle.std.proofs.lemmas.Bool.{or_parts}
 use Rattle.flat_core.proofs.ViewSteps.{same-pair}

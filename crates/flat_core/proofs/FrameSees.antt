@@ -21,26 +21,26 @@ use Rattle.flat_scene.specs.Effect.{draft_of}
 use Rattle.flat_scene.specs.Frames.{taken, takes}
 use Rattle.flat_scene.specs.History.{◌▹◌, is_begin, is_closed, is_finish, is_session, presents, Published}
 use Rattle.flat_scene.specs.Tree.{tree, use_of, all_nodes, head_of}
-use Rattle.flat_core.specs.Ends.{is_made_of, props_in, props_of, serials_of, taken_calls, to_begin, to_finished, viewport_uses}
-use Rattle.flat_core.specs.Legal.{Legal, owns_viewport}
-use Rattle.flat_core.specs.Serials.{IsUseSerial, contents_made, props_at_serial, serials_in}
-use Rattle.flat_core.specs.Shown.{last_taken, tree_of}
+use Rattle.flat_rules.specs.Ends.{is_made_of, props_in, props_of, serials_of, taken_calls, to_begin, to_finished, viewport_uses}
+use Rattle.flat_rules.specs.Legal.{Legal, owns_viewport}
+use Rattle.flat_rules.specs.Serials.{IsUseSerial, contents_made, props_at_serial, serials_in}
+use Rattle.flat_rules.specs.Shown.{last_taken, tree_of}
 use Rattle.flat_core.specs.Usage.{props_among, uses_in}
-use Rattle.flat_core.specs.Watch.{props_seen}
+use Rattle.flat_rules.specs.Watch.{props_seen}
 use Rattle.flat_watch.specs.Told.{or_else}
 use Rattle.flat_core.proofs.Earlier.{IsEarlier, calls-taken, legal-earlier, taken-fits}
 use Rattle.flat_core.proofs.Foreign.{owned-differs}
 use Rattle.flat_core.proofs.Lives.{pair_made}
-use Rattle.flat_core.proofs.Owned.{made_owned}
-use Rattle.flat_core.proofs.OwnedTree.{at-serial}
+use Rattle.flat_rules.proofs.Owned.{made_owned}
+use Rattle.flat_rules.proofs.OwnedTree.{at-serial}
 use Rattle.flat_core.proofs.PairSteps.{no-begin}
 use Rattle.flat_core.proofs.SerialSteps.{Has, seen-props, tree-some}
 use Rattle.flat_core.proofs.Serials.{draft-contents, serials-are, uses-props, either}
 use Rattle.flat_core.proofs.ShownFits.{IsGood, IsSound, MaySound, found-sound, presents-sound}
-use Rattle.flat_core.proofs.ShownSteps.{serial-zero}
+use Rattle.flat_rules.proofs.ShownSteps.{serial-zero}
 use Rattle.std.proofs.lemmas.Bool.{and_right}
 use Rattle.std.proofs.lemmas.List.{length-map}
-use Rattle.flat_core.proofs.ListLemmas.{serial-within}
+use Rattle.flat_rules.proofs.ListLemmas.{serial-within}
 
 -- ---- the viewports of a draft
 

@@ -13,10 +13,10 @@ use Rattle.flat_core.specs.declared.gets.HeldGet.{HeldGet}
 use Rattle.flat_core.specs.declared.gets.Watched.{Watched}
 use Rattle.flat_core.specs.declared.gets.Watched.TheVariants as watches
 use Rattle.flat_core.specs.Gets.{watched_by, watcher_for, watcher_of_held, held_with, held_of, news_of, answering, last_of, noted_one, noted_all}
-use Rattle.flat_core.specs.Local.{pair_watched}
-use Rattle.flat_core.specs.Watch.{Watcher, layout_of, status_of, child_of, watching, same_watcher}
+use Rattle.flat_rules.specs.Local.{pair_watched}
+use Rattle.flat_rules.specs.Watch.{Watcher, layout_of, status_of, child_of, watching, same_watcher}
 use Rattle.flat_core.proofs.GetHistory.{own-watcher}
-use Rattle.flat_core.proofs.SameWatchers.{same-is}
+use Rattle.flat_rules.proofs.SameWatchers.{same-is}
 use Rattle.std.proofs.lemmas.Bool.{or_parts}
 
 -- ---- one answer

@@ -27,24 +27,24 @@ use Rattle.flat_core.specs.declared.gets.HeldGet.{HeldGet}
 use Rattle.flat_core.specs.declared.gets.Watched.{Watched}
 use Rattle.flat_core.specs.declared.gets.Watched.TheVariants as watches
 use Rattle.flat_core.specs.Boards.{entry_of}
-use Rattle.flat_core.specs.Ends.{uses_view, uses_viewport, viewport_uses}
+use Rattle.flat_rules.specs.Ends.{uses_view, uses_viewport, viewport_uses}
 use Rattle.flat_core.specs.Gets.{watched_by, watcher_for, watched_of, held_with, held_by, held_of, helds_of, hears, watchers_of, is_held_in, with_held, news_of, answers_to, last_of, held_get, AreGets, Asks, IsAnswered}
-use Rattle.flat_core.specs.Legal.{Legal, MayEnter, answers, got, is_now, number_if, reply_to}
-use Rattle.flat_core.specs.Local.{pair_watched}
-use Rattle.flat_core.specs.Posts.{event_of}
-use Rattle.flat_core.specs.Watch.{Watcher, layout_of, status_of, child_of, watching, told, asked, same_watcher, watcher_of, watcher_in, watcher_of_made, is_watcher}
-use Rattle.flat_core.proofs.AllOrSome.{flat-nested}
-use Rattle.flat_core.proofs.SameWatchers.{same-is, same-sym}
-use Rattle.flat_core.proofs.EventsLocal.{flat-none}
+use Rattle.flat_rules.specs.Legal.{Legal, MayEnter, answers, got, is_now, number_if, reply_to}
+use Rattle.flat_rules.specs.Local.{pair_watched}
+use Rattle.flat_rules.specs.Posts.{event_of}
+use Rattle.flat_rules.specs.Watch.{Watcher, layout_of, status_of, child_of, watching, told, asked, same_watcher, watcher_of, watcher_in, watcher_of_made, is_watcher}
+use Rattle.flat_rules.proofs.AllOrSome.{flat-nested}
+use Rattle.flat_rules.proofs.SameWatchers.{same-is, same-sym}
+use Rattle.flat_rules.proofs.EventsLocal.{flat-none}
 use Rattle.flat_core.proofs.GetHistory.{own-watcher, hears-open, watchers-heard, watchers-more}
 use Rattle.flat_core.proofs.GetLists.{with-more}
 use Rattle.flat_core.proofs.GetOrder.{AreOwn, insert-held, meant-found, watchers-order}
 use Rattle.flat_core.proofs.GetOwners.{IsMeant, of_layout, of_status, of_child, get-meant, get-open, meant-heard}
 use Rattle.flat_core.proofs.GetSteps.{answers-more, quiet}
-use Rattle.flat_core.proofs.Still.{IsStill, told-same, watching-same}
+use Rattle.flat_rules.proofs.Still.{IsStill, told-same, watching-same}
 use Rattle.flat_core.proofs.ViewHistory.{closes-first}
-use Rattle.flat_core.proofs.Watchers.{after_get, got-one, unasked}
-use Rattle.flat_core.proofs.ListLemmas.{flat-each, not-some}
+use Rattle.flat_rules.proofs.Watchers.{after_get, got-one, unasked}
+use Rattle.flat_rules.proofs.ListLemmas.{flat-each, not-some}
 
 -- ---- what is kept of the watcher that a get means
 

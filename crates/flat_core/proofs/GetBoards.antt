@@ -17,16 +17,16 @@ use Rattle.flat_scene.specs.Setups.{is_declared}
 use Rattle.flat_scene.specs.History.{◌▹◌, is_closed, is_finish}
 use Rattle.flat_core.specs.declared.gets.Answered.{Answered}
 use Rattle.flat_core.specs.declared.gets.HeldGet.{HeldGet}
-use Rattle.flat_core.specs.Ends.{is_done, view_owner}
+use Rattle.flat_rules.specs.Ends.{is_done, view_owner}
 use Rattle.flat_core.specs.Gets.{helds_of, held_of, watchers_of, noted_all, started, unanswered, AllAnswered, AllUpTo, AnsweredUpTo, AreGets, Asks, Changes, IsAnswered, Settles}
-use Rattle.flat_core.specs.Kept.{AllNumbered}
-use Rattle.flat_core.specs.Legal.{Legal, owns_view, is_get}
-use Rattle.flat_core.specs.Local.{pair_watched}
-use Rattle.flat_core.specs.Watch.{Watcher, told, is_open, watcher_of}
+use Rattle.flat_rules.specs.Numbers.{AllNumbered}
+use Rattle.flat_rules.specs.Legal.{Legal, owns_view, is_get}
+use Rattle.flat_rules.specs.Local.{pair_watched}
+use Rattle.flat_rules.specs.Watch.{Watcher, told, is_open, watcher_of}
 use Rattle.flat_core.proofs.Between.{is_viewport}
 use Rattle.flat_core.proofs.GetEnds.{answered-between, answered-refused, answered-apart, answered-shut, answered-foreign, answered-joined, answered-started, answered-aside, answered-asked, upto-first, upto-next, upto-closed, upto-last}
-use Rattle.flat_core.proofs.ListLemmas.{flat_map-none}
-use Rattle.flat_core.proofs.OwnedTree.{pair_no}
+use Rattle.flat_rules.proofs.ListLemmas.{flat_map-none}
+use Rattle.flat_rules.proofs.OwnedTree.{pair_no}
 
 -- ---- lists with their places
 

@@ -16,9 +16,9 @@ use Rattle.flat_core.specs.declared.clock.Clock.{Clock}
 use Rattle.flat_core.specs.declared.state.SessionState.{SessionState}
 use Rattle.flat_core.specs.Boards.{HasRoom, Machine, MayCall, Stands, due, entry_of}
 use Rattle.flat_core.specs.Kept.{IsKept}
-use Rattle.flat_core.specs.Legal.{number_if, reply_to}
+use Rattle.flat_rules.specs.Legal.{number_if, reply_to}
 use Rattle.flat_core.specs.Logs.{Logged}
-use Rattle.flat_core.specs.Posts.{posts}
+use Rattle.flat_rules.specs.Posts.{posts}
 use Rattle.flat_core.specs.Presents.{after_get, with_calls}
 use Rattle.flat_core.specs.Seen.{seen_of}
 use Rattle.flat_core.specs.Watchers.{is_held}

@@ -21,13 +21,13 @@ use Rattle.flat_watch.specs.Told.{Watching, news, settled}
 use Rattle.flat_core.specs.declared.gets.Answered.{Answered}
 use Rattle.flat_core.specs.declared.gets.HeldGet.{HeldGet}
 use Rattle.flat_core.specs.declared.gets.Watched.{Watched}
-use Rattle.flat_core.specs.Ends.{is_done, uses_viewport, viewport_owner, viewport_uses, view_owner}
+use Rattle.flat_rules.specs.Ends.{is_done, uses_viewport, viewport_owner, viewport_uses, view_owner}
 use Rattle.flat_core.specs.Gets.{watched_by, watched_of, helds_of, hears, watchers_of, last_of, noted_all, answered_get, answering, reached, started, AnsweredAt, AnsweredUpTo, AreGets, Asks, IsAnswered}
-use Rattle.flat_core.specs.Legal.{Legal, got, may_act, session_may, owns_view, is_get}
-use Rattle.flat_core.specs.Local.{pair_watched}
-use Rattle.flat_core.specs.Watch.{Watcher, layout_of, status_of, child_of, watching, told, asked, is_open, listener, same_watcher, watcher_of, is_watcher}
-use Rattle.flat_core.proofs.AllOrSome.{any-same}
-use Rattle.flat_core.proofs.SameWatchers.{nothing-settled, same-is, same-sym}
+use Rattle.flat_rules.specs.Legal.{Legal, got, may_act, session_may, owns_view, is_get}
+use Rattle.flat_rules.specs.Local.{pair_watched}
+use Rattle.flat_rules.specs.Watch.{Watcher, layout_of, status_of, child_of, watching, told, asked, is_open, listener, same_watcher, watcher_of, is_watcher}
+use Rattle.flat_rules.proofs.AllOrSome.{any-same}
+use Rattle.flat_rules.proofs.SameWatchers.{nothing-settled, same-is, same-sym}
 use Rattle.flat_core.proofs.Between.{is_viewport}
 use Rattle.flat_core.proofs.GetAnswers.{Fits, noted-by, uses-answered, uses-kept, last-apart, last-among}
 use Rattle.flat_core.proofs.GetAsked.{Finds, found, other-rests, own-asked}
@@ -36,8 +36,8 @@ use Rattle.flat_core.proofs.GetOrder.{meant-found}
 use Rattle.flat_core.proofs.GetOwners.{others-unasked, IsMeant, of_layout, of_status, of_child, get-meant, get-open, meant-heard}
 use Rattle.flat_core.proofs.GetSteps.{idle-kind, rests-between, rests-joined, rests-refused}
 use Rattle.flat_core.proofs.ViewHistory.{same-session}
-use Rattle.flat_core.proofs.Watchers.{after_get, got-two, settled-now, unasked, unheld-stays}
-use Rattle.flat_core.proofs.ListLemmas.{not-some}
+use Rattle.flat_rules.proofs.Watchers.{after_get, got-two, settled-now, unasked, unheld-stays}
+use Rattle.flat_rules.proofs.ListLemmas.{not-some}
 
 -- ---- the child of no use
 

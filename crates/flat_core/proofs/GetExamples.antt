@@ -13,9 +13,9 @@ use Rattle.flat_scene.specs.History.{◌▹◌}
 use Rattle.flat_core.specs.declared.gets.HeldGet.{HeldGet}
 use Rattle.flat_core.specs.declared.gets.Watched.TheVariants as watches
 use Rattle.flat_core.specs.Gets.{IsAnswered, answers_to, helds_of, with_held}
-use Rattle.flat_core.specs.Legal.{answers}
-use Rattle.flat_core.specs.Watch.{no_inset, told}
-use Rattle.flat_core.proofs.Samples.{s, p, c, by, layout, present}
+use Rattle.flat_rules.specs.Legal.{answers}
+use Rattle.flat_rules.specs.Watch.{no_inset, told}
+use Rattle.flat_rules.proofs.Samples.{s, p, c, by, layout, present}
 
 -- session 2 has a view in a viewport of session 1
 abbrev setup : Setup

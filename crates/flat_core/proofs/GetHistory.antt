@@ -21,19 +21,19 @@ use Rattle.flat_scene.specs.Effect.{draft_of}
 use Rattle.flat_scene.specs.History.{◌▹◌, calls, is_closed, is_finish, is_begin, is_session}
 use Rattle.flat_watch.specs.Told.{Watching, answered_by, answer, news, settled}
 use Rattle.flat_core.specs.declared.gets.HeldGet.{HeldGet}
-use Rattle.flat_core.specs.Ends.{is_done, uses_viewport, view_owner, viewport_owner, viewport_uses, views_of, viewports_of}
+use Rattle.flat_rules.specs.Ends.{is_done, uses_viewport, view_owner, viewport_owner, viewport_uses, views_of, viewports_of}
 use Rattle.flat_core.specs.Gets.{watched_by, watcher_for, held_with, held_by, held_of, helds_of, hears, watchers_of, news_of, answers_to, still_held}
-use Rattle.flat_core.specs.Legal.{owns_view, owns_viewport}
-use Rattle.flat_core.specs.Local.{pair_watched}
-use Rattle.flat_core.specs.Posts.{told_event, event_of, events_to, at_finish, at_begin, up_to}
-use Rattle.flat_core.specs.Watch.{Watcher, layout_of, status_of, child_of, watching, told, asked, is_open, listener, watcher_of, watcher_in, watcher_of_made, is_watcher}
-use Rattle.flat_core.proofs.AllOrSome.{all-append, all-every, all-flat, all-map, flat-nested}
-use Rattle.flat_core.proofs.SameWatchers.{nothing-settled}
+use Rattle.flat_rules.specs.Legal.{owns_view, owns_viewport}
+use Rattle.flat_rules.specs.Local.{pair_watched}
+use Rattle.flat_rules.specs.Posts.{told_event, event_of, events_to, at_finish, at_begin, up_to}
+use Rattle.flat_rules.specs.Watch.{Watcher, layout_of, status_of, child_of, watching, told, asked, is_open, listener, watcher_of, watcher_in, watcher_of_made, is_watcher}
+use Rattle.flat_rules.proofs.AllOrSome.{all-append, all-every, all-flat, all-map, flat-nested}
+use Rattle.flat_rules.proofs.SameWatchers.{nothing-settled}
 use Rattle.std.proofs.lemmas.Grind.{flat_map-append}
-use Rattle.flat_core.proofs.EventsLocal.{flat-same, views-owned, viewports-owned, hears-viewport}
-use Rattle.flat_core.proofs.Watchers.{settled-now, unasked}
+use Rattle.flat_rules.proofs.EventsLocal.{flat-same, views-owned, viewports-owned, hears-viewport}
+use Rattle.flat_rules.proofs.Watchers.{settled-now, unasked}
 use Rattle.flat_core.proofs.ViewportSteps.{flat-filtered}
-use Rattle.flat_core.proofs.ListLemmas.{flat-each}
+use Rattle.flat_rules.proofs.ListLemmas.{flat-each}
 use Rattle.std.proofs.lemmas.List.Folds.{flat_map-map}
 
 -- ---- who hears

@@ -17,9 +17,9 @@ use Rattle.flat_core.specs.declared.gets.HeldGet.{HeldGet}
 use Rattle.flat_core.specs.declared.gets.Watched.{Watched}
 use Rattle.flat_core.specs.Begins.{post_of}
 use Rattle.flat_core.specs.Gets.{watched_of, last_of, comes_before, is_held_in, with_held, place_in, news_of, answers_to, still_held, noted_one, noted_all, answered_get, held_get, Changes, Answers, Asks}
-use Rattle.flat_core.specs.Legal.{got}
-use Rattle.flat_core.specs.Posts.{event_of}
-use Rattle.flat_core.specs.Watch.{Watcher}
+use Rattle.flat_rules.specs.Legal.{got}
+use Rattle.flat_rules.specs.Posts.{event_of}
+use Rattle.flat_rules.specs.Watch.{Watcher}
 
 -- ---- places
 

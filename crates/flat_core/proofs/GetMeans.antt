@@ -13,9 +13,9 @@ use Rattle.flat_scene.specs.declared.setup.PairDecl.{PairDecl}
 use Rattle.flat_scene.specs.declared.setup.Setup.{Setup}
 use Rattle.flat_scene.specs.History.{is_session}
 use Rattle.flat_core.specs.Boards.{entry_of}
-use Rattle.flat_core.specs.Legal.{Legal, MayEnter, owns_view, owns_viewport, reply_to}
-use Rattle.flat_core.specs.Local.{pair_watched}
-use Rattle.flat_core.specs.Watch.{Watcher, watcher_of}
+use Rattle.flat_rules.specs.Legal.{Legal, MayEnter, owns_view, owns_viewport, reply_to}
+use Rattle.flat_rules.specs.Local.{pair_watched}
+use Rattle.flat_rules.specs.Watch.{Watcher, watcher_of}
 use Rattle.flat_core.proofs.GetOwners.{IsMeant, of_layout, of_status, of_child, get-meant}
 
 -- ---- declared pairs

@@ -11,14 +11,14 @@ use Rattle.flat_scene.specs.declared.setup.PairDecl.{PairDecl}
 use Rattle.flat_scene.specs.declared.setup.Setup.{Setup}
 use Rattle.flat_scene.specs.History.{is_session}
 use Rattle.flat_core.specs.declared.gets.HeldGet.{HeldGet}
-use Rattle.flat_core.specs.Ends.{pairs_where, views_of, viewports_of, viewport_uses}
+use Rattle.flat_rules.specs.Ends.{pairs_where, views_of, viewports_of, viewport_uses}
 use Rattle.flat_core.specs.Gets.{rank, use_of, watched_by, comes_before, with_held, watchers_of}
-use Rattle.flat_core.specs.Legal.{owns_view, owns_viewport}
-use Rattle.flat_core.specs.Local.{pair_watched}
-use Rattle.flat_core.specs.Posts.{up_to}
-use Rattle.flat_core.specs.Watch.{Watcher, layout_of, status_of, child_of, same_watcher}
-use Rattle.flat_core.proofs.AllOrSome.{all-append, all-every, all-flat, all-map, any-flat, any-map}
-use Rattle.flat_core.proofs.SameWatchers.{same-is}
+use Rattle.flat_rules.specs.Legal.{owns_view, owns_viewport}
+use Rattle.flat_rules.specs.Local.{pair_watched}
+use Rattle.flat_rules.specs.Posts.{up_to}
+use Rattle.flat_rules.specs.Watch.{Watcher, layout_of, status_of, child_of, same_watcher}
+use Rattle.flat_rules.proofs.AllOrSome.{all-append, all-every, all-flat, all-map, any-flat, any-map}
+use Rattle.flat_rules.proofs.SameWatchers.{same-is}
 use Rattle.std.proofs.lemmas.List.Folds.{list_any-append}
 use Rattle.flat_core.proofs.GetOwners.{IsMeant, of_layout, of_status, of_child}
 use Rattle.std.proofs.lemmas.Bool.{or_right, or_left, and_from}

@@ -17,24 +17,24 @@ use Rattle.flat_scene.specs.declared.setup.Setup.{Setup}
 use Rattle.flat_scene.specs.Draft.{Draft, Made, an_image, a_fill, a_viewport, of_serial, content_of}
 use Rattle.flat_scene.specs.Effect.{draft_of}
 use Rattle.flat_scene.specs.History.{◌▹◌, calls, is_closed, is_session}
-use Rattle.flat_core.specs.Ends.{view_owner, viewport_uses}
+use Rattle.flat_rules.specs.Ends.{view_owner, viewport_uses}
 use Rattle.flat_core.specs.Gets.{hears}
-use Rattle.flat_core.specs.Legal.{Legal, MayEnter, is_link, owns_view, owns_viewport}
-use Rattle.flat_core.specs.Serials.{contents_made, serials_in}
-use Rattle.flat_core.specs.Shown.{is_pair}
-use Rattle.flat_core.specs.Watch.{Watcher, layout_of, status_of, child_of, asked, listener, watcher_of, watcher_in, watcher_of_made, is_watcher, same_watcher}
+use Rattle.flat_rules.specs.Legal.{Legal, MayEnter, is_link, owns_view, owns_viewport}
+use Rattle.flat_rules.specs.Serials.{contents_made, serials_in}
+use Rattle.flat_rules.specs.Shown.{is_pair}
+use Rattle.flat_rules.specs.Watch.{Watcher, layout_of, status_of, child_of, asked, listener, watcher_of, watcher_in, watcher_of_made, is_watcher, same_watcher}
 use Rattle.flat_core.proofs.GetHistory.{owner-hears}
 use Rattle.flat_core.proofs.LiveCounts.{made-append}
 use Rattle.flat_core.proofs.Lives.{pair_made}
-use Rattle.flat_core.proofs.Owned.{IsOwned, draft-owned, made_owned, view_owned}
-use Rattle.flat_core.proofs.OwnedTree.{at-serial}
+use Rattle.flat_rules.proofs.Owned.{IsOwned, draft-owned, made_owned, view_owned}
+use Rattle.flat_rules.proofs.OwnedTree.{at-serial}
 use Rattle.flat_core.proofs.Serials.{draft-contents, serials-count}
-use Rattle.flat_core.proofs.SameWatchers.{same-is}
-use Rattle.flat_core.proofs.ShownOwned.{all-calls-owned, ok-is}
+use Rattle.flat_rules.proofs.SameWatchers.{same-is}
+use Rattle.flat_rules.proofs.ShownOwned.{all-calls-owned, ok-is}
 use Rattle.flat_core.proofs.Uses.{uses-made, none-made}
-use Rattle.flat_core.proofs.Watchers.{unasked}
+use Rattle.flat_rules.proofs.Watchers.{unasked}
 use Rattle.std.proofs.lemmas.Bool.{not-true}
-use Rattle.flat_core.proofs.WatchLocal.{one-viewport}
+use Rattle.flat_rules.proofs.WatchLocal.{one-viewport}
 
 -- ---- a viewport of a draft was used
 

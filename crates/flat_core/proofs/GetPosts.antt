@@ -28,12 +28,12 @@ use Rattle.flat_core.specs.declared.gets.HeldGet.{HeldGet}
 use Rattle.flat_core.specs.declared.live.Live.{Live}
 use Rattle.flat_core.specs.declared.live.OutToken.{OutToken}
 use Rattle.flat_core.specs.Begins.{finish_entry, finished, post_of}
-use Rattle.flat_core.specs.Ends.{is_done, pair_of, uses_view, view_owner, view_uses}
+use Rattle.flat_rules.specs.Ends.{is_done, pair_of, uses_view, view_owner, view_uses}
 use Rattle.flat_core.specs.Gets.{answers_to, held_get, helds_of, Asks, Settles}
-use Rattle.flat_core.specs.Legal.{Legal, MayEnter, is_frame_open, owns_view, is_get}
-use Rattle.flat_core.specs.Posts.{events_to, frame_took, posts}
+use Rattle.flat_rules.specs.Legal.{Legal, MayEnter, is_frame_open, owns_view, is_get}
+use Rattle.flat_rules.specs.Posts.{events_to, frame_took, posts}
 use Rattle.flat_core.specs.Viewports.{AreViewports, back_events}
-use Rattle.flat_core.specs.Watch.{Watcher, layout_of, status_of, child_of, told}
+use Rattle.flat_rules.specs.Watch.{Watcher, layout_of, status_of, child_of, told}
 use Rattle.flat_core.proofs.BeginLoop.{flat-on}
 use Rattle.flat_core.proofs.Between.{events-joined}
 use Rattle.flat_core.proofs.BoardBegins.{posts-all}

@@ -26,24 +26,24 @@ use Rattle.flat_scene.specs.History.{◌▹◌, own, is_closed, is_finish, is_be
 use Rattle.flat_watch.specs.Told.{Watching, answer, settled}
 use Rattle.flat_core.specs.declared.gets.Answered.{Answered}
 use Rattle.flat_core.specs.declared.gets.HeldGet.{HeldGet}
-use Rattle.flat_core.specs.Ends.{is_done, to_begin, view_owner, uses_view, uses_viewport, view_uses, viewports_of}
+use Rattle.flat_rules.specs.Ends.{is_done, to_begin, view_owner, uses_view, uses_viewport, view_uses, viewports_of}
 use Rattle.flat_core.specs.Gets.{held_of, helds_of, hears, watchers_of, news_of, answers_to, still_held, AreGets, Settles}
-use Rattle.flat_core.specs.Legal.{Legal, answers, asked_of, has_token, is_now, is_told, number_if, owns_view, refused_token, reply_to, reply_to_present, value_of, is_get}
-use Rattle.flat_core.specs.Local.{pair_watched}
-use Rattle.flat_core.specs.Posts.{releases_seen, event_of, events_to, at_finish, at_begin, frame_took, tokens_back}
-use Rattle.flat_core.specs.Watch.{Watcher, layout_of, status_of, child_of, watching, told, asked, asked_in, is_open, listener, same_watcher}
+use Rattle.flat_rules.specs.Legal.{Legal, answers, asked_of, has_token, is_now, is_told, number_if, owns_view, refused_token, reply_to, reply_to_present, value_of, is_get}
+use Rattle.flat_rules.specs.Local.{pair_watched}
+use Rattle.flat_rules.specs.Posts.{releases_seen, event_of, events_to, at_finish, at_begin, frame_took, tokens_back}
+use Rattle.flat_rules.specs.Watch.{Watcher, layout_of, status_of, child_of, watching, told, asked, asked_in, is_open, listener, same_watcher}
 use Rattle.flat_core.proofs.Between.{is_viewport, fresh-view}
-use Rattle.flat_core.proofs.EventsLocal.{rest-none, flat-none}
-use Rattle.flat_core.proofs.AllOrSome.{flat-nested}
+use Rattle.flat_rules.proofs.EventsLocal.{rest-none, flat-none}
+use Rattle.flat_rules.proofs.AllOrSome.{flat-nested}
 use Rattle.flat_core.proofs.GetHistory.{owner-heard, event-after, helds-kept, helds-settled, hears-open, told-part, watchers-heard}
 use Rattle.flat_core.proofs.GetLists.{answered-or-held}
 use Rattle.flat_core.proofs.GetOwners.{others-unasked}
-use Rattle.flat_core.proofs.ShownSteps.{closed-before}
-use Rattle.flat_core.proofs.Still.{IsStill, watching-same, child-rests}
+use Rattle.flat_rules.proofs.ShownSteps.{closed-before}
+use Rattle.flat_rules.proofs.Still.{IsStill, watching-same, child-rests}
 use Rattle.flat_core.proofs.Unwatched.{unwatched, is_layout, is_status}
 use Rattle.flat_core.proofs.ViewHistory.{used_in}
 use Rattle.flat_core.proofs.ViewSteps.{same-pair}
-use Rattle.flat_core.proofs.Watchers.{settled-now, unheld-stays}
+use Rattle.flat_rules.proofs.Watchers.{settled-now, unheld-stays}
 use Rattle.std.proofs.lemmas.Bool.{and_right}
 
 -- ---- which events tell

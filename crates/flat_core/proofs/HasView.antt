@@ -13,8 +13,8 @@ use Rattle.flat_scene.specs.Frames.{taken}
 use Rattle.flat_scene.specs.History.{is_closed, presents}
 use Rattle.flat_scene.proofs.TakingLemmas.{taken-made}
 use Rattle.flat_scene.proofs.Together.{and-left, and-right, or-cases}
-use Rattle.flat_core.specs.Ends.{view_owner, views_of, pairs_where, ends_view, is_view_lost, has_view, loses, has_ended}
-use Rattle.flat_core.specs.Legal.{Legal, owns_view}
+use Rattle.flat_rules.specs.Ends.{view_owner, views_of, pairs_where, ends_view, is_view_lost, has_view, loses, has_ended}
+use Rattle.flat_rules.specs.Legal.{Legal, owns_view}
 use Rattle.flat_core.specs.Seen.{has_viewed, stood_at}
 use Rattle.flat_core.proofs.Counts.{le-of}
 use Rattle.flat_core.proofs.ViewHistory.{ViewingOf, viewing-of, used_in}

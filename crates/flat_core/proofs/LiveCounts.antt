@@ -12,10 +12,10 @@ use Rattle.flat_scene.specs.Draft.{Draft, Made, an_image, a_fill, a_viewport, Na
 use Rattle.flat_scene.specs.Effect.{effect, after_calls, unless, draft_of}
 use Rattle.flat_scene.specs.Misuse.{misuse}
 use Rattle.flat_core.specs.declared.live.Live.{Live}
-use Rattle.flat_core.specs.Ends.{times, count_if, is_made_of, is_viewport_of, releases_viewport, clears_viewport}
-use Rattle.flat_core.specs.Legal.{number_if}
+use Rattle.flat_rules.specs.Ends.{times, count_if, is_made_of, is_viewport_of, releases_viewport, clears_viewport}
+use Rattle.flat_rules.specs.Legal.{number_if}
 use Rattle.flat_core.specs.Lives.{lives_then, lives_after, pair_named, held_of, releases_live, clears_live, count_of, makes_one, made_of_pair}
-use Rattle.flat_core.specs.Shown.{is_pair}
+use Rattle.flat_rules.specs.Shown.{is_pair}
 use Rattle.flat_core.proofs.Lives.{pair_made, pair_at, live_at, serial_at, lives_by, serials_by, lives_of, IsTidy, tidy-empty, pair-named}
 use Rattle.flat_core.proofs.LiveSteps.{Follows, follows}
 use Rattle.flat_core.proofs.ViewCalls.{after-refused, good-one}

@@ -7,11 +7,11 @@ use Rattle.flat_scene.specs.declared.calls.Call.{Call}
 use Rattle.flat_scene.specs.declared.calls.Call.TheVariants.{CreateViewport, ReleaseViewport, Clear}
 use Rattle.flat_core.specs.declared.live.Live.{Live}
 use Rattle.flat_core.specs.declared.live.OutToken.{OutToken}
-use Rattle.flat_core.specs.Legal.{number_if}
+use Rattle.flat_rules.specs.Legal.{number_if}
 use Rattle.flat_core.specs.Seen.{is_new_viewport}
 use Rattle.flat_core.specs.Lives.{lives_then, lives_after, pair_named, count_of, releases_live}
-use Rattle.flat_core.specs.Shown.{is_pair}
-use Rattle.flat_core.specs.Stamps.{stamp_then}
+use Rattle.flat_rules.specs.Shown.{is_pair}
+use Rattle.flat_rules.specs.Stamps.{stamp_then}
 use Rattle.flat_core.specs.Viewports.{marked, marked_by}
 
 abbrev with_stamp : OutToken → Option ℕ → OutToken

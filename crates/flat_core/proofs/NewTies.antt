@@ -9,9 +9,9 @@ use Rattle.flat_scene.specs.Frames.{sessions_to}
 use Rattle.flat_core.specs.declared.following.Following.{Following}
 use Rattle.flat_core.specs.declared.following.Sight.{Sight}
 use Rattle.flat_core.specs.declared.pairs.PairState.{PairState}
-use Rattle.flat_core.specs.Boards.{number}
+use Rattle.flat_rules.specs.Numbers.{number}
 use Rattle.flat_core.specs.Following.{AreTied, IsFollowed, IsPairKept, sight_of, pair}
-use Rattle.flat_core.specs.Shown.{shown, shown_states, is_connected}
+use Rattle.flat_rules.specs.Shown.{shown, shown_states, is_connected}
 use Rattle.flat_topology.specs.Join.{viewer_from, led_to, led_from, sessions_in, join}
 use Rattle.flat_topology.specs.Pairs.{display_pair}
 use Rattle.flat_topology.specs.Shown.{Shown}

@@ -1,6 +1,6 @@
 -- An entry of a session that changes only what is kept of that session, and one that only carries calls.
 use Rattle.std.proofs.Common.{◌≡◌, ℕ, suc, ◌+◌, ◌-◌, ◌<◌, Bool, true, false, List, length, refl, arith, sym, ◌∙◌, ap, slice_set, slice_index_or, subst}
-use Rattle.std.specs.Prelude.{cond, sum_by, nat_le, IsTrue, Option, Some, None}
+use Rattle.std.specs.Prelude.{sum_by, IsTrue, Option, Some, None}
 use Rattle.std.proofs.lemmas.List.{length-set}
 use Rattle.flat_base.specs.declared.errors.Reason.{Reason}
 use Rattle.flat_base.specs.declared.ids.Actor.{Actor}
@@ -12,7 +12,7 @@ use Rattle.flat_scene.specs.declared.journal.Entry.{Entry}
 use Rattle.flat_scene.specs.declared.journal.Kind.{Kind}
 use Rattle.flat_scene.specs.declared.journal.Kind.TheVariants.{Close, Signal, End, Wait}
 use Rattle.flat_scene.specs.declared.journal.Reply.{Reply}
-use Rattle.flat_scene.specs.declared.journal.Reply.TheVariants.{Done, Met, Unmet}
+use Rattle.flat_scene.specs.declared.journal.Reply.TheVariants.{Done}
 use Rattle.flat_scene.specs.declared.script.Cond.{Cond}
 use Rattle.flat_scene.specs.declared.setup.Setup.{Setup}
 use Rattle.flat_scene.specs.Draft.{changed_at}
@@ -21,9 +21,10 @@ use Rattle.flat_scene.specs.Setups.{is_declared}
 use Rattle.flat_scene.proofs.Together.{and-right}
 use Rattle.flat_core.specs.declared.clock.Clock.{Clock}
 use Rattle.flat_core.specs.declared.state.SessionState.{SessionState}
-use Rattle.flat_core.specs.Boards.{Machine, MayCall, Stands, HasRoom, entry_of, number, due}
-use Rattle.flat_core.specs.Kept.{IsKept, AllNumbered}
-use Rattle.flat_core.specs.Legal.{reply_to, may_act, session_may, waited}
+use Rattle.flat_core.specs.Boards.{Machine, MayCall, Stands, HasRoom, entry_of, due}
+use Rattle.flat_rules.specs.Numbers.{number, AllNumbered}
+use Rattle.flat_core.specs.Kept.{IsKept}
+use Rattle.flat_rules.specs.Legal.{reply_to, may_act, session_may}
 use Rattle.flat_core.specs.Logs.{Logged}
 use Rattle.flat_core.specs.Presents.{reply_to_close, noted_in, with_calls, IsPlaced}
 use Rattle.flat_core.specs.Seen.{seen_of}
@@ -32,7 +33,7 @@ use Rattle.flat_core.proofs.Counts.{kept-session, declared-some, lt-of, same-num
 use Rattle.flat_core.proofs.Between.{is_viewport}
 use Rattle.flat_core.proofs.Entered.{Entered, kept-entered}
 use Rattle.flat_core.proofs.Steps.{Changed}
-use Rattle.flat_core.proofs.ListLemmas.{length-changed}
+use Rattle.flat_rules.proofs.ListLemmas.{length-changed}
 
 pub declared-of : (setup : Setup) (kind : Kind) (s : SessionNo) → may_act setup kind (Session s) ≡ true → IsTrue (is_declared setup s)
 declared-of setup kind s may = and-right (session_may kind) (is_declared setup s) may
@@ -162,13 +163,6 @@ plain-wait who line calls c reply = record { no_begin = refl; no_finish = refl; 
 
 pub plain-close : (who : Actor) (line : ℕ) (calls : List Call) (why : Option Reason) (reply : Reply) → IsPlainOne (entry_of who line calls (Close why) reply)
 plain-close who line calls why reply = record { no_begin = refl; no_finish = refl; no_poll = refl; no_view = refl; none = λ made. refl }
-
-closes-met : (met : Bool) (v : ℕ) → closes (cond met (Met v) (Unmet v)) ≡ false
-closes-met true v = refl
-closes-met false v = refl
-
-pub closes-waited : (wanted v : ℕ) → closes (waited wanted v) ≡ false
-closes-waited wanted v = closes-met (nat_le wanted v) v
 
 pub reply-close : (setup : Setup) (h : List Entry) (who : Actor) (calls : List Call) (why : Option Reason) → reply_to setup h who calls (Close why) ≡ reply_to_close why
 reply-close setup h who calls None = refl

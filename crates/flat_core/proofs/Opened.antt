@@ -14,12 +14,13 @@ use Rattle.flat_base.specs.declared.ids.SessionNo.{SessionNo}
 use Rattle.flat_scene.specs.declared.setup.Setup.{Setup}
 use Rattle.flat_fence.specs.Fences.{has}
 use Rattle.flat_core.specs.declared.state.SessionState.{SessionState}
-use Rattle.flat_core.specs.Boards.{Stands, HasRoom, due, number}
+use Rattle.flat_core.specs.Boards.{Stands, HasRoom, due}
+use Rattle.flat_rules.specs.Numbers.{number}
 use Rattle.flat_core.specs.Kept.{IsKept, Below}
 use Rattle.flat_core.specs.Logs.{Logged}
 use Rattle.flat_core.specs.Presents.{IsNew}
 use Rattle.flat_core.specs.Seen.{seen_of}
-use Rattle.flat_core.proofs.ListLemmas.{All-none}
+use Rattle.flat_rules.proofs.ListLemmas.{All-none}
 
 kept-new : (setup : Setup) (s : SessionNo) (state : SessionState) → IsNew state → IsKept setup (seen_of setup [] s) state
 kept-new setup s state new = record {

@@ -15,12 +15,12 @@ use Rattle.flat_scene.specs.declared.setup.Setup.{Setup}
 use Rattle.flat_scene.specs.History.{◌▹◌, own, calls, closes, is_closed, is_end, is_finish, is_session, presents, published, Published}
 use Rattle.flat_scene.proofs.Steps.{presents-own}
 use Rattle.flat_core.specs.declared.pairs.PairState.{PairState}
-use Rattle.flat_core.specs.Ends.{clears_viewport, ends_view, happens, is_done, uses_viewport, viewport_owner, viewport_uses}
+use Rattle.flat_rules.specs.Ends.{clears_viewport, ends_view, happens, is_done, uses_viewport, viewport_owner, viewport_uses}
 use Rattle.flat_core.specs.Following.{IsPairKept, IsSerialKept}
-use Rattle.flat_core.specs.Legal.{Legal, goes_on}
-use Rattle.flat_core.specs.Serials.{IsUseSerial}
-use Rattle.flat_core.specs.Stamps.{IsStamp, is_seen}
-use Rattle.flat_core.specs.Watch.{props_given, props_seen}
+use Rattle.flat_rules.specs.Legal.{Legal, goes_on}
+use Rattle.flat_rules.specs.Serials.{IsUseSerial}
+use Rattle.flat_rules.specs.Stamps.{IsStamp, is_seen}
+use Rattle.flat_rules.specs.Watch.{props_given, props_seen}
 use Rattle.flat_core.proofs.PairSteps.{owner-owns}
 use Rattle.flat_core.proofs.SerialSteps.{Has, serial-other}
 use Rattle.flat_core.proofs.StampSteps.{other-stamp}

@@ -18,20 +18,20 @@ use Rattle.flat_scene.proofs.Together.{and-left, and-right}
 use Rattle.flat_core.specs.declared.live.Live.{Live}
 use Rattle.flat_core.specs.declared.pairs.PairState.{PairState}
 use Rattle.flat_core.specs.Clears.{clears_pair, cleared_if}
-use Rattle.flat_core.specs.Ends.{clears_viewport, ends_view, happens, is_done, uses_viewport, view_owner, viewport_owner, viewport_uses}
+use Rattle.flat_rules.specs.Ends.{clears_viewport, ends_view, happens, is_done, uses_viewport, view_owner, viewport_owner, viewport_uses}
 use Rattle.flat_core.specs.Following.{IsOwnEntry, IsPairKept, IsSerialKept, pair}
-use Rattle.flat_core.specs.Legal.{Legal, all_but_last, is_link, links_alone, may_act, owns_in_call, owns_view, owns_viewport, session_may}
+use Rattle.flat_rules.specs.Legal.{Legal, all_but_last, is_link, links_alone, may_act, owns_in_call, owns_view, owns_viewport, session_may}
 use Rattle.flat_core.specs.Lives.{clears_live, count_of}
-use Rattle.flat_core.specs.Serials.{IsUseSerial}
-use Rattle.flat_core.specs.Shown.{is_pair}
-use Rattle.flat_core.specs.Stamps.{IsStamp, stamp_then}
+use Rattle.flat_rules.specs.Serials.{IsUseSerial}
+use Rattle.flat_rules.specs.Shown.{is_pair}
+use Rattle.flat_rules.specs.Stamps.{IsStamp, stamp_then}
 use Rattle.flat_core.specs.Views.{ended_by, ends_of, view_after}
-use Rattle.flat_core.specs.Watch.{props_given, props_seen}
+use Rattle.flat_rules.specs.Watch.{props_given, props_seen}
 use Rattle.flat_core.proofs.Foreign.{AreTame, clears-count, foreign-live, foreign-view}
 use Rattle.flat_core.proofs.Marks.{stamp-none}
 use Rattle.flat_core.proofs.PairTold.{clear-stamp, view-stamp}
 use Rattle.flat_core.proofs.SerialSteps.{serial-closing, serial-other, serial-own}
-use Rattle.flat_core.proofs.ShownOwned.{all-calls-owned}
+use Rattle.flat_rules.proofs.ShownOwned.{all-calls-owned}
 use Rattle.flat_core.proofs.StampSteps.{other-stamp}
 use Rattle.flat_core.proofs.Stamped.{happening-lasts}
 use Rattle.flat_core.proofs.ViewHistory.{same-session}

@@ -16,13 +16,13 @@ use Rattle.flat_scene.specs.Frames.{taken}
 use Rattle.flat_scene.specs.History.{◌▹◌, calls, closes, is_closed, is_session, presents}
 use Rattle.flat_scene.specs.Misuse.{misuse}
 use Rattle.flat_core.specs.declared.live.Live.{Live}
-use Rattle.flat_core.specs.Ends.{times, happens, ends_view, clears_viewport, loses, is_viewport_lost, is_view_lost, viewport_owner, view_owner, to_finished}
-use Rattle.flat_core.specs.Legal.{Legal, number_if}
+use Rattle.flat_rules.specs.Ends.{times, happens, ends_view, clears_viewport, loses, is_viewport_lost, is_view_lost, viewport_owner, view_owner, to_finished}
+use Rattle.flat_rules.specs.Legal.{Legal, number_if}
 use Rattle.flat_core.specs.Lives.{lives_after, clears_live, count_of}
-use Rattle.flat_core.specs.Shown.{is_pair, shown_view, is_connected}
-use Rattle.flat_core.specs.Stamps.{IsStamp, is_seen, stamp_then}
+use Rattle.flat_rules.specs.Shown.{is_pair, shown_view, is_connected}
+use Rattle.flat_rules.specs.Stamps.{IsStamp, is_seen, stamp_then}
 use Rattle.flat_core.specs.Views.{view_then, view_after, ends_it, ends_of, layout_by, status_by, child_by}
-use Rattle.flat_core.specs.Watch.{told, layout_of, status_of, child_of, are_joined, props_told}
+use Rattle.flat_rules.specs.Watch.{told, layout_of, status_of, child_of, are_joined, props_told}
 use Rattle.flat_core.proofs.Earlier.{finished-earlier}
 use Rattle.flat_core.proofs.LiveCounts.{lived-all, lived, Lived, count-is}
 use Rattle.flat_core.proofs.StampSteps.{own-stamp, stamp-ended}

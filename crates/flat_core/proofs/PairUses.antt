@@ -22,15 +22,15 @@ use Rattle.flat_scene.proofs.Together.{and-left}
 use Rattle.flat_core.specs.declared.live.Live.{Live}
 use Rattle.flat_core.specs.declared.pairs.PairState.{PairState}
 use Rattle.flat_core.specs.Clears.{clears_pair, cleared_if}
-use Rattle.flat_core.specs.Ends.{is_done, live_props, props_of, serials_of, taken_calls, to_begin, uses_viewport, viewport_uses}
+use Rattle.flat_rules.specs.Ends.{is_done, live_props, props_of, serials_of, taken_calls, to_begin, uses_viewport, viewport_uses}
 use Rattle.flat_core.specs.Following.{IsOwnEntry, IsPairKept, capped, pair}
-use Rattle.flat_core.specs.Legal.{makes_viewport, owns_in_call, owns_all, owns_in_kind, owns_viewport, own_call}
+use Rattle.flat_rules.specs.Legal.{makes_viewport, owns_in_call, owns_all, owns_in_kind, owns_viewport, own_call}
 use Rattle.flat_core.specs.Lives.{made_of_pair}
-use Rattle.flat_core.specs.Serials.{IsUseSerial, contents_made, serials_in}
-use Rattle.flat_core.specs.Stamps.{made_by}
+use Rattle.flat_rules.specs.Serials.{IsUseSerial, contents_made, serials_in}
+use Rattle.flat_rules.specs.Stamps.{made_by}
 use Rattle.flat_core.specs.Usage.{IsUse, used_by}
 use Rattle.flat_core.specs.Views.{ended_by, view_after}
-use Rattle.flat_core.specs.Watch.{props_at, props_given, props_seen}
+use Rattle.flat_rules.specs.Watch.{props_at, props_given, props_seen}
 use Rattle.flat_watch.specs.Told.{or_else}
 use Rattle.flat_core.proofs.Earlier.{begin-earlier, calls-taken, taken-fits}
 use Rattle.flat_core.proofs.LiveCounts.{made-append}
@@ -38,8 +38,8 @@ use Rattle.flat_core.proofs.PairSteps.{cleared-own, ended-own, no-finish, pair-o
 use Rattle.flat_core.proofs.SerialSteps.{made-begins, serial-new}
 use Rattle.flat_core.proofs.Serials.{draft-contents, serials-are, serials-count}
 use Rattle.flat_core.proofs.Uses.{uses-made, uses-few}
-use Rattle.flat_core.proofs.ListLemmas.{serial-beyond}
-use Rattle.flat_core.proofs.Locality.{same-session as session-is}
+use Rattle.flat_rules.proofs.ListLemmas.{serial-beyond}
+use Rattle.flat_rules.proofs.Locality.{same-session as session-is}
 use Rattle.flat_core.proofs.ViewHistory.{same-session}
 
 -- ---- no frame has seen a use that wasn't made

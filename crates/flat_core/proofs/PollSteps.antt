@@ -12,10 +12,10 @@ use Rattle.flat_core.specs.declared.state.Account.{Account}
 use Rattle.flat_core.specs.declared.state.SessionState.{SessionState}
 use Rattle.flat_core.specs.Boards.{Machine, MayCall, Stands, HasRoom}
 use Rattle.flat_core.specs.Kept.{IsKept}
-use Rattle.flat_core.specs.Legal.{unread}
+use Rattle.flat_rules.specs.Legal.{unread}
 use Rattle.flat_core.specs.Logs.{Logged}
 use Rattle.flat_core.specs.Polls.{events_for, unread_events}
-use Rattle.flat_core.specs.Posts.{posts}
+use Rattle.flat_rules.specs.Posts.{posts}
 use Rattle.flat_core.specs.Seen.{seen_of}
 use Rattle.flat_core.proofs.Counts.{kept-session, declared-some}
 use Rattle.flat_core.proofs.Ones.{declared-of}

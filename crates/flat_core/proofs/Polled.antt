@@ -22,15 +22,15 @@ use Rattle.flat_core.specs.declared.state.SessionState.{SessionState}
 use Rattle.flat_core.specs.Begins.{post_of, posts_to}
 use Rattle.flat_core.specs.Boards.{entry_of}
 use Rattle.flat_core.specs.Kept.{IsKept}
-use Rattle.flat_core.specs.Legal.{is_poll, unread}
+use Rattle.flat_rules.specs.Legal.{is_poll, unread}
 use Rattle.flat_core.specs.Polls.{events_for, unread_events}
-use Rattle.flat_core.specs.Posts.{events_to, posts}
+use Rattle.flat_rules.specs.Posts.{events_to, posts}
 use Rattle.flat_core.specs.Presents.{with_calls}
 use Rattle.flat_core.specs.Seen.{seen_of, account_of, noted, polled_at}
 use Rattle.flat_core.proofs.BeginLoop.{flat-on}
 use Rattle.flat_core.proofs.BoardBegins.{posts-all}
 use Rattle.flat_core.proofs.Changes.{is-session, kept-account}
-use Rattle.flat_core.proofs.Quiet.{closed-quiet, presents-quiet, taken-quiet, going-quiet, took-quiet}
+use Rattle.flat_rules.proofs.Quiet.{closed-quiet, presents-quiet, taken-quiet, going-quiet, took-quiet}
 
 -- the events of an entry that are a session's: of one session's, and of all sessions'
 mine-or-none : (mine : Bool) (x : Event) (place : ℕ) (t s : SessionNo) (rest : List Post) → (t.0 == s.0) ≡ mine → events_for s (post_of place t x ∷ rest) ≡ cond mine (x ∷ events_for s rest) (events_for s rest)

@@ -17,7 +17,7 @@ use Rattle.flat_scene.specs.declared.journal.Reply.TheVariants.{Presented}
 use Rattle.flat_scene.specs.declared.setup.Setup.{Setup}
 use Rattle.flat_scene.specs.History.{◌▹◌, own, is_session, presents, published, published_all, carried, Published}
 use Rattle.flat_scene.specs.Frames.{taken, waiting}
-use Rattle.flat_core.specs.Shown.{tree_of}
+use Rattle.flat_rules.specs.Shown.{tree_of}
 use Rattle.flat_queue.specs.declared.queue.Kept.{Kept}
 use Rattle.flat_snap.specs.declared.snapshot.Snapshot.{Snapshot}
 use Rattle.flat_core.specs.declared.state.SessionState.{SessionState}
@@ -26,7 +26,7 @@ use Rattle.flat_core.specs.Kept.{IsKept, Below, kept_of, meant}
 use Rattle.flat_core.specs.Presents.{with_present}
 use Rattle.flat_core.specs.Seen.{Seen, seen_of, account_of, noted}
 use Rattle.std.proofs.lemmas.List.Elements.{All-push}
-use Rattle.flat_core.proofs.Quiet.{taken-quiet}
+use Rattle.flat_rules.proofs.Quiet.{taken-quiet}
 use Rattle.flat_core.proofs.Changes.{is-session}
 use Rattle.flat_scene.proofs.TakingLemmas.{taken-made}
 

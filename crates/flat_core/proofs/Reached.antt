@@ -9,7 +9,7 @@ use Rattle.flat_scene.specs.Draft.{Draft, Transform, Made, Name, named, of_seria
 use Rattle.flat_scene.specs.Effect.{changed_if}
 use Rattle.flat_scene.proofs.Together.{and-left, and-right}
 use Rattle.flat_core.proofs.Lives.{pair_made, pair_at}
-use Rattle.flat_core.proofs.ListLemmas.{length-changed}
+use Rattle.flat_rules.proofs.ListLemmas.{length-changed}
 
 -- whether a number is in a list
 abbrev pub has : List ℕ → ℕ → Bool

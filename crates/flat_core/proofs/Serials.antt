@@ -17,14 +17,14 @@ use Rattle.flat_scene.specs.Effect.{effect, after_calls, unless, changed_if, on_
 use Rattle.flat_scene.specs.Misuse.{misuse}
 use Rattle.flat_scene.specs.Tree.{tree, use_of, all_nodes, head_of}
 use Rattle.flat_scene.specs.declared.trees.Children.{Children}
-use Rattle.flat_core.specs.Ends.{is_made_of, serials_of, props_of, live_props, props_in}
-use Rattle.flat_core.specs.Legal.{number_if}
+use Rattle.flat_rules.specs.Ends.{is_made_of, serials_of, props_of, live_props, props_in}
+use Rattle.flat_rules.specs.Legal.{number_if}
 use Rattle.flat_core.specs.Lives.{made_of_pair, makes_one}
-use Rattle.flat_core.specs.Serials.{makes_content, contents_made, serials_in, props_at_serial}
-use Rattle.flat_core.specs.Shown.{is_pair}
+use Rattle.flat_rules.specs.Serials.{makes_content, contents_made, serials_in, props_at_serial}
+use Rattle.flat_rules.specs.Shown.{is_pair}
 use Rattle.flat_core.proofs.Lives.{pair_made, image-pair, viewport-pair, fill-pair}
 use Rattle.flat_core.proofs.ViewCalls.{after-refused}
-use Rattle.flat_core.proofs.ListLemmas.{serial-beyond}
+use Rattle.flat_rules.proofs.ListLemmas.{serial-beyond}
 
 -- ---- the contents of a draft
 

@@ -32,27 +32,27 @@ use Rattle.flat_scene.specs.Tree.{tree_tests, tree, all_nodes, is_cyclic, is_too
 use Rattle.flat_scene.specs.Trees.{node_count, viewports_in}
 use Rattle.flat_scene.proofs.Steps.{presents-own, presents-other}
 use Rattle.flat_scene.proofs.Together.{and-left, and-right}
-use Rattle.flat_core.specs.Legal.{Legal, MayEnter, has_tree, owns_view, owns_viewport, session_may}
-use Rattle.flat_core.specs.Ends.{to_begin}
+use Rattle.flat_rules.specs.Legal.{Legal, MayEnter, has_tree, owns_view, owns_viewport, session_may}
+use Rattle.flat_rules.specs.Ends.{to_begin}
 use Rattle.flat_core.specs.Lives.{held_of}
-use Rattle.flat_core.specs.Shown.{shown, shown_states, tree_of, last_taken}
+use Rattle.flat_rules.specs.Shown.{shown, shown_states, tree_of, last_taken}
 use Rattle.flat_core.proofs.Earlier.{begin-earlier, legal-earlier}
 use Rattle.flat_core.proofs.LiveCounts.{lived-all}
 use Rattle.flat_core.proofs.Lives.{lives_of, pair_made, pair_at}
 use Rattle.flat_core.proofs.LowDrafts.{low-draft}
 use Rattle.flat_core.proofs.LowTrees.{ShowsLow, tree_low, tree_small}
-use Rattle.flat_core.proofs.Owned.{IsOwned, made_owned, view_owned, draft-owned}
-use Rattle.flat_core.proofs.OwnedTree.{at-serial, all-owned, owns}
+use Rattle.flat_rules.proofs.Owned.{IsOwned, made_owned, view_owned, draft-owned}
+use Rattle.flat_rules.proofs.OwnedTree.{at-serial, all-owned, owns}
 use Rattle.flat_core.proofs.ReachedSteps.{reached}
 use Rattle.flat_core.proofs.ShownOnce.{pairs-once}
-use Rattle.flat_core.proofs.ShownOwned.{all-calls-owned}
+use Rattle.flat_rules.proofs.ShownOwned.{all-calls-owned}
 use Rattle.flat_core.proofs.TokenLaw.{counted, live_in}
 use Rattle.flat_core.proofs.ViewHistory.{same-session}
 use Rattle.flat_topology.proofs.Distinct.{In, in-contains, pairs-distinct}
 use Rattle.flat_topology.specs.Fit.{FitsSetup, greatest_opacity}
 use Rattle.flat_topology.specs.Pairs.{OwnsView, OwnsViewport}
 use Rattle.flat_topology.specs.Shown.{state_of, view_of, nodes_of, pairs_in}
-use Rattle.flat_core.proofs.ShownList.{within-or-past}
+use Rattle.flat_rules.proofs.ShownList.{within-or-past}
 
 -- What is known of a draft that is presented: it names what its session owns, it has a tree, and no two viewports of a pair live.
 pub record IsGood (setup : Setup) (s : SessionNo) (calls : List Call) (draft : Draft) : Type 0 where

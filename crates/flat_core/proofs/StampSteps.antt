@@ -15,11 +15,11 @@ use Rattle.flat_scene.specs.Draft.{Draft}
 use Rattle.flat_scene.specs.Frames.{taken}
 use Rattle.flat_scene.specs.History.{◌▹◌, own, calls, closes, is_closed, is_session, presents, published, Published}
 use Rattle.flat_scene.proofs.Steps.{presents-own, presents-other}
-use Rattle.flat_core.specs.Ends.{happens, taken_calls, has_ended}
-use Rattle.flat_core.specs.Stamps.{first_at, is_seen, IsStamp, stamp_then}
+use Rattle.flat_rules.specs.Ends.{happens, taken_calls, has_ended}
+use Rattle.flat_rules.specs.Stamps.{first_at, is_seen, IsStamp, stamp_then}
 use Rattle.flat_watch.specs.Told.{or_else}
 use Rattle.flat_core.proofs.Earlier.{IsEarlier, calls-taken, taken-fits}
-use Rattle.flat_core.proofs.ShownSteps.{closed-before}
+use Rattle.flat_rules.proofs.ShownSteps.{closed-before}
 use Rattle.flat_core.proofs.Stamped.{IsLasting, stamped, stamp-other}
 use Rattle.flat_core.proofs.ViewLaw.{made_at}
 

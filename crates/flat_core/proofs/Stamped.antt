@@ -8,8 +8,8 @@ use Rattle.flat_scene.specs.declared.journal.Entry.{Entry}
 use Rattle.flat_scene.specs.declared.setup.Setup.{Setup}
 use Rattle.flat_scene.specs.Draft.{Draft, empty_draft}
 use Rattle.flat_scene.specs.History.{◌▹◌, calls, is_session, presents, published, Published}
-use Rattle.flat_core.specs.Ends.{times, happens}
-use Rattle.flat_core.specs.Stamps.{first_at, is_seen}
+use Rattle.flat_rules.specs.Ends.{times, happens}
+use Rattle.flat_rules.specs.Stamps.{first_at, is_seen}
 use Rattle.flat_watch.specs.Told.{or_else}
 use Rattle.flat_core.proofs.ViewCalls.{times-append}
 use Rattle.flat_core.proofs.ViewHistory.{published-made}

@@ -21,13 +21,14 @@ use Rattle.flat_scene.proofs.Together.{and-right}
 use Rattle.flat_fence.specs.Fences.{has}
 use Rattle.flat_core.specs.declared.clock.Clock.{Clock}
 use Rattle.flat_core.specs.declared.state.SessionState.{SessionState}
-use Rattle.flat_core.specs.Boards.{Machine, MayCall, Stands, HasRoom, entry_of, made, clock_of, number}
-use Rattle.flat_core.specs.Ends.{view_uses, uses_view, is_done}
+use Rattle.flat_core.specs.Boards.{Machine, MayCall, Stands, HasRoom, entry_of, made, clock_of}
+use Rattle.flat_rules.specs.Numbers.{number, AllNumbered}
+use Rattle.flat_rules.specs.Ends.{view_uses, uses_view, is_done}
 use Rattle.flat_core.specs.Flags.{has_end}
-use Rattle.flat_core.specs.Kept.{IsKept, AllNumbered}
-use Rattle.flat_core.specs.Legal.{Legal, LegalEntry, reply_to, may_act, session_may, frames}
+use Rattle.flat_core.specs.Kept.{IsKept}
+use Rattle.flat_rules.specs.Legal.{Legal, LegalEntry, reply_to, may_act, session_may, frames}
 use Rattle.flat_core.specs.Logs.{Logged}
-use Rattle.flat_core.specs.Posts.{posts, posted}
+use Rattle.flat_rules.specs.Posts.{posts, posted}
 use Rattle.flat_core.specs.Seen.{seen_of}
 use Rattle.flat_core.proofs.Shares.{AllPlaced, few-entries, fair-more}
 

@@ -13,7 +13,7 @@ use Rattle.flat_core.specs.declared.viewports.Viewports.{Viewports}
 use Rattle.flat_core.specs.Following.{AreTied, IsOwnEntry, UsesNone}
 use Rattle.flat_core.specs.Presents.{IsOwn, TiesNoted}
 use Rattle.flat_core.proofs.Changes.{is-session}
-use Rattle.flat_core.proofs.Locality.{same-session}
+use Rattle.flat_rules.proofs.Locality.{same-session}
 use Rattle.flat_core.proofs.TiesSteps.{tied-idle}
 
 -- of one that is open

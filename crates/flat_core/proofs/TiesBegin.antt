@@ -8,17 +8,17 @@ use Rattle.flat_core.specs.declared.following.Following.{Following}
 use Rattle.flat_core.specs.declared.pairs.PairState.{PairState}
 use Rattle.flat_core.specs.declared.state.SessionState.{SessionState}
 use Rattle.flat_core.specs.Begins.{begun, begin_entry}
-use Rattle.flat_core.specs.Boards.{number}
+use Rattle.flat_rules.specs.Numbers.{number, AllNumbered}
 use Rattle.flat_core.specs.Following.{AreTied, IsBegun, IsFollowed, sight_of, pair, sight_of_state}
-use Rattle.flat_core.specs.Kept.{AllNumbered, IsKept, taken_in}
+use Rattle.flat_core.specs.Kept.{IsKept, taken_in}
 use Rattle.flat_core.specs.Seen.{seen_of}
-use Rattle.flat_core.specs.Shown.{shown, shown_states}
+use Rattle.flat_rules.specs.Shown.{shown, shown_states}
 use Rattle.flat_core.proofs.BeginLoop.{all-below, none-below, not-below, same-side, this-side}
 use Rattle.flat_core.proofs.Changes.{changed-one}
 use Rattle.flat_core.proofs.Counts.{seen-count, taken-kept}
 use Rattle.flat_core.proofs.Followed.{followed-still}
 use Rattle.flat_core.proofs.PairIdle.{pair-idle}
-use Rattle.flat_core.proofs.ShownList.{listed-at}
+use Rattle.flat_rules.proofs.ShownList.{listed-at}
 use Rattle.flat_topology.specs.Join.{is_joined}
 use Rattle.flat_topology.specs.Shown.{Shown, state_of}
 

@@ -20,20 +20,19 @@ use Rattle.flat_core.specs.declared.following.Following.{Following}
 use Rattle.flat_core.specs.declared.following.Sight.{Sight}
 use Rattle.flat_core.specs.declared.pairs.PairState.{PairState}
 use Rattle.flat_core.specs.Begins.{finished, finish_entry}
-use Rattle.flat_core.specs.Boards.{number}
-use Rattle.flat_core.specs.Ends.{live_props, props_of, serials_of, taken_calls, to_begin, to_finished, viewport_owner, viewport_uses}
+use Rattle.flat_rules.specs.Numbers.{number, AllNumbered}
+use Rattle.flat_rules.specs.Ends.{live_props, props_of, serials_of, taken_calls, to_begin, to_finished, viewport_owner, viewport_uses}
 use Rattle.flat_core.specs.Following.{AreTied, IsFinished, IsFollowed, IsPairKept, capped, pair}
-use Rattle.flat_core.specs.Kept.{AllNumbered}
-use Rattle.flat_core.specs.Legal.{Legal, is_frame_open, owns_viewport}
-use Rattle.flat_core.specs.Shown.{last_taken, shown, tree_of}
+use Rattle.flat_rules.specs.Legal.{Legal, is_frame_open, owns_viewport}
+use Rattle.flat_rules.specs.Shown.{last_taken, shown, tree_of}
 use Rattle.flat_core.specs.Usage.{SeesOne, SeesUses, props_among, uses_if, uses_in, with_seen}
-use Rattle.flat_core.specs.Watch.{props_seen}
+use Rattle.flat_rules.specs.Watch.{props_seen}
 use Rattle.flat_watch.specs.Told.{or_else}
 use Rattle.flat_core.proofs.Earlier.{begin-earlier, calls-taken, finished-earlier, legal-earlier, taken-begin, taken-begun, taken-earlier}
 use Rattle.flat_core.proofs.Followed.{followed-still}
 use Rattle.flat_core.proofs.FrameSees.{closed-took, foreign-uses, last-uses, no-uses, seen-already}
 use Rattle.flat_core.proofs.PairIdle.{pair-still}
-use Rattle.flat_core.proofs.ShownSteps.{serial-zero}
+use Rattle.flat_rules.proofs.ShownSteps.{serial-zero}
 use Rattle.flat_core.proofs.TiesBegin.{FollowedUpTo, followed-end, followed-here, followed-on, state-at}
 use Rattle.flat_core.proofs.Undeclared.{none-taken}
 use Rattle.flat_core.proofs.ViewLaw.{made_at}

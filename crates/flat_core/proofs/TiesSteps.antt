@@ -12,11 +12,10 @@ use Rattle.flat_scene.specs.History.{◌▹◌, calls, is_session}
 use Rattle.flat_core.specs.declared.following.Following.{Following}
 use Rattle.flat_core.specs.declared.live.Live.{Live}
 use Rattle.flat_core.specs.declared.pairs.PairState.{PairState}
-use Rattle.flat_core.specs.Boards.{number}
+use Rattle.flat_rules.specs.Numbers.{number, AllNumbered}
 use Rattle.flat_core.specs.Clears.{clears_pair, cleared_if}
 use Rattle.flat_core.specs.Following.{AreTied, IsFollowed, IsIdle, IsOwnEntry, IsPairKept, UsesNone, capped, pair}
-use Rattle.flat_core.specs.Kept.{AllNumbered}
-use Rattle.flat_core.specs.Serials.{contents_made}
+use Rattle.flat_rules.specs.Serials.{contents_made}
 use Rattle.flat_core.specs.Usage.{IsUse, NotesCalls, UsesPair, followed_by, used_by}
 use Rattle.flat_core.specs.Views.{ended_by, view_after}
 use Rattle.flat_core.proofs.Changes.{changed-one, not-session}

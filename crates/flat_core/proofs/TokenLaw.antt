@@ -18,17 +18,17 @@ use Rattle.flat_scene.specs.Frames.{taken}
 use Rattle.flat_scene.specs.History.{◌▹◌, own, calls, closes, is_finish, is_closed, is_session}
 use Rattle.flat_scene.specs.Setups.{is_declared}
 use Rattle.flat_core.specs.declared.live.Live.{Live}
-use Rattle.flat_core.specs.Ends.{to_begin, to_finished, times, releases_viewport, viewport_uses, uses_viewport, is_done}
-use Rattle.flat_core.specs.Legal.{Legal, reply_to, refused_token, has_token, is_token_back, owns_viewport, is_frame_open, keeps_time, may_act}
+use Rattle.flat_rules.specs.Ends.{to_begin, to_finished, times, releases_viewport, viewport_uses, uses_viewport, is_done}
+use Rattle.flat_rules.specs.Legal.{Legal, reply_to, refused_token, has_token, is_token_back, owns_viewport, is_frame_open, keeps_time, may_act}
 use Rattle.flat_core.specs.Lives.{held_of, lives_after, made_of_pair}
-use Rattle.flat_core.specs.Posts.{posted, releases_seen, Sent}
+use Rattle.flat_rules.specs.Posts.{posted, releases_seen, Sent}
 use Rattle.flat_core.proofs.Earlier.{begin-earlier, begun-earlier, finished-earlier, calls-taken, taken-fits, taken-begun, times-seen, times-rise, IsEarlier, taken-drop}
 use Rattle.flat_core.proofs.LiveCounts.{lived-all, balance, lives-append}
 use Rattle.flat_core.proofs.TokensBack.{no-token, token-finish}
 use Rattle.flat_core.proofs.Uses.{uses-made, uses-other, uses-own}
 use Rattle.flat_core.proofs.ViewHistory.{viewing-of, closes-first}
 use Rattle.flat_scene.proofs.Together.{and-left, and-right}
-use Rattle.flat_core.proofs.ListLemmas.{none-put}
+use Rattle.flat_rules.proofs.ListLemmas.{none-put}
 
 -- the live viewports of a session
 abbrev pub live_in : SessionNo → List Entry → List Live

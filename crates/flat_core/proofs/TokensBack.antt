@@ -16,17 +16,17 @@ use Rattle.flat_scene.specs.declared.setup.Setup.{Setup}
 use Rattle.flat_scene.specs.Frames.{taken, credits, sessions_to}
 use Rattle.flat_scene.specs.History.{◌▹◌, is_begin, is_finish, is_closed, is_session}
 use Rattle.flat_scene.specs.Setups.{is_within, is_declared}
-use Rattle.flat_core.specs.Ends.{to_begin, views_of, viewports_of, viewport_uses, viewport_owner}
-use Rattle.flat_core.specs.Legal.{is_token_back, owns_viewport}
-use Rattle.flat_core.specs.Posts.{Sent, told_event, frame_took, releases_seen, tokens_back, at_finish, at_begin, news_for, events_to, posted, up_to}
-use Rattle.flat_core.specs.Watch.{layout_of, status_of, child_of}
+use Rattle.flat_rules.specs.Ends.{to_begin, views_of, viewports_of, viewport_uses, viewport_owner}
+use Rattle.flat_rules.specs.Legal.{is_token_back, owns_viewport}
+use Rattle.flat_rules.specs.Posts.{Sent, told_event, frame_took, releases_seen, tokens_back, at_finish, at_begin, news_for, events_to, posted, up_to}
+use Rattle.flat_rules.specs.Watch.{layout_of, status_of, child_of}
 use Rattle.flat_core.proofs.HasView.{found, any-found}
 use Rattle.std.specs.Cmp.{both_ways}
 use Rattle.std.proofs.Math.Bool.{and-false, or-false}
 use Rattle.std.proofs.lemmas.Bool.{and_parts}
 use Rattle.flat_core.proofs.Between.{viewport-nested}
-use Rattle.flat_core.proofs.RepliesLocal.{no-told, any-flat-nothing}
-use Rattle.flat_core.proofs.AllOrSome.{any-same}
+use Rattle.flat_rules.proofs.RepliesLocal.{no-told, any-flat-nothing}
+use Rattle.flat_rules.proofs.AllOrSome.{any-same}
 
 -- ---- tests over lists of lists
 

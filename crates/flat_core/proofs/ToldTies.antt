@@ -19,13 +19,13 @@ use Rattle.flat_scene.proofs.TakingLemmas.{taken-made}
 use Rattle.flat_core.specs.declared.following.Following.{Following}
 use Rattle.flat_core.specs.declared.following.Sight.{Sight}
 use Rattle.flat_core.specs.declared.pairs.PairState.{PairState}
-use Rattle.flat_core.specs.Ends.{is_viewport_lost, to_finished, view_owner, viewport_owner, viewport_uses}
+use Rattle.flat_rules.specs.Ends.{is_viewport_lost, to_finished, view_owner, viewport_owner, viewport_uses}
 use Rattle.flat_core.specs.Following.{AreTied, IsLastSight, IsPairKept}
-use Rattle.flat_core.specs.Legal.{Legal}
-use Rattle.flat_core.specs.Shown.{is_pair, shown_view, tree_of}
-use Rattle.flat_core.specs.Stamps.{is_seen}
+use Rattle.flat_rules.specs.Legal.{Legal}
+use Rattle.flat_rules.specs.Shown.{is_pair, shown_view, tree_of}
+use Rattle.flat_rules.specs.Stamps.{is_seen}
 use Rattle.flat_core.specs.Views.{child_by}
-use Rattle.flat_core.specs.Watch.{child_of, props_seen, props_told, told}
+use Rattle.flat_rules.specs.Watch.{child_of, props_seen, props_told, told}
 use Rattle.flat_watch.specs.Told.{or_else}
 use Rattle.flat_core.proofs.Earlier.{finished-earlier, legal-earlier}
 use Rattle.flat_core.proofs.NewTies.{nothing}

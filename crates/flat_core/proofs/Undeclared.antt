@@ -9,8 +9,8 @@ use Rattle.flat_scene.specs.Frames.{taken}
 use Rattle.flat_scene.specs.History.{◌▹◌, is_session, own, published_all}
 use Rattle.flat_scene.specs.Setups.{is_declared}
 use Rattle.flat_scene.proofs.Together.{and-right}
-use Rattle.flat_core.specs.Legal.{Legal, may_act, session_may}
-use Rattle.flat_core.specs.Shown.{last_taken}
+use Rattle.flat_rules.specs.Legal.{Legal, may_act, session_may}
+use Rattle.flat_rules.specs.Shown.{last_taken}
 use Rattle.flat_core.proofs.ViewHistory.{same-session}
 
 pub own-none : (setup : Setup) (s : SessionNo) → is_declared setup s ≡ false → (h : List Entry) → Legal setup h → own s h ≡ []

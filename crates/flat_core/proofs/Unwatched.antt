@@ -19,18 +19,18 @@ use Rattle.flat_scene.specs.declared.setup.Setup.{Setup}
 use Rattle.flat_scene.specs.Draft.{Draft, Made, an_image, a_fill, a_viewport, made_of}
 use Rattle.flat_scene.specs.Effect.{draft_of}
 use Rattle.flat_scene.specs.History.{◌▹◌, calls, presents, is_closed}
-use Rattle.flat_core.specs.Ends.{uses_view, is_done}
-use Rattle.flat_core.specs.Legal.{Legal, MayEnter, is_link}
-use Rattle.flat_core.specs.Shown.{is_pair}
-use Rattle.flat_core.specs.Watch.{Watcher, layout_of, status_of, watching, told, asked, asked_in, is_open, listener, watcher_of, watcher_in, watcher_of_made, is_watcher, same_watcher}
+use Rattle.flat_rules.specs.Ends.{uses_view, is_done}
+use Rattle.flat_rules.specs.Legal.{Legal, MayEnter, is_link}
+use Rattle.flat_rules.specs.Shown.{is_pair}
+use Rattle.flat_rules.specs.Watch.{Watcher, layout_of, status_of, watching, told, asked, asked_in, is_open, listener, watcher_of, watcher_in, watcher_of_made, is_watcher, same_watcher}
 use Rattle.flat_watch.specs.Told.{Watching, asking, settled}
-use Rattle.flat_core.proofs.ShownOwned.{ok-is}
+use Rattle.flat_rules.proofs.ShownOwned.{ok-is}
 use Rattle.flat_core.proofs.Steps.{viewed-more}
 use Rattle.flat_core.proofs.ViewCalls.{no-links-view}
 use Rattle.flat_core.proofs.ViewHistory.{used_in, viewing-of}
 use Rattle.flat_core.proofs.ViewLaw.{viewing-more, MadeOf}
 use Rattle.std.proofs.lemmas.Bool.{not-true, or_parts}
-use Rattle.flat_core.proofs.SameWatchers.{nothing-settled}
+use Rattle.flat_rules.proofs.SameWatchers.{nothing-settled}
 
 -- the draft of a get has a view that was made before
 pub watched-used : (setup : Setup) (before : List Entry) (carries : List Call) (t : SessionNo) (get : Watch) → Legal setup before → MayEnter setup before (Session t) carries (Get get)

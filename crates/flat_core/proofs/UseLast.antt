@@ -11,7 +11,7 @@ use Rattle.flat_scene.specs.declared.calls.Call.TheVariants.{CreateViewport, Rel
 use Rattle.flat_scene.specs.declared.calls.Inset.{Inset}
 use Rattle.flat_core.specs.declared.live.Live.{Live}
 use Rattle.flat_core.specs.declared.live.OutToken.{OutToken}
-use Rattle.flat_core.specs.Legal.{all_but_last}
+use Rattle.flat_rules.specs.Legal.{all_but_last}
 use Rattle.flat_core.specs.Lives.{lives_after, lives_then, count_of, makes_one, releases_live, uses_last}
 use Rattle.flat_core.specs.Seen.{is_new_viewport}
 use Rattle.flat_core.specs.Viewports.{marked}

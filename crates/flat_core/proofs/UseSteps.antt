@@ -29,13 +29,14 @@ use Rattle.flat_core.specs.declared.state.Account.{Account}
 use Rattle.flat_core.specs.declared.state.SessionState.{SessionState}
 use Rattle.flat_core.specs.declared.ties.Ties.{Ties}
 use Rattle.flat_core.specs.declared.viewports.Viewports.{Viewports}
-use Rattle.flat_core.specs.Boards.{AreEnds, HasRoom, Machine, MayCall, Stands, due, due_back, entry_of, number}
-use Rattle.flat_core.specs.Ends.{is_done, uses_viewport, viewports_of}
-use Rattle.flat_core.specs.Kept.{AllNumbered, IsKept}
-use Rattle.flat_core.specs.Legal.{Legal, all_but_last, goes_on, has_token, links_alone, makes_viewport, number_if, owns_in_call, owns_in_kind, owns_viewport, own_call, refused_token, reply_to}
+use Rattle.flat_core.specs.Boards.{AreEnds, HasRoom, Machine, MayCall, Stands, due, due_back, entry_of}
+use Rattle.flat_rules.specs.Numbers.{number, AllNumbered}
+use Rattle.flat_rules.specs.Ends.{is_done, uses_viewport, viewports_of}
+use Rattle.flat_core.specs.Kept.{IsKept}
+use Rattle.flat_rules.specs.Legal.{Legal, all_but_last, goes_on, has_token, links_alone, makes_viewport, number_if, owns_in_call, owns_in_kind, owns_viewport, own_call, refused_token, reply_to}
 use Rattle.flat_core.specs.Lives.{makes_one, uses_last}
 use Rattle.flat_core.specs.Logs.{Logged}
-use Rattle.flat_core.specs.Posts.{posts}
+use Rattle.flat_rules.specs.Posts.{posts}
 use Rattle.flat_core.specs.Following.{AreTied}
 use Rattle.flat_core.specs.Presents.{after_viewport, use_reply, with_calls, IsOwn, IsUsed, TiesUsed}
 use Rattle.flat_core.specs.Seen.{is_new_viewport, seen_of}
@@ -53,7 +54,7 @@ use Rattle.std.proofs.lemmas.Bool.{not-true, and_right, and_parts}
 use Rattle.std.specs.Cmp.{both_ways}
 use Rattle.flat_core.proofs.Between.{viewport-nested}
 use Rattle.std.proofs.Math.Bool.{or-false}
-use Rattle.flat_core.proofs.AllOrSome.{any-same}
+use Rattle.flat_rules.proofs.AllOrSome.{any-same}
 
 -- ---- the token
 

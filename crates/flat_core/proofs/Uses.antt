@@ -18,8 +18,8 @@ use Rattle.flat_scene.specs.declared.journal.Reply.TheVariants.{Done}
 use Rattle.flat_scene.specs.declared.setup.Setup.{Setup}
 use Rattle.flat_scene.specs.History.{◌▹◌, own, calls, closes, is_closed, is_session}
 use Rattle.flat_scene.proofs.Together.{and-left}
-use Rattle.flat_core.specs.Ends.{viewport_uses, uses_viewport, is_done, viewport_owner}
-use Rattle.flat_core.specs.Legal.{Legal, LegalEntry, MayEnter, reply_to, refused_token, is_link, all_but_last, owns_viewport, owns_in_call, makes_view, makes_viewport, number_if, has_token}
+use Rattle.flat_rules.specs.Ends.{viewport_uses, uses_viewport, is_done, viewport_owner}
+use Rattle.flat_rules.specs.Legal.{Legal, LegalEntry, MayEnter, reply_to, refused_token, is_link, all_but_last, owns_viewport, owns_in_call, makes_view, makes_viewport, number_if, has_token}
 use Rattle.flat_core.specs.Lives.{makes_one, made_of_pair}
 use Rattle.flat_core.proofs.LiveCounts.{made-append}
 use Rattle.flat_core.proofs.ViewCalls.{split-last}

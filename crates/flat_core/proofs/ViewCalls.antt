@@ -14,10 +14,10 @@ use Rattle.flat_scene.specs.declared.setup.Setup.{Setup}
 use Rattle.flat_scene.specs.Draft.{Draft}
 use Rattle.flat_scene.specs.Effect.{effect, after_call, after_calls, unless}
 use Rattle.flat_scene.specs.Misuse.{misuse}
-use Rattle.flat_core.specs.Ends.{times, count_if, ends_view}
-use Rattle.flat_core.specs.Legal.{is_link, all_but_last, makes_view, makes_viewport}
+use Rattle.flat_rules.specs.Ends.{times, count_if, ends_view}
+use Rattle.flat_rules.specs.Legal.{is_link, all_but_last, makes_view, makes_viewport}
 use Rattle.flat_core.specs.Seen.{holds_then, holds_after, is_new_view}
-use Rattle.flat_core.specs.Shown.{is_pair}
+use Rattle.flat_rules.specs.Shown.{is_pair}
 use Rattle.flat_core.proofs.ViewSteps.{same-pair}
 use Rattle.std.proofs.lemmas.Bool.{or_from, or_parts}
 

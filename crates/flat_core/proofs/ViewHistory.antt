@@ -23,10 +23,10 @@ use Rattle.flat_scene.specs.Effect.{draft_of}
 use Rattle.flat_scene.specs.History.{◌▹◌, calls, closes, is_closed, is_session, own, presents, published, Published}
 use Rattle.flat_scene.proofs.Together.{and-left}
 use Rattle.flat_core.specs.Boards.{entry_of}
-use Rattle.flat_core.specs.Ends.{view_uses, uses_view, is_done, view_owner}
-use Rattle.flat_core.specs.Legal.{Legal, LegalEntry, MayEnter, reply_to, refused_token, is_link, own_call, all_but_last, owns_view, owns_in_call}
+use Rattle.flat_rules.specs.Ends.{view_uses, uses_view, is_done, view_owner}
+use Rattle.flat_rules.specs.Legal.{Legal, LegalEntry, MayEnter, reply_to, refused_token, is_link, own_call, all_but_last, owns_view, owns_in_call}
 use Rattle.flat_core.specs.Seen.{holds_then, holds_view, has_viewed, stood_at, makes_it, holds_after, is_new_view}
-use Rattle.flat_core.proofs.ShownSteps.{serial-get}
+use Rattle.flat_rules.proofs.ShownSteps.{serial-get}
 use Rattle.flat_core.proofs.Steps.{viewed-more, or-false}
 use Rattle.flat_core.proofs.ViewCalls.{split-last, last-made, no-links-view, viewport-alone}
 use Rattle.flat_core.proofs.ViewLaw.{Viewing, viewing-first, viewing-more, viewing-made, viewing-same, made_at, MadeOf}

@@ -12,11 +12,11 @@ use Rattle.flat_scene.specs.declared.setup.Setup.{Setup}
 use Rattle.flat_scene.specs.Draft.{Draft, empty_draft, of_serial}
 use Rattle.flat_scene.specs.Effect.{after_calls, draft_of}
 use Rattle.flat_scene.specs.History.{Published}
-use Rattle.flat_core.specs.Ends.{times, ends_view, happens}
-use Rattle.flat_core.specs.Legal.{owns_view}
+use Rattle.flat_rules.specs.Ends.{times, ends_view, happens}
+use Rattle.flat_rules.specs.Legal.{owns_view}
 use Rattle.flat_core.specs.Seen.{holds_after, is_new_view}
-use Rattle.flat_core.specs.Shown.{is_pair}
-use Rattle.flat_core.proofs.ShownSteps.{serial-append}
+use Rattle.flat_rules.specs.Shown.{is_pair}
+use Rattle.flat_rules.proofs.ShownSteps.{serial-append}
 use Rattle.flat_core.proofs.ViewCalls.{Calm, calm, creates, after-append, times-append, view-holds}
 use Rattle.flat_core.proofs.ViewSteps.{same-pair}
 use Rattle.std.proofs.lemmas.Bool.{or_right, or_parts}

@@ -7,8 +7,8 @@ use Rattle.flat_base.specs.declared.ids.PairNo.{PairNo}
 use Rattle.flat_scene.specs.declared.calls.Call.{Call}
 use Rattle.flat_scene.specs.declared.calls.Call.TheVariants.{ReleaseView, Clear}
 use Rattle.flat_core.specs.declared.pairs.PairState.{PairState}
-use Rattle.flat_core.specs.Shown.{is_pair}
-use Rattle.flat_core.specs.Stamps.{stamp_then}
+use Rattle.flat_rules.specs.Shown.{is_pair}
+use Rattle.flat_rules.specs.Stamps.{stamp_then}
 use Rattle.flat_core.specs.Views.{view_then, ends_it, ends_of, ended_by, EndsViews, EndsOne}
 use Rattle.flat_core.proofs.Marks.{stamp-more, stamp-none, once}
 

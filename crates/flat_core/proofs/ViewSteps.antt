@@ -16,14 +16,14 @@ use Rattle.flat_scene.proofs.Together.{and-left}
 use Rattle.flat_core.specs.declared.state.Account.{Account}
 use Rattle.flat_core.specs.declared.state.SessionState.{SessionState}
 use Rattle.flat_core.specs.Boards.{Machine, MayCall, entry_of, due}
-use Rattle.flat_core.specs.Ends.{view_uses, is_done}
+use Rattle.flat_rules.specs.Ends.{view_uses, is_done}
 use Rattle.flat_core.specs.Flags.{has_end}
 use Rattle.flat_core.specs.Kept.{IsKept}
-use Rattle.flat_core.specs.Legal.{refused_token, reply_to, owns_in_kind, owns_in_call}
+use Rattle.flat_rules.specs.Legal.{refused_token, reply_to, owns_in_kind, owns_in_call}
 use Rattle.flat_core.specs.Presents.{use_reply, after_view, with_calls}
 use Rattle.flat_core.specs.Seen.{seen_of, account_of, noted}
 use Rattle.flat_core.proofs.Changes.{IsPlainOne, seen-closed, kept-account, kept-closed, kept-noted, is-session}
-use Rattle.flat_core.proofs.Quiet.{closed-quiet, presents-quiet, taken-quiet, going-quiet, took-quiet}
+use Rattle.flat_rules.proofs.Quiet.{closed-quiet, presents-quiet, taken-quiet, going-quiet, took-quiet}
 
 -- ---- the reply
 

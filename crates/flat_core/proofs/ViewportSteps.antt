@@ -15,17 +15,17 @@ use Rattle.flat_scene.specs.History.{◌▹◌, own, calls, closes, is_closed, i
 use Rattle.flat_scene.specs.Setups.{is_declared}
 use Rattle.flat_core.specs.declared.live.Live.{Live}
 use Rattle.flat_core.specs.declared.live.OutToken.{OutToken}
-use Rattle.flat_core.specs.Ends.{to_finished, times, releases_viewport, viewport_uses, viewports_of, uses_viewport, is_done}
-use Rattle.flat_core.specs.Legal.{Legal, has_token, owns_viewport, is_token_back}
+use Rattle.flat_rules.specs.Ends.{to_finished, times, releases_viewport, viewport_uses, viewports_of, uses_viewport, is_done}
+use Rattle.flat_rules.specs.Legal.{Legal, has_token, owns_viewport, is_token_back}
 use Rattle.flat_core.specs.Lives.{lives_after, count_of, releases_live}
-use Rattle.flat_core.specs.Posts.{posted, Sent}
-use Rattle.flat_core.specs.Stamps.{first_at, IsStamp, happens_often, stamp_then}
+use Rattle.flat_rules.specs.Posts.{posted, Sent}
+use Rattle.flat_rules.specs.Stamps.{first_at, IsStamp, happens_often, stamp_then}
 use Rattle.flat_core.specs.Viewports.{released_at, out_of, outs_of, AreViewports, marked}
 use Rattle.flat_core.proofs.Earlier.{finished-earlier}
-use Rattle.flat_core.proofs.EventsLocal.{flat-same, viewports-owned}
+use Rattle.flat_rules.proofs.EventsLocal.{flat-same, viewports-owned}
 use Rattle.flat_core.proofs.LiveCounts.{lives-append, lived-all, lived, Lived}
 use Rattle.flat_core.proofs.PairLaws.{unused-token}
-use Rattle.flat_core.proofs.ShownSteps.{closed-before}
+use Rattle.flat_rules.proofs.ShownSteps.{closed-before}
 use Rattle.flat_core.proofs.StampSteps.{stamp-of, own-stamp}
 use Rattle.flat_core.proofs.Stamped.{often-lasts, stamp-other, stamped, IsLasting}
 use Rattle.flat_core.proofs.TokenLaw.{counted, seen-then, token-kept}
@@ -34,7 +34,7 @@ use Rattle.flat_core.proofs.Uses.{uses-other}
 use Rattle.flat_core.proofs.ViewCalls.{times-append}
 use Rattle.flat_core.proofs.ViewHistory.{viewing-of}
 use Rattle.flat_core.proofs.ViewLaw.{good-more}
-use Rattle.flat_core.proofs.ListLemmas.{flat-mapped, none-put}
+use Rattle.flat_rules.proofs.ListLemmas.{flat-mapped, none-put}
 use Rattle.std.proofs.lemmas.List.Elements.{filter-append}
 
 -- ---- lists

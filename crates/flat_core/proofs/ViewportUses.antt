@@ -15,23 +15,23 @@ use Rattle.flat_scene.specs.History.{◌▹◌, own, calls, is_closed, is_finish
 use Rattle.flat_scene.specs.Setups.{is_declared}
 use Rattle.flat_core.specs.declared.live.Live.{Live}
 use Rattle.flat_core.specs.declared.live.OutToken.{OutToken}
-use Rattle.flat_core.specs.Ends.{to_begin, to_finished, releases_viewport, viewport_uses, viewports_of, pairs_where, uses_viewport, is_done}
-use Rattle.flat_core.specs.Legal.{Legal, has_token, owns_viewport, is_frame_open, makes_viewport}
+use Rattle.flat_rules.specs.Ends.{to_begin, to_finished, releases_viewport, viewport_uses, viewports_of, pairs_where, uses_viewport, is_done}
+use Rattle.flat_rules.specs.Legal.{Legal, has_token, owns_viewport, is_frame_open, makes_viewport}
 use Rattle.flat_core.specs.Lives.{lives_after, held_of}
-use Rattle.flat_core.specs.Posts.{tokens_back}
-use Rattle.flat_core.specs.Stamps.{first_at, is_seen, happens_often}
+use Rattle.flat_rules.specs.Posts.{tokens_back}
+use Rattle.flat_rules.specs.Stamps.{first_at, is_seen, happens_often}
 use Rattle.flat_core.specs.Viewports.{released_at, out_of, outs_of, AreViewports, marked, with_out, is_back, back_events, still_out}
 use Rattle.flat_core.proofs.Earlier.{taken-begin}
-use Rattle.flat_core.proofs.EventsLocal.{flat-same, viewports-owned}
+use Rattle.flat_rules.proofs.EventsLocal.{flat-same, viewports-owned}
 use Rattle.flat_core.proofs.PairLaws.{used-token, unused-came, used-came, fresh-stamp, made-lives}
-use Rattle.flat_core.proofs.ShownSteps.{closed-before}
+use Rattle.flat_rules.proofs.ShownSteps.{closed-before}
 use Rattle.flat_core.proofs.StampSteps.{stamp-of}
 use Rattle.flat_core.proofs.Stamped.{often-lasts, stamp-other, IsLasting}
 use Rattle.flat_core.proofs.TokensBack.{came}
 use Rattle.flat_core.proofs.ViewportSteps.{flat-filtered, out-used, own-out, lives-own}
 use Rattle.flat_core.proofs.Between.{viewport-nested}
-use Rattle.flat_core.proofs.ListLemmas.{flat-mapped}
-use Rattle.flat_core.proofs.OwnedTree.{pair_no}
+use Rattle.flat_rules.proofs.ListLemmas.{flat-mapped}
+use Rattle.flat_rules.proofs.OwnedTree.{pair_no}
 
 -- ---- one token more, in its place
 

@@ -31,14 +31,14 @@ use Rattle.flat_core.specs.declared.gets.HeldGet.{HeldGet}
 use Rattle.flat_core.specs.declared.gets.Watched.{Watched}
 use Rattle.flat_core.specs.declared.gets.Watched.TheVariants as watches
 use Rattle.flat_core.specs.Begins.{finish_entry, finished, post_of}
-use Rattle.flat_core.specs.Boards.{Machine, MayCall, due_told, entry_of, number}
-use Rattle.flat_core.specs.Ends.{is_done, view_owner, viewport_uses}
+use Rattle.flat_core.specs.Boards.{Machine, MayCall, due_told, entry_of}
+use Rattle.flat_rules.specs.Numbers.{number, AllNumbered}
+use Rattle.flat_rules.specs.Ends.{is_done, view_owner, viewport_uses}
 use Rattle.flat_core.specs.Gets.{answers_to, hears, held_get, helds_of, is_held_in, last_of, started, watched_of, watcher_for, AllAnswered, AreGets, Asks, IsAnswered, Settles}
-use Rattle.flat_core.specs.Kept.{AllNumbered}
-use Rattle.flat_core.specs.Legal.{Legal, MayEnter, answers, got, is_now, is_told, number_if, owns_view, reply_to, sent_to, is_get}
-use Rattle.flat_core.specs.Local.{pair_watched}
-use Rattle.flat_core.specs.Posts.{events_to, news_for, posts}
-use Rattle.flat_core.specs.Watch.{Watcher, is_open, told, watcher_of}
+use Rattle.flat_rules.specs.Legal.{Legal, MayEnter, answers, got, is_now, is_told, number_if, owns_view, reply_to, sent_to, is_get}
+use Rattle.flat_rules.specs.Local.{pair_watched}
+use Rattle.flat_rules.specs.Posts.{events_to, news_for, posts}
+use Rattle.flat_rules.specs.Watch.{Watcher, is_open, told, watcher_of}
 use Rattle.flat_core.specs.Watchers.{AreOwnGets, AreWatched, IsAsked, IsJoin, IsSettled, WatchedUpTo, is_few, is_held, is_seldom, watcher_meant}
 use Rattle.flat_core.proofs.BeginLoop.{not-below, same-side, this-side}
 use Rattle.flat_core.proofs.Between.{is_viewport}

@@ -14,7 +14,7 @@ use Rattle.flat_topology.specs.Views.{is_member}
 use Rattle.flat_core.specs.declared.clock.Clock.{Clock}
 use Rattle.flat_core.specs.declared.state.SessionState.{SessionState}
 use Rattle.flat_core.specs.Boards.{Stands, HasRoom}
-use Rattle.flat_core.specs.Ends.{has_view}
+use Rattle.flat_rules.specs.Ends.{has_view}
 use Rattle.flat_core.specs.Kept.{IsKept, has_view_in}
 use Rattle.flat_core.specs.Logs.{Logged}
 use Rattle.flat_core.specs.Seen.{seen_of, has_viewed, stood_at}

@@ -12,7 +12,7 @@ use Rattle.flat_scene.specs.declared.setup.Setup.{Setup}
 use Rattle.flat_scene.specs.Frames.{sessions_to}
 use Rattle.flat_scene.specs.History.{◌▹◌}
 use Rattle.flat_core.specs.Boards.{entry_of}
-use Rattle.flat_core.specs.Posts.{events_to}
+use Rattle.flat_rules.specs.Posts.{events_to}
 
 -- a begin, and the history with it
 abbrev pub begin_entry : ℕ → ℕ → Entry

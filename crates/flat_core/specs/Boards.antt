@@ -20,12 +20,13 @@ use Rattle.flat_core.specs.declared.clock.Clock.{Clock}
 use Rattle.flat_core.specs.declared.gets.Gets.{Gets}
 use Rattle.flat_core.specs.declared.state.SessionState.{SessionState}
 use Rattle.flat_core.specs.declared.viewports.Viewports.{Viewports}
-use Rattle.flat_core.specs.Ends.{view_uses}
+use Rattle.flat_rules.specs.Ends.{view_uses}
 use Rattle.flat_core.specs.Flags.{has_end}
-use Rattle.flat_core.specs.Kept.{IsKept, AllNumbered}
-use Rattle.flat_core.specs.Legal.{Legal, MayEnter, may_act, names_declared, frames, is_frame_open, begin_time}
+use Rattle.flat_core.specs.Kept.{IsKept}
+use Rattle.flat_rules.specs.Numbers.{AllNumbered, number}
+use Rattle.flat_rules.specs.Legal.{Legal, MayEnter, may_act, names_declared, frames, is_frame_open, begin_time}
 use Rattle.flat_core.specs.Logs.{Logged}
-use Rattle.flat_core.specs.Posts.{posts}
+use Rattle.flat_rules.specs.Posts.{posts}
 use Rattle.flat_core.specs.Seen.{seen_of}
 use Rattle.flat_core.specs.Viewports.{AreViewports}
 
@@ -68,10 +69,6 @@ pub record MayLook (setup : Setup) (who : Actor) (c : Cond) : Type 0 where
   pub named : IsTrue (names_declared setup (Wait c))
 
 -- ---- what is kept
-
--- the session at a place
-abbrev pub number : ℕ → SessionNo
-number i = record { 0 = i + 1 }
 
 abbrev pub clock_of : List Entry → Clock
 clock_of history = record { frames = frames history; is_open = is_frame_open history; time = begin_time history }

@@ -7,7 +7,7 @@ use Rattle.flat_scene.specs.declared.calls.Call.{Call}
 use Rattle.flat_scene.specs.declared.calls.Call.TheVariants.{ReleaseViewport, Clear}
 use Rattle.flat_core.specs.declared.live.Live.{Live}
 use Rattle.flat_core.specs.declared.pairs.PairState.{PairState}
-use Rattle.flat_core.specs.Stamps.{stamp_then}
+use Rattle.flat_rules.specs.Stamps.{stamp_then}
 
 abbrev pub is_clear : Call → Bool
 is_clear Clear = true

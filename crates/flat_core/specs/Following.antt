@@ -14,17 +14,17 @@ use Rattle.flat_core.specs.declared.live.Live.{Live}
 use Rattle.flat_core.specs.declared.pairs.PairState.{PairState}
 use Rattle.flat_core.specs.declared.state.SessionState.{SessionState}
 use Rattle.flat_core.specs.Begins.{begun, finished}
-use Rattle.flat_core.specs.Boards.{number}
-use Rattle.flat_core.specs.Ends.{clears_viewport, ends_view, happens, to_begin, to_finished, view_owner, viewport_owner, viewport_uses, uses_viewport, is_done}
-use Rattle.flat_core.specs.Kept.{AllNumbered, IsKept, taken_in}
-use Rattle.flat_core.specs.Legal.{Legal}
+use Rattle.flat_rules.specs.Numbers.{number, AllNumbered}
+use Rattle.flat_rules.specs.Ends.{clears_viewport, ends_view, happens, to_begin, to_finished, view_owner, viewport_owner, viewport_uses, uses_viewport, is_done}
+use Rattle.flat_core.specs.Kept.{IsKept, taken_in}
+use Rattle.flat_rules.specs.Legal.{Legal}
 use Rattle.flat_core.specs.Lives.{lives_after}
 use Rattle.flat_core.specs.Seen.{seen_of}
-use Rattle.flat_core.specs.Serials.{IsUseSerial, contents_made}
-use Rattle.flat_core.specs.Shown.{is_connected, is_pair, shown_states, shown_view}
-use Rattle.flat_core.specs.Stamps.{IsStamp}
+use Rattle.flat_rules.specs.Serials.{IsUseSerial, contents_made}
+use Rattle.flat_rules.specs.Shown.{is_connected, is_pair, shown_states, shown_view}
+use Rattle.flat_rules.specs.Stamps.{IsStamp}
 use Rattle.flat_core.specs.Views.{view_after}
-use Rattle.flat_core.specs.Watch.{props_given, props_seen}
+use Rattle.flat_rules.specs.Watch.{props_given, props_seen}
 use Rattle.flat_topology.specs.Join.{is_joined}
 use Rattle.flat_topology.specs.Shown.{Shown, state_of}
 

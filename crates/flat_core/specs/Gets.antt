@@ -20,12 +20,12 @@ use Rattle.flat_core.specs.declared.gets.HeldGet.{HeldGet}
 use Rattle.flat_core.specs.declared.gets.Watched.{Watched}
 use Rattle.flat_core.specs.declared.gets.Watched.TheVariants as watches
 use Rattle.flat_core.specs.Begins.{post_of}
-use Rattle.flat_core.specs.Ends.{views_of, viewports_of, viewport_owner, viewport_uses}
-use Rattle.flat_core.specs.Kept.{AllNumbered}
-use Rattle.flat_core.specs.Legal.{answers, got, is_now, number_if}
-use Rattle.flat_core.specs.Local.{pair_watched}
-use Rattle.flat_core.specs.Posts.{event_of, up_to}
-use Rattle.flat_core.specs.Watch.{Watcher, layout_of, status_of, child_of, watching, listener, same_watcher}
+use Rattle.flat_rules.specs.Ends.{views_of, viewports_of, viewport_owner, viewport_uses}
+use Rattle.flat_rules.specs.Numbers.{AllNumbered}
+use Rattle.flat_rules.specs.Legal.{answers, got, is_now, number_if}
+use Rattle.flat_rules.specs.Local.{pair_watched}
+use Rattle.flat_rules.specs.Posts.{event_of, up_to}
+use Rattle.flat_rules.specs.Watch.{Watcher, layout_of, status_of, child_of, watching, listener, same_watcher}
 
 -- ---- watchers
 

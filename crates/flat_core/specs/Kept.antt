@@ -1,5 +1,5 @@
 -- How what is kept of a session stands for what the rules say.
-use Rattle.std.specs.Prelude.{◌≡◌, ℕ, ◌+◌, ◌-◌, Bool, not, ◌&&◌, ◌==◌, nat_le, cond, ◌<◌, ◌≤◌, true, false, List, [], length, map, All, Option, Some, slice_index_or, vec_capacity}
+use Rattle.std.specs.Prelude.{◌≡◌, ℕ, ◌+◌, ◌-◌, Bool, not, ◌&&◌, ◌==◌, nat_le, cond, ◌<◌, ◌≤◌, true, false, List, [], length, map, All, Option, Some, vec_capacity}
 use Rattle.std.specs.Arc.{arc_value}
 use Rattle.std.specs.declared.sync.Arc.{Arc}
 use Rattle.std.specs.declared.alloc.Global.{Global}
@@ -13,7 +13,7 @@ use Rattle.flat_queue.specs.declared.queue.Kept.{Kept}
 use Rattle.flat_snap.specs.declared.snapshot.Snapshot.{Snapshot}
 use Rattle.flat_core.specs.declared.state.SessionState.{SessionState}
 use Rattle.flat_core.specs.Seen.{Seen}
-use Rattle.flat_core.specs.Shown.{tree_of}
+use Rattle.flat_rules.specs.Shown.{tree_of}
 
 -- what a present that waits in a queue stands for: what it carries, and its tree
 abbrev pub kept_of : Kept (Arc Snapshot Global) → PresentArgs × Option Tree
@@ -46,10 +46,6 @@ pub record IsKept (setup : Setup) (seen : Seen) (state : SessionState) : Type 0 
   pub took : state.took ≡ seen.took
   pub goes : length state.going.items ≤ 5
   pub room : 5 ≤ vec_capacity state.going
-
--- it holds of each item with its place
-abbrev pub AllNumbered : {A : Type 0} → (ℕ → A → Type 0) → List A → Type 0
-AllNumbered {A} P xs = (i : ℕ) (d : A) → i < length xs → P i (slice_index_or xs i d)
 
 -- ---- what a session's state answers
 

@@ -5,8 +5,8 @@ use Rattle.flat_base.specs.declared.ids.PairNo.{PairNo}
 use Rattle.flat_scene.specs.declared.calls.Call.{Call}
 use Rattle.flat_scene.specs.declared.calls.Call.TheVariants.{CreateViewport, ReleaseViewport, Clear}
 use Rattle.flat_core.specs.declared.live.Live.{Live}
-use Rattle.flat_core.specs.Legal.{number_if}
-use Rattle.flat_core.specs.Shown.{is_pair}
+use Rattle.flat_rules.specs.Legal.{number_if}
+use Rattle.flat_rules.specs.Shown.{is_pair}
 
 -- those after a call, the newest last
 abbrev pub lives_then : List Live → Call → List Live

@@ -5,7 +5,7 @@ use Rattle.flat_scene.specs.declared.journal.Entry.{Entry}
 use Rattle.flat_scene.specs.declared.journal.Event.{Event}
 use Rattle.flat_scene.specs.declared.journal.Post.{Post}
 use Rattle.flat_scene.specs.declared.setup.Setup.{Setup}
-use Rattle.flat_core.specs.Posts.{posts}
+use Rattle.flat_rules.specs.Posts.{posts}
 use Rattle.flat_core.specs.Seen.{polled_at}
 
 -- the events of posts that are a session's

@@ -25,8 +25,8 @@ use Rattle.flat_core.specs.declared.state.SessionState.{SessionState}
 use Rattle.flat_core.specs.declared.ties.Ties.{Ties}
 use Rattle.flat_core.specs.declared.viewports.Viewports.{Viewports}
 use Rattle.flat_core.specs.Following.{AreTied, UsesNone}
-use Rattle.flat_core.specs.Lasts.{last_from}
-use Rattle.flat_core.specs.Legal.{Legal, number_if, refused_token}
+use Rattle.flat_rules.specs.Lasts.{last_from}
+use Rattle.flat_rules.specs.Legal.{Legal, number_if, refused_token}
 use Rattle.flat_core.specs.Lives.{lives_after}
 use Rattle.flat_core.specs.Seen.{noted}
 use Rattle.flat_core.specs.Viewports.{marked, with_out}

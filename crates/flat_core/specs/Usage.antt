@@ -14,7 +14,7 @@ use Rattle.flat_core.specs.declared.live.Live.{Live}
 use Rattle.flat_core.specs.declared.pairs.PairState.{PairState}
 use Rattle.flat_core.specs.Clears.{clears_pair, cleared_if}
 use Rattle.flat_core.specs.Following.{capped}
-use Rattle.flat_core.specs.Serials.{contents_made}
+use Rattle.flat_rules.specs.Serials.{contents_made}
 use Rattle.flat_core.specs.Views.{ended_by, view_after}
 use Rattle.flat_watch.specs.Told.{or_else}
 

@@ -10,11 +10,11 @@ use Rattle.flat_scene.specs.declared.setup.Setup.{Setup}
 use Rattle.flat_scene.specs.History.{calls, is_closed}
 use Rattle.flat_core.specs.declared.live.Live.{Live}
 use Rattle.flat_core.specs.declared.live.OutToken.{OutToken}
-use Rattle.flat_core.specs.Ends.{viewports_of, viewport_uses, releases_viewport}
-use Rattle.flat_core.specs.Legal.{has_token}
+use Rattle.flat_rules.specs.Ends.{viewports_of, viewport_uses, releases_viewport}
+use Rattle.flat_rules.specs.Legal.{has_token}
 use Rattle.flat_core.specs.Lives.{lives_after, count_of, releases_live}
-use Rattle.flat_core.specs.Shown.{is_pair}
-use Rattle.flat_core.specs.Stamps.{first_at, is_seen, happens_often, stamp_then}
+use Rattle.flat_rules.specs.Shown.{is_pair}
+use Rattle.flat_rules.specs.Stamps.{first_at, is_seen, happens_often, stamp_then}
 
 -- the stamp of the release of a pair's last use
 abbrev pub released_at : Setup → List Entry → SessionNo → PairNo → Option ℕ

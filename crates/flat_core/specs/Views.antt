@@ -7,10 +7,10 @@ use Rattle.flat_scene.specs.declared.journal.Told.{Told}
 use Rattle.flat_scene.specs.declared.journal.Told.TheVariants as tell
 use Rattle.flat_scene.specs.declared.calls.ViewportProps.{ViewportProps}
 use Rattle.flat_core.specs.declared.pairs.PairState.{PairState}
-use Rattle.flat_core.specs.Legal.{number_if}
-use Rattle.flat_core.specs.Shown.{is_pair}
-use Rattle.flat_core.specs.Stamps.{stamp_then}
-use Rattle.flat_core.specs.Watch.{layout_in}
+use Rattle.flat_rules.specs.Legal.{number_if}
+use Rattle.flat_rules.specs.Shown.{is_pair}
+use Rattle.flat_rules.specs.Stamps.{stamp_then}
+use Rattle.flat_rules.specs.Watch.{layout_in}
 
 -- the view after a call, and after several
 abbrev pub view_then : Option PairNo → Call → Option PairNo

@@ -17,15 +17,14 @@ use Rattle.flat_core.specs.declared.gets.Answered.{Answered}
 use Rattle.flat_core.specs.declared.gets.Gets.{Gets}
 use Rattle.flat_core.specs.declared.state.SessionState.{SessionState}
 use Rattle.flat_core.specs.declared.ties.Ties.{Ties}
-use Rattle.flat_core.specs.Boards.{number}
-use Rattle.flat_core.specs.Ends.{view_uses, viewport_uses}
+use Rattle.flat_rules.specs.Numbers.{number, AllNumbered}
+use Rattle.flat_rules.specs.Ends.{view_uses, viewport_uses}
 use Rattle.flat_core.specs.Flags.{has_end}
 use Rattle.flat_core.specs.Following.{AreTied}
 use Rattle.flat_core.specs.Gets.{AllAnswered, AllUpTo, AreGets, Asks, Settles, watched_of, watcher_for}
-use Rattle.flat_core.specs.Kept.{AllNumbered}
-use Rattle.flat_core.specs.Legal.{Legal, answers, owns_view}
+use Rattle.flat_rules.specs.Legal.{Legal, answers, owns_view}
 use Rattle.flat_core.specs.Presents.{use_reply}
-use Rattle.flat_core.specs.Watch.{Watcher, told}
+use Rattle.flat_rules.specs.Watch.{Watcher, told}
 
 -- the watcher of a pair that a get means
 abbrev pub watcher_meant : List Entry → Watch → PairNo → Watcher

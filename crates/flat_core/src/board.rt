@@ -6,13 +6,13 @@ ghost use Rattle.flat_scene.specs.History.{is_closed, history_of, Published};
 ghost use Rattle.flat_scene.specs.Setups.{is_declared, is_within_limits};
 ghost use Rattle.flat_topology.specs.Views.{is_member};
 ghost use Rattle.flat_core.specs.Boards.{MayCall, MayLook, entered, present_of};
-ghost use Rattle.flat_core.specs.Ends.{has_view, to_begin};
-ghost use Rattle.flat_core.specs.Legal.{asked_of, frames, number_if, reply_to, value_of, waited, Legal};
+ghost use Rattle.flat_rules.specs.Ends.{has_view, to_begin};
+ghost use Rattle.flat_rules.specs.Legal.{asked_of, frames, number_if, reply_to, value_of, waited, Legal};
 ghost use Rattle.flat_core.specs.Polls.{unread_events};
-ghost use Rattle.flat_core.specs.Posts.{posts};
+ghost use Rattle.flat_rules.specs.Posts.{posts};
 ghost use Rattle.flat_core.specs.Presents.{owed_for, reply_to_close};
-ghost use Rattle.flat_core.specs.Shown.{shown_states, tree_of};
-ghost use Rattle.flat_core.specs.Watch.{watcher_of};
+ghost use Rattle.flat_rules.specs.Shown.{shown_states, tree_of};
+ghost use Rattle.flat_rules.specs.Watch.{watcher_of};
 ghost use Rattle.flat_core.specs.Watchers.{is_held, is_shut, watcher_meant};
 
 use crate::begins::begin_all;

@@ -1,7 +1,7 @@
 ghost use Rattle.std.specs.Prelude.{◌≡◌, [], ◌∷◌, IfOk, Ok};
 ghost use Rattle.flat_base.specs.declared.ids.Actor.TheVariants.{Display, Session};
 ghost use Rattle.flat_scene.specs.declared.calls.Call.TheVariants.{CreateViewport};
-ghost use Rattle.flat_core.specs.Watch.{no_inset};
+ghost use Rattle.flat_rules.specs.Watch.{no_inset};
 
 use crate::ties_tests::two_sessions;
 use crate::{Back, Board};

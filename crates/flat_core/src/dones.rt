@@ -8,10 +8,11 @@ ghost use Rattle.flat_scene.specs.Frames.{going, is_among, is_released_by, sessi
 ghost use Rattle.flat_scene.specs.History.{is_closed};
 ghost use Rattle.flat_scene.specs.Setups.{is_declared};
 ghost use Rattle.flat_core.specs.Begins.{finished, finish_entry, post_of, posts_to, took_event};
-ghost use Rattle.flat_core.specs.Boards.{AreEnds, all_due, due, due_back, due_told, number};
-ghost use Rattle.flat_core.specs.Kept.{IsKept, AllNumbered, Below};
-ghost use Rattle.flat_core.specs.Legal.{is_frame_open, Legal, MayEnter};
-ghost use Rattle.flat_core.specs.Posts.{events_to, frame_took};
+ghost use Rattle.flat_core.specs.Boards.{AreEnds, all_due, due, due_back, due_told};
+ghost use Rattle.flat_rules.specs.Numbers.{number, AllNumbered};
+ghost use Rattle.flat_core.specs.Kept.{IsKept, Below};
+ghost use Rattle.flat_rules.specs.Legal.{is_frame_open, Legal, MayEnter};
+ghost use Rattle.flat_rules.specs.Posts.{events_to, frame_took};
 ghost use Rattle.flat_core.specs.Seen.{seen_of};
 ghost use Rattle.flat_core.specs.Viewports.{AreViewports, back_events};
 ghost use Rattle.flat_core.specs.Watchers.{AreWatched, WatchedUpTo};

@@ -1,5 +1,5 @@
 ghost use Rattle.std.specs.Prelude.{◌≡◌, ℕ};
-ghost use Rattle.flat_core.specs.Watch.{layout_of, status_of, child_of, told};
+ghost use Rattle.flat_rules.specs.Watch.{layout_of, status_of, child_of, told};
 ghost use Rattle.flat_base.specs.declared.ids.PairNo.{PairNo};
 
 use crate::gets::{Answered, Gets, Tells, new_answers};

@@ -3,7 +3,7 @@ ghost use Rattle.flat_scene.specs.declared.journal.Entry.{Entry};
 ghost use Rattle.flat_scene.specs.declared.setup.Setup.{Setup};
 ghost use Rattle.flat_watch.specs.Told.{news};
 ghost use Rattle.flat_core.specs.Gets.{watched_of, rank, use_of, comes_before, watcher_of_held, watcher_for, is_held_in, with_held, place_in, news_of, still_held, answers_to, answering, last_of, noted_one, started, unanswered, Changes, Answers, Settles, Asks};
-ghost use Rattle.flat_core.specs.Watch.{layout_of, status_of, child_of, told, same_watcher};
+ghost use Rattle.flat_rules.specs.Watch.{layout_of, status_of, child_of, told, same_watcher};
 
 use crate::log::Log;
 use flat_base::{FlatlandError, NoMemory, PairNo, SessionNo};

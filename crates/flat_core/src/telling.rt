@@ -2,13 +2,13 @@ ghost use Rattle.flat_core.specs.Watchers.{IsTelling};
 ghost use Rattle.std.specs.Prelude.{◌≡◌, ℕ, ◌<◌, ◌||◌, ◌&&◌, List, length, nat_lt};
 ghost use Rattle.flat_scene.specs.declared.setup.Setup.{Setup};
 ghost use Rattle.flat_scene.specs.declared.journal.Entry.{Entry};
-ghost use Rattle.flat_core.specs.Ends.{is_viewport_lost, to_finished, view_uses, viewport_owner};
+ghost use Rattle.flat_rules.specs.Ends.{is_viewport_lost, to_finished, view_uses, viewport_owner};
 ghost use Rattle.flat_core.specs.Following.{AreTied, IsLastSight};
-ghost use Rattle.flat_core.specs.Legal.{Legal};
-ghost use Rattle.flat_core.specs.Stamps.{is_seen};
-ghost use Rattle.flat_core.specs.Shown.{is_pair};
+ghost use Rattle.flat_rules.specs.Legal.{Legal};
+ghost use Rattle.flat_rules.specs.Stamps.{is_seen};
+ghost use Rattle.flat_rules.specs.Shown.{is_pair};
 ghost use Rattle.flat_watch.specs.Told.{or_else};
-ghost use Rattle.flat_core.specs.Watch.{are_joined, props_told, told, layout_of, status_of, child_of};
+ghost use Rattle.flat_rules.specs.Watch.{are_joined, props_told, told, layout_of, status_of, child_of};
 
 use crate::ends::EndSet;
 use crate::following::Sight;

@@ -1,7 +1,7 @@
 ghost use Rattle.std.specs.Prelude.{◌≡◌};
-ghost use Rattle.flat_core.specs.Stamps.{is_seen, stamp_then};
+ghost use Rattle.flat_rules.specs.Stamps.{is_seen, stamp_then};
 ghost use Rattle.flat_core.specs.Views.{layout_by, status_by, child_by};
-ghost use Rattle.flat_core.specs.Watch.{layout_in};
+ghost use Rattle.flat_rules.specs.Watch.{layout_in};
 
 use flat_base::ONE;
 use flat_scene::{Layout, Told, ViewportProps};

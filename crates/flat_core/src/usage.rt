@@ -1,6 +1,6 @@
 ghost use Rattle.std.specs.Prelude.{◌≡◌, ℕ, ◌+◌, Some, [], ◌∷◌, length};
 ghost use Rattle.flat_core.specs.Following.{capped};
-ghost use Rattle.flat_core.specs.Serials.{makes_content, contents_made};
+ghost use Rattle.flat_rules.specs.Serials.{makes_content, contents_made};
 ghost use Rattle.flat_core.specs.Usage.{UsesPair, SeesUses};
 
 use crate::pairs::PairState;

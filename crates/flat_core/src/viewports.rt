@@ -1,6 +1,6 @@
 ghost use Rattle.std.specs.Prelude.{◌≡◌, ◌+◌, ◌<◌, ◌≤◌, ◌==◌, ◌^◌, Some, None, [], ◌∷◌, ◌++◌, not, true, false, filter, length, map, OnOk, OnErr, cond, vec_capacity};
 ghost use Rattle.std.specs.List.{list_any};
-ghost use Rattle.flat_core.specs.Legal.{all_but_last};
+ghost use Rattle.flat_rules.specs.Legal.{all_but_last};
 ghost use Rattle.flat_core.specs.Lives.{lives_then, lives_after, pair_named, uses_last};
 ghost use Rattle.flat_core.specs.Seen.{is_new_viewport};
 ghost use Rattle.flat_core.specs.Begins.{post_of};

@@ -3,7 +3,7 @@ ghost use Rattle.std.specs.List.{list_any};
 ghost use Rattle.flat_base.specs.declared.limits.TheConstants.{SESSIONS_MAX};
 ghost use Rattle.flat_core.specs.declared.state.SessionState.{SessionState};
 ghost use Rattle.flat_core.specs.Kept.{has_view_in};
-ghost use Rattle.flat_core.specs.Legal.{all_but_last, refused_token};
+ghost use Rattle.flat_rules.specs.Legal.{all_but_last, refused_token};
 ghost use Rattle.flat_core.specs.Lives.{uses_last};
 ghost use Rattle.flat_core.specs.Presents.{use_reply, after_get, after_view, after_viewport, noted_in, IsPlaced, IsNoted, IsUsed, EndsNoted, TiesNoted, TiesUsed, HasNone};
 ghost use Rattle.flat_core.specs.Seen.{is_new_viewport};

@@ -3,10 +3,10 @@ ghost use Rattle.flat_scene.specs.declared.journal.Entry.{Entry};
 ghost use Rattle.flat_scene.specs.declared.setup.Setup.{Setup};
 ghost use Rattle.flat_scene.specs.History.{◌▹◌};
 ghost use Rattle.flat_core.specs.Boards.{due_told};
-ghost use Rattle.flat_core.specs.Kept.{AllNumbered};
-ghost use Rattle.flat_core.specs.Legal.{number_if};
-ghost use Rattle.flat_core.specs.Posts.{posts};
-ghost use Rattle.flat_core.specs.Watch.{told};
+ghost use Rattle.flat_rules.specs.Numbers.{AllNumbered};
+ghost use Rattle.flat_rules.specs.Legal.{number_if};
+ghost use Rattle.flat_rules.specs.Posts.{posts};
+ghost use Rattle.flat_rules.specs.Watch.{told};
 ghost use Rattle.flat_core.specs.Watchers.{AreWatched, IsJoin, IsAsked, IsSettled, WatchedUpTo, is_few, is_held, is_seldom};
 
 use crate::gets::{Answered, Gets, Tells, Watched, new_answers, told_of};

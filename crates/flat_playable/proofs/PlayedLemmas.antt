@@ -33,7 +33,7 @@ use Rattle.flat_scene.specs.declared.script.Cond.{Cond}
 use Rattle.flat_scene.specs.declared.script.Cond.TheVariants as asks
 use Rattle.flat_scene.specs.History.{is_session}
 use Rattle.flat_scene.specs.Setups.{is_within, is_declared, may_own}
-use Rattle.flat_core.specs.Legal.{owns_view, owns_viewport, owns_fence, owns_buffers, is_fence}
+use Rattle.flat_rules.specs.Legal.{owns_view, owns_viewport, owns_fence, owns_buffers, is_fence}
 use Rattle.flat_script.specs.declared.script.Script.{Script}
 use Rattle.flat_script.specs.Known.{known_words}
 use Rattle.flat_script.specs.Forms.{Word, Form, Reading, both, mapped, unless_kind, each, one_or_more, whole, optional, ◌<$>◌, ◌<*>◌}

@@ -5,9 +5,9 @@ use Rattle.std.proofs.lemmas.Bool.Decides.{nat_tests}
 use Rattle.flat_scene.specs.declared.frames.Lost.{Lost}
 use Rattle.flat_scene.specs.declared.journal.Entry.{Entry}
 use Rattle.flat_scene.specs.History.{◌▹◌, is_finish}
-use Rattle.flat_core.specs.Ends.{to_begin, to_finished}
-use Rattle.flat_core.specs.Legal.{LegalEntry, frames}
-use Rattle.flat_core.specs.Posts.{Sent, posted}
+use Rattle.flat_rules.specs.Ends.{to_begin, to_finished}
+use Rattle.flat_rules.specs.Legal.{LegalEntry, frames}
+use Rattle.flat_rules.specs.Posts.{Sent, posted}
 use Rattle.flat_script.specs.declared.script.Script.{Script}
 use Rattle.flat_report.specs.EntryLines.{entry_line, event_line}
 use Rattle.flat_report.specs.FrameLines.{frame_lines, lost_line}

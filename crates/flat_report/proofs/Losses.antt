@@ -6,7 +6,7 @@ use Rattle.std.proofs.lemmas.Fmt.{decimal_injective}
 use Rattle.std.proofs.lemmas.List.{append_cancel_left}
 use Rattle.flat_scene.specs.declared.frames.Lost.{Lost}
 use Rattle.flat_scene.specs.declared.journal.Entry.{Entry}
-use Rattle.flat_core.specs.Legal.{frames}
+use Rattle.flat_rules.specs.Legal.{frames}
 use Rattle.flat_report.specs.FrameLines.{lost_line}
 use Rattle.flat_report.specs.Report.{lost_at, is_lost_before, is_loss}
 use Rattle.flat_report.specs.Words.{number}

@@ -10,7 +10,7 @@ use Rattle.flat_scene.specs.declared.journal.Kind.{Kind}
 use Rattle.flat_scene.specs.declared.script.Body.{Body}
 use Rattle.flat_scene.specs.declared.script.Body.TheVariants as body
 use Rattle.flat_scene.specs.Setups.{is_declared}
-use Rattle.flat_core.specs.Legal.{may_act, session_may}
+use Rattle.flat_rules.specs.Legal.{may_act, session_may}
 use Rattle.flat_script.specs.declared.script.Script.{Script}
 use Rattle.flat_script.specs.Names.{is_name, is_name_byte, is_reserved, place_of}
 use Rattle.flat_report.specs.Words.{Word, name_at, session_name, actor_name}

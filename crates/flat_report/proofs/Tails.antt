@@ -13,9 +13,9 @@ use Rattle.flat_scene.specs.declared.journal.Post.{Post}
 use Rattle.flat_scene.specs.declared.journal.Reply.{Reply}
 use Rattle.flat_scene.specs.declared.setup.Setup.{Setup}
 use Rattle.flat_scene.specs.History.{◌▹◌, is_finish}
-use Rattle.flat_core.specs.Ends.{to_begin, to_finished}
-use Rattle.flat_core.specs.Legal.{frames}
-use Rattle.flat_core.specs.Posts.{Sent, posted}
+use Rattle.flat_rules.specs.Ends.{to_begin, to_finished}
+use Rattle.flat_rules.specs.Legal.{frames}
+use Rattle.flat_rules.specs.Posts.{Sent, posted}
 use Rattle.flat_script.specs.declared.script.Script.{Script}
 use Rattle.flat_report.specs.declared.report.HitAnswer.{HitAnswer}
 use Rattle.flat_report.specs.EntryLines.{point_words, said_words, entry_line, event_line}

@@ -14,7 +14,7 @@ use Rattle.flat_scene.specs.Frames.{sessions_to}
 use Rattle.flat_scene.specs.History.{◌▹◌, own, is_session, is_display}
 use Rattle.flat_scene.specs.Interleave.{Follows, FollowsDisplay, IsFirstLine, IsNext, Interleaves, IsReading, Next, next_of, session_lines, display_lines, by_display, unread_lines}
 use Rattle.flat_scene.specs.Setups.{is_declared}
-use Rattle.flat_core.specs.Legal.{Legal, may_act, session_may}
+use Rattle.flat_rules.specs.Legal.{Legal, may_act, session_may}
 use Rattle.flat_report.proofs.Tails.{onto}
 use Rattle.std.proofs.lemmas.Bool.{and_parts, eq-eqb}
 

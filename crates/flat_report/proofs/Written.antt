@@ -9,9 +9,9 @@ use Rattle.flat_scene.specs.declared.journal.Entry.{Entry}
 use Rattle.flat_scene.specs.declared.journal.Post.{Post}
 use Rattle.flat_scene.specs.declared.setup.Setup.{Setup}
 use Rattle.flat_scene.specs.History.{◌▹◌, history_of, is_finish}
-use Rattle.flat_core.specs.Ends.{to_begin}
-use Rattle.flat_core.specs.Legal as legal
-use Rattle.flat_core.specs.Posts.{posts}
+use Rattle.flat_rules.specs.Ends.{to_begin}
+use Rattle.flat_rules.specs.Legal as legal
+use Rattle.flat_rules.specs.Posts.{posts}
 use Rattle.flat_script.specs.declared.script.Script.{Script}
 use Rattle.flat_report.specs.declared.page.Page.{Page}
 use Rattle.flat_report.specs.declared.report.HitAnswer.{HitAnswer}

@@ -9,8 +9,8 @@ use Rattle.flat_scene.specs.declared.journal.Kind.TheVariants as kind
 use Rattle.flat_scene.specs.declared.journal.Post.{Post}
 use Rattle.flat_scene.specs.declared.setup.Setup.{Setup}
 use Rattle.flat_scene.specs.History.{◌▹◌, is_finish}
-use Rattle.flat_core.specs.Ends.{to_finished}
-use Rattle.flat_core.specs.Legal.{frames}
+use Rattle.flat_rules.specs.Ends.{to_finished}
+use Rattle.flat_rules.specs.Legal.{frames}
 use Rattle.flat_script.specs.declared.script.Script.{Script}
 use Rattle.flat_report.specs.declared.report.HitAnswer.{HitAnswer}
 use Rattle.flat_report.specs.EntryLines.{entry_line, event_line}

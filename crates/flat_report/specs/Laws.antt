@@ -4,7 +4,7 @@ use Rattle.std.specs.List.{list_all}
 use Rattle.flat_scene.specs.declared.frames.Lost.{Lost}
 use Rattle.flat_scene.specs.declared.journal.Entry.{Entry}
 use Rattle.flat_scene.specs.Interleave.{Interleaves}
-use Rattle.flat_core.specs.Legal.{Legal}
+use Rattle.flat_rules.specs.Legal.{Legal}
 use Rattle.flat_script.specs.declared.script.Script.{Script}
 use Rattle.flat_script.specs.Grammar.{IsScript}
 use Rattle.flat_report.specs.Report.{report, is_loss, is_seeing}

@@ -13,10 +13,10 @@ use Rattle.flat_scene.specs.declared.script.ProbeLine.TheVariants as probe
 use Rattle.flat_scene.specs.declared.script.ScriptLine.{ScriptLine}
 use Rattle.flat_scene.specs.declared.setup.Setup.{Setup}
 use Rattle.flat_scene.specs.History.{◌▹◌, is_finish}
-use Rattle.flat_core.specs.Ends.{to_begin, to_finished, has_view}
-use Rattle.flat_core.specs.Legal.{frames}
-use Rattle.flat_core.specs.Posts.{posted}
-use Rattle.flat_core.specs.Shown.{shown_states}
+use Rattle.flat_rules.specs.Ends.{to_begin, to_finished, has_view}
+use Rattle.flat_rules.specs.Legal.{frames}
+use Rattle.flat_rules.specs.Posts.{posted}
+use Rattle.flat_rules.specs.Shown.{shown_states}
 use Rattle.flat_script.specs.declared.script.Script.{Script}
 use Rattle.flat_topology.specs.Draw.{draw_list}
 use Rattle.flat_topology.specs.Hits.{hit_list}

@@ -1,6 +1,6 @@
 ghost use Rattle.std.specs.Prelude.{◌≡◌, ◌++◌, ◌∷◌, ◌+◌, ◌-◌, ◌<◌, ◌^◌, [], OnOk, IfOk, length, take_while, cond, codes, ◌==◌, List};
 ghost use Rattle.flat_scene.specs.History.{history_of, is_finish};
-ghost use Rattle.flat_core.specs.Posts.{posts};
+ghost use Rattle.flat_rules.specs.Posts.{posts};
 ghost use Rattle.flat_report.specs.Handed.{answers_of, first_hits, first_frame_lines, frames_after, answers_after, handed_lines};
 ghost use Rattle.flat_report.specs.Pages.{Writes, WritesLines};
 ghost use Rattle.flat_report.specs.Words.{number};

@@ -9,9 +9,9 @@ use Rattle.flat_scene.specs.declared.frames.ViewTree.{ViewTree}
 use Rattle.flat_scene.specs.declared.journal.Entry.{Entry}
 use Rattle.flat_scene.specs.declared.setup.Setup.{Setup}
 use Rattle.flat_scene.specs.Setups.{is_declared, is_setup}
-use Rattle.flat_core.specs.Ends.{to_begin, has_view}
-use Rattle.flat_core.specs.Legal.{Legal}
-use Rattle.flat_core.specs.Shown.{shown_states}
+use Rattle.flat_rules.specs.Ends.{to_begin, has_view}
+use Rattle.flat_rules.specs.Legal.{Legal}
+use Rattle.flat_rules.specs.Shown.{shown_states}
 use Rattle.flat_topology.specs.declared.Joined.{Joined}
 use Rattle.flat_topology.specs.Connected.{joined_lists}
 use Rattle.flat_topology.specs.Draw.{items_of}
@@ -22,7 +22,7 @@ use Rattle.flat_tree.specs.Laws.{TreesFollow, IsSetOf}
 use Rattle.flat_tree.specs.Trees.{tree_from}
 use Rattle.flat_report.specs.Report.{frame_at}
 use Rattle.flat_run.specs.Playing.{FramesStand, HasViews}
-use Rattle.flat_core.specs.Laws.{BegunStatesFit, EachSessionHasOneState}
+use Rattle.flat_rules.specs.Laws.{BegunStatesFit, EachSessionHasOneState}
 use Rattle.flat_run.proofs.Conditions.{and_left, and_right, and_true}
 
 pub few_sessions : (setup : Setup) → is_setup setup ≡ true → setup.sessions ≤ SESSIONS_MAX

@@ -33,10 +33,10 @@ use Rattle.flat_scene.specs.Misuse.{first_reason, Test}
 use Rattle.flat_scene.specs.Setups.{is_declared}
 use Rattle.flat_scene.specs.Tree.{tree_tests, present_tests}
 use Rattle.flat_core.specs.Boards.{Machine, MayCall, HasShare}
-use Rattle.flat_core.specs.Legal.{is_link, all_but_last, owns_in_call, owns_in_kind, owns_view, owns_viewport, owns_fence, same_inset, is_fence, names_declared, session_may, has_tree}
-use Rattle.flat_core.specs.Ends.{viewport_uses}
+use Rattle.flat_rules.specs.Legal.{is_link, all_but_last, owns_in_call, owns_in_kind, owns_view, owns_viewport, owns_fence, same_inset, is_fence, names_declared, session_may, has_tree}
+use Rattle.flat_rules.specs.Ends.{viewport_uses}
 use Rattle.flat_core.specs.Watchers.{watcher_meant}
-use Rattle.flat_core.specs.Watch.{layout_of, status_of, child_of, watcher_in, watcher_of, watcher_of_made}
+use Rattle.flat_rules.specs.Watch.{layout_of, status_of, child_of, watcher_in, watcher_of, watcher_of_made}
 use Rattle.flat_content.specs.Table.{pair_of}
 use Rattle.flat_draft.specs.Answers.{pair_watched}
 use Rattle.flat_playable.specs.Playable.{is_private, is_played_call, is_played_condition}

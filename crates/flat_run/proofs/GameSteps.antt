@@ -27,10 +27,10 @@ use Rattle.flat_scene.specs.History.{◌▹◌, is_begin, is_end, is_finish, is_
 use Rattle.flat_scene.specs.Setups.{is_declared}
 use Rattle.flat_core.specs.Boards.{Machine, HasShare, entered, entry_of, made}
 use Rattle.flat_topology.specs.Connected.{joined_lists}
-use Rattle.flat_core.specs.Ends.{to_begin, to_finished, has_view}
+use Rattle.flat_rules.specs.Ends.{to_begin, to_finished, has_view}
 use Rattle.flat_topology.specs.Views.{is_member}
-use Rattle.flat_core.specs.Legal.{frames}
-use Rattle.flat_core.specs.Shown.{shown_states}
+use Rattle.flat_rules.specs.Legal.{frames}
+use Rattle.flat_rules.specs.Shown.{shown_states}
 use Rattle.flat_report.specs.Report.{frame_at, hits_at}
 use Rattle.flat_script.specs.declared.script.Script.{Script}
 use Rattle.flat_run.specs.declared.game.Game.{Game}
@@ -39,7 +39,7 @@ use Rattle.flat_playable.specs.Playable.{is_played, keeps_frames}
 use Rattle.flat_run.specs.Playing.{IsSpent, lines_by, shares_of, Grows, grows, stays, is_quiet, PlayerStands, PlayersStand, DisplayStands, FramesStand, GameStands, BeginsFrame, FinishesFrame, EntersBeside, AsksPoint, AnswersStand, HasViews, session_text, display_text}
 use Rattle.flat_run.proofs.DisplaySteps.{QuietStep, quiet_begin, quiet_finish, quiet_end, quiet_answers, answers_session, answers_beside, answers_done, answers_point, display_session, display_begin, display_done, display_beside, display_share, begin_time_ok, done_ok, may_begin, may_finish, frames_session, frames_beside, frames_begin, frames_done}
 use Rattle.flat_run.proofs.DisplaySteps as quiet
-use Rattle.flat_core.proofs.ShownList.{length-listed}
+use Rattle.flat_rules.proofs.ShownList.{length-listed}
 use Rattle.flat_run.proofs.Steps.{At, Step, same, more, order_more, spent_more, player_other}
 use Rattle.flat_run.proofs.Conditions.{and_left, and_right}
 

@@ -8,7 +8,7 @@ use Rattle.flat_scene.specs.declared.frames.FrameOut.{FrameOut}
 use Rattle.flat_scene.specs.declared.journal.Entry.{Entry}
 use Rattle.flat_scene.specs.declared.setup.Setup.{Setup}
 use Rattle.flat_scene.specs.History.{history_of}
-use Rattle.flat_core.specs.Legal.{frames}
+use Rattle.flat_rules.specs.Legal.{frames}
 use Rattle.flat_report.specs.Report.{finished}
 use Rattle.flat_run.specs.Totals.{is_present, last_items, totals_of}
 use Rattle.flat_run.proofs.Seen.{finished_length}

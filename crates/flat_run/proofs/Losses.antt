@@ -6,7 +6,7 @@ use Rattle.flat_base.specs.declared.ids.FrameNo.{FrameNo}
 use Rattle.flat_scene.specs.declared.frames.FrameOut.{FrameOut}
 use Rattle.flat_scene.specs.declared.frames.Lost.{Lost}
 use Rattle.flat_scene.specs.declared.journal.Entry.{Entry}
-use Rattle.flat_core.specs.Legal.{frames}
+use Rattle.flat_rules.specs.Legal.{frames}
 use Rattle.flat_display.specs.Lost.{is_lost}
 use Rattle.flat_display.specs.Shows.{Shows}
 use Rattle.flat_display.specs.Shows.Shows.{none, passed, took, failed}

@@ -8,8 +8,8 @@ use Rattle.flat_scene.specs.declared.journal.Entry.{Entry}
 use Rattle.flat_scene.specs.declared.script.ScriptLine.{ScriptLine}
 use Rattle.flat_scene.specs.declared.setup.Setup.{Setup}
 use Rattle.flat_scene.specs.Setups.{is_within_limits, owners_declared}
-use Rattle.flat_core.specs.Legal.{Legal}
-use Rattle.flat_core.specs.Local.{FamiliesAreAlone}
+use Rattle.flat_rules.specs.Legal.{Legal}
+use Rattle.flat_rules.specs.Local.{FamiliesAreAlone}
 use Rattle.flat_display.specs.Had.{AreDriven}
 use Rattle.flat_report.specs.Report.{finished, is_seeing, never_falls, numbers_from, probe_lines_of}
 use Rattle.flat_script.specs.declared.script.Script.{Script}

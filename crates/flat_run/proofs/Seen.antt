@@ -11,8 +11,8 @@ use Rattle.flat_scene.specs.declared.journal.Entry.{Entry}
 use Rattle.flat_scene.specs.declared.setup.Setup.{Setup}
 use Rattle.flat_scene.specs.History.{◌▹◌, is_finish}
 use Rattle.flat_core.specs.Boards.{Machine}
-use Rattle.flat_core.specs.Ends.{to_begin}
-use Rattle.flat_core.specs.Legal.{frames}
+use Rattle.flat_rules.specs.Ends.{to_begin}
+use Rattle.flat_rules.specs.Legal.{frames}
 use Rattle.flat_display.specs.Had.{is_numbered, is_among}
 use Rattle.flat_display.specs.Lost.{Driven}
 use Rattle.flat_display.specs.Shows.{Shows}

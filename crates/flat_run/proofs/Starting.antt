@@ -18,10 +18,10 @@ use Rattle.flat_scene.specs.Frames.{sessions_to}
 use Rattle.flat_scene.specs.History.{seat_number, is_session}
 use Rattle.flat_scene.specs.Interleave.{session_lines, session_line, display_line, unread_lines, next_from}
 use Rattle.flat_scene.specs.Setups.{is_setup, is_within_limits}
-use Rattle.flat_core.proofs.ShownList.{length-listed}
-use Rattle.flat_core.specs.Laws.{BegunStatesFit, NothingIsShownAtFirst}
+use Rattle.flat_rules.proofs.ShownList.{length-listed}
+use Rattle.flat_rules.specs.Laws.{BegunStatesFit, NothingIsShownAtFirst}
 use Rattle.flat_core.specs.Boards.{Machine}
-use Rattle.flat_core.specs.Ends.{has_view, views_of}
+use Rattle.flat_rules.specs.Ends.{has_view, views_of}
 use Rattle.flat_topology.specs.Connected.{joined_lists}
 use Rattle.flat_report.specs.declared.report.HitAnswer.{HitAnswer}
 use Rattle.flat_topology.specs.Shown.{Shown}

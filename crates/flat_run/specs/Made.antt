@@ -9,8 +9,8 @@ use Rattle.flat_scene.specs.declared.calls.Call.TheVariants.{CreateView, CreateV
 use Rattle.flat_scene.specs.declared.journal.Kind.{Kind}
 use Rattle.flat_scene.specs.declared.journal.Kind.TheVariants as kind
 use Rattle.flat_core.specs.Boards.{Machine, present_of}
-use Rattle.flat_core.specs.Shown.{tree_of}
-use Rattle.flat_core.specs.Watch.{watcher_of}
+use Rattle.flat_rules.specs.Shown.{tree_of}
+use Rattle.flat_rules.specs.Watch.{watcher_of}
 use Rattle.flat_core.specs.Watchers.{watcher_meant}
 use Rattle.flat_run.specs.declared.made.Made.{Made}
 use Rattle.flat_run.specs.declared.made.Made.TheVariants as made

@@ -32,9 +32,9 @@ use Rattle.flat_scene.specs.Misuse.{misuse, first_reason}
 use Rattle.flat_scene.specs.Tree.{present_tests, tree}
 use Rattle.flat_scene.specs.Setups.{is_declared}
 use Rattle.flat_core.specs.Boards.{Machine, entered, made}
-use Rattle.flat_core.specs.Ends.{to_begin, to_finished, has_view}
-use Rattle.flat_core.specs.Legal.{is_frame_open, begin_time, frames}
-use Rattle.flat_core.specs.Shown.{shown_states}
+use Rattle.flat_rules.specs.Ends.{to_begin, to_finished, has_view}
+use Rattle.flat_rules.specs.Legal.{is_frame_open, begin_time, frames}
+use Rattle.flat_rules.specs.Shown.{shown_states}
 use Rattle.flat_topology.specs.Connected.{joined_lists}
 use Rattle.flat_topology.specs.Hits.{hits_among}
 use Rattle.flat_topology.specs.Shown.{Shown}

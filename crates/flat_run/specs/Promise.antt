@@ -10,7 +10,7 @@ use Rattle.flat_scene.specs.declared.frames.Lost.{Lost}
 use Rattle.flat_scene.specs.declared.journal.Entry.{Entry}
 use Rattle.flat_scene.specs.Interleave.{IsWritten}
 use Rattle.flat_scene.specs.Family.{family}
-use Rattle.flat_core.specs.Laws.{IsFamilyLaw}
+use Rattle.flat_rules.specs.Laws.{IsFamilyLaw}
 use Rattle.flat_script.specs.declared.script.Script.{Script}
 use Rattle.flat_script.specs.declared.script.ScriptFault.{ScriptFault}
 use Rattle.flat_script.specs.Grammar.{text_read}

@@ -7,7 +7,7 @@ use Rattle.flat_scene.specs.declared.journal.Entry.{Entry}
 use Rattle.flat_scene.specs.declared.journal.Kind.{Kind}
 use Rattle.flat_scene.specs.declared.journal.Kind.TheVariants.{Present}
 use Rattle.flat_scene.specs.declared.setup.Setup.{Setup}
-use Rattle.flat_core.specs.Legal.{frames}
+use Rattle.flat_rules.specs.Legal.{frames}
 use Rattle.flat_report.specs.Report.{finished}
 use Rattle.flat_stress.specs.declared.totals.Totals.{Totals}
 

@@ -8,7 +8,7 @@ ghost use Rattle.flat_run.specs.Promise.{fault_line, IsReport, IsAnswerTo};
 
 use crate::run::run;
 use flat_base::{NoMemory, SCRIPT_BYTES_MAX};
-use flat_core::families_are_alone;
+use flat_rules::families_are_alone;
 use flat_display::Display;
 use flat_io::{ReadAll, Source, read_all};
 use flat_playable::scripts_are_playable;

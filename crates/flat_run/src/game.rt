@@ -9,9 +9,9 @@ ghost use Rattle.flat_scene.specs.declared.journal.Kind.TheVariants.{Begin, Fini
 ghost use Rattle.flat_topology.specs.Connected.{joined_lists};
 ghost use Rattle.flat_scene.specs.declared.journal.Reply.TheVariants.{Done};
 ghost use Rattle.flat_core.specs.Boards.{MayCall};
-ghost use Rattle.flat_core.specs.Shown.{shown_states};
-ghost use Rattle.flat_core.specs.Ends.{to_begin};
-ghost use Rattle.flat_core.specs.Legal.{frames, reply_to};
+ghost use Rattle.flat_rules.specs.Shown.{shown_states};
+ghost use Rattle.flat_rules.specs.Ends.{to_begin};
+ghost use Rattle.flat_rules.specs.Legal.{frames, reply_to};
 ghost use Rattle.flat_report.specs.Report.{frame_at, finished};
 ghost use Rattle.flat_playable.specs.Playable.{is_playable};
 ghost use Rattle.flat_run.specs.Showing.{Finishes};

@@ -10,7 +10,7 @@ ghost use Rattle.flat_run.specs.Totals.{is_present, last_items, totals_of};
 use crate::answers::{Answer, DONE};
 use crate::run::run;
 use flat_base::NoMemory;
-use flat_core::families_are_alone;
+use flat_rules::families_are_alone;
 use flat_display::Display;
 use flat_playable::scripts_are_playable;
 use flat_scene::{Entry, FrameOut, Journal, Kind, Setup};

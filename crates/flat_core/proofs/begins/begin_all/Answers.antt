@@ -1,15 +1,15 @@
 use Rattle.std.proofs.Common.{◌≡◌, ◌<◌, ℕ, length, arith, ◌∙◌, ap, sym, refl, subst, None}
 use Rattle.std.proofs.lemmas.List.{append-nil}
-use Rattle.flat_core.specs.Kept.{AllNumbered}
+use Rattle.flat_rules.specs.Numbers.{AllNumbered}
 use Rattle.std.proofs.lemmas.List.{length-set}
 use Rattle.std.proofs.lemmas.List.Sums.{sum_by-set}
 use Rattle.flat_core.specs.Boards.{due}
 use Rattle.flat_core.specs.Begins.{begin_entry}
 use Rattle.flat_core.proofs.BeginLoop.{ShownUpTo, kept-start, shown-start, kept-next, shown-next, shown-there, shown-end, posts-next}
 use Rattle.flat_core.specs.Begins.{begun}
-use Rattle.flat_core.specs.Ends.{to_begin}
-use Rattle.flat_core.specs.Shown.{shown}
-use Rattle.flat_core.proofs.ShownList.{listed, each-listed}
+use Rattle.flat_rules.specs.Ends.{to_begin}
+use Rattle.flat_rules.specs.Shown.{shown}
+use Rattle.flat_rules.proofs.ShownList.{listed, each-listed}
 use Rattle.flat_core.proofs.begins.begin_all.Goals as goal
 
 pub loop-i-preserved : goal.loop-i-preserved

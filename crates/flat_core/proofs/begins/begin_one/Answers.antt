@@ -3,9 +3,9 @@ use Rattle.std.proofs.lemmas.List.{append-nil}
 use Rattle.flat_fence.specs.Fences.{has}
 use Rattle.flat_scene.specs.History.{is_closed}
 use Rattle.flat_scene.specs.Frames.{credits}
-use Rattle.flat_core.specs.Ends.{to_begin}
-use Rattle.flat_core.specs.Shown.{shown}
-use Rattle.flat_core.proofs.ListLemmas.{set-own}
+use Rattle.flat_rules.specs.Ends.{to_begin}
+use Rattle.flat_rules.specs.Shown.{shown}
+use Rattle.flat_rules.proofs.ListLemmas.{set-own}
 use Rattle.flat_core.specs.Begins.{begun}
 use Rattle.flat_core.specs.Seen.{seen_of}
 use Rattle.flat_core.proofs.Begun.{seen-begun-closed, kept-let_go}

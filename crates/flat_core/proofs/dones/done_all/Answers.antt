@@ -5,7 +5,7 @@ use Rattle.std.proofs.lemmas.List.Sums.{sum_by-set}
 use Rattle.flat_fence.specs.Fences.{has}
 use Rattle.flat_core.specs.Boards.{due, due_back}
 use Rattle.flat_core.specs.Begins.{finish_entry, finished}
-use Rattle.flat_core.specs.Legal.{Legal, LegalEntry}
+use Rattle.flat_rules.specs.Legal.{Legal, LegalEntry}
 use Rattle.flat_core.specs.Watchers.{WatchedUpTo}
 use Rattle.flat_core.proofs.BeginLoop.{posts-next}
 use Rattle.flat_core.proofs.DoneSteps.{EndsOf, done-next, members-next, up-next}

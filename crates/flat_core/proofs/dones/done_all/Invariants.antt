@@ -4,7 +4,7 @@ use Rattle.flat_base.specs.declared.ids.FenceNo.{FenceNo}
 use Rattle.flat_fence.specs.Fences.{has}
 use Rattle.flat_core.specs.Begins.{finish_entry, finished, posts_to}
 use Rattle.flat_core.specs.Boards.{all_due}
-use Rattle.flat_core.specs.Kept.{AllNumbered}
+use Rattle.flat_rules.specs.Numbers.{AllNumbered}
 use Rattle.flat_core.specs.Watchers.{WatchedUpTo}
 use Rattle.flat_core.proofs.DoneSteps.{DoneUpTo, EndsUpTo, released_to}
 use Rattle.flat_core.proofs.dones.done_all.Given as goal

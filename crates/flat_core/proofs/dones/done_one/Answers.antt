@@ -3,14 +3,14 @@ use Rattle.std.specs.Prelude.{cond, map}
 use Rattle.std.proofs.lemmas.List.{append-nil}
 use Rattle.flat_fence.specs.Fences.{has}
 use Rattle.flat_scene.specs.History.{is_closed}
-use Rattle.flat_core.specs.Legal.{is_frame_open}
-use Rattle.flat_core.specs.Posts.{frame_took}
+use Rattle.flat_rules.specs.Legal.{is_frame_open}
+use Rattle.flat_rules.specs.Posts.{frame_took}
 use Rattle.flat_scene.specs.Frames.{going}
 use Rattle.flat_scene.specs.declared.journal.Entry.{Entry}
 use Rattle.flat_scene.specs.Frames.{taken}
 use Rattle.flat_scene.specs.History.{◌▹◌}
 use Rattle.flat_core.specs.Begins.{finish_entry, post_of, took_event}
-use Rattle.flat_core.specs.Legal.{Legal, LegalEntry}
+use Rattle.flat_rules.specs.Legal.{Legal, LegalEntry}
 use Rattle.flat_core.specs.Seen.{seen_of}
 use Rattle.flat_core.specs.Viewports.{back_events}
 use Rattle.flat_core.proofs.Counts.{seen-count, taken-kept}

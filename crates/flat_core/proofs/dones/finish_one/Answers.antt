@@ -12,10 +12,10 @@ use Rattle.flat_scene.specs.Setups.{is_declared}
 use Rattle.flat_core.specs.declared.watching.Watchers.{Watchers}
 use Rattle.flat_core.specs.Begins.{finish_entry, finished, post_of, took_event}
 use Rattle.flat_core.specs.Gets.{answers_to, helds_of}
-use Rattle.flat_core.specs.Legal.{Legal, LegalEntry}
-use Rattle.flat_core.specs.Posts.{events_to, frame_took}
+use Rattle.flat_rules.specs.Legal.{Legal, LegalEntry}
+use Rattle.flat_rules.specs.Posts.{events_to, frame_took}
 use Rattle.flat_core.specs.Viewports.{back_events}
-use Rattle.flat_core.specs.Watch.{told}
+use Rattle.flat_rules.specs.Watch.{told}
 use Rattle.flat_core.specs.Watchers.{WatchedUpTo}
 use Rattle.flat_core.proofs.GetPosts.{finish-posts}
 use Rattle.flat_core.proofs.WatchingSteps.{few-to, watched-passed, watched-told}

@@ -1,7 +1,7 @@
 use Rattle.std.proofs.Common.{◌≡◌, ◌∙◌, ap, arith, drop, [], List, subst, length}
 use Rattle.flat_scene.specs.declared.journal.Entry.{Entry}
 use Rattle.flat_core.specs.declared.gets.HeldGet.{HeldGet}
-use Rattle.flat_core.specs.Watch.{told}
+use Rattle.flat_rules.specs.Watch.{told}
 use Rattle.flat_core.proofs.GetLists.{Answering, answering-next, answered-all}
 use Rattle.flat_core.proofs.Marks.{drop-is, drop-end}
 use Rattle.flat_core.proofs.gets.answer_all.Goals as goal

@@ -1,7 +1,7 @@
 use Rattle.std.proofs.Common.{◌≡◌, ◌+◌, ◌≤◌, drop, length, List}
 use Rattle.flat_scene.specs.declared.journal.Entry.{Entry}
 use Rattle.flat_scene.specs.declared.setup.Setup.{Setup}
-use Rattle.flat_core.specs.Watch.{told}
+use Rattle.flat_rules.specs.Watch.{told}
 use Rattle.flat_core.proofs.GetLists.{Answering}
 use Rattle.flat_core.proofs.gets.answer_all.Given as goal
 

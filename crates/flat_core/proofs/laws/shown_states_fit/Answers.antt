@@ -1,6 +1,6 @@
 use Rattle.flat_core.proofs.ShownFits.{begun-fits, states-fit}
-use Rattle.flat_core.proofs.ShownList.{length-listed, length-sessions, nothing-shown}
-use Rattle.flat_core.specs.Shown.{shown}
+use Rattle.flat_rules.proofs.ShownList.{length-listed, length-sessions, nothing-shown}
+use Rattle.flat_rules.specs.Shown.{shown}
 use Rattle.flat_core.proofs.laws.shown_states_fit.Goals as goal
 
 pub returns-clause-fits : goal.returns-clause-fits

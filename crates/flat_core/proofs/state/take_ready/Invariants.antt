@@ -1,7 +1,7 @@
 use Rattle.std.proofs.Common.{◌≡◌, ◌+◌, ◌<◌, ◌≤◌, ◌++◌, length, map, drop, All, None, vec_capacity}
 use Rattle.flat_fence.specs.Fences.{has}
 use Rattle.flat_queue.specs.Line.{ready_of}
-use Rattle.flat_core.specs.Lasts.{last_from}
+use Rattle.flat_rules.specs.Lasts.{last_from}
 use Rattle.flat_core.proofs.state.take_ready.Given as goal
 
 abbrev pub invariant-loop-queued : goal.invariant-loop-queued

@@ -1,9 +1,9 @@
 use Rattle.std.proofs.Common.{◌≡◌, ◌∙◌, sym, subst, ap, ℕ, List, []}
 use Rattle.flat_scene.specs.declared.journal.Entry.{Entry}
 use Rattle.flat_core.specs.Boards.{Machine}
-use Rattle.flat_core.specs.Ends.{to_begin}
-use Rattle.flat_core.specs.Shown.{shown_states}
-use Rattle.flat_core.proofs.ShownList.{nothing-shown}
+use Rattle.flat_rules.specs.Ends.{to_begin}
+use Rattle.flat_rules.specs.Shown.{shown_states}
+use Rattle.flat_rules.proofs.ShownList.{nothing-shown}
 use Rattle.flat_core.proofs.tests.a_present_is_taken.Goals as goal
 
 pub begin-requires-clause-shown : goal.begin-requires-clause-shown

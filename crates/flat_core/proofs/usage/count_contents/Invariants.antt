@@ -1,6 +1,6 @@
 use Rattle.std.proofs.Common.{◌≡◌, ℕ, ◌+◌, length, drop}
 use Rattle.flat_core.specs.Following.{capped}
-use Rattle.flat_core.specs.Serials.{contents_made}
+use Rattle.flat_rules.specs.Serials.{contents_made}
 use Rattle.flat_core.proofs.usage.count_contents.Given as goal
 
 -- what is left leads from here to the same end

@@ -7,7 +7,7 @@ use Rattle.flat_scene.specs.History.{◌▹◌, is_closed}
 use Rattle.flat_core.specs.Boards.{AreEnds, Machine, entry_of}
 use Rattle.flat_core.specs.declared.state.Account.{Account}
 use Rattle.flat_core.specs.Kept.{IsKept}
-use Rattle.flat_core.specs.Legal.{Legal}
+use Rattle.flat_rules.specs.Legal.{Legal}
 use Rattle.flat_core.specs.Viewports.{AreViewports}
 use Rattle.flat_core.specs.Presents.{with_calls}
 use Rattle.flat_core.specs.Seen.{noted, seen_of}

@@ -7,11 +7,11 @@ use Rattle.flat_scene.specs.History.{◌▹◌}
 use Rattle.flat_scene.specs.declared.journal.Entry.{Entry}
 use Rattle.flat_core.specs.Boards.{Machine, entry_of}
 use Rattle.flat_core.specs.Begins.{finish_entry, finished}
-use Rattle.flat_core.specs.Legal.{Legal}
+use Rattle.flat_rules.specs.Legal.{Legal}
 use Rattle.flat_core.proofs.Steps.{has-room, legal-entered, short-history}
 use Rattle.flat_core.proofs.BoardBegins.{kept-finished, place-small}
 use Rattle.flat_core.proofs.board.Board.done.Goals as goal
-use Rattle.flat_core.proofs.ShownList.{length-listed}
+use Rattle.flat_rules.proofs.ShownList.{length-listed}
 
 pub done_all-count-requires-clause-place : goal.done_all-count-requires-clause-place
 done_all-count-requires-clause-place c =

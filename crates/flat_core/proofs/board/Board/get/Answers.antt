@@ -6,7 +6,7 @@ use Rattle.flat_scene.specs.declared.journal.Entry.{Entry}
 use Rattle.flat_scene.specs.declared.journal.Kind.TheVariants.{Get}
 use Rattle.flat_scene.specs.History.{◌▹◌}
 use Rattle.flat_core.specs.Boards.{Machine, entry_of}
-use Rattle.flat_core.specs.Legal.{Legal, reply_to}
+use Rattle.flat_rules.specs.Legal.{Legal, reply_to}
 use Rattle.flat_core.specs.Presents.{TiesNoted}
 use Rattle.flat_core.specs.Seen.{is_new_viewport, noted}
 use Rattle.flat_core.specs.Watchers.{IsTelling}

@@ -6,7 +6,7 @@ use Rattle.flat_scene.specs.declared.journal.Kind.TheVariants.{Poll}
 use Rattle.flat_scene.specs.declared.journal.Reply.TheVariants.{Polled}
 use Rattle.flat_core.specs.declared.state.Account.{Account}
 use Rattle.flat_core.specs.Boards.{Machine}
-use Rattle.flat_core.specs.Legal.{reply_to}
+use Rattle.flat_rules.specs.Legal.{reply_to}
 use Rattle.flat_core.specs.Presents.{TiesNoted}
 use Rattle.flat_core.specs.Seen.{is_new_viewport, noted}
 use Rattle.flat_core.proofs.EndSteps.{ends-after, none-new, noted-slice}

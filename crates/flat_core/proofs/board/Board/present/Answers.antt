@@ -3,11 +3,11 @@ use Rattle.std.specs.Prelude.{Some}
 use Rattle.std.specs.List.{list_any}
 use Rattle.std.specs.Arc.{arc_value}
 use Rattle.flat_base.specs.declared.ids.Actor.TheVariants.{Session}
-use Rattle.flat_core.specs.Shown.{tree_of}
+use Rattle.flat_rules.specs.Shown.{tree_of}
 use Rattle.flat_core.proofs.Steps.{has-room, owed-small}
 use Rattle.flat_core.proofs.PresentSteps.{kept-after-present, count-small, present-reply, owed-few}
 use Rattle.flat_scene.specs.History.{◌▹◌}
-use Rattle.flat_core.specs.Legal.{reply_to}
+use Rattle.flat_rules.specs.Legal.{reply_to}
 use Rattle.flat_scene.specs.declared.journal.Kind.TheVariants.{Present}
 use Rattle.flat_core.specs.Boards.{Machine, entry_of, present_of}
 use Rattle.flat_core.specs.Presents.{present_reply, after_present, TiesNoted}

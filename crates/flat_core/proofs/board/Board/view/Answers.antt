@@ -7,7 +7,7 @@ use Rattle.flat_scene.specs.declared.journal.Kind.TheVariants.{View}
 use Rattle.flat_scene.specs.declared.journal.Reply.{Reply}
 use Rattle.flat_scene.specs.History.{◌▹◌}
 use Rattle.flat_core.specs.Boards.{Machine, entry_of}
-use Rattle.flat_core.specs.Legal.{reply_to}
+use Rattle.flat_rules.specs.Legal.{reply_to}
 use Rattle.flat_core.specs.Presents.{use_reply, TiesNoted}
 use Rattle.flat_core.specs.Seen.{is_new_viewport, noted}
 use Rattle.flat_core.proofs.EndSteps.{ends-after, none-new, noted-slice}

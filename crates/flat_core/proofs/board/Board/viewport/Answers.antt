@@ -11,7 +11,7 @@ use Rattle.flat_core.specs.declared.state.SessionState.{SessionState}
 use Rattle.std.specs.Prelude.{sum_by}
 use Rattle.flat_core.proofs.UseSteps.{shut-known}
 use Rattle.std.proofs.lemmas.Option.{slice_get_within}
-use Rattle.flat_core.specs.Legal.{has_token, reply_to}
+use Rattle.flat_rules.specs.Legal.{has_token, reply_to}
 use Rattle.flat_core.specs.Presents.{use_reply, IsUsed, TiesUsed}
 use Rattle.flat_core.specs.Seen.{noted}
 use Rattle.flat_core.proofs.Counts.{declared-some, few-if}

@@ -3,14 +3,15 @@ use Rattle.std.specs.List.{list_any}
 use Rattle.flat_scene.specs.declared.calls.Call.{Call}
 use Rattle.flat_scene.specs.declared.journal.Kind.TheVariants.{Wait}
 use Rattle.flat_core.specs.Boards.{Machine}
-use Rattle.flat_core.specs.Legal.{reply_to}
+use Rattle.flat_rules.specs.Legal.{reply_to}
 use Rattle.flat_core.specs.Presents.{noted_in, EndsNoted}
 use Rattle.flat_core.specs.Seen.{is_new_viewport}
 use Rattle.flat_core.proofs.EndSteps.{ends-after, none-new}
-use Rattle.flat_core.proofs.Ones.{kept-quiet, plain-wait, placed-of, closes-waited}
+use Rattle.flat_core.proofs.Ones.{kept-quiet, plain-wait, placed-of}
 use Rattle.flat_core.proofs.Steps.{has-room, unchanged}
 use Rattle.flat_core.proofs.WatchingSteps.{told-too, watched-after}
 use Rattle.flat_core.proofs.board.Board.wait.Goals as goal
+use Rattle.flat_rules.proofs.Quiet.{closes-waited}
 
 pub note_in-requires : goal.note_in-requires
 note_in-requires c =

@@ -3,7 +3,7 @@ use Rattle.flat_base.specs.declared.ids.SessionNo.{SessionNo}
 use Rattle.flat_scene.specs.Setups.{is_declared}
 use Rattle.flat_topology.specs.Views.{is_member}
 use Rattle.flat_core.specs.Boards.{Machine}
-use Rattle.flat_core.specs.Ends.{has_view}
+use Rattle.flat_rules.specs.Ends.{has_view}
 use Rattle.flat_core.proofs.WithView.{members, none_others}
 use Rattle.flat_core.proofs.board.Board.with_view.Goals as goal
 

@@ -3,7 +3,7 @@ use Rattle.std.specs.Prelude.{is_some}
 use Rattle.std.proofs.lemmas.Fn.{filter_same}
 use Rattle.flat_core.specs.declared.gets.HeldGet.{HeldGet}
 use Rattle.flat_core.specs.Gets.{Answers, news_of}
-use Rattle.flat_core.specs.Watch.{told}
+use Rattle.flat_rules.specs.Watch.{told}
 use Rattle.flat_core.proofs.gets.Gets.settle.Goals as goal
 
 pub returns-clause-settles : goal.returns-clause-settles

@@ -1,8 +1,8 @@
 use Rattle.std.proofs.Common.{◌≡◌, sym, subst, ◌∙◌}
 use Rattle.flat_scene.specs.declared.setup.Setup.{Setup}
 use Rattle.flat_core.specs.Following.{AreTied}
-use Rattle.flat_core.specs.Legal.{Legal}
-use Rattle.flat_core.specs.Watch.{told, child_of}
+use Rattle.flat_rules.specs.Legal.{Legal}
+use Rattle.flat_rules.specs.Watch.{told, child_of}
 use Rattle.flat_core.proofs.GetPosts.{undeclared-untold}
 use Rattle.flat_core.proofs.TellingSteps.{unknown}
 use Rattle.flat_core.proofs.telling.TellingTells.child.Goals as goal

@@ -3,7 +3,7 @@ use Rattle.std.proofs.lemmas.List.{length-set}
 use Rattle.flat_core.specs.declared.following.Following.{Following}
 use Rattle.flat_core.specs.declared.following.Sight.{Sight}
 use Rattle.flat_core.specs.Begins.{begun}
-use Rattle.flat_core.specs.Kept.{AllNumbered}
+use Rattle.flat_rules.specs.Numbers.{AllNumbered}
 use Rattle.flat_core.proofs.TiesBegin.{FollowedUpTo, begun-on, tied-begun}
 use Rattle.flat_core.proofs.ties.Ties.begin.Goals as goal
 

@@ -2,7 +2,7 @@ use Rattle.std.proofs.Common.{◌≡◌, ℕ, List, length}
 use Rattle.flat_scene.specs.declared.journal.Entry.{Entry}
 use Rattle.flat_core.specs.Begins.{begun}
 use Rattle.flat_core.specs.Following.{AreTied, IsBegun}
-use Rattle.flat_core.specs.Kept.{AllNumbered}
+use Rattle.flat_rules.specs.Numbers.{AllNumbered}
 use Rattle.flat_core.proofs.TiesBegin.{FollowedUpTo}
 use Rattle.flat_core.proofs.ties.Ties.begin.Given as goal
 

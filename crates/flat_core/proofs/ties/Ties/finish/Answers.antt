@@ -4,7 +4,7 @@ use Rattle.flat_scene.specs.declared.trees.ViewportUse.{ViewportUse}
 use Rattle.flat_core.specs.declared.following.Following.{Following}
 use Rattle.flat_core.specs.Begins.{finished}
 use Rattle.flat_core.specs.Following.{pair}
-use Rattle.flat_core.specs.Kept.{AllNumbered}
+use Rattle.flat_rules.specs.Numbers.{AllNumbered}
 use Rattle.flat_core.specs.Usage.{SeesUses}
 use Rattle.flat_core.proofs.TiesBegin.{FollowedUpTo, followed-start}
 use Rattle.flat_core.proofs.TiesFinish.{PairUpTo, finished-on, looked-at, pairs-on, pairs-start, tied-finished}

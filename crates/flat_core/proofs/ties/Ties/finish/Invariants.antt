@@ -2,7 +2,7 @@ use Rattle.std.proofs.Common.{◌≡◌, ℕ, List, length}
 use Rattle.flat_scene.specs.declared.journal.Entry.{Entry}
 use Rattle.flat_core.specs.Begins.{finished}
 use Rattle.flat_core.specs.Following.{AreTied, IsFinished, pair}
-use Rattle.flat_core.specs.Kept.{AllNumbered}
+use Rattle.flat_rules.specs.Numbers.{AllNumbered}
 use Rattle.flat_core.proofs.TiesBegin.{FollowedUpTo}
 use Rattle.flat_core.proofs.TiesFinish.{PairUpTo}
 use Rattle.flat_core.proofs.ties.Ties.finish.Given as goal

@@ -4,7 +4,7 @@ use Rattle.flat_scene.specs.declared.journal.Told.{Told}
 use Rattle.flat_core.specs.declared.gets.HeldGet.{HeldGet}
 use Rattle.flat_core.specs.declared.gets.Watched.{Watched}
 use Rattle.flat_core.specs.Gets.{Asks, watched_of, watcher_for}
-use Rattle.flat_core.specs.Watch.{told}
+use Rattle.flat_rules.specs.Watch.{told}
 use Rattle.flat_core.proofs.WatchingSteps.{asked-due}
 use Rattle.flat_core.proofs.watching.Watchers.ask.Goals as goal
 

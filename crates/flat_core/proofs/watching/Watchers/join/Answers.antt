@@ -3,8 +3,8 @@ use Rattle.flat_scene.specs.declared.journal.Entry.{Entry}
 use Rattle.flat_scene.specs.History.{◌▹◌}
 use Rattle.flat_core.specs.declared.gets.Answered.{Answered}
 use Rattle.flat_core.specs.declared.watching.Watchers.{Watchers}
-use Rattle.flat_core.specs.Kept.{AllNumbered}
-use Rattle.flat_core.specs.Watch.{told}
+use Rattle.flat_rules.specs.Numbers.{AllNumbered}
+use Rattle.flat_rules.specs.Watch.{told}
 use Rattle.flat_core.specs.Watchers.{IsJoin, IsSettled, is_seldom}
 use Rattle.flat_core.proofs.WatchingSteps.{joined-is, settled-seldom, unjoined-is}
 use Rattle.flat_core.proofs.watching.Watchers.join.Goals as goal

@@ -1,7 +1,7 @@
 use Rattle.std.proofs.Common.{◌-◌, slice_set, List, length, arith, sym, subst}
 use Rattle.flat_core.specs.declared.gets.Answered.{Answered}
 use Rattle.flat_core.specs.Gets.{Settles}
-use Rattle.flat_core.specs.Watch.{told}
+use Rattle.flat_rules.specs.Watch.{told}
 use Rattle.flat_core.specs.Watchers.{IsSettled}
 use Rattle.flat_core.proofs.GetPosts.{settled-all}
 use Rattle.flat_core.proofs.WatchingSteps.{settled-at, settled-due, written-back}

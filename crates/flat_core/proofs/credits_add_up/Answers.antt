@@ -1,5 +1,0 @@
-use Rattle.flat_core.proofs.CreditLemmas.{credits-add-up}
-use Rattle.flat_core.proofs.credits_add_up.Goals as goal
-
-pub returns : goal.returns
-returns c = credits-add-up

@@ -1,5 +1,0 @@
-use Rattle.flat_core.proofs.WatchersLocal.{answers-are-local}
-use Rattle.flat_core.proofs.laws.answers_are_local.Goals as goal
-
-pub returns : goal.returns
-returns c = answers-are-local

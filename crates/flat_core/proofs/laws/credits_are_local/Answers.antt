@@ -1,5 +1,0 @@
-use Rattle.flat_core.proofs.FramesLocal.{credits-are-local}
-use Rattle.flat_core.proofs.laws.credits_are_local.Goals as goal
-
-pub returns : goal.returns
-returns c = credits-are-local

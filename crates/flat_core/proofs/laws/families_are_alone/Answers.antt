@@ -1,5 +1,0 @@
-use Rattle.flat_core.proofs.FamilyTheorem.{families-are-alone}
-use Rattle.flat_core.proofs.laws.families_are_alone.Goals as goal
-
-pub returns : goal.returns
-returns c = families-are-alone

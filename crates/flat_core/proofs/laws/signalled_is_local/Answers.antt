@@ -1,5 +1,0 @@
-use Rattle.flat_core.proofs.FramesLocal.{signalled-is-local}
-use Rattle.flat_core.proofs.laws.signalled_is_local.Goals as goal
-
-pub returns : goal.returns
-returns c = signalled-is-local

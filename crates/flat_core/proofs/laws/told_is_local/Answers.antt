@@ -1,5 +1,0 @@
-use Rattle.flat_core.proofs.WatchersLocal.{told-is-local}
-use Rattle.flat_core.proofs.laws.told_is_local.Goals as goal
-
-pub returns : goal.returns
-returns c = told-is-local

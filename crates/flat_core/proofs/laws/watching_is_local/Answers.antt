@@ -1,5 +1,0 @@
-use Rattle.flat_core.proofs.WatchersLocal.{watching-is-local}
-use Rattle.flat_core.proofs.laws.watching_is_local.Goals as goal
-
-pub returns : goal.returns
-returns c = watching-is-local

@@ -1,0 +1,12 @@
+pub mod Ends
+pub mod Facts
+pub mod Lasts
+pub mod Laws
+pub mod Legal
+pub mod Local
+pub mod Numbers
+pub mod Posts
+pub mod Serials
+pub mod Shown
+pub mod Stamps
+pub mod Watch

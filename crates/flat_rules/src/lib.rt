@@ -1,0 +1,21 @@
+//! The rules of the scene service: which histories are legal, what is told to whom
+//! and when, and which events are posted; with the laws about them.
+#![tactic(auto)]
+
+mod laws;
+
+ghost use Rattle.flat_rules.specs.Laws.{CreditsAddUp};
+
+pub use laws::{
+    answers_are_local, connected_is_local, credits_are_local, families_are_alone,
+    glimpses_decide_outcomes, going_is_local, presents_are_local, released_is_local,
+    shown_is_local, signalled_is_local, taken_is_local, told_is_local, watching_is_local,
+};
+
+/// In a legal history the credits of a session and its presents that wait add up
+/// to one before a frame took one of them, and to five from then on.
+///
+/// The call does nothing. Its contract is a law about the definitions.
+pub fn credits_add_up()
+    ensures { CreditsAddUp }
+{}
