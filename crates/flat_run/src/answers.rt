@@ -8,11 +8,11 @@ ghost use Rattle.flat_run.specs.Promise.{fault_line, IsReport, IsAnswerTo};
 
 use crate::run::run;
 use flat_base::{NoMemory, SCRIPT_BYTES_MAX};
-use flat_rules::families_are_alone;
 use flat_display::Display;
 use flat_io::{ReadAll, Source, read_all};
 use flat_playable::scripts_are_playable;
 use flat_report::print_report;
+use flat_rules::families_are_alone;
 use flat_script::{Script, ScriptError, ScriptFault, parse};
 use itoa::Buffer;
 use std::alloc::Global;
