@@ -1,10 +1,17 @@
 ghost use Rattle.flat_words.specs.declared.form.Form.{Form};
-ghost use Rattle.std.specs.Prelude.{◌≡◌, ℕ, ◌≤◌, ◌∷◌, [], List, map, Some, IfSome};
+ghost use Rattle.std.specs.Prelude.{◌≡◌, ℕ, ◌≤◌, [], map, Some, IfOk, IfSome, IsSomeAnd, IsTrue, is_some};
+ghost use Rattle.std.specs.List.{list_any};
 ghost use Rattle.std.specs.String.{string_bytes};
 ghost use Rattle.std.specs.Fmt.{decimal};
-ghost use Rattle.flat_words.specs.Forms.{CallFor};
+ghost use Rattle.clap.specs.Words.{app_of, fault_of, subcommand_of, subcommand_rows_of};
+ghost use Rattle.flat_words.specs.Forms.{CallFor, is_option};
+ghost use Rattle.flat_words.specs.Command.{IsNamed, service};
 
+use clap::error::ErrorKind;
+use clap::{Arg, ArgMatches, Command};
+use flat_base::NoMemory;
 use flat_text::read_natural;
+use std::alloc::Global;
 
 /// What the service is called for.
 #[derive(Clone, Copy, Debug, PartialEq, Eq)]
@@ -17,39 +24,85 @@ pub enum Form {
     Stress(u32),
 }
 
-/// The form for which the words call: None exactly where they call for none.
-pub fn read(words: &[String]) -> Option<Form>
-    ensures form { IfSome result (λ form. CallFor (map string_bytes words.now) form) }
-    ensures only { (form : Form) → CallFor (map string_bytes words.now) form → result ≡ Some form }
+/// The form for which the words call: None exactly where they call for none. The
+/// only refusal is want of memory.
+pub fn read(alloc: Global, words: &[String]) -> Result<Option<Form>, NoMemory>
+    ensures form { IfOk result (λ found. IfSome found (λ form. CallFor (map string_bytes words.now) form)) }
+    ensures only { (form : Form) → CallFor (map string_bytes words.now) form → IfOk result (λ found. found ≡ Some form) }
 {
-    match words {
-        [word] => read_one(word),
-        [word, number] => read_two(word, number),
+    if has_option(words) {
+        return Ok(None);
+    }
+    let Some(matches) = parse(alloc, words)? else {
+        return Ok(None);
+    };
+    Ok(named_form(&matches))
+}
+
+// Whether a word begins with a hyphen. Such words are no part of a call: there is
+// no option, no help and no version.
+fn has_option(words: &[String]) -> bool
+    ensures { result ≡ list_any (λ word. is_option (string_bytes word)) words.now }
+{
+    words.iter().any(|word| is_option(word))
+}
+
+fn is_option(word: &String) -> bool
+    ensures { result ≡ is_option (string_bytes word.now) }
+{
+    match word.as_bytes() {
+        [b'-', ..] => true,
+        _ => false,
+    }
+}
+
+// The command, whose subcommands are the forms.
+fn service<'a>(alloc: Global) -> Result<Command<'a>, NoMemory>
+    ensures { IfOk result (λ command. app_of command ≡ service) }
+{
+    let frames = Arg::new(alloc, "frames").required(true);
+    let stress = Command::new(alloc, "stress").arg(frames)?;
+    let command = Command::new(alloc, "flatland")
+        .no_binary_name(true)
+        .disable_help_flag(true)
+        .disable_help_subcommand(true)
+        .disable_version_flag(true)
+        .subcommand_required(true)
+        .subcommand(Command::new(alloc, "play"))?
+        .subcommand(Command::new(alloc, "race"))?
+        .subcommand(stress)?;
+    Ok(command)
+}
+
+// What the words give the command, or None where it refuses them.
+fn parse<'a>(alloc: Global, words: &'a [String]) -> Result<Option<ArgMatches<'a>>, NoMemory>
+    ensures matches { IfOk result (λ found. IfSome found (λ matches. subcommand_rows_of matches ≡ subcommand_of service (map string_bytes words.entry.now))) }
+    ensures taken { IfOk result (λ found. IfSome found (λ matches. fault_of service (map string_bytes words.entry.now) ≡ [])) }
+    ensures none { fault_of service (map string_bytes words.entry.now) ≡ [] → IfOk result (λ found. IsTrue (is_some found)) }
+{
+    match service(alloc)?.try_get_matches_from(words) {
+        Ok(matches) => Ok(Some(matches)),
+        Err(error) => {
+            if error.kind() == ErrorKind::OutOfMemory {
+                Err(NoMemory)
+            } else {
+                Ok(None)
+            }
+        }
+    }
+}
+
+// The form that the matches name.
+fn named_form(matches: &ArgMatches) -> Option<Form>
+    ensures form { IfSome result (λ form. IsSomeAnd (subcommand_rows_of matches.now) (λ call. IsNamed call form)) }
+    ensures only { (form : Form) → IsSomeAnd (subcommand_rows_of matches.now) (λ call. IsNamed call form) → result ≡ Some form }
+{
+    let (name, given) = matches.subcommand()?;
+    match name {
+        "play" => Some(Form::Play),
+        "race" => Some(Form::Race),
+        "stress" => Some(Form::Stress(read_frames(given.get_str("frames")?)?)),
         _ => None,
-    }
-}
-
-fn read_two(word: &String, number: &String) -> Option<Form>
-    ensures form { IfSome result (λ form. CallFor (string_bytes word.now ∷ string_bytes number.now ∷ []) form) }
-    ensures only { (form : Form) → CallFor (string_bytes word.now ∷ string_bytes number.now ∷ []) form → result ≡ Some form }
-{
-    if word.as_str() == "stress" {
-        Some(Form::Stress(read_frames(number.as_str())?))
-    } else {
-        None
-    }
-}
-
-fn read_one(word: &String) -> Option<Form>
-    ensures form { IfSome result (λ form. CallFor (string_bytes word.now ∷ []) form) }
-    ensures only { (form : Form) → CallFor (string_bytes word.now ∷ []) form → result ≡ Some form }
-{
-    if word.as_str() == "play" {
-        Some(Form::Play)
-    } else if word.as_str() == "race" {
-        Some(Form::Race)
-    } else {
-        None
     }
 }
 

@@ -1,7 +1,7 @@
 use crate::{Form, read};
 use std::test::Fail;
 
-const CALLS: [(&[&str], Option<Form>); 22] = [
+const CALLS: [(&[&str], Option<Form>); 25] = [
     (&["play"], Some(Form::Play)),
     (&["race"], Some(Form::Race)),
     (&["stress", "1"], Some(Form::Stress(1))),
@@ -24,6 +24,9 @@ const CALLS: [(&[&str], Option<Form>); 22] = [
     (&["stress", "3", "3"], None),
     (&["stress", "100000000000000000003"], None),
     (&["3", "stress"], None),
+    (&["stress", "3", "-"], None),
+    (&["-", "play"], None),
+    (&["play", "-h"], None),
 ];
 
 #[test]
@@ -34,7 +37,7 @@ fn calls(rt: HostRuntime) -> Result<(), Fail> {
         for word in words.iter() {
             given.push(word.to_string(alloc)?)?;
         }
-        assert_eq!(rt; read(&given), *form);
+        assert_eq!(rt; read(alloc, &given)?, *form);
     }
     Ok(())
 }

@@ -1,0 +1,38 @@
+-- the command that reads the words
+use Rattle.std.specs.Prelude.{◌≡◌, ◌≤◌, List, Some, true, codes}
+use Rattle.std.specs.Fmt.{decimal}
+use Rattle.clap.specs.Words.{App, Row, Rule, Text, first_of, new_app, new_rule, with_rule, with_subcommand}
+use Rattle.clap.specs.Simple.{Shape, on_top}
+use Rattle.flat_words.specs.declared.form.Form.{Form}
+use Rattle.flat_words.specs.declared.form.Form.TheVariants.{Play, Race, Stress}
+
+-- the word after `stress`: the number of frames
+abbrev pub frames : Rule
+frames = record (new_rule (codes "frames")) { required = true }
+
+-- One of the forms has to be named. There is no help and no version, and the words begin after the program's name.
+abbrev pub asking : Shape → Shape
+asking shape = record shape {
+  no_binary_name = true;
+  disable_help_flag = true;
+  disable_help_subcommand = true;
+  disable_version_flag = true;
+  subcommand_required = true;
+}
+
+-- the command, whose subcommands are the forms of a call
+abbrev pub service : App
+service =
+    with_subcommand
+    (with_subcommand
+    (with_subcommand (on_top asking (new_app (codes "flatland"))) (new_app (codes "play")).top)
+    (new_app (codes "race")).top)
+    (with_rule (new_app (codes "stress")) frames).top
+
+-- A subcommand, with its name and its own words, is that of a form.
+abbrev pub IsNamed : Text × List Row → Form → Type 0
+IsNamed call Play = call.0 ≡ codes "play"
+IsNamed call Race = call.0 ≡ codes "race"
+IsNamed call (Stress number) = (call.0 ≡ codes "stress")
+    × (first_of (codes "frames") call.1 ≡ Some (decimal number))
+    × (1 ≤ number) × (number ≤ 500)
