@@ -44,16 +44,7 @@ pub fn read(alloc: Global, words: &[String]) -> Result<Option<Form>, NoMemory>
 fn has_option(words: &[String]) -> bool
     ensures { result ≡ list_any (λ word. is_option (string_bytes word)) words.now }
 {
-    words.iter().any(|word| is_option(word))
-}
-
-fn is_option(word: &String) -> bool
-    ensures { result ≡ is_option (string_bytes word.now) }
-{
-    match word.as_bytes() {
-        [b'-', ..] => true,
-        _ => false,
-    }
+    words.iter().any(|word| word.as_str().starts_with('-'))
 }
 
 // The command, whose subcommands are the forms.
@@ -62,16 +53,17 @@ fn service<'a>(alloc: Global) -> Result<Command<'a>, NoMemory>
 {
     let frames = Arg::new(alloc, "frames").required(true);
     let stress = Command::new(alloc, "stress").arg(frames)?;
-    let command = Command::new(alloc, "flatland")
-        .no_binary_name(true)
-        .disable_help_flag(true)
-        .disable_help_subcommand(true)
-        .disable_version_flag(true)
-        .subcommand_required(true)
-        .subcommand(Command::new(alloc, "play"))?
-        .subcommand(Command::new(alloc, "race"))?
-        .subcommand(stress)?;
-    Ok(command)
+    Ok(
+        Command::new(alloc, "flatland")
+            .no_binary_name(true)
+            .disable_help_flag(true)
+            .disable_help_subcommand(true)
+            .disable_version_flag(true)
+            .subcommand_required(true)
+            .subcommand(Command::new(alloc, "play"))?
+            .subcommand(Command::new(alloc, "race"))?
+            .subcommand(stress)?,
+    )
 }
 
 // What the words give the command, or None where it refuses them.

@@ -22,4 +22,4 @@ returns c =
     ap app_of_fields settings ∙ ap (on_top asking) c.new-3.ensures.app in
     let play_is = c.in_ok-subcommand.ensures.shape (search rules) ∙ ap₂ with_subcommand top_is (ap (λ (a : App). a.top) c.new-4.ensures.app) in
     let race_is = c.in_ok-subcommand-2.ensures.shape (search rules) ∙ ap₂ with_subcommand play_is (ap (λ (a : App). a.top) c.new-5.ensures.app) in
-    c.in_ok-command.ensures.shape (search rules) ∙ ap₂ with_subcommand race_is (ap (λ (a : App). a.top) stress_is)
+    c.in_ok-subcommand-3.ensures.shape (search rules) ∙ ap₂ with_subcommand race_is (ap (λ (a : App). a.top) stress_is)
