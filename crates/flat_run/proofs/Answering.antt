@@ -1,5 +1,5 @@
 -- What is answered to what a source gives, and what is written of it.
-use Rattle.std.proofs.Common.{◌≡◌, ◌≢◌, ◌==◌, ◌||◌, inl, inr, ℕ, ◌<◌, Bool, true, false, List, [], ◌++◌, ap, ◌∙◌, length, Option, None, Some, Result, Ok, Err, IfOk, refl, sym, subst}
+use Rattle.std.proofs.Common.{◌≡◌, ◌≢◌, ◌==◌, ◌||◌, inl, inr, ℕ, ◌<◌, Bool, true, false, List, [], ◌++◌, ap, ◌∙◌, length, Option, None, Some, Result, Ok, Err, IfOk, IfSome, refl, sym, subst}
 use Rattle.std.proofs.lemmas.Bool.{lt-ltb, eqb-true}
 use Rattle.std.proofs.lemmas.List.{append_cancel_right}
 use Rattle.flat_base.specs.declared.limits.TheConstants.{SCRIPT_BYTES_MAX}
@@ -18,9 +18,9 @@ use Rattle.flat_run.specs.declared.answers.Answer.{Answer}
 use Rattle.flat_run.specs.Answering.{IsAnswer}
 use Rattle.flat_run.specs.Promise.{play_words, CallForNothing, fault_line, Plays, Refuses, IsSummary, IsRefused, IsAnswerTo, IsText, IsWhole, IsCutOff}
 
--- what holds of the value of an answer that is Ok
-pub ok_value : {A E : Type 0} (r : Result A E) (x : A) (P : A → Type 0) → r ≡ Ok x → IfOk r P → P x
-ok_value r x P is holds = subst (λ v. IfOk v P) is holds
+-- the form that was found is that of the words
+pub called_for : (words : List (List ℕ)) (found : Option Form) (form : Form) → found ≡ Some form → IfSome found (λ f. CallFor words f × (f ≢ Race)) → CallFor words form
+called_for words found form is holds = (subst (λ (o : Option Form). IfSome o (λ f. CallFor words f × (f ≢ Race))) is holds).0
 
 -- a text that is too long is at fault as a whole
 pub too_long : (bytes : List ℕ) → SCRIPT_BYTES_MAX < length bytes → text_read bytes ≡ Err (record { line = 0; kind = 1 })

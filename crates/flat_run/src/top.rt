@@ -12,6 +12,7 @@ ghost use Rattle.flat_run.specs.Promise.{play_words, CallForNothing, IsAnswerTo,
 
 use crate::answers::{Answer, DONE, REFUSED, Unanswered, play};
 use crate::load::stress;
+use flat_base::NoMemory;
 use flat_display::Display;
 use flat_io::{Sink, Source, write_all};
 use flat_words::{Form, read};
@@ -30,13 +31,13 @@ const WRITE_FAULT: u8 = 5;
 const NO_MEMORY: u8 = 6;
 
 /// The form for which the words call, where it is one that runs: a race isn't yet.
-fn form_to_run(words: &[String]) -> Option<Form>
-    ensures form { IfSome result (λ form. CallFor (map string_bytes words.now) form × (form ≢ Race)) }
-    ensures none { result ≡ None → CallForNothing (map string_bytes words.now) }
+fn form_to_run(alloc: Global, words: &[String]) -> Result<Option<Form>, NoMemory>
+    ensures form { IfOk result (λ found. IfSome found (λ form. CallFor (map string_bytes words.now) form × (form ≢ Race))) }
+    ensures none { result ≡ Ok None → CallForNothing (map string_bytes words.now) }
 {
-    match read(words) {
-        Some(Form::Race) => None,
-        form => form,
+    match read(alloc, words)? {
+        Some(Form::Race) => Ok(None),
+        form => Ok(form),
     }
 }
 
@@ -104,14 +105,16 @@ pub fn flatland<R: Source, W: Sink>(
     ensures write_fault { result ≡ WRITE_FAULT → IsTrue (has_risen (W.faults sink.old) (W.faults sink.new) || has_risen (W.stalls sink.old) (W.stalls sink.new)) }
     ensures read_fault { result ≡ READ_FAULT → IsTrue (has_risen (R.faults source.old) (R.faults source.new)) }
     ensures unwritten { IsTrue (result == READ_FAULT || result == NO_MEMORY) → sink.new ≡ sink.old }
-    ensures usage { CallForNothing (map string_bytes words.now) → IsTrue (result == USED_WRONGLY || result == WRITE_FAULT) }
+    ensures usage { CallForNothing (map string_bytes words.now) → IsTrue (result == USED_WRONGLY || result == WRITE_FAULT || result == NO_MEMORY) }
     ensures unread { map string_bytes words.now ≢ play_words → source.new ≡ source.old }
     ensures complete { (given after : List ℕ) (script : Script) → map string_bytes words.now ≡ play_words → R.left source.old ≡ Some (given ++ after) → R.left source.new ≡ Some after → text_read given ≡ Ok script → has_risen (R.faults source.old) (R.faults source.new) ≡ false → (has_risen (W.faults sink.old) (W.faults sink.new) || has_risen (W.stalls sink.old) (W.stalls sink.new)) ≡ false → IsTrue (result == DONE || result == NO_MEMORY) }
     ensures summed { (frames : ℕ) → CallFor (map string_bytes words.now) (Stress frames) → (has_risen (W.faults sink.old) (W.faults sink.new) || has_risen (W.stalls sink.old) (W.stalls sink.new)) ≡ false → IsTrue (result == DONE || result == NO_MEMORY) }
     ensures statuses { IsTrue (result == DONE || result == USED_WRONGLY || result == REFUSED || result == READ_FAULT || result == WRITE_FAULT || result == NO_MEMORY) }
 {
-    let Some(form) = form_to_run(words) else {
-        return write_text(sink, USAGE, USED_WRONGLY);
+    let form = match form_to_run(alloc, words) {
+        Ok(Some(form)) => form,
+        Ok(None) => return write_text(sink, USAGE, USED_WRONGLY),
+        Err(_) => return NO_MEMORY,
     };
     match answer_to(alloc, form, source, displays) {
         Ok(answer) => write_text(sink, answer.text.as_slice(), answer.status),
