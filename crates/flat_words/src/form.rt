@@ -44,16 +44,7 @@ pub fn read(alloc: Global, words: &[String]) -> Result<Option<Form>, NoMemory>
 fn has_option(words: &[String]) -> bool
     ensures { result ≡ list_any (λ word. is_option (string_bytes word)) words.now }
 {
-    words.iter().any(|word| is_option(word))
-}
-
-fn is_option(word: &String) -> bool
-    ensures { result ≡ is_option (string_bytes word.now) }
-{
-    match word.as_bytes() {
-        [b'-', ..] => true,
-        _ => false,
-    }
+    words.iter().any(|word| word.as_str().starts_with('-'))
 }
 
 // The command, whose subcommands are the forms.
