@@ -12,8 +12,6 @@ mod items;
 mod limits;
 mod roomy;
 mod shapes;
-#[cfg(test)]
-mod tests;
 
 pub use boxed::Boxed;
 pub use copying::TryCopy;

@@ -7,8 +7,6 @@ ghost use Rattle.flat_collect.specs.Judge.{IsJudged};
 mod cycle;
 mod laws;
 mod repeats;
-#[cfg(test)]
-mod tests;
 mod walk;
 
 use crate::cycle::has_cycle;

@@ -2,10 +2,6 @@
 #![tactic(auto)]
 
 mod brush;
-#[cfg(test)]
-mod composition_tests;
-#[cfg(test)]
-mod tests;
 
 ghost use Rattle.std.specs.Prelude.{◌≡◌, ◌+◌, ◌<◌, ◌≤◌, ◌++◌, All, option_to_list, IfOk};
 ghost use Rattle.flat_topology.specs.Draw.{scene_matrix, visible_rect, node_item, items_of};

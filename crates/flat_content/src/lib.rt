@@ -7,8 +7,6 @@ mod laws;
 mod limits;
 mod stored;
 mod table;
-#[cfg(test)]
-mod tests;
 
 pub use laws::content_laws;
 pub use stored::{Stored, StoredFill, StoredImage};

@@ -4,15 +4,11 @@
 
 mod begins;
 mod board;
-#[cfg(test)]
-mod board_tests;
 mod clears;
 mod clock;
 mod dones;
 mod ends;
 mod following;
-#[cfg(test)]
-mod get_tests;
 mod gets;
 mod laws;
 mod live;
@@ -21,11 +17,7 @@ mod pairs;
 mod polls;
 mod state;
 mod telling;
-#[cfg(test)]
-mod tests;
 mod ties;
-#[cfg(test)]
-mod ties_tests;
 mod told;
 mod usage;
 mod viewports;

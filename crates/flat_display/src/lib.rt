@@ -8,8 +8,6 @@ mod display;
 mod memory;
 mod set;
 mod tally;
-#[cfg(test)]
-mod tests;
 
 pub use display::Display;
 pub use memory::MemDisplay;

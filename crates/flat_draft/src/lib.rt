@@ -7,8 +7,6 @@ mod fault;
 mod laws;
 mod lay;
 mod parts;
-#[cfg(test)]
-mod tests;
 
 pub use draft::Draft;
 pub use fault::DraftFault;

@@ -9,8 +9,6 @@
 
 mod matrix;
 mod rect;
-#[cfg(test)]
-mod tests;
 
 pub use matrix::{Matrix, compose, identity, local, map_point};
 pub use rect::{contains, intersect, is_empty, map_rect, units};

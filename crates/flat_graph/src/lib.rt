@@ -8,8 +8,6 @@ mod laws;
 mod names;
 mod nodes;
 mod shapes;
-#[cfg(test)]
-mod tests;
 
 pub use graph::Graph;
 pub use laws::graph_laws;

@@ -1,8 +1,6 @@
 //! The hit test: which sessions a point of the display hits.
 #![tactic(auto)]
 
-#[cfg(test)]
-mod tests;
 
 ghost use Rattle.std.specs.Prelude.{◌≡◌, ◌++◌, ◌*ℤ◌, find, filter_map, reverse, IfOk, OnOk};
 ghost use Rattle.flat_geom.specs.Matrices.{unit};

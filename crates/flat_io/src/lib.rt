@@ -9,8 +9,6 @@ mod sink;
 mod source;
 mod steady;
 mod system;
-#[cfg(test)]
-mod tests;
 mod whole;
 
 pub use counts::{counted, is_next_among};

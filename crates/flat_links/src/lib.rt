@@ -5,8 +5,6 @@
 mod laws;
 mod links;
 mod pairs;
-#[cfg(test)]
-mod tests;
 
 pub use laws::link_laws;
 pub use links::Links;

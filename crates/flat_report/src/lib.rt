@@ -8,8 +8,6 @@ mod laws;
 mod names;
 mod page;
 mod report;
-#[cfg(test)]
-mod tests;
 
 pub use laws::reports_determine_histories;
 pub use report::{HitAnswer, HitAnswers, print_report};

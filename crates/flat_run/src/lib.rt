@@ -8,8 +8,6 @@ mod load;
 mod made;
 mod player;
 mod run;
-#[cfg(test)]
-mod tests;
 mod top;
 
 pub use laws::plays_have_one_history;

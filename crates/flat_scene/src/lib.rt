@@ -9,8 +9,6 @@ mod journal;
 mod laws;
 mod script;
 mod setup;
-#[cfg(test)]
-mod tests;
 mod trees;
 
 pub use calls::{

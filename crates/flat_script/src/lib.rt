@@ -14,8 +14,6 @@ mod print_lines;
 mod print_words;
 mod printer;
 mod script;
-#[cfg(test)]
-mod tests;
 
 pub use name::{Name, NameList};
 pub use parser::parse;

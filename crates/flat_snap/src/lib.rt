@@ -4,8 +4,6 @@
 mod builder;
 mod flat;
 mod snapshot;
-#[cfg(test)]
-mod tests;
 
 pub use builder::SnapshotBuilder;
 pub use flat::FlatNode;

@@ -7,8 +7,6 @@
 mod laws;
 mod load;
 mod page;
-#[cfg(test)]
-mod tests;
 mod totals;
 
 pub use laws::{loads_are_scripts, loads_have_their_frames};

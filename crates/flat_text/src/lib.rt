@@ -7,8 +7,6 @@
 
 mod number;
 mod pieces;
-#[cfg(test)]
-mod tests;
 
 pub use number::{push_number, read_natural, read_number};
 pub use pieces::{line, next_piece, word};

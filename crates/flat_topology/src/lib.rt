@@ -14,8 +14,6 @@ mod climb;
 mod joining;
 mod scope;
 mod shown;
-#[cfg(test)]
-mod tests;
 mod walk;
 
 pub use crate::joining::join;

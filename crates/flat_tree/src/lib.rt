@@ -1,8 +1,6 @@
 //! The view tree: who is shown below whom, and who is apart.
 #![tactic(auto)]
 
-#[cfg(test)]
-mod tests;
 
 ghost use Rattle.std.specs.Prelude.{◌≡◌, ◌+◌, ◌<◌, ◌≤◌, ◌++◌, IfOk, map};
 ghost use Rattle.flat_topology.specs.Views.{viewport_bounds};

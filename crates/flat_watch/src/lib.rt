@@ -4,8 +4,6 @@
 
 mod cell;
 mod laws;
-#[cfg(test)]
-mod tests;
 
 pub use cell::{Cell, GetAnswer};
 pub use laws::cell_laws;

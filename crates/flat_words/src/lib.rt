@@ -2,7 +2,5 @@
 #![tactic(auto)]
 
 mod form;
-#[cfg(test)]
-mod tests;
 
 pub use form::{Form, read};

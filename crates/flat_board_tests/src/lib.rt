@@ -1,0 +1,5 @@
+//! Tests of the board.
+#![tactic(auto)]
+
+#[cfg(test)]
+mod board;

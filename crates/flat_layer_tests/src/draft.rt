@@ -1,0 +1,60 @@
+use flat_base::{ContentId, Items, PairNo, Reason, TransformId};
+use flat_draft::{Draft, DraftFault};
+use flat_scene::{Call, Inset, Watch};
+use std::test::Fail;
+
+const PAIR: PairNo = PairNo(3);
+
+const NO_INSET: Inset = Inset {
+    top: 0,
+    right: 0,
+    bottom: 0,
+    left: 0,
+};
+
+const CREATE_VIEW: Call = Call::CreateView { pair: PAIR };
+
+const CREATE_VIEWPORT: Call = Call::CreateViewport {
+    c: ContentId(2),
+    pair: PAIR,
+    w: 1,
+    h: 1,
+    inset: NO_INSET,
+};
+
+/// The reason of a refusal by a misuse.
+fn reason<T: Drop>(answer: Result<T, DraftFault>) -> Option<Reason> {
+    match answer {
+        Err(DraftFault::Bad(reason)) => Some(reason),
+        _ => None,
+    }
+}
+
+#[test]
+fn readies_what_uses_an_end(rt: HostRuntime) -> Result<(), Fail> {
+    let alloc = rt.alloc();
+    let mut draft = Draft::new(alloc, Items::new(alloc));
+    draft.call(&CREATE_VIEW)?;
+    let second_view = reason(draft.ready(&CREATE_VIEW));
+    let is_open = !draft.is_closed();
+    draft.ready(&CREATE_VIEWPORT)?;
+    draft.call(&CREATE_VIEWPORT)?;
+    let second_viewport = reason(draft.ready(&CREATE_VIEWPORT));
+    let watched = draft.get(Watch::Child(ContentId(2)))?;
+    assert_eq!(rt; (second_view, is_open), (Some(Reason::HasView), true));
+    assert_eq!(rt; (second_viewport, watched), (Some(Reason::IdInUse), PAIR));
+    Ok(())
+}
+
+#[test]
+fn closes_at_a_misuse(rt: HostRuntime) -> Result<(), Fail> {
+    let alloc = rt.alloc();
+    let mut draft = Draft::new(alloc, Items::new(alloc));
+    let misuse = reason(draft.call(&Call::ReleaseTransform { t: TransformId(1) }));
+    assert_eq!(rt;
+        (misuse, draft.is_closed()),
+        (Some(Reason::UnknownTransform), true)
+    );
+    assert!(rt; matches!(draft.ready(&CREATE_VIEW), Err(DraftFault::Closed)));
+    Ok(())
+}

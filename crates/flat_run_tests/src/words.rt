@@ -1,0 +1,43 @@
+use flat_words::{Form, read};
+use std::test::Fail;
+
+const CALLS: [(&[&str], Option<Form>); 25] = [
+    (&["play"], Some(Form::Play)),
+    (&["race"], Some(Form::Race)),
+    (&["stress", "1"], Some(Form::Stress(1))),
+    (&["stress", "500"], Some(Form::Stress(500))),
+    (&[], None),
+    (&[""], None),
+    (&["-h"], None),
+    (&["--"], None),
+    (&["--help"], None),
+    (&["Play"], None),
+    (&["play", "play"], None),
+    (&["race", ""], None),
+    (&["stress"], None),
+    (&["stress", ""], None),
+    (&["stress", "0"], None),
+    (&["stress", "501"], None),
+    (&["stress", "03"], None),
+    (&["stress", "+3"], None),
+    (&["stress", "-3"], None),
+    (&["stress", "3", "3"], None),
+    (&["stress", "100000000000000000003"], None),
+    (&["3", "stress"], None),
+    (&["stress", "3", "-"], None),
+    (&["-", "play"], None),
+    (&["play", "-h"], None),
+];
+
+#[test]
+fn calls(rt: HostRuntime) -> Result<(), Fail> {
+    let alloc = rt.alloc();
+    for (words, form) in CALLS.iter() {
+        let mut given = Vec::new(alloc);
+        for word in words.iter() {
+            given.push(word.to_string(alloc)?)?;
+        }
+        assert_eq!(rt; read(alloc, &given)?, *form);
+    }
+    Ok(())
+}
