@@ -27,10 +27,6 @@ seat_number Display = 0
 seat_number (Session s) = s.0
 seat_number (Probe p) = 2 ^ 32
 
--- the entries of an actor, found by its seat: what the seat of a lock knows of its own
-abbrev pub entries_by : Actor → List Entry → List Entry
-entries_by actor history = filter (λ entry. seat_number entry.actor == seat_number actor) history
-
 -- the kinds of entry by which others are told apart
 abbrev pub is_begin : Kind → Bool
 is_begin (Begin time) = true

@@ -1,5 +1,5 @@
 -- The tree that a draft presents, and why there may be none.
-use Rattle.std.specs.Prelude.{ℕ, zero, suc, ◌+◌, Bool, true, false, cond, ◌||◌, ◌==◌, nat_lt, List, [], ◌∷◌, ◌++◌, length, filter_map, unwrap_or, option_to_list, slice_get, Option, Some, None}
+use Rattle.std.specs.Prelude.{ℕ, zero, suc, ◌+◌, Bool, true, false, cond, ◌||◌, ◌==◌, nat_lt, List, [], ◌∷◌, ◌++◌, length, filter_map, unwrap_or, option_to_list, slice_get, Option, Some, None, is_none}
 use Rattle.std.specs.Option.{option_map, option_and_then}
 use Rattle.std.specs.List.{list_any}
 use Rattle.flat_base.specs.declared.errors.Reason.TheVariants.{Cycle, TreeTooLarge, ViewportTwice, TooManyFences}
@@ -15,7 +15,7 @@ use Rattle.flat_scene.specs.declared.trees.Children.TheVariants.{Empty}
 use Rattle.flat_scene.specs.declared.trees.Tree.{Tree}
 use Rattle.flat_scene.specs.declared.trees.ViewportUse.{ViewportUse}
 use Rattle.flat_scene.specs.Draft.{Draft, Transform, Made, an_image, a_fill, a_viewport, of_serial}
-use Rattle.flat_scene.specs.Misuse.{Test}
+use Rattle.flat_scene.specs.Misuse.{Test, first_reason}
 use Rattle.flat_scene.specs.Trees.{more, nodes, node_count, viewports_in}
 
 -- a content as the tree shows it: a filled rectangle without a size isn't shown
@@ -113,6 +113,10 @@ use_of draft serial = option_and_then (use_in serial) (of_serial draft.contents 
 abbrev pub head_of : Children → Option Node
 head_of all = slice_get (nodes all) 0
 
--- the tree that a draft presents
+-- the tree to which a draft unfolds, where no path is too long
+abbrev pub unfolded : Draft → Option Tree
+unfolded draft = option_map (λ all. record { view = draft.view; root = head_of all; viewports = filter_map (use_of draft) draft.viewports }) (all_nodes draft)
+
+-- the tree that a draft presents: there is none where a test of the tree gives a reason
 abbrev pub tree : Draft → Option Tree
-tree draft = option_map (λ all. record { view = draft.view; root = head_of all; viewports = filter_map (use_of draft) draft.viewports }) (all_nodes draft)
+tree draft = cond (is_none (first_reason (tree_tests draft))) (unfolded draft) None
