@@ -1,8 +1,8 @@
 ghost use Rattle.std.specs.Prelude.{◌≡◌, [], ◌∷◌, ◌++◌, Some, true, IsTrue, IsFalse, OnErr, OnOk};
 ghost use Rattle.flat_lock.specs.History.{StartsWith, GoesOn};
 
-use crate::{LockSeat, Storied, TicketLock};
 use flat_base::NoMemory;
+use flat_lock::{LockSeat, Storied, TicketLock};
 use std::alloc::Global;
 use std::sync::Wait;
 use std::test::Fail;
