@@ -10,3 +10,4 @@ pub mod Serials
 pub mod Shown
 pub mod Stamps
 pub mod Watch
+pub mod Owned
