@@ -1,4 +1,5 @@
 pub mod AllOrSome
+pub mod CloseLemmas
 pub mod CreditLemmas
 pub mod EventsLocal
 pub mod FamilyHistory
@@ -6,6 +7,8 @@ pub mod FamilyTheorem
 pub mod FramesLocal
 pub mod JoinedLocal
 pub mod LegalByTests
+pub mod Lines
+pub mod LinesTold
 pub mod ListLemmas
 pub mod Locality
 pub mod MoreRuns
@@ -17,6 +20,7 @@ pub mod RepliesLocal
 pub mod Runs
 pub mod SameWatchers
 pub mod Samples
+pub mod SeatLemmas
 pub mod ShellRun
 pub mod ShownList
 pub mod ShownLocal

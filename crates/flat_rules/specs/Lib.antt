@@ -1,3 +1,5 @@
+pub mod Closing
+pub mod Determined
 pub mod Ends
 pub mod Facts
 pub mod Lasts
@@ -6,6 +8,7 @@ pub mod Legal
 pub mod Local
 pub mod Numbers
 pub mod Posts
+pub mod Seats
 pub mod Serials
 pub mod Shown
 pub mod Stamps

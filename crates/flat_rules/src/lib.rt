@@ -3,6 +3,7 @@
 #![tactic(auto)]
 
 mod laws;
+mod seats;
 
 ghost use Rattle.flat_rules.specs.Laws.{CreditsAddUp};
 
@@ -10,6 +11,9 @@ pub use laws::{
     answers_are_local, connected_is_local, credits_are_local, families_are_alone,
     glimpses_decide_outcomes, going_is_local, presents_are_local, released_is_local,
     shown_is_local, signalled_is_local, taken_is_local, told_is_local, watching_is_local,
+};
+pub use seats::{
+    display_knows_frames, refusals_close, seats_tell_actors, sessions_know_themselves,
 };
 
 /// In a legal history the credits of a session and its presents that wait add up
