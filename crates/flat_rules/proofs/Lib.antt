@@ -1,6 +1,7 @@
 pub mod AllOrSome
 pub mod CloseLemmas
 pub mod CreditLemmas
+pub mod DeterminedReplies
 pub mod EventsLocal
 pub mod FamilyHistory
 pub mod FamilyTheorem
@@ -8,6 +9,7 @@ pub mod FramesLocal
 pub mod JoinedLocal
 pub mod LegalByTests
 pub mod Lines
+pub mod LinesReplies
 pub mod LinesTold
 pub mod ListLemmas
 pub mod Locality

@@ -2,11 +2,13 @@
 //! and when, and which events are posted; with the laws about them.
 #![tactic(auto)]
 
+mod determined;
 mod laws;
 mod seats;
 
 ghost use Rattle.flat_rules.specs.Laws.{CreditsAddUp};
 
+pub use determined::{neighbours_change_nothing, replies_are_determined};
 pub use laws::{
     answers_are_local, connected_is_local, credits_are_local, families_are_alone,
     glimpses_decide_outcomes, going_is_local, presents_are_local, released_is_local,
