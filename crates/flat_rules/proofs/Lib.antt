@@ -5,6 +5,7 @@ pub mod DeterminedReplies
 pub mod EventsLocal
 pub mod FamilyHistory
 pub mod FamilyTheorem
+pub mod FirstNewsLemmas
 pub mod FramesLocal
 pub mod JoinedLocal
 pub mod LegalByTests

@@ -2,6 +2,7 @@ pub mod Closing
 pub mod Determined
 pub mod Ends
 pub mod Facts
+pub mod FirstNews
 pub mod Lasts
 pub mod Laws
 pub mod Legal

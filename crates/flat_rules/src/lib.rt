@@ -2,12 +2,14 @@
 //! and when, and which events are posted; with the laws about them.
 #![tactic(auto)]
 
+mod answers;
 mod determined;
 mod laws;
 mod seats;
 
 ghost use Rattle.flat_rules.specs.Laws.{CreditsAddUp};
 
+pub use answers::first_news_answers;
 pub use determined::{neighbours_change_nothing, replies_are_determined};
 pub use laws::{
     answers_are_local, connected_is_local, credits_are_local, families_are_alone,
