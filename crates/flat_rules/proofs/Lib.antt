@@ -3,6 +3,9 @@ pub mod CloseLemmas
 pub mod CreditLemmas
 pub mod DeterminedReplies
 pub mod EventsLocal
+pub mod FairDrafts
+pub mod FairItems
+pub mod FairTrees
 pub mod FamilyHistory
 pub mod FamilyTheorem
 pub mod FirstNewsLemmas

@@ -1,5 +1,6 @@
 pub mod Closing
 pub mod Determined
+pub mod Drawable
 pub mod Ends
 pub mod Facts
 pub mod FirstNews

@@ -4,6 +4,7 @@
 
 mod answers;
 mod determined;
+mod drawing;
 mod laws;
 mod seats;
 
@@ -11,6 +12,7 @@ ghost use Rattle.flat_rules.specs.Laws.{CreditsAddUp};
 
 pub use answers::first_news_answers;
 pub use determined::{neighbours_change_nothing, replies_are_determined};
+pub use drawing::items_are_drawable;
 pub use laws::{
     answers_are_local, connected_is_local, credits_are_local, families_are_alone,
     glimpses_decide_outcomes, going_is_local, presents_are_local, released_is_local,
