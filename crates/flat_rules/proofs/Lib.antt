@@ -32,6 +32,7 @@ pub mod ShownList
 pub mod ShownLocal
 pub mod ShownOwned
 pub mod ShownSteps
+pub mod SmallLaws
 pub mod Still
 pub mod ToldLocal
 pub mod WatchLocal

@@ -24,7 +24,7 @@ use Rattle.flat_scene.specs.Frames.{taken, credits, sessions_to, is_signalled}
 use Rattle.flat_scene.specs.History.{◌▹◌, is_begin, is_finish, is_closed, is_session, presents}
 use Rattle.flat_rules.specs.Determined.{but_line}
 use Rattle.flat_rules.specs.Ends.{to_begin, times, releases_viewport, taken_calls, view_uses, viewport_uses, views_of, viewports_of, uses_viewport, is_done}
-use Rattle.flat_rules.specs.Legal.{has_token, is_token_back, is_told, is_poll, is_now, number_if, sent_to, unread, answers, frames, value_of, got, waited, asked_of, refused_token, reply_to_get, reply_to_present, polled_by, reply_to}
+use Rattle.flat_rules.specs.Legal.{has_token, is_token_back, is_told, is_poll, is_now, number_if, sent_to, unread, unread_events, answers, frames, value_of, got, waited, asked_of, refused_token, reply_to_get, reply_to_present, polled_by, reply_to}
 use Rattle.flat_rules.specs.Posts.{Sent, up_to, event_of, told_event, frame_took, releases_seen, tokens_back, at_finish, at_begin, news_for, events_to, posted, posts}
 use Rattle.flat_rules.specs.Watch.{Watcher, layout_of, status_of, child_of, watching, told, watcher_of}
 use Rattle.flat_watch.specs.Told.{answer, news}
@@ -89,9 +89,12 @@ module _ (setup : Setup) where
   sent-lined : (s : SessionNo) (test : Event → Bool) (before : List Entry) (e : Entry) → sent_to setup s test (lined before) (but_line e) ≡ sent_to setup s test before e
   sent-lined s test before e = λ i. length (filter test (events-lined before e s i))
 
+  unread-events : (s : SessionNo) (h : List Entry) → unread_events setup s (lined h) ≡ unread_events setup s h
+  unread-events s [] = refl
+  unread-events s (before ▹ e) = λ i. cond (is_session s e.actor && is_poll e.kind) [] (unread-events s before i) ++ events-lined before e s i
+
   unread-lined : (s : SessionNo) (h : List Entry) → unread setup s (lined h) ≡ unread setup s h
-  unread-lined s [] = refl
-  unread-lined s (before ▹ e) = λ i. cond (is_session s e.actor && is_poll e.kind) 0 (unread-lined s before i) + sent-lined s (λ _. true) before e i
+  unread-lined s h = ap length (unread-events s h)
 
   answers-lined : (s : SessionNo) (h : List Entry) → answers setup s (lined h) ≡ answers setup s h
   answers-lined s [] = refl
