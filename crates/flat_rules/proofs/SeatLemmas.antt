@@ -1,6 +1,9 @@
 -- A seat's own entries: found by its number, and what they tell.
-use Rattle.std.proofs.Common.{◌≡◌, ◌∙◌, ℕ, ◌≤◌, ◌<◌, ◌^◌, Bool, true, false, cond, not, ◌&&◌, ◌||◌, ◌==◌, List, [], ◌∷◌, ◌++◌, filter, refl, sym, ap, subst, arith}
+use Rattle.std.proofs.Common.{◌≡◌, ◌∙◌, ℕ, ◌≤◌, ◌<◌, ◌^◌, Bool, true, false, cond, not, ◌&&◌, ◌||◌, ◌==◌, List, [], ◌∷◌, ◌++◌, filter, reverse, append-nil, refl, sym, ap, subst, arith}
 use Rattle.std.proofs.lemmas.Bool.Decides.{nat_tests}
+use Rattle.std.proofs.lemmas.Grind.{reverse_onto}
+use Rattle.std.proofs.lemmas.List.{reverse-append}
+use Rattle.std.proofs.lemmas.List.Elements.{filter-append}
 use Rattle.std.specs.List.{list_any}
 use Rattle.flat_base.specs.declared.ids.Actor.{Actor}
 use Rattle.flat_base.specs.declared.ids.Actor.TheVariants.{Display, Session, Probe}
@@ -12,12 +15,12 @@ use Rattle.flat_scene.specs.declared.journal.Kind.{Kind}
 use Rattle.flat_scene.specs.declared.journal.Kind.TheVariants.{Close, Begin, Finish}
 use Rattle.flat_scene.specs.declared.setup.Setup.{Setup}
 use Rattle.flat_scene.specs.Draft.{Draft}
-use Rattle.flat_scene.specs.History.{◌▹◌, own, is_session, is_display, is_closed, is_begin, is_finish, is_end, seat_number}
+use Rattle.flat_scene.specs.History.{◌▹◌, own, is_session, is_display, is_closed, is_begin, is_finish, is_end, seat_number, history_of}
 use Rattle.flat_scene.specs.Setups.{is_declared}
 use Rattle.flat_scene.proofs.Steps.{own-kept}
 use Rattle.flat_rules.specs.Ends.{to_begin}
 use Rattle.flat_rules.specs.Legal.{Legal, goes_on, has_draft, draft_with, is_frame_open, begin_time, time_of, may_act, session_may}
-use Rattle.flat_rules.specs.Seats.{of_seat, of_display, AreTold, SeatsTellActors, KnowsItself, SessionsKnowThemselves, KnowsFrames, DisplayKnowsFrames, BeginStays}
+use Rattle.flat_rules.specs.Seats.{of_seat, of_display, AreTold, SeatsTellActors, KnowsItself, SessionsKnowThemselves, KnowsFrames, DisplayKnowsFrames, BeginStays, JournalsKeepSeats, BeginIsSeen}
 
 and-left : (a b : Bool) → (a && b) ≡ true → a ≡ true
 and-left true b both = refl
@@ -120,3 +123,27 @@ begin-stays setup (later ▹ entry) before legal none = by_whose (λ rest. begin
     by_whose earlier (theirs is begins finishes) =
         let rest : of_display later ≡ [] = sym (ap (λ b. cond b (entry ∷ of_display later) (of_display later)) is) ∙ none in
         ap (λ b. cond b ((later ++ before) ▹ entry) (to_begin (later ++ before))) begins ∙ earlier rest
+
+-- ---- journals
+
+module _ {A : Type 0} where
+  filter-one : (p : A → Bool) (x : A) (xs : List A) → reverse (filter p xs) ++ filter p (x ∷ []) ≡ reverse (filter p (x ∷ xs))
+  filter-one p x xs = by_test (p x)
+    where
+      by_test : (b : Bool) → reverse (filter p xs) ++ cond b (x ∷ []) [] ≡ reverse (cond b (x ∷ filter p xs) (filter p xs))
+      by_test true = sym (reverse_onto (filter p xs) x [])
+      by_test false = append-nil (reverse (filter p xs))
+
+  filter-reverse : (p : A → Bool) (xs : List A) → filter p (reverse xs) ≡ reverse (filter p xs)
+  filter-reverse p [] = refl
+  filter-reverse p (x ∷ xs) =
+      ap (filter p) (reverse_onto xs x []) ∙ filter-append p (reverse xs) (x ∷ []) ∙ ap (λ (l : List A). l ++ filter p (x ∷ [])) (filter-reverse p xs) ∙ filter-one p x xs
+
+pub journals-keep-seats : JournalsKeepSeats
+journals-keep-seats seat entries = filter-reverse (λ e. seat_number e.actor == seat) entries
+
+pub begin-is-seen : BeginIsSeen
+begin-is-seen setup seen rest legal none =
+    let parts : history_of (seen ++ rest) ≡ history_of rest ++ history_of seen = reverse-append seen rest in
+    let L : List Entry → Type 0 = Legal setup in
+    ap to_begin parts ∙ begin-stays setup (history_of rest) (history_of seen) (subst L parts legal) (filter-reverse (λ e. is_display e.actor) rest ∙ ap history_of none)

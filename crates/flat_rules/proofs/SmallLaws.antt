@@ -1,21 +1,25 @@
 -- The words of the laws on histories, on small runs.
 use Rattle.std.proofs.Common.{◌≡◌, true, false, List, [], ◌∷◌, map, refl}
-use Rattle.std.specs.Prelude.{Some, None}
+use Rattle.std.specs.Prelude.{Some, None, pos}
 use Rattle.flat_base.specs.declared.ids.Actor.TheVariants.{Display, Session}
+use Rattle.flat_scene.specs.declared.calls.BlendMode.TheVariants.{Src}
 use Rattle.flat_scene.specs.declared.calls.Call.TheVariants as call
 use Rattle.flat_scene.specs.declared.calls.Watch.TheVariants as watch
+use Rattle.flat_scene.specs.declared.frames.DrawItem.{DrawItem}
+use Rattle.flat_scene.specs.declared.frames.Paint.TheVariants.{Fill}
 use Rattle.flat_scene.specs.declared.journal.Entry.{Entry}
 use Rattle.flat_scene.specs.declared.journal.Event.TheVariants as event
 use Rattle.flat_scene.specs.declared.journal.Kind.TheVariants as kind
 use Rattle.flat_scene.specs.declared.journal.Reply.TheVariants as reply
 use Rattle.flat_scene.specs.declared.journal.Told.TheVariants as tell
-use Rattle.flat_scene.specs.declared.setup.Setup.{Setup}
-use Rattle.flat_scene.specs.Family.{only}
-use Rattle.flat_scene.specs.History.{◌▹◌, is_closed, own}
+use Rattle.flat_geom.specs.Matrices.{identity_matrix}
+use Rattle.flat_topology.specs.Draw.{scene_matrix}
+use Rattle.flat_scene.specs.History.{◌▹◌, own}
 use Rattle.flat_rules.specs.Determined.{but_reply, family_moments}
+use Rattle.flat_rules.specs.Drawable.{full_rect, matrix_of}
 use Rattle.flat_rules.specs.FirstNews.{first_news, is_asked, is_heard}
 use Rattle.flat_rules.specs.Seats.{of_seat, of_display}
-use Rattle.flat_rules.specs.Watch.{layout_of, watching}
+use Rattle.flat_rules.specs.Watch.{layout_of}
 use Rattle.flat_rules.proofs.MoreRuns.{layout_before_first_present-setup as shop, layout_before_first_present-history as whole}
 use Rattle.flat_rules.proofs.Runs.{one_fill_one_frame-setup as home, one_fill_one_frame-history as run}
 use Rattle.flat_rules.proofs.Samples.{s, p, c, by, present, layout}
@@ -79,3 +83,24 @@ heard = refl
 
 heard-no-more : is_heard shop (layout_of (p 1)) whole ≡ false
 heard-no-more = refl
+
+-- ---- items
+
+abbrev an_item : DrawItem
+an_item = record {
+  session = s 1;
+  serial = 1;
+  paint = Fill (255 ∷ 0 ∷ 0 ∷ 255 ∷ []);
+  w = 10;
+  h = 20;
+  matrix = scene_matrix identity_matrix;
+  visible = record { x0 = pos 0; y0 = pos 0; x1 = pos 65536; y1 = pos 65536 };
+  opacity = 65536;
+  blend = Src;
+}
+
+item-has-its-matrix : matrix_of an_item.matrix ≡ identity_matrix
+item-has-its-matrix = refl
+
+item-has-its-rectangle : full_rect an_item ≡ record { x0 = pos 0; y0 = pos 0; x1 = pos 655360; y1 = pos 1310720 }
+item-has-its-rectangle = refl

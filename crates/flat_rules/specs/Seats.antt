@@ -7,7 +7,7 @@ use Rattle.flat_scene.specs.declared.calls.Call.{Call}
 use Rattle.flat_scene.specs.declared.journal.Entry.{Entry}
 use Rattle.flat_scene.specs.declared.journal.Kind.{Kind}
 use Rattle.flat_scene.specs.declared.setup.Setup.{Setup}
-use Rattle.flat_scene.specs.History.{own, is_display, is_closed, seat_number}
+use Rattle.flat_scene.specs.History.{own, is_display, is_closed, seat_number, history_of}
 use Rattle.flat_scene.specs.Setups.{is_declared}
 use Rattle.flat_rules.specs.Ends.{to_begin}
 use Rattle.flat_rules.specs.Legal.{Legal, goes_on, has_draft, draft_with, is_frame_open, begin_time}
@@ -49,3 +49,13 @@ DisplayKnowsFrames = (setup : Setup) (history : List Entry) → Legal setup hist
 -- the last begin stays where it was until the display makes an entry
 abbrev pub BeginStays : Type 0
 BeginStays = (setup : Setup) (later before : List Entry) → Legal setup (later ++ before) → of_display later ≡ [] → to_begin (later ++ before) ≡ to_begin before
+
+-- ---- journals, which have the oldest entry first
+
+-- the entries of a seat stand in the same order in a journal and in its history
+abbrev pub JournalsKeepSeats : Type 0
+JournalsKeepSeats = (seat : ℕ) (entries : List Entry) → of_seat seat (history_of entries) ≡ history_of (of_seat seat entries)
+
+-- who has seen all of the display's entries of a journal has seen its last begin, and all before it
+abbrev pub BeginIsSeen : Type 0
+BeginIsSeen = (setup : Setup) (seen rest : List Entry) → Legal setup (history_of (seen ++ rest)) → of_display rest ≡ [] → to_begin (history_of (seen ++ rest)) ≡ to_begin (history_of seen)

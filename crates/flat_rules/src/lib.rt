@@ -19,7 +19,8 @@ pub use laws::{
     shown_is_local, signalled_is_local, taken_is_local, told_is_local, watching_is_local,
 };
 pub use seats::{
-    display_knows_frames, refusals_close, seats_tell_actors, sessions_know_themselves,
+    display_knows_frames, journals_keep_seats, refusals_close, seats_tell_actors,
+    sessions_know_themselves,
 };
 
 /// In a legal history the credits of a session and its presents that wait add up

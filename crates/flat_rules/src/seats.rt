@@ -1,5 +1,5 @@
 ghost use Rattle.flat_rules.specs.Closing.{RefusalCloses, CloseCloses, OtherRepliesCloseNone};
-ghost use Rattle.flat_rules.specs.Seats.{SeatsTellActors, SessionsKnowThemselves, DisplayKnowsFrames, BeginStays};
+ghost use Rattle.flat_rules.specs.Seats.{SeatsTellActors, SessionsKnowThemselves, DisplayKnowsFrames, BeginStays, JournalsKeepSeats, BeginIsSeen};
 
 // The calls here do nothing. Their contracts are laws about the definitions: how a
 // session closes, and what an actor knows that sees its own entries alone.
@@ -38,4 +38,14 @@ pub fn sessions_know_themselves()
 pub fn display_knows_frames()
     ensures frames { DisplayKnowsFrames }
     ensures begin { BeginStays }
+{}
+
+/// A journal, which has the oldest entry first, has a seat's entries in the order
+/// of its history; and who has seen the first entries of a journal, and among them
+/// all of the display's, has seen its last begin and all before it.
+///
+/// The call does nothing. Its contract is a law about the definitions.
+pub fn journals_keep_seats()
+    ensures seats { JournalsKeepSeats }
+    ensures begin { BeginIsSeen }
 {}
