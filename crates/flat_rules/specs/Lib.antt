@@ -1,11 +1,16 @@
+pub mod Closing
+pub mod Determined
+pub mod Drawable
 pub mod Ends
 pub mod Facts
+pub mod FirstNews
 pub mod Lasts
 pub mod Laws
 pub mod Legal
 pub mod Local
 pub mod Numbers
 pub mod Posts
+pub mod Seats
 pub mod Serials
 pub mod Shown
 pub mod Stamps
