@@ -82,7 +82,7 @@ module _ (setup : Setup) where
       }
   by-test watcher get asks before entry false is kind so = cc
 
-  is-get : (watcher : Watcher) (get : Watch) (before : List Entry) (entry : Entry) (kind : Kind) → entry.kind ≡ kind → asked_in setup watcher before entry kind ≡ Some get
+  pub is-get : (watcher : Watcher) (get : Watch) (before : List Entry) (entry : Entry) (kind : Kind) → entry.kind ≡ kind → asked_in setup watcher before entry kind ≡ Some get
       → IsGet setup watcher get before entry
   is-get watcher get before entry (Get asks) is so =
       by-test watcher get asks before entry (is_watcher setup watcher (watcher_of setup before entry.actor entry.calls asks)) refl is so
