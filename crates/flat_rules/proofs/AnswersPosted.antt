@@ -1,6 +1,6 @@
 -- What a watcher answers to a held get is among the events of its listener.
 use Rattle.std.proofs.Common.{◌≡◌, ◌∙◌, ℕ, zero, suc, ◌+◌, ◌≤◌, ◌<◌, Bool, true, false, cond, ◌&&◌, ◌==◌, nat_lt, List, [], ◌∷◌, ◌++◌, length, refl, sym, ap, subst, arith, Option, Some, None, add-one, inl, inr}
-use Rattle.std.specs.Prelude.{◌⊎◌, flat_map, option_map, option_and_then, slice_get, slice_index_or, is_some}
+use Rattle.std.specs.Prelude.{◌⊎◌, flat_map, option_map, option_and_then, slice_get}
 use Rattle.std.specs.List.{list_all, Contains}
 use Rattle.std.specs.Result.{result_ok}
 use Rattle.std.proofs.lemmas.Bool.{not-true}
@@ -9,7 +9,6 @@ use Rattle.flat_base.specs.declared.ids.Actor.{Actor}
 use Rattle.flat_base.specs.declared.ids.Actor.TheVariants.{Display, Session, Probe}
 use Rattle.flat_base.specs.declared.ids.PairNo.{PairNo}
 use Rattle.flat_base.specs.declared.ids.SessionNo.{SessionNo}
-use Rattle.flat_scene.specs.declared.calls.Call.{Call}
 use Rattle.flat_scene.specs.declared.calls.Watch.{Watch}
 use Rattle.flat_scene.specs.declared.calls.Watch.TheVariants as watch
 use Rattle.flat_scene.specs.declared.journal.Entry.{Entry}
@@ -27,7 +26,7 @@ use Rattle.flat_rules.specs.FirstNews.{AnswersArePosted}
 use Rattle.flat_rules.specs.Legal.{Legal, MayEnter}
 use Rattle.flat_rules.specs.Local.{pair_watched}
 use Rattle.flat_rules.specs.Posts.{up_to, event_of, told_event, at_finish, at_begin, news_for, events_to}
-use Rattle.flat_rules.specs.Watch.{Watcher, layout_of, status_of, child_of, watching, told, asked, asked_in, listener, is_open, watcher_of, watcher_in, watcher_of_made}
+use Rattle.flat_rules.specs.Watch.{Watcher, layout_of, status_of, child_of, watching, told, asked, listener, is_open, watcher_of, watcher_in, watcher_of_made}
 use Rattle.flat_watch.specs.Told.{Watching, answer, answered_by, asking, settled, or_else}
 use Rattle.flat_rules.proofs.FirstNewsLemmas.{IsGet, is-get}
 use Rattle.flat_rules.proofs.Locality.{same-number, session-of}

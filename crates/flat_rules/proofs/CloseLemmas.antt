@@ -1,16 +1,15 @@
 -- A refused entry closes its own session.
-use Rattle.std.proofs.Common.{◌≡◌, ◌∙◌, Bool, true, false, List, refl, ap}
+use Rattle.std.proofs.Common.{◌≡◌, ◌∙◌, true, false, List, refl, ap}
 use Rattle.std.specs.Prelude.{Some, None}
 use Rattle.flat_base.specs.declared.ids.Actor.{Actor}
-use Rattle.flat_base.specs.declared.ids.SessionNo.{SessionNo}
 use Rattle.flat_scene.specs.declared.calls.Call.{Call}
 use Rattle.flat_scene.specs.declared.journal.Entry.{Entry}
 use Rattle.flat_scene.specs.declared.journal.Kind.{Kind}
 use Rattle.flat_scene.specs.declared.journal.Kind.TheVariants.{Close}
 use Rattle.flat_scene.specs.declared.setup.Setup.{Setup}
-use Rattle.flat_scene.specs.History.{◌▹◌, is_closed, is_session, closes}
+use Rattle.flat_scene.specs.History.{closes}
 use Rattle.flat_scene.proofs.Steps.{closes-own}
-use Rattle.flat_rules.specs.Closing.{ClosesItsSession, RefusalCloses, CloseCloses, OtherRepliesCloseNone}
+use Rattle.flat_rules.specs.Closing.{RefusalCloses, CloseCloses, OtherRepliesCloseNone}
 use Rattle.flat_rules.specs.Legal.{is_close, reply_to}
 use Rattle.flat_rules.proofs.Quiet.{closed-quiet}
 

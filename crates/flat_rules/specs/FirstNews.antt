@@ -16,7 +16,7 @@ use Rattle.flat_rules.specs.Legal.{Legal, got}
 use Rattle.flat_rules.specs.Local.{pair_watched}
 use Rattle.flat_rules.specs.Posts.{told_event, event_of, events_to}
 use Rattle.flat_rules.specs.Watch.{Watcher, watching, told, asked, listener, is_open}
-use Rattle.flat_watch.specs.Told.{Watching, news, or_else, answered_by}
+use Rattle.flat_watch.specs.Told.{news, or_else, answered_by}
 
 module _ (setup : Setup) where
   -- the first value told that is there and differs from the last answer: after a history, or after one of the entries that are put onto it
