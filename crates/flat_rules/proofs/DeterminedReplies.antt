@@ -1,16 +1,13 @@
 -- Who did what, and in which order, decides all replies and events.
-use Rattle.std.proofs.Common.{◌≡◌, ◌∙◌, Bool, true, false, cond, List, [], ◌∷◌, map, filter, refl, sym, ap}
-use Rattle.flat_base.specs.declared.ids.Actor.{Actor}
+use Rattle.std.proofs.Common.{◌≡◌, ◌∙◌, List, [], ◌∷◌, map, refl, sym, ap}
 use Rattle.flat_base.specs.declared.ids.SessionNo.{SessionNo}
-use Rattle.flat_scene.specs.declared.calls.Call.{Call}
 use Rattle.flat_scene.specs.declared.journal.Entry.{Entry}
-use Rattle.flat_scene.specs.declared.journal.Kind.{Kind}
 use Rattle.flat_scene.specs.declared.journal.Reply.{Reply}
 use Rattle.flat_scene.specs.declared.setup.Setup.{Setup}
 use Rattle.flat_scene.specs.Family.{family, only}
 use Rattle.flat_scene.specs.History.{◌▹◌}
-use Rattle.flat_rules.specs.Determined.{but_line, but_reply, AnswerAlike, RepliesAreDetermined, but_moment_line, family_moments, NeighboursChangeNothing}
-use Rattle.flat_rules.specs.Laws.{Moment, moments, kept_moments, IsFamilyLaw}
+use Rattle.flat_rules.specs.Determined.{but_line, but_reply, RepliesAreDetermined, but_moment_line, NeighboursChangeNothing}
+use Rattle.flat_rules.specs.Laws.{Moment, moments, IsFamilyLaw}
 use Rattle.flat_rules.specs.Legal.{Legal, LegalEntry, reply_to}
 use Rattle.flat_rules.specs.Posts.{posts}
 use Rattle.flat_rules.proofs.FamilyTheorem.{families-are-alone}

@@ -1,5 +1,5 @@
 -- What is drawn of fair trees can be drawn.
-use Rattle.std.proofs.Common.{◌≡◌, ℕ, zero, suc, ◌+◌, ◌*◌, ◌≤◌, Bool, true, false, ◌&&◌, ◌||◌, ◌==◌, not, nat_le, List, [], ◌∷◌, ◌++◌, length, refl, subst, arith, Option, Some, None}
+use Rattle.std.proofs.Common.{◌≡◌, ℕ, zero, suc, ◌+◌, ◌*◌, ◌≤◌, Bool, true, false, ◌&&◌, ◌||◌, ◌==◌, not, List, [], ◌∷◌, ◌++◌, length, refl, subst, arith, Option, Some, None}
 use Rattle.std.specs.Prelude.{ℤ, pos, negsuc, ◌≤ℤ◌, int_lt, if◌then◌else◌}
 use Rattle.std.specs.Int.{is_negative}
 use Rattle.std.specs.List.{list_all, All}
@@ -13,21 +13,19 @@ use Rattle.flat_base.specs.declared.shapes.IntRect.{IntRect}
 use Rattle.flat_base.specs.declared.shapes.Rect.{Rect}
 use Rattle.flat_geom.specs.Rectangles.{mapped_rect, shared_part, has_no_point}
 use Rattle.flat_scene.specs.declared.frames.DrawItem.{DrawItem}
-use Rattle.flat_scene.specs.declared.journal.Entry.{Entry}
 use Rattle.flat_scene.specs.declared.setup.Setup.{Setup}
 use Rattle.flat_scene.specs.declared.trees.Children.{Children}
 use Rattle.flat_scene.specs.declared.trees.Children.TheVariants.{Empty}
 use Rattle.flat_scene.specs.declared.trees.Content.{Content}
 use Rattle.flat_scene.specs.declared.trees.Content.TheVariants as content
 use Rattle.flat_scene.specs.declared.trees.Node.{Node}
-use Rattle.flat_scene.specs.declared.trees.Tree.{Tree}
 use Rattle.flat_scene.specs.Trees.{first}
 use Rattle.flat_scene.proofs.Together.{and-left, and-right}
 use Rattle.flat_topology.specs.declared.Placed.{Placed}
 use Rattle.flat_topology.specs.Draw.{Painting, painting_of, item_of, node_item, items_of, visible_rect, scene_matrix}
 use Rattle.flat_topology.specs.Join.{JoinedTree, Viewer, viewer_from, is_view_of, linked_to, joined_nodes, viewed, led_to, led_from}
 use Rattle.flat_topology.specs.Pairs.{display_pair}
-use Rattle.flat_topology.specs.Place.{Space, seen_through, sized_rect, node_space, linked_space, placed_node, placed_in, placed_nodes, display_space}
+use Rattle.flat_topology.specs.Place.{Space, seen_through, sized_rect, node_space, linked_space, placed_in, placed_nodes, display_space}
 use Rattle.flat_topology.specs.Shown.{Shown, nodes_of, view_of}
 use Rattle.flat_rules.specs.Drawable.{IsWithin, IsSample, HasSample, IsDrawable, ItemsAreDrawable}
 use Rattle.flat_rules.specs.Shown.{shown_states}

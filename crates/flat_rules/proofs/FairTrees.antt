@@ -1,9 +1,8 @@
 -- Trees that are shown have no node and no image of too great an opacity, and each image shows a part of its buffer.
-use Rattle.std.proofs.Common.{◌≡◌, ℕ, zero, suc, Bool, true, false, cond, ◌&&◌, nat_le, List, [], ◌∷◌, filter_map, map, refl, subst, arith, Option, Some, None, Result, Ok, Err}
+use Rattle.std.proofs.Common.{◌≡◌, ℕ, zero, suc, Bool, true, false, cond, ◌&&◌, List, [], ◌∷◌, filter_map, map, refl, subst, arith, Option, Some, None}
 use Rattle.std.specs.Prelude.{option_map, option_and_then}
 use Rattle.std.specs.List.{list_all}
 use Rattle.std.specs.Result.{result_ok}
-use Rattle.flat_base.specs.declared.errors.Reason.{Reason}
 use Rattle.flat_base.specs.declared.ids.SessionNo.{SessionNo}
 use Rattle.flat_base.specs.declared.limits.TheConstants.{PATH_NODES_MAX}
 use Rattle.flat_scene.specs.declared.journal.Entry.{Entry}

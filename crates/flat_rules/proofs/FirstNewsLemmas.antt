@@ -1,25 +1,19 @@
 -- A get is answered by the first news.
-use Rattle.std.proofs.Common.{◌≡◌, ◌∙◌, Bool, true, false, cond, List, [], ◌∷◌, ◌++◌, refl, sym, ap, Option, Some, None}
-use Rattle.std.specs.Prelude.{◌||◌, is_some, option_map, unwrap_or}
-use Rattle.std.proofs.lemmas.Bool.{or_parts}
-use Rattle.flat_base.specs.declared.errors.FlatlandError.TheVariants.{BadHangingGet}
-use Rattle.flat_base.specs.declared.ids.Actor.{Actor}
+use Rattle.std.proofs.Common.{◌≡◌, ◌∙◌, Bool, true, false, cond, List, [], ◌++◌, refl, sym, ap, Option, Some, None}
+use Rattle.std.specs.Prelude.{◌||◌, is_some}
 use Rattle.flat_base.specs.declared.ids.PairNo.{PairNo}
-use Rattle.flat_scene.specs.declared.calls.Call.{Call}
 use Rattle.flat_scene.specs.declared.calls.Watch.{Watch}
 use Rattle.flat_scene.specs.declared.journal.Entry.{Entry}
 use Rattle.flat_scene.specs.declared.journal.Kind.{Kind}
 use Rattle.flat_scene.specs.declared.journal.Kind.TheVariants.{Get}
-use Rattle.flat_scene.specs.declared.journal.Reply.{Reply}
-use Rattle.flat_scene.specs.declared.journal.Reply.TheVariants.{Closed}
 use Rattle.flat_scene.specs.declared.journal.Told.{Told}
 use Rattle.flat_scene.specs.declared.setup.Setup.{Setup}
 use Rattle.flat_scene.specs.History.{◌▹◌}
-use Rattle.flat_rules.specs.FirstNews.{first_news, is_asked, is_heard, AnswersFirst, FirstNewsAnswers, SecondGetIsRefused, UnaskedStays, NothingIsAnsweredAtFirst}
+use Rattle.flat_rules.specs.FirstNews.{first_news, is_asked, is_heard, FirstNewsAnswers, SecondGetIsRefused, UnaskedStays, NothingIsAnsweredAtFirst}
 use Rattle.flat_rules.specs.Legal.{Legal, got, reply_to, reply_to_get}
 use Rattle.flat_rules.specs.Local.{pair_watched}
 use Rattle.flat_rules.specs.Posts.{told_event, event_of}
-use Rattle.flat_rules.specs.Watch.{Watcher, watching, told, asked, asked_in, listener, is_open, is_watcher, watcher_of, same_watcher}
+use Rattle.flat_rules.specs.Watch.{Watcher, watching, told, asked, asked_in, listener, is_watcher, watcher_of}
 use Rattle.flat_watch.specs.Told.{Watching, news, or_else, answer, answered_by, settled, asking}
 use Rattle.flat_rules.proofs.SameWatchers.{same-is}
 use Rattle.flat_rules.proofs.Still.{IsStill, open-before, told-same}
@@ -82,7 +76,7 @@ module _ (setup : Setup) where
       }
   by-test watcher get asks before entry false is kind so = cc
 
-  is-get : (watcher : Watcher) (get : Watch) (before : List Entry) (entry : Entry) (kind : Kind) → entry.kind ≡ kind → asked_in setup watcher before entry kind ≡ Some get
+  pub is-get : (watcher : Watcher) (get : Watch) (before : List Entry) (entry : Entry) (kind : Kind) → entry.kind ≡ kind → asked_in setup watcher before entry kind ≡ Some get
       → IsGet setup watcher get before entry
   is-get watcher get before entry (Get asks) is so =
       by-test watcher get asks before entry (is_watcher setup watcher (watcher_of setup before entry.actor entry.calls asks)) refl is so

@@ -1,4 +1,5 @@
 pub mod AllOrSome
+pub mod AnswersPosted
 pub mod CloseLemmas
 pub mod CreditLemmas
 pub mod DeterminedReplies
@@ -17,6 +18,7 @@ pub mod LinesReplies
 pub mod LinesTold
 pub mod ListLemmas
 pub mod Locality
+pub mod MadeUses
 pub mod MoreRuns
 pub mod Neighbour
 pub mod Owned

@@ -1,6 +1,6 @@
 -- Nothing that a history says of sessions, frames and ends hangs on the lines of its entries.
-use Rattle.std.proofs.Common.{◌≡◌, ◌∙◌, ℕ, suc, ◌+◌, ◌-◌, Bool, true, false, cond, List, [], ◌∷◌, ◌++◌, drop, filter, map, length, refl, ap, Option, Some, None}
-use Rattle.std.specs.Prelude.{◌||◌, ◌&&◌, option_map, option_and_then, unwrap_or, nat_lt}
+use Rattle.std.proofs.Common.{◌≡◌, ◌∙◌, suc, ◌+◌, Bool, true, false, cond, List, [], ◌∷◌, ◌++◌, drop, filter, map, length, refl, ap, Option, Some, None}
+use Rattle.std.specs.Prelude.{◌||◌, ◌&&◌, option_map, option_and_then, unwrap_or}
 use Rattle.std.specs.List.{list_any, drop-map}
 use Rattle.flat_base.specs.declared.ids.Actor.{Actor}
 use Rattle.flat_base.specs.declared.ids.Actor.TheVariants.{Display, Session, Probe}
@@ -9,7 +9,6 @@ use Rattle.flat_base.specs.declared.ids.SessionNo.{SessionNo}
 use Rattle.flat_scene.specs.declared.calls.Call.{Call}
 use Rattle.flat_scene.specs.declared.journal.Entry.{Entry}
 use Rattle.flat_scene.specs.declared.setup.Setup.{Setup}
-use Rattle.flat_scene.specs.declared.trees.Tree.{Tree}
 use Rattle.flat_scene.specs.Draft.{Draft, of_serial}
 use Rattle.flat_scene.specs.Frames.{is_signalled, taken, going, takes, lets_go, signals, credits, sessions_to}
 use Rattle.flat_scene.specs.History.{◌▹◌, own, is_session, is_closed, closes, carried, calls, published, published_all, presents, Published, is_begin, is_finish}

@@ -1,5 +1,5 @@
 -- What entries post, and what they are answered, hangs on no line.
-use Rattle.std.proofs.Common.{◌≡◌, ◌∙◌, ℕ, ◌+◌, ◌-◌, Bool, true, false, cond, List, [], ◌∷◌, ◌++◌, not, drop, filter, map, length, refl, ap, Option, Some, None}
+use Rattle.std.proofs.Common.{◌≡◌, ◌∙◌, ◌+◌, ◌-◌, Bool, cond, List, [], ◌∷◌, ◌++◌, not, drop, filter, map, length, refl, ap, Option, Some, None}
 use Rattle.std.specs.Prelude.{◌||◌, ◌&&◌, ◌==◌, nat_lt, flat_map, replicate, is_some, Ok}
 use Rattle.std.specs.List.{list_any}
 use Rattle.flat_base.specs.declared.errors.FlatlandError.TheVariants.{NoPresentsRemaining}
@@ -14,19 +14,18 @@ use Rattle.flat_scene.specs.declared.journal.Event.TheVariants as event
 use Rattle.flat_scene.specs.declared.journal.Kind.{Kind}
 use Rattle.flat_scene.specs.declared.journal.Kind.TheVariants.{View, Viewport, Present, Get, Poll, Wait, Close}
 use Rattle.flat_scene.specs.declared.journal.Post.{Post}
-use Rattle.flat_scene.specs.declared.journal.Reply.{Reply}
 use Rattle.flat_scene.specs.declared.journal.Reply.TheVariants.{Done, Presented, Polled, Closed}
 use Rattle.flat_scene.specs.declared.script.Cond.{Cond}
 use Rattle.flat_scene.specs.declared.script.Cond.TheVariants as asks
 use Rattle.flat_scene.specs.declared.setup.Setup.{Setup}
 use Rattle.flat_scene.specs.Draft.{empty_draft}
-use Rattle.flat_scene.specs.Frames.{taken, credits, sessions_to, is_signalled}
-use Rattle.flat_scene.specs.History.{◌▹◌, is_begin, is_finish, is_closed, is_session, presents}
+use Rattle.flat_scene.specs.Frames.{sessions_to, is_signalled}
+use Rattle.flat_scene.specs.History.{◌▹◌, is_begin, is_finish, is_session, presents}
 use Rattle.flat_rules.specs.Determined.{but_line}
-use Rattle.flat_rules.specs.Ends.{to_begin, times, releases_viewport, taken_calls, view_uses, viewport_uses, views_of, viewports_of, uses_viewport, is_done}
+use Rattle.flat_rules.specs.Ends.{to_begin, times, releases_viewport, views_of, viewports_of, uses_viewport, is_done}
 use Rattle.flat_rules.specs.Legal.{has_token, is_token_back, is_told, is_poll, is_now, number_if, sent_to, unread, unread_events, answers, frames, value_of, got, waited, asked_of, refused_token, reply_to_get, reply_to_present, polled_by, reply_to}
 use Rattle.flat_rules.specs.Posts.{Sent, up_to, event_of, told_event, frame_took, releases_seen, tokens_back, at_finish, at_begin, news_for, events_to, posted, posts}
-use Rattle.flat_rules.specs.Watch.{Watcher, layout_of, status_of, child_of, watching, told, watcher_of}
+use Rattle.flat_rules.specs.Watch.{Watcher, layout_of, status_of, child_of, watcher_of}
 use Rattle.flat_watch.specs.Told.{answer, news}
 use Rattle.flat_rules.proofs.Lines.{lined, filter-lined, length-lined, closed-lined, presents-lined, begin-lined, begun-lined, frames-lined, took-lined, took-begin, took-begun, credits-lined, taken-calls-lined, view-count, viewport-count}
 use Rattle.flat_rules.proofs.LinesTold.{told-lined, watching-lined, watcher-lined}

@@ -1,19 +1,17 @@
 -- What watchers tell and answer hangs on no line.
-use Rattle.std.proofs.Common.{◌≡◌, ◌∙◌, ℕ, Bool, true, false, cond, List, [], ◌∷◌, ◌++◌, not, length, refl, ap, Option, Some, None}
-use Rattle.std.specs.Prelude.{◌||◌, ◌&&◌, option_map, option_and_then, unwrap_or, nat_lt}
+use Rattle.std.proofs.Common.{◌≡◌, ◌∙◌, ℕ, false, cond, List, [], ◌++◌, not, length, refl, ap, Option, Some, None}
+use Rattle.std.specs.Prelude.{◌&&◌, option_map, option_and_then, unwrap_or, nat_lt}
 use Rattle.std.specs.Result.{result_ok}
 use Rattle.flat_base.specs.declared.ids.Actor.{Actor}
 use Rattle.flat_base.specs.declared.ids.Actor.TheVariants.{Display, Session, Probe}
 use Rattle.flat_base.specs.declared.ids.PairNo.{PairNo}
 use Rattle.flat_base.specs.declared.ids.SessionNo.{SessionNo}
 use Rattle.flat_scene.specs.declared.calls.Call.{Call}
-use Rattle.flat_scene.specs.declared.calls.ViewportProps.{ViewportProps}
 use Rattle.flat_scene.specs.declared.calls.Watch.{Watch}
 use Rattle.flat_scene.specs.declared.calls.Watch.TheVariants as watch
 use Rattle.flat_scene.specs.declared.journal.Entry.{Entry}
 use Rattle.flat_scene.specs.declared.journal.Kind.{Kind}
 use Rattle.flat_scene.specs.declared.journal.Kind.TheVariants.{Get}
-use Rattle.flat_scene.specs.declared.journal.Told.{Told}
 use Rattle.flat_scene.specs.declared.journal.Told.TheVariants as tell
 use Rattle.flat_scene.specs.declared.setup.Setup.{Setup}
 use Rattle.flat_scene.specs.declared.trees.Tree.{Tree}
@@ -22,7 +20,7 @@ use Rattle.flat_scene.specs.Effect.{draft_of}
 use Rattle.flat_scene.specs.History.{◌▹◌, is_finish}
 use Rattle.flat_rules.specs.Determined.{but_line}
 use Rattle.flat_rules.specs.Ends.{to_begin, to_finished, props_of, viewport_uses, viewport_owner, view_owner, taken_calls, is_viewport_lost, is_view_lost, clears_viewport, ends_view}
-use Rattle.flat_rules.specs.Shown.{is_pair, shown_view}
+use Rattle.flat_rules.specs.Shown.{is_pair}
 use Rattle.flat_rules.specs.Watch.{Watcher, layout_of, status_of, child_of, layout_in, is_used, are_joined, props_given, props_seen, props_told, shows_view, is_connected_by, told, watcher_of_made, watcher_in, watcher_of, is_watcher, asked_in, is_open, listener, watching}
 use Rattle.flat_watch.specs.Told.{or_else, settled, asking}
 use Rattle.flat_rules.proofs.Lines.{lined, calls-lined, closed-lined, begin-lined, finished-lined, taken-calls-lined, shown-lined, connected-lined, viewports-lined, view-count, viewport-count, loses-lined}

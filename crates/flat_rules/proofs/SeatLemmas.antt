@@ -1,10 +1,9 @@
 -- A seat's own entries: found by its number, and what they tell.
-use Rattle.std.proofs.Common.{◌≡◌, ◌∙◌, ℕ, ◌≤◌, ◌<◌, ◌^◌, Bool, true, false, cond, not, ◌&&◌, ◌||◌, ◌==◌, List, [], ◌∷◌, ◌++◌, filter, reverse, append-nil, refl, sym, ap, subst, arith}
+use Rattle.std.proofs.Common.{◌≡◌, ◌∙◌, ◌≤◌, ◌<◌, Bool, true, false, cond, not, ◌&&◌, ◌||◌, ◌==◌, List, [], ◌∷◌, ◌++◌, filter, reverse, append-nil, refl, sym, ap, subst, arith}
 use Rattle.std.proofs.lemmas.Bool.Decides.{nat_tests}
 use Rattle.std.proofs.lemmas.Grind.{reverse_onto}
 use Rattle.std.proofs.lemmas.List.{reverse-append}
 use Rattle.std.proofs.lemmas.List.Elements.{filter-append}
-use Rattle.std.specs.List.{list_any}
 use Rattle.flat_base.specs.declared.ids.Actor.{Actor}
 use Rattle.flat_base.specs.declared.ids.Actor.TheVariants.{Display, Session, Probe}
 use Rattle.flat_base.specs.declared.ids.SessionNo.{SessionNo}
@@ -14,13 +13,12 @@ use Rattle.flat_scene.specs.declared.journal.Entry.{Entry}
 use Rattle.flat_scene.specs.declared.journal.Kind.{Kind}
 use Rattle.flat_scene.specs.declared.journal.Kind.TheVariants.{Close, Begin, Finish}
 use Rattle.flat_scene.specs.declared.setup.Setup.{Setup}
-use Rattle.flat_scene.specs.Draft.{Draft}
-use Rattle.flat_scene.specs.History.{◌▹◌, own, is_session, is_display, is_closed, is_begin, is_finish, is_end, seat_number, history_of}
+use Rattle.flat_scene.specs.History.{◌▹◌, own, is_session, is_display, is_begin, is_finish, seat_number, history_of}
 use Rattle.flat_scene.specs.Setups.{is_declared}
 use Rattle.flat_scene.proofs.Steps.{own-kept}
 use Rattle.flat_rules.specs.Ends.{to_begin}
-use Rattle.flat_rules.specs.Legal.{Legal, goes_on, has_draft, draft_with, is_frame_open, begin_time, time_of, may_act, session_may}
-use Rattle.flat_rules.specs.Seats.{of_seat, of_display, AreTold, SeatsTellActors, KnowsItself, SessionsKnowThemselves, KnowsFrames, DisplayKnowsFrames, BeginStays, JournalsKeepSeats, BeginIsSeen}
+use Rattle.flat_rules.specs.Legal.{Legal, has_draft, time_of, may_act, session_may}
+use Rattle.flat_rules.specs.Seats.{of_display, SeatsTellActors, SessionsKnowThemselves, KnowsFrames, DisplayKnowsFrames, BeginStays, JournalsKeepSeats, BeginIsSeen}
 
 and-left : (a b : Bool) → (a && b) ≡ true → a ≡ true
 and-left true b both = refl

@@ -22,7 +22,7 @@ use Rattle.flat_rules.specs.Seats.{of_seat, of_display}
 use Rattle.flat_rules.specs.Watch.{layout_of}
 use Rattle.flat_rules.proofs.MoreRuns.{layout_before_first_present-setup as shop, layout_before_first_present-history as whole}
 use Rattle.flat_rules.proofs.Runs.{one_fill_one_frame-setup as home, one_fill_one_frame-history as run}
-use Rattle.flat_rules.proofs.Samples.{s, p, c, by, present, layout}
+use Rattle.flat_rules.proofs.Samples.{s, p, c, by, layout}
 
 -- ---- seats
 

@@ -1,17 +1,22 @@
 -- When a get is answered: by the first value told from the get on that is there and differs from the watcher's last answer.
-use Rattle.std.specs.Prelude.{◌≡◌, Bool, true, false, cond, ◌||◌, List, [], ◌++◌, Option, Some, None, is_some}
+use Rattle.std.specs.Prelude.{◌≡◌, Bool, true, false, cond, ◌||◌, List, [], ◌∷◌, ◌++◌, Option, Some, None, is_some}
+use Rattle.std.specs.List.{Contains}
 use Rattle.flat_base.specs.declared.errors.FlatlandError.TheVariants.{BadHangingGet}
+use Rattle.flat_base.specs.declared.ids.Actor.TheVariants.{Session}
 use Rattle.flat_base.specs.declared.ids.PairNo.{PairNo}
+use Rattle.flat_base.specs.declared.ids.SessionNo.{SessionNo}
 use Rattle.flat_scene.specs.declared.calls.Watch.{Watch}
 use Rattle.flat_scene.specs.declared.journal.Entry.{Entry}
+use Rattle.flat_scene.specs.declared.journal.Event.{Event}
 use Rattle.flat_scene.specs.declared.journal.Reply.TheVariants.{Closed}
 use Rattle.flat_scene.specs.declared.journal.Told.{Told}
 use Rattle.flat_scene.specs.declared.setup.Setup.{Setup}
-use Rattle.flat_scene.specs.History.{◌▹◌}
+use Rattle.flat_scene.specs.History.{◌▹◌, is_closed}
 use Rattle.flat_rules.specs.Legal.{Legal, got}
-use Rattle.flat_rules.specs.Posts.{told_event, event_of}
+use Rattle.flat_rules.specs.Local.{pair_watched}
+use Rattle.flat_rules.specs.Posts.{told_event, event_of, events_to}
 use Rattle.flat_rules.specs.Watch.{Watcher, watching, told, asked, listener, is_open}
-use Rattle.flat_watch.specs.Told.{Watching, news, or_else, answered_by}
+use Rattle.flat_watch.specs.Told.{news, or_else, answered_by}
 
 module _ (setup : Setup) where
   -- the first value told that is there and differs from the last answer: after a history, or after one of the entries that are put onto it
@@ -61,3 +66,9 @@ UnaskedStays = (setup : Setup) (watcher : Watcher) (from later : List Entry) →
 
 abbrev pub NothingIsAnsweredAtFirst : Type 0
 NothingIsAnsweredAtFirst = (setup : Setup) (watcher : Watcher) → watching setup watcher [] ≡ record { last = None; waits = None }
+
+-- what a watcher answers to a held get at an entry is one of the events that the entry posts to its listener, if that is open then
+abbrev pub AnswersArePosted : Type 0
+AnswersArePosted = (setup : Setup) (before : List Entry) (entry : Entry) → Legal setup before
+    → (watcher : Watcher) (s : SessionNo) → listener setup watcher ≡ Some (Session s) → is_closed s (before ▹ entry) ≡ false
+    → (event : Event) → told_event setup (pair_watched watcher) watcher before entry ≡ event ∷ [] → Contains (events_to setup before entry s) event

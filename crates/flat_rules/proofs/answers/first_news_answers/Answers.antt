@@ -1,3 +1,4 @@
+use Rattle.flat_rules.proofs.AnswersPosted.{answers-are-posted}
 use Rattle.flat_rules.proofs.FirstNewsLemmas.{first-news-answers, second-get-is-refused, unasked-stays, nothing-is-answered-at-first}
 use Rattle.flat_rules.proofs.answers.first_news_answers.Goals as goal
 
@@ -12,3 +13,6 @@ returns-clause-unasked c = unasked-stays
 
 pub returns-clause-first : goal.returns-clause-first
 returns-clause-first c = nothing-is-answered-at-first
+
+pub returns-clause-posted : goal.returns-clause-posted
+returns-clause-posted c = answers-are-posted
