@@ -1,3 +1,4 @@
+pub mod Alone
 pub mod Backs
 pub mod BeginLoop
 pub mod BeginSteps
