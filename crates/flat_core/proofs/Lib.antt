@@ -30,6 +30,7 @@ pub mod GetOwners
 pub mod GetPosts
 pub mod GetSteps
 pub mod HasView
+pub mod JournalExamples
 pub mod LiveCounts
 pub mod LiveSteps
 pub mod Lives
