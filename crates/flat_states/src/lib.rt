@@ -16,6 +16,7 @@ pub mod log;
 pub mod pairs;
 pub mod state;
 pub mod ties;
+mod ties_tell;
 pub mod told;
 mod usage;
 pub mod viewports;
