@@ -18,7 +18,7 @@ use Rattle.flat_scene.specs.Frames.{sessions_to}
 use Rattle.flat_scene.specs.History.{◌▹◌, own, is_end, closes, calls}
 use Rattle.flat_scene.specs.Interleave.{Next, IsNext, next_of, next_from, session_lines, display_lines, Follows, IsReading}
 use Rattle.flat_scene.specs.Setups.{is_declared}
-use Rattle.flat_core.specs.Boards.{Machine, HasShare, MayCall, entered, entry_of, made}
+use Rattle.flat_core.specs.Machines.{Machine, HasShare, MayCall, entered, entry_of, made}
 use Rattle.flat_report.specs.Handed.{answers_of}
 use Rattle.flat_report.specs.Report.{finished}
 use Rattle.flat_script.specs.declared.script.Script.{Script}

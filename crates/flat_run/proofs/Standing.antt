@@ -21,7 +21,7 @@ use Rattle.flat_scene.specs.Effect.{draft_of}
 use Rattle.flat_scene.specs.History.{◌▹◌, own, is_end, calls, carried, closes}
 use Rattle.flat_scene.specs.Interleave.{Next, next_of, next_from, next_or, session_lines, Follows, entry_of_line, entry_of_call, calls_of_line, after_line, unread_lines, or_close}
 use Rattle.flat_scene.specs.Tree.{tree}
-use Rattle.flat_core.specs.Boards.{Machine, MayCall, HasShare, entry_of}
+use Rattle.flat_core.specs.Machines.{Machine, MayCall, HasShare, entry_of}
 use Rattle.flat_rules.specs.Legal.{reply_to}
 use Rattle.flat_draft.specs.Stands.{StandsFor}
 use Rattle.flat_draft.specs.State.{DraftState}

@@ -8,7 +8,7 @@ use Rattle.flat_scene.specs.declared.journal.Kind.TheVariants.{End}
 use Rattle.flat_scene.specs.declared.script.ScriptLine.{ScriptLine}
 use Rattle.flat_scene.specs.History.{◌▹◌, own, is_session, is_end, closes, seat_number}
 use Rattle.flat_scene.specs.Interleave.{session_lines, session_line, last_line, next_from, Next, Follows}
-use Rattle.flat_core.specs.Boards.{made}
+use Rattle.flat_core.specs.Machines.{made}
 use Rattle.flat_script.specs.declared.script.Script.{Script}
 use Rattle.flat_run.specs.declared.player.Player.{Player}
 use Rattle.flat_playable.specs.Playable.{rise_from, is_played, is_playable}

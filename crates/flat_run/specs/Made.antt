@@ -8,7 +8,7 @@ use Rattle.flat_scene.specs.declared.calls.Call.{Call}
 use Rattle.flat_scene.specs.declared.calls.Call.TheVariants.{CreateView, CreateViewport}
 use Rattle.flat_scene.specs.declared.journal.Kind.{Kind}
 use Rattle.flat_scene.specs.declared.journal.Kind.TheVariants as kind
-use Rattle.flat_core.specs.Boards.{Machine, present_of}
+use Rattle.flat_core.specs.Machines.{Machine, present_of}
 use Rattle.flat_rules.specs.Shown.{tree_of}
 use Rattle.flat_rules.specs.Watch.{watcher_of}
 use Rattle.flat_core.specs.Watchers.{watcher_meant}

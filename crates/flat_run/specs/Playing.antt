@@ -31,7 +31,7 @@ use Rattle.flat_scene.specs.Interleave.{next_of, next_from, session_lines, displ
 use Rattle.flat_scene.specs.Misuse.{misuse, first_reason}
 use Rattle.flat_scene.specs.Tree.{present_tests, tree}
 use Rattle.flat_scene.specs.Setups.{is_declared}
-use Rattle.flat_core.specs.Boards.{Machine, entered, made}
+use Rattle.flat_core.specs.Machines.{Machine, entered, made}
 use Rattle.flat_rules.specs.Ends.{to_begin, to_finished, has_view}
 use Rattle.flat_rules.specs.Legal.{is_frame_open, begin_time, frames}
 use Rattle.flat_rules.specs.Shown.{shown_states}

@@ -1,6 +1,6 @@
 ghost use Rattle.std.specs.Prelude.{◌≡◌, IfOk};
 ghost use Rattle.flat_base.specs.declared.ids.Actor.TheVariants.{Session};
-ghost use Rattle.flat_core.specs.Boards.{MayCall, entered};
+ghost use Rattle.flat_core.specs.Machines.{MayCall, entered};
 ghost use Rattle.flat_rules.specs.Legal.{reply_to};
 
 use flat_base::{Actor, FenceNo, NoMemory, PairNo, Reason, SessionNo};

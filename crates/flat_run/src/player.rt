@@ -7,7 +7,7 @@ ghost use Rattle.flat_scene.specs.Draft as scene;
 ghost use Rattle.flat_scene.specs.History.{closes};
 ghost use Rattle.flat_scene.specs.Interleave.{entry_of_call, entry_of_line};
 ghost use Rattle.flat_draft.specs.Stands.{StandsFor};
-ghost use Rattle.flat_core.specs.Boards.{HasShare};
+ghost use Rattle.flat_core.specs.Machines.{HasShare};
 ghost use Rattle.flat_run.specs.Made.{kind_of, IsMadeBy};
 ghost use Rattle.flat_playable.specs.Playable.{is_playable};
 ghost use Rattle.flat_run.specs.Playing.{Judges, HasDraft, LeavesDraft, PlayerStands, Grows};

@@ -6,7 +6,7 @@ ghost use Rattle.flat_scene.specs.Draft as scene;
 ghost use Rattle.flat_scene.specs.Effect.{effect};
 ghost use Rattle.flat_scene.specs.History.{closes, own};
 ghost use Rattle.flat_scene.specs.Misuse.{misuse};
-ghost use Rattle.flat_core.specs.Boards.{HasShare, entered};
+ghost use Rattle.flat_core.specs.Machines.{HasShare, entered};
 ghost use Rattle.flat_scene.specs.declared.journal.Kind.TheVariants.{End};
 ghost use Rattle.flat_scene.specs.declared.journal.Reply.TheVariants.{Done};
 ghost use Rattle.flat_draft.specs.Answers.{has_room_for, uses_an_end};

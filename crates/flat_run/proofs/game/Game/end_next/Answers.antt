@@ -4,7 +4,7 @@ use Rattle.flat_base.specs.declared.ids.SessionNo.{SessionNo}
 use Rattle.flat_scene.specs.declared.calls.Call.{Call}
 use Rattle.flat_scene.specs.declared.journal.Kind.TheVariants.{End}
 use Rattle.flat_scene.specs.declared.journal.Reply.{Reply}
-use Rattle.flat_core.specs.Boards.{MayCall, entered}
+use Rattle.flat_core.specs.Machines.{MayCall, entered}
 use Rattle.flat_script.specs.declared.script.Script.{Script}
 use Rattle.flat_run.specs.declared.game.Game.{Game}
 use Rattle.flat_run.specs.declared.player.Player.{Player}

@@ -4,7 +4,7 @@ use Rattle.flat_scene.specs.declared.calls.Call.{Call}
 use Rattle.flat_scene.specs.declared.journal.Entry.{Entry}
 use Rattle.flat_scene.specs.Draft.{Draft}
 use Rattle.flat_scene.specs.History.{◌▹◌, closes}
-use Rattle.flat_core.specs.Boards.{Machine, MayCall, entry_of}
+use Rattle.flat_core.specs.Machines.{Machine, MayCall, entry_of}
 use Rattle.flat_rules.specs.Legal.{reply_to}
 use Rattle.flat_draft.specs.Stands.{StandsFor}
 use Rattle.flat_run.specs.declared.made.Made.{Made}
