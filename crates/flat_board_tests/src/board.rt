@@ -24,7 +24,7 @@ fn a_frame_and_a_poll(rt: HostRuntime) -> Result<(), Fail> {
     let mut shown = Shown::new(alloc, 1)?;
     let mut board = Board::open(alloc, setup, shares)?;
     let begun = board.begin(1, 5, &mut shown).0;
-    let done = board.done(2, &shown).0;
+    let done = board.done(2).0;
     assert!(rt; begun == 1 && done == 1);
     let mut events = EventList::new(alloc);
     let polled = board.poll(SessionNo(1), 3, CallList::new(alloc), &mut events);

@@ -3,7 +3,7 @@ use Rattle.std.proofs.Common.{◌≡◌, true, false, ◌∷◌, [], drop, refl,
 use Rattle.flat_scene.specs.declared.calls.Call.TheVariants as call
 use Rattle.flat_states.specs.Clears.{clears_pair}
 use Rattle.flat_rules.specs.Ends.{clears_viewport, happens, to_finished}
-use Rattle.flat_states.specs.Following.{capped, sight_of}
+use Rattle.flat_states.specs.Following.{capped, props_pending, sight_of}
 use Rattle.flat_rules.specs.Serials.{contents_made}
 use Rattle.flat_rules.specs.Stamps.{first_at}
 use Rattle.flat_states.specs.Usage.{props_among}
@@ -26,6 +26,10 @@ shell-contents = refl
 
 bar-seen : props_seen shell_with_two_apps-setup (p 2) 1 (s 1) shell_with_two_apps-history ≡ Some (record { w = 1280; h = 40; inset = no_inset })
 bar-seen = refl
+
+-- and no frame that is begun would change that
+bar-pending : props_pending shell_with_two_apps-setup (p 2) 1 (s 1) shell_with_two_apps-history ≡ Some (record { w = 1280; h = 40; inset = no_inset })
+bar-pending = refl
 
 -- nothing was cleared, and no view ended
 no-stamps : first_at (happens shell_with_two_apps-setup (clears_viewport (p 1))) (s 1) shell_with_two_apps-history ≡ None

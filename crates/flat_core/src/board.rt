@@ -517,15 +517,14 @@ impl Board {
         FrameNo(frames + 1)
     }
 
-    /// Ends the open frame, of which this is shown, and answers its number. The
-    /// release fences of what it lets go are signalled. It takes no memory.
-    pub fn done(&mut self, line: u32, shown: &Shown) -> FrameNo
-        requires may { MayCall self.old Display [] Finish }
-        requires shown { shown.now ≡ shown_states self.old.setup (to_begin self.old.history) }
+    /// Ends the open frame, and answers its number. The release fences of what it
+    /// lets go are signalled. It takes no memory.
+    pub fn done(&mut self, line: u32) -> FrameNo
+        requires { MayCall self.old Display [] Finish }
         ensures entry { self.new ≡ entered self.old Display line [] Finish Done }
         ensures frame { result.0 ≡ frames self.new.history }
     {
-        self.ties.finish(&self.setup, shown);
+        self.ties.finish(&self.setup);
         let telling = Telling {
             setup: &self.setup,
             ties: &self.ties,

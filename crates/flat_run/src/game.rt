@@ -103,7 +103,7 @@ impl Game {
         requires views { HasViews self.old.board.setup self.old.with_view }
         ensures { OnOk result (FinishesFrame self.old self.new number) }
     {
-        let done = self.board.done(number, &self.shown);
+        let done = self.board.done(number);
         let Composed { frame, joined } = self.compose(alloc, done.0)?;
         self.frames.push(frame)?;
         self.last = LastFrame {

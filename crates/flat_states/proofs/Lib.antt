@@ -36,6 +36,7 @@ pub mod Steps
 pub mod TiedOwn
 pub mod TiesBegin
 pub mod TiesFinish
+pub mod TiesSees
 pub mod TiesSteps
 pub mod TokenLaw
 pub mod TokensBack

@@ -23,7 +23,7 @@ abbrev pub new_following : Following
 new_following = record { view = None; contents = 0; begun = nothing; finished = nothing }
 
 abbrev pub new_pair : PairState
-new_pair = record { ended = None; uses = 0; cleared = None; serial = 0; given = None; seen = None }
+new_pair = record { ended = None; uses = 0; cleared = None; serial = 0; given = None; seen = None; pending = None }
 
 -- nobody shows a view where nothing is shown
 no-viewer : (f : SessionNo → Option Tree) → ((s : SessionNo) → f s ≡ None) → (n p : ℕ) (xs : List SessionNo) → viewer_from n (map f xs) p ≡ None
@@ -61,6 +61,7 @@ new-kept setup i = record {
   unused = λ none. refl;
   given = refl;
   seen = λ v owner. refl;
+  pending = λ v owner. refl;
 }
 
 pub new-tied : (setup : Setup) (followings : List Following) (pairs : List PairState) (n : ℕ) → followings ≡ replicate setup.sessions new_following → pairs ≡ replicate n new_pair → n ≡ length setup.pairs → AreTied setup [] followings pairs

@@ -12,16 +12,16 @@ use Rattle.flat_scene.specs.declared.journal.Kind.{Kind}
 use Rattle.flat_scene.specs.declared.journal.Kind.TheVariants.{End}
 use Rattle.flat_scene.specs.declared.journal.Reply.{Reply}
 use Rattle.flat_scene.specs.declared.setup.Setup.{Setup}
-use Rattle.flat_scene.specs.History.{◌▹◌, own, calls, closes, is_closed, is_end, is_finish, is_session, presents, published, Published}
+use Rattle.flat_scene.specs.History.{◌▹◌, own, calls, closes, is_begin, is_closed, is_end, is_finish, is_session, presents, published, Published}
 use Rattle.flat_scene.proofs.Steps.{presents-own}
 use Rattle.flat_states.specs.declared.pairs.PairState.{PairState}
 use Rattle.flat_rules.specs.Ends.{clears_viewport, ends_view, happens, is_done, uses_viewport, viewport_owner, viewport_uses}
-use Rattle.flat_states.specs.Following.{IsPairKept, IsSerialKept}
+use Rattle.flat_states.specs.Following.{IsPairKept, IsSerialKept, props_pending}
 use Rattle.flat_rules.specs.Legal.{Legal, goes_on}
 use Rattle.flat_rules.specs.Serials.{IsUseSerial}
 use Rattle.flat_rules.specs.Stamps.{IsStamp, is_seen}
 use Rattle.flat_rules.specs.Watch.{props_given, props_seen}
-use Rattle.flat_states.proofs.PairSteps.{owner-owns}
+use Rattle.flat_states.proofs.PairSteps.{owner-owns, pending-step}
 use Rattle.flat_states.proofs.SerialSteps.{Has, serial-other}
 use Rattle.flat_states.proofs.StampSteps.{other-stamp}
 use Rattle.flat_states.proofs.Stamped.{IsLasting, happening-lasts}
@@ -83,12 +83,13 @@ module _ (setup : Setup) (h : List Entry) (e : Entry) (legal : Legal setup (h �
             opened = λ o. let wrong : true ≡ false = sym (shut-stays v h e (shut v mine)) ∙ o in cc;
           }
 
-  -- all but what frames have seen of the last use, where none was made
+  -- all but what frames have seen of the last use or will have seen, where none was made
   pub pair-still : (p : PairNo) → (uses_viewport p e.kind && is_done e.reply) ≡ false → (state new : PairState)
       → new.uses ≡ state.uses → new.ended ≡ state.ended → new.cleared ≡ state.cleared → new.serial ≡ state.serial → new.given ≡ state.given
       → ((v : SessionNo) → viewport_owner setup p ≡ Some (Session v) → new.seen ≡ props_seen setup p (length (viewport_uses p h)) v (h ▹ e))
+      → ((v : SessionNo) → viewport_owner setup p ≡ Some (Session v) → new.pending ≡ props_pending setup p (length (viewport_uses p h)) v (h ▹ e))
       → IsPairKept setup h p state → IsPairKept setup (h ▹ e) p new
-  pair-still p no_use state new uses ended cleared serial given seen kept = record {
+  pair-still p no_use state new uses ended cleared serial given seen pending kept = record {
     uses = uses ∙ kept.uses ∙ ap (length {A = Entry}) (sym same);
     ended = λ w owner. subst (IsStamp (happens setup (ends_view p)) w (h ▹ e)) (sym ended) (idle-stamp (happens setup (ends_view p)) (happening-lasts setup (ends_view p)) w state.ended (kept.ended w owner));
     cleared = λ v owner. subst (IsStamp (happens setup (clears_viewport p)) v (h ▹ e)) (sym cleared) (idle-stamp (happens setup (clears_viewport p)) (happening-lasts setup (clears_viewport p)) v state.cleared (kept.cleared v owner));
@@ -96,12 +97,14 @@ module _ (setup : Setup) (h : List Entry) (e : Entry) (legal : Legal setup (h �
     unused = λ none. serial ∙ kept.unused (ap (length {A = Entry}) (sym same) ∙ none);
     given = given ∙ kept.given ∙ ap (props_given setup) (sym same);
     seen = λ v owner. seen v owner ∙ ap (λ (us : List Entry). props_seen setup p (length us) v (h ▹ e)) (sym same);
+    pending = λ v owner. pending v owner ∙ ap (λ (us : List Entry). props_pending setup p (length us) v (h ▹ e)) (sym same);
   }
     where
       same : viewport_uses p (h ▹ e) ≡ viewport_uses p h
       same = rw no_use refl
 
-  -- an entry that ends no frame either
-  pub pair-idle : (p : PairNo) → (uses_viewport p e.kind && is_done e.reply) ≡ false → is_finish e.kind ≡ false → (state : PairState) → IsPairKept setup h p state → IsPairKept setup (h ▹ e) p state
-  pair-idle p no_use no_finish state kept =
-      pair-still p no_use state state refl refl refl refl refl (λ v owner. kept.seen v owner ∙ sym (rw no_finish refl)) kept
+  -- an entry of no frame
+  pub pair-idle : (p : PairNo) → (uses_viewport p e.kind && is_done e.reply) ≡ false → is_begin e.kind ≡ false → is_finish e.kind ≡ false → (state : PairState) → IsPairKept setup h p state → IsPairKept setup (h ▹ e) p state
+  pair-idle p no_use no_begin no_finish state kept =
+      pair-still p no_use state state refl refl refl refl refl (λ v owner. kept.seen v owner ∙ sym (rw no_finish refl))
+      (λ v owner. kept.pending v owner ∙ sym (pending-step setup p (length (viewport_uses p h)) v h e no_begin no_finish)) kept

@@ -19,7 +19,7 @@ use Rattle.flat_states.specs.declared.live.Live.{Live}
 use Rattle.flat_states.specs.declared.pairs.PairState.{PairState}
 use Rattle.flat_states.specs.Clears.{clears_pair, cleared_if}
 use Rattle.flat_rules.specs.Ends.{clears_viewport, ends_view, happens, is_done, uses_viewport, view_owner, viewport_owner, viewport_uses}
-use Rattle.flat_states.specs.Following.{IsOwnEntry, IsPairKept, IsSerialKept, pair}
+use Rattle.flat_states.specs.Following.{IsOwnEntry, IsPairKept, IsSerialKept, pair, props_pending}
 use Rattle.flat_rules.specs.Legal.{Legal, all_but_last, is_link, links_alone, may_act, owns_in_call, owns_view, owns_viewport, session_may}
 use Rattle.flat_states.specs.Lives.{clears_live, count_of}
 use Rattle.flat_rules.specs.Serials.{IsUseSerial}
@@ -160,6 +160,10 @@ module _ (setup : Setup) (s : SessionNo) (h : List Entry) (e : Entry) (carries :
           let opened : is_closed v h ≡ false = ap (λ (t : SessionNo). is_closed t h) (one-session s v e.actor entry.mine theirs) ∙ entry.opened in
           serial-own setup v p (owner-owns setup v p owner) h e entry.legal theirs closing opened same old.serial old.tells
 
+-- an entry of no frame leaves what is pending as it is
+pub pending-step : (setup : Setup) (p : PairNo) (n : ℕ) (v : SessionNo) (h : List Entry) (e : Entry) → is_begin e.kind ≡ false → is_finish e.kind ≡ false → props_pending setup p n v (h ▹ e) ≡ props_pending setup p n v h
+pending-step setup p n v h e no_begin no_finish = rw (no_begin, no_finish) refl
+
 -- its own entry that doesn't use the pair's viewport end
 pub pair-own : (setup : Setup) (s : SessionNo) (h : List Entry) (e : Entry) (carries : List Call) (made : ℕ) (live : List Live) → IsOwnEntry setup h e s carries made live
     → (view : Option PairNo) → view ≡ view_after None (calls s h) → (i : ℕ) → (uses_viewport (pair i) e.kind && is_done e.reply) ≡ false → (state : PairState) → IsPairKept setup h (pair i) state
@@ -172,6 +176,10 @@ pair-own setup s h e carries made live entry view is i no_use state kept = recor
   unused = λ none. kept.unused (ap (length {A = Entry}) (sym same) ∙ none);
   given = kept.given ∙ ap (props_given setup) (sym same);
   seen = λ v owner. kept.seen v owner ∙ seen-same v;
+  pending = λ v owner.
+      kept.pending v owner
+      ∙ sym (pending-step setup (pair i) (length (viewport_uses (pair i) h)) v h e (no-begin setup s h e entry.legal entry.mine) (no-finish setup s h e entry.legal entry.mine))
+      ∙ ap (λ (us : List Entry). props_pending setup (pair i) (length us) v (h ▹ e)) (sym same);
 }
   where
     same : viewport_uses (pair i) (h ▹ e) ≡ viewport_uses (pair i) h

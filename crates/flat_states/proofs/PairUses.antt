@@ -23,7 +23,8 @@ use Rattle.flat_states.specs.declared.live.Live.{Live}
 use Rattle.flat_states.specs.declared.pairs.PairState.{PairState}
 use Rattle.flat_states.specs.Clears.{clears_pair, cleared_if}
 use Rattle.flat_rules.specs.Ends.{is_done, live_props, props_of, serials_of, taken_calls, to_begin, uses_viewport, viewport_uses}
-use Rattle.flat_states.specs.Following.{IsOwnEntry, IsPairKept, capped, pair}
+use Rattle.flat_states.specs.Begins.{finished}
+use Rattle.flat_states.specs.Following.{IsOwnEntry, IsPairKept, capped, pair, props_pending}
 use Rattle.flat_rules.specs.Legal.{makes_viewport, owns_in_call, owns_all, owns_in_kind, owns_viewport, own_call}
 use Rattle.flat_states.specs.Lives.{made_of_pair}
 use Rattle.flat_rules.specs.Serials.{IsUseSerial, contents_made, serials_in}
@@ -34,7 +35,7 @@ use Rattle.flat_rules.specs.Watch.{props_at, props_given, props_seen}
 use Rattle.flat_watch.specs.Told.{or_else}
 use Rattle.flat_states.proofs.Earlier.{begin-earlier, calls-taken, taken-fits}
 use Rattle.flat_states.proofs.LiveCounts.{made-append}
-use Rattle.flat_states.proofs.PairSteps.{cleared-own, ended-own, no-finish, pair-own}
+use Rattle.flat_states.proofs.PairSteps.{cleared-own, ended-own, no-begin, no-finish, pair-own, pending-step}
 use Rattle.flat_states.proofs.SerialSteps.{made-begins, serial-new}
 use Rattle.flat_states.proofs.Serials.{draft-contents, serials-are, serials-count}
 use Rattle.flat_states.proofs.Uses.{uses-made, uses-few}
@@ -135,4 +136,10 @@ pair-used setup s h e carries made live entry small p props used serial counted 
               let before : props_seen setup (pair i) (length (viewport_uses (pair i) (h ▹ e))) v h ≡ None = unseen setup (pair i) v (length (viewport_uses (pair i) (h ▹ e))) h few in
               let step : props_seen setup (pair i) (length (viewport_uses (pair i) (h ▹ e))) v (h ▹ e) ≡ props_seen setup (pair i) (length (viewport_uses (pair i) (h ▹ e))) v h = rw quiet refl in
               sym (step ∙ before);
+          pending = λ v owner.
+              let same : v ≡ s = session-is s v (sym (ap (λ (o : Option Actor). unwrap_or (option_map (is_session s) o) false) owner) ∙ ours) in
+              let few : made_of_pair (pair i) (calls v h) < length (viewport_uses (pair i) (h ▹ e)) =
+              omega (arith, count, made_before, ap (λ (t : SessionNo). made_of_pair (pair i) (calls t h)) same) in
+              let before : props_pending setup (pair i) (length (viewport_uses (pair i) (h ▹ e))) v h ≡ None = unseen setup (pair i) v (length (viewport_uses (pair i) (h ▹ e))) (finished h 0) few in
+              sym (pending-step setup (pair i) (length (viewport_uses (pair i) (h ▹ e))) v h e (no-begin setup s h e entry.legal entry.mine) (no-finish setup s h e entry.legal entry.mine) ∙ before);
         }

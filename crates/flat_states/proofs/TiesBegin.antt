@@ -5,11 +5,10 @@ use Rattle.flat_scene.specs.declared.journal.Entry.{Entry}
 use Rattle.flat_scene.specs.declared.setup.Setup.{Setup}
 use Rattle.flat_scene.specs.declared.trees.Tree.{Tree}
 use Rattle.flat_states.specs.declared.following.Following.{Following}
-use Rattle.flat_states.specs.declared.pairs.PairState.{PairState}
 use Rattle.flat_states.specs.declared.state.SessionState.{SessionState}
 use Rattle.flat_states.specs.Begins.{begun, begin_entry}
 use Rattle.flat_rules.specs.Numbers.{number, AllNumbered}
-use Rattle.flat_states.specs.Following.{AreTied, IsBegun, IsFollowed, sight_of, pair, sight_of_state}
+use Rattle.flat_states.specs.Following.{IsBegun, IsFollowed, sight_of, sight_of_state}
 use Rattle.flat_states.specs.Kept.{IsKept, taken_in}
 use Rattle.flat_states.specs.Seen.{seen_of}
 use Rattle.flat_rules.specs.Shown.{shown, shown_states}
@@ -17,7 +16,6 @@ use Rattle.flat_states.proofs.BeginLoop.{all-below, none-below, not-below, same-
 use Rattle.flat_states.proofs.Changes.{changed-one}
 use Rattle.flat_states.proofs.Counts.{seen-count, taken-kept}
 use Rattle.flat_states.proofs.Followed.{followed-still}
-use Rattle.flat_states.proofs.PairIdle.{pair-idle}
 use Rattle.flat_rules.proofs.ShownList.{listed-at}
 use Rattle.flat_topology.specs.Join.{is_joined}
 use Rattle.flat_topology.specs.Shown.{Shown, state_of}
@@ -59,6 +57,10 @@ module _ (setup : Setup) (h : List Entry) (line time : ℕ) (states : List Sessi
       let connected : is_joined setup shows (number i).0 ≡ (sight_of setup (begun h line time) (number i)).connected = ap (λ (states : Shown). is_joined setup states (number i).0) begins.shown in
       rw (closed, took, view, connected) refl
 
+  pub sight-at : (i : ℕ) (state : SessionState) → i < setup.sessions → length states ≡ setup.sessions → state ≡ slice_index_or states i state → sight_of_state setup shows state (number i) ≡ sight_of setup (begun h line time) (number i)
+  sight-at i state below all at =
+      sight-is i state below (subst (IsKept setup (seen_of setup (begun h line time) (number i))) (sym at) (begins.kept i state (omega (arith, below, all))))
+
   -- one session more
   pub begun-on : (i : ℕ) (followings : List Following) (was : Following) (state : SessionState) → i < setup.sessions → length states ≡ setup.sessions → length followings ≡ setup.sessions → state ≡ slice_index_or states i state → was ≡ slice_index_or followings i was
       → AllNumbered (FollowedUpTo setup h (begun h line time) i) followings → AllNumbered (FollowedUpTo setup h (begun h line time) (i + 1)) (slice_set followings i (let new : Following = record was { begun = sight_of_state setup shows state (number i) } in new))
@@ -69,14 +71,3 @@ module _ (setup : Setup) (h : List Entry) (line time : ℕ) (states : List Sessi
       let now : IsFollowed setup (begun h line time) (number i) new =
       followed-still setup (number i) h (begin_entry line time) (λ mine. let wrong : false ≡ true = mine in cc) was new refl refl (sight-is i state below kept) old.finished old in
       followed-on setup h (begun h line time) i followings new each now
-
-  -- all of them
-  pub tied-begun : (old new : List Following) (pairs after : List PairState) → after ≡ pairs → length new ≡ setup.sessions → AllNumbered (FollowedUpTo setup h (begun h line time) setup.sessions) new → AreTied setup h old pairs → AreTied setup (begun h line time) new after
-  tied-begun old new pairs after same count each tied =
-      let here : AreTied setup (begun h line time) new pairs = record {
-        sessions = count;
-        count = tied.count;
-        each_session = followed-end setup h (begun h line time) setup.sessions new count each;
-        each_pair = λ i d below. pair-idle setup h (begin_entry line time) begins.legal (λ s mine. let wrong : false ≡ true = mine in cc) (pair i) refl refl (slice_index_or pairs i d) (tied.each_pair i d below);
-      } in
-      subst (AreTied setup (begun h line time) new) (sym same) here

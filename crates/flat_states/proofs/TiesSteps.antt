@@ -92,5 +92,5 @@ tied-idle setup h e idle followings pairs tied = record {
   sessions = tied.sessions;
   count = tied.count;
   each_session = λ i d below. followed-idle setup (number i) h e (idle.shut (number i)) idle.no_begin idle.no_finish (slice_index_or followings i d) (tied.each_session i d below);
-  each_pair = λ i d below. pair-idle setup h e idle.legal idle.shut (pair i) (idle.no_use (pair i)) idle.no_finish (slice_index_or pairs i d) (tied.each_pair i d below);
+  each_pair = λ i d below. pair-idle setup h e idle.legal idle.shut (pair i) (idle.no_use (pair i)) idle.no_begin idle.no_finish (slice_index_or pairs i d) (tied.each_pair i d below);
 }

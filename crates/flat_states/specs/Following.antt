@@ -1,9 +1,10 @@
 -- What is kept of sessions and of pairs, so that what the ends of a pair tell can be told at once.
-use Rattle.std.specs.Prelude.{◌≡◌, ℕ, ◌-◌, ◌^◌, ◌<◌, true, false, min, List, [], length, Some, None, ◌&&◌, option_and_then}
+use Rattle.std.specs.Prelude.{◌≡◌, ℕ, ◌-◌, ◌^◌, ◌<◌, true, false, min, List, [], length, Option, Some, None, ◌&&◌, option_and_then}
 use Rattle.flat_base.specs.declared.ids.Actor.TheVariants.{Session}
 use Rattle.flat_base.specs.declared.ids.PairNo.{PairNo}
 use Rattle.flat_base.specs.declared.ids.SessionNo.{SessionNo}
 use Rattle.flat_scene.specs.declared.calls.Call.{Call}
+use Rattle.flat_scene.specs.declared.calls.ViewportProps.{ViewportProps}
 use Rattle.flat_scene.specs.declared.journal.Entry.{Entry}
 use Rattle.flat_scene.specs.declared.setup.Setup.{Setup}
 use Rattle.flat_scene.specs.Frames.{taken}
@@ -54,6 +55,10 @@ pub record IsSerialKept (p : PairNo) (v : SessionNo) (history : List Entry) (kep
   pub is : kept ≡ capped serial
   pub tells : IsUseSerial p v history serial
 
+-- the properties of a use that frames will have seen last, once the frame begun last has ended
+abbrev pub props_pending : Setup → PairNo → ℕ → SessionNo → List Entry → Option ViewportProps
+props_pending setup p n s history = props_seen setup p n s (finished history 0)
+
 -- What is kept of a pair stands for what a history says of its ends.
 pub record IsPairKept (setup : Setup) (history : List Entry) (p : PairNo) (state : PairState) : Type 0 where
   pub uses : state.uses ≡ length (viewport_uses p history)
@@ -63,6 +68,7 @@ pub record IsPairKept (setup : Setup) (history : List Entry) (p : PairNo) (state
   pub unused : length (viewport_uses p history) ≡ 0 → state.serial ≡ 0
   pub given : state.given ≡ props_given setup (viewport_uses p history)
   pub seen : (v : SessionNo) → viewport_owner setup p ≡ Some (Session v) → state.seen ≡ props_seen setup p (length (viewport_uses p history)) v history
+  pub pending : (v : SessionNo) → viewport_owner setup p ≡ Some (Session v) → state.pending ≡ props_pending setup p (length (viewport_uses p history)) v history
 
 -- the pair at a place
 abbrev pub pair : ℕ → PairNo
@@ -110,11 +116,6 @@ pub record IsBegun (setup : Setup) (history : List Entry) (line time : ℕ) (sta
   pub legal : Legal setup (begun history line time)
   pub kept : AllNumbered (λ i. IsKept setup (seen_of setup (begun history line time) (number i))) states
   pub shown : shows ≡ shown_states setup (begun history line time)
-
--- A frame ends, of which this is shown.
-pub record IsFinished (setup : Setup) (history : List Entry) (line : ℕ) (shows : Shown) : Type 0 where
-  pub legal : Legal setup (finished history line)
-  pub shown : shows ≡ shown_states setup (to_begin history)
 
 -- What the begin of the last finished frame saw of a session, as far as it is told. A session that isn't declared shows nothing.
 pub record IsLastSight (setup : Setup) (history : List Entry) (s : SessionNo) (sight : Sight) : Type 0 where

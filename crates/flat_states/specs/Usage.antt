@@ -1,4 +1,4 @@
--- What a use of a viewport end, and a frame that had viewports, do to what is kept of pairs.
+-- What a use of a viewport end, a frame that begins with viewports, and its end do to what is kept of pairs.
 use Rattle.std.specs.Prelude.{◌≡◌, ◌<◌, ℕ, ◌+◌, ◌-◌, ◌^◌, min, Bool, cond, ◌&&◌, ◌==◌, List, [], ◌∷◌, length, Option, Some, None, slice_index_or, slice_set}
 use Rattle.flat_base.specs.declared.ids.PairNo.{PairNo}
 use Rattle.flat_base.specs.declared.ids.SessionNo.{SessionNo}
@@ -20,7 +20,7 @@ use Rattle.flat_watch.specs.Told.{or_else}
 
 -- a pair's state after a use with these properties, whose viewport has that serial
 abbrev pub used_by : ℕ → ViewportProps → PairState → PairState
-used_by serial props state = record state { uses = min (state.uses + 1) (2 ^ 32 - 1); serial = serial; given = Some props; seen = None }
+used_by serial props state = record state { uses = min (state.uses + 1) (2 ^ 32 - 1); serial = serial; given = Some props; seen = None; pending = None }
 
 -- The states of all pairs after a use of one.
 pub record UsesPair (p : PairNo) (serial : ℕ) (props : ViewportProps) (old new : List PairState) : Type 0 where
@@ -32,19 +32,28 @@ abbrev pub props_among : PairNo → List ViewportUse → ℕ → Option Viewport
 props_among p [] serial = None
 props_among p (one ∷ more) serial = or_else (props_among p more serial) (cond (one.pair.0 == p.0 && one.serial == serial) (Some one.props) None)
 
--- a pair's state with other properties seen
-abbrev pub with_seen : PairState → Option ViewportProps → PairState
-with_seen state props = record state { seen = props }
+-- a pair's state with other properties pending
+abbrev pub with_pending : PairState → Option ViewportProps → PairState
+with_pending state props = record state { pending = props }
 
--- The state of a pair after a finished frame had these viewports: what is seen of the last use changes where one of them has its serial.
+-- The state of a pair after a frame began with these viewports: what is pending of the last use changes where one of them has its serial.
 pub record SeesOne (p : PairNo) (uses : List ViewportUse) (old new : PairState) : Type 0 where
-  pub same : new ≡ with_seen old new.seen
-  pub seen : (n : ℕ) → old.serial ≡ capped n → new.seen ≡ or_else (props_among p uses n) old.seen
+  pub same : new ≡ with_pending old new.pending
+  pub pending : (n : ℕ) → old.serial ≡ capped n → new.pending ≡ or_else (props_among p uses n) old.pending
 
 -- The states of all pairs after that.
 pub record SeesUses (uses : List ViewportUse) (old new : List PairState) : Type 0 where
   pub count : length new ≡ length old
   pub each : (i : ℕ) (d : PairState) → i < length old → SeesOne (record { 0 = i }) uses (slice_index_or old i d) (slice_index_or new i d)
+
+-- a pair's state after a frame ended: what was pending is seen
+abbrev pub settled : PairState → PairState
+settled state = record state { seen = state.pending }
+
+-- The states of all pairs after that.
+pub record SettlesPairs (old new : List PairState) : Type 0 where
+  pub count : length new ≡ length old
+  pub each : (i : ℕ) (d : PairState) → i < length old → slice_index_or new i d ≡ settled (slice_index_or old i d)
 
 -- the viewports in use of a tree, if there is one
 abbrev pub uses_in : Option Tree → List ViewportUse

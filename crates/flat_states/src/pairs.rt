@@ -21,6 +21,8 @@ pub struct PairState {
     /// has seen them last.
     pub given: Option<ViewportProps>,
     pub seen: Option<ViewportProps>,
+    /// What will be seen of it once the frame begun last has ended.
+    pub pending: Option<ViewportProps>,
 }
 
 /// The view of a pair ends.

@@ -5,7 +5,8 @@ ghost use Rattle.flat_scene.specs.History.{◌▹◌};
 ghost use Rattle.flat_topology.specs.Fit.{FitsSetup};
 ghost use Rattle.flat_topology.specs.Shown.{state_of};
 ghost use Rattle.flat_states.specs.Begins.{begun, finished};
-ghost use Rattle.flat_states.specs.Following.{AreTied, IsBegun, IsFinished, IsOwnEntry, UsesNone, sight_of_state};
+ghost use Rattle.flat_states.specs.Following.{AreTied, IsBegun, IsOwnEntry, UsesNone, sight_of_state};
+ghost use Rattle.flat_rules.specs.Legal.{Legal};
 ghost use Rattle.flat_states.specs.Usage.{IsUse, NotesCalls, SeesUses, uses_if};
 
 use crate::clears::note_clears;
@@ -13,7 +14,7 @@ use crate::following::{Following, Sight};
 use crate::live::Live;
 use crate::pairs::{PairState, note_views};
 use crate::state::SessionState;
-use crate::usage::{count_contents, see_uses, use_pair};
+use crate::usage::{count_contents, see_uses, settle_pairs, use_pair};
 use flat_base::{NoMemory, PairNo, SessionNo};
 use flat_scene::{Call, Setup, ViewportProps};
 use flat_topology::Shown;
@@ -41,6 +42,7 @@ const NEW_PAIR: PairState = PairState {
     serial: 0,
     given: None,
     seen: None,
+    pending: None,
 };
 
 /// What the begin of a frame sees of a session.
@@ -63,7 +65,7 @@ fn see_session(setup: &Setup, shown: &Shown, state: &SessionState, s: SessionNo)
     }
 }
 
-/// A finished frame had what is shown of a session, if it took something from it.
+/// A frame that begins has what is shown of a session, if it took something from it.
 fn see_taken(pairs: &mut Vec<PairState>, shown: &Shown, s: SessionNo, took: bool)
     requires some { 0 < s.0 }
     requires few { s.0 ≤ length shown.now }
@@ -131,7 +133,8 @@ impl Ties {
     }
 
     /// Notes the begin of a frame, after it took what it takes: what it sees of each
-    /// session. It takes no memory.
+    /// session, and of the viewports of those sessions from which it took something.
+    /// It takes no memory.
     pub fn begin(&mut self, setup: &Setup, sessions: &[SessionState], shown: &Shown)
         requires count { length self.old.followings.items ≡ setup.now.sessions }
         requires all { length sessions.now ≡ setup.now.sessions }
@@ -143,27 +146,28 @@ impl Ties {
         ensures tied { (h : List Entry) (line time : ℕ) → IsBegun setup.now h line time sessions.now shown.now → AreTied setup.now h self.old.followings.items self.old.pairs.items → AreTied setup.now (begun h line time) self.new.followings.items self.new.pairs.items }
     {
         for i in 0..setup.sessions {
-            let state = &sessions[i as usize];
-            self.followings[i as usize].begun = see_session(setup, shown, state, SessionNo(i + 1));
+            let s = SessionNo(i + 1);
+            let sight = see_session(setup, shown, &sessions[i as usize], s);
+            let one = &mut self.followings[i as usize];
+            let took = one.begun.taken < sight.taken;
+            one.begun = sight;
+            see_taken(&mut self.pairs, shown, s, took);
         }
     }
 
-    /// Notes the end of a frame, which had this shown: what its begin saw is that of
-    /// the last finished frame from now on. It looks at what is shown of those
-    /// sessions from which the frame took something. It takes no memory.
-    pub fn finish(&mut self, setup: &Setup, shown: &Shown)
-        requires count { length self.old.followings.items ≡ setup.now.sessions }
-        requires shown { length shown.now ≡ setup.now.sessions }
+    /// Notes the end of a frame: what its begin saw is that of the last finished
+    /// frame from now on. It takes no memory.
+    pub fn finish(&mut self, setup: &Setup)
+        requires { length self.old.followings.items ≡ setup.now.sessions }
         ensures sessions { length self.new.followings.items ≡ length self.old.followings.items }
         ensures count { length self.new.pairs.items ≡ length self.old.pairs.items }
-        ensures tied { (h : List Entry) (line : ℕ) → IsFinished setup.now h line shown.now → AreTied setup.now h self.old.followings.items self.old.pairs.items → AreTied setup.now (finished h line) self.new.followings.items self.new.pairs.items }
+        ensures tied { (h : List Entry) (line : ℕ) → Legal setup.now (finished h line) → AreTied setup.now h self.old.followings.items self.old.pairs.items → AreTied setup.now (finished h line) self.new.followings.items self.new.pairs.items }
     {
         for i in 0..setup.sessions {
             let one = &mut self.followings[i as usize];
-            let took = one.finished.taken < one.begun.taken;
             one.finished = one.begun;
-            see_taken(&mut self.pairs, shown, SessionNo(i + 1), took);
         }
+        settle_pairs(&mut self.pairs);
     }
 
     /// The same but for uses. Answers how many contents the session's calls made.

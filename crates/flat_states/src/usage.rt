@@ -1,7 +1,7 @@
 ghost use Rattle.std.specs.Prelude.{◌≡◌, ℕ, ◌+◌, Some, [], ◌∷◌, length};
 ghost use Rattle.flat_states.specs.Following.{capped};
 ghost use Rattle.flat_rules.specs.Serials.{makes_content, contents_made};
-ghost use Rattle.flat_states.specs.Usage.{UsesPair, SeesUses};
+ghost use Rattle.flat_states.specs.Usage.{SettlesPairs, UsesPair, SeesUses};
 
 use crate::pairs::PairState;
 use flat_base::PairNo;
@@ -44,11 +44,12 @@ pub fn use_pair(pairs: &mut Vec<PairState>, p: PairNo, serial: u64, props: Viewp
             serial,
             given: Some(props),
             seen: None,
+            pending: None,
         };
     }
 }
 
-/// A finished frame had this viewport.
+/// A frame that begins has this viewport.
 fn see_use(pairs: &mut Vec<PairState>, one: &ViewportUse)
     ensures { SeesUses (one.now ∷ []) pairs.old.items pairs.new.items }
 {
@@ -56,16 +57,26 @@ fn see_use(pairs: &mut Vec<PairState>, one: &ViewportUse)
     if place < pairs.len() {
         let serial = one.serial as u64;
         if pairs[place].serial == serial {
-            pairs[place].seen = Some(one.props);
+            pairs[place].pending = Some(one.props);
         }
     }
 }
 
-/// A finished frame had these viewports.
+/// A frame that begins has these viewports.
 pub fn see_uses(pairs: &mut Vec<PairState>, uses: &[ViewportUse])
     ensures { SeesUses uses.now pairs.old.items pairs.new.items }
 {
     for one in uses {
         see_use(pairs, one);
+    }
+}
+
+/// The frame begun last ends: what was pending is seen.
+pub fn settle_pairs(pairs: &mut Vec<PairState>)
+    ensures { SettlesPairs pairs.old.items pairs.new.items }
+{
+    for place in 0..pairs.len() {
+        let state = &mut pairs[place];
+        state.seen = state.pending;
     }
 }

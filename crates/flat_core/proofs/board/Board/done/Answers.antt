@@ -1,4 +1,4 @@
-use Rattle.std.proofs.Common.{◌≡◌, List, [], length, ◌+◌, ◌<◌, ◌^◌, refl, ◌∙◌, ap, arith}
+use Rattle.std.proofs.Common.{◌≡◌, List, [], ◌+◌, ◌<◌, ◌^◌, refl, ◌∙◌, ap, arith}
 use Rattle.flat_base.specs.declared.ids.Actor.TheVariants.{Display}
 use Rattle.flat_scene.specs.declared.calls.Call.{Call}
 use Rattle.flat_scene.specs.declared.journal.Kind.TheVariants.{Finish}
@@ -11,43 +11,36 @@ use Rattle.flat_rules.specs.Legal.{Legal}
 use Rattle.flat_states.proofs.Steps.{has-room, legal-entered, short-history}
 use Rattle.flat_gets.proofs.BoardBegins.{kept-finished, place-small}
 use Rattle.flat_core.proofs.board.Board.done.Goals as goal
-use Rattle.flat_rules.proofs.ShownList.{length-listed}
 
 pub done_all-count-requires-clause-place : goal.done_all-count-requires-clause-place
 done_all-count-requires-clause-place c =
-    let may = rw (← c.self.view_is) at c.requires.may in
+    let may = rw (← c.self.view_is) at c.requires in
     let short = short-history _ _ _ _ may c.self.invariant.0.legal _ _ _ refl c.self.invariant.1 in
     omega (arith, short)
 
-pub finish-requires-clause-shown : goal.finish-requires-clause-shown
-finish-requires-clause-shown c =
-    let shown = rw (← c.self.view_is) at c.requires.shown in
-    ap (length {A = _}) shown ∙ length-listed _ c.self.inside.setup.sessions
-
 pub done_all-count-requires-clause-tells : goal.done_all-count-requires-clause-tells
 done_all-count-requires-clause-tells c =
-    let may = rw (← c.self.view_is) at c.requires.may in
+    let may = rw (← c.self.view_is) at c.requires in
     let inside = c.self.inside in
     let m : Machine = record { setup = inside.setup; shares = inside.shares; history = inside.log.history } in
-    let shown = rw (← c.self.view_is) at c.requires.shown in
     let legal : Legal inside.setup (finished inside.log.history c.args.line) = (c.self.invariant.0.legal, legal-entered m Display c.args.line [] Finish Done may refl) in
-    let tied = c.finish.ensures.tied inside.log.history c.args.line (record { legal = legal; shown = shown }) c.self.invariant.3 in
+    let tied = c.finish.ensures.tied inside.log.history c.args.line legal c.self.invariant.3 in
     record { same = refl; legal = legal; tied = tied; viewed = c.self.invariant.0.viewed }
 
 pub enter-requires : goal.enter-requires
 enter-requires c =
-    let may = rw (← c.self.view_is) at c.requires.may in
+    let may = rw (← c.self.view_is) at c.requires in
     rw c.done_all-count.ensures.room (has-room _ _ _ _ may c.self.invariant.0.legal _ _ _ refl c.self.invariant.1)
 
 pub overflow_add-frames : goal.overflow_add-frames
 overflow_add-frames c =
-    let may = rw (← c.self.view_is) at c.requires.may in
+    let may = rw (← c.self.view_is) at c.requires in
     let few : c.self.inside.clock.frames + 1 < 2 ^ 32 = (place-small _ Finish may _ _ _ _ _ _ refl c.self.invariant.0 c.self.invariant.1).1 in
     omega (arith, few)
 
 pub invariant_of-self : goal.invariant_of-self
 invariant_of-self c =
-    let may = rw (← c.self.view_is) at c.requires.may in
+    let may = rw (← c.self.view_is) at c.requires in
     let all = c.done_all-count.ensures in
     let log = c.enter.ensures in
     let history : c.enter.new.self.history ≡ (c.done_all-count.new.log.history ▹ finish_entry c.args.line) =
@@ -65,9 +58,5 @@ invariant_of-self c =
     let now = history ∙ ap (λ (h : List Entry). h ▹ finish_entry c.args.line) all.history in
     let inside = c.self.inside in
     let m : Machine = record { setup = inside.setup; shares = inside.shares; history = inside.log.history } in
-    let shown = rw (← c.self.view_is) at c.requires.shown in
-    let tied = c.finish.ensures.tied inside.log.history c.args.line (record {
-      legal = (c.self.invariant.0.legal, legal-entered m Display c.args.line [] Finish Done may refl);
-      shown = shown;
-    }) c.self.invariant.3 in
+    let tied = c.finish.ensures.tied inside.log.history c.args.line (c.self.invariant.0.legal, legal-entered m Display c.args.line [] Finish Done may refl) c.self.invariant.3 in
     (kept.0, kept.1, rw now all.ends, rw now tied, rw now all.watched)

@@ -1,28 +1,47 @@
-use Rattle.std.proofs.Common.{◌≡◌, ◌∙◌, sym, subst, ℕ, ◌+◌, arith, slice_set}
+use Rattle.std.proofs.Common.{◌≡◌, ◌∙◌, sym, subst, ℕ, ◌+◌, ◌<◌, arith, length, List, refl, slice_set}
 use Rattle.std.proofs.lemmas.List.{length-set}
+use Rattle.flat_scene.specs.declared.trees.ViewportUse.{ViewportUse}
 use Rattle.flat_states.specs.declared.following.Following.{Following}
 use Rattle.flat_states.specs.declared.following.Sight.{Sight}
 use Rattle.flat_states.specs.Begins.{begun}
+use Rattle.flat_states.specs.Following.{pair}
+use Rattle.flat_states.specs.Usage.{SeesUses}
 use Rattle.flat_rules.specs.Numbers.{AllNumbered}
-use Rattle.flat_states.proofs.TiesBegin.{FollowedUpTo, begun-on, tied-begun}
+use Rattle.flat_states.proofs.TiesBegin.{FollowedUpTo, begun-on, followed-start, sight-at}
+use Rattle.flat_states.proofs.TiesSees.{PairUpTo, looked-at, pairs-on, pairs-start, tied-begun}
 use Rattle.flat_states.proofs.ties.Ties.begin.Goals as goal
+
+pub loop-i-init : goal.loop-i-init
+loop-i-init c = record {
+  count = c.requires.count;
+  many = refl;
+  followed = λ h line time begins tied. followed-start c.args.setup.now h (begun h line time) c.args.self.now.followings.items tied.each_session;
+  each = λ h line time begins tied. pairs-start c.args.setup.now h line time c.args.sessions.now c.args.shown.now begins c.args.self.now.pairs.items tied.each_pair;
+}
 
 pub loop-i-preserved : goal.loop-i-preserved
 loop-i-preserved c =
     let inv = c.loop-i.invariant in
     let i = c.loop-i.i in
-    let was : Following = c.index_mut.result.now in
+    let was : Following = c.index_mut-one.result.now in
+    let below : c.loop-i.i < length c.loop-i.self.followings.items = omega (arith, inv.count, c.loop-i-test.true) in
     record {
       count = length-set c.loop-i.self.followings.items i _ ∙ inv.count;
-      pairs = inv.pairs;
+      many = c.see_taken.ensures.count ∙ inv.many;
       followed = λ h line time begins tied.
-          let on = begun-on c.args.setup.now h line time c.args.sessions.now c.args.shown.now begins i c.loop-i.self.followings.items was c.index-sessions-i.result c.loop-i-test.true c.requires.all inv.count c.index-sessions-i.is c.index_mut.ensures.value (inv.followed h line time begins tied) in
-          subst (λ (g : Sight). AllNumbered (FollowedUpTo c.args.setup.now h (begun h line time) (c.loop-i.i + 1)) (slice_set c.loop-i.self.followings.items c.loop-i.i (let new : Following = record c.index_mut.result.now { begun = g } in new))) (sym c.see_session.ensures) on;
+          let on = begun-on c.args.setup.now h line time c.args.sessions.now c.args.shown.now begins i c.loop-i.self.followings.items was c.index-sessions-i.result c.loop-i-test.true c.requires.all inv.count c.index-sessions-i.is c.index_mut-one.ensures.value (inv.followed h line time begins tied) in
+          subst (λ (g : Sight). AllNumbered (FollowedUpTo c.args.setup.now h (begun h line time) (c.loop-i.i + 1)) (slice_set c.loop-i.self.followings.items c.loop-i.i (let new : Following = record c.index_mut-one.result.now { begun = g } in new))) (sym c.see_session-sight.ensures) on;
+      each = λ h line time begins tied.
+          let here = c.see_session-sight.ensures ∙ sight-at c.args.setup.now h line time c.args.sessions.now c.args.shown.now begins i c.index-sessions-i.result c.loop-i-test.true c.requires.all c.index-sessions-i.is in
+          let looked = looked-at c.args.setup.now h line time c.args.sessions.now c.args.shown.now begins i c.loop-i.self.followings.items was c.see_session-sight.result below c.loop-i-test.true c.index_mut-one.ensures.value (inv.followed h line time begins tied) here in
+          pairs-on c.args.setup.now h line time c.args.sessions.now c.args.shown.now begins i c.loop-i.self.pairs.items c.see_taken.new.pairs.items
+          (subst (λ (us : List ViewportUse). SeesUses us c.loop-i.self.pairs.items c.see_taken.new.pairs.items) looked c.see_taken.ensures) (inv.each h line time begins tied);
     }
 
 pub returns-clause-tied : goal.returns-clause-tied
 returns-clause-tied c h line time begins tied =
     let inv = c.loop-i.invariant in
-    let ends : c.loop-i.i ≡ c.args.setup.now.sessions = omega (arith, c.loop-i.auto.i-end, c.loop-i-test.false) in
-    tied-begun c.args.setup.now h line time c.args.sessions.now c.args.shown.now begins c.args.self.now.followings.items c.loop-i.self.followings.items c.args.self.now.pairs.items c.loop-i.self.pairs.items inv.pairs inv.count
-    (subst (λ (n : ℕ). AllNumbered (FollowedUpTo c.args.setup.now h (begun h line time) n) c.loop-i.self.followings.items) ends (inv.followed h line time begins tied)) tied
+    let all : c.loop-i.i ≡ c.args.setup.now.sessions = omega (arith, c.loop-i.auto.i-end, c.loop-i-test.false) in
+    tied-begun c.args.setup.now h line time c.args.sessions.now c.args.shown.now begins c.loop-i.self.followings.items c.loop-i.self.pairs.items inv.count (inv.many ∙ tied.count)
+    (subst (λ (n : ℕ). AllNumbered (FollowedUpTo c.args.setup.now h (begun h line time) n) c.loop-i.self.followings.items) all (inv.followed h line time begins tied))
+    (subst (λ (n : ℕ). AllNumbered (λ j. PairUpTo c.args.setup.now h (begun h line time) n (pair j)) c.loop-i.self.pairs.items) all (inv.each h line time begins tied))
