@@ -25,16 +25,16 @@ use Rattle.flat_queue.specs.declared.queue.Kept.{Kept}
 use Rattle.flat_scene.specs.Frames.{is_ready}
 use Rattle.flat_queue.specs.Line.{ready_of, credits_of}
 use Rattle.flat_snap.specs.declared.snapshot.Snapshot.{Snapshot}
-use Rattle.flat_core.specs.declared.state.SessionState.{SessionState}
-use Rattle.flat_core.specs.Begins.{begun, begin_entry}
-use Rattle.flat_core.specs.Kept.{IsKept, kept_of, meant}
+use Rattle.flat_states.specs.declared.state.SessionState.{SessionState}
+use Rattle.flat_states.specs.Begins.{begun, begin_entry}
+use Rattle.flat_states.specs.Kept.{IsKept, kept_of, meant}
 use Rattle.flat_rules.specs.Legal.{Legal}
 use Rattle.flat_rules.specs.Lasts.{last_from}
-use Rattle.flat_core.specs.Presents.{TookReady}
-use Rattle.flat_core.specs.Seen.{Seen, seen_of}
-use Rattle.flat_core.proofs.Begun.{seen-begun-open, ready-same, kept-ready, then-same}
-use Rattle.flat_core.proofs.Counts.{kept-waiting}
-use Rattle.flat_core.proofs.Between.{events-between}
+use Rattle.flat_states.specs.Presents.{TookReady}
+use Rattle.flat_states.specs.Seen.{Seen, seen_of}
+use Rattle.flat_gets.proofs.Begun.{seen-begun-open, ready-same, kept-ready, then-same}
+use Rattle.flat_states.proofs.Counts.{kept-waiting}
+use Rattle.flat_states.proofs.Between.{events-between}
 use Rattle.flat_core.proofs.PresentSteps.{stays}
 use Rattle.flat_rules.proofs.ShownSteps.{serial-get, get-drop, get-map, last-get, last-none, shown-kept}
 

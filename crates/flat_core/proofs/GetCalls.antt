@@ -12,21 +12,21 @@ use Rattle.flat_scene.specs.declared.journal.Reply.{Reply}
 use Rattle.flat_scene.specs.declared.setup.Setup.{Setup}
 use Rattle.flat_scene.specs.History.{◌▹◌, closes}
 use Rattle.flat_scene.specs.Setups.{is_declared}
-use Rattle.flat_core.specs.declared.clock.Clock.{Clock}
-use Rattle.flat_core.specs.declared.state.SessionState.{SessionState}
-use Rattle.flat_core.specs.Boards.{HasRoom, Machine, MayCall, Stands, due, entry_of}
-use Rattle.flat_core.specs.Kept.{IsKept}
+use Rattle.flat_states.specs.declared.clock.Clock.{Clock}
+use Rattle.flat_states.specs.declared.state.SessionState.{SessionState}
+use Rattle.flat_states.specs.Machines.{HasRoom, Machine, MayCall, Stands, due, entry_of}
+use Rattle.flat_states.specs.Kept.{IsKept}
 use Rattle.flat_rules.specs.Legal.{number_if, reply_to}
-use Rattle.flat_core.specs.Logs.{Logged}
+use Rattle.flat_states.specs.Logs.{Logged}
 use Rattle.flat_rules.specs.Posts.{posts}
-use Rattle.flat_core.specs.Presents.{after_get, with_calls}
-use Rattle.flat_core.specs.Seen.{seen_of}
-use Rattle.flat_core.specs.Watchers.{is_held}
-use Rattle.flat_core.proofs.Between.{posted-between}
-use Rattle.flat_core.proofs.Changes.{IsPlainOne, is-session, kept-closed, kept-noted, seen-closed, seen-noted, sum-same}
-use Rattle.flat_core.proofs.Counts.{declared-some, few-if}
-use Rattle.flat_core.proofs.Ones.{declared-of, each-one}
-use Rattle.flat_core.proofs.Steps.{legal-entered, posts-none, room-entered, stands-entered, unchanged}
+use Rattle.flat_states.specs.Presents.{after_get, with_calls}
+use Rattle.flat_states.specs.Seen.{seen_of}
+use Rattle.flat_gets.specs.Watchers.{is_held}
+use Rattle.flat_states.proofs.Between.{posted-between}
+use Rattle.flat_states.proofs.Changes.{IsPlainOne, is-session, kept-closed, kept-noted, seen-closed, seen-noted, sum-same}
+use Rattle.flat_states.proofs.Counts.{declared-some, few-if}
+use Rattle.flat_states.proofs.Ones.{declared-of, each-one}
+use Rattle.flat_states.proofs.Steps.{legal-entered, posts-none, room-entered, stands-entered, unchanged}
 
 plain-get : (s : SessionNo) (line : ℕ) (calls : List Call) (get : Watch) (reply : Reply) → IsPlainOne (entry_of (Session s) line calls (Get get) reply)
 plain-get s line calls get reply = record { no_begin = refl; no_finish = refl; no_poll = refl; no_view = refl; none = λ made. refl }

@@ -10,9 +10,9 @@ use Rattle.flat_scene.specs.declared.journal.Reply.TheVariants as reply
 use Rattle.flat_scene.specs.declared.journal.Told.TheVariants as tell
 use Rattle.flat_scene.specs.declared.setup.Setup.{Setup}
 use Rattle.flat_scene.specs.History.{◌▹◌}
-use Rattle.flat_core.specs.declared.gets.HeldGet.{HeldGet}
-use Rattle.flat_core.specs.declared.gets.Watched.TheVariants as watches
-use Rattle.flat_core.specs.Gets.{IsAnswered, answers_to, helds_of, with_held}
+use Rattle.flat_gets.specs.declared.gets.HeldGet.{HeldGet}
+use Rattle.flat_gets.specs.declared.gets.Watched.TheVariants as watches
+use Rattle.flat_gets.specs.Gets.{IsAnswered, answers_to, helds_of, with_held}
 use Rattle.flat_rules.specs.Legal.{answers}
 use Rattle.flat_rules.specs.Watch.{no_inset, told}
 use Rattle.flat_rules.proofs.Samples.{s, p, c, by, layout, present}

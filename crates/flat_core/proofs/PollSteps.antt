@@ -7,20 +7,20 @@ use Rattle.flat_scene.specs.declared.calls.Call.{Call}
 use Rattle.flat_scene.specs.declared.journal.Event.{Event}
 use Rattle.flat_scene.specs.declared.journal.Kind.TheVariants.{Poll}
 use Rattle.flat_scene.specs.declared.journal.Post.{Post}
-use Rattle.flat_core.specs.declared.clock.Clock.{Clock}
-use Rattle.flat_core.specs.declared.state.Account.{Account}
-use Rattle.flat_core.specs.declared.state.SessionState.{SessionState}
-use Rattle.flat_core.specs.Boards.{Machine, MayCall, Stands, HasRoom}
-use Rattle.flat_core.specs.Kept.{IsKept}
+use Rattle.flat_states.specs.declared.clock.Clock.{Clock}
+use Rattle.flat_states.specs.declared.state.Account.{Account}
+use Rattle.flat_states.specs.declared.state.SessionState.{SessionState}
+use Rattle.flat_states.specs.Machines.{Machine, MayCall, Stands, HasRoom}
+use Rattle.flat_states.specs.Kept.{IsKept}
 use Rattle.flat_rules.specs.Legal.{unread, unread_events}
-use Rattle.flat_core.specs.Logs.{Logged}
+use Rattle.flat_states.specs.Logs.{Logged}
 use Rattle.flat_core.specs.Polls.{events_for}
 use Rattle.flat_rules.specs.Posts.{posts}
-use Rattle.flat_core.specs.Seen.{seen_of}
-use Rattle.flat_core.proofs.Counts.{kept-session, declared-some}
-use Rattle.flat_core.proofs.Ones.{declared-of}
+use Rattle.flat_states.specs.Seen.{seen_of}
+use Rattle.flat_states.proofs.Counts.{kept-session, declared-some}
+use Rattle.flat_states.proofs.Ones.{declared-of}
 use Rattle.flat_core.proofs.Polled.{polled-le, handed-over, handed-count, unread-few}
-use Rattle.flat_core.proofs.Steps.{few-history}
+use Rattle.flat_states.proofs.Steps.{few-history}
 
 -- where the session's events begin is in the posts
 pub polled-within : (m : Machine) (s : SessionNo) (calls : List Call) → MayCall m (Session s) calls Poll

@@ -17,19 +17,19 @@ use Rattle.flat_scene.specs.declared.journal.Reply.TheVariants.{Polled}
 use Rattle.flat_scene.specs.declared.setup.Setup.{Setup}
 use Rattle.flat_scene.specs.Frames.{sessions_to}
 use Rattle.flat_scene.specs.History.{◌▹◌, is_session}
-use Rattle.flat_core.specs.declared.state.Account.{Account}
-use Rattle.flat_core.specs.declared.state.SessionState.{SessionState}
-use Rattle.flat_core.specs.Begins.{post_of, posts_to}
-use Rattle.flat_core.specs.Boards.{entry_of}
-use Rattle.flat_core.specs.Kept.{IsKept}
+use Rattle.flat_states.specs.declared.state.Account.{Account}
+use Rattle.flat_states.specs.declared.state.SessionState.{SessionState}
+use Rattle.flat_states.specs.Begins.{post_of, posts_to}
+use Rattle.flat_states.specs.Machines.{entry_of}
+use Rattle.flat_states.specs.Kept.{IsKept}
 use Rattle.flat_rules.specs.Legal.{is_poll, unread, unread_events}
 use Rattle.flat_core.specs.Polls.{events_for}
 use Rattle.flat_rules.specs.Posts.{events_to, posts}
-use Rattle.flat_core.specs.Presents.{with_calls}
-use Rattle.flat_core.specs.Seen.{seen_of, account_of, noted, polled_at}
-use Rattle.flat_core.proofs.BeginLoop.{flat-on}
-use Rattle.flat_core.proofs.BoardBegins.{posts-all}
-use Rattle.flat_core.proofs.Changes.{is-session, kept-account}
+use Rattle.flat_states.specs.Presents.{with_calls}
+use Rattle.flat_states.specs.Seen.{seen_of, account_of, noted, polled_at}
+use Rattle.flat_states.proofs.BeginLoop.{flat-on}
+use Rattle.flat_gets.proofs.BoardBegins.{posts-all}
+use Rattle.flat_states.proofs.Changes.{is-session, kept-account}
 use Rattle.flat_rules.proofs.Quiet.{closed-quiet, presents-quiet, taken-quiet, going-quiet, took-quiet}
 
 -- the events of an entry that are a session's: of one session's, and of all sessions'

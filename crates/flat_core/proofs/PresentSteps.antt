@@ -27,23 +27,23 @@ use Rattle.flat_scene.proofs.Together.{and-left, and-right}
 use Rattle.flat_queue.specs.declared.queue.Kept.{Kept}
 use Rattle.flat_queue.specs.Line.{credits_of}
 use Rattle.flat_snap.specs.declared.snapshot.Snapshot.{Snapshot}
-use Rattle.flat_core.specs.declared.clock.Clock.{Clock}
-use Rattle.flat_core.specs.declared.state.SessionState.{SessionState}
-use Rattle.flat_core.specs.Boards.{Machine, MayCall, Stands, HasRoom, entry_of, present_of, due}
+use Rattle.flat_states.specs.declared.clock.Clock.{Clock}
+use Rattle.flat_states.specs.declared.state.SessionState.{SessionState}
+use Rattle.flat_states.specs.Machines.{Machine, MayCall, Stands, HasRoom, entry_of, present_of, due}
 use Rattle.flat_rules.specs.Numbers.{number, AllNumbered}
-use Rattle.flat_core.specs.Kept.{IsKept, Below}
+use Rattle.flat_states.specs.Kept.{IsKept, Below}
 use Rattle.flat_rules.specs.Legal.{goes_on, owns_fence, owns_in_kind, owns_in_call, reply_to}
-use Rattle.flat_core.specs.Logs.{Logged}
+use Rattle.flat_states.specs.Logs.{Logged}
 use Rattle.flat_rules.specs.Posts.{posts}
-use Rattle.flat_core.specs.Presents.{with_present, next_present, present_reply, after_present, with_calls, owed_for}
-use Rattle.flat_core.specs.Seen.{Seen, seen_of}
+use Rattle.flat_states.specs.Presents.{with_present, next_present, present_reply, after_present, with_calls, owed_for}
+use Rattle.flat_states.specs.Seen.{Seen, seen_of}
 use Rattle.flat_rules.specs.Shown.{tree_of}
-use Rattle.flat_core.proofs.Changes.{IsPlainOne, is-session, seen-closed, kept-closed, kept-noted}
-use Rattle.flat_core.proofs.Counts.{kept-waiting, kept-session, declared-some}
-use Rattle.flat_core.proofs.Between.{posted-between}
-use Rattle.flat_core.proofs.Ones.{declared-of, each-one}
+use Rattle.flat_states.proofs.Changes.{IsPlainOne, is-session, seen-closed, kept-closed, kept-noted}
+use Rattle.flat_states.proofs.Counts.{kept-waiting, kept-session, declared-some}
+use Rattle.flat_states.proofs.Between.{posted-between}
+use Rattle.flat_states.proofs.Ones.{declared-of, each-one}
 use Rattle.flat_core.proofs.Presented.{seen-presented, kept-presented, presents-few}
-use Rattle.flat_core.proofs.Steps.{unchanged, stands-entered, few-history, legal-entered, room-entered, posts-none}
+use Rattle.flat_states.proofs.Steps.{unchanged, stands-entered, few-history, legal-entered, room-entered, posts-none}
 use Rattle.std.proofs.lemmas.Bool.{not-true}
 
 -- a session that makes a present is open

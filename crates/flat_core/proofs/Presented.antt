@@ -20,14 +20,14 @@ use Rattle.flat_scene.specs.Frames.{taken, waiting}
 use Rattle.flat_rules.specs.Shown.{tree_of}
 use Rattle.flat_queue.specs.declared.queue.Kept.{Kept}
 use Rattle.flat_snap.specs.declared.snapshot.Snapshot.{Snapshot}
-use Rattle.flat_core.specs.declared.state.SessionState.{SessionState}
-use Rattle.flat_core.specs.Boards.{entry_of, present_of}
-use Rattle.flat_core.specs.Kept.{IsKept, Below, kept_of, meant}
-use Rattle.flat_core.specs.Presents.{with_present}
-use Rattle.flat_core.specs.Seen.{Seen, seen_of, account_of, noted}
+use Rattle.flat_states.specs.declared.state.SessionState.{SessionState}
+use Rattle.flat_states.specs.Machines.{entry_of, present_of}
+use Rattle.flat_states.specs.Kept.{IsKept, Below, kept_of, meant}
+use Rattle.flat_states.specs.Presents.{with_present}
+use Rattle.flat_states.specs.Seen.{Seen, seen_of, account_of, noted}
 use Rattle.std.proofs.lemmas.List.Elements.{All-push}
 use Rattle.flat_rules.proofs.Quiet.{taken-quiet}
-use Rattle.flat_core.proofs.Changes.{is-session}
+use Rattle.flat_states.proofs.Changes.{is-session}
 use Rattle.flat_scene.proofs.TakingLemmas.{taken-made}
 
 published-one : (kind : Kind) (reply : Reply) (made : List Call) → length (published kind reply made) ≤ 1

@@ -5,7 +5,7 @@ use Rattle.flat_base.specs.declared.ids.Actor.TheVariants.{Display}
 use Rattle.flat_scene.specs.declared.journal.Kind.TheVariants.{Begin}
 use Rattle.flat_scene.specs.declared.journal.Reply.TheVariants.{Done}
 use Rattle.flat_scene.specs.declared.trees.Tree.{Tree}
-use Rattle.flat_core.specs.Boards.{Machine, entered}
+use Rattle.flat_states.specs.Machines.{Machine, entered}
 use Rattle.flat_rules.specs.Ends.{to_begin}
 use Rattle.flat_rules.specs.Shown.{shown_states}
 use Rattle.flat_rules.proofs.ShownList.{nothing-shown}

@@ -2,21 +2,21 @@ ghost use Rattle.std.specs.Prelude.{◌≡◌, true, ◌+◌, ◌-◌, ◌^◌, 
 ghost use Rattle.flat_base.specs.declared.ids.FenceNo.{FenceNo};
 ghost use Rattle.flat_fence.specs.Fences.{has};
 ghost use Rattle.flat_scene.specs.Frames.{is_signalled};
-ghost use Rattle.flat_core.specs.Begins.{begun, begin_entry, post_of, posts_to};
-ghost use Rattle.flat_core.specs.Boards.{due};
+ghost use Rattle.flat_states.specs.Begins.{begun, begin_entry, post_of, posts_to};
+ghost use Rattle.flat_states.specs.Machines.{due};
 ghost use Rattle.flat_rules.specs.Numbers.{number, AllNumbered};
 ghost use Rattle.flat_rules.specs.Ends.{to_begin};
-ghost use Rattle.flat_core.specs.Kept.{IsKept};
+ghost use Rattle.flat_states.specs.Kept.{IsKept};
 ghost use Rattle.flat_rules.specs.Legal.{Legal};
 ghost use Rattle.flat_rules.specs.Posts.{events_to};
-ghost use Rattle.flat_core.specs.Seen.{seen_of};
+ghost use Rattle.flat_states.specs.Seen.{seen_of};
 ghost use Rattle.flat_rules.specs.Shown.{shown, shown_states};
 
-use crate::log::Log;
-use crate::state::{SessionState, let_go, take_ready};
 use flat_base::SessionNo;
 use flat_fence::FenceSet;
 use flat_scene::{Event, Post, Setup};
+use flat_states::log::Log;
+use flat_states::state::{SessionState, let_go, take_ready};
 use flat_topology::Shown;
 
 /// What a begin does for one session. Answers how many events it posts.

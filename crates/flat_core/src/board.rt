@@ -5,40 +5,40 @@ ghost use Rattle.flat_scene.specs.Frames.{is_ready, is_signalled, waiting};
 ghost use Rattle.flat_scene.specs.History.{is_closed, history_of, Published};
 ghost use Rattle.flat_scene.specs.Setups.{is_declared, is_within_limits};
 ghost use Rattle.flat_topology.specs.Views.{is_member};
-ghost use Rattle.flat_core.specs.Boards.{MayCall, MayLook, entered, present_of};
+ghost use Rattle.flat_states.specs.Machines.{MayCall, MayLook, entered, present_of};
 ghost use Rattle.flat_core.specs.Journals.{FamiliesStandAlone, IsDecidedByGlimpses, IsQuietBeside};
 ghost use Rattle.flat_rules.specs.Ends.{has_view, to_begin};
 ghost use Rattle.flat_rules.specs.Legal.{asked_of, frames, number_if, reply_to, unread_events, value_of, waited, Legal};
 ghost use Rattle.flat_rules.specs.Posts.{posts};
-ghost use Rattle.flat_core.specs.Presents.{owed_for, reply_to_close};
+ghost use Rattle.flat_states.specs.Presents.{owed_for, reply_to_close};
 ghost use Rattle.flat_rules.specs.Shown.{shown_states, tree_of};
 ghost use Rattle.flat_rules.specs.Watch.{watcher_of};
-ghost use Rattle.flat_core.specs.Watchers.{is_held, is_shut, watcher_meant};
+ghost use Rattle.flat_gets.specs.Watchers.{is_held, is_shut, watcher_meant};
 
 use crate::begins::begin_all;
-use crate::clock::Clock;
 use crate::dones::done_all;
-use crate::ends::EndSet;
-use crate::log::Log;
 use crate::polls::{EventList, push_events_from};
-use crate::state::{SessionState, new_states, note, present_in};
-use crate::telling::Telling;
-use crate::ties::Ties;
-use crate::viewports::Viewports;
-use crate::views::{
-    get_in, new_ends, note_ends, note_in, use_ends, view_in, viewport_in, with_view,
-};
-use crate::watching::Watchers;
 use flat_base::{
     Actor, FenceNo, FlatlandError, FrameNo, NoMemory, PairNo, Reason, SessionNo, ShareList,
 };
 use flat_fence::FenceSet;
+use flat_gets::telling::Telling;
+use flat_gets::watching::Watchers;
 use flat_rules::{families_are_alone, glimpses_decide_outcomes};
 use flat_scene::{
     CallList, Cond, Entry, Journal, Kind, PresentArgs, Reply, SessionSet, Setup, ViewportProps,
     Watch,
 };
 use flat_snap::Snapshot;
+use flat_states::clock::Clock;
+use flat_states::ends::EndSet;
+use flat_states::log::Log;
+use flat_states::state::{SessionState, new_states, note, present_in};
+use flat_states::ties::Ties;
+use flat_states::viewports::Viewports;
+use flat_states::views::{
+    get_in, new_ends, note_ends, note_in, use_ends, view_in, viewport_in, with_view,
+};
 use flat_topology::Shown;
 use std::alloc::Global;
 use std::marker::Model;
@@ -78,9 +78,10 @@ pub struct Board {
 }
 
 impl Model for Board {
-    ghost use Rattle.flat_core.specs.Boards.{Machine, Stands, HasRoom, AreEnds, all_due};
-    ghost use Rattle.flat_core.specs.Following.{AreTied};
-    ghost use Rattle.flat_core.specs.Watchers.{AreWatched};
+    ghost use Rattle.flat_states.specs.Machines.{Machine, Stands, HasRoom, AreEnds};
+    ghost use Rattle.flat_gets.specs.Dues.{all_due};
+    ghost use Rattle.flat_states.specs.Following.{AreTied};
+    ghost use Rattle.flat_gets.specs.Watchers.{AreWatched};
 
     ghost Value = { Machine };
 

@@ -4,25 +4,9 @@
 
 mod begins;
 mod board;
-mod clears;
-mod clock;
 mod dones;
-mod ends;
-mod following;
-mod gets;
 mod laws;
-mod live;
-mod log;
-mod pairs;
 mod polls;
-mod state;
-mod telling;
-mod ties;
-mod told;
-mod usage;
-mod viewports;
-mod views;
-mod watching;
 
 pub use board::{Back, Board};
 pub use laws::shown_states_fit;

@@ -1,5 +1,7 @@
 //! One session's private draft: what its calls made of it, and the snapshots that
 //! it presents.
+//!
+//! Other crates may cite the lemma file proofs/Following.
 #![tactic(auto)]
 
 mod draft;

@@ -1,7 +1,6 @@
 //! The hit test: which sessions a point of the display hits.
 #![tactic(auto)]
 
-
 ghost use Rattle.std.specs.Prelude.{◌≡◌, ◌++◌, ◌*ℤ◌, find, filter_map, reverse, IfOk, OnOk};
 ghost use Rattle.flat_geom.specs.Matrices.{unit};
 ghost use Rattle.flat_geom.specs.Rectangles.{has_point};

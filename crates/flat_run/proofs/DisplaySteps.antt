@@ -25,7 +25,7 @@ use Rattle.flat_scene.specs.declared.setup.Setup.{Setup}
 use Rattle.flat_scene.specs.History.{◌▹◌, is_display, is_begin, is_finish, is_end}
 use Rattle.flat_scene.specs.Interleave.{display_lines, display_line, by_display, unread_lines, entry_of_display, FollowsDisplay}
 use Rattle.flat_scene.specs.Setups.{is_declared}
-use Rattle.flat_core.specs.Boards.{Machine, MayCall, HasShare, entry_of}
+use Rattle.flat_core.specs.Machines.{Machine, MayCall, HasShare, entry_of}
 use Rattle.flat_rules.specs.Ends.{to_begin, to_finished, has_view}
 use Rattle.flat_rules.specs.Legal.{is_frame_open, begin_time, frames, is_fence, names_declared, display_may}
 use Rattle.flat_rules.specs.Shown.{shown_states}

@@ -14,7 +14,7 @@ use Rattle.flat_scene.specs.declared.setup.Setup.{Setup}
 use Rattle.flat_scene.specs.Frames.{sessions_to}
 use Rattle.flat_scene.specs.History.{◌▹◌, own}
 use Rattle.flat_scene.specs.Interleave.{session_lines, display_lines, IsReading}
-use Rattle.flat_core.specs.Boards.{Machine, HasShare, entered, entry_of, made}
+use Rattle.flat_core.specs.Machines.{Machine, HasShare, entered, entry_of, made}
 use Rattle.flat_report.specs.Handed.{answers_of}
 use Rattle.flat_report.specs.Report.{finished}
 use Rattle.flat_script.specs.declared.script.Script.{Script}

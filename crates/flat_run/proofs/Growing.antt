@@ -5,7 +5,7 @@ use Rattle.flat_scene.specs.declared.calls.Call.{Call}
 use Rattle.flat_scene.specs.declared.journal.Kind.{Kind}
 use Rattle.flat_scene.specs.declared.journal.Kind.TheVariants.{Begin, Finish, End, Hit}
 use Rattle.flat_scene.specs.declared.journal.Reply.{Reply}
-use Rattle.flat_core.specs.Boards.{Machine, entered}
+use Rattle.flat_core.specs.Machines.{Machine, entered}
 
 -- an entry of a kind that is no frame event, no End and no question
 abbrev pub is_quiet : Kind → Bool

@@ -20,7 +20,7 @@ use Rattle.flat_scene.specs.History.{own, is_session}
 use Rattle.flat_scene.specs.Interleave.{session_line, session_lines, entry_of_line, entry_of_call, calls_of_line, or_close, get_tests}
 use Rattle.flat_scene.specs.Misuse.{misuse, first_reason}
 use Rattle.flat_scene.specs.Tree.{present_tests}
-use Rattle.flat_core.specs.Boards.{Machine}
+use Rattle.flat_core.specs.Machines.{Machine}
 use Rattle.flat_script.specs.declared.script.Script.{Script}
 use Rattle.flat_stage.specs.declared.reader.Reader.{Reader}
 use Rattle.flat_stage.specs.Readings.{HasRead, NoneIsRead, OneMoreIsRead, Rise}

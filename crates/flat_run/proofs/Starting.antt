@@ -20,7 +20,7 @@ use Rattle.flat_scene.specs.Interleave.{display_line}
 use Rattle.flat_scene.specs.Setups.{is_declared, is_setup, is_within_limits}
 use Rattle.flat_rules.proofs.ShownList.{length-listed}
 use Rattle.flat_rules.specs.Laws.{BegunStatesFit, NothingIsShownAtFirst}
-use Rattle.flat_core.specs.Boards.{Machine}
+use Rattle.flat_core.specs.Machines.{Machine}
 use Rattle.flat_rules.specs.Ends.{has_view, views_of}
 use Rattle.flat_topology.specs.Connected.{joined_lists}
 use Rattle.flat_report.specs.declared.report.HitAnswer.{HitAnswer}

@@ -8,7 +8,7 @@ use Rattle.flat_scene.specs.declared.script.Line.{Line}
 use Rattle.flat_scene.specs.declared.script.ScriptLine.{ScriptLine}
 use Rattle.flat_scene.specs.History.{◌▹◌, own, is_session, is_end, seat_number}
 use Rattle.flat_scene.specs.Interleave.{session_lines, session_line, last_line}
-use Rattle.flat_core.specs.Boards.{made}
+use Rattle.flat_core.specs.Machines.{made}
 use Rattle.flat_script.specs.declared.script.Script.{Script}
 use Rattle.flat_stage.specs.declared.reader.Reader.{Reader}
 use Rattle.flat_stage.specs.Readings.{HasRead}

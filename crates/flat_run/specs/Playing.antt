@@ -22,7 +22,7 @@ use Rattle.flat_scene.specs.Frames.{sessions_to}
 use Rattle.flat_scene.specs.History.{own, is_end, seat_number}
 use Rattle.flat_scene.specs.Interleave.{session_lines, display_lines, by_display, unread_lines, last_line, FollowsDisplay, Interleaves, IsReading, IsWritten}
 use Rattle.flat_scene.specs.Setups.{is_declared}
-use Rattle.flat_core.specs.Boards.{Machine, entered, made}
+use Rattle.flat_core.specs.Machines.{Machine, entered, made}
 use Rattle.flat_rules.specs.Ends.{to_begin, to_finished, has_view}
 use Rattle.flat_rules.specs.Legal.{is_frame_open, begin_time, frames}
 use Rattle.flat_rules.specs.Shown.{shown_states}

@@ -8,7 +8,7 @@ ghost use Rattle.flat_run.specs.Playing.{session_text, display_text};
 ghost use Rattle.flat_scene.specs.declared.journal.Kind.TheVariants.{Begin, Finish, Hit, Signal, Wait};
 ghost use Rattle.flat_topology.specs.Connected.{joined_lists};
 ghost use Rattle.flat_scene.specs.declared.journal.Reply.TheVariants.{Done};
-ghost use Rattle.flat_core.specs.Boards.{MayCall};
+ghost use Rattle.flat_core.specs.Machines.{MayCall};
 ghost use Rattle.flat_rules.specs.Shown.{shown_states};
 ghost use Rattle.flat_rules.specs.Ends.{to_begin};
 ghost use Rattle.flat_rules.specs.Legal.{frames, reply_to};

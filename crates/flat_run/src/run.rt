@@ -10,7 +10,6 @@ ghost use Rattle.flat_run.specs.Showing.{HaveSeen};
 
 use crate::game::{Game, LastFrame};
 use flat_base::{Actor, FrameNo, NoMemory, SessionNo, ShareList, TryCopy};
-use flat_content::content_laws;
 use flat_core::{Board, shown_states_fit};
 use flat_display::{Display, DisplaySet};
 use flat_report::HitAnswers;
@@ -62,7 +61,6 @@ fn new_readers(alloc: Global, setup: &Setup) -> Result<Vec<Reader>, NoMemory>
     requires { is_setup setup.now ≡ true }
     ensures { IfOk result (λ readers. AreNew setup.now setup.now.sessions readers.items) }
 {
-    content_laws();
     let mut readers = Vec::new(alloc);
     for before in 0..setup.sessions {
         let reader = Reader::new(alloc, SessionNo(before + 1), &setup.buffers)?;

@@ -32,7 +32,7 @@ use Rattle.flat_scene.specs.History.{calls, own, is_closed, is_end, is_session}
 use Rattle.flat_scene.specs.Misuse.{first_reason, Test}
 use Rattle.flat_scene.specs.Setups.{is_declared}
 use Rattle.flat_scene.specs.Tree.{tree_tests, present_tests}
-use Rattle.flat_core.specs.Boards.{Machine, MayCall, HasShare}
+use Rattle.flat_core.specs.Machines.{Machine, MayCall, HasShare}
 use Rattle.flat_rules.specs.Legal.{is_link, all_but_last, owns_in_call, owns_in_kind, owns_view, owns_viewport, owns_fence, same_inset, is_fence, names_declared, session_may, has_tree}
 use Rattle.flat_rules.specs.Ends.{viewport_uses}
 use Rattle.flat_core.specs.Watchers.{watcher_meant}

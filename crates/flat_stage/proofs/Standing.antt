@@ -21,7 +21,7 @@ use Rattle.flat_scene.specs.Draft.{Draft, empty_draft}
 use Rattle.flat_scene.specs.Effect.{draft_of, effect}
 use Rattle.flat_scene.specs.History.{◌▹◌, own, is_end, carried, closes}
 use Rattle.flat_scene.specs.Interleave.{entry_of_line, entry_of_call, calls_of_line, after_line, or_close}
-use Rattle.flat_core.specs.Boards.{entry_of}
+use Rattle.flat_core.specs.Machines.{entry_of}
 use Rattle.flat_rules.specs.Legal.{reply_to}
 use Rattle.flat_draft.specs.Stands.{StandsFor}
 use Rattle.flat_draft.specs.State.{DraftState}

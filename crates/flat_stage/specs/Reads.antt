@@ -21,7 +21,7 @@ use Rattle.flat_scene.specs.Interleave.{entry_of_line, calls_of_line, after_line
 use Rattle.flat_scene.specs.Misuse.{misuse, first_reason}
 use Rattle.flat_scene.specs.Setups.{is_declared}
 use Rattle.flat_scene.specs.Tree.{present_tests, tree}
-use Rattle.flat_core.specs.Boards.{Machine, entered}
+use Rattle.flat_core.specs.Machines.{Machine, entered}
 use Rattle.flat_rules.specs.Legal.{reply_to, owns_view, owns_viewport, owns_fence}
 use Rattle.flat_draft.specs.Answers.{pair_watched, has_room_for}
 use Rattle.flat_draft.specs.State.{DraftState}

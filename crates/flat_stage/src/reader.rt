@@ -6,14 +6,12 @@ ghost use Rattle.flat_scene.specs.Draft as scene;
 ghost use Rattle.flat_scene.specs.Effect.{effect};
 ghost use Rattle.flat_scene.specs.History.{closes, own};
 ghost use Rattle.flat_scene.specs.Misuse.{misuse};
-ghost use Rattle.flat_core.specs.Boards.{HasShare, entered};
+ghost use Rattle.flat_core.specs.Machines.{HasShare, entered};
 ghost use Rattle.flat_scene.specs.declared.journal.Kind.TheVariants.{End};
 ghost use Rattle.flat_scene.specs.declared.journal.Reply.TheVariants.{Done};
 ghost use Rattle.flat_draft.specs.Answers.{has_room_for, uses_an_end};
 ghost use Rattle.flat_draft.specs.Stands.{StandsFor};
-ghost use Rattle.flat_content.specs.Limits.{are_sides};
-ghost use Rattle.flat_scene.specs.Setups.{is_declared};
-ghost use Rattle.std.specs.List.{list_all};
+ghost use Rattle.flat_scene.specs.Setups.{is_declared, is_setup};
 ghost use Rattle.flat_rules.specs.Owned.{is_played_line};
 ghost use Rattle.flat_stage.specs.Made.{kind_of, takes_memory};
 ghost use Rattle.flat_stage.specs.Reads.{HasDraft, IsNew, Stands, IsReady, Tells, Enters, Reads, kept_calls, with_line, viewport_call, CanMake, IsMade};
@@ -21,6 +19,7 @@ ghost use Rattle.flat_stage.specs.Reads.{HasDraft, IsNew, Stands, IsReady, Tells
 use crate::judging::{asked, called, presented};
 use crate::made::Made;
 use flat_base::{NoMemory, SessionNo};
+use flat_content::content_laws;
 use flat_core::{Board, EventList};
 use flat_draft::{Draft, draft_laws};
 use flat_scene::{BufferList, Call, CallList, Line, Reply};
@@ -44,12 +43,13 @@ pub struct Reader {
 }
 
 impl Reader {
-    /// A session of a setup with these buffers. It has read no line.
+    /// A session of a setup with these buffers, which has read no line.
     pub fn new(alloc: Global, session: SessionNo, buffers: &BufferList) -> Result<Reader, NoMemory>
-        requires { list_all are_sides buffers.now ≡ true }
+        requires { (setup : Setup) × (is_setup setup ≡ true) × (buffers.now ≡ setup.buffers) }
         ensures { (setup : Setup) → buffers.now ≡ setup.buffers → is_declared setup session ≡ true → IfOk result (IsNew setup session) }
     {
         draft_laws();
+        content_laws();
         let buffers = buffers.copy(alloc)?;
         Ok(Reader {
             alloc,

@@ -1,7 +1,7 @@
 ghost use Rattle.std.specs.Prelude.{◌≡◌, ◌+◌, ◌<◌, ◌^◌, [], true, false, IfOk, OnErr, ℕ, List, ◌∷◌, ◌++◌};
 ghost use Rattle.flat_scene.specs.declared.journal.Reply.TheVariants.{Done};
 ghost use Rattle.flat_base.specs.declared.ids.Actor.TheVariants.{Session};
-ghost use Rattle.flat_core.specs.Boards.{MayLook};
+ghost use Rattle.flat_core.specs.Machines.{MayLook};
 ghost use Rattle.flat_rules.specs.Legal.{value_of, Legal};
 ghost use Rattle.flat_stage.specs.Homes.{lock_seat};
 ghost use Rattle.flat_scene.specs.declared.script.Line.{Line};

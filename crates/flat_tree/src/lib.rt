@@ -1,7 +1,6 @@
 //! The view tree: who is shown below whom, and who is apart.
 #![tactic(auto)]
 
-
 ghost use Rattle.std.specs.Prelude.{◌≡◌, ◌+◌, ◌<◌, ◌≤◌, ◌++◌, IfOk, map};
 ghost use Rattle.flat_topology.specs.Views.{viewport_bounds};
 ghost use Rattle.flat_topology.specs.Connected.{connected_view};

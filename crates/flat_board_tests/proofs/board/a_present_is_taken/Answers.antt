@@ -1,6 +1,6 @@
 use Rattle.std.proofs.Common.{◌≡◌, ◌∙◌, sym, subst, ap, ℕ, List, []}
 use Rattle.flat_scene.specs.declared.journal.Entry.{Entry}
-use Rattle.flat_core.specs.Boards.{Machine}
+use Rattle.flat_core.specs.Machines.{Machine}
 use Rattle.flat_rules.specs.Ends.{to_begin}
 use Rattle.flat_rules.specs.Shown.{shown_states}
 use Rattle.flat_rules.proofs.ShownList.{nothing-shown}

@@ -3,13 +3,13 @@ use Rattle.flat_scene.specs.declared.journal.Entry.{Entry}
 use Rattle.std.proofs.lemmas.List.{length-set}
 use Rattle.std.proofs.lemmas.List.Sums.{sum_by-set}
 use Rattle.flat_fence.specs.Fences.{has}
-use Rattle.flat_core.specs.Boards.{due, due_back}
-use Rattle.flat_core.specs.Begins.{finish_entry, finished}
+use Rattle.flat_states.specs.Machines.{due, due_back}
+use Rattle.flat_states.specs.Begins.{finish_entry, finished}
 use Rattle.flat_rules.specs.Legal.{Legal, LegalEntry}
-use Rattle.flat_core.specs.Watchers.{WatchedUpTo}
-use Rattle.flat_core.proofs.BeginLoop.{posts-next}
-use Rattle.flat_core.proofs.DoneSteps.{EndsOf, done-next, members-next, up-next}
-use Rattle.flat_core.proofs.WatchingSteps.{watched-last}
+use Rattle.flat_gets.specs.Watchers.{WatchedUpTo}
+use Rattle.flat_states.proofs.BeginLoop.{posts-next}
+use Rattle.flat_gets.proofs.DoneSteps.{EndsOf, done-next, members-next, up-next}
+use Rattle.flat_gets.proofs.WatchingSteps.{watched-last}
 use Rattle.flat_core.proofs.dones.done_all.Goals as goal
 
 pub loop-i-preserved : goal.loop-i-preserved

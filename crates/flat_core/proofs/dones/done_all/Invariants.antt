@@ -2,11 +2,11 @@ use Rattle.std.proofs.Common.{◌≡◌, ◌+◌, ◌≤◌, ◌++◌, length}
 use Rattle.std.specs.Prelude.{◌||◌}
 use Rattle.flat_base.specs.declared.ids.FenceNo.{FenceNo}
 use Rattle.flat_fence.specs.Fences.{has}
-use Rattle.flat_core.specs.Begins.{finish_entry, finished, posts_to}
-use Rattle.flat_core.specs.Boards.{all_due}
+use Rattle.flat_states.specs.Begins.{finish_entry, finished, posts_to}
+use Rattle.flat_gets.specs.Dues.{all_due}
 use Rattle.flat_rules.specs.Numbers.{AllNumbered}
-use Rattle.flat_core.specs.Watchers.{WatchedUpTo}
-use Rattle.flat_core.proofs.DoneSteps.{DoneUpTo, EndsUpTo, released_to}
+use Rattle.flat_gets.specs.Watchers.{WatchedUpTo}
+use Rattle.flat_gets.proofs.DoneSteps.{DoneUpTo, EndsUpTo, released_to}
 use Rattle.flat_core.proofs.dones.done_all.Given as goal
 
 abbrev pub invariant-loop-i : goal.invariant-loop-i

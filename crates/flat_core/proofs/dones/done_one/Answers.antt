@@ -9,14 +9,14 @@ use Rattle.flat_scene.specs.Frames.{going}
 use Rattle.flat_scene.specs.declared.journal.Entry.{Entry}
 use Rattle.flat_scene.specs.Frames.{taken}
 use Rattle.flat_scene.specs.History.{◌▹◌}
-use Rattle.flat_core.specs.Begins.{finish_entry, post_of, took_event}
+use Rattle.flat_states.specs.Begins.{finish_entry, post_of, took_event}
 use Rattle.flat_rules.specs.Legal.{Legal, LegalEntry}
-use Rattle.flat_core.specs.Seen.{seen_of}
-use Rattle.flat_core.specs.Viewports.{back_events}
-use Rattle.flat_core.proofs.Counts.{seen-count, taken-kept}
-use Rattle.flat_core.proofs.DoneSteps.{members-done}
-use Rattle.flat_core.proofs.ViewportUses.{viewports-finish}
-use Rattle.flat_core.proofs.DoneSteps.{told-then}
+use Rattle.flat_states.specs.Seen.{seen_of}
+use Rattle.flat_states.specs.Viewports.{back_events}
+use Rattle.flat_states.proofs.Counts.{seen-count, taken-kept}
+use Rattle.flat_gets.proofs.DoneSteps.{members-done}
+use Rattle.flat_gets.proofs.ViewportUses.{viewports-finish}
+use Rattle.flat_gets.proofs.DoneSteps.{told-then}
 use Rattle.flat_core.proofs.dones.done_one.Goals as goal
 
 pub returns-then-state-clause-members : goal.returns-then-state-clause-members

@@ -9,17 +9,17 @@ use Rattle.flat_scene.specs.declared.setup.Setup.{Setup}
 use Rattle.flat_scene.specs.Frames.{taken}
 use Rattle.flat_scene.specs.History.{is_closed}
 use Rattle.flat_scene.specs.Setups.{is_declared}
-use Rattle.flat_core.specs.declared.watching.Watchers.{Watchers}
-use Rattle.flat_core.specs.Begins.{finish_entry, finished, post_of, took_event}
-use Rattle.flat_core.specs.Gets.{answers_to, helds_of}
+use Rattle.flat_gets.specs.declared.watching.Watchers.{Watchers}
+use Rattle.flat_states.specs.Begins.{finish_entry, finished, post_of, took_event}
+use Rattle.flat_gets.specs.Gets.{answers_to, helds_of}
 use Rattle.flat_rules.specs.Legal.{Legal, LegalEntry}
 use Rattle.flat_rules.specs.Posts.{events_to, frame_took}
-use Rattle.flat_core.specs.Viewports.{back_events}
+use Rattle.flat_states.specs.Viewports.{back_events}
 use Rattle.flat_rules.specs.Watch.{told}
-use Rattle.flat_core.specs.Watchers.{WatchedUpTo}
-use Rattle.flat_core.proofs.GetPosts.{finish-posts}
-use Rattle.flat_core.proofs.WatchingSteps.{few-to, watched-passed, watched-told}
-use Rattle.flat_core.proofs.DoneSteps.{told-then}
+use Rattle.flat_gets.specs.Watchers.{WatchedUpTo}
+use Rattle.flat_gets.proofs.GetPosts.{finish-posts}
+use Rattle.flat_gets.proofs.WatchingSteps.{few-to, watched-passed, watched-told}
+use Rattle.flat_gets.proofs.DoneSteps.{told-then}
 use Rattle.flat_core.proofs.dones.finish_one.Goals as goal
 
 pub settle-told-requires-clause-few : goal.settle-told-requires-clause-few

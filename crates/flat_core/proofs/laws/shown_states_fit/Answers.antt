@@ -1,4 +1,4 @@
-use Rattle.flat_core.proofs.ShownFits.{begun-fits, states-fit}
+use Rattle.flat_states.proofs.ShownFits.{begun-fits, states-fit}
 use Rattle.flat_rules.proofs.ShownList.{length-listed, length-sessions, nothing-shown}
 use Rattle.flat_rules.specs.Shown.{shown}
 use Rattle.flat_core.proofs.laws.shown_states_fit.Goals as goal

@@ -5,7 +5,7 @@ use Rattle.flat_run.proofs.Starting.{is_numbered, new_more}
 use Rattle.flat_run.proofs.run.new_readers.Goals as goal
 
 pub new-requires : goal.new-requires
-new-requires c = c.content_laws.ensures.sides_are_declared c.args.setup.now c.requires
+new-requires c = (c.args.setup.now, c.requires, refl)
 
 pub loop-before-preserved : goal.loop-before-preserved
 loop-before-preserved c =

@@ -1,7 +1,7 @@
 use Rattle.std.proofs.Common.{◌<◌, ◌≤◌, ◌+◌, [], ℕ, List, length, sum, arith, ap, sym, ◌∙◌, subst, refl}
 use Rattle.flat_scene.specs.declared.setup.Setup.{Setup}
 use Rattle.flat_scene.specs.Setups.{is_within_limits}
-use Rattle.flat_core.specs.Boards.{Machine}
+use Rattle.flat_core.specs.Machines.{Machine}
 use Rattle.flat_run.proofs.Places.{setup_is}
 use Rattle.flat_run.proofs.Starting.{few, first_answers, nothing_fits, limits_are, shares_length, shares_small, starts, first_shown}
 use Rattle.flat_run.proofs.run.start.Goals as goal

@@ -9,20 +9,21 @@ use Rattle.flat_scene.specs.declared.journal.Entry.{Entry}
 use Rattle.flat_scene.specs.declared.journal.Kind.TheVariants.{Begin}
 use Rattle.flat_scene.specs.declared.journal.Reply.TheVariants.{Done}
 use Rattle.flat_scene.specs.History.{◌▹◌}
-use Rattle.flat_core.specs.declared.state.SessionState.{SessionState}
-use Rattle.flat_core.specs.Boards.{AreEnds, Machine, all_due, entry_of}
+use Rattle.flat_states.specs.declared.state.SessionState.{SessionState}
+use Rattle.flat_states.specs.Machines.{AreEnds, Machine, entry_of}
+use Rattle.flat_gets.specs.Dues.{all_due}
 use Rattle.flat_rules.specs.Numbers.{number, AllNumbered}
-use Rattle.flat_core.specs.Kept.{IsKept}
-use Rattle.flat_core.specs.Seen.{seen_of}
+use Rattle.flat_states.specs.Kept.{IsKept}
+use Rattle.flat_states.specs.Seen.{seen_of}
 use Rattle.flat_topology.specs.Fit.{FitsSetup}
 use Rattle.flat_topology.specs.Shown.{Shown}
 use Rattle.flat_rules.specs.Legal.{Legal}
-use Rattle.flat_core.proofs.EndSteps.{ends-other}
-use Rattle.flat_core.proofs.ShownFits.{begun-fits}
-use Rattle.flat_core.specs.Begins.{begun, begin_entry}
-use Rattle.flat_core.proofs.Steps.{has-room, legal-entered}
-use Rattle.flat_core.proofs.BoardBegins.{kept-begun, place-small, not-ready}
-use Rattle.flat_core.proofs.WatchingSteps.{watched-after}
+use Rattle.flat_gets.proofs.EndSteps.{ends-other}
+use Rattle.flat_states.proofs.ShownFits.{begun-fits}
+use Rattle.flat_states.specs.Begins.{begun, begin_entry}
+use Rattle.flat_states.proofs.Steps.{has-room, legal-entered}
+use Rattle.flat_gets.proofs.BoardBegins.{kept-begun, place-small, not-ready}
+use Rattle.flat_gets.proofs.WatchingSteps.{watched-after}
 use Rattle.flat_core.proofs.board.Board.begin.Goals as goal
 use Rattle.flat_rules.proofs.ShownList.{length-listed}
 

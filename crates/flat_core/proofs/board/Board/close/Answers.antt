@@ -4,20 +4,20 @@ use Rattle.flat_scene.specs.declared.calls.Call.{Call}
 use Rattle.flat_scene.specs.declared.journal.Kind.TheVariants.{Close}
 use Rattle.flat_scene.specs.declared.journal.Entry.{Entry}
 use Rattle.flat_scene.specs.History.{◌▹◌, is_closed}
-use Rattle.flat_core.specs.Boards.{AreEnds, Machine, entry_of}
-use Rattle.flat_core.specs.declared.state.Account.{Account}
-use Rattle.flat_core.specs.Kept.{IsKept}
+use Rattle.flat_states.specs.Machines.{AreEnds, Machine, entry_of}
+use Rattle.flat_states.specs.declared.state.Account.{Account}
+use Rattle.flat_states.specs.Kept.{IsKept}
 use Rattle.flat_rules.specs.Legal.{Legal}
-use Rattle.flat_core.specs.Viewports.{AreViewports}
-use Rattle.flat_core.specs.Presents.{with_calls}
-use Rattle.flat_core.specs.Seen.{noted, seen_of}
-use Rattle.flat_core.proofs.Changes.{seen-closed, kept-closed, kept-noted, is-session}
-use Rattle.flat_core.proofs.Counts.{at-session, declared-some, kept-session}
-use Rattle.flat_core.proofs.EndSteps.{ends-closed}
+use Rattle.flat_states.specs.Viewports.{AreViewports}
+use Rattle.flat_states.specs.Presents.{with_calls}
+use Rattle.flat_states.specs.Seen.{noted, seen_of}
+use Rattle.flat_states.proofs.Changes.{seen-closed, kept-closed, kept-noted, is-session}
+use Rattle.flat_states.proofs.Counts.{at-session, declared-some, kept-session}
+use Rattle.flat_gets.proofs.EndSteps.{ends-closed}
 use Rattle.flat_core.proofs.UseSteps.{opened-close}
-use Rattle.flat_core.proofs.Ones.{declared-of, kept-one, plain-close, reply-close, closes-close}
-use Rattle.flat_core.proofs.Steps.{has-room, legal-entered, unchanged}
-use Rattle.flat_core.proofs.WatchingSteps.{watched-after}
+use Rattle.flat_states.proofs.Ones.{declared-of, kept-one, plain-close, reply-close, closes-close}
+use Rattle.flat_states.proofs.Steps.{has-room, legal-entered, unchanged}
+use Rattle.flat_gets.proofs.WatchingSteps.{watched-after}
 use Rattle.flat_core.proofs.board.Board.close.Goals as goal
 
 pub enter-requires : goal.enter-requires

@@ -5,11 +5,11 @@ use Rattle.flat_scene.specs.declared.journal.Kind.TheVariants.{Finish}
 use Rattle.flat_scene.specs.declared.journal.Reply.TheVariants.{Done}
 use Rattle.flat_scene.specs.History.{◌▹◌}
 use Rattle.flat_scene.specs.declared.journal.Entry.{Entry}
-use Rattle.flat_core.specs.Boards.{Machine, entry_of}
-use Rattle.flat_core.specs.Begins.{finish_entry, finished}
+use Rattle.flat_states.specs.Machines.{Machine, entry_of}
+use Rattle.flat_states.specs.Begins.{finish_entry, finished}
 use Rattle.flat_rules.specs.Legal.{Legal}
-use Rattle.flat_core.proofs.Steps.{has-room, legal-entered, short-history}
-use Rattle.flat_core.proofs.BoardBegins.{kept-finished, place-small}
+use Rattle.flat_states.proofs.Steps.{has-room, legal-entered, short-history}
+use Rattle.flat_gets.proofs.BoardBegins.{kept-finished, place-small}
 use Rattle.flat_core.proofs.board.Board.done.Goals as goal
 use Rattle.flat_rules.proofs.ShownList.{length-listed}
 

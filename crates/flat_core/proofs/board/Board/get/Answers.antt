@@ -5,18 +5,18 @@ use Rattle.flat_scene.specs.declared.calls.Call.{Call}
 use Rattle.flat_scene.specs.declared.journal.Entry.{Entry}
 use Rattle.flat_scene.specs.declared.journal.Kind.TheVariants.{Get}
 use Rattle.flat_scene.specs.History.{◌▹◌}
-use Rattle.flat_core.specs.Boards.{Machine, entry_of}
+use Rattle.flat_states.specs.Machines.{Machine, entry_of}
 use Rattle.flat_rules.specs.Legal.{Legal, reply_to}
-use Rattle.flat_core.specs.Presents.{TiesNoted}
-use Rattle.flat_core.specs.Seen.{is_new_viewport, noted}
-use Rattle.flat_core.specs.Watchers.{IsTelling}
-use Rattle.flat_core.proofs.EndSteps.{ends-after, none-new, noted-slice}
+use Rattle.flat_states.specs.Presents.{TiesNoted}
+use Rattle.flat_states.specs.Seen.{is_new_viewport, noted}
+use Rattle.flat_gets.specs.Watchers.{IsTelling}
+use Rattle.flat_gets.proofs.EndSteps.{ends-after, none-new, noted-slice}
 use Rattle.flat_core.proofs.GetCalls.{kept-got, room-got}
-use Rattle.flat_core.proofs.Ones.{declared-of}
-use Rattle.flat_core.proofs.Steps.{has-room, legal-entered, owed-small, room-more, short-enough, short-history}
-use Rattle.flat_core.proofs.WatchingSteps.{asked-known, asked-replied, few-all, watched-asked}
+use Rattle.flat_states.proofs.Ones.{declared-of}
+use Rattle.flat_states.proofs.Steps.{has-room, legal-entered, owed-small, room-more, short-enough, short-history}
+use Rattle.flat_gets.proofs.WatchingSteps.{asked-known, asked-replied, few-all, watched-asked}
 use Rattle.flat_core.proofs.board.Board.get.Goals as goal
-use Rattle.flat_core.proofs.Counts.{few-if}
+use Rattle.flat_states.proofs.Counts.{few-if}
 
 pub overflow_add-posts : goal.overflow_add-posts
 overflow_add-posts c =

@@ -1,6 +1,6 @@
 use Rattle.std.proofs.Common.{subst}
 use Rattle.flat_base.specs.declared.ids.SessionNo.{SessionNo}
-use Rattle.flat_core.specs.Boards.{Machine}
+use Rattle.flat_states.specs.Machines.{Machine}
 use Rattle.flat_core.specs.Journals.{FamiliesStandAlone, IsDecidedByGlimpses, IsQuietBeside}
 use Rattle.flat_core.proofs.Alone.{quiet-beside}
 use Rattle.flat_core.proofs.board.Board.journal.Goals as goal

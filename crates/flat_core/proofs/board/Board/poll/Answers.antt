@@ -4,17 +4,17 @@ use Rattle.std.specs.List.{list_any}
 use Rattle.flat_scene.specs.declared.calls.Call.{Call}
 use Rattle.flat_scene.specs.declared.journal.Kind.TheVariants.{Poll}
 use Rattle.flat_scene.specs.declared.journal.Reply.TheVariants.{Polled}
-use Rattle.flat_core.specs.declared.state.Account.{Account}
-use Rattle.flat_core.specs.Boards.{Machine}
+use Rattle.flat_states.specs.declared.state.Account.{Account}
+use Rattle.flat_states.specs.Machines.{Machine}
 use Rattle.flat_rules.specs.Legal.{reply_to, unread_events}
-use Rattle.flat_core.specs.Presents.{TiesNoted}
-use Rattle.flat_core.specs.Seen.{is_new_viewport, noted}
-use Rattle.flat_core.proofs.EndSteps.{ends-after, none-new, noted-slice}
-use Rattle.flat_core.proofs.Ones.{kept-one}
+use Rattle.flat_states.specs.Presents.{TiesNoted}
+use Rattle.flat_states.specs.Seen.{is_new_viewport, noted}
+use Rattle.flat_gets.proofs.EndSteps.{ends-after, none-new, noted-slice}
+use Rattle.flat_states.proofs.Ones.{kept-one}
 use Rattle.flat_core.proofs.Polled.{kept-polled}
 use Rattle.flat_core.proofs.PollSteps.{polled-within, handed}
-use Rattle.flat_core.proofs.Steps.{has-room, unchanged}
-use Rattle.flat_core.proofs.WatchingSteps.{told-too, watched-after}
+use Rattle.flat_states.proofs.Steps.{has-room, unchanged}
+use Rattle.flat_gets.proofs.WatchingSteps.{told-too, watched-after}
 use Rattle.flat_core.proofs.board.Board.poll.Goals as goal
 
 pub push_events_from-requires : goal.push_events_from-requires

@@ -6,15 +6,15 @@ use Rattle.flat_scene.specs.declared.calls.Call.{Call}
 use Rattle.flat_scene.specs.declared.journal.Kind.TheVariants.{View}
 use Rattle.flat_scene.specs.declared.journal.Reply.{Reply}
 use Rattle.flat_scene.specs.History.{◌▹◌}
-use Rattle.flat_core.specs.Boards.{Machine, entry_of}
+use Rattle.flat_states.specs.Machines.{Machine, entry_of}
 use Rattle.flat_rules.specs.Legal.{reply_to}
-use Rattle.flat_core.specs.Presents.{use_reply, TiesNoted}
-use Rattle.flat_core.specs.Seen.{is_new_viewport, noted}
-use Rattle.flat_core.proofs.EndSteps.{ends-after, none-new, noted-slice}
-use Rattle.flat_core.proofs.Ones.{kept-one}
-use Rattle.flat_core.proofs.Steps.{has-room, or-false}
-use Rattle.flat_core.proofs.ViewSteps.{view-replied, view-changed, view-below, view-kept, view-due}
-use Rattle.flat_core.proofs.WatchingSteps.{told-too, watched-after}
+use Rattle.flat_states.specs.Presents.{use_reply, TiesNoted}
+use Rattle.flat_states.specs.Seen.{is_new_viewport, noted}
+use Rattle.flat_gets.proofs.EndSteps.{ends-after, none-new, noted-slice}
+use Rattle.flat_states.proofs.Ones.{kept-one}
+use Rattle.flat_states.proofs.Steps.{has-room, or-false}
+use Rattle.flat_states.proofs.ViewSteps.{view-replied, view-changed, view-below, view-kept, view-due}
+use Rattle.flat_gets.proofs.WatchingSteps.{told-too, watched-after}
 use Rattle.flat_core.proofs.board.Board.view.Goals as goal
 
 pub set-requires : goal.set-requires

@@ -3,22 +3,23 @@ use Rattle.flat_base.specs.declared.ids.Actor.TheVariants.{Session}
 use Rattle.flat_scene.specs.declared.calls.Call.{Call}
 use Rattle.flat_scene.specs.declared.journal.Kind.TheVariants.{Viewport}
 use Rattle.flat_scene.specs.History.{◌▹◌}
-use Rattle.flat_core.specs.declared.viewports.Viewports.{Viewports}
-use Rattle.flat_core.specs.Boards.{HasRoom, Machine, all_due, due_told, entry_of}
-use Rattle.flat_core.specs.Watchers.{IsJoin, is_shut}
+use Rattle.flat_states.specs.declared.viewports.Viewports.{Viewports}
+use Rattle.flat_states.specs.Machines.{HasRoom, Machine, entry_of}
+use Rattle.flat_gets.specs.Dues.{all_due, due_told}
+use Rattle.flat_gets.specs.Watchers.{IsJoin, is_shut}
 use Rattle.flat_scene.specs.declared.journal.Entry.{Entry}
-use Rattle.flat_core.specs.declared.state.SessionState.{SessionState}
+use Rattle.flat_states.specs.declared.state.SessionState.{SessionState}
 use Rattle.std.specs.Prelude.{sum_by}
 use Rattle.flat_core.proofs.UseSteps.{shut-known}
 use Rattle.std.proofs.lemmas.Option.{slice_get_within}
 use Rattle.flat_rules.specs.Legal.{has_token, reply_to}
-use Rattle.flat_core.specs.Presents.{use_reply, IsUsed, TiesUsed}
-use Rattle.flat_core.specs.Seen.{noted}
-use Rattle.flat_core.proofs.Counts.{declared-some, few-if}
-use Rattle.flat_core.proofs.EndSteps.{ends-same}
-use Rattle.flat_core.proofs.Ones.{declared-of}
-use Rattle.flat_core.proofs.Steps.{has-room, owed-small, room-more, short-enough, short-history}
-use Rattle.flat_core.proofs.WatchingSteps.{few-all, seldom-all}
+use Rattle.flat_states.specs.Presents.{use_reply, IsUsed, TiesUsed}
+use Rattle.flat_states.specs.Seen.{noted}
+use Rattle.flat_states.proofs.Counts.{declared-some, few-if}
+use Rattle.flat_gets.proofs.EndSteps.{ends-same}
+use Rattle.flat_states.proofs.Ones.{declared-of}
+use Rattle.flat_states.proofs.Steps.{has-room, owed-small, room-more, short-enough, short-history}
+use Rattle.flat_gets.proofs.WatchingSteps.{few-all, seldom-all}
 use Rattle.flat_core.proofs.UseSteps.{held-told, join-used, kept-used, last-uses, others-none, replied, room-used, telling-used}
 use Rattle.flat_core.proofs.board.Board.viewport.Goals as goal
 

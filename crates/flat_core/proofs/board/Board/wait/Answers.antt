@@ -2,14 +2,14 @@ use Rattle.std.proofs.Common.{◌≡◌, refl, sym, subst, ap, ◌∙◌, List}
 use Rattle.std.specs.List.{list_any}
 use Rattle.flat_scene.specs.declared.calls.Call.{Call}
 use Rattle.flat_scene.specs.declared.journal.Kind.TheVariants.{Wait}
-use Rattle.flat_core.specs.Boards.{Machine}
+use Rattle.flat_states.specs.Machines.{Machine}
 use Rattle.flat_rules.specs.Legal.{reply_to}
-use Rattle.flat_core.specs.Presents.{noted_in, EndsNoted}
-use Rattle.flat_core.specs.Seen.{is_new_viewport}
-use Rattle.flat_core.proofs.EndSteps.{ends-after, none-new}
-use Rattle.flat_core.proofs.Ones.{kept-quiet, plain-wait, placed-of}
-use Rattle.flat_core.proofs.Steps.{has-room, unchanged}
-use Rattle.flat_core.proofs.WatchingSteps.{told-too, watched-after}
+use Rattle.flat_states.specs.Presents.{noted_in, EndsNoted}
+use Rattle.flat_states.specs.Seen.{is_new_viewport}
+use Rattle.flat_gets.proofs.EndSteps.{ends-after, none-new}
+use Rattle.flat_states.proofs.Ones.{kept-quiet, plain-wait, placed-of}
+use Rattle.flat_states.proofs.Steps.{has-room, unchanged}
+use Rattle.flat_gets.proofs.WatchingSteps.{told-too, watched-after}
 use Rattle.flat_core.proofs.board.Board.wait.Goals as goal
 use Rattle.flat_rules.proofs.Quiet.{closes-waited}
 

@@ -5,7 +5,7 @@ use Rattle.flat_scene.specs.declared.script.Body.TheVariants as body
 use Rattle.flat_scene.specs.declared.script.ScriptLine.{ScriptLine}
 use Rattle.flat_run.proofs.GameSteps.{below_declared, session_share, session_more, own_reader}
 use Rattle.flat_scene.specs.declared.script.Line.{Line}
-use Rattle.flat_core.specs.Boards.{HasShare}
+use Rattle.flat_core.specs.Machines.{HasShare}
 use Rattle.flat_rules.specs.Owned.{is_played_line}
 use Rattle.flat_stage.specs.Reads.{Reads, Stands}
 use Rattle.flat_run.proofs.Places.{here}

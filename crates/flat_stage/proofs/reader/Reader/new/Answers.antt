@@ -1,9 +1,16 @@
-use Rattle.std.proofs.Common.{◌≡◌, false, List, [], ap, ◌∙◌}
+use Rattle.std.proofs.Common.{◌≡◌, true, false, List, [], sym, ap, ◌∙◌, subst}
+use Rattle.std.specs.List.{list_all}
+use Rattle.flat_content.specs.Limits.{are_sides}
 use Rattle.flat_scene.specs.declared.setup.BufferDecl.{BufferDecl}
 use Rattle.flat_draft.specs.State.{empty_state}
 use Rattle.flat_stage.specs.declared.reader.Reader.{Reader}
 use Rattle.flat_stage.proofs.Beginning.{is_new}
 use Rattle.flat_stage.proofs.reader.Reader.new.Goals as goal
+
+pub new-requires : goal.new-requires
+new-requires c =
+    let S : List BufferDecl → Type 0 = λ buffers. list_all are_sides buffers ≡ true in
+    subst S (sym (c.in_ok-buffers.ensures ∙ c.requires.2)) (c.content_laws.ensures.sides_are_declared c.requires.0 c.requires.1)
 
 pub returns : goal.returns
 returns c = λ setup buffers declared.

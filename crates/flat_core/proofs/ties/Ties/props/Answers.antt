@@ -1,8 +1,0 @@
-use Rattle.std.proofs.Common.{◌∙◌}
-use Rattle.flat_core.proofs.ToldTies.{pair-of, props-kept}
-use Rattle.flat_core.proofs.ties.Ties.props.Goals as goal
-
-pub returns-in-Session : goal.returns-in-Session
-returns-in-Session c h tied =
-    let kept = pair-of c.args.setup.now h c.args.self.now.followings.items c.args.self.now.pairs.items c.args.p c.index-state.result.now tied c.requires.known c.index-state.ensures in
-    c.latest.ensures ∙ props-kept c.args.setup.now h c.args.p c.in-Session.field-0 c.at.result.now c.at.ensures c.in-Session.is c.index-state.result.now kept

@@ -1,0 +1,14 @@
+use Rattle.std.proofs.Common.{◌≡◌, ℕ, List, length}
+use Rattle.flat_scene.specs.declared.journal.Entry.{Entry}
+use Rattle.flat_states.specs.Begins.{begun}
+use Rattle.flat_states.specs.Following.{AreTied, IsBegun}
+use Rattle.flat_rules.specs.Numbers.{AllNumbered}
+use Rattle.flat_states.proofs.TiesBegin.{FollowedUpTo}
+use Rattle.flat_states.proofs.ties.Ties.begin.Given as goal
+
+abbrev pub invariant-loop-i : goal.invariant-loop-i
+invariant-loop-i l = record {
+  count : length l.self.followings.items ≡ l.setup.sessions;
+  pairs : l.self.pairs.items ≡ l.fn.self.pairs.items;
+  followed : (h : List Entry) (line time : ℕ) → IsBegun l.setup h line time l.sessions l.shown → AreTied l.setup h l.fn.self.followings.items l.fn.self.pairs.items → AllNumbered (FollowedUpTo l.setup h (begun h line time) l.i) l.self.followings.items;
+}

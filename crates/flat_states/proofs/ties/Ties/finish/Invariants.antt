@@ -1,0 +1,16 @@
+use Rattle.std.proofs.Common.{◌≡◌, ℕ, List, length}
+use Rattle.flat_scene.specs.declared.journal.Entry.{Entry}
+use Rattle.flat_states.specs.Begins.{finished}
+use Rattle.flat_states.specs.Following.{AreTied, IsFinished, pair}
+use Rattle.flat_rules.specs.Numbers.{AllNumbered}
+use Rattle.flat_states.proofs.TiesBegin.{FollowedUpTo}
+use Rattle.flat_states.proofs.TiesFinish.{PairUpTo}
+use Rattle.flat_states.proofs.ties.Ties.finish.Given as goal
+
+abbrev pub invariant-loop-i : goal.invariant-loop-i
+invariant-loop-i l = record {
+  count : length l.self.followings.items ≡ l.setup.sessions;
+  many : length l.self.pairs.items ≡ length l.fn.self.pairs.items;
+  followed : (h : List Entry) (line : ℕ) → IsFinished l.setup h line l.shown → AreTied l.setup h l.fn.self.followings.items l.fn.self.pairs.items → AllNumbered (FollowedUpTo l.setup h (finished h line) l.i) l.self.followings.items;
+  each : (h : List Entry) (line : ℕ) → IsFinished l.setup h line l.shown → AreTied l.setup h l.fn.self.followings.items l.fn.self.pairs.items → AllNumbered (λ j. PairUpTo l.setup h (finished h line) l.i (pair j)) l.self.pairs.items;
+}

@@ -1,0 +1,23 @@
+//! What a board keeps of its sessions and of the pairs that link them, and its log:
+//! the presents that wait and what frames took of them (state), the viewports that
+//! live and the tokens that are out (viewports), and by what the ends of pairs are told
+//! (ties). Each part stands for a history by a record of its own (specs/).
+//!
+//! flat_gets and flat_core, which are the board's other parts, cite the lemma files of
+//! proofs/.
+#![tactic(auto)]
+
+mod clears;
+pub mod clock;
+pub mod ends;
+pub mod following;
+pub mod live;
+pub mod log;
+pub mod pairs;
+pub mod state;
+pub mod ties;
+mod ties_tell;
+pub mod told;
+mod usage;
+pub mod viewports;
+pub mod views;

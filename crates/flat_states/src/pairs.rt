@@ -1,0 +1,86 @@
+ghost use Rattle.std.specs.Prelude.{◌≡◌, Some, [], ◌∷◌};
+ghost use Rattle.flat_states.specs.Views.{view_then, view_after, EndsViews, EndsOne};
+
+use crate::told::stamp_then;
+use flat_base::PairNo;
+use flat_scene::{Call, ViewportProps};
+
+/// What is kept of a pair, but for its token.
+#[derive(Clone, Copy, Debug, PartialEq, Eq)]
+pub struct PairState {
+    /// How many presents the owner of the view end had made when the view ended.
+    pub ended: Option<u32>,
+    /// How often the viewport end was used.
+    pub uses: u32,
+    /// How many presents its owner had made at the first Clear while a viewport of
+    /// the pair lived.
+    pub cleared: Option<u32>,
+    /// The serial of the viewport that the last use made, as far as a count goes.
+    pub serial: u64,
+    /// The properties of the last use, as they were given, and as a finished frame
+    /// has seen them last.
+    pub given: Option<ViewportProps>,
+    pub seen: Option<ViewportProps>,
+}
+
+/// The view of a pair ends.
+fn end_pair(pairs: &mut [PairState], p: PairNo, presents: u32)
+    ensures { EndsOne (Some p) presents pairs.old pairs.new }
+{
+    let place = p.0 as usize;
+    if place < pairs.len() {
+        let ended = stamp_then(pairs[place].ended, true, presents);
+        pairs[place].ended = ended;
+    }
+}
+
+/// The view ends, if there is one.
+fn end_view(pairs: &mut [PairState], view: Option<PairNo>, presents: u32)
+    ensures { EndsOne view presents pairs.old pairs.new }
+{
+    match view {
+        Some(p) => end_pair(pairs, p, presents),
+        None => {}
+    }
+}
+
+/// What a call does to the stamps of views.
+fn note_one(pairs: &mut [PairState], view: Option<PairNo>, call: &Call, presents: u32)
+    ensures { EndsViews view (call.now ∷ []) presents pairs.old pairs.new }
+{
+    match call {
+        Call::ReleaseView => end_view(pairs, view, presents),
+        Call::Clear => end_view(pairs, view, presents),
+        _ => {}
+    }
+}
+
+fn view_then(view: Option<PairNo>, call: &Call) -> Option<PairNo>
+    ensures { result ≡ view_then view call.now }
+{
+    match call {
+        Call::CreateView { pair } => Some(*pair),
+        Call::ReleaseView => None,
+        Call::Clear => None,
+        _ => view,
+    }
+}
+
+/// Notes the calls of an entry, where its session had this view and had made so
+/// many presents before. Answers the view after them. It takes no memory.
+pub fn note_views(
+    pairs: &mut [PairState],
+    view: Option<PairNo>,
+    calls: &[Call],
+    presents: u32,
+) -> Option<PairNo>
+    ensures view { result ≡ view_after view calls.now }
+    ensures ends { EndsViews view calls.now presents pairs.old pairs.new }
+{
+    let mut now = view;
+    for call in calls {
+        note_one(pairs, now, call, presents);
+        now = view_then(now, call);
+    }
+    now
+}

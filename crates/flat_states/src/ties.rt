@@ -1,0 +1,188 @@
+ghost use Rattle.std.specs.Prelude.{◌≡◌, ℕ, ◌-◌, ◌^◌, ◌<◌, ◌≤◌, [], All, IfOk, List, length};
+ghost use Rattle.flat_scene.specs.declared.setup.Setup.{Setup};
+ghost use Rattle.flat_scene.specs.declared.journal.Entry.{Entry};
+ghost use Rattle.flat_scene.specs.History.{◌▹◌};
+ghost use Rattle.flat_topology.specs.Fit.{FitsSetup};
+ghost use Rattle.flat_topology.specs.Shown.{state_of};
+ghost use Rattle.flat_states.specs.Begins.{begun, finished};
+ghost use Rattle.flat_states.specs.Following.{AreTied, IsBegun, IsFinished, IsOwnEntry, UsesNone, sight_of_state};
+ghost use Rattle.flat_states.specs.Usage.{IsUse, NotesCalls, SeesUses, uses_if};
+
+use crate::clears::note_clears;
+use crate::following::{Following, Sight};
+use crate::live::Live;
+use crate::pairs::{PairState, note_views};
+use crate::state::SessionState;
+use crate::usage::{count_contents, see_uses, use_pair};
+use flat_base::{NoMemory, PairNo, SessionNo};
+use flat_scene::{Call, Setup, ViewportProps};
+use flat_topology::Shown;
+use std::alloc::Global;
+
+/// What a history without a frame says of a session.
+pub const NOTHING: Sight = Sight {
+    closed: false,
+    taken: 0,
+    view: None,
+    connected: false,
+};
+
+const NEW_FOLLOWING: Following = Following {
+    view: None,
+    contents: 0,
+    begun: NOTHING,
+    finished: NOTHING,
+};
+
+const NEW_PAIR: PairState = PairState {
+    ended: None,
+    uses: 0,
+    cleared: None,
+    serial: 0,
+    given: None,
+    seen: None,
+};
+
+/// What the begin of a frame sees of a session.
+fn see_session(setup: &Setup, shown: &Shown, state: &SessionState, s: SessionNo) -> Sight
+    requires some { 0 < s.0 }
+    requires few { s.0 ≤ length shown.now }
+    requires goes { length state.now.going.items ≤ 5 }
+    requires fit { FitsSetup setup.now shown.now }
+    ensures { result ≡ sight_of_state setup.now shown.now state.now s }
+{
+    let view = match shown.state(s) {
+        Some(state) => state.view(),
+        None => None,
+    };
+    Sight {
+        closed: state.closed,
+        taken: state.taken(),
+        view,
+        connected: shown.connected(setup, s),
+    }
+}
+
+/// A finished frame had what is shown of a session, if it took something from it.
+fn see_taken(pairs: &mut Vec<PairState>, shown: &Shown, s: SessionNo, took: bool)
+    requires some { 0 < s.0 }
+    requires few { s.0 ≤ length shown.now }
+    ensures { SeesUses (uses_if took (state_of shown.now s.0)) pairs.old.items pairs.new.items }
+{
+    if !took {
+        return;
+    }
+    match shown.state(s) {
+        Some(state) => see_uses(pairs, state.viewports().as_slice()),
+        None => {}
+    }
+}
+
+/// What is kept of sessions and of pairs, by which the layout and the status of
+/// each pair's view, and its child, are told at once.
+#[derive(Debug, Drop)]
+pub struct Ties {
+    /// The sessions, the first of them session 1.
+    pub followings: Vec<Following>,
+    pub pairs: Vec<PairState>,
+}
+
+impl Ties {
+    /// Before any entry.
+    pub fn new(alloc: Global, setup: &Setup) -> Result<Ties, NoMemory>
+        ensures { IfOk result (λ ties. AreTied setup.now [] ties.followings.items ties.pairs.items) }
+    {
+        let followings = Vec::from_elem(alloc, NEW_FOLLOWING, setup.sessions as usize)?;
+        let pairs = Vec::from_elem(alloc, NEW_PAIR, setup.pairs.len())?;
+        Ok(Ties { followings, pairs })
+    }
+
+    /// Notes the calls of an entry of a session that is open, where the session had
+    /// made so many presents, and these viewports of it lived, before. It takes no
+    /// memory.
+    pub fn note(&mut self, s: SessionNo, calls: &[Call], presents: u32, live: &[Live])
+        requires some { 0 < s.0 }
+        requires few { s.0 ≤ length self.old.followings.items }
+        ensures sessions { length self.new.followings.items ≡ length self.old.followings.items }
+        ensures count { length self.new.pairs.items ≡ length self.old.pairs.items }
+        ensures tied { (setup : Setup) (h : List Entry) (e : Entry) → IsOwnEntry setup h e s calls.now presents live.now → UsesNone e → AreTied setup h self.old.followings.items self.old.pairs.items → AreTied setup (h ▹ e) self.new.followings.items self.new.pairs.items }
+    {
+        self.note_calls(s, calls, presents, live);
+    }
+
+    /// Notes a use of the viewport end of a pair, which was done. It takes no memory.
+    pub fn use_viewport(
+        &mut self,
+        s: SessionNo,
+        calls: &[Call],
+        presents: u32,
+        live: &[Live],
+        p: PairNo,
+        props: ViewportProps,
+    )
+        requires some { 0 < s.0 }
+        requires few { s.0 ≤ length self.old.followings.items }
+        ensures sessions { length self.new.followings.items ≡ length self.old.followings.items }
+        ensures count { length self.new.pairs.items ≡ length self.old.pairs.items }
+        ensures tied { (setup : Setup) (h : List Entry) (e : Entry) → IsOwnEntry setup h e s calls.now presents live.now → IsUse e p props → length h < 2 ^ 32 - 1 → AreTied setup h self.old.followings.items self.old.pairs.items → AreTied setup (h ▹ e) self.new.followings.items self.new.pairs.items }
+    {
+        let serial = self.note_calls(s, calls, presents, live);
+        use_pair(&mut self.pairs, p, serial, props);
+    }
+
+    /// Notes the begin of a frame, after it took what it takes: what it sees of each
+    /// session. It takes no memory.
+    pub fn begin(&mut self, setup: &Setup, sessions: &[SessionState], shown: &Shown)
+        requires count { length self.old.followings.items ≡ setup.now.sessions }
+        requires all { length sessions.now ≡ setup.now.sessions }
+        requires shown { length shown.now ≡ setup.now.sessions }
+        requires goes { All (λ state. length state.going.items ≤ 5) sessions.now }
+        requires fit { FitsSetup setup.now shown.now }
+        ensures sessions { length self.new.followings.items ≡ length self.old.followings.items }
+        ensures count { length self.new.pairs.items ≡ length self.old.pairs.items }
+        ensures tied { (h : List Entry) (line time : ℕ) → IsBegun setup.now h line time sessions.now shown.now → AreTied setup.now h self.old.followings.items self.old.pairs.items → AreTied setup.now (begun h line time) self.new.followings.items self.new.pairs.items }
+    {
+        for i in 0..setup.sessions {
+            let state = &sessions[i as usize];
+            self.followings[i as usize].begun = see_session(setup, shown, state, SessionNo(i + 1));
+        }
+    }
+
+    /// Notes the end of a frame, which had this shown: what its begin saw is that of
+    /// the last finished frame from now on. It looks at what is shown of those
+    /// sessions from which the frame took something. It takes no memory.
+    pub fn finish(&mut self, setup: &Setup, shown: &Shown)
+        requires count { length self.old.followings.items ≡ setup.now.sessions }
+        requires shown { length shown.now ≡ setup.now.sessions }
+        ensures sessions { length self.new.followings.items ≡ length self.old.followings.items }
+        ensures count { length self.new.pairs.items ≡ length self.old.pairs.items }
+        ensures tied { (h : List Entry) (line : ℕ) → IsFinished setup.now h line shown.now → AreTied setup.now h self.old.followings.items self.old.pairs.items → AreTied setup.now (finished h line) self.new.followings.items self.new.pairs.items }
+    {
+        for i in 0..setup.sessions {
+            let one = &mut self.followings[i as usize];
+            let took = one.finished.taken < one.begun.taken;
+            one.finished = one.begun;
+            see_taken(&mut self.pairs, shown, SessionNo(i + 1), took);
+        }
+    }
+
+    /// The same but for uses. Answers how many contents the session's calls made.
+    fn note_calls(&mut self, s: SessionNo, calls: &[Call], presents: u32, live: &[Live]) -> u64
+        requires some { 0 < s.0 }
+        requires few { s.0 ≤ length self.old.followings.items }
+        ensures { NotesCalls s calls.now presents live.now result self.old.followings.items self.new.followings.items self.old.pairs.items self.new.pairs.items }
+    {
+        let place = s.0 as usize - 1;
+        let old = self.followings[place];
+        let view = note_views(self.pairs.as_mut_slice(), old.view, calls, presents);
+        note_clears(self.pairs.as_mut_slice(), live, calls, presents);
+        let contents = count_contents(old.contents, calls);
+        self.followings[place] = Following {
+            view,
+            contents,
+            begun: old.begun,
+            finished: old.finished,
+        };
+        contents
+    }
+}
