@@ -34,13 +34,14 @@ use Rattle.flat_rules.specs.Shown.{shown_states}
 use Rattle.flat_report.specs.Report.{frame_at, hits_at}
 use Rattle.flat_script.specs.declared.script.Script.{Script}
 use Rattle.flat_run.specs.declared.game.Game.{Game}
-use Rattle.flat_run.specs.declared.player.Player.{Player}
+use Rattle.flat_stage.specs.declared.reader.Reader.{Reader}
 use Rattle.flat_playable.specs.Playable.{is_played, keeps_frames}
-use Rattle.flat_run.specs.Playing.{IsSpent, lines_by, shares_of, Grows, grows, stays, is_quiet, PlayerStands, PlayersStand, DisplayStands, FramesStand, GameStands, BeginsFrame, FinishesFrame, EntersBeside, AsksPoint, AnswersStand, HasViews, session_text, display_text}
-use Rattle.flat_run.proofs.DisplaySteps.{QuietStep, quiet_begin, quiet_finish, quiet_end, quiet_answers, answers_session, answers_beside, answers_done, answers_point, display_session, display_begin, display_done, display_beside, display_share, begin_time_ok, done_ok, may_begin, may_finish, frames_session, frames_beside, frames_begin, frames_done}
+use Rattle.flat_run.specs.Playing.{IsSpent, lines_by, shares_of, ReaderStands, ReadersStand, DisplayStands, FramesStand, GameStands, BeginsFrame, FinishesFrame, EntersBeside, AsksPoint, AnswersStand, HasViews, session_text, display_text}
+use Rattle.flat_run.proofs.Growing.{Grows, grows, stays, is_quiet}
+use Rattle.flat_run.proofs.DisplaySteps.{QuietStep, quiet_begin, quiet_finish, quiet_end, quiet_answers, answers_session, answers_beside, answers_done, answers_point, display_session, display_begin, display_done, display_beside, frames_session, frames_beside, frames_begin, frames_done}
 use Rattle.flat_run.proofs.DisplaySteps as quiet
 use Rattle.flat_rules.proofs.ShownList.{length-listed}
-use Rattle.flat_run.proofs.Steps.{At, Step, same, more, order_more, spent_more, player_other}
+use Rattle.flat_run.proofs.Steps.{At, Step, same, more, order_more, spent_more, reader_other}
 use Rattle.flat_run.proofs.Conditions.{and_left, and_right}
 
 -- ---- sessions and their shares
@@ -111,52 +112,52 @@ module _ (script : Script) (place : ℕ) (x : ScriptLine) (at : At script place 
       let few : made s.0 m.history ≤ lines_by s.0 script.lines = let now = spent.spent s.0 in omega arith in
       has_room script m s.0 within.0 within.1 shares few
 
-  -- all players, where one has played the line
-  players_more : (s : SessionNo) (old new : List Entry) (players : List Player) (player : Player) → x.actor ≡ Session s → 0 < s.0 → s.0 ≤ length players → Step x old new
-      → PlayersStand script place old players → PlayerStands script s (place + 1) new player → PlayersStand script (place + 1) new (set players (s.0 - 1) player)
-  players_more s old new players player actor above below step stand mine = record {
-    count = length-set players (s.0 - 1) player ∙ stand.count;
-    each = λ k d inside. by_place k d (omega (arith, length-set players (s.0 - 1) player)) (k + 1 == s.0) refl;
+  -- all readers, where one has played the line
+  readers_more : (s : SessionNo) (old new : List Entry) (readers : List Reader) (reader : Reader) → x.actor ≡ Session s → 0 < s.0 → s.0 ≤ length readers → Step x old new
+      → ReadersStand script place old readers → ReaderStands script s (place + 1) new reader → ReadersStand script (place + 1) new (set readers (s.0 - 1) reader)
+  readers_more s old new readers reader actor above below step stand mine = record {
+    count = length-set readers (s.0 - 1) reader ∙ stand.count;
+    each = λ k d inside. by_place k d (omega (arith, length-set readers (s.0 - 1) reader)) (k + 1 == s.0) refl;
   }
     where
-      by_place : (k : ℕ) (d : Player) → k < length players → (b : Bool) → (k + 1 == s.0) ≡ b → PlayerStands script (record { 0 = k + 1 }) (place + 1) new (get_or (set players (s.0 - 1) player) k d)
+      by_place : (k : ℕ) (d : Reader) → k < length readers → (b : Bool) → (k + 1 == s.0) ≡ b → ReaderStands script (record { 0 = k + 1 }) (place + 1) new (get_or (set readers (s.0 - 1) reader) k d)
       by_place k d inside true is =
           let here : k + 1 ≡ s.0 = eqb-true (k + 1) s.0 is in
           let index : k ≡ s.0 - 1 = omega arith in
-          let P : ℕ → Type 0 = λ n. PlayerStands script (record { 0 = n }) (place + 1) new player in
-          let Q : Player → Type 0 = λ p. PlayerStands script (record { 0 = k + 1 }) (place + 1) new p in
-          let within : s.0 - 1 < length players = omega arith in
-          let found : get_or (set players (s.0 - 1) player) k d ≡ player = ap (λ n. get_or (set players (s.0 - 1) player) n d) index ∙ rw get_or-set_same refl in
+          let P : ℕ → Type 0 = λ n. ReaderStands script (record { 0 = n }) (place + 1) new reader in
+          let Q : Reader → Type 0 = λ p. ReaderStands script (record { 0 = k + 1 }) (place + 1) new p in
+          let within : s.0 - 1 < length readers = omega arith in
+          let found : get_or (set readers (s.0 - 1) reader) k d ≡ reader = ap (λ n. get_or (set readers (s.0 - 1) reader) n d) index ∙ rw get_or-set_same refl in
           subst Q (sym found) (subst P (sym here) mine)
       by_place k d inside false is =
           let other : k ≢ s.0 - 1 = (λ same. let yes : (k + 1 == s.0) ≡ true = eq-eqb (k + 1) s.0 (omega arith) in let both : true ≡ false = sym yes ∙ is in cc) in
           let differ : s.0 ≢ k + 1 = (λ same. let yes : (k + 1 == s.0) ≡ true = eq-eqb (k + 1) s.0 (sym same) in let both : true ≡ false = sym yes ∙ is in cc) in
           let apart : is_session (record { 0 = k + 1 }) x.actor ≡ false = ap (is_session (record { 0 = k + 1 })) actor ∙ not_same s.0 (k + 1) differ in
-          rw get_or-set_other (player_other script place x at (record { 0 = k + 1 }) apart old new (get_or players k d) step (stand.each k d inside))
+          rw get_or-set_other (reader_other script place x at (record { 0 = k + 1 }) apart old new (get_or readers k d) step (stand.each k d inside))
 
-  display_players : (old_players players : List Player) (old new : List Entry) → x.actor ≡ Display → Step x old new → players ≡ old_players → PlayersStand script place old old_players → PlayersStand script (place + 1) new players
-  display_players old_players players old new actor step is stand =
-      let P : List Player → Type 0 = PlayersStand script (place + 1) new in
+  display_readers : (old_readers readers : List Reader) (old new : List Entry) → x.actor ≡ Display → Step x old new → readers ≡ old_readers → ReadersStand script place old old_readers → ReadersStand script (place + 1) new readers
+  display_readers old_readers readers old new actor step is stand =
+      let P : List Reader → Type 0 = ReadersStand script (place + 1) new in
       subst P (sym is) (record {
         count = stand.count;
-        each = λ k d inside. player_other script place x at (record { 0 = k + 1 }) (ap (is_session (record { 0 = k + 1 })) actor) old new (get_or old_players k d) step (stand.each k d inside);
+        each = λ k d inside. reader_other script place x at (record { 0 = k + 1 }) (ap (is_session (record { 0 = k + 1 })) actor) old new (get_or old_readers k d) step (stand.each k d inside);
       })
 
-  -- a line of a session, which its player has played
-  pub session_more : (old new : Game) (s : SessionNo) (text : Line) (player : Player) → x.actor ≡ Session s → x.body ≡ body.Session text → is_declared script.setup s ≡ true → GameStands script place old
-      → new.players.items ≡ set old.players.items (s.0 - 1) player → PlayerStands script s (place + 1) new.board.history player → Grows old.board new.board (Session s) x.number
+  -- a line of a session, which its reader has played
+  pub session_more : (old new : Game) (s : SessionNo) (text : Line) (reader : Reader) → x.actor ≡ Session s → x.body ≡ body.Session text → is_declared script.setup s ≡ true → GameStands script place old
+      → new.readers.items ≡ set old.readers.items (s.0 - 1) reader → ReaderStands script s (place + 1) new.board.history reader → Grows old.board new.board (Session s) x.number
       → new.shown ≡ old.shown → new.with_view ≡ old.with_view → new.frames.items ≡ old.frames.items → new.last ≡ old.last → new.answers ≡ old.answers → GameStands script (place + 1) new
-  session_more old new s text player actor is declared stands players_is mine grown shown_is views_is frames_are last_is answers_are =
+  session_more old new s text reader actor is declared stands readers_is mine grown shown_is views_is frames_are last_is answers_are =
       let g : Grown x old.board new.board = grown_is x s old.board new.board actor grown in
       let within = below_declared script.setup s declared in
-      let inside : s.0 ≤ length old.players.items = let count = stands.players.count in let below = within.1 in omega arith in
-      let P : List Player → Type 0 = PlayersStand script (place + 1) new.board.history in
+      let inside : s.0 ≤ length old.readers.items = let count = stands.readers.count in let below = within.1 in omega arith in
+      let P : List Reader → Type 0 = ReadersStand script (place + 1) new.board.history in
       let V : SessionSet → Type 0 = HasViews script.setup in
       let F : Shown → SessionSet → List FrameOut → Type 0 = FramesStand script.setup new.board.history in
       record {
         setup = g.setup ∙ stands.setup;
         shares = g.shares ∙ stands.shares;
-        players = subst P (sym players_is) (players_more s old.board.history new.board.history old.players.items player actor within.0 inside g.step stands.players mine);
+        readers = subst P (sym readers_is) (readers_more s old.board.history new.board.history old.readers.items reader actor within.0 inside g.step stands.readers mine);
         display = display_session script place x at text is old.board.history new.board.history g.calm stands.display;
         order = order_more script place x at old.board.history new.board.history g.step stands.order;
         spent = spent_more script place x at old.board.history new.board.history g.step stands.spent;
@@ -185,7 +186,7 @@ module _ (script : Script) (place : ℕ) (x : ScriptLine) (at : At script place 
       record {
         setup = setup;
         shares = ap (λ (m : Machine). m.shares) begins.board ∙ stands.shares;
-        players = display_players old.players.items new.players.items h new.board.history actor step (ap (λ v. v.items) begins.players) stands.players;
+        readers = display_readers old.readers.items new.readers.items h new.board.history actor step (ap (λ v. v.items) begins.readers) stands.readers;
         display = subst D (sym grown) (display_begin script place x at time is h stands.display);
         order = order_more script place x at h new.board.history step stands.order;
         spent = spent_more script place x at h new.board.history step stands.spent;
@@ -211,7 +212,7 @@ module _ (script : Script) (place : ℕ) (x : ScriptLine) (at : At script place 
       record {
         setup = ap (λ (m : Machine). m.setup) finishes.board ∙ stands.setup;
         shares = ap (λ (m : Machine). m.shares) finishes.board ∙ stands.shares;
-        players = display_players old.players.items new.players.items h new.board.history actor step (ap (λ v. v.items) finishes.players) stands.players;
+        readers = display_readers old.readers.items new.readers.items h new.board.history actor step (ap (λ v. v.items) finishes.readers) stands.readers;
         display = subst D (sym grown) (display_done script place x at is h stands.display);
         order = order_more script place x at h new.board.history step stands.order;
         spent = spent_more script place x at h new.board.history step stands.spent;
@@ -225,9 +226,9 @@ module _ (script : Script) (place : ℕ) (x : ScriptLine) (at : At script place 
   -- any of these, by what becomes of the answers
   entered_more : (old new : Game) (text : DisplayLine) (kind : Kind) (reply : Reply) → x.actor ≡ Display → x.body ≡ body.Display text → entry_of_display text ≡ kind → is_begin kind ≡ false → is_finish kind ≡ false → is_end kind ≡ false
       → ((o : Bool) (t : ℕ) (follows : Bool → ℕ → Bool) → keeps_frames o t (body.Display text) follows ≡ follows o t)
-      → GameStands script place old → new.board ≡ entered old.board Display x.number [] kind reply → new.shown ≡ old.shown → new.with_view ≡ old.with_view → new.players ≡ old.players → new.frames ≡ old.frames
+      → GameStands script place old → new.board ≡ entered old.board Display x.number [] kind reply → new.shown ≡ old.shown → new.with_view ≡ old.with_view → new.readers ≡ old.readers → new.frames ≡ old.frames
       → AnswersStand script.setup (old.board.history ▹ entry_of Display x.number [] kind reply) new.last new.answers → GameStands script (place + 1) new
-  entered_more old new text kind reply actor is makes no_begin no_finish no_end keeps stands board shown_is views_is players_are frames_are answers =
+  entered_more old new text kind reply actor is makes no_begin no_finish no_end keeps stands board shown_is views_is readers_are frames_are answers =
       let e : Entry = entry_of Display x.number [] kind reply in
       let h : List Entry = old.board.history in
       let grown : new.board.history ≡ (h ▹ e) = ap (λ (m : Machine). m.history) board in
@@ -239,7 +240,7 @@ module _ (script : Script) (place : ℕ) (x : ScriptLine) (at : At script place 
       record {
         setup = ap (λ (m : Machine). m.setup) board ∙ stands.setup;
         shares = ap (λ (m : Machine). m.shares) board ∙ stands.shares;
-        players = display_players old.players.items new.players.items h new.board.history actor step (ap (λ v. v.items) players_are) stands.players;
+        readers = display_readers old.readers.items new.readers.items h new.board.history actor step (ap (λ v. v.items) readers_are) stands.readers;
         display = subst D (sym grown) (display_beside script place x at text kind reply is makes no_begin no_finish keeps h stands.display);
         order = order_more script place x at h new.board.history step stands.order;
         spent = spent_more script place x at h new.board.history step stands.spent;
@@ -255,25 +256,25 @@ module _ (script : Script) (place : ℕ) (x : ScriptLine) (at : At script place 
   beside_more old new text kind reply actor is makes calm keeps stands enters =
       let e : Entry = entry_of Display x.number [] kind reply in
       let h : List Entry = old.board.history in
-      entered_more old new text kind reply actor is makes (quiet_begin kind calm) (quiet_finish kind calm) (quiet_end kind calm) keeps stands enters.board enters.shown enters.with_view enters.players enters.kept
+      entered_more old new text kind reply actor is makes (quiet_begin kind calm) (quiet_finish kind calm) (quiet_end kind calm) keeps stands enters.board enters.shown enters.with_view enters.readers enters.kept
       (rw (enters.last, enters.answers) (answers_beside script.setup h old.last old.answers stands.answers e (quiet_finish kind calm) (quiet_answers e (frames h) (hits_at script.setup (to_finished h)) kind calm)))
 
   -- a line that asks for a point
   pub point_more : (old new : Game) (px py : ℤ) → x.actor ≡ Display → x.body ≡ body.Display (display.Hit px py) → GameStands script place old → AsksPoint old new x.number px py → GameStands script (place + 1) new
   point_more old new px py actor is stands asks =
-      entered_more old new (display.Hit px py) (Hit px py) Done actor is refl refl refl refl (λ o t follows. refl) stands asks.board asks.shown asks.with_view asks.players asks.kept
+      entered_more old new (display.Hit px py) (Hit px py) Done actor is refl refl refl refl (λ o t follows. refl) stands asks.board asks.shown asks.with_view asks.readers asks.kept
       (rw asks.last (answers_point script.setup old.board.history old.last old.answers stands.answers x.number px py new.answers asks.answers))
 
--- the player of a session
-pub own_player : (script : Script) (place : ℕ) (history : List Entry) (players : List Player) (s : SessionNo) → is_declared script.setup s ≡ true → PlayersStand script place history players
-    → (player : Player) → player ≡ get_or players (s.0 - 1) player → PlayerStands script s place history player
-own_player script place history players s declared stand player is =
+-- the reader of a session
+pub own_reader : (script : Script) (place : ℕ) (history : List Entry) (readers : List Reader) (s : SessionNo) → is_declared script.setup s ≡ true → ReadersStand script place history readers
+    → (reader : Reader) → reader ≡ get_or readers (s.0 - 1) reader → ReaderStands script s place history reader
+own_reader script place history readers s declared stand reader is =
     let within = below_declared script.setup s declared in
-    let inside : s.0 - 1 < length players = let count = stand.count in let a = within.0 in let b = within.1 in omega arith in
+    let inside : s.0 - 1 < length readers = let count = stand.count in let a = within.0 in let b = within.1 in omega arith in
     let here : s.0 - 1 + 1 ≡ s.0 = let a = within.0 in omega arith in
-    let P : ℕ → Type 0 = λ n. PlayerStands script (record { 0 = n }) place history (get_or players (s.0 - 1) player) in
-    let Q : Player → Type 0 = λ p. PlayerStands script s place history p in
-    subst Q (sym is) (subst P here (stand.each (s.0 - 1) player inside))
+    let P : ℕ → Type 0 = λ n. ReaderStands script (record { 0 = n }) place history (get_or readers (s.0 - 1) reader) in
+    let Q : Reader → Type 0 = λ p. ReaderStands script s place history p in
+    subst Q (sym is) (subst P here (stand.each (s.0 - 1) reader inside))
 
 -- a session plays lines of a session, the display its own, and a probe none
 pub no_session_text : (setup : Setup) (s : SessionNo) (text : Body) → is_played setup (Session s) text ≡ true → session_text text ≡ None → ⊥

@@ -1,14 +1,14 @@
 -- A line of a script at its place.
-use Rattle.std.proofs.Common.{◌≡◌, ℕ, ◌+◌, ◌<◌, Bool, true, false, ◌==◌, nat_lt, nat_le, List, [], ◌∷◌, ◌++◌, length, filter, take, drop, get_or, refl, sym, ap, ◌∙◌, add-one, Some, slice_get}
+use Rattle.std.proofs.Common.{◌≡◌, ℕ, ◌+◌, ◌<◌, true, false, ◌==◌, nat_le, List, [], ◌∷◌, ◌++◌, length, take, drop, get_or, refl, sym, ap, ◌∙◌, add-one, Some, slice_get}
 use Rattle.std.specs.List.{list_all}
 use Rattle.std.proofs.Math.Seq.{drop-cons}
 use Rattle.std.proofs.lemmas.Bool.{eq-eqb}
+use Rattle.std.proofs.lemmas.Grind.{flat_map-append}
 use Rattle.std.proofs.lemmas.List.{take_more, take-append-drop}
 use Rattle.std.proofs.lemmas.Option.{slice_get_within, slice_get-get_or}
 use Rattle.flat_base.specs.declared.ids.Actor.TheVariants.{Session}
 use Rattle.flat_base.specs.declared.ids.SessionNo.{SessionNo}
 use Rattle.flat_base.specs.declared.limits.TheConstants.{SCRIPT_BYTES_MAX}
-use Rattle.flat_scene.specs.declared.script.Body.{Body}
 use Rattle.flat_scene.specs.declared.script.Body.TheVariants as body
 use Rattle.flat_scene.specs.declared.script.Line.{Line}
 use Rattle.flat_scene.specs.declared.script.ScriptLine.{ScriptLine}
@@ -18,9 +18,9 @@ use Rattle.flat_scene.specs.Setups.{is_declared, is_setup}
 use Rattle.flat_script.specs.declared.script.Script.{Script}
 use Rattle.flat_rules.specs.Owned.{is_played_line}
 use Rattle.flat_playable.specs.Playable.{rise_from, frames_close, is_played, is_playable}
-use Rattle.flat_run.specs.Playing.{last_number, lines_left}
+use Rattle.flat_run.specs.Playing.{last_number}
 use Rattle.flat_run.proofs.Conditions.{and_left, and_right, all_at}
-use Rattle.flat_run.proofs.Unread.{rise_first, rise_later, unread_after, Numbered}
+use Rattle.flat_run.proofs.Unread.{rise_first, rise_later}
 
 -- ---- lists around a place
 
@@ -76,20 +76,11 @@ module _ (script : Script) (playable : is_playable script ≡ true) where
 
 -- ---- a session's line
 
-pub session_numbered : (s : SessionNo) (next : ScriptLine) → Numbered next.number (session_line (is_session s next.actor) next.number next.body)
-session_numbered s next = by_test (is_session s next.actor) next.body
-  where
-    by_test : (b : Bool) (text : Body) → Numbered next.number (session_line b next.number text)
-    by_test true (body.Session text) = (refl, tt)
-    by_test true _ = tt
-    by_test false _ = tt
-
 -- What is known of a session's line at its place.
 pub record Here (script : Script) (s : SessionNo) (place number : ℕ) (text : Line) : Type 0 where
-  pub left : lines_left script s place ≡ (number, text) ∷ lines_left script s (place + 1)
+  pub taken : session_lines s (take (place + 1) script.lines) ≡ session_lines s (take place script.lines) ++ (number, text) ∷ []
   pub last : last_number 0 (take (place + 1) script.lines) ≡ number
   pub above : last_number 0 (take place script.lines) < number
-  pub unread : filter (λ one. nat_lt number one.0) (session_lines s script.lines) ≡ lines_left script s (place + 1)
   pub played : is_played_line script.setup s text ≡ true
   pub declared : is_declared script.setup s ≡ true
 
@@ -107,11 +98,10 @@ here script s place number text playable at =
     all_at (λ (one : ScriptLine). is_played script.setup one.actor one.body) (take place all) next (drop (place + 1) all)
     (ap (list_all (λ (one : ScriptLine). is_played script.setup one.actor one.body)) (sym split) ∙ played_all script playable) in
     record {
-      left = ap (session_lines s) (drop_at all place next at) ∙ ap (λ t. t ++ lines_left script s (place + 1)) (own_line s number text);
+      taken = ap (session_lines s) (take_at all place next at) ∙ flat_map-append (λ (one : ScriptLine). session_line (is_session s one.actor) one.number one.body) (take place all) (next ∷ [])
+          ∙ ap (λ t. session_lines s (take place all) ++ (t ++ [])) (own_line s number text);
       last = ap (last_number 0) (take_at all place next at) ∙ last_more 0 (take place all) next;
       above = last_below 0 (take place all) next (drop (place + 1) all) rise;
-      unread = ap (λ ls. filter (λ one. nat_lt number one.0) (session_lines s ls)) split
-          ∙ unread_after (λ one. session_line (is_session s one.actor) one.number one.body) (session_numbered s) 0 (take place all) next (drop (place + 1) all) rise;
       played = and_right _ _ played;
       declared = and_left _ _ played;
     }

@@ -1,10 +1,11 @@
 -- The run before its first line.
-use Rattle.std.proofs.Common.{◌≡◌, ℕ, zero, suc, ◌+◌, ◌*◌, ◌<◌, ◌≤◌, Bool, true, false, cond, ◌==◌, not, nat_lt, nat_le, List, [], ◌∷◌, ◌++◌, length, map, sum, All, refl, sym, ap, ◌∙◌, subst, arith, add-one, None}
+use Rattle.std.proofs.Common.{◌≡◌, ℕ, zero, suc, ◌+◌, ◌*◌, ◌<◌, ◌≤◌, Bool, true, false, cond, ◌==◌, not, nat_lt, nat_le, List, [], ◌∷◌, ◌++◌, length, map, sum, get_or, length-append, All, refl, sym, ap, ◌∙◌, subst, arith, add-one, None}
 use Rattle.std.specs.List.{list_all, list_any}
 use Rattle.std.specs.Prelude.{slice_index_or}
 use Rattle.std.proofs.lemmas.Bool.Decides.{nat_tests}
 use Rattle.std.proofs.lemmas.Grind.{common_steps}
-use Rattle.std.proofs.lemmas.List.{map-append}
+use Rattle.std.proofs.lemmas.List.{map-append, get_or_append_left}
+use Rattle.std.proofs.Math.Seq.{get_or-append_seam}
 use Rattle.std.proofs.lemmas.List.Sums.{sum_by-append}
 use Rattle.flat_base.specs.declared.ids.SessionNo.{SessionNo}
 use Rattle.flat_base.specs.declared.limits.TheConstants.{SCRIPT_BYTES_MAX, SESSIONS_MAX}
@@ -13,11 +14,10 @@ use Rattle.flat_scene.specs.declared.frames.FrameOut.{FrameOut}
 use Rattle.flat_scene.specs.declared.journal.Entry.{Entry}
 use Rattle.flat_scene.specs.declared.script.ScriptLine.{ScriptLine}
 use Rattle.flat_scene.specs.declared.setup.Setup.{Setup}
-use Rattle.flat_scene.specs.Draft.{empty_draft}
 use Rattle.flat_scene.specs.Frames.{sessions_to}
-use Rattle.flat_scene.specs.History.{seat_number, is_session}
-use Rattle.flat_scene.specs.Interleave.{session_lines, session_line, display_line, unread_lines, next_from}
-use Rattle.flat_scene.specs.Setups.{is_setup, is_within_limits}
+use Rattle.flat_scene.specs.History.{seat_number}
+use Rattle.flat_scene.specs.Interleave.{display_line}
+use Rattle.flat_scene.specs.Setups.{is_declared, is_setup, is_within_limits}
 use Rattle.flat_rules.proofs.ShownList.{length-listed}
 use Rattle.flat_rules.specs.Laws.{BegunStatesFit, NothingIsShownAtFirst}
 use Rattle.flat_core.specs.Machines.{Machine}
@@ -26,17 +26,19 @@ use Rattle.flat_topology.specs.Connected.{joined_lists}
 use Rattle.flat_report.specs.declared.report.HitAnswer.{HitAnswer}
 use Rattle.flat_topology.specs.Shown.{Shown}
 use Rattle.flat_topology.specs.Views.{is_member}
-use Rattle.flat_draft.specs.Laws.{EmptyStands}
+use Rattle.flat_stage.specs.declared.reader.Reader.{Reader}
+use Rattle.flat_stage.specs.Readings.{NoneIsRead}
+use Rattle.flat_stage.specs.Reads.{IsNew}
 use Rattle.flat_script.specs.declared.script.Script.{Script}
 use Rattle.flat_playable.specs.Playable.{rise_from, is_playable}
 use Rattle.flat_run.specs.declared.game.Game.{Game}
-use Rattle.flat_run.specs.declared.player.Player.{Player}
 use Rattle.flat_topology.specs.Fit.{FitsSetup}
 use Rattle.flat_run.specs.declared.game.LastFrame.{LastFrame}
-use Rattle.flat_run.specs.Playing.{AnswersStand, lines_by, rest_shares, shares_of, first_player, PlayerStands, PlayersStand, DisplayStands, IsInOrder, IsSpent, FramesStand, GameStands}
-use Rattle.flat_run.proofs.Places.{few_lines, rises, counted, frames_are, setup_is, session_numbered}
+use Rattle.flat_run.specs.Playing.{AnswersStand, lines_by, rest_shares, shares_of, AreNew, ReadersStand, DisplayStands, IsInOrder, IsSpent, FramesStand, GameStands}
+use Rattle.flat_run.proofs.Places.{few_lines, rises, counted, frames_are, setup_is}
 use Rattle.flat_run.proofs.DisplaySteps.{display_numbered}
-use Rattle.flat_run.proofs.Conditions.{and_left, and_right}
+use Rattle.flat_run.proofs.Conditions.{and_left, and_right, and_true}
+use Rattle.flat_run.proofs.Readers.{new_stands}
 use Rattle.flat_run.proofs.Unread.{rise_first, rise_later, later_all}
 
 -- ---- the shares
@@ -132,12 +134,37 @@ shares_small script playable =
     let bound : script.setup.sessions * 16777217 ≤ 16 * 16777217 = few_of_few script.setup.sessions 16 16777217 sessions in
     omega (arith, rest, first, all, bound, lines)
 
+-- ---- a reader of each session
+
+pub is_numbered : (setup : Setup) (before : ℕ) → before < setup.sessions → is_declared setup (record { 0 = before + 1 }) ≡ true
+is_numbered setup before within =
+    let a : nat_lt 0 (before + 1) ≡ true = grind (arith, nat_tests) in
+    let b : nat_le (before + 1) setup.sessions ≡ true = grind (arith, nat_tests) in
+    and_true a b
+
+last_new : (setup : Setup) (readers : List Reader) (reader : Reader) (k : ℕ) (d : Reader) → ((k : ℕ) (d : Reader) → k < length readers → IsNew setup (record { 0 = k + 1 }) (get_or readers k d)) → IsNew setup (record { 0 = length readers + 1 }) reader → k < length readers + 1
+    → (b : Bool) → nat_lt k (length readers) ≡ b → IsNew setup (record { 0 = k + 1 }) (get_or (readers ++ reader ∷ []) k d)
+last_new setup readers reader k d each new below true is =
+    let less : k < length readers = grind (arith, nat_tests) in
+    let P : Reader → Type 0 = IsNew setup (record { 0 = k + 1 }) in
+    subst P (sym (get_or_append_left readers (reader ∷ []) d k less)) (each k d less)
+last_new setup readers reader k d each new below false is =
+    let same : k ≡ length readers = grind (arith, nat_tests) in
+    let P : Reader → Type 0 = IsNew setup (record { 0 = length readers + 1 }) in
+    let N : ℕ → Type 0 = λ n. IsNew setup (record { 0 = n + 1 }) (get_or (readers ++ reader ∷ []) n d) in
+    subst N (sym same) (subst P (sym (get_or-append_seam readers reader [] d)) new)
+
+pub new_more : (setup : Setup) (before : ℕ) (readers : List Reader) (reader : Reader) → AreNew setup before readers → IsNew setup (record { 0 = before + 1 }) reader → AreNew setup (before + 1) (readers ++ reader ∷ [])
+new_more setup before readers reader are new =
+    let N : ℕ → Type 0 = λ n. IsNew setup (record { 0 = n + 1 }) reader in
+    record {
+      count = length-append readers (reader ∷ []) ∙ ap (λ n. n + 1) are.count;
+      each = λ k d within. last_new setup readers reader k d are.each (subst N (sym are.count) new) (omega (arith, length-append readers (reader ∷ []))) (nat_lt k (length readers)) refl;
+    }
+
 -- ---- no line is played
 
 module _ (script : Script) (playable : is_playable script ≡ true) where
-  pub none_read : (s : SessionNo) → unread_lines [] (session_lines s script.lines) ≡ session_lines s script.lines
-  none_read s = later_all (λ one. session_line (is_session s one.actor) one.number one.body) (session_numbered s) 0 0 script.lines (omega arith) (rises script playable)
-
   first_display : DisplayStands script 0 []
   first_display = record {
     follows = tt;
@@ -151,32 +178,8 @@ module _ (script : Script) (playable : is_playable script ≡ true) where
   first_spent : IsSpent script 0 []
   first_spent = record { spent = λ seat. omega arith }
 
-  first_stands : EmptyStands → (s : SessionNo) → PlayerStands script s 0 [] (first_player script.setup)
-  first_stands empty s = record {
-    follows = tt;
-    unended = refl;
-    closed = refl;
-    few = omega arith;
-    when_open = λ opened. record {
-      draft = empty_draft;
-      made = refl;
-      next = ap (next_from script.setup script.count empty_draft []) (none_read s);
-      stands = empty script.setup;
-      still_open = refl;
-      private = refl;
-      none_refused = refl;
-    };
-    when_closed = λ closed. absurd (cc);
-  }
-
-  first_players : EmptyStands → (players : List Player) → length players ≡ script.setup.sessions → All (λ player. player ≡ first_player script.setup) players → PlayersStand script 0 [] players
-  first_players empty players count all = record {
-    count = count;
-    each = λ k d within.
-        let s : SessionNo = record { 0 = k + 1 } in
-        let P : Player → Type 0 = λ player. PlayerStands script s 0 [] player in
-        subst P (sym (all k d within)) (first_stands empty s);
-  }
+first_readers : NoneIsRead → (script : Script) (readers : List Reader) → AreNew script.setup script.setup.sessions readers → ReadersStand script 0 [] readers
+first_readers none script readers new = record { count = new.count; each = λ k d within. new_stands none script (record { 0 = k + 1 }) (slice_index_or readers k d) (new.each k d within) }
 
 none_of : {A : Type 0} (xs : List A) → list_any (λ x. false) xs ≡ false
 none_of [] = refl
@@ -220,12 +223,11 @@ first_answers at_first setup shown last answers count none number joined nothing
   answering = nothing;
 }
 
-pub starts : (script : Script) (game : Game) → is_playable script ≡ true → EmptyStands → game.board ≡ record { setup = script.setup; shares = shares_of script; history = [] }
-    → length game.players.items ≡ script.setup.sessions → All (λ player. player ≡ first_player script.setup) game.players.items
+pub starts : (script : Script) (game : Game) → is_playable script ≡ true → NoneIsRead → game.board ≡ record { setup = script.setup; shares = shares_of script; history = [] } → AreNew script.setup script.setup.sessions game.readers.items
     → FramesStand script.setup [] game.shown game.with_view game.frames.items → list_all not game.with_view.has ≡ true → AnswersStand script.setup [] game.last game.answers → GameStands script 0 game
-starts script game playable empty board count first shows none answers =
+starts script game playable none_is_read board new shows none answers =
     let history : [] ≡ game.board.history = sym (ap (λ (m : Machine). m.history) board) in
-    let P : List Entry → Type 0 = λ es. PlayersStand script 0 es game.players.items in
+    let P : List Entry → Type 0 = λ es. ReadersStand script 0 es game.readers.items in
     let D : List Entry → Type 0 = DisplayStands script 0 in
     let O : List Entry → Type 0 = IsInOrder script 0 in
     let S : List Entry → Type 0 = IsSpent script 0 in
@@ -234,7 +236,7 @@ starts script game playable empty board count first shows none answers =
     record {
       setup = ap (λ (m : Machine). m.setup) board;
       shares = ap (λ (m : Machine). m.shares) board;
-      players = subst P history (first_players script playable empty game.players.items count first);
+      readers = subst P history (first_readers none_is_read script game.readers.items new);
       display = subst D history (first_display script playable);
       order = subst O history (first_order script playable);
       spent = subst S history (first_spent script playable);

@@ -1,18 +1,20 @@
 -- The run after one more line of the script.
-use Rattle.std.proofs.Common.{◌≡◌, ℕ, ◌+◌, ◌<◌, Bool, true, false, cond, ◌==◌, List, [], ◌∷◌, ◌++◌, length, take, drop, refl, sym, ap, ◌∙◌, subst, arith, Some, slice_get}
-use Rattle.std.specs.List.{list_any, list_all}
-use Rattle.std.proofs.lemmas.Grind.{common_steps}
+use Rattle.std.proofs.Common.{◌≡◌, ℕ, ◌+◌, ◌<◌, Bool, true, false, cond, ◌==◌, List, [], ◌∷◌, ◌++◌, take, drop, refl, sym, ap, ◌∙◌, subst, arith, append-nil, Some, slice_get}
+use Rattle.std.specs.List.{list_all}
+use Rattle.std.proofs.lemmas.Grind.{common_steps, flat_map-append}
 use Rattle.flat_base.specs.declared.ids.SessionNo.{SessionNo}
 use Rattle.flat_scene.specs.declared.journal.Entry.{Entry}
-use Rattle.flat_scene.specs.declared.journal.Kind.TheVariants.{End}
+use Rattle.flat_scene.specs.declared.script.Line.{Line}
 use Rattle.flat_scene.specs.declared.script.ScriptLine.{ScriptLine}
-use Rattle.flat_scene.specs.History.{◌▹◌, own, is_session, is_end, closes, seat_number}
-use Rattle.flat_scene.specs.Interleave.{session_lines, session_line, last_line, next_from, Next, Follows}
+use Rattle.flat_scene.specs.History.{◌▹◌, own, is_session, is_end, seat_number}
+use Rattle.flat_scene.specs.Interleave.{session_lines, session_line, last_line}
 use Rattle.flat_core.specs.Machines.{made}
 use Rattle.flat_script.specs.declared.script.Script.{Script}
-use Rattle.flat_run.specs.declared.player.Player.{Player}
+use Rattle.flat_stage.specs.declared.reader.Reader.{Reader}
+use Rattle.flat_stage.specs.Readings.{HasRead}
+use Rattle.flat_stage.specs.Reads.{Stands}
 use Rattle.flat_playable.specs.Playable.{rise_from, is_played, is_playable}
-use Rattle.flat_run.specs.Playing.{last_number, lines_left, lines_by, PlayerStands, IsOpenAt, IsClosedAt, IsSpent, IsInOrder}
+use Rattle.flat_run.specs.Playing.{last_number, lines_by, ReaderStands, IsSpent, IsInOrder}
 use Rattle.flat_run.proofs.InOrder.{lines_rise, no_ends_more}
 use Rattle.flat_run.proofs.Places.{drop_at, take_at, split_at, last_more, last_below, rises, played_all}
 use Rattle.flat_run.proofs.Conditions.{all_at}
@@ -20,6 +22,7 @@ use Rattle.flat_run.proofs.Conditions.{all_at}
 -- What is known of a line at its place.
 pub record At (script : Script) (place : ℕ) (x : ScriptLine) : Type 0 where
   pub left : drop place script.lines ≡ x ∷ drop (place + 1) script.lines
+  pub taken : take (place + 1) script.lines ≡ take place script.lines ++ x ∷ []
   pub last : last_number 0 (take (place + 1) script.lines) ≡ x.number
   pub above : last_number 0 (take place script.lines) < x.number
   pub played : is_played script.setup x.actor x.body ≡ true
@@ -33,6 +36,7 @@ at_place script place x playable at =
     let rise : rise_from 0 (take place all ++ x ∷ drop (place + 1) all) ≡ true = ap (rise_from 0) (sym split) ∙ rises script playable in
     record {
       left = drop_at all place x at;
+      taken = take_at all place x at;
       last = ap (last_number 0) (take_at all place x at) ∙ last_more 0 (take place all) x;
       above = last_below 0 (take place all) x (drop (place + 1) all) rise;
       played = all_at (λ (one : ScriptLine). is_played script.setup one.actor one.body) (take place all) x (drop (place + 1) all)
@@ -91,35 +95,21 @@ module _ (script : Script) (place : ℕ) (x : ScriptLine) (at : At script place 
       let out : is_session s e.actor ≡ false = ap (is_session s) actor ∙ other in
       ap (own s) is ∙ rw out refl
 
-  no_line : (s : SessionNo) → is_session s x.actor ≡ false → lines_left script s place ≡ lines_left script s (place + 1)
+  no_line : (s : SessionNo) → is_session s x.actor ≡ false → session_lines s (take place script.lines) ≡ session_lines s (take (place + 1) script.lines)
   no_line s other =
-      ap (session_lines s) at.left ∙ ap (λ b. session_line b x.number x.body ++ lines_left script s (place + 1)) other
+      sym (append-nil (session_lines s (take place script.lines)))
+      ∙ sym (ap (session_lines s) at.taken ∙ flat_map-append (λ (one : ScriptLine). session_line (is_session s one.actor) one.number one.body) (take place script.lines) (x ∷ [])
+      ∙ ap (λ b. session_lines s (take place script.lines) ++ (session_line b x.number x.body ++ [])) other)
 
-  pub player_other : (s : SessionNo) → is_session s x.actor ≡ false → (old new : List Entry) (player : Player) → Step x old new → PlayerStands script s place old player → PlayerStands script s (place + 1) new player
-  player_other s other old new player step stands =
+  pub reader_other : (s : SessionNo) → is_session s x.actor ≡ false → (old new : List Entry) (reader : Reader) → Step x old new → ReaderStands script s place old reader → ReaderStands script s (place + 1) new reader
+  reader_other s other old new reader step stands =
       let mine : own s old ≡ own s new = sym (own_same s other old new step) in
-      let left : lines_left script s place ≡ lines_left script s (place + 1) = no_line s other in
-      let F : List Entry → Type 0 = Follows script.setup script.count (session_lines s script.lines) in
-      let U : List Entry → Type 0 = λ es. list_any (λ entry. is_end entry.kind) es ≡ false in
-      let C : List Entry → Type 0 = λ es. list_any (λ entry. closes entry.reply) es ≡ player.closed in
-      let O : List Entry → Type 0 = λ es. IsOpenAt script s (place + 1) es player in
-      let S : List Entry → Type 0 = λ es. IsClosedAt script s (place + 1) es player in
+      let S : List Entry → Type 0 = λ es. Stands script.setup es reader in
+      let H : List Entry → Type 0 = λ es. HasRead script.setup (session_lines s (take (place + 1) script.lines)) es reader in
+      let L : List (ℕ × Line) → Type 0 = λ lines. HasRead script.setup lines (own s old) reader in
       record {
-        follows = subst F mine stands.follows;
-        unended = subst U mine stands.unended;
-        closed = subst C mine stands.closed;
+        session = stands.session;
         few = let last = at.last in let above = at.above in let few = stands.few in omega arith;
-        when_open = λ opened. let o = stands.when_open opened in subst O mine (record {
-          draft = o.draft;
-          made = o.made;
-          next = o.next ∙ ap (next_from script.setup script.count o.draft player.pending) left;
-          stands = o.stands;
-          still_open = o.still_open;
-          private = o.private;
-          none_refused = o.none_refused;
-        });
-        when_closed = λ closed. let c = stands.when_closed closed in subst S mine (record {
-          nothing = c.nothing;
-          next = c.next ∙ ap (λ ls. let n : Next = record { line = script.count + 1; carries = []; kind = End (player.refused + length ls) } in n) left;
-        });
+        stands = subst S mine stands.stands;
+        reads = subst H mine (subst L (no_line s other) stands.reads);
       }

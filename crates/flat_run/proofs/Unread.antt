@@ -22,10 +22,6 @@ rise_to n (one ∷ read) next later rise =
     let b : one.number < next.number = rise_to one.number read next later (rise_later n one (read ++ next ∷ later) rise) in
     omega arith
 
-pub rise_after : (n : ℕ) (read : List ScriptLine) (next : ScriptLine) (later : List ScriptLine) → rise_from n (read ++ next ∷ later) ≡ true → rise_from next.number later ≡ true
-rise_after n [] next later rise = rise_later n next later rise
-rise_after n (one ∷ read) next later rise = rise_after one.number read next later (rise_later n one (read ++ next ∷ later) rise)
-
 -- what a line gives has its number
 abbrev pub Numbered : {A : Type 0} → ℕ → List (ℕ × A) → Type 0
 Numbered n = AllByRecursion (λ given. given.0 ≡ n)

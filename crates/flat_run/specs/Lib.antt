@@ -1,6 +1,5 @@
 pub mod Answering
 pub mod Laws
-pub mod Made
 pub mod Playing
 pub mod Promise
 pub mod Showing

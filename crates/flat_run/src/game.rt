@@ -16,14 +16,14 @@ ghost use Rattle.flat_report.specs.Report.{frame_at, finished};
 ghost use Rattle.flat_playable.specs.Playable.{is_playable};
 ghost use Rattle.flat_run.specs.Showing.{Finishes};
 
-use crate::player::Player;
-use flat_base::{Actor, FenceNo, FrameNo, NoMemory, SessionNo};
+use flat_base::{Actor, FenceNo, FrameNo, NoMemory, SessionNo, TryCopy};
 use flat_compose::compose;
 use flat_core::{Board, shown_states_fit};
 use flat_hit::hits;
 use flat_report::{HitAnswer, HitAnswers};
 use flat_scene::{Body, CallList, Cond, DisplayLine, FrameOut, Line, SessionSet};
 use flat_script::Script;
+use flat_stage::{Reader, lines_are_read};
 use flat_topology::{Joined, Shown, join};
 use flat_tree::{trees_follow, view_tree};
 use std::alloc::Global;
@@ -47,8 +47,8 @@ struct Composed {
 #[derive(Drop)]
 pub struct Game {
     pub board: Board,
-    /// Session 1 first.
-    pub players: Vec<Player>,
+    /// The sessions as they read their lines, session 1 first.
+    pub readers: Vec<Reader>,
     /// What the last frame shows of each session.
     pub shown: Shown,
     /// The sessions that had a view at its begin.
@@ -163,8 +163,10 @@ impl Game {
         ensures stands { OnOk result (GameStands script.now (place + 1) self.new) }
         ensures frames { OnOk result (self.new.frames ≡ self.old.frames) }
     {
-        let player = &mut self.players[s.0 as usize - 1];
-        player.play(alloc, &mut self.board, script, place, s, number, text)?;
+        lines_are_read();
+        let text = text.copy(alloc)?;
+        let reader = &mut self.readers[s.0 as usize - 1];
+        let _reply = reader.call(&mut self.board, number, text)?;
         Ok(())
     }
 
@@ -239,29 +241,27 @@ impl Game {
     }
 
     /// Ends the session after so many others, behind all lines of the script.
-    fn end_next(&mut self, alloc: Global, script: &Script, before: u32)
+    fn end_next(&mut self, script: &Script, before: u32)
         requires within { before < script.now.setup.sessions }
         requires playable { is_playable script.now ≡ true }
         requires stands { EndsStand script.now before self.old }
         ensures stands { EndsStand script.now (before + 1) self.new }
         ensures frames { self.new.frames ≡ self.old.frames }
     {
-        let player = &mut self.players[before as usize];
-        let calls = player.take_pending(alloc);
-        let refused = player.refused;
-        self.board
-            .end(SessionNo(before + 1), script.count + 1, calls, refused);
+        lines_are_read();
+        let reader = &mut self.readers[before as usize];
+        let _reply = reader.end(&mut self.board, script.count + 1);
     }
 
     /// Ends all sessions in their order.
-    pub fn end_all(&mut self, alloc: Global, script: &Script)
+    pub fn end_all(&mut self, script: &Script)
         requires playable { is_playable script.now ≡ true }
         requires stands { GameStands script.now (length script.now.lines) self.old }
         ensures played { HasPlayed script.now self.new.board self.new.frames.items self.new.answers }
         ensures frames { self.new.frames ≡ self.old.frames }
     {
         for before in 0..script.setup.sessions {
-            self.end_next(alloc, script, before);
+            self.end_next(script, before);
         }
     }
 }

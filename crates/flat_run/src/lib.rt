@@ -5,11 +5,8 @@ mod answers;
 mod game;
 mod laws;
 mod load;
-mod made;
-mod player;
 mod run;
 mod top;
 
 pub use laws::plays_have_one_history;
-pub use made::Made;
 pub use top::flatland;

@@ -1,22 +1,21 @@
-ghost use Rattle.std.specs.Prelude.{◌≡◌, ◌+◌, ◌<◌, ◌==◌, ◌^◌, [], ◌∷◌, ◌++◌, List, true, length, All, IfOk};
+ghost use Rattle.std.specs.Prelude.{◌≡◌, ◌+◌, ◌<◌, ◌==◌, ◌^◌, [], ◌∷◌, ◌++◌, List, true, length, IfOk};
 ghost use Rattle.flat_scene.specs.History.{seat_number};
 ghost use Rattle.flat_scene.specs.Setups.{is_setup};
 ghost use Rattle.flat_playable.specs.Playable.{is_playable};
 ghost use Rattle.flat_scene.specs.declared.frames.FrameOut.{FrameOut};
 ghost use Rattle.flat_scene.specs.declared.frames.Lost.{Lost};
 ghost use Rattle.flat_display.specs.Shows.{Shows};
-ghost use Rattle.flat_run.specs.Playing.{lines_by, shares_of, first_player, GameStands, HasPlayed};
+ghost use Rattle.flat_run.specs.Playing.{lines_by, shares_of, AreNew, GameStands, HasPlayed};
 ghost use Rattle.flat_run.specs.Showing.{HaveSeen};
 
 use crate::game::{Game, LastFrame};
-use crate::player::Player;
-use flat_base::{Actor, FrameNo, NoMemory, ShareList, TryCopy};
+use flat_base::{Actor, FrameNo, NoMemory, SessionNo, ShareList, TryCopy};
 use flat_core::{Board, shown_states_fit};
 use flat_display::{Display, DisplaySet};
-use flat_draft::{Draft, draft_laws};
 use flat_report::HitAnswers;
-use flat_scene::{CallList, FrameOut, ScriptLine, SessionSet, Setup};
+use flat_scene::{FrameOut, ScriptLine, SessionSet, Setup};
 use flat_script::Script;
+use flat_stage::{Reader, lines_are_read};
 use flat_topology::{Shown, join};
 use std::alloc::Global;
 
@@ -57,31 +56,17 @@ fn shares_of(alloc: Global, script: &Script) -> Result<ShareList, NoMemory>
     Ok(shares)
 }
 
-/// A session that has played no line.
-fn new_player(alloc: Global, setup: &Setup) -> Result<Player, NoMemory>
+/// The sessions of a setup, none of which has read a line.
+fn new_readers(alloc: Global, setup: &Setup) -> Result<Vec<Reader>, NoMemory>
     requires { is_setup setup.now ≡ true }
-    ensures { IfOk result (λ player. player ≡ first_player setup.now) }
+    ensures { IfOk result (λ readers. AreNew setup.now setup.now.sessions readers.items) }
 {
-    let buffers = setup.buffers.copy(alloc)?;
-    Ok(Player {
-        draft: Draft::new(alloc, buffers),
-        pending: CallList::new(alloc),
-        refused: 0,
-        closed: false,
-    })
-}
-
-/// The sessions of a setup, none of which has played a line.
-fn new_players(alloc: Global, setup: &Setup) -> Result<Vec<Player>, NoMemory>
-    requires { is_setup setup.now ≡ true }
-    ensures count { IfOk result (λ players. length players.items ≡ setup.now.sessions) }
-    ensures first { IfOk result (λ players. All (λ player. player ≡ first_player setup.now) players.items) }
-{
-    let mut players = Vec::new(alloc);
-    for _ in 0..setup.sessions {
-        players.push(new_player(alloc, setup)?)?;
+    let mut readers = Vec::new(alloc);
+    for before in 0..setup.sessions {
+        let reader = Reader::new(alloc, SessionNo(before + 1), &setup.buffers)?;
+        readers.push(reader)?;
     }
-    Ok(players)
+    Ok(readers)
 }
 
 /// A run of which no line is played.
@@ -90,7 +75,7 @@ fn start(alloc: Global, script: &Script) -> Result<Game, NoMemory>
     ensures stands { IfOk result (λ game. GameStands script.now 0 game) }
     ensures none { IfOk result (λ game. game.frames.items ≡ []) }
 {
-    draft_laws();
+    lines_are_read();
     shown_states_fit();
     let shares = shares_of(alloc, script)?;
     let setup = script.setup.copy(alloc)?;
@@ -99,7 +84,7 @@ fn start(alloc: Global, script: &Script) -> Result<Game, NoMemory>
     let joined = join(alloc, &shown, &script.setup)?;
     Ok(Game {
         board,
-        players: new_players(alloc, &script.setup)?,
+        readers: new_readers(alloc, &script.setup)?,
         shown,
         with_view: SessionSet { has: [false; 16] },
         frames: Vec::new(alloc),
@@ -170,6 +155,6 @@ pub fn run(
 {
     let mut set = DisplaySet::new(alloc, displays.len() as u32)?;
     let mut game = play_lines(alloc, script, &mut set, displays)?;
-    game.end_all(alloc, script);
+    game.end_all(script);
     Ok(Played { game, set })
 }

@@ -51,6 +51,15 @@ pub record Stands (setup : Setup) (mine : List Entry) (reader : Reader) : Type 0
   pub when_open : reader.closed ≡ false → IsOpen setup mine reader
   pub when_closed : reader.closed ≡ true → reader.pending ≡ []
 
+-- A session read no line: nothing waits, and it stands behind no entry.
+pub record IsNew (setup : Setup) (s : SessionNo) (reader : Reader) : Type 0 where
+  pub session : reader.session ≡ s
+  pub stands : Stands setup [] reader
+  pub no_calls : reader.pending ≡ []
+  pub no_events : reader.events ≡ []
+  pub none_refused : reader.refused ≡ 0
+  pub opened : reader.closed ≡ false
+
 -- ---- what a line makes, before the board is asked
 
 -- some draft of the rules for which the session's stands

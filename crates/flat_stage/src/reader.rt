@@ -11,17 +11,18 @@ ghost use Rattle.flat_scene.specs.declared.journal.Kind.TheVariants.{End};
 ghost use Rattle.flat_scene.specs.declared.journal.Reply.TheVariants.{Done};
 ghost use Rattle.flat_draft.specs.Answers.{has_room_for, uses_an_end};
 ghost use Rattle.flat_draft.specs.Stands.{StandsFor};
-ghost use Rattle.flat_draft.specs.State.{empty_state};
+ghost use Rattle.flat_scene.specs.Setups.{is_declared, is_setup};
 ghost use Rattle.flat_rules.specs.Owned.{is_played_line};
 ghost use Rattle.flat_stage.specs.Made.{kind_of, takes_memory};
-ghost use Rattle.flat_stage.specs.Reads.{HasDraft, Stands, IsReady, Tells, Enters, Reads, kept_calls, with_line, viewport_call, CanMake, IsMade};
+ghost use Rattle.flat_stage.specs.Reads.{HasDraft, IsNew, Stands, IsReady, Tells, Enters, Reads, kept_calls, with_line, viewport_call, CanMake, IsMade};
 
 use crate::judging::{asked, called, presented};
 use crate::made::Made;
 use flat_base::{NoMemory, SessionNo};
+use flat_content::content_laws;
 use flat_core::{Board, EventList};
-use flat_draft::Draft;
-use flat_scene::{Call, CallList, Line, Reply};
+use flat_draft::{Draft, draft_laws};
+use flat_scene::{BufferList, Call, CallList, Line, Reply};
 use std::alloc::Global;
 use std::mem;
 
@@ -42,6 +43,25 @@ pub struct Reader {
 }
 
 impl Reader {
+    /// A session of a setup with these buffers, which has read no line.
+    pub fn new(alloc: Global, session: SessionNo, buffers: &BufferList) -> Result<Reader, NoMemory>
+        requires { (setup : Setup) × (is_setup setup ≡ true) × (buffers.now ≡ setup.buffers) }
+        ensures { (setup : Setup) → buffers.now ≡ setup.buffers → is_declared setup session ≡ true → IfOk result (IsNew setup session) }
+    {
+        draft_laws();
+        content_laws();
+        let buffers = buffers.copy(alloc)?;
+        Ok(Reader {
+            alloc,
+            session,
+            draft: Draft::new(alloc, buffers),
+            pending: CallList::new(alloc),
+            events: EventList::new(alloc),
+            refused: 0,
+            closed: false,
+        })
+    }
+
     /// Reads a line: it makes its entry, or its call waits for the next one. A misuse
     /// closes the session, and each line after that is answered so and counted.
     ///

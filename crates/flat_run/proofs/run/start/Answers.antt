@@ -20,8 +20,8 @@ open-requires-clause-total c =
     let P : List ℕ → Type 0 = λ xs. sum xs < 2147483648 in
     subst P (sym c.in_ok-shares.ensures) (shares_small c.args.script.now c.requires)
 
-pub new_players-requires : goal.new_players-requires
-new_players-requires c = setup_is c.args.script.now c.requires
+pub new_readers-requires : goal.new_readers-requires
+new_readers-requires c = setup_is c.args.script.now c.requires
 
 pub join-requires-clause-fit : goal.join-requires-clause-fit
 join-requires-clause-fit c = nothing_fits c.shown_states_fit.ensures.begun c.shown_states_fit.ensures.nothing c.args.script.now.setup c.in_ok-shown.shown c.in_ok-shown.ensures.size c.in_ok-shown.ensures.none
@@ -31,6 +31,6 @@ returns-clause-stands c =
     let script = c.args.script.now in
     let board = c.in_ok-board.ensures ∙ ap (λ s. let m : Machine = record { setup = s; shares = c.in_ok-shares.shares; history = [] } in m) c.in_ok-setup.ensures
     ∙ ap (λ xs. let m : Machine = record { setup = script.setup; shares = xs; history = [] } in m) c.in_ok-shares.ensures in
-    starts script _ c.requires c.draft_laws.ensures.empty_stands (c.board.view_is ∙ board) c.in_ok-new_players.ensures.count c.in_ok-new_players.ensures.first
+    starts script _ c.requires c.lines_are_read.ensures.none (c.board.view_is ∙ board) c.in_ok-new_readers.ensures
     (first_shown c.shown_states_fit.ensures.nothing script.setup _ _ _ c.in_ok-shown.ensures.size c.in_ok-shown.ensures.none refl c.new-2.ensures.items) refl
     (first_answers c.shown_states_fit.ensures.nothing script.setup _ _ _ c.in_ok-shown.ensures.size c.in_ok-shown.ensures.none refl c.in_ok-joined.ensures.lists c.new-3.ensures)
