@@ -21,6 +21,7 @@ use Rattle.flat_scene.specs.Effect.{draft_of}
 use Rattle.flat_scene.specs.Frames.{taken, takes}
 use Rattle.flat_scene.specs.History.{◌▹◌, is_begin, is_closed, is_finish, is_session, presents, Published}
 use Rattle.flat_scene.specs.Tree.{tree, use_of, all_nodes, head_of}
+use Rattle.flat_scene.proofs.Presented.{tree-unfolded}
 use Rattle.flat_rules.specs.Ends.{is_made_of, props_in, props_of, serials_of, taken_calls, to_begin, to_finished, viewport_uses}
 use Rattle.flat_rules.specs.Legal.{Legal, owns_viewport}
 use Rattle.flat_rules.specs.Serials.{IsUseSerial, contents_made, props_at_serial, serials_in}
@@ -141,7 +142,7 @@ serial-fits setup cs d good p n serial has m at =
 -- ---- the tree that was taken
 
 viewports-are : (d : Draft) (t : Tree) → tree d ≡ Some t → t.viewports ≡ filter_map (use_of d) d.viewports
-viewports-are d t is = by_nodes (all_nodes d) is
+viewports-are d t is = by_nodes (all_nodes d) (tree-unfolded d t is)
   where
     by_nodes : (all : Option Children) → option_map (λ all. let u : Tree = record { view = d.view; root = head_of all; viewports = filter_map (use_of d) d.viewports } in u) all ≡ Some t → t.viewports ≡ filter_map (use_of d) d.viewports
     by_nodes None h = cc

@@ -1,3 +1,4 @@
+pub mod Alone
 pub mod Backs
 pub mod BeginLoop
 pub mod BeginSteps
@@ -29,6 +30,7 @@ pub mod GetOwners
 pub mod GetPosts
 pub mod GetSteps
 pub mod HasView
+pub mod JournalExamples
 pub mod LiveCounts
 pub mod LiveSteps
 pub mod Lives

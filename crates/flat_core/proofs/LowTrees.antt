@@ -16,6 +16,7 @@ use Rattle.flat_scene.specs.declared.trees.ViewportUse.{ViewportUse}
 use Rattle.flat_scene.specs.Draft.{Draft, Transform, Made, an_image, a_fill, a_viewport, of_serial}
 use Rattle.flat_scene.specs.Misuse.{first_reason}
 use Rattle.flat_scene.specs.Tree.{shown_content, content_held, node, each, node_within, all_nodes, is_too_large, tree_tests, tree, head_of, use_of}
+use Rattle.flat_scene.proofs.Presented.{tree-unfolded}
 use Rattle.flat_scene.specs.Trees.{more, node_count}
 use Rattle.flat_topology.specs.Fit.{image_opacity, greatest_opacity}
 use Rattle.flat_topology.specs.Shown.{nodes_of}
@@ -141,7 +142,7 @@ module _ (view : Option PairNo) (uses : List ViewportUse) where
 
 pub tree_low : (d : Draft) (t : Tree) → IsLowDraft d → tree d ≡ Some t → ShowsLow d t
 tree_low d t good is =
-    let parts = of_roots d.view (filter_map (use_of d) d.viewports) (node_within PATH_NODES_MAX d true) d.root t (λ serial. low_within PATH_NODES_MAX d true serial good.contents good.transforms) is in
+    let parts = of_roots d.view (filter_map (use_of d) d.viewports) (node_within PATH_NODES_MAX d true) d.root t (λ serial. low_within PATH_NODES_MAX d true serial good.contents good.transforms) (tree-unfolded d t is) in
     record { low = parts.0; all = parts.1; view = parts.2 }
 
 not_large : (all : Option Children) (children : Children) → all ≡ Some children → is_too_large all ≡ false → node_count children ≤ TREE_NODES_MAX

@@ -1,5 +1,5 @@
 -- A poll of the board.
-use Rattle.std.proofs.Common.{◌≡◌, ℕ, ◌+◌, ◌-◌, ◌*◌, ◌<◌, ◌≤◌, ◌^◌, Bool, List, ◌++◌, length, arith, sym, ◌∙◌, ap, drop, slice_index_or, length-append}
+use Rattle.std.proofs.Common.{◌≡◌, ℕ, ◌+◌, ◌-◌, ◌*◌, ◌<◌, ◌≤◌, ◌^◌, Bool, List, ◌++◌, length, arith, sym, ◌∙◌, ap, drop, slice_index_or}
 use Rattle.std.specs.Prelude.{sum}
 use Rattle.flat_base.specs.declared.ids.Actor.TheVariants.{Session}
 use Rattle.flat_base.specs.declared.ids.SessionNo.{SessionNo}
@@ -12,9 +12,9 @@ use Rattle.flat_core.specs.declared.state.Account.{Account}
 use Rattle.flat_core.specs.declared.state.SessionState.{SessionState}
 use Rattle.flat_core.specs.Boards.{Machine, MayCall, Stands, HasRoom}
 use Rattle.flat_core.specs.Kept.{IsKept}
-use Rattle.flat_rules.specs.Legal.{unread}
+use Rattle.flat_rules.specs.Legal.{unread, unread_events}
 use Rattle.flat_core.specs.Logs.{Logged}
-use Rattle.flat_core.specs.Polls.{events_for, unread_events}
+use Rattle.flat_core.specs.Polls.{events_for}
 use Rattle.flat_rules.specs.Posts.{posts}
 use Rattle.flat_core.specs.Seen.{seen_of}
 use Rattle.flat_core.proofs.Counts.{kept-session, declared-some}
@@ -33,7 +33,7 @@ polled-within m s calls call clock fences views sessions log owed {dues} state a
 
 -- What was handed over: as many as are unread, a number of the machine.
 pub record Handed (m : Machine) (s : SessionNo) (count : ℕ) (into list : List Event) (all : List Post) : Type 0 where
-  pub events : list ≡ into ++ unread_events m.setup m.history s
+  pub events : list ≡ into ++ unread_events m.setup s m.history
   pub as_many : count ≡ unread m.setup s m.history
   pub small : count < 2 ^ 32
   pub place : length all ≡ length (posts m.setup m.history)
@@ -49,14 +49,14 @@ handed m s calls call clock fences views sessions log owed {dues} state all into
     let here = declared-some s.0 m.setup.sessions declared in
     let kept : IsKept m.setup (seen_of m.setup m.history s) state = kept-session m.setup m.history clock fences views sessions s state old declared is in
     let all_posts : all ≡ posts m.setup m.history = posted ∙ rw (← same) room.posts in
-    let events : list ≡ into ++ unread_events m.setup m.history s = handed-over m.setup m.history s into list state.account.polled all pushed (ap (λ (a : Account). a.polled) kept.account) all_posts in
-    let as_many : count ≡ length (unread_events m.setup m.history s) = omega (arith, counted, ap length events, length-append into (unread_events m.setup m.history s)) in
+    let events : list ≡ into ++ unread_events m.setup s m.history = handed-over m.setup m.history s into list state.account.polled all here.0 here.1 pushed (ap (λ (a : Account). a.polled) kept.account) all_posts in
+    let as_many : count ≡ unread m.setup s m.history = counted ∙ handed-count m.setup m.history s into list events in
     let small : length log.posts + owed ≤ 2 * length m.history = rw (← same) room.small in
     let long : length log.posts ≡ length (posts m.setup m.history) = ap length (sym posted ∙ all_posts) in
     let few : length m.history < sum m.shares = few-history m (Session s) calls Poll call old.legal log owed dues same room in
     record {
       events = events;
-      as_many = counted ∙ handed-count m.setup m.history s into list here.0 here.1 events;
-      small = omega (arith, as_many, unread-few m.setup m.history s, small, long, few, room.total);
+      as_many = as_many;
+      small = omega (arith, as_many, unread-few m.setup m.history s here.0 here.1, small, long, few, room.total);
       place = ap length all_posts;
     }

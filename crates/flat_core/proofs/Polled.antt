@@ -1,6 +1,6 @@
 -- What a poll counts and changes.
-use Rattle.std.proofs.Common.{◌≡◌, ◌≢◌, ℕ, zero, suc, ◌+◌, ◌-◌, ◌<◌, ◌≤◌, Bool, true, false, List, [], ◌∷◌, ◌++◌, length, refl, arith, sym, ◌∙◌, ap, map, drop, length-append, zero-add, inl, inr, ◌⊎◌}
-use Rattle.std.specs.Prelude.{cond, ◌&&◌, ◌==◌, filter, flat_map}
+use Rattle.std.proofs.Common.{◌≡◌, ◌≢◌, ℕ, zero, suc, ◌+◌, ◌-◌, ◌<◌, ◌≤◌, Bool, true, false, List, [], ◌∷◌, ◌++◌, length, refl, arith, sym, ◌∙◌, ap, map, drop, length-append, inl, inr, ◌⊎◌}
+use Rattle.std.specs.Prelude.{cond, ◌&&◌, ◌==◌, flat_map}
 use Rattle.std.proofs.Math.Seq.{drop-append_seam}
 use Rattle.std.proofs.lemmas.Bool.Decides.{nat_tests, eqb_tells}
 use Rattle.std.proofs.lemmas.List.{append-nil, length-drop, length-map, map-append, drop-append-le}
@@ -22,8 +22,8 @@ use Rattle.flat_core.specs.declared.state.SessionState.{SessionState}
 use Rattle.flat_core.specs.Begins.{post_of, posts_to}
 use Rattle.flat_core.specs.Boards.{entry_of}
 use Rattle.flat_core.specs.Kept.{IsKept}
-use Rattle.flat_rules.specs.Legal.{is_poll, unread}
-use Rattle.flat_core.specs.Polls.{events_for, unread_events}
+use Rattle.flat_rules.specs.Legal.{is_poll, unread, unread_events}
+use Rattle.flat_core.specs.Polls.{events_for}
 use Rattle.flat_rules.specs.Posts.{events_to, posts}
 use Rattle.flat_core.specs.Presents.{with_calls}
 use Rattle.flat_core.specs.Seen.{seen_of, account_of, noted, polled_at}
@@ -97,33 +97,34 @@ polled-le setup [] s = omega arith
 polled-le setup (h ▹ e) s =
     rw length-append (polled-step (is_session s e.actor && is_poll e.kind) (polled_at setup h s) (length (posts setup h)) _ (polled-le setup h s))
 
-all-counted : (xs : List Event) → length (filter (λ event. true) xs) ≡ length xs
-all-counted [] = refl
-all-counted (x ∷ xs) = rw (all-counted xs) refl
+unread-step : (s : SessionNo) (polled : Bool) (old : ℕ) (before more : List Post) (unread sent : List Event) → old ≤ length before → unread ≡ events_for s (drop old before) → events_for s more ≡ sent
+    → cond polled [] unread ++ sent ≡ events_for s (drop (cond polled (length before) old) (before ++ more))
+unread-step s true old before more unread sent le is here = rw (drop-append_seam, here) refl
+unread-step s false old before more unread sent le is here = rw (drop-append-le old before more le, for-append s (drop old before) more, here, is) refl
 
-unread-step : (s : SessionNo) (polled : Bool) (old count : ℕ) (before more : List Post) (sent : List Event) → old ≤ length before → count ≡ length (events_for s (drop old before)) → events_for s more ≡ sent
-    → cond polled 0 count + length sent ≡ length (events_for s (drop (cond polled (length before) old) (before ++ more)))
-unread-step s true old count before more sent le so_far here = rw (drop-append_seam, here) (zero-add _)
-unread-step s false old count before more sent le so_far here = rw (drop-append-le old before more le, for-append s (drop old before) more, here, so_far) (sym (length-append (events_for s (drop old before)) sent))
-
--- the events counted are those handed over
-pub unread-count : (setup : Setup) (h : List Entry) (s : SessionNo) → 0 < s.0 → s.0 ≤ setup.sessions → unread setup s h ≡ length (unread_events setup h s)
-unread-count setup [] s some few = refl
-unread-count setup (h ▹ e) s some few =
+-- what is unread are the session's posts from the place on at which its last poll ended
+pub unread-posts : (setup : Setup) (h : List Entry) (s : SessionNo) → 0 < s.0 → s.0 ≤ setup.sessions → unread_events setup s h ≡ events_for s (drop (polled_at setup h s) (posts setup h))
+unread-posts setup [] s some few = refl
+unread-posts setup (h ▹ e) s some few =
     let more : List Post = posts_to setup h e setup.sessions in
     let sent : List Event = events_to setup h e s in
     let polled : Bool = is_session s e.actor && is_poll e.kind in
-    ap (λ (n : ℕ). cond polled 0 (unread setup s h) + n) (all-counted sent)
-    ∙ unread-step s polled (polled_at setup h s) (unread setup s h) (posts setup h) more sent (polled-le setup h s) (unread-count setup h s some few)
+    unread-step s polled (polled_at setup h s) (posts setup h) more (unread_events setup s h) sent (polled-le setup h s) (unread-posts setup h s some few)
     (sent-within (length h) (events_to setup h e) setup.sessions s some few)
-    ∙ ap (λ (ps : List Post). length (events_for s (drop (cond polled (length (posts setup h)) (polled_at setup h s)) ps))) (sym (posts-all setup h e))
+    ∙ ap (λ (ps : List Post). events_for s (drop (cond polled (length (posts setup h)) (polled_at setup h s)) ps)) (sym (posts-all setup h e))
 
 few-for : (s : SessionNo) (ps : List Post) → length (events_for s ps) ≤ length ps
 few-for s ps = rw length-map (rw (length-filter (λ (post : Post). post.session.0 == s.0) ps) (count_by-le-length (λ (post : Post). post.session.0 == s.0) ps))
 
 -- there are no more of them than posts
-pub unread-few : (setup : Setup) (h : List Entry) (s : SessionNo) → length (unread_events setup h s) ≤ length (posts setup h)
-unread-few setup h s = omega (arith, few-for s (drop (polled_at setup h s) (posts setup h)), length-drop (polled_at setup h s) (posts setup h))
+pub unread-few : (setup : Setup) (h : List Entry) (s : SessionNo) → 0 < s.0 → s.0 ≤ setup.sessions → unread setup s h ≤ length (posts setup h)
+unread-few setup h s some few =
+    omega (
+      arith,
+      ap (length {A = Event}) (unread-posts setup h s some few),
+      few-for s (drop (polled_at setup h s) (posts setup h)),
+      length-drop (polled_at setup h s) (posts setup h),
+    )
 
 pub seen-polled : (setup : Setup) (h : List Entry) (s : SessionNo) (line : ℕ) (carries : List Call) (n : ℕ)
     → seen_of setup (h ▹ entry_of (Session s) line carries Poll (Polled n)) s ≡ record (seen_of setup h s) { account = noted carries (record (account_of setup h s) { polled = length (posts setup h) }) }
@@ -137,9 +138,11 @@ kept-polled setup h s line carries n place state same kept =
     rw (seen-polled setup h s line carries n, same)
     (kept-account setup (seen_of setup h s) state (λ (a : Account). noted carries (record a { polled = length (posts setup h) })) (λ a. refl) kept)
 
-pub handed-over : (setup : Setup) (h : List Entry) (s : SessionNo) (into list : List Event) (from : ℕ) (all : List Post) → list ≡ into ++ events_for s (drop from all) → from ≡ polled_at setup h s → all ≡ posts setup h → list ≡ into ++ unread_events setup h s
-handed-over setup h s into list from all is place same =
+pub handed-over : (setup : Setup) (h : List Entry) (s : SessionNo) (into list : List Event) (from : ℕ) (all : List Post) → 0 < s.0 → s.0 ≤ setup.sessions
+    → list ≡ into ++ events_for s (drop from all) → from ≡ polled_at setup h s → all ≡ posts setup h → list ≡ into ++ unread_events setup s h
+handed-over setup h s into list from all some few is place same =
     is ∙ ap (λ (n : ℕ). into ++ events_for s (drop n all)) place ∙ ap (λ (ps : List Post). into ++ events_for s (drop (polled_at setup h s) ps)) same
+    ∙ ap (λ (es : List Event). into ++ es) (sym (unread-posts setup h s some few))
 
-pub handed-count : (setup : Setup) (h : List Entry) (s : SessionNo) (into list : List Event) → 0 < s.0 → s.0 ≤ setup.sessions → list ≡ into ++ unread_events setup h s → length list - length into ≡ unread setup s h
-handed-count setup h s into list some few is = omega (arith, ap length is, length-append into (unread_events setup h s), unread-count setup h s some few)
+pub handed-count : (setup : Setup) (h : List Entry) (s : SessionNo) (into list : List Event) → list ≡ into ++ unread_events setup s h → length list - length into ≡ unread setup s h
+handed-count setup h s into list is = omega (arith, ap length is, length-append into (unread_events setup s h))

@@ -20,6 +20,7 @@ use Rattle.flat_scene.specs.Frames.{taken}
 use Rattle.flat_scene.specs.History.{◌▹◌, own, calls, closes, is_closed, is_session, presents, published, Published}
 use Rattle.flat_scene.specs.Misuse.{first_reason}
 use Rattle.flat_scene.specs.Tree.{tree, tree_tests, all_nodes, is_too_large, is_cyclic, head_of, use_of}
+use Rattle.flat_scene.proofs.Presented.{tree-of-tested}
 use Rattle.flat_scene.proofs.Steps.{presents-own, presents-other}
 use Rattle.flat_scene.proofs.Together.{and-left}
 use Rattle.flat_rules.specs.Ends.{viewport_uses, props_of, taken_calls}
@@ -247,7 +248,7 @@ tree-some d none = by_nodes (all_nodes d) refl
     by_nodes None is =
         let fits : is_too_large (all_nodes d) ≡ false = second_none (is_cyclic d) (is_too_large (all_nodes d)) Cycle TreeTooLarge _ none in
         let wrong : true ≡ false = ap is_too_large (sym is) ∙ fits in cc
-    by_nodes (Some all) is = (record { view = d.view; root = head_of all; viewports = filter_map (use_of d) d.viewports }, rw is refl)
+    by_nodes (Some all) is = (record { view = d.view; root = head_of all; viewports = filter_map (use_of d) d.viewports }, tree-of-tested d none ∙ rw is refl)
 
 -- the calls of a present; none where there is no present
 abbrev calls_in : Option Published → List Call

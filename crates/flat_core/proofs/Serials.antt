@@ -16,6 +16,7 @@ use Rattle.flat_scene.specs.Draft.{Draft, Made, an_image, a_fill, a_viewport, of
 use Rattle.flat_scene.specs.Effect.{effect, after_calls, unless, changed_if, on_image, on_viewport, on_fill, draft_of}
 use Rattle.flat_scene.specs.Misuse.{misuse}
 use Rattle.flat_scene.specs.Tree.{tree, use_of, all_nodes, head_of}
+use Rattle.flat_scene.proofs.Presented.{tree-unfolded}
 use Rattle.flat_scene.specs.declared.trees.Children.{Children}
 use Rattle.flat_rules.specs.Ends.{is_made_of, serials_of, props_of, live_props, props_in}
 use Rattle.flat_rules.specs.Legal.{number_if}
@@ -155,7 +156,7 @@ use-props setup calls d good t is p n serial tells =
     let used : of_serial (serials_of p 1 d.contents) n ≡ cond (nat_le serial (length d.contents)) (Some serial) None =
     ap (λ (l : List ℕ). of_serial l n) serials ∙ tells ∙ ap (λ (k : ℕ). cond (nat_le serial k) (Some serial) None) count in
     ap (option_and_then (live_props d)) used ∙ by_count (nat_le serial (length d.contents)) refl ∙ sym (uses-props d serial d.viewports)
-    ∙ ap (λ (us : List ViewportUse). props_at_serial us serial) (viewports_are (all_nodes d) is)
+    ∙ ap (λ (us : List ViewportUse). props_at_serial us serial) (viewports_are (all_nodes d) (tree-unfolded d t is))
   where
     past : nat_le serial (length d.contents) ≡ false → length d.contents < serial
     past over = grind (arith, nat_tests)

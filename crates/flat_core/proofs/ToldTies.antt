@@ -1,6 +1,6 @@
 -- What is told, by what is kept of sessions and pairs.
 use Rattle.std.proofs.Common.{◌≡◌, ◌≢◌, ◌∙◌, sym, subst, ℕ, ◌-◌, ◌<◌, ◌≤◌, Bool, true, false, List, [], length, refl, arith, ap, Some, None, slice_get, slice_index_or}
-use Rattle.std.specs.Prelude.{Option, cond, ◌||◌, option_and_then}
+use Rattle.std.specs.Prelude.{Option, cond, ◌&&◌, ◌||◌, option_and_then}
 use Rattle.std.specs.List.{list_any}
 use Rattle.std.proofs.lemmas.Bool.Decides.{nat_tests}
 use Rattle.flat_base.specs.declared.ids.Actor.{Actor}
@@ -20,7 +20,9 @@ use Rattle.flat_core.specs.declared.following.Following.{Following}
 use Rattle.flat_core.specs.declared.following.Sight.{Sight}
 use Rattle.flat_core.specs.declared.pairs.PairState.{PairState}
 use Rattle.flat_rules.specs.Ends.{is_viewport_lost, to_finished, view_owner, viewport_owner, viewport_uses}
-use Rattle.flat_core.specs.Following.{AreTied, IsLastSight, IsPairKept}
+use Rattle.flat_core.specs.Following.{AreTied, IsFollowed, IsLastSight, IsPairKept}
+use Rattle.flat_rules.specs.Numbers.{AllNumbered, number}
+use Rattle.flat_core.proofs.Counts.{at-session}
 use Rattle.flat_rules.specs.Legal.{Legal}
 use Rattle.flat_rules.specs.Shown.{is_pair, shown_view, tree_of}
 use Rattle.flat_rules.specs.Stamps.{is_seen}
@@ -67,6 +69,18 @@ module _ (setup : Setup) (s : SessionNo) (h : List Entry) (legal : Legal setup h
       by_tests : (b : Bool) → is_declared setup s ≡ b → b ≡ false
       by_tests false is = refl
       by_tests true is = absurd (grind (arith, nat_tests))
+
+-- one of them is
+pub within-sight : (setup : Setup) (s : SessionNo) (h : List Entry) (followings : List Following) → AllNumbered (λ i. IsFollowed setup h (number i)) followings → 0 < s.0 → s.0 ≤ length followings
+    → (one : Following) → one ≡ slice_index_or followings (s.0 - 1) one → IsLastSight setup h s one.finished
+within-sight setup s h followings each some few one at =
+    let kept : IsFollowed setup h s one = at-session (IsFollowed setup h) followings s one each some few at in
+    record {
+      closed = ap (λ (g : Sight). g.closed) kept.finished;
+      took = ap (λ (g : Sight). g.taken) kept.finished;
+      view = ap (λ (g : Sight). g.view) kept.finished;
+      connected = λ p. ap (λ (g : Sight). is_pair g.view p && g.connected) kept.finished;
+    }
 
 -- ---- what is told of a pair
 

@@ -4,6 +4,7 @@ pub mod Clears
 pub mod Flags
 pub mod Following
 pub mod Gets
+pub mod Journals
 pub mod Kept
 pub mod Lives
 pub mod Logs

@@ -6,9 +6,9 @@ ghost use Rattle.flat_scene.specs.History.{is_closed, history_of, Published};
 ghost use Rattle.flat_scene.specs.Setups.{is_declared, is_within_limits};
 ghost use Rattle.flat_topology.specs.Views.{is_member};
 ghost use Rattle.flat_core.specs.Boards.{MayCall, MayLook, entered, present_of};
+ghost use Rattle.flat_core.specs.Journals.{FamiliesStandAlone, IsDecidedByGlimpses, IsQuietBeside};
 ghost use Rattle.flat_rules.specs.Ends.{has_view, to_begin};
-ghost use Rattle.flat_rules.specs.Legal.{asked_of, frames, number_if, reply_to, value_of, waited, Legal};
-ghost use Rattle.flat_core.specs.Polls.{unread_events};
+ghost use Rattle.flat_rules.specs.Legal.{asked_of, frames, number_if, reply_to, unread_events, value_of, waited, Legal};
 ghost use Rattle.flat_rules.specs.Posts.{posts};
 ghost use Rattle.flat_core.specs.Presents.{owed_for, reply_to_close};
 ghost use Rattle.flat_rules.specs.Shown.{shown_states, tree_of};
@@ -33,6 +33,7 @@ use flat_base::{
     Actor, FenceNo, FlatlandError, FrameNo, NoMemory, PairNo, Reason, SessionNo, ShareList,
 };
 use flat_fence::FenceSet;
+use flat_rules::{families_are_alone, glimpses_decide_outcomes};
 use flat_scene::{
     CallList, Cond, Entry, Journal, Kind, PresentArgs, Reply, SessionSet, Setup, ViewportProps,
     Watch,
@@ -91,7 +92,7 @@ impl Model for Board {
 impl Board {
     ghost use Rattle.flat_base.specs.declared.ids.Actor.TheVariants.{Display, Session};
     ghost use Rattle.flat_scene.specs.declared.journal.Kind.TheVariants.{Begin, Close, End, Finish, Get, Hit, Poll, Present, Signal, View, Viewport, Wait};
-    ghost use Rattle.flat_scene.specs.declared.journal.Reply.TheVariants.{Done};
+    ghost use Rattle.flat_scene.specs.declared.journal.Reply.TheVariants.{Done, Polled};
 
     /// A board before any entry, with room for all that the shares allow: those of
     /// the display, and then of the sessions.
@@ -338,7 +339,8 @@ impl Board {
         requires { MayCall self.old (Session s) calls Poll }
         ensures reply { IfOk result (λ reply. reply ≡ reply_to self.old.setup self.old.history (Session s) calls Poll) }
         ensures entry { IfOk result (λ reply. self.new ≡ entered self.old (Session s) line calls Poll reply) }
-        ensures events { IfOk result (λ reply. into.new ≡ into.old ++ unread_events self.old.setup self.old.history s) }
+        ensures events { IfOk result (λ reply. into.new ≡ into.old ++ unread_events self.old.setup s self.old.history) }
+        ensures count { IfOk result (λ reply. reply ≡ Polled (length (unread_events self.old.setup s self.old.history))) }
         ensures same { IfErr result (λ back. (self.new ≡ self.old) × (into.new ≡ into.old)) }
         ensures back { IfErr result (λ back. back ≡ record { calls = calls; args = None; snap = None }) }
     {
@@ -608,11 +610,20 @@ impl Board {
 
     /// All that was entered and posted, the oldest first: the one legal history
     /// for which the board stands, and exactly the events that the rules give it.
+    ///
+    /// Where the owners that the setup names are declared, the family of each session
+    /// is alone in it. And what neighbours can't change of a session is the same in
+    /// every legal history that gives the same glimpses of it.
     pub fn journal(&self) -> &Journal
         ensures entries { history_of result.now.entries.items ≡ self.now.history }
         ensures posts { result.now.posts.items ≡ posts self.now.setup self.now.history }
         ensures legal { Legal self.now.setup self.now.history }
+        ensures families { FamiliesStandAlone self.now.setup self.now.history }
+        ensures neighbours { (s : SessionNo) → IsDecidedByGlimpses self.now.setup s self.now.history }
+        ensures others { (s : SessionNo) → IsQuietBeside self.now.setup s self.now.history }
     {
+        families_are_alone();
+        glimpses_decide_outcomes();
         self.log.journal()
     }
 

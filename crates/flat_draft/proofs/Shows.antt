@@ -1,6 +1,6 @@
 -- What the parts show is the draft's tree.
 use Rattle.std.proofs.Common.{ℕ, zero, suc, ◌≤◌, ◌≡◌, refl, sym, ◌∙◌, ap, subst, Bool, true, false, List, [], ◌∷◌, map, length, Option, Some, None, IsSome, arith}
-use Rattle.std.specs.Prelude.{option_to_list, nat_lt, ◌||◌}
+use Rattle.std.specs.Prelude.{option_to_list, nat_lt, ◌||◌, cond, is_none}
 use Rattle.std.specs.Option.{option_map}
 use Rattle.std.proofs.lemmas.Bool.Decides.{nat_tests}
 use Rattle.flat_base.specs.declared.limits.TheConstants.{TREE_NODES_MAX, PATH_NODES_MAX, FENCES_PER_LIST_MAX}
@@ -12,6 +12,7 @@ use Rattle.flat_scene.specs.declared.setup.Setup.{Setup}
 use Rattle.flat_scene.specs.declared.trees.Children.{Children}
 use Rattle.flat_scene.specs.Draft.{Draft, of_serial}
 use Rattle.flat_scene.specs.Tree.{all_nodes, each, node, node_within, present_tests, tree, tree_tests}
+use Rattle.flat_scene.specs.Tree as scene
 use Rattle.flat_scene.specs.Trees.{more}
 use Rattle.flat_graph.specs.declared.nodes.GraphNode.{GraphNode}
 use Rattle.flat_graph.specs.Reasons.{links_in}
@@ -84,8 +85,11 @@ module _ (setup : Setup) (graph : GraphState) (table : TableState) (draft : Draf
       subst (λ (serials : List ℕ). each (node_within PATH_NODES_MAX draft true) serials ≡ Some (all_shown graph table)) (start-map graph.root ∙ ap (option_to_list {X = ℕ}) g.root)
       (shown-stands PATH_NODES_MAX true (option_to_list graph.root) (start-kept graph.root refl) (tree-room graph (size (graph_tree graph)) has refl).short)
 
-  pub tree-stands : HasTree graph → tree draft ≡ Some (shown_tree draft.view graph table)
-  tree-stands has = rw (all-stands has, (content_calls_stand setup table draft t).uses) refl
+  unfolded-stands : HasTree graph → scene.unfolded draft ≡ Some (shown_tree draft.view graph table)
+  unfolded-stands has = rw (all-stands has, (content_calls_stand setup table draft t).uses) refl
+
+  pub tree-stands : HasTree graph → first_reason (tree_tests draft) ≡ None → tree draft ≡ Some (shown_tree draft.view graph table)
+  tree-stands has none = ap (λ (reason : Option Reason). cond (is_none reason) (scene.unfolded draft) None) none ∙ unfolded-stands has
 
 -- one of the two lists has too many fences
 abbrev pub many : PresentArgs → Bool

@@ -3,6 +3,7 @@ use Rattle.std.proofs.Common.{◌≡◌, ℕ, zero, suc, ◌+◌, ◌-◌, Bool,
 use Rattle.std.specs.Prelude.{◌==◌, ◌&&◌, length, flat_map, map, replicate, filter, nat_lt}
 use Rattle.std.specs.List.{list_all, list_any}
 use Rattle.std.proofs.lemmas.Grind.{common_steps}
+use Rattle.std.proofs.lemmas.List.{append-nil}
 use Rattle.std.proofs.lemmas.List.Folds.{list_any-append}
 use Rattle.flat_base.specs.declared.ids.Actor.{Actor}
 use Rattle.flat_base.specs.declared.ids.Actor.TheVariants.{Display, Session, Probe}
@@ -16,7 +17,7 @@ use Rattle.flat_scene.specs.declared.setup.Setup.{Setup}
 use Rattle.flat_scene.specs.Family.{IsClosedFamily, only, is_kept, keeps}
 use Rattle.flat_scene.specs.Frames.{credits, taken, sessions_to}
 use Rattle.flat_scene.specs.History.{◌▹◌, is_closed, is_session, is_begin, is_finish}
-use Rattle.flat_rules.specs.Legal.{Legal, is_token_back, is_told, is_poll, is_now, number_if, owns_viewport, has_token, sent_to, unread, answers, frames, is_frame_open, begin_time}
+use Rattle.flat_rules.specs.Legal.{Legal, is_token_back, is_told, is_poll, is_now, number_if, owns_viewport, has_token, sent_to, unread, unread_events, answers, frames, is_frame_open, begin_time}
 use Rattle.flat_rules.specs.Posts.{Sent, told_event, tokens_back, at_finish, at_begin, news_for, events_to, posted, up_to, frame_took, event_of}
 use Rattle.flat_rules.specs.Watch.{Watcher, layout_of, status_of, child_of, watching, told}
 use Rattle.flat_watch.specs.Told.{answer}
@@ -72,8 +73,8 @@ any-sent-none test f none (s ∷ ss) =
 
 -- ---- counts to which an entry adds nothing
 
-unread-still : (mine polls : Bool) (m n more : ℕ) → mine ≡ false → m ≡ n → more ≡ 0 → m ≡ cond (mine && polls) 0 n + more
-unread-still mine polls m n more other same none = rw (other, same, none) (omega arith)
+unread-still : (mine polls : Bool) (ms ns more : List Event) → mine ≡ false → ms ≡ ns → more ≡ [] → ms ≡ cond (mine && polls) [] ns ++ more
+unread-still mine polls ms ns more other same none = rw (other, same, none) (sym (append-nil ns))
 
 answers-still : (mine now : Bool) (m n more : ℕ) → mine ≡ false → m ≡ n → more ≡ 0 → m ≡ n + number_if (mine && now) + more
 answers-still mine now m n more other same none = rw (other, same, none) (omega arith)
@@ -227,16 +228,19 @@ module _ (setup : Setup) (of_family : SessionNo → Bool) (closed : IsClosedFami
   not-its s mine kind (Probe p) out = refl
   not-its s mine kind (Session t) out = false_from_ne_true (t.0 == s.0) (λ is. let same : of_family t ≡ of_family s = ap of_family (same-session s t is) in cc)
 
-  pub unread-only : (s : SessionNo) → of_family s ≡ true → (history : List Entry) → Legal setup history → unread setup s (only of_family history) ≡ unread setup s history
-  unread-only s mine [] legal = refl
-  unread-only s mine (before ▹ e) legal = by_side (unread-only s mine before legal.0) (is_kept of_family e) refl
+  unread-same : (s : SessionNo) → of_family s ≡ true → (history : List Entry) → Legal setup history → unread_events setup s (only of_family history) ≡ unread_events setup s history
+  unread-same s mine [] legal = refl
+  unread-same s mine (before ▹ e) legal = by_side (unread-same s mine before legal.0) (is_kept of_family e) refl
     where
-      by_side : unread setup s (only of_family before) ≡ unread setup s before → (k : Bool) → is_kept of_family e ≡ k → unread setup s (only of_family (before ▹ e)) ≡ unread setup s (before ▹ e)
-      by_side earlier true kept =
-          rw kept (grind (arith, ap (λ (n : ℕ). cond (is_session s e.actor && is_poll e.kind) 0 n) earlier, sent-kept s mine (λ x. true) before e legal kept))
+      by_side : unread_events setup s (only of_family before) ≡ unread_events setup s before → (k : Bool) → is_kept of_family e ≡ k
+          → unread_events setup s (only of_family (before ▹ e)) ≡ unread_events setup s (before ▹ e)
+      by_side earlier true kept = rw (kept, earlier, events-kept setup of_family closed before e legal kept s mine) refl
       by_side earlier false out =
-          rw out (unread-still (is_session s e.actor) (is_poll e.kind) (unread setup s (only of_family before)) (unread setup s before) (sent_to setup s (λ x. true) before e)
-          (not-its s mine e.kind e.actor out) earlier (sent-dropped s mine (λ x. true) before e legal out))
+          rw out (unread-still (is_session s e.actor) (is_poll e.kind) (unread_events setup s (only of_family before)) (unread_events setup s before) (events_to setup before e s)
+          (not-its s mine e.kind e.actor out) earlier (events-dropped setup of_family closed before e legal out s mine))
+
+  pub unread-only : (s : SessionNo) → of_family s ≡ true → (history : List Entry) → Legal setup history → unread setup s (only of_family history) ≡ unread setup s history
+  unread-only s mine history legal = ap length (unread-same s mine history legal)
 
   pub answers-only : (s : SessionNo) → of_family s ≡ true → (history : List Entry) → Legal setup history → answers setup s (only of_family history) ≡ answers setup s history
   answers-only s mine [] legal = refl

@@ -1,6 +1,6 @@
 -- Small runs as a whole, of the worked cases of the same names: legal, with their replies and their events, and readings of their scripts.
 use Rattle.std.proofs.Common.{◌≡◌, List, [], ◌∷◌, refl}
-use Rattle.std.specs.Prelude.{Some, None}
+use Rattle.std.specs.Prelude.{Some, None, drop}
 use Rattle.flat_base.specs.declared.ids.Actor.TheVariants.{Display, Session}
 use Rattle.flat_base.specs.declared.errors.Reason.TheVariants as reason
 use Rattle.flat_base.specs.declared.errors.FlatlandError.TheVariants as error
@@ -16,7 +16,7 @@ use Rattle.flat_scene.specs.declared.script.ScriptLine.{ScriptLine}
 use Rattle.flat_scene.specs.declared.setup.Setup.{Setup}
 use Rattle.flat_scene.specs.History.{◌▹◌}
 use Rattle.flat_scene.specs.Interleave.{Interleaves}
-use Rattle.flat_rules.specs.Legal.{Legal}
+use Rattle.flat_rules.specs.Legal.{Legal, unread_events}
 use Rattle.flat_rules.specs.Posts.{posts}
 use Rattle.flat_rules.proofs.LegalByTests.{legal-by-tests}
 use Rattle.flat_rules.proofs.Samples.{s, f, p, t, c, by, present, post, session_line, display_line}
@@ -120,6 +120,13 @@ view_without_root_then_poll-legal = legal-by-tests view_without_root_then_poll-s
 
 view_without_root_then_poll-posts : posts view_without_root_then_poll-setup view_without_root_then_poll-history ≡ (post 2 1 (event.Credits 5) ∷ post 3 1 (event.FramePresented 1) ∷ [])
 view_without_root_then_poll-posts = refl
+
+-- its poll is handed both events, and at the end none is unread
+view_without_root_then_poll-handed : unread_events view_without_root_then_poll-setup (s 1) (drop 2 view_without_root_then_poll-history) ≡ event.Credits 5 ∷ event.FramePresented 1 ∷ []
+view_without_root_then_poll-handed = refl
+
+view_without_root_then_poll-unread : unread_events view_without_root_then_poll-setup (s 1) view_without_root_then_poll-history ≡ []
+view_without_root_then_poll-unread = refl
 
 abbrev pub view_without_root_then_poll-lines : List ScriptLine
 view_without_root_then_poll-lines =

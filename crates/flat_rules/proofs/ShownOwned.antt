@@ -26,6 +26,7 @@ use Rattle.flat_scene.specs.Frames.{taken}
 use Rattle.flat_scene.specs.History.{◌▹◌, calls, presents, published, Published, is_closed, is_session}
 use Rattle.flat_scene.specs.Tree.{tree, all_nodes, head_of, use_of}
 use Rattle.flat_scene.specs.Trees.{first}
+use Rattle.flat_scene.proofs.Presented.{tree-unfolded}
 use Rattle.flat_scene.proofs.Steps.{presents-own, presents-other}
 use Rattle.flat_topology.specs.Shown.{pair_in, pairs_in, nodes_of, root_alone}
 use Rattle.flat_rules.specs.Legal.{Legal, LegalEntry, owns_in_call, owns_all}
@@ -105,7 +106,7 @@ module _ (setup : Setup) where
   shows d all = record { view = d.view; root = head_of all; viewports = filter_map (use_of d) d.viewports }
 
   tree-owned : (s : SessionNo) (d : Draft) (t : Tree) → IsOwned setup s d → tree d ≡ Some t → IsShownOwned s t
-  tree-owned s d t owned is = of_all (all_nodes d) refl is
+  tree-owned s d t owned is = of_all (all_nodes d) refl (tree-unfolded d t is)
     where
       of_all : (all : Option Children) → all_nodes d ≡ all → option_map (shows d) all ≡ Some t → IsShownOwned s t
       of_all None e h = cc

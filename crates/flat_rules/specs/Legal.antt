@@ -186,10 +186,14 @@ module _ (setup : Setup) where
   abbrev pub sent_to : SessionNo → (Event → Bool) → List Entry → Entry → ℕ
   sent_to s test before entry = length (filter test (events_to setup before entry s))
 
-  -- the events posted to a session since its last Poll
+  -- the events posted to a session since its last Poll, the oldest first
+  abbrev pub unread_events : SessionNo → List Entry → List Event
+  unread_events s [] = []
+  unread_events s (before ▹ entry) = cond (is_session s entry.actor && is_poll entry.kind) [] (unread_events s before) ++ events_to setup before entry s
+
+  -- how many they are
   abbrev pub unread : SessionNo → List Entry → ℕ
-  unread s [] = 0
-  unread s (before ▹ entry) = cond (is_session s entry.actor && is_poll entry.kind) 0 (unread s before) + sent_to s (λ _. true) before entry
+  unread s history = length (unread_events s history)
 
   -- the answers that a session has had from its watchers
   abbrev pub answers : SessionNo → List Entry → ℕ

@@ -3,6 +3,7 @@ pub mod FamilyClosed
 pub mod FamilyLeast
 pub mod Members
 pub mod PathLemmas
+pub mod Presented
 pub mod ReachLemmas
 pub mod SmallHistories
 pub mod Steps

@@ -1,4 +1,4 @@
-use Rattle.std.proofs.Common.{◌≡◌, ◌-◌, ◌<◌, ◌^◌, length, refl, ◌∙◌, ap, arith, subst, List}
+use Rattle.std.proofs.Common.{◌≡◌, ◌-◌, ◌<◌, ◌^◌, ◌++◌, length, refl, ◌∙◌, ap, arith, subst, List}
 use Rattle.flat_base.specs.declared.ids.Actor.TheVariants.{Session}
 use Rattle.std.specs.List.{list_any}
 use Rattle.flat_scene.specs.declared.calls.Call.{Call}
@@ -6,7 +6,7 @@ use Rattle.flat_scene.specs.declared.journal.Kind.TheVariants.{Poll}
 use Rattle.flat_scene.specs.declared.journal.Reply.TheVariants.{Polled}
 use Rattle.flat_core.specs.declared.state.Account.{Account}
 use Rattle.flat_core.specs.Boards.{Machine}
-use Rattle.flat_rules.specs.Legal.{reply_to}
+use Rattle.flat_rules.specs.Legal.{reply_to, unread_events}
 use Rattle.flat_core.specs.Presents.{TiesNoted}
 use Rattle.flat_core.specs.Seen.{is_new_viewport, noted}
 use Rattle.flat_core.proofs.EndSteps.{ends-after, none-new, noted-slice}
@@ -77,4 +77,20 @@ returns-clause-reply c =
     let count : c.len.result - c.len-before.result ≡ length c.push_events_from.new.into - length c.args.into.now = rw (c.len.ensures, c.len-before.ensures) refl in
     let over = handed _ c.args.s _ call _ _ _ _ _ _ _ _ _ _ _ c.index_mut-state.ensures.value refl c.self.invariant.0 c.self.invariant.1 c.posts-posts.ensures c.in-Ok.ensures.ok count in
     let P : Machine → Type 0 = λ m. Polled (c.len.result - c.len-before.result) ≡ reply_to m.setup m.history (Session c.args.s) c.args.calls Poll in
+    subst P c.self.view_is (ap Polled over.as_many)
+
+pub returns-clause-events : goal.returns-clause-events
+returns-clause-events c =
+    let call = rw (← c.self.view_is) at c.requires in
+    let count : c.len.result - c.len-before.result ≡ length c.push_events_from.new.into - length c.args.into.now = rw (c.len.ensures, c.len-before.ensures) refl in
+    let over = handed _ c.args.s _ call _ _ _ _ _ _ _ _ _ _ _ c.index_mut-state.ensures.value refl c.self.invariant.0 c.self.invariant.1 c.posts-posts.ensures c.in-Ok.ensures.ok count in
+    let P : Machine → Type 0 = λ m. c.push_events_from.new.into ≡ c.args.into.now ++ unread_events m.setup c.args.s m.history in
+    subst P c.self.view_is over.events
+
+pub returns-clause-count : goal.returns-clause-count
+returns-clause-count c =
+    let call = rw (← c.self.view_is) at c.requires in
+    let count : c.len.result - c.len-before.result ≡ length c.push_events_from.new.into - length c.args.into.now = rw (c.len.ensures, c.len-before.ensures) refl in
+    let over = handed _ c.args.s _ call _ _ _ _ _ _ _ _ _ _ _ c.index_mut-state.ensures.value refl c.self.invariant.0 c.self.invariant.1 c.posts-posts.ensures c.in-Ok.ensures.ok count in
+    let P : Machine → Type 0 = λ m. Polled (c.len.result - c.len-before.result) ≡ Polled (length (unread_events m.setup c.args.s m.history)) in
     subst P c.self.view_is (ap Polled over.as_many)

@@ -35,7 +35,7 @@ returns-in-Ok-clause-answered c = λ setup draft s.
     let verdict = verdict_stands c.self.inside.graph draft (Good c.in-Ok-Good.nodes) g judged in
     let many_so : many c.args.args.now ≡ false = sym c.has_too_many.ensures ∙ c.if-has_too_many.false in
     let has : HasTree c.args.self.now.graph = subst (λ (state : DraftState). HasTree state.graph) c.self.view_is judged.0 in
-    let shown : tree draft ≡ Some (shown_tree draft.view c.args.self.now.graph c.args.self.now.contents) = tree-stands setup c.args.self.now.graph c.args.self.now.contents draft s.graph s.contents has in
+    let shown : tree draft ≡ Some (shown_tree draft.view c.args.self.now.graph c.args.self.now.contents) = tree-stands setup c.args.self.now.graph c.args.self.now.contents draft s.graph s.contents has verdict.no_reason in
     record {
       still_open = not_closed;
       allowed = fences-allow draft c.args.args.now verdict.no_reason many_so;
