@@ -1,4 +1,6 @@
 //! Whether a graph of transforms unfolds to a tree that can be presented.
+//!
+//! Other crates may cite the lemma files proofs/Stands, Verdicts and Walking.
 #![tactic(auto)]
 
 ghost use Rattle.std.specs.Prelude.{IfOk};

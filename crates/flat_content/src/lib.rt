@@ -1,6 +1,8 @@
 //! A session's contents: all that it ever made, by serial numbers, and the ids
 //! that name some of them. A content stays when its name ends, since a transform
 //! may hold it still.
+//!
+//! Other crates may cite the lemma files proofs/Others, Sides and Standing.
 #![tactic(auto)]
 
 mod laws;

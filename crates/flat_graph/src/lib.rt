@@ -1,6 +1,9 @@
 //! A session's transforms, as a graph: nodes under the keys of a slab, the ids
 //! that name them, and the root. A node lives on without a name for as long as
 //! something may reach it.
+//!
+//! Other crates may cite the lemma files proofs/DraftNames, NameLemmas and
+//! StandingLaws.
 #![tactic(auto)]
 
 mod graph;

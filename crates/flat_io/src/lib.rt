@@ -1,4 +1,5 @@
-//! Sources and sinks of bytes, whose faults are known by counts alone, and the
+//! Sources and sinks of bytes, whose faults are known by counts alone, and the two
+//! calls that read and write a whole text over them.
 //!
 //! What a source gives and what a sink holds is *told* where its type says so.
 #![tactic(auto)]

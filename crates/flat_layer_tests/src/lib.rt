@@ -15,6 +15,8 @@ mod io;
 #[cfg(test)]
 mod links;
 #[cfg(test)]
+mod lock;
+#[cfg(test)]
 mod scene;
 #[cfg(test)]
 mod watch;

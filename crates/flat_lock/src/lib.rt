@@ -11,8 +11,6 @@ mod seat;
 mod seats;
 mod steps;
 mod storied;
-#[cfg(test)]
-mod tests;
 mod view;
 mod view_parts;
 

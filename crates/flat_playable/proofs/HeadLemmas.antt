@@ -25,7 +25,7 @@ use Rattle.flat_script.proofs.FormLemmas.{both_ok, or_kind_ok, whole_ok, apply_o
 use Rattle.flat_script.proofs.StepLemmas.{SizeStep, SessionStep, BuffersStep, PairStep, FenceStep, Step, size_step, session_step, buffers_step, pair_step, fence_step}
 use Rattle.flat_playable.proofs.PlayedLemmas.{within_of, session_declared, owner_declared}
 use Rattle.std.proofs.lemmas.Bool.{and_parts, and_from}
-use Rattle.flat_script.proofs.OrderLemmas.{test_passes}
+use Rattle.flat_print.proofs.OrderLemmas.{test_passes}
 
 -- tests
 

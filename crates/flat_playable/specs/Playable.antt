@@ -5,20 +5,13 @@ use Rattle.flat_base.specs.declared.ids.Actor.{Actor}
 use Rattle.flat_base.specs.declared.ids.Actor.TheVariants.{Display, Session}
 use Rattle.flat_base.specs.declared.ids.SessionNo.{SessionNo}
 use Rattle.flat_base.specs.declared.limits.TheConstants.{SCRIPT_BYTES_MAX}
-use Rattle.flat_scene.specs.declared.calls.Call.{Call}
-use Rattle.flat_scene.specs.declared.calls.Call.TheVariants.{CreateView, CreateViewport, CreateImage}
 use Rattle.flat_scene.specs.declared.script.Body.{Body}
 use Rattle.flat_scene.specs.declared.script.Body.TheVariants as body
-use Rattle.flat_scene.specs.declared.script.Cond.{Cond}
-use Rattle.flat_scene.specs.declared.script.Cond.TheVariants as asks
-use Rattle.flat_scene.specs.declared.script.DisplayLine.{DisplayLine}
 use Rattle.flat_scene.specs.declared.script.DisplayLine.TheVariants as display
-use Rattle.flat_scene.specs.declared.script.Line.{Line}
-use Rattle.flat_scene.specs.declared.script.Line.TheVariants as line
 use Rattle.flat_scene.specs.declared.script.ScriptLine.{ScriptLine}
 use Rattle.flat_scene.specs.declared.setup.Setup.{Setup}
 use Rattle.flat_scene.specs.Setups.{is_declared, is_setup}
-use Rattle.flat_rules.specs.Legal.{owns_view, owns_viewport, owns_fence, owns_buffers, is_fence}
+use Rattle.flat_rules.specs.Owned.{is_played_line, is_played_display}
 use Rattle.flat_script.specs.declared.script.Script.{Script}
 
 -- the numbers of lines rise, from above this one
@@ -36,48 +29,6 @@ keeps_frames is_open time _ follows = follows is_open time
 abbrev pub frames_close : Bool → ℕ → List ScriptLine → Bool
 frames_close is_open time [] = not is_open
 frames_close is_open time (next ∷ later) = keeps_frames is_open time next.body (λ open_then time_then. frames_close open_then time_then later)
-
--- a call that uses no end; an image is of buffers that the session owns
-abbrev pub is_private : Setup → SessionNo → Call → Bool
-is_private setup s (CreateView pair) = false
-is_private setup s (CreateViewport c pair w h inset) = false
-is_private setup s (CreateImage c buffers i w h) = owns_buffers setup s buffers
-is_private setup s _ = true
-
--- a call that is played: a view is of a pair whose view end the session owns, a viewport of one whose viewport end it owns, and an image of its buffers
-abbrev pub is_played_call : Setup → SessionNo → Call → Bool
-is_played_call setup s (CreateView pair) = owns_view setup s pair
-is_played_call setup s (CreateViewport c pair w h inset) = owns_viewport setup s pair
-is_played_call setup s call = is_private setup s call
-
--- what a session may wait for: a fence is its own
-abbrev pub is_played_condition : Setup → SessionNo → Cond → Bool
-is_played_condition setup s (asks.Frames n) = true
-is_played_condition setup s (asks.Credits n) = true
-is_played_condition setup s (asks.Taken n) = true
-is_played_condition setup s (asks.Answers n) = true
-is_played_condition setup s (asks.Fence f) = owns_fence setup s f
-is_played_condition setup s (asks.Presents other n) = false
-
--- a line of a session: it names only what the session owns
-abbrev pub is_played_line : Setup → SessionNo → Line → Bool
-is_played_line setup s (line.Call call) = is_played_call setup s call
-is_played_line setup s (line.Present args) = list_all (owns_fence setup s) args.acquire && list_all (owns_fence setup s) args.release
-is_played_line setup s (line.Get watch) = true
-is_played_line setup s (line.Signal f) = owns_fence setup s f
-is_played_line setup s line.Poll = true
-is_played_line setup s (line.Wait c) = is_played_condition setup s c
-is_played_line setup s line.Disconnect = true
-
--- a line of the display: it names only what is declared
-abbrev pub is_played_display : Setup → DisplayLine → Bool
-is_played_display setup (display.Begin time) = true
-is_played_display setup display.Done = true
-is_played_display setup (display.Signal f) = is_fence setup f
-is_played_display setup (display.Wait (asks.Presents s n)) = is_declared setup s
-is_played_display setup (display.Wait (asks.Fence f)) = is_fence setup f
-is_played_display setup (display.Hit x y) = true
-is_played_display setup _ = false
 
 -- a line that is played, by whom
 abbrev pub is_played : Setup → Actor → Body → Bool

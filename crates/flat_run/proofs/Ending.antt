@@ -1,7 +1,7 @@
 -- How the sessions end.
 use Rattle.std.proofs.Common.{◌≡◌, ◌≢◌, ℕ, zero, suc, ◌+◌, ◌<◌, ◌≤◌, Bool, true, false, cond, ◌==◌, nat_lt, nat_le, List, [], ◌∷◌, ◌++◌, length, drop, map, reverse, get_or, set, refl, sym, ap, ◌∙◌, subst, arith, add-one, append-nil, append_assoc, get_or-set_other}
 use Rattle.std.specs.List.{list_any, list_all, AllByRecursion}
-use Rattle.flat_playable.specs.Playable.{is_private}
+use Rattle.flat_rules.specs.Owned.{is_private}
 use Rattle.std.proofs.lemmas.List.{length-set, map-append, reverse-append}
 use Rattle.std.proofs.lemmas.Bool.{eq-eqb, eqb-true}
 use Rattle.std.proofs.lemmas.Bool.Decides.{nat_tests}

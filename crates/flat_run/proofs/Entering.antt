@@ -39,7 +39,7 @@ use Rattle.flat_core.specs.Watchers.{watcher_meant}
 use Rattle.flat_rules.specs.Watch.{layout_of, status_of, child_of, watcher_in, watcher_of, watcher_of_made}
 use Rattle.flat_content.specs.Table.{pair_of}
 use Rattle.flat_draft.specs.Answers.{pair_watched}
-use Rattle.flat_playable.specs.Playable.{is_private, is_played_call, is_played_condition}
+use Rattle.flat_rules.specs.Owned.{is_private, is_played_call, is_played_condition}
 use Rattle.flat_run.proofs.Conditions.{and_true, or_false, or_left, or_right, all_more, all_also, none_also}
 
 -- ---- lists with one call more

@@ -16,7 +16,8 @@ use Rattle.flat_scene.specs.Interleave.{session_lines, session_line}
 use Rattle.flat_scene.specs.History.{is_session}
 use Rattle.flat_scene.specs.Setups.{is_declared, is_setup}
 use Rattle.flat_script.specs.declared.script.Script.{Script}
-use Rattle.flat_playable.specs.Playable.{rise_from, frames_close, is_played, is_played_line, is_playable}
+use Rattle.flat_rules.specs.Owned.{is_played_line}
+use Rattle.flat_playable.specs.Playable.{rise_from, frames_close, is_played, is_playable}
 use Rattle.flat_run.specs.Playing.{last_number, lines_left}
 use Rattle.flat_run.proofs.Conditions.{and_left, and_right, all_at}
 use Rattle.flat_run.proofs.Unread.{rise_first, rise_later, unread_after, Numbered}

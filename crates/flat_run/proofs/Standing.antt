@@ -31,7 +31,7 @@ use Rattle.flat_run.specs.declared.made.Made.{Made}
 use Rattle.flat_run.specs.declared.made.Made.TheVariants as made
 use Rattle.flat_run.specs.declared.player.Player.{Player}
 use Rattle.flat_run.specs.Made.{kind_of, IsMeant}
-use Rattle.flat_playable.specs.Playable.{is_private, is_played_call, is_played_line}
+use Rattle.flat_rules.specs.Owned.{is_private, is_played_call, is_played_line}
 use Rattle.flat_run.specs.Playing.{lines_left, IsNoMisuse, LeavesDraft, Judges, IsOpenAt, IsClosedAt, PlayerStands, is_quiet}
 use Rattle.flat_run.proofs.Entering.{IsWaiting, get_meant, may_view, may_viewport, may_get, may_present, may_signal, may_poll, may_wait, may_close_call, may_close_present}
 use Rattle.flat_run.proofs.Places.{Here}

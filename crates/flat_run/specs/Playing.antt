@@ -52,7 +52,8 @@ use Rattle.flat_run.specs.declared.player.Player.{Player}
 use Rattle.flat_run.specs.Made.{kind_of}
 use Rattle.flat_run.specs.declared.game.Game.{Game}
 use Rattle.flat_run.specs.declared.game.LastFrame.{LastFrame}
-use Rattle.flat_playable.specs.Playable.{is_private, frames_close}
+use Rattle.flat_rules.specs.Owned.{is_private}
+use Rattle.flat_playable.specs.Playable.{frames_close}
 
 -- ---- a line, by a session that isn't closed
 

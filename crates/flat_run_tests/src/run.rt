@@ -1,9 +1,10 @@
 ghost use Rattle.std.specs.Prelude.{◌<◌, ◌^◌, length};
 
 use flat_display::{Display, MemDisplay};
-use flat_io::{MemSink, MemSource};
+use flat_io::{MemSink, MemSource, StdSource, SteadySink};
 use flat_run::flatland;
 use std::alloc::Global;
+use std::io::Cursor;
 use std::test::Fail;
 
 /// A text that is no script.
@@ -112,6 +113,32 @@ fn displays_that_fail_are_lost(rt: HostRuntime) -> Result<(), Fail> {
             assert_eq!(rt; *line, wanted.as_bytes());
         }
     }
+    Ok(())
+}
+
+/// What a report of three frames of nothing is.
+const THREE_REPORTED: &[u8] = b"report flatland 1
+display 6 begin 1 frame 1
+display 7 done frame 1
+display 8 begin 2 frame 2
+display 9 done frame 2
+display 10 begin 3 frame 3
+display 11 done frame 3
+A end 0
+report ends entries 7 frames 3
+";
+
+#[test]
+fn a_source_that_tells_nothing_is_played(rt: HostRuntime) -> Result<(), Fail> {
+    let alloc = rt.alloc();
+    let words = [String::from_str(alloc, "play")?];
+    let mut source = StdSource::new(Cursor::new(THREE_FRAMES));
+    let mut sink = SteadySink::new(alloc, 512)?;
+    let mut displays: Vec<Box<dyn Display>> = Vec::new(alloc);
+    displays.push(failing(alloc, 0)?)?;
+    let status = flatland(alloc, &words, &mut source, &mut sink, &mut displays);
+    assert_eq!(rt; status, 0);
+    assert_eq!(rt; sink.bytes(), THREE_REPORTED);
     Ok(())
 }
 

@@ -6,14 +6,5 @@ pub mod FormLemmas
 pub mod ListLemmas
 pub mod IndexLemmas
 pub mod DeclareLemmas
-pub mod WordLemmas
-pub mod TextLemmas
-pub mod AgainLemmas
-pub mod CallLemmas
-pub mod ListWordLemmas
-pub mod BodyWordLemmas
 pub mod StepLemmas
 pub mod FoundLemmas
-pub mod SwapLemmas
-pub mod OrderLemmas
-pub mod RunLemmas

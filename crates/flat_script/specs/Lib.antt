@@ -11,4 +11,3 @@ pub mod Reads
 pub mod Lists
 pub mod Slots
 pub mod Progress
-pub mod Print

@@ -1,4 +1,9 @@
-//! The grammar of scripts: text to script, and back.
+//! The grammar of scripts, and its reader: text to script, or to its first fault.
+//!
+//! Other crates may cite the lemmas on reading of these files: proofs/FormLemmas (a
+//! form and what it reads), IndexLemmas and NameLemmas (what names mean), ListLemmas
+//! and ReadsLemmas (lists and places), ParserLemmas, DeclareLemmas, StepLemmas and
+//! FoundLemmas (a line's step, and what it found).
 #![tactic(auto)]
 
 mod call_forms;
@@ -10,12 +15,9 @@ mod name;
 mod names;
 mod parser;
 mod places;
-mod print_lines;
-mod print_words;
-mod printer;
 mod script;
 
+pub use calls::CallName;
 pub use name::{Name, NameList};
 pub use parser::parse;
-pub use printer::print;
 pub use script::{Script, ScriptError, ScriptFault};

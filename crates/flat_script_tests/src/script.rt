@@ -1,6 +1,7 @@
 use flat_base::{Actor, ContentId, FenceNo, Items, PairNo, SessionNo};
 use flat_scene::{Body, Call, Cond, DisplayLine, Inset, Line, PresentArgs, ScriptLine};
-use flat_script::{Script, ScriptError, parse, print};
+use flat_print::print;
+use flat_script::{Script, ScriptError, parse};
 use std::alloc::{AllocError, Global};
 use std::test::Fail;
 

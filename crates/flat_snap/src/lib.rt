@@ -1,4 +1,6 @@
 //! The shared, immutable state that a session presents, and how it is built.
+//!
+//! Other crates may cite the lemma files proofs/Adding, Rebuilding and Stretches.
 #![tactic(auto)]
 
 mod builder;

@@ -20,9 +20,9 @@ use Rattle.flat_script.specs.Forms.{mapped}
 use Rattle.flat_script.specs.Names.{actor_named, is_actor}
 use Rattle.flat_script.specs.Body.{time_begun, ends_frame, begin_times, dones, greatest, is_open, lines_of_actor, display_line, actor_line}
 use Rattle.flat_script.specs.Grammar.{Sofar, words_read, lines_read}
-use Rattle.flat_script.specs.Print.{spelled}
-use Rattle.flat_script.proofs.TextLemmas.{IsLine, AllLines, AllLines-append}
-use Rattle.flat_script.proofs.AgainLemmas.{with_lines}
+use Rattle.flat_print.specs.Print.{spelled}
+use Rattle.flat_print.proofs.TextLemmas.{IsLine, AllLines, AllLines-append}
+use Rattle.flat_print.proofs.AgainLemmas.{with_lines}
 use Rattle.flat_stress.specs.Words.{Word, number}
 use Rattle.flat_stress.specs.Load.{frame, later}
 use Rattle.flat_stress.proofs.LineLemmas.{line_good, tested, number_solid}

@@ -3,6 +3,8 @@
 //! A text is cut into lines at line feeds, and a line into words at single
 //! spaces. A number has one spelling only: `0`, or digits without a leading zero,
 //! or `-` and digits without a leading zero; it has at most 20 digits.
+//!
+//! Other crates may cite the lemma file proofs/NumberLemmas.
 #![tactic(auto)]
 
 mod number;

@@ -6,6 +6,8 @@
 //! links make one joined tree. The definitions of it stand in this crate's
 //! `specs/`: which sessions are connected, where each node is placed, what is
 //! drawn, the view tree, and what a point hits.
+//!
+//! Other crates may cite the lemma files proofs/Distances and Distinct.
 #![tactic(auto)]
 
 ghost use Rattle.flat_topology.specs.Laws.{JoinsTheConnected, JoinsEachOnce, ReachesNoCycle, JoinsAll, JoinsFew, PlacesLowOpacities, ParentsDecide, DrawsInPreorder, ViewsTheJoined, ViewsBelowParents, ViewsTheConnected, HitsEachOnce};

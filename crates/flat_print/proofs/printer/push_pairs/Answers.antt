@@ -1,0 +1,7 @@
+use Rattle.std.proofs.Common.{refl}
+use Rattle.flat_print.specs.Print.{pair_line_words}
+use Rattle.flat_print.proofs.WordLemmas.{more_numbered}
+use Rattle.flat_print.proofs.printer.push_pairs.Goals as goal
+
+pub loop-number-preserved : goal.loop-number-preserved
+loop-number-preserved c = more_numbered (pair_line_words c.args.script.now) c.args.decls.now c.loop-number.number _ _ c.loop-number-test.true refl c.loop-number.invariant c.in_ok-push_pair.ensures

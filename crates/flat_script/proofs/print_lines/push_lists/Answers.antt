@@ -1,6 +1,0 @@
-use Rattle.std.proofs.Common.{rules}
-use Rattle.flat_script.proofs.WordLemmas.{then}
-use Rattle.flat_script.proofs.print_lines.push_lists.Goals as goal
-
-pub returns : goal.returns
-returns c = search (rules, then c.in_ok-push_list.ensures c.in_ok-push_list-2.ensures)

@@ -1,6 +1,0 @@
-use Rattle.std.proofs.Common.{take, map}
-use Rattle.flat_script.specs.Print.{Writes, fence_word}
-use Rattle.flat_script.proofs.print_words.push_fences.Given as goal
-
-abbrev pub invariant-loop-fence : goal.invariant-loop-fence
-invariant-loop-fence l = Writes (map (fence_word l.script) (take l.fence-index l.fences)) l.fn.out.items l.out.items

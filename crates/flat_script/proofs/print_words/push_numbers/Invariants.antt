@@ -1,6 +1,0 @@
-use Rattle.std.proofs.Common.{take}
-use Rattle.flat_script.specs.Print.{Writes, numbers}
-use Rattle.flat_script.proofs.print_words.push_numbers.Given as goal
-
-abbrev pub invariant-loop-value : goal.invariant-loop-value
-invariant-loop-value l = Writes (numbers (take l.value-index l.values)) l.fn.out.items l.out.items

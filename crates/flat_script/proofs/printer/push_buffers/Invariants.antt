@@ -1,6 +1,0 @@
-use Rattle.std.proofs.Common.{take}
-use Rattle.flat_script.specs.Print.{WritesLines, numbered, buffers_line_words}
-use Rattle.flat_script.proofs.printer.push_buffers.Given as goal
-
-abbrev pub invariant-loop-number : goal.invariant-loop-number
-invariant-loop-number l = WritesLines (numbered (buffers_line_words l.script) 0 (take l.number l.decls)) l.fn.out.items l.out.items

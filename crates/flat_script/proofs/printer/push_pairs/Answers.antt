@@ -1,7 +1,0 @@
-use Rattle.std.proofs.Common.{refl}
-use Rattle.flat_script.specs.Print.{pair_line_words}
-use Rattle.flat_script.proofs.WordLemmas.{more_numbered}
-use Rattle.flat_script.proofs.printer.push_pairs.Goals as goal
-
-pub loop-number-preserved : goal.loop-number-preserved
-loop-number-preserved c = more_numbered (pair_line_words c.args.script.now) c.args.decls.now c.loop-number.number _ _ c.loop-number-test.true refl c.loop-number.invariant c.in_ok-push_pair.ensures

@@ -1,0 +1,6 @@
+pub mod Displays
+pub mod Homes
+pub mod Made
+pub mod Reads
+pub mod Seats
+pub mod Readings

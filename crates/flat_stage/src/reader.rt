@@ -1,0 +1,201 @@
+ghost use Rattle.std.specs.Prelude.{◌≡◌, ◌+◌, ◌-◌, ◌<◌, ◌≢◌, ◌^◌, [], ◌∷◌, ◌++◌, true, false, length, slice_get, Some, None, IfOk, IfErr, OnErr, IsTrue, IfSome};
+ghost use Rattle.flat_base.specs.declared.ids.Actor.TheVariants.{Session};
+ghost use Rattle.flat_scene.specs.declared.script.Line.TheVariants as line;
+ghost use Rattle.flat_scene.specs.declared.setup.Setup.{Setup};
+ghost use Rattle.flat_scene.specs.Draft as scene;
+ghost use Rattle.flat_scene.specs.Effect.{effect};
+ghost use Rattle.flat_scene.specs.History.{closes, own};
+ghost use Rattle.flat_scene.specs.Misuse.{misuse};
+ghost use Rattle.flat_core.specs.Boards.{HasShare, entered};
+ghost use Rattle.flat_scene.specs.declared.journal.Kind.TheVariants.{End};
+ghost use Rattle.flat_scene.specs.declared.journal.Reply.TheVariants.{Done};
+ghost use Rattle.flat_draft.specs.Answers.{has_room_for, uses_an_end};
+ghost use Rattle.flat_draft.specs.Stands.{StandsFor};
+ghost use Rattle.flat_draft.specs.State.{empty_state};
+ghost use Rattle.flat_rules.specs.Owned.{is_played_line};
+ghost use Rattle.flat_stage.specs.Made.{kind_of, takes_memory};
+ghost use Rattle.flat_stage.specs.Reads.{HasDraft, Stands, IsReady, Tells, Enters, Reads, kept_calls, with_line, viewport_call, CanMake, IsMade};
+
+use crate::judging::{asked, called, presented};
+use crate::made::Made;
+use flat_base::{NoMemory, SessionNo};
+use flat_core::{Board, EventList};
+use flat_draft::Draft;
+use flat_scene::{Call, CallList, Line, Reply};
+use std::alloc::Global;
+use std::mem;
+
+/// A session that reads its lines: what it has beside its entries.
+#[derive(Drop)]
+pub struct Reader {
+    pub alloc: Global,
+    pub session: SessionNo,
+    /// What its calls made, those that wait among them.
+    pub draft: Draft,
+    /// The calls that its next entry carries.
+    pub pending: CallList,
+    /// What its polls handed over.
+    pub events: EventList,
+    /// How many lines came after the one that closed it.
+    pub refused: u32,
+    pub closed: bool,
+}
+
+impl Reader {
+    /// Reads a line: it makes its entry, or its call waits for the next one. A misuse
+    /// closes the session, and each line after that is answered so and counted.
+    ///
+    /// On want of memory the line is dropped and makes no entry.
+    pub fn call(&mut self, board: &mut Board, number: u32, text: Line) -> Result<Reply, NoMemory>
+        requires owned { is_played_line board.old.setup self.old.session text ≡ true }
+        requires share { HasShare board.old (Session self.old.session) }
+        requires few { self.old.refused + 1 < 2 ^ 32 }
+        requires stands { Stands board.old.setup (own self.old.session board.old.history) self.old }
+        ensures reads { IfOk result (λ reply. Reads number text reply board.old board.new self.old self.new self.old.closed) }
+        ensures stands { Stands board.new.setup (own self.old.session board.new.history) self.new }
+        ensures same { OnErr result (board.new ≡ board.old) }
+        ensures kept { OnErr result (self.new ≡ record self.old { draft = self.new.draft }) }
+    {
+        if self.closed {
+            self.refused += 1;
+            return Ok(Reply::Closed(None, None));
+        }
+        match self.judge(text)? {
+            None => Ok(Reply::Done),
+            Some(made) => self.enter(board, number, made),
+        }
+    }
+
+    /// Ends the session's entries. It takes no memory.
+    pub fn end(&mut self, board: &mut Board, number: u32) -> Reply
+        requires share { HasShare board.old (Session self.old.session) }
+        requires stands { Stands board.old.setup (own self.old.session board.old.history) self.old }
+        ensures reply { result ≡ Done }
+        ensures entry { board.new ≡ entered board.old (Session self.old.session) number self.old.pending (End self.old.refused) Done }
+        ensures rest { self.new ≡ record self.old { pending = [] } }
+    {
+        let calls = mem::replace(&mut self.pending, CallList::new(self.alloc));
+        board.end(self.session, number, calls, self.refused)
+    }
+
+    /// What the polls handed over since they were last asked for.
+    pub fn take_events(&mut self) -> EventList
+        ensures events { result ≡ self.old.events }
+        ensures rest { self.new ≡ record self.old { events = [] } }
+    {
+        mem::replace(&mut self.events, EventList::new(self.alloc))
+    }
+
+    /// What a line makes, if the session isn't closed: its entry, or none. Its call
+    /// waits for the next entry.
+    pub fn judge(&mut self, text: Line) -> Result<Option<Made>, NoMemory>
+        requires stands { HasDraft self.old.draft }
+        requires opened { self.old.draft.closed ≡ false }
+        ensures rest { IfOk result (λ _. self.new ≡ with_line text self.old self.new.draft) }
+        ensures tells { (setup : Setup) (draft : scene.Draft) → StandsFor setup self.old.draft draft → is_played_line setup self.old.session text ≡ true → IfOk result (Tells setup self.old.session draft text self.new.draft) }
+        ensures same { OnErr result (self.new ≡ self.old) }
+    {
+        match text {
+            Line::Call(call) => self.judge_call(call),
+            Line::Present(args) => presented(&mut self.draft, args),
+            Line::Get(get) => Ok(Some(asked(&mut self.draft, get))),
+            Line::Signal(f) => Ok(Some(Made::Signal(f))),
+            Line::Poll => Ok(Some(Made::Poll)),
+            Line::Wait(c) => Ok(Some(Made::Wait(c))),
+            Line::Disconnect => Ok(Some(Made::Close(None))),
+        }
+    }
+
+    fn judge_call(&mut self, call: Call) -> Result<Option<Made>, NoMemory>
+        requires stands { HasDraft self.old.draft }
+        requires opened { self.old.draft.closed ≡ false }
+        ensures rest { IfOk result (λ _. self.new ≡ with_line (line.Call call) self.old self.new.draft) }
+        ensures tells { (setup : Setup) (draft : scene.Draft) → StandsFor setup self.old.draft draft → is_played_line setup self.old.session (line.Call call) ≡ true → IfOk result (Tells setup self.old.session draft (line.Call call) self.new.draft) }
+        ensures same { OnErr result (self.new ≡ self.old) }
+    {
+        self.pending.push(call)?;
+        let place = self.pending.len() - 1;
+        match called(&mut self.draft, self.pending.at(place)) {
+            Ok(made) => Ok(made),
+            Err(NoMemory) => {
+                let _ = self.pending.pop();
+                Err(NoMemory)
+            }
+        }
+    }
+
+    /// Makes the entry that the session is about to make. On want of memory it can
+    /// still be made, but for the call of a viewport, which doesn't wait any more.
+    pub fn enter(&mut self, board: &mut Board, number: u32, made: Made) -> Result<Reply, NoMemory>
+        requires ready { IsReady board.old.setup (own self.old.session board.old.history) self.old made }
+        requires share { HasShare board.old (Session self.old.session) }
+        ensures enters { IfOk result (λ reply. Enters number (kind_of made) reply board.old board.new self.old self.new) }
+        ensures stands { Stands board.new.setup (own self.old.session board.new.history) self.new }
+        ensures same { OnErr result (board.new ≡ board.old) }
+        ensures only { OnErr result (takes_memory made ≡ true) }
+        ensures kept { OnErr result (self.new ≡ record self.old { pending = kept_calls (viewport_call made) self.old.pending }) }
+    {
+        let calls = mem::replace(&mut self.pending, CallList::new(self.alloc));
+        let link = viewport_call(&made);
+        match made.enter(board, self.session, number, calls, &mut self.events) {
+            Ok(reply) => {
+                make(&mut self.draft, link);
+                self.closed = closes(&reply);
+                Ok(reply)
+            }
+            Err(calls) => {
+                self.pending = calls;
+                drop_last(&mut self.pending, link);
+                Err(NoMemory)
+            }
+        }
+    }
+}
+
+/// The call of a viewport's entry, which is still to be made of the draft.
+fn viewport_call(made: &Made) -> Option<Call>
+    ensures { result ≡ viewport_call made.now }
+{
+    match made {
+        Made::Viewport(c, pair, props) => Some(Call::CreateViewport {
+            c: *c,
+            pair: *pair,
+            w: props.w,
+            h: props.h,
+            inset: props.inset,
+        }),
+        _ => None,
+    }
+}
+
+/// Makes a viewport's call of a draft that has the room for it.
+fn make(draft: &mut Draft, link: Option<Call>)
+    requires { CanMake draft.old link }
+    ensures { (setup : Setup) (before : scene.Draft) → StandsFor setup draft.old before → IsMade setup before draft.old draft.new link }
+{
+    if let Some(call) = link {
+        match draft.call(&call) {
+            Ok(()) => {}
+            Err(_) => unreachable!(),
+        }
+    }
+}
+
+/// Takes a viewport's call off those that wait.
+fn drop_last(pending: &mut CallList, link: Option<Call>)
+    ensures { pending.new ≡ kept_calls link pending.old }
+{
+    if link.is_some() {
+        let _ = pending.pop();
+    }
+}
+
+/// Whether a reply closes its session.
+fn closes(reply: &Reply) -> bool
+    ensures { result ≡ closes reply.now }
+{
+    match reply {
+        Reply::Closed(_, _) => true,
+        _ => false,
+    }
+}

@@ -1,0 +1,276 @@
+ghost use Rattle.std.specs.Prelude.{◌≡◌, ◌+◌, ◌<◌, ◌^◌, [], ◌∷◌, IfOk};
+ghost use Rattle.flat_base.specs.declared.ids.Actor.TheVariants.{Display, Session};
+ghost use Rattle.flat_stage_tests.specs.Room.{MayRead, MayBegin};
+
+use flat_base::{Actor, Items, NoMemory, SessionNo, ShareList};
+use flat_core::Board;
+use flat_scene::{Entry, Kind, Line, PairDecl, PresentArgs, Reply, Setup};
+use flat_stage::{CompositorSeat, SessionSeat, Stage};
+use std::alloc::Global;
+use std::sync::Wait;
+use std::test::Fail;
+use std::thread;
+use std::thread::Threads;
+
+const POLLS: u32 = 100;
+
+const FRAMES: u32 = 10;
+
+/// A display that shows session 1, beside session 2.
+fn two_sessions(alloc: Global) -> Result<Setup, NoMemory>
+    ensures { IfOk result (λ setup. setup ≡ record {
+      width = 100;
+      height = 50;
+      sessions = 2;
+      probes = 0;
+      pairs = record { viewport = Display; view = record { 0 = 1 } } ∷ [];
+      buffers = [];
+      fences = [];
+    }) }
+{
+    let mut pairs = Items::new(alloc);
+    pairs.push(PairDecl {
+        viewport: Actor::Display,
+        view: SessionNo(1),
+    })?;
+    Ok(Setup {
+        width: 100,
+        height: 50,
+        sessions: 2,
+        probes: 0,
+        pairs,
+        buffers: Items::new(alloc),
+        fences: Items::new(alloc),
+    })
+}
+
+fn opened(alloc: Global) -> Result<Board, NoMemory>
+    ensures { IfOk result (λ board. board ≡ record {
+      setup = record {
+        width = 100;
+        height = 50;
+        sessions = 2;
+        probes = 0;
+        pairs = record { viewport = Display; view = record { 0 = 1 } } ∷ [];
+        buffers = [];
+        fences = [];
+      };
+      shares = 20 ∷ 101 ∷ 101 ∷ [];
+      history = [];
+    }) }
+{
+    let mut shares = ShareList::new(alloc);
+    shares.push(20)?;
+    shares.push(101)?;
+    shares.push(101)?;
+    Board::open(alloc, two_sessions(alloc)?, shares)
+}
+
+fn no_fences(alloc: Global) -> PresentArgs
+    ensures { result ≡ record { time = 0; acquire = []; release = [] } }
+{
+    PresentArgs {
+        time: 0,
+        acquire: Items::new(alloc),
+        release: Items::new(alloc),
+    }
+}
+
+/// One present, after which so many lines more may be read.
+fn present<R: Wait>(
+    rt: &R,
+    alloc: Global,
+    stage: &Stage,
+    seat: &mut SessionSeat,
+    left: u32,
+) -> Result<Reply, NoMemory>
+    requires own { seat.old.stage ≡ stage.now }
+    requires may { MayRead (left + 1) seat.old }
+    ensures own { seat.new.stage ≡ seat.old.stage }
+    ensures may { MayRead left seat.new }
+{
+    seat.call(rt, stage, 1, Line::Present(no_fences(alloc)))
+}
+
+/// One poll, after which so many lines more may be read.
+fn poll<R: Wait>(
+    rt: &R,
+    stage: &Stage,
+    seat: &mut SessionSeat,
+    number: u32,
+    left: u32,
+) -> Result<Reply, NoMemory>
+    requires own { seat.old.stage ≡ stage.now }
+    requires may { MayRead (left + 1) seat.old }
+    ensures own { seat.new.stage ≡ seat.old.stage }
+    ensures may { MayRead left seat.new }
+{
+    seat.call(rt, stage, number, Line::Poll)
+}
+
+/// One present, and then the polls.
+fn read_all<R: Wait>(
+    rt: &R,
+    alloc: Global,
+    stage: &Stage,
+    mut seat: SessionSeat,
+) -> Result<SessionSeat, NoMemory>
+    requires own { seat.stage ≡ stage.now }
+    requires may { MayRead 101 seat }
+    ensures { IfOk result (λ seat. seat.stage ≡ stage.now) }
+{
+    let mut left = POLLS;
+    present(rt, alloc, stage, &mut seat, left)?;
+    while left > 0 {
+        let number = 102 - left;
+        left -= 1;
+        poll(rt, stage, &mut seat, number, left)?;
+    }
+    Ok(seat)
+}
+
+/// One frame, after which so many more may be made.
+fn make_frame<R: Wait>(
+    rt: &R,
+    stage: &Stage,
+    seat: CompositorSeat,
+    k: u32,
+    left: u32,
+) -> CompositorSeat
+    requires own { seat.stage ≡ stage.now }
+    requires may { MayBegin (left + 1) k seat }
+    requires fits { k < 100 }
+    ensures own { result.stage ≡ stage.now }
+    ensures may { MayBegin left (k + 1) result }
+{
+    let open = seat.begin(rt, stage, 2 * k + 1, k as u64);
+    let (seat, _) = open.done(rt, stage, 2 * k + 2);
+    seat
+}
+
+/// Ten frames.
+fn make_frames<R: Wait>(rt: &R, stage: &Stage, mut seat: CompositorSeat) -> CompositorSeat
+    requires own { seat.stage ≡ stage.now }
+    requires may { MayBegin 10 0 seat }
+    ensures { result.stage ≡ stage.now }
+{
+    for k in 0..FRAMES {
+        seat = make_frame(rt, stage, seat, k, FRAMES - 1 - k);
+    }
+    seat
+}
+
+type Both = (Result<SessionSeat, NoMemory>, Result<SessionSeat, NoMemory>);
+
+/// Two sessions read at once.
+fn read_both<R: Threads + Wait + Sync>(
+    rt: &R,
+    alloc: Global,
+    stage: &Stage,
+    first: SessionSeat,
+    second: SessionSeat,
+) -> Both
+    requires first { (first.stage ≡ stage.now) × MayRead 101 first }
+    requires second { (second.stage ≡ stage.now) × MayRead 101 second }
+    ensures first { IfOk result.0 (λ seat. seat.stage ≡ stage.now) }
+    ensures second { IfOk result.1 (λ seat. seat.stage ≡ stage.now) }
+{
+    thread::join(
+        rt,
+        move || -> Result<SessionSeat, NoMemory>
+            requires { (first.stage ≡ stage.now) × MayRead 101 first }
+            ensures { IfOk result (λ seat. seat.stage ≡ stage.entry.now) }
+        { read_all(rt, alloc, stage, first) },
+        move || -> Result<SessionSeat, NoMemory>
+            requires { (second.stage ≡ stage.now) × MayRead 101 second }
+            ensures { IfOk result (λ seat. seat.stage ≡ stage.entry.now) }
+        { read_all(rt, alloc, stage, second) },
+    )
+}
+
+/// Two sessions read, and frames are made beside them.
+fn run_all<R: Threads + Wait + Sync>(
+    rt: &R,
+    alloc: Global,
+    stage: &Stage,
+    compositor: CompositorSeat,
+    first: SessionSeat,
+    second: SessionSeat,
+) -> (CompositorSeat, Both)
+    requires compositor { (compositor.stage ≡ stage.now) × MayBegin 10 0 compositor }
+    requires first { (first.stage ≡ stage.now) × MayRead 101 first }
+    requires second { (second.stage ≡ stage.now) × MayRead 101 second }
+    ensures compositor { result.0.stage ≡ stage.now }
+    ensures first { IfOk result.1.0 (λ seat. seat.stage ≡ stage.now) }
+    ensures second { IfOk result.1.1 (λ seat. seat.stage ≡ stage.now) }
+{
+    thread::join(
+        rt,
+        move || -> CompositorSeat
+            requires { (compositor.stage ≡ stage.now) × MayBegin 10 0 compositor }
+            ensures { result.stage ≡ stage.entry.now }
+        { make_frames(rt, stage, compositor) },
+        move || -> Both
+            requires { (first.stage ≡ stage.now) × MayRead 101 first × (second.stage ≡ stage.now) × MayRead 101 second }
+            ensures { IfOk result.0 (λ seat. seat.stage ≡ stage.entry.now) × IfOk result.1 (λ seat. seat.stage ≡ stage.entry.now) }
+        { read_both(rt, alloc, stage, first, second) },
+    )
+}
+
+/// How many polls a session made, after one present, its first; None where its entries
+/// are others.
+fn polls_of(entries: &[Entry], who: Actor) -> Option<u32> {
+    let mut polls = None;
+    for entry in entries {
+        if entry.actor == who {
+            polls = match (polls, entry.reply) {
+                (None, Reply::Presented { number: 1, .. }) => Some(0u32),
+                (Some(n), Reply::Polled(_)) => Some(n.checked_add(1)?),
+                _ => return None,
+            };
+        }
+    }
+    polls
+}
+
+/// How many frames the display made, each begun and done in turn; None where its entries
+/// are others.
+fn frames_of(entries: &[Entry]) -> Option<u32> {
+    let mut frames = 0u32;
+    let mut is_open = false;
+    for entry in entries {
+        if entry.actor == Actor::Display {
+            match (is_open, &entry.kind) {
+                (false, Kind::Begin(_)) => is_open = true,
+                (true, Kind::Finish) => {
+                    is_open = false;
+                    frames = frames.checked_add(1)?;
+                }
+                _ => return None,
+            }
+        }
+    }
+    if is_open { None } else { Some(frames) }
+}
+
+#[test]
+fn seats_on_two_threads(rt: HostRuntime) -> Result<(), Fail> {
+    let alloc = rt.alloc();
+    let (stage, compositor, mut seats) = Stage::new(alloc, opened(alloc)?)?;
+    let first = seats.take(SessionNo(1)).ok_or("no seat")?;
+    let second = seats.take(SessionNo(2)).ok_or("no seat")?;
+    assert!(rt; seats.take(SessionNo(2)).is_none(), "a seat taken twice");
+    let (compositor, (first, second)) = run_all(&rt, alloc, &stage, compositor, first, second);
+    seats.put(first?);
+    seats.put(second?);
+    assert!(rt; seats.all_home());
+    let board = stage.close(compositor, seats);
+    let entries = board.journal().entries.as_slice();
+    assert_eq!(rt; entries.len(), 222);
+    let polls = [SessionNo(1), SessionNo(2)].map(|s| polls_of(entries, Actor::Session(s)));
+    assert_eq!(rt;
+        (frames_of(entries), polls),
+        (Some(10), [Some(POLLS), Some(POLLS)])
+    );
+    Ok(())
+}
