@@ -5,6 +5,7 @@ pub mod DisplaySteps
 pub mod Displayed
 pub mod Ending
 pub mod Entering
+pub mod FramesDone
 pub mod GameSteps
 pub mod InOrder
 pub mod Judging

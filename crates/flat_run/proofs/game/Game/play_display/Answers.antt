@@ -8,7 +8,7 @@ use Rattle.flat_scene.specs.declared.script.ScriptLine.{ScriptLine}
 use Rattle.flat_scene.specs.declared.journal.Kind.TheVariants.{Signal, Wait}
 use Rattle.flat_scene.specs.declared.setup.Setup.{Setup}
 use Rattle.flat_rules.specs.Legal.{is_fence}
-use Rattle.flat_playable.specs.Playable.{is_played_display}
+use Rattle.flat_rules.specs.Owned.{is_played_display}
 use Rattle.flat_run.proofs.DisplaySteps.{display_share, begin_time_ok, done_ok, may_begin, may_finish, may_hit, may_signal_fence, may_wait_for}
 use Rattle.flat_run.proofs.GameSteps.{begin_more, finish_more, beside_more, point_more}
 use Rattle.flat_run.proofs.Seen.{finishes_one}
