@@ -1,5 +1,5 @@
 -- what each display has had, frame by frame
-use Rattle.std.proofs.Common.{◌≡◌, ◌≢◌, ℕ, suc, ◌<◌, ◌≤◌, ◌==◌, List, [], ◌∷◌, ◌++◌, Bool, true, false, Option, Some, None, refl, arith, IsTrue, subst, sym, ◌∙◌, ◌⊎◌, inl, inr, ap, if◌then◌else◌, append_assoc}
+use Rattle.std.proofs.Common.{◌≡◌, ◌≢◌, ℕ, suc, ◌+◌, ◌<◌, ◌≤◌, ◌==◌, List, [], ◌∷◌, ◌++◌, length, Bool, true, false, Option, Some, None, refl, arith, IsTrue, subst, sym, ◌∙◌, ◌⊎◌, inl, inr, ap, if◌then◌else◌, append_assoc}
 use Rattle.std.proofs.lemmas.List.{append-nil}
 use Rattle.std.proofs.lemmas.List.Folds.{list_any-append}
 use Rattle.flat_io.specs.Counts.{has_risen}
@@ -7,11 +7,11 @@ use Rattle.flat_base.specs.declared.ids.FrameNo.{FrameNo}
 use Rattle.flat_scene.specs.declared.frames.FrameOut.{FrameOut}
 use Rattle.flat_scene.specs.declared.frames.Lost.{Lost}
 use Rattle.flat_display.specs.Told.{Gains}
-use Rattle.flat_display.specs.Lost.{is_lost, lost_at}
+use Rattle.flat_display.specs.Lost.{is_lost, lost_at, AreWithin}
 use Rattle.flat_display.specs.Shows.{Takes, Fails, Shows}
 use Rattle.flat_display.specs.Shows.Shows.{none, passed, took, failed}
 use Rattle.flat_display.specs.Had.{is_numbered, is_among, frames_before, frames_until, AreLostAt, HasHad, HaveHad, AreDriven}
-use Rattle.flat_display.proofs.Losses.{not_first, not_later}
+use Rattle.flat_display.proofs.Losses.{not_first, not_later, within-append}
 
 gains_none : (told : Option (List FrameOut)) → Gains [] told told
 gains_none None = tt
@@ -187,6 +187,20 @@ module _ {D : Type 0} (told : D → Option (List FrameOut)) (count : D → ℕ) 
       let gone : lost_at whole n ≡ Some frame.frame = same n (omega arith) ∙ lost_at-append_new lost (record { display = n; frame = frame.frame } ∷ more) n is ∙ own_loss (record { display = n; frame = frame.frame }) more n true (grind arith) in
       (failed_one lost whole frames n o m d fresh is gone t first, have_more lost whole more frames (suc n) os ms ns at fresh (λ k h. same k (omega arith) ∙ skip_one lost (record { display = n; frame = frame.frame }) more k (omega arith)) rest had)
 
+-- a show loses displays of its own alone
+shows_within : {D : Type 0} (told : D → Option (List FrameOut)) (count : D → ℕ) (frame : FrameOut) (lost : List Lost) (most n : ℕ) (ds ds' : List D) (more : List Lost) → Shows told count frame lost n ds ds' more → 1 ≤ n → n + length ds ≤ suc most → AreWithin most more
+shows_within told count frame lost most n ds ds' more none low high = tt
+shows_within told count frame lost most n (d ∷ ds) (_ ∷ ds') more (passed is rest) low high = shows_within told count frame lost most (suc n) ds ds' more rest (omega arith) (omega arith)
+shows_within told count frame lost most n (d ∷ ds) (d' ∷ ds') more (took is t rest) low high = shows_within told count frame lost most (suc n) ds ds' more rest (omega arith) (omega arith)
+shows_within told count frame lost most n (d ∷ ds) (d' ∷ ds') (l ∷ more) (failed is t rest) low high = (low, omega arith, shows_within told count frame lost most (suc n) ds ds' more rest (omega arith) (omega arith))
+
+-- there are as many displays as before
+pub had_length : {D : Type 0} (told : D → Option (List FrameOut)) (count : D → ℕ) (lost : List Lost) (frames : List FrameOut) (n : ℕ) (olds news : List D) → HaveHad told count lost frames n olds news → length news ≡ length olds
+had_length told count lost frames n [] [] had = refl
+had_length told count lost frames n [] (d' ∷ ds') had = absurd had
+had_length told count lost frames n (d ∷ ds) [] had = absurd had
+had_length told count lost frames n (d ∷ ds) (d' ∷ ds') (first, had) = ap suc (had_length told count lost frames (suc n) ds ds' had)
+
 have_none : {D : Type 0} (told : D → Option (List FrameOut)) (count : D → ℕ) (n : ℕ) (ds : List D) → HaveHad told count [] [] n ds ds
 have_none told count n [] = tt
 have_none told count n (d ∷ ds) = (record { gains = gains_none (told d); grows = omega arith; risen = λ lost. absurd (grind arith) }, have_none told count (suc n) ds)
@@ -195,7 +209,7 @@ have_none told count n (d ∷ ds) = (record { gains = gains_none (told d); grows
 pub driven_none : {D : Type 0} (told : D → Option (List FrameOut)) (count : D → ℕ) (lost : List Lost) (ds : List D) → lost ≡ [] → AreDriven told count lost [] ds ds
 driven_none {D} told count lost ds is =
     let P : List Lost → Type 0 = λ ls. AreDriven told count ls [] ds ds in
-    subst P (sym is) (record { have_had = have_none told count 1 ds; lost_at_frames = tt })
+    subst P (sym is) (record { have_had = have_none told count 1 ds; lost_at_frames = tt; lost_displays = tt })
 
 -- One frame more, of a new number.
 pub driven_more : {D : Type 0} (told : D → Option (List FrameOut)) (count : D → ℕ) (frame : FrameOut) (frames frames' : List FrameOut) (lost lost' more : List Lost) (olds mids news : List D) → is_among frames frame.frame ≡ false → frames' ≡ frames ++ frame ∷ [] → lost' ≡ lost ++ more → AreDriven told count lost frames olds mids → Shows told count frame lost 1 mids news more → AreDriven told count lost' frames' olds news
@@ -205,6 +219,7 @@ driven_more told count frame frames frames' lost lost' more olds mids news fresh
     subst P (sym is) (subst Q (sym is') (record {
       have_had = have_more told count frame lost (lost ++ more) more frames 1 olds mids news driven.lost_at_frames fresh (λ k h. refl) shows driven.have_had;
       lost_at_frames = at_append (frames ++ frame ∷ []) lost more (at_more frames (frame ∷ []) lost driven.lost_at_frames) (shows_at told count frame frames lost 1 mids news more shows);
+      lost_displays = within-append (length olds) lost more driven.lost_displays (shows_within told count frame lost (length olds) 1 mids news more shows (omega arith) (let same = had_length told count lost frames 1 olds mids driven.have_had in omega (arith, same)));
     }))
 
 -- the same frames

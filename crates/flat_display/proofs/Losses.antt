@@ -11,6 +11,10 @@ pub within-more : (n : ℕ) (ls : List Lost) (l : Lost) → AreWithin n ls → 1
 within-more n [] l w low high = (low, high, tt)
 within-more n (x ∷ xs) l (low', high', w) low high = (low', high', within-more n xs l w low high)
 
+pub within-append : (n : ℕ) (ls more : List Lost) → AreWithin n ls → AreWithin n more → AreWithin n (ls ++ more)
+within-append n [] more w w' = w'
+within-append n (x ∷ xs) more (low, high, w) w' = (low, high, within-append n xs more w w')
+
 pub lost-append : (ls more : List Lost) (n : ℕ) → is_lost (ls ++ more) n ≡ (is_lost ls n || is_lost more n)
 lost-append ls more n = list_any-append (λ l. l.display == n) ls more
 

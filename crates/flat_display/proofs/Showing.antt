@@ -1,5 +1,5 @@
 -- a show, and what it leaves of the displays, in general
-use Rattle.std.proofs.Common.{◌≡◌, ◌≢◌, ℕ, suc, ◌+◌, ◌<◌, ◌≤◌, ◌==◌, zero, List, [], ◌∷◌, ◌++◌, length, take, get_or, Bool, true, false, Option, Some, Result, Ok, Err, refl, arith, is_ok, OnOk, OnErr, IsTrue, subst, sym, ◌∙◌, slice_get, slice_set, append_assoc}
+use Rattle.std.proofs.Common.{◌≡◌, ◌≢◌, ℕ, suc, ◌+◌, ◌<◌, ◌≤◌, ◌==◌, zero, List, [], ◌∷◌, ◌++◌, length, map, ap, take, get_or, Bool, true, false, Option, Some, Result, Ok, Err, refl, arith, is_ok, OnOk, OnErr, IsTrue, subst, sym, ◌∙◌, slice_get, slice_set, append_assoc}
 use Rattle.std.proofs.lemmas.Option.{slice_get_read, get_or_from_slice_get, slice_get_within}
 use Rattle.std.proofs.lemmas.List.{take_more_set, set-get_or, length-take-le, take_all, length-set, append-nil}
 use Rattle.flat_io.specs.Counts.{has_risen}
@@ -116,3 +116,9 @@ next_shown told count frame a b c before more i xs ys ys' d d' within set so_far
     let P : Driven → Type 0 = λ v. c ≡ record v { lost = v.lost ++ more } in
     let L : Driven → Type 0 = λ v. Shows told count frame v.lost (i + 1) (d ∷ []) (d' ∷ []) more in
     (subst P set set' ∙ lost_more a before more, one_more told count frame a.lost before more i xs ys ys' d d' within so_far at is (subst L set last))
+
+-- what is the same of an item that is written back is the same of the list
+pub same_mapped : {X Y : Type 0} (f : X → Y) (xs : List X) (i : ℕ) (old new : X) → slice_get xs i ≡ Some old → f new ≡ f old → map f (slice_set xs i new) ≡ map f xs
+same_mapped f [] i old new at same = refl
+same_mapped f (x ∷ xs) zero old new at same = let is : x ≡ old = cc in ap (λ y. y ∷ map f xs) (same ∙ ap f (sym is))
+same_mapped f (x ∷ xs) (suc i) old new at same = ap (λ ys. f x ∷ ys) (same_mapped f xs i old new at same)

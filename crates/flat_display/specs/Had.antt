@@ -1,11 +1,11 @@
 -- what each display has had after a list of frames was shown to all, one after another
-use Rattle.std.specs.Prelude.{if◌then◌else◌, ◌≡◌, ⊤, ℕ, suc, ◌≤◌, ◌==◌, Bool, true, List, [], ◌∷◌, Option, None, Some, IsTrue}
+use Rattle.std.specs.Prelude.{if◌then◌else◌, ◌≡◌, ⊤, ℕ, suc, ◌≤◌, ◌==◌, Bool, true, List, [], ◌∷◌, length, Option, None, Some, IsTrue}
 use Rattle.std.specs.List.{list_any}
 use Rattle.flat_io.specs.Counts.{has_risen}
 use Rattle.flat_base.specs.declared.ids.FrameNo.{FrameNo}
 use Rattle.flat_scene.specs.declared.frames.FrameOut.{FrameOut}
 use Rattle.flat_scene.specs.declared.frames.Lost.{Lost}
-use Rattle.flat_display.specs.Lost.{is_lost, lost_at}
+use Rattle.flat_display.specs.Lost.{is_lost, lost_at, AreWithin}
 use Rattle.flat_display.specs.Told.{Gains}
 
 -- whether this is the frame of that number
@@ -45,7 +45,12 @@ module _ {D : Type 0} (told : D → Option (List FrameOut)) (count : D → ℕ) 
   HaveHad number (d ∷ ds) [] = ⊥
   HaveHad number (d ∷ ds) (d' ∷ ds') = HasHad number d d' × HaveHad (suc number) ds ds'
 
-  -- The frames were shown to these displays, numbered from 1, and left them so.
+  -- The frames were shown to these displays, numbered from 1, and left them so. No other displays are lost.
   pub record AreDriven (olds news : List D) : Type 0 where
     pub have_had : HaveHad 1 olds news
     pub lost_at_frames : AreLostAt frames lost
+    pub lost_displays : AreWithin (length olds) lost
+
+-- Some frames were shown to these displays, whichever they were.
+abbrev pub AreShownSome : {D : Type 0} → (D → Option (List FrameOut)) → (D → ℕ) → List D → List D → Type 0
+AreShownSome told count olds news = (lost : List Lost) × (frames : List FrameOut) × AreDriven told count lost frames olds news

@@ -1,4 +1,4 @@
-ghost use Rattle.std.specs.Prelude.{◌≡◌, ℕ, suc, ◌+◌, ◌^◌, ◌<◌, ◌≤◌, ◌++◌, ◌∷◌, [], List, IfOk, OnOk, OnErr, IsTrue, Some, false, length, slice_get, slice_set};
+ghost use Rattle.std.specs.Prelude.{◌≡◌, ℕ, suc, ◌+◌, ◌^◌, ◌<◌, ◌≤◌, ◌++◌, ◌∷◌, [], List, IfOk, OnOk, OnErr, IsTrue, Some, false, length, map, slice_get, slice_set};
 ghost use Rattle.flat_scene.specs.declared.frames.Lost.{Lost};
 ghost use Rattle.flat_io.specs.Counts.{has_risen};
 ghost use Rattle.flat_display.specs.Told.{Gains};
@@ -57,6 +57,8 @@ impl DisplaySet {
         // So the vector still has as many displays as the set.
         ensures same { self.new.displays ≡ self.old.displays }
         ensures length { length displays.new.items ≡ length displays.old.items }
+        // Each display stays at its place: its methods are those that it had.
+        ensures kinds { map (λ d. d.vtable) displays.new.items ≡ map (λ d. d.vtable) displays.old.items }
     {
         for place in 0..self.displays {
             self.show_to(displays, place, frame);
@@ -68,7 +70,8 @@ impl DisplaySet {
         requires within { place < length displays.old.items }
         requires number { place < self.old.displays }
         requires fits { place + 1 < 2 ^ 32 }
-        ensures { (old : _) × (new : _) × (more : List Lost) × (slice_get displays.old.items place ≡ Some old) × (displays.new.items ≡ slice_set displays.old.items place new) × (self.new ≡ record self.old { lost = self.old.lost ++ more }) × Shows (λ d. shown d) (λ d. faults d) frame.now self.old.lost (place + 1) (old ∷ []) (new ∷ []) more }
+        ensures shows { (old : _) × (new : _) × (more : List Lost) × (slice_get displays.old.items place ≡ Some old) × (displays.new.items ≡ slice_set displays.old.items place new) × (self.new ≡ record self.old { lost = self.old.lost ++ more }) × Shows (λ d. shown d) (λ d. faults d) frame.now self.old.lost (place + 1) (old ∷ []) (new ∷ []) more }
+        ensures kinds { map (λ d. d.vtable) displays.new.items ≡ map (λ d. d.vtable) displays.old.items }
     {
         let number = place + 1;
         if self.is_lost(number) {
@@ -101,7 +104,8 @@ impl DisplaySet {
 /// Shows the frame to the display at a place, and answers whether it took it.
 fn show_at(displays: &mut Vec<Box<dyn Display>>, place: usize, frame: &FrameOut) -> bool
     requires { place < length displays.old.items }
-    ensures { (old : _) × (new : _) × (slice_get displays.old.items place ≡ Some old) × (displays.new.items ≡ slice_set displays.old.items place new) × IsShown (λ d. shown d) (λ d. faults d) frame.now result old new }
+    ensures shows { (old : _) × (new : _) × (slice_get displays.old.items place ≡ Some old) × (displays.new.items ≡ slice_set displays.old.items place new) × IsShown (λ d. shown d) (λ d. faults d) frame.now result old new }
+    ensures kinds { map (λ d. d.vtable) displays.new.items ≡ map (λ d. d.vtable) displays.old.items }
 {
     show_one(&mut displays[place], frame).is_ok()
 }
@@ -111,6 +115,7 @@ fn show_one(display: &mut Box<dyn Display>, frame: &FrameOut) -> Result<(), Fail
     ensures failed { OnErr result (IsTrue (has_risen (faults display.old) (faults display.new))) }
     ensures same { OnErr result (shown display.new ≡ shown display.old) }
     ensures faults { faults display.old ≤ faults display.new }
+    ensures kind { display.new.vtable ≡ display.old.vtable }
 {
     display.show(frame)
 }

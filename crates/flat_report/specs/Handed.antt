@@ -1,5 +1,5 @@
 -- What is handed in beside the history: the answers to points asked, and the events as they are posted.
-use Rattle.std.specs.Prelude.{ℕ, ℤ, Bool, true, false, cond, drop, map, List, [], ◌∷◌, ◌++◌}
+use Rattle.std.specs.Prelude.{ℕ, ◌+◌, ◌==◌, ℤ, Bool, true, false, codes, cond, drop, length, map, take, take_while, List, [], ◌∷◌, ◌++◌}
 use Rattle.flat_scene.specs.declared.frames.Hit.{Hit}
 use Rattle.flat_scene.specs.declared.frames.FrameOut.{FrameOut}
 use Rattle.flat_scene.specs.declared.frames.Lost.{Lost}
@@ -16,7 +16,7 @@ use Rattle.flat_report.specs.declared.report.HitAnswer.{HitAnswer}
 use Rattle.flat_report.specs.EntryLines.{entry_line, event_line}
 use Rattle.flat_report.specs.FrameLines.{frame_lines, lost_line}
 use Rattle.flat_report.specs.Report.{hits_at, lost_at}
-use Rattle.flat_report.specs.Words.{Word}
+use Rattle.flat_report.specs.Words.{Word, number, text_of}
 
 -- the answer to an entry that asks for a point, where the last finished frame has this number and these hits
 abbrev pub answer_to : Entry → ℕ → (ℤ → ℤ → List Hit) → Kind → List HitAnswer
@@ -58,3 +58,24 @@ abbrev pub handed_lines : Script → List Lost → ℕ → List FrameOut → Lis
 handed_lines script lost finished frames answers posts entry =
     entry_line script finished (λ x y. first_hits answers) entry
     ∷ cond (is_finish entry.kind) (first_frame_lines script lost frames) [] ++ map (post_line script) posts
+
+-- how many of some posts, from the first, are of the entry at a place
+abbrev pub first_posts : ℕ → List Post → ℕ
+first_posts place posts = length (take_while (λ post. post.entry == place) posts)
+
+-- the lines of the entries from a place on, by what is left there of what is handed in: each entry takes its own posts from the front, a `done` a frame, and a point an answer
+abbrev pub handed_entries : Script → List Lost → ℕ → ℕ → List FrameOut → List HitAnswer → List Post → List Entry → List (List Word)
+handed_entries script lost place finished frames answers posts [] = []
+handed_entries script lost place finished frames answers posts (entry ∷ later) =
+    handed_lines script lost finished frames answers (take (first_posts place posts) posts) entry
+    ++ handed_entries script lost (place + 1) (finished + cond (is_finish entry.kind) 1 0) (frames_after entry.kind frames) (answers_after entry.kind answers) (drop (first_posts place posts) posts) later
+
+-- all lines of what is handed in: the entries, the oldest first, their posts, the frames, the displays that were lost, and the answers
+abbrev pub handed_report_lines : Script → List Entry → List Post → List FrameOut → List Lost → List HitAnswer → List (List Word)
+handed_report_lines script entries posts frames lost answers =
+    (codes "report" ∷ codes "flatland" ∷ codes "1" ∷ []) ∷ handed_entries script lost 0 0 frames answers posts entries
+    ++ (codes "report" ∷ codes "ends" ∷ codes "entries" ∷ number (length entries) ∷ codes "frames" ∷ number (length frames) ∷ []) ∷ []
+
+-- the text of it
+abbrev pub handed_report : Script → List Entry → List Post → List FrameOut → List Lost → List HitAnswer → List ℕ
+handed_report script entries posts frames lost answers = text_of (handed_report_lines script entries posts frames lost answers)

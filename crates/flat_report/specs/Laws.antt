@@ -1,13 +1,19 @@
 -- What a report says of the run: all of it.
-use Rattle.std.specs.Prelude.{◌≡◌, ◌^◌, ℕ, nat_lt, IsTrue, List}
+use Rattle.std.specs.Prelude.{◌≡◌, ◌^◌, ℕ, [], nat_lt, IsTrue, List}
 use Rattle.std.specs.List.{list_all}
 use Rattle.flat_scene.specs.declared.frames.Lost.{Lost}
 use Rattle.flat_scene.specs.declared.journal.Entry.{Entry}
+use Rattle.flat_scene.specs.declared.frames.FrameOut.{FrameOut}
+use Rattle.flat_scene.specs.declared.journal.Post.{Post}
+use Rattle.flat_scene.specs.History.{history_of}
 use Rattle.flat_scene.specs.Interleave.{Interleaves}
 use Rattle.flat_rules.specs.Legal.{Legal}
+use Rattle.flat_rules.specs.Posts.{posts}
 use Rattle.flat_script.specs.declared.script.Script.{Script}
 use Rattle.flat_script.specs.Grammar.{IsScript}
-use Rattle.flat_report.specs.Report.{report, is_loss, is_seeing}
+use Rattle.flat_report.specs.declared.report.HitAnswer.{HitAnswer}
+use Rattle.flat_report.specs.Handed.{answers_of, handed_report}
+use Rattle.flat_report.specs.Report.{report, finished, is_loss, is_seeing}
 
 -- What may be reported of a script: a legal history that interleaves its actors, displays lost at finished frames, and frames seen by its probes' lines.
 -- The numbers of displays are of 32 bits, since a number is written with 64 digits at most.
@@ -23,3 +29,9 @@ abbrev pub ReportsDetermineHistories : Type 0
 ReportsDetermineHistories = (bytes : List ℕ) (script : Script) → IsScript bytes script
     → (history history' : List Entry) (lost lost' : List Lost) (seen seen' : List ℕ) → IsRun script history lost seen → IsRun script history' lost' seen'
     → report script history lost seen ≡ report script history' lost' seen' → (history ≡ history') × (lost ≡ lost') × (seen ≡ seen')
+
+-- the text of what is handed in is the report, where it is what the rules say of the history: the posts, the finished frames and the answers to points; and where there are no probes
+abbrev pub HandedIsReport : Type 0
+HandedIsReport = (script : Script) (entries : List Entry) (sent : List Post) (frames : List FrameOut) (lost : List Lost) (answers : List HitAnswer) → script.setup.probes ≡ 0
+    → sent ≡ posts script.setup (history_of entries) → frames ≡ finished script.setup (history_of entries) → answers ≡ answers_of script.setup (history_of entries)
+    → handed_report script entries sent frames lost answers ≡ report script (history_of entries) lost []

@@ -1,4 +1,4 @@
-ghost use Rattle.flat_report.specs.Laws.{ReportsDetermineHistories};
+ghost use Rattle.flat_report.specs.Laws.{HandedIsReport, ReportsDetermineHistories};
 
 /// Of a script that is read from a text, the report says which history it is of,
 /// which displays were lost, and which frames the probes saw.
@@ -6,4 +6,12 @@ ghost use Rattle.flat_report.specs.Laws.{ReportsDetermineHistories};
 /// The call does nothing. Its contract is a law about the definitions.
 pub fn reports_determine_histories()
     ensures { ReportsDetermineHistories }
+{}
+
+/// What is written of a journal, its frames and its answers is the report of its
+/// history, where they are what the rules say of it, and the script has no probe.
+///
+/// The call does nothing. Its contract is a law about the definitions.
+pub fn handed_is_report()
+    ensures { HandedIsReport }
 {}

@@ -9,5 +9,5 @@ mod names;
 mod page;
 mod report;
 
-pub use laws::reports_determine_histories;
+pub use laws::{handed_is_report, reports_determine_histories};
 pub use report::{HitAnswer, HitAnswers, print_report};

@@ -1,10 +1,8 @@
-ghost use Rattle.std.specs.Prelude.{◌≡◌, ◌++◌, ◌∷◌, ◌+◌, ◌-◌, ◌<◌, ◌^◌, [], OnOk, IfOk, length, take_while, cond, codes, ◌==◌, List};
-ghost use Rattle.flat_scene.specs.History.{history_of, is_finish};
-ghost use Rattle.flat_rules.specs.Posts.{posts};
-ghost use Rattle.flat_report.specs.Handed.{answers_of, first_hits, first_frame_lines, frames_after, answers_after, handed_lines};
+ghost use Rattle.std.specs.Prelude.{◌≡◌, ◌++◌, ◌∷◌, ◌+◌, ◌-◌, ◌<◌, ◌^◌, [], OnOk, IfOk, length, cond, codes};
+ghost use Rattle.flat_scene.specs.History.{is_finish};
+ghost use Rattle.flat_report.specs.Handed.{first_hits, first_frame_lines, frames_after, answers_after, first_posts, handed_lines, handed_entries, handed_report_lines, handed_report};
 ghost use Rattle.flat_report.specs.Pages.{Writes, WritesLines};
 ghost use Rattle.flat_report.specs.Words.{number};
-ghost use Rattle.flat_report.specs.Report.{finished, history_lines, report_lines, report};
 
 use crate::entry_lines::{push_entry, push_posts};
 use crate::frame_words::push_frame;
@@ -30,7 +28,7 @@ pub type HitAnswers = Items<HitAnswer>;
 
 /// How many of the posts, from the first, are of the entry at that place.
 fn posts_of(posts: &[Post], place: usize) -> usize
-    ensures { result ≡ length (take_while (λ post. post.entry == place) posts.now) }
+    ensures { result ≡ first_posts place posts.now }
 {
     posts
         .iter()
@@ -140,10 +138,10 @@ fn push_history(
     lost: &[Lost],
     answers: &[HitAnswer],
 ) -> Result<(), NoMemory>
-    requires posts { journal.now.posts.items ≡ posts script.now.setup (history_of journal.now.entries.items) }
-    requires frames { frames.now ≡ finished script.now.setup (history_of journal.now.entries.items) }
-    requires answers { answers.now ≡ answers_of script.now.setup (history_of journal.now.entries.items) }
-    ensures { OnOk result (WritesLines (history_lines script.now lost.now (history_of journal.now.entries.items)) page.old page.new) }
+    ensures { OnOk result (WritesLines
+        (handed_entries script.now lost.now 0 0 frames.now answers.now
+        journal.now.posts.items journal.now.entries.items)
+        page.old page.new) }
 {
     let mut posts = journal.posts.as_slice();
     let mut frames = frames;
@@ -201,11 +199,10 @@ fn push_report(
     lost: &[Lost],
     answers: &[HitAnswer],
 ) -> Result<(), NoMemory>
-    requires probes { script.now.setup.probes ≡ 0 }
-    requires posts { journal.now.posts.items ≡ posts script.now.setup (history_of journal.now.entries.items) }
-    requires frames { frames.now ≡ finished script.now.setup (history_of journal.now.entries.items) }
-    requires answers { answers.now ≡ answers_of script.now.setup (history_of journal.now.entries.items) }
-    ensures { OnOk result (WritesLines (report_lines script.now (history_of journal.now.entries.items) lost.now []) page.old page.new) }
+    ensures { OnOk result (WritesLines
+        (handed_report_lines script.now journal.now.entries.items journal.now.posts.items
+        frames.now lost.now answers.now)
+        page.old page.new) }
 {
     push_title(page)?;
     push_history(page, script, journal, frames, lost, answers)?;
@@ -216,10 +213,10 @@ fn push_report(
 
 /// The report of a run, in memory of its own, for which room is taken once.
 ///
-/// What is handed in is that of the journal's history: the frames that it finished,
-/// in order, and an answer to each point that it asks for. `lost` are the displays
-/// that were lost. The script declares no probe, since no line of a probe is known
-/// yet.
+/// What is handed in is written as it is: with each entry of the journal its own
+/// posts, with each `done` the next frame and the displays in `lost` that were lost
+/// at it, with each point the next answer. Where all that is what the rules say of the
+/// journal's history, the text is its report (`handed_is_report`).
 pub fn print_report(
     alloc: Global,
     script: &Script,
@@ -228,11 +225,8 @@ pub fn print_report(
     lost: &[Lost],
     answers: &HitAnswers,
 ) -> Result<Vec<u8>, NoMemory>
-    requires probes { script.now.setup.probes ≡ 0 }
-    requires posts { journal.now.posts.items ≡ posts script.now.setup (history_of journal.now.entries.items) }
-    requires frames { frames.now ≡ finished script.now.setup (history_of journal.now.entries.items) }
-    requires answers { answers.now ≡ answers_of script.now.setup (history_of journal.now.entries.items) }
-    ensures { IfOk result (λ text. text.items ≡ report script.now (history_of journal.now.entries.items) lost.now []) }
+    ensures { IfOk result (λ text. text.items ≡ handed_report script.now journal.now.entries.items
+        journal.now.posts.items frames.now lost.now answers.now) }
 {
     let answers = answers.as_slice();
     let mut count = Page::Count(0);

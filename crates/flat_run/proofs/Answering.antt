@@ -1,36 +1,80 @@
 -- What is answered to what a source gives, and what is written of it.
-use Rattle.std.proofs.Common.{◌≡◌, ◌≢◌, ◌==◌, ◌||◌, inl, inr, ℕ, ◌<◌, Bool, true, false, List, [], ◌++◌, ap, ◌∙◌, length, Option, None, Some, Result, Ok, Err, IfOk, IfSome, refl, sym, subst}
+use Rattle.std.proofs.Common.{◌≡◌, ◌≢◌, ◌==◌, ◌||◌, inl, inr, ◌⊎◌, ℕ, zero, suc, ◌<◌, Bool, true, false, List, [], ◌∷◌, ◌++◌, ap, ◌∙◌, length, take, Option, None, Some, Ok, Err, IfOk, IfSome, IsTrue, refl, sym, subst, arith, append-nil}
 use Rattle.std.proofs.lemmas.Bool.{lt-ltb, eqb-true}
 use Rattle.std.proofs.lemmas.List.{append_cancel_right}
 use Rattle.flat_base.specs.declared.limits.TheConstants.{SCRIPT_BYTES_MAX}
-use Rattle.flat_io.specs.Told.{Appends}
+use Rattle.flat_io.specs.Counts.{has_risen}
+use Rattle.flat_io.specs.Told.{WhereTold, Appends}
 use Rattle.flat_io.specs.Whole.{Given, AppendsPrefix}
 use Rattle.flat_scene.specs.declared.frames.FrameOut.{FrameOut}
-use Rattle.flat_scene.specs.declared.frames.Lost.{Lost}
 use Rattle.flat_script.specs.declared.script.Script.{Script}
 use Rattle.flat_script.specs.declared.script.ScriptFault.{ScriptFault}
 use Rattle.flat_script.specs.Grammar.{text_read}
-use Rattle.flat_report.specs.Report.{finished}
+use Rattle.flat_stress.specs.Load.{load_text}
 use Rattle.flat_words.specs.declared.form.Form.{Form}
 use Rattle.flat_words.specs.declared.form.Form.TheVariants.{Play, Race, Stress}
 use Rattle.flat_words.specs.Forms.{CallFor, words_of}
-use Rattle.flat_run.specs.declared.answers.Answer.{Answer}
-use Rattle.flat_run.specs.Answering.{IsAnswer}
-use Rattle.flat_run.specs.Promise.{play_words, CallForNothing, fault_line, Plays, Refuses, IsSummary, IsRefused, IsAnswerTo, IsText, IsWhole, IsCutOff}
+use Rattle.flat_run.specs.Answering.{IsReply}
+use Rattle.flat_run.specs.Promise.{play_words, CallForNothing, fault_line, is_read, AreGiven, AreAll, AreTooMany, Refuses, IsRefused, IsTold, IsAnswer, IsWhole, IsCutOff, GivesScript, IsThere}
 
 -- the form that was found is that of the words
 pub called_for : (words : List (List ℕ)) (found : Option Form) (form : Form) → found ≡ Some form → IfSome found (λ f. CallFor words f × (f ≢ Race)) → CallFor words form
 called_for words found form is holds = (subst (λ (o : Option Form). IfSome o (λ f. CallFor words f × (f ≢ Race))) is holds).0
 
+-- ---- the bytes
+
 -- a text that is too long is at fault as a whole
-pub too_long : (bytes : List ℕ) → SCRIPT_BYTES_MAX < length bytes → text_read bytes ≡ Err (record { line = 0; kind = 1 })
+too_long : (bytes : List ℕ) → SCRIPT_BYTES_MAX < length bytes → text_read bytes ≡ Err (record { line = 0; kind = 1 })
 too_long bytes long = rw (lt-ltb SCRIPT_BYTES_MAX (length bytes) long) refl
 
--- what is given has a property that follows from another
-pub given_also : (left left' : Option (List ℕ)) (P Q : List ℕ → List ℕ → Type 0) → ((given after : List ℕ) → P given after → Q given after) → Given left left' P → Given left left' Q
-given_also left None P Q also it = tt
-given_also None (Some after) P Q also it = absurd it
-given_also (Some before) (Some after) P Q also (given, is, holds) = (given, is, also given after holds)
+-- a text that is longer than a limit
+longer : (limit : ℕ) → (bytes : List ℕ) × (limit < length bytes)
+longer zero = (0 ∷ [], omega arith)
+longer (suc limit) = let one = longer limit in let long = one.1 in (0 ∷ one.0, omega (arith, long))
+
+-- what was read whole is all
+pub all_read : (left left' : Option (List ℕ)) (bytes : List ℕ) → Given left left' (λ given after. (given ≡ bytes) × (after ≡ [])) → AreAll bytes left left'
+all_read left None bytes it = tt
+all_read None (Some after) bytes it = absurd it
+all_read (Some before) (Some after) bytes (given, is, same) = (is ∙ ap (λ rest. given ++ rest) same.1 ∙ append-nil given ∙ same.0, same.1)
+
+-- what is all was given
+all_given : (left left' : Option (List ℕ)) (bytes : List ℕ) → AreAll bytes left left' → AreGiven bytes left left'
+all_given left None bytes it = tt
+all_given None (Some after) bytes it = absurd it
+all_given (Some before) (Some after) bytes (is, none) = is ∙ sym (append-nil bytes) ∙ ap (λ rest. bytes ++ rest) (sym none)
+
+-- bytes that were read whole were given
+pub whole_given : (left left' : Option (List ℕ)) (bytes : List ℕ) → Given left left' (λ given after. (given ≡ bytes) × (after ≡ [])) → (given : List ℕ) × AreGiven given left left'
+whole_given left left' bytes it = (bytes, all_given left left' bytes (all_read left left' bytes it))
+
+-- as were those of a text that wasn't
+pub part_given : (left left' : Option (List ℕ)) (P : List ℕ → List ℕ → Type 0) → Given left left' P → (given : List ℕ) × AreGiven given left left'
+part_given left None P it = ([], tt)
+part_given None (Some after) P it = absurd it
+part_given (Some before) (Some after) P (given, is, holds) = (given, is)
+
+-- nothing was read
+pub none_given : (left left' : Option (List ℕ)) → left' ≡ left → (given : List ℕ) × AreGiven given left left'
+none_given left left' same = subst (λ (l : Option (List ℕ)). (given : List ℕ) × AreGiven given left l) (sym same) (stays left)
+  where
+    stays : (left : Option (List ℕ)) → (given : List ℕ) × AreGiven given left left
+    stays None = ([], tt)
+    stays (Some bytes) = ([], refl)
+
+-- some bytes are more than a script may have
+too_many : (left left' : Option (List ℕ)) → Given left left' (λ given after. SCRIPT_BYTES_MAX < length given) → (bytes : List ℕ) × AreTooMany bytes left left'
+too_many left None it = let one = longer SCRIPT_BYTES_MAX in (one.0, (one.1, tt))
+too_many None (Some after) it = absurd it
+too_many (Some before) (Some after) (given, is, long) = (given, (long, is))
+
+-- the first bytes of a text were gained
+pub part_gained : (text : List ℕ) (held held' : Option (List ℕ)) → AppendsPrefix text held held' → (more : List ℕ) × Appends more held held'
+part_gained text held None part = ([], tt)
+part_gained text None (Some after) part = absurd part
+part_gained text (Some before) (Some after) (count, is) = (take count text, is)
+
+-- ---- what is said twice
 
 one_or : (a b : Bool) → (a || b) ≡ true → b ≢ true → a ≡ true
 one_or true b either not_b = refl
@@ -42,97 +86,102 @@ done_or_fault result status either is not_5 =
     let none : result ≡ 0 = same ∙ is in
     rw none refl
 
-refuses_none : (given after : List ℕ) (script : Script) → text_read given ≡ Ok script → (text : List ℕ) → IsRefused (Some (given ++ after)) (Some after) text → ⊥
-refuses_none given after script read text (front, is, (ends, refuses)) =
-    let same : given ≡ front = append_cancel_right given front after is in
+-- ---- where a script is there
+
+refuses_none : (bytes bytes' text : List ℕ) (script : Script) → text_read bytes ≡ Ok script → bytes ≡ bytes' → Refuses bytes' text → ⊥
+refuses_none bytes bytes' text script read same refuses =
     let both : Ok script ≡ Err refuses.fault = sym read ∙ ap text_read same ∙ refuses.read in
     cc
 
--- words that call for nothing that runs call for no script
-pub no_play : (words : List (List ℕ)) → CallForNothing words → words ≡ play_words → ⊥
-no_play words nothing play = let same : Play ≡ Race = nothing Play (play, tt) in cc
+-- a source that gives a script isn't refused
+gives_no_fault : (left left' : Option (List ℕ)) (failed failed' : ℕ) (text : List ℕ) → GivesScript left left' failed failed' → IsRefused left left' text → ⊥
+gives_no_fault left left' failed failed' text gives refused =
+    let P : Option (List ℕ) → Type 0 = λ l. AreAll refused.bytes l left' ⊎ AreTooMany refused.bytes l left' in
+    let Q : Option (List ℕ) → Type 0 = λ l. AreAll refused.bytes (Some (gives.given ++ gives.after)) l ⊎ AreTooMany refused.bytes (Some (gives.given ++ gives.after)) l in
+    by_given (subst Q gives.after_is (subst P gives.before_is refused.given))
+  where
+    same_given : (given after bytes : List ℕ) → given ++ after ≡ bytes → after ≡ [] → given ≡ bytes
+    same_given given after bytes is none = sym (append-nil given) ∙ ap (λ rest. given ++ rest) (sym none) ∙ is
 
--- nor for a load
-pub no_stress : (words : List (List ℕ)) (frames : ℕ) → CallForNothing words → CallFor words (Stress frames) → ⊥
-no_stress words frames nothing calls = let same : Stress frames ≡ Race = nothing (Stress frames) calls in cc
+    by_given : AreAll refused.bytes (Some (gives.given ++ gives.after)) (Some gives.after) ⊎ AreTooMany refused.bytes (Some (gives.given ++ gives.after)) (Some gives.after) → ⊥
+    by_given (inl all) = refuses_none gives.given refused.bytes text gives.script gives.read (same_given gives.given gives.after refused.bytes all.0 all.1) refused.refuses
+    by_given (inr many) =
+        let same : gives.given ≡ refused.bytes = append_cancel_right gives.given refused.bytes gives.after many.1 in
+        refuses_none gives.given refused.bytes text gives.script gives.read same refused.refuses
 
 two_words : (form : Form) (frames : ℕ) → words_of form ≡ words_of (Stress frames) → (m : ℕ) × (form ≡ Stress m)
 two_words Play frames same = absurd (cc)
 two_words Race frames same = absurd (cc)
 two_words (Stress m) frames same = (m, refl)
 
--- the form of words that call for a load
-pub is_load : (words : List (List ℕ)) (form : Form) (frames : ℕ) → CallFor words form → CallFor words (Stress frames) → (m : ℕ) × (form ≡ Stress m)
-is_load words form frames calls stress = two_words form frames (sym calls.0 ∙ stress.0)
+made : (form : Form) → ((m : ℕ) × (form ≡ Stress m)) → is_read form ≡ true → ⊥
+made form load read = let wrong : false ≡ true = ap is_read (sym load.1) ∙ read in cc
 
--- What the displays have had.
-module _ (HaveHad : List FrameOut → List Lost → Type 0) where
-  -- ---- what is answered
+-- where the script of a form is there, nothing is refused
+there_no_fault : (words : List (List ℕ)) (form form' : Form) (left left' : Option (List ℕ)) (failed failed' : ℕ) (text : List ℕ) → CallFor words form → IsThere form left left' failed failed'
+    → CallFor words form' → is_read form' ≡ true → IsRefused left left' text → ⊥
+there_no_fault words Play form' left left' failed failed' text calls there calls' read refused = gives_no_fault left left' failed failed' text there refused
+there_no_fault words Race form' left left' failed failed' text calls there calls' read refused = gives_no_fault left left' failed failed' text there refused
+there_no_fault words (Stress asked) form' left left' failed failed' text calls there calls' read refused = made form' (two_words form' asked (sym calls'.0 ∙ calls.0)) read
 
+-- and no read failed, where one was made
+pub there_no_read_fault : (words : List (List ℕ)) (form form' : Form) (left left' : Option (List ℕ)) (failed failed' : ℕ) → CallFor words form → IsThere form left left' failed failed'
+    → CallFor words form' → form' ≡ Play → IsTrue (has_risen failed failed') → ⊥
+there_no_read_fault words Play form' left left' failed failed' calls there calls' is risen = let both : true ≡ false = sym risen ∙ there.steady in cc
+there_no_read_fault words Race form' left left' failed failed' calls there calls' is risen = let both : true ≡ false = sym risen ∙ there.steady in cc
+there_no_read_fault words (Stress asked) form' left left' failed failed' calls there calls' is risen = made form' (two_words form' asked (sym calls'.0 ∙ calls.0)) (ap is_read is)
+
+-- ---- what is answered
+
+-- What displays tell, and how a call found and left them.
+module _ {D : Type 0} (shown : D → Option (List FrameOut)) (faults : D → ℕ) (olds news : List D) where
   -- a status and a text of a refusal
-  pub refused : HaveHad [] [] → (bytes : List ℕ) (fault : ScriptFault) → text_read bytes ≡ Err fault → (status : ℕ) (text : List ℕ) → status ≡ 3 → text ≡ fault_line fault → IsAnswer HaveHad bytes status text
-  refused nothing bytes fault read status text is_3 is =
-      subst (λ n. IsAnswer HaveHad bytes n text) (sym is_3) (IsAnswer.refusal (record { fault = fault; read = read; is = is }) nothing)
+  pub refused : (bytes : List ℕ) (fault : ScriptFault) → text_read bytes ≡ Err fault → (status : ℕ) (text : List ℕ) → status ≡ 3 → text ≡ fault_line fault → news ≡ olds → IsReply shown faults olds news Play bytes status text
+  refused bytes fault read status text is_3 is same =
+      subst (λ n. IsReply shown faults olds news Play bytes n text) (sym is_3) (IsReply.refusal (record { fault = fault; read = read; is = is }) same)
 
   -- the same bytes
-  pub answer_same : (bytes bytes' : List ℕ) (status : ℕ) (text : List ℕ) → bytes ≡ bytes' → IsAnswer HaveHad bytes status text → IsAnswer HaveHad bytes' status text
-  answer_same bytes bytes' status text same answer = subst (λ b. IsAnswer HaveHad b status text) same answer
+  pub reply_same : (bytes bytes' : List ℕ) (status : ℕ) (text : List ℕ) → bytes ≡ bytes' → IsReply shown faults olds news Play bytes status text → IsReply shown faults olds news Play bytes' status text
+  reply_same bytes bytes' status text same reply = subst (λ b. IsReply shown faults olds news Play b status text) same reply
 
-  -- the same form
-  pub form_same : (left left' : Option (List ℕ)) (form form' : Form) (status : ℕ) (text : List ℕ) → form' ≡ form → IsAnswerTo HaveHad left left' form status text → IsAnswerTo HaveHad left left' form' status text
-  form_same left left' form form' status text same answer = subst (λ f. IsAnswerTo HaveHad left left' f status text) (sym same) answer
-
-  pub form_same_result : {E : Type 0} (left left' : Option (List ℕ)) (form form' : Form) (r : Result Answer E) → form' ≡ form → IfOk r (λ a. IsAnswerTo HaveHad left left' form a.status a.text.items) → IfOk r (λ a. IsAnswerTo HaveHad left left' form' a.status a.text.items)
-  form_same_result left left' form form' r same answer = subst (λ f. IfOk r (λ (a : Answer). IsAnswerTo HaveHad left left' f a.status a.text.items)) (sym same) answer
-
-  module _ (left left' : Option (List ℕ)) where
+  module _ (words : List (List ℕ)) (left left' : Option (List ℕ)) where
     -- bytes that were read whole
-    pub read_text : (bytes : List ℕ) → Given left left' (λ given after. (given ≡ bytes) × (after ≡ [])) → (status : ℕ) (text : List ℕ) → IsAnswer HaveHad bytes status text → IsAnswerTo HaveHad left left' Play status text
-    read_text bytes it status text (IsAnswer.report_of plays had) =
-        let P : List ℕ → Type 0 = λ b. (plays : Plays b text) × HaveHad (finished plays.script.setup plays.reports.history) plays.reports.lost in
-        IsAnswerTo.report_of (given_also left left' _ _ (λ given after both. (let here = subst P (sym both.0) (plays, had) in (both.1, here.0, here.1))) it)
-    read_text bytes it status text (IsAnswer.refusal refuses nothing) =
-        IsAnswerTo.refusal (given_also left left' _ _ (λ given after both. (inl both.1, subst (λ b. Refuses b text) (sym both.0) refuses)) it) nothing
+    pub read_text : CallFor words Play → (bytes : List ℕ) → Given left left' (λ given after. (given ≡ bytes) × (after ≡ [])) → (status : ℕ) (text : List ℕ) → IsReply shown faults olds news Play bytes status text
+        → IsAnswer shown faults olds news words left left' status text
+    read_text calls bytes it status text (IsReply.told told) = IsAnswer.told Play bytes calls (all_read left left' bytes it) told
+    read_text calls bytes it status text (IsReply.refusal refuses same) = IsAnswer.refusal Play calls refl (record { bytes = bytes; given = inl (all_read left left' bytes it); refuses = refuses }) same
 
     -- more bytes than a script may have
-    pub long_text : HaveHad [] [] → Given left left' (λ given after. SCRIPT_BYTES_MAX < length given) → (status : ℕ) (text : List ℕ) → status ≡ 3 → text ≡ fault_line (record { line = 0; kind = 1 }) → IsAnswerTo HaveHad left left' Play status text
-    long_text nothing it status text is_3 is =
-        subst (λ n. IsAnswerTo HaveHad left left' Play n text) (sym is_3)
-        (IsAnswerTo.refusal (given_also left left' _ _ (λ given after long. (inr long, record { fault = record { line = 0; kind = 1 }; read = too_long given long; is = is })) it) nothing)
+    pub long_text : CallFor words Play → Given left left' (λ given after. SCRIPT_BYTES_MAX < length given) → (status : ℕ) (text : List ℕ) → status ≡ 3 → text ≡ fault_line (record { line = 0; kind = 1 }) → news ≡ olds
+        → IsAnswer shown faults olds news words left left' status text
+    long_text calls it status text is_3 is same =
+        let many = too_many left left' it in
+        subst (λ n. IsAnswer shown faults olds news words left left' n text) (sym is_3)
+        (IsAnswer.refusal Play calls refl (record { bytes = many.0; given = inr many.1; refuses = record { fault = record { line = 0; kind = 1 }; read = too_long many.0 many.1.0; is = is } }) same)
 
     -- a load
-    pub load_text_of : (frames status : ℕ) (text : List ℕ) → status ≡ 0 → IsSummary HaveHad frames text → IsAnswerTo HaveHad left left' (Stress frames) status text
-    load_text_of frames status text is_0 sums = subst (λ n. IsAnswerTo HaveHad left left' (Stress frames) n text) (sym is_0) (IsAnswerTo.summary_of sums)
+    pub load_told : (asked status : ℕ) (text : List ℕ) → CallFor words (Stress asked) → status ≡ 0 → IsTold shown faults olds news (Stress asked) (load_text asked) text → IsAnswer shown faults olds news words left left' status text
+    load_told asked status text calls is_0 told = subst (λ n. IsAnswer shown faults olds news words left left' n text) (sym is_0) (IsAnswer.told (Stress asked) (load_text asked) calls refl told)
 
-  -- ---- what is written
+    -- the same text
+    pub text_same : (status : ℕ) (text text' : List ℕ) → text' ≡ text → IsAnswer shown faults olds news words left left' status text → IsAnswer shown faults olds news words left left' status text'
+    text_same status text text' same is = subst (λ t. IsAnswer shown faults olds news words left left' status t) (sym same) is
 
-  -- the same text
-  pub text_same : (words : List (List ℕ)) (left left' : Option (List ℕ)) (status : ℕ) (text text' : List ℕ) → text' ≡ text → IsText HaveHad words left left' status text → IsText HaveHad words left left' status text'
-  text_same words left left' status text text' same is = subst (λ t. IsText HaveHad words left left' status t) (sym same) is
+    -- ---- what is written
 
-  module _ (words : List (List ℕ)) (left left' held held' : Option (List ℕ)) (status result : ℕ) (text : List ℕ) (is : IsText HaveHad words left left' status text) where
-    pub text_whole : (result ≡ status → Appends text held held') → (result == status || result == 5) ≡ true → result ≢ 5 → IsWhole HaveHad words left left' held held' result
-    text_whole whole either not_5 =
-        let same : result ≡ status = eqb-true result status (one_or (result == status) (result == 5) either (λ yes. not_5 (eqb-true result 5 yes))) in
-        record { text = text; is = subst (λ n. IsText HaveHad words left left' n text) (sym same) is; whole = whole same }
+    module _ (held held' : Option (List ℕ)) (status result : ℕ) (text : List ℕ) (is : IsAnswer shown faults olds news words left left' status text) where
+      pub text_whole : (result ≡ status → Appends text held held') → (result == status || result == 5) ≡ true → result ≢ 5 → IsWhole shown faults olds news words left left' held held' result
+      text_whole whole either not_5 =
+          let same : result ≡ status = eqb-true result status (one_or (result == status) (result == 5) either (λ yes. not_5 (eqb-true result 5 yes))) in
+          record { text = text; is = subst (λ n. IsAnswer shown faults olds news words left left' n text) (sym same) is; whole = whole same }
 
-    pub text_cut_off : AppendsPrefix text held held' → IsCutOff HaveHad words left left' held held'
-    text_cut_off part = record { status = status; text = text; is = is; part = part }
+      pub text_cut_off : AppendsPrefix text held held' → IsCutOff shown faults olds news words left left' held held'
+      text_cut_off part = record { status = status; text = text; is = is; part = part }
 
-  -- ---- where a script or a load was given
+    -- ---- where a script is there
 
-  -- then no text but a report is written where a script is asked for
-  pub only_report : (left left' : Option (List ℕ)) (given after : List ℕ) (script : Script) → left ≡ Some (given ++ after) → left' ≡ Some after → text_read given ≡ Ok script
-      → (form : Form) (status : ℕ) (text : List ℕ) → IsAnswerTo HaveHad left left' form status text → status ≡ 0
-  only_report left left' given after script is is' read form status text (IsAnswerTo.refusal it nothing) =
-      let P : Option (List ℕ) → Type 0 = λ l. IsRefused l left' text in
-      let Q : Option (List ℕ) → Type 0 = λ l. IsRefused (Some (given ++ after)) l text in
-      absurd (refuses_none given after script read text (subst Q is' (subst P is it)))
-  only_report left left' given after script is is' read form status text (IsAnswerTo.report_of it) = refl
-  only_report left left' given after script is is' read form status text (IsAnswerTo.summary_of sums) = refl
-
-  -- and none but a summary where a load is
-  pub only_summary : (left left' : Option (List ℕ)) (form : Form) (frames status : ℕ) (text : List ℕ) → form ≡ Stress frames → IsAnswerTo HaveHad left left' form status text → status ≡ 0
-  only_summary left left' form frames status text is (IsAnswerTo.refusal it nothing) = absurd (cc)
-  only_summary left left' form frames status text is (IsAnswerTo.report_of it) = refl
-  only_summary left left' form frames status text is (IsAnswerTo.summary_of sums) = refl
+    -- then nothing but what ran is told
+    pub only_told : (form : Form) (failed failed' : ℕ) → form ≢ Race → CallFor words form → IsThere form left left' failed failed' → (status : ℕ) (text : List ℕ) → IsAnswer shown faults olds news words left left' status text → status ≡ 0
+    only_told form failed failed' runs calls there status text (IsAnswer.usage nothing same) = absurd (runs (nothing form calls))
+    only_told form failed failed' runs calls there status text (IsAnswer.refusal form' calls' read refused same) = absurd (there_no_fault words form form' left left' failed failed' text calls there calls' read refused)
+    only_told form failed failed' runs calls there status text (IsAnswer.told form' bytes calls' of told) = refl

@@ -4,6 +4,7 @@ pub mod Conditions
 pub mod DisplaySteps
 pub mod Displayed
 pub mod Ending
+pub mod FramesDone
 pub mod GameSteps
 pub mod Growing
 pub mod InOrder

@@ -1,5 +1,5 @@
 -- What displays have had of a run, line by line.
-use Rattle.std.proofs.Common.{◌≡◌, ℕ, suc, ◌+◌, ◌-◌, ◌<◌, Some, slice_get, Bool, true, false, cond, List, [], ◌∷◌, ◌++◌, length, length-append, Option, refl, sym, ap, ◌∙◌, subst, arith, append-nil}
+use Rattle.std.proofs.Common.{◌≡◌, ℕ, suc, ◌+◌, ◌-◌, ◌<◌, Some, slice_get, Bool, true, false, cond, List, [], ◌∷◌, ◌++◌, length, length-append, map, Option, refl, sym, ap, ◌∙◌, subst, arith, append-nil}
 use Rattle.std.proofs.Math.Seq.{get_or-append_seam}
 use Rattle.std.proofs.lemmas.List.Folds.{list_any-append}
 use Rattle.std.proofs.lemmas.Option.{slice_get_read}
@@ -21,6 +21,7 @@ use Rattle.flat_report.specs.Report.{finished, frame_at}
 use Rattle.flat_run.specs.declared.game.Game.{Game}
 use Rattle.flat_script.specs.declared.script.Script.{Script}
 use Rattle.flat_run.specs.Playing.{GameStands, FinishesFrame, HasPlayed}
+use Rattle.flat_run.specs.Promise.{AreKept}
 use Rattle.flat_run.specs.Showing.{Finishes, HaveSeen}
 use Rattle.flat_run.proofs.Conditions.{or_false}
 use Rattle.flat_run.proofs.Losses.{shows_rise, loss_more, loss_same, numbered_more}
@@ -81,6 +82,14 @@ seen_by_name {D} told count game lost lost' olds news news' same same' seen =
     let L : List Lost → Type 0 = λ ls. HaveSeen told count game ls olds news in
     let N : List D → Type 0 = λ ds. HaveSeen told count game lost' olds ds in
     subst N (sym same') (subst L (sym same) seen)
+
+-- displays that were shown nothing are kept
+pub kept_none : {D K : Type 0} (told : D → Option (List FrameOut)) (count : D → ℕ) (kind : D → K) (ds : List D) → AreKept told count ds ds kind
+kept_none told count kind ds = record { kinds = refl; some = ([], [], driven_none told count [] ds refl) }
+
+-- so are those that have had the frames of a run
+pub kept_seen : {D K : Type 0} (told : D → Option (List FrameOut)) (count : D → ℕ) (kind : D → K) (game : Game) (lost : List Lost) (olds news : List D) → map kind news ≡ map kind olds → HaveSeen told count game lost olds news → AreKept told count olds news kind
+kept_seen told count kind game lost olds news kinds seen = record { kinds = kinds; some = (lost, game.frames.items, seen.driven) }
 
 module _ {D : Type 0} (told : D → Option (List FrameOut)) (count : D → ℕ) where
   -- before any line

@@ -1,8 +1,8 @@
 -- What is written of a script says what was done.
 use Rattle.std.specs.Prelude.{◌≡◌, ℕ, List}
-use Rattle.flat_run.specs.Promise.{Plays}
+use Rattle.flat_words.specs.declared.form.Form.TheVariants.{Play}
+use Rattle.flat_run.specs.Promise.{Tells}
 
--- the text that was written of a script has one script, one history, and one list of lost displays
+-- the text that was written of a script has one script, one history, one list of lost displays, and one of frames seen
 abbrev pub PlaysHaveOneHistory : Type 0
-PlaysHaveOneHistory =
-    (given text : List ℕ) (first second : Plays given text) → (first.script ≡ second.script) × (first.reports.history ≡ second.reports.history) × (first.reports.lost ≡ second.reports.lost)
+PlaysHaveOneHistory = (bytes text : List ℕ) (first second : Tells Play bytes text) → first.ran ≡ second.ran

@@ -1,17 +1,18 @@
-ghost use Rattle.std.specs.Prelude.{◌≡◌, ◌<◌, ◌^◌, true, length, IfOk, IsTrue, Err};
+ghost use Rattle.std.specs.Prelude.{◌≡◌, ◌<◌, ◌≤◌, ◌^◌, ◌||◌, ◌==◌, ℕ, List, true, length, IfOk, IsTrue, Ok, Err};
 ghost use Rattle.flat_io.specs.Counts.{has_risen};
-ghost use Rattle.flat_display.specs.Had.{AreDriven};
 ghost use Rattle.flat_playable.specs.Playable.{is_playable};
+ghost use Rattle.flat_script.specs.Grammar.{text_read};
 ghost use Rattle.flat_words.specs.declared.form.Form.TheVariants.{Play};
-ghost use Rattle.flat_run.specs.Answering.{IsAnswer};
-ghost use Rattle.flat_run.specs.Promise.{fault_line, IsReport, IsAnswerTo};
+ghost use Rattle.flat_words.specs.Forms.{CallFor};
+ghost use Rattle.flat_run.specs.Answering.{IsReply};
+ghost use Rattle.flat_run.specs.Promise.{fault_line, AreGiven, IsTold, IsAnswer, AreKept};
 
 use crate::run::run;
 use flat_base::{NoMemory, SCRIPT_BYTES_MAX};
 use flat_display::Display;
 use flat_io::{ReadAll, Source, read_all};
 use flat_playable::scripts_are_playable;
-use flat_report::print_report;
+use flat_report::{handed_is_report, print_report};
 use flat_rules::families_are_alone;
 use flat_script::{Script, ScriptError, ScriptFault, parse};
 use itoa::Buffer;
@@ -84,9 +85,12 @@ fn played_text(
 ) -> Result<Vec<u8>, NoMemory>
     requires playable { is_playable script.now ≡ true }
     requires few { length displays.old.items < 2 ^ 32 }
-    ensures { IfOk result (λ text. IsReport (λ frames lost. AreDriven (λ d. shown d) (λ d. faults d) lost frames displays.old.items displays.new.items) script.now text.items) }
+    ensures told { (bytes : List ℕ) → text_read bytes ≡ Ok script.now →
+        IfOk result (λ text. IsTold (λ d. shown d) (λ d. faults d) displays.old.items displays.new.items Play bytes text.items) }
+    ensures kept { AreKept (λ d. shown d) (λ d. faults d) displays.old.items displays.new.items (λ d. d.vtable) }
 {
     families_are_alone();
+    handed_is_report();
     let played = run(alloc, script, displays)?;
     let game = &played.game;
     let journal = game.board.journal();
@@ -107,7 +111,10 @@ fn answer_to(
     displays: &mut Vec<Box<dyn Display>>,
 ) -> Result<Answer, NoMemory>
     requires { length displays.old.items < 2 ^ 32 }
-    ensures { IfOk result (λ answer. IsAnswer (λ frames lost. AreDriven (λ d. shown d) (λ d. faults d) lost frames displays.old.items displays.new.items) bytes.now answer.status answer.text.items) }
+    ensures reply { IfOk result (λ answer. IsReply (λ d. shown d) (λ d. faults d) displays.old.items displays.new.items Play bytes.now answer.status answer.text.items) }
+    ensures refused { IfOk result (λ answer. answer.status ≡ REFUSED → displays.new ≡ displays.old) }
+    ensures statuses { IfOk result (λ answer. IsTrue (answer.status == DONE || answer.status == REFUSED)) }
+    ensures kept { AreKept (λ d. shown d) (λ d. faults d) displays.old.items displays.new.items (λ d. d.vtable) }
 {
     scripts_are_playable();
     match parse(alloc, bytes) {
@@ -127,8 +134,20 @@ pub fn play<R: Source>(
     displays: &mut Vec<Box<dyn Display>>,
 ) -> Result<Answer, Unanswered>
     requires { length displays.old.items < 2 ^ 32 }
-    ensures text { IfOk result (λ answer. IsAnswerTo (λ frames lost. AreDriven (λ d. shown d) (λ d. (⟦<dyn Display as Display>⟧ d.vtable).faults d.value) lost frames displays.old.items displays.new.items) (R.left source.old) (R.left source.new) Play answer.status answer.text.items) }
+    ensures answer { (words : List (List ℕ)) → CallFor words Play →
+        IfOk result (λ answer. IsAnswer (λ d. shown d)
+        (λ d. (⟦<dyn Display as Display>⟧ d.vtable).faults d.value)
+        displays.old.items displays.new.items words (R.left source.old) (R.left source.new)
+        answer.status answer.text.items) }
+    ensures refused { IfOk result (λ answer. answer.status ≡ REFUSED → displays.new ≡ displays.old) }
+    ensures statuses { IfOk result (λ answer. IsTrue (answer.status == DONE || answer.status == REFUSED)) }
     ensures fault { result ≡ Err Unanswered.Fault → IsTrue (has_risen (R.faults source.old) (R.faults source.new)) }
+    ensures failed { result ≡ Err Unanswered.Fault → displays.new ≡ displays.old }
+    ensures given { (given : List ℕ) × AreGiven given (R.left source.old) (R.left source.new) }
+    ensures counts { R.faults source.old ≤ R.faults source.new }
+    ensures kept { AreKept (λ d. shown d)
+        (λ d. (⟦<dyn Display as Display>⟧ d.vtable).faults d.value)
+        displays.old.items displays.new.items (λ d. d.vtable) }
 {
     match read_all(alloc, source, SCRIPT_BYTES_MAX) {
         Ok(bytes) => Ok(answer_to(alloc, bytes.as_slice(), displays)?),

@@ -1,10 +1,10 @@
 ghost use Rattle.std.specs.Prelude.{◌≡◌, ◌<◌, ◌≤◌, ◌^◌, length, count_by, IfOk, Ok, Some, None};
-ghost use Rattle.flat_display.specs.Had.{AreDriven};
 ghost use Rattle.flat_report.specs.Report.{finished};
 ghost use Rattle.flat_scene.specs.History.{history_of};
 ghost use Rattle.flat_script.specs.Grammar.{text_read};
 ghost use Rattle.flat_stress.specs.Load.{load_text};
-ghost use Rattle.flat_run.specs.Promise.{IsSummary};
+ghost use Rattle.flat_words.specs.declared.form.Form.TheVariants.{Stress};
+ghost use Rattle.flat_run.specs.Promise.{IsTold, AreKept};
 ghost use Rattle.flat_run.specs.Totals.{is_present, last_items, totals_of};
 
 use crate::answers::{Answer, DONE};
@@ -15,7 +15,7 @@ use flat_playable::scripts_are_playable;
 use flat_rules::families_are_alone;
 use flat_scene::{Entry, FrameOut, Journal, Kind, Setup};
 use flat_script::{Script, ScriptError, parse};
-use flat_stress::{Totals, loads_are_scripts, summary};
+use flat_stress::{Totals, loads_are_scripts, loads_have_their_frames, summary};
 use std::alloc::Global;
 
 /// How many of some entries are presents.
@@ -70,17 +70,37 @@ fn summed(
     script: &Script,
     displays: &mut Vec<Box<dyn Display>>,
 ) -> Result<Vec<u8>, NoMemory>
+    requires first { 1 ≤ frames }
+    requires last { frames ≤ 500 }
     requires read { text_read (load_text frames) ≡ Ok script.now }
     requires few { length displays.old.items < 2 ^ 32 }
-    ensures { IfOk result (λ text. IsSummary (λ shown_frames lost. AreDriven (λ d. shown d) (λ d. faults d) lost shown_frames displays.old.items displays.new.items) frames text.items) }
+    ensures told { IfOk result (λ text. IsTold (λ d. shown d) (λ d. faults d)
+        displays.old.items displays.new.items (Stress frames) (load_text frames) text.items) }
+    ensures kept { AreKept (λ d. shown d) (λ d. faults d) displays.old.items displays.new.items (λ d. d.vtable) }
 {
     families_are_alone();
     scripts_are_playable();
+    loads_have_their_frames();
     let played = run(alloc, script, displays)?;
     let game = &played.game;
     let journal = game.board.journal();
     let totals = totals_of(frames, &script.setup, journal, game.frames.as_slice());
     summary(alloc, totals)
+}
+
+/// The script of the load of so many frames, read from its text.
+fn load_script(alloc: Global, frames: u32) -> Result<Script, NoMemory>
+    requires first { 1 ≤ frames }
+    requires last { frames ≤ 500 }
+    ensures { IfOk result (λ script. text_read (load_text frames) ≡ Ok script) }
+{
+    loads_are_scripts();
+    let load = flat_stress::script(alloc, frames)?;
+    match parse(alloc, load.as_slice()) {
+        Ok(script) => Ok(script),
+        Err(ScriptError::Fault(_)) => unreachable!(),
+        Err(ScriptError::Memory) => Err(NoMemory),
+    }
 }
 
 /// Plays the load of so many frames.
@@ -93,16 +113,11 @@ pub fn stress(
     requires last { frames ≤ 500 }
     requires few { length displays.old.items < 2 ^ 32 }
     ensures status { IfOk result (λ answer. answer.status ≡ DONE) }
-    ensures text { IfOk result (λ answer. IsSummary (λ shown_frames lost. AreDriven (λ d. shown d) (λ d. faults d) lost shown_frames displays.old.items displays.new.items) frames answer.text.items) }
+    ensures told { IfOk result (λ answer. IsTold (λ d. shown d) (λ d. faults d)
+        displays.old.items displays.new.items (Stress frames) (load_text frames) answer.text.items) }
+    ensures kept { AreKept (λ d. shown d) (λ d. faults d) displays.old.items displays.new.items (λ d. d.vtable) }
 {
-    loads_are_scripts();
-    let load = flat_stress::script(alloc, frames)?;
-    match parse(alloc, load.as_slice()) {
-        Ok(script) => Ok(Answer {
-            status: DONE,
-            text: summed(alloc, frames, &script, displays)?,
-        }),
-        Err(ScriptError::Fault(_)) => unreachable!(),
-        Err(ScriptError::Memory) => Err(NoMemory),
-    }
+    let script = load_script(alloc, frames)?;
+    let text = summed(alloc, frames, &script, displays)?;
+    Ok(Answer { status: DONE, text })
 }

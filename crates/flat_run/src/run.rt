@@ -1,4 +1,4 @@
-ghost use Rattle.std.specs.Prelude.{◌≡◌, ◌+◌, ◌<◌, ◌==◌, ◌^◌, [], ◌∷◌, ◌++◌, List, true, length, IfOk};
+ghost use Rattle.std.specs.Prelude.{map, ◌≡◌, ◌+◌, ◌<◌, ◌==◌, ◌^◌, [], ◌∷◌, ◌++◌, List, true, length, All, IfOk};
 ghost use Rattle.flat_scene.specs.History.{seat_number};
 ghost use Rattle.flat_scene.specs.Setups.{is_setup};
 ghost use Rattle.flat_playable.specs.Playable.{is_playable};
@@ -6,6 +6,7 @@ ghost use Rattle.flat_scene.specs.declared.frames.FrameOut.{FrameOut};
 ghost use Rattle.flat_scene.specs.declared.frames.Lost.{Lost};
 ghost use Rattle.flat_display.specs.Shows.{Shows};
 ghost use Rattle.flat_run.specs.Playing.{lines_by, shares_of, AreNew, GameStands, HasPlayed};
+ghost use Rattle.flat_run.specs.Promise.{AreKept};
 ghost use Rattle.flat_run.specs.Showing.{HaveSeen};
 
 use crate::game::{Game, LastFrame};
@@ -99,9 +100,12 @@ fn start(alloc: Global, script: &Script) -> Result<Game, NoMemory>
 /// Shows the last of some frames to the displays that aren't lost.
 fn show_last(set: &mut DisplaySet, displays: &mut Vec<Box<dyn Display>>, frames: &[FrameOut])
     requires { length displays.old.items ≡ set.old.displays }
-    ensures shows { (before : List FrameOut) (frame : FrameOut) → frames.now ≡ before ++ frame ∷ [] → (more : List Lost) × (set.new ≡ record set.old { lost = set.old.lost ++ more }) × Shows (λ d. shown d) (λ d. faults d) frame set.old.lost 1 displays.old.items displays.new.items more }
+    ensures shows { (before : List FrameOut) (frame : FrameOut) → frames.now ≡ before ++ frame ∷ [] →
+        (more : List Lost) × (set.new ≡ record set.old { lost = set.old.lost ++ more })
+        × Shows (λ d. shown d) (λ d. faults d) frame set.old.lost 1 displays.old.items displays.new.items more }
     ensures same { set.new.displays ≡ set.old.displays }
     ensures length { length displays.new.items ≡ length displays.old.items }
+    ensures kinds { map (λ d. d.vtable) displays.new.items ≡ map (λ d. d.vtable) displays.old.items }
 {
     if let Some(frame) = frames.last() {
         set.show(displays, frame);
@@ -122,6 +126,7 @@ fn play_lines(
     requires none { set.old.lost ≡ [] }
     ensures stands { IfOk result (λ game. GameStands script.now (length script.now.lines) game) }
     ensures seen { IfOk result (λ game. HaveSeen (λ d. shown d) (λ d. faults d) game set.new.lost displays.old.items displays.new.items) }
+    ensures kept { AreKept (λ d. shown d) (λ d. faults d) displays.old.items displays.new.items (λ d. d.vtable) }
 {
     let mut game = start(alloc, script)?;
     for place in 0..script.lines.len() {
@@ -152,6 +157,7 @@ pub fn run(
     requires few { length displays.old.items < 2 ^ 32 }
     ensures played { IfOk result (λ played. HasPlayed script.now played.game.board played.game.frames.items played.game.answers) }
     ensures seen { IfOk result (λ played. HaveSeen (λ d. shown d) (λ d. faults d) played.game played.set.lost displays.old.items displays.new.items) }
+    ensures kept { AreKept (λ d. shown d) (λ d. faults d) displays.old.items displays.new.items (λ d. d.vtable) }
 {
     let mut set = DisplaySet::new(alloc, displays.len() as u32)?;
     let mut game = play_lines(alloc, script, &mut set, displays)?;

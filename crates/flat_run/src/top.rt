@@ -1,14 +1,12 @@
-ghost use Rattle.std.specs.Prelude.{◌≡◌, ◌≢◌, ◌<◌, ◌^◌, ◌||◌, ◌==◌, ◌++◌, ℕ, List, false, length, map, IfOk, IfSome, IsTrue, None, Some, Ok, Err};
+ghost use Rattle.std.specs.Prelude.{◌≡◌, ◌≢◌, ◌<◌, ◌≤◌, ◌^◌, ◌||◌, ◌==◌, ℕ, List, false, length, map, IfOk, IfSome, IsTrue, None, Some, Ok, Err};
 ghost use Rattle.std.specs.String.{string_bytes};
 ghost use Rattle.flat_io.specs.Counts.{has_risen};
 ghost use Rattle.flat_io.specs.Told.{Appends};
 ghost use Rattle.flat_io.specs.Whole.{AppendsPrefix};
-ghost use Rattle.flat_display.specs.Had.{AreDriven};
-ghost use Rattle.flat_script.specs.Grammar.{text_read};
-ghost use Rattle.flat_script.specs.declared.script.Script.{Script};
-ghost use Rattle.flat_words.specs.declared.form.Form.TheVariants.{Play, Race, Stress};
+ghost use Rattle.flat_words.specs.declared.form.Form.{Form};
+ghost use Rattle.flat_words.specs.declared.form.Form.TheVariants.{Play, Race};
 ghost use Rattle.flat_words.specs.Forms.{CallFor, IsAllowed};
-ghost use Rattle.flat_run.specs.Promise.{play_words, CallForNothing, IsAnswerTo, IsWhole, IsCutOff};
+ghost use Rattle.flat_run.specs.Promise.{play_words, CallForNothing, AreGiven, IsAnswer, IsWhole, IsCutOff, IsThere, AreKept};
 
 use crate::answers::{Answer, DONE, REFUSED, Unanswered, play};
 use crate::load::stress;
@@ -51,8 +49,20 @@ fn answer_to<R: Source>(
     requires allowed { IsAllowed form }
     requires runs { form ≢ Race }
     requires few { length displays.old.items < 2 ^ 32 }
-    ensures text { IfOk result (λ answer. IsAnswerTo (λ frames lost. AreDriven (λ d. shown d) (λ d. (⟦<dyn Display as Display>⟧ d.vtable).faults d.value) lost frames displays.old.items displays.new.items) (R.left source.old) (R.left source.new) form answer.status answer.text.items) }
+    ensures answer { (words : List (List ℕ)) → CallFor words form →
+        IfOk result (λ answer. IsAnswer (λ d. shown d)
+        (λ d. (⟦<dyn Display as Display>⟧ d.vtable).faults d.value)
+        displays.old.items displays.new.items words (R.left source.old) (R.left source.new)
+        answer.status answer.text.items) }
+    ensures refused { IfOk result (λ answer. answer.status ≡ REFUSED → displays.new ≡ displays.old) }
+    ensures statuses { IfOk result (λ answer. IsTrue (answer.status == DONE || answer.status == REFUSED)) }
     ensures fault { result ≡ Err Unanswered.Fault → IsTrue (has_risen (R.faults source.old) (R.faults source.new)) }
+    ensures failed { result ≡ Err Unanswered.Fault → displays.new ≡ displays.old }
+    ensures given { (given : List ℕ) × AreGiven given (R.left source.old) (R.left source.new) }
+    ensures counts { R.faults source.old ≤ R.faults source.new }
+    ensures kept { AreKept (λ d. shown d)
+        (λ d. (⟦<dyn Display as Display>⟧ d.vtable).faults d.value)
+        displays.old.items displays.new.items (λ d. d.vtable) }
     ensures reads { result ≡ Err Unanswered.Fault → form ≡ Play }
     ensures unread { form ≢ Play → source.new ≡ source.old }
 {
@@ -70,6 +80,9 @@ fn write_text<W: Sink>(sink: &mut W, text: &[u8], status: u8) -> u8
     ensures part { result ≡ WRITE_FAULT → AppendsPrefix text.now (W.held sink.old) (W.held sink.new) }
     ensures fault { result ≡ WRITE_FAULT → IsTrue (has_risen (W.faults sink.old) (W.faults sink.new) || has_risen (W.stalls sink.old) (W.stalls sink.new)) }
     ensures either { IsTrue (result == status || result == WRITE_FAULT) }
+    ensures gains { (more : List ℕ) × Appends more (W.held sink.old) (W.held sink.new) }
+    ensures faults { W.faults sink.old ≤ W.faults sink.new }
+    ensures stalls { W.stalls sink.old ≤ W.stalls sink.new }
 {
     match write_all(sink, text) {
         Ok(()) => status,
@@ -91,7 +104,13 @@ fn write_text<W: Sink>(sink: &mut W, text: &[u8], status: u8) -> u8
 ///
 /// With status 0, and with 5 where there is a script, each display that tells its
 /// frames has had those of the history, in order and once, or those before the frame
-/// at which it was lost. With 6 nothing is said of what displays have had.
+/// at which it was lost. With 2, 3 and 4 the displays are left as they were, and with
+/// 5 where the text was that of 2 or 3. With 6 they have had some frames in the same
+/// way, and it isn't said which.
+///
+/// Whatever the status, the source has lost bytes from its front alone, the sink has
+/// only gained some, no count of faults or stalls has fallen, and each display stands
+/// at its place.
 pub fn flatland<R: Source, W: Sink>(
     alloc: Global,
     words: &[String],
@@ -100,16 +119,38 @@ pub fn flatland<R: Source, W: Sink>(
     displays: &mut Vec<Box<dyn Display>>,
 ) -> u8
     requires { length displays.old.items < 2 ^ 32 }
-    ensures whole { result ≢ READ_FAULT → result ≢ WRITE_FAULT → result ≢ NO_MEMORY → IsWhole (λ frames lost. AreDriven (λ d. shown d) (λ d. (⟦<dyn Display as Display>⟧ d.vtable).faults d.value) lost frames displays.old.items displays.new.items) (map string_bytes words.now) (R.left source.old) (R.left source.new) (W.held sink.old) (W.held sink.new) result }
-    ensures cut_off { result ≡ WRITE_FAULT → IsCutOff (λ frames lost. AreDriven (λ d. shown d) (λ d. (⟦<dyn Display as Display>⟧ d.vtable).faults d.value) lost frames displays.old.items displays.new.items) (map string_bytes words.now) (R.left source.old) (R.left source.new) (W.held sink.old) (W.held sink.new) }
-    ensures write_fault { result ≡ WRITE_FAULT → IsTrue (has_risen (W.faults sink.old) (W.faults sink.new) || has_risen (W.stalls sink.old) (W.stalls sink.new)) }
+    ensures whole { result ≢ READ_FAULT → result ≢ WRITE_FAULT → result ≢ NO_MEMORY →
+        IsWhole (λ d. shown d)
+        (λ d. (⟦<dyn Display as Display>⟧ d.vtable).faults d.value)
+        displays.old.items displays.new.items (map string_bytes words.now)
+        (R.left source.old) (R.left source.new) (W.held sink.old) (W.held sink.new) result }
+    ensures cut_off { result ≡ WRITE_FAULT →
+        IsCutOff (λ d. shown d)
+        (λ d. (⟦<dyn Display as Display>⟧ d.vtable).faults d.value)
+        displays.old.items displays.new.items (map string_bytes words.now)
+        (R.left source.old) (R.left source.new) (W.held sink.old) (W.held sink.new) }
+    ensures untouched { IsTrue (result == USED_WRONGLY || result == REFUSED || result == READ_FAULT) →
+        displays.new ≡ displays.old }
+    ensures kept { AreKept (λ d. shown d)
+        (λ d. (⟦<dyn Display as Display>⟧ d.vtable).faults d.value)
+        displays.old.items displays.new.items (λ d. d.vtable) }
+    ensures given { (given : List ℕ) × AreGiven given (R.left source.old) (R.left source.new) }
+    ensures gains { (more : List ℕ) × Appends more (W.held sink.old) (W.held sink.new) }
+    ensures faults { R.faults source.old ≤ R.faults source.new }
+    ensures sink_faults { W.faults sink.old ≤ W.faults sink.new }
+    ensures sink_stalls { W.stalls sink.old ≤ W.stalls sink.new }
+    ensures write_fault { result ≡ WRITE_FAULT →
+        IsTrue (has_risen (W.faults sink.old) (W.faults sink.new) || has_risen (W.stalls sink.old) (W.stalls sink.new)) }
     ensures read_fault { result ≡ READ_FAULT → IsTrue (has_risen (R.faults source.old) (R.faults source.new)) }
     ensures unwritten { IsTrue (result == READ_FAULT || result == NO_MEMORY) → sink.new ≡ sink.old }
     ensures usage { CallForNothing (map string_bytes words.now) → IsTrue (result == USED_WRONGLY || result == WRITE_FAULT || result == NO_MEMORY) }
     ensures unread { map string_bytes words.now ≢ play_words → source.new ≡ source.old }
-    ensures complete { (given after : List ℕ) (script : Script) → map string_bytes words.now ≡ play_words → R.left source.old ≡ Some (given ++ after) → R.left source.new ≡ Some after → text_read given ≡ Ok script → has_risen (R.faults source.old) (R.faults source.new) ≡ false → (has_risen (W.faults sink.old) (W.faults sink.new) || has_risen (W.stalls sink.old) (W.stalls sink.new)) ≡ false → IsTrue (result == DONE || result == NO_MEMORY) }
-    ensures summed { (frames : ℕ) → CallFor (map string_bytes words.now) (Stress frames) → (has_risen (W.faults sink.old) (W.faults sink.new) || has_risen (W.stalls sink.old) (W.stalls sink.new)) ≡ false → IsTrue (result == DONE || result == NO_MEMORY) }
-    ensures statuses { IsTrue (result == DONE || result == USED_WRONGLY || result == REFUSED || result == READ_FAULT || result == WRITE_FAULT || result == NO_MEMORY) }
+    ensures complete { (form : Form) → form ≢ Race → CallFor (map string_bytes words.now) form →
+        IsThere form (R.left source.old) (R.left source.new) (R.faults source.old) (R.faults source.new) →
+        (has_risen (W.faults sink.old) (W.faults sink.new) || has_risen (W.stalls sink.old) (W.stalls sink.new)) ≡ false →
+        IsTrue (result == DONE || result == NO_MEMORY) }
+    ensures statuses { IsTrue (result == DONE || result == USED_WRONGLY || result == REFUSED
+        || result == READ_FAULT || result == WRITE_FAULT || result == NO_MEMORY) }
 {
     let form = match form_to_run(alloc, words) {
         Ok(Some(form)) => form,

@@ -5,5 +5,5 @@ use Rattle.flat_report.proofs.report.push_report.Goals as goal
 
 pub returns : goal.returns
 returns c =
-    all_lines c.args.script.now c.args.lost.now c.args.journal.now.entries.items c.args.frames.now _ _ c.requires.probes c.requires.frames (ap (length {A = Entry}) c.as_slice-entries.ensures.value) refl
+    all_lines c.args.script.now c.args.lost.now c.args.journal.now.entries.items c.args.journal.now.posts.items c.args.frames.now c.args.answers.now _ _ (ap (length {A = Entry}) c.as_slice-entries.ensures.value) refl
     c.in_ok-push_title.ensures c.in_ok-push_history.ensures c.in_ok-push_end.ensures

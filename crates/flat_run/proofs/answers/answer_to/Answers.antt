@@ -1,28 +1,34 @@
-use Rattle.std.proofs.Common.{Result, Ok, Err, IfOk, List, [], ℕ, ◌≡◌, refl, subst}
-use Rattle.flat_display.proofs.Driving.{driven_none}
+use Rattle.std.proofs.Common.{Result, Ok, Err, IfOk, List, ℕ, ◌≡◌, Option, refl, subst}
 use Rattle.flat_scene.specs.declared.frames.FrameOut.{FrameOut}
-use Rattle.flat_scene.specs.declared.frames.Lost.{Lost}
 use Rattle.flat_script.specs.declared.script.ScriptFault.{ScriptFault}
 use Rattle.flat_script.specs.declared.script.ScriptError.TheVariants as error
 use Rattle.flat_script.specs.Grammar.{text_read}
 use Rattle.flat_script.specs.Progress.{Fails}
+use Rattle.flat_words.specs.declared.form.Form.TheVariants.{Play}
 use Rattle.flat_run.specs.declared.answers.Answer.{Answer}
-use Rattle.flat_run.specs.Answering.{IsAnswer}
+use Rattle.flat_run.specs.Answering.{IsReply}
 use Rattle.flat_run.specs.Promise.{fault_line}
 use Rattle.flat_run.proofs.Answering.{refused}
+use Rattle.flat_run.proofs.Seen.{kept_none}
 use Rattle.flat_run.proofs.answers.answer_to.Goals as goal
 
-refused_result : {E : Type 0} (HaveHad : List FrameOut → List Lost → Type 0) → HaveHad [] [] → (bytes : List ℕ) (fault : ScriptFault) → text_read bytes ≡ Err fault → (r : Result Answer E) → IfOk r (λ a. a.status ≡ 3) → IfOk r (λ a. a.text.items ≡ fault_line fault)
-    → IfOk r (λ a. IsAnswer HaveHad bytes a.status a.text.items)
-refused_result HaveHad nothing bytes fault read (Ok a) is_3 is = refused HaveHad nothing bytes fault read a.status a.text.items is_3 is
-refused_result HaveHad nothing bytes fault read (Err e) is_3 is = tt
+refused_result : {D E : Type 0} (shown : D → Option (List FrameOut)) (faults : D → ℕ) (ds : List D) (bytes : List ℕ) (fault : ScriptFault) → text_read bytes ≡ Err fault → (r : Result Answer E) → IfOk r (λ a. a.status ≡ 3) → IfOk r (λ a. a.text.items ≡ fault_line fault)
+    → IfOk r (λ a. IsReply shown faults ds ds Play bytes a.status a.text.items)
+refused_result shown faults ds bytes fault read (Ok a) is_3 is = refused shown faults ds ds bytes fault read a.status a.text.items is_3 is refl
+refused_result shown faults ds bytes fault read (Err e) is_3 is = tt
 
-pub returns-in_ok-played_text-in-Ok : goal.returns-in_ok-played_text-in-Ok
-returns-in_ok-played_text-in-Ok g c = IsAnswer.report_of (record { script = c.in-Ok.script; read = c.in-Ok.ensures; reports = c.in_ok-played_text-in-Ok.ensures.0 }) c.in_ok-played_text-in-Ok.ensures.1
+pub returns-in_ok-played_text-in-Ok-clause-reply : goal.returns-in_ok-played_text-in-Ok-clause-reply
+returns-in_ok-played_text-in-Ok-clause-reply g c = IsReply.told (c.in_ok-played_text-in-Ok.ensures.told c.args.bytes.now c.in-Ok.ensures)
 
-pub returns-in-Err-Fault : goal.returns-in-Err-Fault
-returns-in-Err-Fault g c =
+pub returns-in-Err-Fault-clause-reply : goal.returns-in-Err-Fault-clause-reply
+returns-in-Err-Fault-clause-reply g c =
     let whole = c.in-Err-Fault.is in
     let why = c.in-Err-Fault.field-0-is in
     let is : c.in-Err-Fault.field-0 ≡ error.Fault c.in-Err-Fault.fault = cc in
-    refused_result _ (driven_none _ _ [] _ refl) c.args.bytes.now c.in-Err-Fault.fault (subst (λ e. Fails e (text_read c.args.bytes.now)) is c.in-Err-Fault.ensures) c.refusal.result c.refusal.ensures.status c.refusal.ensures.text
+    refused_result _ _ _ c.args.bytes.now c.in-Err-Fault.fault (subst (λ e. Fails e (text_read c.args.bytes.now)) is c.in-Err-Fault.ensures) c.refusal.result c.refusal.ensures.status c.refusal.ensures.text
+
+pub returns-in-Err-Fault-clause-kept : goal.returns-in-Err-Fault-clause-kept
+returns-in-Err-Fault-clause-kept g c = kept_none _ _ _ _
+
+pub returns-in-Err-Memory-clause-kept : goal.returns-in-Err-Memory-clause-kept
+returns-in-Err-Memory-clause-kept g c = kept_none _ _ _ _

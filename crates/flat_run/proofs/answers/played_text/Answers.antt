@@ -1,16 +1,17 @@
-use Rattle.std.proofs.Common.{◌≡◌, [], ap, ◌∙◌}
-use Rattle.flat_scene.specs.History.{history_of}
-use Rattle.flat_report.specs.Report.{report}
-use Rattle.flat_run.proofs.Reporting.{if_ok, has_run, have_had}
+use Rattle.std.proofs.Common.{◌∙◌}
+use Rattle.flat_words.specs.declared.form.Form.TheVariants.{Play}
+use Rattle.flat_run.proofs.Reporting.{if_ok, ran_of, has_run, have_had, handed_text}
 use Rattle.flat_run.proofs.answers.played_text.Goals as goal
 
-pub returns : goal.returns
-returns g c =
+pub returns-clause-told : goal.returns-clause-told
+returns-clause-told g c = λ bytes read.
     let script = c.args.script.now in
     let game = c.in_ok-played.played.game in
     let lost = c.in_ok-played.played.set.lost in
-    let entries = c.journal-journal.result.now.entries.items in
-    let ran = has_run _ _ script game lost _ _ c.requires.playable c.in_ok-played.ensures.played c.in_ok-played.ensures.seen c.families_are_alone.ensures c.journal-journal.ensures.legal in
-    let had = have_had _ _ script game lost _ _ c.in_ok-played.ensures.played c.in_ok-played.ensures.seen in
-    if_ok (λ text. text.items ≡ report script (history_of entries) c.lost.result.now []) _ c.print_report.result
-    (λ text is. (record { history = game.board.history; lost = lost; ran = ran; is = is ∙ ap (λ ls. report script (history_of entries) ls []) c.lost.ensures ∙ ap (λ h. report script h lost []) c.journal-journal.ensures.entries }, had)) c.print_report.ensures
+    let journal = c.journal-journal.result.now in
+    let played = c.in_ok-played.ensures.played in
+    let ran = has_run _ _ Play script game lost _ _ c.requires.playable played c.in_ok-played.ensures.seen c.families_are_alone.ensures c.journal-journal.ensures.legal tt in
+    let had = have_had _ _ script game lost _ _ played c.in_ok-played.ensures.seen in
+    let text = handed_text c.handed_is_report.ensures script game lost c.lost.result.now journal.entries.items journal.posts.items c.as_slice.result.now c.requires.playable played c.journal-journal.ensures.entries c.journal-journal.ensures.posts
+    c.as_slice.ensures.value c.lost.ensures in
+    if_ok _ _ c.print_report.result (λ written is. (record { ran = ran_of script game lost; read = read; has_run = ran; is = is ∙ text }, had)) c.print_report.ensures

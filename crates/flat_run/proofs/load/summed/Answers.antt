@@ -4,30 +4,30 @@ use Rattle.flat_report.specs.Report.{finished}
 use Rattle.flat_stress.specs.Load.{load_text}
 use Rattle.flat_stress.specs.Summary.{summary_line}
 use Rattle.flat_run.specs.Totals.{totals_of}
-use Rattle.flat_run.proofs.Reporting.{if_ok, has_run, have_had}
+use Rattle.flat_words.specs.declared.form.Form.TheVariants.{Stress}
+use Rattle.flat_run.proofs.Reporting.{if_ok, ran_of, has_run, have_had, load_asked}
 use Rattle.flat_run.proofs.load.summed.Goals as goal
 
 pub totals_of-totals-requires : goal.totals_of-totals-requires
 totals_of-totals-requires g c = c.as_slice.ensures.value ∙ c.in_ok-played.ensures.played.finishing ∙ ap (λ (h : List Entry). finished c.args.script.now.setup h) (sym c.journal-journal.ensures.entries)
 
-pub returns : goal.returns
-returns g c =
+pub returns-clause-told : goal.returns-clause-told
+returns-clause-told g c =
     let script = c.args.script.now in
     let game = c.in_ok-played.played.game in
     let lost = c.in_ok-played.played.set.lost in
     let playable = c.scripts_are_playable.ensures.playable (load_text c.args.frames) script c.requires.read in
     let played = c.in_ok-played.ensures.played in
     let journal = c.journal-journal.ensures in
-    let ran = has_run _ _ script game lost _ _ playable played c.in_ok-played.ensures.seen c.families_are_alone.ensures journal.legal in
+    let asked = load_asked script game c.args.frames playable played journal.legal (c.loads_have_their_frames.ensures c.args.frames script c.requires.first c.requires.last c.requires.read) in
+    let ran = has_run _ _ (Stress c.args.frames) script game lost _ _ playable played c.in_ok-played.ensures.seen c.families_are_alone.ensures journal.legal asked in
     let had = have_had _ _ script game lost _ _ played c.in_ok-played.ensures.seen in
     if_ok (λ text. text.items ≡ summary_line c.totals_of-totals.result) _ c.summary.result
     (λ text is. (
       record {
-        script = script;
+        ran = ran_of script game lost;
         read = c.requires.read;
-        history = game.board.history;
-        lost = lost;
-        ran = ran;
+        has_run = ran;
         is = is ∙ ap summary_line c.totals_of-totals.ensures ∙ ap (λ (h : List Entry). summary_line (totals_of c.args.frames script.setup h)) journal.entries;
       },
       had,

@@ -1,10 +1,13 @@
-use Rattle.flat_run.proofs.Answering.{form_same, form_same_result, load_text_of}
+use Rattle.std.proofs.Common.{refl, subst}
+use Rattle.flat_words.specs.declared.form.Form.{Form}
+use Rattle.flat_words.specs.Forms.{CallFor}
+use Rattle.flat_run.proofs.Answering.{load_told, none_given}
 use Rattle.flat_run.proofs.top.answer_to.Goals as goal
 
-pub returns-in-Play-clause-text : goal.returns-in-Play-clause-text
-returns-in-Play-clause-text g c = form_same_result _ _ _ _ _ c.play.result c.in-Play.is c.play.ensures.text
+pub returns-in-Play-clause-answer : goal.returns-in-Play-clause-answer
+returns-in-Play-clause-answer g c = λ words calls. c.play.ensures.answer words (subst (λ (f : Form). CallFor words f) c.in-Play.is calls)
 
-pub returns-in_ok-stress-in-Stress-clause-text : goal.returns-in_ok-stress-in-Stress-clause-text
-returns-in_ok-stress-in-Stress-clause-text g c =
+pub returns-in_ok-stress-in-Stress-clause-answer : goal.returns-in_ok-stress-in-Stress-clause-answer
+returns-in_ok-stress-in-Stress-clause-answer g c = λ words calls.
     let x = c.in_ok-stress-in-Stress.field-0 in
-    form_same _ _ _ _ _ x.status x.text.items c.in-Stress.is (load_text_of _ _ _ c.in-Stress.frames x.status x.text.items c.in_ok-stress-in-Stress.ensures.status c.in_ok-stress-in-Stress.ensures.text)
+    load_told _ _ _ _ words _ _ c.in-Stress.frames x.status x.text.items (subst (λ (f : Form). CallFor words f) c.in-Stress.is calls) c.in_ok-stress-in-Stress.ensures.status c.in_ok-stress-in-Stress.ensures.told
