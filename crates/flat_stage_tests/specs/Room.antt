@@ -14,4 +14,4 @@ pub record MayRead (lines : ℕ) (seat : SessionView) : Type 0 where
 -- The compositor may make so many frames more, which begin at this time or later.
 pub record MayBegin (frames time : ℕ) (seat : DisplayView) : Type 0 where
   pub room : length seat.mine + 2 * frames ≤ slice_index (shares_of seat.stage) 0
-  pub time : begin_time (history_of seat.mine) ≤ time
+  pub begun : begin_time (history_of seat.mine) ≤ time

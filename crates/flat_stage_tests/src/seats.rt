@@ -2,9 +2,9 @@ ghost use Rattle.std.specs.Prelude.{◌≡◌, ◌+◌, ◌<◌, ◌^◌, [], �
 ghost use Rattle.flat_base.specs.declared.ids.Actor.TheVariants.{Display, Session};
 ghost use Rattle.flat_stage_tests.specs.Room.{MayRead, MayBegin};
 
-use flat_base::{Actor, Items, NoMemory, SessionNo, ShareList};
+use flat_base::{Actor, FlatlandError, Items, NoMemory, Reason, SessionNo, ShareList};
 use flat_core::Board;
-use flat_scene::{Entry, Kind, Line, PairDecl, PresentArgs, Reply, Setup};
+use flat_scene::{Call, Entry, Event, Kind, Line, PairDecl, PresentArgs, Reply, Setup};
 use flat_stage::{CompositorSeat, SessionSeat, Stage};
 use std::alloc::Global;
 use std::sync::Wait;
@@ -119,12 +119,9 @@ fn read_all<R: Wait>(
     requires may { MayRead 101 seat }
     ensures { IfOk result (λ seat. seat.stage ≡ stage.now) }
 {
-    let mut left = POLLS;
-    present(rt, alloc, stage, &mut seat, left)?;
-    while left > 0 {
-        let number = 102 - left;
-        left -= 1;
-        poll(rt, stage, &mut seat, number, left)?;
+    present(rt, alloc, stage, &mut seat, POLLS)?;
+    for k in 0..POLLS {
+        poll(rt, stage, &mut seat, k + 2, POLLS - 1 - k)?;
     }
     Ok(seat)
 }
@@ -251,6 +248,53 @@ fn frames_of(entries: &[Entry]) -> Option<u32> {
         }
     }
     if is_open { None } else { Some(frames) }
+}
+
+/// A call that is a misuse where there is no view.
+fn misuse<R: Wait>(rt: &R, stage: &Stage, seat: &mut SessionSeat) -> Result<Reply, NoMemory>
+    requires own { seat.old.stage ≡ stage.now }
+    requires may { MayRead 101 seat.old }
+    ensures own { seat.new.stage ≡ seat.old.stage }
+    ensures may { MayRead 100 seat.new }
+{
+    seat.call(rt, stage, 1, Line::Call(Call::ReleaseView))
+}
+
+#[test]
+fn a_misuse_closes_its_own_seat_alone(rt: HostRuntime) -> Result<(), Fail> {
+    let alloc = rt.alloc();
+    let (stage, compositor, mut seats) = Stage::new(alloc, opened(alloc)?)?;
+    let mut first = seats.take(SessionNo(1)).ok_or("no seat")?;
+    let mut second = seats.take(SessionNo(2)).ok_or("no seat")?;
+    let closing = misuse(&rt, &stage, &mut second)?;
+    let after = poll(&rt, &stage, &mut second, 2, 99)?;
+    assert_eq!(rt;
+        [closing, after],
+        [
+            Reply::Closed(Some(FlatlandError::BadOperation), Some(Reason::NoView)),
+            Reply::Closed(None, None)
+        ]
+    );
+    let presented = present(&rt, alloc, &stage, &mut first, 100)?;
+    let _compositor = make_frame(&rt, &stage, compositor, 0, 9);
+    let polled = poll(&rt, &stage, &mut first, 2, 99)?;
+    assert_eq!(rt;
+        [presented, polled],
+        [
+            Reply::Presented {
+                number: 1,
+                credits: 0
+            },
+            Reply::Polled(2)
+        ]
+    );
+    let (events, none) = (first.events(), first.events());
+    assert_eq!(rt;
+        events.as_slice(),
+        [Event::Credits(5), Event::FramePresented(1)].as_slice()
+    );
+    assert!(rt; none.is_empty());
+    Ok(())
 }
 
 #[test]
