@@ -1,3 +1,4 @@
 pub mod Driving
 pub mod Losses
 pub mod Showing
+mod SmallLosses

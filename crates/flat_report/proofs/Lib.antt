@@ -8,6 +8,7 @@ pub mod PageLemmas
 pub mod Reading
 pub mod SeenTold
 pub mod Sheets
+mod SmallHanded
 pub mod Tails
 pub mod Turns
 pub mod WholeReport

@@ -1,8 +1,8 @@
 -- The report, entry by entry.
-use Rattle.std.proofs.Common.{◌≡◌, ◌≤◌, ◌<◌, ◌^◌, ℕ, zero, suc, ◌+◌, cond, Bool, true, false, ◌==◌, List, [], ◌∷◌, ◌++◌, filter, take, take_while, drop, length, reverse, get_or, refl, sym, ap, ◌∙◌, subst, arith, append-nil, append_assoc, add-one, length-take, length-append, codes, map}
+use Rattle.std.proofs.Common.{◌≡◌, ◌≤◌, ◌<◌, ◌^◌, ℕ, zero, suc, ◌+◌, cond, Bool, true, false, ◌==◌, List, [], ◌∷◌, ◌++◌, filter, take, take_while, drop, length, reverse, get_or, refl, sym, ap, ◌∙◌, subst, arith, append-nil, append_assoc, add-one, length-append, codes, map}
 use Rattle.std.specs.List.{flat_map, zip}
 use Rattle.std.proofs.Math.Seq.{drop-cons, take-append_seam, drop-append_seam}
-use Rattle.std.proofs.lemmas.List.{take_all, length-reverse}
+use Rattle.std.proofs.lemmas.List.{length-reverse}
 use Rattle.flat_scene.specs.declared.frames.FrameOut.{FrameOut}
 use Rattle.flat_scene.specs.declared.frames.Lost.{Lost}
 use Rattle.flat_scene.specs.declared.journal.Entry.{Entry}
@@ -15,7 +15,7 @@ use Rattle.flat_rules.specs.Posts.{posts}
 use Rattle.flat_script.specs.declared.script.Script.{Script}
 use Rattle.flat_report.specs.declared.page.Page.{Page}
 use Rattle.flat_report.specs.declared.report.HitAnswer.{HitAnswer}
-use Rattle.flat_report.specs.Handed.{answers_of, frames_after, answers_after, first_posts, handed_lines, handed_entries, handed_report_lines, handed_report}
+use Rattle.flat_report.specs.Handed.{answers_of, frames_after, answers_after, first_posts, handed_lines, handed_entries, handed_report_lines}
 use Rattle.flat_report.specs.Laws.{HandedIsReport}
 use Rattle.flat_report.specs.Pages.{WritesLines}
 use Rattle.flat_report.specs.Report.{frame_at, finished, history_lines, entry_lines, seen_line, probe_lines, probe_lines_of, numbers_from}
