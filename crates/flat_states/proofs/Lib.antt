@@ -17,6 +17,7 @@ pub mod LowDrafts
 pub mod LowTrees
 pub mod Marks
 pub mod NewTies
+pub mod NotedPairs
 pub mod Ones
 pub mod Opened
 pub mod PairIdle

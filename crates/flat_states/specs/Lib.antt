@@ -6,6 +6,7 @@ pub mod Kept
 pub mod Lives
 pub mod Logs
 pub mod Machines
+pub mod Noted
 pub mod Presents
 pub mod Seen
 pub mod Usage

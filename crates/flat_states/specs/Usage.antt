@@ -50,6 +50,11 @@ pub record SeesUses (uses : List ViewportUse) (old new : List PairState) : Type 
 abbrev pub settled : PairState → PairState
 settled state = record state { seen = state.pending }
 
+-- The states of all pairs after that of one.
+pub record SettlesOne (p : PairNo) (old new : List PairState) : Type 0 where
+  pub count : length new ≡ length old
+  pub each : (i : ℕ) (d : PairState) → i < length old → slice_index_or new i d ≡ cond (p.0 == i) (settled (slice_index_or old i d)) (slice_index_or old i d)
+
 -- The states of all pairs after that.
 pub record SettlesPairs (old new : List PairState) : Type 0 where
   pub count : length new ≡ length old

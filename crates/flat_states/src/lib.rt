@@ -13,6 +13,7 @@ pub mod ends;
 pub mod following;
 pub mod live;
 pub mod log;
+pub mod noted;
 pub mod pairs;
 pub mod state;
 pub mod ties;

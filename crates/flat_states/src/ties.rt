@@ -9,12 +9,11 @@ ghost use Rattle.flat_states.specs.Following.{AreTied, IsBegun, IsOwnEntry, Uses
 ghost use Rattle.flat_rules.specs.Legal.{Legal};
 ghost use Rattle.flat_states.specs.Usage.{IsUse, NotesCalls, SeesUses, uses_if};
 
-use crate::clears::note_clears;
 use crate::following::{Following, Sight};
 use crate::live::Live;
-use crate::pairs::{PairState, note_views};
+use crate::noted::PairStates;
 use crate::state::SessionState;
-use crate::usage::{count_contents, see_uses, settle_pairs, use_pair};
+use crate::usage::count_contents;
 use flat_base::{NoMemory, PairNo, SessionNo};
 use flat_scene::{Call, Setup, ViewportProps};
 use flat_topology::Shown;
@@ -33,16 +32,6 @@ const NEW_FOLLOWING: Following = Following {
     contents: 0,
     begun: NOTHING,
     finished: NOTHING,
-};
-
-const NEW_PAIR: PairState = PairState {
-    ended: None,
-    uses: 0,
-    cleared: None,
-    serial: 0,
-    given: None,
-    seen: None,
-    pending: None,
 };
 
 /// What the begin of a frame sees of a session.
@@ -66,7 +55,7 @@ fn see_session(setup: &Setup, shown: &Shown, state: &SessionState, s: SessionNo)
 }
 
 /// A frame that begins has what is shown of a session, if it took something from it.
-fn see_taken(pairs: &mut Vec<PairState>, shown: &Shown, s: SessionNo, took: bool)
+fn see_taken(pairs: &mut PairStates, shown: &Shown, s: SessionNo, took: bool)
     requires some { 0 < s.0 }
     requires few { s.0 ≤ length shown.now }
     ensures { SeesUses (uses_if took (state_of shown.now s.0)) pairs.old.items pairs.new.items }
@@ -75,7 +64,7 @@ fn see_taken(pairs: &mut Vec<PairState>, shown: &Shown, s: SessionNo, took: bool
         return;
     }
     match shown.state(s) {
-        Some(state) => see_uses(pairs, state.viewports().as_slice()),
+        Some(state) => pairs.see_uses(state.viewports().as_slice()),
         None => {}
     }
 }
@@ -86,7 +75,7 @@ fn see_taken(pairs: &mut Vec<PairState>, shown: &Shown, s: SessionNo, took: bool
 pub struct Ties {
     /// The sessions, the first of them session 1.
     pub followings: Vec<Following>,
-    pub pairs: Vec<PairState>,
+    pub pairs: PairStates,
 }
 
 impl Ties {
@@ -95,7 +84,7 @@ impl Ties {
         ensures { IfOk result (λ ties. AreTied setup.now [] ties.followings.items ties.pairs.items) }
     {
         let followings = Vec::from_elem(alloc, NEW_FOLLOWING, setup.sessions as usize)?;
-        let pairs = Vec::from_elem(alloc, NEW_PAIR, setup.pairs.len())?;
+        let pairs = PairStates::new(alloc, setup.pairs.len())?;
         Ok(Ties { followings, pairs })
     }
 
@@ -129,7 +118,7 @@ impl Ties {
         ensures tied { (setup : Setup) (h : List Entry) (e : Entry) → IsOwnEntry setup h e s calls.now presents live.now → IsUse e p props → length h < 2 ^ 32 - 1 → AreTied setup h self.old.followings.items self.old.pairs.items → AreTied setup (h ▹ e) self.new.followings.items self.new.pairs.items }
     {
         let serial = self.note_calls(s, calls, presents, live);
-        use_pair(&mut self.pairs, p, serial, props);
+        self.pairs.use_pair(p, serial, props);
     }
 
     /// Notes the begin of a frame, after it took what it takes: what it sees of each
@@ -156,7 +145,8 @@ impl Ties {
     }
 
     /// Notes the end of a frame: what its begin saw is that of the last finished
-    /// frame from now on. It takes no memory.
+    /// frame from now on. Of the pairs it looks at those that the begin noted. It takes
+    /// no memory.
     pub fn finish(&mut self, setup: &Setup)
         requires { length self.old.followings.items ≡ setup.now.sessions }
         ensures sessions { length self.new.followings.items ≡ length self.old.followings.items }
@@ -167,7 +157,7 @@ impl Ties {
             let one = &mut self.followings[i as usize];
             one.finished = one.begun;
         }
-        settle_pairs(&mut self.pairs);
+        self.pairs.settle();
     }
 
     /// The same but for uses. Answers how many contents the session's calls made.
@@ -178,8 +168,7 @@ impl Ties {
     {
         let place = s.0 as usize - 1;
         let old = self.followings[place];
-        let view = note_views(self.pairs.as_mut_slice(), old.view, calls, presents);
-        note_clears(self.pairs.as_mut_slice(), live, calls, presents);
+        let view = self.pairs.note(old.view, calls, presents, live);
         let contents = count_contents(old.contents, calls);
         self.followings[place] = Following {
             view,

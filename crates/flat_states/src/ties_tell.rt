@@ -64,7 +64,7 @@ impl Ties {
         ensures { (h : List Entry) → AreTied setup.now h self.now.followings.items self.now.pairs.items → Legal setup.now h → result ≡ is_viewport_lost setup.now (to_finished h) p }
     {
         match setup.pairs.at(p.0 as usize).viewport {
-            Actor::Session(v) => is_lost(self.last_sight(v), self.pairs[p.0 as usize].cleared),
+            Actor::Session(v) => is_lost(self.last_sight(v), self.pairs.state(p).cleared),
             _ => false,
         }
     }
@@ -78,7 +78,7 @@ impl Ties {
         is_viewed
             && match setup.pairs.at(p.0 as usize).viewport {
                 Actor::Display => true,
-                _ => 0 < self.pairs[p.0 as usize].uses,
+                _ => 0 < self.pairs.state(p).uses,
             }
     }
 
@@ -100,7 +100,7 @@ impl Ties {
                 },
             }),
             Actor::Session(_) => {
-                let state = self.pairs[p.0 as usize];
+                let state = self.pairs.state(p);
                 latest(state.seen, state.given)
             }
             Actor::Probe(_) => None,
@@ -142,7 +142,7 @@ impl Ties {
     {
         let owner = self.last_sight(setup.pairs.at(p.0 as usize).view);
         child_by(
-            is_lost(owner, self.pairs[p.0 as usize].ended),
+            is_lost(owner, self.pairs.state(p).ended),
             is_pair(owner.view, p),
         )
     }

@@ -1,7 +1,8 @@
-ghost use Rattle.std.specs.Prelude.{◌≡◌, ℕ, ◌+◌, Some, [], ◌∷◌, length};
+ghost use Rattle.std.specs.Prelude.{◌≡◌, ℕ, ◌+◌, Some, [], ◌∷◌, length, false};
 ghost use Rattle.flat_states.specs.Following.{capped};
 ghost use Rattle.flat_rules.specs.Serials.{makes_content, contents_made};
-ghost use Rattle.flat_states.specs.Usage.{SettlesPairs, UsesPair, SeesUses};
+ghost use Rattle.flat_states.specs.Noted.{AreNoted, KeepsOthers};
+ghost use Rattle.flat_states.specs.Usage.{SettlesOne, SettlesPairs, UsesPair, SeesUses};
 
 use crate::pairs::PairState;
 use flat_base::PairNo;
@@ -50,8 +51,9 @@ pub fn use_pair(pairs: &mut Vec<PairState>, p: PairNo, serial: u64, props: Viewp
 }
 
 /// A frame that begins has this viewport.
-fn see_use(pairs: &mut Vec<PairState>, one: &ViewportUse)
-    ensures { SeesUses (one.now ∷ []) pairs.old.items pairs.new.items }
+pub fn see_use(pairs: &mut Vec<PairState>, one: &ViewportUse)
+    ensures sees { SeesUses (one.now ∷ []) pairs.old.items pairs.new.items }
+    ensures others { KeepsOthers one.now.pair pairs.old.items pairs.new.items }
 {
     let place = one.pair.0 as usize;
     if place < pairs.len() {
@@ -62,21 +64,46 @@ fn see_use(pairs: &mut Vec<PairState>, one: &ViewportUse)
     }
 }
 
-/// A frame that begins has these viewports.
-pub fn see_uses(pairs: &mut Vec<PairState>, uses: &[ViewportUse])
-    ensures { SeesUses uses.now pairs.old.items pairs.new.items }
-{
-    for one in uses {
-        see_use(pairs, one);
-    }
-}
-
 /// The frame begun last ends: what was pending is seen.
-pub fn settle_pairs(pairs: &mut Vec<PairState>)
+fn settle_all(pairs: &mut Vec<PairState>)
     ensures { SettlesPairs pairs.old.items pairs.new.items }
 {
     for place in 0..pairs.len() {
         let state = &mut pairs[place];
         state.seen = state.pending;
+    }
+}
+
+/// The same for one pair.
+fn settle_one(pairs: &mut Vec<PairState>, p: PairNo)
+    ensures { SettlesOne p pairs.old.items pairs.new.items }
+{
+    let place = p.0 as usize;
+    if place < pairs.len() {
+        let pending = pairs[place].pending;
+        pairs[place].seen = pending;
+    }
+}
+
+/// The same for the pairs of a list, where in all others what is pending is seen.
+fn settle_noted(pairs: &mut Vec<PairState>, noted: &[PairNo])
+    requires { AreNoted false noted.now pairs.old.items }
+    ensures { SettlesPairs pairs.old.items pairs.new.items }
+{
+    for p in noted {
+        settle_one(pairs, *p);
+    }
+}
+
+/// The same. Only where more pairs were noted than the list has room for, it looks
+/// at others.
+pub fn settle_pairs(pairs: &mut Vec<PairState>, overflows: bool, noted: &[PairNo])
+    requires { AreNoted overflows noted.now pairs.old.items }
+    ensures { SettlesPairs pairs.old.items pairs.new.items }
+{
+    if overflows {
+        settle_all(pairs);
+    } else {
+        settle_noted(pairs, noted);
     }
 }

@@ -30,6 +30,6 @@ pub returns-clause-tied : goal.returns-clause-tied
 returns-clause-tied c h line legal tied =
     let inv = c.loop-i.invariant in
     let all : c.loop-i.i ≡ c.args.setup.now.sessions = omega (arith, c.loop-i.auto.i-end, c.loop-i-test.false) in
-    let settles = subst (λ (pairs : List PairState). SettlesPairs pairs c.settle_pairs.new.pairs.items) inv.pairs c.settle_pairs.ensures in
-    tied-finished c.args.setup.now h line legal c.args.self.now.followings.items c.loop-i.self.followings.items c.args.self.now.pairs.items c.settle_pairs.new.pairs.items tied inv.count
+    let settles = subst (λ (pairs : List PairState). SettlesPairs pairs c.settle.new.self.items) inv.pairs c.settle.ensures in
+    tied-finished c.args.setup.now h line legal c.args.self.now.followings.items c.loop-i.self.followings.items c.args.self.now.pairs.items c.settle.new.self.items tied inv.count
     (subst (λ (n : ℕ). AllNumbered (FollowedUpTo c.args.setup.now h (finished h line) n) c.loop-i.self.followings.items) all (inv.followed h line legal tied)) settles

@@ -1,7 +1,7 @@
 use Rattle.std.proofs.Common.{◌<◌, ◌≤◌, ◌∙◌, refl, length, arith}
 use Rattle.std.proofs.lemmas.List.{length-set}
 use Rattle.flat_states.proofs.UsageSteps.{settled-all, settled-more, settled-none}
-use Rattle.flat_states.proofs.usage.settle_pairs.Goals as goal
+use Rattle.flat_states.proofs.usage.settle_all.Goals as goal
 
 pub loop-place-init : goal.loop-place-init
 loop-place-init c = record { count = refl; each = settled-none c.args.pairs.now.items }

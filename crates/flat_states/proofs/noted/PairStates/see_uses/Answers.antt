@@ -3,7 +3,7 @@ use Rattle.flat_scene.specs.declared.trees.ViewportUse.{ViewportUse}
 use Rattle.flat_states.specs.Usage.{SeesUses}
 use Rattle.flat_states.proofs.Marks.{drop-is, drop-end}
 use Rattle.flat_states.proofs.UsageSteps.{sees-more, sees-none}
-use Rattle.flat_states.proofs.usage.see_uses.Goals as goal
+use Rattle.flat_states.proofs.noted.PairStates.see_uses.Goals as goal
 
 pub loop-one-preserved : goal.loop-one-preserved
 loop-one-preserved c last later =
@@ -14,9 +14,9 @@ loop-one-preserved c last later =
     let rest : List ViewportUse = drop (i + 1) uses in
     let is : drop i uses ≡ one ∷ rest = drop-is uses i none c.loop-one-test.true in
     c.loop-one.invariant last
-    (subst (λ (l : List ViewportUse). SeesUses l c.loop-one.pairs.items last) (sym is) (sees-more one rest c.loop-one.pairs.items c.see_use.new.pairs.items last c.see_use.ensures later))
+    (subst (λ (l : List ViewportUse). SeesUses l c.loop-one.self.items last) (sym is) (sees-more one rest c.loop-one.self.items c.see_use.new.self.items last c.see_use.ensures later))
 
 pub returns : goal.returns
 returns c =
     let none : drop c.loop-one.one-index c.args.uses.now ≡ [] = drop-end c.args.uses.now c.loop-one.one-index c.loop-one-test.false in
-    c.loop-one.invariant c.loop-one.pairs.items (subst (λ (l : List ViewportUse). SeesUses l c.loop-one.pairs.items c.loop-one.pairs.items) (sym none) (sees-none c.loop-one.pairs.items))
+    c.loop-one.invariant c.loop-one.self.items (subst (λ (l : List ViewportUse). SeesUses l c.loop-one.self.items c.loop-one.self.items) (sym none) (sees-none c.loop-one.self.items))

@@ -1,7 +1,7 @@
 use Rattle.std.proofs.Common.{◌≡◌, length}
 use Rattle.flat_rules.specs.Numbers.{AllNumbered}
 use Rattle.flat_states.proofs.UsageSteps.{IsSettledUpTo}
-use Rattle.flat_states.proofs.usage.settle_pairs.Given as goal
+use Rattle.flat_states.proofs.usage.settle_all.Given as goal
 
 abbrev pub invariant-loop-place : goal.invariant-loop-place
 invariant-loop-place l = record {

@@ -1,0 +1,92 @@
+-- Which pairs the end of a frame looks at.
+use Rattle.std.proofs.Common.{◌≡◌, ◌∙◌, sym, subst, ℕ, zero, suc, ◌+◌, ◌<◌, Bool, true, false, List, [], ◌∷◌, ◌++◌, length, replicate, refl, arith, ap, None, slice_index_or}
+use Rattle.std.specs.Prelude.{Option, cond, ◌==◌, ◌||◌}
+use Rattle.std.proofs.lemmas.List.{get_or-replicate, length-replicate}
+use Rattle.flat_base.specs.declared.ids.PairNo.{PairNo}
+use Rattle.flat_scene.specs.declared.calls.Call.{Call}
+use Rattle.flat_scene.specs.declared.calls.ViewportProps.{ViewportProps}
+use Rattle.flat_scene.specs.declared.trees.ViewportUse.{ViewportUse}
+use Rattle.flat_states.specs.declared.live.Live.{Live}
+use Rattle.flat_states.specs.declared.pairs.PairState.{PairState}
+use Rattle.flat_states.specs.Clears.{ClearsLive, clears_pair, cleared_if}
+use Rattle.flat_states.specs.Views.{EndsViews}
+use Rattle.flat_states.specs.Noted.{AreNoted, KeepsOthers, ListsPair, NotesPairs, is_noted, new_pair}
+use Rattle.flat_states.specs.Usage.{SeesUses, SettlesOne, SettlesPairs, UsesPair, settled, used_by}
+
+-- an example
+second-noted : is_noted 2 (record { 0 = 1 } ∷ record { 0 = 2 } ∷ []) ≡ true
+second-noted = refl
+
+third-not : is_noted 3 (record { 0 = 1 } ∷ record { 0 = 2 } ∷ []) ≡ false
+third-not = refl
+
+-- ---- tests
+
+or-left : (a b : Bool) → (a || b) ≡ false → a ≡ false
+or-left false b h = refl
+or-left true b h = h
+
+or-right : (a b : Bool) → (a || b) ≡ false → b ≡ false
+or-right false b h = h
+or-right true b h = let wrong : true ≡ false = h in cc
+
+or-none : (a b : Bool) → a ≡ false → b ≡ false → (a || b) ≡ false
+or-none false b h k = k
+or-none true b h k = h
+
+-- ---- the list
+
+noted-before : (i : ℕ) (ps : List PairNo) (p : PairNo) → is_noted i (ps ++ p ∷ []) ≡ false → is_noted i ps ≡ false
+noted-before i [] p h = refl
+noted-before i (q ∷ ps) p h = or-none (q.0 == i) (is_noted i ps) (or-left (q.0 == i) (is_noted i (ps ++ p ∷ [])) h) (noted-before i ps p (or-right (q.0 == i) (is_noted i (ps ++ p ∷ [])) h))
+
+noted-last : (i : ℕ) (ps : List PairNo) (p : PairNo) → is_noted i (ps ++ p ∷ []) ≡ false → (p.0 == i) ≡ false
+noted-last i [] p h = or-left (p.0 == i) false h
+noted-last i (q ∷ ps) p h = noted-last i ps p (or-right (q.0 == i) (is_noted i (ps ++ p ∷ [])) h)
+
+-- a pair is put onto the list
+pub lists-pushed : (p : PairNo) (over : Bool) (old new : List PairNo) → new ≡ old ++ p ∷ [] → ListsPair p over over old new
+lists-pushed p over old new is i h =
+    let none : is_noted i (old ++ p ∷ []) ≡ false = ap (is_noted i) (sym is) ∙ or-right over (is_noted i new) h in
+    (or-none over (is_noted i old) (or-left over (is_noted i new) h) (noted-before i old p none), noted-last i old p none)
+
+-- ---- the listed pairs, one after another
+
+-- The pairs that are still to come are these; all others are settled, and each is so in what was settled of it or in what it was.
+pub record SettledBut (left : List PairNo) (old now : List PairState) : Type 0 where
+  pub count : length now ≡ length old
+  pub each : (i : ℕ) (d : PairState) → i < length old → is_noted i left ≡ false → slice_index_or now i d ≡ settled (slice_index_or old i d)
+  pub again : (i : ℕ) (d : PairState) → i < length old → settled (slice_index_or now i d) ≡ settled (slice_index_or old i d)
+
+as-settled : (x : PairState) → x.pending ≡ x.seen → x ≡ settled x
+as-settled x same = ap (λ (o : Option ViewportProps). let y : PairState = record x { seen = o } in y) (sym same)
+
+pub settled-start : (noted : List PairNo) (old : List PairState) → AreNoted false noted old → SettledBut noted old old
+settled-start noted old kept = record {
+  count = refl;
+  each = λ i d below none. as-settled (slice_index_or old i d) (kept i d below none);
+  again = λ i d below. refl;
+}
+
+pub settled-on : (p : PairNo) (left : List PairNo) (old now next : List PairState) → SettlesOne p now next → SettledBut (p ∷ left) old now → SettledBut left old next
+settled-on p left old now next one so_far = record {
+  count = one.count ∙ so_far.count;
+  each = λ i d below none.
+      let within : i < length now = omega (arith, below, so_far.count) in
+      by_place (slice_index_or old i d) (slice_index_or now i d) (slice_index_or next i d) (p.0 == i) (one.each i d within) (so_far.again i d below)
+      (λ other. so_far.each i d below (or-none (p.0 == i) (is_noted i left) other none));
+  again = λ i d below.
+      let within : i < length now = omega (arith, below, so_far.count) in
+      again_by (slice_index_or old i d) (slice_index_or now i d) (slice_index_or next i d) (p.0 == i) (one.each i d within) (so_far.again i d below);
+}
+  where
+    by_place : (was now next : PairState) (b : Bool) → next ≡ cond b (settled now) now → settled now ≡ settled was → (b ≡ false → now ≡ settled was) → next ≡ settled was
+    by_place was now next true is again each = is ∙ again
+    by_place was now next false is again each = is ∙ each refl
+
+    again_by : (was now next : PairState) (b : Bool) → next ≡ cond b (settled now) now → settled now ≡ settled was → settled next ≡ settled was
+    again_by was now next true is again = ap settled is ∙ again
+    again_by was now next false is again = ap settled is ∙ again
+
+pub settled-end : (old now : List PairState) → SettledBut [] old now → SettlesPairs old now
+settled-end old now so_far = record { count = so_far.count; each = λ i d below. so_far.each i d below refl }
