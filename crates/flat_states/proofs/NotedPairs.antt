@@ -1,17 +1,11 @@
 -- Which pairs the end of a frame looks at.
-use Rattle.std.proofs.Common.{◌≡◌, ◌∙◌, sym, subst, ℕ, zero, suc, ◌+◌, ◌<◌, Bool, true, false, List, [], ◌∷◌, ◌++◌, length, replicate, refl, arith, ap, None, slice_index_or}
+use Rattle.std.proofs.Common.{◌≡◌, ◌∙◌, sym, ℕ, ◌<◌, Bool, true, false, List, [], ◌∷◌, ◌++◌, length, refl, arith, ap, slice_index_or}
 use Rattle.std.specs.Prelude.{Option, cond, ◌==◌, ◌||◌}
-use Rattle.std.proofs.lemmas.List.{get_or-replicate, length-replicate}
 use Rattle.flat_base.specs.declared.ids.PairNo.{PairNo}
-use Rattle.flat_scene.specs.declared.calls.Call.{Call}
 use Rattle.flat_scene.specs.declared.calls.ViewportProps.{ViewportProps}
-use Rattle.flat_scene.specs.declared.trees.ViewportUse.{ViewportUse}
-use Rattle.flat_states.specs.declared.live.Live.{Live}
 use Rattle.flat_states.specs.declared.pairs.PairState.{PairState}
-use Rattle.flat_states.specs.Clears.{ClearsLive, clears_pair, cleared_if}
-use Rattle.flat_states.specs.Views.{EndsViews}
-use Rattle.flat_states.specs.Noted.{AreNoted, KeepsOthers, ListsPair, NotesPairs, is_noted, new_pair}
-use Rattle.flat_states.specs.Usage.{SeesUses, SettlesOne, SettlesPairs, UsesPair, settled, used_by}
+use Rattle.flat_states.specs.Noted.{AreNoted, ListsPair, is_noted}
+use Rattle.flat_states.specs.Usage.{SettlesOne, SettlesPairs, settled}
 
 -- an example
 second-noted : is_noted 2 (record { 0 = 1 } ∷ record { 0 = 2 } ∷ []) ≡ true

@@ -1,5 +1,5 @@
 -- The board as contracts see it, what its calls ask for, and what is kept of it.
-use Rattle.std.specs.Prelude.{◌≡◌, IsTrue, ℕ, ◌+◌, ◌*◌, ◌<◌, ◌≤◌, ◌^◌, Bool, cond, ◌==◌, nat_lt, List, ◌++◌, length, count_by, sum, sum_by, slice_index}
+use Rattle.std.specs.Prelude.{◌≡◌, IsTrue, ℕ, ◌+◌, ◌*◌, ◌<◌, ◌≤◌, ◌^◌, Bool, cond, ◌==◌, nat_lt, List, ◌++◌, length, count_by, sum, slice_index}
 use Rattle.flat_base.specs.declared.ids.Actor.{Actor}
 use Rattle.flat_base.specs.declared.ids.FenceNo.{FenceNo}
 use Rattle.flat_base.specs.declared.ids.PairNo.{PairNo}
