@@ -5,7 +5,7 @@ ghost use Rattle.flat_stage_tests.specs.Room.{MayRead, MayBegin};
 use flat_base::{Actor, FlatlandError, Items, NoMemory, Reason, SessionNo, ShareList};
 use flat_core::Board;
 use flat_scene::{Call, Entry, Event, Kind, Line, PairDecl, PresentArgs, Reply, Setup};
-use flat_stage::{CompositorSeat, SessionSeat, Stage};
+use flat_stage::{CompositorSeat, SessionSeat, SessionSeats, Stage};
 use std::alloc::Global;
 use std::sync::Wait;
 use std::test::Fail;
@@ -250,6 +250,35 @@ fn frames_of(entries: &[Entry]) -> Option<u32> {
     if is_open { None } else { Some(frames) }
 }
 
+/// The seats of a new stage.
+#[derive(Drop)]
+struct Cast {
+    stage: Stage,
+    compositor: CompositorSeat,
+    seats: SessionSeats,
+    first: SessionSeat,
+    second: SessionSeat,
+}
+
+/// A stage, and its seats handed out.
+fn new_cast(alloc: Global) -> Result<Cast, Fail>
+    ensures seats { IfOk result (λ c. c.seats.stage ≡ c.stage) }
+    ensures compositor { IfOk result (λ c. (c.compositor.stage ≡ c.stage) × MayBegin 10 0 c.compositor) }
+    ensures first { IfOk result (λ c. (c.first.stage ≡ c.stage) × MayRead 101 c.first) }
+    ensures second { IfOk result (λ c. (c.second.stage ≡ c.stage) × MayRead 101 c.second) }
+{
+    let (stage, compositor, mut seats) = Stage::new(alloc, opened(alloc)?)?;
+    let first = seats.take(SessionNo(1)).ok_or("no seat")?;
+    let second = seats.take(SessionNo(2)).ok_or("no seat")?;
+    Ok(Cast {
+        stage,
+        compositor,
+        seats,
+        first,
+        second,
+    })
+}
+
 /// A call that is a misuse where there is no view.
 fn misuse<R: Wait>(rt: &R, stage: &Stage, seat: &mut SessionSeat) -> Result<Reply, NoMemory>
     requires own { seat.old.stage ≡ stage.now }
@@ -260,61 +289,98 @@ fn misuse<R: Wait>(rt: &R, stage: &Stage, seat: &mut SessionSeat) -> Result<Repl
     seat.call(rt, stage, 1, Line::Call(Call::ReleaseView))
 }
 
+/// The replies to a misuse and to the next line.
+fn misuse_and_poll<R: Wait>(
+    rt: &R,
+    stage: &Stage,
+    seat: &mut SessionSeat,
+) -> Result<[Reply; 2], NoMemory>
+    requires own { seat.old.stage ≡ stage.now }
+    requires may { MayRead 101 seat.old }
+{
+    let closing = misuse(rt, stage, seat)?;
+    let after = poll(rt, stage, seat, 2, 99)?;
+    Ok([closing, after])
+}
+
+/// The replies to a present, and to a poll after its frame.
+fn present_and_poll<R: Wait>(
+    rt: &R,
+    alloc: Global,
+    stage: &Stage,
+    seat: &mut SessionSeat,
+    compositor: CompositorSeat,
+) -> Result<[Reply; 2], NoMemory>
+    requires compositor { (compositor.stage ≡ stage.now) × MayBegin 10 0 compositor }
+    requires own { seat.old.stage ≡ stage.now }
+    requires may { MayRead 101 seat.old }
+{
+    let presented = present(rt, alloc, stage, seat, 100)?;
+    let _compositor = make_frame(rt, stage, compositor, 0, 9);
+    let polled = poll(rt, stage, seat, 2, 99)?;
+    Ok([presented, polled])
+}
+
 #[test]
 fn a_misuse_closes_its_own_seat_alone(rt: HostRuntime) -> Result<(), Fail> {
     let alloc = rt.alloc();
-    let (stage, compositor, mut seats) = Stage::new(alloc, opened(alloc)?)?;
-    let mut first = seats.take(SessionNo(1)).ok_or("no seat")?;
-    let mut second = seats.take(SessionNo(2)).ok_or("no seat")?;
-    let closing = misuse(&rt, &stage, &mut second)?;
-    let after = poll(&rt, &stage, &mut second, 2, 99)?;
-    assert_eq!(rt;
-        [closing, after],
-        [
-            Reply::Closed(Some(FlatlandError::BadOperation), Some(Reason::NoView)),
-            Reply::Closed(None, None)
-        ]
-    );
-    let presented = present(&rt, alloc, &stage, &mut first, 100)?;
-    let _compositor = make_frame(&rt, &stage, compositor, 0, 9);
-    let polled = poll(&rt, &stage, &mut first, 2, 99)?;
-    assert_eq!(rt;
-        [presented, polled],
-        [
-            Reply::Presented {
-                number: 1,
-                credits: 0
-            },
-            Reply::Polled(2)
-        ]
-    );
-    let (events, none) = (first.events(), first.events());
-    assert_eq!(rt;
-        events.as_slice(),
-        [Event::Credits(5), Event::FramePresented(1)].as_slice()
-    );
-    assert!(rt; none.is_empty());
+    let Cast {
+        stage,
+        compositor,
+        seats: _,
+        mut first,
+        mut second,
+    } = new_cast(alloc)?;
+    let misused = misuse_and_poll(&rt, &stage, &mut second)?;
+    let played = present_and_poll(&rt, alloc, &stage, &mut first, compositor)?;
+    let events = first.events();
+    let no_view = Reply::Closed(Some(FlatlandError::BadOperation), Some(Reason::NoView));
+    assert!(rt; misused == [no_view, Reply::Closed(None, None)]);
+    let presented = Reply::Presented {
+        number: 1,
+        credits: 0,
+    };
+    assert!(rt; played == [presented, Reply::Polled(2)]);
+    let told = [Event::Credits(5), Event::FramePresented(1)];
+    assert!(rt; events.as_slice() == told.as_slice() && first.events().is_empty());
     Ok(())
+}
+
+/// The board that a stage leaves, once both sessions and all frames are done.
+fn run<R: Threads + Wait + Sync>(rt: &R, alloc: Global, cast: Cast) -> Result<Board, Fail>
+    requires seats { cast.seats.stage ≡ cast.stage }
+    requires compositor { (cast.compositor.stage ≡ cast.stage) × MayBegin 10 0 cast.compositor }
+    requires first { (cast.first.stage ≡ cast.stage) × MayRead 101 cast.first }
+    requires second { (cast.second.stage ≡ cast.stage) × MayRead 101 cast.second }
+{
+    let Cast {
+        stage,
+        compositor,
+        mut seats,
+        first,
+        second,
+    } = cast;
+    let (compositor, both) = run_all(rt, alloc, &stage, compositor, first, second);
+    seats.put(both.0?);
+    seats.put(both.1?);
+    if !seats.all_home() {
+        return Err("a seat is away".into());
+    }
+    Ok(stage.close(compositor, seats))
 }
 
 #[test]
 fn seats_on_two_threads(rt: HostRuntime) -> Result<(), Fail> {
     let alloc = rt.alloc();
-    let (stage, compositor, mut seats) = Stage::new(alloc, opened(alloc)?)?;
-    let first = seats.take(SessionNo(1)).ok_or("no seat")?;
-    let second = seats.take(SessionNo(2)).ok_or("no seat")?;
-    assert!(rt; seats.take(SessionNo(2)).is_none(), "a seat taken twice");
-    let (compositor, (first, second)) = run_all(&rt, alloc, &stage, compositor, first, second);
-    seats.put(first?);
-    seats.put(second?);
-    assert!(rt; seats.all_home());
-    let board = stage.close(compositor, seats);
-    let entries = board.journal().entries.as_slice();
-    assert_eq!(rt; entries.len(), 222);
-    let polls = [SessionNo(1), SessionNo(2)].map(|s| polls_of(entries, Actor::Session(s)));
-    assert_eq!(rt;
-        (frames_of(entries), polls),
-        (Some(10), [Some(POLLS), Some(POLLS)])
+    let mut cast = new_cast(alloc)?;
+    assert!(rt;
+        cast.seats.take(SessionNo(2)).is_none(),
+        "a seat taken twice"
     );
+    let board = run(&rt, alloc, cast)?;
+    let entries = board.journal().entries.as_slice();
+    assert!(rt; entries.len() == 222 && frames_of(entries) == Some(10));
+    assert!(rt; polls_of(entries, Actor::Session(SessionNo(1))) == Some(POLLS));
+    assert!(rt; polls_of(entries, Actor::Session(SessionNo(2))) == Some(POLLS));
     Ok(())
 }
