@@ -1,5 +1,5 @@
 -- A session has no more events that it hasn't read than there are entries: each get answers once, each viewport's token comes back once, and the begin and the end of a frame tell one thing more.
-use Rattle.std.proofs.Common.{◌≡◌, ◌∙◌, sym, ℕ, zero, suc, ◌+◌, ◌-◌, ◌<◌, ◌≤◌, Bool, true, false, List, [], ◌∷◌, ◌++◌, drop, length, length-append, filter, replicate, refl, arith, ap, Some, None}
+use Rattle.std.proofs.Common.{◌≡◌, ◌∙◌, ℕ, suc, ◌+◌, ◌-◌, ◌<◌, ◌≤◌, Bool, true, false, List, [], ◌∷◌, ◌++◌, drop, length, length-append, filter, replicate, refl, arith, ap, Some, None}
 use Rattle.std.specs.Prelude.{Option, cond, not, nat_lt, ◌&&◌, ◌==◌, flat_map}
 use Rattle.std.specs.List.{list_all}
 use Rattle.std.proofs.lemmas.List.{length-replicate}

@@ -116,16 +116,6 @@ unread-posts setup (h ▹ e) s some few =
 few-for : (s : SessionNo) (ps : List Post) → length (events_for s ps) ≤ length ps
 few-for s ps = rw length-map (rw (length-filter (λ (post : Post). post.session.0 == s.0) ps) (count_by-le-length (λ (post : Post). post.session.0 == s.0) ps))
 
--- there are no more of them than posts
-pub unread-few : (setup : Setup) (h : List Entry) (s : SessionNo) → 0 < s.0 → s.0 ≤ setup.sessions → unread setup s h ≤ length (posts setup h)
-unread-few setup h s some few =
-    omega (
-      arith,
-      ap (length {A = Event}) (unread-posts setup h s some few),
-      few-for s (drop (polled_at setup h s) (posts setup h)),
-      length-drop (polled_at setup h s) (posts setup h),
-    )
-
 pub seen-polled : (setup : Setup) (h : List Entry) (s : SessionNo) (line : ℕ) (carries : List Call) (n : ℕ)
     → seen_of setup (h ▹ entry_of (Session s) line carries Poll (Polled n)) s ≡ record (seen_of setup h s) { account = noted carries (record (account_of setup h s) { polled = length (posts setup h) }) }
 seen-polled setup h s line carries n =
