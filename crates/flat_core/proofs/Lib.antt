@@ -1,5 +1,6 @@
 pub mod Alone
 pub mod BeginSteps
+pub mod FewEvents
 pub mod FinishEvents
 pub mod GetCalls
 pub mod GetExamples

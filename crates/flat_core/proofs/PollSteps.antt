@@ -1,10 +1,23 @@
 -- A poll of the board.
-use Rattle.std.proofs.Common.{◌≡◌, ℕ, ◌+◌, ◌-◌, ◌*◌, ◌<◌, ◌≤◌, ◌^◌, Bool, List, ◌++◌, length, arith, sym, ◌∙◌, ap, drop, slice_index_or}
-use Rattle.std.specs.Prelude.{sum}
+use Rattle.std.proofs.Common.{◌≡◌, ℕ, ◌-◌, ◌<◌, ◌≤◌, ◌^◌, Bool, false, List, [], ◌∷◌, ◌++◌, length, arith, ◌∙◌, ap, drop, slice_index_or}
+use Rattle.std.specs.Prelude.{IsTrue, sum, not}
+use Rattle.std.specs.List.{list_any}
+use Rattle.std.proofs.lemmas.Bool.{not-true}
+use Rattle.std.proofs.lemmas.List.{get_or_default}
 use Rattle.flat_base.specs.declared.ids.Actor.TheVariants.{Session}
 use Rattle.flat_base.specs.declared.ids.SessionNo.{SessionNo}
 use Rattle.flat_scene.specs.declared.calls.Call.{Call}
+use Rattle.flat_scene.specs.declared.journal.Entry.{Entry}
 use Rattle.flat_scene.specs.declared.journal.Event.{Event}
+use Rattle.flat_scene.specs.declared.setup.Setup.{Setup}
+use Rattle.flat_scene.specs.History.{is_closed, is_end, own}
+use Rattle.flat_scene.proofs.Together.{and-right}
+use Rattle.flat_gets.specs.declared.gets.Answered.{Answered}
+use Rattle.flat_gets.specs.declared.gets.Gets.{Gets}
+use Rattle.flat_gets.specs.Gets.{gets_made}
+use Rattle.flat_gets.specs.Watchers.{AreOwnGets, AreWatched}
+use Rattle.flat_rules.specs.Numbers.{number, AllNumbered}
+use Rattle.flat_core.proofs.FewEvents.{unread-short}
 use Rattle.flat_scene.specs.declared.journal.Kind.TheVariants.{Poll}
 use Rattle.flat_scene.specs.declared.journal.Post.{Post}
 use Rattle.flat_states.specs.declared.clock.Clock.{Clock}
@@ -12,14 +25,14 @@ use Rattle.flat_states.specs.declared.state.Account.{Account}
 use Rattle.flat_states.specs.declared.state.SessionState.{SessionState}
 use Rattle.flat_states.specs.Machines.{Machine, MayCall, Stands, HasRoom}
 use Rattle.flat_states.specs.Kept.{IsKept}
-use Rattle.flat_rules.specs.Legal.{unread, unread_events}
+use Rattle.flat_rules.specs.Legal.{answers, goes_on, unread, unread_events}
 use Rattle.flat_states.specs.Logs.{Logged}
 use Rattle.flat_core.specs.Polls.{events_for}
 use Rattle.flat_rules.specs.Posts.{posts}
 use Rattle.flat_states.specs.Seen.{seen_of}
-use Rattle.flat_states.proofs.Counts.{kept-session, declared-some}
+use Rattle.flat_states.proofs.Counts.{at-session, kept-session, declared-some}
 use Rattle.flat_states.proofs.Ones.{declared-of}
-use Rattle.flat_core.proofs.Polled.{polled-le, handed-over, handed-count, unread-few}
+use Rattle.flat_core.proofs.Polled.{polled-le, handed-over, handed-count}
 use Rattle.flat_states.proofs.Steps.{few-history}
 
 -- where the session's events begin is in the posts
@@ -38,12 +51,24 @@ pub record Handed (m : Machine) (s : SessionNo) (count : ℕ) (into list : List 
   pub small : count < 2 ^ 32
   pub place : length all ≡ length (posts m.setup m.history)
 
+-- a session has no more answers than gets were made
+told-few : (setup : Setup) (h : List Entry) (s : SessionNo) (gets : List Gets) → AllNumbered (λ i. AreOwnGets setup h (number i)) gets → 0 < s.0 → s.0 ≤ length gets → answers setup s h ≤ gets_made h
+told-few setup h s [] each some few = absurd (omega (arith, some, few))
+told-few setup h s (one ∷ more) each some few =
+    let at : s.0 - 1 < length (one ∷ more) = omega (arith, some, few) in
+    let own = at-session (AreOwnGets setup h) (one ∷ more) s (slice_index_or (one ∷ more) (s.0 - 1) one) each some few (get_or_default (one ∷ more) (s.0 - 1) one (slice_index_or (one ∷ more) (s.0 - 1) one) at) in
+    omega (arith, own.held.few, own.counted)
+
+-- a session that polls is open
+polls-open : (before : List Entry) (s : SessionNo) → IsTrue (goes_on before Poll (Session s)) → is_closed s before ≡ false
+polls-open before s goes = not-true (is_closed s before) (and-right (not (list_any (λ entry. is_end entry.kind) (own s before))) (not (is_closed s before)) goes)
+
 pub handed : (m : Machine) (s : SessionNo) (calls : List Call) → MayCall m (Session s) calls Poll
     → (clock : Clock) (fences views : List Bool) (sessions : List SessionState) (log : Logged) (owed : ℕ) {dues : ℕ} (state : SessionState) (all : List Post) (into list : List Event) (count : ℕ)
     → state ≡ slice_index_or sessions (s.0 - 1) state
     → log.history ≡ m.history → Stands m.setup log.history clock fences views sessions → HasRoom m.setup m.shares log owed dues → all ≡ log.posts
-    → list ≡ into ++ events_for s (drop state.account.polled all) → count ≡ length list - length into → Handed m s count into list all
-handed m s calls call clock fences views sessions log owed {dues} state all into list count is same stands room posted pushed counted =
+    → list ≡ into ++ events_for s (drop state.account.polled all) → count ≡ length list - length into → (gets : List Gets) (last : List Answered) → AreWatched m.setup m.history gets last → Handed m s count into list all
+handed m s calls call clock fences views sessions log owed {dues} state all into list count is same stands room posted pushed counted gets last watched =
     let old : Stands m.setup m.history clock fences views sessions = rw (← same) stands in
     let declared = declared-of m.setup Poll s call.may.acts in
     let here = declared-some s.0 m.setup.sessions declared in
@@ -51,12 +76,12 @@ handed m s calls call clock fences views sessions log owed {dues} state all into
     let all_posts : all ≡ posts m.setup m.history = posted ∙ rw (← same) room.posts in
     let events : list ≡ into ++ unread_events m.setup s m.history = handed-over m.setup m.history s into list state.account.polled all here.0 here.1 pushed (ap (λ (a : Account). a.polled) kept.account) all_posts in
     let as_many : count ≡ unread m.setup s m.history = counted ∙ handed-count m.setup m.history s into list events in
-    let small : length log.posts + owed ≤ 2 * length m.history = rw (← same) room.small in
-    let long : length log.posts ≡ length (posts m.setup m.history) = ap length (sym posted ∙ all_posts) in
+    let opened : is_closed s m.history ≡ false = polls-open m.history s call.may.lasts in
+    let told = told-few m.setup m.history s gets watched.each here.0 (omega (arith, here.1, watched.count)) in
     let few : length m.history < sum m.shares = few-history m (Session s) calls Poll call old.legal log owed dues same room in
     record {
       events = events;
       as_many = as_many;
-      small = omega (arith, as_many, unread-few m.setup m.history s here.0 here.1, small, long, few, room.total);
+      small = omega (arith, as_many, unread-short m.setup s m.history old.legal opened told, few, room.total);
       place = ap length all_posts;
     }

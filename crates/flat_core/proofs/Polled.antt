@@ -3,9 +3,8 @@ use Rattle.std.proofs.Common.{◌≡◌, ◌≢◌, ℕ, zero, suc, ◌+◌, ◌
 use Rattle.std.specs.Prelude.{cond, ◌&&◌, ◌==◌, flat_map}
 use Rattle.std.proofs.Math.Seq.{drop-append_seam}
 use Rattle.std.proofs.lemmas.Bool.Decides.{nat_tests, eqb_tells}
-use Rattle.std.proofs.lemmas.List.{append-nil, length-drop, length-map, map-append, drop-append-le}
+use Rattle.std.proofs.lemmas.List.{append-nil, map-append, drop-append-le}
 use Rattle.std.proofs.lemmas.List.Elements.{filter-append}
-use Rattle.std.proofs.lemmas.List.Sums.{count_by-le-length, length-filter}
 use Rattle.flat_base.specs.declared.ids.Actor.TheVariants.{Session}
 use Rattle.flat_base.specs.declared.ids.SessionNo.{SessionNo}
 use Rattle.flat_scene.specs.declared.calls.Call.{Call}
@@ -112,19 +111,6 @@ unread-posts setup (h ▹ e) s some few =
     unread-step s polled (polled_at setup h s) (posts setup h) more (unread_events setup s h) sent (polled-le setup h s) (unread-posts setup h s some few)
     (sent-within (length h) (events_to setup h e) setup.sessions s some few)
     ∙ ap (λ (ps : List Post). events_for s (drop (cond polled (length (posts setup h)) (polled_at setup h s)) ps)) (sym (posts-all setup h e))
-
-few-for : (s : SessionNo) (ps : List Post) → length (events_for s ps) ≤ length ps
-few-for s ps = rw length-map (rw (length-filter (λ (post : Post). post.session.0 == s.0) ps) (count_by-le-length (λ (post : Post). post.session.0 == s.0) ps))
-
--- there are no more of them than posts
-pub unread-few : (setup : Setup) (h : List Entry) (s : SessionNo) → 0 < s.0 → s.0 ≤ setup.sessions → unread setup s h ≤ length (posts setup h)
-unread-few setup h s some few =
-    omega (
-      arith,
-      ap (length {A = Event}) (unread-posts setup h s some few),
-      few-for s (drop (polled_at setup h s) (posts setup h)),
-      length-drop (polled_at setup h s) (posts setup h),
-    )
 
 pub seen-polled : (setup : Setup) (h : List Entry) (s : SessionNo) (line : ℕ) (carries : List Call) (n : ℕ)
     → seen_of setup (h ▹ entry_of (Session s) line carries Poll (Polled n)) s ≡ record (seen_of setup h s) { account = noted carries (record (account_of setup h s) { polled = length (posts setup h) }) }

@@ -100,7 +100,7 @@ impl Board {
     pub fn open(alloc: Global, setup: Setup, shares: ShareList) -> Result<Board, NoMemory>
         requires limits { IsTrue (is_within_limits setup) }
         requires actors { length shares ≡ setup.sessions + 1 }
-        requires total { sum shares < 2 ^ 31 }
+        requires total { sum shares < 2 ^ 32 }
         ensures { IfOk result (λ board. board ≡ record { setup = setup; shares = shares; history = [] }) }
     {
         let total = total_of(shares.as_slice());
@@ -721,7 +721,7 @@ fn owes(reply: Reply) -> usize
 }
 
 fn total_of(shares: &[u32]) -> u32
-    requires { sum shares.now < 2 ^ 31 }
+    requires { sum shares.now < 2 ^ 32 }
     ensures { result ≡ sum shares.now }
 {
     shares.iter().sum()

@@ -129,13 +129,14 @@ fn finish_one<T: Tells>(
     requires tells { T.stands tells.now setup.now (finished log.old.history line) }
     requires some { 0 < s.0 }
     requires few { s.0 ≤ setup.now.sessions }
-    requires place { length log.old.history < 2 ^ 32 - 2 }
+    requires place { length log.old.history < 2 ^ 32 - 1 }
     requires opened { is_frame_open log.old.history ≡ true }
     requires count { length fences.old ≡ length setup.now.fences }
     requires kept { IsKept setup.now (seen_of setup.now log.old.history s) state.old }
     requires ends { AreViewports setup.now log.old.history s ends.old.live.items ends.old.out.items }
     requires watched { WatchedUpTo setup.now (s.0 - 1) (finished log.old.history line) log.old.history watchers.old.gets.items watchers.old.answered.items }
     requires room { due state.old + due_back ends.old + sum_by due_told watchers.old.gets.items ≤ log.old.post_room }
+    requires small { due state.old + due_back ends.old + sum_by due_told watchers.old.gets.items < 2 ^ 64 }
     ensures kept { IsKept setup.now (seen_of setup.now (finished log.old.history line) s) state.new }
     ensures ends { AreViewports setup.now (finished log.old.history line) s ends.new.live.items ends.new.out.items }
     ensures watched { WatchedUpTo setup.now s.0 (finished log.old.history line) log.old.history watchers.new.gets.items watchers.new.answered.items }
@@ -167,7 +168,7 @@ pub fn done_all<T: Tells>(
     requires watched { AreWatched setup.now log.old.history watchers.old.gets.items watchers.old.answered.items }
     requires legal { Legal setup.now log.old.history }
     requires may { MayEnter setup.now log.old.history Display [] Finish }
-    requires place { length log.old.history < 2 ^ 32 - 2 }
+    requires place { length log.old.history < 2 ^ 32 - 1 }
     requires opened { is_frame_open log.old.history ≡ true }
     requires count { length fences.old ≡ length setup.now.fences }
     requires all { length sessions.old.items ≡ setup.now.sessions }

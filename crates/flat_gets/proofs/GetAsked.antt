@@ -29,7 +29,7 @@ use Rattle.flat_gets.specs.declared.gets.Watched.TheVariants as watches
 use Rattle.flat_states.specs.Machines.{entry_of}
 use Rattle.flat_rules.specs.Ends.{uses_view, uses_viewport, viewport_uses}
 use Rattle.flat_gets.specs.Gets.{watched_by, watcher_for, watched_of, held_with, held_by, held_of, helds_of, hears, watchers_of, is_held_in, with_held, news_of, answers_to, last_of, held_get, AreGets, Asks, IsAnswered}
-use Rattle.flat_rules.specs.Legal.{Legal, MayEnter, answers, got, is_now, number_if, reply_to}
+use Rattle.flat_rules.specs.Legal.{Legal, MayEnter, answers, got, is_get, is_now, number_if, reply_to}
 use Rattle.flat_rules.specs.Local.{pair_watched}
 use Rattle.flat_rules.specs.Posts.{event_of}
 use Rattle.flat_rules.specs.Watch.{Watcher, layout_of, status_of, child_of, watching, told, asked, same_watcher, watcher_of, watcher_in, watcher_of_made, is_watcher}
@@ -262,7 +262,7 @@ gets-asked setup h e legal s is get asks w means a b its held after total more g
           let none : (watching setup w h).waits ≡ None = free o new replied in
           kept ∙ ap (λ (b : Bool). held_get b new one held) (ap is_some none) ∙ after_news o none new refl (gets.waiting opened);
       answers = λ o. omega (arith, done.counted, gets.answers opened, count-after setup h e legal s is get asks w means o (free o new replied));
-      few = omega (arith, gets.few, done.counted, counted, ap (length {A = HeldGet}) kept, kept-length held_now new one held);
+      few = omega (arith, gets.few, done.counted, counted, ap (λ (k : Kind). number_if (is_get k)) asks, ap (length {A = HeldGet}) kept, kept-length held_now new one held);
     }
   where
     free : is_closed s (h ▹ e) ≡ false → (new : Option Told) → e.reply ≡ got (is_some (watching setup w h).waits) new → (watching setup w h).waits ≡ None

@@ -1,6 +1,7 @@
 -- What is kept of all gets and of all last answers, entry by entry.
 use Rattle.std.proofs.Common.{◌≡◌, ◌≢◌, ◌∙◌, sym, subst, ℕ, suc, ◌+◌, ◌-◌, ◌<◌, ◌≤◌, ◌^◌, Bool, true, false, List, [], ◌∷◌, ◌++◌, length, map, refl, arith, ap, take, drop, slice_set, slice_index_or, inl, inr, ◌⊎◌, None, Some}
-use Rattle.std.specs.Prelude.{◌&&◌, ◌==◌, cond, nat_lt, Option, option_map, unwrap_or, sum_by, filter}
+use Rattle.flat_scene.proofs.Together.{and-right}
+use Rattle.std.specs.Prelude.{◌&&◌, ◌||◌, ◌==◌, not, cond, nat_lt, Option, option_map, unwrap_or, sum_by, filter}
 use Rattle.std.specs.List.{list_any}
 use Rattle.std.proofs.lemmas.Bool.Decides.{eqb_tells, nat_tests}
 use Rattle.std.proofs.Math.Seq.{drop-length, take-length}
@@ -16,13 +17,13 @@ use Rattle.flat_scene.specs.declared.calls.Watch.{Watch}
 use Rattle.flat_scene.specs.declared.journal.Entry.{Entry}
 use Rattle.flat_scene.specs.declared.journal.Event.{Event}
 use Rattle.flat_scene.specs.declared.journal.Kind.{Kind}
-use Rattle.flat_scene.specs.declared.journal.Kind.TheVariants.{Get, Viewport}
+use Rattle.flat_scene.specs.declared.journal.Kind.TheVariants.{Begin, Close, End, Finish, Get, Hit, Poll, Present, Signal, View, Viewport, Wait}
 use Rattle.flat_scene.specs.declared.journal.Post.{Post}
 use Rattle.flat_scene.specs.declared.journal.Reply.{Reply}
 use Rattle.flat_scene.specs.declared.journal.Reply.TheVariants.{Now}
 use Rattle.flat_scene.specs.declared.journal.Told.{Told}
 use Rattle.flat_scene.specs.declared.setup.Setup.{Setup}
-use Rattle.flat_scene.specs.History.{◌▹◌, closes, is_closed, is_finish, is_session, own}
+use Rattle.flat_scene.specs.History.{◌▹◌, closes, is_begin, is_closed, is_finish, is_session, own}
 use Rattle.flat_scene.specs.Setups.{is_declared}
 use Rattle.flat_watch.specs.Told.{news}
 use Rattle.flat_gets.specs.declared.gets.Answered.{Answered}
@@ -35,8 +36,9 @@ use Rattle.flat_states.specs.Machines.{Machine, MayCall, entry_of}
 use Rattle.flat_gets.specs.Dues.{due_told}
 use Rattle.flat_rules.specs.Numbers.{number, AllNumbered}
 use Rattle.flat_rules.specs.Ends.{is_done, view_owner, viewport_uses}
-use Rattle.flat_gets.specs.Gets.{answers_to, hears, held_get, helds_of, is_held_in, last_of, started, watched_of, watcher_for, AllAnswered, AreGets, Asks, IsAnswered, Settles}
-use Rattle.flat_rules.specs.Legal.{Legal, MayEnter, answers, got, is_now, is_told, number_if, owns_view, reply_to, sent_to, is_get}
+use Rattle.flat_states.proofs.Counts.{few-if}
+use Rattle.flat_gets.specs.Gets.{gets_made, answers_to, hears, held_get, helds_of, is_held_in, last_of, started, watched_of, watcher_for, AllAnswered, AreGets, Asks, IsAnswered, Settles}
+use Rattle.flat_rules.specs.Legal.{Legal, MayEnter, is_frame_open, answers, got, is_now, is_told, number_if, owns_view, reply_to, sent_to, is_get}
 use Rattle.flat_rules.specs.Local.{pair_watched}
 use Rattle.flat_rules.specs.Posts.{events_to, news_for, posts}
 use Rattle.flat_rules.specs.Watch.{Watcher, is_open, told, watcher_of}
@@ -97,18 +99,45 @@ due-none (one ∷ gets) none =
 
 -- ---- how many
 
+-- no more gets were made than there are entries
+pub gets-few : (h : List Entry) → gets_made h ≤ length h
+gets-few [] = omega arith
+gets-few (h ▹ e) = omega (arith, gets-few h, few-if (is_get e.kind))
+
+-- fewer, where a frame is open
+gets-fewer : (h : List Entry) → is_frame_open h ≡ true → gets_made h + 1 ≤ length h
+gets-fewer [] open_frame = cc
+gets-fewer (h ▹ e) open_frame = by_kind (λ still. gets-fewer h still) e.kind open_frame
+  where
+    by_begin : (is_frame_open h ≡ true → gets_made h + 1 ≤ length h) → (k : Kind) → is_begin k ≡ false → (is_begin k || (not (is_finish k) && is_frame_open h)) ≡ true → gets_made h + number_if (is_get k) + 1 ≤ suc (length h)
+    by_begin rest k other is = omega (arith, rest (and-right (not (is_finish k)) (is_frame_open h) (rw other at is)), few-if (is_get k))
+
+    by_kind : (is_frame_open h ≡ true → gets_made h + 1 ≤ length h) → (k : Kind) → (is_begin k || (not (is_finish k) && is_frame_open h)) ≡ true → gets_made h + number_if (is_get k) + 1 ≤ suc (length h)
+    by_kind rest (Begin time) is = omega (arith, gets-few h)
+    by_kind rest (View p) is = by_begin rest (View p) refl is
+    by_kind rest (Viewport p props) is = by_begin rest (Viewport p props) refl is
+    by_kind rest (Present args) is = by_begin rest (Present args) refl is
+    by_kind rest (Get get) is = by_begin rest (Get get) refl is
+    by_kind rest (Signal f) is = by_begin rest (Signal f) refl is
+    by_kind rest Poll is = by_begin rest Poll refl is
+    by_kind rest (Wait c) is = by_begin rest (Wait c) refl is
+    by_kind rest (Close why) is = by_begin rest (Close why) refl is
+    by_kind rest (End n) is = by_begin rest (End n) refl is
+    by_kind rest Finish is = by_begin rest Finish refl is
+    by_kind rest (Hit x y) is = by_begin rest (Hit x y) refl is
+
 -- what is kept of each session is few, where the history is short
 pub few-all : (setup : Setup) (h : List Entry) (gets : List Gets) (last : List Answered) → AreWatched setup h gets last → length h < 2 ^ 32 - 1 → AllNumbered is_few gets
 few-all setup h gets last are short i d below =
     let own = are.each i d below in
-    omega (arith, own.held.few, short)
+    omega (arith, own.held.few, gets-few h, short)
 
-pub few-to : (setup : Setup) (n : ℕ) (h : List Entry) (line : ℕ) (gets : List Gets) (last : List Answered) → WatchedUpTo setup n (finished h line) h gets last → length h < 2 ^ 32 - 2 → AllNumbered is_few gets
-few-to setup n h line gets last are short i d below = by_side (nat_lt i n) (are.each i d below)
+pub few-to : (setup : Setup) (n : ℕ) (h : List Entry) (line : ℕ) (gets : List Gets) (last : List Answered) → WatchedUpTo setup n (finished h line) h gets last → is_frame_open h ≡ true → length h < 2 ^ 32 - 1 → AllNumbered is_few gets
+few-to setup n h line gets last are opened short i d below = by_side (nat_lt i n) (are.each i d below)
   where
     by_side : (b : Bool) → AreOwnGets setup (cond b (finished h line) h) (number i) (slice_index_or gets i d) → is_few i (slice_index_or gets i d)
-    by_side true own = omega (arith, own.held.few, short)
-    by_side false own = omega (arith, own.held.few, short)
+    by_side true own = omega (arith, own.held.few, gets-fewer h opened, short)
+    by_side false own = omega (arith, own.held.few, gets-fewer h opened, short)
 
 pub seldom-all : (setup : Setup) (h : List Entry) (gets : List Gets) (last : List Answered) → AreWatched setup h gets last → length h < 2 ^ 32 - 1 → AllNumbered is_seldom last
 seldom-all setup h gets last are short i d below =
@@ -181,7 +210,7 @@ of-asked setup h s declared get p within gets new last now reply asked old =
 
 module _ (setup : Setup) (h : List Entry) (e : Entry) (legal : Legal setup (h ▹ e)) where
   -- of a session that is closed nothing but its size is asked
-  gets-shut : (s : SessionNo) → is_closed s (h ▹ e) ≡ true → (held : List HeldGet) (total : ℕ) → total + length held ≤ length h → AreGets setup (h ▹ e) s held total
+  gets-shut : (s : SessionNo) → is_closed s (h ▹ e) ≡ true → (held : List HeldGet) (total : ℕ) → total + length held ≤ gets_made h → AreGets setup (h ▹ e) s held total
   gets-shut s closed held total few = record {
     waiting = λ o. let wrong : true ≡ false = sym closed ∙ o in absurd (cc);
     answers = λ o. let wrong : true ≡ false = sym closed ∙ o in absurd (cc);

@@ -13,7 +13,7 @@ use Rattle.flat_scene.specs.declared.journal.Post.{Post}
 use Rattle.flat_scene.specs.declared.journal.Reply.{Reply}
 use Rattle.flat_scene.specs.declared.journal.Told.{Told}
 use Rattle.flat_scene.specs.declared.setup.Setup.{Setup}
-use Rattle.flat_scene.specs.History.{is_closed, is_session}
+use Rattle.flat_scene.specs.History.{◌▹◌, is_closed, is_session}
 use Rattle.flat_watch.specs.Told.{Watching, news}
 use Rattle.flat_gets.specs.declared.gets.Answered.{Answered}
 use Rattle.flat_gets.specs.declared.gets.HeldGet.{HeldGet}
@@ -22,7 +22,7 @@ use Rattle.flat_gets.specs.declared.gets.Watched.TheVariants as watches
 use Rattle.flat_states.specs.Begins.{post_of}
 use Rattle.flat_rules.specs.Ends.{views_of, viewports_of, viewport_owner, viewport_uses}
 use Rattle.flat_rules.specs.Numbers.{AllNumbered}
-use Rattle.flat_rules.specs.Legal.{answers, got, is_now, number_if}
+use Rattle.flat_rules.specs.Legal.{answers, got, is_get, is_now, number_if}
 use Rattle.flat_rules.specs.Local.{pair_watched}
 use Rattle.flat_rules.specs.Posts.{event_of, up_to}
 use Rattle.flat_rules.specs.Watch.{Watcher, layout_of, status_of, child_of, watching, listener, same_watcher}
@@ -183,11 +183,16 @@ held_of setup history watcher = held_by watcher (watching setup watcher history)
 abbrev pub helds_of : Setup → List Entry → SessionNo → List HeldGet
 helds_of setup history s = flat_map (held_of setup history) (watchers_of setup history s)
 
+-- how many gets were made
+abbrev pub gets_made : List Entry → ℕ
+gets_made [] = 0
+gets_made (before ▹ entry) = gets_made before + number_if (is_get entry.kind)
+
 -- What is kept stands for the gets of a session, while it is open.
 pub record AreGets (setup : Setup) (history : List Entry) (s : SessionNo) (held : List HeldGet) (count : ℕ) : Type 0 where
   pub waiting : is_closed s history ≡ false → held ≡ helds_of setup history s
   pub answers : is_closed s history ≡ false → count ≡ answers setup s history
-  pub few : count + length held ≤ length history
+  pub few : count + length held ≤ gets_made history
 
 -- What the watchers of a pair answered last: of its view after one history, and of its viewport's child after another.
 pub record AnsweredAt (setup : Setup) (view viewport : List Entry) (p : PairNo) (a : Answered) : Type 0 where

@@ -125,11 +125,8 @@ few-history m who calls kind call legal log owed dues same room =
 
 -- so the history is short
 pub short-history : (m : Machine) (who : Actor) (calls : List Call) (kind : Kind) → MayCall m who calls kind → Legal m.setup m.history
-    → (log : Logged) (owed dues : ℕ) → log.history ≡ m.history → HasRoom m.setup m.shares log owed dues → length m.history < 2 ^ 31
+    → (log : Logged) (owed dues : ℕ) → log.history ≡ m.history → HasRoom m.setup m.shares log owed dues → length m.history < 2 ^ 32 - 1
 short-history m who calls kind call legal log owed dues same room = omega (arith, few-history m who calls kind call legal log owed dues same room, room.total)
-
-pub short-enough : {n : ℕ} → n < 2 ^ 31 → n < 2 ^ 32 - 1
-short-enough short = omega (arith, short)
 
 -- who may enter has room
 pub has-room : (m : Machine) (who : Actor) (calls : List Call) (kind : Kind) → MayCall m who calls kind → Legal m.setup m.history

@@ -100,7 +100,7 @@ pub record AreEnds (setup : Setup) (history : List Entry) (ends : List Viewports
 pub record HasRoom (setup : Setup) (shares : List ℕ) (log : Logged) (owed dues : ℕ) : Type 0 where
   pub limits : IsTrue (is_within_limits setup)
   pub actors : length shares ≡ setup.sessions + 1
-  pub total : sum shares < 2 ^ 31
+  pub total : sum shares < 2 ^ 32
   pub fair : (seat : ℕ) → seat < length shares → made seat log.history ≤ slice_index shares seat
   pub entries : sum shares ≤ length log.history + log.room
   pub posts : log.posts ≡ posts setup log.history

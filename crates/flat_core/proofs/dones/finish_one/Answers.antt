@@ -23,7 +23,7 @@ use Rattle.flat_gets.proofs.DoneSteps.{told-then}
 use Rattle.flat_core.proofs.dones.finish_one.Goals as goal
 
 pub settle-told-requires-clause-few : goal.settle-told-requires-clause-few
-settle-told-requires-clause-few g c = few-to _ _ _ _ _ _ c.requires.watched c.requires.place
+settle-told-requires-clause-few g c = few-to _ _ _ _ _ _ c.requires.watched c.requires.opened c.requires.place
 
 pub returns-clause-watched : goal.returns-clause-watched
 returns-clause-watched g c = by_shut c.args.state.now.closed refl
@@ -92,3 +92,6 @@ returns-clause-posts g c = by_shut c.args.state.now.closed refl
         c.done_one.ensures.posts ∙ ap (λ (l : List Entry). c.settle-told.new.log.posts ++ map (post_of (length l) s) (cond (is_closed s l) [] (took_event (frame_took setup l s) ++ back_events (taken setup l s) c.args.ends.now.out.items))) same
         ∙ ap (λ (b : Bool). c.settle-told.new.log.posts ++ map (post_of (length h) s) (cond b [] rest)) opened in
         told-then (post_of (length h) s) c.args.log.now.posts c.settle-told.new.log.posts c.done_one.new.log.posts (answers_to (told setup k) (helds_of setup h s)) rest _ first second events
+
+pub overflow_add-result : goal.overflow_add-result
+overflow_add-result g c = omega (arith, c.requires.room, c.requires.small, c.settle-told.ensures.due, c.done_one.ensures.due)

@@ -13,7 +13,7 @@ use Rattle.flat_gets.specs.Watchers.{IsTelling}
 use Rattle.flat_gets.proofs.EndSteps.{ends-after, none-new, noted-slice}
 use Rattle.flat_core.proofs.GetCalls.{kept-got, room-got}
 use Rattle.flat_states.proofs.Ones.{declared-of}
-use Rattle.flat_states.proofs.Steps.{has-room, legal-entered, owed-small, room-more, short-enough, short-history}
+use Rattle.flat_states.proofs.Steps.{has-room, legal-entered, owed-small, room-more, short-history}
 use Rattle.flat_gets.proofs.WatchingSteps.{asked-known, asked-replied, few-all, watched-asked}
 use Rattle.flat_core.proofs.board.Board.get.Goals as goal
 use Rattle.flat_states.proofs.Counts.{few-if}
@@ -34,7 +34,7 @@ ask-requires-clause-known c =
 pub ask-requires-clause-few : goal.ask-requires-clause-few
 ask-requires-clause-few c =
     let call = rw (← c.self.view_is) at c.requires.may in
-    few-all _ _ _ _ c.self.invariant.4 (short-enough (short-history _ _ _ _ call c.self.invariant.0.legal _ _ _ refl c.self.invariant.1))
+    few-all _ _ _ _ c.self.invariant.4 ((short-history _ _ _ _ call c.self.invariant.0.legal _ _ _ refl c.self.invariant.1))
 
 pub invariant_of-self : goal.invariant_of-self
 invariant_of-self c =

@@ -26,7 +26,7 @@ pub overflow_cast-count : goal.overflow_cast-count
 overflow_cast-count c =
     let call = rw (← c.self.view_is) at c.requires in
     let count : c.len.result - c.len-before.result ≡ length c.push_events_from.new.into - length c.args.into.now = rw (c.len.ensures, c.len-before.ensures) refl in
-    let over = handed _ c.args.s _ call _ _ _ _ _ _ _ _ _ _ _ c.index_mut-state.ensures.value refl c.self.invariant.0 c.self.invariant.1 c.posts-posts.ensures c.in-Ok.ensures.ok count in
+    let over = handed _ c.args.s _ call _ _ _ _ _ _ _ _ _ _ _ c.index_mut-state.ensures.value refl c.self.invariant.0 c.self.invariant.1 c.posts-posts.ensures c.in-Ok.ensures.ok count _ _ c.self.invariant.4 in
     let small : c.len.result - c.len-before.result < 2 ^ 32 = over.small in
     omega (arith, small)
 
@@ -46,7 +46,7 @@ invariant_of-self-2 c =
     let h = c.self.inside.log.history in
     let call = rw (← c.self.view_is) at c.requires in
     let count : c.len.result - c.len-before.result ≡ length c.push_events_from.new.into - length c.args.into.now = rw (c.len.ensures, c.len-before.ensures) refl in
-    let over = handed _ c.args.s _ call _ _ _ _ _ _ _ _ _ _ _ c.index_mut-state.ensures.value refl c.self.invariant.0 c.self.invariant.1 c.posts-posts.ensures c.in-Ok.ensures.ok count in
+    let over = handed _ c.args.s _ call _ _ _ _ _ _ _ _ _ _ _ c.index_mut-state.ensures.value refl c.self.invariant.0 c.self.invariant.1 c.posts-posts.ensures c.in-Ok.ensures.ok count _ _ c.self.invariant.4 in
     let log = c.enter.ensures in
     let state = c.index_mut-state.result.now in
     let account : c.note.new.account ≡ noted c.args.calls (record state.account { polled = length c.posts-posts.result.now }) =
@@ -75,7 +75,7 @@ pub returns-clause-reply : goal.returns-clause-reply
 returns-clause-reply c =
     let call = rw (← c.self.view_is) at c.requires in
     let count : c.len.result - c.len-before.result ≡ length c.push_events_from.new.into - length c.args.into.now = rw (c.len.ensures, c.len-before.ensures) refl in
-    let over = handed _ c.args.s _ call _ _ _ _ _ _ _ _ _ _ _ c.index_mut-state.ensures.value refl c.self.invariant.0 c.self.invariant.1 c.posts-posts.ensures c.in-Ok.ensures.ok count in
+    let over = handed _ c.args.s _ call _ _ _ _ _ _ _ _ _ _ _ c.index_mut-state.ensures.value refl c.self.invariant.0 c.self.invariant.1 c.posts-posts.ensures c.in-Ok.ensures.ok count _ _ c.self.invariant.4 in
     let P : Machine → Type 0 = λ m. Polled (c.len.result - c.len-before.result) ≡ reply_to m.setup m.history (Session c.args.s) c.args.calls Poll in
     subst P c.self.view_is (ap Polled over.as_many)
 
@@ -83,7 +83,7 @@ pub returns-clause-events : goal.returns-clause-events
 returns-clause-events c =
     let call = rw (← c.self.view_is) at c.requires in
     let count : c.len.result - c.len-before.result ≡ length c.push_events_from.new.into - length c.args.into.now = rw (c.len.ensures, c.len-before.ensures) refl in
-    let over = handed _ c.args.s _ call _ _ _ _ _ _ _ _ _ _ _ c.index_mut-state.ensures.value refl c.self.invariant.0 c.self.invariant.1 c.posts-posts.ensures c.in-Ok.ensures.ok count in
+    let over = handed _ c.args.s _ call _ _ _ _ _ _ _ _ _ _ _ c.index_mut-state.ensures.value refl c.self.invariant.0 c.self.invariant.1 c.posts-posts.ensures c.in-Ok.ensures.ok count _ _ c.self.invariant.4 in
     let P : Machine → Type 0 = λ m. c.push_events_from.new.into ≡ c.args.into.now ++ unread_events m.setup c.args.s m.history in
     subst P c.self.view_is over.events
 
@@ -91,6 +91,6 @@ pub returns-clause-count : goal.returns-clause-count
 returns-clause-count c =
     let call = rw (← c.self.view_is) at c.requires in
     let count : c.len.result - c.len-before.result ≡ length c.push_events_from.new.into - length c.args.into.now = rw (c.len.ensures, c.len-before.ensures) refl in
-    let over = handed _ c.args.s _ call _ _ _ _ _ _ _ _ _ _ _ c.index_mut-state.ensures.value refl c.self.invariant.0 c.self.invariant.1 c.posts-posts.ensures c.in-Ok.ensures.ok count in
+    let over = handed _ c.args.s _ call _ _ _ _ _ _ _ _ _ _ _ c.index_mut-state.ensures.value refl c.self.invariant.0 c.self.invariant.1 c.posts-posts.ensures c.in-Ok.ensures.ok count _ _ c.self.invariant.4 in
     let P : Machine → Type 0 = λ m. Polled (c.len.result - c.len-before.result) ≡ Polled (length (unread_events m.setup c.args.s m.history)) in
     subst P c.self.view_is (ap Polled over.as_many)

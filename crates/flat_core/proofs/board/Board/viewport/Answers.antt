@@ -18,7 +18,7 @@ use Rattle.flat_states.specs.Seen.{noted}
 use Rattle.flat_states.proofs.Counts.{declared-some, few-if}
 use Rattle.flat_gets.proofs.EndSteps.{ends-same}
 use Rattle.flat_states.proofs.Ones.{declared-of}
-use Rattle.flat_states.proofs.Steps.{has-room, owed-small, room-more, short-enough, short-history}
+use Rattle.flat_states.proofs.Steps.{has-room, owed-small, room-more, short-history}
 use Rattle.flat_gets.proofs.WatchingSteps.{few-all, seldom-all}
 use Rattle.flat_core.proofs.UseSteps.{held-told, join-used, kept-used, last-uses, others-none, replied, room-used, telling-used}
 use Rattle.flat_core.proofs.board.Board.viewport.Goals as goal
@@ -76,7 +76,7 @@ join-told-requires-clause-stands c =
     let is : held ≡ has_token inside.setup c.args.p h = held-told m c.args.s c.args.line c.args.calls c.args.p c.args.props call roomy c.index_mut-ends.result.now c.index_mut-ends.ensures.value same.0 held did.held in
     let used_by = subst (λ (calls : List Call). IsUsed c.args.p calls state.account.presents held c.index_mut-ends.result.now c.use_ends-is_held.new.ends) c.as_slice-2.ensures did.used in
     let ties = subst (λ (calls : List Call). TiesUsed c.args.s calls c.args.p c.args.props held state c.index_mut-ends.result.now inside.ties c.use_ends-is_held.new.ties) c.as_slice-2.ensures did.ties in
-    let short = short-enough (short-history m _ _ _ call c.self.invariant.0.legal _ _ _ refl c.self.invariant.1) in
+    let short = (short-history m _ _ _ call c.self.invariant.0.legal _ _ _ refl c.self.invariant.1) in
     let e : Entry = entry_of (Session c.args.s) c.args.line c.args.calls (Viewport c.args.p c.args.props) (use_reply held) in
     let used = kept-used m c.args.s c.args.line c.args.calls c.args.p c.args.props call held is inside.clock inside.fences inside.views inside.sessions.items roomy state c.index_mut-ends.result.now c.use_ends-is_held.new.ends
     c.index_mut-state.ensures.value c.index_mut-ends.ensures.value c.self.invariant.0 same.0 used_by inside.ties c.use_ends-is_held.new.ties c.self.invariant.3 ties short in
@@ -104,17 +104,17 @@ join-told-requires-clause-known c =
 pub join-told-requires-clause-place : goal.join-told-requires-clause-place
 join-told-requires-clause-place c =
     let call = rw (← c.self.view_is) at c.requires in
-    rw c.reserve_with.ensures.history (short-enough (short-history _ _ _ _ call c.self.invariant.0.legal _ _ _ refl c.self.invariant.1))
+    rw c.reserve_with.ensures.history ((short-history _ _ _ _ call c.self.invariant.0.legal _ _ _ refl c.self.invariant.1))
 
 pub join-told-requires-clause-few : goal.join-told-requires-clause-few
 join-told-requires-clause-few c =
     let call = rw (← c.self.view_is) at c.requires in
-    few-all _ _ _ _ c.self.invariant.4 (short-enough (short-history _ _ _ _ call c.self.invariant.0.legal _ _ _ refl c.self.invariant.1))
+    few-all _ _ _ _ c.self.invariant.4 ((short-history _ _ _ _ call c.self.invariant.0.legal _ _ _ refl c.self.invariant.1))
 
 pub join-told-requires-clause-uses : goal.join-told-requires-clause-uses
 join-told-requires-clause-uses c =
     let call = rw (← c.self.view_is) at c.requires in
-    seldom-all _ _ _ _ c.self.invariant.4 (short-enough (short-history _ _ _ _ call c.self.invariant.0.legal _ _ _ refl c.self.invariant.1))
+    seldom-all _ _ _ _ c.self.invariant.4 ((short-history _ _ _ _ call c.self.invariant.0.legal _ _ _ refl c.self.invariant.1))
 
 pub overflow_add-self : goal.overflow_add-self
 overflow_add-self c =
@@ -148,7 +148,7 @@ invariant_of-self-2 c =
     let is : held ≡ has_token inside.setup c.args.p h = held-told m c.args.s c.args.line c.args.calls c.args.p c.args.props call roomy c.index_mut-ends.result.now c.index_mut-ends.ensures.value same.0 held did.held in
     let used_by = subst (λ (calls : List Call). IsUsed c.args.p calls state.account.presents held c.index_mut-ends.result.now c.use_ends-is_held.new.ends) c.as_slice-2.ensures did.used in
     let ties = subst (λ (calls : List Call). TiesUsed c.args.s calls c.args.p c.args.props held state c.index_mut-ends.result.now inside.ties c.use_ends-is_held.new.ties) c.as_slice-2.ensures did.ties in
-    let short = short-enough (short-history m _ _ _ call c.self.invariant.0.legal _ _ _ refl c.self.invariant.1) in
+    let short = (short-history m _ _ _ call c.self.invariant.0.legal _ _ _ refl c.self.invariant.1) in
     let e : Entry = entry_of (Session c.args.s) c.args.line c.args.calls (Viewport c.args.p c.args.props) (use_reply held) in
     let used = kept-used m c.args.s c.args.line c.args.calls c.args.p c.args.props call held is inside.clock inside.fences inside.views inside.sessions.items roomy state c.index_mut-ends.result.now c.use_ends-is_held.new.ends
     c.index_mut-state.ensures.value c.index_mut-ends.ensures.value c.self.invariant.0 same.0 used_by inside.ties c.use_ends-is_held.new.ties c.self.invariant.3 ties short in
