@@ -18,7 +18,7 @@ open-requires-clause-actors c = ap length c.in_ok-shares.ensures ∙ shares_leng
 pub open-requires-clause-total : goal.open-requires-clause-total
 open-requires-clause-total c =
     let P : List ℕ → Type 0 = λ xs. sum xs < 2147483648 in
-    subst P (sym c.in_ok-shares.ensures) (shares_small c.args.script.now c.requires)
+    omega (arith, subst P (sym c.in_ok-shares.ensures) (shares_small c.args.script.now c.requires))
 
 pub new_readers-requires : goal.new_readers-requires
 new_readers-requires c = setup_is c.args.script.now c.requires
