@@ -1,10 +1,10 @@
 -- What is answered to what a source gives, and what is written of it.
-use Rattle.std.proofs.Common.{◌≡◌, ◌≢◌, ◌==◌, ◌||◌, inl, inr, ◌⊎◌, ℕ, zero, suc, ◌<◌, Bool, true, false, List, [], ◌∷◌, ◌++◌, ap, ◌∙◌, length, take, Option, None, Some, Ok, Err, IfOk, IfSome, IsTrue, refl, sym, subst, arith, append-nil}
+use Rattle.std.proofs.Common.{◌≡◌, ◌≢◌, ◌==◌, ◌||◌, inl, inr, ◌⊎◌, ℕ, zero, suc, ◌<◌, Bool, true, false, List, [], ◌∷◌, ◌++◌, ap, ◌∙◌, length, take, Option, None, Some, Ok, Err, IfSome, IsTrue, refl, sym, subst, arith, append-nil}
 use Rattle.std.proofs.lemmas.Bool.{lt-ltb, eqb-true}
 use Rattle.std.proofs.lemmas.List.{append_cancel_right}
 use Rattle.flat_base.specs.declared.limits.TheConstants.{SCRIPT_BYTES_MAX}
 use Rattle.flat_io.specs.Counts.{has_risen}
-use Rattle.flat_io.specs.Told.{WhereTold, Appends}
+use Rattle.flat_io.specs.Told.{Appends}
 use Rattle.flat_io.specs.Whole.{Given, AppendsPrefix}
 use Rattle.flat_scene.specs.declared.frames.FrameOut.{FrameOut}
 use Rattle.flat_script.specs.declared.script.Script.{Script}
@@ -15,7 +15,7 @@ use Rattle.flat_words.specs.declared.form.Form.{Form}
 use Rattle.flat_words.specs.declared.form.Form.TheVariants.{Play, Race, Stress}
 use Rattle.flat_words.specs.Forms.{CallFor, words_of}
 use Rattle.flat_run.specs.Answering.{IsReply}
-use Rattle.flat_run.specs.Promise.{play_words, CallForNothing, fault_line, is_read, AreGiven, AreAll, AreTooMany, Refuses, IsRefused, IsTold, IsAnswer, IsWhole, IsCutOff, GivesScript, IsThere}
+use Rattle.flat_run.specs.Promise.{fault_line, is_read, AreGiven, AreAll, AreTooMany, Refuses, IsRefused, IsTold, IsAnswer, IsWhole, IsCutOff, GivesScript, IsThere}
 
 -- the form that was found is that of the words
 pub called_for : (words : List (List ℕ)) (found : Option Form) (form : Form) → found ≡ Some form → IfSome found (λ f. CallFor words f × (f ≢ Race)) → CallFor words form

@@ -15,6 +15,7 @@ pub mod Places
 pub mod Readers
 pub mod Reporting
 pub mod Seen
+pub mod SmallPromise
 pub mod Starting
 pub mod Steps
 pub mod Unread

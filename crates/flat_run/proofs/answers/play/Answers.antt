@@ -1,8 +1,8 @@
-use Rattle.std.proofs.Common.{◌≡◌, ◌<◌, length, refl, subst}
+use Rattle.std.proofs.Common.{◌≡◌, length, refl, subst}
 use Rattle.flat_base.specs.declared.limits.TheConstants.{SCRIPT_BYTES_MAX}
 use Rattle.flat_io.specs.declared.whole.ReadAll.TheVariants.{TooLong}
 use Rattle.flat_io.specs.Whole.{Given, IsTooLong}
-use Rattle.flat_run.proofs.Answering.{reply_same, read_text, long_text, whole_given, part_given}
+use Rattle.flat_run.proofs.Answering.{reply_same, read_text, long_text}
 use Rattle.flat_run.proofs.Seen.{kept_none}
 use Rattle.flat_run.proofs.answers.play.Goals as goal
 

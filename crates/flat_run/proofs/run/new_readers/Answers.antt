@@ -1,4 +1,4 @@
-use Rattle.std.proofs.Common.{◌≡◌, ◌+◌, ◌<◌, ℕ, List, refl, sym, subst, arith}
+use Rattle.std.proofs.Common.{◌≡◌, ◌+◌, ℕ, List, refl, sym, subst, arith}
 use Rattle.flat_stage.specs.declared.reader.Reader.{Reader}
 use Rattle.flat_run.specs.Playing.{AreNew}
 use Rattle.flat_run.proofs.Starting.{is_numbered, new_more}

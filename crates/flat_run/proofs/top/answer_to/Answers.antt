@@ -1,7 +1,7 @@
-use Rattle.std.proofs.Common.{refl, subst}
+use Rattle.std.proofs.Common.{subst}
 use Rattle.flat_words.specs.declared.form.Form.{Form}
 use Rattle.flat_words.specs.Forms.{CallFor}
-use Rattle.flat_run.proofs.Answering.{load_told, none_given}
+use Rattle.flat_run.proofs.Answering.{load_told}
 use Rattle.flat_run.proofs.top.answer_to.Goals as goal
 
 pub returns-in-Play-clause-answer : goal.returns-in-Play-clause-answer
