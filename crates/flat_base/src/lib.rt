@@ -1,6 +1,9 @@
 //! The words that every crate of the scene service shares: numbers that name
 //! things, errors and reasons, rectangles, fixed point, limits, and the two
 //! containers that contracts see as their content.
+//!
+//! Other crates may cite the lemmas of proofs/lemmas/: tests that hold together
+//! (Tests).
 #![tactic(auto)]
 
 mod boxed;

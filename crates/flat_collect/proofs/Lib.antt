@@ -1,7 +1,5 @@
 pub mod Judging
 pub mod Searches
-pub mod Stands
 pub mod Twice
-pub mod Verdicts
-pub mod Walking
 pub mod Walks
+pub mod lemmas

@@ -1,6 +1,7 @@
 //! Whether a graph of transforms unfolds to a tree that can be presented.
 //!
-//! Other crates may cite the lemma files proofs/Stands, Verdicts and Walking.
+//! Other crates may cite the lemmas of proofs/lemmas/: that the graph stands for the
+//! draft (Stands), how the judge walks (Walking), and its verdicts (Verdicts).
 #![tactic(auto)]
 
 ghost use Rattle.std.specs.Prelude.{IfOk};

@@ -1,6 +1,5 @@
 pub mod Serials
 pub mod Soundness
-pub mod Standing
 pub mod Sides
-pub mod Others
 pub mod Examples
+pub mod lemmas

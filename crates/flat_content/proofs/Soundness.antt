@@ -9,8 +9,8 @@ use Rattle.flat_scene.specs.Draft.{changed_at, of_serial}
 use Rattle.flat_scene.specs.Misuse.{is_bad_image, is_bad_index}
 use Rattle.flat_graph.specs.declared.names.Named.{Named}
 use Rattle.flat_graph.specs.Names.{key_named, names_but, IsRising}
-use Rattle.flat_graph.proofs.DraftNames.{changed-length}
-use Rattle.flat_graph.proofs.NameLemmas.{named-with, named-but, rising-with, rising-but, length-but}
+use Rattle.flat_graph.proofs.lemmas.DraftNames.{changed-length}
+use Rattle.flat_graph.proofs.lemmas.NameLemmas.{named-with, named-but, rising-with, rising-but, length-but}
 use Rattle.flat_content.specs.declared.stored.Stored.{Stored}
 use Rattle.flat_content.proofs.Serials.{changed-alike}
 use Rattle.flat_content.specs.Limits.{are_sides}

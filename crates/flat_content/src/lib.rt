@@ -2,7 +2,8 @@
 //! that name some of them. A content stays when its name ends, since a transform
 //! may hold it still.
 //!
-//! Other crates may cite the lemma files proofs/Others, Sides and Standing.
+//! Other crates may cite the lemmas of proofs/lemmas/: contents and drafts (Standing,
+//! Others).
 #![tactic(auto)]
 
 mod laws;

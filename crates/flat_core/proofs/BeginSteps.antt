@@ -32,11 +32,11 @@ use Rattle.flat_rules.specs.Legal.{Legal}
 use Rattle.flat_rules.specs.Lasts.{last_from}
 use Rattle.flat_states.specs.Presents.{TookReady}
 use Rattle.flat_states.specs.Seen.{Seen, seen_of}
-use Rattle.flat_gets.proofs.Begun.{seen-begun-open, ready-same, kept-ready, then-same}
-use Rattle.flat_states.proofs.Counts.{kept-waiting}
-use Rattle.flat_states.proofs.Between.{events-between}
+use Rattle.flat_gets.proofs.lemmas.Begun.{seen-begun-open, ready-same, kept-ready, then-same}
+use Rattle.flat_states.proofs.lemmas.Counts.{kept-waiting}
+use Rattle.flat_states.proofs.lemmas.Between.{events-between}
 use Rattle.flat_core.proofs.PresentSteps.{stays}
-use Rattle.flat_rules.proofs.ShownSteps.{serial-get, get-drop, get-map, last-get, last-none, shown-kept}
+use Rattle.flat_rules.proofs.lemmas.ShownSteps.{serial-get, get-drop, get-map, last-get, last-none, shown-kept}
 
 -- how many presents are ready
 abbrev pub ready_count : Setup → List Entry → ℕ → SessionNo → ℕ

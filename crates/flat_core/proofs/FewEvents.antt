@@ -17,15 +17,15 @@ use Rattle.flat_scene.specs.declared.setup.PairDecl.{PairDecl}
 use Rattle.flat_scene.specs.declared.setup.Setup.{Setup}
 use Rattle.flat_scene.specs.History.{◌▹◌, is_begin, is_closed, is_finish, is_session}
 use Rattle.flat_scene.specs.Frames.{credits, taken}
-use Rattle.flat_scene.proofs.Together.{and-left, and-right}
+use Rattle.flat_base.proofs.lemmas.Tests.{and-left, and-right}
 use Rattle.flat_rules.specs.Ends.{is_done, pairs_where, to_begin, to_finished, uses_viewport, viewport_uses, viewports_of, views_of}
 use Rattle.flat_rules.specs.Legal.{Legal, answers, is_get, is_now, is_poll, is_told, number_if, owns_viewport, is_frame_open, keeps_time, unread, unread_events}
 use Rattle.flat_rules.specs.Posts.{at_begin, at_finish, event_of, events_to, frame_took, news_for, releases_seen, told_event, tokens_back, up_to}
 use Rattle.flat_rules.specs.Watch.{child_of, layout_of, status_of}
-use Rattle.flat_rules.proofs.EventsLocal.{viewports-owned}
-use Rattle.flat_states.proofs.Counts.{few-if}
-use Rattle.flat_states.proofs.Earlier.{begin-earlier, begun-earlier, finished-earlier, taken-begun, taken-drop}
-use Rattle.flat_states.proofs.TokenLaw.{few-released, seen-rises}
+use Rattle.flat_rules.proofs.lemmas.EventsLocal.{viewports-owned}
+use Rattle.flat_states.proofs.lemmas.Counts.{few-if}
+use Rattle.flat_states.proofs.lemmas.Earlier.{begin-earlier, begun-earlier, finished-earlier, taken-begun, taken-drop}
+use Rattle.flat_states.proofs.lemmas.TokenLaw.{few-released, seen-rises}
 use Rattle.flat_gets.specs.Gets.{gets_made}
 
 -- ---- events that answer no get

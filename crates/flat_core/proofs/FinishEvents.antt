@@ -17,9 +17,9 @@ use Rattle.flat_rules.specs.Legal.{Legal, is_frame_open}
 use Rattle.flat_rules.specs.Posts.{told_event, events_to, news_for, frame_took, tokens_back, up_to}
 use Rattle.flat_states.specs.Viewports.{AreViewports, back_events}
 use Rattle.flat_rules.specs.Watch.{layout_of, status_of, child_of}
-use Rattle.flat_gets.proofs.ViewportUses.{tokens-finish}
-use Rattle.flat_rules.proofs.Watchers.{is_held, layouts-held, statuses-held, children-held}
-use Rattle.flat_rules.proofs.ListLemmas.{flat-each}
+use Rattle.flat_gets.proofs.lemmas.ViewportUses.{tokens-finish}
+use Rattle.flat_rules.proofs.lemmas.Watchers.{is_held, layouts-held, statuses-held, children-held}
+use Rattle.flat_rules.proofs.lemmas.ListLemmas.{flat-each}
 
 -- the answers to a session's held gets, in order: layouts, statuses, children
 abbrev pub held_answers : Setup → List Entry → Entry → SessionNo → List Event

@@ -22,11 +22,11 @@ use Rattle.flat_rules.specs.Posts.{posts}
 use Rattle.flat_states.specs.Presents.{after_get, with_calls}
 use Rattle.flat_states.specs.Seen.{seen_of}
 use Rattle.flat_gets.specs.Watchers.{is_held}
-use Rattle.flat_states.proofs.Between.{posted-between}
-use Rattle.flat_states.proofs.Changes.{IsPlainOne, is-session, kept-closed, kept-noted, seen-closed, seen-noted, sum-same}
-use Rattle.flat_states.proofs.Counts.{declared-some, few-if}
-use Rattle.flat_states.proofs.Ones.{declared-of, each-one}
-use Rattle.flat_states.proofs.Steps.{legal-entered, posts-none, room-entered, stands-entered, unchanged}
+use Rattle.flat_states.proofs.lemmas.Between.{posted-between}
+use Rattle.flat_states.proofs.lemmas.Changes.{IsPlainOne, is-session, kept-closed, kept-noted, seen-closed, seen-noted, sum-same}
+use Rattle.flat_states.proofs.lemmas.Counts.{declared-some, few-if}
+use Rattle.flat_states.proofs.lemmas.Ones.{declared-of, each-one}
+use Rattle.flat_states.proofs.lemmas.Steps.{legal-entered, posts-none, room-entered, stands-entered, unchanged}
 
 plain-get : (s : SessionNo) (line : ℕ) (calls : List Call) (get : Watch) (reply : Reply) → IsPlainOne (entry_of (Session s) line calls (Get get) reply)
 plain-get s line calls get reply = record { no_begin = refl; no_finish = refl; no_poll = refl; no_view = refl; none = λ made. refl }

@@ -15,7 +15,7 @@ use Rattle.flat_gets.specs.declared.gets.Watched.TheVariants as watches
 use Rattle.flat_gets.specs.Gets.{IsAnswered, answers_to, helds_of, with_held}
 use Rattle.flat_rules.specs.Legal.{answers}
 use Rattle.flat_rules.specs.Watch.{no_inset, told}
-use Rattle.flat_rules.proofs.Samples.{s, p, c, by, layout, present}
+use Rattle.flat_rules.proofs.lemmas.Samples.{s, p, c, by, layout, present}
 
 -- session 2 has a view in a viewport of session 1
 abbrev setup : Setup

@@ -11,7 +11,7 @@ use Rattle.flat_scene.specs.declared.journal.Entry.{Entry}
 use Rattle.flat_scene.specs.declared.journal.Event.{Event}
 use Rattle.flat_scene.specs.declared.setup.Setup.{Setup}
 use Rattle.flat_scene.specs.History.{is_closed, is_end, own}
-use Rattle.flat_scene.proofs.Together.{and-right}
+use Rattle.flat_base.proofs.lemmas.Tests.{and-right}
 use Rattle.flat_gets.specs.declared.gets.Answered.{Answered}
 use Rattle.flat_gets.specs.declared.gets.Gets.{Gets}
 use Rattle.flat_gets.specs.Gets.{gets_made}
@@ -30,10 +30,10 @@ use Rattle.flat_states.specs.Logs.{Logged}
 use Rattle.flat_core.specs.Polls.{events_for}
 use Rattle.flat_rules.specs.Posts.{posts}
 use Rattle.flat_states.specs.Seen.{seen_of}
-use Rattle.flat_states.proofs.Counts.{at-session, kept-session, declared-some}
-use Rattle.flat_states.proofs.Ones.{declared-of}
+use Rattle.flat_states.proofs.lemmas.Counts.{at-session, kept-session, declared-some}
+use Rattle.flat_states.proofs.lemmas.Ones.{declared-of}
 use Rattle.flat_core.proofs.Polled.{polled-le, handed-over, handed-count}
-use Rattle.flat_states.proofs.Steps.{few-history}
+use Rattle.flat_states.proofs.lemmas.Steps.{few-history}
 
 -- where the session's events begin is in the posts
 pub polled-within : (m : Machine) (s : SessionNo) (calls : List Call) → MayCall m (Session s) calls Poll

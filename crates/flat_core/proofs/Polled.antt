@@ -26,10 +26,10 @@ use Rattle.flat_core.specs.Polls.{events_for}
 use Rattle.flat_rules.specs.Posts.{events_to, posts}
 use Rattle.flat_states.specs.Presents.{with_calls}
 use Rattle.flat_states.specs.Seen.{seen_of, account_of, noted, polled_at}
-use Rattle.flat_states.proofs.BeginLoop.{flat-on}
-use Rattle.flat_gets.proofs.BoardBegins.{posts-all}
-use Rattle.flat_states.proofs.Changes.{is-session, kept-account}
-use Rattle.flat_rules.proofs.Quiet.{closed-quiet, presents-quiet, taken-quiet, going-quiet, took-quiet}
+use Rattle.flat_states.proofs.lemmas.BeginLoop.{flat-on}
+use Rattle.flat_gets.proofs.lemmas.BoardBegins.{posts-all}
+use Rattle.flat_states.proofs.lemmas.Changes.{is-session, kept-account}
+use Rattle.flat_rules.proofs.lemmas.Quiet.{closed-quiet, presents-quiet, taken-quiet, going-quiet, took-quiet}
 
 -- the events of an entry that are a session's: of one session's, and of all sessions'
 mine-or-none : (mine : Bool) (x : Event) (place : ℕ) (t s : SessionNo) (rest : List Post) → (t.0 == s.0) ≡ mine → events_for s (post_of place t x ∷ rest) ≡ cond mine (x ∷ events_for s rest) (events_for s rest)

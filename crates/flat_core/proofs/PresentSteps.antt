@@ -23,7 +23,7 @@ use Rattle.flat_scene.specs.declared.setup.Setup.{Setup}
 use Rattle.flat_scene.specs.History.{◌▹◌, is_closed, is_session}
 use Rattle.flat_scene.specs.Frames.{waiting}
 use Rattle.flat_scene.specs.Setups.{is_declared}
-use Rattle.flat_scene.proofs.Together.{and-left, and-right}
+use Rattle.flat_base.proofs.lemmas.Tests.{and-left, and-right}
 use Rattle.flat_queue.specs.declared.queue.Kept.{Kept}
 use Rattle.flat_queue.specs.Line.{credits_of}
 use Rattle.flat_snap.specs.declared.snapshot.Snapshot.{Snapshot}
@@ -38,12 +38,12 @@ use Rattle.flat_rules.specs.Posts.{posts}
 use Rattle.flat_states.specs.Presents.{with_present, next_present, present_reply, after_present, with_calls, owed_for}
 use Rattle.flat_states.specs.Seen.{Seen, seen_of}
 use Rattle.flat_rules.specs.Shown.{tree_of}
-use Rattle.flat_states.proofs.Changes.{IsPlainOne, is-session, seen-closed, kept-closed, kept-noted}
-use Rattle.flat_states.proofs.Counts.{kept-waiting, kept-session, declared-some}
-use Rattle.flat_states.proofs.Between.{posted-between}
-use Rattle.flat_states.proofs.Ones.{declared-of, each-one}
+use Rattle.flat_states.proofs.lemmas.Changes.{IsPlainOne, is-session, seen-closed, kept-closed, kept-noted}
+use Rattle.flat_states.proofs.lemmas.Counts.{kept-waiting, kept-session, declared-some}
+use Rattle.flat_states.proofs.lemmas.Between.{posted-between}
+use Rattle.flat_states.proofs.lemmas.Ones.{declared-of, each-one}
 use Rattle.flat_core.proofs.Presented.{seen-presented, kept-presented, presents-few}
-use Rattle.flat_states.proofs.Steps.{unchanged, stands-entered, few-history, legal-entered, room-entered, posts-none}
+use Rattle.flat_states.proofs.lemmas.Steps.{unchanged, stands-entered, few-history, legal-entered, room-entered, posts-none}
 use Rattle.std.proofs.lemmas.Bool.{not-true}
 
 -- a session that makes a present is open

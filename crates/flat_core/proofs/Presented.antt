@@ -26,9 +26,9 @@ use Rattle.flat_states.specs.Kept.{IsKept, Below, kept_of, meant}
 use Rattle.flat_states.specs.Presents.{with_present}
 use Rattle.flat_states.specs.Seen.{Seen, seen_of, account_of, noted}
 use Rattle.std.proofs.lemmas.List.Elements.{All-push}
-use Rattle.flat_rules.proofs.Quiet.{taken-quiet}
-use Rattle.flat_states.proofs.Changes.{is-session}
-use Rattle.flat_scene.proofs.TakingLemmas.{taken-made}
+use Rattle.flat_rules.proofs.lemmas.Quiet.{taken-quiet}
+use Rattle.flat_states.proofs.lemmas.Changes.{is-session}
+use Rattle.flat_scene.proofs.lemmas.TakingLemmas.{taken-made}
 
 published-one : (kind : Kind) (reply : Reply) (made : List Call) → length (published kind reply made) ≤ 1
 published-one (Present args) (Presented n k) made = omega arith

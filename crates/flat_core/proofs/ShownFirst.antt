@@ -8,7 +8,7 @@ use Rattle.flat_scene.specs.declared.trees.Tree.{Tree}
 use Rattle.flat_states.specs.Machines.{Machine, entered}
 use Rattle.flat_rules.specs.Ends.{to_begin}
 use Rattle.flat_rules.specs.Shown.{shown_states}
-use Rattle.flat_rules.proofs.ShownList.{nothing-shown}
+use Rattle.flat_rules.proofs.lemmas.ShownList.{nothing-shown}
 
 -- nothing is shown before any begin
 pub nothing-begun : (m : Machine) (states : List (Option Tree)) → length states ≡ m.setup.sessions → All (λ state. state ≡ None) states → to_begin m.history ≡ [] → states ≡ shown_states m.setup (to_begin m.history)

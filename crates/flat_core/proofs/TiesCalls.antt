@@ -16,10 +16,10 @@ use Rattle.flat_states.specs.Following.{IsBegun, IsIdle, UsesNone}
 use Rattle.flat_states.specs.Kept.{IsKept}
 use Rattle.flat_rules.specs.Legal.{Legal, display_may, goes_on, may_act}
 use Rattle.flat_states.specs.Seen.{seen_of}
-use Rattle.flat_states.proofs.PairIdle.{an-end}
-use Rattle.flat_states.proofs.PairSteps.{no-begin, no-finish, one-session}
-use Rattle.flat_states.proofs.ShownFits.{states-fit}
-use Rattle.flat_states.proofs.ViewHistory.{same-session}
+use Rattle.flat_states.proofs.lemmas.PairIdle.{an-end}
+use Rattle.flat_states.proofs.lemmas.PairSteps.{no-begin, no-finish, one-session}
+use Rattle.flat_states.proofs.lemmas.ShownFits.{states-fit}
+use Rattle.flat_states.proofs.lemmas.ViewHistory.{same-session}
 use Rattle.flat_topology.specs.Fit.{FitsSetup}
 use Rattle.flat_topology.specs.Shown.{Shown}
 use Rattle.std.proofs.lemmas.Bool.{and_right, and_left}

@@ -22,7 +22,7 @@ use Rattle.flat_scene.specs.declared.setup.PairDecl.{PairDecl}
 use Rattle.flat_scene.specs.declared.setup.Setup.{Setup}
 use Rattle.flat_scene.specs.History.{◌▹◌, is_closed, is_session, presents}
 use Rattle.flat_scene.specs.Setups.{is_declared}
-use Rattle.flat_scene.proofs.Together.{and-left, and-right}
+use Rattle.flat_base.proofs.lemmas.Tests.{and-left, and-right}
 use Rattle.flat_states.specs.declared.clock.Clock.{Clock}
 use Rattle.flat_states.specs.declared.live.OutToken.{OutToken}
 use Rattle.flat_states.specs.declared.state.Account.{Account}
@@ -42,19 +42,19 @@ use Rattle.flat_states.specs.Presents.{after_viewport, use_reply, with_calls, Is
 use Rattle.flat_states.specs.Seen.{is_new_viewport, seen_of}
 use Rattle.flat_states.specs.Viewports.{AreViewports, out_of, outs_of}
 use Rattle.flat_gets.specs.Watchers.{IsJoin, IsTelling, is_shut}
-use Rattle.flat_states.proofs.Changes.{IsPlainOne, is-session, kept-closed, kept-noted, seen-closed, seen-noted}
-use Rattle.flat_states.proofs.Counts.{at-session, declared-some, kept-session, few-if}
-use Rattle.flat_gets.proofs.EndSteps.{ends-one, links-made, viewports-closed}
-use Rattle.flat_states.proofs.HasView.{found, any-found}
-use Rattle.flat_states.proofs.Ones.{declared-of, each-one}
-use Rattle.flat_states.proofs.Steps.{legal-entered, room-entered, stands-entered, unchanged}
-use Rattle.flat_states.proofs.TokensBack.{any-flat, pair-is}
-use Rattle.flat_gets.proofs.ViewportUses.{viewports-used}
+use Rattle.flat_states.proofs.lemmas.Changes.{IsPlainOne, is-session, kept-closed, kept-noted, seen-closed, seen-noted}
+use Rattle.flat_states.proofs.lemmas.Counts.{at-session, declared-some, kept-session, few-if}
+use Rattle.flat_gets.proofs.lemmas.EndSteps.{ends-one, links-made, viewports-closed}
+use Rattle.flat_states.proofs.lemmas.HasView.{found, any-found}
+use Rattle.flat_states.proofs.lemmas.Ones.{declared-of, each-one}
+use Rattle.flat_states.proofs.lemmas.Steps.{legal-entered, room-entered, stands-entered, unchanged}
+use Rattle.flat_states.proofs.lemmas.TokensBack.{any-flat, pair-is}
+use Rattle.flat_gets.proofs.lemmas.ViewportUses.{viewports-used}
 use Rattle.std.proofs.lemmas.Bool.{not-true, and_right, and_parts}
 use Rattle.std.specs.Cmp.{both_ways}
-use Rattle.flat_states.proofs.Between.{viewport-nested}
+use Rattle.flat_states.proofs.lemmas.Between.{viewport-nested}
 use Rattle.std.proofs.Math.Bool.{or-false}
-use Rattle.flat_rules.proofs.AllOrSome.{any-same}
+use Rattle.flat_rules.proofs.lemmas.AllOrSome.{any-same}
 
 -- ---- the token
 

@@ -1,4 +1,4 @@
-pub mod Driving
 pub mod Losses
 pub mod Showing
+pub mod lemmas
 mod SmallLosses

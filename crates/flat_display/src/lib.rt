@@ -2,6 +2,9 @@
 //!
 //! What a display was shown is *told* where its type says so. A display that
 //! fails is lost: it is shown no more, and the others go on.
+//!
+//! Other crates may cite the lemmas of proofs/lemmas/: a caller's loop over frames
+//! (Driving).
 #![tactic(auto)]
 
 mod display;

@@ -19,13 +19,13 @@ use Rattle.flat_graph.specs.Names.{key_named}
 use Rattle.flat_graph.specs.Reasons.{create_tests, name_tests, IsFault, IsMisuse}
 use Rattle.flat_graph.specs.Stands as graph_stands
 use Rattle.flat_graph.specs.State.{Creates, GraphState, change_named}
-use Rattle.flat_graph.proofs.StandingLaws as graph_laws
+use Rattle.flat_graph.proofs.lemmas.StandingLaws as graph_laws
 use Rattle.flat_content.specs.Laws as content
 use Rattle.flat_content.specs.Reasons.{given_tests, sort_tests}
 use Rattle.flat_content.specs.Stands as content_stands
 use Rattle.flat_content.specs.Table.{TableState, held_of, made_named, viewport_released}
-use Rattle.flat_content.proofs.Standing.{content_calls_stand}
-use Rattle.flat_content.proofs.Others.{other_calls_stand}
+use Rattle.flat_content.proofs.lemmas.Standing.{content_calls_stand}
+use Rattle.flat_content.proofs.lemmas.Others.{other_calls_stand}
 use Rattle.flat_draft.specs.Answers.{IsApplied, takes_memory}
 use Rattle.flat_draft.specs.Parts.{content_tests, done, made, without_named}
 use Rattle.flat_draft.specs.Stands.{StandsFor}

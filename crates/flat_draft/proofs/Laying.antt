@@ -10,10 +10,10 @@ use Rattle.flat_graph.specs.Reasons.{links_in}
 use Rattle.flat_graph.specs.State.{GraphState, node_at}
 use Rattle.flat_collect.specs.Forest.{size}
 use Rattle.flat_collect.specs.Walking.{below}
-use Rattle.flat_collect.proofs.Walking.{below-first}
+use Rattle.flat_collect.proofs.lemmas.Walking.{below-first}
 use Rattle.flat_content.specs.Table.{TableState}
 use Rattle.flat_snap.specs.Building.{Building, adds, entered, left, with_children}
-use Rattle.flat_snap.proofs.Adding.{adds-none, adds-adds, left-adds}
+use Rattle.flat_snap.proofs.lemmas.Adding.{adds-none, adds-adds, left-adds}
 use Rattle.flat_draft.specs.Shown.{HasRoom, all_shown, leaf, shown_nodes}
 
 module _ (graph : GraphState) (table : TableState) where

@@ -22,11 +22,11 @@ use Rattle.flat_graph.specs.State.{GraphState, IsKept, node_at}
 use Rattle.flat_collect.specs.Forest.{height, size, unfolded}
 use Rattle.flat_collect.specs.Judge.{HasTree, graph_tree}
 use Rattle.flat_collect.specs.Walking.{below}
-use Rattle.flat_collect.proofs.Stands.{Each, each-contained}
-use Rattle.flat_collect.proofs.Walking.{below-first}
+use Rattle.flat_collect.proofs.lemmas.Stands.{Each, each-contained}
+use Rattle.flat_collect.proofs.lemmas.Walking.{below-first}
 use Rattle.flat_content.specs.Stands as content_stands
 use Rattle.flat_content.specs.Table.{TableState}
-use Rattle.flat_content.proofs.Standing.{content_calls_stand}
+use Rattle.flat_content.proofs.lemmas.Standing.{content_calls_stand}
 use Rattle.flat_snap.specs.Building.{with_children}
 use Rattle.flat_draft.specs.Shown.{HasRoom, all_shown, leaf, shown_nodes, shown_tree}
 use Rattle.flat_draft.proofs.Applying.{first-of-more, first-of-rest}

@@ -8,7 +8,7 @@ use Rattle.flat_scene.specs.Draft.{Draft}
 use Rattle.flat_scene.specs.Interleave.{get_tests}
 use Rattle.flat_scene.specs.Misuse.{first_reason}
 use Rattle.flat_content.specs.Table.{pair_of}
-use Rattle.flat_content.proofs.Standing.{content_calls_stand}
+use Rattle.flat_content.proofs.lemmas.Standing.{content_calls_stand}
 use Rattle.flat_draft.specs.Answers.{pair_watched}
 use Rattle.flat_draft.specs.Parts.{watch_tests, watched}
 use Rattle.flat_draft.specs.Stands.{StandsFor}

@@ -1,7 +1,8 @@
 //! One session's private draft: what its calls made of it, and the snapshots that
 //! it presents.
 //!
-//! Other crates may cite the lemma file proofs/Following.
+//! Other crates may cite the lemmas of proofs/lemmas/: what a draft's calls keep
+//! (Following).
 #![tactic(auto)]
 
 mod draft;

@@ -16,7 +16,7 @@ use Rattle.flat_gets.specs.Gets.{watched_by, watcher_for, watcher_of_held, held_
 use Rattle.flat_rules.specs.Local.{pair_watched}
 use Rattle.flat_rules.specs.Watch.{Watcher, layout_of, status_of, child_of, watching, same_watcher}
 use Rattle.flat_gets.proofs.GetHistory.{own-watcher}
-use Rattle.flat_rules.proofs.SameWatchers.{same-is}
+use Rattle.flat_rules.proofs.lemmas.SameWatchers.{same-is}
 use Rattle.std.proofs.lemmas.Bool.{or_parts}
 
 -- ---- one answer

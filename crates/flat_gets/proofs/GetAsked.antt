@@ -33,18 +33,18 @@ use Rattle.flat_rules.specs.Legal.{Legal, MayEnter, answers, got, is_get, is_now
 use Rattle.flat_rules.specs.Local.{pair_watched}
 use Rattle.flat_rules.specs.Posts.{event_of}
 use Rattle.flat_rules.specs.Watch.{Watcher, layout_of, status_of, child_of, watching, told, asked, same_watcher, watcher_of, watcher_in, watcher_of_made, is_watcher}
-use Rattle.flat_rules.proofs.AllOrSome.{flat-nested}
-use Rattle.flat_rules.proofs.SameWatchers.{same-is, same-sym}
-use Rattle.flat_rules.proofs.EventsLocal.{flat-none}
+use Rattle.flat_rules.proofs.lemmas.AllOrSome.{flat-nested}
+use Rattle.flat_rules.proofs.lemmas.SameWatchers.{same-is, same-sym}
+use Rattle.flat_rules.proofs.lemmas.EventsLocal.{flat-none}
 use Rattle.flat_gets.proofs.GetHistory.{own-watcher, hears-open, watchers-heard, watchers-more}
 use Rattle.flat_gets.proofs.GetLists.{with-more}
 use Rattle.flat_gets.proofs.GetOrder.{AreOwn, insert-held, meant-found, watchers-order}
 use Rattle.flat_gets.proofs.GetOwners.{IsMeant, of_layout, of_status, of_child, get-meant, get-open, meant-heard}
 use Rattle.flat_gets.proofs.GetSteps.{answers-more, quiet}
-use Rattle.flat_rules.proofs.Still.{IsStill, told-same, watching-same}
-use Rattle.flat_states.proofs.ViewHistory.{closes-first}
-use Rattle.flat_rules.proofs.Watchers.{after_get, got-one, unasked}
-use Rattle.flat_rules.proofs.ListLemmas.{flat-each, not-some}
+use Rattle.flat_rules.proofs.lemmas.Still.{IsStill, told-same, watching-same}
+use Rattle.flat_states.proofs.lemmas.ViewHistory.{closes-first}
+use Rattle.flat_rules.proofs.lemmas.Watchers.{after_get, got-one, unasked}
+use Rattle.flat_rules.proofs.lemmas.ListLemmas.{flat-each, not-some}
 
 -- ---- what is kept of the watcher that a get means
 

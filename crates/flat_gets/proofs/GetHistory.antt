@@ -27,13 +27,13 @@ use Rattle.flat_rules.specs.Legal.{owns_view, owns_viewport}
 use Rattle.flat_rules.specs.Local.{pair_watched}
 use Rattle.flat_rules.specs.Posts.{told_event, event_of, events_to, at_finish, at_begin, up_to}
 use Rattle.flat_rules.specs.Watch.{Watcher, layout_of, status_of, child_of, watching, told, asked, is_open, listener, watcher_of, watcher_in, watcher_of_made, is_watcher}
-use Rattle.flat_rules.proofs.AllOrSome.{all-append, all-every, all-flat, all-map, flat-nested}
-use Rattle.flat_rules.proofs.SameWatchers.{nothing-settled}
+use Rattle.flat_rules.proofs.lemmas.AllOrSome.{all-append, all-every, all-flat, all-map, flat-nested}
+use Rattle.flat_rules.proofs.lemmas.SameWatchers.{nothing-settled}
 use Rattle.std.proofs.lemmas.Grind.{flat_map-append}
-use Rattle.flat_rules.proofs.EventsLocal.{flat-same, views-owned, viewports-owned, hears-viewport}
-use Rattle.flat_rules.proofs.Watchers.{settled-now, unasked}
+use Rattle.flat_rules.proofs.lemmas.EventsLocal.{flat-same, views-owned, viewports-owned, hears-viewport}
+use Rattle.flat_rules.proofs.lemmas.Watchers.{settled-now, unasked}
 use Rattle.flat_gets.proofs.ViewportSteps.{flat-filtered}
-use Rattle.flat_rules.proofs.ListLemmas.{flat-each}
+use Rattle.flat_rules.proofs.lemmas.ListLemmas.{flat-each}
 use Rattle.std.proofs.lemmas.List.Folds.{flat_map-map}
 
 -- ---- who hears

@@ -17,12 +17,12 @@ use Rattle.flat_rules.specs.Legal.{owns_view, owns_viewport}
 use Rattle.flat_rules.specs.Local.{pair_watched}
 use Rattle.flat_rules.specs.Posts.{up_to}
 use Rattle.flat_rules.specs.Watch.{Watcher, layout_of, status_of, child_of, same_watcher}
-use Rattle.flat_rules.proofs.AllOrSome.{all-append, all-every, all-flat, all-map, any-flat, any-map}
-use Rattle.flat_rules.proofs.SameWatchers.{same-is}
+use Rattle.flat_rules.proofs.lemmas.AllOrSome.{all-append, all-every, all-flat, all-map, any-flat, any-map}
+use Rattle.flat_rules.proofs.lemmas.SameWatchers.{same-is}
 use Rattle.std.proofs.lemmas.List.Folds.{list_any-append}
 use Rattle.flat_gets.proofs.GetOwners.{IsMeant, of_layout, of_status, of_child}
 use Rattle.std.proofs.lemmas.Bool.{or_right, or_left, and_from}
-use Rattle.flat_states.proofs.Between.{view-nested, viewport-nested}
+use Rattle.flat_states.proofs.lemmas.Between.{view-nested, viewport-nested}
 
 -- one watcher answers before another
 abbrev pub precedes : Watcher → Watcher → Bool

@@ -1,7 +1,3 @@
-pub mod Begun
-pub mod BoardBegins
-pub mod DoneSteps
-pub mod EndSteps
 pub mod GetAnswers
 pub mod GetAsked
 pub mod GetBoards
@@ -11,10 +7,8 @@ pub mod GetLists
 pub mod GetMeans
 pub mod GetOrder
 pub mod GetOwners
-pub mod GetPosts
 pub mod GetSteps
 pub mod PairLaws
 pub mod TellingSteps
 pub mod ViewportSteps
-pub mod ViewportUses
-pub mod WatchingSteps
+pub mod lemmas

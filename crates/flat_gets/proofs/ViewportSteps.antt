@@ -21,20 +21,20 @@ use Rattle.flat_states.specs.Lives.{lives_after, count_of, releases_live}
 use Rattle.flat_rules.specs.Posts.{posted, Sent}
 use Rattle.flat_rules.specs.Stamps.{first_at, IsStamp, happens_often, stamp_then}
 use Rattle.flat_states.specs.Viewports.{released_at, out_of, outs_of, AreViewports, marked}
-use Rattle.flat_states.proofs.Earlier.{finished-earlier}
-use Rattle.flat_rules.proofs.EventsLocal.{flat-same, viewports-owned}
-use Rattle.flat_states.proofs.LiveCounts.{lives-append, lived-all, lived, Lived}
+use Rattle.flat_states.proofs.lemmas.Earlier.{finished-earlier}
+use Rattle.flat_rules.proofs.lemmas.EventsLocal.{flat-same, viewports-owned}
+use Rattle.flat_states.proofs.lemmas.LiveCounts.{lives-append, lived-all, lived, Lived}
 use Rattle.flat_gets.proofs.PairLaws.{unused-token}
-use Rattle.flat_rules.proofs.ShownSteps.{closed-before}
-use Rattle.flat_states.proofs.StampSteps.{stamp-of, own-stamp}
-use Rattle.flat_states.proofs.Stamped.{often-lasts, stamp-other, stamped, IsLasting}
-use Rattle.flat_states.proofs.TokenLaw.{counted, seen-then, token-kept}
-use Rattle.flat_states.proofs.TokensBack.{no-token}
-use Rattle.flat_states.proofs.Uses.{uses-other}
-use Rattle.flat_states.proofs.ViewCalls.{times-append}
-use Rattle.flat_states.proofs.ViewHistory.{viewing-of}
-use Rattle.flat_states.proofs.ViewLaw.{good-more}
-use Rattle.flat_rules.proofs.ListLemmas.{flat-mapped, none-put}
+use Rattle.flat_rules.proofs.lemmas.ShownSteps.{closed-before}
+use Rattle.flat_states.proofs.lemmas.StampSteps.{stamp-of, own-stamp}
+use Rattle.flat_states.proofs.lemmas.Stamped.{often-lasts, stamp-other, stamped, IsLasting}
+use Rattle.flat_states.proofs.lemmas.TokenLaw.{counted, seen-then, token-kept}
+use Rattle.flat_states.proofs.lemmas.TokensBack.{no-token}
+use Rattle.flat_states.proofs.lemmas.Uses.{uses-other}
+use Rattle.flat_states.proofs.lemmas.ViewCalls.{times-append}
+use Rattle.flat_states.proofs.lemmas.ViewHistory.{viewing-of}
+use Rattle.flat_states.proofs.lemmas.ViewLaw.{good-more}
+use Rattle.flat_rules.proofs.lemmas.ListLemmas.{flat-mapped, none-put}
 use Rattle.std.proofs.lemmas.List.Elements.{filter-append}
 
 -- ---- lists

@@ -10,7 +10,7 @@ use Rattle.std.proofs.lemmas.Bool.Decides.{eqb_tells, nat_tests}
 use Rattle.flat_graph.specs.declared.nodes.GraphNode.{GraphNode}
 use Rattle.flat_graph.specs.Names.{key_named, names_but, names_with}
 use Rattle.flat_graph.specs.State.{GraphState, IsGraph, IsSound, IsKept, IsMarked, MayKeep, node_at, with_node, new_node, marked_nodes, without_content}
-use Rattle.flat_graph.proofs.NameLemmas.{named-with, named-but, rising-with, rising-but}
+use Rattle.flat_graph.proofs.lemmas.NameLemmas.{named-with, named-but, rising-with, rising-but}
 
 -- a number is a key, or another one
 abbrev pub KeyCases : ℕ → ℕ → Type 0

@@ -14,7 +14,7 @@ use Rattle.flat_graph.specs.declared.nodes.GraphNode.{GraphNode}
 use Rattle.flat_graph.specs.Names.{key_named}
 use Rattle.flat_graph.specs.State.{GraphState, IsKept, node_at, with_node, changed_node, change_at, change_named, with_child, without_child}
 use Rattle.flat_graph.specs.Stands.{StandsFor, IsHeld, serial_at, node_serial, as_transform}
-use Rattle.flat_graph.proofs.DraftNames.{changed-length, changed-same, changed-other}
+use Rattle.flat_graph.proofs.lemmas.DraftNames.{changed-length, changed-same, changed-other}
 use Rattle.flat_graph.proofs.Soundness.{KeyCases, sound-changed, node-changed, in_list}
 
 -- ---- functions that agree

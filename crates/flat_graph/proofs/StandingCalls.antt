@@ -15,8 +15,8 @@ use Rattle.flat_graph.specs.declared.nodes.GraphNode.{GraphNode}
 use Rattle.flat_graph.specs.Names.{key_named, names_but, IsRising}
 use Rattle.flat_graph.specs.State.{GraphState, IsSound, IsKept, IsMarked, MayKeep, Creates, node_at, new_node, without_content, held_but, released, with_root, emptied, without_held, only_marked, empty_graph}
 use Rattle.flat_graph.specs.Stands.{StandsFor, IsHeld, serial_at, serial_of, node_serial, as_transform}
-use Rattle.flat_graph.proofs.NameLemmas as keys
-use Rattle.flat_graph.proofs.DraftNames.{named-append, once-append, named-without, once-without, length-without, of_serial-append, of_serial-last, of_serial-low, of_serial-map}
+use Rattle.flat_graph.proofs.lemmas.NameLemmas as keys
+use Rattle.flat_graph.proofs.lemmas.DraftNames.{named-append, once-append, named-without, once-without, length-without, of_serial-append, of_serial-last, of_serial-low, of_serial-map}
 use Rattle.flat_graph.proofs.Soundness.{AddsNode, created, sound-created, sound-released, sound-without, sound-marked, node-added, node-without, node-kept, node-marked, was-node, some-map}
 use Rattle.flat_graph.proofs.Standing.{option_map-same, transform-same}
 

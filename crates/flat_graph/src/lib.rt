@@ -2,8 +2,8 @@
 //! that name them, and the root. A node lives on without a name for as long as
 //! something may reach it.
 //!
-//! Other crates may cite the lemma files proofs/DraftNames, NameLemmas and
-//! StandingLaws.
+//! Other crates may cite the lemmas of proofs/lemmas/: names, and what stands for a
+//! draft (DraftNames, NameLemmas, StandingLaws).
 #![tactic(auto)]
 
 mod graph;

@@ -15,15 +15,15 @@ use Rattle.flat_script.specs.Forms.{Word, mapped, whole, give}
 use Rattle.flat_script.specs.Head.{empty, first_line, head_line, run_line, is_ready}
 use Rattle.flat_script.specs.Body.{body_line, is_open}
 use Rattle.flat_script.specs.Grammar.{Sofar, words_read, lines_read, IsScript}
-use Rattle.flat_script.proofs.FormLemmas.{mapped_ok, unless_ok}
-use Rattle.flat_print.proofs.AgainLemmas.{with_lines, body_again}
-use Rattle.flat_script.proofs.FoundLemmas.{step_found}
+use Rattle.flat_script.proofs.lemmas.FormLemmas.{mapped_ok, unless_ok}
+use Rattle.flat_print.proofs.lemmas.AgainLemmas.{with_lines, body_again}
+use Rattle.flat_script.proofs.lemmas.FoundLemmas.{step_found}
 use Rattle.flat_playable.specs.Playable.{is_playable, rise_from, frames_close, is_played}
 use Rattle.flat_playable.proofs.BodyLemmas.{FramesKept, open_is, BodyKept, body_empty, body_skipped, body_line_kept}
 use Rattle.flat_playable.proofs.HeadLemmas.{HeadKept, head_empty, step_kept, setup_given}
 use Rattle.std.proofs.lemmas.Bool.{and_from}
-use Rattle.flat_print.proofs.RunLemmas.{NextOk, next_ok, read_at, line_ok, Read}
-use Rattle.flat_print.proofs.TextLemmas.{lines_room, split_room, some_parts}
+use Rattle.flat_print.proofs.lemmas.RunLemmas.{NextOk, next_ok, read_at, line_ok, Read}
+use Rattle.flat_print.proofs.lemmas.TextLemmas.{lines_room, split_room, some_parts}
 
 -- the body
 

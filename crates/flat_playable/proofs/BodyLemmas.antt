@@ -18,10 +18,10 @@ use Rattle.flat_script.specs.Known.{known_words}
 use Rattle.flat_script.specs.Forms.{Word, Reading, mapped, unless_kind, whole, give}
 use Rattle.flat_script.specs.Body.{time_begun, ends_frame, begin_times, dones, is_open, greatest, in_order, begin_place, display_line, session_line, probe_line, actor_line, with_line}
 use Rattle.flat_print.specs.Print.{display_words}
-use Rattle.flat_script.proofs.FormLemmas.{place_ok, whole_ok, unless_ok, mapped_ok}
-use Rattle.flat_print.proofs.BodyWordLemmas.{display_spelt}
-use Rattle.flat_print.proofs.AgainLemmas.{with_lines, Again}
-use Rattle.flat_script.proofs.ParserLemmas.{dones_more}
+use Rattle.flat_script.proofs.lemmas.FormLemmas.{place_ok, whole_ok, unless_ok, mapped_ok}
+use Rattle.flat_print.proofs.lemmas.BodyWordLemmas.{display_spelt}
+use Rattle.flat_print.proofs.lemmas.AgainLemmas.{with_lines, Again}
+use Rattle.flat_script.proofs.lemmas.ParserLemmas.{dones_more}
 use Rattle.flat_playable.specs.Playable.{rise_from, frames_close, is_played}
 use Rattle.flat_playable.proofs.PlayedLemmas.{actor_declared, line_played}
 

@@ -21,11 +21,11 @@ use Rattle.flat_script.specs.Forms.{Word, whole, each, one_or_more, ◌<$>◌}
 use Rattle.flat_script.specs.Names.{session_named, owner_named, is_actor}
 use Rattle.flat_script.specs.Places.{number_from}
 use Rattle.flat_script.specs.Head.{empty, size, side, owner_word, has_display, has_display_pair, is_ready}
-use Rattle.flat_script.proofs.FormLemmas.{both_ok, or_kind_ok, whole_ok, apply_ok, map_ok, place_ok}
-use Rattle.flat_script.proofs.StepLemmas.{SizeStep, SessionStep, BuffersStep, PairStep, FenceStep, Step, size_step, session_step, buffers_step, pair_step, fence_step}
+use Rattle.flat_script.proofs.lemmas.FormLemmas.{both_ok, or_kind_ok, whole_ok, apply_ok, map_ok, place_ok}
+use Rattle.flat_script.proofs.lemmas.StepLemmas.{SizeStep, SessionStep, BuffersStep, PairStep, FenceStep, Step, size_step, session_step, buffers_step, pair_step, fence_step}
 use Rattle.flat_playable.proofs.PlayedLemmas.{within_of, session_declared, owner_declared}
 use Rattle.std.proofs.lemmas.Bool.{and_parts, and_from}
-use Rattle.flat_print.proofs.OrderLemmas.{test_passes}
+use Rattle.flat_print.proofs.lemmas.OrderLemmas.{test_passes}
 
 -- tests
 

@@ -45,9 +45,9 @@ use Rattle.flat_script.specs.Lists.{ends_list}
 use Rattle.flat_script.specs.Body.{fence_lists, present, presents_asked, session_line, display_line, actor_line}
 use Rattle.flat_print.specs.Print.{pair_word, buffers_word, session_word, numbers, call_fields, call_words, lists_words, session_words, display_words}
 use Rattle.flat_print.specs.Print.{fence_word as fence_name}
-use Rattle.flat_script.proofs.FormLemmas.{apply_ok, map_ok, place_ok, whole_ok, unless_ok, or_kind_ok, mapped_ok, both_ok}
-use Rattle.flat_script.proofs.ListLemmas.{pair_of, ListsOk, lists_ok}
-use Rattle.flat_print.proofs.BodyWordLemmas.{display_spelt, session_shown}
+use Rattle.flat_script.proofs.lemmas.FormLemmas.{apply_ok, map_ok, place_ok, whole_ok, unless_ok, or_kind_ok, mapped_ok, both_ok}
+use Rattle.flat_script.proofs.lemmas.ListLemmas.{pair_of, ListsOk, lists_ok}
+use Rattle.flat_print.proofs.lemmas.BodyWordLemmas.{display_spelt, session_shown}
 use Rattle.flat_rules.specs.Owned.{is_played_call, is_played_condition, is_played_line, is_played_display}
 use Rattle.flat_playable.specs.Playable.{is_played}
 use Rattle.std.proofs.Math.Bool.{or-true}

@@ -1,9 +1,4 @@
-pub mod WordLemmas
-pub mod TextLemmas
-pub mod AgainLemmas
 pub mod CallLemmas
 pub mod ListWordLemmas
-pub mod BodyWordLemmas
 pub mod SwapLemmas
-pub mod OrderLemmas
-pub mod RunLemmas
+pub mod lemmas

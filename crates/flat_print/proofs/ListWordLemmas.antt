@@ -12,9 +12,9 @@ use Rattle.flat_script.specs.Places.{fence_word as tested_fence}
 use Rattle.flat_script.specs.Body.{fence_lists}
 use Rattle.flat_script.specs.Lists.{ends_list, behind_end}
 use Rattle.flat_print.specs.Print.{fence_word, list_words}
-use Rattle.flat_script.proofs.FormLemmas.{both_ok}
+use Rattle.flat_script.proofs.lemmas.FormLemmas.{both_ok}
 use Rattle.flat_print.proofs.CallLemmas.{fence_spelt}
-use Rattle.flat_script.proofs.ListLemmas.{stops_before, goes_before, stops_behind, goes_behind, pair_of, ListsOk, lists_ok}
+use Rattle.flat_script.proofs.lemmas.ListLemmas.{stops_before, goes_before, stops_behind, goes_behind, pair_of, ListsOk, lists_ok}
 
 -- tables
 

@@ -6,7 +6,7 @@ use Rattle.std.proofs.lemmas.Grind.{flat_map-append}
 use Rattle.flat_report.specs.declared.page.Page.{Page}
 use Rattle.flat_report.specs.Words.{Word, spaced, text_of, line_of}
 use Rattle.flat_report.specs.Pages.{IsText, Puts, Writes, WritesLines}
-use Rattle.flat_print.proofs.WordLemmas.{spaced-append}
+use Rattle.flat_print.proofs.lemmas.WordLemmas.{spaced-append}
 
 -- ---- bytes
 

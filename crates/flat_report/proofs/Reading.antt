@@ -19,15 +19,15 @@ use Rattle.flat_script.specs.Grammar.{Sofar, is_plain, is_skipped, words_read, l
 use Rattle.flat_script.specs.Head.{empty, first_line, head_line, run_line}
 use Rattle.flat_script.specs.Known.{known_words}
 use Rattle.flat_script.specs.Names.{is_name, place_of}
-use Rattle.flat_print.proofs.AgainLemmas.{with_lines, body_again}
-use Rattle.flat_script.proofs.FormLemmas.{mapped_ok}
-use Rattle.flat_script.proofs.FoundLemmas.{step_found}
-use Rattle.flat_script.proofs.IndexLemmas.{place_there, place_else, no_place}
-use Rattle.flat_script.proofs.StepLemmas.{SessionStep, Step, size_step, session_step, buffers_step, pair_step, fence_step}
-use Rattle.flat_print.proofs.TextLemmas.{lines_room, lines_room-lines_of}
+use Rattle.flat_print.proofs.lemmas.AgainLemmas.{with_lines, body_again}
+use Rattle.flat_script.proofs.lemmas.FormLemmas.{mapped_ok}
+use Rattle.flat_script.proofs.lemmas.FoundLemmas.{step_found}
+use Rattle.flat_script.proofs.lemmas.IndexLemmas.{place_there, place_else, no_place}
+use Rattle.flat_script.proofs.lemmas.StepLemmas.{SessionStep, Step, size_step, session_step, buffers_step, pair_step, fence_step}
+use Rattle.flat_print.proofs.lemmas.TextLemmas.{lines_room, lines_room-lines_of}
 use Rattle.flat_report.specs.Words.{name_at}
 use Rattle.flat_report.proofs.Named.{AreNames, IsNamed, is_spoken}
-use Rattle.flat_print.proofs.OrderLemmas.{name_at_seam, lines_kept}
+use Rattle.flat_print.proofs.lemmas.OrderLemmas.{name_at_seam, lines_kept}
 
 -- ---- what every line keeps
 

@@ -29,11 +29,11 @@ use Rattle.flat_rules.specs.Posts.{up_to, event_of, told_event, at_finish, at_be
 use Rattle.flat_rules.specs.Watch.{Watcher, layout_of, status_of, child_of, watching, told, asked, listener, is_open, watcher_of, watcher_in, watcher_of_made}
 use Rattle.flat_watch.specs.Told.{Watching, answer, answered_by, asking, settled, or_else}
 use Rattle.flat_rules.proofs.FirstNewsLemmas.{IsGet, is-get}
-use Rattle.flat_rules.proofs.Locality.{same-number, session-of}
+use Rattle.flat_rules.proofs.lemmas.Locality.{same-number, session-of}
 use Rattle.flat_rules.proofs.MadeUses.{was_used, call_passes, made_passes, draft-passes, no-links, calls-used}
-use Rattle.flat_rules.proofs.AllOrSome.{all-append}
-use Rattle.flat_rules.proofs.OwnedTree.{at-serial}
-use Rattle.flat_rules.proofs.ShownOwned.{ok-is}
+use Rattle.flat_rules.proofs.lemmas.AllOrSome.{all-append}
+use Rattle.flat_rules.proofs.lemmas.OwnedTree.{at-serial}
+use Rattle.flat_rules.proofs.lemmas.ShownOwned.{ok-is}
 
 -- ---- members of lists
 

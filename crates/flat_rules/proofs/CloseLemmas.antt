@@ -8,10 +8,10 @@ use Rattle.flat_scene.specs.declared.journal.Kind.{Kind}
 use Rattle.flat_scene.specs.declared.journal.Kind.TheVariants.{Close}
 use Rattle.flat_scene.specs.declared.setup.Setup.{Setup}
 use Rattle.flat_scene.specs.History.{closes}
-use Rattle.flat_scene.proofs.Steps.{closes-own}
+use Rattle.flat_scene.proofs.lemmas.Steps.{closes-own}
 use Rattle.flat_rules.specs.Closing.{RefusalCloses, CloseCloses, OtherRepliesCloseNone}
 use Rattle.flat_rules.specs.Legal.{is_close, reply_to}
-use Rattle.flat_rules.proofs.Quiet.{closed-quiet}
+use Rattle.flat_rules.proofs.lemmas.Quiet.{closed-quiet}
 
 pub refusal-closes : RefusalCloses
 refusal-closes before entry refused = record { itself = λ s mine. rw (mine, refused) refl; others = λ s other. closes-own s before entry other }

@@ -16,11 +16,11 @@ use Rattle.flat_scene.specs.declared.journal.Reply.TheVariants.{Presented}
 use Rattle.flat_scene.specs.declared.setup.Setup.{Setup}
 use Rattle.flat_scene.specs.Frames.{is_signalled, takes, taken, credits}
 use Rattle.flat_scene.specs.History.{◌▹◌, is_session, is_closed, presents, published, calls, Published}
-use Rattle.flat_scene.proofs.Steps.{presents-own, presents-other}
-use Rattle.flat_scene.proofs.TakingLemmas.{taken-made}
+use Rattle.flat_scene.proofs.lemmas.Steps.{presents-own, presents-other}
+use Rattle.flat_scene.proofs.lemmas.TakingLemmas.{taken-made}
 use Rattle.flat_rules.specs.Legal.{Legal, LegalEntry, reply_to, reply_to_present}
 use Rattle.flat_rules.specs.Laws.{CreditsAddUp}
-use Rattle.flat_rules.proofs.Locality.{same-session}
+use Rattle.flat_rules.proofs.lemmas.Locality.{same-session}
 
 -- how many may wait, by how many were taken
 abbrev most : ℕ → ℕ

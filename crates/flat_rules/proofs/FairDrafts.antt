@@ -18,8 +18,8 @@ use Rattle.flat_scene.specs.declared.setup.Setup.{Setup}
 use Rattle.flat_scene.specs.Draft.{Draft, Transform, Image, Solid, Made, an_image, a_fill, a_viewport, changed_at, empty_draft, transform_of, content_of, made_of, new_transform}
 use Rattle.flat_scene.specs.Effect.{effect, on_image, on_viewport, on_fill, draft_of, after_call, after_calls, unless, changed_if, new_image}
 use Rattle.flat_scene.specs.Misuse.{misuse, first_reason, Test, names_transform, names_content, is_new_content, is_image, is_bad_image, is_bad_index, is_bad_rect, leaves_made, is_full}
-use Rattle.flat_scene.proofs.Together.{and-left, and-right}
-use Rattle.flat_rules.proofs.AllOrSome.{all-append}
+use Rattle.flat_base.proofs.lemmas.Tests.{and-left, and-right}
+use Rattle.flat_rules.proofs.lemmas.AllOrSome.{all-append}
 
 -- ---- what is asked
 

@@ -20,7 +20,7 @@ use Rattle.flat_scene.specs.declared.trees.Content.{Content}
 use Rattle.flat_scene.specs.declared.trees.Content.TheVariants as content
 use Rattle.flat_scene.specs.declared.trees.Node.{Node}
 use Rattle.flat_scene.specs.Trees.{first}
-use Rattle.flat_scene.proofs.Together.{and-left, and-right}
+use Rattle.flat_base.proofs.lemmas.Tests.{and-left, and-right}
 use Rattle.flat_topology.specs.declared.Placed.{Placed}
 use Rattle.flat_topology.specs.Draw.{Painting, painting_of, item_of, node_item, items_of, visible_rect, scene_matrix}
 use Rattle.flat_topology.specs.Join.{JoinedTree, Viewer, viewer_from, is_view_of, linked_to, joined_nodes, viewed, led_to, led_from}
@@ -29,7 +29,7 @@ use Rattle.flat_topology.specs.Place.{Space, seen_through, sized_rect, node_spac
 use Rattle.flat_topology.specs.Shown.{Shown, nodes_of, view_of}
 use Rattle.flat_rules.specs.Drawable.{IsWithin, IsSample, HasSample, IsDrawable, ItemsAreDrawable}
 use Rattle.flat_rules.specs.Shown.{shown_states}
-use Rattle.flat_rules.proofs.AllOrSome.{all-append}
+use Rattle.flat_rules.proofs.lemmas.AllOrSome.{all-append}
 use Rattle.flat_rules.proofs.FairDrafts.{is_dim, is_sample}
 use Rattle.flat_rules.proofs.FairTrees.{is_fair_content, are_fair, states-fair}
 

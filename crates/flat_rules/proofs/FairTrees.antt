@@ -19,12 +19,12 @@ use Rattle.flat_scene.specs.Frames.{sessions_to}
 use Rattle.flat_scene.specs.History.{is_closed, Published}
 use Rattle.flat_scene.specs.Tree.{tree, all_nodes, node, node_within, each, content_held, shown_content, head_of, use_of}
 use Rattle.flat_scene.specs.Trees.{first, more, fold_nodes}
-use Rattle.flat_scene.proofs.Presented.{tree-unfolded}
+use Rattle.flat_scene.proofs.lemmas.Presented.{tree-unfolded}
 use Rattle.flat_topology.specs.Shown.{nodes_of, root_alone}
 use Rattle.flat_rules.specs.Shown.{shown, shown_states, tree_of, last_taken}
 use Rattle.flat_rules.proofs.FairDrafts.{IsFair, is_dim, is_sample, is_fair_made, is_fair_transform, draft-fair}
-use Rattle.flat_rules.proofs.OwnedTree.{at-serial}
-use Rattle.flat_rules.proofs.ShownOwned.{ok-is}
+use Rattle.flat_rules.proofs.lemmas.OwnedTree.{at-serial}
+use Rattle.flat_rules.proofs.lemmas.ShownOwned.{ok-is}
 
 -- an image shows a part of its buffer, and isn't too opaque
 abbrev pub is_fair_content : Option Content → Bool

@@ -19,10 +19,10 @@ use Rattle.flat_rules.specs.Legal.{Legal, LegalEntry, MayEnter, owns_in_kind, va
 use Rattle.flat_rules.specs.Local.{pair_watched}
 use Rattle.flat_rules.specs.Watch.{Watcher, watcher_of}
 use Rattle.flat_rules.proofs.FramesLocal.{took-only, credits-only, signalled-only}
-use Rattle.flat_rules.proofs.Locality.{own-only, same-number, entry-owned}
-use Rattle.flat_rules.proofs.RepliesLocal.{frame-open-only, begin-time-only, frames-only, token-only, unread-only, answers-only}
+use Rattle.flat_rules.proofs.lemmas.Locality.{own-only, same-number, entry-owned}
+use Rattle.flat_rules.proofs.lemmas.RepliesLocal.{frame-open-only, begin-time-only, frames-only, token-only, unread-only, answers-only}
 use Rattle.flat_rules.proofs.ToldLocal.{IsFamilyPair, told-only, views-only}
-use Rattle.flat_rules.proofs.WatchLocal.{watching-only, pair-of-view, pair-of-viewport, asked-kept-by, watcher-pair}
+use Rattle.flat_rules.proofs.lemmas.WatchLocal.{watching-only, pair-of-view, pair-of-viewport, asked-kept-by, watcher-pair}
 
 module _ (setup : Setup) (of_family : SessionNo → Bool) (closed : IsClosedFamily setup of_family) where
   module _ (before : List Entry) (e : Entry) (legal : Legal setup (before ▹ e)) where

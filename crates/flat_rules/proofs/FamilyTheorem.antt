@@ -9,7 +9,7 @@ use Rattle.flat_scene.specs.History.{◌▹◌}
 use Rattle.flat_rules.specs.Laws.{moments, kept_moments, is_quiet, IsFamilyLaw}
 use Rattle.flat_rules.specs.Legal.{Legal}
 use Rattle.flat_rules.specs.Local.{FamiliesAreAlone}
-use Rattle.flat_rules.proofs.EventsLocal.{events-kept, events-dropped}
+use Rattle.flat_rules.proofs.lemmas.EventsLocal.{events-kept, events-dropped}
 use Rattle.flat_rules.proofs.FamilyHistory.{legal-only}
 use Rattle.flat_rules.proofs.FramesLocal.{closed-family}
 

@@ -1,6 +1,7 @@
 -- A get is answered by the first news.
 use Rattle.std.proofs.Common.{◌≡◌, ◌∙◌, Bool, true, false, cond, List, [], ◌++◌, refl, sym, ap, Option, Some, None}
 use Rattle.std.specs.Prelude.{◌||◌, is_some}
+use Rattle.flat_base.proofs.lemmas.Tests.{none-left, none-right}
 use Rattle.flat_base.specs.declared.ids.PairNo.{PairNo}
 use Rattle.flat_scene.specs.declared.calls.Watch.{Watch}
 use Rattle.flat_scene.specs.declared.journal.Entry.{Entry}
@@ -15,17 +16,9 @@ use Rattle.flat_rules.specs.Local.{pair_watched}
 use Rattle.flat_rules.specs.Posts.{told_event, event_of}
 use Rattle.flat_rules.specs.Watch.{Watcher, watching, told, asked, asked_in, listener, is_watcher, watcher_of}
 use Rattle.flat_watch.specs.Told.{Watching, news, or_else, answer, answered_by, settled, asking}
-use Rattle.flat_rules.proofs.SameWatchers.{same-is}
-use Rattle.flat_rules.proofs.Still.{IsStill, open-before, told-same}
-use Rattle.flat_rules.proofs.WatchLocal.{asking-none}
-
-or-left : (a b : Bool) → (a || b) ≡ false → a ≡ false
-or-left true b both = both
-or-left false b both = refl
-
-or-right : (a b : Bool) → (a || b) ≡ false → b ≡ false
-or-right true b both = absurd (let h : true ≡ false = both in cc)
-or-right false b both = both
+use Rattle.flat_rules.proofs.lemmas.SameWatchers.{same-is}
+use Rattle.flat_rules.proofs.lemmas.Still.{IsStill, open-before, told-same}
+use Rattle.flat_rules.proofs.lemmas.WatchLocal.{asking-none}
 
 none-asked : (o : Option Watch) → is_some o ≡ false → o ≡ None
 none-asked None none = refl
@@ -117,9 +110,9 @@ module _ (setup : Setup) where
     holds (later ▹ next) none heard =
         let history : List Entry = later ++ (before ▹ entry) in
         let earlier : watching setup watcher history ≡ standing last get (first_news setup watcher last (before ▹ entry) later) =
-        holds later (or-left (is_asked setup watcher (before ▹ entry) later) (is_some (asked setup watcher history next)) none) (heard-before watcher history next heard) in
+        holds later (none-left (is_asked setup watcher (before ▹ entry) later) (is_some (asked setup watcher history next)) none) (heard-before watcher history next heard) in
         let unasked : asked setup watcher history next ≡ None =
-        none-asked (asked setup watcher history next) (or-right (is_asked setup watcher (before ▹ entry) later) (is_some (asked setup watcher history next)) none) in
+        none-asked (asked setup watcher history next) (none-right (is_asked setup watcher (before ▹ entry) later) (is_some (asked setup watcher history next)) none) in
         unasked-step watcher history next unasked
         ∙ (λ i. settled (heard i) (told setup (history ▹ next) watcher) (earlier i))
         ∙ step last get (first_news setup watcher last (before ▹ entry) later) (told setup (history ▹ next) watcher)
@@ -149,9 +142,9 @@ unasked-stays setup watcher from [] free none = refl
 unasked-stays setup watcher from (later ▹ next) free none =
     let history : List Entry = later ++ from in
     let earlier : watching setup watcher history ≡ watching setup watcher from =
-    unasked-stays setup watcher from later free (or-left (is_asked setup watcher from later) (is_some (asked setup watcher history next)) none) in
+    unasked-stays setup watcher from later free (none-left (is_asked setup watcher from later) (is_some (asked setup watcher history next)) none) in
     let unasked : asked setup watcher history next ≡ None =
-    none-asked (asked setup watcher history next) (or-right (is_asked setup watcher from later) (is_some (asked setup watcher history next)) none) in
+    none-asked (asked setup watcher history next) (none-right (is_asked setup watcher from later) (is_some (asked setup watcher history next)) none) in
     unasked-step setup watcher history next unasked
     ∙ rests (is_heard setup watcher (history ▹ next)) (told setup (history ▹ next) watcher) (watching setup watcher history) (ap (λ (w : Watching). w.waits) earlier ∙ free)
     ∙ earlier

@@ -11,11 +11,11 @@ use Rattle.flat_scene.specs.Family.{family, only, IsClosedFamily}
 use Rattle.flat_scene.specs.Frames.{is_signalled, taken, going, credits, releases, is_among, is_released_by, sessions_to}
 use Rattle.flat_scene.specs.History.{presents, Published}
 use Rattle.flat_scene.specs.Setups.{owners_declared}
-use Rattle.flat_scene.proofs.FamilyLeast.{family-is-least}
+use Rattle.flat_scene.proofs.lemmas.FamilyLeast.{family-is-least}
 use Rattle.flat_rules.specs.Legal.{Legal, owns_fence}
 use Rattle.flat_rules.specs.Local.{PresentsAreLocal, SignalledIsLocal, TakenIsLocal, CreditsAreLocal, GoingIsLocal, ReleasedIsLocal}
-use Rattle.flat_rules.proofs.Locality.{IsOfFamily, frames-local, own-only, released-same}
-use Rattle.flat_rules.proofs.AllOrSome.{any-same}
+use Rattle.flat_rules.proofs.lemmas.Locality.{IsOfFamily, frames-local, own-only, released-same}
+use Rattle.flat_rules.proofs.lemmas.AllOrSome.{any-same}
 
 pub closed-family : (setup : Setup) → owners_declared setup ≡ true → (s : SessionNo) → IsClosedFamily setup (family setup s)
 closed-family setup owners s = (family-is-least setup owners s).closed

@@ -19,15 +19,15 @@ use Rattle.flat_scene.specs.Trees.{first}
 use Rattle.flat_topology.specs.Join.{JoinedTree, Viewer, viewer_from, is_view_of, linked_to, joined_nodes, viewed, led_to, led_from, sessions_in, is_joined}
 use Rattle.flat_topology.specs.Pairs.{display_pair}
 use Rattle.flat_topology.specs.Shown.{state_of, view_of, nodes_of, pair_in, pairs_in}
-use Rattle.flat_topology.proofs.Distances.{viewer-state}
+use Rattle.flat_topology.proofs.lemmas.Distances.{viewer-state}
 use Rattle.flat_rules.specs.Ends.{view_owner}
 use Rattle.flat_rules.specs.Legal.{owns_view}
-use Rattle.flat_rules.proofs.Locality.{same-session}
-use Rattle.flat_rules.proofs.Owned.{view_owned}
-use Rattle.flat_rules.proofs.OwnedTree.{owns, pair_no}
-use Rattle.flat_rules.proofs.ShownOwned.{IsShownOwned, joined-at, joined-back}
+use Rattle.flat_rules.proofs.lemmas.Locality.{same-session}
+use Rattle.flat_rules.proofs.lemmas.Owned.{view_owned}
+use Rattle.flat_rules.proofs.lemmas.OwnedTree.{owns, pair_no}
+use Rattle.flat_rules.proofs.lemmas.ShownOwned.{IsShownOwned, joined-at, joined-back}
 use Rattle.std.proofs.lemmas.Bool.{false_from_ne_true}
-use Rattle.flat_rules.proofs.ShownList.{within-or-past}
+use Rattle.flat_rules.proofs.lemmas.ShownList.{within-or-past}
 
 -- ---- the states of all sessions
 

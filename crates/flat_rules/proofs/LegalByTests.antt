@@ -7,7 +7,7 @@ use Rattle.flat_scene.specs.declared.journal.Entry.{Entry}
 use Rattle.flat_scene.specs.declared.journal.Kind.{Kind}
 use Rattle.flat_scene.specs.declared.setup.Setup.{Setup}
 use Rattle.flat_scene.specs.History.{◌▹◌}
-use Rattle.flat_scene.proofs.Together.{and-left, and-right}
+use Rattle.flat_base.proofs.lemmas.Tests.{and-left, and-right}
 use Rattle.flat_rules.specs.Legal.{Legal, MayEnter, reply_to, may_act, goes_on, keeps_time, has_draft, own_call, links_alone, owns_all, names_declared, has_tree, draft_with, has_watcher}
 
 -- all that an entry must meet, as one test

@@ -20,14 +20,14 @@ use Rattle.flat_scene.specs.Draft.{Draft, Image, Solid, Made, an_image, a_fill, 
 use Rattle.flat_scene.specs.Effect.{effect, on_image, on_viewport, on_fill, draft_of, after_call, after_calls, unless, changed_if}
 use Rattle.flat_scene.specs.History.{◌▹◌, own, is_session, is_closed, closes, calls}
 use Rattle.flat_scene.specs.Misuse.{misuse}
-use Rattle.flat_scene.proofs.Together.{and-left, and-right}
+use Rattle.flat_base.proofs.lemmas.Tests.{and-left, and-right}
 use Rattle.flat_rules.specs.Ends.{viewport_uses, uses_viewport, is_done}
 use Rattle.flat_rules.specs.Legal.{Legal, LegalEntry, is_link, all_but_last, links_alone, own_call, makes_view, makes_viewport, has_token, refused_token, reply_to}
-use Rattle.flat_rules.proofs.AllOrSome.{all-append}
+use Rattle.flat_rules.proofs.lemmas.AllOrSome.{all-append}
 use Rattle.flat_rules.proofs.CloseLemmas.{close-refused}
 use Rattle.flat_rules.proofs.FairDrafts.{all-changed-if}
-use Rattle.flat_rules.proofs.Locality.{same-number}
-use Rattle.flat_rules.proofs.ShownSteps.{closed-before}
+use Rattle.flat_rules.proofs.lemmas.Locality.{same-number}
+use Rattle.flat_rules.proofs.lemmas.ShownSteps.{closed-before}
 
 -- ---- drafts: each viewport's pair passes a test that the pairs of all calls pass
 

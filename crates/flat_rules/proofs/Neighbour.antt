@@ -33,13 +33,13 @@ use Rattle.flat_rules.specs.Local.{GlimpsesDecideOutcomes, OthersPostNone}
 use Rattle.flat_rules.specs.Posts.{event_of, told_event, at_finish, at_begin, news_for, events_to, posted, up_to}
 use Rattle.flat_rules.specs.Watch.{Watcher, layout_of, status_of, child_of, watching, told}
 use Rattle.flat_watch.specs.Told.{answer}
-use Rattle.flat_rules.proofs.EventsLocal.{same-credits}
-use Rattle.flat_rules.proofs.Locality.{entry-owned, same-session, same-number}
-use Rattle.flat_rules.proofs.RepliesLocal.{any-sent-none, any-sent-same, token-at-finish, token-elsewhere}
-use Rattle.flat_scene.proofs.Steps.{presents-own, presents-other}
-use Rattle.flat_rules.proofs.WatchLocal.{one-view, one-viewport}
+use Rattle.flat_rules.proofs.lemmas.EventsLocal.{same-credits}
+use Rattle.flat_rules.proofs.lemmas.Locality.{entry-owned, same-session, same-number}
+use Rattle.flat_rules.proofs.lemmas.RepliesLocal.{any-sent-none, any-sent-same, token-at-finish, token-elsewhere}
+use Rattle.flat_scene.proofs.lemmas.Steps.{presents-own, presents-other}
+use Rattle.flat_rules.proofs.lemmas.WatchLocal.{one-view, one-viewport}
 use Rattle.std.proofs.lemmas.Bool.{false_from_ne_true}
-use Rattle.flat_rules.proofs.Quiet.{takes-none, closes-waited}
+use Rattle.flat_rules.proofs.lemmas.Quiet.{takes-none, closes-waited}
 
 -- all sessions are a closed family
 pub everyone : (setup : Setup) → IsClosedFamily setup (λ t. true)

@@ -4,6 +4,7 @@ use Rattle.std.proofs.lemmas.Bool.Decides.{nat_tests}
 use Rattle.std.proofs.lemmas.Grind.{reverse_onto}
 use Rattle.std.proofs.lemmas.List.{reverse-append}
 use Rattle.std.proofs.lemmas.List.Elements.{filter-append}
+use Rattle.flat_base.proofs.lemmas.Tests.{and-left, and-right}
 use Rattle.flat_base.specs.declared.ids.Actor.{Actor}
 use Rattle.flat_base.specs.declared.ids.Actor.TheVariants.{Display, Session, Probe}
 use Rattle.flat_base.specs.declared.ids.SessionNo.{SessionNo}
@@ -15,18 +16,10 @@ use Rattle.flat_scene.specs.declared.journal.Kind.TheVariants.{Close, Begin, Fin
 use Rattle.flat_scene.specs.declared.setup.Setup.{Setup}
 use Rattle.flat_scene.specs.History.{◌▹◌, own, is_session, is_display, is_begin, is_finish, seat_number, history_of}
 use Rattle.flat_scene.specs.Setups.{is_declared}
-use Rattle.flat_scene.proofs.Steps.{own-kept}
+use Rattle.flat_scene.proofs.lemmas.Steps.{own-kept}
 use Rattle.flat_rules.specs.Ends.{to_begin}
 use Rattle.flat_rules.specs.Legal.{Legal, has_draft, time_of, may_act, session_may}
 use Rattle.flat_rules.specs.Seats.{of_display, SeatsTellActors, SessionsKnowThemselves, KnowsFrames, DisplayKnowsFrames, BeginStays, JournalsKeepSeats, BeginIsSeen}
-
-and-left : (a b : Bool) → (a && b) ≡ true → a ≡ true
-and-left true b both = refl
-and-left false b both = both
-
-and-right : (a b : Bool) → (a && b) ≡ true → b ≡ true
-and-right true b both = both
-and-right false b both = absurd (cc)
 
 -- ---- numbers
 

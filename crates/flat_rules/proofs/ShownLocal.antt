@@ -11,9 +11,9 @@ use Rattle.flat_rules.specs.Legal.{Legal}
 use Rattle.flat_rules.specs.Shown.{shown, is_connected}
 use Rattle.flat_rules.proofs.FramesLocal.{took-only}
 use Rattle.flat_rules.proofs.JoinedLocal.{joined-same}
-use Rattle.flat_rules.proofs.Locality.{own-only, own-others}
-use Rattle.flat_rules.proofs.ShownOwned.{shown-owned}
-use Rattle.flat_rules.proofs.AllOrSome.{any-same}
+use Rattle.flat_rules.proofs.lemmas.Locality.{own-only, own-others}
+use Rattle.flat_rules.proofs.lemmas.ShownOwned.{shown-owned}
+use Rattle.flat_rules.proofs.lemmas.AllOrSome.{any-same}
 
 pub or-swap : (a b : Bool) → (a || b) ≡ (b || a)
 or-swap a b = grind arith

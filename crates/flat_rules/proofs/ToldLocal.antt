@@ -21,7 +21,7 @@ use Rattle.flat_rules.specs.Shown.{shown_view, is_pair, is_connected}
 use Rattle.flat_rules.specs.Local.{pair_watched}
 use Rattle.flat_rules.specs.Watch.{Watcher, layout_of, status_of, child_of, told, shows_view, is_connected_by, are_joined, is_used, props_seen, props_told}
 use Rattle.flat_rules.proofs.FramesLocal.{took-only}
-use Rattle.flat_rules.proofs.Locality.{own-only, entry-owned, same-number, session-of}
+use Rattle.flat_rules.proofs.lemmas.Locality.{own-only, entry-owned, same-number, session-of}
 use Rattle.flat_rules.proofs.ShownLocal.{shown-only, connected-only}
 use Rattle.std.proofs.lemmas.Bool.{false_from_ne_true}
 

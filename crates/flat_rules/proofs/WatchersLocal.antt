@@ -4,14 +4,14 @@ use Rattle.flat_base.specs.declared.ids.PairNo.{PairNo}
 use Rattle.flat_base.specs.declared.ids.SessionNo.{SessionNo}
 use Rattle.flat_scene.specs.declared.setup.Setup.{Setup}
 use Rattle.flat_scene.specs.Family.{family, IsClosedFamily}
-use Rattle.flat_scene.proofs.Together.{or-cases}
+use Rattle.flat_base.proofs.lemmas.Tests.{or-cases}
 use Rattle.flat_rules.specs.Legal.{owns_view, owns_viewport}
 use Rattle.flat_rules.specs.Local.{pair_watched, owns_end, ShownIsLocal, ConnectedIsLocal, ToldIsLocal, WatchingIsLocal, AnswersAreLocal}
 use Rattle.flat_rules.proofs.FramesLocal.{closed-family}
-use Rattle.flat_rules.proofs.RepliesLocal.{answers-only}
+use Rattle.flat_rules.proofs.lemmas.RepliesLocal.{answers-only}
 use Rattle.flat_rules.proofs.ShownLocal.{shown-only, connected-only}
 use Rattle.flat_rules.proofs.ToldLocal.{IsFamilyPair, told-only}
-use Rattle.flat_rules.proofs.WatchLocal.{watching-only, pair-of-view, pair-of-viewport}
+use Rattle.flat_rules.proofs.lemmas.WatchLocal.{watching-only, pair-of-view, pair-of-viewport}
 
 -- a pair of which one of the family owns an end is the family's
 pub pair-of-end : (setup : Setup) (of_family : SessionNo → Bool) (closed : IsClosedFamily setup of_family) (t : SessionNo) (p : PairNo) → of_family t ≡ true → owns_end setup t p ≡ true

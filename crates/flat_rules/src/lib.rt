@@ -1,10 +1,8 @@
 //! The rules of the scene service: which histories are legal, what is told to whom
 //! and when, and which events are posted; with the laws about them.
 //!
-//! Other crates may cite the lemma files proofs/AllOrSome, EventsLocal, ListLemmas,
-//! Locality, MoreRuns, Owned, OwnedTree, Quiet, RepliesLocal, Runs, SameWatchers,
-//! Samples, ShellRun, ShownList, ShownOwned, ShownSteps, Still, WatchLocal and
-//! Watchers.
+//! Other crates may cite the lemmas of proofs/lemmas/: steps of histories and lists,
+//! what stays the same, and what is local to a family.
 #![tactic(auto)]
 
 mod answers;

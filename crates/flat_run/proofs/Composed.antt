@@ -23,12 +23,12 @@ use Rattle.flat_tree.specs.Trees.{tree_from}
 use Rattle.flat_report.specs.Report.{frame_at}
 use Rattle.flat_run.specs.Playing.{FramesStand, HasViews}
 use Rattle.flat_rules.specs.Laws.{BegunStatesFit, EachSessionHasOneState}
-use Rattle.flat_run.proofs.Conditions.{and_left, and_right, and_true}
+use Rattle.flat_base.proofs.lemmas.Tests.{and-left, and-right, and-true}
 
 pub few_sessions : (setup : Setup) → is_setup setup ≡ true → setup.sessions ≤ SESSIONS_MAX
 few_sessions setup is =
-    let within : (nat_lt 0 setup.sessions && nat_le setup.sessions SESSIONS_MAX) ≡ true = and_right _ _ (and_left _ _ (and_left _ _ (and_left _ _ (and_left _ _ (and_left _ _ (and_left _ _ is)))))) in
-    let few : nat_le setup.sessions SESSIONS_MAX ≡ true = and_right (nat_lt 0 setup.sessions) _ within in
+    let within : (nat_lt 0 setup.sessions && nat_le setup.sessions SESSIONS_MAX) ≡ true = and-right _ _ (and-left _ _ (and-left _ _ (and-left _ _ (and-left _ _ (and-left _ _ (and-left _ _ is)))))) in
+    let few : nat_le setup.sessions SESSIONS_MAX ≡ true = and-right (nat_lt 0 setup.sessions) _ within in
     grind (arith, nat_tests)
 
 module _ (setup : Setup) (history : List Entry) (shown : Shown) (views : SessionSet) (done : List FrameOut) (stands : FramesStand setup history shown views done) where
@@ -41,7 +41,7 @@ module _ (setup : Setup) (history : List Entry) (shown : Shown) (views : Session
   set_of : HasViews setup views → IsSetOf setup (λ s. has_view setup (to_begin history) (record { 0 = s })) views
   set_of none = record {
     within = λ s above below.
-        let declared : is_declared setup (record { 0 = s }) ≡ true = and_true (let a : nat_lt 0 s ≡ true = grind (arith, nat_tests) in a) (let b : nat_le s setup.sessions ≡ true = grind (arith, nat_tests) in b) in
+        let declared : is_declared setup (record { 0 = s }) ≡ true = and-true (let a : nat_lt 0 s ≡ true = grind (arith, nat_tests) in a) (let b : nat_le s setup.sessions ≡ true = grind (arith, nat_tests) in b) in
         stands.viewing (record { 0 = s }) declared;
     beyond = none;
   }

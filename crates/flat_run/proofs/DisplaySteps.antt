@@ -45,7 +45,7 @@ use Rattle.flat_run.specs.declared.game.LastFrame.{LastFrame}
 use Rattle.flat_run.proofs.Displayed.{display_more}
 use Rattle.flat_run.proofs.Growing.{is_quiet}
 use Rattle.flat_run.proofs.Steps.{At}
-use Rattle.flat_run.proofs.Conditions.{and_left, and_right}
+use Rattle.flat_base.proofs.lemmas.Tests.{and-left, and-right}
 use Rattle.flat_run.proofs.Unread.{unread_after, Numbered}
 
 -- ---- kinds that are quiet
@@ -123,7 +123,7 @@ module _ (script : Script) (place : ℕ) (x : ScriptLine) (at : At script place 
 
   -- a begin
   pub begin_time_ok : (time : ℕ) → x.body ≡ body.Display (display.Begin time) → (old : List Entry) → DisplayStands script place old → (not (is_frame_open old) && nat_le (begin_time old) time) ≡ true
-  begin_time_ok time is old stands = and_left _ _ (closing (display.Begin time) is old stands)
+  begin_time_ok time is old stands = and-left _ _ (closing (display.Begin time) is old stands)
 
   pub display_begin : (time : ℕ) → x.body ≡ body.Display (display.Begin time) → (old : List Entry) → DisplayStands script place old → DisplayStands script (place + 1) (old ▹ entry_of Display x.number [] (Begin time) Done)
   display_begin time is old stands =
@@ -132,12 +132,12 @@ module _ (script : Script) (place : ℕ) (x : ScriptLine) (at : At script place 
         follows = display_more (display_lines script.lines) (by_display old) e x.number (display.Begin time) (display_lines (drop (place + 1) script.lines)) stands.follows
             (stands.left ∙ next_is (display.Begin time) is) (record { line = refl; carried = refl; kind = refl });
         left = later_is (by_display old) e refl;
-        closing = and_right _ _ (closing (display.Begin time) is old stands);
+        closing = and-right _ _ (closing (display.Begin time) is old stands);
       }
 
   -- a done
   pub done_ok : x.body ≡ body.Display display.Done → (old : List Entry) → DisplayStands script place old → is_frame_open old ≡ true
-  done_ok is old stands = and_left _ _ (closing display.Done is old stands)
+  done_ok is old stands = and-left _ _ (closing display.Done is old stands)
 
   pub display_done : x.body ≡ body.Display display.Done → (old : List Entry) → DisplayStands script place old → DisplayStands script (place + 1) (old ▹ entry_of Display x.number [] Finish Done)
   display_done is old stands =
@@ -146,7 +146,7 @@ module _ (script : Script) (place : ℕ) (x : ScriptLine) (at : At script place 
         follows = display_more (display_lines script.lines) (by_display old) e x.number display.Done (display_lines (drop (place + 1) script.lines)) stands.follows
             (stands.left ∙ next_is display.Done is) (record { line = refl; carried = refl; kind = refl });
         left = later_is (by_display old) e refl;
-        closing = and_right _ _ (closing display.Done is old stands);
+        closing = and-right _ _ (closing display.Done is old stands);
       }
 
   -- a line that begins no frame and ends none

@@ -20,7 +20,7 @@ use Rattle.flat_rules.specs.Legal.{Legal, frames, may_act, session_may}
 use Rattle.flat_script.specs.declared.script.Script.{Script}
 use Rattle.flat_script.specs.Body.{dones, ends_frame}
 use Rattle.flat_playable.specs.Playable.{is_playable, rise_from}
-use Rattle.flat_run.proofs.Conditions.{and_left}
+use Rattle.flat_base.proofs.lemmas.Tests.{and-left}
 use Rattle.flat_run.proofs.Places.{rises}
 use Rattle.flat_run.proofs.Unread.{rise_first, rise_later}
 
@@ -160,7 +160,7 @@ number_of b = cond b 1 0
 -- how many frames an entry finishes, by who makes it
 one-more : (setup : Setup) (k : Kind) (actor : Actor) → may_act setup k actor ≡ true → cond (is_display actor) (number_of (is_finish k)) 0 ≡ number_of (is_finish k)
 one-more setup k Display may = refl
-one-more setup k (Session s) may = ap number_of (sym (no-finish k (and_left (session_may k) _ may)))
+one-more setup k (Session s) may = ap number_of (sym (no-finish k (and-left (session_may k) _ may)))
 one-more setup k (Probe p) may = absurd (let e : false ≡ true = may in cc)
 
 finishes-more : (b : Bool) (before : List Entry) (entry : Entry) → finishes (cond b (entry ∷ by_display before) (by_display before)) ≡ finishes (by_display before) + cond b (cond (is_finish entry.kind) 1 0) 0

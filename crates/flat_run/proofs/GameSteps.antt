@@ -40,9 +40,9 @@ use Rattle.flat_run.specs.Playing.{IsSpent, lines_by, shares_of, ReaderStands, R
 use Rattle.flat_run.proofs.Growing.{Grows, grows, stays, is_quiet}
 use Rattle.flat_run.proofs.DisplaySteps.{QuietStep, quiet_begin, quiet_finish, quiet_end, quiet_answers, answers_session, answers_beside, answers_done, answers_point, display_session, display_begin, display_done, display_beside, frames_session, frames_beside, frames_begin, frames_done}
 use Rattle.flat_run.proofs.DisplaySteps as quiet
-use Rattle.flat_rules.proofs.ShownList.{length-listed}
+use Rattle.flat_rules.proofs.lemmas.ShownList.{length-listed}
 use Rattle.flat_run.proofs.Steps.{At, Step, same, more, order_more, spent_more, reader_other}
-use Rattle.flat_run.proofs.Conditions.{and_left, and_right}
+use Rattle.flat_base.proofs.lemmas.Tests.{and-left, and-right}
 
 -- ---- sessions and their shares
 
@@ -77,7 +77,7 @@ has_room script m (suc k) above below shares few =
 
 pub below_declared : (setup : Setup) (s : SessionNo) → is_declared setup s ≡ true → (0 < s.0) × (s.0 ≤ setup.sessions)
 below_declared setup s declared =
-    (let a : nat_lt 0 s.0 ≡ true = and_left _ _ declared in grind (arith, nat_tests), let b : nat_le s.0 setup.sessions ≡ true = and_right (nat_lt 0 s.0) _ declared in grind (arith, nat_tests))
+    (let a : nat_lt 0 s.0 ≡ true = and-left _ _ declared in grind (arith, nat_tests), let b : nat_le s.0 setup.sessions ≡ true = and-right (nat_lt 0 s.0) _ declared in grind (arith, nat_tests))
 
 -- what a board that grows keeps
 record Grown (x : ScriptLine) (old new : Machine) : Type 0 where

@@ -1,6 +1,5 @@
 pub mod Answering
 pub mod Composed
-pub mod Conditions
 pub mod DisplaySteps
 pub mod Displayed
 pub mod Ending

@@ -11,7 +11,7 @@ use Rattle.flat_display.specs.Lost.{is_lost}
 use Rattle.flat_display.specs.Shows.{Shows}
 use Rattle.flat_display.specs.Shows.Shows.{none, passed, took, failed}
 use Rattle.flat_report.specs.Report.{is_loss, is_lost_before}
-use Rattle.flat_run.proofs.Conditions.{and_left, and_right, and_true}
+use Rattle.flat_base.proofs.lemmas.Tests.{and-left, and-right, and-true}
 
 -- One display may be lost behind another.
 abbrev goes_before : Lost → Lost → Bool
@@ -48,15 +48,15 @@ behind_later a b less other = grind (arith, nat_tests)
 rest_behind : (before : List Lost) (frame : FrameNo) (end n : ℕ) (a : Lost) (losses : List Lost) → a.frame ≡ frame → a.display < n → Rise before frame end n losses → list_all (goes_before a) losses ≡ true
 rest_behind before frame end n a [] at less done = refl
 rest_behind before frame end n a (one ∷ later) at less (more at' from to new rest) =
-    and_true (behind_at a one (ap (λ (f : FrameNo). f.0) (at ∙ sym at')) (omega arith)) (rest_behind before frame end (suc one.display) a later at (omega arith) rest)
+    and-true (behind_at a one (ap (λ (f : FrameNo). f.0) (at ∙ sym at')) (omega arith)) (rest_behind before frame end (suc one.display) a later at (omega arith) rest)
 
 -- losses at the last frame are losses of the history
 rise_loss : (history : List Entry) (before : List Lost) (frame : FrameNo) (end n : ℕ) (losses : List Lost) → 0 < frame.0 → frame.0 ≤ frames history → Rise before frame end n losses → is_loss history losses ≡ true
 rise_loss history before frame end n [] above within done = refl
 rise_loss history before frame end n (one ∷ later) above within (more at from to new rest) =
     let number : one.frame.0 ≡ frame.0 = ap (λ (f : FrameNo). f.0) at in
-    and_true
-    (and_true (and_true (lt-ltb 0 one.frame.0 (omega arith)) (le-leb one.frame.0 (frames history) (omega arith))) (rest_behind before frame end (suc one.display) one later at (omega arith) rest))
+    and-true
+    (and-true (and-true (lt-ltb 0 one.frame.0 (omega arith)) (le-leb one.frame.0 (frames history) (omega arith))) (rest_behind before frame end (suc one.display) one later at (omega arith) rest))
     (rise_loss history before frame end (suc one.display) later above within rest)
 
 others : (a : Lost) (before : List Lost) (n : ℕ) → is_lost (a ∷ before) n ≡ false → a.display ≢ n
@@ -73,11 +73,11 @@ all_behind : (a : Lost) (before : List Lost) (frame : FrameNo) (end n : ℕ) (lo
 all_behind a before frame end n [] less done = refl
 all_behind a before frame end n (one ∷ later) less (more at from to new rest) =
     let number : one.frame.0 ≡ frame.0 = ap (λ (f : FrameNo). f.0) at in
-    and_true (behind_later a one (omega arith) (others a before one.display new)) (all_behind a before frame end (suc one.display) later less rest)
+    and-true (behind_later a one (omega arith) (others a before one.display new)) (all_behind a before frame end (suc one.display) later less rest)
 
 all_append : {A : Type 0} (p : A → Bool) (xs ys : List A) → list_all p xs ≡ true → list_all p ys ≡ true → list_all p (xs ++ ys) ≡ true
 all_append p [] ys first second = second
-all_append p (x ∷ xs) ys first second = and_true (and_left (p x) (list_all p xs) first) (all_append p xs ys (and_right (p x) (list_all p xs) first) second)
+all_append p (x ∷ xs) ys first second = and-true (and-left (p x) (list_all p xs) first) (all_append p xs ys (and-right (p x) (list_all p xs) first) second)
 
 -- the losses of one frame more
 pub loss_more : (history history' : List Entry) (frame : FrameNo) (end n : ℕ) (lost losses : List Lost) → is_loss history lost ≡ true → frame.0 ≡ suc (frames history) → frames history' ≡ suc (frames history) → Rise lost frame end n losses
@@ -86,15 +86,15 @@ loss_more history history' frame end n [] losses was number grown rise = rise_lo
 loss_more history history' frame end n (a ∷ later) losses was number grown rise =
     let number_fits = nat_lt 0 a.frame.0 && nat_le a.frame.0 (frames history) in
     let first_fits = number_fits && list_all (goes_before a) later in
-    let first = and_left first_fits (is_loss history later) was in
-    let fits = and_left number_fits (list_all (goes_before a) later) first in
-    let one = and_left (nat_lt 0 a.frame.0) (nat_le a.frame.0 (frames history)) fits in
-    let two = and_right (nat_lt 0 a.frame.0) (nat_le a.frame.0 (frames history)) fits in
-    let three = and_right number_fits (list_all (goes_before a) later) first in
-    let four = and_right first_fits (is_loss history later) was in
+    let first = and-left first_fits (is_loss history later) was in
+    let fits = and-left number_fits (list_all (goes_before a) later) first in
+    let one = and-left (nat_lt 0 a.frame.0) (nat_le a.frame.0 (frames history)) fits in
+    let two = and-right (nat_lt 0 a.frame.0) (nat_le a.frame.0 (frames history)) fits in
+    let three = and-right number_fits (list_all (goes_before a) later) first in
+    let four = and-right first_fits (is_loss history later) was in
     let below : a.frame.0 ≤ frames history = leb-true a.frame.0 (frames history) two in
-    and_true
-    (and_true (and_true one (le-leb a.frame.0 (frames history') (omega arith))) (all_append (goes_before a) later losses three (all_behind a later frame end n losses (omega arith) rise)))
+    and-true
+    (and-true (and-true one (le-leb a.frame.0 (frames history') (omega arith))) (all_append (goes_before a) later losses three (all_behind a later frame end n losses (omega arith) rise)))
     (loss_more history history' frame end n later losses four number grown (shorter a later frame end n losses rise))
 
 -- what is lost depends on the number of frames alone
@@ -103,13 +103,13 @@ loss_same history history' [] same was = refl
 loss_same history history' (a ∷ later) same was =
     let number_fits = nat_lt 0 a.frame.0 && nat_le a.frame.0 (frames history) in
     let first_fits = number_fits && list_all (goes_before a) later in
-    let first = and_left first_fits (is_loss history later) was in
-    let fits = and_left number_fits (list_all (goes_before a) later) first in
-    let one = and_left (nat_lt 0 a.frame.0) (nat_le a.frame.0 (frames history)) fits in
-    let two = and_right (nat_lt 0 a.frame.0) (nat_le a.frame.0 (frames history)) fits in
-    let three = and_right number_fits (list_all (goes_before a) later) first in
-    let four = and_right first_fits (is_loss history later) was in
-    and_true (and_true (and_true one (ap (nat_le a.frame.0) same ∙ two)) three) (loss_same history history' later same four)
+    let first = and-left first_fits (is_loss history later) was in
+    let fits = and-left number_fits (list_all (goes_before a) later) first in
+    let one = and-left (nat_lt 0 a.frame.0) (nat_le a.frame.0 (frames history)) fits in
+    let two = and-right (nat_lt 0 a.frame.0) (nat_le a.frame.0 (frames history)) fits in
+    let three = and-right number_fits (list_all (goes_before a) later) first in
+    let four = and-right first_fits (is_loss history later) was in
+    and-true (and-true (and-true one (ap (nat_le a.frame.0) same ∙ two)) three) (loss_same history history' later same four)
 
 -- the numbers of the displays that are lost have 32 bits
 abbrev numbered : List Lost → Bool
@@ -118,7 +118,7 @@ numbered = list_all (λ one. nat_lt one.display (2 ^ 32))
 rise_numbered : (before : List Lost) (frame : FrameNo) (end n : ℕ) (losses : List Lost) → end ≤ 4294967296 → Rise before frame end n losses → numbered losses ≡ true
 rise_numbered before frame end n [] few done = refl
 rise_numbered before frame end n (one ∷ later) few (more at from to new rest) =
-    and_true (lt-ltb one.display 4294967296 (omega arith)) (rise_numbered before frame end (suc one.display) later few rest)
+    and-true (lt-ltb one.display 4294967296 (omega arith)) (rise_numbered before frame end (suc one.display) later few rest)
 
 pub numbered_more : (frame : FrameNo) (end n : ℕ) (lost losses : List Lost) → numbered lost ≡ true → end ≤ 4294967296 → Rise lost frame end n losses → numbered (lost ++ losses) ≡ true
 numbered_more frame end n lost losses was few rise = all_append (λ one. nat_lt one.display (2 ^ 32)) lost losses was (rise_numbered lost frame end n losses few rise)

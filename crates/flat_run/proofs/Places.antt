@@ -19,7 +19,7 @@ use Rattle.flat_script.specs.declared.script.Script.{Script}
 use Rattle.flat_rules.specs.Owned.{is_played_line}
 use Rattle.flat_playable.specs.Playable.{rise_from, frames_close, is_played, is_playable}
 use Rattle.flat_run.specs.Playing.{last_number}
-use Rattle.flat_run.proofs.Conditions.{and_left, and_right, all_at}
+use Rattle.flat_base.proofs.lemmas.Tests.{and-left, and-right, all-at}
 use Rattle.flat_run.proofs.Unread.{rise_first, rise_later}
 
 -- ---- lists around a place
@@ -54,25 +54,25 @@ last_below n (y ∷ xs) x later rise = last_below y.number xs x later (rise_late
 
 module _ (script : Script) (playable : is_playable script ≡ true) where
   pub setup_is : is_setup script.setup ≡ true
-  setup_is = and_left _ _ (and_left _ _ (and_left _ _ (and_left _ _ (and_left _ _ (and_left _ _ playable)))))
+  setup_is = and-left _ _ (and-left _ _ (and-left _ _ (and-left _ _ (and-left _ _ (and-left _ _ playable)))))
 
   pub no_probes : (script.setup.probes == 0) ≡ true
-  no_probes = and_right (is_setup script.setup) _ (and_left _ _ (and_left _ _ (and_left _ _ (and_left _ _ (and_left _ _ playable)))))
+  no_probes = and-right (is_setup script.setup) _ (and-left _ _ (and-left _ _ (and-left _ _ (and-left _ _ (and-left _ _ playable)))))
 
   pub few_lines : nat_le script.count SCRIPT_BYTES_MAX ≡ true
-  few_lines = and_right _ _ (and_left _ _ (and_left _ _ (and_left _ _ (and_left _ _ playable))))
+  few_lines = and-right _ _ (and-left _ _ (and-left _ _ (and-left _ _ (and-left _ _ playable))))
 
   pub rises : rise_from 0 script.lines ≡ true
-  rises = and_right _ _ (and_left _ _ (and_left _ _ (and_left _ _ playable)))
+  rises = and-right _ _ (and-left _ _ (and-left _ _ (and-left _ _ playable)))
 
   pub counted : list_all (λ (next : ScriptLine). nat_le next.number script.count) script.lines ≡ true
-  counted = and_right _ _ (and_left _ _ (and_left _ _ playable))
+  counted = and-right _ _ (and-left _ _ (and-left _ _ playable))
 
   pub frames_are : frames_close false 0 script.lines ≡ true
-  frames_are = and_right _ _ (and_left _ _ playable)
+  frames_are = and-right _ _ (and-left _ _ playable)
 
   pub played_all : list_all (λ (next : ScriptLine). is_played script.setup next.actor next.body) script.lines ≡ true
-  played_all = and_right _ _ playable
+  played_all = and-right _ _ playable
 
 -- ---- a session's line
 
@@ -95,13 +95,13 @@ here script s place number text playable at =
     let split : all ≡ take place all ++ next ∷ drop (place + 1) all = split_at all place next at in
     let rise : rise_from 0 (take place all ++ next ∷ drop (place + 1) all) ≡ true = ap (rise_from 0) (sym split) ∙ rises script playable in
     let played : is_played script.setup (Session s) (body.Session text) ≡ true =
-    all_at (λ (one : ScriptLine). is_played script.setup one.actor one.body) (take place all) next (drop (place + 1) all)
+    all-at (λ (one : ScriptLine). is_played script.setup one.actor one.body) (take place all) next (drop (place + 1) all)
     (ap (list_all (λ (one : ScriptLine). is_played script.setup one.actor one.body)) (sym split) ∙ played_all script playable) in
     record {
       taken = ap (session_lines s) (take_at all place next at) ∙ flat_map-append (λ (one : ScriptLine). session_line (is_session s one.actor) one.number one.body) (take place all) (next ∷ [])
           ∙ ap (λ t. session_lines s (take place all) ++ (t ++ [])) (own_line s number text);
       last = ap (last_number 0) (take_at all place next at) ∙ last_more 0 (take place all) next;
       above = last_below 0 (take place all) next (drop (place + 1) all) rise;
-      played = and_right _ _ played;
-      declared = and_left _ _ played;
+      played = and-right _ _ played;
+      declared = and-left _ _ played;
     }

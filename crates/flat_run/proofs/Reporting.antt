@@ -26,7 +26,7 @@ use Rattle.flat_run.specs.Playing.{HasPlayed}
 use Rattle.flat_words.specs.declared.form.Form.{Form}
 use Rattle.flat_run.specs.Promise.{Ran, AreAsked, HasRun}
 use Rattle.flat_run.specs.Showing.{HaveSeen}
-use Rattle.flat_run.proofs.Conditions.{and_left, and_right}
+use Rattle.flat_base.proofs.lemmas.Tests.{and-left, and-right}
 use Rattle.flat_run.proofs.FramesDone.{frames-done}
 use Rattle.flat_run.proofs.Places.{setup_is, no_probes}
 
@@ -36,7 +36,7 @@ if_ok P Q (Ok v) also holds = also v holds
 if_ok P Q (Err e) also holds = tt
 
 owners_are : (script : Script) → is_playable script ≡ true → owners_declared script.setup ≡ true
-owners_are script playable = and_right (is_within_limits script.setup) (owners_declared script.setup) (and_left _ _ (setup_is script playable))
+owners_are script playable = and-right (is_within_limits script.setup) (owners_declared script.setup) (and-left _ _ (setup_is script playable))
 
 no_lines : (n : ℕ) (lines : List ScriptLine) → (n == 0) ≡ true → flat_map (λ n. probe_lines_of n lines) (numbers_from 0 n) ≡ []
 no_lines zero lines none = refl

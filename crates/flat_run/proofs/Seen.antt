@@ -16,14 +16,14 @@ use Rattle.flat_rules.specs.Legal.{frames}
 use Rattle.flat_display.specs.Had.{is_numbered, is_among}
 use Rattle.flat_display.specs.Lost.{Driven}
 use Rattle.flat_display.specs.Shows.{Shows}
-use Rattle.flat_display.proofs.Driving.{driven_none, driven_more, driven_same}
+use Rattle.flat_display.proofs.lemmas.Driving.{driven_none, driven_more, driven_same}
 use Rattle.flat_report.specs.Report.{finished, frame_at}
 use Rattle.flat_run.specs.declared.game.Game.{Game}
 use Rattle.flat_script.specs.declared.script.Script.{Script}
 use Rattle.flat_run.specs.Playing.{GameStands, FinishesFrame, HasPlayed}
 use Rattle.flat_run.specs.Promise.{AreKept}
 use Rattle.flat_run.specs.Showing.{Finishes, HaveSeen}
-use Rattle.flat_run.proofs.Conditions.{or_false}
+use Rattle.flat_base.proofs.lemmas.Tests.{or-false}
 use Rattle.flat_run.proofs.Losses.{shows_rise, loss_more, loss_same, numbered_more}
 
 frames_more : (before : List Entry) (entry : Entry) (b : Bool) → is_finish entry.kind ≡ b → frames (before ▹ entry) ≡ frames before + cond b 1 0
@@ -53,7 +53,7 @@ none_more setup before entry number true is above none =
     let last : is_among (frame_at setup (suc (frames before)) (to_begin before) ∷ []) number ≡ false = grind (arith, nat_tests) in
     ap (λ fs. is_among fs number) (finished_by setup before entry true is)
     ∙ list_any-append (is_numbered number) (finished setup before) (frame_at setup (suc (frames before)) (to_begin before) ∷ [])
-    ∙ or_false (none (omega (arith, grown, above))) last
+    ∙ or-false (none (omega (arith, grown, above))) last
 none_more setup before entry number false is above none =
     let grown = frames_more before entry false is in
     ap (λ fs. is_among fs number) (finished_by setup before entry false is ∙ append-nil (finished setup before)) ∙ none (omega (arith, grown, above))

@@ -18,7 +18,7 @@ use Rattle.flat_scene.specs.Frames.{sessions_to}
 use Rattle.flat_scene.specs.History.{seat_number}
 use Rattle.flat_scene.specs.Interleave.{display_line}
 use Rattle.flat_scene.specs.Setups.{is_declared, is_setup, is_within_limits}
-use Rattle.flat_rules.proofs.ShownList.{length-listed}
+use Rattle.flat_rules.proofs.lemmas.ShownList.{length-listed}
 use Rattle.flat_rules.specs.Laws.{BegunStatesFit, NothingIsShownAtFirst}
 use Rattle.flat_core.specs.Machines.{Machine}
 use Rattle.flat_rules.specs.Ends.{has_view, views_of}
@@ -37,7 +37,7 @@ use Rattle.flat_run.specs.declared.game.LastFrame.{LastFrame}
 use Rattle.flat_run.specs.Playing.{AnswersStand, lines_by, rest_shares, shares_of, AreNew, ReadersStand, DisplayStands, IsInOrder, IsSpent, FramesStand, GameStands}
 use Rattle.flat_run.proofs.Places.{few_lines, rises, counted, frames_are, setup_is}
 use Rattle.flat_run.proofs.DisplaySteps.{display_numbered}
-use Rattle.flat_run.proofs.Conditions.{and_left, and_right, and_true}
+use Rattle.flat_base.proofs.lemmas.Tests.{and-left, and-right, and-true}
 use Rattle.flat_run.proofs.Readers.{new_stands}
 use Rattle.flat_run.proofs.Unread.{rise_first, rise_later, later_all}
 
@@ -66,9 +66,9 @@ pub few_from : (n count : ℕ) (lines : List ScriptLine) → n ≤ count → ris
 few_from n count [] below rise all = omega arith
 few_from n count (next ∷ later) below rise all =
     let less : n < next.number = rise_first n next later rise in
-    let first : nat_le next.number count ≡ true = and_left _ _ all in
+    let first : nat_le next.number count ≡ true = and-left _ _ all in
     let within : next.number ≤ count = grind (arith, nat_tests) in
-    let rest : next.number + length later ≤ count = few_from next.number count later within (rise_later n next later rise) (and_right _ _ all) in
+    let rest : next.number + length later ≤ count = few_from next.number count later within (rise_later n next later rise) (and-right _ _ all) in
     omega arith
 
 pub few : (script : Script) → is_playable script ≡ true → length script.lines ≤ SCRIPT_BYTES_MAX
@@ -113,13 +113,13 @@ sum_sessions lines (suc n) most below =
 
 pub few_sessions : (setup : Setup) → is_setup setup ≡ true → setup.sessions ≤ SESSIONS_MAX
 few_sessions setup is =
-    let limits : is_within_limits setup ≡ true = and_left _ _ (and_left _ _ is) in
-    let within = and_right _ _ (and_left _ _ (and_left _ _ (and_left _ _ (and_left _ _ limits)))) in
-    let most : nat_le setup.sessions SESSIONS_MAX ≡ true = and_right (nat_lt 0 setup.sessions) _ within in
+    let limits : is_within_limits setup ≡ true = and-left _ _ (and-left _ _ is) in
+    let within = and-right _ _ (and-left _ _ (and-left _ _ (and-left _ _ (and-left _ _ limits)))) in
+    let most : nat_le setup.sessions SESSIONS_MAX ≡ true = and-right (nat_lt 0 setup.sessions) _ within in
     grind (arith, nat_tests)
 
 pub limits_are : (setup : Setup) → is_setup setup ≡ true → is_within_limits setup ≡ true
-limits_are setup is = and_left _ _ (and_left _ _ is)
+limits_are setup is = and-left _ _ (and-left _ _ is)
 
 few_of_few : (n m most : ℕ) → n ≤ m → n * most ≤ m * most
 few_of_few n m most le = grind (arith, common_steps)
@@ -140,7 +140,7 @@ pub is_numbered : (setup : Setup) (before : ℕ) → before < setup.sessions →
 is_numbered setup before within =
     let a : nat_lt 0 (before + 1) ≡ true = grind (arith, nat_tests) in
     let b : nat_le (before + 1) setup.sessions ≡ true = grind (arith, nat_tests) in
-    and_true a b
+    and-true a b
 
 last_new : (setup : Setup) (readers : List Reader) (reader : Reader) (k : ℕ) (d : Reader) → ((k : ℕ) (d : Reader) → k < length readers → IsNew setup (record { 0 = k + 1 }) (get_or readers k d)) → IsNew setup (record { 0 = length readers + 1 }) reader → k < length readers + 1
     → (b : Bool) → nat_lt k (length readers) ≡ b → IsNew setup (record { 0 = k + 1 }) (get_or (readers ++ reader ∷ []) k d)
@@ -191,12 +191,12 @@ no_view setup s = none_of (views_of setup s)
 all_false : (xs : List Bool) → list_all not xs ≡ true → (i : ℕ) → slice_index_or xs i false ≡ false
 all_false [] all zero = refl
 all_false [] all (suc i) = refl
-all_false (x ∷ xs) all zero = by_value x (and_left _ _ all)
+all_false (x ∷ xs) all zero = by_value x (and-left _ _ all)
   where
     by_value : (b : Bool) → not b ≡ true → b ≡ false
     by_value true is = absurd (cc)
     by_value false is = refl
-all_false (x ∷ xs) all (suc i) = all_false xs (and_right _ _ all) i
+all_false (x ∷ xs) all (suc i) = all_false xs (and-right _ _ all) i
 
 pub no_members : (set : SessionSet) → list_all not set.has ≡ true → (s : ℕ) → is_member set s ≡ false
 no_members set all zero = refl

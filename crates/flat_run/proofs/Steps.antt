@@ -17,7 +17,7 @@ use Rattle.flat_playable.specs.Playable.{rise_from, is_played, is_playable}
 use Rattle.flat_run.specs.Playing.{last_number, lines_by, ReaderStands, IsSpent, IsInOrder}
 use Rattle.flat_run.proofs.InOrder.{lines_rise, no_ends_more}
 use Rattle.flat_run.proofs.Places.{drop_at, take_at, split_at, last_more, last_below, rises, played_all}
-use Rattle.flat_run.proofs.Conditions.{all_at}
+use Rattle.flat_base.proofs.lemmas.Tests.{all-at}
 
 -- What is known of a line at its place.
 pub record At (script : Script) (place : ℕ) (x : ScriptLine) : Type 0 where
@@ -39,7 +39,7 @@ at_place script place x playable at =
       taken = take_at all place x at;
       last = ap (last_number 0) (take_at all place x at) ∙ last_more 0 (take place all) x;
       above = last_below 0 (take place all) x (drop (place + 1) all) rise;
-      played = all_at (λ (one : ScriptLine). is_played script.setup one.actor one.body) (take place all) x (drop (place + 1) all)
+      played = all-at (λ (one : ScriptLine). is_played script.setup one.actor one.body) (take place all) x (drop (place + 1) all)
           (ap (list_all (λ (one : ScriptLine). is_played script.setup one.actor one.body)) (sym split) ∙ played_all script playable);
       split = split;
       rise = rise;

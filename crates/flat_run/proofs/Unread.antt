@@ -5,14 +5,14 @@ use Rattle.std.proofs.lemmas.Bool.Decides.{nat_tests}
 use Rattle.std.proofs.lemmas.List.Elements.{filter-append}
 use Rattle.flat_scene.specs.declared.script.ScriptLine.{ScriptLine}
 use Rattle.flat_playable.specs.Playable.{rise_from}
-use Rattle.flat_run.proofs.Conditions.{and_left, and_right}
+use Rattle.flat_base.proofs.lemmas.Tests.{and-left, and-right}
 
 -- the first line's number is above, and the later ones are above it
 pub rise_first : (n : ℕ) (next : ScriptLine) (later : List ScriptLine) → rise_from n (next ∷ later) ≡ true → n < next.number
-rise_first n next later rise = let first : nat_lt n next.number ≡ true = and_left _ _ rise in grind (arith, nat_tests)
+rise_first n next later rise = let first : nat_lt n next.number ≡ true = and-left _ _ rise in grind (arith, nat_tests)
 
 pub rise_later : (n : ℕ) (next : ScriptLine) (later : List ScriptLine) → rise_from n (next ∷ later) ≡ true → rise_from next.number later ≡ true
-rise_later n next later rise = and_right (nat_lt n next.number) _ rise
+rise_later n next later rise = and-right (nat_lt n next.number) _ rise
 
 -- a line among others has a number above what they rise from
 pub rise_to : (n : ℕ) (read : List ScriptLine) (next : ScriptLine) (later : List ScriptLine) → rise_from n (read ++ next ∷ later) ≡ true → n < next.number

@@ -1,12 +1,6 @@
-pub mod CycleLemmas
 pub mod FamilyClosed
-pub mod FamilyLeast
-pub mod Members
 pub mod PathLemmas
-pub mod Presented
 pub mod ReachLemmas
 pub mod SmallHistories
-pub mod Steps
-pub mod TakingLemmas
-pub mod Together
 pub mod SmallDrafts
+pub mod lemmas

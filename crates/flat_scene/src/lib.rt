@@ -1,8 +1,8 @@
 //! The plain data of the scene service: calls, script lines, trees, entries,
 //! events and frames, with the definitions of what they mean.
 //!
-//! Other crates may cite the lemma files proofs/CycleLemmas, FamilyLeast, Members,
-//! Presented, Steps, TakingLemmas and Together.
+//! Other crates may cite the lemmas of proofs/lemmas/: steps of a history, members of
+//! a family, what presents show and take.
 #![tactic(auto)]
 
 mod calls;

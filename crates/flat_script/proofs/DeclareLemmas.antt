@@ -15,8 +15,8 @@ use Rattle.flat_script.specs.Names.{place_of}
 use Rattle.flat_script.specs.Places.{session, number_from}
 use Rattle.flat_script.specs.Head.{empty, new_name, side, pair_owner, owners, buffers, pair, fence, with_session, with_buffers, with_pair, with_fence}
 use Rattle.flat_script.specs.Index.{Means, session_place, probe_place, buffers_place, pair_place, fence_place}
-use Rattle.flat_script.proofs.FormLemmas.{apply_ok, map_ok, whole_ok, unless_ok}
-use Rattle.flat_script.proofs.IndexLemmas.{IsFresh, new_name_ok, finds_sessions, finds_buffers, finds_pairs, finds_fences}
+use Rattle.flat_script.proofs.lemmas.FormLemmas.{apply_ok, map_ok, whole_ok, unless_ok}
+use Rattle.flat_script.proofs.lemmas.IndexLemmas.{IsFresh, new_name_ok, finds_sessions, finds_buffers, finds_pairs, finds_fences}
 
 -- there was room, and the name may be declared
 pub record Declares (s : Script) (room : Bool) (name : Word) : Type 0 where

@@ -1,10 +1,5 @@
 pub mod Examples
 pub mod NameLemmas
 pub mod ReadsLemmas
-pub mod ParserLemmas
-pub mod FormLemmas
-pub mod ListLemmas
-pub mod IndexLemmas
 pub mod DeclareLemmas
-pub mod StepLemmas
-pub mod FoundLemmas
+pub mod lemmas

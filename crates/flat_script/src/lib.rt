@@ -1,9 +1,8 @@
 //! The grammar of scripts, and its reader: text to script, or to its first fault.
 //!
-//! Other crates may cite the lemmas on reading of these files: proofs/FormLemmas (a
-//! form and what it reads), IndexLemmas and NameLemmas (what names mean), ListLemmas
-//! and ReadsLemmas (lists and places), ParserLemmas, DeclareLemmas, StepLemmas and
-//! FoundLemmas (a line's step, and what it found).
+//! Other crates may cite the lemmas of proofs/lemmas/: forms and what they read
+//! (FormLemmas), what names mean (IndexLemmas), lists (ListLemmas), and a line's step
+//! (ParserLemmas, StepLemmas, FoundLemmas).
 #![tactic(auto)]
 
 mod call_forms;

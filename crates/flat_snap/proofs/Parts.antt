@@ -10,7 +10,7 @@ use Rattle.flat_snap.specs.Flat.{flat_node, flat_from}
 use Rattle.flat_snap.specs.Forest.{as_node, forest_in}
 use Rattle.flat_snap.specs.Building.{Opened, followed_by, with_children}
 use Rattle.flat_snap.specs.Inside.{part, path_count, flat_path, places_of, AreLeaves, IsPart}
-use Rattle.flat_snap.proofs.Rebuilding.{length-flat, forest-skips, forest-flat}
+use Rattle.flat_snap.proofs.lemmas.Rebuilding.{length-flat, forest-skips, forest-flat}
 
 pub length-path : (path : List Opened) → length (flat_path path) ≡ path_count path
 length-path [] = refl

@@ -11,7 +11,7 @@ use Rattle.flat_snap.specs.Flat.{flat_node, flat_from, rooted}
 use Rattle.flat_snap.specs.Forest.{forest}
 use Rattle.flat_snap.specs.Building.{Opened, Building, followed_by, with_children}
 use Rattle.flat_snap.specs.Inside.{Part, part, path_count, flat_path, places_of, IsPart}
-use Rattle.flat_snap.proofs.Rebuilding.{forest-whole}
+use Rattle.flat_snap.proofs.lemmas.Rebuilding.{forest-whole}
 use Rattle.flat_snap.proofs.Parts.{part-whole, part-entered, part-left, part-split, length-part, length-before, place_of}
 
 -- what the lists stand for

@@ -1,6 +1,7 @@
 //! The shared, immutable state that a session presents, and how it is built.
 //!
-//! Other crates may cite the lemma files proofs/Adding, Rebuilding and Stretches.
+//! Other crates may cite the lemmas of proofs/lemmas/: what a builder adds, and
+//! stretches of nodes (Adding, Rebuilding, Stretches).
 #![tactic(auto)]
 
 mod builder;

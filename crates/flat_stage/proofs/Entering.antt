@@ -40,7 +40,7 @@ use Rattle.flat_rules.specs.Watch.{layout_of, status_of, child_of, watcher_in, w
 use Rattle.flat_content.specs.Table.{pair_of}
 use Rattle.flat_draft.specs.Answers.{pair_watched}
 use Rattle.flat_rules.specs.Owned.{is_private, is_played_call, is_played_condition}
-use Rattle.flat_stage.proofs.Conditions.{and_true, or_false, or_left, or_right, all_more, all_also, none_also}
+use Rattle.flat_base.proofs.lemmas.Tests.{and-true, or-false, none-left, none-right, all-more, all-also, none-also}
 
 -- ---- lists with one call more
 
@@ -75,10 +75,10 @@ module _ (setup : Setup) (s : SessionNo) where
   played_is _ played = refl
 
   no_links : (xs : List Call) → list_all (is_private setup s) xs ≡ true → list_any is_link xs ≡ false
-  no_links xs all = none_also (is_private setup s) is_link (λ c is. (private_is c is).0) xs all
+  no_links xs all = none-also (is_private setup s) is_link (λ c is. (private_is c is).0) xs all
 
   all_owned : (xs : List Call) → list_all (is_private setup s) xs ≡ true → list_all (owns_in_call setup s) xs ≡ true
-  all_owned xs all = all_also (is_private setup s) (owns_in_call setup s) (λ c is. (private_is c is).1) xs all
+  all_owned xs all = all-also (is_private setup s) (owns_in_call setup s) (λ c is. (private_is c is).1) xs all
 
   -- an owned fence is declared
   fence_declared : (f : FenceNo) → owns_fence setup s f ≡ true → is_fence setup f ≡ true
@@ -117,7 +117,7 @@ split_last (x ∷ y ∷ ys) = rw (more_than_none y ys) (ap (λ t. x ∷ t) (spli
 
 no_links_first : (xs ys : List Call) → list_any is_link (xs ++ ys) ≡ false → list_any is_link xs ≡ false
 no_links_first [] ys none = refl
-no_links_first (x ∷ xs) ys none = or_false (or_left (is_link x) (list_any is_link (xs ++ ys)) none) (no_links_first xs ys (or_right (is_link x) (list_any is_link (xs ++ ys)) none))
+no_links_first (x ∷ xs) ys none = or-false (none-left (is_link x) (list_any is_link (xs ++ ys)) none) (no_links_first xs ys (none-right (is_link x) (list_any is_link (xs ++ ys)) none))
 
 fewer_by_one : (setup : Setup) (first xs : List Call) (draft : Draft) → draft_of setup (first ++ xs) ≡ Ok draft → is_some (result_ok (draft_of setup (first ++ all_but_last xs))) ≡ true
 fewer_by_one setup first xs draft made =
@@ -217,7 +217,7 @@ module _ (m : Machine) (s : SessionNo) (pending : List Call) (draft : Draft) (wa
       drafted = rw (waits.unclosed, made) refl;
       calls = rw (last_call pending (CreateView p)) (eq-eqb p.0 p.0 refl);
       links = rw (but_last pending (CreateView p), no_links m.setup s pending waits.private) refl;
-      owned = and_true owns (all_more (owns_in_call m.setup s) pending (CreateView p) (all_owned m.setup s pending waits.private) owns);
+      owned = and-true owns (all-more (owns_in_call m.setup s) pending (CreateView p) (all_owned m.setup s pending waits.private) owns);
       named = refl;
       tree = no_tree_view m.setup p _;
       watcher = refl;
@@ -237,7 +237,7 @@ module _ (m : Machine) (s : SessionNo) (pending : List Call) (draft : Draft) (wa
           drafted = rw (waits.unclosed, made) refl;
           calls = rw (last_call pending one) (same_viewport p props);
           links = rw (but_last pending one, no_links m.setup s pending waits.private) refl;
-          owned = and_true owns (all_more (owns_in_call m.setup s) pending one (all_owned m.setup s pending waits.private) owns);
+          owned = and-true owns (all-more (owns_in_call m.setup s) pending one (all_owned m.setup s pending waits.private) owns);
           named = refl;
           tree = no_tree_viewport m.setup p props _;
           watcher = refl;
@@ -254,7 +254,7 @@ module _ (m : Machine) (s : SessionNo) (pending : List Call) (draft : Draft) (wa
       drafted = rw (waits.unclosed) drafted;
       calls = refl;
       links = rw (no_links m.setup s pending waits.private) refl;
-      owned = and_true lists (all_owned m.setup s pending waits.private);
+      owned = and-true lists (all_owned m.setup s pending waits.private);
       named = refl;
       tree = rw (waits.made, first_of_more (tree_tests draft) _ allowed) refl;
       watcher = refl;
@@ -288,7 +288,7 @@ module _ (m : Machine) (s : SessionNo) (pending : List Call) (draft : Draft) (wa
       drafted = rw (waits.unclosed) drafted;
       calls = refl;
       links = rw (no_links m.setup s pending waits.private) refl;
-      owned = and_true owns (all_owned m.setup s pending waits.private);
+      owned = and-true owns (all_owned m.setup s pending waits.private);
       named = fence_declared m.setup s f owns;
       tree = no_tree_signal m.setup f _;
       watcher = refl;
@@ -322,7 +322,7 @@ module _ (m : Machine) (s : SessionNo) (pending : List Call) (draft : Draft) (wa
       drafted = rw (waits.unclosed) drafted;
       calls = refl;
       links = rw (no_links m.setup s pending waits.private) refl;
-      owned = and_true owns (all_owned m.setup s pending waits.private);
+      owned = and-true owns (all_owned m.setup s pending waits.private);
       named = named;
       tree = no_tree_wait m.setup c _;
       watcher = refl;
@@ -348,7 +348,7 @@ module _ (m : Machine) (s : SessionNo) (pending : List Call) (draft : Draft) (wa
       drafted = rw (but_last pending c) drafted;
       calls = refl;
       links = rw (but_last pending c, no_links m.setup s pending waits.private) refl;
-      owned = all_more (owns_in_call m.setup s) pending c (all_owned m.setup s pending waits.private) (played_is m.setup s c played);
+      owned = all-more (owns_in_call m.setup s) pending c (all_owned m.setup s pending waits.private) (played_is m.setup s c played);
       named = refl;
       tree = no_tree_close m.setup why _;
       watcher = refl;

@@ -31,7 +31,7 @@ use Rattle.flat_stage.specs.declared.made.Made.TheVariants as made
 use Rattle.flat_stage.specs.declared.reader.Reader.{Reader}
 use Rattle.flat_stage.specs.Made.{kind_of, takes_memory}
 use Rattle.flat_stage.specs.Reads.{Stands, IsOpen, IsReady, IsPrepared, IsMade, IsNoMisuse, Tells, with_line, viewport_call, draft_so_far, kept_calls}
-use Rattle.flat_stage.proofs.Conditions.{or_false, all_more}
+use Rattle.flat_base.proofs.lemmas.Tests.{or-false, all-more}
 use Rattle.flat_stage.proofs.Readying.{one_more}
 
 -- ---- a line that makes no entry
@@ -52,7 +52,7 @@ waits_more : (setup : Setup) (s : SessionNo) (made pending : List Call) (draft :
     → draft_of setup (made ++ pending) ≡ Ok draft → list_all (is_private setup s) pending ≡ true → Waits setup s made pending draft text
 waits_more setup s made pending draft (line.Call call) played fine none drawn private = record {
   drawn = one_more setup made pending call draft fine drawn;
-  private = all_more (is_private setup s) pending call private (private_played setup s call played (ap (λ r. or_close r (entry_of_call call)) (sym fine) ∙ none));
+  private = all-more (is_private setup s) pending call private (private_played setup s call played (ap (λ r. or_close r (entry_of_call call)) (sym fine) ∙ none));
 }
 waits_more setup s made pending draft (line.Present args) played fine none drawn private = record {
   drawn = ap (λ p. draft_of setup (made ++ p)) (append-nil pending) ∙ drawn;
@@ -201,7 +201,7 @@ module _ (setup : Setup) (history : List Entry) (number : ℕ) (reader : Reader)
       let M : List Entry → Type 0 = λ mine. Stands setup mine (record reader { draft = after.draft; pending = []; events = after.events; closed = closes reply }) in
       subst S (sym rest) (subst M (sym grown) (record {
         declared = ready.declared;
-        unended = or_false (made_no_end one) ready.unended;
+        unended = or-false (made_no_end one) ready.unended;
         closed = or_rest (closes reply) _ ready.unclosed;
         when_open = λ goes_on.
             let left : IsLeft setup (carried (own s history)) reader.pending after.draft =

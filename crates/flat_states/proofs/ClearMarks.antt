@@ -10,7 +10,7 @@ use Rattle.flat_states.specs.declared.live.Live.{Live}
 use Rattle.flat_states.specs.declared.pairs.PairState.{PairState}
 use Rattle.flat_states.specs.Clears.{is_clear, is_cleared, clears_pair, cleared_if, ClearsOne, ClearsLive}
 use Rattle.flat_rules.specs.Stamps.{stamp_then}
-use Rattle.flat_states.proofs.Marks.{stamp-none}
+use Rattle.flat_states.proofs.lemmas.Marks.{stamp-none}
 use Rattle.std.proofs.lemmas.Bool.{and_right}
 
 abbrev with_clear : PairState → Option ℕ → PairState

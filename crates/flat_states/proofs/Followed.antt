@@ -12,10 +12,10 @@ use Rattle.flat_rules.specs.Ends.{to_begin, to_finished}
 use Rattle.flat_states.specs.Following.{IsFollowed, capped, sight_of}
 use Rattle.flat_rules.specs.Serials.{contents_made}
 use Rattle.flat_states.specs.Views.{view_after}
-use Rattle.flat_states.proofs.PairIdle.{shut-stays}
+use Rattle.flat_states.proofs.lemmas.PairIdle.{shut-stays}
 use Rattle.flat_states.proofs.PairTold.{view-own}
-use Rattle.flat_states.proofs.Serials.{contents-append}
-use Rattle.flat_rules.proofs.ShownSteps.{closed-before}
+use Rattle.flat_states.proofs.lemmas.Serials.{contents-append}
+use Rattle.flat_rules.proofs.lemmas.ShownSteps.{closed-before}
 
 module _ (setup : Setup) (s : SessionNo) (h : List Entry) (e : Entry) where
   begin-same : is_begin e.kind ≡ false → to_begin (h ▹ e) ≡ to_begin h

@@ -9,7 +9,7 @@ use Rattle.flat_base.specs.declared.ids.SessionNo.{SessionNo}
 use Rattle.flat_scene.specs.declared.calls.Call.{Call}
 use Rattle.flat_scene.specs.declared.calls.Call.TheVariants.{CreateView, ReleaseView, CreateViewport, ReleaseViewport, Clear}
 use Rattle.flat_scene.specs.declared.setup.Setup.{Setup}
-use Rattle.flat_scene.proofs.Together.{and-left, and-right}
+use Rattle.flat_base.proofs.lemmas.Tests.{and-left, and-right}
 use Rattle.flat_states.specs.declared.live.Live.{Live}
 use Rattle.flat_states.specs.Clears.{is_cleared, clears_pair}
 use Rattle.flat_rules.specs.Legal.{owns_view, owns_viewport, owns_in_call, is_link, all_but_last, number_if}
@@ -17,7 +17,7 @@ use Rattle.flat_states.specs.Lives.{lives_then, lives_after, clears_live, count_
 use Rattle.flat_rules.specs.Shown.{is_pair}
 use Rattle.flat_states.specs.Views.{view_then, view_after, ends_it, ends_of}
 use Rattle.std.proofs.lemmas.Bool.{or_parts}
-use Rattle.flat_states.proofs.ViewSteps.{same-pair}
+use Rattle.flat_states.proofs.lemmas.ViewSteps.{same-pair}
 
 -- ---- what isn't owned
 

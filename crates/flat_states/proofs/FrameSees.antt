@@ -21,7 +21,7 @@ use Rattle.flat_scene.specs.Effect.{draft_of}
 use Rattle.flat_scene.specs.Frames.{taken, takes}
 use Rattle.flat_scene.specs.History.{◌▹◌, is_begin, is_closed, is_finish, is_session, presents, Published}
 use Rattle.flat_scene.specs.Tree.{tree, use_of, all_nodes, head_of}
-use Rattle.flat_scene.proofs.Presented.{tree-unfolded}
+use Rattle.flat_scene.proofs.lemmas.Presented.{tree-unfolded}
 use Rattle.flat_rules.specs.Ends.{is_made_of, props_in, props_of, serials_of, taken_calls, to_begin, to_finished, viewport_uses}
 use Rattle.flat_rules.specs.Legal.{Legal, owns_viewport}
 use Rattle.flat_rules.specs.Serials.{IsUseSerial, contents_made, props_at_serial, serials_in}
@@ -29,19 +29,19 @@ use Rattle.flat_rules.specs.Shown.{last_taken, tree_of}
 use Rattle.flat_states.specs.Usage.{props_among, uses_in}
 use Rattle.flat_rules.specs.Watch.{props_seen}
 use Rattle.flat_watch.specs.Told.{or_else}
-use Rattle.flat_states.proofs.Earlier.{IsEarlier, calls-taken, legal-earlier, taken-fits}
+use Rattle.flat_states.proofs.lemmas.Earlier.{IsEarlier, calls-taken, legal-earlier, taken-fits}
 use Rattle.flat_states.proofs.Foreign.{owned-differs}
-use Rattle.flat_states.proofs.Lives.{pair_made}
-use Rattle.flat_rules.proofs.Owned.{made_owned}
-use Rattle.flat_rules.proofs.OwnedTree.{at-serial}
-use Rattle.flat_states.proofs.PairSteps.{no-begin}
+use Rattle.flat_states.proofs.lemmas.Lives.{pair_made}
+use Rattle.flat_rules.proofs.lemmas.Owned.{made_owned}
+use Rattle.flat_rules.proofs.lemmas.OwnedTree.{at-serial}
+use Rattle.flat_states.proofs.lemmas.PairSteps.{no-begin}
 use Rattle.flat_states.proofs.SerialSteps.{Has, seen-props, tree-some}
-use Rattle.flat_states.proofs.Serials.{draft-contents, serials-are, uses-props, either}
-use Rattle.flat_states.proofs.ShownFits.{IsGood, IsSound, MaySound, found-sound, presents-sound}
-use Rattle.flat_rules.proofs.ShownSteps.{serial-zero}
+use Rattle.flat_states.proofs.lemmas.Serials.{draft-contents, serials-are, uses-props, either}
+use Rattle.flat_states.proofs.lemmas.ShownFits.{IsGood, IsSound, MaySound, found-sound, presents-sound}
+use Rattle.flat_rules.proofs.lemmas.ShownSteps.{serial-zero}
 use Rattle.std.proofs.lemmas.Bool.{and_right}
 use Rattle.std.proofs.lemmas.List.{length-map}
-use Rattle.flat_rules.proofs.ListLemmas.{serial-within}
+use Rattle.flat_rules.proofs.lemmas.ListLemmas.{serial-within}
 
 -- ---- the viewports of a draft
 

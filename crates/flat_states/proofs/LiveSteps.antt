@@ -15,9 +15,9 @@ use Rattle.flat_scene.specs.Effect.{effect, changed_if, on_image, on_viewport, o
 use Rattle.flat_scene.specs.Misuse.{misuse, is_image, is_fill}
 use Rattle.flat_states.specs.declared.live.Live.{Live}
 use Rattle.flat_states.specs.Lives.{lives_then}
-use Rattle.flat_states.proofs.Lives.{pair_made, pair_at, live_at, serial_at, lives_by, serials_by, are_apart, are_within, lives_of, IsTidy, lives-same, serials-same, within-more, lives-append, serials-append, changed-pair, image-pair, viewport-pair, fill-pair, none-named, lives-without, lives-unnamed, serials-without, serials-unnamed, all-fewer, apart-fewer, apart-more}
-use Rattle.flat_rules.proofs.ShownSteps.{serial-append}
-use Rattle.flat_rules.proofs.ListLemmas.{length-changed}
+use Rattle.flat_states.proofs.lemmas.Lives.{pair_made, pair_at, live_at, serial_at, lives_by, serials_by, are_apart, are_within, lives_of, IsTidy, lives-same, serials-same, within-more, lives-append, serials-append, changed-pair, image-pair, viewport-pair, fill-pair, none-named, lives-without, lives-unnamed, serials-without, serials-unnamed, all-fewer, apart-fewer, apart-more}
+use Rattle.flat_rules.proofs.lemmas.ShownSteps.{serial-append}
+use Rattle.flat_rules.proofs.lemmas.ListLemmas.{length-changed}
 
 -- ---- what the tests of a call say
 

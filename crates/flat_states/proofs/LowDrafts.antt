@@ -11,8 +11,8 @@ use Rattle.flat_scene.specs.Draft.{Draft, Transform, Image, Solid, Made, an_imag
 use Rattle.flat_scene.specs.declared.calls.ViewportProps.{ViewportProps}
 use Rattle.flat_scene.specs.Effect.{effect, on_image, on_viewport, on_fill, draft_of, after_calls, unless, changed_if}
 use Rattle.flat_scene.specs.Misuse.{misuse, first_reason, Test, names_transform, names_content, is_image}
-use Rattle.flat_scene.proofs.Together.{and-left as and_left, and-right as and_right}
-use Rattle.flat_states.proofs.ViewCalls.{after-refused as after_error}
+use Rattle.flat_base.proofs.lemmas.Tests.{and-left, and-right}
+use Rattle.flat_states.proofs.lemmas.ViewCalls.{after-refused as after_error}
 use Rattle.std.proofs.lemmas.Bool.{and_from}
 
 -- ---- drafts
@@ -33,7 +33,7 @@ pub record IsLowDraft (draft : Draft) : Type 0 where
 
 all_more : {A : Type 0} (p : A → Bool) (xs : List A) (x : A) → list_all p xs ≡ true → p x ≡ true → list_all p (xs ++ x ∷ []) ≡ true
 all_more p [] x all one = and_from _ _ one refl
-all_more p (y ∷ xs) x all one = and_from _ _ (and_left (p y) (list_all p xs) all) (all_more p xs x (and_right (p y) (list_all p xs) all) one)
+all_more p (y ∷ xs) x all one = and_from _ _ (and-left (p y) (list_all p xs) all) (all_more p xs x (and-right (p y) (list_all p xs) all) one)
 
 module _ {A : Type 0} (p : A → Bool) (f : A → A) (keeps : (x : A) → p x ≡ true → p (f x) ≡ true) where
   pick : (b : Bool) (x : A) (xs changed : List A) → p x ≡ true → list_all p xs ≡ true → list_all p changed ≡ true → list_all p (cond b (f x ∷ xs) (x ∷ changed)) ≡ true
@@ -43,7 +43,7 @@ module _ {A : Type 0} (p : A → Bool) (f : A → A) (keeps : (x : A) → p x �
   all_changed : (n : ℕ) (xs : List A) → list_all p xs ≡ true → list_all p (changed_at n f xs) ≡ true
   all_changed n [] all = refl
   all_changed n (x ∷ xs) all =
-      pick (n == 1) x xs (changed_at (n - 1) f xs) (and_left (p x) (list_all p xs) all) (and_right (p x) (list_all p xs) all) (all_changed (n - 1) xs (and_right (p x) (list_all p xs) all))
+      pick (n == 1) x xs (changed_at (n - 1) f xs) (and-left (p x) (list_all p xs) all) (and-right (p x) (list_all p xs) all) (all_changed (n - 1) xs (and-right (p x) (list_all p xs) all))
 
   pub all_changed_if : (serial : Option ℕ) (xs : List A) → list_all p xs ≡ true → list_all p (changed_if serial f xs) ≡ true
   all_changed_if None xs all = all
@@ -51,7 +51,7 @@ module _ {A : Type 0} (p : A → Bool) (f : A → A) (keeps : (x : A) → p x �
 
 all_mapped : {A : Type 0} (p : A → Bool) (f : A → A) → ((x : A) → p (f x) ≡ p x) → (xs : List A) → list_all p xs ≡ true → list_all p (map f xs) ≡ true
 all_mapped p f same [] all = refl
-all_mapped p f same (x ∷ xs) all = and_from _ _ (same x ∙ and_left (p x) (list_all p xs) all) (all_mapped p f same xs (and_right (p x) (list_all p xs) all))
+all_mapped p f same (x ∷ xs) all = and_from _ _ (same x ∙ and-left (p x) (list_all p xs) all) (all_mapped p f same xs (and-right (p x) (list_all p xs) all))
 
 rest_none : (t : Bool) (r : Reason) (more : Option Reason) → cond t (Some r) more ≡ None → more ≡ None
 rest_none true r more none = absurd (cc)

@@ -16,11 +16,11 @@ use Rattle.flat_scene.specs.declared.trees.ViewportUse.{ViewportUse}
 use Rattle.flat_scene.specs.Draft.{Draft, Transform, Made, an_image, a_fill, a_viewport, of_serial}
 use Rattle.flat_scene.specs.Misuse.{first_reason}
 use Rattle.flat_scene.specs.Tree.{shown_content, content_held, node, each, node_within, all_nodes, is_too_large, tree_tests, tree, head_of, use_of}
-use Rattle.flat_scene.proofs.Presented.{tree-unfolded}
+use Rattle.flat_scene.proofs.lemmas.Presented.{tree-unfolded}
 use Rattle.flat_scene.specs.Trees.{more, node_count}
 use Rattle.flat_topology.specs.Fit.{image_opacity, greatest_opacity}
 use Rattle.flat_topology.specs.Shown.{nodes_of}
-use Rattle.flat_scene.proofs.Together.{and-left as and_left, and-right as and_right}
+use Rattle.flat_base.proofs.lemmas.Tests.{and-left, and-right}
 use Rattle.flat_states.proofs.LowDrafts.{IsLowDraft, is_low, is_dim}
 
 -- ---- contents
@@ -44,7 +44,7 @@ pick_low false serial made rest low others = others
 found_low : (serial n : ℕ) (contents : List Made) → list_all is_low contents ≡ true → IsLowContent (option_and_then (shown_content serial) (of_serial contents n))
 found_low serial n [] all = record { opacity = omega arith }
 found_low serial n (made ∷ contents) all =
-    pick_low (n == 1) serial made (of_serial contents (n - 1)) (and_left (is_low made) (list_all is_low contents) all) (found_low serial (n - 1) contents (and_right (is_low made) (list_all is_low contents) all))
+    pick_low (n == 1) serial made (of_serial contents (n - 1)) (and-left (is_low made) (list_all is_low contents) all) (found_low serial (n - 1) contents (and-right (is_low made) (list_all is_low contents) all))
 
 held_low : (d : Draft) (held : Option ℕ) → list_all is_low d.contents ≡ true → IsLowContent (content_held d held)
 held_low d None all = record { opacity = omega arith }
@@ -95,7 +95,7 @@ pick_dim false t rest dim others = others
 
 found_dim : (n : ℕ) (transforms : List Transform) → list_all is_dim transforms ≡ true → MayBeDim (of_serial transforms n)
 found_dim n [] all = tt
-found_dim n (t ∷ transforms) all = pick_dim (n == 1) t (of_serial transforms (n - 1)) (and_left (is_dim t) (list_all is_dim transforms) all) (found_dim (n - 1) transforms (and_right (is_dim t) (list_all is_dim transforms) all))
+found_dim n (t ∷ transforms) all = pick_dim (n == 1) t (of_serial transforms (n - 1)) (and-left (is_dim t) (list_all is_dim transforms) all) (found_dim (n - 1) transforms (and-right (is_dim t) (list_all is_dim transforms) all))
 
 low_made : (d : Draft) (is_root : Bool) (serial : ℕ) (below : List ℕ → Option Children) → list_all is_low d.contents ≡ true → ((serials : List ℕ) → AreLow (below serials)) → (o : Option Transform) → MayBeDim o
     → MayBeLow (option_and_then (λ t. option_map (node d is_root serial t) (below t.children)) o)

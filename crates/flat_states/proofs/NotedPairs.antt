@@ -1,6 +1,7 @@
 -- Which pairs the end of a frame looks at.
 use Rattle.std.proofs.Common.{◌≡◌, ◌∙◌, sym, ℕ, ◌<◌, Bool, true, false, List, [], ◌∷◌, ◌++◌, length, refl, arith, ap, slice_index_or}
 use Rattle.std.specs.Prelude.{Option, cond, ◌==◌, ◌||◌}
+use Rattle.flat_base.proofs.lemmas.Tests.{none-left, none-right, or-false}
 use Rattle.flat_base.specs.declared.ids.PairNo.{PairNo}
 use Rattle.flat_scene.specs.declared.calls.ViewportProps.{ViewportProps}
 use Rattle.flat_states.specs.declared.pairs.PairState.{PairState}
@@ -14,35 +15,21 @@ second-noted = refl
 third-not : is_noted 3 (record { 0 = 1 } ∷ record { 0 = 2 } ∷ []) ≡ false
 third-not = refl
 
--- ---- tests
-
-or-left : (a b : Bool) → (a || b) ≡ false → a ≡ false
-or-left false b h = refl
-or-left true b h = h
-
-or-right : (a b : Bool) → (a || b) ≡ false → b ≡ false
-or-right false b h = h
-or-right true b h = let wrong : true ≡ false = h in cc
-
-or-none : (a b : Bool) → a ≡ false → b ≡ false → (a || b) ≡ false
-or-none false b h k = k
-or-none true b h k = h
-
 -- ---- the list
 
 noted-before : (i : ℕ) (ps : List PairNo) (p : PairNo) → is_noted i (ps ++ p ∷ []) ≡ false → is_noted i ps ≡ false
 noted-before i [] p h = refl
-noted-before i (q ∷ ps) p h = or-none (q.0 == i) (is_noted i ps) (or-left (q.0 == i) (is_noted i (ps ++ p ∷ [])) h) (noted-before i ps p (or-right (q.0 == i) (is_noted i (ps ++ p ∷ [])) h))
+noted-before i (q ∷ ps) p h = or-false (none-left (q.0 == i) (is_noted i (ps ++ p ∷ [])) h) (noted-before i ps p (none-right (q.0 == i) (is_noted i (ps ++ p ∷ [])) h))
 
 noted-last : (i : ℕ) (ps : List PairNo) (p : PairNo) → is_noted i (ps ++ p ∷ []) ≡ false → (p.0 == i) ≡ false
-noted-last i [] p h = or-left (p.0 == i) false h
-noted-last i (q ∷ ps) p h = noted-last i ps p (or-right (q.0 == i) (is_noted i (ps ++ p ∷ [])) h)
+noted-last i [] p h = none-left (p.0 == i) false h
+noted-last i (q ∷ ps) p h = noted-last i ps p (none-right (q.0 == i) (is_noted i (ps ++ p ∷ [])) h)
 
 -- a pair is put onto the list
 pub lists-pushed : (p : PairNo) (over : Bool) (old new : List PairNo) → new ≡ old ++ p ∷ [] → ListsPair p over over old new
 lists-pushed p over old new is i h =
-    let none : is_noted i (old ++ p ∷ []) ≡ false = ap (is_noted i) (sym is) ∙ or-right over (is_noted i new) h in
-    (or-none over (is_noted i old) (or-left over (is_noted i new) h) (noted-before i old p none), noted-last i old p none)
+    let none : is_noted i (old ++ p ∷ []) ≡ false = ap (is_noted i) (sym is) ∙ none-right over (is_noted i new) h in
+    (or-false (none-left over (is_noted i new) h) (noted-before i old p none), noted-last i old p none)
 
 -- ---- the listed pairs, one after another
 
@@ -68,7 +55,7 @@ settled-on p left old now next one so_far = record {
   each = λ i d below none.
       let within : i < length now = omega (arith, below, so_far.count) in
       by_place (slice_index_or old i d) (slice_index_or now i d) (slice_index_or next i d) (p.0 == i) (one.each i d within) (so_far.again i d below)
-      (λ other. so_far.each i d below (or-none (p.0 == i) (is_noted i left) other none));
+      (λ other. so_far.each i d below (or-false other none));
   again = λ i d below.
       let within : i < length now = omega (arith, below, so_far.count) in
       again_by (slice_index_or old i d) (slice_index_or now i d) (slice_index_or next i d) (p.0 == i) (one.each i d within) (so_far.again i d below);

@@ -23,13 +23,13 @@ use Rattle.flat_rules.specs.Shown.{is_pair, shown_view, is_connected}
 use Rattle.flat_rules.specs.Stamps.{IsStamp, is_seen, stamp_then}
 use Rattle.flat_states.specs.Views.{view_then, view_after, ends_it, ends_of, layout_by, status_by, child_by}
 use Rattle.flat_rules.specs.Watch.{told, layout_of, status_of, child_of, are_joined, props_told}
-use Rattle.flat_states.proofs.Earlier.{finished-earlier}
-use Rattle.flat_states.proofs.LiveCounts.{lived-all, lived, Lived, count-is}
-use Rattle.flat_states.proofs.StampSteps.{own-stamp, stamp-ended}
-use Rattle.flat_states.proofs.Stamped.{stamped, happening-lasts}
-use Rattle.flat_states.proofs.ViewCalls.{times-append, after-refused}
-use Rattle.flat_states.proofs.ViewHistory.{viewing-of}
-use Rattle.flat_states.proofs.ViewLaw.{good-more}
+use Rattle.flat_states.proofs.lemmas.Earlier.{finished-earlier}
+use Rattle.flat_states.proofs.lemmas.LiveCounts.{lived-all, lived, Lived, count-is}
+use Rattle.flat_states.proofs.lemmas.StampSteps.{own-stamp, stamp-ended}
+use Rattle.flat_states.proofs.lemmas.Stamped.{stamped, happening-lasts}
+use Rattle.flat_states.proofs.lemmas.ViewCalls.{times-append, after-refused}
+use Rattle.flat_states.proofs.lemmas.ViewHistory.{viewing-of}
+use Rattle.flat_states.proofs.lemmas.ViewLaw.{good-more}
 
 -- ---- how calls end a view
 

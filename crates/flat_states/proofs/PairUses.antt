@@ -18,7 +18,7 @@ use Rattle.flat_scene.specs.Draft.{Draft}
 use Rattle.flat_scene.specs.Effect.{draft_of}
 use Rattle.flat_scene.specs.Frames.{taken}
 use Rattle.flat_scene.specs.History.{◌▹◌, calls, closes, is_finish, is_session, published}
-use Rattle.flat_scene.proofs.Together.{and-left}
+use Rattle.flat_base.proofs.lemmas.Tests.{and-left}
 use Rattle.flat_states.specs.declared.live.Live.{Live}
 use Rattle.flat_states.specs.declared.pairs.PairState.{PairState}
 use Rattle.flat_states.specs.Clears.{clears_pair, cleared_if}
@@ -33,15 +33,15 @@ use Rattle.flat_states.specs.Usage.{IsUse, used_by}
 use Rattle.flat_states.specs.Views.{ended_by, view_after}
 use Rattle.flat_rules.specs.Watch.{props_at, props_given, props_seen}
 use Rattle.flat_watch.specs.Told.{or_else}
-use Rattle.flat_states.proofs.Earlier.{begin-earlier, calls-taken, taken-fits}
-use Rattle.flat_states.proofs.LiveCounts.{made-append}
-use Rattle.flat_states.proofs.PairSteps.{cleared-own, ended-own, no-begin, no-finish, pair-own, pending-step}
+use Rattle.flat_states.proofs.lemmas.Earlier.{begin-earlier, calls-taken, taken-fits}
+use Rattle.flat_states.proofs.lemmas.LiveCounts.{made-append}
+use Rattle.flat_states.proofs.lemmas.PairSteps.{cleared-own, ended-own, no-begin, no-finish, pair-own, pending-step}
 use Rattle.flat_states.proofs.SerialSteps.{made-begins, serial-new}
-use Rattle.flat_states.proofs.Serials.{draft-contents, serials-are, serials-count}
-use Rattle.flat_states.proofs.Uses.{uses-made, uses-few}
-use Rattle.flat_rules.proofs.ListLemmas.{serial-beyond}
-use Rattle.flat_rules.proofs.Locality.{same-session as session-is}
-use Rattle.flat_states.proofs.ViewHistory.{same-session}
+use Rattle.flat_states.proofs.lemmas.Serials.{draft-contents, serials-are, serials-count}
+use Rattle.flat_states.proofs.lemmas.Uses.{uses-made, uses-few}
+use Rattle.flat_rules.proofs.lemmas.ListLemmas.{serial-beyond}
+use Rattle.flat_rules.proofs.lemmas.Locality.{same-session as session-is}
+use Rattle.flat_states.proofs.lemmas.ViewHistory.{same-session}
 
 -- ---- no frame has seen a use that wasn't made
 

@@ -7,9 +7,9 @@ use Rattle.std.proofs.lemmas.List.Folds.{list_all-append, list_any-append}
 use Rattle.flat_base.specs.declared.ids.PairNo.{PairNo}
 use Rattle.flat_scene.specs.Draft.{Draft, Transform, Made, Name, named, of_serial, changed_at, empty_draft}
 use Rattle.flat_scene.specs.Effect.{changed_if}
-use Rattle.flat_scene.proofs.Together.{and-left, and-right}
-use Rattle.flat_states.proofs.Lives.{pair_made, pair_at}
-use Rattle.flat_rules.proofs.ListLemmas.{length-changed}
+use Rattle.flat_base.proofs.lemmas.Tests.{and-left, and-right}
+use Rattle.flat_states.proofs.lemmas.Lives.{pair_made, pair_at}
+use Rattle.flat_rules.proofs.lemmas.ListLemmas.{length-changed}
 
 -- whether a number is in a list
 abbrev pub has : List ℕ → ℕ → Bool

@@ -12,10 +12,10 @@ use Rattle.flat_scene.specs.declared.setup.Setup.{Setup}
 use Rattle.flat_scene.specs.Draft.{Draft, Transform, Made, a_fill, a_viewport, Name, named, changed_at, transform_of, content_of, empty_draft, new_transform}
 use Rattle.flat_scene.specs.Effect.{effect, after_calls, unless, changed_if, is_serial, held_but, on_image, on_viewport, on_fill, draft_of, new_image}
 use Rattle.flat_scene.specs.Misuse.{misuse}
-use Rattle.flat_states.proofs.Lives.{pair_made, pair_at, serial_at, serials_by, IsTidy, tidy-empty, changed-pair, image-pair, viewport-pair, fill-pair, all-fewer}
+use Rattle.flat_states.proofs.lemmas.Lives.{pair_made, pair_at, serial_at, serials_by, IsTidy, tidy-empty, changed-pair, image-pair, viewport-pair, fill-pair, all-fewer}
 use Rattle.flat_states.proofs.LiveSteps.{follows}
 use Rattle.flat_states.proofs.Reached.{has, is_alive, is_reached, IsReached, reached-empty, with-changed, with-contents, child-after, fewer-after, parts, alive-same, alive-made, one-later, drop-all, named-all, mapped-later}
-use Rattle.flat_states.proofs.ViewCalls.{after-refused}
+use Rattle.flat_states.proofs.lemmas.ViewCalls.{after-refused}
 
 -- a viewport that is named is alive
 named-alive : (f : ℕ → Option PairNo) (names : List Name) (id : ℕ) → is_alive f (serials_by f names) (named names id) ≡ true

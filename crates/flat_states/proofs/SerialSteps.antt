@@ -20,26 +20,26 @@ use Rattle.flat_scene.specs.Frames.{taken}
 use Rattle.flat_scene.specs.History.{◌▹◌, own, calls, closes, is_closed, is_session, presents, published, Published}
 use Rattle.flat_scene.specs.Misuse.{first_reason}
 use Rattle.flat_scene.specs.Tree.{tree, tree_tests, all_nodes, is_too_large, is_cyclic, head_of, use_of}
-use Rattle.flat_scene.proofs.Presented.{tree-of-tested}
-use Rattle.flat_scene.proofs.Steps.{presents-own, presents-other}
-use Rattle.flat_scene.proofs.Together.{and-left}
+use Rattle.flat_scene.proofs.lemmas.Presented.{tree-of-tested}
+use Rattle.flat_scene.proofs.lemmas.Steps.{presents-own, presents-other}
+use Rattle.flat_base.proofs.lemmas.Tests.{and-left}
 use Rattle.flat_rules.specs.Ends.{viewport_uses, props_of, taken_calls}
 use Rattle.flat_rules.specs.Legal.{Legal, owns_viewport, makes_viewport, all_but_last}
 use Rattle.flat_states.specs.Lives.{made_of_pair}
 use Rattle.flat_rules.specs.Serials.{makes_content, contents_made, serials_in, IsUseSerial, props_at_serial}
 use Rattle.flat_rules.specs.Shown.{is_pair, last_taken, tree_of}
 use Rattle.flat_rules.specs.Stamps.{made_by}
-use Rattle.flat_states.proofs.Earlier.{Begins, begins-more, IsEarlier, calls-taken, taken-fits, legal-earlier}
-use Rattle.flat_states.proofs.LiveCounts.{made-append}
-use Rattle.flat_states.proofs.Serials.{serials-append, contents-append, serials-count, use-props}
-use Rattle.flat_states.proofs.ShownFits.{MaySound, found-sound, presents-sound}
-use Rattle.flat_rules.proofs.ShownSteps.{serial-append, closed-before}
-use Rattle.flat_states.proofs.StampSteps.{not-presented}
-use Rattle.flat_states.proofs.Uses.{uses-other, uses-own, uses-made}
-use Rattle.flat_states.proofs.ViewCalls.{split-last}
-use Rattle.flat_states.proofs.ViewHistory.{published-made}
-use Rattle.flat_states.proofs.ViewLaw.{made_at, MadeOf, made-earlier, le-or-lt}
-use Rattle.flat_rules.proofs.ListLemmas.{serial-within, serial-beyond}
+use Rattle.flat_states.proofs.lemmas.Earlier.{Begins, begins-more, IsEarlier, calls-taken, taken-fits, legal-earlier}
+use Rattle.flat_states.proofs.lemmas.LiveCounts.{made-append}
+use Rattle.flat_states.proofs.lemmas.Serials.{serials-append, contents-append, serials-count, use-props}
+use Rattle.flat_states.proofs.lemmas.ShownFits.{MaySound, found-sound, presents-sound}
+use Rattle.flat_rules.proofs.lemmas.ShownSteps.{serial-append, closed-before}
+use Rattle.flat_states.proofs.lemmas.StampSteps.{not-presented}
+use Rattle.flat_states.proofs.lemmas.Uses.{uses-other, uses-own, uses-made}
+use Rattle.flat_states.proofs.lemmas.ViewCalls.{split-last}
+use Rattle.flat_states.proofs.lemmas.ViewHistory.{published-made}
+use Rattle.flat_states.proofs.lemmas.ViewLaw.{made_at, MadeOf, made-earlier, le-or-lt}
+use Rattle.flat_rules.proofs.lemmas.ListLemmas.{serial-within, serial-beyond}
 use Rattle.flat_states.proofs.LowTrees.{second_none}
 
 -- ---- the calls up to a present are the first of all calls

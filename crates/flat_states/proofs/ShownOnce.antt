@@ -14,11 +14,11 @@ use Rattle.flat_scene.specs.declared.trees.Node.{Node}
 use Rattle.flat_scene.specs.Draft.{Draft, Transform, Made, an_image, a_fill, a_viewport, Name, of_serial}
 use Rattle.flat_scene.specs.Tree.{shown_content, content_held, node, each, node_within, all_nodes, has_twice}
 use Rattle.flat_scene.specs.Trees.{more, viewport_in, viewports_in}
-use Rattle.flat_scene.proofs.Together.{and-left, and-right}
+use Rattle.flat_base.proofs.lemmas.Tests.{and-left, and-right}
 use Rattle.flat_states.specs.Lives.{held_of}
-use Rattle.flat_states.proofs.Lives.{pair_made, pair_at, live_at, serial_at, lives_by, serials_by, lives_of, IsTidy}
+use Rattle.flat_states.proofs.lemmas.Lives.{pair_made, pair_at, live_at, serial_at, lives_by, serials_by, lives_of, IsTidy}
 use Rattle.flat_states.proofs.Reached.{has, is_alive, is_reached, is_root_after, IsReached}
-use Rattle.flat_topology.proofs.Distinct.{In, Distinct}
+use Rattle.flat_topology.proofs.lemmas.Distinct.{In, Distinct}
 use Rattle.flat_topology.specs.Shown.{pair_in, pairs_in}
 use Rattle.std.proofs.lemmas.Bool.{or_parts}
 

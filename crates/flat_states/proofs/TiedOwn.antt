@@ -12,9 +12,9 @@ use Rattle.flat_states.specs.declared.ties.Ties.{Ties}
 use Rattle.flat_states.specs.declared.viewports.Viewports.{Viewports}
 use Rattle.flat_states.specs.Following.{AreTied, IsOwnEntry, UsesNone}
 use Rattle.flat_states.specs.Presents.{IsOwn, TiesNoted}
-use Rattle.flat_states.proofs.Changes.{is-session}
-use Rattle.flat_rules.proofs.Locality.{same-session}
-use Rattle.flat_states.proofs.TiesSteps.{tied-idle}
+use Rattle.flat_states.proofs.lemmas.Changes.{is-session}
+use Rattle.flat_rules.proofs.lemmas.Locality.{same-session}
+use Rattle.flat_states.proofs.lemmas.TiesSteps.{tied-idle}
 
 -- of one that is open
 pub own-entry : (setup : Setup) (h : List Entry) (e : Entry) (s : SessionNo) (carries : List Call) (state : SessionState) (ends : Viewports) → IsOwn setup h e s carries state ends → is_closed s h ≡ false → (live : List Live) → live ≡ ends.live.items

@@ -12,11 +12,11 @@ use Rattle.flat_states.specs.Following.{IsBegun, IsFollowed, sight_of, sight_of_
 use Rattle.flat_states.specs.Kept.{IsKept, taken_in}
 use Rattle.flat_states.specs.Seen.{seen_of}
 use Rattle.flat_rules.specs.Shown.{shown, shown_states}
-use Rattle.flat_states.proofs.BeginLoop.{all-below, none-below, not-below, same-side, this-side}
-use Rattle.flat_states.proofs.Changes.{changed-one}
-use Rattle.flat_states.proofs.Counts.{seen-count, taken-kept}
+use Rattle.flat_states.proofs.lemmas.BeginLoop.{all-below, none-below, not-below, same-side, this-side}
+use Rattle.flat_states.proofs.lemmas.Changes.{changed-one}
+use Rattle.flat_states.proofs.lemmas.Counts.{seen-count, taken-kept}
 use Rattle.flat_states.proofs.Followed.{followed-still}
-use Rattle.flat_rules.proofs.ShownList.{listed-at}
+use Rattle.flat_rules.proofs.lemmas.ShownList.{listed-at}
 use Rattle.flat_topology.specs.Join.{is_joined}
 use Rattle.flat_topology.specs.Shown.{Shown, state_of}
 

@@ -19,7 +19,7 @@ use Rattle.flat_states.specs.Usage.{SettlesPairs, settled}
 use Rattle.flat_rules.specs.Watch.{props_seen}
 use Rattle.flat_watch.specs.Told.{or_else}
 use Rattle.flat_states.proofs.Followed.{followed-still}
-use Rattle.flat_states.proofs.PairIdle.{pair-still}
+use Rattle.flat_states.proofs.lemmas.PairIdle.{pair-still}
 use Rattle.flat_states.proofs.TiesBegin.{FollowedUpTo, followed-end, followed-here, followed-on}
 
 -- what is pending before the end of a frame is so after it

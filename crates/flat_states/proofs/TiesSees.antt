@@ -16,7 +16,7 @@ use Rattle.flat_scene.specs.Effect.{draft_of}
 use Rattle.flat_scene.specs.Frames.{taken}
 use Rattle.flat_scene.specs.History.{is_closed, is_session, presents, Published}
 use Rattle.flat_scene.specs.Setups.{is_declared}
-use Rattle.flat_scene.proofs.Together.{and-left}
+use Rattle.flat_base.proofs.lemmas.Tests.{and-left}
 use Rattle.std.proofs.lemmas.Bool.{not-true}
 use Rattle.flat_states.specs.declared.following.Following.{Following}
 use Rattle.flat_states.specs.declared.following.Sight.{Sight}
@@ -31,13 +31,13 @@ use Rattle.flat_rules.specs.Shown.{last_taken, shown, tree_of}
 use Rattle.flat_states.specs.Usage.{SeesOne, SeesUses, props_among, uses_if, uses_in, with_pending}
 use Rattle.flat_rules.specs.Watch.{props_seen}
 use Rattle.flat_watch.specs.Told.{or_else}
-use Rattle.flat_states.proofs.Earlier.{IsEarlier, begin-earlier, calls-taken, finished-earlier, itself, one-earlier, taken-begin, taken-earlier, taken-finished}
+use Rattle.flat_states.proofs.lemmas.Earlier.{IsEarlier, begin-earlier, calls-taken, finished-earlier, itself, one-earlier, taken-begin, taken-earlier, taken-finished}
 use Rattle.flat_states.proofs.FrameSees.{closed-took, foreign-uses, last-uses, no-uses, seen-already}
-use Rattle.flat_states.proofs.PairIdle.{idle-serial, pair-still}
-use Rattle.flat_rules.proofs.ShownSteps.{serial-zero}
+use Rattle.flat_states.proofs.lemmas.PairIdle.{idle-serial, pair-still}
+use Rattle.flat_rules.proofs.lemmas.ShownSteps.{serial-zero}
 use Rattle.flat_states.proofs.TiesBegin.{FollowedUpTo, followed-end, followed-here, state-at}
 use Rattle.flat_states.proofs.Undeclared.{none-taken}
-use Rattle.flat_states.proofs.ViewLaw.{made_at}
+use Rattle.flat_states.proofs.lemmas.ViewLaw.{made_at}
 use Rattle.flat_topology.specs.Shown.{Shown, state_of}
 
 -- whether a session is one of the first

@@ -15,21 +15,21 @@ use Rattle.flat_scene.specs.declared.trees.Tree.{Tree}
 use Rattle.flat_scene.specs.Frames.{taken}
 use Rattle.flat_scene.specs.History.{closes, is_closed, own, presents, published_all, Published}
 use Rattle.flat_scene.specs.Setups.{is_declared}
-use Rattle.flat_scene.proofs.TakingLemmas.{taken-made}
+use Rattle.flat_scene.proofs.lemmas.TakingLemmas.{taken-made}
 use Rattle.flat_states.specs.declared.following.Following.{Following}
 use Rattle.flat_states.specs.declared.following.Sight.{Sight}
 use Rattle.flat_states.specs.declared.pairs.PairState.{PairState}
 use Rattle.flat_rules.specs.Ends.{is_viewport_lost, to_finished, view_owner, viewport_owner, viewport_uses}
 use Rattle.flat_states.specs.Following.{AreTied, IsFollowed, IsLastSight, IsPairKept}
 use Rattle.flat_rules.specs.Numbers.{AllNumbered, number}
-use Rattle.flat_states.proofs.Counts.{at-session}
+use Rattle.flat_states.proofs.lemmas.Counts.{at-session}
 use Rattle.flat_rules.specs.Legal.{Legal}
 use Rattle.flat_rules.specs.Shown.{is_pair, shown_view, tree_of}
 use Rattle.flat_rules.specs.Stamps.{is_seen}
 use Rattle.flat_states.specs.Views.{child_by}
 use Rattle.flat_rules.specs.Watch.{child_of, props_seen, props_told, told}
 use Rattle.flat_watch.specs.Told.{or_else}
-use Rattle.flat_states.proofs.Earlier.{finished-earlier, legal-earlier}
+use Rattle.flat_states.proofs.lemmas.Earlier.{finished-earlier, legal-earlier}
 use Rattle.flat_states.proofs.NewTies.{nothing}
 use Rattle.flat_states.proofs.PairTold.{child-told, view-lost, viewport-lost}
 use Rattle.flat_states.proofs.Undeclared.{none-taken, own-none}

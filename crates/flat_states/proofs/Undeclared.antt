@@ -8,10 +8,10 @@ use Rattle.flat_scene.specs.Draft.{of_serial}
 use Rattle.flat_scene.specs.Frames.{taken}
 use Rattle.flat_scene.specs.History.{◌▹◌, is_session, own, published_all}
 use Rattle.flat_scene.specs.Setups.{is_declared}
-use Rattle.flat_scene.proofs.Together.{and-right}
+use Rattle.flat_base.proofs.lemmas.Tests.{and-right}
 use Rattle.flat_rules.specs.Legal.{Legal, may_act, session_may}
 use Rattle.flat_rules.specs.Shown.{last_taken}
-use Rattle.flat_states.proofs.ViewHistory.{same-session}
+use Rattle.flat_states.proofs.lemmas.ViewHistory.{same-session}
 
 pub own-none : (setup : Setup) (s : SessionNo) → is_declared setup s ≡ false → (h : List Entry) → Legal setup h → own s h ≡ []
 own-none setup s undeclared [] legal = refl

@@ -9,8 +9,8 @@ use Rattle.flat_scene.specs.declared.trees.ViewportUse.{ViewportUse}
 use Rattle.flat_states.specs.declared.pairs.PairState.{PairState}
 use Rattle.flat_rules.specs.Numbers.{AllNumbered}
 use Rattle.flat_states.specs.Usage.{SeesUses, SettlesPairs, props_among, settled, with_pending}
-use Rattle.flat_states.proofs.BeginLoop.{none-below, not-below, same-side, this-side}
-use Rattle.flat_states.proofs.Changes.{changed-one}
+use Rattle.flat_states.proofs.lemmas.BeginLoop.{none-below, not-below, same-side, this-side}
+use Rattle.flat_states.proofs.lemmas.Changes.{changed-one}
 use Rattle.flat_watch.specs.Told.{or_else}
 
 or-three : (x y z : Option ViewportProps) → or_else x (or_else y z) ≡ or_else (or_else x y) z

@@ -15,9 +15,9 @@ use Rattle.flat_rules.specs.Legal.{all_but_last}
 use Rattle.flat_states.specs.Lives.{lives_after, lives_then, count_of, makes_one, releases_live, uses_last}
 use Rattle.flat_states.specs.Seen.{is_new_viewport}
 use Rattle.flat_states.specs.Viewports.{marked}
-use Rattle.flat_states.proofs.LiveCounts.{count-append, lives-append}
-use Rattle.flat_states.proofs.ViewCalls.{split-last}
-use Rattle.flat_states.proofs.ViewSteps.{same-pair}
+use Rattle.flat_states.proofs.lemmas.LiveCounts.{count-append, lives-append}
+use Rattle.flat_states.proofs.lemmas.ViewCalls.{split-last}
+use Rattle.flat_states.proofs.lemmas.ViewSteps.{same-pair}
 use Rattle.std.proofs.lemmas.Bool.{or_parts}
 
 -- the calls before the last

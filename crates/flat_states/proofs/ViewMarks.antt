@@ -10,7 +10,7 @@ use Rattle.flat_states.specs.declared.pairs.PairState.{PairState}
 use Rattle.flat_rules.specs.Shown.{is_pair}
 use Rattle.flat_rules.specs.Stamps.{stamp_then}
 use Rattle.flat_states.specs.Views.{view_then, ends_it, ends_of, ended_by, EndsViews, EndsOne}
-use Rattle.flat_states.proofs.Marks.{stamp-more, stamp-none, once}
+use Rattle.flat_states.proofs.lemmas.Marks.{stamp-more, stamp-none, once}
 
 abbrev pub with_end : PairState → Option ℕ → PairState
 with_end state stamp = record state { ended = stamp }

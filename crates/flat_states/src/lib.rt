@@ -3,8 +3,8 @@
 //! live and the tokens that are out (viewports), and by what the ends of pairs are told
 //! (ties). Each part stands for a history by a record of its own (specs/).
 //!
-//! flat_gets and flat_core, which are the board's other parts, cite the lemma files of
-//! proofs/.
+//! Other crates may cite the lemmas of proofs/lemmas/: what the board's other parts
+//! take of sessions, pairs and ties.
 #![tactic(auto)]
 
 mod clears;

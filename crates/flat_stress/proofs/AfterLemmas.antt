@@ -13,7 +13,7 @@ use Rattle.flat_scene.specs.declared.script.Body.TheVariants as body
 use Rattle.flat_scene.specs.declared.script.DisplayLine.TheVariants as display
 use Rattle.flat_scene.specs.declared.script.Line.{Line}
 use Rattle.flat_scene.specs.declared.script.ScriptLine.{ScriptLine}
-use Rattle.flat_text.proofs.NumberLemmas.{natural-decimal}
+use Rattle.flat_text.proofs.lemmas.NumberLemmas.{natural-decimal}
 use Rattle.flat_script.specs.declared.script.Part.TheVariants as part
 use Rattle.flat_script.specs.Known.{known_words}
 use Rattle.flat_script.specs.Forms.{mapped}
@@ -21,8 +21,8 @@ use Rattle.flat_script.specs.Names.{actor_named, is_actor}
 use Rattle.flat_script.specs.Body.{time_begun, ends_frame, begin_times, dones, greatest, is_open, lines_of_actor, display_line, actor_line}
 use Rattle.flat_script.specs.Grammar.{Sofar, words_read, lines_read}
 use Rattle.flat_print.specs.Print.{spelled}
-use Rattle.flat_print.proofs.TextLemmas.{IsLine, AllLines, AllLines-append}
-use Rattle.flat_print.proofs.AgainLemmas.{with_lines}
+use Rattle.flat_print.proofs.lemmas.TextLemmas.{IsLine, AllLines, AllLines-append}
+use Rattle.flat_print.proofs.lemmas.AgainLemmas.{with_lines}
 use Rattle.flat_stress.specs.Words.{Word, number}
 use Rattle.flat_stress.specs.Load.{frame, later}
 use Rattle.flat_stress.proofs.LineLemmas.{line_good, tested, number_solid}

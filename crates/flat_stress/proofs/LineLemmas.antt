@@ -15,7 +15,7 @@ use Rattle.std.proofs.lemmas.Str.Parse.{tells_all_ascii_digits, numerals_by_valu
 use Rattle.flat_text.specs.Pieces.{is_feed, is_space, words_of, lines_of, without_empty_end}
 use Rattle.flat_script.specs.Grammar.{is_plain, is_skipped}
 use Rattle.flat_print.specs.Print.{spelled, spaced}
-use Rattle.flat_print.proofs.TextLemmas.{IsLine, AllLines}
+use Rattle.flat_print.proofs.lemmas.TextLemmas.{IsLine, AllLines}
 use Rattle.flat_stress.specs.Words.{Word, line_text, text_of}
 use Rattle.flat_stress.specs.Words.{spaced as all_spaced}
 

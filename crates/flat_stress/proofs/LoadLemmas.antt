@@ -12,8 +12,8 @@ use Rattle.flat_script.specs.Head.{empty}
 use Rattle.flat_script.specs.Body.{dones}
 use Rattle.flat_script.specs.Grammar.{lines_read, text_read, IsScript}
 use Rattle.flat_print.specs.Print.{spelled}
-use Rattle.flat_print.proofs.TextLemmas.{AllLines, AllLines-append}
-use Rattle.flat_print.proofs.AgainLemmas.{with_lines}
+use Rattle.flat_print.proofs.lemmas.TextLemmas.{AllLines, AllLines-append}
+use Rattle.flat_print.proofs.lemmas.AgainLemmas.{with_lines}
 use Rattle.flat_stress.specs.Words.{Word, number, session, pair, from_to, text_of}
 use Rattle.flat_stress.specs.Load.{head, host, guest, frame, later, load_text}
 use Rattle.flat_stress.specs.Laws.{LoadsAreScripts, LoadsHaveTheirFrames}

@@ -7,7 +7,7 @@ use Rattle.flat_base.specs.declared.ids.SessionNo.{SessionNo}
 use Rattle.flat_scene.specs.declared.calls.Call.TheVariants as call
 use Rattle.flat_scene.specs.declared.script.Line.TheVariants as line
 use Rattle.flat_text.specs.Number.{natural, signed}
-use Rattle.flat_text.proofs.NumberLemmas.{natural-decimal, signed-signed_decimal}
+use Rattle.flat_text.proofs.lemmas.NumberLemmas.{natural-decimal, signed-signed_decimal}
 use Rattle.flat_script.specs.declared.script.Script.{Script}
 use Rattle.flat_script.specs.Known.{known_words}
 use Rattle.flat_script.specs.Forms.{or_kind}

@@ -7,7 +7,7 @@ use Rattle.flat_scene.specs.declared.script.Line.{Line}
 use Rattle.flat_script.specs.Known.{known_words}
 use Rattle.flat_script.specs.Names.{actor_named}
 use Rattle.flat_script.specs.Body.{session_line}
-use Rattle.flat_print.proofs.TextLemmas.{IsLine, AllLines}
+use Rattle.flat_print.proofs.lemmas.TextLemmas.{IsLine, AllLines}
 use Rattle.flat_stress.specs.Words.{Word, number, session, pair, from_to}
 use Rattle.flat_stress.specs.Load.{says, opening, node, move, fill, viewport, present, host, guest}
 use Rattle.flat_stress.proofs.LineLemmas.{IsSolid, AllSolid, line_good, tested, number_solid, named_solid}

@@ -21,8 +21,8 @@ use Rattle.flat_topology.specs.Pairs.{OwnsViewport}
 use Rattle.flat_topology.specs.Links.{IsBelow, IsTop, IsConnectedThrough, IsConnected}
 use Rattle.flat_topology.specs.Fit.{FitsSetup}
 use Rattle.flat_topology.specs.Climbing.{leads_to, is_shown_by, IsAbovePair, IsAbove, IsClimbed}
-use Rattle.flat_topology.proofs.Distinct.{in-contains, contains-in}
-use Rattle.flat_topology.proofs.Distances.{viewport-owner, below-one, below-none}
+use Rattle.flat_topology.proofs.lemmas.Distinct.{in-contains, contains-in}
+use Rattle.flat_topology.proofs.lemmas.Distances.{viewport-owner, below-one, below-none}
 use Rattle.flat_topology.proofs.Whole.{found-in, in-found, distance-low}
 use Rattle.flat_topology.proofs.Walking.{rooted-alone}
 use Rattle.std.proofs.Math.Bool.{or-false, or_assoc}

@@ -12,7 +12,7 @@ use Rattle.flat_topology.specs.Shown.{Shown}
 use Rattle.flat_topology.specs.Fit.{FitsSetup}
 use Rattle.flat_topology.specs.Join.{JoinedTree, Viewer, viewer_from, linked_to, joined_nodes, viewed, led_to, led_from, sessions_in}
 use Rattle.flat_topology.specs.Connected.{joined_count}
-use Rattle.flat_topology.proofs.Distances.{viewer-state}
+use Rattle.flat_topology.proofs.lemmas.Distances.{viewer-state}
 
 -- as many nodes as the sessions of a tree may have
 abbrev allowed : JoinedTree → ℕ

@@ -4,7 +4,7 @@ use Rattle.std.specs.Prelude.{◌==◌, not, filter}
 use Rattle.std.proofs.lemmas.Bool.Decides.{eqb_tells}
 use Rattle.flat_scene.specs.declared.frames.Hit.{Hit}
 use Rattle.flat_topology.specs.Hits.{first_of_each}
-use Rattle.flat_topology.proofs.Distinct.{In, Distinct}
+use Rattle.flat_topology.proofs.lemmas.Distinct.{In, Distinct}
 
 abbrev numbers : List Hit → List ℕ
 numbers = map (λ hit. hit.session.0)

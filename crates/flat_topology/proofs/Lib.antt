@@ -1,7 +1,5 @@
 pub mod Stating
 pub mod Walking
-pub mod Distinct
-pub mod Distances
 pub mod Standing
 pub mod Whole
 pub mod Few
@@ -15,3 +13,4 @@ mod Walks
 mod Examples
 pub mod Fitting
 pub mod Climbing
+pub mod lemmas

@@ -6,7 +6,7 @@ use Rattle.std.proofs.lemmas.Grind.{common_steps}
 use Rattle.flat_scene.specs.declared.trees.Node.{Node}
 use Rattle.flat_topology.specs.Join.{JoinedTree, nothing, node, child_view, join}
 use Rattle.flat_topology.specs.Laws.{DrawsInPreorder}
-use Rattle.flat_scene.proofs.Members.{IsIn, in-left, in-right, in-contained}
+use Rattle.flat_scene.proofs.lemmas.Members.{IsIn, in-left, in-right, in-contained}
 use Rattle.flat_topology.specs.declared.Placed.{Placed}
 use Rattle.flat_topology.specs.Place.{Space, display_space, placed_node, node_space, linked_space, placed_in}
 use Rattle.flat_topology.specs.Preorder.{Address, comes_before, are_in_order, node_at, addresses, Kept, kept_of, kept_by}

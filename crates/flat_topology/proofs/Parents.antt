@@ -19,8 +19,8 @@ use Rattle.flat_topology.specs.Fit.{FitsSetup}
 use Rattle.flat_topology.specs.Join.{JoinedTree, Viewer, viewer_from, linked_to, joined_nodes, viewed, led_to}
 use Rattle.flat_topology.specs.Place.{Space, node_space, linked_space, placed_node}
 use Rattle.flat_topology.specs.Views.{views_in, viewport_bounds}
-use Rattle.flat_topology.proofs.Distinct.{in-first, in-second, in-third, In, contains-in}
-use Rattle.flat_topology.proofs.Distances.{viewer-state}
+use Rattle.flat_topology.proofs.lemmas.Distinct.{in-first, in-second, in-third, In, contains-in}
+use Rattle.flat_topology.proofs.lemmas.Distances.{viewer-state}
 
 -- ---- parents
 

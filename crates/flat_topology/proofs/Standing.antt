@@ -12,8 +12,8 @@ use Rattle.flat_topology.specs.Pairs.{display_pair}
 use Rattle.flat_topology.specs.Links.{IsBelow, IsConnectedThrough, HangsBelow}
 use Rattle.flat_topology.specs.Fit.{FitsSetup}
 use Rattle.flat_topology.specs.Join.{JoinedTree, Viewer, viewer_from, linked_to, joined_nodes, viewed, led_to, led_from, sessions_in}
-use Rattle.flat_topology.proofs.Distinct.{in-first, in-second, in-third, In, Distinct, in-left, in-right, in-append, distinct-append, distinct-left, distinct-right, distinct-apart, contains-in, in-contains, distinct-pairs}
-use Rattle.flat_topology.proofs.Distances.{viewer-state, viewer-found, view-one, below-one, distance-one, distance-below, no-cycle}
+use Rattle.flat_topology.proofs.lemmas.Distinct.{in-first, in-second, in-third, In, Distinct, in-left, in-right, in-append, distinct-append, distinct-left, distinct-right, distinct-apart, contains-in, in-contains, distinct-pairs}
+use Rattle.flat_topology.proofs.lemmas.Distances.{viewer-state, viewer-found, view-one, below-one, distance-one, distance-below, no-cycle}
 
 -- ---- nodes and their viewports, whatever a pair leads to
 

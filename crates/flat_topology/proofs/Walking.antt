@@ -12,8 +12,8 @@ use Rattle.flat_snap.specs.declared.flat.FlatNode.{FlatNode}
 use Rattle.flat_snap.specs.Flat.{flat_nodes, rooted}
 use Rattle.flat_snap.specs.Forest.{as_node, forest_in, forest}
 use Rattle.flat_snap.specs.Stretch.{IsStretch}
-use Rattle.flat_snap.proofs.Rebuilding.{forest-whole}
-use Rattle.flat_snap.proofs.Stretches.{IsFirst, stretch-first, stretch-whole, stretch-none, stretch-within}
+use Rattle.flat_snap.proofs.lemmas.Rebuilding.{forest-whole}
+use Rattle.flat_snap.proofs.lemmas.Stretches.{IsFirst, stretch-first, stretch-whole, stretch-none, stretch-within}
 use Rattle.flat_topology.specs.declared.Placed.{Placed}
 use Rattle.flat_topology.specs.declared.Connected.{Connected}
 use Rattle.flat_topology.specs.declared.scope.Scope.{Scope}

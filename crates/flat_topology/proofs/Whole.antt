@@ -16,8 +16,8 @@ use Rattle.flat_topology.specs.Pairs.{display_pair}
 use Rattle.flat_topology.specs.Links.{IsConnectedThrough}
 use Rattle.flat_topology.specs.Fit.{FitsSetup}
 use Rattle.flat_topology.specs.Join.{JoinedTree, nothing, child_view, Viewer, viewer_from, linked_to, joined_nodes, viewed, led_to}
-use Rattle.flat_topology.proofs.Distinct.{in-first, in-second, in-third, In, Distinct, contains-in}
-use Rattle.flat_topology.proofs.Distances.{viewer-state, distance-one}
+use Rattle.flat_topology.proofs.lemmas.Distinct.{in-first, in-second, in-third, In, Distinct, contains-in}
+use Rattle.flat_topology.proofs.lemmas.Distances.{viewer-state, distance-one}
 
 -- ---- different numbers below a bound are at most as many as the bound
 

@@ -7,7 +7,8 @@
 //! `specs/`: which sessions are connected, where each node is placed, what is
 //! drawn, the view tree, and what a point hits.
 //!
-//! Other crates may cite the lemma files proofs/Distances and Distinct.
+//! Other crates may cite the lemmas of proofs/lemmas/: lists without repeats, and
+//! distances from the display (Distances, Distinct).
 #![tactic(auto)]
 
 ghost use Rattle.flat_topology.specs.Laws.{JoinsTheConnected, JoinsEachOnce, ReachesNoCycle, JoinsAll, JoinsFew, PlacesLowOpacities, ParentsDecide, DrawsInPreorder, ViewsTheJoined, ViewsBelowParents, ViewsTheConnected, HitsEachOnce};

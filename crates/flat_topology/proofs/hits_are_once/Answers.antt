@@ -2,7 +2,7 @@ use Rattle.std.specs.Prelude.{◌*ℤ◌, map, filter_map, reverse}
 use Rattle.flat_geom.specs.Matrices.{unit}
 use Rattle.flat_topology.specs.Place.{placed_nodes}
 use Rattle.flat_topology.specs.Hits.{hit_on, hit_list}
-use Rattle.flat_topology.proofs.Distinct.{pairs-distinct}
+use Rattle.flat_topology.proofs.lemmas.Distinct.{pairs-distinct}
 use Rattle.flat_topology.proofs.Hitting.{distinct-first}
 use Rattle.flat_topology.proofs.hits_are_once.Goals as goal
 

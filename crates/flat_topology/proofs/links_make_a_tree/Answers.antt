@@ -8,8 +8,8 @@ use Rattle.flat_topology.specs.Fit.{FitsSetup}
 use Rattle.flat_topology.specs.Join.{join, led_from, sessions_in, joined_sessions, is_joined}
 use Rattle.flat_topology.specs.Place.{display_space, placed_in, placed_nodes}
 use Rattle.flat_topology.specs.Connected.{joined_count}
-use Rattle.flat_topology.proofs.Distinct.{In, Distinct, pairs-distinct}
-use Rattle.flat_topology.proofs.Distances.{no-cycle}
+use Rattle.flat_topology.proofs.lemmas.Distinct.{In, Distinct, pairs-distinct}
+use Rattle.flat_topology.proofs.lemmas.Distances.{no-cycle}
 use Rattle.flat_topology.proofs.Standing.{in-led, reached-connected, distinct-from, connected-reached, led-in}
 use Rattle.flat_topology.proofs.Whole.{found-in, in-found, few-below, connected-within, distance-low, led-whole}
 use Rattle.flat_topology.proofs.Few.{few-joined}

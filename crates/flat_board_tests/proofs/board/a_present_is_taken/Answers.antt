@@ -3,7 +3,7 @@ use Rattle.flat_scene.specs.declared.journal.Entry.{Entry}
 use Rattle.flat_core.specs.Machines.{Machine}
 use Rattle.flat_rules.specs.Ends.{to_begin}
 use Rattle.flat_rules.specs.Shown.{shown_states}
-use Rattle.flat_rules.proofs.ShownList.{nothing-shown}
+use Rattle.flat_rules.proofs.lemmas.ShownList.{nothing-shown}
 use Rattle.flat_board_tests.proofs.board.a_present_is_taken.Goals as goal
 
 pub begin-requires-clause-shown : goal.begin-requires-clause-shown

@@ -1,4 +1,4 @@
-use Rattle.flat_collect.proofs.Verdicts.{verdict_stands}
+use Rattle.flat_collect.proofs.lemmas.Verdicts.{verdict_stands}
 use Rattle.flat_collect.proofs.laws.verdict_laws.Goals as goal
 
 pub returns : goal.returns

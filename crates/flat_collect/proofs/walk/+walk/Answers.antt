@@ -1,7 +1,7 @@
 use Rattle.std.proofs.Common.{ℕ, ◌≡◌, ◌-◌, inl, inr, suc, arith, slice_index_or, drop, []}
 use Rattle.std.proofs.lemmas.List.{drop_all}
 use Rattle.flat_graph.specs.Reasons.{links_in}
-use Rattle.flat_collect.proofs.Walking.{below-at, below-none, below-again, walking-deep, walking-full, walking-large, walking-more, walking-end}
+use Rattle.flat_collect.proofs.lemmas.Walking.{below-at, below-none, below-again, walking-deep, walking-full, walking-large, walking-more, walking-end}
 use Rattle.flat_collect.proofs.walk.+walk.Goals.{then-levels-eq0-via-then-levels-eq0, then-levels-eq0-via-else-levels-eq0+then-nodes-eq-TREE_NODES_MAX}
 use Rattle.flat_collect.proofs.walk.+walk.Goals as goal
 

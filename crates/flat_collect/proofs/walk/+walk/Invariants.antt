@@ -2,7 +2,7 @@ use Rattle.std.proofs.Common.{drop}
 use Rattle.flat_graph.specs.Reasons.{links_in}
 use Rattle.flat_collect.specs.Judge.{viewport_in}
 use Rattle.flat_collect.specs.Walking.{below}
-use Rattle.flat_collect.proofs.Walking.{IsWalking}
+use Rattle.flat_collect.proofs.lemmas.Walking.{IsWalking}
 use Rattle.flat_collect.proofs.walk.+walk.Given as goal
 
 abbrev pub decreases-walk : goal.decreases-walk

@@ -1,5 +1,5 @@
-use Rattle.flat_content.proofs.Standing.{content_calls_stand}
-use Rattle.flat_content.proofs.Others.{other_calls_stand}
+use Rattle.flat_content.proofs.lemmas.Standing.{content_calls_stand}
+use Rattle.flat_content.proofs.lemmas.Others.{other_calls_stand}
 use Rattle.flat_content.proofs.Sides.{sides_are_declared}
 use Rattle.flat_content.proofs.laws.content_laws.Goals as goal
 

@@ -5,11 +5,11 @@ use Rattle.std.proofs.lemmas.List.{length-set}
 use Rattle.std.proofs.lemmas.List.Sums.{sum_by-set}
 use Rattle.flat_states.specs.Machines.{due}
 use Rattle.flat_states.specs.Begins.{begin_entry}
-use Rattle.flat_states.proofs.BeginLoop.{ShownUpTo, kept-start, shown-start, kept-next, shown-next, shown-there, shown-end, posts-next}
+use Rattle.flat_states.proofs.lemmas.BeginLoop.{ShownUpTo, kept-start, shown-start, kept-next, shown-next, shown-there, shown-end, posts-next}
 use Rattle.flat_states.specs.Begins.{begun}
 use Rattle.flat_rules.specs.Ends.{to_begin}
 use Rattle.flat_rules.specs.Shown.{shown}
-use Rattle.flat_rules.proofs.ShownList.{listed, each-listed}
+use Rattle.flat_rules.proofs.lemmas.ShownList.{listed, each-listed}
 use Rattle.flat_core.proofs.begins.begin_all.Goals as goal
 
 pub loop-i-preserved : goal.loop-i-preserved

@@ -3,7 +3,7 @@ use Rattle.std.specs.Prelude.{sum_by}
 use Rattle.flat_states.specs.Begins.{begin_entry, posts_to}
 use Rattle.flat_states.specs.Machines.{due}
 use Rattle.flat_rules.specs.Numbers.{AllNumbered}
-use Rattle.flat_states.proofs.BeginLoop.{KeptUpTo, ShownUpTo}
+use Rattle.flat_states.proofs.lemmas.BeginLoop.{KeptUpTo, ShownUpTo}
 use Rattle.flat_core.proofs.begins.begin_all.Given as goal
 
 abbrev pub invariant-loop-i : goal.invariant-loop-i

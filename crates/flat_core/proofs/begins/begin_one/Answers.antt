@@ -5,10 +5,10 @@ use Rattle.flat_scene.specs.History.{is_closed}
 use Rattle.flat_scene.specs.Frames.{credits}
 use Rattle.flat_rules.specs.Ends.{to_begin}
 use Rattle.flat_rules.specs.Shown.{shown}
-use Rattle.flat_rules.proofs.ListLemmas.{set-own}
+use Rattle.flat_rules.proofs.lemmas.ListLemmas.{set-own}
 use Rattle.flat_states.specs.Begins.{begun}
 use Rattle.flat_states.specs.Seen.{seen_of}
-use Rattle.flat_gets.proofs.Begun.{seen-begun-closed, kept-let_go}
+use Rattle.flat_gets.proofs.lemmas.Begun.{seen-begun-closed, kept-let_go}
 use Rattle.flat_core.proofs.BeginSteps.{kept-begun-open, shown-some, shown-none, no-ready, are-ready, credits-line, events-some, events-none}
 use Rattle.flat_core.proofs.PresentSteps.{stays}
 use Rattle.flat_core.proofs.begins.begin_one.Goals as goal

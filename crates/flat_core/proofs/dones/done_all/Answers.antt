@@ -7,9 +7,9 @@ use Rattle.flat_states.specs.Machines.{due, due_back}
 use Rattle.flat_states.specs.Begins.{finish_entry, finished}
 use Rattle.flat_rules.specs.Legal.{Legal, LegalEntry}
 use Rattle.flat_gets.specs.Watchers.{WatchedUpTo}
-use Rattle.flat_states.proofs.BeginLoop.{posts-next}
-use Rattle.flat_gets.proofs.DoneSteps.{EndsOf, done-next, members-next, up-next}
-use Rattle.flat_gets.proofs.WatchingSteps.{watched-last}
+use Rattle.flat_states.proofs.lemmas.BeginLoop.{posts-next}
+use Rattle.flat_gets.proofs.lemmas.DoneSteps.{EndsOf, done-next, members-next, up-next}
+use Rattle.flat_gets.proofs.lemmas.WatchingSteps.{watched-last}
 use Rattle.flat_core.proofs.dones.done_all.Goals as goal
 
 pub loop-i-preserved : goal.loop-i-preserved

@@ -6,7 +6,7 @@ use Rattle.flat_states.specs.Begins.{finish_entry, finished, posts_to}
 use Rattle.flat_gets.specs.Dues.{all_due}
 use Rattle.flat_rules.specs.Numbers.{AllNumbered}
 use Rattle.flat_gets.specs.Watchers.{WatchedUpTo}
-use Rattle.flat_gets.proofs.DoneSteps.{DoneUpTo, EndsUpTo, released_to}
+use Rattle.flat_gets.proofs.lemmas.DoneSteps.{DoneUpTo, EndsUpTo, released_to}
 use Rattle.flat_core.proofs.dones.done_all.Given as goal
 
 abbrev pub invariant-loop-i : goal.invariant-loop-i

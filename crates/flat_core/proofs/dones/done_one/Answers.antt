@@ -13,10 +13,10 @@ use Rattle.flat_states.specs.Begins.{finish_entry, post_of, took_event}
 use Rattle.flat_rules.specs.Legal.{Legal, LegalEntry}
 use Rattle.flat_states.specs.Seen.{seen_of}
 use Rattle.flat_states.specs.Viewports.{back_events}
-use Rattle.flat_states.proofs.Counts.{seen-count, taken-kept}
-use Rattle.flat_gets.proofs.DoneSteps.{members-done}
-use Rattle.flat_gets.proofs.ViewportUses.{viewports-finish}
-use Rattle.flat_gets.proofs.DoneSteps.{told-then}
+use Rattle.flat_states.proofs.lemmas.Counts.{seen-count, taken-kept}
+use Rattle.flat_gets.proofs.lemmas.DoneSteps.{members-done}
+use Rattle.flat_gets.proofs.lemmas.ViewportUses.{viewports-finish}
+use Rattle.flat_gets.proofs.lemmas.DoneSteps.{told-then}
 use Rattle.flat_core.proofs.dones.done_one.Goals as goal
 
 pub returns-then-state-clause-members : goal.returns-then-state-clause-members

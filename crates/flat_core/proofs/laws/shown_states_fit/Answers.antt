@@ -1,5 +1,5 @@
-use Rattle.flat_states.proofs.ShownFits.{begun-fits, states-fit}
-use Rattle.flat_rules.proofs.ShownList.{length-listed, length-sessions, nothing-shown}
+use Rattle.flat_states.proofs.lemmas.ShownFits.{begun-fits, states-fit}
+use Rattle.flat_rules.proofs.lemmas.ShownList.{length-listed, length-sessions, nothing-shown}
 use Rattle.flat_rules.specs.Shown.{shown}
 use Rattle.flat_core.proofs.laws.shown_states_fit.Goals as goal
 

@@ -1,4 +1,4 @@
-use Rattle.flat_draft.proofs.Following.{answers_follow, calls_follow}
+use Rattle.flat_draft.proofs.lemmas.Following.{answers_follow, calls_follow}
 use Rattle.flat_draft.proofs.laws.draft_laws.Goals as goal
 
 pub returns-clause-calls_follow : goal.returns-clause-calls_follow

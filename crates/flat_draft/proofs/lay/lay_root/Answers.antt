@@ -1,6 +1,6 @@
 use Rattle.std.proofs.Common.{◌∙◌, ap, sym}
 use Rattle.flat_snap.specs.Building.{adds}
-use Rattle.flat_snap.proofs.Adding.{adds-none}
+use Rattle.flat_snap.proofs.lemmas.Adding.{adds-none}
 use Rattle.flat_draft.proofs.Laying.{no-root}
 use Rattle.flat_draft.proofs.lay.lay_root.Goals as goal
 

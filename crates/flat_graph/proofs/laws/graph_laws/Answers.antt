@@ -1,5 +1,5 @@
 use Rattle.flat_graph.proofs.StandingCalls.{stands-empty}
-use Rattle.flat_graph.proofs.StandingLaws as laws
+use Rattle.flat_graph.proofs.lemmas.StandingLaws as laws
 use Rattle.flat_graph.proofs.laws.graph_laws.Goals as goal
 
 pub returns-clause-empty_stands : goal.returns-clause-empty_stands

@@ -2,7 +2,7 @@ use Rattle.std.proofs.Common.{◌≡◌, ◌≤◌, arith, length}
 use Rattle.std.proofs.lemmas.Grind.{common_steps}
 use Rattle.flat_graph.specs.Names.{names_with}
 use Rattle.std.specs.List.{insert}
-use Rattle.flat_graph.proofs.NameLemmas.{place-within, insert-with}
+use Rattle.flat_graph.proofs.lemmas.NameLemmas.{place-within, insert-with}
 use Rattle.flat_graph.proofs.names.add_name.Goals as goal
 
 pub insert-requires : goal.insert-requires

@@ -1,5 +1,5 @@
 use Rattle.std.proofs.Common.{sym, ◌∙◌}
-use Rattle.flat_graph.proofs.NameLemmas.{named-place}
+use Rattle.flat_graph.proofs.lemmas.NameLemmas.{named-place}
 use Rattle.flat_graph.proofs.names.key_of.Goals as goal
 
 pub returns : goal.returns

@@ -1,7 +1,7 @@
 use Rattle.std.proofs.Common.{rules}
 use Rattle.std.specs.Prelude.{nat_lt}
 use Rattle.std.proofs.lemmas.List.Sorted.{IsPartitionPoint-from_clause}
-use Rattle.flat_graph.proofs.NameLemmas.{place-from, rising-parts}
+use Rattle.flat_graph.proofs.lemmas.NameLemmas.{place-from, rising-parts}
 use Rattle.flat_graph.proofs.names.place_of.Goals as goal
 
 pub returns : goal.returns

@@ -1,5 +1,5 @@
 use Rattle.std.proofs.Common.{◌∙◌, ◌<◌, arith, length}
-use Rattle.flat_graph.proofs.NameLemmas.{place-there, remove-but}
+use Rattle.flat_graph.proofs.lemmas.NameLemmas.{place-there, remove-but}
 use Rattle.flat_graph.proofs.names.remove_name.Goals as goal
 
 pub remove-requires : goal.remove-requires

@@ -1,7 +1,7 @@
 use Rattle.std.proofs.Common.{◌≡◌, ℕ, List, ap, ◌∙◌, ◌++◌, map, codes, sym, subst}
 use Rattle.flat_print.specs.Print.{fed, script_words, line_words, text_of, IsReadBack}
-use Rattle.flat_print.proofs.WordLemmas.{then_lines, same_lines}
-use Rattle.flat_print.proofs.RunLemmas.{printed}
+use Rattle.flat_print.proofs.lemmas.WordLemmas.{then_lines, same_lines}
+use Rattle.flat_print.proofs.lemmas.RunLemmas.{printed}
 use Rattle.flat_print.proofs.printer.print.Goals as goal
 
 pub returns : goal.returns

@@ -1,4 +1,4 @@
-use Rattle.flat_scene.proofs.CycleLemmas.{cycle-is-reached}
+use Rattle.flat_scene.proofs.lemmas.CycleLemmas.{cycle-is-reached}
 use Rattle.flat_scene.proofs.PathLemmas.{one-node-a-path}
 use Rattle.flat_scene.proofs.laws.draft_laws.Goals as goal
 

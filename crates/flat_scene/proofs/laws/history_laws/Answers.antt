@@ -1,5 +1,5 @@
-use Rattle.flat_scene.proofs.FamilyLeast.{family-is-least}
-use Rattle.flat_scene.proofs.TakingLemmas.{ready-longest, takes-in-order}
+use Rattle.flat_scene.proofs.lemmas.FamilyLeast.{family-is-least}
+use Rattle.flat_scene.proofs.lemmas.TakingLemmas.{ready-longest, takes-in-order}
 use Rattle.flat_scene.proofs.laws.history_laws.Goals as goal
 
 pub returns-clause-taken_stays : goal.returns-clause-taken_stays

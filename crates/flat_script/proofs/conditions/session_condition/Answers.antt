@@ -3,7 +3,7 @@ use Rattle.flat_base.specs.declared.ids.Actor.TheVariants.{Session}
 use Rattle.flat_scene.specs.declared.script.Cond.TheVariants as asks
 use Rattle.flat_text.specs.Pieces.{is_space, pieces_left}
 use Rattle.flat_script.specs.Places.{fence}
-use Rattle.flat_script.proofs.FormLemmas.{whole_mapped}
+use Rattle.flat_script.proofs.lemmas.FormLemmas.{whole_mapped}
 use Rattle.flat_script.proofs.conditions.session_condition.Goals as goal
 
 pub returns-in-Ok-owned_fence : goal.returns-in-Ok-owned_fence

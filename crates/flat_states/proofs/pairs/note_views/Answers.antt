@@ -3,7 +3,7 @@ use Rattle.std.specs.Prelude.{Option}
 use Rattle.flat_base.specs.declared.ids.PairNo.{PairNo}
 use Rattle.flat_scene.specs.declared.calls.Call.{Call}
 use Rattle.flat_states.specs.Views.{view_then, view_after, EndsViews}
-use Rattle.flat_states.proofs.Marks.{drop-is, drop-end}
+use Rattle.flat_states.proofs.lemmas.Marks.{drop-is, drop-end}
 use Rattle.flat_states.proofs.ViewMarks.{ends-more, ends-none}
 use Rattle.flat_states.proofs.pairs.note_views.Goals as goal
 

@@ -1,6 +1,6 @@
 use Rattle.std.proofs.Common.{◌∙◌, List, arith, ap, length, length-append}
 use Rattle.flat_base.specs.declared.ids.FenceNo.{FenceNo}
-use Rattle.flat_rules.proofs.ListLemmas.{moved, one-less}
+use Rattle.flat_rules.proofs.lemmas.ListLemmas.{moved, one-less}
 use Rattle.flat_states.proofs.state.let_go.Goals as goal
 
 pub loop-queued-preserved : goal.loop-queued-preserved

@@ -1,7 +1,7 @@
 use Rattle.std.proofs.Common.{◌<◌, length, All, arith, sym, ◌∙◌, List, ap, length-append}
 use Rattle.flat_base.specs.declared.ids.FenceNo.{FenceNo}
 use Rattle.std.proofs.lemmas.Grind.{common_steps}
-use Rattle.flat_rules.proofs.ListLemmas.{drop-next, moved, All-rest, one-less}
+use Rattle.flat_rules.proofs.lemmas.ListLemmas.{drop-next, moved, All-rest, one-less}
 use Rattle.flat_states.proofs.state.take_ready.Goals as goal
 
 pub loop-queued-preserved : goal.loop-queued-preserved

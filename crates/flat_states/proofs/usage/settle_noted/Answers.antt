@@ -1,6 +1,6 @@
 use Rattle.std.proofs.Common.{◌≡◌, drop, ◌+◌, [], ◌∷◌, List, subst, slice_index_or}
 use Rattle.flat_base.specs.declared.ids.PairNo.{PairNo}
-use Rattle.flat_states.proofs.Marks.{drop-is, drop-end}
+use Rattle.flat_states.proofs.lemmas.Marks.{drop-is, drop-end}
 use Rattle.flat_states.proofs.NotedPairs.{SettledBut, settled-end, settled-on, settled-start}
 use Rattle.flat_states.proofs.usage.settle_noted.Goals as goal
 

@@ -2,7 +2,7 @@ use Rattle.std.proofs.Common.{◌∙◌, ◌-◌, refl, ap, length, slice_set, s
 use Rattle.flat_states.specs.declared.state.Account.{Account}
 use Rattle.flat_states.specs.declared.state.SessionState.{SessionState}
 use Rattle.flat_states.specs.Presents.{IsPlaced}
-use Rattle.flat_states.proofs.Ones.{noted-set}
+use Rattle.flat_states.proofs.lemmas.Ones.{noted-set}
 use Rattle.flat_base.specs.declared.ids.Actor.{Actor}
 use Rattle.flat_states.proofs.views.note_in.Goals as goal
 

@@ -1,7 +1,7 @@
 use Rattle.std.proofs.Common.{◌<◌, ◌≤◌, ◌≢◌, false, length, arith, ◌∙◌, get_or-set_other}
 use Rattle.std.proofs.lemmas.List.{length-set}
 use Rattle.flat_states.specs.Kept.{has_view_in}
-use Rattle.flat_states.proofs.WithView.{flag-next}
+use Rattle.flat_states.proofs.lemmas.WithView.{flag-next}
 use Rattle.flat_states.proofs.views.with_view.Goals as goal
 
 pub loop-i-preserved : goal.loop-i-preserved

@@ -1,7 +1,7 @@
 use Rattle.std.proofs.Common.{◌≡◌, ◌<◌, ◌^◌, ◌≢◌, List, ℕ, Option, Some, None, IfSome, IsNone, refl, sym, ◌∙◌, ap}
 use Rattle.std.specs.Fmt.{decimal}
 use Rattle.flat_text.specs.Number.{natural}
-use Rattle.flat_text.proofs.NumberLemmas.{natural-decimal, decimal-natural}
+use Rattle.flat_text.proofs.lemmas.NumberLemmas.{natural-decimal, decimal-natural}
 use Rattle.flat_text.proofs.number.read_natural.Goals as goal
 
 is_text : (o : Option ℕ) (word : List ℕ) → o ≡ natural word → IfSome o (λ n. decimal n ≡ word)

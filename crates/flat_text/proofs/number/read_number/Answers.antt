@@ -1,7 +1,7 @@
 use Rattle.std.proofs.Common.{◌≡◌, ◌<◌, ◌^◌, ◌≢◌, ℤ, List, ℕ, Option, Some, None, IfSome, IsNone, unsigned_abs, refl, sym, ◌∙◌, ap}
 use Rattle.std.specs.Fmt.{signed_decimal}
 use Rattle.flat_text.specs.Number.{signed}
-use Rattle.flat_text.proofs.NumberLemmas.{signed-signed_decimal, signed_decimal-signed}
+use Rattle.flat_text.proofs.lemmas.NumberLemmas.{signed-signed_decimal, signed_decimal-signed}
 use Rattle.flat_text.proofs.number.read_number.Goals as goal
 
 is_text : (o : Option ℤ) (word : List ℕ) → o ≡ signed word → IfSome o (λ v. signed_decimal v ≡ word)

@@ -18,14 +18,14 @@ use Rattle.flat_states.specs.Seen.{seen_of}
 use Rattle.flat_topology.specs.Fit.{FitsSetup}
 use Rattle.flat_topology.specs.Shown.{Shown}
 use Rattle.flat_rules.specs.Legal.{Legal}
-use Rattle.flat_gets.proofs.EndSteps.{ends-other}
-use Rattle.flat_states.proofs.ShownFits.{begun-fits}
+use Rattle.flat_gets.proofs.lemmas.EndSteps.{ends-other}
+use Rattle.flat_states.proofs.lemmas.ShownFits.{begun-fits}
 use Rattle.flat_states.specs.Begins.{begun, begin_entry}
-use Rattle.flat_states.proofs.Steps.{has-room, legal-entered}
-use Rattle.flat_gets.proofs.BoardBegins.{kept-begun, place-small, not-ready}
-use Rattle.flat_gets.proofs.WatchingSteps.{watched-after}
+use Rattle.flat_states.proofs.lemmas.Steps.{has-room, legal-entered}
+use Rattle.flat_gets.proofs.lemmas.BoardBegins.{kept-begun, place-small, not-ready}
+use Rattle.flat_gets.proofs.lemmas.WatchingSteps.{watched-after}
 use Rattle.flat_core.proofs.board.Board.begin.Goals as goal
-use Rattle.flat_rules.proofs.ShownList.{length-listed}
+use Rattle.flat_rules.proofs.lemmas.ShownList.{length-listed}
 
 pub begin_all-count-requires-clause-place : goal.begin_all-count-requires-clause-place
 begin_all-count-requires-clause-place c =

@@ -11,13 +11,13 @@ use Rattle.flat_rules.specs.Legal.{Legal}
 use Rattle.flat_states.specs.Viewports.{AreViewports}
 use Rattle.flat_states.specs.Presents.{with_calls}
 use Rattle.flat_states.specs.Seen.{noted, seen_of}
-use Rattle.flat_states.proofs.Changes.{seen-closed, kept-closed, kept-noted, is-session}
-use Rattle.flat_states.proofs.Counts.{at-session, declared-some, kept-session}
-use Rattle.flat_gets.proofs.EndSteps.{ends-closed}
+use Rattle.flat_states.proofs.lemmas.Changes.{seen-closed, kept-closed, kept-noted, is-session}
+use Rattle.flat_states.proofs.lemmas.Counts.{at-session, declared-some, kept-session}
+use Rattle.flat_gets.proofs.lemmas.EndSteps.{ends-closed}
 use Rattle.flat_core.proofs.UseSteps.{opened-close}
-use Rattle.flat_states.proofs.Ones.{declared-of, kept-one, plain-close, reply-close, closes-close}
-use Rattle.flat_states.proofs.Steps.{has-room, legal-entered, unchanged}
-use Rattle.flat_gets.proofs.WatchingSteps.{watched-after}
+use Rattle.flat_states.proofs.lemmas.Ones.{declared-of, kept-one, plain-close, reply-close, closes-close}
+use Rattle.flat_states.proofs.lemmas.Steps.{has-room, legal-entered, unchanged}
+use Rattle.flat_gets.proofs.lemmas.WatchingSteps.{watched-after}
 use Rattle.flat_core.proofs.board.Board.close.Goals as goal
 
 pub enter-requires : goal.enter-requires

@@ -8,8 +8,8 @@ use Rattle.flat_scene.specs.declared.journal.Entry.{Entry}
 use Rattle.flat_states.specs.Machines.{Machine, entry_of}
 use Rattle.flat_states.specs.Begins.{finish_entry, finished}
 use Rattle.flat_rules.specs.Legal.{Legal}
-use Rattle.flat_states.proofs.Steps.{has-room, legal-entered, short-history}
-use Rattle.flat_gets.proofs.BoardBegins.{kept-finished, place-small}
+use Rattle.flat_states.proofs.lemmas.Steps.{has-room, legal-entered, short-history}
+use Rattle.flat_gets.proofs.lemmas.BoardBegins.{kept-finished, place-small}
 use Rattle.flat_core.proofs.board.Board.done.Goals as goal
 
 pub done_all-count-requires-clause-place : goal.done_all-count-requires-clause-place

@@ -4,14 +4,14 @@ use Rattle.flat_scene.specs.declared.calls.Call.{Call}
 use Rattle.flat_states.specs.Machines.{Machine}
 use Rattle.flat_states.specs.Presents.{noted_in, EndsNoted}
 use Rattle.flat_states.specs.Seen.{is_new_viewport}
-use Rattle.flat_gets.proofs.EndSteps.{ends-after, none-new}
+use Rattle.flat_gets.proofs.lemmas.EndSteps.{ends-after, none-new}
 use Rattle.flat_base.specs.declared.ids.Actor.{Actor}
 use Rattle.flat_base.specs.declared.ids.Actor.TheVariants.{Session}
 use Rattle.flat_scene.specs.declared.journal.Kind.TheVariants.{End}
 use Rattle.flat_scene.specs.declared.journal.Reply.TheVariants.{Done}
-use Rattle.flat_states.proofs.Ones.{kept-quiet, placed-of, plain-end}
-use Rattle.flat_states.proofs.Steps.{has-room, unchanged}
-use Rattle.flat_gets.proofs.WatchingSteps.{told-too, watched-after}
+use Rattle.flat_states.proofs.lemmas.Ones.{kept-quiet, placed-of, plain-end}
+use Rattle.flat_states.proofs.lemmas.Steps.{has-room, unchanged}
+use Rattle.flat_gets.proofs.lemmas.WatchingSteps.{told-too, watched-after}
 use Rattle.flat_core.proofs.board.Board.end.Goals as goal
 
 pub note_in-requires : goal.note_in-requires

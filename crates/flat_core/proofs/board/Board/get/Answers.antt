@@ -10,13 +10,13 @@ use Rattle.flat_rules.specs.Legal.{Legal, reply_to}
 use Rattle.flat_states.specs.Presents.{TiesNoted}
 use Rattle.flat_states.specs.Seen.{is_new_viewport, noted}
 use Rattle.flat_gets.specs.Watchers.{IsTelling}
-use Rattle.flat_gets.proofs.EndSteps.{ends-after, none-new, noted-slice}
+use Rattle.flat_gets.proofs.lemmas.EndSteps.{ends-after, none-new, noted-slice}
 use Rattle.flat_core.proofs.GetCalls.{kept-got, room-got}
-use Rattle.flat_states.proofs.Ones.{declared-of}
-use Rattle.flat_states.proofs.Steps.{has-room, legal-entered, owed-small, room-more, short-history}
-use Rattle.flat_gets.proofs.WatchingSteps.{asked-known, asked-replied, few-all, watched-asked}
+use Rattle.flat_states.proofs.lemmas.Ones.{declared-of}
+use Rattle.flat_states.proofs.lemmas.Steps.{has-room, legal-entered, owed-small, room-more, short-history}
+use Rattle.flat_gets.proofs.lemmas.WatchingSteps.{asked-known, asked-replied, few-all, watched-asked}
 use Rattle.flat_core.proofs.board.Board.get.Goals as goal
-use Rattle.flat_states.proofs.Counts.{few-if}
+use Rattle.flat_states.proofs.lemmas.Counts.{few-if}
 
 pub overflow_add-posts : goal.overflow_add-posts
 overflow_add-posts c =

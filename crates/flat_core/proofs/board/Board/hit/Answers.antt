@@ -6,10 +6,10 @@ use Rattle.flat_scene.specs.declared.journal.Kind.TheVariants.{Hit}
 use Rattle.flat_scene.specs.declared.journal.Reply.TheVariants.{Done}
 use Rattle.flat_scene.specs.History.{◌▹◌}
 use Rattle.flat_states.specs.Machines.{Machine, entry_of}
-use Rattle.flat_gets.proofs.EndSteps.{ends-after}
-use Rattle.flat_states.proofs.Ones.{kept-quiet}
-use Rattle.flat_states.proofs.Steps.{has-room, unchanged}
-use Rattle.flat_gets.proofs.WatchingSteps.{told-too, watched-after}
+use Rattle.flat_gets.proofs.lemmas.EndSteps.{ends-after}
+use Rattle.flat_states.proofs.lemmas.Ones.{kept-quiet}
+use Rattle.flat_states.proofs.lemmas.Steps.{has-room, unchanged}
+use Rattle.flat_gets.proofs.lemmas.WatchingSteps.{told-too, watched-after}
 use Rattle.flat_core.proofs.board.Board.hit.Goals as goal
 
 pub enter-requires : goal.enter-requires

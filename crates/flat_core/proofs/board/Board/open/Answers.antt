@@ -1,7 +1,7 @@
 use Rattle.std.proofs.Common.{◌≡◌, ◌∙◌, ap}
 use Rattle.std.specs.Prelude.{sum}
-use Rattle.flat_gets.proofs.EndSteps.{back-new, ends-new}
-use Rattle.flat_states.proofs.Opened.{opened}
+use Rattle.flat_gets.proofs.lemmas.EndSteps.{back-new, ends-new}
+use Rattle.flat_states.proofs.lemmas.Opened.{opened}
 use Rattle.flat_core.proofs.board.Board.open.Goals as goal
 
 pub invariant_of-result : goal.invariant_of-result

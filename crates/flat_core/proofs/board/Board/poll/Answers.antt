@@ -9,12 +9,12 @@ use Rattle.flat_states.specs.Machines.{Machine}
 use Rattle.flat_rules.specs.Legal.{reply_to, unread_events}
 use Rattle.flat_states.specs.Presents.{TiesNoted}
 use Rattle.flat_states.specs.Seen.{is_new_viewport, noted}
-use Rattle.flat_gets.proofs.EndSteps.{ends-after, none-new, noted-slice}
-use Rattle.flat_states.proofs.Ones.{kept-one}
+use Rattle.flat_gets.proofs.lemmas.EndSteps.{ends-after, none-new, noted-slice}
+use Rattle.flat_states.proofs.lemmas.Ones.{kept-one}
 use Rattle.flat_core.proofs.Polled.{kept-polled}
 use Rattle.flat_core.proofs.PollSteps.{polled-within, handed}
-use Rattle.flat_states.proofs.Steps.{has-room, unchanged}
-use Rattle.flat_gets.proofs.WatchingSteps.{told-too, watched-after}
+use Rattle.flat_states.proofs.lemmas.Steps.{has-room, unchanged}
+use Rattle.flat_gets.proofs.lemmas.WatchingSteps.{told-too, watched-after}
 use Rattle.flat_core.proofs.board.Board.poll.Goals as goal
 
 pub push_events_from-requires : goal.push_events_from-requires

@@ -4,7 +4,7 @@ use Rattle.std.specs.List.{list_any}
 use Rattle.std.specs.Arc.{arc_value}
 use Rattle.flat_base.specs.declared.ids.Actor.TheVariants.{Session}
 use Rattle.flat_rules.specs.Shown.{tree_of}
-use Rattle.flat_states.proofs.Steps.{has-room, owed-small}
+use Rattle.flat_states.proofs.lemmas.Steps.{has-room, owed-small}
 use Rattle.flat_core.proofs.PresentSteps.{kept-after-present, count-small, present-reply, owed-few}
 use Rattle.flat_scene.specs.History.{◌▹◌}
 use Rattle.flat_rules.specs.Legal.{reply_to}
@@ -12,9 +12,9 @@ use Rattle.flat_scene.specs.declared.journal.Kind.TheVariants.{Present}
 use Rattle.flat_states.specs.Machines.{Machine, entry_of, present_of}
 use Rattle.flat_states.specs.Presents.{present_reply, after_present, TiesNoted}
 use Rattle.flat_states.specs.Seen.{is_new_viewport, noted}
-use Rattle.flat_gets.proofs.EndSteps.{ends-after, none-new, noted-slice}
+use Rattle.flat_gets.proofs.lemmas.EndSteps.{ends-after, none-new, noted-slice}
 use Rattle.flat_scene.specs.declared.calls.Call.{Call}
-use Rattle.flat_gets.proofs.WatchingSteps.{told-too, watched-after}
+use Rattle.flat_gets.proofs.lemmas.WatchingSteps.{told-too, watched-after}
 use Rattle.flat_core.proofs.board.Board.present.Goals as goal
 
 pub overflow_add-self-inside : goal.overflow_add-self-inside

@@ -6,10 +6,10 @@ use Rattle.flat_scene.specs.declared.journal.Reply.TheVariants.{Done}
 use Rattle.flat_states.specs.Machines.{Machine}
 use Rattle.flat_states.specs.Presents.{noted_in, EndsNoted}
 use Rattle.flat_states.specs.Seen.{is_new_viewport}
-use Rattle.flat_gets.proofs.EndSteps.{ends-after, none-new}
-use Rattle.flat_states.proofs.Ones.{kept-quiet, plain-signal, placed-of, signal-below}
-use Rattle.flat_states.proofs.Steps.{has-room, signalled}
-use Rattle.flat_gets.proofs.WatchingSteps.{told-too, watched-after}
+use Rattle.flat_gets.proofs.lemmas.EndSteps.{ends-after, none-new}
+use Rattle.flat_states.proofs.lemmas.Ones.{kept-quiet, plain-signal, placed-of, signal-below}
+use Rattle.flat_states.proofs.lemmas.Steps.{has-room, signalled}
+use Rattle.flat_gets.proofs.lemmas.WatchingSteps.{told-too, watched-after}
 use Rattle.flat_core.proofs.board.Board.signal.Goals as goal
 
 pub signal-requires : goal.signal-requires

@@ -1,7 +1,7 @@
 use Rattle.std.proofs.Common.{◌∙◌, arith}
 use Rattle.flat_gets.specs.Watchers.{AreOwnGets}
-use Rattle.flat_states.proofs.Counts.{at-session, declared-some, kept-session, credits-kept, taken-kept, seen-count}
-use Rattle.flat_states.proofs.Ones.{looks-declared}
+use Rattle.flat_states.proofs.lemmas.Counts.{at-session, declared-some, kept-session, credits-kept, taken-kept, seen-count}
+use Rattle.flat_states.proofs.lemmas.Ones.{looks-declared}
 use Rattle.flat_core.proofs.board.Board.value.Goals as goal
 
 pub returns-in-Session : goal.returns-in-Session

@@ -10,11 +10,11 @@ use Rattle.flat_states.specs.Machines.{Machine, entry_of}
 use Rattle.flat_rules.specs.Legal.{reply_to}
 use Rattle.flat_states.specs.Presents.{use_reply, TiesNoted}
 use Rattle.flat_states.specs.Seen.{is_new_viewport, noted}
-use Rattle.flat_gets.proofs.EndSteps.{ends-after, none-new, noted-slice}
-use Rattle.flat_states.proofs.Ones.{kept-one}
-use Rattle.flat_states.proofs.Steps.{has-room, or-false}
-use Rattle.flat_states.proofs.ViewSteps.{view-replied, view-changed, view-below, view-kept, view-due}
-use Rattle.flat_gets.proofs.WatchingSteps.{told-too, watched-after}
+use Rattle.flat_gets.proofs.lemmas.EndSteps.{ends-after, none-new, noted-slice}
+use Rattle.flat_states.proofs.lemmas.Ones.{kept-one}
+use Rattle.flat_states.proofs.lemmas.Steps.{has-room, or-false}
+use Rattle.flat_states.proofs.lemmas.ViewSteps.{view-replied, view-changed, view-below, view-kept, view-due}
+use Rattle.flat_gets.proofs.lemmas.WatchingSteps.{told-too, watched-after}
 use Rattle.flat_core.proofs.board.Board.view.Goals as goal
 
 pub set-requires : goal.set-requires

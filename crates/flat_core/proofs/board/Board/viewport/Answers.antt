@@ -15,11 +15,11 @@ use Rattle.std.proofs.lemmas.Option.{slice_get_within}
 use Rattle.flat_rules.specs.Legal.{has_token, reply_to}
 use Rattle.flat_states.specs.Presents.{use_reply, IsUsed, TiesUsed}
 use Rattle.flat_states.specs.Seen.{noted}
-use Rattle.flat_states.proofs.Counts.{declared-some, few-if}
-use Rattle.flat_gets.proofs.EndSteps.{ends-same}
-use Rattle.flat_states.proofs.Ones.{declared-of}
-use Rattle.flat_states.proofs.Steps.{has-room, owed-small, room-more, short-history}
-use Rattle.flat_gets.proofs.WatchingSteps.{few-all, seldom-all}
+use Rattle.flat_states.proofs.lemmas.Counts.{declared-some, few-if}
+use Rattle.flat_gets.proofs.lemmas.EndSteps.{ends-same}
+use Rattle.flat_states.proofs.lemmas.Ones.{declared-of}
+use Rattle.flat_states.proofs.lemmas.Steps.{has-room, owed-small, room-more, short-history}
+use Rattle.flat_gets.proofs.lemmas.WatchingSteps.{few-all, seldom-all}
 use Rattle.flat_core.proofs.UseSteps.{held-told, join-used, kept-used, last-uses, others-none, replied, room-used, telling-used}
 use Rattle.flat_core.proofs.board.Board.viewport.Goals as goal
 

@@ -6,12 +6,12 @@ use Rattle.flat_states.specs.Machines.{Machine}
 use Rattle.flat_rules.specs.Legal.{reply_to}
 use Rattle.flat_states.specs.Presents.{noted_in, EndsNoted}
 use Rattle.flat_states.specs.Seen.{is_new_viewport}
-use Rattle.flat_gets.proofs.EndSteps.{ends-after, none-new}
-use Rattle.flat_states.proofs.Ones.{kept-quiet, plain-wait, placed-of}
-use Rattle.flat_states.proofs.Steps.{has-room, unchanged}
-use Rattle.flat_gets.proofs.WatchingSteps.{told-too, watched-after}
+use Rattle.flat_gets.proofs.lemmas.EndSteps.{ends-after, none-new}
+use Rattle.flat_states.proofs.lemmas.Ones.{kept-quiet, plain-wait, placed-of}
+use Rattle.flat_states.proofs.lemmas.Steps.{has-room, unchanged}
+use Rattle.flat_gets.proofs.lemmas.WatchingSteps.{told-too, watched-after}
 use Rattle.flat_core.proofs.board.Board.wait.Goals as goal
-use Rattle.flat_rules.proofs.Quiet.{closes-waited}
+use Rattle.flat_rules.proofs.lemmas.Quiet.{closes-waited}
 
 pub note_in-requires : goal.note_in-requires
 note_in-requires c =

@@ -4,7 +4,7 @@ use Rattle.flat_scene.specs.Setups.{is_declared}
 use Rattle.flat_topology.specs.Views.{is_member}
 use Rattle.flat_states.specs.Machines.{Machine}
 use Rattle.flat_rules.specs.Ends.{has_view}
-use Rattle.flat_states.proofs.WithView.{members, none_others}
+use Rattle.flat_states.proofs.lemmas.WithView.{members, none_others}
 use Rattle.flat_core.proofs.board.Board.with_view.Goals as goal
 
 pub returns-clause-members : goal.returns-clause-members

@@ -1,7 +1,7 @@
 use Rattle.std.proofs.Common.{refl}
 use Rattle.flat_scene.specs.Misuse.{is_image}
 use Rattle.flat_content.specs.Reasons as content
-use Rattle.flat_content.proofs.Standing.{content_calls_stand}
+use Rattle.flat_content.proofs.lemmas.Standing.{content_calls_stand}
 use Rattle.flat_draft.proofs.Applying.{made-applied, done-applied}
 use Rattle.flat_draft.proofs.draft.Draft.apply_to_images.Goals as goal
 

@@ -3,7 +3,7 @@ use Rattle.flat_scene.specs.declared.calls.Call.TheVariants.{SetHitRegions}
 use Rattle.flat_scene.specs.declared.calls.HitRegion.{HitRegion}
 use Rattle.flat_graph.specs.Reasons.{add_tests, clip_tests, hits_tests, name_tests, opacity_tests, remove_tests, root_tests, scale_tests}
 use Rattle.flat_graph.specs.State.{change_named}
-use Rattle.flat_graph.proofs.StandingLaws.{graph_calls_stand}
+use Rattle.flat_graph.proofs.lemmas.StandingLaws.{graph_calls_stand}
 use Rattle.flat_draft.proofs.Applying.{graph-applied, create-applied}
 use Rattle.flat_draft.proofs.draft.Draft.apply_to_part.Goals as goal
 

@@ -3,7 +3,7 @@ use Rattle.flat_scene.specs.declared.setup.Setup.{Setup}
 use Rattle.flat_states.specs.Following.{AreTied}
 use Rattle.flat_rules.specs.Legal.{Legal}
 use Rattle.flat_rules.specs.Watch.{told, child_of}
-use Rattle.flat_gets.proofs.GetPosts.{undeclared-untold}
+use Rattle.flat_gets.proofs.lemmas.GetPosts.{undeclared-untold}
 use Rattle.flat_gets.proofs.TellingSteps.{unknown}
 use Rattle.flat_gets.proofs.telling.TellingTells.child.Goals as goal
 

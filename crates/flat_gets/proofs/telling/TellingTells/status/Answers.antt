@@ -1,5 +1,5 @@
 use Rattle.std.proofs.Common.{sym, ◌∙◌}
-use Rattle.flat_gets.proofs.GetPosts.{undeclared-untold}
+use Rattle.flat_gets.proofs.lemmas.GetPosts.{undeclared-untold}
 use Rattle.flat_gets.proofs.TellingSteps.{unknown}
 use Rattle.flat_gets.proofs.telling.TellingTells.status.Goals as goal
 

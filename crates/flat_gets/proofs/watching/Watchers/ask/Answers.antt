@@ -5,7 +5,7 @@ use Rattle.flat_gets.specs.declared.gets.HeldGet.{HeldGet}
 use Rattle.flat_gets.specs.declared.gets.Watched.{Watched}
 use Rattle.flat_gets.specs.Gets.{Asks, watched_of, watcher_for}
 use Rattle.flat_rules.specs.Watch.{told}
-use Rattle.flat_gets.proofs.WatchingSteps.{asked-due}
+use Rattle.flat_gets.proofs.lemmas.WatchingSteps.{asked-due}
 use Rattle.flat_gets.proofs.watching.Watchers.ask.Goals as goal
 
 pub returns-clause-asked : goal.returns-clause-asked

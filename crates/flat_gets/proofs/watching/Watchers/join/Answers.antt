@@ -6,7 +6,7 @@ use Rattle.flat_gets.specs.declared.watching.Watchers.{Watchers}
 use Rattle.flat_rules.specs.Numbers.{AllNumbered}
 use Rattle.flat_rules.specs.Watch.{told}
 use Rattle.flat_gets.specs.Watchers.{IsJoin, IsSettled, is_seldom}
-use Rattle.flat_gets.proofs.WatchingSteps.{joined-is, settled-seldom, unjoined-is}
+use Rattle.flat_gets.proofs.lemmas.WatchingSteps.{joined-is, settled-seldom, unjoined-is}
 use Rattle.flat_gets.proofs.watching.Watchers.join.Goals as goal
 
 pub start_use-requires : goal.start_use-requires

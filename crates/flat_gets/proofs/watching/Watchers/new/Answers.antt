@@ -2,7 +2,7 @@ use Rattle.std.proofs.Common.{◌≡◌, List, [], length, sym, ap, ◌∙◌, s
 use Rattle.flat_gets.specs.declared.gets.Answered.{Answered}
 use Rattle.flat_gets.specs.Gets.{AllAnswered, unanswered}
 use Rattle.flat_gets.proofs.GetBoards.{all-new}
-use Rattle.flat_gets.proofs.WatchingSteps.{due-none, watched-new}
+use Rattle.flat_gets.proofs.lemmas.WatchingSteps.{due-none, watched-new}
 use Rattle.flat_gets.proofs.watching.Watchers.new.Goals as goal
 
 pub returns-clause-watched : goal.returns-clause-watched

@@ -3,8 +3,8 @@ use Rattle.flat_gets.specs.declared.gets.Answered.{Answered}
 use Rattle.flat_gets.specs.Gets.{Settles}
 use Rattle.flat_rules.specs.Watch.{told}
 use Rattle.flat_gets.specs.Watchers.{IsSettled}
-use Rattle.flat_gets.proofs.GetPosts.{settled-all}
-use Rattle.flat_gets.proofs.WatchingSteps.{settled-at, settled-due, written-back}
+use Rattle.flat_gets.proofs.lemmas.GetPosts.{settled-all}
+use Rattle.flat_gets.proofs.lemmas.WatchingSteps.{settled-at, settled-due, written-back}
 use Rattle.flat_gets.proofs.watching.Watchers.settle.Goals as goal
 
 pub returns-clause-settled : goal.returns-clause-settled

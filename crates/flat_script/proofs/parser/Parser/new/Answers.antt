@@ -1,6 +1,6 @@
 use Rattle.std.proofs.Common.{refl, lit≤, replicate}
 use Rattle.flat_script.specs.Slots.{slot}
-use Rattle.flat_script.proofs.ParserLemmas.{zeros_at}
+use Rattle.flat_script.proofs.lemmas.ParserLemmas.{zeros_at}
 use Rattle.flat_script.proofs.DeclareLemmas.{nothing_found}
 use Rattle.flat_script.proofs.parser.Parser.new.Goals as goal
 

@@ -3,7 +3,7 @@ use Rattle.flat_base.specs.declared.ids.Actor.TheVariants.{Display}
 use Rattle.flat_text.specs.Pieces.{is_space, pieces_left}
 use Rattle.flat_script.specs.Names.{is_actor}
 use Rattle.flat_script.proofs.NameLemmas.{is_name-short}
-use Rattle.flat_script.proofs.ParserLemmas.{any_more}
+use Rattle.flat_script.proofs.lemmas.ParserLemmas.{any_more}
 use Rattle.flat_script.proofs.DeclareLemmas.{pair_declares, one_longer, pairs_found}
 use Rattle.flat_script.proofs.parser.Parser.pair.Goals as goal
 

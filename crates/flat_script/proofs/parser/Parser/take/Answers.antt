@@ -1,6 +1,6 @@
 use Rattle.std.proofs.Common.{◌∙◌, ap, cond, is_some, max, refl, rules}
 use Rattle.std.specs.Option.{option_map_or}
-use Rattle.flat_script.proofs.ParserLemmas.{begins_more, dones_more, last_more, lines_more}
+use Rattle.flat_script.proofs.lemmas.ParserLemmas.{begins_more, dones_more, last_more, lines_more}
 use Rattle.flat_script.proofs.DeclareLemmas.{means_at}
 use Rattle.flat_script.proofs.parser.Parser.take.Goals as goal
 

@@ -2,7 +2,7 @@ use Rattle.std.proofs.Common.{sym, ◌∙◌}
 use Rattle.flat_script.specs.Lists.{ends_list}
 use Rattle.flat_script.specs.Places.{fence_word}
 use Rattle.flat_script.specs.Reads.{left}
-use Rattle.flat_script.proofs.ListLemmas.{goes, list_goes, list_ends, shorter_step}
+use Rattle.flat_script.proofs.lemmas.ListLemmas.{goes, list_goes, list_ends, shorter_step}
 use Rattle.flat_script.proofs.places.Places.each_fence.Goals as goal
 
 pub loop-owner-smaller : goal.loop-owner-smaller

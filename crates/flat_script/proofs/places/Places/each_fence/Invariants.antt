@@ -1,7 +1,7 @@
 use Rattle.std.proofs.Common.{length}
 use Rattle.flat_script.specs.Places.{fence_word}
 use Rattle.flat_script.specs.Reads.{left}
-use Rattle.flat_script.proofs.ListLemmas.{ListGoes}
+use Rattle.flat_script.proofs.lemmas.ListLemmas.{ListGoes}
 use Rattle.flat_script.proofs.places.Places.each_fence.Given as goal
 
 abbrev pub invariant-loop-owner : goal.invariant-loop-owner

@@ -1,7 +1,7 @@
 use Rattle.std.proofs.Common.{sym, ◌∙◌}
 use Rattle.flat_base.specs.declared.ids.Actor.TheVariants.{Session}
 use Rattle.flat_script.specs.Places.{fence_word}
-use Rattle.flat_script.proofs.ListLemmas.{acquire_read}
+use Rattle.flat_script.proofs.lemmas.ListLemmas.{acquire_read}
 use Rattle.flat_script.proofs.places.Places.fence_lists.Goals as goal
 
 pub returns-then-is_word : goal.returns-then-is_word

@@ -4,7 +4,7 @@ use Rattle.flat_script.specs.Lists.{ReadsList}
 use Rattle.flat_script.specs.Places.{fence_word}
 use Rattle.flat_script.specs.Reads.{Reads}
 use Rattle.flat_script.proofs.ReadsLemmas.{if_ok}
-use Rattle.flat_script.proofs.ListLemmas.{last_list}
+use Rattle.flat_script.proofs.lemmas.ListLemmas.{last_list}
 use Rattle.flat_script.proofs.places.Places.last_list.Goals as goal
 
 pub returns : goal.returns

@@ -4,7 +4,7 @@ use Rattle.flat_script.specs.Lists.{behind_end}
 use Rattle.flat_script.specs.Places.{fence_word}
 use Rattle.flat_script.specs.Reads.{Reads}
 use Rattle.flat_script.proofs.ReadsLemmas.{if_ok}
-use Rattle.flat_script.proofs.ListLemmas.{goes_on_behind}
+use Rattle.flat_script.proofs.lemmas.ListLemmas.{goes_on_behind}
 use Rattle.flat_script.proofs.places.Places.list_if_any.Goals as goal
 
 pub returns-in-Some : goal.returns-in-Some

@@ -4,7 +4,7 @@ use Rattle.flat_script.specs.Lists.{ReadsList}
 use Rattle.flat_script.specs.Places.{fence_word}
 use Rattle.flat_script.specs.Reads.{lower, sofar}
 use Rattle.flat_script.proofs.ReadsLemmas.{if_ok}
-use Rattle.flat_script.proofs.ListLemmas.{some_list}
+use Rattle.flat_script.proofs.lemmas.ListLemmas.{some_list}
 use Rattle.flat_script.proofs.places.Places.some_fences.Goals as goal
 
 pub returns : goal.returns

@@ -1,4 +1,4 @@
-use Rattle.flat_states.proofs.TiesSteps.{tied-noted}
+use Rattle.flat_states.proofs.lemmas.TiesSteps.{tied-noted}
 use Rattle.flat_states.proofs.ties.Ties.note.Goals as goal
 
 pub returns-clause-tied : goal.returns-clause-tied

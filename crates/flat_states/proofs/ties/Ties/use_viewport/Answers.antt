@@ -1,4 +1,4 @@
-use Rattle.flat_states.proofs.TiesSteps.{tied-used}
+use Rattle.flat_states.proofs.lemmas.TiesSteps.{tied-used}
 use Rattle.flat_states.proofs.ties.Ties.use_viewport.Goals as goal
 
 pub returns-clause-tied : goal.returns-clause-tied

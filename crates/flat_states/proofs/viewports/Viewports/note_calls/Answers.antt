@@ -3,7 +3,7 @@ use Rattle.std.specs.List.{list_any}
 use Rattle.flat_scene.specs.declared.calls.Call.{Call}
 use Rattle.flat_states.specs.Seen.{is_new_viewport}
 use Rattle.flat_states.specs.Viewports.{marked}
-use Rattle.flat_states.proofs.Marks.{drop-is, drop-end, left-next, marked-none}
+use Rattle.flat_states.proofs.lemmas.Marks.{drop-is, drop-end, left-next, marked-none}
 use Rattle.flat_states.proofs.viewports.Viewports.note_calls.Goals as goal
 use Rattle.std.proofs.lemmas.Bool.{or_parts}
 

@@ -1,0 +1,4 @@
+-- Lemmas that other crates may cite.
+pub mod Stands
+pub mod Verdicts
+pub mod Walking

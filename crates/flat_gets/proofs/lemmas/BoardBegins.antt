@@ -1,0 +1,154 @@
+-- All that is kept, after a begin.
+use Rattle.std.proofs.Common.{◌≡◌, ℕ, ◌+◌, ◌-◌, ◌*◌, ◌<◌, ◌≤◌, ◌^◌, Bool, true, false, List, [], ◌∷◌, ◌++◌, length, refl, arith, sym, ◌∙◌, ap, map, drop, Some, slice_get, one-add, add-one}
+use Rattle.std.specs.Prelude.{cond, ◌||◌}
+use Rattle.std.specs.List.{prefix_len}
+use Rattle.std.proofs.lemmas.List.Sums.{count_by-le-length, length-filter}
+use Rattle.std.proofs.lemmas.List.Folds.{length-prefix_len}
+use Rattle.flat_base.specs.declared.ids.Actor.TheVariants.{Display}
+use Rattle.flat_base.specs.declared.ids.FenceNo.{FenceNo}
+use Rattle.flat_base.specs.declared.ids.SessionNo.{SessionNo}
+use Rattle.flat_scene.specs.declared.journal.Entry.{Entry}
+use Rattle.flat_scene.specs.declared.journal.Kind.{Kind}
+use Rattle.flat_scene.specs.declared.journal.Kind.TheVariants.{Begin, Finish}
+use Rattle.flat_scene.specs.declared.journal.Post.{Post}
+use Rattle.flat_scene.specs.declared.journal.Reply.TheVariants.{Done}
+use Rattle.flat_scene.specs.declared.setup.Setup.{Setup}
+use Rattle.flat_scene.specs.History.{◌▹◌, is_closed, Published}
+use Rattle.flat_scene.specs.History.{is_finish}
+use Rattle.flat_scene.specs.Frames.{sessions_to, waiting, is_signalled, ready_prefix}
+use Rattle.flat_rules.specs.Legal.{frames, begin_time}
+use Rattle.flat_rules.specs.Posts.{posts, events_to, Sent}
+use Rattle.flat_fence.specs.Fences.{has}
+use Rattle.flat_scene.specs.Frames.{is_ready}
+use Rattle.flat_states.specs.declared.clock.Clock.{Clock}
+use Rattle.flat_states.specs.declared.state.SessionState.{SessionState}
+use Rattle.flat_states.specs.Begins.{begun, begin_entry, finished, finish_entry, post_of, posts_to}
+use Rattle.flat_states.specs.Machines.{Machine, MayCall, Stands, HasRoom, entry_of}
+use Rattle.flat_rules.specs.Numbers.{number, AllNumbered}
+use Rattle.flat_states.specs.Kept.{IsKept}
+use Rattle.flat_states.specs.Logs.{Logged}
+use Rattle.flat_states.specs.Seen.{Seen, seen_of}
+use Rattle.flat_gets.proofs.lemmas.DoneSteps.{released_to}
+use Rattle.flat_gets.proofs.lemmas.Begun.{seen-begun-open}
+use Rattle.flat_states.proofs.lemmas.Entered.{Entered}
+use Rattle.flat_states.proofs.lemmas.Steps.{legal-entered, frames-quiet, or-false, room-entered, few-history}
+use Rattle.flat_rules.proofs.lemmas.ListLemmas.{flat-mapped, flat-each}
+
+map-twice : {A B C : Type 0} (f : B → C) (g : A → B) (xs : List A) → map f (map g xs) ≡ map (λ x. f (g x)) xs
+map-twice f g [] = refl
+map-twice f g (x ∷ xs) = rw (map-twice f g xs) refl
+
+-- the posts of an entry, session by session
+pub posts-all : (setup : Setup) (h : List Entry) (e : Entry) → posts setup (h ▹ e) ≡ posts setup h ++ posts_to setup h e setup.sessions
+posts-all setup h e =
+    let send : SessionNo → List Sent = λ s. map (λ event. record { to = s; event = event }) (events_to setup h e s) in
+    let post : Sent → Post = λ sent. record { entry = length h; session = sent.to; event = sent.event } in
+    ap (λ more. posts setup h ++ more)
+    (flat-mapped post send (sessions_to setup.sessions)
+    ∙ flat-each (λ s. map post (send s)) (λ s. map (post_of (length h) s) (events_to setup h e s)) (λ s. map-twice post (λ event. record { to = s; event = event }) (events_to setup h e s)) (sessions_to setup.sessions))
+
+-- What the entry of a frame did, from the log before to the log after: so many events were posted.
+pub record Framed (setup : Setup) (h : List Entry) (e : Entry) (log mid then : Logged) (count dues dues_now : ℕ) : Type 0 where
+  pub posts : mid.posts ≡ log.posts ++ posts_to setup h e setup.sessions
+  pub posted : length mid.posts ≡ length log.posts + count
+  pub history : mid.history ≡ log.history
+  pub room : mid.room ≡ log.room
+  pub post_room : mid.post_room + count ≡ log.post_room
+  pub due : dues_now + count ≤ dues
+  pub entered : Entered mid then e
+
+room-framed : (m : Machine) (line : ℕ) (kind : Kind) → MayCall m Display [] kind
+    → (dues after : ℕ) (log mid then : Logged) (owed count : ℕ) → log.history ≡ m.history → HasRoom m.setup m.shares log owed dues
+    → Framed m.setup m.history (entry_of Display line [] kind Done) log mid then count dues after → HasRoom m.setup m.shares then (owed - count) after
+room-framed m line kind call dues after log mid then owed count same room framed =
+    let h : List Entry = m.history in
+    let e : Entry = entry_of Display line [] kind Done in
+    let posts_old : log.posts ≡ posts m.setup h = rw (← same) room.posts in
+    let posts_new : then.posts ≡ posts m.setup (h ▹ e) = framed.entered.posts ∙ framed.posts ∙ ap (λ ps. ps ++ posts_to m.setup h e m.setup.sessions) posts_old ∙ sym (posts-all m.setup h e) in
+    let small : length log.posts + owed ≤ 2 * length h = rw (← same) room.small in
+    let as_many : length then.posts ≡ length mid.posts = ap length framed.entered.posts in
+    room-entered m Display line [] kind Done call log then owed (owed - count) dues after same room (framed.entered.history ∙ rw framed.history refl) posts_new (framed.entered.room ∙ framed.room)
+    (omega (arith, framed.post_room, framed.entered.post_room, room.reserved)) (omega (arith, framed.due, room.due)) (omega (arith, small, as_many, framed.posted, framed.due, room.due))
+
+pub kept-begun : (m : Machine) (line time : ℕ) → MayCall m Display [] (Begin time)
+    → (clock : Clock) (fences views : List Bool) (sessions after : List SessionState) (log mid then : Logged) (owed count : ℕ) {dues dues_now : ℕ} → log.history ≡ m.history
+    → Stands m.setup log.history clock fences views sessions → HasRoom m.setup m.shares log owed dues
+    → length after ≡ m.setup.sessions → AllNumbered (λ i. IsKept m.setup (seen_of m.setup (begun m.history line time) (number i))) after
+    → Framed m.setup m.history (begin_entry line time) log mid then count dues dues_now
+    → Stands m.setup then.history (record { frames = clock.frames; is_open = true; time = time }) fences views after × HasRoom m.setup m.shares then (owed - count) dues_now
+kept-begun m line time call clock fences views sessions after log mid then owed count {dues} {dues_now} same stands room all each framed =
+    let h : List Entry = m.history in
+    let e : Entry = begin_entry line time in
+    let old : Stands m.setup h clock fences views sessions = rw (← same) stands in
+    let now : then.history ≡ (h ▹ e) = framed.entered.history ∙ rw (framed.history, same) refl in
+    let ticks : clock.frames ≡ frames h = ap (λ (c : Clock). c.frames) old.timed in
+    let is : Stands m.setup (h ▹ e) (record { frames = clock.frames; is_open = true; time = time }) fences views after = record {
+      legal = (old.legal, legal-entered m Display line [] (Begin time) Done call refl);
+      timed = rw (frames-quiet h e refl, ticks) refl;
+      fence_count = old.fence_count;
+      signalled = λ f. old.signalled f ∙ or-false _;
+      view_count = old.view_count;
+      viewed = old.viewed;
+      count = all;
+      each = each;
+    } in (rw now is, room-framed m line (Begin time) call dues dues_now log mid then owed count same room framed)
+
+-- a frame's number is a number of the machine
+pub frames-few : (h : List Entry) → frames h ≤ length h
+frames-few h = rw (length-filter (λ entry. is_finish entry.kind) h) (count_by-le-length (λ entry. is_finish entry.kind) h)
+
+stops-at : {A : Type 0} (p : A → Bool) (y : A) (xs : List A) (x : A) → (slice_get (drop (prefix_len p xs) xs) 0 ≡ Some x → p x ≡ false) → (b : Bool) → p y ≡ b
+    → slice_get (drop (cond b (1 + prefix_len p xs) 0) (y ∷ xs)) 0 ≡ Some x → p x ≡ false
+stops-at p y xs x later true passes here = later (rw one-add at here)
+stops-at p y xs x later false fails here = let same : y ≡ x = cc in rw (← same) fails
+
+stops : {A : Type 0} (p : A → Bool) (xs : List A) (x : A) → slice_get (drop (prefix_len p xs) xs) 0 ≡ Some x → p x ≡ false
+stops p [] x here = cc
+stops p (y ∷ xs) x here = stops-at p y xs x (stops p xs x) (p y) refl here
+
+-- the first present that waits after a begin wasn't ready
+pub not-ready : (setup : Setup) (h : List Entry) (line time : ℕ) (s : SessionNo) (present : Published) → is_closed s h ≡ false → slice_get (waiting setup (begun h line time) s) 0 ≡ Some present
+    → is_ready time (is_signalled setup h) present.args ≡ false
+not-ready setup h line time s present opened here =
+    let q : Published → Bool = λ p. is_ready time (is_signalled setup h) p.args in
+    let seen = seen-begun-open setup h line time s (ready_prefix time (is_signalled setup h) (waiting setup h s)) opened refl in
+    let waits : waiting setup (begun h line time) s ≡ drop (length (ready_prefix time (is_signalled setup h) (waiting setup h s))) (waiting setup h s) = ap (λ (r : Seen). r.waiting) seen in
+    let long : length (ready_prefix time (is_signalled setup h) (waiting setup h s)) ≡ prefix_len q (waiting setup h s) = length-prefix_len q (waiting setup h s) in
+    stops q (waiting setup h s) present (ap (λ (n : ℕ). slice_get (drop n (waiting setup h s)) 0) (sym long) ∙ ap (λ ps. slice_get ps 0) (sym waits) ∙ here)
+
+-- there are few enough entries, and frames
+pub place-small : (m : Machine) (kind : Kind) → MayCall m Display [] kind → (clock : Clock) (fences views : List Bool) (sessions : List SessionState) (log : Logged) (owed : ℕ) {dues : ℕ} → log.history ≡ m.history
+    → Stands m.setup log.history clock fences views sessions → HasRoom m.setup m.shares log owed dues → (length log.history < 2 ^ 32) × (clock.frames + 1 < 2 ^ 32)
+place-small m kind call clock fences views sessions log owed {dues} same stands room =
+    let old : Stands m.setup m.history clock fences views sessions = rw (← same) stands in
+    let few = few-history m Display [] kind call old.legal log owed dues same room in
+    let ticks : clock.frames ≡ frames m.history = ap (λ (c : Clock). c.frames) old.timed in
+    let long : length log.history ≡ length m.history = ap length same in
+    (omega (arith, few, room.total, long), omega (arith, few, room.total, ticks, frames-few m.history))
+
+-- all that is kept, after the end of a frame
+pub kept-finished : (m : Machine) (line : ℕ) → MayCall m Display [] Finish
+    → (clock : Clock) (fences signalled_now views : List Bool) (sessions after : List SessionState) (log mid then : Logged) (owed count : ℕ) {dues dues_now : ℕ} → log.history ≡ m.history
+    → Stands m.setup log.history clock fences views sessions → HasRoom m.setup m.shares log owed dues
+    → length after ≡ m.setup.sessions → AllNumbered (λ i. IsKept m.setup (seen_of m.setup (finished m.history line) (number i))) after
+    → length signalled_now ≡ length fences → ((g : FenceNo) → has signalled_now g ≡ (has fences g || released_to m.setup m.history m.setup.sessions g))
+    → Framed m.setup m.history (finish_entry line) log mid then count dues dues_now
+    → Stands m.setup then.history (record { frames = clock.frames + 1; is_open = false; time = clock.time }) signalled_now views after × HasRoom m.setup m.shares then (owed - count) dues_now
+kept-finished m line call clock fences signalled_now views sessions after log mid then owed count {dues} {dues_now} same stands room all each size members framed =
+    let h : List Entry = m.history in
+    let e : Entry = finish_entry line in
+    let old : Stands m.setup h clock fences views sessions = rw (← same) stands in
+    let now : then.history ≡ (h ▹ e) = framed.entered.history ∙ rw (framed.history, same) refl in
+    let ticks : clock.frames ≡ frames h = ap (λ (c : Clock). c.frames) old.timed in
+    let times : clock.time ≡ begin_time h = ap (λ (c : Clock). c.time) old.timed in
+    let more : frames (h ▹ e) ≡ frames h + 1 = sym (add-one (frames h)) in
+    let is : Stands m.setup (h ▹ e) (record { frames = clock.frames + 1; is_open = false; time = clock.time }) signalled_now views after = record {
+      legal = (old.legal, legal-entered m Display line [] Finish Done call refl);
+      timed = rw (more, ticks, times) refl;
+      fence_count = size ∙ old.fence_count;
+      signalled = λ f. members f ∙ ap (λ b. b || released_to m.setup h m.setup.sessions f) (old.signalled f);
+      view_count = old.view_count;
+      viewed = old.viewed;
+      count = all;
+      each = each;
+    } in (rw now is, room-framed m line Finish call dues dues_now log mid then owed count same room framed)

@@ -1,0 +1,263 @@
+-- What entries do to what is kept of all sessions' viewports.
+use Rattle.std.proofs.Common.{◌≡◌, ◌∙◌, sym, ℕ, ◌+◌, ◌-◌, ◌<◌, Bool, true, false, List, [], ◌∷◌, length, refl, arith, ap, subst, All, slice_set, slice_index_or}
+use Rattle.std.specs.Prelude.{IsTrue, Option, Some, None, option_map, unwrap_or, slice_get, ◌++◌, ◌&&◌, ◌==◌, nat_lt, nat_le, sum_by}
+use Rattle.std.specs.List.{list_any}
+use Rattle.std.proofs.lemmas.Bool.Decides.{nat_tests}
+use Rattle.std.proofs.lemmas.List.{length-set, length-map}
+use Rattle.std.proofs.lemmas.List.Folds.{list_any-append}
+use Rattle.std.proofs.lemmas.List.Elements.{All-head, All-tail}
+use Rattle.std.proofs.lemmas.List.Sums.{sum_by-cons}
+use Rattle.flat_base.specs.declared.ids.Actor.{Actor}
+use Rattle.flat_base.specs.declared.ids.Actor.TheVariants.{Display, Session, Probe}
+use Rattle.flat_base.specs.declared.ids.PairNo.{PairNo}
+use Rattle.flat_base.specs.declared.ids.SessionNo.{SessionNo}
+use Rattle.flat_scene.specs.declared.calls.Call.{Call}
+use Rattle.flat_scene.specs.declared.journal.Entry.{Entry}
+use Rattle.flat_scene.specs.declared.calls.Call.TheVariants.{CreateView, CreateViewport}
+use Rattle.flat_scene.specs.declared.journal.Kind.{Kind}
+use Rattle.flat_scene.specs.declared.journal.Kind.TheVariants.{View, Viewport, Close}
+use Rattle.flat_scene.specs.declared.journal.Reply.{Reply}
+use Rattle.flat_scene.specs.declared.setup.Setup.{Setup}
+use Rattle.flat_scene.specs.History.{◌▹◌, is_begin, is_closed, is_finish, is_session, presents}
+use Rattle.flat_scene.specs.Setups.{is_declared}
+use Rattle.flat_states.specs.declared.live.Live.{Live}
+use Rattle.flat_states.specs.declared.live.OutToken.{OutToken}
+use Rattle.flat_states.specs.declared.clock.Clock.{Clock}
+use Rattle.flat_states.specs.declared.state.Account.{Account}
+use Rattle.flat_states.specs.declared.state.SessionState.{SessionState}
+use Rattle.flat_states.specs.declared.ties.Ties.{Ties}
+use Rattle.flat_states.specs.declared.viewports.Viewports.{Viewports}
+use Rattle.flat_states.specs.Machines.{AreEnds, Machine, MayCall, Stands, due_back, entry_of}
+use Rattle.flat_rules.specs.Numbers.{number}
+use Rattle.flat_rules.specs.Ends.{uses_viewport, is_done, viewports_of}
+use Rattle.flat_states.specs.Kept.{IsKept}
+use Rattle.flat_rules.specs.Legal.{Legal, all_but_last, is_link, links_alone, makes_view, own_call, reply_to}
+use Rattle.flat_states.specs.Following.{AreTied, UsesNone}
+use Rattle.flat_states.specs.Presents.{HasNone, IsNoted, IsOwn, EndsNoted}
+use Rattle.flat_states.specs.Seen.{is_new_viewport, seen_of}
+use Rattle.flat_states.specs.Viewports.{AreViewports, marked, out_of, outs_of}
+use Rattle.flat_states.proofs.lemmas.Changes.{changed-one, not-session, is-session, sum-same}
+use Rattle.flat_states.proofs.lemmas.Counts.{at-session, declared-some, kept-session, same-number}
+use Rattle.flat_rules.proofs.lemmas.ListLemmas.{flat_map-none}
+use Rattle.flat_states.proofs.lemmas.Ones.{declared-of}
+use Rattle.flat_states.proofs.lemmas.Steps.{legal-entered}
+use Rattle.flat_states.proofs.lemmas.TiesSteps.{tied-idle}
+use Rattle.flat_states.proofs.lemmas.ViewCalls.{split-last}
+use Rattle.flat_gets.proofs.ViewportSteps.{viewports-other, viewports-own}
+use Rattle.std.proofs.lemmas.Bool.{not-true, or_parts}
+
+-- ---- lists
+
+le-number : (i n : ℕ) → i < n → (nat_lt 0 (i + 1) && nat_le (i + 1) n) ≡ true
+le-number i n below = by_tests (nat_lt 0 (i + 1)) (nat_le (i + 1) n) refl refl
+  where
+    by_tests : (a b : Bool) → nat_lt 0 (i + 1) ≡ a → nat_le (i + 1) n ≡ b → (a && b) ≡ true
+    by_tests true true p q = refl
+    by_tests true false p q = absurd (grind (arith, nat_tests))
+    by_tests false b p q = absurd (grind (arith, nat_tests))
+
+-- the session at a place is declared
+pub number-declared : (setup : Setup) (i n : ℕ) → n ≡ setup.sessions → i < n → is_declared setup (number i) ≡ true
+number-declared setup i n same below = le-number i setup.sessions (omega (arith, same, below))
+
+-- ---- a session that is closed
+
+pub viewports-closed : (setup : Setup) (h : List Entry) (s : SessionNo) (live : List Live) (out : List OutToken) → is_closed s h ≡ true → AreViewports setup h s live out
+viewports-closed setup h s live out closed = record {
+  lives = λ opened. let wrong : true ≡ false = sym closed ∙ opened in absurd (cc);
+  outs = λ opened. let wrong : true ≡ false = sym closed ∙ opened in absurd (cc);
+}
+
+-- ---- before any entry
+
+no-outs : (setup : Setup) (s : SessionNo) → outs_of setup [] s ≡ []
+no-outs setup s = flat_map-none (out_of setup [] s) (viewports_of setup s) (λ p. refl)
+
+pub ends-new : (setup : Setup) (ends : List Viewports) → length ends ≡ setup.sessions → All HasNone ends → AreEnds setup [] ends
+ends-new setup ends count none = record {
+  count = count;
+  each = λ i d below. record {
+    lives = λ opened. (none i d below).live;
+    outs = λ opened. (none i d below).out ∙ sym (no-outs setup (number i));
+  };
+}
+
+pub back-new : (ends : List Viewports) → All HasNone ends → sum_by due_back ends ≡ 0
+back-new [] none = refl
+back-new (one ∷ ends) none =
+    let here : HasNone one = All-head HasNone one ends none in
+    let nothing : due_back one ≡ 0 = ap (length {A = OutToken}) here.out in
+    sum_by-cons due_back one ends ∙ omega (arith, nothing, back-new ends (All-tail HasNone one ends none))
+
+-- ---- entries
+
+module _ (setup : Setup) (h : List Entry) (e : Entry) (legal : Legal setup (h ▹ e)) (no_finish : is_finish e.kind ≡ false) where
+  -- where no session made it
+  pub ends-other : (ends : List Viewports) → ((j : ℕ) → is_session (number j) e.actor ≡ false) → AreEnds setup h ends → AreEnds setup (h ▹ e) ends
+  ends-other ends other old = record {
+    count = old.count;
+    each = λ i d below. viewports-other setup (number i) (number-declared setup i (length ends) old.count below) h e legal (other i) no_finish _ _ (old.each i d below);
+  }
+
+  -- where a session made it, by what becomes of its own
+  pub ends-one : (ends : List Viewports) (s : SessionNo) → e.actor ≡ Session s → is_declared setup s ≡ true → (before after : Viewports) → before ≡ slice_index_or ends (s.0 - 1) before
+      → (AreViewports setup h s before.live.items before.out.items → AreViewports setup (h ▹ e) s after.live.items after.out.items)
+      → AreEnds setup h ends → AreEnds setup (h ▹ e) (slice_set ends (s.0 - 1) after)
+  ends-one ends s mine declared before after is step old =
+      let here = declared-some s.0 setup.sessions declared in
+      let some : 0 < s.0 = here.0 in
+      let count : length ends ≡ setup.sessions = old.count in
+      let own : AreViewports setup h s before.live.items before.out.items =
+      at-session (λ t one. AreViewports setup h t one.live.items one.out.items) ends s before old.each some (omega (arith, here.1, count)) is in
+      let P : SessionNo → Type 0 = λ t. AreViewports setup (h ▹ e) t after.live.items after.out.items in
+      let now : AreViewports setup (h ▹ e) (number (s.0 - 1)) after.live.items after.out.items = subst P (sym (same-number s some)) (step own) in
+      record {
+        count = length-set ends (s.0 - 1) after ∙ old.count;
+        each = λ i d below.
+            changed-one (λ j one. (j < length ends) × AreViewports setup h (number j) one.live.items one.out.items) (λ j one. AreViewports setup (h ▹ e) (number j) one.live.items one.out.items) ends (s.0 - 1) after
+            (λ j one other kept. viewports-other setup (number j) (number-declared setup j (length ends) old.count kept.0) h e legal (ap (is_session (number j)) mine ∙ not-session s j some other) no_finish _ _ kept.1)
+            now (λ j x within. (within, old.each j x within)) i d below;
+      }
+
+  -- its calls are noted, where it uses no viewport end
+  pub ends-noted : (ends : List Viewports) (s : SessionNo) → e.actor ≡ Session s → is_declared setup s ≡ true → ((p : PairNo) → (uses_viewport p e.kind && is_done e.reply) ≡ false)
+      → (before after : Viewports) → before ≡ slice_index_or ends (s.0 - 1) before → (n : ℕ) → n ≡ length (presents s h) → IsNoted e.calls n before after
+      → AreEnds setup h ends → AreEnds setup (h ▹ e) (slice_set ends (s.0 - 1) after)
+  ends-noted ends s mine declared no_use before after is n counts noted old =
+      ends-one ends s mine declared before after is
+      (λ own.
+      let step = viewports-own setup s declared h e legal (ap (is_session s) mine ∙ is-session s) no_finish (λ p owned. no_use p) before.live.items before.out.items own in
+      rw (noted.live, noted.out, counts) step) old
+
+  -- a session's entry that closes it
+  pub ends-closed : (ends : List Viewports) (s : SessionNo) → e.actor ≡ Session s → is_declared setup s ≡ true → is_closed s (h ▹ e) ≡ true → AreEnds setup h ends → AreEnds setup (h ▹ e) ends
+  ends-closed ends s mine declared closed old =
+      record {
+        count = old.count;
+        each = λ i d below. by_place i (slice_index_or ends i d) (number-declared setup i (length ends) old.count below) (old.each i d below) (i + 1 == s.0) refl;
+      }
+    where
+      by_place : (i : ℕ) (one : Viewports) → is_declared setup (number i) ≡ true → AreViewports setup h (number i) one.live.items one.out.items → (b : Bool) → (i + 1 == s.0) ≡ b
+          → AreViewports setup (h ▹ e) (number i) one.live.items one.out.items
+      by_place i one within kept true is =
+          let same : i + 1 ≡ s.0 = grind (arith, nat_tests) in
+          let it : number i ≡ s = ap (λ (n : ℕ). let r : SessionNo = record { 0 = n } in r) same in
+          viewports-closed setup (h ▹ e) (number i) _ _ (ap (λ (t : SessionNo). is_closed t (h ▹ e)) it ∙ closed)
+      by_place i one within kept false is =
+          let other : is_session (number i) (Session s) ≡ false = grind (arith, nat_tests) in
+          viewports-other setup (number i) within h e legal (ap (is_session (number i)) mine ∙ other) no_finish _ _ kept
+
+-- what may come back, after such a note
+pub back-noted : (ends : List Viewports) (place : ℕ) (before after : Viewports) → place < length ends → before ≡ slice_index_or ends place before → (calls : List Call) (n : ℕ) → IsNoted calls n before after
+    → sum_by due_back (slice_set ends place after) ≡ sum_by due_back ends
+back-noted ends place before after below is calls n noted = sum-same due_back ends place after before below is (ap (length {A = OutToken}) noted.out ∙ length-map before.out.items (marked before.live.items calls n))
+
+-- ---- the calls of entries that use no viewport end
+
+-- whether an entry of a kind may carry a call that makes a viewport
+abbrev pub may_make : Kind → Bool
+may_make (Viewport p props) = true
+may_make (Close reason) = true
+may_make _ = false
+
+link-made : (call : Call) → is_link call ≡ false → is_new_viewport call ≡ false
+link-made (CreateViewport c p w h inset) none = cc
+link-made _ none = refl
+
+pub links-made : (xs : List Call) → list_any is_link xs ≡ false → list_any is_new_viewport xs ≡ false
+links-made [] none = refl
+links-made (x ∷ xs) none =
+    let two = or_parts (is_link x) (list_any is_link xs) none in
+    rw (link-made x two.0, links-made xs two.1) refl
+
+view-made : (p : PairNo) (call : Option Call) → makes_view p call ≡ true → (c : Call) → call ≡ Some c → is_new_viewport c ≡ false
+view-made p None is c same = cc
+view-made p (Some (CreateView q)) is c same = subst (λ (o : Option Call). unwrap_or (option_map is_new_viewport o) false ≡ false) same refl
+view-made p (Some _) is c same = cc
+
+last-view : (p : PairNo) (xs : List Call) (last : Option Call) → slice_get xs (length xs - 1) ≡ last → makes_view p last ≡ true → list_any is_link (all_but_last xs) ≡ false → list_any is_new_viewport xs ≡ false
+last-view p xs None at is none = cc
+last-view p xs (Some call) at is none =
+    let split : xs ≡ all_but_last xs ++ call ∷ [] = split-last xs call at in
+    let here : is_new_viewport call ≡ false = view-made p (Some call) is call refl in
+    ap (list_any is_new_viewport) split ∙ list_any-append is_new_viewport (all_but_last xs) (call ∷ []) ∙ rw (links-made (all_but_last xs) none, here) refl
+
+-- none of them makes one
+pub none-new : (kind : Kind) (xs : List Call) → may_make kind ≡ false → links_alone kind xs ≡ true → own_call kind (slice_get xs (length xs - 1)) ≡ true → list_any is_new_viewport xs ≡ false
+none-new (View p) xs quiet alone own = last-view p xs (slice_get xs (length xs - 1)) refl own (not-true _ alone)
+none-new (Viewport p props) xs quiet alone own = cc
+none-new (Close reason) xs quiet alone own = cc
+none-new kind xs quiet alone own = links-made xs (not-true _ alone)
+
+no-use : (kind : Kind) (reply : Reply) (p : PairNo) → may_make kind ≡ false → (uses_viewport p kind && is_done reply) ≡ false
+no-use (Viewport q props) reply p quiet = cc
+no-use kind reply p quiet = refl
+
+-- a note of the same calls
+pub noted-slice : {xs ys : List Call} (n : ℕ) (before after : Viewports) → xs ≡ ys → IsNoted xs n before after → IsNoted ys n before after
+noted-slice n before after same noted = subst (λ (zs : List Call). IsNoted zs n before after) same noted
+
+-- all sessions' viewports after an entry that carries calls
+pub ends-after : (m : Machine) (who : Actor) (line : ℕ) (calls : List Call) (kind : Kind) (reply : Reply) → MayCall m who calls kind → reply ≡ reply_to m.setup m.history who calls kind
+    → is_begin kind ≡ false → is_finish kind ≡ false → may_make kind ≡ false
+    → (clock : Clock) (fences views : List Bool) (sessions : List SessionState) (ends after : List Viewports) (tied now : Ties) → Stands m.setup m.history clock fences views sessions
+    → EndsNoted who calls sessions ends after tied now → AreEnds m.setup m.history ends → AreTied m.setup m.history tied.followings.items tied.pairs.items
+    → AreEnds m.setup (m.history ▹ entry_of who line calls kind reply) after × (sum_by due_back after ≡ sum_by due_back ends) × AreTied m.setup (m.history ▹ entry_of who line calls kind reply) now.followings.items now.pairs.items
+ends-after m Display line calls kind reply call replied no_begin no_finish quiet clock fences views sessions ends after tied now old noted are ties =
+    let e : Entry = entry_of Display line calls kind reply in
+    let legal : Legal m.setup (m.history ▹ e) = (old.legal, legal-entered m Display line calls kind reply call replied) in
+    rw (noted.0, noted.1) (
+      ends-other m.setup m.history e legal no_finish ends (λ j. refl) are,
+      refl,
+      tied-idle m.setup m.history e (record { legal = legal; no_begin = no_begin; no_finish = no_finish; no_use = λ p. no-use kind reply p quiet; shut = λ s mine. cc }) tied.followings.items tied.pairs.items ties,
+    )
+ends-after m (Probe p) line calls kind reply call replied no_begin no_finish quiet clock fences views sessions ends after tied now old noted are ties =
+    let e : Entry = entry_of (Probe p) line calls kind reply in
+    let legal : Legal m.setup (m.history ▹ e) = (old.legal, legal-entered m (Probe p) line calls kind reply call replied) in
+    rw (noted.0, noted.1) (
+      ends-other m.setup m.history e legal no_finish ends (λ j. refl) are,
+      refl,
+      tied-idle m.setup m.history e (record { legal = legal; no_begin = no_begin; no_finish = no_finish; no_use = λ p. no-use kind reply p quiet; shut = λ s mine. cc }) tied.followings.items tied.pairs.items ties,
+    )
+ends-after m (Session s) line calls kind reply call replied no_begin no_finish quiet clock fences views sessions ends after tied now old n are ties =
+    let e : Entry = entry_of (Session s) line calls kind reply in
+    let declared : IsTrue (is_declared m.setup s) = declared-of m.setup kind s call.may.acts in
+    let here = declared-some s.0 m.setup.sessions declared in
+    let count : length ends ≡ m.setup.sessions = are.count in
+    let below : s.0 - 1 < length ends = omega (arith, here.0, here.1, count) in
+    let kept : IsKept m.setup (seen_of m.setup m.history s) n.state = kept-session m.setup m.history clock fences views sessions s n.state old declared n.of_state in
+    let counts : n.state.account.presents ≡ length (presents s m.history) = ap (λ (a : Account). a.presents) kept.account in
+    let legal : Legal m.setup (m.history ▹ e) = (old.legal, legal-entered m (Session s) line calls kind reply call replied) in
+    let own : AreViewports m.setup m.history s n.before.live.items n.before.out.items =
+    at-session (λ t one. AreViewports m.setup m.history t one.live.items one.out.items) ends s n.before are.each here.0 (omega (arith, here.1, count)) n.of_before in
+    let made : IsOwn m.setup m.history e s calls n.state n.before = record {
+      legal = legal;
+      actor = refl;
+      carried = refl;
+      closed = kept.closed;
+      counted = counts;
+      living = own.lives;
+      no_begin = no_begin;
+      no_finish = no_finish;
+    } in
+    let uses : UsesNone e = λ p. no-use kind reply p quiet in
+    rw n.new_is (
+      ends-noted m.setup m.history e legal no_finish ends s refl declared uses n.before n.after n.of_before n.state.account.presents counts n.noted are,
+      back-noted ends (s.0 - 1) n.before n.after below n.of_before calls n.state.account.presents n.noted,
+      n.ties m.setup m.history e made uses ties,
+    )
+
+-- where what is kept of one session is replaced by the same
+pub ends-same : (setup : Setup) (h : List Entry) (ends : List Viewports) (place : ℕ) (before after : Viewports) → before ≡ slice_index_or ends place before → place < length ends
+    → after.live.items ≡ before.live.items → after.out.items ≡ before.out.items → AreEnds setup h ends
+    → AreEnds setup h (slice_set ends place after) × (sum_by due_back (slice_set ends place after) ≡ sum_by due_back ends)
+ends-same setup h ends place before after is below live out old = (
+  record {
+    count = length-set ends place after ∙ old.count;
+    each =
+        let P : ℕ → Viewports → Type 0 = λ i one. AreViewports setup h (number i) one.live.items one.out.items in
+        let here : P place before = subst (P place) (sym is) (old.each place before below) in
+        changed-one P P ends place after (λ j x other kept. kept) (rw (live, out) here) old.each;
+  },
+  sum-same due_back ends place after before below is (ap (length {A = OutToken}) out),
+)

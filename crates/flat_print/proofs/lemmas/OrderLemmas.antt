@@ -1,0 +1,465 @@
+-- The lines of a head in the canonical order.
+use Rattle.std.proofs.Common.{◌≡◌, ℕ, ◌+◌, ◌-◌, ◌<◌, ◌≤◌, Bool, true, false, cond, ◌&&◌, nat_lt, nat_le, List, [], ◌∷◌, ◌++◌, length, map, Option, Some, None, unwrap_or, option_and_then, if◌then◌else◌, Ok, refl, sym, ◌∙◌, ap, codes, arith, lit<, lit≤, subst, append_assoc, length-append, option_map}
+use Rattle.std.proofs.lemmas.List.{map-append}
+use Rattle.std.proofs.Math.Seq.{get_or-append_seam}
+use Rattle.std.proofs.lemmas.Option.{slice_get-get_or}
+use Rattle.std.specs.Option.{option_map_or}
+use Rattle.std.specs.Str.{bytes_eq}
+use Rattle.std.specs.Fmt.{decimal}
+use Rattle.std.proofs.lemmas.Slice.Eq.{bytes_eq-Decides}
+use Rattle.std.proofs.lemmas.Bool.Decides.{nat_tests}
+use Rattle.flat_base.specs.declared.ids.Actor.{Actor}
+use Rattle.flat_base.specs.declared.ids.Actor.TheVariants.{Display, Session}
+use Rattle.flat_base.specs.declared.ids.SessionNo.{SessionNo}
+use Rattle.flat_text.specs.Number.{natural}
+use Rattle.flat_text.proofs.lemmas.NumberLemmas.{decimal-natural}
+use Rattle.flat_script.specs.declared.script.Script.{Script}
+use Rattle.flat_script.specs.Forms.{Word, whole, each, one_or_more, ◌<$>◌}
+use Rattle.flat_script.specs.Names.{place_of, session_named, owner_named}
+use Rattle.flat_script.specs.Places.{number_from}
+use Rattle.flat_script.specs.Head.{empty, size, side, owner_word, has_display, with_display, with_session, with_buffers, with_pair, with_fence}
+use Rattle.flat_print.specs.Print.{name_at, actor_word, name_words, numbered, buffers_line_words, pair_line_words, fence_line_words, display_line_words}
+use Rattle.flat_script.proofs.lemmas.FormLemmas.{both_ok, or_kind_ok, whole_ok, apply_ok, map_ok, place_ok}
+use Rattle.flat_print.proofs.CallLemmas.{name_at-place_of, test_ok}
+use Rattle.flat_print.proofs.lemmas.TextLemmas.{IsLine, AllLines, AllLines-append, room_of, room_of-append}
+use Rattle.flat_print.specs.Print.{spelled}
+use Rattle.flat_print.proofs.lemmas.WordLemmas.{numbered-append}
+use Rattle.flat_script.proofs.lemmas.StepLemmas.{SizeStep, SessionStep, BuffersStep, PairStep, FenceStep, Step, size_step, session_step, buffers_step, pair_step, fence_step, sort}
+use Rattle.flat_print.proofs.SwapLemmas.{swap}
+use Rattle.std.proofs.lemmas.Bool.{and_parts}
+
+-- chains of steps, none of an earlier sort than k
+
+pub record Link (k : ℕ) (u : Script) (ws : List Word) (rest : Script → Type 0) : Type 0 where
+  pub mid : Script
+  pub step : Step u ws mid
+  pub order : k ≤ sort step
+  pub behind : rest mid
+
+abbrev pub Chain : ℕ → Script → List (List Word) → Script → Type 0
+Chain k u [] t = u ≡ t
+Chain k u (ws ∷ wss) t = Link k u ws (λ m. Chain k m wss t)
+
+pub chain_more : (k : ℕ) (u m t : Script) (wss : List (List Word)) (ws : List Word) → Chain k u wss m → (y : Step m ws t) → k ≤ sort y → Chain k u (wss ++ ws ∷ []) t
+chain_more k u m t [] ws chain y order = let P : Script → Type 0 = λ v. Link k v ws (λ w. w ≡ t) in subst P (sym chain) (record { mid = t; step = y; order = order; behind = refl })
+chain_more k u m t (b ∷ wss) ws chain y order = record { mid = chain.mid; step = chain.step; order = chain.order; behind = chain_more k chain.mid m t wss ws chain.behind y order }
+
+-- a line of an earlier sort goes to the front of a chain
+pub record Bubbled (k : ℕ) (u : Script) (wss : List (List Word)) (ws : List Word) (t : Script) (j : ℕ) : Type 0 where
+  pub mid : Script
+  pub first : Step u ws mid
+  pub first_sort : sort first ≡ j
+  pub behind : Chain k mid wss t
+
+step_from : (u m t : Script) (ws : List Word) → u ≡ m → (y : Step m ws t) → (x : Step u ws t) × (sort x ≡ sort y)
+step_from u m t ws e = let P : Script → Type 0 = λ v. (y : Step v ws t) → (x : Step u ws t) × (sort x ≡ sort y) in subst P e (λ y. (y, refl))
+
+pub bubble : (k : ℕ) (u m t : Script) (wss : List (List Word)) (ws : List Word) → Chain k u wss m → (y : Step m ws t) → sort y < k → Bubbled k u wss ws t (sort y)
+bubble k u m t [] ws chain y less = let x = step_from u m t ws chain y in record { mid = t; first = x.0; first_sort = x.1; behind = refl }
+bubble k u m t (b ∷ wss) ws chain y less =
+    let inner = bubble k chain.mid m t wss ws chain.behind y less in
+    let before : sort inner.first < sort chain.step = let s = inner.first_sort in let o = chain.order in omega arith in
+    let swapped = swap u chain.mid inner.mid b ws chain.step inner.first before in
+    record {
+      mid = swapped.mid;
+      first = swapped.first;
+      first_sort = swapped.first_sort ∙ inner.first_sort;
+      behind = record { mid = inner.mid; step = swapped.second; order = (let s = swapped.second_sort in let o = chain.order in omega arith); behind = inner.behind };
+    }
+
+-- what is printed of the lines, whatever is declared behind them
+
+abbrev pub buffers_with : Script → List Word → List Word → List (List Word)
+buffers_with u xs ys = numbered (buffers_line_words (record u { sessions = u.sessions ++ xs; buffers = u.buffers ++ ys })) 0 u.setup.buffers
+
+abbrev pub pairs_with : Script → List Word → List Word → List (List Word)
+pairs_with u xs ys = numbered (pair_line_words (record u { sessions = u.sessions ++ xs; pairs = u.pairs ++ ys })) 0 u.setup.pairs
+
+abbrev pub fences_with : Script → List Word → List Word → List (List Word)
+fences_with u xs ys = numbered (fence_line_words (record u { sessions = u.sessions ++ xs; fences = u.fences ++ ys })) 0 u.setup.fences
+
+pub record Ordered (u : Script) (k : ℕ) : Type 0 where
+  pub d : List (List Word)
+  pub s : List (List Word)
+  pub b : List (List Word)
+  pub p : List (List Word)
+  pub f : List (List Word)
+  pub u0 : Script
+  pub u1 : Script
+  pub u2 : Script
+  pub u3 : Script
+  pub sizes : Chain 0 empty d u0
+  pub sessions : Chain 1 u0 s u1
+  pub buffers : Chain 2 u1 b u2
+  pub pairs : Chain 3 u2 p u3
+  pub fences : Chain 4 u3 f u
+  pub size_words : d ≡ cond (has_display u) (display_line_words u ∷ []) []
+  pub session_words : s ≡ map (name_words (codes "session")) u.sessions
+  pub probes : u.probes ≡ []
+  pub buffer_words : (xs ys : List Word) → buffers_with u xs ys ≡ b
+  pub pair_words : (xs ys : List Word) → pairs_with u xs ys ≡ p
+  pub fence_words : (xs ys : List Word) → fences_with u xs ys ≡ f
+  pub buffer_names : length u.setup.buffers ≡ length u.buffers
+  pub pair_names : length u.setup.pairs ≡ length u.pairs
+  pub fence_names : length u.setup.fences ≡ length u.fences
+  pub all_d : AllLines d
+  pub all_s : AllLines s
+  pub all_b : AllLines b
+  pub all_p : AllLines p
+  pub all_f : AllLines f
+  pub fits : room_of d + (room_of s + (room_of b + (room_of p + room_of f))) ≤ k
+
+pub ordered_empty : Ordered empty 0
+ordered_empty = record {
+  d = [];
+  s = [];
+  b = [];
+  p = [];
+  f = [];
+  u0 = empty;
+  u1 = empty;
+  u2 = empty;
+  u3 = empty;
+  sizes = refl;
+  sessions = refl;
+  buffers = refl;
+  pairs = refl;
+  fences = refl;
+  size_words = refl;
+  session_words = refl;
+  probes = refl;
+  buffer_words = λ xs ys. refl;
+  pair_words = λ xs ys. refl;
+  fence_words = λ xs ys. refl;
+  buffer_names = refl;
+  pair_names = refl;
+  fence_names = refl;
+  all_d = tt;
+  all_s = tt;
+  all_b = tt;
+  all_p = tt;
+  all_f = tt;
+  fits = lit≤ tt;
+}
+
+-- numbers of a range
+
+passes_by : (p : ℕ → Bool) (n v : ℕ) (b : Bool) → p n ≡ b → cond b (Some n) None ≡ Some v → p v ≡ true
+passes_by p n v true at is = let e : n ≡ v = cc in ap p (sym e) ∙ at
+passes_by p n v false at is = absurd (cc)
+
+pub test_passes : (p : ℕ → Bool) (o : Option ℕ) (v : ℕ) → option_and_then (λ n. if p n then Some n else None) o ≡ Some v → p v ≡ true
+test_passes p None v is = absurd (cc)
+test_passes p (Some n) v is = passes_by p n v (p n) refl is
+
+range_ok : (least most : ℕ) (w : Word) (n : ℕ) → (number_from least most (w ∷ [])).0 ≡ Ok n → (decimal n ≡ w) × (nat_le least n ≡ true)
+range_ok least most w n is =
+    let found = or_kind_ok 7 _ n is in
+    let test = λ (k : ℕ). nat_le least k && nat_le k most in
+    ((decimal-natural w n (test_ok test (natural w) n found)).0, (and_parts (nat_le least n) (nat_le n most) (test_passes test (natural w) n found)).0)
+
+-- names behind more names
+
+pub name_at_seam : (names ys : List Word) (n : Word) → name_at (names ++ n ∷ ys) (length names) ≡ n
+name_at_seam names ys n = ap (λ o. unwrap_or o []) (slice_get-get_or (names ++ n ∷ ys) (length names) [] (omega (arith, length-append names (n ∷ ys)))) ∙ get_or-append_seam names n ys []
+
+name_at_end : (names ys : List Word) (n : Word) (k : ℕ) → k ≡ length names → name_at ((names ++ n ∷ []) ++ ys) k ≡ n
+name_at_end names ys n k is = ap (λ zs. name_at zs k) (append_assoc names (n ∷ []) ys) ∙ ap (name_at (names ++ n ∷ ys)) is ∙ name_at_seam names ys n
+
+session_by : (u : Script) (xs : List Word) (w : Word) (a : SessionNo) (o : Option ℕ) → place_of u.sessions w ≡ o → option_map (λ i. record { 0 = i + 1 }) o ≡ Some a → name_at (u.sessions ++ xs) (a.0 - 1) ≡ w
+session_by u xs w a None at is = absurd (cc)
+session_by u xs w a (Some i) at is =
+    let number : i + 1 ≡ a.0 = ap (λ (o : Option SessionNo). option_map_or (λ s. s.0) o 0) is in
+    ap (name_at (u.sessions ++ xs)) (omega arith) ∙ name_at-place_of u.sessions xs w i at
+
+session_word_of : (u : Script) (xs : List Word) (w : Word) (a : SessionNo) → session_named u w ≡ Some a → name_at (u.sessions ++ xs) (a.0 - 1) ≡ w
+session_word_of u xs w a is = session_by u xs w a (place_of u.sessions w) refl is
+
+abbrev more_sessions : Script → List Word → Script
+more_sessions u xs = record u { sessions = u.sessions ++ xs }
+
+actor_by_name : (u : Script) (xs : List Word) (w : Word) (a : Actor) (o : Option SessionNo) → session_named u w ≡ o → option_map Session o ≡ Some a → actor_word (more_sessions u xs) a ≡ w
+actor_by_name u xs w a None at is = absurd (cc)
+actor_by_name u xs w a (Some s) at is = let e : Session s ≡ a = cc in ap (actor_word (more_sessions u xs)) (sym e) ∙ session_word_of u xs w s at
+
+actor_by : (u : Script) (xs : List Word) (w : Word) (a : Actor) (b : Bool) → bytes_eq w (codes "display") ≡ b → cond b (Some Display) (option_map Session (session_named u w)) ≡ Some a → actor_word (more_sessions u xs) a ≡ w
+actor_by u xs w a true at is = let e : Display ≡ a = cc in ap (actor_word (more_sessions u xs)) (sym e) ∙ sym ((bytes_eq-Decides w (codes "display")).0 at)
+actor_by u xs w a false at is = actor_by_name u xs w a (session_named u w) refl is
+
+actor_word_of : (u : Script) (xs : List Word) (w : Word) (a : Actor) → owner_named u w ≡ Some a → actor_word (more_sessions u xs) a ≡ w
+actor_word_of u xs w a is = actor_by u xs w a (bytes_eq w (codes "display")) refl is
+
+each_words : (u : Script) (xs ws : List Word) (os : List Actor) → each (owner_word u) ws ≡ Ok os → map (actor_word (more_sessions u xs)) os ≡ ws
+each_words u xs [] os is = let e : [] ≡ os = cc in ap (map (actor_word (more_sessions u xs))) (sym e)
+each_words u xs (w ∷ ws) os is =
+    let parts = both_ok (λ a rest. a ∷ rest) (owner_word u w) (each (owner_word u) ws) os is in
+    let g = actor_word (more_sessions u xs) in
+    ap (map g) (sym parts.value) ∙ ap (λ v. v ∷ map g parts.b) (actor_word_of u xs w parts.a (or_kind_ok 9 (owner_named u w) parts.a parts.first)) ∙ ap (λ vs. w ∷ vs) (each_words u xs ws parts.b parts.second)
+
+owners_words : (u : Script) (xs ws : List Word) (os : List Actor) → one_or_more (owner_word u) ws ≡ Ok os → map (actor_word (more_sessions u xs)) os ≡ ws
+owners_words u xs [] os is = absurd (cc)
+owners_words u xs (w ∷ ws) os is = each_words u xs (w ∷ ws) os is
+
+-- the words of the size
+
+size_taken : (rest : List Word) (w h : ℕ) → whole size rest ≡ Ok (w, h) → (rest ≡ decimal w ∷ decimal h ∷ []) × (nat_le 1 w ≡ true)
+size_taken rest w h is =
+    let pair : ℕ → ℕ → ℕ × ℕ = λ x y. (x, y) in
+    let two = apply_ok (pair <$> side) side rest (w, h) [] (whole_ok size rest (w, h) is) in
+    let one = map_ok pair side rest two.g two.mid two.first in
+    let a = place_ok _ rest one.a two.mid one.given in
+    let b = place_ok _ two.mid two.a [] two.second in
+    let value : pair one.a two.a ≡ (w, h) = ap (λ g. g two.a) one.value ∙ two.value in
+    let wide : one.a ≡ w = ap (λ d. d.0) value in
+    let high : two.a ≡ h = ap (λ d. d.1) value in
+    let ra = range_ok 1 65536 a.word one.a a.passes in
+    let rb = range_ok 1 65536 b.word two.a b.passes in
+    (a.begins ∙ ap (λ v. v ∷ two.mid) (sym ra.0 ∙ ap decimal wide) ∙ ap (λ v. decimal w ∷ v) (b.begins ∙ ap (λ v. v ∷ []) (sym rb.0 ∙ ap decimal high)), ap (nat_le 1) (sym wide) ∙ ra.1)
+
+-- the line of a declaration, as it is printed
+
+buffers_line : {ws : List Word} {t : Script} (u : Script) (xs ys : List Word) (x : BuffersStep u ws t) → length u.setup.buffers ≡ length u.buffers
+    → buffers_line_words (record u { sessions = u.sessions ++ xs; buffers = (u.buffers ++ x.name ∷ []) ++ ys }) (0 + length u.setup.buffers) x.decl ≡ ws
+buffers_line u xs ys x many =
+    let name = name_at_end u.buffers ys x.name (0 + length u.setup.buffers) (omega arith) in
+    let owner = session_word_of u xs x.owner x.decl.owner x.owned in
+    let a = (range_ok 1 64 x.a x.decl.count x.count).0 in
+    let b = (range_ok 1 65536 x.b x.decl.w x.width).0 in
+    let c = (range_ok 1 65536 x.c x.decl.h x.height).0 in
+    rw (name, owner, a, b, c) (sym x.begins)
+
+pair_line : {ws : List Word} {t : Script} (u : Script) (xs ys : List Word) (x : PairStep u ws t) → length u.setup.pairs ≡ length u.pairs
+    → pair_line_words (record u { sessions = u.sessions ++ xs; pairs = (u.pairs ++ x.name ∷ []) ++ ys }) (0 + length u.setup.pairs) x.decl ≡ ws
+pair_line u xs ys x many =
+    let name = name_at_end u.pairs ys x.name (0 + length u.setup.pairs) (omega arith) in
+    let viewport = actor_word_of u xs x.x x.decl.viewport x.viewport in
+    let view = session_word_of u xs x.y x.decl.view x.view in
+    rw (name, viewport, view) (sym x.begins)
+
+fence_line : {ws : List Word} {t : Script} (u : Script) (xs ys : List Word) (x : FenceStep u ws t) → length u.setup.fences ≡ length u.fences
+    → fence_line_words (record u { sessions = u.sessions ++ xs; fences = (u.fences ++ x.name ∷ []) ++ ys }) (0 + length u.setup.fences) x.decl ≡ ws
+fence_line u xs ys x many =
+    let name = name_at_end u.fences ys x.name (0 + length u.setup.fences) (omega arith) in
+    let owners = owners_words u xs x.rest x.decl.owners x.owners in
+    rw (name, owners) (sym x.begins)
+
+pub insert_size : (u : Script) (ws : List Word) (t : Script) (k : ℕ) → IsLine ws → Ordered u k → SizeStep u ws t → Ordered t (k + 1 + length (spelled ws))
+insert_size u ws t k good o x =
+    let P : Script → Type 0 = λ v. Ordered v (k + 1 + length (spelled ws)) in
+    let t1 = with_display u x.w x.h in
+    let y : Step u ws t1 = size_step (record { rest = x.rest; w = x.w; h = x.h; begins = x.begins; first = x.first; read = x.read; made = refl }) in
+    let b4 = bubble 4 o.u3 u t1 o.f ws o.fences y (lit< tt) in
+    let b3 = bubble 3 o.u2 o.u3 b4.mid o.p ws o.pairs b4.first (let e = b4.first_sort in omega arith) in
+    let b2 = bubble 2 o.u1 o.u2 b3.mid o.b ws o.buffers b3.first (let e = b3.first_sort in omega arith) in
+    let b1 = bubble 1 o.u0 o.u1 b2.mid o.s ws o.sessions b2.first (let e = b2.first_sort in omega arith) in
+    let chain = chain_more 0 empty o.u0 b1.mid o.d ws o.sizes b1.first (let e = b1.first_sort in omega arith) in
+    let taken = size_taken x.rest x.w x.h x.read in
+    let none : o.d ≡ [] = o.size_words ∙ ap (λ c. cond c (display_line_words u ∷ []) []) x.first in
+    let wide : nat_lt 0 x.w ≡ true = let r = taken.1 in grind (arith, nat_tests) in
+    let shown : o.d ++ ws ∷ [] ≡ cond (nat_lt 0 x.w) (display_line_words t1 ∷ []) [] = ap (λ l. l ++ ws ∷ []) none ∙ ap (λ v. v ∷ []) (x.begins ∙ ap (λ r. codes "display" ∷ r) taken.0) ∙ ap (λ c. cond c (display_line_words t1 ∷ []) []) (sym wide) in
+    subst P (sym x.made) (record {
+      d = o.d ++ ws ∷ [];
+      s = o.s;
+      b = o.b;
+      p = o.p;
+      f = o.f;
+      u0 = b1.mid;
+      u1 = b2.mid;
+      u2 = b3.mid;
+      u3 = b4.mid;
+      sizes = chain;
+      sessions = b1.behind;
+      buffers = b2.behind;
+      pairs = b3.behind;
+      fences = b4.behind;
+      size_words = shown;
+      session_words = o.session_words;
+      probes = o.probes;
+      buffer_words = o.buffer_words;
+      pair_words = o.pair_words;
+      fence_words = o.fence_words;
+      buffer_names = o.buffer_names;
+      pair_names = o.pair_names;
+      fence_names = o.fence_names;
+      all_d = AllLines-append o.d (ws ∷ []) o.all_d (good, tt);
+      all_s = o.all_s;
+      all_b = o.all_b;
+      all_p = o.all_p;
+      all_f = o.all_f;
+      fits = (let e = room_of-append o.d (ws ∷ []) in let h = o.fits in omega arith);
+    })
+
+pub insert_session : (u : Script) (ws : List Word) (t : Script) (k : ℕ) → IsLine ws → Ordered u k → SessionStep u ws t → Ordered t (k + 1 + length (spelled ws))
+insert_session u ws t k good o x =
+    let P : Script → Type 0 = λ v. Ordered v (k + 1 + length (spelled ws)) in
+    let t1 = with_session u x.name in
+    let y : Step u ws t1 = session_step (record { name = x.name; begins = x.begins; room = x.room; fresh = x.fresh; made = refl }) in
+    let b4 = bubble 4 o.u3 u t1 o.f ws o.fences y (lit< tt) in
+    let b3 = bubble 3 o.u2 o.u3 b4.mid o.p ws o.pairs b4.first (let e = b4.first_sort in omega arith) in
+    let b2 = bubble 2 o.u1 o.u2 b3.mid o.b ws o.buffers b3.first (let e = b3.first_sort in omega arith) in
+    let chain = chain_more 1 o.u0 o.u1 b2.mid o.s ws o.sessions b2.first (let e = b2.first_sort in omega arith) in
+    subst P (sym x.made) (record {
+      d = o.d;
+      s = o.s ++ ws ∷ [];
+      b = o.b;
+      p = o.p;
+      f = o.f;
+      u0 = o.u0;
+      u1 = b2.mid;
+      u2 = b3.mid;
+      u3 = b4.mid;
+      sizes = o.sizes;
+      sessions = chain;
+      buffers = b2.behind;
+      pairs = b3.behind;
+      fences = b4.behind;
+      size_words = o.size_words;
+      session_words = ap (λ l. l ++ ws ∷ []) o.session_words ∙ ap (λ v. map (name_words (codes "session")) u.sessions ++ v ∷ []) x.begins ∙ sym (map-append (name_words (codes "session")) u.sessions (x.name ∷ []));
+      probes = o.probes;
+      buffer_words = λ xs ys. ap (λ ss. numbered (buffers_line_words (record u { sessions = ss; buffers = u.buffers ++ ys })) 0 u.setup.buffers) (append_assoc u.sessions (x.name ∷ []) xs) ∙ o.buffer_words (x.name ∷ xs) ys;
+      pair_words = λ xs ys. ap (λ ss. numbered (pair_line_words (record u { sessions = ss; pairs = u.pairs ++ ys })) 0 u.setup.pairs) (append_assoc u.sessions (x.name ∷ []) xs) ∙ o.pair_words (x.name ∷ xs) ys;
+      fence_words = λ xs ys. ap (λ ss. numbered (fence_line_words (record u { sessions = ss; fences = u.fences ++ ys })) 0 u.setup.fences) (append_assoc u.sessions (x.name ∷ []) xs) ∙ o.fence_words (x.name ∷ xs) ys;
+      buffer_names = o.buffer_names;
+      pair_names = o.pair_names;
+      fence_names = o.fence_names;
+      all_d = o.all_d;
+      all_s = AllLines-append o.s (ws ∷ []) o.all_s (good, tt);
+      all_b = o.all_b;
+      all_p = o.all_p;
+      all_f = o.all_f;
+      fits = (let e = room_of-append o.s (ws ∷ []) in let h = o.fits in omega arith);
+    })
+
+pub insert_buffers : (u : Script) (ws : List Word) (t : Script) (k : ℕ) → IsLine ws → Ordered u k → BuffersStep u ws t → Ordered t (k + 1 + length (spelled ws))
+insert_buffers u ws t k good o x =
+    let P : Script → Type 0 = λ v. Ordered v (k + 1 + length (spelled ws)) in
+    let t1 = with_buffers u x.name x.decl in
+    let y : Step u ws t1 = buffers_step (record { name = x.name; owner = x.owner; a = x.a; b = x.b; c = x.c; decl = x.decl; begins = x.begins; room = x.room; fresh = x.fresh; owned = x.owned; count = x.count; width = x.width; height = x.height; made = refl }) in
+    let b4 = bubble 4 o.u3 u t1 o.f ws o.fences y (lit< tt) in
+    let b3 = bubble 3 o.u2 o.u3 b4.mid o.p ws o.pairs b4.first (let e = b4.first_sort in omega arith) in
+    let chain = chain_more 2 o.u1 o.u2 b3.mid o.b ws o.buffers b3.first (let e = b3.first_sort in omega arith) in
+    let line : (xs ys : List Word) → buffers_line_words (record t1 { sessions = u.sessions ++ xs; buffers = (u.buffers ++ x.name ∷ []) ++ ys }) (0 + length u.setup.buffers) x.decl ≡ ws = λ xs ys. buffers_line u xs ys x o.buffer_names in
+    subst P (sym x.made) (record {
+      d = o.d;
+      s = o.s;
+      b = o.b ++ ws ∷ [];
+      p = o.p;
+      f = o.f;
+      u0 = o.u0;
+      u1 = o.u1;
+      u2 = b3.mid;
+      u3 = b4.mid;
+      sizes = o.sizes;
+      sessions = o.sessions;
+      buffers = chain;
+      pairs = b3.behind;
+      fences = b4.behind;
+      size_words = o.size_words;
+      session_words = o.session_words;
+      probes = o.probes;
+      buffer_words = λ xs ys. numbered-append (buffers_line_words (record t1 { sessions = u.sessions ++ xs; buffers = (u.buffers ++ x.name ∷ []) ++ ys })) 0 u.setup.buffers (x.decl ∷ []) ∙ ap (λ l. l ++ buffers_line_words (record t1 { sessions = u.sessions ++ xs; buffers = (u.buffers ++ x.name ∷ []) ++ ys }) (0 + length u.setup.buffers) x.decl ∷ []) (ap (λ ns. numbered (buffers_line_words (record u { sessions = u.sessions ++ xs; buffers = ns })) 0 u.setup.buffers) (append_assoc u.buffers (x.name ∷ []) ys) ∙ o.buffer_words xs (x.name ∷ ys)) ∙ ap (λ v. o.b ++ v ∷ []) (line xs ys);
+      pair_words = o.pair_words;
+      fence_words = o.fence_words;
+      buffer_names = omega (arith, length-append u.setup.buffers (x.decl ∷ []), length-append u.buffers (x.name ∷ []), o.buffer_names);
+      pair_names = o.pair_names;
+      fence_names = o.fence_names;
+      all_d = o.all_d;
+      all_s = o.all_s;
+      all_b = AllLines-append o.b (ws ∷ []) o.all_b (good, tt);
+      all_p = o.all_p;
+      all_f = o.all_f;
+      fits = (let e = room_of-append o.b (ws ∷ []) in let h = o.fits in omega arith);
+    })
+
+pub insert_pair : (u : Script) (ws : List Word) (t : Script) (k : ℕ) → IsLine ws → Ordered u k → PairStep u ws t → Ordered t (k + 1 + length (spelled ws))
+insert_pair u ws t k good o x =
+    let P : Script → Type 0 = λ v. Ordered v (k + 1 + length (spelled ws)) in
+    let t1 = with_pair u x.name x.decl in
+    let y : Step u ws t1 = pair_step (record { name = x.name; x = x.x; y = x.y; decl = x.decl; begins = x.begins; room = x.room; fresh = x.fresh; single = x.single; viewport = x.viewport; view = x.view; made = refl }) in
+    let b4 = bubble 4 o.u3 u t1 o.f ws o.fences y (lit< tt) in
+    let chain = chain_more 3 o.u2 o.u3 b4.mid o.p ws o.pairs b4.first (let e = b4.first_sort in omega arith) in
+    let line : (xs ys : List Word) → pair_line_words (record t1 { sessions = u.sessions ++ xs; pairs = (u.pairs ++ x.name ∷ []) ++ ys }) (0 + length u.setup.pairs) x.decl ≡ ws = λ xs ys. pair_line u xs ys x o.pair_names in
+    subst P (sym x.made) (record {
+      d = o.d;
+      s = o.s;
+      b = o.b;
+      p = o.p ++ ws ∷ [];
+      f = o.f;
+      u0 = o.u0;
+      u1 = o.u1;
+      u2 = o.u2;
+      u3 = b4.mid;
+      sizes = o.sizes;
+      sessions = o.sessions;
+      buffers = o.buffers;
+      pairs = chain;
+      fences = b4.behind;
+      size_words = o.size_words;
+      session_words = o.session_words;
+      probes = o.probes;
+      buffer_words = o.buffer_words;
+      pair_words = λ xs ys. numbered-append (pair_line_words (record t1 { sessions = u.sessions ++ xs; pairs = (u.pairs ++ x.name ∷ []) ++ ys })) 0 u.setup.pairs (x.decl ∷ []) ∙ ap (λ l. l ++ pair_line_words (record t1 { sessions = u.sessions ++ xs; pairs = (u.pairs ++ x.name ∷ []) ++ ys }) (0 + length u.setup.pairs) x.decl ∷ []) (ap (λ ns. numbered (pair_line_words (record u { sessions = u.sessions ++ xs; pairs = ns })) 0 u.setup.pairs) (append_assoc u.pairs (x.name ∷ []) ys) ∙ o.pair_words xs (x.name ∷ ys)) ∙ ap (λ v. o.p ++ v ∷ []) (line xs ys);
+      fence_words = o.fence_words;
+      buffer_names = o.buffer_names;
+      pair_names = omega (arith, length-append u.setup.pairs (x.decl ∷ []), length-append u.pairs (x.name ∷ []), o.pair_names);
+      fence_names = o.fence_names;
+      all_d = o.all_d;
+      all_s = o.all_s;
+      all_b = o.all_b;
+      all_p = AllLines-append o.p (ws ∷ []) o.all_p (good, tt);
+      all_f = o.all_f;
+      fits = (let e = room_of-append o.p (ws ∷ []) in let h = o.fits in omega arith);
+    })
+
+pub insert_fence : (u : Script) (ws : List Word) (t : Script) (k : ℕ) → IsLine ws → Ordered u k → FenceStep u ws t → Ordered t (k + 1 + length (spelled ws))
+insert_fence u ws t k good o x =
+    let P : Script → Type 0 = λ v. Ordered v (k + 1 + length (spelled ws)) in
+    let t1 = with_fence u x.name x.decl in
+    let y : Step u ws t1 = fence_step (record { name = x.name; rest = x.rest; decl = x.decl; begins = x.begins; room = x.room; fresh = x.fresh; owners = x.owners; made = refl }) in
+    let chain = chain_more 4 o.u3 u t1 o.f ws o.fences y (lit≤ tt) in
+    let line : (xs ys : List Word) → fence_line_words (record t1 { sessions = u.sessions ++ xs; fences = (u.fences ++ x.name ∷ []) ++ ys }) (0 + length u.setup.fences) x.decl ≡ ws = λ xs ys. fence_line u xs ys x o.fence_names in
+    subst P (sym x.made) (record {
+      d = o.d;
+      s = o.s;
+      b = o.b;
+      p = o.p;
+      f = o.f ++ ws ∷ [];
+      u0 = o.u0;
+      u1 = o.u1;
+      u2 = o.u2;
+      u3 = o.u3;
+      sizes = o.sizes;
+      sessions = o.sessions;
+      buffers = o.buffers;
+      pairs = o.pairs;
+      fences = chain;
+      size_words = o.size_words;
+      session_words = o.session_words;
+      probes = o.probes;
+      buffer_words = o.buffer_words;
+      pair_words = o.pair_words;
+      fence_words = λ xs ys. numbered-append (fence_line_words (record t1 { sessions = u.sessions ++ xs; fences = (u.fences ++ x.name ∷ []) ++ ys })) 0 u.setup.fences (x.decl ∷ []) ∙ ap (λ l. l ++ fence_line_words (record t1 { sessions = u.sessions ++ xs; fences = (u.fences ++ x.name ∷ []) ++ ys }) (0 + length u.setup.fences) x.decl ∷ []) (ap (λ ns. numbered (fence_line_words (record u { sessions = u.sessions ++ xs; fences = ns })) 0 u.setup.fences) (append_assoc u.fences (x.name ∷ []) ys) ∙ o.fence_words xs (x.name ∷ ys)) ∙ ap (λ v. o.f ++ v ∷ []) (line xs ys);
+      buffer_names = o.buffer_names;
+      pair_names = o.pair_names;
+      fence_names = omega (arith, length-append u.setup.fences (x.decl ∷ []), length-append u.fences (x.name ∷ []), o.fence_names);
+      all_d = o.all_d;
+      all_s = o.all_s;
+      all_b = o.all_b;
+      all_p = o.all_p;
+      all_f = AllLines-append o.f (ws ∷ []) o.all_f (good, tt);
+      fits = (let e = room_of-append o.f (ws ∷ []) in let h = o.fits in omega arith);
+    })
+
+pub insert : (u : Script) (ws : List Word) (t : Script) (k : ℕ) → IsLine ws → Ordered u k → Step u ws t → Ordered t (k + 1 + length (spelled ws))
+insert u ws t k good o (size_step x) = insert_size u ws t k good o x
+insert u ws t k good o (session_step x) = insert_session u ws t k good o x
+insert u ws t k good o (buffers_step x) = insert_buffers u ws t k good o x
+insert u ws t k good o (pair_step x) = insert_pair u ws t k good o x
+insert u ws t k good o (fence_step x) = insert_fence u ws t k good o x
+
+pub lines_kept : (u : Script) (ws : List Word) (t : Script) → Step u ws t → t.lines ≡ u.lines
+lines_kept u ws t (size_step x) = ap (λ v. v.lines) x.made
+lines_kept u ws t (session_step x) = ap (λ v. v.lines) x.made
+lines_kept u ws t (buffers_step x) = ap (λ v. v.lines) x.made
+lines_kept u ws t (pair_step x) = ap (λ v. v.lines) x.made
+lines_kept u ws t (fence_step x) = ap (λ v. v.lines) x.made

@@ -1,0 +1,20 @@
+-- Lemmas that other crates may cite.
+pub mod AllOrSome
+pub mod EventsLocal
+pub mod ListLemmas
+pub mod Locality
+pub mod MoreRuns
+pub mod Owned
+pub mod OwnedTree
+pub mod Quiet
+pub mod RepliesLocal
+pub mod Runs
+pub mod SameWatchers
+pub mod Samples
+pub mod ShellRun
+pub mod ShownList
+pub mod ShownOwned
+pub mod ShownSteps
+pub mod Still
+pub mod WatchLocal
+pub mod Watchers

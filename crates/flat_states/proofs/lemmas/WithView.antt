@@ -1,0 +1,83 @@
+-- The sessions that have a view, as flags.
+use Rattle.std.proofs.Common.{◌≡◌, ◌≢◌, ◌∙◌, sym, ℕ, zero, suc, ◌+◌, ◌-◌, ◌<◌, ◌≤◌, Bool, true, false, List, [], ◌∷◌, length, refl, arith, ap, All, slice_index_or, slice_set, inl, inr, ◌⊎◌}
+use Rattle.std.specs.Prelude.{◌==◌, ◌&&◌, not, nat_le, IsTrue}
+use Rattle.std.proofs.lemmas.Bool.Decides.{eqb_tells}
+use Rattle.std.proofs.lemmas.List.{get_or_default, get_or-set_other, get_or-set_same}
+use Rattle.flat_base.specs.declared.ids.SessionNo.{SessionNo}
+use Rattle.flat_scene.specs.declared.frames.SessionSet.{SessionSet}
+use Rattle.flat_scene.specs.declared.journal.Entry.{Entry}
+use Rattle.flat_scene.specs.declared.setup.Setup.{Setup}
+use Rattle.flat_scene.specs.Frames.{taken}
+use Rattle.flat_scene.specs.History.{is_closed}
+use Rattle.flat_scene.specs.Setups.{is_declared}
+use Rattle.flat_topology.specs.Views.{is_member}
+use Rattle.flat_states.specs.declared.clock.Clock.{Clock}
+use Rattle.flat_states.specs.declared.state.SessionState.{SessionState}
+use Rattle.flat_states.specs.Machines.{Stands, HasRoom}
+use Rattle.flat_rules.specs.Ends.{has_view}
+use Rattle.flat_states.specs.Kept.{IsKept, has_view_in}
+use Rattle.flat_states.specs.Logs.{Logged}
+use Rattle.flat_states.specs.Seen.{seen_of, has_viewed, stood_at}
+use Rattle.flat_states.proofs.lemmas.Counts.{declared-some, kept-session, seen-count, taken-kept}
+use Rattle.flat_states.proofs.lemmas.HasView.{has-view}
+use Rattle.flat_states.proofs.lemmas.Opened.{few-declared}
+
+-- ---- one flag after the other
+
+at-last : {A B : Type 0} (f : A → B) (xs : List A) (bs : List B) (i k : ℕ) (x d : A) (e : B) → i < length bs → i < length xs → x ≡ slice_index_or xs i x → k < i + 1
+    → (k < i → slice_index_or bs k e ≡ f (slice_index_or xs k d)) → ((i == k) ≡ true) × (i ≡ k) ⊎ ((i == k) ≡ false) × (i ≢ k)
+    → slice_index_or (slice_set bs i (f x)) k e ≡ f (slice_index_or xs k d)
+at-last f xs bs i k x d e fits within is below before (inl p) =
+    let here : slice_index_or (slice_set bs i (f x)) i e ≡ f (slice_index_or xs i d) = get_or-set_same bs i (f x) e fits ∙ ap f (is ∙ get_or_default xs i x d within) in
+    rw (← p.1) here
+at-last f xs bs i k x d e fits within is below before (inr p) =
+    let differ : i ≢ k = p.1 in
+    let less : k < i = omega (arith, below, differ) in
+    let other : k ≢ i = λ same. differ (sym same) in
+    get_or-set_other bs i k (f x) e other ∙ before less
+
+pub flag-next : {A B : Type 0} (f : A → B) (xs : List A) (bs : List B) (i : ℕ) (x : A) (e : B) → i < length bs → i < length xs → x ≡ slice_index_or xs i x
+    → ((k : ℕ) (d : A) → k < i → slice_index_or bs k e ≡ f (slice_index_or xs k d))
+    → (k : ℕ) (d : A) → k < i + 1 → slice_index_or (slice_set bs i (f x)) k e ≡ f (slice_index_or xs k d)
+flag-next f xs bs i x e fits within is each k d below = at-last f xs bs i k x d e fits within is below (each k d) (eqb_tells i k)
+
+-- ---- the flags of all sessions
+
+view-kept : (setup : Setup) (h : List Entry) (s : SessionNo) (state : SessionState) → IsKept setup (seen_of setup h s) state
+    → has_view_in state ≡ (not (is_closed s h) && has_viewed s h && nat_le (taken setup h s) (stood_at s h))
+view-kept setup h s state kept = rw (kept.closed, taken-kept setup (seen_of setup h s) state kept (seen-count setup h s), kept.account) refl
+
+member-at : (set : SessionSet) (n : ℕ) → 0 < n → is_member set n ≡ slice_index_or set.has (n - 1) false
+member-at set zero some = absurd (omega (arith, some))
+member-at set (suc n) some = let less : suc n - 1 ≡ n = omega arith in ap (λ (k : ℕ). slice_index_or set.has k false) (sym less)
+
+at-session : (setup : Setup) (h : List Entry) (clock : Clock) (fences views : List Bool) (sessions : List SessionState) (s : SessionNo) (state : SessionState) → Stands setup h clock fences views sessions
+    → IsTrue (is_declared setup s) → state ≡ slice_index_or sessions (s.0 - 1) state → has_view_in state ≡ has_view setup h s
+at-session setup h clock fences views sessions s state stands declared is =
+    view-kept setup h s state (kept-session setup h clock fences views sessions s state stands declared is) ∙ sym (has-view setup s h stands.legal)
+
+some-state : {A : Type 0} (xs : List A) (i : ℕ) → i < length xs → (x : A) × (x ≡ slice_index_or xs i x)
+some-state [] i below = absurd (omega (arith, below))
+some-state (y ∷ xs) i below = (slice_index_or (y ∷ xs) i y, get_or_default (y ∷ xs) i y (slice_index_or (y ∷ xs) i y) below)
+
+pub members : (setup : Setup) (h : List Entry) (clock : Clock) (fences views : List Bool) (sessions : List SessionState) (set : SessionSet) → Stands setup h clock fences views sessions
+    → ((i : ℕ) (d : SessionState) → i < length sessions → slice_index_or set.has i false ≡ has_view_in (slice_index_or sessions i d))
+    → (s : SessionNo) → is_declared setup s ≡ true → is_member set s.0 ≡ has_view setup h s
+members setup h clock fences views sessions set stands each s declared =
+    let here = declared-some s.0 setup.sessions declared in
+    let count : length sessions ≡ setup.sessions = stands.count in
+    let below : s.0 - 1 < length sessions = omega (arith, here.0, here.1, count) in
+    let one = some-state sessions (s.0 - 1) below in
+    member-at set s.0 here.0 ∙ each (s.0 - 1) one.0 below ∙ ap has_view_in (sym one.1) ∙ at-session setup h clock fences views sessions s one.0 stands declared one.1
+
+pub few-states : (setup : Setup) (h : List Entry) (clock : Clock) (fences views : List Bool) (sessions : List SessionState) (shares : List ℕ) (log : Logged) (owed : ℕ) {dues : ℕ} → Stands setup h clock fences views sessions
+    → HasRoom setup shares log owed dues → length sessions ≤ 16
+few-states setup h clock fences views sessions shares log owed {dues} stands room = omega (arith, stands.count, (few-declared setup room.limits).0)
+
+pub few-going : (setup : Setup) (h : List Entry) (clock : Clock) (fences views : List Bool) (sessions : List SessionState) → Stands setup h clock fences views sessions → All (λ state. length state.going.items ≤ 5) sessions
+few-going setup h clock fences views sessions stands i d below = (stands.each i d below).goes
+
+pub none_others : (setup : Setup) (h : List Entry) (clock : Clock) (fences views : List Bool) (sessions : List SessionState) (set : SessionSet) → Stands setup h clock fences views sessions
+    → ((i : ℕ) → length sessions ≤ i → slice_index_or set.has i false ≡ false) → (s : ℕ) → setup.sessions < s → is_member set s ≡ false
+none_others setup h clock fences views sessions set stands none zero above = absurd (omega arith)
+none_others setup h clock fences views sessions set stands none (suc s) above = let count : length sessions ≡ setup.sessions = stands.count in none s (omega arith)
