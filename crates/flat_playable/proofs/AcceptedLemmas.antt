@@ -7,17 +7,18 @@ use Rattle.flat_base.specs.declared.limits.TheConstants.{SCRIPT_BYTES_MAX}
 use Rattle.flat_scene.specs.declared.script.ScriptLine.{ScriptLine}
 use Rattle.flat_scene.specs.Setups.{is_setup}
 use Rattle.flat_text.specs.Pieces.{is_feed, words_of, lines_of, without_empty_end}
-use Rattle.flat_script.specs.declared.script.Script.{Script}
+use Rattle.flat_places.specs.declared.script.Script.{Script}
 use Rattle.flat_script.specs.declared.script.ScriptFault.{ScriptFault}
-use Rattle.flat_script.specs.declared.script.Part.TheVariants as part
-use Rattle.flat_script.specs.Known.{known_words}
-use Rattle.flat_script.specs.Forms.{Word, mapped, whole, give}
-use Rattle.flat_script.specs.Head.{empty, first_line, head_line, run_line, is_ready}
-use Rattle.flat_script.specs.Body.{body_line, is_open}
-use Rattle.flat_script.specs.Grammar.{Sofar, words_read, lines_read, IsScript}
-use Rattle.flat_script.proofs.lemmas.FormLemmas.{mapped_ok, unless_ok}
+use Rattle.flat_forms.specs.declared.lines.Part.TheVariants as part
+use Rattle.flat_places.specs.Known.{known_words}
+use Rattle.flat_places.specs.Forms.{Word, mapped, whole, give}
+use Rattle.flat_forms.specs.Head.{empty, first_line, head_line, run_line, is_ready}
+use Rattle.flat_forms.specs.Body.{body_line, is_open}
+use Rattle.flat_forms.specs.Lines.{Sofar, words_read}
+use Rattle.flat_script.specs.Grammar.{lines_read, IsScript}
+use Rattle.flat_forms.proofs.lemmas.FormLemmas.{mapped_ok, unless_ok}
 use Rattle.flat_print.proofs.lemmas.AgainLemmas.{with_lines, body_again}
-use Rattle.flat_script.proofs.lemmas.FoundLemmas.{step_found}
+use Rattle.flat_forms.proofs.lemmas.FoundLemmas.{step_found}
 use Rattle.flat_playable.specs.Playable.{is_playable, rise_from, frames_close, is_played}
 use Rattle.flat_playable.proofs.BodyLemmas.{FramesKept, open_is, BodyKept, body_empty, body_skipped, body_line_kept}
 use Rattle.flat_playable.proofs.HeadLemmas.{HeadKept, head_empty, step_kept, setup_given}

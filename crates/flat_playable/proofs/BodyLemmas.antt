@@ -2,10 +2,10 @@
 use Rattle.std.proofs.Common.{◌≡◌, ℕ, ◌+◌, ◌<◌, ◌≤◌, ◌&&◌, not, max, Bool, true, false, cond, nat_lt, nat_le, List, [], ◌∷◌, ◌++◌, length, None, Ok, Err, refl, sym, ◌∙◌, ap, arith, append_assoc, append-nil, length-append, subst}
 use Rattle.std.specs.List.{list_all, filter_map}
 use Rattle.std.specs.Fmt.{decimal}
-use Rattle.std.proofs.lemmas.List.Folds.{list_all-append}
 use Rattle.std.proofs.lemmas.List.Elements.{filter_map-append}
 use Rattle.std.proofs.lemmas.Grind.{fold-append}
 use Rattle.std.proofs.lemmas.Bool.Decides.{nat_tests}
+use Rattle.flat_base.proofs.lemmas.Tests.{all-more}
 use Rattle.flat_base.specs.declared.ids.Actor.{Actor}
 use Rattle.flat_base.specs.declared.ids.Actor.TheVariants.{Display, Session, Probe}
 use Rattle.flat_scene.specs.declared.script.ScriptLine.{ScriptLine}
@@ -13,15 +13,15 @@ use Rattle.flat_scene.specs.declared.script.DisplayLine.{DisplayLine}
 use Rattle.flat_scene.specs.declared.script.DisplayLine.TheVariants as display
 use Rattle.flat_scene.specs.declared.script.Body.{Body}
 use Rattle.flat_scene.specs.declared.script.Body.TheVariants as body
-use Rattle.flat_script.specs.declared.script.Script.{Script}
-use Rattle.flat_script.specs.Known.{known_words}
-use Rattle.flat_script.specs.Forms.{Word, Reading, mapped, unless_kind, whole, give}
-use Rattle.flat_script.specs.Body.{time_begun, ends_frame, begin_times, dones, is_open, greatest, in_order, begin_place, display_line, session_line, probe_line, actor_line, with_line}
+use Rattle.flat_places.specs.declared.script.Script.{Script}
+use Rattle.flat_places.specs.Known.{known_words}
+use Rattle.flat_places.specs.Forms.{Word, Reading, mapped, unless_kind, whole, give}
+use Rattle.flat_forms.specs.Body.{time_begun, ends_frame, begin_times, dones, is_open, greatest, in_order, begin_place, display_line, session_line, probe_line, actor_line, with_line}
 use Rattle.flat_print.specs.Print.{display_words}
-use Rattle.flat_script.proofs.lemmas.FormLemmas.{place_ok, whole_ok, unless_ok, mapped_ok}
+use Rattle.flat_forms.proofs.lemmas.FormLemmas.{place_ok, whole_ok, unless_ok, mapped_ok}
 use Rattle.flat_print.proofs.lemmas.BodyWordLemmas.{display_spelt}
 use Rattle.flat_print.proofs.lemmas.AgainLemmas.{with_lines, Again}
-use Rattle.flat_script.proofs.lemmas.ParserLemmas.{dones_more}
+use Rattle.flat_forms.proofs.lemmas.ParserLemmas.{dones_more}
 use Rattle.flat_playable.specs.Playable.{rise_from, frames_close, is_played}
 use Rattle.flat_playable.proofs.PlayedLemmas.{actor_declared, line_played}
 
@@ -195,9 +195,6 @@ below_count n c few = grind (arith, nat_tests)
 above_last : (last n : ℕ) → last < n → nat_lt last n ≡ true
 above_last last n less = grind (arith, nat_tests)
 
-one_more : (p : ScriptLine → Bool) (us : List ScriptLine) (x : ScriptLine) → list_all p us ≡ true → p x ≡ true → list_all p (us ++ x ∷ []) ≡ true
-one_more p us x all one = list_all-append p us (x ∷ []) ∙ ap (λ b. b && (p x && true)) all ∙ ap (λ b. b && true) one
-
 pub body_line_kept : (h : Script) (us : List ScriptLine) (n : ℕ) (words : List Word) (u : Script) (a : Again h us us n n words u) → h.setup.sessions ≡ length h.sessions → h.probes ≡ [] → BodyKept h us n → BodyKept h (us ++ record { number = n; actor = a.actor; body = a.body } ∷ []) (n + 1)
 body_line_kept h us n words u a many none kept =
     let x : ScriptLine = record { number = n; actor = a.actor; body = a.body } in
@@ -205,7 +202,7 @@ body_line_kept h us n words u a many none kept =
       last = n;
       below = omega arith;
       rise = λ later. ap (rise_from 0) (append_assoc us (x ∷ []) later) ∙ kept.rise (x ∷ later) ∙ ap (λ b. b && rise_from n later) (above_last kept.last n kept.below);
-      counted = λ c few. one_more (λ next. nat_le next.number c) us x (kept.counted c (omega arith)) (below_count n c few);
+      counted = λ c few. all-more (λ next. nat_le next.number c) us x (kept.counted c (omega arith)) (below_count n c few);
       frames = line_frames (with_lines h us) n a.actor a.rest a.body kept.frames.opened kept.frames.time kept.frames.kept a.line;
-      played = one_more (λ next. is_played h.setup next.actor next.body) us x kept.played (line_played (with_lines h us) a.actor a.rest a.body many (actor_declared h a.first a.actor many none a.named) a.line);
+      played = all-more (λ next. is_played h.setup next.actor next.body) us x kept.played (line_played (with_lines h us) a.actor a.rest a.body many (actor_declared h a.first a.actor many none a.named) a.line);
     }

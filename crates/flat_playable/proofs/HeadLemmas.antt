@@ -3,9 +3,10 @@ use Rattle.std.proofs.Common.{◌≡◌, ℕ, ◌+◌, ◌<◌, ◌≤◌, ◌==
 use Rattle.std.specs.Prelude.{filter}
 use Rattle.std.specs.List.{list_all, list_any}
 use Rattle.std.specs.Str.{bytes_eq}
-use Rattle.std.proofs.lemmas.List.Folds.{list_all-append, list_any-append}
+use Rattle.std.proofs.lemmas.List.Folds.{list_any-append}
 use Rattle.std.proofs.lemmas.List.Elements.{filter-append}
 use Rattle.std.proofs.lemmas.Bool.Decides.{nat_tests}
+use Rattle.flat_base.proofs.lemmas.Tests.{all-more, all-also}
 use Rattle.flat_base.specs.declared.ids.Actor.{Actor}
 use Rattle.flat_base.specs.declared.ids.Actor.TheVariants.{Display, Session, Probe}
 use Rattle.flat_base.specs.declared.ids.SessionNo.{SessionNo}
@@ -16,25 +17,16 @@ use Rattle.flat_scene.specs.declared.setup.FenceDecl.{FenceDecl}
 use Rattle.flat_scene.specs.History.{is_display}
 use Rattle.flat_scene.specs.Setups.{is_within, is_declared, may_own, is_pair_declared, is_buffer_declared, is_fence_declared, owners_declared, is_within_limits, has_one_display_pair, is_setup}
 use Rattle.flat_text.specs.Number.{natural}
-use Rattle.flat_script.specs.declared.script.Script.{Script}
-use Rattle.flat_script.specs.Forms.{Word, whole, each, one_or_more, ◌<$>◌}
-use Rattle.flat_script.specs.Names.{session_named, owner_named, is_actor}
-use Rattle.flat_script.specs.Places.{number_from}
-use Rattle.flat_script.specs.Head.{empty, size, side, owner_word, has_display, has_display_pair, is_ready}
-use Rattle.flat_script.proofs.lemmas.FormLemmas.{both_ok, or_kind_ok, whole_ok, apply_ok, map_ok, place_ok}
-use Rattle.flat_script.proofs.lemmas.StepLemmas.{SizeStep, SessionStep, BuffersStep, PairStep, FenceStep, Step, size_step, session_step, buffers_step, pair_step, fence_step}
+use Rattle.flat_places.specs.declared.script.Script.{Script}
+use Rattle.flat_places.specs.Forms.{Word, whole, each, one_or_more, ◌<$>◌}
+use Rattle.flat_places.specs.Names.{session_named, owner_named, is_actor}
+use Rattle.flat_places.specs.Places.{number_from, owner_word, has_display_pair}
+use Rattle.flat_forms.specs.Head.{empty, size, side, has_display, is_ready}
+use Rattle.flat_forms.proofs.lemmas.FormLemmas.{both_ok, or_kind_ok, whole_ok, apply_ok, map_ok, place_ok}
+use Rattle.flat_forms.proofs.lemmas.StepLemmas.{SizeStep, SessionStep, BuffersStep, PairStep, FenceStep, Step, size_step, session_step, buffers_step, pair_step, fence_step}
 use Rattle.flat_playable.proofs.PlayedLemmas.{within_of, session_declared, owner_declared}
 use Rattle.std.proofs.lemmas.Bool.{and_parts, and_from}
 use Rattle.flat_print.proofs.lemmas.OrderLemmas.{test_passes}
-
--- tests
-
-all_more : {A : Type 0} (p q : A → Bool) (xs : List A) → ((x : A) → p x ≡ true → q x ≡ true) → list_all p xs ≡ true → list_all q xs ≡ true
-all_more p q [] more all = refl
-all_more p q (x ∷ xs) more all = let b = and_parts (p x) (list_all p xs) all in and_from (q x) (list_all q xs) (more x b.0) (all_more p q xs more b.1)
-
-one_more : {A : Type 0} (p : A → Bool) (xs : List A) (x : A) → list_all p xs ≡ true → p x ≡ true → list_all p (xs ++ x ∷ []) ≡ true
-one_more p xs x all one = list_all-append p xs (x ∷ []) ∙ and_from _ _ all (and_from (p x) true one refl)
 
 -- numbers of a range
 
@@ -86,7 +78,7 @@ buffer_more setup d is =
 fence_more : (setup : Setup) (d : FenceDecl) → is_fence_declared setup d ≡ true → is_fence_declared (record setup { sessions = setup.sessions + 1 }) d ≡ true
 fence_more setup d is =
     let b = and_parts (nat_lt 0 (length d.owners)) (list_all (may_own setup) d.owners) is in
-    and_from _ _ b.0 (all_more (may_own setup) (may_own (record setup { sessions = setup.sessions + 1 })) d.owners (owner_more setup) b.1)
+    and_from _ _ b.0 (all-also (may_own setup) (may_own (record setup { sessions = setup.sessions + 1 })) (owner_more setup) d.owners b.1)
 
 -- what a head keeps
 pub record HeadKept (u : Script) : Type 0 where
@@ -174,9 +166,9 @@ session_kept u ws t x o =
       fence_names = o.fence_names;
       few_fences = o.few_fences;
       sizes = o.sizes;
-      pairs_owned = all_more (is_pair_declared u.setup) (is_pair_declared more) u.setup.pairs (pair_more u.setup) o.pairs_owned;
-      buffers_owned = all_more (is_buffer_declared u.setup) (is_buffer_declared more) u.setup.buffers (buffer_more u.setup) o.buffers_owned;
-      fences_owned = all_more (is_fence_declared u.setup) (is_fence_declared more) u.setup.fences (fence_more u.setup) o.fences_owned;
+      pairs_owned = all-also (is_pair_declared u.setup) (is_pair_declared more) (pair_more u.setup) u.setup.pairs o.pairs_owned;
+      buffers_owned = all-also (is_buffer_declared u.setup) (is_buffer_declared more) (buffer_more u.setup) u.setup.buffers o.buffers_owned;
+      fences_owned = all-also (is_fence_declared u.setup) (is_fence_declared more) (fence_more u.setup) u.setup.fences o.fences_owned;
       shown = o.shown;
     })
 
@@ -201,7 +193,7 @@ buffers_kept u ws t x o =
       few_fences = o.few_fences;
       sizes = o.sizes;
       pairs_owned = o.pairs_owned;
-      buffers_owned = one_more (is_buffer_declared u.setup) u.setup.buffers x.decl o.buffers_owned good;
+      buffers_owned = all-more (is_buffer_declared u.setup) u.setup.buffers x.decl o.buffers_owned good;
       fences_owned = o.fences_owned;
       shown = o.shown;
     })
@@ -267,7 +259,7 @@ pair_kept u ws t x o =
       fence_names = o.fence_names;
       few_fences = o.few_fences;
       sizes = o.sizes;
-      pairs_owned = one_more (is_pair_declared u.setup) u.setup.pairs x.decl o.pairs_owned good;
+      pairs_owned = all-more (is_pair_declared u.setup) u.setup.pairs x.decl o.pairs_owned good;
       buffers_owned = o.buffers_owned;
       fences_owned = o.fences_owned;
       shown = shown_more u.setup.pairs x.decl (has_display_pair u) (is_display x.decl.viewport) refl refl (pair_alone u x.x x.decl.viewport (is_display x.decl.viewport) refl x.viewport x.single) o.shown;
@@ -307,7 +299,7 @@ fence_kept u ws t x o =
       sizes = o.sizes;
       pairs_owned = o.pairs_owned;
       buffers_owned = o.buffers_owned;
-      fences_owned = one_more (is_fence_declared u.setup) u.setup.fences x.decl o.fences_owned (owners_some u x.rest x.decl o.sessions x.owners);
+      fences_owned = all-more (is_fence_declared u.setup) u.setup.fences x.decl o.fences_owned (owners_some u x.rest x.decl o.sessions x.owners);
       shown = o.shown;
     })
 

@@ -34,19 +34,19 @@ use Rattle.flat_scene.specs.declared.script.Cond.TheVariants as asks
 use Rattle.flat_scene.specs.History.{is_session}
 use Rattle.flat_scene.specs.Setups.{is_within, is_declared, may_own}
 use Rattle.flat_rules.specs.Legal.{owns_view, owns_viewport, owns_fence, owns_buffers, is_fence}
-use Rattle.flat_script.specs.declared.script.Script.{Script}
-use Rattle.flat_script.specs.Known.{known_words}
-use Rattle.flat_script.specs.Forms.{Word, Form, Reading, both, mapped, unless_kind, each, one_or_more, whole, optional, ◌<$>◌, ◌<*>◌}
-use Rattle.flat_script.specs.Names.{place_of, session_named, owner_named, actor_named, is_actor}
-use Rattle.flat_script.specs.Places.{time, u32, content, session, fence, fence_word, owned, view_end, viewport_end, inset, collection}
-use Rattle.flat_script.specs.Calls.{call_form, inset_or_none}
-use Rattle.flat_script.specs.declared.calls.CallName.TheVariants.{CreateViewport, CreateImage}
-use Rattle.flat_script.specs.Lists.{ends_list}
-use Rattle.flat_script.specs.Body.{fence_lists, present, presents_asked, session_line, display_line, actor_line}
+use Rattle.flat_places.specs.declared.script.Script.{Script}
+use Rattle.flat_places.specs.Known.{known_words}
+use Rattle.flat_places.specs.Forms.{Word, Form, Reading, both, mapped, unless_kind, each, one_or_more, whole, optional, ◌<$>◌, ◌<*>◌}
+use Rattle.flat_places.specs.Names.{place_of, session_named, owner_named, actor_named, is_actor}
+use Rattle.flat_places.specs.Places.{time, u32, content, session, fence, fence_word, owned, view_end, viewport_end, inset, collection}
+use Rattle.flat_forms.specs.Calls.{call_form, inset_or_none}
+use Rattle.flat_forms.specs.declared.calls.CallName.TheVariants.{CreateViewport, CreateImage}
+use Rattle.flat_forms.specs.Lists.{ends_list}
+use Rattle.flat_forms.specs.Body.{fence_lists, present, presents_asked, session_line, display_line, actor_line}
 use Rattle.flat_print.specs.Print.{pair_word, buffers_word, session_word, numbers, call_fields, call_words, lists_words, session_words, display_words}
 use Rattle.flat_print.specs.Print.{fence_word as fence_name}
-use Rattle.flat_script.proofs.lemmas.FormLemmas.{apply_ok, map_ok, place_ok, whole_ok, unless_ok, or_kind_ok, mapped_ok, both_ok}
-use Rattle.flat_script.proofs.lemmas.ListLemmas.{pair_of, ListsOk, lists_ok}
+use Rattle.flat_forms.proofs.lemmas.FormLemmas.{apply_ok, map_ok, place_ok, whole_ok, unless_ok, or_kind_ok, mapped_ok, both_ok}
+use Rattle.flat_forms.proofs.lemmas.ListLemmas.{pair_of, ListsOk, lists_ok}
 use Rattle.flat_print.proofs.lemmas.BodyWordLemmas.{display_spelt, session_shown}
 use Rattle.flat_rules.specs.Owned.{is_played_call, is_played_condition, is_played_line, is_played_display}
 use Rattle.flat_playable.specs.Playable.{is_played}

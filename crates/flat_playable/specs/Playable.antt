@@ -12,7 +12,7 @@ use Rattle.flat_scene.specs.declared.script.ScriptLine.{ScriptLine}
 use Rattle.flat_scene.specs.declared.setup.Setup.{Setup}
 use Rattle.flat_scene.specs.Setups.{is_declared, is_setup}
 use Rattle.flat_rules.specs.Owned.{is_played_line, is_played_display}
-use Rattle.flat_script.specs.declared.script.Script.{Script}
+use Rattle.flat_places.specs.declared.script.Script.{Script}
 
 -- the numbers of lines rise, from above this one
 abbrev pub rise_from : ℕ → List ScriptLine → Bool

@@ -32,18 +32,17 @@ use Rattle.flat_scene.specs.declared.setup.PairDecl.{PairDecl}
 use Rattle.flat_scene.specs.declared.calls.Call.TheVariants as call
 use Rattle.flat_text.specs.Number.{natural, signed}
 use Rattle.flat_text.proofs.lemmas.NumberLemmas.{decimal-natural, signed_decimal-signed}
-use Rattle.flat_script.specs.declared.calls.CallName.{CallName}
-use Rattle.flat_script.specs.declared.calls.CallName.TheVariants.{CreateView, ReleaseView, CreateTransform, ReleaseTransform, SetTranslation, SetOrientation, SetScale, SetOpacity, SetClipBoundary, AddChild, RemoveChild, SetRootTransform, CreateViewport, SetViewportProperties, ReleaseViewport, CreateImage, SetImageSampleRegion, SetImageDestinationSize, SetImageBlendingFunction, SetImageFlip, SetImageOpacity, ReleaseImage, CreateFilledRect, SetSolidFill, ReleaseFilledRect, SetHitRegions, SetInfiniteHitRegion, SetContent, Clear}
-use Rattle.flat_script.specs.declared.script.Script.{Script}
-use Rattle.flat_script.specs.Forms.{Word, Form, Reading, unless_kind, both, mapped, whole, place, optional, ◌<$>◌, ◌<*>◌}
-use Rattle.flat_script.specs.Names.{place_of, is_actor}
-use Rattle.flat_script.specs.Places.{owned, number_below, i32, u32, colour, transform, content, choice, orientation, blend, flip, interaction, view_end, viewport_end, collection, fence, region, regions, int_rect, inset, fits_i32}
-use Rattle.flat_script.specs.Places.{fence_word as tested_fence}
-use Rattle.flat_script.specs.Calls.{call_form, call_named, call_names, text, no_inset, inset_or_none}
-use Rattle.flat_script.specs.Known.{known_words}
+use Rattle.flat_forms.specs.declared.calls.CallName.{CallName}
+use Rattle.flat_forms.specs.declared.calls.CallName.TheVariants.{CreateView, ReleaseView, CreateTransform, ReleaseTransform, SetTranslation, SetOrientation, SetScale, SetOpacity, SetClipBoundary, AddChild, RemoveChild, SetRootTransform, CreateViewport, SetViewportProperties, ReleaseViewport, CreateImage, SetImageSampleRegion, SetImageDestinationSize, SetImageBlendingFunction, SetImageFlip, SetImageOpacity, ReleaseImage, CreateFilledRect, SetSolidFill, ReleaseFilledRect, SetHitRegions, SetInfiniteHitRegion, SetContent, Clear}
+use Rattle.flat_places.specs.declared.script.Script.{Script}
+use Rattle.flat_places.specs.Forms.{Word, Form, Reading, unless_kind, both, mapped, whole, place, optional, ◌<$>◌, ◌<*>◌}
+use Rattle.flat_places.specs.Names.{place_of, is_actor}
+use Rattle.flat_places.specs.Places.{owned, number_below, i32, u32, colour, transform, content, choice, orientation, blend, flip, interaction, view_end, viewport_end, collection, fence, region, regions, int_rect, inset, fits_i32, fence_word as tested_fence}
+use Rattle.flat_forms.specs.Calls.{call_form, call_named, call_names, text, no_inset, inset_or_none}
+use Rattle.flat_places.specs.Known.{known_words}
 use Rattle.flat_print.specs.Print.{name_at, pair_word, buffers_word, fence_word, call_fields, call_name, rect_words, inset_words, region_words, orientation_number, blend_number, flip_number, interaction_number}
-use Rattle.flat_script.proofs.lemmas.FormLemmas.{mapped_ok, unless_ok, Gives, apply_ok, map_ok, place_ok, whole_ok, or_kind_ok, both_ok, Shown, shown_whole}
-use Rattle.flat_script.proofs.lemmas.ParserLemmas.{is_zero}
+use Rattle.flat_forms.proofs.lemmas.FormLemmas.{mapped_ok, unless_ok, Gives, apply_ok, map_ok, place_ok, whole_ok, or_kind_ok, both_ok, Shown, shown_whole}
+use Rattle.flat_forms.proofs.lemmas.ParserLemmas.{is_zero}
 
 -- a form that gives a value takes the words that spell it, whatever stands behind them
 pub record Spells {A : Type 0} (form : Form A) (spell : A → List Word) : Type 0 where

@@ -5,16 +5,16 @@ use Rattle.std.specs.Str.{bytes_eq}
 use Rattle.std.proofs.lemmas.Slice.Eq.{bytes_eq-Decides}
 use Rattle.flat_base.specs.declared.ids.Actor.{Actor}
 use Rattle.flat_base.specs.declared.ids.FenceNo.{FenceNo}
-use Rattle.flat_script.specs.declared.script.Script.{Script}
-use Rattle.flat_script.specs.Known.{known_words}
-use Rattle.flat_script.specs.Forms.{Word, Table, both, each, one_or_more, at_word}
-use Rattle.flat_script.specs.Places.{fence_word as tested_fence}
-use Rattle.flat_script.specs.Body.{fence_lists}
-use Rattle.flat_script.specs.Lists.{ends_list, behind_end}
+use Rattle.flat_places.specs.declared.script.Script.{Script}
+use Rattle.flat_places.specs.Known.{known_words}
+use Rattle.flat_places.specs.Forms.{Word, Table, both, each, one_or_more, at_word}
+use Rattle.flat_places.specs.Places.{fence_word as tested_fence}
+use Rattle.flat_forms.specs.Body.{fence_lists}
+use Rattle.flat_forms.specs.Lists.{ends_list, behind_end}
 use Rattle.flat_print.specs.Print.{fence_word, list_words}
-use Rattle.flat_script.proofs.lemmas.FormLemmas.{both_ok}
+use Rattle.flat_forms.proofs.lemmas.FormLemmas.{both_ok}
 use Rattle.flat_print.proofs.CallLemmas.{fence_spelt}
-use Rattle.flat_script.proofs.lemmas.ListLemmas.{stops_before, goes_before, stops_behind, goes_behind, pair_of, ListsOk, lists_ok}
+use Rattle.flat_forms.proofs.lemmas.ListLemmas.{stops_before, goes_before, stops_behind, goes_behind, pair_of, ListsOk, lists_ok}
 
 -- tables
 

@@ -11,13 +11,14 @@ use Rattle.flat_base.specs.declared.ids.SessionNo.{SessionNo}
 use Rattle.flat_scene.specs.declared.setup.PairDecl.{PairDecl}
 use Rattle.flat_scene.specs.declared.setup.BufferDecl.{BufferDecl}
 use Rattle.flat_scene.specs.declared.setup.FenceDecl.{FenceDecl}
-use Rattle.flat_script.specs.declared.script.Script.{Script}
-use Rattle.flat_script.specs.Forms.{Word, each, one_or_more, both, or_kind}
-use Rattle.flat_script.specs.Names.{place_of, is_declared, session_named, owner_named}
-use Rattle.flat_script.specs.Head.{owner_word, with_display, with_session, with_buffers, with_pair, with_fence}
-use Rattle.flat_script.proofs.lemmas.FormLemmas.{both_ok, or_kind_ok}
-use Rattle.flat_script.proofs.lemmas.IndexLemmas.{IsFresh, NoPlace, no_place, place_there, place_else, bytes_eq_sym}
-use Rattle.flat_script.proofs.lemmas.StepLemmas.{SizeStep, SessionStep, BuffersStep, PairStep, FenceStep, Step, size_step, session_step, buffers_step, pair_step, fence_step, sort}
+use Rattle.flat_places.specs.declared.script.Script.{Script}
+use Rattle.flat_places.specs.Forms.{Word, each, one_or_more, both, or_kind}
+use Rattle.flat_places.specs.Names.{place_of, is_declared, session_named, owner_named}
+use Rattle.flat_places.specs.Places.{owner_word}
+use Rattle.flat_forms.specs.Head.{with_display, with_session, with_buffers, with_pair, with_fence}
+use Rattle.flat_forms.proofs.lemmas.FormLemmas.{both_ok, or_kind_ok}
+use Rattle.flat_forms.proofs.lemmas.IndexLemmas.{IsFresh, NoPlace, no_place, place_there, place_else, bytes_eq_sym}
+use Rattle.flat_forms.proofs.lemmas.StepLemmas.{SizeStep, SessionStep, BuffersStep, PairStep, FenceStep, Step, size_step, session_step, buffers_step, pair_step, fence_step, sort}
 
 -- places in a list with one more name
 

@@ -1,5 +1,5 @@
 ghost use Rattle.std.specs.Prelude.{◌≡◌, ◌++◌, ◌∷◌, [], ℕ, List, OnOk, IfOk, map, codes};
-ghost use Rattle.flat_script.specs.Calls.{text};
+ghost use Rattle.flat_forms.specs.Calls.{text};
 ghost use Rattle.std.specs.Fmt.{decimal, signed_decimal};
 ghost use Rattle.std.specs.List.{flat_map};
 ghost use Rattle.std.specs.Option.{option_map_or};
@@ -11,10 +11,11 @@ use crate::print_words::{
     push_rect_if_any, push_regions, push_u64, push_word, session_word,
 };
 use flat_base::{BufferNo, ContentId, IntRect, NoMemory, PairNo, SessionNo};
+use flat_forms::CallName;
+use flat_places::Script;
 use flat_scene::{
     Body, Call, Cond, DisplayLine, HitRegion, Inset, Line, PresentArgs, ProbeLine, Watch,
 };
-use flat_script::{CallName, Script};
 
 fn call_name(call: &Call) -> CallName
     ensures { result ≡ call_name call.now }

@@ -5,8 +5,8 @@ ghost use Rattle.std.specs.List.{flat_map};
 ghost use Rattle.flat_print.specs.Print.{Writes, numbers, name_at, session_word, fence_word, actor_word, rect_words, inset_words, inset_unless_none, region_words, list_words, orientation_number, blend_number, flip_number, interaction_number};
 
 use flat_base::{Actor, FenceNo, IntRect, NoMemory, Orientation, SessionNo};
+use flat_places::{NameList, Script};
 use flat_scene::{BlendMode, HitRegion, ImageFlip, Inset, Interaction};
-use flat_script::{NameList, Script};
 use flat_text::push_number;
 
 /// The name at a place, or nothing where there is none.

@@ -7,8 +7,8 @@ use crate::print_words::{
     actor_word, name_at, push_bytes, push_numbers, push_owners, push_word, session_word,
 };
 use flat_base::NoMemory;
+use flat_places::{Name, Script};
 use flat_scene::{BufferDecl, FenceDecl, PairDecl, ScriptLine};
-use flat_script::{Name, Script};
 use std::alloc::Global;
 
 /// The canonical text of a script, in memory of its own: the version, the display,

@@ -2,7 +2,7 @@
 use Rattle.std.proofs.Common.{◌≡◌, [], ◌∷◌, refl}
 use Rattle.std.specs.Prelude.{map, codes}
 use Rattle.std.specs.Fmt.{digits}
-use Rattle.flat_script.specs.declared.script.Script.{Script}
+use Rattle.flat_places.specs.declared.script.Script.{Script}
 use Rattle.flat_rules.proofs.lemmas.MoreRuns.{b16_token_not_back_yet-setup, b16_token_not_back_yet-history, b16_token_not_back_yet-lines, layout_before_first_present-setup, layout_before_first_present-history, layout_before_first_present-lines, cycle_of_links_is_never_reached-setup, cycle_of_links_is_never_reached-history, cycle_of_links_is_never_reached-lines, token_comes_back-setup, token_comes_back-history, token_comes_back-lines, app_gone_before_all-setup, app_gone_before_all-history, app_gone_before_all-lines}
 use Rattle.flat_rules.proofs.lemmas.Runs.{one_fill_one_frame-setup, one_fill_one_frame-history, one_fill_one_frame-lines, view_without_root_then_poll-setup, view_without_root_then_poll-history, view_without_root_then_poll-lines, second_present_before_a_frame_closes-setup, second_present_before_a_frame_closes-history, second_present_before_a_frame_closes-lines}
 use Rattle.flat_rules.proofs.lemmas.ShellRun.{shell_with_two_apps-setup, shell_with_two_apps-history, shell_with_two_apps-lines}

@@ -16,7 +16,7 @@ use Rattle.flat_scene.specs.declared.journal.Kind.TheVariants as kind
 use Rattle.flat_scene.specs.declared.journal.Reply.{Reply}
 use Rattle.flat_scene.specs.declared.journal.Reply.TheVariants as reply
 use Rattle.flat_rules.specs.Legal.{LegalEntry, may_act, display_may, reply_to, asked_of, value_of}
-use Rattle.flat_script.specs.declared.script.Script.{Script}
+use Rattle.flat_places.specs.declared.script.Script.{Script}
 use Rattle.flat_report.specs.EntryLines.{entry_line, event_line, said_words, answer_words}
 use Rattle.flat_report.specs.FrameLines.{lost_line}
 use Rattle.flat_report.specs.Words.{Word, number, actor_name, session_name}

@@ -10,20 +10,21 @@ use Rattle.flat_base.specs.declared.ids.Actor.TheVariants.{Display, Session, Pro
 use Rattle.flat_scene.specs.declared.script.Body.{Body}
 use Rattle.flat_scene.specs.declared.script.Body.TheVariants as body
 use Rattle.flat_scene.specs.declared.script.ScriptLine.{ScriptLine}
-use Rattle.flat_script.specs.declared.script.Script.{Script}
+use Rattle.flat_places.specs.declared.script.Script.{Script}
 use Rattle.flat_script.specs.declared.script.ScriptFault.{ScriptFault}
-use Rattle.flat_script.specs.declared.script.Part.TheVariants as part
-use Rattle.flat_script.specs.Body.{actor_line, body_line, probe_line, is_open}
-use Rattle.flat_script.specs.Forms.{Word, Reading, mapped}
-use Rattle.flat_script.specs.Grammar.{Sofar, is_plain, is_skipped, words_read, line_read, lines_read, end_read, IsScript}
-use Rattle.flat_script.specs.Head.{empty, first_line, head_line, run_line}
-use Rattle.flat_script.specs.Known.{known_words}
-use Rattle.flat_script.specs.Names.{is_name, place_of}
+use Rattle.flat_forms.specs.declared.lines.Part.TheVariants as part
+use Rattle.flat_forms.specs.Body.{actor_line, body_line, probe_line, is_open}
+use Rattle.flat_places.specs.Forms.{Word, Reading, mapped}
+use Rattle.flat_forms.specs.Lines.{Sofar, words_read}
+use Rattle.flat_script.specs.Grammar.{is_plain, is_skipped, line_read, lines_read, end_read, IsScript}
+use Rattle.flat_forms.specs.Head.{empty, first_line, head_line, run_line}
+use Rattle.flat_places.specs.Known.{known_words}
+use Rattle.flat_places.specs.Names.{is_name, place_of}
 use Rattle.flat_print.proofs.lemmas.AgainLemmas.{with_lines, body_again}
-use Rattle.flat_script.proofs.lemmas.FormLemmas.{mapped_ok}
-use Rattle.flat_script.proofs.lemmas.FoundLemmas.{step_found}
-use Rattle.flat_script.proofs.lemmas.IndexLemmas.{place_there, place_else, no_place}
-use Rattle.flat_script.proofs.lemmas.StepLemmas.{SessionStep, Step, size_step, session_step, buffers_step, pair_step, fence_step}
+use Rattle.flat_forms.proofs.lemmas.FormLemmas.{mapped_ok}
+use Rattle.flat_forms.proofs.lemmas.FoundLemmas.{step_found}
+use Rattle.flat_forms.proofs.lemmas.IndexLemmas.{place_there, place_else, no_place}
+use Rattle.flat_forms.proofs.lemmas.StepLemmas.{SessionStep, Step, size_step, session_step, buffers_step, pair_step, fence_step}
 use Rattle.flat_print.proofs.lemmas.TextLemmas.{lines_room, lines_room-lines_of}
 use Rattle.flat_report.specs.Words.{name_at}
 use Rattle.flat_report.proofs.Named.{AreNames, IsNamed, is_spoken}

@@ -9,7 +9,7 @@ use Rattle.flat_scene.specs.declared.journal.Kind.TheVariants.{Finish, Poll}
 use Rattle.flat_scene.specs.declared.journal.Post.{Post}
 use Rattle.flat_scene.specs.declared.journal.Reply.{Reply}
 use Rattle.flat_base.specs.declared.ids.Actor.{Actor}
-use Rattle.flat_script.specs.declared.script.Script.{Script}
+use Rattle.flat_places.specs.declared.script.Script.{Script}
 use Rattle.flat_report.specs.declared.report.HitAnswer.{HitAnswer}
 use Rattle.flat_report.specs.Handed.{first_posts, handed_lines, handed_entries}
 

@@ -16,7 +16,7 @@ use Rattle.flat_scene.specs.History.{◌▹◌, is_finish}
 use Rattle.flat_rules.specs.Ends.{to_begin, to_finished}
 use Rattle.flat_rules.specs.Legal.{frames}
 use Rattle.flat_rules.specs.Posts.{Sent, posted}
-use Rattle.flat_script.specs.declared.script.Script.{Script}
+use Rattle.flat_places.specs.declared.script.Script.{Script}
 use Rattle.flat_report.specs.declared.report.HitAnswer.{HitAnswer}
 use Rattle.flat_report.specs.EntryLines.{point_words, said_words, entry_line, event_line}
 use Rattle.flat_report.specs.Handed.{answer_to, post_line, first_hits, first_frame_lines, frames_after, answers_after, handed_lines}

@@ -6,7 +6,7 @@ use Rattle.std.proofs.lemmas.List.{reverse-reverse}
 use Rattle.flat_scene.specs.declared.frames.Lost.{Lost}
 use Rattle.flat_scene.specs.declared.journal.Entry.{Entry}
 use Rattle.flat_rules.specs.Legal.{frames}
-use Rattle.flat_script.specs.declared.script.Script.{Script}
+use Rattle.flat_places.specs.declared.script.Script.{Script}
 use Rattle.flat_report.specs.Laws.{IsRun, ReportsDetermineHistories}
 use Rattle.flat_report.specs.Report.{entry_lines, history_lines, never_falls, probe_lines, report, report_lines, seen_line}
 use Rattle.flat_report.specs.Words.{Word, number}

@@ -12,7 +12,7 @@ use Rattle.flat_scene.specs.History.{◌▹◌, history_of, is_finish}
 use Rattle.flat_rules.specs.Ends.{to_begin}
 use Rattle.flat_rules.specs.Legal as legal
 use Rattle.flat_rules.specs.Posts.{posts}
-use Rattle.flat_script.specs.declared.script.Script.{Script}
+use Rattle.flat_places.specs.declared.script.Script.{Script}
 use Rattle.flat_report.specs.declared.page.Page.{Page}
 use Rattle.flat_report.specs.declared.report.HitAnswer.{HitAnswer}
 use Rattle.flat_report.specs.Handed.{answers_of, frames_after, answers_after, first_posts, handed_lines, handed_entries, handed_report_lines}

@@ -22,7 +22,7 @@ use Rattle.flat_scene.specs.declared.journal.Reply.{Reply}
 use Rattle.flat_scene.specs.declared.journal.Reply.TheVariants as reply
 use Rattle.flat_scene.specs.declared.journal.Told.{Told}
 use Rattle.flat_scene.specs.declared.journal.Told.TheVariants as told
-use Rattle.flat_script.specs.declared.script.Script.{Script}
+use Rattle.flat_places.specs.declared.script.Script.{Script}
 use Rattle.flat_report.specs.Words.{Word, numbers, number, session_name, pair_name, actor_name}
 
 -- ---- what watchers tell

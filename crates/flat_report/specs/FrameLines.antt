@@ -13,7 +13,7 @@ use Rattle.flat_scene.specs.declared.frames.Paint.{Paint}
 use Rattle.flat_scene.specs.declared.frames.Paint.TheVariants.{Fill, Image}
 use Rattle.flat_scene.specs.declared.frames.SceneMatrix.{SceneMatrix}
 use Rattle.flat_scene.specs.declared.frames.ViewNode.{ViewNode}
-use Rattle.flat_script.specs.declared.script.Script.{Script}
+use Rattle.flat_places.specs.declared.script.Script.{Script}
 use Rattle.flat_report.specs.Words.{Word, numbers, number, session_name, buffers_name}
 
 abbrev pub rect_words : Rect → List Word

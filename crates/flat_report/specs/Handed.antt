@@ -11,7 +11,7 @@ use Rattle.flat_scene.specs.declared.setup.Setup.{Setup}
 use Rattle.flat_scene.specs.History.{◌▹◌, is_finish}
 use Rattle.flat_rules.specs.Ends.{to_finished}
 use Rattle.flat_rules.specs.Legal.{frames}
-use Rattle.flat_script.specs.declared.script.Script.{Script}
+use Rattle.flat_places.specs.declared.script.Script.{Script}
 use Rattle.flat_report.specs.declared.report.HitAnswer.{HitAnswer}
 use Rattle.flat_report.specs.EntryLines.{entry_line, event_line}
 use Rattle.flat_report.specs.FrameLines.{frame_lines, lost_line}

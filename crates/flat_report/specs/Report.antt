@@ -17,7 +17,7 @@ use Rattle.flat_rules.specs.Ends.{to_begin, to_finished, has_view}
 use Rattle.flat_rules.specs.Legal.{frames}
 use Rattle.flat_rules.specs.Posts.{posted}
 use Rattle.flat_rules.specs.Shown.{shown_states}
-use Rattle.flat_script.specs.declared.script.Script.{Script}
+use Rattle.flat_places.specs.declared.script.Script.{Script}
 use Rattle.flat_topology.specs.Draw.{draw_list}
 use Rattle.flat_topology.specs.Hits.{hit_list}
 use Rattle.flat_topology.specs.Views.{view_tree}

@@ -8,8 +8,8 @@ use crate::entry_words::{push_count, push_event, push_reply};
 use crate::names::{actor_name, session_name};
 use crate::page::Page;
 use flat_base::NoMemory;
+use flat_places::Script;
 use flat_scene::{Entry, Hit, Interaction, Kind, Post};
-use flat_script::Script;
 
 fn interaction_number(interaction: Interaction) -> u32
     ensures { result ≡ interaction_number interaction }

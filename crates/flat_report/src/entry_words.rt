@@ -6,8 +6,8 @@ ghost use Rattle.flat_report.specs.EntryLines.{layout_words, value_words, watche
 use crate::names::pair_name;
 use crate::page::Page;
 use flat_base::{FlatlandError, NoMemory, Reason};
+use flat_places::Script;
 use flat_scene::{Event, Inset, Kind, Layout, Reply, Told, Watch};
-use flat_script::Script;
 
 /// Two words, the second a number.
 pub fn push_count(page: &mut Page, word: &[u8], value: u32) -> Result<(), NoMemory>

@@ -8,8 +8,8 @@ use crate::entry_words::push_count;
 use crate::names::{buffers_name, session_name};
 use crate::page::Page;
 use flat_base::{BufferNo, IntRect, NoMemory, Rect, SessionNo};
+use flat_places::Script;
 use flat_scene::{BlendMode, DrawItem, FrameOut, ImageFlip, Lost, Paint, SceneMatrix, ViewNode};
-use flat_script::Script;
 
 fn push_rect(page: &mut Page, rect: Rect) -> Result<(), NoMemory>
     ensures { OnOk result (Writes (rect_words rect) page.old page.new) }

@@ -2,7 +2,7 @@ ghost use Rattle.std.specs.Prelude.{◌≡◌};
 ghost use Rattle.flat_report.specs.Words.{name_at, session_name, pair_name, buffers_name, actor_name};
 
 use flat_base::{Actor, BufferNo, PairNo, SessionNo};
-use flat_script::{NameList, Script};
+use flat_places::{NameList, Script};
 
 /// The name at a place, or nothing where there is none.
 fn name_at(names: &NameList, place: usize) -> &[u8]

@@ -12,11 +12,12 @@ use Rattle.flat_base.specs.declared.limits.TheConstants.{SESSIONS_MAX}
 use Rattle.flat_scene.specs.declared.calls.Call.{Call}
 use Rattle.flat_scene.specs.declared.journal.Entry.{Entry}
 use Rattle.flat_scene.specs.declared.journal.Kind.{Kind}
-use Rattle.flat_scene.specs.declared.journal.Kind.TheVariants.{Close, Begin, Finish}
+use Rattle.flat_scene.specs.declared.journal.Kind.TheVariants.{Close}
 use Rattle.flat_scene.specs.declared.setup.Setup.{Setup}
 use Rattle.flat_scene.specs.History.{◌▹◌, own, is_session, is_display, is_begin, is_finish, seat_number, history_of}
 use Rattle.flat_scene.specs.Setups.{is_declared}
 use Rattle.flat_scene.proofs.lemmas.Steps.{own-kept}
+use Rattle.flat_rules.proofs.lemmas.FrameKinds.{not-begin, not-finish}
 use Rattle.flat_rules.specs.Ends.{to_begin}
 use Rattle.flat_rules.specs.Legal.{Legal, has_draft, time_of, may_act, session_may}
 use Rattle.flat_rules.specs.Seats.{of_display, SeatsTellActors, SessionsKnowThemselves, KnowsFrames, DisplayKnowsFrames, BeginStays, JournalsKeepSeats, BeginIsSeen}
@@ -69,14 +70,6 @@ sessions-know-themselves setup history s = record {
 }
 
 -- ---- frames
-
-not-begin : (kind : Kind) → session_may kind ≡ true → is_begin kind ≡ false
-not-begin (Begin time) may = absurd (let h : false ≡ true = may in cc)
-not-begin _ may = refl
-
-not-finish : (kind : Kind) → session_may kind ≡ true → is_finish kind ≡ false
-not-finish Finish may = absurd (let h : false ≡ true = may in cc)
-not-finish _ may = refl
 
 -- an entry is the display's, or neither begins nor ends a frame
 pub data WhoseEntry (entry : Entry) : Type 0 where

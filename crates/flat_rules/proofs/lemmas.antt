@@ -1,6 +1,7 @@
 -- Lemmas that other crates may cite.
 pub mod AllOrSome
 pub mod EventsLocal
+pub mod FrameKinds
 pub mod ListLemmas
 pub mod Locality
 pub mod MoreRuns

@@ -37,7 +37,7 @@ use Rattle.flat_topology.specs.Views.{is_member}
 use Rattle.flat_report.specs.declared.report.HitAnswer.{HitAnswer}
 use Rattle.flat_report.specs.Handed.{answer_to, answers_of}
 use Rattle.flat_report.specs.Report.{finished, frame_at, hits_at}
-use Rattle.flat_script.specs.declared.script.Script.{Script}
+use Rattle.flat_places.specs.declared.script.Script.{Script}
 use Rattle.flat_playable.specs.Playable.{frames_close, keeps_frames}
 use Rattle.flat_rules.specs.Owned.{is_played_display}
 use Rattle.flat_run.specs.Playing.{DisplayStands, FramesStand, IsSpent, lines_by, rest_shares, AnswersStand}

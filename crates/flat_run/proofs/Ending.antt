@@ -17,7 +17,7 @@ use Rattle.flat_scene.specs.Interleave.{session_lines, display_lines, IsReading}
 use Rattle.flat_core.specs.Machines.{Machine, HasShare, entered, entry_of, made}
 use Rattle.flat_report.specs.Handed.{answers_of}
 use Rattle.flat_report.specs.Report.{finished}
-use Rattle.flat_script.specs.declared.script.Script.{Script}
+use Rattle.flat_places.specs.declared.script.Script.{Script}
 use Rattle.flat_run.specs.declared.game.Game.{Game}
 use Rattle.flat_stage.specs.declared.reader.Reader.{Reader}
 use Rattle.flat_stage.specs.Readings.{EndsAreRead, HasRead, Rise}

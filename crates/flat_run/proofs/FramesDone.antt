@@ -17,8 +17,8 @@ use Rattle.flat_scene.specs.declared.setup.Setup.{Setup}
 use Rattle.flat_scene.specs.History.{◌▹◌, is_display, is_finish}
 use Rattle.flat_scene.specs.Interleave.{Interleaves, FollowsDisplay, IsFirstLine, by_display, display_line, display_lines, entry_of_display, last_line, unread_lines}
 use Rattle.flat_rules.specs.Legal.{Legal, frames, may_act, session_may}
-use Rattle.flat_script.specs.declared.script.Script.{Script}
-use Rattle.flat_script.specs.Body.{dones, ends_frame}
+use Rattle.flat_places.specs.declared.script.Script.{Script}
+use Rattle.flat_forms.specs.Body.{dones, ends_frame}
 use Rattle.flat_playable.specs.Playable.{is_playable, rise_from}
 use Rattle.flat_base.proofs.lemmas.Tests.{and-left}
 use Rattle.flat_run.proofs.Places.{rises}

@@ -32,7 +32,7 @@ use Rattle.flat_topology.specs.Views.{is_member}
 use Rattle.flat_rules.specs.Legal.{frames}
 use Rattle.flat_rules.specs.Shown.{shown_states}
 use Rattle.flat_report.specs.Report.{frame_at, hits_at}
-use Rattle.flat_script.specs.declared.script.Script.{Script}
+use Rattle.flat_places.specs.declared.script.Script.{Script}
 use Rattle.flat_run.specs.declared.game.Game.{Game}
 use Rattle.flat_stage.specs.declared.reader.Reader.{Reader}
 use Rattle.flat_playable.specs.Playable.{is_played, keeps_frames}

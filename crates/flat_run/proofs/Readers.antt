@@ -21,7 +21,7 @@ use Rattle.flat_scene.specs.Interleave.{session_line, session_lines, entry_of_li
 use Rattle.flat_scene.specs.Misuse.{misuse, first_reason}
 use Rattle.flat_scene.specs.Tree.{present_tests}
 use Rattle.flat_core.specs.Machines.{Machine}
-use Rattle.flat_script.specs.declared.script.Script.{Script}
+use Rattle.flat_places.specs.declared.script.Script.{Script}
 use Rattle.flat_stage.specs.declared.reader.Reader.{Reader}
 use Rattle.flat_stage.specs.Readings.{HasRead, NoneIsRead, OneMoreIsRead, Rise}
 use Rattle.flat_stage.specs.Reads.{IsNew, Makes, Reads, Stands, draft_so_far, made_by_line}

@@ -18,8 +18,8 @@ use Rattle.flat_display.specs.Had.{AreDriven}
 use Rattle.flat_report.specs.Handed.{answers_of, handed_report}
 use Rattle.flat_report.specs.Laws.{HandedIsReport}
 use Rattle.flat_report.specs.Report.{report, finished, is_seeing, never_falls, numbers_from, probe_lines_of}
-use Rattle.flat_script.specs.declared.script.Script.{Script}
-use Rattle.flat_script.specs.Body.{dones}
+use Rattle.flat_places.specs.declared.script.Script.{Script}
+use Rattle.flat_forms.specs.Body.{dones}
 use Rattle.flat_playable.specs.Playable.{is_playable}
 use Rattle.flat_run.specs.declared.game.Game.{Game}
 use Rattle.flat_run.specs.Playing.{HasPlayed}

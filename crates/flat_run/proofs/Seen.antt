@@ -19,7 +19,7 @@ use Rattle.flat_display.specs.Shows.{Shows}
 use Rattle.flat_display.proofs.lemmas.Driving.{driven_none, driven_more, driven_same}
 use Rattle.flat_report.specs.Report.{finished, frame_at}
 use Rattle.flat_run.specs.declared.game.Game.{Game}
-use Rattle.flat_script.specs.declared.script.Script.{Script}
+use Rattle.flat_places.specs.declared.script.Script.{Script}
 use Rattle.flat_run.specs.Playing.{GameStands, FinishesFrame, HasPlayed}
 use Rattle.flat_run.specs.Promise.{AreKept}
 use Rattle.flat_run.specs.Showing.{Finishes, HaveSeen}

@@ -29,7 +29,7 @@ use Rattle.flat_topology.specs.Views.{is_member}
 use Rattle.flat_stage.specs.declared.reader.Reader.{Reader}
 use Rattle.flat_stage.specs.Readings.{NoneIsRead}
 use Rattle.flat_stage.specs.Reads.{IsNew}
-use Rattle.flat_script.specs.declared.script.Script.{Script}
+use Rattle.flat_places.specs.declared.script.Script.{Script}
 use Rattle.flat_playable.specs.Playable.{rise_from, is_playable}
 use Rattle.flat_run.specs.declared.game.Game.{Game}
 use Rattle.flat_topology.specs.Fit.{FitsSetup}

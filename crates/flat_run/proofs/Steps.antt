@@ -9,7 +9,7 @@ use Rattle.flat_scene.specs.declared.script.ScriptLine.{ScriptLine}
 use Rattle.flat_scene.specs.History.{◌▹◌, own, is_session, is_end, seat_number}
 use Rattle.flat_scene.specs.Interleave.{session_lines, session_line, last_line}
 use Rattle.flat_core.specs.Machines.{made}
-use Rattle.flat_script.specs.declared.script.Script.{Script}
+use Rattle.flat_places.specs.declared.script.Script.{Script}
 use Rattle.flat_stage.specs.declared.reader.Reader.{Reader}
 use Rattle.flat_stage.specs.Readings.{HasRead}
 use Rattle.flat_stage.specs.Reads.{Stands}

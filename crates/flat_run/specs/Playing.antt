@@ -32,7 +32,7 @@ use Rattle.flat_topology.specs.Views.{is_member}
 use Rattle.flat_report.specs.declared.report.HitAnswer.{HitAnswer}
 use Rattle.flat_report.specs.Handed.{answers_of}
 use Rattle.flat_report.specs.Report.{finished, frame_at}
-use Rattle.flat_script.specs.declared.script.Script.{Script}
+use Rattle.flat_places.specs.declared.script.Script.{Script}
 use Rattle.flat_stage.specs.declared.reader.Reader.{Reader}
 use Rattle.flat_stage.specs.Readings.{HasRead}
 use Rattle.flat_stage.specs.Reads.{IsNew, Stands}

@@ -13,7 +13,7 @@ use Rattle.flat_scene.specs.Interleave.{IsWritten}
 use Rattle.flat_scene.specs.Family.{family}
 use Rattle.flat_rules.specs.Laws.{IsFamilyLaw}
 use Rattle.flat_rules.specs.Legal.{frames}
-use Rattle.flat_script.specs.declared.script.Script.{Script}
+use Rattle.flat_places.specs.declared.script.Script.{Script}
 use Rattle.flat_script.specs.declared.script.ScriptFault.{ScriptFault}
 use Rattle.flat_script.specs.Grammar.{text_read}
 use Rattle.flat_display.specs.Had.{AreDriven, AreShownSome}

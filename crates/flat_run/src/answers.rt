@@ -11,10 +11,11 @@ use crate::run::run;
 use flat_base::{NoMemory, SCRIPT_BYTES_MAX};
 use flat_display::Display;
 use flat_io::{ReadAll, Source, read_all};
+use flat_places::Script;
 use flat_playable::scripts_are_playable;
 use flat_report::{handed_is_report, print_report};
 use flat_rules::families_are_alone;
-use flat_script::{Script, ScriptError, ScriptFault, parse};
+use flat_script::{ScriptError, ScriptFault, parse};
 use itoa::Buffer;
 use std::alloc::Global;
 

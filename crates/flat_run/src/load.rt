@@ -11,10 +11,11 @@ use crate::answers::{Answer, DONE};
 use crate::run::run;
 use flat_base::NoMemory;
 use flat_display::Display;
+use flat_places::Script;
 use flat_playable::scripts_are_playable;
 use flat_rules::families_are_alone;
 use flat_scene::{Entry, FrameOut, Journal, Kind, Setup};
-use flat_script::{Script, ScriptError, parse};
+use flat_script::{ScriptError, parse};
 use flat_stress::{Totals, loads_are_scripts, loads_have_their_frames, summary};
 use std::alloc::Global;
 

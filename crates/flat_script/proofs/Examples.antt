@@ -7,9 +7,9 @@ use Rattle.flat_scene.specs.declared.script.Cond.TheVariants as asks
 use Rattle.flat_scene.specs.declared.script.Line.TheVariants as line
 use Rattle.flat_scene.specs.declared.script.DisplayLine.TheVariants as display
 use Rattle.flat_scene.specs.declared.script.Body.TheVariants as body
-use Rattle.flat_script.specs.declared.script.Script.{Script}
+use Rattle.flat_places.specs.declared.script.Script.{Script}
 use Rattle.flat_script.specs.declared.script.ScriptFault.{ScriptFault}
-use Rattle.flat_script.specs.Known.{known_words}
+use Rattle.flat_places.specs.Known.{known_words}
 use Rattle.flat_script.specs.Grammar.{read_with, IsScript, IsFault}
 
 -- the words that become known later

@@ -1,28 +1,15 @@
 -- Scripts of version 1: the script that a text has, or the first line with a fault and its lowest kind.
-use Rattle.std.specs.Prelude.{◌≡◌, ℕ, ◌+◌, ◌-◌, ◌*◌, ◌==◌, ◌||◌, slice_index, nat_le, nat_lt, Bool, not, ◌&&◌, List, [], ◌∷◌, length, Result, Ok, Err, codes, if◌then◌else◌}
+use Rattle.std.specs.Prelude.{◌≡◌, ℕ, ◌+◌, ◌-◌, ◌*◌, ◌==◌, ◌||◌, slice_index, nat_le, nat_lt, Bool, not, ◌&&◌, List, [], ◌∷◌, length, Result, Ok, Err, if◌then◌else◌}
 use Rattle.std.specs.List.{list_all}
-use Rattle.std.specs.Str.{bytes_eq}
 use Rattle.flat_text.specs.Pieces.{lines_of, words_of}
-use Rattle.flat_script.specs.declared.script.Script.{Script}
+use Rattle.flat_places.specs.declared.script.Script.{Script}
 use Rattle.flat_script.specs.declared.script.ScriptFault.{ScriptFault}
-use Rattle.flat_script.specs.declared.script.Part.{Part}
-use Rattle.flat_script.specs.declared.script.Part.TheVariants.{Start, Head, Body}
-use Rattle.flat_script.specs.Known.{known_words}
-use Rattle.flat_script.specs.Forms.{Word, Reading, mapped}
-use Rattle.flat_script.specs.Head.{empty, first_line, head_line, run_line}
-use Rattle.flat_script.specs.Body.{body_line, is_open}
-
--- the part of the text that the next line is in, and the script so far
-abbrev pub Sofar : Type 0
-Sofar = Part × Script
-
--- what the words of line n make of it
-abbrev pub words_read : List Word → ℕ → Sofar → List Word → Reading Sofar
-words_read known n (Start, s) words = mapped (λ _. (Head, s)) (first_line words)
-words_read known n (Head, s) [] = Err 4
-words_read known n (Head, s) (w ∷ words) =
-    if bytes_eq w (codes "run") then mapped (λ _. (Body, s)) (run_line s words) else mapped (λ t. (Head, t)) (head_line known s (w ∷ words))
-words_read known n (Body, s) words = mapped (λ t. (Body, t)) (body_line known s n words)
+use Rattle.flat_forms.specs.declared.lines.Part.TheVariants.{Start, Body}
+use Rattle.flat_places.specs.Known.{known_words}
+use Rattle.flat_places.specs.Forms.{Word, Reading}
+use Rattle.flat_forms.specs.Head.{empty}
+use Rattle.flat_forms.specs.Body.{is_open}
+use Rattle.flat_forms.specs.Lines.{Sofar, words_read}
 
 -- a byte that a line may have
 abbrev pub is_plain : ℕ → Bool

@@ -1,13 +1,2 @@
-pub mod Known
-pub mod Forms
-pub mod Names
-pub mod Places
-pub mod Calls
-pub mod Body
-pub mod Head
 pub mod Grammar
-pub mod Index
-pub mod Reads
-pub mod Lists
-pub mod Slots
-pub mod Progress
+pub mod Answers

@@ -1,28 +1,4 @@
-ghost use Rattle.std.specs.Prelude.{◌≡◌};
-ghost use Rattle.flat_script.specs.declared.script.LineError.TheVariants.{Kind, Memory};
-
-use crate::name::NameList;
-use flat_base::NoMemory;
-use flat_scene::{LineList, Setup};
 use thiserror::Error;
-
-/// What a text declares and says: the setup of its head, the names that the head
-/// gives, and the lines of its body.
-#[derive(Debug, Drop)]
-pub struct Script {
-    pub setup: Setup,
-    /// Names in order of declaration. The numbers of sessions begin at 1, all
-    /// others at 0.
-    pub sessions: NameList,
-    pub probes: NameList,
-    pub buffers: NameList,
-    pub pairs: NameList,
-    pub fences: NameList,
-    /// The lines of the body, in the order of the text.
-    pub lines: LineList,
-    /// How many lines the text has, with those that are skipped.
-    pub count: u32,
-}
 
 /// Where a text isn't a script.
 #[derive(Clone, Copy, Debug, PartialEq, Eq)]
@@ -43,38 +19,4 @@ pub enum ScriptError {
     /// Memory ran out.
     #[error("out of memory")]
     Memory,
-}
-
-/// The part of a text that a line is in.
-#[derive(Clone, Copy, Debug, PartialEq, Eq)]
-pub enum Part {
-    /// Before the first line that isn't skipped.
-    Start,
-    Head,
-    Body,
-}
-
-/// Why a line isn't taken.
-#[derive(Clone, Copy, Debug, PartialEq, Eq)]
-pub enum LineError {
-    /// It has a fault, whose lowest kind this is.
-    Kind(u32),
-    /// Memory ran out.
-    Memory,
-}
-
-impl From<u32> for LineError {
-    ghost from_gives = { λ k e. e ≡ Kind k };
-
-    fn from(kind: u32) -> LineError {
-        LineError::Kind(kind)
-    }
-}
-
-impl From<NoMemory> for LineError {
-    ghost from_gives = { λ _ e. e ≡ Memory };
-
-    fn from(_e: NoMemory) -> LineError {
-        LineError::Memory
-    }
 }

@@ -1,7 +1,8 @@
 use flat_base::{Actor, ContentId, FenceNo, Items, PairNo, SessionNo};
+use flat_places::Script;
 use flat_print::print;
 use flat_scene::{Body, Call, Cond, DisplayLine, Inset, Line, PresentArgs, ScriptLine};
-use flat_script::{Script, ScriptError, parse};
+use flat_script::{ScriptError, parse};
 use std::alloc::{AllocError, Global};
 use std::test::Fail;
 

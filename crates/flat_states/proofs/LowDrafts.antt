@@ -11,7 +11,7 @@ use Rattle.flat_scene.specs.Draft.{Draft, Transform, Image, Solid, Made, an_imag
 use Rattle.flat_scene.specs.declared.calls.ViewportProps.{ViewportProps}
 use Rattle.flat_scene.specs.Effect.{effect, on_image, on_viewport, on_fill, draft_of, after_calls, unless, changed_if}
 use Rattle.flat_scene.specs.Misuse.{misuse, first_reason, Test, names_transform, names_content, is_image}
-use Rattle.flat_base.proofs.lemmas.Tests.{and-left, and-right}
+use Rattle.flat_base.proofs.lemmas.Tests.{and-left, and-right, all-more}
 use Rattle.flat_states.proofs.lemmas.ViewCalls.{after-refused as after_error}
 use Rattle.std.proofs.lemmas.Bool.{and_from}
 
@@ -30,10 +30,6 @@ is_dim t = nat_le t.opacity OPACITY_MAX
 pub record IsLowDraft (draft : Draft) : Type 0 where
   pub contents : list_all is_low draft.contents ≡ true
   pub transforms : list_all is_dim draft.transforms ≡ true
-
-all_more : {A : Type 0} (p : A → Bool) (xs : List A) (x : A) → list_all p xs ≡ true → p x ≡ true → list_all p (xs ++ x ∷ []) ≡ true
-all_more p [] x all one = and_from _ _ one refl
-all_more p (y ∷ xs) x all one = and_from _ _ (and-left (p y) (list_all p xs) all) (all_more p xs x (and-right (p y) (list_all p xs) all) one)
 
 module _ {A : Type 0} (p : A → Bool) (f : A → A) (keeps : (x : A) → p x ≡ true → p (f x) ≡ true) where
   pick : (b : Bool) (x : A) (xs changed : List A) → p x ≡ true → list_all p xs ≡ true → list_all p changed ≡ true → list_all p (cond b (f x ∷ xs) (x ∷ changed)) ≡ true
@@ -99,7 +95,7 @@ module _ (setup : Setup) (d : Draft) (good : IsLowDraft d) where
   pub good_effect : (call : Call) → misuse setup d call ≡ None → IsLowDraft (effect d call)
   good_effect (CreateView pair) fine = record { contents = good.contents; transforms = good.transforms }
   good_effect ReleaseView fine = record { contents = good.contents; transforms = good.transforms }
-  good_effect (CreateTransform t) fine = record { contents = good.contents; transforms = all_more is_dim d.transforms new_transform good.transforms refl }
+  good_effect (CreateTransform t) fine = record { contents = good.contents; transforms = all-more is_dim d.transforms new_transform good.transforms refl }
   good_effect (ReleaseTransform t) fine = record { contents = good.contents; transforms = good.transforms }
   good_effect (SetTranslation t x y) fine = same_opacity (transform_of d t) _ (λ one low. low)
   good_effect (SetOrientation t o) fine = same_opacity (transform_of d t) _ (λ one low. low)
@@ -109,17 +105,17 @@ module _ (setup : Setup) (d : Draft) (good : IsLowDraft d) where
   good_effect (AddChild p k) fine = same_opacity (transform_of d p) _ (λ one low. low)
   good_effect (RemoveChild p k) fine = same_opacity (transform_of d p) _ (λ one low. low)
   good_effect (SetRootTransform t) fine = record { contents = good.contents; transforms = good.transforms }
-  good_effect (CreateViewport c pair w h inset) fine = record { contents = all_more is_low d.contents _ good.contents refl; transforms = good.transforms }
+  good_effect (CreateViewport c pair w h inset) fine = record { contents = all-more is_low d.contents _ good.contents refl; transforms = good.transforms }
   good_effect (SetViewportProperties c w h inset) fine = same_content (content_of d c) _ (on_view _)
   good_effect (ReleaseViewport c) fine = record { contents = good.contents; transforms = all_mapped is_dim _ (λ one. refl) d.transforms good.transforms }
-  good_effect (CreateImage c buffers i w h) fine = record { contents = all_more is_low d.contents _ good.contents refl; transforms = good.transforms }
+  good_effect (CreateImage c buffers i w h) fine = record { contents = all-more is_low d.contents _ good.contents refl; transforms = good.transforms }
   good_effect (SetImageSampleRegion c rect) fine = same_content (content_of d c) _ (on_low _ (λ i. refl))
   good_effect (SetImageDestinationSize c w h) fine = same_content (content_of d c) _ (on_low _ (λ i. refl))
   good_effect (SetImageBlendingFunction c m) fine = same_content (content_of d c) _ (on_low _ (λ i. refl))
   good_effect (SetImageFlip c f) fine = same_content (content_of d c) _ (on_low _ (λ i. refl))
   good_effect (SetImageOpacity c v) fine = same_content (content_of d c) _ (on_opacity v (not_above v (none_last (names_content d is_image c) _ _ fine)))
   good_effect (ReleaseImage c) fine = record { contents = good.contents; transforms = good.transforms }
-  good_effect (CreateFilledRect c) fine = record { contents = all_more is_low d.contents _ good.contents refl; transforms = good.transforms }
+  good_effect (CreateFilledRect c) fine = record { contents = all-more is_low d.contents _ good.contents refl; transforms = good.transforms }
   good_effect (SetSolidFill c r g b a w h) fine = same_content (content_of d c) _ (on_solid _)
   good_effect (ReleaseFilledRect c) fine = record { contents = good.contents; transforms = good.transforms }
   good_effect (SetHitRegions t regions) fine = same_opacity (transform_of d t) _ (λ one low. low)

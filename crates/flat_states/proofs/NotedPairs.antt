@@ -1,6 +1,6 @@
 -- Which pairs the end of a frame looks at.
 use Rattle.std.proofs.Common.{◌≡◌, ◌∙◌, sym, ℕ, ◌<◌, Bool, true, false, List, [], ◌∷◌, ◌++◌, length, refl, arith, ap, slice_index_or}
-use Rattle.std.specs.Prelude.{Option, cond, ◌==◌, ◌||◌}
+use Rattle.std.specs.Prelude.{Option, cond, ◌==◌}
 use Rattle.flat_base.proofs.lemmas.Tests.{none-left, none-right, or-false}
 use Rattle.flat_base.specs.declared.ids.PairNo.{PairNo}
 use Rattle.flat_scene.specs.declared.calls.ViewportProps.{ViewportProps}

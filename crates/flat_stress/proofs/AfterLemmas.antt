@@ -14,12 +14,13 @@ use Rattle.flat_scene.specs.declared.script.DisplayLine.TheVariants as display
 use Rattle.flat_scene.specs.declared.script.Line.{Line}
 use Rattle.flat_scene.specs.declared.script.ScriptLine.{ScriptLine}
 use Rattle.flat_text.proofs.lemmas.NumberLemmas.{natural-decimal}
-use Rattle.flat_script.specs.declared.script.Part.TheVariants as part
-use Rattle.flat_script.specs.Known.{known_words}
-use Rattle.flat_script.specs.Forms.{mapped}
-use Rattle.flat_script.specs.Names.{actor_named, is_actor}
-use Rattle.flat_script.specs.Body.{time_begun, ends_frame, begin_times, dones, greatest, is_open, lines_of_actor, display_line, actor_line}
-use Rattle.flat_script.specs.Grammar.{Sofar, words_read, lines_read}
+use Rattle.flat_forms.specs.declared.lines.Part.TheVariants as part
+use Rattle.flat_places.specs.Known.{known_words}
+use Rattle.flat_places.specs.Forms.{mapped}
+use Rattle.flat_places.specs.Names.{actor_named, is_actor}
+use Rattle.flat_forms.specs.Body.{time_begun, ends_frame, begin_times, dones, greatest, is_open, lines_of_actor, display_line, actor_line}
+use Rattle.flat_forms.specs.Lines.{Sofar, words_read}
+use Rattle.flat_script.specs.Grammar.{lines_read}
 use Rattle.flat_print.specs.Print.{spelled}
 use Rattle.flat_print.proofs.lemmas.TextLemmas.{IsLine, AllLines, AllLines-append}
 use Rattle.flat_print.proofs.lemmas.AgainLemmas.{with_lines}

@@ -4,12 +4,12 @@ use Rattle.std.specs.List.{flat_map, range_with_len}
 use Rattle.std.specs.Fmt.{digits}
 use Rattle.std.proofs.lemmas.Bool.Decides.{nat_tests}
 use Rattle.std.proofs.lemmas.List.{map-append}
-use Rattle.flat_script.specs.declared.script.Part.TheVariants as part
-use Rattle.flat_script.specs.declared.script.Script.{Script}
+use Rattle.flat_forms.specs.declared.lines.Part.TheVariants as part
+use Rattle.flat_places.specs.declared.script.Script.{Script}
 use Rattle.flat_script.specs.declared.script.ScriptFault.{ScriptFault}
-use Rattle.flat_script.specs.Known.{known_words}
-use Rattle.flat_script.specs.Head.{empty}
-use Rattle.flat_script.specs.Body.{dones}
+use Rattle.flat_places.specs.Known.{known_words}
+use Rattle.flat_forms.specs.Head.{empty}
+use Rattle.flat_forms.specs.Body.{dones}
 use Rattle.flat_script.specs.Grammar.{lines_read, text_read, IsScript}
 use Rattle.flat_print.specs.Print.{spelled}
 use Rattle.flat_print.proofs.lemmas.TextLemmas.{AllLines, AllLines-append}

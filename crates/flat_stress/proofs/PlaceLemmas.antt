@@ -8,13 +8,13 @@ use Rattle.flat_scene.specs.declared.calls.Call.TheVariants as call
 use Rattle.flat_scene.specs.declared.script.Line.TheVariants as line
 use Rattle.flat_text.specs.Number.{natural, signed}
 use Rattle.flat_text.proofs.lemmas.NumberLemmas.{natural-decimal, signed-signed_decimal}
-use Rattle.flat_script.specs.declared.script.Script.{Script}
-use Rattle.flat_script.specs.Known.{known_words}
-use Rattle.flat_script.specs.Forms.{or_kind}
-use Rattle.flat_script.specs.Names.{actor_named}
-use Rattle.flat_script.specs.Places.{fits_i32}
-use Rattle.flat_script.specs.Calls.{no_inset}
-use Rattle.flat_script.specs.Body.{session_line}
+use Rattle.flat_places.specs.declared.script.Script.{Script}
+use Rattle.flat_places.specs.Known.{known_words}
+use Rattle.flat_places.specs.Forms.{or_kind}
+use Rattle.flat_places.specs.Names.{actor_named}
+use Rattle.flat_places.specs.Places.{fits_i32}
+use Rattle.flat_forms.specs.Calls.{no_inset}
+use Rattle.flat_forms.specs.Body.{session_line}
 use Rattle.flat_stress.specs.Words.{number, session, pair, from_to}
 
 -- the script after the load's head

@@ -4,9 +4,9 @@ use Rattle.std.specs.List.{flat_map, range_with_len}
 use Rattle.flat_base.specs.declared.ids.Actor.TheVariants.{Session}
 use Rattle.flat_base.specs.declared.ids.SessionNo.{SessionNo}
 use Rattle.flat_scene.specs.declared.script.Line.{Line}
-use Rattle.flat_script.specs.Known.{known_words}
-use Rattle.flat_script.specs.Names.{actor_named}
-use Rattle.flat_script.specs.Body.{session_line}
+use Rattle.flat_places.specs.Known.{known_words}
+use Rattle.flat_places.specs.Names.{actor_named}
+use Rattle.flat_forms.specs.Body.{session_line}
 use Rattle.flat_print.proofs.lemmas.TextLemmas.{IsLine, AllLines}
 use Rattle.flat_stress.specs.Words.{Word, number, session, pair, from_to}
 use Rattle.flat_stress.specs.Load.{says, opening, node, move, fill, viewport, present, host, guest}

@@ -1,7 +1,7 @@
 -- What holds of the loads.
 use Rattle.std.specs.Prelude.{◌≡◌, ◌≤◌, ℕ}
-use Rattle.flat_script.specs.declared.script.Script.{Script}
-use Rattle.flat_script.specs.Body.{dones}
+use Rattle.flat_places.specs.declared.script.Script.{Script}
+use Rattle.flat_forms.specs.Body.{dones}
 use Rattle.flat_script.specs.Grammar.{IsScript}
 use Rattle.flat_stress.specs.Load.{load_text}
 

@@ -38,7 +38,7 @@ use Rattle.flat_content.proofs.Serials.{of_serial-some}
 use Rattle.flat_content.specs.Reasons.{create_tests, image_tests, new_tests, properties_tests, room_tests, sort_tests, solid_tests, viewport_tests}
 use Rattle.flat_content.specs.Stands.{StandsFor}
 use Rattle.flat_content.specs.Laws.{IsCall, CallsStand, ContentCallsStand}
-use Rattle.std.proofs.lemmas.Bool.{not-false}
+use Rattle.std.proofs.lemmas.Bool.{not-false, eqb-false}
 
 none-some : (x : Option ℕ) → is_some x ≡ false → x ≡ None
 none-some None e = refl
@@ -52,9 +52,6 @@ some-none (Some n) e = (n, refl)
 first-none : (b : Bool) (reason : Reason) (rest : Option Reason) → cond b (Some reason) rest ≡ None → (b ≡ false) × (rest ≡ None)
 first-none true reason rest e = absurd (cc)
 first-none false reason rest e = (refl, e)
-
-not-zero : (n : ℕ) → (n == 0) ≡ false → n ≢ 0
-not-zero n e zero = let no : ◌≡◌ {A = Bool} true false = rw zero at e in absurd (cc)
 
 -- a change of one content, in the table and in the draft
 changed-made : (serial : ℕ) (f : Stored → Stored) (g : Made → Made) (contents : List Stored) (stored : Stored) → of_serial contents serial ≡ Some stored → as_made (f stored) ≡ g (as_made stored)
@@ -259,7 +256,7 @@ module _ (setup : Setup) (table : TableState) (draft : Draft) (s : StandsFor set
   new-allows c rest none =
       let first = first-none (c.0 == 0) ZeroId _ none in
       let second = first-none (is_some (key_named table.names c.0)) IdInUse _ first.1 in
-      (not-zero c.0 first.0, none-some (key_named table.names c.0) second.0)
+      (eqb-false c.0 0 first.0, none-some (key_named table.names c.0) second.0)
 
   create-stands : (c : ContentId) → IsCall setup table draft (CreateFilledRect c) (create_tests table c.0) (with_stored table c.0 (Fill None))
   create-stands c = record {

@@ -3,7 +3,8 @@ use Rattle.std.proofs.Common.{ℕ, ◌≡◌, ◌≢◌, ◌⊎◌, inl, inr, re
 use Rattle.std.specs.Prelude.{◌==◌, is_some}
 use Rattle.std.specs.Option.{option_map}
 use Rattle.std.specs.List.{Contains}
-use Rattle.std.proofs.lemmas.Bool.Decides.{eqb_tells, nat_tests}
+use Rattle.std.proofs.lemmas.Bool.{eqb-false}
+use Rattle.std.proofs.lemmas.Bool.Decides.{eqb_tells}
 use Rattle.flat_base.specs.declared.ids.TransformId.{TransformId}
 use Rattle.flat_base.specs.declared.ids.ContentId.{ContentId}
 use Rattle.flat_base.specs.declared.errors.Reason.{Reason}
@@ -33,9 +34,6 @@ no-reason true b r r' rest e = absurd (cc)
 no-reason false true r r' rest e = absurd (cc)
 no-reason false false r r' rest e = (refl, refl)
 
-not-zero : (n : ℕ) → (n == 0) ≡ false → n ≢ 0
-not-zero n e zero = absurd (grind (arith, nat_tests))
-
 module _ (setup : Setup) (graph : GraphState) (draft : Draft) (s : StandsFor graph draft) where
   -- a change of a node that keeps its serial, its children and its content
   set : (t : TransformId) (change : GraphNode → GraphNode) (f : Transform → Transform)
@@ -51,7 +49,7 @@ module _ (setup : Setup) (graph : GraphState) (draft : Draft) (s : StandsFor gra
     reason = rw (some-same graph draft s t, s.count) refl;
     stands = λ new serial allowed next made.
         let free = no-reason (t.0 == 0) (is_some (key_named graph.names t.0)) _ _ _ allowed in
-        stands-created graph draft s new t serial made (is-none (key_named graph.names t.0) free.1) (not-zero t.0 free.0) next;
+        stands-created graph draft s new t serial made (is-none (key_named graph.names t.0) free.1) (eqb-false t.0 0 free.0) next;
   }
 
   with-child : (p k : TransformId) → StandsFor (change_named graph p.0 (with_child (key_named graph.names k.0))) (effect draft (AddChild p k))

@@ -7,15 +7,15 @@ use Rattle.flat_base.specs.declared.ids.Actor.TheVariants.{Display, Session, Pro
 use Rattle.flat_base.specs.declared.ids.SessionNo.{SessionNo}
 use Rattle.flat_scene.specs.declared.script.ScriptLine.{ScriptLine}
 use Rattle.flat_scene.specs.declared.script.Body.{Body}
-use Rattle.flat_script.specs.declared.calls.CallName.{CallName}
-use Rattle.flat_script.specs.declared.script.Script.{Script}
-use Rattle.flat_script.specs.Known.{known_words}
-use Rattle.flat_script.specs.Forms.{Word, mapped}
-use Rattle.flat_script.specs.Names.{is_actor, actor_named}
-use Rattle.flat_script.specs.Calls.{call_form}
-use Rattle.flat_script.specs.Body.{time_begun, ends_frame, lines_of_actor, display_line, session_line, actor_line, counted_line, body_line, with_line}
+use Rattle.flat_forms.specs.declared.calls.CallName.{CallName}
+use Rattle.flat_places.specs.declared.script.Script.{Script}
+use Rattle.flat_places.specs.Known.{known_words}
+use Rattle.flat_places.specs.Forms.{Word, mapped}
+use Rattle.flat_places.specs.Names.{is_actor, actor_named}
+use Rattle.flat_forms.specs.Calls.{call_form}
+use Rattle.flat_forms.specs.Body.{time_begun, ends_frame, lines_of_actor, display_line, session_line, actor_line, counted_line, body_line, with_line}
 use Rattle.flat_print.specs.Print.{without_number}
-use Rattle.flat_script.proofs.lemmas.FormLemmas.{unless_ok, mapped_ok}
+use Rattle.flat_forms.proofs.lemmas.FormLemmas.{unless_ok, mapped_ok}
 
 abbrev pub with_lines : Script → List ScriptLine → Script
 with_lines s ls = record s { lines = ls }

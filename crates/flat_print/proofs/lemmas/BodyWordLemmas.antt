@@ -22,17 +22,16 @@ use Rattle.flat_scene.specs.declared.script.ProbeLine.{ProbeLine}
 use Rattle.flat_scene.specs.declared.script.ProbeLine.TheVariants as probe
 use Rattle.flat_scene.specs.declared.script.Body.{Body}
 use Rattle.flat_scene.specs.declared.script.Body.TheVariants as body
-use Rattle.flat_script.specs.declared.calls.CallName.{CallName}
-use Rattle.flat_script.specs.declared.script.Script.{Script}
-use Rattle.flat_script.specs.Known.{known_words}
-use Rattle.flat_script.specs.Forms.{Word, Reading, Form, Table, mapped, unless_kind, whole, give, ◌<$>◌}
-use Rattle.flat_script.specs.Names.{place_of, session_named, actor_named}
-use Rattle.flat_script.specs.Places.{time, u32, i32, content, point, session, fence}
-use Rattle.flat_script.specs.Places.{fence_word as tested_fence}
-use Rattle.flat_script.specs.Calls.{call_form, call_named, text}
-use Rattle.flat_script.specs.Body.{fence_lists, present, other_line, session_line, display_line, session_condition, display_condition, presents_asked, child_asked, probe_line, actor_line, begin_place, begin_times, is_open, in_order, greatest}
+use Rattle.flat_forms.specs.declared.calls.CallName.{CallName}
+use Rattle.flat_places.specs.declared.script.Script.{Script}
+use Rattle.flat_places.specs.Known.{known_words}
+use Rattle.flat_places.specs.Forms.{Word, Reading, Form, Table, mapped, unless_kind, whole, give, ◌<$>◌}
+use Rattle.flat_places.specs.Names.{place_of, session_named, actor_named}
+use Rattle.flat_places.specs.Places.{time, u32, i32, content, point, session, fence, fence_word as tested_fence}
+use Rattle.flat_forms.specs.Calls.{call_form, call_named, text}
+use Rattle.flat_forms.specs.Body.{fence_lists, present, other_line, session_line, display_line, session_condition, display_condition, presents_asked, child_asked, probe_line, actor_line, begin_place, begin_times, is_open, in_order, greatest}
 use Rattle.flat_print.specs.Print.{name_at, session_word, actor_word, condition_words, session_words, display_words, probe_words, body_words, present_words, call_name, call_fields}
-use Rattle.flat_script.proofs.lemmas.FormLemmas.{apply_ok, map_ok, place_ok, whole_ok, unless_ok, or_kind_ok, mapped_ok, Shown, shown_whole, shown_mapped}
+use Rattle.flat_forms.proofs.lemmas.FormLemmas.{apply_ok, map_ok, place_ok, whole_ok, unless_ok, or_kind_ok, mapped_ok, Shown, shown_whole, shown_mapped}
 use Rattle.flat_print.proofs.CallLemmas.{number_words, i32_words, content_words, fence_words, split, name_at-place_of, NamedCall, call_shown}
 use Rattle.flat_print.proofs.ListWordLemmas.{table_spelt, both_words, lists_spelt}
 

@@ -13,18 +13,18 @@ use Rattle.flat_base.specs.declared.ids.Actor.TheVariants.{Display, Session}
 use Rattle.flat_base.specs.declared.ids.SessionNo.{SessionNo}
 use Rattle.flat_text.specs.Number.{natural}
 use Rattle.flat_text.proofs.lemmas.NumberLemmas.{decimal-natural}
-use Rattle.flat_script.specs.declared.script.Script.{Script}
-use Rattle.flat_script.specs.Forms.{Word, whole, each, one_or_more, ◌<$>◌}
-use Rattle.flat_script.specs.Names.{place_of, session_named, owner_named}
-use Rattle.flat_script.specs.Places.{number_from}
-use Rattle.flat_script.specs.Head.{empty, size, side, owner_word, has_display, with_display, with_session, with_buffers, with_pair, with_fence}
+use Rattle.flat_places.specs.declared.script.Script.{Script}
+use Rattle.flat_places.specs.Forms.{Word, whole, each, one_or_more, ◌<$>◌}
+use Rattle.flat_places.specs.Names.{place_of, session_named, owner_named}
+use Rattle.flat_places.specs.Places.{number_from, owner_word}
+use Rattle.flat_forms.specs.Head.{empty, size, side, has_display, with_display, with_session, with_buffers, with_pair, with_fence}
 use Rattle.flat_print.specs.Print.{name_at, actor_word, name_words, numbered, buffers_line_words, pair_line_words, fence_line_words, display_line_words}
-use Rattle.flat_script.proofs.lemmas.FormLemmas.{both_ok, or_kind_ok, whole_ok, apply_ok, map_ok, place_ok}
+use Rattle.flat_forms.proofs.lemmas.FormLemmas.{both_ok, or_kind_ok, whole_ok, apply_ok, map_ok, place_ok}
 use Rattle.flat_print.proofs.CallLemmas.{name_at-place_of, test_ok}
 use Rattle.flat_print.proofs.lemmas.TextLemmas.{IsLine, AllLines, AllLines-append, room_of, room_of-append}
 use Rattle.flat_print.specs.Print.{spelled}
 use Rattle.flat_print.proofs.lemmas.WordLemmas.{numbered-append}
-use Rattle.flat_script.proofs.lemmas.StepLemmas.{SizeStep, SessionStep, BuffersStep, PairStep, FenceStep, Step, size_step, session_step, buffers_step, pair_step, fence_step, sort}
+use Rattle.flat_forms.proofs.lemmas.StepLemmas.{SizeStep, SessionStep, BuffersStep, PairStep, FenceStep, Step, size_step, session_step, buffers_step, pair_step, fence_step, sort}
 use Rattle.flat_print.proofs.SwapLemmas.{swap}
 use Rattle.std.proofs.lemmas.Bool.{and_parts}
 

@@ -10,21 +10,23 @@ use Rattle.flat_base.specs.declared.ids.Actor.TheVariants.{Display, Session, Pro
 use Rattle.flat_scene.specs.declared.script.Body.{Body}
 use Rattle.flat_scene.specs.declared.script.ScriptLine.{ScriptLine}
 use Rattle.flat_text.specs.Pieces.{words_of, lines_of}
-use Rattle.flat_script.specs.declared.script.Script.{Script}
+use Rattle.flat_places.specs.declared.script.Script.{Script}
 use Rattle.flat_script.specs.declared.script.ScriptFault.{ScriptFault}
-use Rattle.flat_script.specs.declared.script.Part.TheVariants as part
-use Rattle.flat_script.specs.Known.{known_words}
-use Rattle.flat_script.specs.Forms.{Word, Reading, mapped, whole, give}
-use Rattle.flat_script.specs.Head.{empty, has_display, first_line, head_line, run_line, is_ready, version}
-use Rattle.flat_script.specs.Body.{actor_line, body_line, is_open, with_line}
-use Rattle.flat_script.specs.Grammar.{Sofar, is_plain, is_skipped, words_read, line_read, lines_read, IsScript}
+use Rattle.flat_forms.specs.declared.lines.Part.TheVariants as part
+use Rattle.flat_places.specs.Known.{known_words}
+use Rattle.flat_places.specs.Forms.{Word, Reading, mapped, whole, give}
+use Rattle.flat_forms.specs.Head.{empty, has_display, first_line, head_line, run_line, is_ready}
+use Rattle.flat_places.specs.Places.{version}
+use Rattle.flat_forms.specs.Body.{actor_line, body_line, is_open, with_line}
+use Rattle.flat_forms.specs.Lines.{Sofar, words_read}
+use Rattle.flat_script.specs.Grammar.{is_plain, is_skipped, line_read, lines_read, IsScript}
 use Rattle.flat_print.specs.Print.{numbered, name_words, display_line_words, buffers_line_words, pair_line_words, fence_line_words, spelled, fed, actor_word, line_words, body_words, without_number, text_of, script_words, head_words, unnumbered, IsReadBack}
-use Rattle.flat_script.proofs.lemmas.FormLemmas.{mapped_ok, whole_ok, unless_ok, place_ok}
+use Rattle.flat_forms.proofs.lemmas.FormLemmas.{mapped_ok, whole_ok, unless_ok, place_ok}
 use Rattle.flat_print.proofs.lemmas.TextLemmas.{IsLine, AllLines, line_words_of, line_front, front_fits, spelled-words_of, lines_of_fed, AllLines-append, room_of, length-fed, room_of-append, lines_room, lines_room-lines_of}
 use Rattle.flat_print.proofs.lemmas.AgainLemmas.{with_lines, SameLines, times_same, dones_same, Again, body_again}
 use Rattle.flat_print.proofs.lemmas.BodyWordLemmas.{actor_spelt, body_shown}
-use Rattle.flat_script.proofs.lemmas.StepLemmas.{Step, step_read, size_step, session_step, buffers_step, pair_step, fence_step}
-use Rattle.flat_script.proofs.lemmas.FoundLemmas.{step_found}
+use Rattle.flat_forms.proofs.lemmas.StepLemmas.{Step, step_read, size_step, session_step, buffers_step, pair_step, fence_step}
+use Rattle.flat_forms.proofs.lemmas.FoundLemmas.{step_found}
 use Rattle.flat_print.proofs.lemmas.OrderLemmas.{Chain, Ordered, ordered_empty, insert, lines_kept}
 
 -- one line of a text

@@ -6,7 +6,7 @@ use Rattle.std.proofs.lemmas.List.Splits.{length-slice_split, join_with_byte-sli
 use Rattle.std.proofs.lemmas.List.Folds.{list_all-append}
 use Rattle.std.proofs.lemmas.Bool.Decides.{nat_tests}
 use Rattle.flat_text.specs.Pieces.{is_feed, is_space, words_of, lines_of, without_empty_end}
-use Rattle.flat_script.specs.Forms.{Word}
+use Rattle.flat_places.specs.Forms.{Word}
 use Rattle.flat_script.specs.Grammar.{is_plain, is_skipped}
 use Rattle.flat_print.specs.Print.{spelled, spaced, fed}
 use Rattle.std.proofs.lemmas.Bool.{and_parts}

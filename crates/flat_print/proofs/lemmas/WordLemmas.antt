@@ -3,7 +3,7 @@ use Rattle.std.proofs.Common.{◌≡◌, ℕ, List, [], ◌∷◌, ◌++◌, ref
 use Rattle.std.specs.List.{flat_map}
 use Rattle.std.proofs.lemmas.List.{take_more, map-append}
 use Rattle.std.proofs.lemmas.Grind.{flat_map-append}
-use Rattle.flat_script.specs.Forms.{Word}
+use Rattle.flat_places.specs.Forms.{Word}
 use Rattle.flat_print.specs.Print.{Writes, WritesLines, Starts, spaced, spelled, fed, numbered}
 
 pub spaced-append : (xs ys : List Word) → spaced (xs ++ ys) ≡ spaced xs ++ spaced ys

@@ -32,7 +32,7 @@ pub serial-zero : {A : Type 0} (xs : List A) → of_serial xs 0 ≡ None
 serial-zero [] = refl
 serial-zero (x ∷ xs) = serial-zero xs
 
-get-append : {A : Type 0} (xs ys : List A) (n : ℕ) → n < length xs → slice_get (xs ++ ys) n ≡ slice_get xs n
+pub get-append : {A : Type 0} (xs ys : List A) (n : ℕ) → n < length xs → slice_get (xs ++ ys) n ≡ slice_get xs n
 get-append [] ys n below = absurd (omega (arith, below))
 get-append (x ∷ xs) ys zero below = refl
 get-append (x ∷ xs) ys (suc n) below = get-append xs ys n (grind (arith, common_steps))

@@ -11,7 +11,7 @@ use Rattle.flat_base.specs.declared.ids.SessionNo.{SessionNo}
 use Rattle.flat_scene.specs.declared.calls.Call.{Call}
 use Rattle.flat_scene.specs.declared.journal.Entry.{Entry}
 use Rattle.flat_scene.specs.declared.journal.Kind.{Kind}
-use Rattle.flat_scene.specs.declared.journal.Kind.TheVariants.{View, Viewport, Close, Begin, Finish}
+use Rattle.flat_scene.specs.declared.journal.Kind.TheVariants.{View, Viewport, Close}
 use Rattle.flat_scene.specs.declared.setup.Setup.{Setup}
 use Rattle.flat_scene.specs.History.{◌▹◌, calls, closes, is_begin, is_closed, is_finish, is_session, presents}
 use Rattle.flat_base.proofs.lemmas.Tests.{and-left, and-right}
@@ -31,6 +31,7 @@ use Rattle.flat_states.proofs.Foreign.{AreTame, clears-count, foreign-live, fore
 use Rattle.flat_states.proofs.lemmas.Marks.{stamp-none}
 use Rattle.flat_states.proofs.PairTold.{clear-stamp, view-stamp}
 use Rattle.flat_states.proofs.SerialSteps.{serial-closing, serial-other, serial-own}
+use Rattle.flat_rules.proofs.lemmas.FrameKinds.{not-begin, not-finish}
 use Rattle.flat_rules.proofs.lemmas.ShownOwned.{all-calls-owned}
 use Rattle.flat_states.proofs.lemmas.StampSteps.{other-stamp}
 use Rattle.flat_states.proofs.lemmas.Stamped.{happening-lasts}
@@ -39,14 +40,6 @@ use Rattle.std.proofs.lemmas.Bool.{not-true, or_parts}
 
 -- ---- entries of sessions
 
-may-begin : (kind : Kind) → session_may kind ≡ true → is_begin kind ≡ false
-may-begin (Begin time) is = let wrong : false ≡ true = is in cc
-may-begin _ is = refl
-
-may-finish : (kind : Kind) → session_may kind ≡ true → is_finish kind ≡ false
-may-finish Finish is = let wrong : false ≡ true = is in cc
-may-finish _ is = refl
-
 pub session-may : (setup : Setup) (s : SessionNo) (h : List Entry) (e : Entry) → Legal setup (h ▹ e) → is_session s e.actor ≡ true → session_may e.kind ≡ true
 session-may setup s h e legal mine =
     let acts : may_act setup e.kind (Session s) ≡ true = ap (may_act setup e.kind) (sym (same-session s e.actor mine)) ∙ legal.1.may.acts in
@@ -54,10 +47,10 @@ session-may setup s h e legal mine =
 
 -- a session's entry is of no frame
 pub no-begin : (setup : Setup) (s : SessionNo) (h : List Entry) (e : Entry) → Legal setup (h ▹ e) → is_session s e.actor ≡ true → is_begin e.kind ≡ false
-no-begin setup s h e legal mine = may-begin e.kind (session-may setup s h e legal mine)
+no-begin setup s h e legal mine = not-begin e.kind (session-may setup s h e legal mine)
 
 pub no-finish : (setup : Setup) (s : SessionNo) (h : List Entry) (e : Entry) → Legal setup (h ▹ e) → is_session s e.actor ≡ true → is_finish e.kind ≡ false
-no-finish setup s h e legal mine = may-finish e.kind (session-may setup s h e legal mine)
+no-finish setup s h e legal mine = not-finish e.kind (session-may setup s h e legal mine)
 
 any-first : (xs : List Call) → list_any is_link xs ≡ false → AreTame xs
 any-first [] none = refl

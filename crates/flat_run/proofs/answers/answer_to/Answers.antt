@@ -3,7 +3,7 @@ use Rattle.flat_scene.specs.declared.frames.FrameOut.{FrameOut}
 use Rattle.flat_script.specs.declared.script.ScriptFault.{ScriptFault}
 use Rattle.flat_script.specs.declared.script.ScriptError.TheVariants as error
 use Rattle.flat_script.specs.Grammar.{text_read}
-use Rattle.flat_script.specs.Progress.{Fails}
+use Rattle.flat_script.specs.Answers.{Fails}
 use Rattle.flat_words.specs.declared.form.Form.TheVariants.{Play}
 use Rattle.flat_run.specs.declared.answers.Answer.{Answer}
 use Rattle.flat_run.specs.Answering.{IsReply}

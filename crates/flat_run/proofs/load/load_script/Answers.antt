@@ -1,7 +1,7 @@
 use Rattle.std.proofs.Common.{◌≡◌, ap, sym, ◌∙◌, Ok, Err, subst}
 use Rattle.flat_script.specs.declared.script.ScriptError.TheVariants as error
 use Rattle.flat_script.specs.Grammar.{text_read}
-use Rattle.flat_script.specs.Progress.{Fails}
+use Rattle.flat_script.specs.Answers.{Fails}
 use Rattle.flat_run.proofs.load.load_script.Goals as goal
 
 pub unreachable-requires : goal.unreachable-requires

@@ -1,0 +1,14 @@
+//! Tests of a session's draft and what it is made of, and of links and watchers: what no contract says, and what no
+//! worked case on the program reaches.
+#![tactic(auto)]
+
+#[cfg(test)]
+mod draft;
+#[cfg(test)]
+mod graph;
+#[cfg(test)]
+mod links;
+#[cfg(test)]
+mod scene;
+#[cfg(test)]
+mod watch;

@@ -1,0 +1,175 @@
+-- The lines of the body.
+use Rattle.std.specs.Prelude.{ℕ, nat_le, nat_lt, Bool, true, false, not, ◌&&◌, List, [], ◌∷◌, ◌++◌, length, Option, Some, None, Ok, Err, codes, count_by, fold, max, if◌then◌else◌}
+use Rattle.std.specs.List.{list_any, filter_map, before_first, after_first}
+use Rattle.std.specs.Option.{option_map_or}
+use Rattle.std.specs.Str.{bytes_eq}
+use Rattle.flat_base.specs.declared.ids.Actor.{Actor}
+use Rattle.flat_base.specs.declared.ids.Actor.TheVariants.{Display, Session, Probe}
+use Rattle.flat_base.specs.declared.ids.SessionNo.{SessionNo}
+use Rattle.flat_base.specs.declared.ids.FenceNo.{FenceNo}
+use Rattle.flat_scene.specs.declared.calls.PresentArgs.{PresentArgs}
+use Rattle.flat_scene.specs.declared.calls.Watch.TheVariants as watch
+use Rattle.flat_scene.specs.declared.script.Cond.{Cond}
+use Rattle.flat_scene.specs.declared.script.Cond.TheVariants as cond
+use Rattle.flat_scene.specs.declared.script.Line.{Line}
+use Rattle.flat_scene.specs.declared.script.Line.TheVariants as line
+use Rattle.flat_scene.specs.declared.script.DisplayLine.{DisplayLine}
+use Rattle.flat_scene.specs.declared.script.DisplayLine.TheVariants as display
+use Rattle.flat_scene.specs.declared.script.ProbeLine.{ProbeLine}
+use Rattle.flat_scene.specs.declared.script.ProbeLine.TheVariants as probe
+use Rattle.flat_scene.specs.declared.script.Body.{Body}
+use Rattle.flat_scene.specs.declared.script.Body.TheVariants as body
+use Rattle.flat_places.specs.declared.script.Script.{Script}
+use Rattle.flat_places.specs.Known.{knows}
+use Rattle.flat_places.specs.Forms.{Word, Reading, Form, both, unless_kind, give, place, whole, one_or_more, named, mapped, ◌<$>◌, ◌<*>◌}
+use Rattle.flat_places.specs.Names.{actor_named, is_actor}
+use Rattle.flat_places.specs.Places.{u32, time, content, point, session, fence, fence_word}
+use Rattle.flat_forms.specs.Calls.{call_named, call_form}
+
+-- Present
+
+-- a word that begins a list, where it is known
+abbrev pub is_keyword : List Word → Word → Word → Bool
+is_keyword known keyword w = knows known keyword && bytes_eq w keyword
+
+-- `acquire` and its fences, then `release` and its fences, each list with one or more
+abbrev pub fence_lists : List Word → (Word → Reading FenceNo) → List Word → Reading (List FenceNo × List FenceNo)
+fence_lists known test [] = Ok ([], [])
+fence_lists known test (w ∷ words) =
+    let is_acquire = is_keyword known (codes "acquire") in
+    let is_release = is_keyword known (codes "release") in
+    if is_acquire w then both (λ a r. (a, r)) (one_or_more test (before_first is_release words))
+    (if list_any is_release words then one_or_more test (after_first is_release words) else Ok [])
+    else (if is_release w then both (λ a r. (a, r)) (Ok []) (one_or_more test words) else Err 8)
+
+-- a time, and the lists
+abbrev pub present : List Word → Script → SessionNo → Form PresentArgs
+present known s a =
+    (λ t lists. record { time = t; acquire = lists.0; release = lists.1 }) <$> time <*> (λ words. (fence_lists known (fence_word s (Session a)) words, []))
+
+-- Wait
+
+-- what a session may wait for
+abbrev pub session_condition : List Word → Script → SessionNo → List Word → Reading Cond
+session_condition known s a = named known 6 (
+    (codes "frames", whole (cond.Frames <$> u32)) ∷ (codes "credits", whole (cond.Credits <$> u32)) ∷
+    (codes "taken", whole (cond.Taken <$> u32)) ∷ (codes "answers", whole (cond.Answers <$> u32)) ∷
+    (codes "fence", whole (cond.Fence <$> fence s (Session a))) ∷ [])
+
+-- so many presents of a session
+abbrev pub presents_asked : Script → Form Cond
+presents_asked s = (λ x n. cond.Presents x n) <$> session s <*> u32
+
+-- what the display may wait for
+abbrev pub display_condition : List Word → Script → List Word → Reading Cond
+display_condition known s = named known 6 (
+    (codes "presents", whole (presents_asked s)) ∷ (codes "fence", whole (cond.Fence <$> fence s Display)) ∷ [])
+
+-- sessions
+
+-- a get of a viewport
+abbrev pub child_asked : Form Line
+child_asked = (λ c. line.Get (watch.Child c)) <$> content
+
+-- a line of a session that is no call
+abbrev pub other_line : List Word → Script → SessionNo → List Word → Reading Line
+other_line known s a = named known 6 (
+    (codes "Present", whole (line.Present <$> present known s a)) ∷
+    (codes "GetLayout", whole (give (line.Get watch.Layout))) ∷
+    (codes "GetStatus", whole (give (line.Get watch.Status))) ∷
+    (codes "GetChildStatus", whole child_asked) ∷
+    (codes "Signal", whole (line.Signal <$> fence s (Session a))) ∷
+    (codes "Poll", whole (give line.Poll)) ∷
+    (codes "Wait", (λ rest. mapped line.Wait (session_condition known s a rest))) ∷
+    (codes "Disconnect", whole (give line.Disconnect)) ∷ [])
+
+-- a line of a session: a call, or one of the other lines
+abbrev pub session_line : List Word → Script → SessionNo → List Word → Reading Line
+session_line known s a [] = Err 6
+session_line known s a (w ∷ words) = option_map_or (λ n. mapped line.Call (whole (call_form s a n) words)) (call_named known w) (other_line known s a (w ∷ words))
+
+-- the display
+
+-- the time of a `begin`
+abbrev pub time_begun : Body → Option ℕ
+time_begun (body.Display d) = of d
+  where
+    of : DisplayLine → Option ℕ
+    of (display.Begin t) = Some t
+    of _ = None
+time_begun _ = None
+
+-- a `done`
+abbrev pub ends_frame : Body → Bool
+ends_frame (body.Display d) = of d
+  where
+    of : DisplayLine → Bool
+    of display.Done = true
+    of _ = false
+ends_frame _ = false
+
+-- the times of the begins so far
+abbrev pub begin_times : Script → List ℕ
+begin_times s = filter_map (λ l. time_begun l.body) s.lines
+
+-- how many frames are done
+abbrev pub dones : Script → ℕ
+dones s = count_by (λ l. ends_frame l.body) s.lines
+
+-- a frame is open
+abbrev pub is_open : Script → Bool
+is_open s = nat_lt (dones s) (length (begin_times s))
+
+-- the greatest of some times
+abbrev pub greatest : List ℕ → ℕ
+greatest ts = fold max 0 ts
+
+-- the time, where it isn't below the least one
+abbrev pub in_order : ℕ → Reading ℕ → Reading ℕ
+in_order least (Ok t) = if nat_le least t then Ok t else Err 12
+in_order least (Err k) = Err k
+
+-- a time that no earlier begin exceeds
+abbrev pub begin_place : Script → Form ℕ
+begin_place s = place (λ w. in_order (greatest (begin_times s)) (whole time (w ∷ [])))
+
+-- a line of the display
+abbrev pub display_line : List Word → Script → List Word → Reading DisplayLine
+display_line known s = named known 6 (
+    (codes "begin", (λ rest. mapped display.Begin (unless_kind 11 (nat_lt (length (begin_times s)) 512) (unless_kind 12 (not (is_open s)) (whole (begin_place s) rest))))) ∷
+    (codes "done", (λ rest. unless_kind 12 (is_open s) (whole (give display.Done) rest))) ∷
+    (codes "Signal", whole (display.Signal <$> fence s Display)) ∷
+    (codes "Wait", (λ rest. mapped display.Wait (display_condition known s rest))) ∷
+    (codes "hit", whole (point (λ x y. display.Hit x y))) ∷ [])
+
+-- probes
+
+-- a line of a probe
+abbrev pub probe_line : List Word → List Word → Reading ProbeLine
+probe_line known = named known 6 (
+    (codes "hit", whole (point (λ x y. probe.Hit x y))) ∷ (codes "await", whole (probe.Await <$> u32)) ∷ [])
+
+-- all actors
+
+-- what stands behind an actor
+abbrev pub actor_line : List Word → Script → Actor → List Word → Reading Body
+actor_line known s Display words = mapped body.Display (display_line known s words)
+actor_line known s (Session a) words = mapped body.Session (session_line known s a words)
+actor_line known s (Probe p) words = mapped body.Probe (probe_line known words)
+
+-- how many lines of the actor there are
+abbrev pub lines_of_actor : Script → Actor → ℕ
+lines_of_actor s a = count_by (λ l. is_actor l.actor a) s.lines
+
+-- the script with the line of that number at its end
+abbrev pub with_line : Script → ℕ → Actor → Body → Script
+with_line s n a b = record s { lines = s.lines ++ record { number = n; actor = a; body = b } ∷ [] }
+
+-- an actor has at most so many lines
+abbrev pub counted_line : List Word → Script → ℕ → Actor → List Word → Reading Script
+counted_line known s n a words = unless_kind 11 (nat_lt (lines_of_actor s a) 65536) (mapped (with_line s n a) (actor_line known s a words))
+
+-- an actor and its line
+abbrev pub body_line : List Word → Script → ℕ → List Word → Reading Script
+body_line known s n [] = Err 5
+body_line known s n (w ∷ words) = option_map_or (λ a. counted_line known s n a words) (actor_named s w) (Err 5)

@@ -1,0 +1,234 @@
+ghost use Rattle.std.specs.Prelude.{◌≡◌, IfOk};
+ghost use Rattle.flat_base.specs.declared.ids.SessionNo.{SessionNo};
+ghost use Rattle.flat_text.specs.Pieces.{is_space, pieces_left};
+ghost use Rattle.flat_places.specs.declared.script.Script.{Script};
+ghost use Rattle.flat_forms.specs.declared.calls.CallName.TheVariants.{SetTranslation, SetScale, CreateViewport, SetViewportProperties, CreateImage, SetImageDestinationSize, SetSolidFill};
+ghost use Rattle.flat_places.specs.Forms.{whole};
+ghost use Rattle.flat_forms.specs.Calls.{call_form, inset_or_none};
+ghost use Rattle.flat_places.specs.Index.{IsIndexed};
+ghost use Rattle.flat_places.specs.Reads.{Reads};
+ghost use Rattle.flat_forms.specs.Steps.{Reaches};
+
+use crate::calls::CallName;
+use crate::lines::LineError;
+use flat_base::{NoMemory, SessionNo};
+use flat_places::{Indexed, Places};
+use flat_scene::{Call, Inset};
+use std::alloc::Global;
+
+/// The call of that name that the words behind its name write.
+pub fn call(
+    alloc: Global,
+    script: &Indexed,
+    session: SessionNo,
+    name: CallName,
+    words: Option<&[u8]>,
+) -> Result<Call, LineError>
+    requires { IsIndexed script.now }
+    ensures { Reaches result (whole (call_form script.now.script session name) (pieces_left is_space words.entry)) }
+{
+    let mut places = Places::new(words);
+    let found = fields(&mut places, alloc, script, session, name)?;
+    Ok(places.finish(found)?)
+}
+
+/// The fields of a call.
+fn fields(
+    places: &mut Places,
+    alloc: Global,
+    script: &Indexed,
+    session: SessionNo,
+    name: CallName,
+) -> Result<Call, NoMemory>
+    requires { IsIndexed script.now }
+    ensures { IfOk result (λ v. Reads (call_form script.now.script session name) places.old places.new v) }
+{
+    match name {
+        CallName::CreateView => Ok(Call::CreateView {
+            pair: places.view_end(script, session),
+        }),
+        CallName::ReleaseView => Ok(Call::ReleaseView),
+        CallName::CreateTransform => Ok(Call::CreateTransform {
+            t: places.transform(),
+        }),
+        CallName::ReleaseTransform => Ok(Call::ReleaseTransform {
+            t: places.transform(),
+        }),
+        CallName::SetTranslation => Ok(set_translation(places)),
+        CallName::SetOrientation => Ok(Call::SetOrientation {
+            t: places.transform(),
+            o: places.orientation(),
+        }),
+        CallName::SetScale => Ok(set_scale(places)),
+        CallName::SetOpacity => Ok(Call::SetOpacity {
+            t: places.transform(),
+            v: places.u32(),
+        }),
+        CallName::SetClipBoundary => Ok(Call::SetClipBoundary {
+            t: places.transform(),
+            rect: places.clip(),
+        }),
+        CallName::AddChild => Ok(Call::AddChild {
+            p: places.transform(),
+            k: places.transform(),
+        }),
+        CallName::RemoveChild => Ok(Call::RemoveChild {
+            p: places.transform(),
+            k: places.transform(),
+        }),
+        CallName::SetRootTransform => Ok(Call::SetRootTransform {
+            t: places.transform(),
+        }),
+        CallName::CreateViewport => Ok(create_viewport(places, script, session)),
+        CallName::SetViewportProperties => Ok(set_viewport_properties(places)),
+        CallName::ReleaseViewport => Ok(Call::ReleaseViewport {
+            c: places.content(),
+        }),
+        CallName::CreateImage => Ok(create_image(places, script, session)),
+        CallName::SetImageSampleRegion => Ok(Call::SetImageSampleRegion {
+            c: places.content(),
+            rect: places.int_rect(),
+        }),
+        CallName::SetImageDestinationSize => Ok(set_image_destination_size(places)),
+        CallName::SetImageBlendingFunction => Ok(Call::SetImageBlendingFunction {
+            c: places.content(),
+            m: places.blend(),
+        }),
+        CallName::SetImageFlip => Ok(Call::SetImageFlip {
+            c: places.content(),
+            f: places.flip(),
+        }),
+        CallName::SetImageOpacity => Ok(Call::SetImageOpacity {
+            c: places.content(),
+            v: places.u32(),
+        }),
+        CallName::ReleaseImage => Ok(Call::ReleaseImage {
+            c: places.content(),
+        }),
+        CallName::CreateFilledRect => Ok(Call::CreateFilledRect {
+            c: places.content(),
+        }),
+        CallName::SetSolidFill => Ok(set_solid_fill(places)),
+        CallName::ReleaseFilledRect => Ok(Call::ReleaseFilledRect {
+            c: places.content(),
+        }),
+        CallName::SetHitRegions => Ok(Call::SetHitRegions {
+            t: places.transform(),
+            regions: places.regions(alloc)?,
+        }),
+        CallName::SetInfiniteHitRegion => Ok(Call::SetInfiniteHitRegion {
+            t: places.transform(),
+            i: places.interaction(),
+        }),
+        CallName::SetContent => Ok(Call::SetContent {
+            t: places.transform(),
+            c: places.content(),
+        }),
+        CallName::Clear => Ok(Call::Clear),
+    }
+}
+
+fn set_translation(places: &mut Places) -> Call
+    ensures { (s : Script) (a : SessionNo) → Reads (call_form s a SetTranslation) places.old places.new result }
+{
+    let t = places.transform();
+    let x = places.i32();
+    let y = places.i32();
+    Call::SetTranslation { t, x, y }
+}
+
+fn set_scale(places: &mut Places) -> Call
+    ensures { (s : Script) (a : SessionNo) → Reads (call_form s a SetScale) places.old places.new result }
+{
+    let t = places.transform();
+    let sx = places.u32();
+    let sy = places.u32();
+    Call::SetScale { t, sx, sy }
+}
+
+fn create_viewport(places: &mut Places, script: &Indexed, session: SessionNo) -> Call
+    requires { IsIndexed script.now }
+    ensures { Reads (call_form script.now.script session CreateViewport) places.old places.new result }
+{
+    let c = places.content();
+    let pair = places.viewport_end(script, session);
+    let w = places.u32();
+    let h = places.u32();
+    let given = places.inset_if_any();
+    Call::CreateViewport {
+        c,
+        pair,
+        w,
+        h,
+        inset: inset_or_none(given),
+    }
+}
+
+fn set_viewport_properties(places: &mut Places) -> Call
+    ensures { (s : Script) (a : SessionNo) → Reads (call_form s a SetViewportProperties) places.old places.new result }
+{
+    let c = places.content();
+    let w = places.u32();
+    let h = places.u32();
+    let inset = places.inset_if_any();
+    Call::SetViewportProperties { c, w, h, inset }
+}
+
+fn create_image(places: &mut Places, script: &Indexed, session: SessionNo) -> Call
+    requires { IsIndexed script.now }
+    ensures { Reads (call_form script.now.script session CreateImage) places.old places.new result }
+{
+    let c = places.content();
+    let buffers = places.collection(script, session);
+    let i = places.u32();
+    let w = places.u32();
+    let h = places.u32();
+    Call::CreateImage {
+        c,
+        buffers,
+        i,
+        w,
+        h,
+    }
+}
+
+fn set_image_destination_size(places: &mut Places) -> Call
+    ensures { (s : Script) (a : SessionNo) → Reads (call_form s a SetImageDestinationSize) places.old places.new result }
+{
+    let c = places.content();
+    let w = places.u32();
+    let h = places.u32();
+    Call::SetImageDestinationSize { c, w, h }
+}
+
+fn set_solid_fill(places: &mut Places) -> Call
+    ensures { (s : Script) (a : SessionNo) → Reads (call_form s a SetSolidFill) places.old places.new result }
+{
+    let c = places.content();
+    let r = places.colour();
+    let g = places.colour();
+    let b = places.colour();
+    let a = places.colour();
+    let w = places.u32();
+    let h = places.u32();
+    Call::SetSolidFill {
+        c,
+        r,
+        g,
+        b,
+        a,
+        w,
+        h,
+    }
+}
+
+fn inset_or_none(given: Option<Inset>) -> Inset
+    ensures { result ≡ inset_or_none given }
+{
+    given.unwrap_or(Inset {
+        top: 0,
+        right: 0,
+        bottom: 0,
+        left: 0,
+    })
+}

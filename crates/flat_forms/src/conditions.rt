@@ -1,0 +1,99 @@
+ghost use Rattle.std.specs.Prelude.{◌≡◌};
+ghost use Rattle.flat_text.specs.Pieces.{is_space, pieces_left};
+ghost use Rattle.flat_forms.specs.Body.{session_condition, display_condition, presents_asked};
+ghost use Rattle.flat_places.specs.Forms.{whole};
+ghost use Rattle.flat_places.specs.Index.{IsIndexed};
+ghost use Rattle.flat_places.specs.Known.{known_words};
+ghost use Rattle.flat_places.specs.Places.{u32};
+
+use crate::forms::owned_fence;
+use flat_base::{Actor, SessionNo};
+use flat_places::{Indexed, Places, is_word};
+use flat_scene::Cond;
+use flat_text::next_piece;
+
+/// What a session waits for, behind `Wait`.
+pub fn session_condition(
+    script: &Indexed,
+    session: SessionNo,
+    words: Option<&[u8]>,
+) -> Result<Cond, u32>
+    requires { IsIndexed script.now }
+    ensures { result ≡ session_condition known_words script.now.script session (pieces_left is_space words.entry) }
+{
+    let Some(words) = words else {
+        return Err(6);
+    };
+    let (word, rest) = next_piece(words, b' ');
+    if is_word(word, "frames") {
+        return match count(rest) {
+            Ok(n) => Ok(Cond::Frames(n)),
+            Err(k) => Err(k),
+        };
+    }
+    if is_word(word, "credits") {
+        return match count(rest) {
+            Ok(n) => Ok(Cond::Credits(n)),
+            Err(k) => Err(k),
+        };
+    }
+    if is_word(word, "taken") {
+        return match count(rest) {
+            Ok(n) => Ok(Cond::Taken(n)),
+            Err(k) => Err(k),
+        };
+    }
+    if is_word(word, "answers") {
+        return match count(rest) {
+            Ok(n) => Ok(Cond::Answers(n)),
+            Err(k) => Err(k),
+        };
+    }
+    if is_word(word, "fence") {
+        return match owned_fence(script, Actor::Session(session), rest) {
+            Ok(f) => Ok(Cond::Fence(f)),
+            Err(k) => Err(k),
+        };
+    }
+    Err(6)
+}
+
+/// What the display waits for, behind `Wait`.
+pub fn display_condition(script: &Indexed, words: Option<&[u8]>) -> Result<Cond, u32>
+    requires { IsIndexed script.now }
+    ensures { result ≡ display_condition known_words script.now.script (pieces_left is_space words.entry) }
+{
+    let Some(words) = words else {
+        return Err(6);
+    };
+    let (word, rest) = next_piece(words, b' ');
+    if is_word(word, "presents") {
+        return presents(script, rest);
+    }
+    if is_word(word, "fence") {
+        return match owned_fence(script, Actor::Display, rest) {
+            Ok(f) => Ok(Cond::Fence(f)),
+            Err(k) => Err(k),
+        };
+    }
+    Err(6)
+}
+
+/// The number that a condition asks for.
+fn count(words: Option<&[u8]>) -> Result<u32, u32>
+    ensures { result ≡ whole u32 (pieces_left is_space words.entry) }
+{
+    let mut places = Places::new(words);
+    let n = places.u32();
+    places.finish(n)
+}
+
+fn presents(script: &Indexed, words: Option<&[u8]>) -> Result<Cond, u32>
+    requires { IsIndexed script.now }
+    ensures { result ≡ whole (presents_asked script.now.script) (pieces_left is_space words.entry) }
+{
+    let mut places = Places::new(words);
+    let s = places.session(script);
+    let n = places.u32();
+    places.finish(Cond::Presents(s, n))
+}

@@ -1,0 +1,282 @@
+ghost use Rattle.std.specs.Prelude.{◌≡◌, ◌≤◌, ◌∷◌, false, length, nat_lt, not, codes, IsTrue, IfOk};
+ghost use Rattle.std.specs.Str.{bytes_eq};
+ghost use Rattle.flat_text.specs.Pieces.{is_space, pieces_left, words_of};
+ghost use Rattle.flat_places.specs.Known.{known_words};
+ghost use Rattle.flat_places.specs.Forms.{whole, give, unless_kind, mapped};
+ghost use Rattle.flat_forms.specs.Head as head;
+ghost use Rattle.flat_forms.specs.Head.{size, buffers, pair, run_line, first_line};
+ghost use Rattle.flat_places.specs.Places.{new_name, has_display_pair, fence, point};
+ghost use Rattle.flat_forms.specs.Body.{begin_place, begin_times, dones, greatest, display_line, probe_line};
+ghost use Rattle.flat_places.specs.Index.{IsIndexed};
+ghost use Rattle.flat_places.specs.Reads.{Reads};
+ghost use Rattle.flat_forms.specs.Steps.{ReachesBy};
+ghost use Rattle.flat_scene.specs.declared.script.DisplayLine.TheVariants.{Done};
+ghost use Rattle.flat_scene.specs.declared.script.DisplayLine.TheVariants as display;
+ghost use Rattle.flat_scene.specs.declared.script.ProbeLine.TheVariants as probe;
+
+use crate::conditions::display_condition;
+use crate::lines::LineError;
+use flat_base::{Actor, FenceNo, SessionNo};
+use flat_places::{Indexed, Places, is_word};
+use flat_scene::{
+    BufferDecl, DisplayLine, FenceDecl, Line, PairDecl, PresentArgs, ProbeLine, Watch,
+};
+use flat_text::{next_piece, read_natural};
+use std::alloc::Global;
+
+/// The version, behind `flatland`.
+pub fn first_line(words: &[u8]) -> Result<(), u32>
+    ensures { result ≡ first_line (words_of words.now) }
+{
+    let (word, rest) = next_piece(words, b' ');
+    if is_word(word, "flatland") {
+        let mut places = Places::new(rest);
+        places.version();
+        return places.finish(());
+    }
+    Err(4)
+}
+
+/// The size of the display, where `fresh` says whether it is the first.
+pub fn size(fresh: bool, words: Option<&[u8]>) -> Result<(u32, u32), u32>
+    ensures { result ≡ unless_kind 4 fresh (whole size (pieces_left is_space words.entry)) }
+{
+    let mut places = Places::new(words);
+    places.note_unless(4, fresh);
+    let w = places.number_from(1, 65536);
+    let h = places.number_from(1, 65536);
+    places.finish((w, h))
+}
+
+/// A session's name, where `room` says whether there may be one more.
+pub fn new_session<'a>(
+    script: &Indexed,
+    room: bool,
+    words: Option<&'a [u8]>,
+) -> Result<&'a [u8], u32>
+    requires { IsIndexed script.now }
+    ensures { mapped (λ w. w.now) result ≡ unless_kind 11 room (whole (new_name script.now.script) (pieces_left is_space words.entry)) }
+{
+    let mut places = Places::new(words);
+    places.note_unless(11, room);
+    let name = places.new_name(script);
+    places.finish(name)
+}
+
+/// A buffer collection, where `room` says whether there may be one more.
+pub fn buffers<'a>(
+    script: &Indexed,
+    room: bool,
+    words: Option<&'a [u8]>,
+) -> Result<(&'a [u8], BufferDecl), u32>
+    requires { IsIndexed script.now }
+    ensures { mapped (λ d. (d.0.now, d.1)) result ≡ unless_kind 11 room (whole (buffers script.now.script) (pieces_left is_space words.entry)) }
+{
+    let mut places = Places::new(words);
+    places.note_unless(11, room);
+    let name = places.new_name(script);
+    let owner = places.session(script);
+    let count = places.number_from(1, 64);
+    let w = places.number_from(1, 65536);
+    let h = places.number_from(1, 65536);
+    places.finish((name, BufferDecl { owner, count, w, h }))
+}
+
+/// A pair, where `room` says whether there may be one more, and `paired` whether
+/// the display has one.
+pub fn pair<'a>(
+    script: &Indexed,
+    room: bool,
+    paired: bool,
+    words: Option<&'a [u8]>,
+) -> Result<(&'a [u8], PairDecl), u32>
+    requires indexed { IsIndexed script.now }
+    requires paired { paired ≡ has_display_pair script.now.script }
+    ensures { mapped (λ d. (d.0.now, d.1)) result ≡ unless_kind 11 room (whole (pair script.now.script) (pieces_left is_space words.entry)) }
+{
+    let mut places = Places::new(words);
+    places.note_unless(11, room);
+    let name = places.new_name(script);
+    let viewport = places.pair_owner(script, paired);
+    let view = places.session(script);
+    places.finish((name, PairDecl { viewport, view }))
+}
+
+/// A fence, where `room` says whether there may be one more.
+pub fn fence<'a>(
+    alloc: Global,
+    script: &Indexed,
+    room: bool,
+    words: Option<&'a [u8]>,
+) -> Result<(&'a [u8], FenceDecl), LineError>
+    requires { IsIndexed script.now }
+    ensures { ReachesBy (λ d. (d.0.now, d.1)) result (unless_kind 11 room (whole (head.fence script.now.script) (pieces_left is_space words.entry))) }
+{
+    let mut places = Places::new(words);
+    places.note_unless(11, room);
+    let name = places.new_name(script);
+    let owners = places.owners(alloc, script)?;
+    match places.finish((name, FenceDecl { owners })) {
+        Ok(found) => Ok(found),
+        Err(k) => Err(LineError::Kind(k)),
+    }
+}
+
+/// The end of the head, where `ready` says whether all is there.
+pub fn run(ready: bool, words: Option<&[u8]>) -> Result<(), u32>
+    ensures { result ≡ unless_kind 4 ready (whole (give tt) (pieces_left is_space words.entry)) }
+{
+    let mut places = Places::new(words);
+    places.note_unless(4, ready);
+    places.finish(())
+}
+
+/// A fence of the actor, and nothing behind it.
+pub fn owned_fence(script: &Indexed, owner: Actor, words: Option<&[u8]>) -> Result<FenceNo, u32>
+    requires { IsIndexed script.now }
+    ensures { result ≡ whole (fence script.now.script owner) (pieces_left is_space words.entry) }
+{
+    let mut places = Places::new(words);
+    let found = places.fence(script, owner);
+    places.finish(found)
+}
+
+/// The time of a begin, where `begins` counts the earlier ones, `in_frame` says
+/// whether a frame is open, and `last` is the greatest earlier time.
+fn begin(
+    script: &Indexed,
+    begins: u32,
+    in_frame: bool,
+    last: u64,
+    words: Option<&[u8]>,
+) -> Result<u64, u32>
+    requires { last ≡ greatest (begin_times script.now.script) }
+    ensures { result ≡ unless_kind 11 (nat_lt begins 512) (unless_kind 12 (not in_frame) (whole (begin_place script.now.script) (pieces_left is_space words.entry))) }
+{
+    let mut places = Places::new(words);
+    places.note_unless(11, begins < 512);
+    places.note_unless(12, !in_frame);
+    let time = begin_time(&mut places, script, last);
+    places.finish(time)
+}
+
+/// A time that isn't before `last`, the greatest of the earlier begins.
+fn begin_time(places: &mut Places, script: &Indexed, last: u64) -> u64
+    requires { last ≡ greatest (begin_times script.now.script) }
+    ensures { Reads (begin_place script.now.script) places.old places.new result }
+{
+    let Some(word) = places.next() else {
+        places.note(8);
+        return 0;
+    };
+    match read_natural(word) {
+        Some(n) if n < 9223372036854775808 => {
+            if last as u128 <= n {
+                return n as u64;
+            }
+            places.note(12);
+            0
+        }
+        _ => {
+            places.note(7);
+            0
+        }
+    }
+}
+
+fn done(in_frame: bool, words: Option<&[u8]>) -> Result<DisplayLine, u32>
+    ensures { result ≡ unless_kind 12 in_frame (whole (give Done) (pieces_left is_space words.entry)) }
+{
+    let mut places = Places::new(words);
+    places.note_unless(12, in_frame);
+    places.finish(DisplayLine::Done)
+}
+
+/// What a line of the display writes, where `begins` and `dones` count the
+/// earlier ones and `last` is the greatest earlier time.
+pub fn display_line(
+    script: &Indexed,
+    begins: u32,
+    ended: u32,
+    last: u64,
+    words: Option<&[u8]>,
+) -> Result<DisplayLine, u32>
+    requires indexed { IsIndexed script.now }
+    requires begun { begins ≡ length (begin_times script.now.script) }
+    requires all_ended { ended ≡ dones script.now.script }
+    requires latest { last ≡ greatest (begin_times script.now.script) }
+    ensures { result ≡ display_line known_words script.now.script (pieces_left is_space words.entry) }
+{
+    let Some(words) = words else {
+        return Err(6);
+    };
+    let (word, rest) = next_piece(words, b' ');
+    if is_word(word, "begin") {
+        return match begin(script, begins, ended < begins, last, rest) {
+            Ok(time) => Ok(DisplayLine::Begin(time)),
+            Err(k) => Err(k),
+        };
+    }
+    if is_word(word, "done") {
+        return done(ended < begins, rest);
+    }
+    timeless_line(script, word, rest)
+}
+
+/// What a line of the display that is neither a begin nor a done writes, behind its
+/// first word.
+fn timeless_line(script: &Indexed, word: &[u8], words: Option<&[u8]>) -> Result<DisplayLine, u32>
+    requires { IsIndexed script.now }
+    ensures { bytes_eq word.now (codes "begin") ≡ false → bytes_eq word.now (codes "done") ≡ false → result ≡ display_line known_words script.now.script (word.now ∷ pieces_left is_space words.entry) }
+{
+    if is_word(word, "Signal") {
+        return match owned_fence(script, Actor::Display, words) {
+            Ok(f) => Ok(DisplayLine::Signal(f)),
+            Err(k) => Err(k),
+        };
+    }
+    if is_word(word, "Wait") {
+        return match display_condition(script, words) {
+            Ok(c) => Ok(DisplayLine::Wait(c)),
+            Err(k) => Err(k),
+        };
+    }
+    if is_word(word, "hit") {
+        return hit(words);
+    }
+    Err(6)
+}
+
+/// What a line of a probe writes.
+pub fn probe_line(words: Option<&[u8]>) -> Result<ProbeLine, u32>
+    ensures { result ≡ probe_line known_words (pieces_left is_space words.entry) }
+{
+    let Some(words) = words else {
+        return Err(6);
+    };
+    let (word, rest) = next_piece(words, b' ');
+    if is_word(word, "hit") {
+        return probe_hit(rest);
+    }
+    Err(6)
+}
+
+/// A question of the display, who is hit at a point.
+fn hit(words: Option<&[u8]>) -> Result<DisplayLine, u32>
+    ensures { result ≡ whole (point (λ x y. display.Hit x y)) (pieces_left is_space words.entry) }
+{
+    let mut places = Places::new(words);
+    let x = places.i32();
+    let y = places.i32();
+    places.finish(DisplayLine::Hit(x, y))
+}
+
+/// The same question of a probe.
+fn probe_hit(words: Option<&[u8]>) -> Result<ProbeLine, u32>
+    ensures { result ≡ whole (point (λ x y. probe.Hit x y)) (pieces_left is_space words.entry) }
+{
+    let mut places = Places::new(words);
+    let x = places.i32();
+    let y = places.i32();
+    places.finish(ProbeLine::Hit(x, y))
+}

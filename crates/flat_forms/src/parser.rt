@@ -1,0 +1,349 @@
+ghost use Rattle.std.specs.Prelude.{◌≡◌, ◌<◌, ◌≤◌, ◌+◌, ◌^◌, OnOk, OnErr, length, Ok, Err, nat_lt};
+ghost use Rattle.flat_text.specs.Pieces.{is_space, pieces_left, words_of};
+ghost use Rattle.flat_forms.specs.declared.lines.LineError.TheVariants.{Memory};
+ghost use Rattle.flat_forms.specs.declared.lines.Part.TheVariants.{Start};
+ghost use Rattle.flat_places.specs.Known.{known_words};
+ghost use Rattle.flat_places.specs.Forms.{Reading, mapped};
+ghost use Rattle.flat_forms.specs.Head.{has_display, display_line, session_line, buffers_line, pair_line, fence_line, head_line, is_ready, empty};
+ghost use Rattle.flat_forms.specs.Body.{with_line, counted_line, body_line, actor_line, lines_of_actor};
+ghost use Rattle.flat_forms.specs.Lines.{words_read};
+ghost use Rattle.flat_places.specs.Slots.{IsCounted};
+ghost use Rattle.flat_forms.specs.Steps.{Steps, Reaches};
+ghost use Rattle.flat_forms.specs.Progress.{Kept, sofar_of, SameFrames};
+
+use crate::counts::{ends_frame, last_after, limited, one_if, or_display, slot, time_begun};
+use crate::lines::{LineError, Part};
+use crate::{forms, session_forms};
+use flat_base::{
+    Actor, BUFFER_COLLECTIONS_MAX, FENCES_MAX, Items, LINES_PER_ACTOR_MAX, PAIRS_MAX, SESSIONS_MAX,
+};
+use flat_places::{Indexed, Meaning, Name, Names, Script, is_word};
+use flat_scene::{Body, ScriptLine, Setup};
+use flat_text::next_piece;
+use std::alloc::Global;
+
+/// The script so far, and counts over it, which are those of the script (`Kept`).
+#[derive(Drop)]
+pub struct Parser {
+    /// The part of the text that the next line is in.
+    pub part: Part,
+    /// The script so far, with its names.
+    pub text: Indexed,
+    /// Whether the display has a pair.
+    pub paired: bool,
+    /// The begins of frames.
+    pub begins: u32,
+    /// The ends of frames.
+    pub dones: u32,
+    /// The greatest time of a begin.
+    pub last: u64,
+    /// The lines of each actor, at its place of `slot`.
+    pub counts: [u32; 25],
+}
+
+impl Parser {
+    /// Nothing read yet. It takes no memory.
+    pub fn new(alloc: Global) -> Parser
+        ensures kept { Kept result }
+        ensures start { sofar_of result ≡ (Start, empty) }
+        ensures none { (result.begins ≡ 0) × (result.dones ≡ 0) }
+    {
+        Parser {
+            part: Part::Start,
+            text: Indexed {
+                script: empty(alloc),
+                names: Names::new(alloc),
+            },
+            paired: false,
+            begins: 0,
+            dones: 0,
+            last: 0,
+            counts: [0; 25],
+        }
+    }
+
+    fn has_display(&self) -> bool
+        ensures { result ≡ has_display self.now.text.script }
+    {
+        self.text.script.setup.width > 0
+    }
+
+    fn display(&mut self, words: Option<&[u8]>) -> Result<(), LineError>
+        requires { Kept self.old }
+        ensures steps { Steps result (display_line self.old.text.script (pieces_left is_space words.entry)) self.new.text.script }
+        ensures kept { OnOk result (Kept self.new) }
+        ensures same { SameFrames self.old self.new }
+    {
+        let (width, height) = forms::size(!self.has_display(), words)?;
+        self.text.script.setup.width = width;
+        self.text.script.setup.height = height;
+        Ok(())
+    }
+
+    fn session(&mut self, alloc: Global, words: Option<&[u8]>) -> Result<(), LineError>
+        requires { Kept self.old }
+        ensures steps { Steps result (session_line self.old.text.script (pieces_left is_space words.entry)) self.new.text.script }
+        ensures kept { OnOk result (Kept self.new) }
+        ensures same { SameFrames self.old self.new }
+    {
+        let number = self.text.script.sessions.len() as u32;
+        let name = forms::new_session(&self.text, number < SESSIONS_MAX, words)?;
+        self.text.script.setup.sessions += 1;
+        self.text.script.sessions.push(Name::new(name))?;
+        self.text
+            .names
+            .declare(alloc, name, Meaning::Session(number))?;
+        Ok(())
+    }
+
+    fn buffers(&mut self, alloc: Global, words: Option<&[u8]>) -> Result<(), LineError>
+        requires { Kept self.old }
+        ensures steps { Steps result (buffers_line self.old.text.script (pieces_left is_space words.entry)) self.new.text.script }
+        ensures kept { OnOk result (Kept self.new) }
+        ensures same { SameFrames self.old self.new }
+    {
+        let number = self.text.script.buffers.len() as u32;
+        let (name, decl) = forms::buffers(&self.text, number < BUFFER_COLLECTIONS_MAX, words)?;
+        self.text.script.setup.buffers.push(decl)?;
+        self.text.script.buffers.push(Name::new(name))?;
+        self.text
+            .names
+            .declare(alloc, name, Meaning::Buffers(number))?;
+        Ok(())
+    }
+
+    fn pair(&mut self, alloc: Global, words: Option<&[u8]>) -> Result<(), LineError>
+        requires { Kept self.old }
+        ensures steps { Steps result (pair_line self.old.text.script (pieces_left is_space words.entry)) self.new.text.script }
+        ensures kept { OnOk result (Kept self.new) }
+        ensures same { SameFrames self.old self.new }
+    {
+        let number = self.text.script.pairs.len() as u32;
+        let (name, decl) = forms::pair(&self.text, number < PAIRS_MAX, self.paired, words)?;
+        self.paired = or_display(self.paired, decl.viewport);
+        self.text.script.setup.pairs.push(decl)?;
+        self.text.script.pairs.push(Name::new(name))?;
+        self.text.names.declare(alloc, name, Meaning::Pair(number))?;
+        Ok(())
+    }
+
+    fn fence(&mut self, alloc: Global, words: Option<&[u8]>) -> Result<(), LineError>
+        requires { Kept self.old }
+        ensures steps { Steps result (fence_line self.old.text.script (pieces_left is_space words.entry)) self.new.text.script }
+        ensures kept { OnOk result (Kept self.new) }
+        ensures same { SameFrames self.old self.new }
+    {
+        let number = self.text.script.fences.len() as u32;
+        let (name, decl) = forms::fence(alloc, &self.text, number < FENCES_MAX, words)?;
+        self.text.script.setup.fences.push(decl)?;
+        self.text.script.fences.push(Name::new(name))?;
+        self.text
+            .names
+            .declare(alloc, name, Meaning::Fence(number))?;
+        Ok(())
+    }
+
+    fn head(&mut self, alloc: Global, words: &[u8]) -> Result<(), LineError>
+        requires { Kept self.old }
+        ensures steps { Steps result (head_line known_words self.old.text.script (words_of words.now)) self.new.text.script }
+        ensures kept { OnOk result (Kept self.new) }
+        ensures same { SameFrames self.old self.new }
+    {
+        let (word, rest) = next_piece(words, b' ');
+        if is_word(word, "display") {
+            return self.display(rest);
+        }
+        if is_word(word, "session") {
+            return self.session(alloc, rest);
+        }
+        if is_word(word, "buffers") {
+            return self.buffers(alloc, rest);
+        }
+        if is_word(word, "pair") {
+            return self.pair(alloc, rest);
+        }
+        if is_word(word, "fence") {
+            return self.fence(alloc, rest);
+        }
+        Err(LineError::Kind(4))
+    }
+
+    fn actor_line(
+        &self,
+        alloc: Global,
+        actor: Actor,
+        words: Option<&[u8]>,
+    ) -> Result<Body, LineError>
+        requires { Kept self.now }
+        ensures { Reaches result (actor_line known_words self.now.text.script actor (pieces_left is_space words.entry)) }
+    {
+        match actor {
+            Actor::Display => match forms::display_line(
+                &self.text,
+                self.begins,
+                self.dones,
+                self.last,
+                words,
+            ) {
+                Ok(found) => Ok(Body::Display(found)),
+                Err(k) => Err(LineError::Kind(k)),
+            },
+            Actor::Session(session) => match session_forms::session_line(
+                alloc, &self.text, session, words,
+            ) {
+                Ok(found) => Ok(Body::Session(found)),
+                Err(e) => Err(e),
+            },
+            Actor::Probe(_) => match forms::probe_line(words) {
+                Ok(found) => Ok(Body::Probe(found)),
+                Err(k) => Err(LineError::Kind(k)),
+            },
+        }
+    }
+
+    /// Whether the actor may have one more line.
+    fn has_room(&self, actor: Actor) -> bool
+        requires kept { Kept self.now }
+        requires counted { IsCounted actor }
+        ensures { result ≡ nat_lt (lines_of_actor self.now.text.script actor) 65536 }
+    {
+        self.counts[slot(actor)] < LINES_PER_ACTOR_MAX
+    }
+
+    /// Puts the line at the script's end.
+    fn take(&mut self, number: u32, actor: Actor, body: Body) -> Result<(), LineError>
+        requires kept { Kept self.old }
+        requires counted { IsCounted actor }
+        requires room { lines_of_actor self.old.text.script actor < 65536 }
+        requires begins { self.old.begins + 1 < 2 ^ 32 }
+        requires dones { self.old.dones + 1 < 2 ^ 32 }
+        ensures script { OnOk result (self.new.text.script ≡ with_line self.old.text.script number actor body) }
+        ensures kept { OnOk result (Kept self.new) }
+        ensures part { self.new.part ≡ self.old.part }
+        ensures memory { OnErr result (result ≡ Err Memory) }
+        ensures few { (self.new.begins ≤ self.old.begins + 1) × (self.new.dones ≤ self.old.dones + 1) }
+    {
+        let begun = time_begun(&body);
+        self.begins += one_if(begun.is_some());
+        self.last = last_after(self.last, begun);
+        self.dones += one_if(ends_frame(&body));
+        self.counts[slot(actor)] += 1;
+        self.text.script.lines.push(ScriptLine {
+            number,
+            actor,
+            body,
+        })?;
+        Ok(())
+    }
+
+    fn counted(
+        &mut self,
+        alloc: Global,
+        number: u32,
+        actor: Actor,
+        words: Option<&[u8]>,
+    ) -> Result<(), LineError>
+        requires kept { Kept self.old }
+        requires counted { IsCounted actor }
+        requires begins { self.old.begins + 1 < 2 ^ 32 }
+        requires dones { self.old.dones + 1 < 2 ^ 32 }
+        ensures steps { Steps result (counted_line known_words self.old.text.script number actor (pieces_left is_space words.entry)) self.new.text.script }
+        ensures kept { OnOk result (Kept self.new) }
+        ensures part { self.new.part ≡ self.old.part }
+        ensures few { (self.new.begins ≤ self.old.begins + 1) × (self.new.dones ≤ self.old.dones + 1) }
+    {
+        let room = self.has_room(actor);
+        match self.actor_line(alloc, actor, words) {
+            Ok(body) => {
+                if room {
+                    self.take(number, actor, body)
+                } else {
+                    Err(LineError::Kind(11))
+                }
+            }
+            Err(LineError::Kind(k)) => Err(LineError::Kind(limited(room, k))),
+            Err(LineError::Memory) => Err(LineError::Memory),
+        }
+    }
+
+    fn body(&mut self, alloc: Global, number: u32, words: &[u8]) -> Result<(), LineError>
+        requires kept { Kept self.old }
+        requires begins { self.old.begins + 1 < 2 ^ 32 }
+        requires dones { self.old.dones + 1 < 2 ^ 32 }
+        ensures steps { Steps result (body_line known_words self.old.text.script number (words_of words.now)) self.new.text.script }
+        ensures kept { OnOk result (Kept self.new) }
+        ensures part { self.new.part ≡ self.old.part }
+        ensures few { (self.new.begins ≤ self.old.begins + 1) × (self.new.dones ≤ self.old.dones + 1) }
+    {
+        let (word, rest) = next_piece(words, b' ');
+        let Some(actor) = self.text.actor(word) else {
+            return Err(LineError::Kind(5));
+        };
+        self.counted(alloc, number, actor, rest)
+    }
+
+    fn is_ready(&self) -> bool
+        requires { Kept self.now }
+        ensures { result ≡ is_ready self.now.text.script }
+    {
+        if !self.has_display() {
+            return false;
+        }
+        if self.text.script.sessions.len() == 0 {
+            return false;
+        }
+        self.paired
+    }
+
+    /// Reads the words of the line of that number. A line at fault, or want of memory,
+    /// ends the reading: nothing is said of the parser then.
+    pub fn words(&mut self, alloc: Global, number: u32, words: &[u8]) -> Result<(), LineError>
+        requires kept { Kept self.old }
+        requires begins { self.old.begins + 1 < 2 ^ 32 }
+        requires dones { self.old.dones + 1 < 2 ^ 32 }
+        ensures steps { Steps result (words_read known_words number (sofar_of self.old) (words_of words.now)) (sofar_of self.new) }
+        ensures kept { OnOk result (Kept self.new) }
+        ensures few { (self.new.begins ≤ self.old.begins + 1) × (self.new.dones ≤ self.old.dones + 1) }
+    {
+        match self.part {
+            Part::Start => {
+                forms::first_line(words)?;
+                self.part = Part::Head;
+                Ok(())
+            }
+            Part::Head => {
+                let (word, rest) = next_piece(words, b' ');
+                if is_word(word, "run") {
+                    forms::run(self.is_ready(), rest)?;
+                    self.part = Part::Body;
+                    return Ok(());
+                }
+                self.head(alloc, words)
+            }
+            Part::Body => self.body(alloc, number, words),
+        }
+    }
+}
+
+fn empty(alloc: Global) -> Script
+    ensures { result ≡ empty }
+{
+    Script {
+        setup: Setup {
+            width: 0,
+            height: 0,
+            sessions: 0,
+            probes: 0,
+            pairs: Items::new(alloc),
+            buffers: Items::new(alloc),
+            fences: Items::new(alloc),
+        },
+        sessions: Items::new(alloc),
+        probes: Items::new(alloc),
+        buffers: Items::new(alloc),
+        pairs: Items::new(alloc),
+        fences: Items::new(alloc),
+        lines: Items::new(alloc),
+        count: 0,
+    }
+}

@@ -1,0 +1,6 @@
+//! Tests of the lock, with threads: what no contract says, and what no
+//! worked case on the program reaches.
+#![tactic(auto)]
+
+#[cfg(test)]
+mod lock;

@@ -1,0 +1,228 @@
+ghost use Rattle.std.specs.Prelude.{◌≡◌, length, [], IfOk};
+ghost use Rattle.std.specs.List.{list_any};
+ghost use Rattle.flat_places.specs.Forms.{each};
+ghost use Rattle.flat_places.specs.Index.{IsIndexed};
+ghost use Rattle.flat_places.specs.Names.{is_actor};
+ghost use Rattle.flat_places.specs.Places.{session, view_end, viewport_end, collection, fence, owner, owner_word, new_name, pair_owner, owners, has_display_pair};
+ghost use Rattle.flat_places.specs.Reads.{Reads};
+
+use crate::names::{Indexed, is_name, is_word};
+use crate::places::Places;
+use flat_base::{Actor, ActorList, BufferNo, FenceNo, Items, NoMemory, PairNo, SessionNo};
+use flat_scene::FenceDecl;
+use std::alloc::Global;
+
+/// The places of names.
+impl<'a> Places<'a> {
+    /// A session that is declared.
+    pub fn session(&mut self, script: &Indexed) -> SessionNo
+        requires { IsIndexed script.now }
+        ensures { Reads (session script.now.script) self.old self.new result }
+    {
+        let Some(word) = self.next() else {
+            self.note(8);
+            return SessionNo(0);
+        };
+        match script.session(word) {
+            Some(found) => found,
+            None => {
+                self.note(9);
+                SessionNo(0)
+            }
+        }
+    }
+
+    fn owner(&mut self, script: &Indexed) -> Actor
+        requires { IsIndexed script.now }
+        ensures { Reads (owner script.now.script) self.old self.new result }
+    {
+        let Some(word) = self.next() else {
+            self.note(8);
+            return Actor::Display;
+        };
+        match script.owner(word) {
+            Some(found) => found,
+            None => {
+                self.note(9);
+                Actor::Display
+            }
+        }
+    }
+
+    /// Owners to the end of the line, one at least. Its only refusal is want of memory.
+    pub fn owners(&mut self, alloc: Global, script: &Indexed) -> Result<ActorList, NoMemory>
+        requires { IsIndexed script.now }
+        ensures { IfOk result (λ v. Reads (owners script.now.script) self.old self.new v) }
+    {
+        if self.words.is_none() {
+            self.note(8);
+            return Ok(Items::new(alloc));
+        }
+        self.each_owner(alloc, script)
+    }
+
+    fn each_owner(&mut self, alloc: Global, script: &Indexed) -> Result<ActorList, NoMemory>
+        requires { IsIndexed script.now }
+        ensures { IfOk result (λ v. Reads (λ words. (each (owner_word script.now.script) words, [])) self.old self.new v) }
+    {
+        let mut found = Items::new(alloc);
+        while self.words.is_some() {
+            let one = self.owner(script);
+            found.push(one)?;
+        }
+        Ok(found)
+    }
+
+    /// A pair whose view end the session owns.
+    pub fn view_end(&mut self, script: &Indexed, owner: SessionNo) -> PairNo
+        requires { IsIndexed script.now }
+        ensures { Reads (view_end script.now.script owner) self.old self.new result }
+    {
+        let Some(word) = self.next() else {
+            self.note(8);
+            return PairNo(0);
+        };
+        let Some(i) = script.pair_place(word) else {
+            self.note(9);
+            return PairNo(0);
+        };
+        match script.script.setup.pairs.as_slice().get(i as usize) {
+            Some(pair) if pair.view == owner => PairNo(i),
+            _ => {
+                self.note(10);
+                PairNo(0)
+            }
+        }
+    }
+
+    /// A pair whose viewport end the session owns.
+    pub fn viewport_end(&mut self, script: &Indexed, owner: SessionNo) -> PairNo
+        requires { IsIndexed script.now }
+        ensures { Reads (viewport_end script.now.script owner) self.old self.new result }
+    {
+        let Some(word) = self.next() else {
+            self.note(8);
+            return PairNo(0);
+        };
+        let Some(i) = script.pair_place(word) else {
+            self.note(9);
+            return PairNo(0);
+        };
+        match script.script.setup.pairs.as_slice().get(i as usize) {
+            Some(pair) if is_actor(Actor::Session(owner), pair.viewport) => PairNo(i),
+            _ => {
+                self.note(10);
+                PairNo(0)
+            }
+        }
+    }
+
+    /// A buffer collection that the session owns.
+    pub fn collection(&mut self, script: &Indexed, owner: SessionNo) -> BufferNo
+        requires { IsIndexed script.now }
+        ensures { Reads (collection script.now.script owner) self.old self.new result }
+    {
+        let Some(word) = self.next() else {
+            self.note(8);
+            return BufferNo(0);
+        };
+        let Some(i) = script.buffers_place(word) else {
+            self.note(9);
+            return BufferNo(0);
+        };
+        match script.script.setup.buffers.as_slice().get(i as usize) {
+            Some(buffers) if buffers.owner == owner => BufferNo(i),
+            _ => {
+                self.note(10);
+                BufferNo(0)
+            }
+        }
+    }
+
+    /// A fence that the actor owns.
+    pub fn fence(&mut self, script: &Indexed, owner: Actor) -> FenceNo
+        requires { IsIndexed script.now }
+        ensures { Reads (fence script.now.script owner) self.old self.new result }
+    {
+        let Some(word) = self.next() else {
+            self.note(8);
+            return FenceNo(0);
+        };
+        let Some(i) = script.fence_place(word) else {
+            self.note(9);
+            return FenceNo(0);
+        };
+        match script.script.setup.fences.as_slice().get(i as usize) {
+            Some(fence) if has_owner(fence, owner) => FenceNo(i),
+            _ => {
+                self.note(10);
+                FenceNo(0)
+            }
+        }
+    }
+
+    /// A name that isn't declared yet.
+    pub fn new_name(&mut self, script: &Indexed) -> &'a [u8]
+        requires { IsIndexed script.now }
+        ensures { Reads (new_name script.now.script) self.old self.new result.now }
+    {
+        let Some(word) = self.next() else {
+            self.note(8);
+            return &[];
+        };
+        if is_name(word) {
+            if !script.is_declared(word) {
+                return word;
+            }
+        }
+        self.note(4);
+        &[]
+    }
+
+    /// The owner of a viewport end, where `paired` says whether the display has a
+    /// pair already.
+    pub fn pair_owner(&mut self, script: &Indexed, paired: bool) -> Actor
+        requires indexed { IsIndexed script.now }
+        requires paired { paired ≡ has_display_pair script.now.script }
+        ensures { Reads (pair_owner script.now.script) self.old self.new result }
+    {
+        let Some(word) = self.next() else {
+            self.note(8);
+            return Actor::Display;
+        };
+        if paired {
+            if is_word(word, "display") {
+                self.note(4);
+                return Actor::Display;
+            }
+        }
+        match script.owner(word) {
+            Some(found) => found,
+            None => {
+                self.note(9);
+                Actor::Display
+            }
+        }
+    }
+}
+
+fn has_owner(fence: &FenceDecl, actor: Actor) -> bool
+    ensures { result ≡ list_any (is_actor actor) fence.now.owners }
+{
+    fence
+        .owners
+        .as_slice()
+        .iter()
+        .any(|owner| is_actor(actor, *owner))
+}
+
+fn is_actor(a: Actor, b: Actor) -> bool
+    ensures { result ≡ is_actor a b }
+{
+    match (a, b) {
+        (Actor::Display, Actor::Display) => true,
+        (Actor::Session(s), Actor::Session(t)) => s == t,
+        (Actor::Probe(p), Actor::Probe(q)) => p == q,
+        _ => false,
+    }
+}

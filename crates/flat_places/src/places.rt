@@ -1,0 +1,342 @@
+ghost use Rattle.std.specs.Prelude.{◌≡◌, ◌<◌, ◌≤◌, ◌^◌, ℕ, length, [], Ok, Err, IfSome, IfOk, IfErr, OnErr, FitsSigned, ◌+◌};
+ghost use Rattle.std.specs.Int.{w32};
+ghost use Rattle.flat_text.specs.Number.{signed};
+ghost use Rattle.flat_text.specs.Pieces.{is_space, pieces_left};
+ghost use Rattle.flat_places.specs.Forms.{passes, optional};
+ghost use Rattle.flat_places.specs.Places.{number_below, number_from, transform, content, time, u32, colour, i32, int_rect, inset, orientation, blend, flip, interaction, region, regions, version};
+ghost use Rattle.flat_places.specs.Reads.{Reads, TakesWord, left, sofar, lower, finished, reading_of};
+
+use flat_base::{ContentId, IntRect, Items, NoMemory, Orientation, TransformId};
+use flat_scene::{BlendMode, HitRegion, ImageFlip, Inset, Interaction, RegionList};
+use flat_text::{next_piece, read_natural, read_number};
+use std::alloc::Global;
+
+/// The words of a line that are left, and the lowest kind of fault so far.
+///
+/// Each method takes the words of its places and gives their value. Where a word is
+/// missing or at fault, it notes the kind, and the value says nothing; at the end
+/// `finish` gives the kind in place of the line's value.
+#[derive(Drop)]
+pub struct Places<'a> {
+    /// The words that are left, None where there is none.
+    pub words: Option<&'a [u8]>,
+    /// The lowest kind of fault so far.
+    pub fault: Option<u32>,
+}
+
+impl<'a> Places<'a> {
+    /// All these words, and no fault yet; None for no words.
+    pub fn new(words: Option<&'a [u8]>) -> Places<'a>
+        ensures words { left result ≡ pieces_left is_space words.entry }
+        ensures sofar { sofar result ≡ Ok tt }
+    {
+        Places { words, fault: None }
+    }
+
+    /// Takes the next word, None where none is left.
+    pub fn next(&mut self) -> Option<&'a [u8]>
+        ensures taken { TakesWord (left self.old) result (left self.new) }
+        ensures same { self.new.fault ≡ self.old.fault }
+    {
+        let words = self.words?;
+        let (word, rest) = next_piece(words, b' ');
+        self.words = rest;
+        Some(word)
+    }
+
+    /// Keeps the kind, unless a lower one was noted.
+    pub fn note(&mut self, kind: u32)
+        ensures words { self.new.words ≡ self.old.words }
+        ensures lower { sofar self.new ≡ lower (sofar self.old) (Err kind) }
+    {
+        self.fault = Some(lowest(self.fault, kind));
+    }
+
+    /// The same, unless the test passes.
+    pub fn note_unless(&mut self, kind: u32, test: bool)
+        ensures words { self.new.words ≡ self.old.words }
+        ensures lower { sofar self.new ≡ lower (sofar self.old) (passes kind test) }
+    {
+        if !test {
+            self.note(kind);
+        }
+    }
+
+    /// A number below that one.
+    fn number_below(&mut self, most: u128) -> u128
+        requires { 0 < most }
+        ensures reads { Reads (number_below most) self.old self.new result }
+        ensures small { result < most }
+    {
+        let Some(word) = self.next() else {
+            self.note(8);
+            return 0;
+        };
+        match read_natural(word) {
+            Some(n) if n < most => n,
+            _ => {
+                self.note(7);
+                0
+            }
+        }
+    }
+
+    /// The id of a transform.
+    pub fn transform(&mut self) -> TransformId
+        ensures { Reads transform self.old self.new result }
+    {
+        TransformId(self.number_below(18446744073709551616) as u64)
+    }
+
+    /// The id of a content.
+    pub fn content(&mut self) -> ContentId
+        ensures { Reads content self.old self.new result }
+    {
+        ContentId(self.number_below(18446744073709551616) as u64)
+    }
+
+    /// A time, below 2^63.
+    pub fn time(&mut self) -> u64
+        ensures { Reads time self.old self.new result }
+    {
+        self.number_below(9223372036854775808) as u64
+    }
+
+    /// A number of 32 bits.
+    pub fn u32(&mut self) -> u32
+        ensures { Reads u32 self.old self.new result }
+    {
+        self.number_below(4294967296) as u32
+    }
+
+    /// A channel of a colour, from 0 to 255.
+    pub fn colour(&mut self) -> u8
+        ensures { Reads colour self.old self.new result }
+    {
+        self.number_below(256) as u8
+    }
+
+    /// A number of the range, both ends in it.
+    pub fn number_from(&mut self, least: u32, most: u32) -> u32
+        ensures { Reads (number_from least most) self.old self.new result }
+    {
+        let Some(word) = self.next() else {
+            self.note(8);
+            return 0;
+        };
+        match read_natural(word) {
+            Some(n) if least as u128 <= n && n <= most as u128 => n as u32,
+            _ => {
+                self.note(7);
+                0
+            }
+        }
+    }
+
+    /// A number of 32 bits with a sign.
+    pub fn i32(&mut self) -> i32
+        ensures reads { Reads i32 self.old self.new result }
+        ensures fits { FitsSigned w32 result }
+    {
+        let Some(word) = self.next() else {
+            self.note(8);
+            return 0;
+        };
+        match signed_in(word) {
+            Some(n) if -2147483648 <= n && n <= 2147483647 => n as i32,
+            _ => {
+                self.note(7);
+                0
+            }
+        }
+    }
+
+    /// A rectangle: x, y, width and height.
+    pub fn int_rect(&mut self) -> IntRect
+        ensures { Reads int_rect self.old self.new result }
+    {
+        let x = self.i32();
+        let y = self.i32();
+        let w = self.i32();
+        let h = self.i32();
+        IntRect { x, y, w, h }
+    }
+
+    /// A rectangle, or None where no word is left.
+    pub fn clip(&mut self) -> Option<IntRect>
+        ensures { Reads (optional int_rect) self.old self.new result }
+    {
+        if self.words.is_none() {
+            return None;
+        }
+        Some(self.int_rect())
+    }
+
+    fn inset(&mut self) -> Inset
+        ensures { Reads inset self.old self.new result }
+    {
+        let top = self.number_below(65537) as u32;
+        let right = self.number_below(65537) as u32;
+        let bottom = self.number_below(65537) as u32;
+        let left = self.number_below(65537) as u32;
+        Inset {
+            top,
+            right,
+            bottom,
+            left,
+        }
+    }
+
+    /// An inset, or None where no word is left.
+    pub fn inset_if_any(&mut self) -> Option<Inset>
+        ensures { Reads (optional inset) self.old self.new result }
+    {
+        if self.words.is_none() {
+            return None;
+        }
+        Some(self.inset())
+    }
+
+    /// An orientation, written 1 to 4.
+    pub fn orientation(&mut self) -> Orientation
+        ensures { Reads orientation self.old self.new result }
+    {
+        let Some(word) = self.next() else {
+            self.note(8);
+            return Orientation::Ccw0;
+        };
+        match read_natural(word) {
+            Some(1) => Orientation::Ccw0,
+            Some(2) => Orientation::Ccw90,
+            Some(3) => Orientation::Ccw180,
+            Some(4) => Orientation::Ccw270,
+            _ => {
+                self.note(7);
+                Orientation::Ccw0
+            }
+        }
+    }
+
+    /// A blend mode, written 1 or 2.
+    pub fn blend(&mut self) -> BlendMode
+        ensures { Reads blend self.old self.new result }
+    {
+        let Some(word) = self.next() else {
+            self.note(8);
+            return BlendMode::Src;
+        };
+        match read_natural(word) {
+            Some(1) => BlendMode::Src,
+            Some(2) => BlendMode::SrcOver,
+            _ => {
+                self.note(7);
+                BlendMode::Src
+            }
+        }
+    }
+
+    /// How an image is flipped, written 1 to 3.
+    pub fn flip(&mut self) -> ImageFlip
+        ensures { Reads flip self.old self.new result }
+    {
+        let Some(word) = self.next() else {
+            self.note(8);
+            return ImageFlip::Plain;
+        };
+        match read_natural(word) {
+            Some(1) => ImageFlip::Plain,
+            Some(2) => ImageFlip::LeftRight,
+            Some(3) => ImageFlip::UpDown,
+            _ => {
+                self.note(7);
+                ImageFlip::Plain
+            }
+        }
+    }
+
+    /// How a hit region answers, written 0 or 1.
+    pub fn interaction(&mut self) -> Interaction
+        ensures { Reads interaction self.old self.new result }
+    {
+        let Some(word) = self.next() else {
+            self.note(8);
+            return Interaction::Default;
+        };
+        match read_natural(word) {
+            Some(0) => Interaction::Default,
+            Some(1) => Interaction::SemanticallyInvisible,
+            _ => {
+                self.note(7);
+                Interaction::Default
+            }
+        }
+    }
+
+    fn region(&mut self) -> HitRegion
+        ensures { Reads region self.old self.new result }
+    {
+        let area = self.int_rect();
+        let interaction = self.interaction();
+        HitRegion {
+            area: Some(area),
+            interaction,
+        }
+    }
+
+    /// Hit regions to the end of the line. Its only refusal is want of memory.
+    pub fn regions(&mut self, alloc: Global) -> Result<RegionList, NoMemory>
+        ensures { IfOk result (λ v. Reads (λ words. (regions words, [])) self.old self.new v) }
+    {
+        let mut found = Items::new(alloc);
+        while self.words.is_some() {
+            let one = self.region();
+            found.push(one)?;
+        }
+        Ok(found)
+    }
+
+    /// The version of scripts, which is 1.
+    pub fn version(&mut self)
+        ensures { Reads version self.old self.new tt }
+    {
+        let Some(word) = self.next() else {
+            self.note(8);
+            return;
+        };
+        match read_natural(word) {
+            Some(1) => {}
+            Some(n) if n < 4294967296 => self.note(13),
+            _ => self.note(7),
+        }
+    }
+
+    /// The value, where all words are taken and none had a fault; else the lowest
+    /// kind.
+    pub fn finish<T: Drop>(self, value: T) -> Result<T, u32>
+        ensures reads { result ≡ finished value self.entry }
+        ensures same { IfOk result (λ found. found ≡ value) }
+    {
+        match self.words {
+            None => match self.fault {
+                None => Ok(value),
+                Some(k) => Err(k),
+            },
+            Some(_) => Err(lowest(self.fault, 8)),
+        }
+    }
+}
+
+fn signed_in(word: &[u8]) -> Option<i128>
+    ensures { result ≡ signed word.now }
+{
+    read_number(word)
+}
+
+fn lowest(fault: Option<u32>, kind: u32) -> u32
+    ensures { lower {A = Unit {0}} (reading_of fault) (Err kind) ≡ Err result }
+{
+    match fault {
+        Some(k) if k <= kind => k,
+        _ => kind,
+    }
+}

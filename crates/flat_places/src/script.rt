@@ -1,0 +1,20 @@
+use crate::name::NameList;
+use flat_scene::{LineList, Setup};
+
+/// What a text declares and says: the setup of its head, the names that the head
+/// gives, and the lines of its body.
+#[derive(Debug, Drop)]
+pub struct Script {
+    pub setup: Setup,
+    /// Names in order of declaration. The numbers of sessions begin at 1, all
+    /// others at 0.
+    pub sessions: NameList,
+    pub probes: NameList,
+    pub buffers: NameList,
+    pub pairs: NameList,
+    pub fences: NameList,
+    /// The lines of the body, in the order of the text.
+    pub lines: LineList,
+    /// How many lines the text has, with those that are skipped.
+    pub count: u32,
+}

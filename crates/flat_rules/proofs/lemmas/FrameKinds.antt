@@ -1,0 +1,14 @@
+-- What a session may do is no begin of a frame, and no end of one.
+use Rattle.std.proofs.Common.{◌≡◌, true, false, refl}
+use Rattle.flat_scene.specs.declared.journal.Kind.{Kind}
+use Rattle.flat_scene.specs.declared.journal.Kind.TheVariants.{Begin, Finish}
+use Rattle.flat_scene.specs.History.{is_begin, is_finish}
+use Rattle.flat_rules.specs.Legal.{session_may}
+
+pub not-begin : (kind : Kind) → session_may kind ≡ true → is_begin kind ≡ false
+not-begin (Begin time) may = absurd (let h : false ≡ true = may in cc)
+not-begin _ may = refl
+
+pub not-finish : (kind : Kind) → session_may kind ≡ true → is_finish kind ≡ false
+not-finish Finish may = absurd (let h : false ≡ true = may in cc)
+not-finish _ may = refl

@@ -1,7 +1,0 @@
-use Rattle.flat_script.specs.Forms.{give}
-use Rattle.flat_script.proofs.ReadsLemmas.{read_unless, given}
-use Rattle.flat_script.proofs.forms.run.Goals as goal
-
-pub returns : goal.returns
-returns c = read_unless (give (tt {0})) 4 c.args.ready c.new-places.result c.new-places.ensures.words c.new-places.ensures.sofar
-    c.note_unless.ensures.words c.note_unless.ensures.lower (given (tt {0}) c.note_unless.new.self) c.finish.ensures.reads
