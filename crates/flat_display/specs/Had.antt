@@ -1,5 +1,5 @@
 -- what each display has had after a list of frames was shown to all, one after another
-use Rattle.std.specs.Prelude.{if◌then◌else◌, ◌≡◌, ⊤, ℕ, suc, ◌≤◌, ◌==◌, Bool, true, List, [], ◌∷◌, length, Option, None, Some, IsTrue}
+use Rattle.std.specs.Prelude.{if◌then◌else◌, ◌≡◌, ⊤, ℕ, suc, ◌≤◌, ◌==◌, Bool, true, List, [], ◌∷◌, length, map, Option, None, Some, IsTrue}
 use Rattle.std.specs.List.{list_any}
 use Rattle.flat_io.specs.Counts.{has_risen}
 use Rattle.flat_base.specs.declared.ids.FrameNo.{FrameNo}
@@ -54,3 +54,8 @@ module _ {D : Type 0} (told : D → Option (List FrameOut)) (count : D → ℕ) 
 -- Some frames were shown to these displays, whichever they were.
 abbrev pub AreShownSome : {D : Type 0} → (D → Option (List FrameOut)) → (D → ℕ) → List D → List D → Type 0
 AreShownSome told count olds news = (lost : List Lost) × (frames : List FrameOut) × AreDriven told count lost frames olds news
+
+-- Whatever came of a call, the same displays stand at the same places, each of the kind that it was. Some frames were shown to them.
+pub record AreKept {D : Type 0} (told : D → Option (List FrameOut)) (count : D → ℕ) (olds news : List D) {K : Type 0} (kind : D → K) : Type 0 where
+  pub kinds : map kind news ≡ map kind olds
+  pub some : AreShownSome told count olds news

@@ -7,9 +7,12 @@ ghost use Rattle.flat_run.specs.Promise.{CallForNothing};
 
 use flat_display::{Display, Tally};
 use flat_io::{StdSink, StdSource};
+use flat_race::OpenGate;
 use flat_run::flatland;
 use std::alloc::AllocError;
 use std::process::ExitCode;
+use std::sync::Wait;
+use std::thread::Threads;
 use std::{env, io};
 
 /// The status where memory ran out.
@@ -25,7 +28,7 @@ fn main(rt: HostRuntime) -> ExitCode {
         }
         Err(_) => Vec::new(rt.alloc()),
     };
-    ExitCode::from(status(&rt, words.as_slice()).unwrap_or(NO_MEMORY))
+    ExitCode::from(status(&rt, &rt, words.as_slice()).unwrap_or(NO_MEMORY))
 }
 
 /// The words after the program's name.
@@ -38,8 +41,12 @@ fn words(rt: &HostRuntime) -> io::Result<Vec<String>> {
 }
 
 /// The status of the call for these words, with one display, which counts its
-/// frames.
-fn status(rt: &HostRuntime, words: &[String]) -> Result<u8, AllocError>
+/// frames. The threads of a race are started by `threads`.
+fn status<T: Threads + Wait + Sync>(
+    rt: &HostRuntime,
+    threads: &T,
+    words: &[String],
+) -> Result<u8, AllocError>
     ensures statuses { IfOk result (λ s. IsTrue (s == 0 || s == 2 || s == 3 || s == 4 || s == 5 || s == 6)) }
     ensures usage { CallForNothing (map string_bytes words.now) → IfOk result (λ s. IsTrue (s == 2 || s == 5 || s == 6)) }
 {
@@ -48,5 +55,13 @@ fn status(rt: &HostRuntime, words: &[String]) -> Result<u8, AllocError>
     let mut sink = StdSink::new(io::writer(rt));
     let mut displays: Vec<Box<dyn Display>> = Vec::new(alloc);
     displays.push(Box::new(alloc, Tally::new())?)?;
-    Ok(flatland(alloc, words, &mut source, &mut sink, &mut displays))
+    Ok(flatland(
+        threads,
+        alloc,
+        words,
+        &mut source,
+        &mut sink,
+        &mut displays,
+        &OpenGate,
+    ))
 }

@@ -1,5 +1,5 @@
 -- What is answered to what a source gives, and what is written of it.
-use Rattle.std.proofs.Common.{◌≡◌, ◌≢◌, ◌==◌, ◌||◌, inl, inr, ◌⊎◌, ℕ, zero, suc, ◌<◌, Bool, true, false, List, [], ◌∷◌, ◌++◌, ap, ◌∙◌, length, take, Option, None, Some, Ok, Err, IfSome, IsTrue, refl, sym, subst, arith, append-nil}
+use Rattle.std.proofs.Common.{◌≡◌, ◌≢◌, ◌==◌, ◌||◌, inl, inr, ◌⊎◌, ℕ, zero, suc, ◌<◌, Bool, true, false, List, [], ◌∷◌, ◌++◌, ap, ◌∙◌, length, take, Option, Result, None, Some, Ok, Err, IfOk, IfSome, IsTrue, refl, sym, subst, arith, append-nil}
 use Rattle.std.proofs.lemmas.Bool.{lt-ltb, eqb-true}
 use Rattle.std.proofs.lemmas.List.{append_cancel_right}
 use Rattle.flat_base.specs.declared.limits.TheConstants.{SCRIPT_BYTES_MAX}
@@ -15,11 +15,16 @@ use Rattle.flat_words.specs.declared.form.Form.{Form}
 use Rattle.flat_words.specs.declared.form.Form.TheVariants.{Play, Race, Stress}
 use Rattle.flat_words.specs.Forms.{CallFor, words_of}
 use Rattle.flat_run.specs.Answering.{IsReply}
-use Rattle.flat_run.specs.Promise.{fault_line, is_read, AreGiven, AreAll, AreTooMany, Refuses, IsRefused, IsTold, IsAnswer, IsWhole, IsCutOff, GivesScript, IsThere}
+use Rattle.flat_run.specs.Promise.{fault_line, is_read, CallForNothing, AreTextOf, AreGiven, AreAll, AreTooMany, Refuses, IsRefused, IsTold, IsAnswer, IsWhole, IsCutOff, GivesScript, IsThere}
 
 -- the form that was found is that of the words
-pub called_for : (words : List (List ℕ)) (found : Option Form) (form : Form) → found ≡ Some form → IfSome found (λ f. CallFor words f × (f ≢ Race)) → CallFor words form
-called_for words found form is holds = (subst (λ (o : Option Form). IfSome o (λ f. CallFor words f × (f ≢ Race))) is holds).0
+pub called_for : (words : List (List ℕ)) (found : Option Form) (form : Form) → found ≡ Some form → IfSome found (λ f. CallFor words f) → CallFor words form
+called_for words found form is holds = subst (λ (o : Option Form). IfSome o (λ f. CallFor words f)) is holds
+
+-- where none was found, the words call for none
+pub none_called : {E : Type 0} (words : List (List ℕ)) (answer : Result (Option Form) E) → answer ≡ Ok None → ((form : Form) → CallFor words form → IfOk answer (λ found. found ≡ Some form)) → CallForNothing words
+none_called words answer is only form calls =
+    let found : None ≡ Some form = subst (λ r. IfOk r (λ found. found ≡ Some form)) is (only form calls) in cc
 
 -- ---- the bytes
 
@@ -126,38 +131,44 @@ there_no_fault words (Stress asked) form' left left' failed failed' text calls t
 
 -- and no read failed, where one was made
 pub there_no_read_fault : (words : List (List ℕ)) (form form' : Form) (left left' : Option (List ℕ)) (failed failed' : ℕ) → CallFor words form → IsThere form left left' failed failed'
-    → CallFor words form' → form' ≡ Play → IsTrue (has_risen failed failed') → ⊥
+    → CallFor words form' → is_read form' ≡ true → IsTrue (has_risen failed failed') → ⊥
 there_no_read_fault words Play form' left left' failed failed' calls there calls' is risen = let both : true ≡ false = sym risen ∙ there.steady in cc
 there_no_read_fault words Race form' left left' failed failed' calls there calls' is risen = let both : true ≡ false = sym risen ∙ there.steady in cc
-there_no_read_fault words (Stress asked) form' left left' failed failed' calls there calls' is risen = made form' (two_words form' asked (sym calls'.0 ∙ calls.0)) (ap is_read is)
+there_no_read_fault words (Stress asked) form' left left' failed failed' calls there calls' is risen = made form' (two_words form' asked (sym calls'.0 ∙ calls.0)) is
 
 -- ---- what is answered
+
+-- the text of a script that is read is all that was read
+text_of : (form : Form) → is_read form ≡ true → (left left' : Option (List ℕ)) (bytes : List ℕ) → AreAll bytes left left' → AreTextOf form left left' bytes
+text_of Play read left left' bytes all = all
+text_of Race read left left' bytes all = all
+text_of (Stress asked) read left left' bytes all = absurd (let wrong : false ≡ true = read in cc)
 
 -- What displays tell, and how a call found and left them.
 module _ {D : Type 0} (shown : D → Option (List FrameOut)) (faults : D → ℕ) (olds news : List D) where
   -- a status and a text of a refusal
-  pub refused : (bytes : List ℕ) (fault : ScriptFault) → text_read bytes ≡ Err fault → (status : ℕ) (text : List ℕ) → status ≡ 3 → text ≡ fault_line fault → news ≡ olds → IsReply shown faults olds news Play bytes status text
-  refused bytes fault read status text is_3 is same =
-      subst (λ n. IsReply shown faults olds news Play bytes n text) (sym is_3) (IsReply.refusal (record { fault = fault; read = read; is = is }) same)
+  pub refused : (form : Form) (bytes : List ℕ) (fault : ScriptFault) → text_read bytes ≡ Err fault → (status : ℕ) (text : List ℕ) → status ≡ 3 → text ≡ fault_line fault → news ≡ olds → IsReply shown faults olds news form bytes status text
+  refused form bytes fault read status text is_3 is same =
+      subst (λ n. IsReply shown faults olds news form bytes n text) (sym is_3) (IsReply.refusal (record { fault = fault; read = read; is = is }) same)
 
   -- the same bytes
-  pub reply_same : (bytes bytes' : List ℕ) (status : ℕ) (text : List ℕ) → bytes ≡ bytes' → IsReply shown faults olds news Play bytes status text → IsReply shown faults olds news Play bytes' status text
-  reply_same bytes bytes' status text same reply = subst (λ b. IsReply shown faults olds news Play b status text) same reply
+  pub reply_same : (form : Form) (bytes bytes' : List ℕ) (status : ℕ) (text : List ℕ) → bytes ≡ bytes' → IsReply shown faults olds news form bytes status text → IsReply shown faults olds news form bytes' status text
+  reply_same form bytes bytes' status text same reply = subst (λ b. IsReply shown faults olds news form b status text) same reply
 
   module _ (words : List (List ℕ)) (left left' : Option (List ℕ)) where
     -- bytes that were read whole
-    pub read_text : CallFor words Play → (bytes : List ℕ) → Given left left' (λ given after. (given ≡ bytes) × (after ≡ [])) → (status : ℕ) (text : List ℕ) → IsReply shown faults olds news Play bytes status text
+    pub read_text : (form : Form) → is_read form ≡ true → CallFor words form → (bytes : List ℕ) → Given left left' (λ given after. (given ≡ bytes) × (after ≡ [])) → (status : ℕ) (text : List ℕ) → IsReply shown faults olds news form bytes status text
         → IsAnswer shown faults olds news words left left' status text
-    read_text calls bytes it status text (IsReply.told told) = IsAnswer.told Play bytes calls (all_read left left' bytes it) told
-    read_text calls bytes it status text (IsReply.refusal refuses same) = IsAnswer.refusal Play calls refl (record { bytes = bytes; given = inl (all_read left left' bytes it); refuses = refuses }) same
+    read_text form read calls bytes it status text (IsReply.told told) = IsAnswer.told form bytes calls (text_of form read left left' bytes (all_read left left' bytes it)) told
+    read_text form read calls bytes it status text (IsReply.refusal refuses same) = IsAnswer.refusal form calls read (record { bytes = bytes; given = inl (all_read left left' bytes it); refuses = refuses }) same
 
     -- more bytes than a script may have
-    pub long_text : CallFor words Play → Given left left' (λ given after. SCRIPT_BYTES_MAX < length given) → (status : ℕ) (text : List ℕ) → status ≡ 3 → text ≡ fault_line (record { line = 0; kind = 1 }) → news ≡ olds
+    pub long_text : (form : Form) → is_read form ≡ true → CallFor words form → Given left left' (λ given after. SCRIPT_BYTES_MAX < length given) → (status : ℕ) (text : List ℕ) → status ≡ 3 → text ≡ fault_line (record { line = 0; kind = 1 }) → news ≡ olds
         → IsAnswer shown faults olds news words left left' status text
-    long_text calls it status text is_3 is same =
+    long_text form read calls it status text is_3 is same =
         let many = too_many left left' it in
         subst (λ n. IsAnswer shown faults olds news words left left' n text) (sym is_3)
-        (IsAnswer.refusal Play calls refl (record { bytes = many.0; given = inr many.1; refuses = record { fault = record { line = 0; kind = 1 }; read = too_long many.0 many.1.0; is = is } }) same)
+        (IsAnswer.refusal form calls read (record { bytes = many.0; given = inr many.1; refuses = record { fault = record { line = 0; kind = 1 }; read = too_long many.0 many.1.0; is = is } }) same)
 
     -- a load
     pub load_told : (asked status : ℕ) (text : List ℕ) → CallFor words (Stress asked) → status ≡ 0 → IsTold shown faults olds news (Stress asked) (load_text asked) text → IsAnswer shown faults olds news words left left' status text
@@ -181,7 +192,7 @@ module _ {D : Type 0} (shown : D → Option (List FrameOut)) (faults : D → ℕ
     -- ---- where a script is there
 
     -- then nothing but what ran is told
-    pub only_told : (form : Form) (failed failed' : ℕ) → form ≢ Race → CallFor words form → IsThere form left left' failed failed' → (status : ℕ) (text : List ℕ) → IsAnswer shown faults olds news words left left' status text → status ≡ 0
-    only_told form failed failed' runs calls there status text (IsAnswer.usage nothing same) = absurd (runs (nothing form calls))
-    only_told form failed failed' runs calls there status text (IsAnswer.refusal form' calls' read refused same) = absurd (there_no_fault words form form' left left' failed failed' text calls there calls' read refused)
-    only_told form failed failed' runs calls there status text (IsAnswer.told form' bytes calls' of told) = refl
+    pub only_told : (form : Form) (failed failed' : ℕ) → CallFor words form → IsThere form left left' failed failed' → (status : ℕ) (text : List ℕ) → IsAnswer shown faults olds news words left left' status text → status ≡ 0
+    only_told form failed failed' calls there status text (IsAnswer.usage nothing same) = absurd (nothing form calls)
+    only_told form failed failed' calls there status text (IsAnswer.refusal form' calls' read refused same) = absurd (there_no_fault words form form' left left' failed failed' text calls there calls' read refused)
+    only_told form failed failed' calls there status text (IsAnswer.told form' bytes calls' of told) = refl

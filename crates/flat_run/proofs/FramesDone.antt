@@ -21,8 +21,8 @@ use Rattle.flat_places.specs.declared.script.Script.{Script}
 use Rattle.flat_forms.specs.Body.{dones, ends_frame}
 use Rattle.flat_playable.specs.Playable.{is_playable, rise_from}
 use Rattle.flat_base.proofs.lemmas.Tests.{and-left}
-use Rattle.flat_run.proofs.Places.{rises}
-use Rattle.flat_run.proofs.Unread.{rise_first, rise_later}
+use Rattle.flat_play.proofs.lemmas.Places.{rises}
+use Rattle.flat_play.proofs.lemmas.Unread.{rise_first, rise_later}
 
 -- ---- lines whose numbers rise
 

@@ -11,7 +11,7 @@ use Rattle.flat_scene.specs.History.{history_of}
 use Rattle.flat_rules.specs.Legal.{frames}
 use Rattle.flat_report.specs.Report.{finished}
 use Rattle.flat_run.specs.Totals.{is_present, last_items, totals_of}
-use Rattle.flat_run.proofs.Seen.{finished_length}
+use Rattle.flat_play.proofs.lemmas.Seen.{finished_length}
 
 count_by-append : {A : Type 0} (p : A → Bool) (xs ys : List A) → count_by p (xs ++ ys) ≡ count_by p xs + count_by p ys
 count_by-append p xs ys =

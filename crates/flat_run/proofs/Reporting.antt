@@ -1,5 +1,5 @@
 -- What is said of a run that was played to its end.
-use Rattle.std.proofs.Common.{◌≡◌, ℕ, zero, suc, ◌==◌, ◌&&◌, true, List, [], length, Option, Result, Ok, Err, IfOk, refl, sym, ap, ◌∙◌, subst, arith}
+use Rattle.std.proofs.Common.{◌≡◌, ◌≢◌, ℕ, zero, suc, ◌==◌, ◌&&◌, true, false, List, [], length, Option, Result, Ok, Err, IfOk, refl, sym, ap, ◌∙◌, subst, arith}
 use Rattle.std.specs.List.{flat_map, zip}
 use Rattle.std.proofs.lemmas.Bool.{eqb-true}
 use Rattle.std.proofs.lemmas.Bool.Decides.{nat_tests}
@@ -21,14 +21,17 @@ use Rattle.flat_report.specs.Report.{report, finished, is_seeing, never_falls, n
 use Rattle.flat_places.specs.declared.script.Script.{Script}
 use Rattle.flat_forms.specs.Body.{dones}
 use Rattle.flat_playable.specs.Playable.{is_playable}
-use Rattle.flat_run.specs.declared.game.Game.{Game}
-use Rattle.flat_run.specs.Playing.{HasPlayed}
+use Rattle.flat_core.specs.Machines.{Machine}
+use Rattle.flat_report.specs.declared.report.HitAnswer.{HitAnswer}
+use Rattle.flat_scene.specs.Interleave.{IsWritten}
+use Rattle.flat_play.specs.Playing.{HasPlayed}
 use Rattle.flat_words.specs.declared.form.Form.{Form}
-use Rattle.flat_run.specs.Promise.{Ran, AreAsked, HasRun}
-use Rattle.flat_run.specs.Showing.{HaveSeen}
+use Rattle.flat_words.specs.declared.form.Form.TheVariants.{Play, Race, Stress}
+use Rattle.flat_run.specs.Promise.{Ran, AreAsked, HasRun, form_text, is_read}
+use Rattle.flat_play.specs.Showing.{HaveSeen}
 use Rattle.flat_base.proofs.lemmas.Tests.{and-left, and-right}
 use Rattle.flat_run.proofs.FramesDone.{frames-done}
-use Rattle.flat_run.proofs.Places.{setup_is, no_probes}
+use Rattle.flat_play.proofs.lemmas.Places.{setup_is, no_probes}
 
 -- what follows of each value follows of a result
 pub if_ok : {A E : Type 0} (P Q : A → Type 0) (r : Result A E) → ((v : A) → P v → Q v) → IfOk r P → IfOk r Q
@@ -48,40 +51,49 @@ none_seen script history none =
     let nothing : List ℕ = [] in
     ap (λ (ls : List ScriptLine). (0 == length ls) && true && never_falls (zip ls nothing)) (no_lines script.setup.probes script.lines none)
 
--- what ran, where a script was played to its end
-abbrev pub ran_of : Script → Game → List Lost → Ran
-ran_of script game lost = record { script = script; history = game.board.history; lost = lost; seen = [] }
+-- what ran, where a script was run to its end
+abbrev pub ran_of : Script → List Entry → List Lost → Ran
+ran_of script history lost = record { script = script; history = history; lost = lost; seen = [] }
 
--- a run that was played to its end, and what displays have had of it
-pub has_run : {D : Type 0} (shown : D → Option (List FrameOut)) (faults : D → ℕ) (form : Form) (script : Script) (game : Game) (lost : List Lost) (olds news : List D) → is_playable script ≡ true → HasPlayed script game.board game.frames.items game.answers
-    → HaveSeen shown faults game lost olds news → FamiliesAreAlone → Legal game.board.setup game.board.history → AreAsked form (frames game.board.history) → HasRun form (ran_of script game lost)
-has_run shown faults form script game lost olds news playable played seen alone legal asked =
-    let L : Setup → Type 0 = λ st. Legal st game.board.history in
-    let legal_here : L script.setup = subst L played.setup legal in
-    record {
-      run = record { legal = legal_here; interleaves = played.interleaves; loss = seen.loss; numbered = seen.numbered; seeing = none_seen script game.board.history (no_probes script playable) };
-      written = λ no_race. played.written;
-      asked = asked;
-      families = λ s. alone script.setup (owners_are script playable) game.board.history legal_here s;
-    }
+-- a form whose script is read asks for no number of frames, and tells the report
+pub none_asked : (form : Form) (n : ℕ) → is_read form ≡ true → AreAsked form n
+none_asked Play n read = tt
+none_asked Race n read = tt
+none_asked (Stress asked) n read = absurd (let wrong : false ≡ true = read in cc)
 
--- the displays have had the frames of the history
-pub have_had : {D : Type 0} (told : D → Option (List FrameOut)) (count : D → ℕ) (script : Script) (game : Game) (lost : List Lost) (olds news : List D) → HasPlayed script game.board game.frames.items game.answers
-    → HaveSeen told count game lost olds news → AreDriven told count lost (finished script.setup game.board.history) olds news
-have_had told count script game lost olds news played seen =
-    let S : List FrameOut → Type 0 = λ fs. AreDriven told count lost fs olds news in
-    subst S played.finishing seen.driven
+pub tells_report : (form : Form) (ran : Ran) → is_read form ≡ true → report ran.script ran.history ran.lost ran.seen ≡ form_text form ran
+tells_report Play ran read = refl
+tells_report Race ran read = refl
+tells_report (Stress asked) ran read = absurd (let wrong : false ≡ true = read in cc)
 
--- a load finishes as many frames as were asked for
-pub load_asked : (script : Script) (game : Game) (asked : ℕ) → is_playable script ≡ true → HasPlayed script game.board game.frames.items game.answers → Legal game.board.setup game.board.history → dones script ≡ asked → frames game.board.history ≡ asked
-load_asked script game asked playable played legal many =
-    let L : Setup → Type 0 = λ st. Legal st game.board.history in
-    frames-done script game.board.history playable (subst L played.setup legal) played.interleaves ∙ many
+module _ (script : Script) (board : Machine) (all : List FrameOut) (answers : List HitAnswer) (playable : is_playable script ≡ true) (played : HasPlayed script board all answers) where
+  legal_here : Legal board.setup board.history → Legal script.setup board.history
+  legal_here legal = let L : Setup → Type 0 = λ st. Legal st board.history in subst L played.setup legal
 
--- what a run hands to the report is written as its report
-pub handed_text : HandedIsReport → (script : Script) (game : Game) (lost handed : List Lost) (entries : List Entry) (sent : List Post) (frames_shown : List FrameOut) → is_playable script ≡ true → HasPlayed script game.board game.frames.items game.answers
-    → history_of entries ≡ game.board.history → sent ≡ posts game.board.setup game.board.history → frames_shown ≡ game.frames.items → handed ≡ lost → handed_report script entries sent frames_shown handed game.answers ≡ report script game.board.history lost []
-handed_text law script game lost handed entries sent frames_shown playable played entries_are sent_are shown_are lost_are =
-    law script entries sent frames_shown handed game.answers (eqb-true script.setup.probes 0 (no_probes script playable))
-    (sent_are ∙ ap (λ (st : Setup). posts st game.board.history) played.setup ∙ ap (posts script.setup) (sym entries_are)) (shown_are ∙ played.finishing ∙ ap (finished script.setup) (sym entries_are))
-    (played.answering ∙ ap (answers_of script.setup) (sym entries_are)) ∙ ap (λ (h : List Entry). report script h handed []) entries_are ∙ ap (λ (ls : List Lost). report script game.board.history ls []) lost_are
+  -- a run that came to its end, and what displays have had of it
+  pub has_run : {D : Type 0} (shown : D → Option (List FrameOut)) (faults : D → ℕ) (form : Form) (lost : List Lost) (olds news : List D) → (form ≢ Race → IsWritten script.setup board.history)
+      → HaveSeen shown faults all board.history lost olds news → FamiliesAreAlone → Legal board.setup board.history → AreAsked form (frames board.history) → HasRun form (ran_of script board.history lost)
+  has_run shown faults form lost olds news written seen alone legal asked = record {
+    run = record { legal = legal_here legal; interleaves = played.interleaves; loss = seen.loss; numbered = seen.numbered; seeing = none_seen script board.history (no_probes script playable) };
+    written = written;
+    asked = asked;
+    families = λ s. alone script.setup (owners_are script playable) board.history (legal_here legal) s;
+  }
+
+  -- the displays have had the frames of the history
+  pub have_had : {D : Type 0} (told : D → Option (List FrameOut)) (count : D → ℕ) (lost : List Lost) (olds news : List D) → HaveSeen told count all board.history lost olds news → AreDriven told count lost (finished script.setup board.history) olds news
+  have_had told count lost olds news seen =
+      let S : List FrameOut → Type 0 = λ fs. AreDriven told count lost fs olds news in
+      subst S played.finishing seen.driven
+
+  -- a load finishes as many frames as were asked for
+  pub load_asked : (asked : ℕ) → Legal board.setup board.history → dones script ≡ asked → frames board.history ≡ asked
+  load_asked asked legal many = frames-done script board.history playable (legal_here legal) played.interleaves ∙ many
+
+  -- what a run hands to the report is written as its report
+  pub handed_text : HandedIsReport → (lost handed : List Lost) (entries : List Entry) (sent : List Post) (frames_shown : List FrameOut) → history_of entries ≡ board.history → sent ≡ posts board.setup board.history
+      → frames_shown ≡ all → handed ≡ lost → handed_report script entries sent frames_shown handed answers ≡ report script board.history lost []
+  handed_text law lost handed entries sent frames_shown entries_are sent_are shown_are lost_are =
+      law script entries sent frames_shown handed answers (eqb-true script.setup.probes 0 (no_probes script playable))
+      (sent_are ∙ ap (λ (st : Setup). posts st board.history) played.setup ∙ ap (posts script.setup) (sym entries_are)) (shown_are ∙ played.finishing ∙ ap (finished script.setup) (sym entries_are))
+      (played.answering ∙ ap (answers_of script.setup) (sym entries_are)) ∙ ap (λ (h : List Entry). report script h handed []) entries_are ∙ ap (λ (ls : List Lost). report script board.history ls []) lost_are

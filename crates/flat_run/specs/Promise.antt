@@ -16,27 +16,23 @@ use Rattle.flat_rules.specs.Legal.{frames}
 use Rattle.flat_places.specs.declared.script.Script.{Script}
 use Rattle.flat_script.specs.declared.script.ScriptFault.{ScriptFault}
 use Rattle.flat_script.specs.Grammar.{text_read}
-use Rattle.flat_display.specs.Had.{AreDriven, AreShownSome}
+use Rattle.flat_display.specs.Had.{AreDriven}
 use Rattle.flat_report.specs.Report.{report, finished}
 use Rattle.flat_report.specs.Laws.{IsRun}
 use Rattle.flat_stress.specs.Load.{load_text}
 use Rattle.flat_stress.specs.Summary.{summary_line}
 use Rattle.flat_words.specs.declared.form.Form.{Form}
 use Rattle.flat_words.specs.declared.form.Form.TheVariants.{Play, Race, Stress}
-use Rattle.flat_words.specs.Forms.{CallFor, words_of}
+use Rattle.flat_words.specs.Forms.{CallFor}
 use Rattle.flat_run.specs.Totals.{totals_of}
 
 -- ---- the words
 
--- the words that ask for a script to be played
-abbrev pub play_words : List (List ℕ)
-play_words = words_of Play
-
--- The words call for nothing that is run: for nothing at all, or for a race.
+-- The words call for no form.
 abbrev pub CallForNothing : List (List ℕ) → Type 0
-CallForNothing words = (form : Form) → CallFor words form → form ≡ Race
+CallForNothing words = (form : Form) → CallFor words form → ⊥
 
--- what is written where the words call for nothing that is run
+-- what is written where the words call for no form
 abbrev pub usage_line : List ℕ
 usage_line = codes "usage: flatland play | race | stress N" ++ 10 ∷ []
 
@@ -143,11 +139,6 @@ module _ {D : Type 0} (shown : D → Option (List FrameOut)) (faults : D → ℕ
     pub text : List ℕ
     pub is : IsAnswer words left left' status text
     pub part : AppendsPrefix text held held'
-
-  -- Whatever came of the call, the same displays stand at the same places, each of the kind that it was. Some frames were shown to them.
-  pub record AreKept {K : Type 0} (kind : D → K) : Type 0 where
-    pub kinds : map kind news ≡ map kind olds
-    pub some : AreShownSome shown faults olds news
 
 -- ---- where a script is given
 

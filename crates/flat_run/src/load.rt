@@ -4,17 +4,18 @@ ghost use Rattle.flat_scene.specs.History.{history_of};
 ghost use Rattle.flat_script.specs.Grammar.{text_read};
 ghost use Rattle.flat_stress.specs.Load.{load_text};
 ghost use Rattle.flat_words.specs.declared.form.Form.TheVariants.{Stress};
-ghost use Rattle.flat_run.specs.Promise.{IsTold, AreKept};
+ghost use Rattle.flat_display.specs.Had.{AreKept};
+ghost use Rattle.flat_run.specs.Promise.{IsTold};
 ghost use Rattle.flat_run.specs.Totals.{is_present, last_items, totals_of};
 
 use crate::answers::{Answer, DONE};
-use crate::run::run;
 use flat_base::NoMemory;
 use flat_display::Display;
-use flat_places::Script;
+use flat_play::play_script;
 use flat_playable::scripts_are_playable;
 use flat_rules::families_are_alone;
 use flat_scene::{Entry, FrameOut, Journal, Kind, Setup};
+use flat_places::Script;
 use flat_script::{ScriptError, parse};
 use flat_stress::{Totals, loads_are_scripts, loads_have_their_frames, summary};
 use std::alloc::Global;
@@ -82,10 +83,9 @@ fn summed(
     families_are_alone();
     scripts_are_playable();
     loads_have_their_frames();
-    let played = run(alloc, script, displays)?;
-    let game = &played.game;
-    let journal = game.board.journal();
-    let totals = totals_of(frames, &script.setup, journal, game.frames.as_slice());
+    let played = play_script(alloc, script, displays)?;
+    let journal = played.board.journal();
+    let totals = totals_of(frames, &script.setup, journal, played.frames.as_slice());
     summary(alloc, totals)
 }
 

@@ -1,22 +1,24 @@
-ghost use Rattle.std.specs.Prelude.{◌≡◌, ◌≢◌, ◌<◌, ◌≤◌, ◌^◌, ◌||◌, ◌==◌, ℕ, List, false, length, map, IfOk, IfSome, IsTrue, None, Some, Ok, Err};
+ghost use Rattle.std.specs.Prelude.{◌≡◌, ◌≢◌, ◌<◌, ◌≤◌, ◌^◌, ◌||◌, ◌==◌, ℕ, List, true, false, length, map, IfOk, IsTrue, Err};
 ghost use Rattle.std.specs.String.{string_bytes};
 ghost use Rattle.flat_io.specs.Counts.{has_risen};
 ghost use Rattle.flat_io.specs.Told.{Appends};
 ghost use Rattle.flat_io.specs.Whole.{AppendsPrefix};
 ghost use Rattle.flat_words.specs.declared.form.Form.{Form};
-ghost use Rattle.flat_words.specs.declared.form.Form.TheVariants.{Play, Race};
 ghost use Rattle.flat_words.specs.Forms.{CallFor, IsAllowed};
-ghost use Rattle.flat_run.specs.Promise.{play_words, CallForNothing, AreGiven, IsAnswer, IsWhole, IsCutOff, IsThere, AreKept};
+ghost use Rattle.flat_display.specs.Had.{AreKept};
+ghost use Rattle.flat_run.specs.Promise.{is_read, CallForNothing, AreGiven, IsAnswer, IsWhole, IsCutOff, IsThere};
 
-use crate::answers::{Answer, DONE, REFUSED, Unanswered, play};
+use crate::answers::{Answer, DONE, REFUSED, Unanswered, run_source};
 use crate::load::stress;
-use flat_base::NoMemory;
 use flat_display::Display;
 use flat_io::{Sink, Source, write_all};
+use flat_race::Gate;
 use flat_words::{Form, read};
 use std::alloc::Global;
+use std::sync::Wait;
+use std::thread::Threads;
 
-/// What is written where the words are no form that runs.
+/// What is written where the words call for no form.
 const USAGE: &[u8] = b"usage: flatland play | race | stress N\n";
 
 /// The other statuses of a call.
@@ -28,26 +30,16 @@ const WRITE_FAULT: u8 = 5;
 
 const NO_MEMORY: u8 = 6;
 
-/// The form for which the words call, where it is one that runs: a race isn't yet.
-fn form_to_run(alloc: Global, words: &[String]) -> Result<Option<Form>, NoMemory>
-    ensures form { IfOk result (λ found. IfSome found (λ form. CallFor (map string_bytes words.now) form × (form ≢ Race))) }
-    ensures none { result ≡ Ok None → CallForNothing (map string_bytes words.now) }
-{
-    match read(alloc, words)? {
-        Some(Form::Race) => Ok(None),
-        form => Ok(form),
-    }
-}
-
-/// The answer to a form that runs.
-fn answer_to<R: Source>(
+/// The answer to a form.
+fn answer_to<T: Threads + Wait + Sync, R: Source, G: Gate>(
+    rt: &T,
     alloc: Global,
     form: Form,
     source: &mut R,
     displays: &mut Vec<Box<dyn Display>>,
+    gate: &G,
 ) -> Result<Answer, Unanswered>
     requires allowed { IsAllowed form }
-    requires runs { form ≢ Race }
     requires few { length displays.old.items < 2 ^ 32 }
     ensures answer { (words : List (List ℕ)) → CallFor words form →
         IfOk result (λ answer. IsAnswer (λ d. shown d)
@@ -63,13 +55,12 @@ fn answer_to<R: Source>(
     ensures kept { AreKept (λ d. shown d)
         (λ d. (⟦<dyn Display as Display>⟧ d.vtable).faults d.value)
         displays.old.items displays.new.items (λ d. d.vtable) }
-    ensures reads { result ≡ Err Unanswered.Fault → form ≡ Play }
-    ensures unread { form ≢ Play → source.new ≡ source.old }
+    ensures reads { result ≡ Err Unanswered.Fault → is_read form ≡ true }
+    ensures unread { is_read form ≡ false → source.new ≡ source.old }
 {
     match form {
-        Form::Play => play(alloc, source, displays),
+        Form::Play | Form::Race => run_source(rt, alloc, form, source, displays, gate),
         Form::Stress(frames) => Ok(stress(alloc, frames, displays)?),
-        Form::Race => unreachable!(),
     }
 }
 
@@ -111,12 +102,14 @@ fn write_text<W: Sink>(sink: &mut W, text: &[u8], status: u8) -> u8
 /// Whatever the status, the source has lost bytes from its front alone, the sink has
 /// only gained some, no count of faults or stalls has fallen, and each display stands
 /// at its place.
-pub fn flatland<R: Source, W: Sink>(
+pub fn flatland<T: Threads + Wait + Sync, R: Source, W: Sink, G: Gate>(
+    rt: &T,
     alloc: Global,
     words: &[String],
     source: &mut R,
     sink: &mut W,
     displays: &mut Vec<Box<dyn Display>>,
+    gate: &G,
 ) -> u8
     requires { length displays.old.items < 2 ^ 32 }
     ensures whole { result ≢ READ_FAULT → result ≢ WRITE_FAULT → result ≢ NO_MEMORY →
@@ -144,20 +137,20 @@ pub fn flatland<R: Source, W: Sink>(
     ensures read_fault { result ≡ READ_FAULT → IsTrue (has_risen (R.faults source.old) (R.faults source.new)) }
     ensures unwritten { IsTrue (result == READ_FAULT || result == NO_MEMORY) → sink.new ≡ sink.old }
     ensures usage { CallForNothing (map string_bytes words.now) → IsTrue (result == USED_WRONGLY || result == WRITE_FAULT || result == NO_MEMORY) }
-    ensures unread { map string_bytes words.now ≢ play_words → source.new ≡ source.old }
-    ensures complete { (form : Form) → form ≢ Race → CallFor (map string_bytes words.now) form →
+    ensures unread { ((form : Form) → CallFor (map string_bytes words.now) form → is_read form ≡ false) → source.new ≡ source.old }
+    ensures complete { (form : Form) → CallFor (map string_bytes words.now) form →
         IsThere form (R.left source.old) (R.left source.new) (R.faults source.old) (R.faults source.new) →
         (has_risen (W.faults sink.old) (W.faults sink.new) || has_risen (W.stalls sink.old) (W.stalls sink.new)) ≡ false →
         IsTrue (result == DONE || result == NO_MEMORY) }
     ensures statuses { IsTrue (result == DONE || result == USED_WRONGLY || result == REFUSED
         || result == READ_FAULT || result == WRITE_FAULT || result == NO_MEMORY) }
 {
-    let form = match form_to_run(alloc, words) {
+    let form = match read(alloc, words) {
         Ok(Some(form)) => form,
         Ok(None) => return write_text(sink, USAGE, USED_WRONGLY),
         Err(_) => return NO_MEMORY,
     };
-    match answer_to(alloc, form, source, displays) {
+    match answer_to(rt, alloc, form, source, displays, gate) {
         Ok(answer) => write_text(sink, answer.text.as_slice(), answer.status),
         Err(Unanswered::Fault) => READ_FAULT,
         Err(Unanswered::Memory) => NO_MEMORY,

@@ -2,10 +2,13 @@ ghost use Rattle.std.specs.Prelude.{◌<◌, ◌^◌, length};
 
 use flat_display::{Display, MemDisplay};
 use flat_io::{MemSink, MemSource, StdSource, SteadySink};
+use flat_race::OpenGate;
 use flat_run::flatland;
 use std::alloc::Global;
 use std::io::Cursor;
+use std::sync::Wait;
 use std::test::Fail;
+use std::thread::Threads;
 
 /// A text that is no script.
 const NO_SCRIPT: &[u8] = b"flatland 2\n";
@@ -44,7 +47,8 @@ const LOSSES: [(u32, u32, &[&str]); 6] = [
 ];
 
 /// A call for a script, with its status, and the sink that it wrote to.
-fn play(
+fn play<T: Threads + Wait + Sync>(
+    rt: &T,
     alloc: Global,
     text: &[u8],
     read_faults: &[u32],
@@ -56,7 +60,15 @@ fn play(
     let words = [String::from_str(alloc, "play")?];
     let mut source = MemSource::new(text.to_vec(alloc)?, read_faults.to_vec(alloc)?);
     let mut sink = MemSink::new(alloc, 4096, Vec::new(alloc), stalls.to_vec(alloc)?)?;
-    let status = flatland(alloc, &words, &mut source, &mut sink, displays);
+    let status = flatland(
+        rt,
+        alloc,
+        &words,
+        &mut source,
+        &mut sink,
+        displays,
+        &OpenGate,
+    );
     Ok((status, sink))
 }
 
@@ -69,7 +81,7 @@ fn failing(alloc: Global, fault: u32) -> Result<Box<dyn Display>, Fail> {
 #[test]
 fn where_a_read_fails_nothing_is_written(rt: HostRuntime) -> Result<(), Fail> {
     let alloc = rt.alloc();
-    let (status, sink) = play(alloc, NO_SCRIPT, &[2], &[], &mut Vec::new(alloc))?;
+    let (status, sink) = play(&rt, alloc, NO_SCRIPT, &[2], &[], &mut Vec::new(alloc))?;
     assert_eq!(rt; status, 4);
     assert!(rt; sink.bytes().is_empty());
     Ok(())
@@ -78,7 +90,7 @@ fn where_a_read_fails_nothing_is_written(rt: HostRuntime) -> Result<(), Fail> {
 #[test]
 fn a_sink_that_takes_nothing_is_a_write_fault(rt: HostRuntime) -> Result<(), Fail> {
     let alloc = rt.alloc();
-    let (status, sink) = play(alloc, NO_SCRIPT, &[], &[1], &mut Vec::new(alloc))?;
+    let (status, sink) = play(&rt, alloc, NO_SCRIPT, &[], &[1], &mut Vec::new(alloc))?;
     assert_eq!(rt; status, 5);
     assert!(rt; sink.bytes().is_empty());
     Ok(())
@@ -87,7 +99,7 @@ fn a_sink_that_takes_nothing_is_a_write_fault(rt: HostRuntime) -> Result<(), Fai
 #[test]
 fn a_text_that_is_no_script_is_refused(rt: HostRuntime) -> Result<(), Fail> {
     let alloc = rt.alloc();
-    let (status, sink) = play(alloc, NO_SCRIPT, &[], &[], &mut Vec::new(alloc))?;
+    let (status, sink) = play(&rt, alloc, NO_SCRIPT, &[], &[], &mut Vec::new(alloc))?;
     assert_eq!(rt; status, 3);
     assert_eq!(rt; sink.bytes(), b"script line 1 kind 13\n".as_slice());
     Ok(())
@@ -100,7 +112,7 @@ fn displays_that_fail_are_lost(rt: HostRuntime) -> Result<(), Fail> {
         let mut displays: Vec<Box<dyn Display>> = Vec::new(alloc);
         displays.push(failing(alloc, *first)?)?;
         displays.push(failing(alloc, *second)?)?;
-        let (status, sink) = play(alloc, THREE_FRAMES, &[], &[], &mut displays)?;
+        let (status, sink) = play(&rt, alloc, THREE_FRAMES, &[], &[], &mut displays)?;
         assert_eq!(rt; status, 0);
         let mut lost = Vec::new(alloc);
         for line in sink.bytes().split(|b| *b == b'\n') {
@@ -136,7 +148,15 @@ fn a_source_that_tells_nothing_is_played(rt: HostRuntime) -> Result<(), Fail> {
     let mut sink = SteadySink::new(alloc, 512)?;
     let mut displays: Vec<Box<dyn Display>> = Vec::new(alloc);
     displays.push(failing(alloc, 0)?)?;
-    let status = flatland(alloc, &words, &mut source, &mut sink, &mut displays);
+    let status = flatland(
+        &rt,
+        alloc,
+        &words,
+        &mut source,
+        &mut sink,
+        &mut displays,
+        &OpenGate,
+    );
     assert_eq!(rt; status, 0);
     assert_eq!(rt; sink.bytes(), THREE_REPORTED);
     Ok(())
@@ -151,7 +171,15 @@ fn the_load_is_summed_up(rt: HostRuntime) -> Result<(), Fail> {
     ];
     let mut source = MemSource::new(Vec::new(alloc), Vec::new(alloc));
     let mut sink = MemSink::new(alloc, 128, Vec::new(alloc), Vec::new(alloc))?;
-    let status = flatland(alloc, &words, &mut source, &mut sink, &mut Vec::new(alloc));
+    let status = flatland(
+        &rt,
+        alloc,
+        &words,
+        &mut source,
+        &mut sink,
+        &mut Vec::new(alloc),
+        &OpenGate,
+    );
     assert_eq!(rt; status, 0);
     assert_eq!(rt;
         sink.bytes(),

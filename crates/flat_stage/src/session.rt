@@ -56,6 +56,14 @@ impl SessionSeat {
         self.reader.session
     }
 
+    /// Whether the session was closed. Each line after that is answered so, and makes
+    /// no entry.
+    pub fn is_closed(&self) -> bool
+        ensures { result ≡ self.now.closed }
+    {
+        self.reader.closed
+    }
+
     /// The lock's seat.
     pub(crate) fn into_seat(self) -> LockSeat<Shared>
         ensures { result ≡ lock_seat self }

@@ -4,28 +4,28 @@ use Rattle.flat_script.specs.declared.script.ScriptFault.{ScriptFault}
 use Rattle.flat_script.specs.declared.script.ScriptError.TheVariants as error
 use Rattle.flat_script.specs.Grammar.{text_read}
 use Rattle.flat_script.specs.Answers.{Fails}
-use Rattle.flat_words.specs.declared.form.Form.TheVariants.{Play}
+use Rattle.flat_words.specs.declared.form.Form.{Form}
 use Rattle.flat_run.specs.declared.answers.Answer.{Answer}
 use Rattle.flat_run.specs.Answering.{IsReply}
 use Rattle.flat_run.specs.Promise.{fault_line}
 use Rattle.flat_run.proofs.Answering.{refused}
-use Rattle.flat_run.proofs.Seen.{kept_none}
+use Rattle.flat_play.proofs.lemmas.Seen.{kept_none}
 use Rattle.flat_run.proofs.answers.answer_to.Goals as goal
 
-refused_result : {D E : Type 0} (shown : D → Option (List FrameOut)) (faults : D → ℕ) (ds : List D) (bytes : List ℕ) (fault : ScriptFault) → text_read bytes ≡ Err fault → (r : Result Answer E) → IfOk r (λ a. a.status ≡ 3) → IfOk r (λ a. a.text.items ≡ fault_line fault)
-    → IfOk r (λ a. IsReply shown faults ds ds Play bytes a.status a.text.items)
-refused_result shown faults ds bytes fault read (Ok a) is_3 is = refused shown faults ds ds bytes fault read a.status a.text.items is_3 is refl
-refused_result shown faults ds bytes fault read (Err e) is_3 is = tt
+refused_result : {D E : Type 0} (shown : D → Option (List FrameOut)) (faults : D → ℕ) (ds : List D) (form : Form) (bytes : List ℕ) (fault : ScriptFault) → text_read bytes ≡ Err fault → (r : Result Answer E) → IfOk r (λ a. a.status ≡ 3) → IfOk r (λ a. a.text.items ≡ fault_line fault)
+    → IfOk r (λ a. IsReply shown faults ds ds form bytes a.status a.text.items)
+refused_result shown faults ds form bytes fault read (Ok a) is_3 is = refused shown faults ds ds form bytes fault read a.status a.text.items is_3 is refl
+refused_result shown faults ds form bytes fault read (Err e) is_3 is = tt
 
-pub returns-in_ok-played_text-in-Ok-clause-reply : goal.returns-in_ok-played_text-in-Ok-clause-reply
-returns-in_ok-played_text-in-Ok-clause-reply g c = IsReply.told (c.in_ok-played_text-in-Ok.ensures.told c.args.bytes.now c.in-Ok.ensures)
+pub returns-in_ok-reported-in-Ok-clause-reply : goal.returns-in_ok-reported-in-Ok-clause-reply
+returns-in_ok-reported-in-Ok-clause-reply g c = IsReply.told (c.in_ok-reported-in-Ok.ensures.told c.args.bytes.now c.in-Ok.ensures)
 
 pub returns-in-Err-Fault-clause-reply : goal.returns-in-Err-Fault-clause-reply
 returns-in-Err-Fault-clause-reply g c =
     let whole = c.in-Err-Fault.is in
     let why = c.in-Err-Fault.field-0-is in
     let is : c.in-Err-Fault.field-0 ≡ error.Fault c.in-Err-Fault.fault = cc in
-    refused_result _ _ _ c.args.bytes.now c.in-Err-Fault.fault (subst (λ e. Fails e (text_read c.args.bytes.now)) is c.in-Err-Fault.ensures) c.refusal.result c.refusal.ensures.status c.refusal.ensures.text
+    refused_result _ _ _ c.args.form c.args.bytes.now c.in-Err-Fault.fault (subst (λ e. Fails e (text_read c.args.bytes.now)) is c.in-Err-Fault.ensures) c.refusal.result c.refusal.ensures.status c.refusal.ensures.text
 
 pub returns-in-Err-Fault-clause-kept : goal.returns-in-Err-Fault-clause-kept
 returns-in-Err-Fault-clause-kept g c = kept_none _ _ _ _

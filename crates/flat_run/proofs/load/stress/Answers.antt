@@ -1,4 +1,4 @@
-use Rattle.flat_run.proofs.Seen.{kept_none}
+use Rattle.flat_play.proofs.lemmas.Seen.{kept_none}
 use Rattle.flat_run.proofs.load.stress.Goals as goal
 
 pub returns-in_err-script-clause-kept : goal.returns-in_err-script-clause-kept

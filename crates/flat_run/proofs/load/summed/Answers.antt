@@ -14,18 +14,18 @@ totals_of-totals-requires g c = c.as_slice.ensures.value ∙ c.in_ok-played.ensu
 pub returns-clause-told : goal.returns-clause-told
 returns-clause-told g c =
     let script = c.args.script.now in
-    let game = c.in_ok-played.played.game in
+    let board = c.in_ok-played.played.board in
     let lost = c.in_ok-played.played.set.lost in
     let playable = c.scripts_are_playable.ensures.playable (load_text c.args.frames) script c.requires.read in
     let played = c.in_ok-played.ensures.played in
     let journal = c.journal-journal.ensures in
-    let asked = load_asked script game c.args.frames playable played journal.legal (c.loads_have_their_frames.ensures c.args.frames script c.requires.first c.requires.last c.requires.read) in
-    let ran = has_run _ _ (Stress c.args.frames) script game lost _ _ playable played c.in_ok-played.ensures.seen c.families_are_alone.ensures journal.legal asked in
-    let had = have_had _ _ script game lost _ _ played c.in_ok-played.ensures.seen in
+    let asked = load_asked script board _ _ playable played c.args.frames journal.legal (c.loads_have_their_frames.ensures c.args.frames script c.requires.first c.requires.last c.requires.read) in
+    let ran = has_run script board _ _ playable played _ _ (Stress c.args.frames) lost _ _ (λ no_race. c.in_ok-played.ensures.written) c.in_ok-played.ensures.seen c.families_are_alone.ensures journal.legal asked in
+    let had = have_had script board _ _ playable played _ _ lost _ _ c.in_ok-played.ensures.seen in
     if_ok (λ text. text.items ≡ summary_line c.totals_of-totals.result) _ c.summary.result
     (λ text is. (
       record {
-        ran = ran_of script game lost;
+        ran = ran_of script board.history lost;
         read = c.requires.read;
         has_run = ran;
         is = is ∙ ap summary_line c.totals_of-totals.ensures ∙ ap (λ (h : List Entry). summary_line (totals_of c.args.frames script.setup h)) journal.entries;

@@ -1,19 +1,19 @@
 use Rattle.std.proofs.Common.{◌≡◌, ◌∙◌, true, false, refl, sym, ap, Ok, Err}
 use Rattle.flat_run.specs.Promise.{IsAnswer}
-use Rattle.flat_run.proofs.Answering.{called_for, text_same, text_whole, text_cut_off, only_told, there_no_read_fault, done_or_fault}
-use Rattle.flat_run.proofs.Seen.{kept_none}
+use Rattle.flat_run.proofs.Answering.{called_for, none_called, text_same, text_whole, text_cut_off, only_told, there_no_read_fault, done_or_fault}
+use Rattle.flat_play.proofs.lemmas.Seen.{kept_none}
 use Rattle.flat_run.proofs.top.flatland.Goals as goal
 
 pub returns-in-Ok-None-clause-whole : goal.returns-in-Ok-None-clause-whole
 returns-in-Ok-None-clause-whole g c = λ not_4 not_5 not_6.
-    text_whole _ _ _ _ _ _ _ _ _ _ _ _ (IsAnswer.usage (c.form_to_run.ensures.none (c.in-Ok-None.is ∙ ap Ok c.in-Ok-None.field-0-is)) refl) c.write_text.ensures.whole c.write_text.ensures.either not_5
+    text_whole _ _ _ _ _ _ _ _ _ _ _ _ (IsAnswer.usage (none_called _ c.read.result (c.in-Ok-None.is ∙ ap Ok c.in-Ok-None.field-0-is) c.read.ensures.only) refl) c.write_text.ensures.whole c.write_text.ensures.either not_5
 
 pub returns-in-Ok-None-clause-cut_off : goal.returns-in-Ok-None-clause-cut_off
 returns-in-Ok-None-clause-cut_off g c = λ is_5.
-    text_cut_off _ _ _ _ _ _ _ _ _ 2 c.write_text.result _ (IsAnswer.usage (c.form_to_run.ensures.none (c.in-Ok-None.is ∙ ap Ok c.in-Ok-None.field-0-is)) refl) (c.write_text.ensures.part is_5)
+    text_cut_off _ _ _ _ _ _ _ _ _ 2 c.write_text.result _ (IsAnswer.usage (none_called _ c.read.result (c.in-Ok-None.is ∙ ap Ok c.in-Ok-None.field-0-is) c.read.ensures.only) refl) (c.write_text.ensures.part is_5)
 
 pub returns-in-Ok-None-clause-complete : goal.returns-in-Ok-None-clause-complete
-returns-in-Ok-None-clause-complete g c = λ form runs calls there steady. absurd (runs (c.form_to_run.ensures.none (c.in-Ok-None.is ∙ ap Ok c.in-Ok-None.field-0-is) form calls))
+returns-in-Ok-None-clause-complete g c = λ form calls there steady. absurd (none_called _ c.read.result (c.in-Ok-None.is ∙ ap Ok c.in-Ok-None.field-0-is) c.read.ensures.only form calls)
 
 pub returns-in-Ok-clause-whole : goal.returns-in-Ok-clause-whole
 returns-in-Ok-clause-whole g c = λ not_4 not_5 not_6.
@@ -26,15 +26,15 @@ returns-in-Ok-clause-cut_off g c = λ is_5.
     text_cut_off _ _ _ _ _ _ _ _ _ _ c.write_text-in-Ok.result _ (text_same _ _ _ _ _ _ _ _ _ _ c.as_slice.ensures.value (c.in-Ok.ensures.answer _ calls)) (c.write_text-in-Ok.ensures.part is_5)
 
 pub returns-in-Ok-clause-complete : goal.returns-in-Ok-clause-complete
-returns-in-Ok-clause-complete g c = λ form runs calls there steady.
+returns-in-Ok-clause-complete g c = λ form calls there steady.
     let x = c.in-Ok.answer in
     let mine = called_for _ c.in-Ok-Some.field-0 c.in-Ok-Some.form c.in-Ok-Some.field-0-is c.in-Ok-Some.ensures.form in
-    let is : x.status ≡ 0 = only_told _ _ _ _ _ _ _ form _ _ runs calls there x.status x.text.items (c.in-Ok.ensures.answer _ mine) in
+    let is : x.status ≡ 0 = only_told _ _ _ _ _ _ _ form _ _ calls there x.status x.text.items (c.in-Ok.ensures.answer _ mine) in
     done_or_fault c.write_text-in-Ok.result x.status c.write_text-in-Ok.ensures.either is
     (λ is_5. let rose = c.write_text-in-Ok.ensures.fault is_5 in let both : true ≡ false = sym rose ∙ steady in cc)
 
 pub returns-in-Err-Fault-clause-complete : goal.returns-in-Err-Fault-clause-complete
-returns-in-Err-Fault-clause-complete g c = λ form runs calls there steady.
+returns-in-Err-Fault-clause-complete g c = λ form calls there steady.
     let mine = called_for _ c.in-Ok-Some.field-0 c.in-Ok-Some.form c.in-Ok-Some.field-0-is c.in-Ok-Some.ensures.form in
     let why = ap Err c.in-Err-Fault.field-0-is in
     absurd (there_no_read_fault _ form c.in-Ok-Some.form _ _ _ _ calls there mine (c.in-Err-Fault.ensures.reads why) (c.in-Err-Fault.ensures.fault why))
@@ -44,3 +44,8 @@ returns-in-Ok-None-clause-kept g c = kept_none _ _ _ _
 
 pub returns-in-Err-clause-kept : goal.returns-in-Err-clause-kept
 returns-in-Err-clause-kept g c = kept_none _ _ _ _
+
+pub returns-in-Ok-clause-unread : goal.returns-in-Ok-clause-unread
+returns-in-Ok-clause-unread g c = λ unread.
+    let calls = called_for _ c.in-Ok-Some.field-0 c.in-Ok-Some.form c.in-Ok-Some.field-0-is c.in-Ok-Some.ensures.form in
+    c.answer_to.ensures.unread (unread c.in-Ok-Some.form calls)

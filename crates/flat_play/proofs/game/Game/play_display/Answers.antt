@@ -1,0 +1,106 @@
+use Rattle.flat_play.specs.Playing.{AsksPoint}
+use Rattle.std.proofs.Common.{rules, ◌≡◌, ◌≤◌, true, length, refl, sym, ap, subst, arith}
+use Rattle.flat_base.specs.declared.ids.Actor.TheVariants.{Display}
+use Rattle.flat_scene.specs.declared.script.Body.TheVariants as body
+use Rattle.flat_scene.specs.declared.script.DisplayLine.{DisplayLine}
+use Rattle.flat_scene.specs.declared.script.DisplayLine.TheVariants as display
+use Rattle.flat_scene.specs.declared.script.ScriptLine.{ScriptLine}
+use Rattle.flat_scene.specs.declared.journal.Kind.TheVariants.{Signal, Wait}
+use Rattle.flat_scene.specs.declared.setup.Setup.{Setup}
+use Rattle.flat_rules.specs.Legal.{is_fence}
+use Rattle.flat_rules.specs.Owned.{is_played_display}
+use Rattle.flat_play.proofs.lemmas.DisplaySteps.{display_share, begin_time_ok, done_ok, may_begin, may_finish, may_hit, may_signal_fence, may_wait_for}
+use Rattle.flat_play.proofs.lemmas.GameSteps.{begin_more, finish_more, beside_more, point_more}
+use Rattle.flat_play.proofs.lemmas.FramesShown.{few_frames}
+use Rattle.flat_play.proofs.lemmas.Starting.{few, by_at_most}
+use Rattle.flat_play.proofs.lemmas.Steps.{At, at_place}
+use Rattle.flat_play.proofs.game.Game.play_display.Goals as goal
+
+pub begin-requires-clause-may : goal.begin-requires-clause-may
+begin-requires-clause-may g c =
+    let x : ScriptLine = record { number = c.args.number; actor = Display; body = body.Display c.args.text } in
+    let at : At c.args.script.now c.args.place x = at_place c.args.script.now c.args.place x c.requires.playable c.requires.line in
+    let is : x.body ≡ body.Display (display.Begin c.in-Begin.time) = ap (λ t. body.Display t) c.in-Begin.is in
+    may_begin c.args.self.now.board c.in-Begin.time
+    (display_share c.args.script.now c.args.place x at c.args.self.now.board c.requires.stands.shares refl c.requires.stands.spent)
+    (begin_time_ok c.args.script.now c.args.place x at c.in-Begin.time is c.args.self.now.board.history c.requires.stands.display)
+
+pub finish-requires-clause-may : goal.finish-requires-clause-may
+finish-requires-clause-may g c =
+    let x : ScriptLine = record { number = c.args.number; actor = Display; body = body.Display c.args.text } in
+    let at : At c.args.script.now c.args.place x = at_place c.args.script.now c.args.place x c.requires.playable c.requires.line in
+    let is : x.body ≡ body.Display display.Done = ap (λ t. body.Display t) c.in-Done.is in
+    may_finish c.args.self.now.board
+    (display_share c.args.script.now c.args.place x at c.args.self.now.board c.requires.stands.shares refl c.requires.stands.spent)
+    (done_ok c.args.script.now c.args.place x at is c.args.self.now.board.history c.requires.stands.display)
+
+pub signal-requires : goal.signal-requires
+signal-requires g c =
+    let x : ScriptLine = record { number = c.args.number; actor = Display; body = body.Display c.args.text } in
+    let at : At c.args.script.now c.args.place x = at_place c.args.script.now c.args.place x c.requires.playable c.requires.line in
+    let P : DisplayLine → Type 0 = λ t. is_played_display c.args.script.now.setup t ≡ true in
+    let Q : Setup → Type 0 = λ s. is_fence s c.in-Signal.f ≡ true in
+    may_signal_fence c.args.self.now.board c.in-Signal.f
+    (display_share c.args.script.now c.args.place x at c.args.self.now.board c.requires.stands.shares refl c.requires.stands.spent)
+    (subst Q (sym c.requires.stands.setup) (subst P c.in-Signal.is at.played))
+
+pub wait-requires : goal.wait-requires
+wait-requires g c =
+    let x : ScriptLine = record { number = c.args.number; actor = Display; body = body.Display c.args.text } in
+    let at : At c.args.script.now c.args.place x = at_place c.args.script.now c.args.place x c.requires.playable c.requires.line in
+    let P : DisplayLine → Type 0 = λ t. is_played_display c.args.script.now.setup t ≡ true in
+    let Q : Setup → Type 0 = λ s. is_played_display s (display.Wait c.in-Wait.c) ≡ true in
+    may_wait_for c.args.self.now.board c.in-Wait.c
+    (display_share c.args.script.now c.args.place x at c.args.self.now.board c.requires.stands.shares refl c.requires.stands.spent)
+    (subst Q (sym c.requires.stands.setup) (subst P c.in-Wait.is at.played))
+
+pub hit-requires : goal.hit-requires
+hit-requires g c =
+    let x : ScriptLine = record { number = c.args.number; actor = Display; body = body.Display c.args.text } in
+    let at : At c.args.script.now c.args.place x = at_place c.args.script.now c.args.place x c.requires.playable c.requires.line in
+    may_hit c.args.self.now.board _ _ (display_share c.args.script.now c.args.place x at c.args.self.now.board c.requires.stands.shares refl c.requires.stands.spent)
+
+pub returns-in-Begin-clause-stands : goal.returns-in-Begin-clause-stands
+returns-in-Begin-clause-stands g c =
+    let x : ScriptLine = record { number = c.args.number; actor = Display; body = body.Display c.args.text } in
+    let at : At c.args.script.now c.args.place x = at_place c.args.script.now c.args.place x c.requires.playable c.requires.line in
+    let is : x.body ≡ body.Display (display.Begin c.in-Begin.time) = ap (λ t. body.Display t) c.in-Begin.is in
+    begin_more c.args.script.now c.args.place x at c.args.self.now c.begin.new.self c.in-Begin.time refl is c.requires.stands c.begin.ensures
+
+pub returns-in_ok-finish-in-Done-clause-stands : goal.returns-in_ok-finish-in-Done-clause-stands
+returns-in_ok-finish-in-Done-clause-stands g c =
+    let x : ScriptLine = record { number = c.args.number; actor = Display; body = body.Display c.args.text } in
+    let at : At c.args.script.now c.args.place x = at_place c.args.script.now c.args.place x c.requires.playable c.requires.line in
+    let is : x.body ≡ body.Display display.Done = ap (λ t. body.Display t) c.in-Done.is in
+    finish_more c.args.script.now c.args.place x at c.args.self.now c.finish.new.self refl is c.requires.stands c.in_ok-finish-in-Done.ensures.finishes
+
+pub returns-in-Signal-clause-stands : goal.returns-in-Signal-clause-stands
+returns-in-Signal-clause-stands g c =
+    let x : ScriptLine = record { number = c.args.number; actor = Display; body = body.Display c.args.text } in
+    let at : At c.args.script.now c.args.place x = at_place c.args.script.now c.args.place x c.requires.playable c.requires.line in
+    let is : x.body ≡ body.Display (display.Signal c.in-Signal.f) = ap (λ t. body.Display t) c.in-Signal.is in
+    beside_more c.args.script.now c.args.place x at c.args.self.now c.signal.new.self (display.Signal c.in-Signal.f) (Signal c.in-Signal.f) _ refl is refl refl (λ o t follows. refl) c.requires.stands c.signal.ensures
+
+pub returns-in-Wait-clause-stands : goal.returns-in-Wait-clause-stands
+returns-in-Wait-clause-stands g c =
+    let x : ScriptLine = record { number = c.args.number; actor = Display; body = body.Display c.args.text } in
+    let at : At c.args.script.now c.args.place x = at_place c.args.script.now c.args.place x c.requires.playable c.requires.line in
+    let is : x.body ≡ body.Display (display.Wait c.in-Wait.c) = ap (λ t. body.Display t) c.in-Wait.is in
+    beside_more c.args.script.now c.args.place x at c.args.self.now c.wait.new.self (display.Wait c.in-Wait.c) (Wait c.in-Wait.c) _ refl is refl refl (λ o t follows. refl) c.requires.stands c.wait.ensures
+
+pub returns-in_ok-hit-in-Hit-clause-stands : goal.returns-in_ok-hit-in-Hit-clause-stands
+returns-in_ok-hit-in-Hit-clause-stands g c =
+    let x : ScriptLine = record { number = c.args.number; actor = Display; body = body.Display c.args.text } in
+    let at : At c.args.script.now c.args.place x = at_place c.args.script.now c.args.place x c.requires.playable c.requires.line in
+    let is : x.body ≡ body.Display (display.Hit c.in-Hit.x c.in-Hit.y) = ap (λ t. body.Display t) c.in-Hit.is in
+    let asks : AsksPoint c.args.self.now c.hit.new.self c.args.number c.in-Hit.x c.in-Hit.y = search rules in
+    point_more c.args.script.now c.args.place x at c.args.self.now c.hit.new.self c.in-Hit.x c.in-Hit.y refl is c.requires.stands asks
+
+pub finish-requires-clause-few : goal.finish-requires-clause-few
+finish-requires-clause-few g c =
+    let script = c.args.script.now in
+    let all : length script.lines ≤ 16777216 = few script c.requires.playable in
+    let most = by_at_most 0 script.lines in
+    let spent = c.requires.stands.spent.spent 0 in
+    let frames_made = few_frames _ _ c.journal-journal.ensures.legal in
+    omega (arith, all, most, spent, frames_made)

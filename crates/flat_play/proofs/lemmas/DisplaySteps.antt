@@ -1,0 +1,292 @@
+-- What the display reads and shows, after one more line of the script.
+use Rattle.std.proofs.Common.{◌≡◌, ℕ, ℤ, suc, ◌+◌, Bool, true, false, cond, ◌&&◌, not, nat_lt, nat_le, List, [], ◌∷◌, ◌++◌, filter, take, drop, refl, sym, ap, ◌∙◌, subst, arith, append-nil}
+use Rattle.std.proofs.lemmas.Grind.{common_steps}
+use Rattle.flat_base.specs.declared.ids.Actor.TheVariants.{Display}
+use Rattle.flat_base.specs.declared.ids.FenceNo.{FenceNo}
+use Rattle.flat_base.specs.declared.ids.SessionNo.{SessionNo}
+use Rattle.flat_base.specs.declared.ids.FrameNo.{FrameNo}
+use Rattle.flat_scene.specs.declared.frames.FrameOut.{FrameOut}
+use Rattle.flat_scene.specs.declared.frames.Hit as point
+use Rattle.flat_scene.specs.declared.frames.SessionSet.{SessionSet}
+use Rattle.flat_scene.specs.declared.journal.Entry.{Entry}
+use Rattle.flat_scene.specs.declared.journal.Kind.{Kind}
+use Rattle.flat_scene.specs.declared.journal.Kind.TheVariants.{Begin, Finish, End, Hit, Signal, Wait}
+use Rattle.flat_scene.specs.declared.journal.Reply.{Reply}
+use Rattle.flat_scene.specs.declared.journal.Reply.TheVariants.{Done}
+use Rattle.flat_scene.specs.declared.script.Cond.{Cond}
+use Rattle.flat_scene.specs.declared.script.Cond.TheVariants as asks
+use Rattle.flat_scene.specs.declared.script.Body.{Body}
+use Rattle.flat_scene.specs.declared.script.Body.TheVariants as body
+use Rattle.flat_scene.specs.declared.script.DisplayLine.{DisplayLine}
+use Rattle.flat_scene.specs.declared.script.DisplayLine.TheVariants as display
+use Rattle.flat_scene.specs.declared.script.Line.{Line}
+use Rattle.flat_scene.specs.declared.script.ScriptLine.{ScriptLine}
+use Rattle.flat_scene.specs.declared.setup.Setup.{Setup}
+use Rattle.flat_scene.specs.History.{◌▹◌, is_display, is_begin, is_finish, is_end}
+use Rattle.flat_scene.specs.Interleave.{display_lines, display_line, by_display, unread_lines, entry_of_display, FollowsDisplay}
+use Rattle.flat_scene.specs.Setups.{is_declared}
+use Rattle.flat_core.specs.Machines.{Machine, MayCall, HasShare, entry_of}
+use Rattle.flat_rules.specs.Ends.{to_begin, to_finished, has_view}
+use Rattle.flat_rules.specs.Legal.{is_frame_open, begin_time, frames, is_fence, names_declared, display_may}
+use Rattle.flat_rules.specs.Shown.{shown_states}
+use Rattle.flat_topology.specs.declared.Joined.{Joined}
+use Rattle.flat_topology.specs.Connected.{joined_lists}
+use Rattle.flat_topology.specs.Hits.{hits_among}
+use Rattle.flat_topology.specs.Shown.{Shown}
+use Rattle.flat_topology.specs.Views.{is_member}
+use Rattle.flat_report.specs.declared.report.HitAnswer.{HitAnswer}
+use Rattle.flat_report.specs.Handed.{answer_to, answers_of}
+use Rattle.flat_report.specs.Report.{finished, frame_at, hits_at}
+use Rattle.flat_places.specs.declared.script.Script.{Script}
+use Rattle.flat_playable.specs.Playable.{frames_close, keeps_frames}
+use Rattle.flat_rules.specs.Owned.{is_played_display}
+use Rattle.flat_play.specs.Playing.{DisplayStands, FramesStand, IsSpent, lines_by, rest_shares, AnswersStand}
+use Rattle.flat_play.specs.declared.frame.LastFrame.{LastFrame}
+use Rattle.flat_play.proofs.Displayed.{display_more}
+use Rattle.flat_play.proofs.Growing.{is_quiet}
+use Rattle.flat_play.proofs.lemmas.Steps.{At}
+use Rattle.flat_base.proofs.lemmas.Tests.{and-left, and-right}
+use Rattle.flat_play.proofs.lemmas.Unread.{unread_after, Numbered}
+
+-- ---- kinds that are quiet
+
+pub quiet_begin : (kind : Kind) → is_quiet kind ≡ true → is_begin kind ≡ false
+quiet_begin (Begin time) quiet = absurd (cc)
+quiet_begin _ quiet = refl
+
+pub quiet_finish : (kind : Kind) → is_quiet kind ≡ true → is_finish kind ≡ false
+quiet_finish Finish quiet = absurd (cc)
+quiet_finish _ quiet = refl
+
+pub quiet_end : (kind : Kind) → is_quiet kind ≡ true → is_end kind ≡ false
+quiet_end (End n) quiet = absurd (cc)
+quiet_end _ quiet = refl
+
+pub quiet_answers : (entry : Entry) (n : ℕ) (hits : ℤ → ℤ → List point.Hit) (kind : Kind) → is_quiet kind ≡ true → answer_to entry n hits kind ≡ []
+quiet_answers entry n hits (Hit x y) quiet = absurd (cc)
+quiet_answers entry n hits _ quiet = refl
+
+-- A history stays, or has one quiet entry more, which isn't the display's.
+pub data QuietStep (old new : List Entry) : Type 0 where
+  same : new ≡ old → QuietStep old new
+  more : (e : Entry) → is_display e.actor ≡ false → is_quiet e.kind ≡ true → new ≡ (old ▹ e) → QuietStep old new
+
+pub display_numbered : (next : ScriptLine) → Numbered next.number (display_line next.number next.body)
+display_numbered next = by_body next.body
+  where
+    by_body : (text : Body) → Numbered next.number (display_line next.number text)
+    by_body (body.Display text) = (refl, tt)
+    by_body _ = tt
+
+module _ (script : Script) (place : ℕ) (x : ScriptLine) (at : At script place x) where
+  -- a line of a session
+  pub display_session : (text : Line) → x.body ≡ body.Session text → (old new : List Entry) → QuietStep old new → DisplayStands script place old → DisplayStands script (place + 1) new
+  display_session text is old new step stands = by_step step
+    where
+      left : display_lines (drop place script.lines) ≡ display_lines (drop (place + 1) script.lines)
+      left = ap display_lines at.left ∙ ap (λ b. display_line x.number b ++ display_lines (drop (place + 1) script.lines)) is
+
+      close : frames_close (is_frame_open old) (begin_time old) (drop (place + 1) script.lines) ≡ true
+      close = sym (ap (frames_close (is_frame_open old) (begin_time old)) at.left
+          ∙ ap (λ b. keeps_frames (is_frame_open old) (begin_time old) b (λ o t. frames_close o t (drop (place + 1) script.lines))) is) ∙ stands.closing
+
+      by_step : QuietStep old new → DisplayStands script (place + 1) new
+      by_step (same now) =
+          let P : List Entry → Type 0 = DisplayStands script (place + 1) in
+          subst P (sym now) (record { follows = stands.follows; left = stands.left ∙ left; closing = close })
+      by_step (more e other quiet now) =
+          let P : List Entry → Type 0 = DisplayStands script (place + 1) in
+          let F : List Entry → Type 0 = FollowsDisplay (display_lines script.lines) in
+          let mine : by_display (old ▹ e) ≡ by_display old = rw other refl in
+          let is_open : is_frame_open (old ▹ e) ≡ is_frame_open old = rw (quiet_begin e.kind quiet, quiet_finish e.kind quiet) refl in
+          let time : begin_time (old ▹ e) ≡ begin_time old = rw (quiet_begin e.kind quiet) refl in
+          subst P (sym now) (record {
+            follows = subst F (sym mine) stands.follows;
+            left = ap (λ es. unread_lines es (display_lines script.lines)) mine ∙ stands.left ∙ left;
+            closing = ap (λ o. frames_close o (begin_time (old ▹ e)) (drop (place + 1) script.lines)) is_open ∙ ap (λ t. frames_close (is_frame_open old) t (drop (place + 1) script.lines)) time ∙ close;
+          })
+
+  -- what is left is this line of the display, and what comes after
+  next_is : (text : DisplayLine) → x.body ≡ body.Display text → display_lines (drop place script.lines) ≡ (x.number, text) ∷ display_lines (drop (place + 1) script.lines)
+  next_is text is = ap display_lines at.left ∙ ap (λ b. display_line x.number b ++ display_lines (drop (place + 1) script.lines)) is
+
+  later_is : (entries : List Entry) (e : Entry) → e.line ≡ x.number → unread_lines (entries ▹ e) (display_lines script.lines) ≡ display_lines (drop (place + 1) script.lines)
+  later_is entries e line =
+      ap (λ n. filter (λ one. nat_lt n one.0) (display_lines script.lines)) line
+      ∙ ap (λ ls. filter (λ one. nat_lt x.number one.0) (display_lines ls)) at.split
+      ∙ unread_after (λ one. display_line one.number one.body) display_numbered 0 (take place script.lines) x (drop (place + 1) script.lines) at.rise
+
+  closing : (text : DisplayLine) → x.body ≡ body.Display text → (old : List Entry) → DisplayStands script place old
+      → keeps_frames (is_frame_open old) (begin_time old) (body.Display text) (λ o t. frames_close o t (drop (place + 1) script.lines)) ≡ true
+  closing text is old stands = sym (ap (frames_close (is_frame_open old) (begin_time old)) at.left
+      ∙ ap (λ b. keeps_frames (is_frame_open old) (begin_time old) b (λ o t. frames_close o t (drop (place + 1) script.lines))) is) ∙ stands.closing
+
+  -- a begin
+  pub begin_time_ok : (time : ℕ) → x.body ≡ body.Display (display.Begin time) → (old : List Entry) → DisplayStands script place old → (not (is_frame_open old) && nat_le (begin_time old) time) ≡ true
+  begin_time_ok time is old stands = and-left _ _ (closing (display.Begin time) is old stands)
+
+  pub display_begin : (time : ℕ) → x.body ≡ body.Display (display.Begin time) → (old : List Entry) → DisplayStands script place old → DisplayStands script (place + 1) (old ▹ entry_of Display x.number [] (Begin time) Done)
+  display_begin time is old stands =
+      let e : Entry = entry_of Display x.number [] (Begin time) Done in
+      record {
+        follows = display_more (display_lines script.lines) (by_display old) e x.number (display.Begin time) (display_lines (drop (place + 1) script.lines)) stands.follows
+            (stands.left ∙ next_is (display.Begin time) is) (record { line = refl; carried = refl; kind = refl });
+        left = later_is (by_display old) e refl;
+        closing = and-right _ _ (closing (display.Begin time) is old stands);
+      }
+
+  -- a done
+  pub done_ok : x.body ≡ body.Display display.Done → (old : List Entry) → DisplayStands script place old → is_frame_open old ≡ true
+  done_ok is old stands = and-left _ _ (closing display.Done is old stands)
+
+  pub display_done : x.body ≡ body.Display display.Done → (old : List Entry) → DisplayStands script place old → DisplayStands script (place + 1) (old ▹ entry_of Display x.number [] Finish Done)
+  display_done is old stands =
+      let e : Entry = entry_of Display x.number [] Finish Done in
+      record {
+        follows = display_more (display_lines script.lines) (by_display old) e x.number display.Done (display_lines (drop (place + 1) script.lines)) stands.follows
+            (stands.left ∙ next_is display.Done is) (record { line = refl; carried = refl; kind = refl });
+        left = later_is (by_display old) e refl;
+        closing = and-right _ _ (closing display.Done is old stands);
+      }
+
+  -- a line that begins no frame and ends none
+  pub display_beside : (text : DisplayLine) (kind : Kind) (reply : Reply) → x.body ≡ body.Display text → entry_of_display text ≡ kind → is_begin kind ≡ false → is_finish kind ≡ false
+      → ((o : Bool) (t : ℕ) (follows : Bool → ℕ → Bool) → keeps_frames o t (body.Display text) follows ≡ follows o t)
+      → (old : List Entry) → DisplayStands script place old → DisplayStands script (place + 1) (old ▹ entry_of Display x.number [] kind reply)
+  display_beside text kind reply is makes no_begin no_finish keeps old stands =
+      let e : Entry = entry_of Display x.number [] kind reply in
+      let rest : List ScriptLine = drop (place + 1) script.lines in
+      let is_open : is_frame_open (old ▹ e) ≡ is_frame_open old = rw (no_begin, no_finish) refl in
+      let time : begin_time (old ▹ e) ≡ begin_time old = rw no_begin refl in
+      record {
+        follows = display_more (display_lines script.lines) (by_display old) e x.number text (display_lines rest) stands.follows (stands.left ∙ next_is text is) (record { line = refl; carried = refl; kind = sym makes });
+        left = later_is (by_display old) e refl;
+        closing = ap (λ o. frames_close o (begin_time (old ▹ e)) rest) is_open ∙ ap (λ t. frames_close (is_frame_open old) t rest) time
+            ∙ sym (keeps (is_frame_open old) (begin_time old) (λ o t. frames_close o t rest)) ∙ closing text is old stands;
+      }
+
+  -- ---- room
+
+  pub display_share : (m : Machine) → m.shares ≡ lines_by 0 script.lines ∷ rest_shares script → x.actor ≡ Display → IsSpent script place m.history → HasShare m Display
+  display_share m shares actor spent =
+      let s = spent.spent 0 in
+      let l : lines_by 0 (drop place script.lines) ≡ lines_by 0 (drop (place + 1) script.lines) + 1 = ap (lines_by 0) at.left ∙ ap (λ a. lines_by 0 ((record x { actor = a }) ∷ drop (place + 1) script.lines)) actor ∙ grind (arith, common_steps) in
+      rw shares (omega arith)
+
+-- a begin may be entered, and a done
+pub may_begin : (m : Machine) (time : ℕ) → HasShare m Display → (not (is_frame_open m.history) && nat_le (begin_time m.history) time) ≡ true → MayCall m Display [] (Begin time)
+may_begin m time share times = record {
+  may = record { acts = refl; lasts = refl; times = times; drafted = refl; calls = refl; links = refl; owned = refl; named = refl; tree = refl; watcher = refl };
+  share = share;
+}
+
+pub may_finish : (m : Machine) → HasShare m Display → is_frame_open m.history ≡ true → MayCall m Display [] Finish
+may_finish m share times = record {
+  may = record { acts = refl; lasts = refl; times = times; drafted = refl; calls = refl; links = refl; owned = refl; named = refl; tree = refl; watcher = refl };
+  share = share;
+}
+
+pub may_signal_fence : (m : Machine) (f : FenceNo) → HasShare m Display → is_fence m.setup f ≡ true → MayCall m Display [] (Signal f)
+may_signal_fence m f share named = record {
+  may = record { acts = refl; lasts = refl; times = refl; drafted = refl; calls = refl; links = refl; owned = refl; named = named; tree = refl; watcher = refl };
+  share = share;
+}
+
+waits_for : (m : Machine) (c : Cond) → HasShare m Display → display_may (Wait c) ≡ true → names_declared m.setup (Wait c) ≡ true → MayCall m Display [] (Wait c)
+waits_for m c share acts named = record {
+  may = record { acts = acts; lasts = refl; times = refl; drafted = refl; calls = refl; links = refl; owned = refl; named = named; tree = refl; watcher = refl };
+  share = share;
+}
+
+pub may_wait_for : (m : Machine) (c : Cond) → HasShare m Display → is_played_display m.setup (display.Wait c) ≡ true → MayCall m Display [] (Wait c)
+may_wait_for m (asks.Presents s n) share played = waits_for m (asks.Presents s n) share refl played
+may_wait_for m (asks.Fence f) share played = waits_for m (asks.Fence f) share refl played
+may_wait_for m (asks.Frames n) share played = absurd (cc)
+may_wait_for m (asks.Credits n) share played = absurd (cc)
+may_wait_for m (asks.Taken n) share played = absurd (cc)
+may_wait_for m (asks.Answers n) share played = absurd (cc)
+
+-- ---- frames
+
+module _ (setup : Setup) (old : List Entry) (shown : Shown) (views : SessionSet) (done : List FrameOut) (stands : FramesStand setup old shown views done) where
+  -- an entry that begins no frame and ends none
+  pub frames_beside : (e : Entry) → is_begin e.kind ≡ false → is_finish e.kind ≡ false → FramesStand setup (old ▹ e) shown views done
+  frames_beside e no_begin no_finish =
+      let begun : to_begin (old ▹ e) ≡ to_begin old = rw no_begin refl in
+      let same_frames : finished setup (old ▹ e) ≡ finished setup old =
+      ap (λ b. finished setup old ++ cond b (frame_at setup (suc (frames old)) (to_begin old) ∷ []) []) no_finish ∙ append-nil (finished setup old) in
+      record {
+        showing = stands.showing ∙ ap (shown_states setup) (sym begun);
+        viewing = λ s declared. stands.viewing s declared ∙ ap (λ h. has_view setup h s) (sym begun);
+        finishing = stands.finishing ∙ sym same_frames;
+      }
+
+  pub frames_session : (new : List Entry) → QuietStep old new → FramesStand setup new shown views done
+  frames_session new (same now) = let P : List Entry → Type 0 = λ h. FramesStand setup h shown views done in subst P (sym now) stands
+  frames_session new (more e other quiet now) = let P : List Entry → Type 0 = λ h. FramesStand setup h shown views done in subst P (sym now) (frames_beside e (quiet_begin e.kind quiet) (quiet_finish e.kind quiet))
+
+  pub frames_begin : (n time : ℕ) (new_shown : Shown) (new_views : SessionSet)
+      → new_shown ≡ shown_states setup (old ▹ entry_of Display n [] (Begin time) Done)
+      → ((s : SessionNo) → is_declared setup s ≡ true → is_member new_views s.0 ≡ has_view setup (old ▹ entry_of Display n [] (Begin time) Done) s)
+      → FramesStand setup (old ▹ entry_of Display n [] (Begin time) Done) new_shown new_views done
+  frames_begin n time new_shown new_views shows views_are = record {
+    showing = shows;
+    viewing = views_are;
+    finishing = stands.finishing ∙ sym (append-nil (finished setup old));
+  }
+
+  pub frames_done : (n : ℕ) (all : List FrameOut) (frame : FrameOut) → all ≡ done ++ frame ∷ [] → frame ≡ frame_at setup (suc (frames old)) (to_begin old)
+      → FramesStand setup (old ▹ entry_of Display n [] Finish Done) shown views all
+  frames_done n all frame all_is frame_is = record {
+    showing = stands.showing;
+    viewing = stands.viewing;
+    finishing = all_is ∙ ap (λ f. done ++ f ∷ []) frame_is ∙ ap (λ fs. fs ++ frame_at setup (suc (frames old)) (to_begin old) ∷ []) stands.finishing;
+  }
+
+-- ---- answers
+
+module _ (setup : Setup) (old : List Entry) (last : LastFrame) (answers : List HitAnswer) (stands : AnswersStand setup old last answers) where
+  -- an entry that ends no frame and asks for no point
+  pub answers_beside : (e : Entry) → is_finish e.kind ≡ false → answer_to e (frames old) (hits_at setup (to_finished old)) e.kind ≡ [] → AnswersStand setup (old ▹ e) last answers
+  answers_beside e no_finish none =
+      let ended : to_finished (old ▹ e) ≡ to_finished old = rw no_finish refl in
+      let as_many : frames (old ▹ e) ≡ frames old = rw no_finish refl in
+      record {
+        number = stands.number ∙ sym as_many;
+        joining = stands.joining ∙ ap (λ (h : List Entry). joined_lists setup (shown_states setup h)) (sym ended);
+        answering = stands.answering ∙ sym (append-nil (answers_of setup old)) ∙ ap (λ (more : List HitAnswer). answers_of setup old ++ more) (sym none);
+      }
+
+  pub answers_session : (new : List Entry) → QuietStep old new → AnswersStand setup new last answers
+  answers_session new (same now) = let P : List Entry → Type 0 = λ h. AnswersStand setup h last answers in subst P (sym now) stands
+  answers_session new (more e other quiet now) =
+      let P : List Entry → Type 0 = λ h. AnswersStand setup h last answers in
+      subst P (sym now) (answers_beside e (quiet_finish e.kind quiet) (quiet_answers e (frames old) (hits_at setup (to_finished old)) e.kind quiet))
+
+  -- the end of a frame
+  pub answers_done : (n : ℕ) (then : LastFrame) → then.frame.0 ≡ suc (frames old) → then.joined ≡ joined_lists setup (shown_states setup (to_begin old)) → AnswersStand setup (old ▹ entry_of Display n [] Finish Done) then answers
+  answers_done n then number joined = record {
+    number = number;
+    joining = joined;
+    answering = stands.answering ∙ sym (append-nil (answers_of setup old));
+  }
+
+  -- a point
+  pub answers_point : (n : ℕ) (x y : ℤ) (all : List HitAnswer) → all ≡ answers ++ (record { actor = Display; line = n; frame = last.frame; hits = hits_among last.joined.nodes x y }) ∷ []
+      → AnswersStand setup (old ▹ entry_of Display n [] (Hit x y) Done) last all
+  answers_point n x y all is =
+      let hits : hits_among last.joined.nodes x y ≡ hits_at setup (to_finished old) x y = ap (λ (j : Joined). hits_among j.nodes x y) stands.joining in
+      let one : FrameNo → List point.Hit → List HitAnswer = λ f hs. (record { actor = Display; line = n; frame = f; hits = hs }) ∷ [] in
+      let number : last.frame ≡ record { 0 = frames old } = ap (λ (k : ℕ). let f : FrameNo = record { 0 = k } in f) stands.number in
+      record {
+        number = stands.number;
+        joining = stands.joining;
+        answering = is ∙ ap (λ (given : List HitAnswer). given ++ one last.frame (hits_among last.joined.nodes x y)) stands.answering
+            ∙ ap (λ (f : FrameNo). answers_of setup old ++ one f (hits_among last.joined.nodes x y)) number ∙ ap (λ (hs : List point.Hit). answers_of setup old ++ one (record { 0 = frames old }) hs) hits;
+      }
+
+pub may_hit : (m : Machine) (x y : ℤ) → HasShare m Display → MayCall m Display [] (Hit x y)
+may_hit m x y share = record {
+  may = record { acts = refl; lasts = refl; times = refl; drafted = refl; calls = refl; links = refl; owned = refl; named = refl; tree = refl; watcher = refl };
+  share = share;
+}

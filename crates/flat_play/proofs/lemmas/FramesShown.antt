@@ -1,0 +1,61 @@
+-- What is shown at a place, and how many frames there may be.
+use Rattle.std.proofs.Common.{◌≡◌, ℕ, ◌+◌, ◌≤◌, ◌<◌, Bool, true, false, cond, ◌&&◌, ◌==◌, List, [], length, sym, ap, ◌∙◌, subst, arith, refl}
+use Rattle.std.proofs.lemmas.Grind.{common_steps}
+use Rattle.flat_base.specs.declared.ids.Actor.{Actor}
+use Rattle.flat_base.specs.declared.ids.Actor.TheVariants.{Display, Session, Probe}
+use Rattle.flat_scene.specs.declared.frames.FrameOut.{FrameOut}
+use Rattle.flat_scene.specs.declared.frames.SessionSet.{SessionSet}
+use Rattle.flat_scene.specs.declared.journal.Entry.{Entry}
+use Rattle.flat_scene.specs.declared.journal.Kind.{Kind}
+use Rattle.flat_scene.specs.declared.journal.Kind.TheVariants.{Finish}
+use Rattle.flat_scene.specs.declared.setup.Setup.{Setup}
+use Rattle.flat_scene.specs.History.{◌▹◌, is_finish, seat_number}
+use Rattle.flat_scene.specs.Setups.{is_declared}
+use Rattle.flat_core.specs.Machines.{made}
+use Rattle.flat_rules.specs.Ends.{to_begin}
+use Rattle.flat_rules.specs.Laws.{BegunStatesFit, EachSessionHasOneState}
+use Rattle.flat_rules.specs.Legal.{Legal, frames, may_act, session_may}
+use Rattle.flat_topology.specs.Fit.{FitsSetup}
+use Rattle.flat_topology.specs.Shown.{Shown}
+use Rattle.flat_stage.specs.Displays.{AreViewed}
+use Rattle.flat_play.specs.Playing.{FramesStand, HasViews}
+use Rattle.flat_base.proofs.lemmas.Tests.{and-left}
+
+module _ (setup : Setup) (history : List Entry) (shown : Shown) (views : SessionSet) (done : List FrameOut) (stands : FramesStand setup history shown views done) where
+  pub shown_count : EachSessionHasOneState → length shown ≡ setup.sessions
+  shown_count each = ap (length {A = _}) stands.showing ∙ each setup (to_begin history)
+
+  pub shown_fits : BegunStatesFit → Legal setup history → FitsSetup setup shown
+  shown_fits begun legal = let P : Shown → Type 0 = FitsSetup setup in subst P (sym stands.showing) (begun setup history legal)
+
+  pub viewed : HasViews setup views → AreViewed setup (to_begin history) views
+  viewed none = record { members = stands.viewing; others = none }
+
+-- ---- the display alone finishes frames
+
+no_finish : (kind : Kind) → session_may kind ≡ true → is_finish kind ≡ false
+no_finish Finish may = absurd (cc)
+no_finish _ may = refl
+
+one_of_display : (setup : Setup) (before : List Entry) (entry : Entry) → may_act setup entry.kind entry.actor ≡ true → frames before ≤ made 0 before → frames (before ▹ entry) ≤ made 0 (before ▹ entry)
+one_of_display setup before entry acts few = by_actor entry.actor refl (is_finish entry.kind) refl
+  where
+    grown : made 0 (before ▹ entry) ≡ made 0 before + cond (seat_number entry.actor == 0) 1 0
+    grown = grind (arith, common_steps)
+
+    frames_grow : (b : Bool) → is_finish entry.kind ≡ b → frames (before ▹ entry) ≡ frames before + cond b 1 0
+    frames_grow true is = rw is (omega arith)
+    frames_grow false is = rw is (omega arith)
+
+    by_actor : (actor : Actor) → entry.actor ≡ actor → (b : Bool) → is_finish entry.kind ≡ b → frames (before ▹ entry) ≤ made 0 (before ▹ entry)
+    by_actor Display is true finish = let seat : ◌≡◌ {A = ℕ} (cond (seat_number entry.actor == 0) 1 0) 1 = ap (λ (a : Actor). cond (seat_number a == 0) 1 0) is in let f = frames_grow true finish in omega (arith, grown, seat, f)
+    by_actor _ is false finish = let f = frames_grow false finish in omega (arith, grown, f)
+    by_actor (Session s) is true finish =
+        let may = and-left (session_may entry.kind) (is_declared setup s) (sym (ap (may_act setup entry.kind) is) ∙ acts) in
+        absurd (let both : true ≡ false = sym finish ∙ no_finish entry.kind may in cc)
+    by_actor (Probe p) is true finish = absurd (let both : false ≡ true = sym (ap (may_act setup entry.kind) is) ∙ acts in cc)
+
+-- no more frames are finished than the display made entries
+pub few_frames : (setup : Setup) (history : List Entry) → Legal setup history → frames history ≤ made 0 history
+few_frames setup [] legal = omega arith
+few_frames setup (before ▹ entry) legal = one_of_display setup before entry legal.1.may.acts (few_frames setup before legal.0)

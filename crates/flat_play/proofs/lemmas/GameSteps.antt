@@ -1,0 +1,295 @@
+-- The whole run after one more line of the script.
+use Rattle.std.proofs.Common.{◌≡◌, ◌≢◌, ℕ, ℤ, zero, suc, ◌+◌, ◌-◌, ◌<◌, ◌≤◌, Bool, true, false, ◌==◌, nat_lt, nat_le, List, [], ◌∷◌, ◌++◌, length, map, get_or, set, refl, sym, ap, ◌∙◌, subst, arith, None, get_or-set_other, get_or-set_same}
+use Rattle.std.proofs.lemmas.List.{length-set, map-append, get_or_append_left}
+use Rattle.std.proofs.Math.Seq.{get_or-append_seam}
+use Rattle.std.proofs.lemmas.Bool.{eq-eqb, eqb-true}
+use Rattle.std.proofs.lemmas.Bool.Decides.{nat_tests}
+use Rattle.flat_base.specs.declared.ids.Actor.TheVariants.{Display, Session, Probe}
+use Rattle.flat_base.specs.declared.ids.SessionNo.{SessionNo}
+use Rattle.flat_scene.specs.declared.frames.FrameOut.{FrameOut}
+use Rattle.flat_scene.specs.declared.frames.SessionSet.{SessionSet}
+use Rattle.flat_topology.specs.Shown.{Shown}
+use Rattle.flat_scene.specs.declared.journal.Entry.{Entry}
+use Rattle.flat_scene.specs.declared.journal.Kind.{Kind}
+use Rattle.flat_scene.specs.declared.journal.Kind.TheVariants.{Begin, Finish, Hit}
+use Rattle.flat_scene.specs.declared.journal.Reply.{Reply}
+use Rattle.flat_scene.specs.declared.journal.Reply.TheVariants.{Done}
+use Rattle.flat_scene.specs.declared.script.Body.{Body}
+use Rattle.flat_scene.specs.declared.script.Body.TheVariants as body
+use Rattle.flat_scene.specs.declared.script.DisplayLine.{DisplayLine}
+use Rattle.flat_scene.specs.declared.script.DisplayLine.TheVariants as display
+use Rattle.flat_scene.specs.declared.script.Line.{Line}
+use Rattle.flat_scene.specs.declared.script.ScriptLine.{ScriptLine}
+use Rattle.flat_scene.specs.declared.setup.Setup.{Setup}
+use Rattle.flat_scene.specs.Frames.{sessions_to}
+use Rattle.flat_scene.specs.Interleave.{entry_of_display}
+use Rattle.flat_scene.specs.History.{◌▹◌, is_begin, is_end, is_finish, is_session}
+use Rattle.flat_scene.specs.Setups.{is_declared}
+use Rattle.flat_core.specs.Machines.{Machine, HasShare, entered, entry_of, made}
+use Rattle.flat_topology.specs.Connected.{joined_lists}
+use Rattle.flat_rules.specs.Ends.{to_begin, to_finished, has_view}
+use Rattle.flat_topology.specs.Views.{is_member}
+use Rattle.flat_rules.specs.Legal.{frames}
+use Rattle.flat_rules.specs.Shown.{shown_states}
+use Rattle.flat_report.specs.Report.{frame_at, hits_at}
+use Rattle.flat_places.specs.declared.script.Script.{Script}
+use Rattle.flat_play.specs.declared.game.Game.{Game}
+use Rattle.flat_stage.specs.declared.reader.Reader.{Reader}
+use Rattle.flat_playable.specs.Playable.{is_played, keeps_frames}
+use Rattle.flat_play.specs.Playing.{IsSpent, lines_by, shares_of, ReaderStands, ReadersStand, DisplayStands, FramesStand, GameStands, BeginsFrame, FinishesFrame, EntersBeside, AsksPoint, AnswersStand, HasViews, session_text, display_text}
+use Rattle.flat_play.proofs.Growing.{Grows, grows, stays, is_quiet}
+use Rattle.flat_play.proofs.lemmas.DisplaySteps.{QuietStep, quiet_begin, quiet_finish, quiet_end, quiet_answers, answers_session, answers_beside, answers_done, answers_point, display_session, display_begin, display_done, display_beside, frames_session, frames_beside, frames_begin, frames_done}
+use Rattle.flat_play.proofs.lemmas.DisplaySteps as quiet
+use Rattle.flat_rules.proofs.lemmas.ShownList.{length-listed}
+use Rattle.flat_play.proofs.lemmas.Steps.{At, Step, same, more, order_more, spent_more, reader_other}
+use Rattle.flat_base.proofs.lemmas.Tests.{and-left, and-right}
+
+-- ---- sessions and their shares
+
+abbrev share_of : Script → SessionNo → ℕ
+share_of script s = lines_by s.0 script.lines + 1
+
+last_share : (script : Script) (n k : ℕ) (b : Bool) → nat_lt k n ≡ b → k < suc n → (k < n → get_or (map (share_of script) (sessions_to n)) k 0 ≡ lines_by (suc k) script.lines + 1)
+    → get_or (map (share_of script) (sessions_to n) ++ (lines_by (suc n) script.lines + 1) ∷ []) k 0 ≡ lines_by (suc k) script.lines + 1
+last_share script n k true is below earlier =
+    let less : k < n = grind (arith, nat_tests) in
+    let inside : k < length (map (share_of script) (sessions_to n)) = let count : length (map (share_of script) (sessions_to n)) ≡ n = length-listed (share_of script) n in omega arith in
+    get_or_append_left (map (share_of script) (sessions_to n)) ((lines_by (suc n) script.lines + 1) ∷ []) 0 k inside ∙ earlier less
+last_share script n k false is below earlier =
+    let same : k ≡ n = grind (arith, nat_tests) in
+    let count : length (map (share_of script) (sessions_to n)) ≡ n = length-listed (share_of script) n in
+    ap (get_or (map (share_of script) (sessions_to n) ++ (lines_by (suc n) script.lines + 1) ∷ []) k) refl
+    ∙ ap (λ i. get_or (map (share_of script) (sessions_to n) ++ (lines_by (suc n) script.lines + 1) ∷ []) i 0) (same ∙ sym count)
+    ∙ get_or-append_seam (map (share_of script) (sessions_to n)) (lines_by (suc n) script.lines + 1) [] 0
+    ∙ ap (λ i. lines_by (suc i) script.lines + 1) (sym same)
+
+share_at : (script : Script) (n k : ℕ) → k < n → get_or (map (share_of script) (sessions_to n)) k 0 ≡ lines_by (suc k) script.lines + 1
+share_at script zero k below = absurd (omega arith)
+share_at script (suc n) k below =
+    ap (λ xs. get_or xs k 0) (map-append (share_of script) (sessions_to n) ((record { 0 = suc n }) ∷ []))
+    ∙ last_share script n k (nat_lt k n) refl below (λ less. share_at script n k less)
+
+-- a session may make one entry for each of its lines, and its End
+pub share_is : (script : Script) (n : ℕ) → 0 < n → n ≤ script.setup.sessions → get_or (shares_of script) n 0 ≡ lines_by n script.lines + 1
+share_is script zero above below = absurd (omega arith)
+share_is script (suc k) above below = share_at script script.setup.sessions k (omega arith)
+
+pub has_room : (script : Script) (m : Machine) (n : ℕ) → 0 < n → n ≤ script.setup.sessions → m.shares ≡ shares_of script → made n m.history ≤ lines_by n script.lines → made n m.history < get_or m.shares n 0
+has_room script m n above below shares few =
+    let share : get_or m.shares n 0 ≡ lines_by n script.lines + 1 = ap (λ xs. get_or xs n 0) shares ∙ share_is script n above below in
+    omega (arith, few, share)
+
+pub below_declared : (setup : Setup) (s : SessionNo) → is_declared setup s ≡ true → (0 < s.0) × (s.0 ≤ setup.sessions)
+below_declared setup s declared =
+    (let a : nat_lt 0 s.0 ≡ true = and-left _ _ declared in grind (arith, nat_tests), let b : nat_le s.0 setup.sessions ≡ true = and-right (nat_lt 0 s.0) _ declared in grind (arith, nat_tests))
+
+-- what a board that grows keeps
+record Grown (x : ScriptLine) (old new : Machine) : Type 0 where
+  setup : new.setup ≡ old.setup
+  shares : new.shares ≡ old.shares
+  step : Step x old.history new.history
+  calm : QuietStep old.history new.history
+
+grown_is : (x : ScriptLine) (s : SessionNo) (old new : Machine) → x.actor ≡ Session s → Grows old new (Session s) x.number → Grown x old new
+grown_is x s old new actor (stays is) = record {
+  setup = ap (λ (m : Machine). m.setup) is;
+  shares = ap (λ (m : Machine). m.shares) is;
+  step = same (ap (λ (m : Machine). m.history) is);
+  calm = quiet.same (ap (λ (m : Machine). m.history) is);
+}
+grown_is x s old new actor (grows carries kind reply calm is) =
+    let e : Entry = entry_of (Session s) x.number carries kind reply in
+    record {
+      setup = ap (λ (m : Machine). m.setup) is;
+      shares = ap (λ (m : Machine). m.shares) is;
+      step = more e (sym actor) refl (quiet_end kind calm) (ap (λ (m : Machine). m.history) is);
+      calm = quiet.more e refl calm (ap (λ (m : Machine). m.history) is);
+    }
+
+pub not_same : (n m : ℕ) → n ≢ m → (n == m) ≡ false
+not_same n m other = grind (arith, nat_tests)
+
+module _ (script : Script) (place : ℕ) (x : ScriptLine) (at : At script place x) where
+  pub session_share : (m : Machine) (s : SessionNo) → m.shares ≡ shares_of script → is_declared script.setup s ≡ true → IsSpent script place m.history → HasShare m (Session s)
+  session_share m s shares declared spent =
+      let within = below_declared script.setup s declared in
+      let few : made s.0 m.history ≤ lines_by s.0 script.lines = let now = spent.spent s.0 in omega arith in
+      has_room script m s.0 within.0 within.1 shares few
+
+  -- all readers, where one has played the line
+  readers_more : (s : SessionNo) (old new : List Entry) (readers : List Reader) (reader : Reader) → x.actor ≡ Session s → 0 < s.0 → s.0 ≤ length readers → Step x old new
+      → ReadersStand script place old readers → ReaderStands script s (place + 1) new reader → ReadersStand script (place + 1) new (set readers (s.0 - 1) reader)
+  readers_more s old new readers reader actor above below step stand mine = record {
+    count = length-set readers (s.0 - 1) reader ∙ stand.count;
+    each = λ k d inside. by_place k d (omega (arith, length-set readers (s.0 - 1) reader)) (k + 1 == s.0) refl;
+  }
+    where
+      by_place : (k : ℕ) (d : Reader) → k < length readers → (b : Bool) → (k + 1 == s.0) ≡ b → ReaderStands script (record { 0 = k + 1 }) (place + 1) new (get_or (set readers (s.0 - 1) reader) k d)
+      by_place k d inside true is =
+          let here : k + 1 ≡ s.0 = eqb-true (k + 1) s.0 is in
+          let index : k ≡ s.0 - 1 = omega arith in
+          let P : ℕ → Type 0 = λ n. ReaderStands script (record { 0 = n }) (place + 1) new reader in
+          let Q : Reader → Type 0 = λ p. ReaderStands script (record { 0 = k + 1 }) (place + 1) new p in
+          let within : s.0 - 1 < length readers = omega arith in
+          let found : get_or (set readers (s.0 - 1) reader) k d ≡ reader = ap (λ n. get_or (set readers (s.0 - 1) reader) n d) index ∙ rw get_or-set_same refl in
+          subst Q (sym found) (subst P (sym here) mine)
+      by_place k d inside false is =
+          let other : k ≢ s.0 - 1 = (λ same. let yes : (k + 1 == s.0) ≡ true = eq-eqb (k + 1) s.0 (omega arith) in let both : true ≡ false = sym yes ∙ is in cc) in
+          let differ : s.0 ≢ k + 1 = (λ same. let yes : (k + 1 == s.0) ≡ true = eq-eqb (k + 1) s.0 (sym same) in let both : true ≡ false = sym yes ∙ is in cc) in
+          let apart : is_session (record { 0 = k + 1 }) x.actor ≡ false = ap (is_session (record { 0 = k + 1 })) actor ∙ not_same s.0 (k + 1) differ in
+          rw get_or-set_other (reader_other script place x at (record { 0 = k + 1 }) apart old new (get_or readers k d) step (stand.each k d inside))
+
+  display_readers : (old_readers readers : List Reader) (old new : List Entry) → x.actor ≡ Display → Step x old new → readers ≡ old_readers → ReadersStand script place old old_readers → ReadersStand script (place + 1) new readers
+  display_readers old_readers readers old new actor step is stand =
+      let P : List Reader → Type 0 = ReadersStand script (place + 1) new in
+      subst P (sym is) (record {
+        count = stand.count;
+        each = λ k d inside. reader_other script place x at (record { 0 = k + 1 }) (ap (is_session (record { 0 = k + 1 })) actor) old new (get_or old_readers k d) step (stand.each k d inside);
+      })
+
+  -- a line of a session, which its reader has played
+  pub session_more : (old new : Game) (s : SessionNo) (text : Line) (reader : Reader) → x.actor ≡ Session s → x.body ≡ body.Session text → is_declared script.setup s ≡ true → GameStands script place old
+      → new.readers.items ≡ set old.readers.items (s.0 - 1) reader → ReaderStands script s (place + 1) new.board.history reader → Grows old.board new.board (Session s) x.number
+      → new.shown ≡ old.shown → new.with_view ≡ old.with_view → new.frames.items ≡ old.frames.items → new.last ≡ old.last → new.answers ≡ old.answers → GameStands script (place + 1) new
+  session_more old new s text reader actor is declared stands readers_is mine grown shown_is views_is frames_are last_is answers_are =
+      let g : Grown x old.board new.board = grown_is x s old.board new.board actor grown in
+      let within = below_declared script.setup s declared in
+      let inside : s.0 ≤ length old.readers.items = let count = stands.readers.count in let below = within.1 in omega arith in
+      let P : List Reader → Type 0 = ReadersStand script (place + 1) new.board.history in
+      let V : SessionSet → Type 0 = HasViews script.setup in
+      let F : Shown → SessionSet → List FrameOut → Type 0 = FramesStand script.setup new.board.history in
+      record {
+        setup = g.setup ∙ stands.setup;
+        shares = g.shares ∙ stands.shares;
+        readers = subst P (sym readers_is) (readers_more s old.board.history new.board.history old.readers.items reader actor within.0 inside g.step stands.readers mine);
+        display = display_session script place x at text is old.board.history new.board.history g.calm stands.display;
+        order = order_more script place x at old.board.history new.board.history g.step stands.order;
+        spent = spent_more script place x at old.board.history new.board.history g.step stands.spent;
+        views = subst V (sym views_is) stands.views;
+        shows = rw (shown_is, views_is, frames_are) (frames_session script.setup old.board.history old.shown old.with_view old.frames.items stands.shows new.board.history g.calm);
+        answers = rw (last_is, answers_are) (answers_session script.setup old.board.history old.last old.answers stands.answers new.board.history g.calm);
+      }
+
+  -- a line that begins a frame
+  pub begin_more : (old new : Game) (time : ℕ) → x.actor ≡ Display → x.body ≡ body.Display (display.Begin time) → GameStands script place old → BeginsFrame old new x.number time → GameStands script (place + 1) new
+  begin_more old new time actor is stands begins =
+      let e : Entry = entry_of Display x.number [] (Begin time) Done in
+      let h : List Entry = old.board.history in
+      let grown : new.board.history ≡ (h ▹ e) = ap (λ (m : Machine). m.history) begins.board in
+      let setup : new.board.setup ≡ script.setup = ap (λ (m : Machine). m.setup) begins.board ∙ stands.setup in
+      let step : Step x h new.board.history = more e (sym actor) refl refl grown in
+      let D : List Entry → Type 0 = DisplayStands script (place + 1) in
+      let shown : new.shown ≡ shown_states script.setup (h ▹ e) = begins.shown ∙ ap (λ st. shown_states st new.board.history) setup ∙ ap (shown_states script.setup) grown in
+      let W : Setup → Type 0 = λ st. HasViews st new.with_view in
+      let V : Setup → List Entry → Type 0 = λ st es. (s : SessionNo) → is_declared st s ≡ true → is_member new.with_view s.0 ≡ has_view st es s in
+      let V1 : Setup → Type 0 = λ st. V st new.board.history in
+      let V2 : List Entry → Type 0 = V script.setup in
+      let F : List Entry → Type 0 = λ es. FramesStand script.setup es new.shown new.with_view new.frames.items in
+      let K : List FrameOut → Type 0 = λ fs. FramesStand script.setup (h ▹ e) new.shown new.with_view fs in
+      let kept : new.frames.items ≡ old.frames.items = ap (λ v. v.items) begins.kept in
+      record {
+        setup = setup;
+        shares = ap (λ (m : Machine). m.shares) begins.board ∙ stands.shares;
+        readers = display_readers old.readers.items new.readers.items h new.board.history actor step (ap (λ v. v.items) begins.readers) stands.readers;
+        display = subst D (sym grown) (display_begin script place x at time is h stands.display);
+        order = order_more script place x at h new.board.history step stands.order;
+        spent = spent_more script place x at h new.board.history step stands.spent;
+        views = subst W setup begins.views;
+        shows = subst F (sym grown) (subst K (sym kept)
+            (frames_begin script.setup h old.shown old.with_view old.frames.items stands.shows x.number time new.shown new.with_view shown (subst V2 grown (subst V1 setup begins.viewing))));
+        answers = rw (grown, begins.last, begins.answers) (answers_beside script.setup h old.last old.answers stands.answers e refl refl);
+      }
+
+  -- a line that ends one
+  pub finish_more : (old new : Game) → x.actor ≡ Display → x.body ≡ body.Display display.Done → GameStands script place old → FinishesFrame old new x.number → GameStands script (place + 1) new
+  finish_more old new actor is stands finishes =
+      let e : Entry = entry_of Display x.number [] Finish Done in
+      let h : List Entry = old.board.history in
+      let grown : new.board.history ≡ (h ▹ e) = ap (λ (m : Machine). m.history) finishes.board in
+      let step : Step x h new.board.history = more e (sym actor) refl refl grown in
+      let D : List Entry → Type 0 = DisplayStands script (place + 1) in
+      let V : SessionSet → Type 0 = HasViews script.setup in
+      let F : List Entry → Type 0 = λ es. FramesStand script.setup es new.shown new.with_view new.frames.items in
+      let number : frames new.board.history ≡ suc (frames h) = ap frames grown in
+      let frame : frame_at old.board.setup (frames new.board.history) (to_begin h) ≡ frame_at script.setup (suc (frames h)) (to_begin h) =
+      ap (λ st. frame_at st (frames new.board.history) (to_begin h)) stands.setup ∙ ap (λ n. frame_at script.setup n (to_begin h)) number in
+      record {
+        setup = ap (λ (m : Machine). m.setup) finishes.board ∙ stands.setup;
+        shares = ap (λ (m : Machine). m.shares) finishes.board ∙ stands.shares;
+        readers = display_readers old.readers.items new.readers.items h new.board.history actor step (ap (λ v. v.items) finishes.readers) stands.readers;
+        display = subst D (sym grown) (display_done script place x at is h stands.display);
+        order = order_more script place x at h new.board.history step stands.order;
+        spent = spent_more script place x at h new.board.history step stands.spent;
+        views = subst V (sym finishes.with_view) stands.views;
+        shows = subst F (sym grown) (rw (finishes.shown, finishes.with_view)
+            (frames_done script.setup h old.shown old.with_view old.frames.items stands.shows x.number new.frames.items _ finishes.kept frame));
+        answers = rw (grown, finishes.answers) (answers_done script.setup h old.last old.answers stands.answers x.number new.last (finishes.shows ∙ number)
+            (finishes.joined ∙ ap (λ st. joined_lists st old.shown) stands.setup ∙ ap (joined_lists script.setup) stands.shows.showing));
+      }
+
+  -- any of these, by what becomes of the answers
+  entered_more : (old new : Game) (text : DisplayLine) (kind : Kind) (reply : Reply) → x.actor ≡ Display → x.body ≡ body.Display text → entry_of_display text ≡ kind → is_begin kind ≡ false → is_finish kind ≡ false → is_end kind ≡ false
+      → ((o : Bool) (t : ℕ) (follows : Bool → ℕ → Bool) → keeps_frames o t (body.Display text) follows ≡ follows o t)
+      → GameStands script place old → new.board ≡ entered old.board Display x.number [] kind reply → new.shown ≡ old.shown → new.with_view ≡ old.with_view → new.readers ≡ old.readers → new.frames ≡ old.frames
+      → AnswersStand script.setup (old.board.history ▹ entry_of Display x.number [] kind reply) new.last new.answers → GameStands script (place + 1) new
+  entered_more old new text kind reply actor is makes no_begin no_finish no_end keeps stands board shown_is views_is readers_are frames_are answers =
+      let e : Entry = entry_of Display x.number [] kind reply in
+      let h : List Entry = old.board.history in
+      let grown : new.board.history ≡ (h ▹ e) = ap (λ (m : Machine). m.history) board in
+      let step : Step x h new.board.history = more e (sym actor) refl no_end grown in
+      let D : List Entry → Type 0 = DisplayStands script (place + 1) in
+      let V : SessionSet → Type 0 = HasViews script.setup in
+      let F : List Entry → Type 0 = λ es. FramesStand script.setup es new.shown new.with_view new.frames.items in
+      let kept : new.frames.items ≡ old.frames.items = ap (λ v. v.items) frames_are in
+      record {
+        setup = ap (λ (m : Machine). m.setup) board ∙ stands.setup;
+        shares = ap (λ (m : Machine). m.shares) board ∙ stands.shares;
+        readers = display_readers old.readers.items new.readers.items h new.board.history actor step (ap (λ v. v.items) readers_are) stands.readers;
+        display = subst D (sym grown) (display_beside script place x at text kind reply is makes no_begin no_finish keeps h stands.display);
+        order = order_more script place x at h new.board.history step stands.order;
+        spent = spent_more script place x at h new.board.history step stands.spent;
+        views = subst V (sym views_is) stands.views;
+        shows = subst F (sym grown) (rw (shown_is, views_is, kept) (frames_beside script.setup h old.shown old.with_view old.frames.items stands.shows e no_begin no_finish));
+        answers = rw grown answers;
+      }
+
+  -- a line of the display that begins no frame and ends none
+  pub beside_more : (old new : Game) (text : DisplayLine) (kind : Kind) (reply : Reply) → x.actor ≡ Display → x.body ≡ body.Display text → entry_of_display text ≡ kind → is_quiet kind ≡ true
+      → ((o : Bool) (t : ℕ) (follows : Bool → ℕ → Bool) → keeps_frames o t (body.Display text) follows ≡ follows o t)
+      → GameStands script place old → EntersBeside old new x.number kind reply → GameStands script (place + 1) new
+  beside_more old new text kind reply actor is makes calm keeps stands enters =
+      let e : Entry = entry_of Display x.number [] kind reply in
+      let h : List Entry = old.board.history in
+      entered_more old new text kind reply actor is makes (quiet_begin kind calm) (quiet_finish kind calm) (quiet_end kind calm) keeps stands enters.board enters.shown enters.with_view enters.readers enters.kept
+      (rw (enters.last, enters.answers) (answers_beside script.setup h old.last old.answers stands.answers e (quiet_finish kind calm) (quiet_answers e (frames h) (hits_at script.setup (to_finished h)) kind calm)))
+
+  -- a line that asks for a point
+  pub point_more : (old new : Game) (px py : ℤ) → x.actor ≡ Display → x.body ≡ body.Display (display.Hit px py) → GameStands script place old → AsksPoint old new x.number px py → GameStands script (place + 1) new
+  point_more old new px py actor is stands asks =
+      entered_more old new (display.Hit px py) (Hit px py) Done actor is refl refl refl refl (λ o t follows. refl) stands asks.board asks.shown asks.with_view asks.readers asks.kept
+      (rw asks.last (answers_point script.setup old.board.history old.last old.answers stands.answers x.number px py new.answers asks.answers))
+
+-- the reader of a session
+pub own_reader : (script : Script) (place : ℕ) (history : List Entry) (readers : List Reader) (s : SessionNo) → is_declared script.setup s ≡ true → ReadersStand script place history readers
+    → (reader : Reader) → reader ≡ get_or readers (s.0 - 1) reader → ReaderStands script s place history reader
+own_reader script place history readers s declared stand reader is =
+    let within = below_declared script.setup s declared in
+    let inside : s.0 - 1 < length readers = let count = stand.count in let a = within.0 in let b = within.1 in omega arith in
+    let here : s.0 - 1 + 1 ≡ s.0 = let a = within.0 in omega arith in
+    let P : ℕ → Type 0 = λ n. ReaderStands script (record { 0 = n }) place history (get_or readers (s.0 - 1) reader) in
+    let Q : Reader → Type 0 = λ p. ReaderStands script s place history p in
+    subst Q (sym is) (subst P here (stand.each (s.0 - 1) reader inside))
+
+-- a session plays lines of a session, the display its own, and a probe none
+pub no_session_text : (setup : Setup) (s : SessionNo) (text : Body) → is_played setup (Session s) text ≡ true → session_text text ≡ None → ⊥
+no_session_text setup s (body.Session text) played none = cc
+no_session_text setup s _ played none = cc
+
+pub no_display_text : (setup : Setup) (text : Body) → is_played setup Display text ≡ true → display_text text ≡ None → ⊥
+no_display_text setup (body.Display text) played none = cc
+no_display_text setup _ played none = cc
+
+pub no_probe : (setup : Setup) (p : ℕ) (text : Body) → is_played setup (Probe p) text ≡ true → ⊥
+no_probe setup p (body.Session text) played = cc
+no_probe setup p (body.Display text) played = cc
+no_probe setup p (body.Probe text) played = cc

@@ -1,0 +1,44 @@
+use Rattle.std.proofs.Common.{◌≡◌, ℕ, length, map, refl, sym, ap, ◌∙◌, subst, arith}
+use Rattle.flat_play.specs.Playing.{GameStands}
+use Rattle.flat_play.proofs.lemmas.Seen.{as_long, kept_none, kept_same, kept_seen, seen_none, seen_line}
+use Rattle.flat_play.proofs.run.play_lines.Goals as goal
+
+pub loop-place-init : goal.loop-place-init
+loop-place-init g c = record {
+  stands = c.in_ok-game.ensures.stands;
+  seen = seen_none _ _ _ _ _ _ c.in_ok-game.ensures.none c.requires.none;
+  number = c.requires.number;
+  kinds = refl;
+  same = refl;
+}
+
+pub loop-place-preserved : goal.loop-place-preserved
+loop-place-preserved g c =
+    let script = c.args.script.now in
+    let was = c.loop-place.invariant in
+    let now = c.in_ok-play_line.ensures in
+    record {
+      stands = now.stands;
+      seen = seen_line _ _ script.setup _ _ _ _ was.stands.shows.finishing now.stands.shows.finishing _ _ _ _ _ (omega (arith, was.number, was.same, c.requires.few)) now.shows was.seen;
+      number = as_long _ _ _ c.play_line.ensures.kinds ∙ was.number ∙ sym c.play_line.ensures.same;
+      kinds = c.play_line.ensures.kinds ∙ was.kinds;
+      same = c.play_line.ensures.same ∙ was.same;
+    }
+
+pub returns-clause-stands : goal.returns-clause-stands
+returns-clause-stands g c =
+    let last : c.loop-place.place ≡ length c.args.script.now.lines = omega (arith, c.loop-place.auto.place-end, c.loop-place-test.false) in
+    let P : ℕ → Type 0 = λ n. GameStands c.args.script.now n c.loop-place.game in
+    subst P last c.loop-place.invariant.stands
+
+pub returns-clause-seen : goal.returns-clause-seen
+returns-clause-seen g c = c.loop-place.invariant.seen
+
+pub returns-clause-kept : goal.returns-clause-kept
+returns-clause-kept g c = kept_seen _ _ _ _ _ _ _ _ c.loop-place.invariant.kinds c.loop-place.invariant.seen
+
+pub returns-in_err-game-clause-kept : goal.returns-in_err-game-clause-kept
+returns-in_err-game-clause-kept g c = kept_none _ _ _ _
+
+pub returns-in_err-play_line-clause-kept : goal.returns-in_err-play_line-clause-kept
+returns-in_err-play_line-clause-kept g c = kept_same _ _ _ _ _ _ (ap (λ v. v.items) c.in_err-play_line.ensures.unshown.1) (kept_seen _ _ _ _ _ _ _ _ c.loop-place.invariant.kinds c.loop-place.invariant.seen)

@@ -1,0 +1,13 @@
+use Rattle.std.proofs.Common.{◌≡◌, length, map}
+use Rattle.flat_play.specs.Playing.{GameStands}
+use Rattle.flat_play.specs.Showing.{HaveSeen}
+use Rattle.flat_play.proofs.run.play_lines.Given as goal
+
+abbrev pub invariant-loop-place : goal.invariant-loop-place
+invariant-loop-place g l = record {
+  stands : GameStands l.script l.place l.game;
+  seen : HaveSeen (λ b. (goal.Display-dyn g (b.vtable, b.value)).shown b.value) (λ b. (goal.Display-dyn g (b.vtable, b.value)).faults b.value) l.game.frames.items l.game.board.history l.set.lost l.initial.displays.items l.displays.items;
+  number : length l.displays.items ≡ l.set.displays;
+  kinds : map (λ b. b.vtable) l.displays.items ≡ map (λ b. b.vtable) l.initial.displays.items;
+  same : l.set.displays ≡ l.initial.set.displays;
+}

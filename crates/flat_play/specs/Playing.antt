@@ -1,0 +1,208 @@
+-- How a session stands at a place of the script.
+use Rattle.std.specs.Prelude.{◌≡◌, ℕ, ℤ, ◌+◌, ◌<◌, ◌≤◌, ◌==◌, true, false, List, [], ◌∷◌, ◌++◌, length, take, drop, map, reverse, count_by, slice_index_or, Option, Some, None}
+use Rattle.std.specs.List.{AllByRecursion}
+use Rattle.std.specs.List.Sorted.{IsStrictlyIncreasing}
+use Rattle.flat_base.specs.declared.ids.Actor.TheVariants.{Display, Session}
+use Rattle.flat_scene.specs.declared.journal.Reply.TheVariants.{Done}
+use Rattle.flat_scene.specs.declared.script.Body.{Body}
+use Rattle.flat_scene.specs.declared.script.Body.TheVariants as body
+use Rattle.flat_scene.specs.declared.script.DisplayLine.{DisplayLine}
+use Rattle.flat_base.specs.declared.ids.SessionNo.{SessionNo}
+use Rattle.flat_scene.specs.declared.journal.Entry.{Entry}
+use Rattle.flat_scene.specs.declared.journal.Kind.{Kind}
+use Rattle.flat_scene.specs.declared.journal.Kind.TheVariants.{Begin, Finish, Hit}
+use Rattle.flat_scene.specs.declared.journal.Reply.{Reply}
+use Rattle.flat_scene.specs.declared.script.Line.{Line}
+use Rattle.flat_scene.specs.declared.script.ScriptLine.{ScriptLine}
+use Rattle.flat_scene.specs.declared.setup.Setup.{Setup}
+use Rattle.flat_scene.specs.declared.frames.FrameOut.{FrameOut}
+use Rattle.flat_scene.specs.declared.frames.SessionSet.{SessionSet}
+use Rattle.flat_scene.specs.Frames.{sessions_to}
+use Rattle.flat_scene.specs.History.{own, is_end, seat_number}
+use Rattle.flat_scene.specs.Interleave.{session_lines, display_lines, by_display, unread_lines, last_line, FollowsDisplay, Interleaves, IsReading}
+use Rattle.flat_scene.specs.Setups.{is_declared}
+use Rattle.flat_core.specs.Machines.{Machine, entered, made}
+use Rattle.flat_rules.specs.Ends.{to_begin, to_finished, has_view}
+use Rattle.flat_rules.specs.Legal.{is_frame_open, begin_time, frames}
+use Rattle.flat_rules.specs.Shown.{shown_states}
+use Rattle.flat_topology.specs.Connected.{joined_lists}
+use Rattle.flat_topology.specs.Hits.{hits_among}
+use Rattle.flat_topology.specs.Shown.{Shown}
+use Rattle.flat_topology.specs.Views.{is_member}
+use Rattle.flat_report.specs.declared.report.HitAnswer.{HitAnswer}
+use Rattle.flat_report.specs.Handed.{answers_of}
+use Rattle.flat_report.specs.Report.{finished, frame_at}
+use Rattle.flat_places.specs.declared.script.Script.{Script}
+use Rattle.flat_stage.specs.declared.reader.Reader.{Reader}
+use Rattle.flat_stage.specs.Readings.{HasRead}
+use Rattle.flat_stage.specs.Reads.{IsNew, Stands}
+use Rattle.flat_play.specs.declared.game.Game.{Game}
+use Rattle.flat_play.specs.declared.frame.LastFrame.{LastFrame}
+use Rattle.flat_playable.specs.Playable.{frames_close}
+
+-- ---- a session at a place
+
+-- the number of the last of some lines
+abbrev pub last_number : ℕ → List ScriptLine → ℕ
+last_number n [] = n
+last_number n (next ∷ later) = last_number next.number later
+
+-- A session's entries are the reading of its lines up to a place, and its reader stands behind them. It refused no more lines than there were.
+pub record ReaderStands (script : Script) (s : SessionNo) (place : ℕ) (history : List Entry) (reader : Reader) : Type 0 where
+  pub session : reader.session ≡ s
+  pub few : reader.refused ≤ last_number 0 (take place script.lines)
+  pub stands : Stands script.setup (own s history) reader
+  pub reads : HasRead script.setup (session_lines s (take place script.lines)) (own s history) reader
+
+-- ---- all actors at a place
+
+-- how many of some lines are of the actor of a seat
+abbrev pub lines_by : ℕ → List ScriptLine → ℕ
+lines_by seat = count_by (λ next. seat_number next.actor == seat)
+
+-- what a board is to give room for: the display's lines, and those of each session with its End
+abbrev pub rest_shares : Script → List ℕ
+rest_shares script = map (λ s. lines_by s.0 script.lines + 1) (sessions_to script.setup.sessions)
+
+abbrev pub shares_of : Script → List ℕ
+shares_of script = lines_by 0 script.lines ∷ rest_shares script
+
+-- no actor made more entries than it had lines
+pub record IsSpent (script : Script) (place : ℕ) (history : List Entry) : Type 0 where
+  pub spent : (seat : ℕ) → made seat history + lines_by seat (drop place script.lines) ≤ lines_by seat script.lines
+
+-- The entries are written in order of their lines, up to a place, and none is an End.
+pub record IsInOrder (script : Script) (place : ℕ) (history : List Entry) : Type 0 where
+  pub rise : IsStrictlyIncreasing (map (λ entry. entry.line) (reverse history))
+  pub last : last_line history ≤ last_number 0 (take place script.lines)
+  pub no_ends : AllByRecursion (λ entry. is_end entry.kind ≡ false) (reverse history)
+
+-- The display's entries are the reading of its lines up to a place, and the frames of the lines left go on from there.
+pub record DisplayStands (script : Script) (place : ℕ) (history : List Entry) : Type 0 where
+  pub follows : FollowsDisplay (display_lines script.lines) (by_display history)
+  pub left : unread_lines (by_display history) (display_lines script.lines) ≡ display_lines (drop place script.lines)
+  pub closing : frames_close (is_frame_open history) (begin_time history) (drop place script.lines) ≡ true
+
+-- What is shown is that of the last begin, and the frames are those that are finished.
+pub record FramesStand (setup : Setup) (history : List Entry) (shown : Shown) (with_view : SessionSet) (frames : List FrameOut) : Type 0 where
+  pub showing : shown ≡ shown_states setup (to_begin history)
+  pub viewing : (s : SessionNo) → is_declared setup s ≡ true → is_member with_view s.0 ≡ has_view setup (to_begin history) s
+  pub finishing : frames ≡ finished setup history
+
+-- The last finished frame is known, and the points that were asked for are answered.
+pub record AnswersStand (setup : Setup) (history : List Entry) (last : LastFrame) (answers : List HitAnswer) : Type 0 where
+  pub number : last.frame.0 ≡ frames history
+  pub joining : last.joined ≡ joined_lists setup (shown_states setup (to_finished history))
+  pub answering : answers ≡ answers_of setup history
+
+-- a set of sessions has none beyond those of the setup
+abbrev pub HasViews : Setup → SessionSet → Type 0
+HasViews setup views = (s : ℕ) → setup.sessions < s → is_member views s ≡ false
+
+-- All readers stand at a place.
+pub record ReadersStand (script : Script) (place : ℕ) (history : List Entry) (readers : List Reader) : Type 0 where
+  pub count : length readers ≡ script.setup.sessions
+  pub each : (k : ℕ) (d : Reader) → k < length readers → ReaderStands script (record { 0 = k + 1 }) place history (slice_index_or readers k d)
+
+-- The whole run stands at a place.
+pub record GameStands (script : Script) (place : ℕ) (game : Game) : Type 0 where
+  pub setup : game.board.setup ≡ script.setup
+  pub shares : game.board.shares ≡ shares_of script
+  pub readers : ReadersStand script place game.board.history game.readers.items
+  pub display : DisplayStands script place game.board.history
+  pub order : IsInOrder script place game.board.history
+  pub spent : IsSpent script place game.board.history
+  pub views : HasViews script.setup game.with_view
+  pub shows : FramesStand script.setup game.board.history game.shown game.with_view game.frames.items
+  pub answers : AnswersStand script.setup game.board.history game.last game.answers
+
+-- ---- what the display does to a run
+
+-- A frame begins: it shows what the sessions show from then on.
+pub record BeginsFrame (old new : Game) (number time : ℕ) : Type 0 where
+  pub board : new.board ≡ entered old.board Display number [] (Begin time) Done
+  pub shown : new.shown ≡ shown_states new.board.setup new.board.history
+  pub viewing : (s : SessionNo) → is_declared new.board.setup s ≡ true → is_member new.with_view s.0 ≡ has_view new.board.setup new.board.history s
+  pub views : HasViews new.board.setup new.with_view
+  pub readers : new.readers ≡ old.readers
+  pub kept : new.frames ≡ old.frames
+  pub last : new.last ≡ old.last
+  pub answers : new.answers ≡ old.answers
+
+-- A frame is finished, and kept.
+pub record FinishesFrame (old new : Game) (number : ℕ) : Type 0 where
+  pub board : new.board ≡ entered old.board Display number [] Finish Done
+  pub shown : new.shown ≡ old.shown
+  pub with_view : new.with_view ≡ old.with_view
+  pub readers : new.readers ≡ old.readers
+  pub kept : new.frames.items ≡ old.frames.items ++ frame_at old.board.setup (frames new.board.history) (to_begin old.board.history) ∷ []
+  pub shows : new.last.frame.0 ≡ frames new.board.history
+  pub joined : new.last.joined ≡ joined_lists old.board.setup old.shown
+  pub answers : new.answers ≡ old.answers
+
+-- The display makes an entry that begins no frame and ends none.
+pub record EntersBeside (old new : Game) (number : ℕ) (kind : Kind) (reply : Reply) : Type 0 where
+  pub board : new.board ≡ entered old.board Display number [] kind reply
+  pub shown : new.shown ≡ old.shown
+  pub with_view : new.with_view ≡ old.with_view
+  pub readers : new.readers ≡ old.readers
+  pub kept : new.frames ≡ old.frames
+  pub last : new.last ≡ old.last
+  pub answers : new.answers ≡ old.answers
+
+-- The display asks for a point, and is answered by the last finished frame.
+pub record AsksPoint (old new : Game) (number : ℕ) (x y : ℤ) : Type 0 where
+  pub board : new.board ≡ entered old.board Display number [] (Hit x y) Done
+  pub shown : new.shown ≡ old.shown
+  pub with_view : new.with_view ≡ old.with_view
+  pub readers : new.readers ≡ old.readers
+  pub kept : new.frames ≡ old.frames
+  pub last : new.last ≡ old.last
+  pub answers : new.answers ≡ old.answers ++ (record { actor = Display; line = number; frame = old.last.frame; hits = hits_among old.last.joined.nodes x y }) ∷ []
+
+-- the line of a session that a body is, and the line of the display
+abbrev pub session_text : Body → Option Line
+session_text (body.Session text) = Some text
+session_text _ = None
+
+abbrev pub display_text : Body → Option DisplayLine
+display_text (body.Display text) = Some text
+display_text _ = None
+
+-- ---- before any line
+
+-- The readers of the first sessions are there, and have read no line.
+pub record AreNew (setup : Setup) (sessions : ℕ) (readers : List Reader) : Type 0 where
+  pub count : length readers ≡ sessions
+  pub each : (k : ℕ) (d : Reader) → k < length readers → IsNew setup (record { 0 = k + 1 }) (slice_index_or readers k d)
+
+-- ---- after all lines
+
+-- The Ends of the first sessions come last, in order, after entries whose lines rise.
+pub record HasEnds (ended : ℕ) (history : List Entry) : Type 0 where
+  pub rising : List Entry
+  pub ends : List Entry
+  pub parts : reverse history ≡ rising ++ ends
+  pub rise : IsStrictlyIncreasing (map (λ entry. entry.line) rising)
+  pub no_end : AllByRecursion (λ entry. is_end entry.kind ≡ false) rising
+  pub in_order : map (λ entry. entry.actor) ends ≡ map Session (sessions_to ended)
+
+-- The first sessions have ended, and the others stand behind all lines.
+pub record EndsStand (script : Script) (ended : ℕ) (game : Game) : Type 0 where
+  pub setup : game.board.setup ≡ script.setup
+  pub shares : game.board.shares ≡ shares_of script
+  pub count : length game.readers.items ≡ script.setup.sessions
+  pub readings : (k : ℕ) → k < ended → IsReading script.setup script.count (session_lines (record { 0 = k + 1 }) script.lines) (own (record { 0 = k + 1 }) game.board.history)
+  pub waiting : (k : ℕ) (d : Reader) → ended ≤ k → k < length game.readers.items → ReaderStands script (record { 0 = k + 1 }) (length script.lines) game.board.history (slice_index_or game.readers.items k d)
+  pub display : DisplayStands script (length script.lines) game.board.history
+  pub has_ends : HasEnds ended game.board.history
+  pub unspent : (k : ℕ) → ended ≤ k → made (k + 1) game.board.history ≤ lines_by (k + 1) script.lines
+  pub finishing : game.frames.items ≡ finished script.setup game.board.history
+  pub answering : game.answers ≡ answers_of script.setup game.board.history
+
+-- A script was run to its end: the history interleaves the script's actors, the frames are those that it finishes, and the answers those to the points that it asks for.
+pub record HasPlayed (script : Script) (board : Machine) (shown_frames : List FrameOut) (answers : List HitAnswer) : Type 0 where
+  pub setup : board.setup ≡ script.setup
+  pub interleaves : Interleaves script.setup script.count script.lines board.history
+  pub finishing : shown_frames ≡ finished script.setup board.history
+  pub answering : answers ≡ answers_of script.setup board.history

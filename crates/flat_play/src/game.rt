@@ -1,0 +1,291 @@
+ghost use Rattle.std.specs.Prelude.{◌≡◌, ◌+◌, ◌<◌, ◌^◌, [], true, length, map, Some, OnOk, OnErr, IfOk, slice_get};
+ghost use Rattle.std.specs.Option.{option_copied};
+ghost use Rattle.flat_base.specs.declared.ids.Actor.TheVariants.{Display, Session};
+ghost use Rattle.flat_scene.specs.declared.journal.Kind.TheVariants.{Begin, Finish, Hit, Signal, Wait};
+ghost use Rattle.flat_scene.specs.declared.journal.Reply.TheVariants.{Done};
+ghost use Rattle.flat_scene.specs.declared.script.Body.TheVariants as body;
+ghost use Rattle.flat_scene.specs.Interleave.{IsWritten};
+ghost use Rattle.flat_scene.specs.Setups.{is_setup};
+ghost use Rattle.flat_core.specs.Machines.{MayCall};
+ghost use Rattle.flat_rules.specs.Ends.{to_begin};
+ghost use Rattle.flat_rules.specs.Legal.{frames, reply_to};
+ghost use Rattle.flat_rules.specs.Shown.{shown_states};
+ghost use Rattle.flat_topology.specs.Connected.{joined_lists};
+ghost use Rattle.flat_report.specs.Report.{frame_at};
+ghost use Rattle.flat_playable.specs.Playable.{is_playable};
+ghost use Rattle.flat_play.specs.Playing.{session_text, display_text};
+ghost use Rattle.flat_play.specs.Showing.{IsShown};
+
+use crate::frame::{Composed, LastFrame, compose_frame, show_last};
+use flat_base::{Actor, FenceNo, NoMemory, SessionNo, TryCopy};
+use flat_core::{Board, shown_states_fit};
+use flat_display::{Display, DisplaySet};
+use flat_hit::hits;
+use flat_places::Script;
+use flat_report::{HitAnswer, HitAnswers};
+use flat_scene::{Body, CallList, Cond, DisplayLine, FrameOut, Line, SessionSet};
+use flat_stage::{Reader, lines_are_read};
+use flat_topology::Shown;
+use std::alloc::Global;
+
+/// A run: the board, the sessions, and what is shown.
+#[derive(Drop)]
+pub struct Game {
+    pub board: Board,
+    /// The sessions as they read their lines, session 1 first.
+    pub readers: Vec<Reader>,
+    /// What the last frame shows of each session.
+    pub shown: Shown,
+    /// The sessions that had a view at its begin.
+    pub with_view: SessionSet,
+    /// All finished frames.
+    pub frames: Vec<FrameOut>,
+    pub last: LastFrame,
+    /// The answers to the points that were asked for.
+    pub answers: HitAnswers,
+}
+
+impl Game {
+    ghost use Rattle.flat_play.specs.Playing.{GameStands, FramesStand, HasViews, BeginsFrame, FinishesFrame, EntersBeside, AsksPoint, EndsStand, HasPlayed};
+
+    /// The next frame, as it is composed of what the sessions show.
+    fn compose_next(&self, alloc: Global) -> Result<Composed, NoMemory>
+        requires setup { is_setup self.now.board.setup ≡ true }
+        requires stands { FramesStand self.now.board.setup self.now.board.history self.now.shown self.now.with_view self.now.frames.items }
+        requires views { HasViews self.now.board.setup self.now.with_view }
+        requires last { self.now.last.frame.0 ≡ frames self.now.board.history }
+        requires few { frames self.now.board.history + 1 < 2 ^ 32 }
+        ensures frame { IfOk result (λ composed. composed.frame ≡ frame_at self.now.board.setup (frames self.now.board.history + 1) (to_begin self.now.board.history)) }
+        ensures joined { IfOk result (λ composed. composed.joined ≡ joined_lists self.now.board.setup self.now.shown) }
+    {
+        let _journal = self.board.journal();
+        shown_states_fit();
+        let number = self.last.frame.0 + 1;
+        compose_frame(alloc, self.board.setup(), &self.shown, self.with_view, number)
+    }
+
+    /// Begins a frame.
+    fn begin(&mut self, number: u32, time: u64)
+        requires may { MayCall self.old.board Display [] (Begin time) }
+        requires shown { self.old.shown ≡ shown_states self.old.board.setup (to_begin self.old.board.history) }
+        ensures { BeginsFrame self.old self.new number time }
+    {
+        let _frame = self.board.begin(number, time, &mut self.shown);
+        self.with_view = self.board.with_view();
+    }
+
+    /// Ends the frame that is open: it is composed and kept, shown to the displays
+    /// that aren't lost, and entered.
+    fn finish(
+        &mut self,
+        alloc: Global,
+        number: u32,
+        set: &mut DisplaySet,
+        displays: &mut Vec<Box<dyn Display>>,
+    ) -> Result<(), NoMemory>
+        requires may { MayCall self.old.board Display [] Finish }
+        requires setup { is_setup self.old.board.setup ≡ true }
+        requires stands { FramesStand self.old.board.setup self.old.board.history self.old.shown self.old.with_view self.old.frames.items }
+        requires views { HasViews self.old.board.setup self.old.with_view }
+        requires last { self.old.last.frame.0 ≡ frames self.old.board.history }
+        requires few { frames self.old.board.history + 1 < 2 ^ 32 }
+        requires number { length displays.old.items ≡ set.old.displays }
+        ensures finishes { OnOk result (FinishesFrame self.old self.new number) }
+        ensures shows { OnOk result (IsShown (λ d. shown d) (λ d. faults d) self.old.frames.items self.new.frames.items set.old set.new displays.old.items displays.new.items) }
+        ensures unshown { OnErr result ((set.new ≡ set.old) × (displays.new ≡ displays.old)) }
+        ensures same { set.new.displays ≡ set.old.displays }
+        ensures kinds { map (λ d. d.vtable) displays.new.items ≡ map (λ d. d.vtable) displays.old.items }
+    {
+        let Composed { frame, joined } = self.compose_next(alloc)?;
+        self.frames.push(frame)?;
+        show_last(set, displays, self.frames.as_slice());
+        let frame = self.board.done(number);
+        self.last = LastFrame { frame, joined };
+        Ok(())
+    }
+
+    /// Signals a fence of the display.
+    fn signal(&mut self, alloc: Global, number: u32, f: FenceNo)
+        requires { MayCall self.old.board Display [] (Signal f) }
+        ensures { EntersBeside self.old self.new number (Signal f) Done }
+    {
+        let calls = CallList::new(alloc);
+        let _reply = self.board.signal(Actor::Display, number, calls, f);
+    }
+
+    /// Looks once whether a condition of the display is met.
+    fn wait(&mut self, alloc: Global, number: u32, c: Cond)
+        requires { MayCall self.old.board Display [] (Wait c) }
+        ensures { EntersBeside self.old self.new number (Wait c) (reply_to self.old.board.setup self.old.board.history Display [] (Wait c)) }
+    {
+        let calls = CallList::new(alloc);
+        let _reply = self.board.wait(Actor::Display, number, calls, c);
+    }
+
+    /// Asks what a point of the last finished frame hits.
+    fn hit(&mut self, alloc: Global, number: u32, x: i32, y: i32) -> Result<(), NoMemory>
+        requires { MayCall self.old.board Display [] (Hit x y) }
+        ensures { OnOk result (AsksPoint self.old self.new number x y) }
+    {
+        let hits = hits(alloc, &self.last.joined, x, y)?;
+        self.answers.push(HitAnswer {
+            actor: Actor::Display,
+            line: number,
+            frame: self.last.frame,
+            hits,
+        })?;
+        let _reply = self.board.hit(number, x, y);
+        Ok(())
+    }
+
+    /// Plays a line of a session.
+    fn play_session(
+        &mut self,
+        alloc: Global,
+        script: &Script,
+        place: usize,
+        s: SessionNo,
+        number: u32,
+        text: &Line,
+    ) -> Result<(), NoMemory>
+        requires line { slice_get script.now.lines place ≡ Some (record { number = number; actor = Session s; body = body.Session text.now }) }
+        requires playable { is_playable script.now ≡ true }
+        requires stands { GameStands script.now place self.old }
+        ensures stands { OnOk result (GameStands script.now (place + 1) self.new) }
+        ensures frames { OnOk result (self.new.frames ≡ self.old.frames) }
+    {
+        lines_are_read();
+        let text = text.copy(alloc)?;
+        let reader = &mut self.readers[s.0 as usize - 1];
+        let _reply = reader.call(&mut self.board, number, text)?;
+        Ok(())
+    }
+
+    /// Plays a line of the display.
+    fn play_display(
+        &mut self,
+        alloc: Global,
+        script: &Script,
+        place: usize,
+        number: u32,
+        text: DisplayLine,
+        set: &mut DisplaySet,
+        displays: &mut Vec<Box<dyn Display>>,
+    ) -> Result<(), NoMemory>
+        requires line { slice_get script.now.lines place ≡ Some (record { number = number; actor = Display; body = body.Display text }) }
+        requires playable { is_playable script.now ≡ true }
+        requires stands { GameStands script.now place self.old }
+        requires number { length displays.old.items ≡ set.old.displays }
+        ensures stands { OnOk result (GameStands script.now (place + 1) self.new) }
+        ensures shows { OnOk result (IsShown (λ d. shown d) (λ d. faults d) self.old.frames.items self.new.frames.items set.old set.new displays.old.items displays.new.items) }
+        ensures unshown { OnErr result ((set.new ≡ set.old) × (displays.new ≡ displays.old)) }
+        ensures same { set.new.displays ≡ set.old.displays }
+        ensures kinds { map (λ d. d.vtable) displays.new.items ≡ map (λ d. d.vtable) displays.old.items }
+    {
+        let _journal = self.board.journal();
+        match text {
+            DisplayLine::Begin(time) => {
+                self.begin(number, time);
+                Ok(())
+            }
+            DisplayLine::Done => {
+                self.finish(alloc, number, set, displays)?;
+                Ok(())
+            }
+            DisplayLine::Signal(f) => {
+                self.signal(alloc, number, f);
+                Ok(())
+            }
+            DisplayLine::Wait(c) => {
+                self.wait(alloc, number, c);
+                Ok(())
+            }
+            DisplayLine::Hit(x, y) => {
+                self.hit(alloc, number, x, y)?;
+                Ok(())
+            }
+        }
+    }
+
+    /// Plays the line at a place of the script. Where it finishes a frame, this is
+    /// shown to the displays before the entry is made.
+    pub fn play_line(
+        &mut self,
+        alloc: Global,
+        script: &Script,
+        place: usize,
+        set: &mut DisplaySet,
+        displays: &mut Vec<Box<dyn Display>>,
+    ) -> Result<(), NoMemory>
+        requires place { place < length script.now.lines }
+        requires playable { is_playable script.now ≡ true }
+        requires stands { GameStands script.now place self.old }
+        requires number { length displays.old.items ≡ set.old.displays }
+        ensures stands { OnOk result (GameStands script.now (place + 1) self.new) }
+        ensures shows { OnOk result (IsShown (λ d. shown d) (λ d. faults d) self.old.frames.items self.new.frames.items set.old set.new displays.old.items displays.new.items) }
+        ensures unshown { OnErr result ((set.new ≡ set.old) × (displays.new ≡ displays.old)) }
+        ensures same { set.new.displays ≡ set.old.displays }
+        ensures kinds { map (λ d. d.vtable) displays.new.items ≡ map (λ d. d.vtable) displays.old.items }
+    {
+        let line = script.lines.at(place);
+        match line.actor {
+            Actor::Session(s) => match session_text(&line.body) {
+                Some(text) => self.play_session(alloc, script, place, s, line.number, text),
+                None => unreachable!(),
+            },
+            Actor::Display => match display_text(&line.body) {
+                Some(text) => {
+                    self.play_display(alloc, script, place, line.number, text, set, displays)
+                }
+                None => unreachable!(),
+            },
+            Actor::Probe(_) => unreachable!(),
+        }
+    }
+
+    /// Ends the session after so many others, behind all lines of the script.
+    fn end_next(&mut self, script: &Script, before: u32)
+        requires within { before < script.now.setup.sessions }
+        requires playable { is_playable script.now ≡ true }
+        requires stands { EndsStand script.now before self.old }
+        ensures stands { EndsStand script.now (before + 1) self.new }
+        ensures frames { self.new.frames ≡ self.old.frames }
+    {
+        lines_are_read();
+        let reader = &mut self.readers[before as usize];
+        let _reply = reader.end(&mut self.board, script.count + 1);
+    }
+
+    /// Ends all sessions in their order.
+    pub fn end_all(&mut self, script: &Script)
+        requires playable { is_playable script.now ≡ true }
+        requires stands { GameStands script.now (length script.now.lines) self.old }
+        ensures played { HasPlayed script.now self.new.board self.new.frames.items self.new.answers }
+        ensures written { IsWritten script.now.setup self.new.board.history }
+        ensures frames { self.new.frames ≡ self.old.frames }
+    {
+        for before in 0..script.setup.sessions {
+            self.end_next(script, before);
+        }
+    }
+}
+
+/// The line of a session that a body is.
+fn session_text(body: &Body) -> Option<&Line>
+    ensures { option_copied result ≡ session_text body.now }
+{
+    match body {
+        Body::Session(text) => Some(text),
+        _ => None,
+    }
+}
+
+/// The line of the display that a body is.
+fn display_text(body: &Body) -> Option<DisplayLine>
+    ensures { result ≡ display_text body.now }
+{
+    match body {
+        Body::Display(text) => Some(*text),
+        _ => None,
+    }
+}

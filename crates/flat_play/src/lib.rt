@@ -1,0 +1,15 @@
+//! The play of a script in written order: its lines are read over one board, its frames
+//! composed and shown to displays.
+//!
+//! Other crates may cite the lemmas of proofs/lemmas/: lines at their places (Places,
+//! Steps, Unread), what a line of the display leaves (DisplaySteps), what displays have
+//! had (Seen), and what a run begins with (Starting).
+#![tactic(auto)]
+
+mod frame;
+mod game;
+mod run;
+
+pub use frame::{Composed, LastFrame, compose_frame, show_last};
+pub use game::Game;
+pub use run::{Played, play_script, shares_of};

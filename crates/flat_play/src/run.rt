@@ -1,0 +1,167 @@
+ghost use Rattle.std.specs.Prelude.{map, ◌≡◌, ◌+◌, ◌<◌, ◌==◌, ◌^◌, [], ◌∷◌, ◌++◌, List, true, length, All, IfOk};
+ghost use Rattle.flat_scene.specs.History.{seat_number};
+ghost use Rattle.flat_scene.specs.Interleave.{IsWritten};
+ghost use Rattle.flat_scene.specs.Setups.{is_setup};
+ghost use Rattle.flat_playable.specs.Playable.{is_playable};
+ghost use Rattle.flat_play.specs.Playing.{lines_by, shares_of, AreNew, GameStands, HasPlayed};
+ghost use Rattle.flat_display.specs.Had.{AreKept};
+ghost use Rattle.flat_play.specs.Showing.{HaveSeen};
+
+use crate::frame::LastFrame;
+use crate::game::Game;
+use flat_base::{Actor, FrameNo, NoMemory, SessionNo, ShareList, TryCopy};
+use flat_core::{Board, shown_states_fit};
+use flat_display::{Display, DisplaySet};
+use flat_places::Script;
+use flat_report::HitAnswers;
+use flat_scene::{FrameOut, ScriptLine, SessionSet, Setup};
+use flat_stage::{Reader, lines_are_read};
+use flat_topology::{Shown, join};
+use std::alloc::Global;
+
+/// The number of an actor's seat.
+fn seat_of(actor: Actor) -> u64
+    ensures { result ≡ seat_number actor }
+{
+    match actor {
+        Actor::Display => 0,
+        Actor::Session(s) => u64::from(s.0),
+        Actor::Probe(_) => u64::from(u32::MAX) + 1,
+    }
+}
+
+/// How many of some lines are of the actor of a seat.
+fn lines_by(lines: &[ScriptLine], seat: u32) -> u32
+    requires { length lines.now < 2 ^ 32 }
+    ensures { result ≡ lines_by seat lines.now }
+{
+    lines
+        .iter()
+        .filter(|line| seat_of(line.actor) == u64::from(seat))
+        .count() as u32
+}
+
+/// How many entries each actor may make: one for each of its lines, and a session
+/// its End.
+pub fn shares_of(alloc: Global, script: &Script) -> Result<ShareList, NoMemory>
+    requires { length script.now.lines < 2 ^ 31 }
+    ensures { IfOk result (λ shares. shares ≡ shares_of script.now) }
+{
+    let lines = script.lines.as_slice();
+    let mut shares = ShareList::new(alloc);
+    shares.push(lines_by(lines, 0))?;
+    for before in 0..script.setup.sessions {
+        shares.push(lines_by(lines, before + 1) + 1)?;
+    }
+    Ok(shares)
+}
+
+/// The sessions of a setup, none of which has read a line.
+fn new_readers(alloc: Global, setup: &Setup) -> Result<Vec<Reader>, NoMemory>
+    requires { is_setup setup.now ≡ true }
+    ensures { IfOk result (λ readers. AreNew setup.now setup.now.sessions readers.items) }
+{
+    let mut readers = Vec::new(alloc);
+    for before in 0..setup.sessions {
+        let reader = Reader::new(alloc, SessionNo(before + 1), &setup.buffers)?;
+        readers.push(reader)?;
+    }
+    Ok(readers)
+}
+
+/// A run of which no line is played.
+fn start(alloc: Global, script: &Script) -> Result<Game, NoMemory>
+    requires { is_playable script.now ≡ true }
+    ensures stands { IfOk result (λ game. GameStands script.now 0 game) }
+    ensures none { IfOk result (λ game. game.frames.items ≡ []) }
+{
+    lines_are_read();
+    shown_states_fit();
+    let shares = shares_of(alloc, script)?;
+    let setup = script.setup.copy(alloc)?;
+    let board = Board::open(alloc, setup, shares)?;
+    let shown = Shown::new(alloc, script.setup.sessions)?;
+    let joined = join(alloc, &shown, &script.setup)?;
+    Ok(Game {
+        board,
+        readers: new_readers(alloc, &script.setup)?,
+        shown,
+        with_view: SessionSet { has: [false; 16] },
+        frames: Vec::new(alloc),
+        last: LastFrame {
+            frame: FrameNo(0),
+            joined,
+        },
+        answers: HitAnswers::new(alloc),
+    })
+}
+
+/// Plays all lines of a script, in written order, and shows each frame to the
+/// displays before it is finished.
+fn play_lines(
+    alloc: Global,
+    script: &Script,
+    set: &mut DisplaySet,
+    displays: &mut Vec<Box<dyn Display>>,
+) -> Result<Game, NoMemory>
+    requires playable { is_playable script.now ≡ true }
+    requires number { length displays.old.items ≡ set.old.displays }
+    requires few { set.old.displays < 2 ^ 32 }
+    requires none { set.old.lost ≡ [] }
+    ensures stands { IfOk result (λ game. GameStands script.now (length script.now.lines) game) }
+    ensures seen { IfOk result (λ game. HaveSeen (λ d. shown d) (λ d. faults d) game.frames.items game.board.history set.new.lost displays.old.items displays.new.items) }
+    ensures kept { AreKept (λ d. shown d) (λ d. faults d) displays.old.items displays.new.items (λ d. d.vtable) }
+{
+    let mut game = start(alloc, script)?;
+    for place in 0..script.lines.len() {
+        game.play_line(alloc, script, place, set, displays)?;
+    }
+    Ok(game)
+}
+
+/// A script that was run to its end.
+#[derive(Drop)]
+pub struct Played {
+    /// Its journal is that of the run.
+    pub board: Board,
+    /// All finished frames.
+    pub frames: Vec<FrameOut>,
+    /// The answers to the points that were asked for.
+    pub answers: HitAnswers,
+    /// Which displays were lost.
+    pub set: DisplaySet,
+}
+
+/// Plays a script to its end: its lines in written order, and then an End of each
+/// session. Each frame is shown to the displays before it is finished.
+pub fn play_script(
+    alloc: Global,
+    script: &Script,
+    displays: &mut Vec<Box<dyn Display>>,
+) -> Result<Played, NoMemory>
+    requires playable { is_playable script.now ≡ true }
+    requires few { length displays.old.items < 2 ^ 32 }
+    ensures played { IfOk result (λ played. HasPlayed script.now played.board played.frames.items played.answers) }
+    ensures written { IfOk result (λ played. IsWritten script.now.setup played.board.history) }
+    ensures seen { IfOk result (λ played. HaveSeen (λ d. shown d) (λ d. faults d) played.frames.items played.board.history played.set.lost displays.old.items displays.new.items) }
+    ensures kept { AreKept (λ d. shown d) (λ d. faults d) displays.old.items displays.new.items (λ d. d.vtable) }
+{
+    let mut set = DisplaySet::new(alloc, displays.len() as u32)?;
+    let mut game = play_lines(alloc, script, &mut set, displays)?;
+    game.end_all(script);
+    let Game {
+        board,
+        readers: _,
+        shown: _,
+        with_view: _,
+        frames,
+        last: _,
+        answers,
+    } = game;
+    Ok(Played {
+        board,
+        frames,
+        answers,
+        set,
+    })
+}

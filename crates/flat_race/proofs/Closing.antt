@@ -1,0 +1,89 @@
+-- From what each seat knows at the end to what the whole history is.
+use Rattle.std.proofs.Common.{◌≡◌, ℕ, suc, ◌+◌, ◌<◌, ◌≤◌, ◌&&◌, nat_lt, nat_le, Bool, true, List, [], ◌∷◌, ◌++◌, length, reverse, slice_get, Option, Some, refl, sym, ap, ◌∙◌, subst, arith}
+use Rattle.std.specs.List.{list_all}
+use Rattle.std.specs.Option.{is_some}
+use Rattle.std.proofs.lemmas.Bool.Decides.{nat_tests}
+use Rattle.std.proofs.lemmas.List.{reverse-reverse}
+use Rattle.flat_base.specs.declared.ids.SessionNo.{SessionNo}
+use Rattle.flat_base.specs.declared.limits.TheConstants.{SESSIONS_MAX}
+use Rattle.flat_scene.specs.declared.journal.Entry.{Entry}
+use Rattle.flat_scene.specs.declared.setup.Setup.{Setup}
+use Rattle.flat_scene.specs.History.{history_of, own}
+use Rattle.flat_scene.specs.Interleave.{IsReading, display_lines, session_lines}
+use Rattle.flat_scene.specs.Setups.{is_declared}
+use Rattle.flat_core.specs.Machines.{Machine}
+use Rattle.flat_lock.specs.History.{StartsWith}
+use Rattle.flat_rules.specs.Legal.{Legal, frames}
+use Rattle.flat_rules.specs.Seats.{JournalsKeepSeats, SeatsTellActors, of_seat}
+use Rattle.flat_places.specs.declared.script.Script.{Script}
+use Rattle.flat_stage.specs.Displays.{DisplayView}
+use Rattle.flat_stage.specs.Homes.{SeatsView}
+use Rattle.flat_stage.specs.Seats.{SessionView, StageView, entries_of_seat, setup_of}
+use Rattle.flat_play.specs.Playing.{HasPlayed}
+use Rattle.flat_play.proofs.lemmas.Places.{all_to, drop_all}
+use Rattle.flat_race.specs.declared.director.Film.{Film}
+use Rattle.flat_race.specs.Ends.{HaveEnded}
+use Rattle.flat_race.specs.Sessions.{IsStageOf}
+use Rattle.flat_race.proofs.Beside.{IsBeside, seen_beside}
+use Rattle.flat_race.proofs.DirectSteps.{display_same}
+use Rattle.flat_race.proofs.HandSteps.{film_same}
+use Rattle.flat_base.proofs.lemmas.Tests.{and-true}
+
+-- what is known of all seats once the stage is closed
+pub record IsClosed (compositor : DisplayView) (seats : SeatsView) (board : Machine) : Type 0 where
+  pub display : StartsWith (reverse board.history) compositor.seen × (compositor.mine ≡ entries_of_seat 0 (reverse board.history))
+  pub sessions : (k : ℕ) (s : SessionView) → slice_get seats.seats k ≡ Some (Some s) → StartsWith (reverse board.history) s.seen × (s.mine ≡ entries_of_seat s.session.0 (reverse board.history))
+  pub legal : Legal board.setup board.history
+
+all_some : {A : Type 0} (xs : List (Option A)) → ((k : ℕ) → k < length xs → (x : A) × (slice_get xs k ≡ Some (Some x))) → list_all is_some xs ≡ true
+all_some [] each = refl
+all_some (x ∷ xs) each =
+    let first = each 0 (omega arith) in
+    let here : is_some x ≡ true = (let same : x ≡ Some first.0 = cc in ap is_some same) in
+    and-true here (all_some xs (λ k below. each (suc k) (omega arith)))
+
+module _ (script : Script) (view : StageView) (compositor : DisplayView) (seats : SeatsView) (film : Film) (ended : HaveEnded view script compositor seats film) where
+  pub all_home : list_all is_some seats.seats ≡ true
+  all_home = all_some seats.seats (λ k below. let count = ended.back.count in let h = ended.back.home k (omega arith) (omega (arith, count)) in (h.0, h.1))
+
+  module _ (board : Machine) (closed : IsClosed compositor seats board) (setup : board.setup ≡ script.setup) (few : script.setup.sessions ≤ SESSIONS_MAX) where
+    legal : Legal script.setup board.history
+    legal = subst (λ (s : Setup). Legal s board.history) setup closed.legal
+
+    same_display : IsBeside script.setup (history_of compositor.seen) board.history
+    same_display =
+        let rest : List Entry = closed.display.0.0 in
+        let whole : board.history ≡ history_of (compositor.seen ++ rest) = sym (reverse-reverse board.history) ∙ ap history_of closed.display.0.1 in
+        let own : entries_of_seat 0 (compositor.seen ++ rest) ≡ entries_of_seat 0 compositor.seen = ap (entries_of_seat 0) (sym closed.display.0.1) ∙ sym closed.display.1 ∙ ended.directed.mine in
+        subst (λ (h : List Entry). IsBeside script.setup (history_of compositor.seen) h) (sym whole)
+        (seen_beside script.setup compositor.seen rest (subst (λ (h : List Entry). Legal script.setup h) whole legal) own)
+
+    declared_is : (k : ℕ) → k < script.setup.sessions → is_declared script.setup (record { 0 = k + 1 }) ≡ true
+    declared_is k below = and-true (let a : nat_lt 0 (k + 1) ≡ true = grind (arith, nat_tests) in a) (let b : nat_le (k + 1) script.setup.sessions ≡ true = grind (arith, nat_tests) in b)
+
+    reading : SeatsTellActors → JournalsKeepSeats → (k : ℕ) → k < script.setup.sessions → IsReading script.setup script.count (session_lines (record { 0 = k + 1 }) script.lines) (own (record { 0 = k + 1 }) board.history)
+    reading tell keep k below =
+        let s : SessionNo = record { 0 = k + 1 } in
+        let home = ended.back.home k (omega arith) below in
+        let mine : home.0.mine ≡ entries_of_seat (k + 1) (reverse board.history) = (closed.sessions k home.0 home.1).1 ∙ ap (λ (n : ℕ). entries_of_seat n (reverse board.history)) home.2 in
+        let whole : own s board.history ≡ history_of home.0.mine =
+        (tell script.setup few board.history legal).sessions s (declared_is k below) ∙ ap (of_seat (k + 1)) (sym (reverse-reverse board.history)) ∙ keep (k + 1) (reverse board.history) ∙ ap history_of (sym mine) in
+        subst (λ (es : List Entry). IsReading script.setup script.count (session_lines s script.lines) es) (sym whole) (ended.back.read k home.0 (omega arith) below home.1 refl)
+
+    pub has_played : SeatsTellActors → JournalsKeepSeats → HasPlayed script board film.frames.items film.answers
+    has_played tell keep =
+        let stood = display_same script (length script.lines) (history_of compositor.seen) board.history same_display ended.directed.display in
+        let shot = film_same script.setup (history_of compositor.seen) board.history same_display film ended.kept in
+        record {
+          setup = setup;
+          interleaves = record {
+            sessions = all_to (λ s. IsReading script.setup script.count (session_lines s script.lines) (own s board.history)) script.setup.sessions (reading tell keep);
+            display = stood.follows;
+            all_read = stood.left ∙ ap display_lines (drop_all script.lines);
+          };
+          finishing = shot.finishing;
+          answering = shot.answering.answering;
+        }
+
+    pub as_many : frames board.history ≡ frames (history_of compositor.seen)
+    as_many = same_display.number

@@ -1,0 +1,6 @@
+pub mod Beside
+pub mod Closing
+pub mod DirectSteps
+pub mod HandSteps
+pub mod Outs
+pub mod SessionSteps

@@ -1,0 +1,15 @@
+use Rattle.std.proofs.Common.{◌≡◌, length, map}
+use Rattle.flat_scene.specs.History.{history_of}
+use Rattle.flat_play.specs.Showing.{HaveSeen}
+use Rattle.flat_race.specs.Directing.{HandStands, hand_seat}
+use Rattle.flat_race.proofs.director.direct.Given as goal
+
+abbrev pub invariant-loop-place : goal.invariant-loop-place
+invariant-loop-place g l = record {
+  stands : HandStands l.script l.stage l.place l.hand l.film;
+  seen : HaveSeen (λ b. (goal.Display-dyn g (b.vtable, b.value)).shown b.value) (λ b. (goal.Display-dyn g (b.vtable, b.value)).faults b.value) l.film.frames.items (history_of (hand_seat l.hand).seen) l.film.set.lost l.initial.displays.items
+      l.displays.items;
+  number : length l.displays.items ≡ l.film.set.displays;
+  kinds : map (λ b. b.vtable) l.displays.items ≡ map (λ b. b.vtable) l.initial.displays.items;
+  same : l.film.set.displays ≡ l.initial.film.set.displays;
+}

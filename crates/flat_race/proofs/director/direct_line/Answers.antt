@@ -1,0 +1,208 @@
+use Rattle.std.proofs.Common.{rules, ◌≡◌, ℕ, ◌≤◌, true, [], ◌∷◌, ◌++◌, length, refl, ap, sym, ◌∙◌, subst, arith}
+use Rattle.flat_base.specs.declared.ids.Actor.TheVariants.{Display}
+use Rattle.flat_base.specs.declared.limits.TheConstants.{SESSIONS_MAX}
+use Rattle.flat_core.specs.Machines.{MayLook}
+use Rattle.flat_rules.specs.Legal.{frames, is_fence, names_declared}
+use Rattle.flat_rules.specs.Owned.{is_played_display}
+use Rattle.flat_scene.specs.declared.journal.Kind.TheVariants.{Hit, Wait}
+use Rattle.flat_scene.specs.declared.journal.Reply.TheVariants.{Done}
+use Rattle.flat_scene.specs.declared.script.Body.TheVariants as body
+use Rattle.flat_scene.specs.declared.script.DisplayLine.{DisplayLine}
+use Rattle.flat_scene.specs.declared.script.DisplayLine.TheVariants as display
+use Rattle.flat_scene.specs.declared.script.ScriptLine.{ScriptLine}
+use Rattle.flat_scene.specs.declared.setup.Setup.{Setup}
+use Rattle.flat_scene.specs.History.{history_of}
+use Rattle.flat_topology.specs.Hits.{hits_among}
+use Rattle.flat_stage.specs.Displays.{DisplayEnters}
+use Rattle.flat_stage.specs.Seats.{StageView, setup_of}
+use Rattle.flat_play.proofs.lemmas.Places.{setup_is}
+use Rattle.flat_play.proofs.lemmas.Seen.{finished_length}
+use Rattle.flat_play.proofs.lemmas.Starting.{few_sessions}
+use Rattle.flat_play.proofs.lemmas.Steps.{At, at_place}
+use Rattle.flat_race.specs.declared.director.Hand.{Hand}
+use Rattle.flat_race.specs.declared.director.Hand.TheVariants.{Idle, Open}
+use Rattle.flat_race.specs.Directing.{HandStands, hand_seat}
+use Rattle.flat_race.proofs.HandSteps.{begins_idle, finishes_open, frames_few, hand_begins, hand_finishes, hand_hits, hand_looks, hand_room, hand_signals, hand_waits, looked_there, time_fits, wait_fits}
+use Rattle.flat_race.proofs.director.direct_line.Goals as goal
+
+pub into_seat-requires : goal.into_seat-requires
+into_seat-requires g c =
+    let script = c.args.script.now in
+    let view = c.args.stage.now in
+    let x : ScriptLine = record { number = c.args.number; actor = Display; body = body.Display c.args.text } in
+    let at : At script c.args.place x = at_place script c.args.place x c.requires.playable c.requires.line in
+    let is : x.body ≡ body.Display (display.Begin c.in-Begin.time) = ap (λ t. body.Display t) c.in-Begin.is in
+    begins_idle script view c.args.place x at refl c.requires.of c.in-Begin.time is c.args.hand c.args.film.now c.requires.stands
+
+pub begin-frame-requires-clause-room : goal.begin-frame-requires-clause-room
+begin-frame-requires-clause-room g c κs within =
+    let script = c.args.script.now in
+    let view = c.args.stage.now in
+    let x : ScriptLine = record { number = c.args.number; actor = Display; body = body.Display c.args.text } in
+    let at : At script c.args.place x = at_place script c.args.place x c.requires.playable c.requires.line in
+    let idle : HandStands script view c.args.place (Idle c.into_seat.result) c.args.film.now = subst (λ (h : Hand). HandStands script view c.args.place h c.args.film.now) (sym c.into_seat.ensures) c.requires.stands in
+    hand_room script view c.args.place x at refl c.requires.of c.into_seat.result idle.seat
+
+pub begin-frame-requires-clause-time : goal.begin-frame-requires-clause-time
+begin-frame-requires-clause-time g c κs within =
+    let script = c.args.script.now in
+    let view = c.args.stage.now in
+    let x : ScriptLine = record { number = c.args.number; actor = Display; body = body.Display c.args.text } in
+    let at : At script c.args.place x = at_place script c.args.place x c.requires.playable c.requires.line in
+    let is : x.body ≡ body.Display (display.Begin c.in-Begin.time) = ap (λ t. body.Display t) c.in-Begin.is in
+    let idle : HandStands script view c.args.place (Idle c.into_seat.result) c.args.film.now = subst (λ (h : Hand). HandStands script view c.args.place h c.args.film.now) (sym c.into_seat.ensures) c.requires.stands in
+    time_fits script view c.args.place x at refl c.requires.of c.display_knows_frames.ensures.frames c.seats_tell_actors.ensures c.journals_keep_seats.ensures.seats (few_sessions script.setup (setup_is script c.requires.playable)) c.in-Begin.time is c.into_seat.result idle.seat
+
+pub into_frame-frame-requires : goal.into_frame-frame-requires
+into_frame-frame-requires g c =
+    let script = c.args.script.now in
+    let view = c.args.stage.now in
+    let x : ScriptLine = record { number = c.args.number; actor = Display; body = body.Display c.args.text } in
+    let at : At script c.args.place x = at_place script c.args.place x c.requires.playable c.requires.line in
+    let is : x.body ≡ body.Display (display.Done) = ap (λ t. body.Display t) c.in-Done.is in
+    finishes_open script view c.args.place x at refl c.requires.of is c.args.hand c.args.film.now c.requires.stands
+
+pub finish-requires-clause-room : goal.finish-requires-clause-room
+finish-requires-clause-room g c κs within =
+    let script = c.args.script.now in
+    let view = c.args.stage.now in
+    let x : ScriptLine = record { number = c.args.number; actor = Display; body = body.Display c.args.text } in
+    let at : At script c.args.place x = at_place script c.args.place x c.requires.playable c.requires.line in
+    let held : HandStands script view c.args.place (Open c.into_frame-frame.result) c.args.film.now = subst (λ (h : Hand). HandStands script view c.args.place h c.args.film.now) (sym c.into_frame-frame.ensures) c.requires.stands in
+    hand_room script view c.args.place x at refl c.requires.of c.into_frame-frame.result.display held.seat
+
+pub finish-requires-clause-counted : goal.finish-requires-clause-counted
+finish-requires-clause-counted g c κs within =
+    let script = c.args.script.now in
+    let view = c.args.stage.now in
+    let x : ScriptLine = record { number = c.args.number; actor = Display; body = body.Display c.args.text } in
+    let at : At script c.args.place x = at_place script c.args.place x c.requires.playable c.requires.line in
+    let held : HandStands script view c.args.place (Open c.into_frame-frame.result) c.args.film.now = subst (λ (h : Hand). HandStands script view c.args.place h c.args.film.now) (sym c.into_frame-frame.ensures) c.requires.stands in
+    ap length held.kept.finishing ∙ finished_length script.setup (history_of c.into_frame-frame.result.display.seen)
+
+pub finish-requires-clause-few : goal.finish-requires-clause-few
+finish-requires-clause-few g c κs within =
+    let script = c.args.script.now in
+    let view = c.args.stage.now in
+    let x : ScriptLine = record { number = c.args.number; actor = Display; body = body.Display c.args.text } in
+    let at : At script c.args.place x = at_place script c.args.place x c.requires.playable c.requires.line in
+    let held : HandStands script view c.args.place (Open c.into_frame-frame.result) c.args.film.now = subst (λ (h : Hand). HandStands script view c.args.place h c.args.film.now) (sym c.into_frame-frame.ensures) c.requires.stands in
+    frames_few script view c.args.place c.journals_keep_seats.ensures.seats c.requires.playable c.into_frame-frame.result.display held.seat
+
+pub signal-reply-requires-clause-room : goal.signal-reply-requires-clause-room
+signal-reply-requires-clause-room g c =
+    let script = c.args.script.now in
+    let view = c.args.stage.now in
+    let x : ScriptLine = record { number = c.args.number; actor = Display; body = body.Display c.args.text } in
+    let at : At script c.args.place x = at_place script c.args.place x c.requires.playable c.requires.line in
+    hand_room script view c.args.place x at refl c.requires.of (hand_seat c.args.hand) c.requires.stands.seat
+
+pub signal-reply-requires-clause-named : goal.signal-reply-requires-clause-named
+signal-reply-requires-clause-named g c =
+    let script = c.args.script.now in
+    let view = c.args.stage.now in
+    let x : ScriptLine = record { number = c.args.number; actor = Display; body = body.Display c.args.text } in
+    let at : At script c.args.place x = at_place script c.args.place x c.requires.playable c.requires.line in
+    let D : DisplayLine → Type 0 = λ t. is_played_display script.setup t ≡ true in
+    let F : Setup → Type 0 = λ s. is_fence s c.in-Signal.f ≡ true in
+    subst F (sym (ap setup_of c.requires.stands.seat.own ∙ c.requires.of.setup)) (subst D c.in-Signal.is at.played)
+
+pub look_again-requires-clause-may : goal.look_again-requires-clause-may
+look_again-requires-clause-may g c κs within =
+    let script = c.args.script.now in
+    let view = c.args.stage.now in
+    let x : ScriptLine = record { number = c.args.number; actor = Display; body = body.Display c.args.text } in
+    let at : At script c.args.place x = at_place script c.args.place x c.requires.playable c.requires.line in
+    let D : DisplayLine → Type 0 = λ t. is_played_display script.setup t ≡ true in
+    let M : Setup → Type 0 = λ s. MayLook s Display c.in-Wait.c in
+    let fits = wait_fits script.setup c.in-Wait.c (subst D c.in-Wait.is at.played) in
+    subst M (sym c.requires.of.setup) (record { acts = fits.0; named = fits.1 })
+
+pub wait-reply-requires-clause-room : goal.wait-reply-requires-clause-room
+wait-reply-requires-clause-room g c =
+    let script = c.args.script.now in
+    let view = c.args.stage.now in
+    let x : ScriptLine = record { number = c.args.number; actor = Display; body = body.Display c.args.text } in
+    let at : At script c.args.place x = at_place script c.args.place x c.requires.playable c.requires.line in
+    let looked = hand_looks script view c.args.place c.args.hand c.look_again.new.hand c.args.film.now (looked_there _ _ _ _ c.requires.of.setup c.look_again.ensures) c.requires.stands in
+    hand_room script view c.args.place x at refl c.requires.of (hand_seat c.look_again.new.hand) looked.seat
+
+pub wait-reply-requires-clause-acts : goal.wait-reply-requires-clause-acts
+wait-reply-requires-clause-acts g c =
+    let script = c.args.script.now in
+    let view = c.args.stage.now in
+    let x : ScriptLine = record { number = c.args.number; actor = Display; body = body.Display c.args.text } in
+    let at : At script c.args.place x = at_place script c.args.place x c.requires.playable c.requires.line in
+    let D : DisplayLine → Type 0 = λ t. is_played_display script.setup t ≡ true in
+    (wait_fits script.setup c.in-Wait.c (subst D c.in-Wait.is at.played)).0
+
+pub wait-reply-requires-clause-named : goal.wait-reply-requires-clause-named
+wait-reply-requires-clause-named g c =
+    let script = c.args.script.now in
+    let view = c.args.stage.now in
+    let x : ScriptLine = record { number = c.args.number; actor = Display; body = body.Display c.args.text } in
+    let at : At script c.args.place x = at_place script c.args.place x c.requires.playable c.requires.line in
+    let D : DisplayLine → Type 0 = λ t. is_played_display script.setup t ≡ true in
+    let looked = hand_looks script view c.args.place c.args.hand c.look_again.new.hand c.args.film.now (looked_there _ _ _ _ c.requires.of.setup c.look_again.ensures) c.requires.stands in
+    let N : Setup → Type 0 = λ s. names_declared s (Wait c.in-Wait.c) ≡ true in
+    subst N (sym (ap setup_of looked.seat.own ∙ c.requires.of.setup)) (wait_fits script.setup c.in-Wait.c (subst D c.in-Wait.is at.played)).1
+
+pub hit-requires-clause-room : goal.hit-requires-clause-room
+hit-requires-clause-room g c κs within =
+    let script = c.args.script.now in
+    let view = c.args.stage.now in
+    let x : ScriptLine = record { number = c.args.number; actor = Display; body = body.Display c.args.text } in
+    let at : At script c.args.place x = at_place script c.args.place x c.requires.playable c.requires.line in
+    hand_room script view c.args.place x at refl c.requires.of (hand_seat c.args.hand) c.requires.stands.seat
+
+pub returns-in-Begin-clause-stands : goal.returns-in-Begin-clause-stands
+returns-in-Begin-clause-stands g c =
+    let script = c.args.script.now in
+    let view = c.args.stage.now in
+    let x : ScriptLine = record { number = c.args.number; actor = Display; body = body.Display c.args.text } in
+    let at : At script c.args.place x = at_place script c.args.place x c.requires.playable c.requires.line in
+    let is : x.body ≡ body.Display (display.Begin c.in-Begin.time) = ap (λ t. body.Display t) c.in-Begin.is in
+    let idle : HandStands script view c.args.place (Idle c.into_seat.result) c.args.film.now = subst (λ (h : Hand). HandStands script view c.args.place h c.args.film.now) (sym c.into_seat.ensures) c.requires.stands in
+    hand_begins script view c.args.place x at refl c.requires.of c.in-Begin.time is c.into_seat.result c.begin-frame.result c.args.film.now idle c.begin-frame.ensures.enters c.begin-frame.ensures.shown c.begin-frame.ensures.views
+
+pub returns-in_ok-seat-in-Done-clause-stands : goal.returns-in_ok-seat-in-Done-clause-stands
+returns-in_ok-seat-in-Done-clause-stands g c =
+    let script = c.args.script.now in
+    let view = c.args.stage.now in
+    let x : ScriptLine = record { number = c.args.number; actor = Display; body = body.Display c.args.text } in
+    let at : At script c.args.place x = at_place script c.args.place x c.requires.playable c.requires.line in
+    let is : x.body ≡ body.Display (display.Done) = ap (λ t. body.Display t) c.in-Done.is in
+    let held : HandStands script view c.args.place (Open c.into_frame-frame.result) c.args.film.now = subst (λ (h : Hand). HandStands script view c.args.place h c.args.film.now) (sym c.into_frame-frame.ensures) c.requires.stands in
+    hand_finishes script view c.args.place x at refl c.requires.of is c.into_frame-frame.result c.in_ok-seat-in-Done.seat c.args.film.now c.finish.new.film held c.in_ok-seat-in-Done.ensures.enters c.in_ok-seat-in-Done.ensures.keeps
+
+pub returns-in-Signal-clause-stands : goal.returns-in-Signal-clause-stands
+returns-in-Signal-clause-stands g c =
+    let script = c.args.script.now in
+    let view = c.args.stage.now in
+    let x : ScriptLine = record { number = c.args.number; actor = Display; body = body.Display c.args.text } in
+    let at : At script c.args.place x = at_place script c.args.place x c.requires.playable c.requires.line in
+    let is : x.body ≡ body.Display (display.Signal c.in-Signal.f) = ap (λ t. body.Display t) c.in-Signal.is in
+    hand_signals script view c.args.place x at refl c.requires.of c.in-Signal.f c.signal-reply.result is c.args.hand c.signal-reply.new.self c.args.film.now c.requires.stands c.signal-reply.ensures.enters c.signal-reply.ensures.open c.signal-reply.ensures.kept
+
+pub returns-in-Wait-clause-stands : goal.returns-in-Wait-clause-stands
+returns-in-Wait-clause-stands g c =
+    let script = c.args.script.now in
+    let view = c.args.stage.now in
+    let x : ScriptLine = record { number = c.args.number; actor = Display; body = body.Display c.args.text } in
+    let at : At script c.args.place x = at_place script c.args.place x c.requires.playable c.requires.line in
+    let is : x.body ≡ body.Display (display.Wait c.in-Wait.c) = ap (λ t. body.Display t) c.in-Wait.is in
+    let looked = hand_looks script view c.args.place c.args.hand c.look_again.new.hand c.args.film.now (looked_there _ _ _ _ c.requires.of.setup c.look_again.ensures) c.requires.stands in
+    hand_waits script view c.args.place x at refl c.requires.of c.in-Wait.c c.wait-reply.result is c.look_again.new.hand c.wait-reply.new.self c.args.film.now looked c.wait-reply.ensures.enters c.wait-reply.ensures.open c.wait-reply.ensures.kept
+
+pub returns-in_ok-hit-in-Hit-clause-stands : goal.returns-in_ok-hit-in-Hit-clause-stands
+returns-in_ok-hit-in-Hit-clause-stands g c =
+    let script = c.args.script.now in
+    let view = c.args.stage.now in
+    let x : ScriptLine = record { number = c.args.number; actor = Display; body = body.Display c.args.text } in
+    let at : At script c.args.place x = at_place script c.args.place x c.requires.playable c.requires.line in
+    let is : x.body ≡ body.Display (display.Hit c.in-Hit.x c.in-Hit.y) = ap (λ t. body.Display t) c.in-Hit.is in
+    let hits = c.in_ok-hit-in-Hit.ensures in
+    let was = c.args.film.now in
+    let entered : DisplayEnters c.args.number (Hit c.in-Hit.x c.in-Hit.y) Done (hand_seat c.args.hand) (hand_seat c.hit.new.hand) = search rules in
+    let gained : c.hit.new.film.answers ≡ was.answers ++ (record { actor = Display; line = c.args.number; frame = was.last.frame; hits = hits_among was.last.joined.nodes c.in-Hit.x c.in-Hit.y }) ∷ [] = search rules in
+    hand_hits script view c.args.place x at refl c.requires.of c.in-Hit.x c.in-Hit.y is c.args.hand c.hit.new.hand c.args.film.now c.hit.new.film c.requires.stands entered hits.open hits.kept hits.others gained

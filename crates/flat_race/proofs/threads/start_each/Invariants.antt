@@ -1,0 +1,11 @@
+use Rattle.std.proofs.Common.{◌≡◌, ◌≤◌, length, vec_capacity}
+use Rattle.flat_race.specs.Sessions.{AreLeft, AreOut}
+use Rattle.flat_race.proofs.threads.start_each.Given as goal
+
+abbrev pub invariant-loop-before : goal.invariant-loop-before
+invariant-loop-before g l = record {
+  own : l.seats.stage ≡ l.stage;
+  left : AreLeft l.stage l.script.setup.sessions l.before l.seats.seats;
+  out : AreOut l.stage l.script l.before l.out.items;
+  room : l.script.setup.sessions ≤ vec_capacity l.out;
+}

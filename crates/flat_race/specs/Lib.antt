@@ -1,0 +1,3 @@
+pub mod Directing
+pub mod Ends
+pub mod Sessions

@@ -1,0 +1,64 @@
+-- The sessions of a race: how a seat stands at a place of the script, and what a thread promises.
+use Rattle.std.specs.Prelude.{◌≡◌, ℕ, ◌+◌, ◌<◌, ◌≤◌, Bool, true, false, List, length, take, Option, Some, slice_get}
+use Rattle.flat_base.specs.declared.ids.SessionNo.{SessionNo}
+use Rattle.flat_scene.specs.History.{history_of}
+use Rattle.flat_scene.specs.Interleave.{IsReading, session_lines}
+use Rattle.flat_places.specs.declared.script.Script.{Script}
+use Rattle.flat_stage.specs.Homes.{SeatsView, fresh_view}
+use Rattle.flat_stage.specs.Readings.{SeatHasRead}
+use Rattle.flat_stage.specs.Seats as stage
+use Rattle.flat_stage.specs.Seats.{SessionView, StageView, is_ended, setup_of}
+use Rattle.flat_play.specs.Playing.{last_number, lines_by, shares_of}
+use Rattle.flat_race.specs.declared.session.Back.{Back}
+use Rattle.flat_race.specs.declared.threads.Out.{Out}
+use Rattle.flat_race.specs.declared.threads.Out.TheVariants.{Thread, Here}
+
+-- the stage is that of a script: its setup, with room for all lines of each actor
+pub record IsStageOf (view : StageView) (script : Script) : Type 0 where
+  pub setup : setup_of view ≡ script.setup
+  pub shares : stage.shares_of view ≡ shares_of script
+
+-- ---- one session
+
+-- the seat may have seen more, and is else as it was
+abbrev pub IsSame : SessionView → SessionView → Type 0
+IsSame old new = new ≡ record old { seen = new.seen }
+
+-- A session's seat stands at a place of the script: its entries are the reading of its lines before that place.
+pub record SessionStands (script : Script) (view : StageView) (s : SessionNo) (place : ℕ) (seat : SessionView) : Type 0 where
+  pub own : seat.stage ≡ view
+  pub session : seat.session ≡ s
+  pub unended : is_ended seat.mine ≡ false
+  pub spent : length seat.mine ≤ lines_by s.0 (take place script.lines)
+  pub few : seat.refused ≤ last_number 0 (take place script.lines)
+  pub reads : SeatHasRead (session_lines s (take place script.lines)) seat
+
+-- A seat comes back from its session. Where this came to its End, its entries are the reading of all its lines.
+pub record HasRun (view : StageView) (script : Script) (s : SessionNo) (back : Back) : Type 0 where
+  pub own : back.seat.stage ≡ view
+  pub session : back.seat.session ≡ s
+  pub read : back.is_whole ≡ true → IsReading script.setup script.count (session_lines s script.lines) (history_of back.seat.mine)
+
+-- ---- all of them
+
+-- a session's seat is out: with a thread that promises to hand it back, or it came back here
+abbrev pub IsOut : StageView → Script → SessionNo → Out → Type 0
+IsOut view script s (Thread handle) = (handle.promise.stage.now ≡ view) × (handle.promise.script.now ≡ script) × (handle.promise.session ≡ s)
+IsOut view script s (Here back) = HasRun view script s back
+
+-- the first sessions are out, in order
+pub record AreOut (view : StageView) (script : Script) (count : ℕ) (out : List Out) : Type 0 where
+  pub many : length out ≡ count
+  pub each : (i : ℕ) (o : Out) → slice_get out i ≡ Some o → IsOut view script (record { 0 = i + 1 }) o
+
+-- The seats of the first sessions are away, and those of the others at home, and read no line.
+pub record AreLeft (view : StageView) (sessions taken : ℕ) (seats : List (Option SessionView)) : Type 0 where
+  pub count : length seats ≡ sessions
+  pub each : (k : ℕ) → taken ≤ k → k < sessions → slice_get seats k ≡ Some (Some (fresh_view view (record { 0 = k + 1 })))
+
+-- The seats of the sessions past the first ones are back. Where all of these came to their End, the entries of each are the reading of its lines.
+pub record AreBack (view : StageView) (script : Script) (first : ℕ) (are_whole : Bool) (seats : List (Option SessionView)) : Type 0 where
+  pub count : length seats ≡ script.setup.sessions
+  pub home : (k : ℕ) → first ≤ k → k < script.setup.sessions → (seat : SessionView) × (slice_get seats k ≡ Some (Some seat)) × (seat.session.0 ≡ k + 1)
+  pub read : (k : ℕ) (seat : SessionView) → first ≤ k → k < script.setup.sessions → slice_get seats k ≡ Some (Some seat) → are_whole ≡ true
+      → IsReading script.setup script.count (session_lines (record { 0 = k + 1 }) script.lines) (history_of seat.mine)

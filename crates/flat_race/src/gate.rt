@@ -1,0 +1,46 @@
+use flat_scene::Reply;
+use std::thread;
+
+/// Says when an entry of a race may be made, and is told of each that was.
+///
+/// Actors are numbered from 0: the display, and then the sessions in order of
+/// declaration. A line's number counts from 1, and a session's End has the number
+/// after the last line's.
+pub trait Gate: Sync {
+    /// Whether the entry of a line may be made. It is asked again and again until it
+    /// says so, at most [`ASKS`] times for one line; after that the entry is made
+    /// anyway.
+    fn open(&self, actor: u32, line: u32) -> bool;
+
+    /// The entry of a line was made, and answered with this reply.
+    fn passed(&self, actor: u32, line: u32, reply: &Reply);
+}
+
+/// The gate that is always open.
+#[derive(Clone, Copy, Debug)]
+pub struct OpenGate;
+
+impl Gate for OpenGate {
+    fn open(&self, _actor: u32, _line: u32) -> bool {
+        true
+    }
+
+    fn passed(&self, _actor: u32, _line: u32, _reply: &Reply) {}
+}
+
+/// How often the gate is asked for one line at most.
+pub const ASKS: u32 = 1_000_000;
+
+/// How often a Wait looks at its value at most.
+pub const LOOKS: u32 = 100_000;
+
+/// Asks until the gate is open, or until no ask is left, and answers how many are left.
+pub(crate) fn ask<G: Gate>(gate: &G, actor: u32, line: u32, left: u32) -> u32 {
+    for asked in 0..left {
+        if gate.open(actor, line) {
+            return left - asked - 1;
+        }
+        thread::yield_now();
+    }
+    0
+}

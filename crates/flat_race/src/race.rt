@@ -1,0 +1,257 @@
+ghost use Rattle.std.specs.Prelude.{◌≡◌, ◌<◌, ◌^◌, [], true, length, IfOk};
+ghost use Rattle.flat_playable.specs.Playable.{is_playable};
+ghost use Rattle.flat_display.specs.Had.{AreKept};
+ghost use Rattle.flat_scene.specs.History.{history_of};
+ghost use Rattle.flat_rules.specs.Legal.{frames};
+ghost use Rattle.flat_stage.specs.Homes.{AreFresh};
+ghost use Rattle.flat_stage.specs.Seats.{setup_of};
+ghost use Rattle.flat_play.specs.Playing.{HasPlayed};
+ghost use Rattle.flat_play.specs.Showing.{HaveSeen};
+ghost use Rattle.flat_race.specs.Directing.{FilmStands};
+ghost use Rattle.flat_race.specs.Ends.{HaveEnded};
+ghost use Rattle.flat_race.specs.Sessions.{IsStageOf};
+
+use crate::director::{Film, direct};
+use crate::gate::Gate;
+use crate::threads::{put_back, start_each};
+use flat_base::{FrameNo, NoMemory, TryCopy};
+use flat_core::{Board, shown_states_fit};
+use flat_display::{Display, DisplaySet};
+use flat_play::{LastFrame, Played, shares_of};
+use flat_report::HitAnswers;
+use flat_rules::{journals_keep_seats, seats_tell_actors};
+use flat_places::Script;
+use flat_stage::{CompositorSeat, SessionSeats, Stage};
+use flat_topology::{Shown, join};
+use std::alloc::Global;
+use std::mem;
+use std::sync::Wait;
+use std::thread;
+use std::thread::{Scope, Threads};
+
+/// What all actors leave, where each came to its end.
+#[derive(Drop)]
+struct Ended {
+    compositor: CompositorSeat,
+    seats: SessionSeats,
+    film: Film,
+}
+
+/// The displays that come back from a race, and what its actors leave.
+#[derive(Drop)]
+struct Raced {
+    displays: Vec<Box<dyn Display>>,
+    ended: Result<Ended, NoMemory>,
+}
+
+/// What is kept of frames before the first one.
+fn new_film(alloc: Global, script: &Script, displays: u32) -> Result<Film, NoMemory>
+    requires playable { is_playable script.now ≡ true }
+    ensures stands { IfOk result (λ film. FilmStands script.now.setup [] film) }
+    ensures none { IfOk result (λ film. film.set.lost ≡ []) }
+    ensures number { IfOk result (λ film. film.set.displays ≡ displays) }
+{
+    shown_states_fit();
+    let shown = Shown::new(alloc, script.setup.sessions)?;
+    let joined = join(alloc, &shown, &script.setup)?;
+    Ok(Film {
+        frames: Vec::new(alloc),
+        last: LastFrame {
+            frame: FrameNo(0),
+            joined,
+        },
+        answers: HitAnswers::new(alloc),
+        set: DisplaySet::new(alloc, displays)?,
+    })
+}
+
+/// Runs the sessions beside the compositor, and puts all seats back.
+fn run_in<'s, E, T: Threads + Wait + Sync, G: Gate>(
+    scope: &Scope<'s, E>,
+    rt: &'s T,
+    alloc: Global,
+    stage: &'s Stage,
+    script: &'s Script,
+    gate: &'s G,
+    compositor: CompositorSeat,
+    mut seats: SessionSeats,
+    mut film: Film,
+    mut displays: Vec<Box<dyn Display>>,
+) -> Raced
+    requires playable { is_playable script.now ≡ true }
+    requires of { IsStageOf stage.now script.now }
+    requires compositor { compositor ≡ record { stage = stage.now; seen = []; mine = [] } }
+    requires own { seats.stage ≡ stage.now }
+    requires sessions { AreFresh stage.now script.now.setup.sessions seats.seats }
+    requires film { FilmStands script.now.setup [] film }
+    requires none { film.set.lost ≡ [] }
+    requires number { length displays.items ≡ film.set.displays }
+    requires few { film.set.displays < 2 ^ 32 }
+    ensures ended { IfOk result.ended (λ e. HaveEnded stage.now script.now e.compositor e.seats e.film) }
+    ensures seen { IfOk result.ended (λ e. HaveSeen (λ d. shown d) (λ d. faults d) e.film.frames.items (history_of e.compositor.seen) e.film.set.lost displays.items result.displays.items) }
+    ensures kept { AreKept (λ d. shown d) (λ d. faults d) displays.items result.displays.items (λ d. d.vtable) }
+{
+    let out = match start_each(scope, rt, alloc, stage, script, gate, &mut seats) {
+        Ok(out) => out,
+        Err(NoMemory) => {
+            return Raced {
+                displays,
+                ended: Err(NoMemory),
+            };
+        }
+    };
+    let directed = direct(
+        rt,
+        alloc,
+        stage,
+        script,
+        gate,
+        compositor,
+        &mut film,
+        &mut displays,
+    );
+    let are_whole = put_back(rt, stage, script, &mut seats, out);
+    let Ok(compositor) = directed else {
+        return Raced {
+            displays,
+            ended: Err(NoMemory),
+        };
+    };
+    if !are_whole {
+        return Raced {
+            displays,
+            ended: Err(NoMemory),
+        };
+    }
+    Raced {
+        displays,
+        ended: Ok(Ended {
+            compositor,
+            seats,
+            film,
+        }),
+    }
+}
+
+/// Runs each session on a thread of its own, and the compositor on this one.
+fn on_threads<T: Threads + Wait + Sync, G: Gate>(
+    rt: &T,
+    alloc: Global,
+    stage: &Stage,
+    script: &Script,
+    gate: &G,
+    compositor: CompositorSeat,
+    seats: SessionSeats,
+    film: Film,
+    displays: Vec<Box<dyn Display>>,
+) -> Raced
+    requires playable { is_playable script.now ≡ true }
+    requires of { IsStageOf stage.now script.now }
+    requires compositor { compositor ≡ record { stage = stage.now; seen = []; mine = [] } }
+    requires own { seats.stage ≡ stage.now }
+    requires sessions { AreFresh stage.now script.now.setup.sessions seats.seats }
+    requires film { FilmStands script.now.setup [] film }
+    requires none { film.set.lost ≡ [] }
+    requires number { length displays.items ≡ film.set.displays }
+    requires few { film.set.displays < 2 ^ 32 }
+    ensures ended { IfOk result.ended (λ e. HaveEnded stage.now script.now e.compositor e.seats e.film) }
+    ensures seen { IfOk result.ended (λ e. HaveSeen (λ d. shown d) (λ d. faults d) e.film.frames.items (history_of e.compositor.seen) e.film.set.lost displays.items result.displays.items) }
+    ensures kept { AreKept (λ d. shown d) (λ d. faults d) displays.items result.displays.items (λ d. d.vtable) }
+{
+    thread::scope(
+        thread::scope_env(),
+        rt,
+        move |scope| -> Raced
+            requires {
+                (is_playable script.now ≡ true) × IsStageOf stage.now script.now
+                × (compositor ≡ record { stage = stage.now; seen = []; mine = [] })
+                × (seats.stage ≡ stage.now) × AreFresh stage.now script.now.setup.sessions seats.seats
+                × FilmStands script.now.setup [] film × (film.set.lost ≡ [])
+                × (length displays.items ≡ film.set.displays) × (film.set.displays < 2 ^ 32)
+            }
+            ensures {
+                IfOk result.ended (λ e. HaveEnded stage.entry.now script.entry.now e.compositor e.seats e.film)
+                × IfOk result.ended (λ e. HaveSeen (λ d. shown d) (λ d. faults d) e.film.frames.items (history_of e.compositor.seen) e.film.set.lost displays.entry.items result.displays.items)
+                × AreKept (λ d. shown d) (λ d. faults d) displays.entry.items result.displays.items (λ d. d.vtable)
+            }
+        { run_in(scope, rt, alloc, stage, script, gate, compositor, seats, film, displays) },
+    )
+}
+
+/// A stage for a script: a board before any entry, with room for all its lines.
+fn new_stage(
+    alloc: Global,
+    script: &Script,
+) -> Result<(Stage, CompositorSeat, SessionSeats), NoMemory>
+    requires playable { is_playable script.now ≡ true }
+    ensures of { IfOk result (λ r. IsStageOf r.0 script.now) }
+    ensures compositor { IfOk result (λ r. r.1 ≡ record { stage = r.0; seen = []; mine = [] }) }
+    ensures own { IfOk result (λ r. r.2.stage ≡ r.0) }
+    ensures sessions { IfOk result (λ r. AreFresh r.0 script.now.setup.sessions r.2.seats) }
+{
+    let shares = shares_of(alloc, script)?;
+    let setup = script.setup.copy(alloc)?;
+    let board = Board::open(alloc, setup, shares)?;
+    Stage::new(alloc, board)
+}
+
+/// Ends a race: all seats are handed back, and the board out.
+fn close(stage: Stage, script: &Script, ended: Ended) -> Played
+    requires playable { is_playable script.now ≡ true }
+    requires of { IsStageOf stage script.now }
+    requires ended { HaveEnded stage script.now ended.compositor ended.seats ended.film }
+    ensures played { HasPlayed script.now result.board result.frames.items result.answers }
+    ensures frames { result.frames ≡ ended.film.frames }
+    ensures set { result.set ≡ ended.film.set }
+    ensures as_many { frames result.board.history ≡ frames (history_of ended.compositor.seen) }
+{
+    seats_tell_actors();
+    journals_keep_seats();
+    let Ended {
+        compositor,
+        seats,
+        film,
+    } = ended;
+    let board = stage.close(compositor, seats);
+    let Film {
+        frames,
+        last: _,
+        answers,
+        set,
+    } = film;
+    Played {
+        board,
+        frames,
+        answers,
+        set,
+    }
+}
+
+/// Runs a script with each session on a thread of its own beside the compositor, which
+/// composes each frame and shows it to the displays while the sessions go on.
+///
+/// Where a thread can't be started, its session is run here before the display's
+/// lines. An entry is made once the gate is open for it, or was asked often enough.
+/// Want of memory in one actor ends that actor alone, and is answered once all have
+/// come back. Whatever the threads did, there is one legal history, which interleaves
+/// the script's actors; the frames are those that it finishes.
+pub fn race_script<T: Threads + Wait + Sync, G: Gate>(
+    rt: &T,
+    alloc: Global,
+    script: &Script,
+    displays: &mut Vec<Box<dyn Display>>,
+    gate: &G,
+) -> Result<Played, NoMemory>
+    requires playable { is_playable script.now ≡ true }
+    requires few { length displays.old.items < 2 ^ 32 }
+    ensures played { IfOk result (λ played. HasPlayed script.now played.board played.frames.items played.answers) }
+    ensures seen { IfOk result (λ played. HaveSeen (λ d. shown d) (λ d. faults d) played.frames.items played.board.history played.set.lost displays.old.items displays.new.items) }
+    ensures kept { AreKept (λ d. shown d) (λ d. faults d) displays.old.items displays.new.items (λ d. d.vtable) }
+{
+    let film = new_film(alloc, script, displays.len() as u32)?;
+    let (stage, compositor, seats) = new_stage(alloc, script)?;
+    let shown_here = mem::replace(displays, Vec::new(alloc));
+    let raced = on_threads(rt, alloc, &stage, script, gate, compositor, seats, film, shown_here);
+    *displays = raced.displays;
+    Ok(close(stage, script, raced.ended?))
+}

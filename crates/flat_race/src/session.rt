@@ -1,0 +1,234 @@
+ghost use Rattle.std.specs.Prelude.{◌≡◌, ◌+◌, ◌<◌, ◌^◌, ℕ, List, [], ◌∷◌, ◌++◌, Bool, true, false, length, OnOk};
+ghost use Rattle.flat_base.specs.declared.ids.Actor.TheVariants.{Session};
+ghost use Rattle.flat_scene.specs.declared.script.Line.{Line};
+ghost use Rattle.flat_scene.specs.History.{history_of, closes, is_session};
+ghost use Rattle.flat_scene.specs.Interleave.{IsReading, session_lines};
+ghost use Rattle.flat_rules.specs.Legal.{asked_of};
+ghost use Rattle.flat_rules.specs.Owned.{is_played_line, is_played_condition};
+ghost use Rattle.flat_playable.specs.Playable.{is_playable};
+ghost use Rattle.flat_stage.specs.Homes.{fresh_view};
+ghost use Rattle.flat_stage.specs.Readings.{SeatHasRead};
+ghost use Rattle.flat_stage.specs.Seats.{GoesOn, HasRoom, is_ended, setup_of};
+ghost use Rattle.flat_race.specs.Sessions.{HasRun, IsSame, IsStageOf, SessionStands};
+
+use crate::gate::{ASKS, Gate, LOOKS, ask};
+use flat_base::{Actor, NoMemory, SessionNo, TryCopy};
+use flat_scene::{Body, Call, Cond, Line, Reply};
+use flat_places::Script;
+use flat_stage::{SessionSeat, Stage, lines_are_read};
+use std::alloc::Global;
+use std::sync::Wait;
+use std::thread;
+
+/// The seat of a session that comes back, and whether the session came to its End.
+#[derive(Drop)]
+pub(crate) struct Back {
+    pub(crate) seat: SessionSeat,
+    pub(crate) is_whole: bool,
+}
+
+/// The number that a condition asks for.
+pub(crate) fn asked_of(c: Cond) -> u32
+    ensures { result ≡ asked_of c }
+{
+    match c {
+        Cond::Frames(n) => n,
+        Cond::Credits(n) => n,
+        Cond::Taken(n) => n,
+        Cond::Answers(n) => n,
+        Cond::Fence(_) => 1,
+        Cond::Presents(_, n) => n,
+    }
+}
+
+/// Whether a line of an open session always makes an entry: all do but calls of its
+/// own draft.
+fn makes_entry(text: &Line) -> bool {
+    match text {
+        Line::Call(Call::CreateView { .. } | Call::CreateViewport { .. }) => true,
+        Line::Call(_) => false,
+        _ => true,
+    }
+}
+
+/// Looks until the value of a condition is enough, or so often as a Wait may look;
+/// the gate is asked before each look, with one budget of the line.
+fn look_again<R: Wait, G: Gate>(
+    rt: &R,
+    stage: &Stage,
+    gate: &G,
+    seat: &mut SessionSeat,
+    number: u32,
+    c: Cond,
+)
+    requires own { seat.old.stage ≡ stage.now }
+    requires owned { is_played_condition (setup_of seat.old.stage) seat.old.session c ≡ true }
+    ensures { IsSame seat.old seat.new }
+{
+    let SessionNo(actor) = seat.session();
+    let wanted = asked_of(c);
+    let mut left = ASKS;
+    for _ in 0..LOOKS {
+        left = ask(gate, actor, number, left);
+        if wanted <= seat.look(rt, stage, c) {
+            return;
+        }
+        thread::yield_now();
+    }
+}
+
+/// Asks the gate as is due before a line of an open session.
+fn pause<R: Wait, G: Gate>(
+    rt: &R,
+    stage: &Stage,
+    gate: &G,
+    seat: &mut SessionSeat,
+    number: u32,
+    text: &Line,
+)
+    requires own { seat.old.stage ≡ stage.now }
+    requires owned { is_played_line (setup_of seat.old.stage) seat.old.session text.now ≡ true }
+    ensures { IsSame seat.old seat.new }
+{
+    match text {
+        Line::Wait(c) => look_again(rt, stage, gate, seat, number, *c),
+        _ => {
+            if makes_entry(text) {
+                ask(gate, seat.session().0, number, ASKS);
+            }
+        }
+    }
+}
+
+/// Reads one line of the session. The gate hears of the entry, where one is made.
+fn read_line<R: Wait, G: Gate>(
+    rt: &R,
+    alloc: Global,
+    stage: &Stage,
+    gate: &G,
+    seat: &mut SessionSeat,
+    number: u32,
+    text: &Line,
+) -> Result<(), NoMemory>
+    requires own { seat.old.stage ≡ stage.now }
+    requires unended { is_ended seat.old.mine ≡ false }
+    requires owned { is_played_line (setup_of seat.old.stage) seat.old.session text.now ≡ true }
+    requires room { HasRoom seat.old }
+    requires few { seat.old.refused + 1 < 2 ^ 32 }
+    ensures goes_on { GoesOn seat.old seat.new }
+    ensures follows { (given : List (ℕ × Line)) → SeatHasRead given seat.old → OnOk result (SeatHasRead (given ++ (number, text.now) ∷ []) seat.new) }
+{
+    let line = text.copy(alloc)?;
+    if seat.is_closed() {
+        let _ = seat.call(rt, stage, number, line)?;
+        return Ok(());
+    }
+    pause(rt, stage, gate, seat, number, text);
+    let reply = seat.call(rt, stage, number, line)?;
+    if makes_entry(text) || matches!(reply, Reply::Closed(..)) {
+        gate.passed(seat.session().0, number, &reply);
+    }
+    Ok(())
+}
+
+/// Whether an actor is a session.
+fn is_session(s: SessionNo, actor: Actor) -> bool
+    ensures { result ≡ is_session s actor }
+{
+    match actor {
+        Actor::Session(t) => t.0 == s.0,
+        _ => false,
+    }
+}
+
+/// Reads the line at a place of the script, where it is the session's.
+fn read_next<R: Wait, G: Gate>(
+    rt: &R,
+    alloc: Global,
+    stage: &Stage,
+    script: &Script,
+    gate: &G,
+    seat: &mut SessionSeat,
+    place: usize,
+) -> Result<(), NoMemory>
+    requires place { place < length script.now.lines }
+    requires playable { is_playable script.now ≡ true }
+    requires of { IsStageOf stage.now script.now }
+    requires stands { SessionStands script.now stage.now seat.old.session place seat.old }
+    ensures stands { OnOk result (SessionStands script.now stage.now seat.old.session (place + 1) seat.new) }
+    ensures same { (seat.new.stage ≡ seat.old.stage) × (seat.new.session ≡ seat.old.session) }
+{
+    let line = script.lines.at(place);
+    if !is_session(seat.session(), line.actor) {
+        return Ok(());
+    }
+    match &line.body {
+        Body::Session(text) => {
+            read_line(rt, alloc, stage, gate, seat, line.number, text)?;
+            Ok(())
+        }
+        _ => Ok(()),
+    }
+}
+
+/// Ends the session.
+fn finish<R: Wait, G: Gate>(
+    rt: &R,
+    stage: &Stage,
+    script: &Script,
+    gate: &G,
+    seat: &mut SessionSeat,
+)
+    requires playable { is_playable script.now ≡ true }
+    requires of { IsStageOf stage.now script.now }
+    requires stands { SessionStands script.now stage.now seat.old.session (length script.now.lines) seat.old }
+    ensures same { (seat.new.stage ≡ seat.old.stage) × (seat.new.session ≡ seat.old.session) }
+    ensures read { IsReading script.now.setup script.now.count (session_lines seat.old.session script.now.lines) (history_of seat.new.mine) }
+{
+    let SessionNo(actor) = seat.session();
+    let number = script.count + 1;
+    ask(gate, actor, number, ASKS);
+    let reply = seat.end(rt, stage, number);
+    gate.passed(actor, number, &reply);
+}
+
+/// Reads all lines of the session, and ends it.
+fn read_all<R: Wait, G: Gate>(
+    rt: &R,
+    alloc: Global,
+    stage: &Stage,
+    script: &Script,
+    gate: &G,
+    seat: &mut SessionSeat,
+) -> Result<(), NoMemory>
+    requires playable { is_playable script.now ≡ true }
+    requires of { IsStageOf stage.now script.now }
+    requires fresh { seat.old ≡ fresh_view stage.now seat.old.session }
+    ensures same { (seat.new.stage ≡ seat.old.stage) × (seat.new.session ≡ seat.old.session) }
+    ensures read { OnOk result (IsReading script.now.setup script.now.count (session_lines seat.old.session script.now.lines) (history_of seat.new.mine)) }
+{
+    lines_are_read();
+    for place in 0..script.lines.len() {
+        read_next(rt, alloc, stage, script, gate, seat, place)?;
+    }
+    finish(rt, stage, script, gate, seat);
+    Ok(())
+}
+
+/// Runs a session. Where it finds no memory, it makes no further entry.
+pub(crate) fn run<R: Wait, G: Gate>(
+    rt: &R,
+    alloc: Global,
+    stage: &Stage,
+    script: &Script,
+    gate: &G,
+    mut seat: SessionSeat,
+) -> Back
+    requires playable { is_playable script.now ≡ true }
+    requires of { IsStageOf stage.now script.now }
+    requires fresh { seat ≡ fresh_view stage.now seat.session }
+    ensures { HasRun stage.now script.now seat.session result }
+{
+    let is_whole = read_all(rt, alloc, stage, script, gate, &mut seat).is_ok();
+    Back { seat, is_whole }
+}

@@ -1,0 +1,141 @@
+ghost use Rattle.std.specs.Prelude.{◌≡◌, ◌&&◌, true, length, IfOk};
+ghost use Rattle.flat_playable.specs.Playable.{is_playable};
+ghost use Rattle.flat_stage.specs.Homes.{AreFresh, fresh_view};
+ghost use Rattle.flat_race.specs.Sessions.{AreBack, AreOut, HasRun, IsOut, IsStageOf};
+
+use crate::gate::Gate;
+use crate::session::{Back, run};
+use flat_base::{NoMemory, SessionNo};
+use flat_places::Script;
+use flat_stage::{SessionSeat, SessionSeats, Stage};
+use std::alloc::Global;
+use std::sync::Wait;
+use std::thread::{Promise, PromisedHandle, Scope, Threads};
+
+/// What a session's thread promises of the seat that it hands back.
+#[derive(Drop)]
+pub(crate) struct Kept<'a> {
+    stage: &'a Stage,
+    script: &'a Script,
+    session: SessionNo,
+}
+
+impl<'a> Promise<Back> for Kept<'a> {
+    ghost use Rattle.flat_race.specs.Sessions.{HasRun};
+
+    ghost kept_by = { λ p r. HasRun p.stage.now p.script.now p.session r };
+}
+
+/// A seat that is out: a thread has it, or its session was run here.
+#[derive(Drop)]
+pub(crate) enum Out<'a> {
+    Thread(PromisedHandle<Back, Kept<'a>>),
+    Here(Back),
+}
+
+impl<'a> Out<'a> {
+    /// Waits until the session's run is over.
+    fn wait<R: Threads>(self, rt: &R, stage: &Stage, script: &Script, session: SessionNo) -> Back
+        requires { IsOut stage.now script.now session self }
+        ensures { HasRun stage.now script.now session result }
+    {
+        match self {
+            Out::Thread(handle) => handle.join(rt),
+            Out::Here(back) => back,
+        }
+    }
+}
+
+/// Runs a session on a thread of its own, or here where none can be started.
+fn start<'s, E, R: Threads + Wait + Sync, G: Gate>(
+    scope: &Scope<'s, E>,
+    rt: &'s R,
+    alloc: Global,
+    stage: &'s Stage,
+    script: &'s Script,
+    gate: &'s G,
+    seat: SessionSeat,
+) -> Out<'s>
+    requires playable { is_playable script.now ≡ true }
+    requires of { IsStageOf stage.now script.now }
+    requires fresh { seat ≡ fresh_view stage.now seat.session }
+    ensures { IsOut stage.now script.now seat.session result }
+{
+    let session = seat.session();
+    match scope.spawn_with(
+        Kept {
+            stage,
+            script,
+            session,
+        },
+        move || -> Back
+            requires { (is_playable script.now ≡ true) × IsStageOf stage.now script.now × (seat ≡ fresh_view stage.now seat.session) }
+            ensures { HasRun stage.entry.now script.entry.now seat.session result }
+        { run(rt, alloc, stage, script, gate, seat) },
+    ) {
+        Ok(handle) => Out::Thread(handle),
+        Err(refused) => Out::Here((refused.value)()),
+    }
+}
+
+/// Starts each session. The seats are handed out, the first session's first.
+pub(crate) fn start_each<'s, E, R: Threads + Wait + Sync, G: Gate>(
+    scope: &Scope<'s, E>,
+    rt: &'s R,
+    alloc: Global,
+    stage: &'s Stage,
+    script: &'s Script,
+    gate: &'s G,
+    seats: &mut SessionSeats,
+) -> Result<Vec<Out<'s>>, NoMemory>
+    requires playable { is_playable script.now ≡ true }
+    requires of { IsStageOf stage.now script.now }
+    requires own { seats.old.stage ≡ stage.now }
+    requires fresh { AreFresh stage.now script.now.setup.sessions seats.old.seats }
+    ensures out { IfOk result (λ out. AreOut stage.now script.now script.now.setup.sessions out.items) }
+    ensures own { seats.new.stage ≡ seats.old.stage }
+    ensures count { length seats.new.seats ≡ length seats.old.seats }
+{
+    let mut out = Vec::with_capacity(alloc, script.setup.sessions as usize)?;
+    for before in 0..script.setup.sessions {
+        let Some(seat) = seats.take(SessionNo(before + 1)) else {
+            unreachable!()
+        };
+        let Ok(()) = out.push(start(scope, rt, alloc, stage, script, gate, seat)) else {
+            unreachable!()
+        };
+    }
+    Ok(out)
+}
+
+fn both(first: bool, second: bool) -> bool
+    ensures { result ≡ (first && second) }
+{
+    first && second
+}
+
+/// Waits for each session, the last first, and puts its seat back. Whether all came
+/// to their End.
+pub(crate) fn put_back<'s, R: Threads>(
+    rt: &R,
+    stage: &Stage,
+    script: &Script,
+    seats: &mut SessionSeats,
+    mut out: Vec<Out<'s>>,
+) -> bool
+    requires playable { is_playable script.now ≡ true }
+    requires out { AreOut stage.now script.now script.now.setup.sessions out.items }
+    requires own { seats.old.stage ≡ stage.now }
+    requires count { length seats.old.seats ≡ script.now.setup.sessions }
+    ensures own { seats.new.stage ≡ seats.old.stage }
+    ensures back { AreBack stage.now script.now 0 result seats.new.seats }
+{
+    let mut are_whole = true;
+    while let Some(last) = out.pop() {
+        let session = SessionNo(out.len() as u32 + 1);
+        let Back { seat, is_whole } = last.wait(rt, stage, script, session);
+        are_whole = both(are_whole, is_whole);
+        seats.put(seat);
+    }
+    are_whole
+}

@@ -1,0 +1,7 @@
+//! Tests of the race, with gates that say in which order threads make their entries.
+#![tactic(auto)]
+
+#[cfg(test)]
+mod gates;
+#[cfg(test)]
+mod texts;

@@ -1,6 +1,0 @@
-use Rattle.std.proofs.Common.{◌≡◌}
-use Rattle.flat_run.specs.Playing.{EndsStand}
-use Rattle.flat_run.proofs.game.Game.end_all.Given as goal
-
-abbrev pub invariant-loop-before : goal.invariant-loop-before
-invariant-loop-before l = (l.self.frames ≡ l.initial.self.frames) × EndsStand l.script l.before l.self

@@ -1,5 +1,0 @@
-use Rattle.flat_run.specs.Playing.{AreNew}
-use Rattle.flat_run.proofs.run.new_readers.Given as goal
-
-abbrev pub invariant-loop-before : goal.invariant-loop-before
-invariant-loop-before l = AreNew l.setup l.before l.readers.items

@@ -1,6 +1,0 @@
-use Rattle.std.proofs.Common.{◌≡◌}
-use Rattle.flat_run.proofs.Starting.{shares_to}
-use Rattle.flat_run.proofs.run.shares_of.Given as goal
-
-abbrev pub invariant-loop-before : goal.invariant-loop-before
-invariant-loop-before l = record { shares : l.shares ≡ shares_to l.script.lines l.before; lines : l.lines ≡ l.script.lines }
