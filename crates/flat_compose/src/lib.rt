@@ -8,9 +8,9 @@ ghost use Rattle.flat_topology.specs.Draw.{scene_matrix, visible_rect, node_item
 
 use crate::brush::brush_for;
 use flat_base::{NoMemory, OPACITY_MAX, Rect, Roomy};
-use flat_geom::{Matrix, intersect, is_empty, map_rect};
+use flat_geom::{Matrix, intersect, is_empty, map_rect, sized};
 use flat_scene::{DrawItem, ItemList, SceneMatrix};
-use flat_topology::{Joined, Placed, sized};
+use flat_topology::{Joined, Placed};
 use std::alloc::Global;
 
 fn for_display(m: Matrix) -> SceneMatrix

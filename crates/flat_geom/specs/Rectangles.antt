@@ -1,6 +1,7 @@
 -- Rectangles of places: from the lower bounds, which belong to them, to the upper ones, which don't.
-use Rattle.std.specs.Prelude.{ℤ, ◌+ℤ◌, ◌*ℤ◌, Bool, ◌&&◌, ◌||◌, int_lt, int_le}
+use Rattle.std.specs.Prelude.{ℕ, ℤ, pos, ◌*◌, ◌+ℤ◌, ◌*ℤ◌, Bool, ◌&&◌, ◌||◌, int_lt, int_le}
 use Rattle.std.specs.Int.{int_min, int_max}
+use Rattle.flat_base.specs.declared.limits.TheConstants.{ONE}
 use Rattle.flat_base.specs.declared.shapes.Rect.{Rect}
 use Rattle.flat_base.specs.declared.shapes.IntRect.{IntRect}
 use Rattle.flat_geom.specs.declared.matrix.Matrix.{Matrix}
@@ -48,3 +49,7 @@ in_places r = record {
   x1 = (r.x +ℤ r.w) *ℤ unit;
   y1 = (r.y +ℤ r.h) *ℤ unit;
 }
+
+-- the rectangle of a size in units, with its corner at the origin
+abbrev pub sized_rect : ℕ → ℕ → Rect
+sized_rect w h = record { x0 = pos 0; y0 = pos 0; x1 = pos (w * ONE); y1 = pos (h * ONE) }

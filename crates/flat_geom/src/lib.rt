@@ -11,4 +11,4 @@ mod matrix;
 mod rect;
 
 pub use matrix::{Matrix, compose, identity, local, map_point};
-pub use rect::{contains, intersect, is_empty, map_rect, units};
+pub use rect::{contains, intersect, is_empty, map_rect, sized, units};

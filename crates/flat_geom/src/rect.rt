@@ -1,5 +1,5 @@
 ghost use Rattle.std.specs.Prelude.{◌≡◌};
-ghost use Rattle.flat_geom.specs.Rectangles.{mapped_rect, shared_part, has_no_point, is_between, has_point, in_places};
+ghost use Rattle.flat_geom.specs.Rectangles.{mapped_rect, shared_part, has_no_point, is_between, has_point, in_places, sized_rect};
 
 use crate::matrix::{Matrix, map_point};
 use flat_base::{IntRect, ONE, Rect};
@@ -61,6 +61,18 @@ pub fn units(r: IntRect) -> Rect
         y0: y * one,
         x1: (x + w) * one,
         y1: (y + h) * one,
+    }
+}
+
+/// The rectangle of a size in units, in places, with its corner at the origin.
+pub fn sized(w: u32, h: u32) -> Rect
+    ensures { result ≡ sized_rect w h }
+{
+    Rect {
+        x0: 0,
+        y0: 0,
+        x1: w as i64 * ONE as i64,
+        y1: h as i64 * ONE as i64,
     }
 }
 

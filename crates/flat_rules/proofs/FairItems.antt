@@ -11,7 +11,7 @@ use Rattle.std.proofs.lemmas.List.Elements.{All-nil, All-cons}
 use Rattle.flat_base.specs.declared.limits.TheConstants.{OPACITY_MAX}
 use Rattle.flat_base.specs.declared.shapes.IntRect.{IntRect}
 use Rattle.flat_base.specs.declared.shapes.Rect.{Rect}
-use Rattle.flat_geom.specs.Rectangles.{mapped_rect, shared_part, has_no_point}
+use Rattle.flat_geom.specs.Rectangles.{mapped_rect, shared_part, has_no_point, sized_rect}
 use Rattle.flat_scene.specs.declared.frames.DrawItem.{DrawItem}
 use Rattle.flat_scene.specs.declared.setup.Setup.{Setup}
 use Rattle.flat_scene.specs.declared.trees.Children.{Children}
@@ -25,9 +25,10 @@ use Rattle.flat_topology.specs.declared.Placed.{Placed}
 use Rattle.flat_topology.specs.Draw.{Painting, painting_of, item_of, node_item, items_of, visible_rect, scene_matrix}
 use Rattle.flat_topology.specs.Join.{JoinedTree, Viewer, viewer_from, is_view_of, linked_to, joined_nodes, viewed, led_to, led_from}
 use Rattle.flat_topology.specs.Pairs.{display_pair}
-use Rattle.flat_topology.specs.Place.{Space, seen_through, sized_rect, node_space, linked_space, placed_in, placed_nodes, display_space}
+use Rattle.flat_topology.specs.Place.{Space, seen_through, node_space, linked_space, placed_in, placed_nodes, display_space}
 use Rattle.flat_topology.specs.Shown.{Shown, nodes_of, view_of}
-use Rattle.flat_rules.specs.Drawable.{IsWithin, IsSample, HasSample, IsDrawable, ItemsAreDrawable}
+use Rattle.flat_drawable.specs.Drawable.{IsWithin, IsSample, HasSample, IsDrawable}
+use Rattle.flat_rules.specs.Drawable.{ItemsAreDrawable}
 use Rattle.flat_rules.specs.Shown.{shown_states}
 use Rattle.flat_rules.proofs.lemmas.AllOrSome.{all-append}
 use Rattle.flat_rules.proofs.FairDrafts.{is_dim, is_sample}

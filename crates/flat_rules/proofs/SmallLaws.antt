@@ -1,22 +1,16 @@
 -- The words of the laws on histories, on small runs.
 use Rattle.std.proofs.Common.{◌≡◌, true, false, List, [], ◌∷◌, map, refl}
-use Rattle.std.specs.Prelude.{Some, None, pos}
+use Rattle.std.specs.Prelude.{Some, None}
 use Rattle.flat_base.specs.declared.ids.Actor.TheVariants.{Display, Session}
-use Rattle.flat_scene.specs.declared.calls.BlendMode.TheVariants.{Src}
 use Rattle.flat_scene.specs.declared.calls.Call.TheVariants as call
 use Rattle.flat_scene.specs.declared.calls.Watch.TheVariants as watch
-use Rattle.flat_scene.specs.declared.frames.DrawItem.{DrawItem}
-use Rattle.flat_scene.specs.declared.frames.Paint.TheVariants.{Fill}
 use Rattle.flat_scene.specs.declared.journal.Entry.{Entry}
 use Rattle.flat_scene.specs.declared.journal.Event.TheVariants as event
 use Rattle.flat_scene.specs.declared.journal.Kind.TheVariants as kind
 use Rattle.flat_scene.specs.declared.journal.Reply.TheVariants as reply
 use Rattle.flat_scene.specs.declared.journal.Told.TheVariants as tell
-use Rattle.flat_geom.specs.Matrices.{identity_matrix}
-use Rattle.flat_topology.specs.Draw.{scene_matrix}
 use Rattle.flat_scene.specs.History.{◌▹◌, own}
 use Rattle.flat_rules.specs.Determined.{but_reply, family_moments}
-use Rattle.flat_rules.specs.Drawable.{full_rect, matrix_of}
 use Rattle.flat_rules.specs.FirstNews.{first_news, is_asked, is_heard}
 use Rattle.flat_rules.specs.Seats.{of_seat, of_display}
 use Rattle.flat_rules.specs.Watch.{layout_of}
@@ -83,24 +77,3 @@ heard = refl
 
 heard-no-more : is_heard shop (layout_of (p 1)) whole ≡ false
 heard-no-more = refl
-
--- ---- items
-
-abbrev an_item : DrawItem
-an_item = record {
-  session = s 1;
-  serial = 1;
-  paint = Fill (255 ∷ 0 ∷ 0 ∷ 255 ∷ []);
-  w = 10;
-  h = 20;
-  matrix = scene_matrix identity_matrix;
-  visible = record { x0 = pos 0; y0 = pos 0; x1 = pos 65536; y1 = pos 65536 };
-  opacity = 65536;
-  blend = Src;
-}
-
-item-has-its-matrix : matrix_of an_item.matrix ≡ identity_matrix
-item-has-its-matrix = refl
-
-item-has-its-rectangle : full_rect an_item ≡ record { x0 = pos 0; y0 = pos 0; x1 = pos 655360; y1 = pos 1310720 }
-item-has-its-rectangle = refl

@@ -63,6 +63,9 @@ pub type NodeList = Items<ViewNode>;
 /// Draw items, in the order in which they are drawn.
 pub type ItemList = Items<DrawItem>;
 
+/// Rectangles of the display, in places.
+pub type RectList = Items<Rect>;
+
 /// The sessions that are connected to the display, and those that are apart:
 /// open, with a view whose end isn't lost, but not connected.
 #[derive(Debug, Drop)]

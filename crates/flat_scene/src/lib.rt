@@ -19,8 +19,8 @@ pub use calls::{
     ViewportProps, Watch,
 };
 pub use frames::{
-    DrawItem, FrameOut, Hit, HitList, ItemList, Lost, NodeList, Paint, SceneMatrix, SessionSet,
-    ViewNode, ViewTree,
+    DrawItem, FrameOut, Hit, HitList, ItemList, Lost, NodeList, Paint, RectList, SceneMatrix,
+    SessionSet, ViewNode, ViewTree,
 };
 pub use journal::{CallList, Entry, Event, Journal, Kind, Layout, Post, Reply, Told};
 pub use laws::{draft_laws, history_laws};

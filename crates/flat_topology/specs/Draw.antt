@@ -3,7 +3,7 @@ use Rattle.std.specs.Prelude.{ℕ, ◌||◌, ◌==◌, if◌then◌else◌, List
 use Rattle.flat_base.specs.declared.limits.TheConstants.{COLOUR_MAX}
 use Rattle.flat_base.specs.declared.shapes.Rect.{Rect}
 use Rattle.flat_geom.specs.declared.matrix.Matrix.{Matrix}
-use Rattle.flat_geom.specs.Rectangles.{mapped_rect, shared_part, has_no_point}
+use Rattle.flat_geom.specs.Rectangles.{mapped_rect, shared_part, has_no_point, sized_rect}
 use Rattle.flat_scene.specs.declared.calls.BlendMode.{BlendMode}
 use Rattle.flat_scene.specs.declared.calls.BlendMode.TheVariants.{Src, SrcOver}
 use Rattle.flat_scene.specs.declared.frames.DrawItem.{DrawItem}
@@ -15,7 +15,7 @@ use Rattle.flat_scene.specs.declared.trees.Content.{Content}
 use Rattle.flat_scene.specs.declared.trees.Content.TheVariants as content
 use Rattle.flat_topology.specs.declared.Placed.{Placed}
 use Rattle.flat_topology.specs.Shown.{Shown}
-use Rattle.flat_topology.specs.Place.{sized_rect, seen_through, placed_nodes}
+use Rattle.flat_topology.specs.Place.{seen_through, placed_nodes}
 
 -- a matrix, as draw items have it
 abbrev pub scene_matrix : Matrix → SceneMatrix

@@ -1,11 +1,11 @@
 -- Where the nodes of the joined tree stand on the display.
-use Rattle.std.specs.Prelude.{ℕ, pos, ◌*◌, ◌/◌, List, [], ◌∷◌, ◌++◌, Option, Some, None}
+use Rattle.std.specs.Prelude.{ℕ, ◌*◌, ◌/◌, List, [], ◌∷◌, ◌++◌, Option, Some, None}
 use Rattle.flat_base.specs.declared.limits.TheConstants.{ONE, OPACITY_MAX}
 use Rattle.flat_base.specs.declared.shapes.IntRect.{IntRect}
 use Rattle.flat_base.specs.declared.shapes.Rect.{Rect}
 use Rattle.flat_geom.specs.declared.matrix.Matrix.{Matrix}
 use Rattle.flat_geom.specs.Matrices.{identity_matrix, composed, local_matrix}
-use Rattle.flat_geom.specs.Rectangles.{mapped_rect, shared_part, in_places}
+use Rattle.flat_geom.specs.Rectangles.{mapped_rect, shared_part, in_places, sized_rect}
 use Rattle.flat_scene.specs.declared.calls.ViewportProps.{ViewportProps}
 use Rattle.flat_scene.specs.declared.setup.Setup.{Setup}
 use Rattle.flat_scene.specs.declared.trees.Content.{Content}
@@ -14,10 +14,6 @@ use Rattle.flat_scene.specs.declared.trees.Node.{Node}
 use Rattle.flat_topology.specs.declared.Placed.{Placed}
 use Rattle.flat_topology.specs.Shown.{Shown}
 use Rattle.flat_topology.specs.Join.{JoinedTree, nothing, node, child_view, join}
-
--- the rectangle of a size in units, with its corner at the origin
-abbrev pub sized_rect : ℕ → ℕ → Rect
-sized_rect w h = record { x0 = pos 0; y0 = pos 0; x1 = pos (w * ONE); y1 = pos (h * ONE) }
 
 -- an opacity seen through another
 abbrev pub seen_through : ℕ → ℕ → ℕ

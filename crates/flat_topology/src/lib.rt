@@ -20,7 +20,7 @@ mod shown;
 mod walk;
 
 pub use crate::joining::join;
-pub use crate::scope::{sized, through};
+pub use crate::scope::through;
 pub use crate::shown::Shown;
 use flat_base::{Items, Rect, SessionNo};
 use flat_geom::Matrix;

@@ -2,13 +2,13 @@ ghost use Rattle.std.specs.Prelude.{◌≡◌, ◌<◌, ◌^◌, IfOk, Some};
 ghost use Rattle.flat_scene.specs.declared.trees.Content.TheVariants as content;
 ghost use Rattle.flat_scene.specs.declared.trees.Children.TheVariants.{Empty};
 ghost use Rattle.flat_snap.specs.Forest.{as_node};
-ghost use Rattle.flat_topology.specs.Place.{sized_rect, seen_through, cut_clip, display_rect, display_space, node_matrix, node_space, viewport_rect, placed_node};
+ghost use Rattle.flat_topology.specs.Place.{seen_through, cut_clip, display_rect, display_space, node_matrix, node_space, viewport_rect, placed_node};
 ghost use Rattle.flat_geom.specs.Rectangles.{shared_part};
 ghost use Rattle.flat_topology.specs.Walking.{space_of};
 
 use crate::Placed;
 use flat_base::{IntRect, NoMemory, ONE, OPACITY_MAX, Rect, SessionNo};
-use flat_geom::{Matrix, compose, identity, intersect, local, map_rect, units};
+use flat_geom::{Matrix, compose, identity, intersect, local, map_rect, sized, units};
 use flat_scene::{Setup, ViewportProps};
 use flat_snap::FlatNode;
 use std::alloc::Global;
@@ -19,18 +19,6 @@ pub struct Scope {
     pub matrix: Matrix,
     pub clip: Rect,
     pub opacity: u32,
-}
-
-/// The rectangle of a size in units, in places, with its corner at the origin.
-pub fn sized(w: u32, h: u32) -> Rect
-    ensures { result ≡ sized_rect w h }
-{
-    Rect {
-        x0: 0,
-        y0: 0,
-        x1: w as i64 * ONE as i64,
-        y1: h as i64 * ONE as i64,
-    }
 }
 
 /// The display's rectangle.

@@ -8,9 +8,9 @@ ghost use Rattle.flat_tree.specs.Trees.{is_among, is_apart, if_apart, apart_belo
 ghost use Rattle.flat_tree.specs.Laws.{TreesFollow};
 
 use flat_base::{NoMemory, Rect, Roomy, SESSIONS_MAX, SessionList, SessionNo};
-use flat_geom::map_rect;
+use flat_geom::{map_rect, sized};
 use flat_scene::{Content, NodeList, SessionSet, ViewNode, ViewTree};
-use flat_topology::{Connected, Joined, Placed, sized, views_follow_links};
+use flat_topology::{Connected, Joined, Placed, views_follow_links};
 use std::alloc::Global;
 
 /// The rectangle of a placed viewport, uncut.

@@ -1,0 +1,13 @@
+//! Damage: the rectangles outside of which two draw lists give the same pixels.
+#![tactic(auto)]
+
+mod common;
+mod difference;
+mod laws;
+mod rects;
+mod redrawing;
+mod same;
+
+pub use difference::{RECTS_MAX, damage};
+pub use laws::damage_laws;
+pub use redrawing::redraw;

@@ -1,0 +1,114 @@
+-- Rows of tiles, drawn by the items that are seen there.
+use Rattle.std.proofs.Common.{ℕ, ◌+◌, ◌*◌, ◌/◌, ◌%◌, ◌^◌, ◌<◌, ◌≤◌, ◌≡◌, refl, ap, ◌∙◌, sym, subst, false, List, [], ◌∷◌, ◌++◌, length, get_or, take, drop, arith}
+use Rattle.std.proofs.lemmas.List.{take_all, get_or-take, get_or-drop, length-take, length-drop}
+use Rattle.std.proofs.lemmas.List.Elements.{All-nil, All-cons, All-append}
+use Rattle.std.proofs.lemmas.Grind.{fold-append}
+use Rattle.std.proofs.lemmas.Nat.{div-mul-add, mod-mul-add, div-add-mod', mod_below, div_below, mul-add-lt, mul-le}
+use Rattle.flat_drawable.specs.Drawable.{IsDrawable}
+use Rattle.flat_scene.specs.declared.frames.DrawItem.{DrawItem}
+use Rattle.flat_render.specs.Bands.{IsSeenWhere, IsSeenBetween, IsSeenIn}
+use Rattle.flat_render.specs.Channels.{channel_step, channel_after}
+use Rattle.flat_render.specs.Grids.{tile_size, tile_bytes, tile_count, band_bytes, grid_bytes, tile_of, IsGrid}
+use Rattle.flat_render.specs.Pixels.{covers}
+use Rattle.flat_render.specs.Stored.{stored_x, stored_y, drawn_in, drawn_at}
+use Rattle.flat_render.specs.Tiles.{channel_at, x_at, y_at, tile_area, IsTile}
+use Rattle.flat_render.specs.declared.grid.Grid.{Grid}
+use Rattle.flat_render.specs.declared.tile.Tile.{Tile}
+use Rattle.flat_render.proofs.Items.{after-more, tile-has-byte}
+use Rattle.flat_render.proofs.Planes.{some-pixels}
+use Rattle.flat_render.proofs.Places.{some-pixel, some-byte}
+
+step-none : (c : ℕ) (item : DrawItem) (px py was : ℕ) → covers item px py ≡ false → channel_step c item px py was ≡ was
+step-none c item px py was e = rw e refl
+
+module _ (P : ℕ → ℕ → Type 0) (items seen : List DrawItem) where
+  -- one item more that may be seen
+  pub seen-more : (i : ℕ) (d : DrawItem) → i < length items → IsDrawable (get_or items i d) → IsSeenWhere P (take i items) seen → IsSeenWhere P (take (i + 1) items) (seen ++ get_or items i d ∷ [])
+  seen-more i d within drawable is = record {
+    drawable = All-append IsDrawable seen (get_or items i d ∷ []) is.drawable (All-cons IsDrawable (get_or items i d) [] drawable (All-nil IsDrawable));
+    same = λ c px py old there.
+        fold-append (λ was it. channel_step c it px py was) old seen (get_or items i d ∷ [])
+        ∙ ap (λ (was : ℕ). channel_step c (get_or items i d) px py was) (is.same c px py old there)
+        ∙ sym (after-more c items i d px py old within);
+  }
+
+  -- and one that isn't seen there
+  pub seen-past : (i : ℕ) (d : DrawItem) → i < length items → ((px py : ℕ) → P px py → covers (get_or items i d) px py ≡ false)
+      → IsSeenWhere P (take i items) seen → IsSeenWhere P (take (i + 1) items) seen
+  seen-past i d within unseen is = record {
+    drawable = is.drawable;
+    same = λ c px py old there.
+        is.same c px py old there
+        ∙ sym (step-none c (get_or items i d) px py (channel_after c (take i items) px py old) (unseen px py there))
+        ∙ sym (after-more c items i d px py old within);
+  }
+
+-- the bytes of a tile in its row
+module _ (g : Grid) (is : IsGrid g) (row n : ℕ) (column : n < g.across) where
+  pub tile-of-row : (items : List DrawItem) (m : ℕ) → m < tile_bytes g → drawn_in (tile_of g (row * g.across + n)) items m ≡ drawn_at g items (row * band_bytes g + (n * tile_bytes g + m))
+  tile-of-row items m small =
+      let place : (row * g.across + n) * tile_bytes g + m ≡ row * band_bytes g + (n * tile_bytes g + m) = grind arith in
+      ap (λ (k : ℕ). drawn_in (tile_of g k) items m) (sym (div-mul-add (row * g.across + n) (tile_bytes g) m small))
+      ∙ ap (λ (k : ℕ). drawn_in (tile_of g (((row * g.across + n) * tile_bytes g + m) / tile_bytes g)) items k) (sym (mod-mul-add (row * g.across + n) (tile_bytes g) m small))
+      ∙ ap (λ (i : ℕ). drawn_at g items i) place
+
+-- the rows of pixels of a row of tiles
+module _ (g : Grid) (is : IsGrid g) (row m : ℕ) (small : m < band_bytes g) where
+  row-of : (row * band_bytes g + m) / tile_bytes g / g.across ≡ row
+  row-of =
+      let q : ℕ = m / tile_bytes g in
+      let column : q < g.across = div_below m (tile_bytes g) g.across (some-byte g is) small in
+      let rest : m % tile_bytes g < tile_bytes g = mod_below m (tile_bytes g) (some-byte g is) in
+      let place : (row * g.across + q) * tile_bytes g + m % tile_bytes g ≡ row * band_bytes g + m = omega (arith, div-add-mod' m (tile_bytes g)) in
+      ap (λ (i : ℕ). i / tile_bytes g / g.across) (sym place)
+      ∙ ap (λ (n : ℕ). n / g.across) (div-mul-add (row * g.across + q) (tile_bytes g) (m % tile_bytes g) rest)
+      ∙ div-mul-add row g.across q column
+
+  pub row-top : row * g.tile_h ≤ stored_y g (row * band_bytes g + m)
+  row-top = omega (arith, ap (λ (r : ℕ). r * g.tile_h) row-of)
+
+  pub row-bottom : stored_y g (row * band_bytes g + m) < row * g.tile_h + g.tile_h
+  row-bottom =
+      let k : ℕ = (row * band_bytes g + m) % tile_bytes g % tile_size g in
+      let inner : k / g.tile_w < g.tile_h = div_below k g.tile_w g.tile_h is.tile_w (omega (arith, mod_below ((row * band_bytes g + m) % tile_bytes g) (tile_size g) (some-pixel g is))) in
+      omega (arith, ap (λ (r : ℕ). r * g.tile_h) row-of, inner)
+
+-- drawn by what is seen in a row, each byte is what it is by all items
+pub seen-drawn : (g : Grid) (items seen : List DrawItem) (row m : ℕ) → IsGrid g → m < band_bytes g → IsSeenBetween (row * g.tile_h) (row * g.tile_h + g.tile_h) items seen
+    → drawn_at g seen (row * band_bytes g + m) ≡ drawn_at g items (row * band_bytes g + m)
+seen-drawn g items seen row m is small seen_is =
+    let i : ℕ = row * band_bytes g + m in
+    seen_is.same (channel_at (tile_of g (i / tile_bytes g)) (i % tile_bytes g)) (stored_x g i) (stored_y g i) 0 (row-top g is row m small, row-bottom g is row m small)
+
+-- drawn by what is seen in a tile, each of its bytes is what it is by all items
+pub seen-drawn-in : (tile : Tile) (items seen : List DrawItem) (m : ℕ) → IsTile tile → IsSeenIn (tile_area tile) items seen → drawn_in tile seen m ≡ drawn_in tile items m
+seen-drawn-in tile items seen m is seen_is = seen_is.same (channel_at tile m) (x_at tile m) (y_at tile m) 0 (tile-has-byte tile m is (some-pixels tile is))
+
+-- a part of what is black is black
+pub part-black : (a z : ℕ) (bytes : List ℕ) → ((m : ℕ) → m < length bytes → get_or bytes m 0 ≡ 0) → a + z ≤ length bytes
+    → (k : ℕ) → k < length (take z (drop a bytes)) → get_or (take z (drop a bytes)) k 0 ≡ 0
+part-black a z bytes black fits k small =
+    let len : length (take z (drop a bytes)) ≡ z = simp (length-take, length-drop) (omega arith) in
+    get_or-take z (drop a bytes) k 0 (omega (arith, len)) ∙ get_or-drop a bytes k 0 ∙ black (a + k) (omega (arith, len))
+
+-- how many bytes a row of tiles has, and how many rows there are
+pub some-band : (g : Grid) → IsGrid g → 0 < band_bytes g
+some-band g is = omega (arith, mul-le 1 1 g.across (tile_bytes g) (omega (arith, is.some)) (omega (arith, some-byte g is)))
+
+pub band-most : (g : Grid) → IsGrid g → band_bytes g < 2 ^ 36
+band-most g is =
+    let most : (g.across * g.tile_w) * g.tile_h ≤ 2 ^ 28 * 64 = mul-le (g.across * g.tile_w) g.tile_h (2 ^ 28) 64 (omega (arith, is.most_right)) is.low in
+    let all : band_bytes g ≡ 3 * ((g.across * g.tile_w) * g.tile_h) = grind arith in
+    omega (arith, most, all)
+
+pub whole-bands : (g : Grid) → grid_bytes g ≡ g.down * band_bytes g
+whole-bands g = grind arith
+
+pub tile-of-band : (g : Grid) (row n : ℕ) → row < g.down → n < g.across → row * g.across + n < tile_count g
+tile-of-band g row n low column = omega (arith, mul-add-lt row g.across n g.down low column)
+
+-- where a chunk begins
+pub chunk-start : (s z start offset i : ℕ) → z ≡ s → start % z ≡ 0 → start + offset ≡ i → start / z * s + offset ≡ i
+chunk-start s z start offset i e whole place =
+    let at : start / z * z + start % z ≡ start = div-add-mod' start z in
+    ap (λ (n : ℕ). start / z * n + offset) (sym e) ∙ omega (arith, at, whole, place)

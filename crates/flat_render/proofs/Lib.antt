@@ -1,0 +1,19 @@
+pub mod Bounds
+pub mod Lines
+pub mod Rows
+pub mod Tables
+pub mod Planes
+pub mod Windows
+pub mod Channels
+pub mod CoveredUp
+pub mod Covered
+pub mod Items
+pub mod Places
+pub mod Chunks
+pub mod Any
+pub mod Seen
+pub mod Bytes
+pub mod Brushing
+pub mod Bands
+pub mod Runs
+mod Examples

@@ -1,0 +1,83 @@
+-- Planes: a tile's bytes, channel by channel.
+use Rattle.std.proofs.Common.{ℕ, ◌+◌, ◌-◌, ◌*◌, ◌/◌, ◌%◌, ◌<◌, ◌≤◌, ◌≡◌, refl, ap, ◌∙◌, sym, subst, Bool, true, false, if◌then◌else◌, List, length, get_or, take, drop, arith}
+use Rattle.std.proofs.lemmas.Bool.{cases_lt}
+use Rattle.std.proofs.lemmas.List.{get_or-take, get_or-drop, length-take, length-drop}
+use Rattle.std.proofs.lemmas.Nat.{div-add-mod', mod_below, div_below, row_fits, mul-le}
+use borrow.Rule.Slice.PartMut.{put_mid}
+use Rattle.flat_scene.specs.declared.frames.DrawItem.{DrawItem}
+use Rattle.flat_render.specs.Areas.{has_pixel}
+use Rattle.flat_render.specs.Channels.{channel_painted, channel_step}
+use Rattle.flat_render.specs.Inks.{inked, IsInk}
+use Rattle.flat_render.specs.Pixels.{covers}
+use Rattle.flat_render.specs.Tiles.{pixels_of, IsTile}
+use Rattle.flat_render.specs.declared.area.Area.{Area}
+use Rattle.flat_render.specs.declared.ink.Ink.{Ink}
+use Rattle.flat_render.specs.declared.tile.Tile.{Tile}
+use Rattle.flat_render.proofs.Rows.{either, in-row, put-before, put-inside, put-after}
+
+-- a tile has a pixel, and each of its planes lies within it
+pub some-pixels : (tile : Tile) → IsTile tile → 0 < pixels_of tile
+some-pixels tile is = omega (arith, mul-le 1 1 tile.width tile.height (omega (arith, is.width)) (omega (arith, is.height)))
+
+pub plane-fits : (s c : ℕ) → c < 3 → c * s + s ≤ 3 * s
+plane-fits s c channel = omega (arith, row_fits c s 3 s channel (omega arith))
+
+-- a number by its quotient
+quotient-from : (s c m : ℕ) → m / s ≡ c → c * s ≤ m
+quotient-from s c m e = subst (λ (n : ℕ). n * s ≤ m) e (omega (arith, div-add-mod' m s))
+
+quotient-rest : (s c m : ℕ) → m / s ≡ c → m - c * s ≡ m % s
+quotient-rest s c m e = subst (λ (n : ℕ). m - n * s ≡ m % s) e (omega (arith, div-add-mod' m s))
+
+module _ (s c z : ℕ) (bytes plane : List ℕ) (some : 0 < s) (zs : z ≡ s) (fits : c * s + s ≤ length bytes) (len : length plane ≡ length (take z (drop (c * s) bytes))) where
+  size : length plane ≡ z
+  size = len ∙ simp (length-take, length-drop) (omega arith)
+
+  -- a byte of the plane that was changed
+  pub plane-there : (F : ℕ → ℕ → ℕ)
+      → ((k : ℕ) → k < length (take z (drop (c * s) bytes)) → get_or plane k 0 ≡ F k (get_or (take z (drop (c * s) bytes)) k 0))
+      → (m : ℕ) → m / s ≡ c → get_or (put_mid (c * s) z bytes plane) m 0 ≡ F (m % s) (get_or bytes m 0)
+  plane-there F changed m e =
+      let above : c * s ≤ m = quotient-from s c m e in
+      let rest : m - c * s ≡ m % s = quotient-rest s c m e in
+      let small : m % s < s = mod_below m s some in
+      let place : c * s + (m - c * s) ≡ m = omega arith in
+      put-inside (c * s) z bytes plane m (omega arith) size above (omega (arith, rest, small))
+      ∙ changed (m - c * s) (omega (arith, rest, small, size, len))
+      ∙ ap (F (m - c * s)) (get_or-take z (drop (c * s) bytes) (m - c * s) 0 (omega (arith, rest, small)) ∙ get_or-drop (c * s) bytes (m - c * s) 0 ∙ ap (λ (n : ℕ). get_or bytes n 0) place)
+      ∙ ap (λ (k : ℕ). F k (get_or bytes m 0)) rest
+
+  -- and one of another plane
+  pub plane-others : (m : ℕ) → (m / s ≡ c → ⊥) → get_or (put_mid (c * s) z bytes plane) m 0 ≡ get_or bytes m 0
+  plane-others m other =
+      either _ _ (cases_lt m (c * s))
+      (λ before. put-before (c * s) z bytes plane m (omega arith) before)
+      (λ above. either _ _ (cases_lt m (c * s + s))
+      (λ below. absurd (other ((in-row m s c 0 s (omega arith) (omega arith) (omega arith)).0)))
+      (λ past. put-after (c * s) z bytes plane m (omega arith) size (omega arith)))
+
+-- the channel of a byte is one of three
+pub which-channel : {R : Type 0} (s m : ℕ) → 0 < s → m < 3 * s → (m / s ≡ 0 → R) → (m / s ≡ 1 → R) → (m / s ≡ 2 → R) → R
+which-channel s m some small red green blue =
+    let below : m / s < 3 = div_below m s 3 some (omega arith) in
+    either _ _ (cases_lt (m / s) 1) (λ l. red (omega arith))
+    (λ h. either _ _ (cases_lt (m / s) 2) (λ l. green (omega arith)) (λ k. blue (omega arith)))
+
+-- ink of an item, laid where the item covers, is the item's step
+ink-step : (c : ℕ) (item : DrawItem) (cut : Area) (ink : Ink) (px py was now : ℕ) → IsInk c item cut ink → (has_pixel cut px py ≡ true → covers item px py ≡ true)
+    → now ≡ (if has_pixel cut px py then inked ink (px - cut.x0) (py - cut.y0) was else was)
+    → now ≡ (if has_pixel cut px py then channel_step c item px py was else was)
+ink-step c item cut ink px py was now is covered e = by_test (has_pixel cut px py) refl e where
+  by_test : (b : Bool) → has_pixel cut px py ≡ b → now ≡ (if b then inked ink (px - cut.x0) (py - cut.y0) was else was) → now ≡ (if b then channel_step c item px py was else was)
+  by_test true h k = k ∙ is.paints px py was h ∙ sym (ap (λ (b : Bool). if b then channel_painted c item px py was else was) (covered h))
+  by_test false h k = k
+
+-- the same, whatever the number of the channel
+of-channel : (c d : ℕ) (item : DrawItem) (b : Bool) (px py was now : ℕ) → d ≡ c → now ≡ (if b then channel_step c item px py was else was)
+    → now ≡ (if b then channel_step d item px py was else was)
+of-channel c d item b px py was now e h = h ∙ sym (ap (λ (n : ℕ). if b then channel_step n item px py was else was) e)
+
+pub item-channel : (c d : ℕ) (item : DrawItem) (cut : Area) (ink : Ink) (px py was now : ℕ) → d ≡ c → IsInk c item cut ink → (has_pixel cut px py ≡ true → covers item px py ≡ true)
+    → now ≡ (if has_pixel cut px py then inked ink (px - cut.x0) (py - cut.y0) was else was)
+    → now ≡ (if has_pixel cut px py then channel_step d item px py was else was)
+item-channel c d item cut ink px py was now e is covered h = of-channel c d item (has_pixel cut px py) px py was now e (ink-step c item cut ink px py was now is covered h)

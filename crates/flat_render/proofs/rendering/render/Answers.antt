@@ -1,0 +1,28 @@
+use Rattle.std.proofs.Common.{ℕ, ◌<◌, ◌≡◌, ◌∙◌, ap, List, length, get_or, arith}
+use Rattle.std.specs.Vec.{with_items}
+use Rattle.std.proofs.lemmas.List.{with_items_is}
+use Rattle.flat_scene.specs.declared.frames.DrawItem.{DrawItem}
+use Rattle.flat_render.specs.Channels.{channel_after}
+use Rattle.flat_render.specs.Grids.{place_of}
+use Rattle.flat_render.proofs.Channels.{pixel-channels}
+use Rattle.flat_render.proofs.Places.{place-there, drawn-place}
+use Rattle.flat_render.proofs.rendering.render.Goals as goal
+
+pub returns : goal.returns
+returns g c = record {
+  width = c.grid_for-grid.ensures.width;
+  height = c.grid_for-grid.ensures.height;
+  pixels = λ x y hx hy.
+      let wide : x < c.grid_for-grid.result.width = omega (arith, c.grid_for-grid.ensures.width, hx) in
+      let high : y < c.grid_for-grid.result.height = omega (arith, c.grid_for-grid.ensures.height, hy) in
+      let channel : (n : ℕ) → n < 3 → get_or (with_items c.in_ok-bytes.bytes c.draw_tiles.new.bytes).items (place_of c.grid_for-grid.result n x y) 0 ≡ channel_after n c.args.items.now x y 0 =
+      (λ n low.
+      let i : ℕ = place_of c.grid_for-grid.result n x y in
+      let there : i < length c.as_mut_slice.result.now =
+      omega (arith, place-there c.grid_for-grid.result c.grid_for-grid.ensures.grid n x y low wide high, c.in_ok-bytes.ensures.len, c.stored.ensures, c.as_mut_slice.ensures.len) in
+      ap (λ (xs : List ℕ). get_or xs i 0) (with_items_is c.in_ok-bytes.bytes c.draw_tiles.new.bytes (c.draw_tiles.auto.bytes ∙ c.as_mut_slice.ensures.len))
+      ∙ c.draw_tiles.ensures i there
+      ∙ drawn-place c.grid_for-grid.result c.grid_for-grid.ensures.grid n x y low wide high c.as_slice.result.now
+      ∙ ap (λ (items : List DrawItem). channel_after n items x y 0) c.as_slice.ensures) in
+      pixel-channels c.args.items.now x y _ _ _ (channel 0 (omega arith)) (channel 1 (omega arith)) (channel 2 (omega arith));
+}

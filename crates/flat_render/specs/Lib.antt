@@ -1,0 +1,15 @@
+pub mod Areas
+pub mod Colours
+pub mod Pixels
+pub mod Channels
+pub mod Textures
+pub mod Damaged
+pub mod Pictures
+pub mod Hiding
+pub mod Ppm
+pub mod Grids
+pub mod Tiles
+pub mod Inks
+pub mod Brushes
+pub mod Stored
+pub mod Bands

@@ -1,0 +1,111 @@
+ghost use Rattle.std.specs.Prelude.{◌≡◌, ◌+◌, ◌<◌, ◌^◌, ◌*◌, ℕ, All, IfOk, length, slice_index};
+ghost use Rattle.flat_drawable.specs.Drawable.{IsDrawable};
+ghost use Rattle.flat_render.specs.Areas.{IsWindow};
+ghost use Rattle.flat_render.specs.Bands.{IsSeenBetween, IsSeenIn};
+ghost use Rattle.flat_render.specs.Grids.{band_bytes, IsGrid};
+ghost use Rattle.flat_render.specs.Stored.{drawn_at, drawn_in};
+ghost use Rattle.flat_render.specs.Tiles.{pixels_of, IsTile};
+
+use crate::area::{Area, is_beside, is_missed};
+use crate::grid::{Grid, bytes_of_tiles, tile};
+use crate::tile::{Tile, area, draw};
+use flat_base::NoMemory;
+use flat_scene::DrawItem;
+use std::alloc::Global;
+
+/// So many items are looked at twice sooner than they are copied.
+const FEW: usize = 32;
+
+/// The items of which something may be seen on some rows of pixels.
+fn seen_between(
+    alloc: Global,
+    items: &[DrawItem],
+    top: usize,
+    bottom: usize,
+) -> Result<Vec<DrawItem>, NoMemory>
+    requires items { All IsDrawable items.now }
+    requires some { top < bottom }
+    requires near { bottom < 2 ^ 29 }
+    ensures { IfOk result (λ seen. IsSeenBetween top bottom items.now seen.items) }
+{
+    let mut seen = Vec::new(alloc);
+    for item in items {
+        if is_beside(item.visible.y0, item.visible.y1, top, bottom) {
+            continue;
+        }
+        seen.push(*item)?;
+    }
+    Ok(seen)
+}
+
+/// The items of which something may be seen in an area.
+fn seen_in(alloc: Global, items: &[DrawItem], area: Area) -> Result<Vec<DrawItem>, NoMemory>
+    requires items { All IsDrawable items.now }
+    requires area { IsWindow area }
+    ensures { IfOk result (λ seen. IsSeenIn area items.now seen.items) }
+{
+    let mut seen = Vec::new(alloc);
+    for item in items {
+        if is_missed(area, item.visible) {
+            continue;
+        }
+        seen.push(*item)?;
+    }
+    Ok(seen)
+}
+
+/// Draws a tile that is black. Of many items it looks twice at those alone that may
+/// be seen there; where memory is wanting, at all of them.
+fn draw_tile(alloc: Global, items: &[DrawItem], tile: Tile, bytes: &mut [u8])
+    requires items { All IsDrawable items.now }
+    requires tile { IsTile tile }
+    requires size { length bytes.old ≡ 3 * pixels_of tile }
+    requires black { (m : ℕ) → m < length bytes.old → slice_index bytes.old m ≡ 0 }
+    ensures { (m : ℕ) → m < length bytes.old → slice_index bytes.new m ≡ drawn_in tile items.now m }
+{
+    if items.len() <= FEW {
+        return draw(items, tile, bytes);
+    }
+    match seen_in(alloc, items, area(tile)) {
+        Ok(seen) => draw(seen.as_slice(), tile, bytes),
+        Err(_) => draw(items, tile, bytes),
+    }
+}
+
+/// Draws a row of tiles, which are black.
+fn draw_row(alloc: Global, items: &[DrawItem], grid: &Grid, row: usize, bytes: &mut [u8])
+    requires items { All IsDrawable items.now }
+    requires grid { IsGrid grid.now }
+    requires row { row < grid.now.down }
+    requires size { length bytes.old ≡ band_bytes grid.now }
+    requires black { (m : ℕ) → m < length bytes.old → slice_index bytes.old m ≡ 0 }
+    ensures { (m : ℕ) → m < length bytes.old → slice_index bytes.new m ≡ drawn_at grid.now items.now (row * band_bytes grid.now + m) }
+{
+    let size = bytes_of_tiles(grid);
+    for n in 0..grid.across {
+        let bytes_of_tile = &mut bytes[n * size..n * size + size];
+        draw_tile(
+            alloc,
+            items,
+            tile(grid, row * grid.across + n),
+            bytes_of_tile,
+        );
+    }
+}
+
+/// Draws a row of tiles, which are black, by the items that are seen there. Where
+/// memory is wanting it looks at all of them.
+pub fn draw_band(alloc: Global, items: &[DrawItem], grid: &Grid, row: usize, bytes: &mut [u8])
+    requires items { All IsDrawable items.now }
+    requires grid { IsGrid grid.now }
+    requires row { row < grid.now.down }
+    requires size { length bytes.old ≡ band_bytes grid.now }
+    requires black { (m : ℕ) → m < length bytes.old → slice_index bytes.old m ≡ 0 }
+    ensures { (m : ℕ) → m < length bytes.old → slice_index bytes.new m ≡ drawn_at grid.now items.now (row * band_bytes grid.now + m) }
+{
+    let top = row * grid.tile_h;
+    match seen_between(alloc, items, top, top + grid.tile_h) {
+        Ok(seen) => draw_row(alloc, seen.as_slice(), grid, row, bytes),
+        Err(_) => draw_row(alloc, items, grid, row, bytes),
+    }
+}

@@ -1,0 +1,68 @@
+ghost use Rattle.std.specs.Prelude.{◌≡◌, ◌+◌, ◌*◌, ◌/◌, ◌<◌, ℕ, All, if◌then◌else◌, length, slice_index};
+ghost use Rattle.flat_drawable.specs.Drawable.{IsDrawable};
+ghost use Rattle.flat_render.specs.Areas.{has_pixel};
+ghost use Rattle.flat_render.specs.Damaged.{is_in_any};
+ghost use Rattle.flat_render.specs.Grids.{band_bytes, grid_bytes, IsGrid};
+ghost use Rattle.flat_render.specs.Stored.{stored_x, stored_y, drawn_at};
+
+use crate::area::{Area, area_of};
+use crate::band::draw_band;
+use crate::grid::{Grid, bytes_of_bands, bytes_of_tiles, count_of_tiles, tile};
+use crate::tile::draw_anew;
+use flat_base::Rect;
+use flat_scene::DrawItem;
+use rayon::prelude::*;
+use std::alloc::Global;
+use std::thread::Threads;
+
+/// Draws all tiles, which are black, in as many threads as serve.
+pub fn draw_tiles(
+    rt: &(impl Threads + Sync),
+    alloc: Global,
+    items: &[DrawItem],
+    grid: &Grid,
+    bytes: &mut [u8],
+)
+    requires items { All IsDrawable items.now }
+    requires grid { IsGrid grid.now }
+    requires size { length bytes.old ≡ grid_bytes grid.now }
+    requires black { (i : ℕ) → i < length bytes.old → slice_index bytes.old i ≡ 0 }
+    ensures { (i : ℕ) → i < length bytes.old → slice_index bytes.new i ≡ drawn_at grid.now items.now i }
+{
+    let size = bytes_of_bands(grid);
+    par_chunks_mut_for_each(
+        rt,
+        bytes,
+        size,
+        |start: usize, band: &mut [u8]|
+            requires { All IsDrawable items.now × IsGrid grid.now × (0 < size) × (start / size < grid.now.down) × (length band.old ≡ band_bytes grid.now) × ((m : ℕ) → m < length band.old → slice_index band.old m ≡ 0) }
+            ensures { (m : ℕ) → m < length band.old → slice_index band.new m ≡ drawn_at grid.entry.now items.entry.now (start / size * band_bytes grid.entry.now + m) }
+        { draw_band(alloc, items, grid, start / size, band) },
+    );
+}
+
+/// Draws what is in a window anew, on all tiles.
+fn redraw_tiles(items: &[DrawItem], grid: &Grid, window: Area, bytes: &mut [u8])
+    requires items { All IsDrawable items.now }
+    requires grid { IsGrid grid.now }
+    requires size { length bytes.old ≡ grid_bytes grid.now }
+    ensures { (i : ℕ) → i < length bytes.old → slice_index bytes.new i ≡ (if has_pixel window (stored_x grid.now i) (stored_y grid.now i) then drawn_at grid.now items.now i else slice_index bytes.old i) }
+{
+    let size = bytes_of_tiles(grid);
+    for n in 0..count_of_tiles(grid) {
+        let bytes_of_tile = &mut bytes[n * size..n * size + size];
+        draw_anew(items, tile(grid, n), window, bytes_of_tile);
+    }
+}
+
+/// Draws what is in any of some rectangles anew.
+pub fn redraw_rects(items: &[DrawItem], grid: &Grid, rects: &[Rect], bytes: &mut [u8])
+    requires items { All IsDrawable items.now }
+    requires grid { IsGrid grid.now }
+    requires size { length bytes.old ≡ grid_bytes grid.now }
+    ensures { (i : ℕ) → i < length bytes.old → slice_index bytes.new i ≡ (if is_in_any rects.now (stored_x grid.now i) (stored_y grid.now i) then drawn_at grid.now items.now i else slice_index bytes.old i) }
+{
+    for rect in rects {
+        redraw_tiles(items, grid, area_of(*rect), bytes);
+    }
+}

@@ -1,0 +1,125 @@
+ghost use Rattle.std.specs.Prelude.{◌≡◌, ◌+◌, ◌*◌, ◌<◌, ◌≤◌};
+ghost use Rattle.flat_render.specs.Grids.{tile_of, tile_count, tile_size, tile_bytes, band_bytes, grid_bytes, place_of, run_of, IsGrid};
+ghost use Rattle.flat_render.specs.Tiles.{IsTile};
+
+use crate::tile::{CHANNELS, TILE_SIDE, Tile};
+
+/// How a picture is cut into tiles. Their sides are 64, or the picture's where
+/// these are less; the last ones may go beyond the picture.
+#[derive(Clone, Copy)]
+pub struct Grid {
+    /// The picture's own sides.
+    pub width: usize,
+    pub height: usize,
+    pub tile_w: usize,
+    pub tile_h: usize,
+    /// How many tiles stand side by side, and one below another.
+    pub across: usize,
+    pub down: usize,
+}
+
+/// The most pixels of a picture.
+pub const PIXELS_MAX: u32 = 4_194_304;
+
+/// The grid of a picture.
+pub fn grid_for(width: u32, height: u32) -> Grid
+    requires width { 0 < width }
+    requires height { 0 < height }
+    requires size { width * height ≤ PIXELS_MAX }
+    ensures grid { IsGrid result }
+    ensures width { result.width ≡ width }
+    ensures height { result.height ≡ height }
+{
+    let (width, height) = (width as usize, height as usize);
+    let (tile_w, tile_h) = (width.min(TILE_SIDE), height.min(TILE_SIDE));
+    Grid {
+        width,
+        height,
+        tile_w,
+        tile_h,
+        across: width.div_ceil(tile_w),
+        down: height.div_ceil(tile_h),
+    }
+}
+
+/// How many pixels a tile has.
+pub fn size_of_tiles(grid: &Grid) -> usize
+    requires { IsGrid grid.now }
+    ensures { result ≡ tile_size grid.now }
+{
+    grid.tile_w * grid.tile_h
+}
+
+/// How many bytes a tile has.
+pub fn bytes_of_tiles(grid: &Grid) -> usize
+    requires { IsGrid grid.now }
+    ensures { result ≡ tile_bytes grid.now }
+{
+    CHANNELS * size_of_tiles(grid)
+}
+
+/// How many bytes a row of tiles has.
+pub fn bytes_of_bands(grid: &Grid) -> usize
+    requires { IsGrid grid.now }
+    ensures { result ≡ band_bytes grid.now }
+{
+    grid.across * bytes_of_tiles(grid)
+}
+
+/// How many tiles there are.
+pub fn count_of_tiles(grid: &Grid) -> usize
+    requires { IsGrid grid.now }
+    ensures { result ≡ tile_count grid.now }
+{
+    grid.across * grid.down
+}
+
+/// How many bytes are stored.
+pub fn stored(grid: &Grid) -> usize
+    requires { IsGrid grid.now }
+    ensures { result ≡ grid_bytes grid.now }
+{
+    count_of_tiles(grid) * bytes_of_tiles(grid)
+}
+
+/// The n-th tile, row by row.
+pub fn tile(grid: &Grid, n: usize) -> Tile
+    requires grid { IsGrid grid.now }
+    requires there { n < tile_count grid.now }
+    ensures value { result ≡ tile_of grid.now n }
+    ensures tile { IsTile result }
+{
+    Tile {
+        left: n % grid.across * grid.tile_w,
+        top: n / grid.across * grid.tile_h,
+        width: grid.tile_w,
+        height: grid.tile_h,
+    }
+}
+
+/// Where the red of the first pixel of the n-th tile from the left is stored, on a
+/// row of the picture. The tile's next pixels on that row follow.
+pub fn run_start(grid: &Grid, n: usize, py: usize) -> usize
+    requires grid { IsGrid grid.now }
+    requires column { n < grid.now.across }
+    requires row { py < grid.now.height }
+    ensures value { result ≡ run_of grid.now n py }
+    ensures there { result + 2 * tile_size grid.now + grid.now.tile_w ≤ grid_bytes grid.now }
+{
+    let tile = py / grid.tile_h * grid.across + n;
+    tile * bytes_of_tiles(grid) + py % grid.tile_h * grid.tile_w
+}
+
+/// Where a channel of a pixel is stored.
+pub fn place(grid: &Grid, c: usize, px: usize, py: usize) -> usize
+    requires grid { IsGrid grid.now }
+    requires channel { c < 3 }
+    requires x { px < grid.now.width }
+    requires y { py < grid.now.height }
+    ensures value { result ≡ place_of grid.now c px py }
+    ensures there { result < grid_bytes grid.now }
+{
+    let n = py / grid.tile_h * grid.across + px / grid.tile_w;
+    let k = py % grid.tile_h * grid.tile_w + px % grid.tile_w;
+    n * bytes_of_tiles(grid) + (c * size_of_tiles(grid) + k)
+}

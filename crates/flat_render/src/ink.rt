@@ -1,0 +1,128 @@
+ghost use Rattle.std.specs.Prelude.{◌≡◌, ◌<◌, ◌≤◌, ℕ, IfSome, length, slice_index};
+ghost use Rattle.flat_render.specs.Colours.{covered};
+ghost use Rattle.flat_render.specs.Inks.{inked, mix_of, mixed, tone, IsShade};
+
+use crate::colour::{cover, replace, weight_of};
+use crate::tile::TILE_SIDE;
+use flat_base::OPACITY_MAX;
+use flat_scene::BlendMode;
+
+/// What is laid on one channel of an area of pixels.
+#[derive(Clone, Copy)]
+pub struct Ink {
+    pub shade: Shade,
+    pub mix: Mix,
+}
+
+/// The values of one channel in an area that lies in a tile.
+#[derive(Clone, Copy)]
+pub enum Shade {
+    /// One value everywhere.
+    Even(u8),
+    /// A value for each column.
+    Across([u8; TILE_SIDE]),
+    /// A value for each row.
+    Down([u8; TILE_SIDE]),
+}
+
+/// How values are mixed with what is there.
+#[derive(Clone, Copy)]
+pub enum Mix {
+    /// In place of it.
+    Replace,
+    /// Over it, weighted so.
+    Cover(u8),
+}
+
+/// A channel as it is mixed with what is there.
+pub fn tone_of(blend: BlendMode, opacity: u32, s: u8) -> u8
+    requires { opacity ≤ OPACITY_MAX }
+    ensures { result ≡ tone blend opacity s }
+{
+    match blend {
+        BlendMode::Src => replace(opacity, s),
+        BlendMode::SrcOver => s,
+    }
+}
+
+/// How a colour with that alpha is mixed with what is there.
+pub fn mix_for(blend: BlendMode, opacity: u32, alpha: u8) -> Mix
+    requires { opacity ≤ OPACITY_MAX }
+    ensures { result ≡ mix_of blend opacity alpha }
+{
+    match blend {
+        BlendMode::Src => Mix::Replace,
+        BlendMode::SrcOver => Mix::Cover(weight_of(opacity, alpha)),
+    }
+}
+
+/// Puts one value in place of a line of pixels.
+pub fn wash(s: u8, line: &mut [u8])
+    ensures { (i : ℕ) → i < length line.old → slice_index line.new i ≡ s }
+{
+    for i in 0..line.len() {
+        line[i] = s;
+    }
+}
+
+fn veil(weight: u8, s: u8, line: &mut [u8])
+    ensures { (i : ℕ) → i < length line.old → slice_index line.new i ≡ covered weight s (slice_index line.old i) }
+{
+    for i in 0..line.len() {
+        line[i] = cover(weight, s, line[i]);
+    }
+}
+
+fn weave(weight: u8, values: &[u8], line: &mut [u8])
+    requires { length values.now ≡ length line.old }
+    ensures { (i : ℕ) → i < length line.old → slice_index line.new i ≡ covered weight (slice_index values.now i) (slice_index line.old i) }
+{
+    for i in 0..line.len() {
+        line[i] = cover(weight, values[i], line[i]);
+    }
+}
+
+/// Mixes one value with a line of pixels.
+fn mix_one(mix: Mix, s: u8, line: &mut [u8])
+    ensures { (i : ℕ) → i < length line.old → slice_index line.new i ≡ mixed mix s (slice_index line.old i) }
+{
+    match mix {
+        Mix::Replace => wash(s, line),
+        Mix::Cover(weight) => veil(weight, s, line),
+    }
+}
+
+/// Mixes a value for each pixel with a line of them.
+fn mix_each(mix: Mix, values: &[u8], line: &mut [u8])
+    requires { length values.now ≡ length line.old }
+    ensures { (i : ℕ) → i < length line.old → slice_index line.new i ≡ mixed mix (slice_index values.now i) (slice_index line.old i) }
+{
+    match mix {
+        Mix::Replace => line.copy_from_slice(values),
+        Mix::Cover(weight) => weave(weight, values, line),
+    }
+}
+
+/// The value that ink puts everywhere in place of what is there, if it is such ink.
+pub fn solid(ink: &Ink) -> Option<u8>
+    ensures { IfSome result (λ s. (i j old : ℕ) → inked ink.now i j old ≡ s) }
+{
+    match (ink.shade, ink.mix) {
+        (Shade::Even(s), Mix::Replace) => Some(s),
+        _ => None,
+    }
+}
+
+/// Lays ink on the j-th row of its area, or on the first pixels of it.
+pub fn ink_line(ink: &Ink, j: usize, line: &mut [u8])
+    requires ink { IsShade ink.now.shade }
+    requires row { j < 64 }
+    requires narrow { length line.old ≤ 64 }
+    ensures { (i : ℕ) → i < length line.old → slice_index line.new i ≡ inked ink.now i j (slice_index line.old i) }
+{
+    match &ink.shade {
+        Shade::Even(value) => mix_one(ink.mix, *value, line),
+        Shade::Down(values) => mix_one(ink.mix, values[j], line),
+        Shade::Across(values) => mix_each(ink.mix, &values[..line.len()], line),
+    }
+}

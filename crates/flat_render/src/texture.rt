@@ -1,0 +1,233 @@
+ghost use Rattle.std.specs.Prelude.{◌≡◌, ◌+◌, ◌-◌, ◌<◌, ◌≤◌, ◌≤ℤ◌, ℕ, pos, true, if◌then◌else◌};
+ghost use Rattle.flat_drawable.specs.Drawable.{IsSample};
+ghost use Rattle.flat_geom.specs.Rectangles.{is_between};
+ghost use Rattle.flat_render.specs.Areas.{has_pixel};
+ghost use Rattle.flat_scene.specs.declared.frames.Paint.TheVariants.{Image};
+ghost use Rattle.flat_render.specs.Inks.{shade_at, IsShade};
+ghost use Rattle.flat_render.specs.Pixels.{centre, flipped_column, flipped_row, buffer_column, buffer_row, along_x, along_y, column_axis, row_axis};
+ghost use Rattle.flat_render.specs.Textures.{texture_red, texture_green, texture_blue, IsBelow, IsTable, IsTextureOf};
+
+use crate::area::Area;
+use crate::axis::{Axis, part};
+use crate::colour::{blue, green, red};
+use crate::ink::{Shade, tone_of};
+use crate::tile::TILE_SIDE;
+use flat_base::{BufferNo, IntRect, OPACITY_MAX};
+use flat_drawable::full_rect;
+use flat_scene::{BlendMode, DrawItem, ImageFlip};
+
+/// The part of a buffer that an image shows, how it lies on the display, and how
+/// it is mixed with what is there.
+#[derive(Clone, Copy)]
+pub struct Texture {
+    pub buffers: u32,
+    pub index: u32,
+    pub sample: IntRect,
+    pub flip: ImageFlip,
+    /// Whether its columns lie along the display's y axis.
+    pub swap: bool,
+    pub columns: Axis,
+    pub rows: Axis,
+    pub blend: BlendMode,
+    pub opacity: u32,
+}
+
+/// The texture of an item's image.
+pub fn texture_of(
+    item: &DrawItem,
+    buffers: BufferNo,
+    index: u32,
+    sample: IntRect,
+    flip: ImageFlip,
+) -> Texture
+    requires { item.now.paint ≡ Image buffers index sample flip }
+    ensures { IsTextureOf item.now result }
+{
+    Texture {
+        buffers: buffers.0,
+        index,
+        sample,
+        flip,
+        swap: item.matrix.swap,
+        columns: for_columns(item),
+        rows: for_rows(item),
+        blend: item.blend,
+        opacity: item.opacity,
+    }
+}
+
+fn across(item: &DrawItem) -> Axis
+    ensures { result ≡ along_x item.now }
+{
+    let rect = full_rect(item);
+    Axis {
+        entry: item.matrix.a,
+        low: rect.x0,
+        high: rect.x1,
+    }
+}
+
+fn down(item: &DrawItem) -> Axis
+    ensures { result ≡ along_y item.now }
+{
+    let rect = full_rect(item);
+    Axis {
+        entry: item.matrix.b,
+        low: rect.y0,
+        high: rect.y1,
+    }
+}
+
+/// The axis along which the columns of an image lie.
+fn for_columns(item: &DrawItem) -> Axis
+    ensures { result ≡ column_axis item.now }
+{
+    if item.matrix.swap {
+        down(item)
+    } else {
+        across(item)
+    }
+}
+
+/// The axis along which the rows of an image lie.
+fn for_rows(item: &DrawItem) -> Axis
+    ensures { result ≡ row_axis item.now }
+{
+    if item.matrix.swap {
+        across(item)
+    } else {
+        down(item)
+    }
+}
+
+fn flip_column(flip: ImageFlip, count: u32, n: u32) -> u32
+    requires { n < count }
+    ensures value { result ≡ flipped_column flip count n }
+    ensures below { result < count }
+{
+    match flip {
+        ImageFlip::LeftRight => count - 1 - n,
+        ImageFlip::Plain | ImageFlip::UpDown => n,
+    }
+}
+
+fn flip_row(flip: ImageFlip, count: u32, n: u32) -> u32
+    requires { n < count }
+    ensures value { result ≡ flipped_row flip count n }
+    ensures below { result < count }
+{
+    match flip {
+        ImageFlip::UpDown => count - 1 - n,
+        ImageFlip::Plain | ImageFlip::LeftRight => n,
+    }
+}
+
+/// The column of the buffer at a number along the columns' axis.
+fn column(axis: Axis, sample: IntRect, flip: ImageFlip, p: usize) -> u32
+    requires within { is_between axis.low axis.high (centre p) ≡ true }
+    requires sample { pos 1 ≤ℤ sample.w }
+    ensures { result ≡ buffer_column axis sample flip p }
+{
+    let count = sample.w.unsigned_abs();
+    sample.x.unsigned_abs() + flip_column(flip, count, part(axis, count, p))
+}
+
+/// The row of the buffer at a number along the rows' axis.
+fn row(axis: Axis, sample: IntRect, flip: ImageFlip, p: usize) -> u32
+    requires within { is_between axis.low axis.high (centre p) ≡ true }
+    requires sample { pos 1 ≤ℤ sample.h }
+    ensures { result ≡ buffer_row axis sample flip p }
+{
+    let count = sample.h.unsigned_abs();
+    sample.y.unsigned_abs() + flip_row(flip, count, part(axis, count, p))
+}
+
+fn red_of(texture: &Texture, p: usize) -> u8
+    requires sample { IsSample texture.now.sample }
+    requires opacity { texture.now.opacity ≤ OPACITY_MAX }
+    requires within { is_between texture.now.columns.low texture.now.columns.high (centre p) ≡ true }
+    ensures { result ≡ texture_red texture.now p }
+{
+    let column = column(texture.columns, texture.sample, texture.flip, p);
+    tone_of(texture.blend, texture.opacity, red(texture.index, column))
+}
+
+fn green_of(texture: &Texture, p: usize) -> u8
+    requires sample { IsSample texture.now.sample }
+    requires opacity { texture.now.opacity ≤ OPACITY_MAX }
+    requires within { is_between texture.now.rows.low texture.now.rows.high (centre p) ≡ true }
+    ensures { result ≡ texture_green texture.now p }
+{
+    let row = row(texture.rows, texture.sample, texture.flip, p);
+    tone_of(texture.blend, texture.opacity, green(row))
+}
+
+/// The blue of a texture, as it is mixed.
+pub fn blue_of(texture: &Texture) -> u8
+    requires { texture.now.opacity ≤ OPACITY_MAX }
+    ensures { result ≡ texture_blue texture.now }
+{
+    tone_of(texture.blend, texture.opacity, blue(texture.buffers))
+}
+
+fn reds(texture: &Texture, from: usize, upto: usize) -> [u8; TILE_SIDE]
+    requires sample { IsSample texture.now.sample }
+    requires opacity { texture.now.opacity ≤ OPACITY_MAX }
+    requires room { upto ≤ from + 64 }
+    requires within { (p : ℕ) → from ≤ p → p < upto → is_between texture.now.columns.low texture.now.columns.high (centre p) ≡ true }
+    ensures { IsTable (texture_red texture.now) from upto result }
+{
+    let mut table = [0; TILE_SIDE];
+    for p in from..upto {
+        table[p - from] = red_of(texture, p);
+    }
+    table
+}
+
+fn greens(texture: &Texture, from: usize, upto: usize) -> [u8; TILE_SIDE]
+    requires sample { IsSample texture.now.sample }
+    requires opacity { texture.now.opacity ≤ OPACITY_MAX }
+    requires room { upto ≤ from + 64 }
+    requires within { (p : ℕ) → from ≤ p → p < upto → is_between texture.now.rows.low texture.now.rows.high (centre p) ≡ true }
+    ensures { IsTable (texture_green texture.now) from upto result }
+{
+    let mut table = [0; TILE_SIDE];
+    for p in from..upto {
+        table[p - from] = green_of(texture, p);
+    }
+    table
+}
+
+/// The red of a texture in an area.
+pub fn red_shade(texture: &Texture, cut: Area) -> Shade
+    requires sample { IsSample texture.now.sample }
+    requires opacity { texture.now.opacity ≤ OPACITY_MAX }
+    requires columns { cut.x1 ≤ cut.x0 + 64 }
+    requires rows { cut.y1 ≤ cut.y0 + 64 }
+    requires below { IsBelow texture.now cut }
+    ensures shade { IsShade result }
+    ensures values { (px py : ℕ) → has_pixel cut px py ≡ true → shade_at result (px - cut.x0) (py - cut.y0) ≡ texture_red texture.now (if texture.now.swap then py else px) }
+{
+    if texture.swap {
+        Shade::Down(reds(texture, cut.y0, cut.y1))
+    } else {
+        Shade::Across(reds(texture, cut.x0, cut.x1))
+    }
+}
+
+/// The green of a texture in an area.
+pub fn green_shade(texture: &Texture, cut: Area) -> Shade
+    requires sample { IsSample texture.now.sample }
+    requires opacity { texture.now.opacity ≤ OPACITY_MAX }
+    requires columns { cut.x1 ≤ cut.x0 + 64 }
+    requires rows { cut.y1 ≤ cut.y0 + 64 }
+    requires below { IsBelow texture.now cut }
+    ensures shade { IsShade result }
+    ensures values { (px py : ℕ) → has_pixel cut px py ≡ true → shade_at result (px - cut.x0) (py - cut.y0) ≡ texture_green texture.now (if texture.now.swap then px else py) }
+{
+    if texture.swap {
+        Shade::Across(greens(texture, cut.x0, cut.x1))
+    } else {
+        Shade::Down(greens(texture, cut.y0, cut.y1))
+    }
+}
