@@ -141,9 +141,10 @@ few_lines text = omega (arith, few_pieces (slice_split is_feed text) (some_parts
 
 -- the whole
 
--- the parts of the test
+-- the parts of the test, and how many sessions are named
 pub record Accepted (s : Script) : Type 0 where
   pub setup : is_setup s.setup ≡ true
+  pub sessions : length s.sessions ≤ 16
   pub probes : (s.setup.probes == 0) ≡ true
   pub count : nat_le s.count SCRIPT_BYTES_MAX ≡ true
   pub rise : rise_from 0 s.lines ≡ true
@@ -163,6 +164,7 @@ accepted_at n few s is less done =
     let P : Script → Type 0 = Accepted in
     subst P (sym b.made) (record {
       setup = setup_given done.h done.kept done.ready;
+      sessions = done.kept.few_sessions;
       probes = ap (λ p. p == 0) done.kept.probes;
       count = within count (omega arith);
       rise = ap (rise_from 0) (sym (append-nil b.us)) ∙ k.rise [];

@@ -1,7 +1,7 @@
 -- Every script that the reader accepts is one that is played: each part of the test, and the whole.
-use Rattle.std.specs.Prelude.{◌≡◌, ℕ, false, true, nat_le, ◌==◌, List}
+use Rattle.std.specs.Prelude.{◌≡◌, ◌≤◌, ℕ, false, true, nat_le, ◌==◌, List, length}
 use Rattle.std.specs.List.{list_all}
-use Rattle.flat_base.specs.declared.limits.TheConstants.{SCRIPT_BYTES_MAX}
+use Rattle.flat_base.specs.declared.limits.TheConstants.{SCRIPT_BYTES_MAX, SESSIONS_MAX}
 use Rattle.flat_scene.specs.Setups.{is_setup}
 use Rattle.flat_places.specs.declared.script.Script.{Script}
 use Rattle.flat_script.specs.Grammar.{IsScript}
@@ -10,6 +10,10 @@ use Rattle.flat_playable.specs.Playable.{is_playable, rise_from, frames_close, i
 -- its setup is one that a head can give
 abbrev pub SetupsAreGiven : Type 0
 SetupsAreGiven = (bytes : List ℕ) (script : Script) → IsScript bytes script → is_setup script.setup ≡ true
+
+-- it names no more sessions than a script may have
+abbrev pub SessionsAreFew : Type 0
+SessionsAreFew = (bytes : List ℕ) (script : Script) → IsScript bytes script → length script.sessions ≤ SESSIONS_MAX
 
 -- it has no probes
 abbrev pub NoProbes : Type 0

@@ -1,11 +1,11 @@
 //! Which scripts are played: every one that the reader accepts.
 #![tactic(auto)]
 
-ghost use Rattle.flat_playable.specs.Laws.{SetupsAreGiven, NoProbes, CountsAreWithin, LinesRise, LinesAreCounted, FramesClose, LinesArePlayed, ScriptsArePlayable};
+ghost use Rattle.flat_playable.specs.Laws.{SetupsAreGiven, NoProbes, CountsAreWithin, LinesRise, LinesAreCounted, FramesClose, LinesArePlayed, SessionsAreFew, ScriptsArePlayable};
 
 /// Every script that the reader accepts is playable: each clause is one part of
-/// that test, and the last one the whole of it. The call does nothing. Its contract
-/// is a law about the definitions.
+/// that test, and the last one the whole of it; and it names few sessions. The call
+/// does nothing. Its contract is a law about the definitions.
 pub fn scripts_are_playable()
     ensures played { LinesArePlayed }
     ensures frames { FramesClose }
@@ -14,5 +14,6 @@ pub fn scripts_are_playable()
     ensures count { CountsAreWithin }
     ensures probes { NoProbes }
     ensures setup { SetupsAreGiven }
+    ensures sessions { SessionsAreFew }
     ensures playable { ScriptsArePlayable }
 {}

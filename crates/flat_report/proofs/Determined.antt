@@ -12,7 +12,7 @@ use Rattle.flat_places.specs.declared.script.Script.{Script}
 use Rattle.flat_report.specs.EntryLines.{entry_line, event_line}
 use Rattle.flat_report.specs.FrameLines.{frame_lines, lost_line}
 use Rattle.flat_report.specs.Report.{frame_at, hits_at, lost_at, shown_lines, entry_lines}
-use Rattle.flat_report.specs.Words.{Word}
+use Rattle.flat_page.specs.Words.{Word}
 use Rattle.flat_report.proofs.Losses.{AgreeTo, is_small, losses-told, all-at}
 use Rattle.flat_report.proofs.Named.{IsNamed, Acts, acts, same-actor}
 use Rattle.flat_report.proofs.Openings.{NoEntry, NoLoss, entry-no-loss, entry-actors, event-no-loss}

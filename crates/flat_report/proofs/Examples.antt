@@ -7,7 +7,7 @@ use Rattle.flat_rules.proofs.lemmas.MoreRuns.{b16_token_not_back_yet-setup, b16_
 use Rattle.flat_rules.proofs.lemmas.Runs.{one_fill_one_frame-setup, one_fill_one_frame-history, one_fill_one_frame-lines, view_without_root_then_poll-setup, view_without_root_then_poll-history, view_without_root_then_poll-lines, second_present_before_a_frame_closes-setup, second_present_before_a_frame_closes-history, second_present_before_a_frame_closes-lines}
 use Rattle.flat_rules.proofs.lemmas.ShellRun.{shell_with_two_apps-setup, shell_with_two_apps-history, shell_with_two_apps-lines}
 use Rattle.flat_report.specs.Report.{report_lines}
-use Rattle.flat_report.specs.Words.{line_of}
+use Rattle.flat_page.specs.Words.{line_of}
 
 -- one fill one frame
 

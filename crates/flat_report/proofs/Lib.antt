@@ -4,7 +4,6 @@ pub mod FewFrames
 pub mod Losses
 pub mod Named
 pub mod Openings
-pub mod PageLemmas
 pub mod Reading
 pub mod SeenTold
 pub mod Sheets

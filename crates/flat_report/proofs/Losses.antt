@@ -9,7 +9,7 @@ use Rattle.flat_scene.specs.declared.journal.Entry.{Entry}
 use Rattle.flat_rules.specs.Legal.{frames}
 use Rattle.flat_report.specs.FrameLines.{lost_line}
 use Rattle.flat_report.specs.Report.{lost_at, is_lost_before, is_loss}
-use Rattle.flat_report.specs.Words.{number}
+use Rattle.flat_page.specs.Words.{number}
 use Rattle.flat_report.proofs.Openings.{NoLoss, lost_words}
 use Rattle.flat_report.proofs.Sheets.{laid, line_on, sheet, laid-same, told-next, number-word}
 use Rattle.std.proofs.lemmas.Bool.{and_parts}

@@ -13,7 +13,8 @@ use Rattle.flat_scene.specs.Setups.{is_declared}
 use Rattle.flat_rules.specs.Legal.{may_act, session_may}
 use Rattle.flat_places.specs.declared.script.Script.{Script}
 use Rattle.flat_places.specs.Names.{is_name, is_name_byte, is_reserved, place_of}
-use Rattle.flat_report.specs.Words.{Word, name_at, session_name, actor_name}
+use Rattle.flat_page.specs.Words.{Word, name_at, session_name}
+use Rattle.flat_report.specs.Names.{actor_name}
 use Rattle.flat_report.proofs.Sheets.{is_word}
 use Rattle.std.proofs.lemmas.Bool.{and_parts}
 
@@ -78,18 +79,18 @@ module _ (script : Script) (named : IsNamed script) where
       let most : s.0 ≤ script.setup.sessions = grind (arith, nat_tests) in
       omega (arith, named.session_count, least, most)
 
-  pub session-proper : (s : SessionNo) → is_declared script.setup s ≡ true → is_name (session_name script s) ≡ true
+  pub session-proper : (s : SessionNo) → is_declared script.setup s ≡ true → is_name (session_name script.sessions s) ≡ true
   session-proper s declared = named.sessions.proper (s.0 - 1) (within s declared)
 
   pub actor-word : (actor : Actor) → Acts script actor → is_word (actor_name script actor) ≡ true
   actor-word Display acting = refl
-  actor-word (Session s) acting = name-word (session_name script s) (session-proper s acting)
+  actor-word (Session s) acting = name-word (session_name script.sessions s) (session-proper s acting)
   actor-word (Probe p) acting = absurd acting
 
   same-place : (i j : ℕ) → Some i ≡ Some j → i ≡ j
   same-place i j is = cc
 
-  same-session : (s t : SessionNo) → is_declared script.setup s ≡ true → is_declared script.setup t ≡ true → session_name script s ≡ session_name script t → s ≡ t
+  same-session : (s t : SessionNo) → is_declared script.setup s ≡ true → is_declared script.setup t ≡ true → session_name script.sessions s ≡ session_name script.sessions t → s ≡ t
   same-session s t of_s of_t is =
       let place : s.0 - 1 ≡ t.0 - 1 = same-place (s.0 - 1) (t.0 - 1) (sym (named.sessions.placed (s.0 - 1) (within s of_s)) ∙ ap (place_of script.sessions) is ∙ named.sessions.placed (t.0 - 1) (within t of_t)) in
       let least : 1 ≤ s.0 = grind (arith, nat_tests) in
@@ -99,8 +100,8 @@ module _ (script : Script) (named : IsNamed script) where
   -- two who act and have one name are one
   pub same-actor : (a b : Actor) → Acts script a → Acts script b → actor_name script a ≡ actor_name script b → a ≡ b
   same-actor Display Display of_a of_b is = refl
-  same-actor Display (Session t) of_a of_b is = absurd (not-display (session_name script t) (session-proper t of_b) (sym is))
-  same-actor (Session s) Display of_a of_b is = absurd (not-display (session_name script s) (session-proper s of_a) is)
+  same-actor Display (Session t) of_a of_b is = absurd (not-display (session_name script.sessions t) (session-proper t of_b) (sym is))
+  same-actor (Session s) Display of_a of_b is = absurd (not-display (session_name script.sessions s) (session-proper s of_a) is)
   same-actor (Session s) (Session t) of_a of_b is = ap Session (same-session s t of_a of_b is)
   same-actor (Probe p) b of_a of_b is = absurd of_a
   same-actor Display (Probe p) of_a of_b is = absurd of_b

@@ -19,7 +19,8 @@ use Rattle.flat_rules.specs.Legal.{LegalEntry, may_act, display_may, reply_to, a
 use Rattle.flat_places.specs.declared.script.Script.{Script}
 use Rattle.flat_report.specs.EntryLines.{entry_line, event_line, said_words, answer_words}
 use Rattle.flat_report.specs.FrameLines.{lost_line}
-use Rattle.flat_report.specs.Words.{Word, number, actor_name, session_name}
+use Rattle.flat_page.specs.Words.{Word, number, session_name}
+use Rattle.flat_report.specs.Names.{actor_name}
 use Rattle.flat_report.proofs.Named.{IsNamed, Acts, acts, actor-word, not-display, session-proper}
 use Rattle.flat_report.proofs.Sheets.{laid, line_on, told, told-next, is_word, number-word, number-digits, is_digit}
 
@@ -106,8 +107,8 @@ module _ (script : Script) (named : IsNamed script) where
       → actor_name script actor ++ laid (said_words script frames hits entry.line entry.kind entry.reply) rest ≡ codes "display" ++ laid (number one.display ∷ codes "lost" ∷ lost_words one) rest' → ⊥
   entry-no-loss-by before entry frames hits rest one rest' (Session s) may has is =
       let proper = session-proper script named s (acts script entry.kind (Session s) may) in
-      not-display (session_name script s) proper
-      (told (session_name script s) (codes "display") (said_words script frames hits entry.line entry.kind entry.reply) (number one.display ∷ codes "lost" ∷ lost_words one) rest rest' (actor-word script named (Session s) (acts script entry.kind (Session s) may)) refl is).0
+      not-display (session_name script.sessions s) proper
+      (told (session_name script.sessions s) (codes "display") (said_words script frames hits entry.line entry.kind entry.reply) (number one.display ∷ codes "lost" ∷ lost_words one) rest rest' (actor-word script named (Session s) (acts script entry.kind (Session s) may)) refl is).0
   entry-no-loss-by before entry frames hits rest one rest' Display may has is =
       let behind = append_cancel_left (codes "display") (laid (said_words script frames hits entry.line entry.kind entry.reply) rest) (laid (number one.display ∷ codes "lost" ∷ lost_words one) rest') is in
       let said : laid (number entry.line ∷ answer_words script frames hits entry.kind entry.reply) rest ≡ laid (number one.display ∷ codes "lost" ∷ lost_words one) rest' =

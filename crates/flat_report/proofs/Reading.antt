@@ -26,7 +26,7 @@ use Rattle.flat_forms.proofs.lemmas.FoundLemmas.{step_found}
 use Rattle.flat_forms.proofs.lemmas.IndexLemmas.{place_there, place_else, no_place}
 use Rattle.flat_forms.proofs.lemmas.StepLemmas.{SessionStep, Step, size_step, session_step, buffers_step, pair_step, fence_step}
 use Rattle.flat_print.proofs.lemmas.TextLemmas.{lines_room, lines_room-lines_of}
-use Rattle.flat_report.specs.Words.{name_at}
+use Rattle.flat_page.specs.Words.{name_at}
 use Rattle.flat_report.proofs.Named.{AreNames, IsNamed, is_spoken}
 use Rattle.flat_print.proofs.lemmas.OrderLemmas.{name_at_seam, lines_kept}
 

@@ -21,7 +21,8 @@ use Rattle.flat_report.specs.declared.report.HitAnswer.{HitAnswer}
 use Rattle.flat_report.specs.EntryLines.{point_words, said_words, entry_line, event_line}
 use Rattle.flat_report.specs.Handed.{answer_to, post_line, first_hits, first_frame_lines, frames_after, answers_after, handed_lines}
 use Rattle.flat_report.specs.Report.{frame_at, hits_at, shown_lines, entry_lines}
-use Rattle.flat_report.specs.Words.{number, actor_name}
+use Rattle.flat_page.specs.Words.{number}
+use Rattle.flat_report.specs.Names.{actor_name}
 
 -- ---- histories, from the oldest entry on
 

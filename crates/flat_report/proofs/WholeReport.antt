@@ -9,7 +9,7 @@ use Rattle.flat_rules.specs.Legal.{frames}
 use Rattle.flat_places.specs.declared.script.Script.{Script}
 use Rattle.flat_report.specs.Laws.{IsRun, ReportsDetermineHistories}
 use Rattle.flat_report.specs.Report.{entry_lines, history_lines, never_falls, probe_lines, report, report_lines, seen_line}
-use Rattle.flat_report.specs.Words.{Word, number}
+use Rattle.flat_page.specs.Words.{Word, number}
 use Rattle.flat_report.proofs.Determined.{Tells, later-told}
 use Rattle.flat_report.proofs.FewFrames.{few-frames}
 use Rattle.flat_report.proofs.Losses.{losses-same}

@@ -13,14 +13,14 @@ use Rattle.flat_rules.specs.Ends.{to_begin}
 use Rattle.flat_rules.specs.Legal as legal
 use Rattle.flat_rules.specs.Posts.{posts}
 use Rattle.flat_places.specs.declared.script.Script.{Script}
-use Rattle.flat_report.specs.declared.page.Page.{Page}
+use Rattle.flat_page.specs.declared.page.Page.{Page}
 use Rattle.flat_report.specs.declared.report.HitAnswer.{HitAnswer}
 use Rattle.flat_report.specs.Handed.{answers_of, frames_after, answers_after, first_posts, handed_lines, handed_entries, handed_report_lines}
 use Rattle.flat_report.specs.Laws.{HandedIsReport}
-use Rattle.flat_report.specs.Pages.{WritesLines}
+use Rattle.flat_page.specs.Pages.{WritesLines}
 use Rattle.flat_report.specs.Report.{frame_at, finished, history_lines, entry_lines, seen_line, probe_lines, probe_lines_of, numbers_from}
-use Rattle.flat_report.specs.Words.{Word, number, text_of}
-use Rattle.flat_report.proofs.PageLemmas.{no_lines, then_lines, same_lines}
+use Rattle.flat_page.specs.Words.{Word, number, text_of}
+use Rattle.flat_page.proofs.lemmas.PageLemmas.{no_lines, then_lines, same_lines}
 use Rattle.flat_report.proofs.Tails.{onto, tail, post_step, frame_step, answer_step, onto-reverse, grows, next_posts, next_lines, later_frames, later_answers, finished_one}
 
 -- How far the loop has come: so many entries were written, and with what is left they make up all lines.

@@ -23,7 +23,8 @@ use Rattle.flat_scene.specs.declared.journal.Reply.TheVariants as reply
 use Rattle.flat_scene.specs.declared.journal.Told.{Told}
 use Rattle.flat_scene.specs.declared.journal.Told.TheVariants as told
 use Rattle.flat_places.specs.declared.script.Script.{Script}
-use Rattle.flat_report.specs.Words.{Word, numbers, number, session_name, pair_name, actor_name}
+use Rattle.flat_page.specs.Words.{Word, numbers, number, session_name}
+use Rattle.flat_report.specs.Names.{pair_name, actor_name}
 
 -- ---- what watchers tell
 
@@ -54,7 +55,7 @@ event_words script (event.Credits count) = codes "credits" ∷ number count ∷ 
 
 -- the line of an event that is posted to a session
 abbrev pub event_line : Script → SessionNo → Event → List Word
-event_line script s posted = codes ">" ∷ session_name script s ∷ event_words script posted
+event_line script s posted = codes ">" ∷ session_name script.sessions s ∷ event_words script posted
 
 -- ---- entries
 
@@ -104,7 +105,7 @@ interaction_number SemanticallyInvisible = 1
 
 -- the sessions hit, each with its interaction
 abbrev pub hit_words : Script → List Hit → List Word
-hit_words script hits = flat_map (λ hit. session_name script hit.session ∷ number (interaction_number hit.interaction) ∷ []) hits
+hit_words script hits = flat_map (λ hit. session_name script.sessions hit.session ∷ number (interaction_number hit.interaction) ∷ []) hits
 
 -- what is said of a point: it, the frame in which it was asked, and who is hit
 abbrev pub point_words : Script → ℤ → ℤ → ℕ → List Hit → List Word

@@ -14,7 +14,8 @@ use Rattle.flat_scene.specs.declared.frames.Paint.TheVariants.{Fill, Image}
 use Rattle.flat_scene.specs.declared.frames.SceneMatrix.{SceneMatrix}
 use Rattle.flat_scene.specs.declared.frames.ViewNode.{ViewNode}
 use Rattle.flat_places.specs.declared.script.Script.{Script}
-use Rattle.flat_report.specs.Words.{Word, numbers, number, session_name, buffers_name}
+use Rattle.flat_page.specs.Words.{Word, numbers, number, session_name}
+use Rattle.flat_report.specs.Names.{buffers_name}
 
 abbrev pub rect_words : Rect → List Word
 rect_words r = numbers (r.x0 ∷ r.y0 ∷ r.x1 ∷ r.y1 ∷ [])
@@ -41,19 +42,19 @@ matrix_words m = codes "m" ∷ numbers (pos (cond m.swap 1 0) ∷ m.a ∷ m.b �
 
 abbrev pub item_line : Script → DrawItem → List Word
 item_line script item =
-    codes "item" ∷ session_name script item.session ∷ number item.serial ∷ paint_words script item.w item.h item.paint ++ matrix_words item.matrix
+    codes "item" ∷ session_name script.sessions item.session ∷ number item.serial ∷ paint_words script item.w item.h item.paint ++ matrix_words item.matrix
     ++ (codes "v" ∷ rect_words item.visible) ++ (codes "o" ∷ number item.opacity ∷ blend_word item.blend ∷ [])
 
 -- the name of a view's parent, or `-`
 abbrev pub parent_word : Script → Option SessionNo → Word
-parent_word script (Some s) = session_name script s
+parent_word script (Some s) = session_name script.sessions s
 parent_word script None = codes "-"
 
 abbrev pub view_line : Script → ViewNode → List Word
-view_line script view = codes "view" ∷ session_name script view.session ∷ parent_word script view.parent ∷ rect_words view.bounds
+view_line script view = codes "view" ∷ session_name script.sessions view.session ∷ parent_word script view.parent ∷ rect_words view.bounds
 
 abbrev pub apart_line : Script → SessionNo → List Word
-apart_line script s = codes "apart" ∷ session_name script s ∷ []
+apart_line script s = codes "apart" ∷ session_name script.sessions s ∷ []
 
 abbrev pub lost_line : Lost → List Word
 lost_line lost = codes "display" ∷ number lost.display ∷ codes "lost" ∷ codes "at" ∷ codes "frame" ∷ number lost.frame.0 ∷ []

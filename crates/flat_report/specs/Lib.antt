@@ -2,6 +2,5 @@ pub mod EntryLines
 pub mod FrameLines
 pub mod Handed
 pub mod Laws
-pub mod Pages
+pub mod Names
 pub mod Report
-pub mod Words

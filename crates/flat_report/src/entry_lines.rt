@@ -1,15 +1,15 @@
 ghost use Rattle.std.specs.Prelude.{◌≡◌, ◌++◌, ◌∷◌, [], ℤ, pos, suc, List, OnOk, codes, map, ◌<◌, ◌-◌, ◌^◌};
-ghost use Rattle.flat_report.specs.Words.{number, numbers, session_name};
-ghost use Rattle.flat_report.specs.Pages.{Writes, WritesLines};
+ghost use Rattle.flat_page.specs.Words.{number, numbers, session_name};
+ghost use Rattle.flat_page.specs.Pages.{Writes, WritesLines};
 ghost use Rattle.flat_report.specs.EntryLines.{interaction_number, hit_words, point_words, answer_words, said_words, entry_line, event_words};
 ghost use Rattle.flat_report.specs.Handed.{post_line};
 
-use crate::entry_words::{push_count, push_event, push_reply};
-use crate::names::{actor_name, session_name};
-use crate::page::Page;
+use crate::entry_words::{push_event, push_reply};
+use crate::names::actor_name;
 use flat_base::NoMemory;
-use flat_places::Script;
+use flat_page::{Page, session_name};
 use flat_scene::{Entry, Hit, Interaction, Kind, Post};
+use flat_places::Script;
 
 fn interaction_number(interaction: Interaction) -> u32
     ensures { result ≡ interaction_number interaction }
@@ -21,11 +21,10 @@ fn interaction_number(interaction: Interaction) -> u32
 }
 
 fn push_hit(page: &mut Page, script: &Script, hit: Hit) -> Result<(), NoMemory>
-    ensures { OnOk result (Writes (session_name script.now hit.session ∷ number (interaction_number hit.interaction) ∷ []) page.old page.new) }
+    ensures { OnOk result (Writes (session_name script.now.sessions hit.session ∷ number (interaction_number hit.interaction) ∷ []) page.old page.new) }
 {
-    push_count(
-        page,
-        session_name(script, hit.session),
+    page.counted(
+        session_name(&script.sessions, hit.session),
         interaction_number(hit.interaction),
     )
 }
@@ -47,13 +46,6 @@ fn push_long(page: &mut Page, word: &[u8], value: u64) -> Result<(), NoMemory>
     page.count(value)
 }
 
-fn push_units(page: &mut Page, x: i32, y: i32) -> Result<(), NoMemory>
-    ensures { OnOk result (Writes (numbers (x ∷ y ∷ [])) page.old page.new) }
-{
-    page.number(x as i128)?;
-    page.number(y as i128)
-}
-
 fn push_point(
     page: &mut Page,
     script: &Script,
@@ -65,7 +57,7 @@ fn push_point(
     ensures { OnOk result (Writes (point_words script.now x y frame hits.now) page.old page.new) }
 {
     page.word(b"hit")?;
-    push_units(page, x, y)?;
+    page.point(x, y)?;
     push_long(page, b"frame", frame)?;
     push_hits(page, script, hits)?;
     Ok(())
@@ -117,7 +109,7 @@ fn push_said(
     ensures { OnOk result (Writes (said_words script.now finished (λ x y. hits.now) entry.now.line entry.now.kind entry.now.reply) page.old page.new) }
 {
     if let Kind::End(refused) = &entry.kind {
-        return push_count(page, b"end", *refused);
+        return page.counted(b"end", *refused);
     }
     page.count(entry.line as u64)?;
     push_answer(page, script, finished, hits, entry)
@@ -142,9 +134,9 @@ pub fn push_entry(
 }
 
 fn push_posted(page: &mut Page, script: &Script, post: &Post) -> Result<(), NoMemory>
-    ensures { OnOk result (Writes (session_name script.now post.now.session ∷ event_words script.now post.now.event) page.old page.new) }
+    ensures { OnOk result (Writes (session_name script.now.sessions post.now.session ∷ event_words script.now post.now.event) page.old page.new) }
 {
-    page.word(session_name(script, post.session))?;
+    page.word(session_name(&script.sessions, post.session))?;
     push_event(page, script, &post.event)?;
     Ok(())
 }

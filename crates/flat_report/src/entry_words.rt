@@ -1,21 +1,13 @@
 ghost use Rattle.std.specs.Prelude.{◌≡◌, ◌++◌, ◌∷◌, [], OnOk, Some, codes};
-ghost use Rattle.flat_report.specs.Words.{number, numbers};
-ghost use Rattle.flat_report.specs.Pages.{Writes};
+ghost use Rattle.flat_page.specs.Words.{number, numbers};
+ghost use Rattle.flat_page.specs.Pages.{Writes};
 ghost use Rattle.flat_report.specs.EntryLines.{layout_words, value_words, watched_word, event_words, get_word, reason_words, closing_words, done_words, asked_words, reply_words};
 
 use crate::names::pair_name;
-use crate::page::Page;
 use flat_base::{FlatlandError, NoMemory, Reason};
-use flat_places::Script;
+use flat_page::Page;
 use flat_scene::{Event, Inset, Kind, Layout, Reply, Told, Watch};
-
-/// Two words, the second a number.
-pub fn push_count(page: &mut Page, word: &[u8], value: u32) -> Result<(), NoMemory>
-    ensures { OnOk result (Writes (word.now ∷ number value ∷ []) page.old page.new) }
-{
-    page.word(word)?;
-    page.count(value as u64)
-}
+use flat_places::Script;
 
 fn push_inset(page: &mut Page, inset: &Inset) -> Result<(), NoMemory>
     ensures { OnOk result (Writes (number inset.now.top ∷ number inset.now.right ∷ number inset.now.bottom ∷ number inset.now.left ∷ []) page.old page.new) }
@@ -30,7 +22,7 @@ fn push_layout(page: &mut Page, layout: &Layout) -> Result<(), NoMemory>
     page.counts(layout.w, layout.h)?;
     page.word(b"inset")?;
     push_inset(page, &layout.inset)?;
-    push_count(page, b"ratio", layout.ratio)
+    page.counted(b"ratio", layout.ratio)
 }
 
 fn push_value(page: &mut Page, value: &Told) -> Result<(), NoMemory>
@@ -64,12 +56,12 @@ pub fn push_event(page: &mut Page, script: &Script, event: &Event) -> Result<(),
             page.word(pair_name(script, *pair))?;
             push_value(page, value)
         }
-        Event::FramePresented(count) => push_count(page, b"framepresented", *count),
+        Event::FramePresented(count) => page.counted(b"framepresented", *count),
         Event::TokenBack(pair) => {
             page.word(b"tokenback")?;
             page.word(pair_name(script, *pair))
         }
-        Event::Credits(count) => push_count(page, b"credits", *count),
+        Event::Credits(count) => page.counted(b"credits", *count),
     }
 }
 
@@ -156,15 +148,15 @@ fn push_closing(
 fn push_presented(page: &mut Page, count: u32, credits: u32) -> Result<(), NoMemory>
     ensures { OnOk result (Writes (codes "Present" ∷ number count ∷ codes "credits" ∷ number credits ∷ []) page.old page.new) }
 {
-    push_count(page, b"Present", count)?;
-    push_count(page, b"credits", credits)
+    page.counted(b"Present", count)?;
+    page.counted(b"credits", credits)
 }
 
 fn push_waited(page: &mut Page, met: &[u8], value: u32) -> Result<(), NoMemory>
     ensures { OnOk result (Writes (codes "Wait" ∷ met.now ∷ number value ∷ []) page.old page.new) }
 {
     page.word(b"Wait")?;
-    push_count(page, met, value)
+    page.counted(met, value)
 }
 
 fn push_held(page: &mut Page, kind: &Kind) -> Result<(), NoMemory>
@@ -193,7 +185,7 @@ pub fn push_reply(page: &mut Page, kind: &Kind, reply: &Reply) -> Result<(), NoM
         Reply::Presented { number, credits } => push_presented(page, *number, *credits),
         Reply::Held => push_held(page, kind),
         Reply::Now(value) => push_now(page, kind, value),
-        Reply::Polled(count) => push_count(page, b"Poll", *count),
+        Reply::Polled(count) => page.counted(b"Poll", *count),
         Reply::Met(value) => push_waited(page, b"met", *value),
         Reply::Unmet(value) => push_waited(page, b"unmet", *value),
         Reply::Closed(error, reason) => {

@@ -1,15 +1,15 @@
 ghost use Rattle.std.specs.Prelude.{◌≡◌, ◌++◌, ◌∷◌, [], OnOk, codes, cond, map, slice_index};
-ghost use Rattle.flat_report.specs.Words.{number, numbers, buffers_name, session_name};
-ghost use Rattle.flat_report.specs.Pages.{Writes, WritesLines};
+ghost use Rattle.flat_page.specs.Words.{number, numbers, session_name};
+ghost use Rattle.flat_report.specs.Names.{buffers_name};
+ghost use Rattle.flat_page.specs.Pages.{Writes, WritesLines};
 ghost use Rattle.flat_report.specs.FrameLines.{rect_words, flip_number, blend_word, paint_words, matrix_words, item_line, parent_word, view_line, apart_line, lost_line, frame_lines};
 ghost use Rattle.flat_report.specs.Report.{lost_at};
 
-use crate::entry_words::push_count;
-use crate::names::{buffers_name, session_name};
-use crate::page::Page;
+use crate::names::buffers_name;
 use flat_base::{BufferNo, IntRect, NoMemory, Rect, SessionNo};
-use flat_places::Script;
+use flat_page::{Page, session_name};
 use flat_scene::{BlendMode, DrawItem, FrameOut, ImageFlip, Lost, Paint, SceneMatrix, ViewNode};
+use flat_places::Script;
 
 fn push_rect(page: &mut Page, rect: Rect) -> Result<(), NoMemory>
     ensures { OnOk result (Writes (rect_words rect) page.old page.new) }
@@ -83,7 +83,7 @@ fn push_buffer(
     ensures { OnOk result (Writes (codes "image" ∷ buffers_name script.now buffers ∷ number index ∷ []) page.old page.new) }
 {
     page.word(b"image")?;
-    push_count(page, buffers_name(script, buffers), index)
+    page.counted(buffers_name(script, buffers), index)
 }
 
 fn push_paint(
@@ -106,7 +106,7 @@ fn push_paint(
             push_buffer(page, script, *buffers, *index)?;
             push_sample(page, *sample)?;
             push_size(page, w, h)?;
-            push_count(page, b"flip", flip_number(*flip))?;
+            page.counted(b"flip", flip_number(*flip))?;
             Ok(())
         }
     }
@@ -121,7 +121,7 @@ fn push_entries(page: &mut Page, matrix: SceneMatrix) -> Result<(), NoMemory>
 fn push_swap(page: &mut Page, swap: bool) -> Result<(), NoMemory>
     ensures { OnOk result (Writes (codes "m" ∷ number (cond swap 1 0) ∷ []) page.old page.new) }
 {
-    push_count(page, b"m", if swap { 1 } else { 0 })
+    page.counted(b"m", if swap { 1 } else { 0 })
 }
 
 fn push_matrix(page: &mut Page, matrix: SceneMatrix) -> Result<(), NoMemory>
@@ -142,15 +142,15 @@ fn push_visible(page: &mut Page, visible: Rect) -> Result<(), NoMemory>
 fn push_look(page: &mut Page, opacity: u32, blend: BlendMode) -> Result<(), NoMemory>
     ensures { OnOk result (Writes (codes "o" ∷ number opacity ∷ blend_word blend ∷ []) page.old page.new) }
 {
-    push_count(page, b"o", opacity)?;
+    page.counted(b"o", opacity)?;
     page.word(blend_word(blend))
 }
 
 /// The line of a draw item, without what ends it.
 fn push_item_words(page: &mut Page, script: &Script, item: &DrawItem) -> Result<(), NoMemory>
-    ensures { OnOk result (Writes (session_name script.now item.now.session ∷ number item.now.serial ∷ paint_words script.now item.now.w item.now.h item.now.paint ++ matrix_words item.now.matrix ++ (codes "v" ∷ rect_words item.now.visible) ++ (codes "o" ∷ number item.now.opacity ∷ blend_word item.now.blend ∷ [])) page.old page.new) }
+    ensures { OnOk result (Writes (session_name script.now.sessions item.now.session ∷ number item.now.serial ∷ paint_words script.now item.now.w item.now.h item.now.paint ++ matrix_words item.now.matrix ++ (codes "v" ∷ rect_words item.now.visible) ++ (codes "o" ∷ number item.now.opacity ∷ blend_word item.now.blend ∷ [])) page.old page.new) }
 {
-    push_count(page, session_name(script, item.session), item.serial)?;
+    page.counted(session_name(&script.sessions, item.session), item.serial)?;
     push_paint(page, script, item.w, item.h, &item.paint)?;
     push_matrix(page, item.matrix)?;
     push_visible(page, item.visible)?;
@@ -159,9 +159,9 @@ fn push_item_words(page: &mut Page, script: &Script, item: &DrawItem) -> Result<
 }
 
 fn push_view_words(page: &mut Page, script: &Script, view: &ViewNode) -> Result<(), NoMemory>
-    ensures { OnOk result (Writes (session_name script.now view.now.session ∷ parent_word script.now view.now.parent ∷ rect_words view.now.bounds) page.old page.new) }
+    ensures { OnOk result (Writes (session_name script.now.sessions view.now.session ∷ parent_word script.now view.now.parent ∷ rect_words view.now.bounds) page.old page.new) }
 {
-    page.word(session_name(script, view.session))?;
+    page.word(session_name(&script.sessions, view.session))?;
     page.word(parent_word(script, view.parent))?;
     push_rect(page, view.bounds)?;
     Ok(())
@@ -172,7 +172,7 @@ fn parent_word(script: &Script, parent: Option<SessionNo>) -> &[u8]
     ensures { result.now ≡ parent_word script.now parent }
 {
     match parent {
-        Some(session) => session_name(script, session),
+        Some(session) => session_name(&script.sessions, session),
         None => b"-",
     }
 }
@@ -202,7 +202,7 @@ pub fn push_apart(page: &mut Page, script: &Script, session: SessionNo) -> Resul
     ensures { OnOk result (WritesLines (apart_line script.now session ∷ []) page.old page.new) }
 {
     page.put(b"apart")?;
-    page.word(session_name(script, session))?;
+    page.word(session_name(&script.sessions, session))?;
     page.put(b"\n")?;
     Ok(())
 }
@@ -213,7 +213,7 @@ fn push_lost_words(page: &mut Page, lost: &Lost) -> Result<(), NoMemory>
     page.count(lost.display as u64)?;
     page.word(b"lost")?;
     page.word(b"at")?;
-    push_count(page, b"frame", lost.frame.0)?;
+    page.counted(b"frame", lost.frame.0)?;
     Ok(())
 }
 

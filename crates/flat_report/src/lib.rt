@@ -6,7 +6,6 @@ mod entry_words;
 mod frame_words;
 mod laws;
 mod names;
-mod page;
 mod report;
 
 pub use laws::{handed_is_report, reports_determine_histories};

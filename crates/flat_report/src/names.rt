@@ -1,24 +1,9 @@
 ghost use Rattle.std.specs.Prelude.{◌≡◌};
-ghost use Rattle.flat_report.specs.Words.{name_at, session_name, pair_name, buffers_name, actor_name};
+ghost use Rattle.flat_report.specs.Names.{pair_name, buffers_name, actor_name};
 
-use flat_base::{Actor, BufferNo, PairNo, SessionNo};
-use flat_places::{NameList, Script};
-
-/// The name at a place, or nothing where there is none.
-fn name_at(names: &NameList, place: usize) -> &[u8]
-    ensures { result.now ≡ name_at names.now place }
-{
-    match names.as_slice().get(place) {
-        Some(name) => name.as_slice(),
-        None => &[],
-    }
-}
-
-pub fn session_name(script: &Script, session: SessionNo) -> &[u8]
-    ensures { result.now ≡ session_name script.now session }
-{
-    name_at(&script.sessions, session.0.saturating_sub(1) as usize)
-}
+use flat_base::{Actor, BufferNo, PairNo};
+use flat_page::{name_at, session_name};
+use flat_places::Script;
 
 pub fn pair_name(script: &Script, pair: PairNo) -> &[u8]
     ensures { result.now ≡ pair_name script.now pair }
@@ -37,7 +22,7 @@ pub fn actor_name(script: &Script, actor: Actor) -> &[u8]
 {
     match actor {
         Actor::Display => b"display",
-        Actor::Session(session) => session_name(script, session),
+        Actor::Session(session) => session_name(&script.sessions, session),
         Actor::Probe(probe) => name_at(&script.probes, probe as usize),
     }
 }

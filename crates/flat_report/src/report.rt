@@ -1,15 +1,15 @@
 ghost use Rattle.std.specs.Prelude.{◌≡◌, ◌++◌, ◌∷◌, ◌+◌, ◌-◌, ◌<◌, ◌^◌, [], OnOk, IfOk, length, cond, codes};
 ghost use Rattle.flat_scene.specs.History.{is_finish};
 ghost use Rattle.flat_report.specs.Handed.{first_hits, first_frame_lines, frames_after, answers_after, first_posts, handed_lines, handed_entries, handed_report_lines, handed_report};
-ghost use Rattle.flat_report.specs.Pages.{Writes, WritesLines};
-ghost use Rattle.flat_report.specs.Words.{number};
+ghost use Rattle.flat_page.specs.Pages.{Writes, WritesLines};
+ghost use Rattle.flat_page.specs.Words.{number};
 
 use crate::entry_lines::{push_entry, push_posts};
 use crate::frame_words::push_frame;
-use crate::page::Page;
 use flat_base::{Actor, FrameNo, Items, NoMemory};
-use flat_places::Script;
+use flat_page::Page;
 use flat_scene::{Entry, FrameOut, Hit, HitList, Journal, Kind, Lost, Post};
+use flat_places::Script;
 use std::alloc::Global;
 
 /// The answer to a line that asks for a point of the display.

@@ -3,4 +3,5 @@ pub mod PathLemmas
 pub mod ReachLemmas
 pub mod SmallHistories
 pub mod SmallDrafts
+mod SmallViewTrees
 pub mod lemmas

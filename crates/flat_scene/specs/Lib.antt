@@ -12,3 +12,4 @@ pub mod Reach
 pub mod Setups
 pub mod Tree
 pub mod Trees
+pub mod ViewTrees

@@ -1,3 +1,6 @@
+ghost use Rattle.std.specs.Prelude.{◌≡◌};
+ghost use Rattle.flat_scene.specs.ViewTrees.{is_node};
+
 use crate::calls::{BlendMode, ImageFlip, Interaction};
 use flat_base::{BufferNo, FrameNo, IntRect, Items, Rect, SessionList, SessionNo};
 
@@ -73,6 +76,13 @@ pub struct ViewTree {
     pub nodes: NodeList,
     /// In order of the sessions.
     pub apart: SessionList,
+}
+
+/// Whether a session is one of the nodes.
+pub fn is_node(nodes: &[ViewNode], session: SessionNo) -> bool
+    ensures { result ≡ is_node nodes.now session }
+{
+    nodes.iter().any(|node| node.session.0 == session.0)
 }
 
 /// A set of sessions: session s is in it where `has[s - 1]` is true.

@@ -20,7 +20,7 @@ pub use calls::{
 };
 pub use frames::{
     DrawItem, FrameOut, Hit, HitList, ItemList, Lost, NodeList, Paint, RectList, SceneMatrix,
-    SessionSet, ViewNode, ViewTree,
+    SessionSet, ViewNode, ViewTree, is_node,
 };
 pub use journal::{CallList, Entry, Event, Journal, Kind, Layout, Post, Reply, Told};
 pub use laws::{draft_laws, history_laws};

@@ -3,6 +3,7 @@ pub mod Walking
 pub mod Standing
 pub mod Whole
 pub mod Few
+pub mod FewSessions
 pub mod Opacities
 pub mod Viewing
 pub mod Ordered

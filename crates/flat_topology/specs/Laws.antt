@@ -32,6 +32,10 @@ abbrev pub JoinsAll : Type 0
 JoinsAll = (setup : Setup) (shown : Shown) → FitsSetup setup shown
     → (p : ℕ) → display_pair setup ≡ Some p → led_to shown (length shown) p ≡ led_to shown (suc (length shown)) p
 
+-- it has no more sessions than there are states
+abbrev pub JoinsFewSessions : Type 0
+JoinsFewSessions = (setup : Setup) (shown : Shown) → FitsSetup setup shown → length (joined_sessions setup shown) ≤ length shown
+
 -- it has no more nodes than so many trees may have
 abbrev pub JoinsFew : Type 0
 JoinsFew = (setup : Setup) (shown : Shown) → FitsSetup setup shown → length (placed_nodes setup shown) ≤ length shown * TREE_NODES_MAX

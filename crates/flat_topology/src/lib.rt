@@ -11,7 +11,7 @@
 //! distances from the display (Distances, Distinct).
 #![tactic(auto)]
 
-ghost use Rattle.flat_topology.specs.Laws.{JoinsTheConnected, JoinsEachOnce, ReachesNoCycle, JoinsAll, JoinsFew, PlacesLowOpacities, ParentsDecide, DrawsInPreorder, ViewsTheJoined, ViewsBelowParents, ViewsTheConnected, HitsEachOnce};
+ghost use Rattle.flat_topology.specs.Laws.{JoinsTheConnected, JoinsEachOnce, ReachesNoCycle, JoinsAll, JoinsFewSessions, JoinsFew, PlacesLowOpacities, ParentsDecide, DrawsInPreorder, ViewsTheJoined, ViewsBelowParents, ViewsTheConnected, HitsEachOnce};
 
 mod climb;
 mod joining;
@@ -82,6 +82,14 @@ pub fn links_make_a_tree()
     ensures few { JoinsFew }
     ensures low { PlacesLowOpacities }
     ensures decided { ParentsDecide }
+{}
+
+/// Where shown states fit the setup, no more sessions are joined than there are
+/// states.
+///
+/// The call does nothing. Its contract is a law about the definitions.
+pub fn sessions_are_few()
+    ensures { JoinsFewSessions }
 {}
 
 /// The view tree has one view for each session of the joined tree, in the same

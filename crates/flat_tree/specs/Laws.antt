@@ -1,10 +1,12 @@
--- What the view tree of a joined tree is.
-use Rattle.std.specs.Prelude.{ℕ, ◌<◌, ◌≤◌, ◌≡◌, Bool, false}
+-- What the view tree of a joined tree is, and that it is a tree.
+use Rattle.std.specs.Prelude.{ℕ, ◌<◌, ◌≤◌, ◌≡◌, Bool, false, IsTrue, length}
 use Rattle.flat_base.specs.declared.limits.TheConstants.{SESSIONS_MAX}
 use Rattle.flat_scene.specs.declared.frames.SessionSet.{SessionSet}
 use Rattle.flat_scene.specs.declared.setup.Setup.{Setup}
+use Rattle.flat_scene.specs.ViewTrees.{is_tree}
 use Rattle.flat_topology.specs.Shown.{Shown}
-use Rattle.flat_topology.specs.Views.{is_member, view_tree}
+use Rattle.flat_topology.specs.Fit.{FitsSetup}
+use Rattle.flat_topology.specs.Views.{is_member, view_nodes, view_tree}
 use Rattle.flat_topology.specs.Connected.{joined_lists}
 use Rattle.flat_tree.specs.Trees.{tree_from}
 
@@ -17,3 +19,11 @@ pub record IsSetOf (setup : Setup) (test : ℕ → Bool) (set : SessionSet) : Ty
 abbrev pub TreesFollow : Type 0
 TreesFollow = (setup : Setup) (shown : Shown) (has_view : ℕ → Bool) (with_view : SessionSet) → setup.sessions ≤ SESSIONS_MAX → IsSetOf setup has_view with_view
     → tree_from (joined_lists setup shown) with_view ≡ view_tree setup shown has_view
+
+-- the views are a tree
+abbrev pub ViewsAreATree : Type 0
+ViewsAreATree = (setup : Setup) (shown : Shown) → FitsSetup setup shown → IsTrue (is_tree (view_nodes setup shown))
+
+-- there are no more views than states
+abbrev pub ViewsAreFew : Type 0
+ViewsAreFew = (setup : Setup) (shown : Shown) → FitsSetup setup shown → length (view_nodes setup shown) ≤ length shown

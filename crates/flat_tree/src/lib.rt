@@ -5,12 +5,14 @@ ghost use Rattle.std.specs.Prelude.{◌≡◌, ◌+◌, ◌<◌, ◌≤◌, ◌+
 ghost use Rattle.flat_topology.specs.Views.{viewport_bounds};
 ghost use Rattle.flat_topology.specs.Connected.{connected_view};
 ghost use Rattle.flat_tree.specs.Trees.{is_among, is_apart, if_apart, apart_below, tree_from};
-ghost use Rattle.flat_tree.specs.Laws.{TreesFollow};
+ghost use Rattle.flat_tree.specs.Laws.{TreesFollow, ViewsAreATree, ViewsAreFew};
 
 use flat_base::{NoMemory, Rect, Roomy, SESSIONS_MAX, SessionList, SessionNo};
 use flat_geom::{map_rect, sized};
 use flat_scene::{Content, NodeList, SessionSet, ViewNode, ViewTree};
-use flat_topology::{Connected, Joined, Placed, views_follow_links};
+use flat_topology::{
+    Connected, Joined, Placed, links_make_a_tree, sessions_are_few, views_follow_links,
+};
 use std::alloc::Global;
 
 /// The rectangle of a placed viewport, uncut.
@@ -113,5 +115,18 @@ pub fn view_tree(
 pub fn trees_follow()
     ensures { TreesFollow }
 {
+    views_follow_links();
+}
+
+/// The views of shown states that fit the setup are a tree, and no more than there
+/// are states.
+///
+/// The call does nothing. Its contract is a law about the definitions.
+pub fn views_are_a_tree()
+    ensures tree { ViewsAreATree }
+    ensures few { ViewsAreFew }
+{
+    links_make_a_tree();
+    sessions_are_few();
     views_follow_links();
 }

@@ -22,5 +22,8 @@ returns-clause-probes c = λ bytes script is. (accepted bytes script is).probes
 pub returns-clause-setup : goal.returns-clause-setup
 returns-clause-setup c = λ bytes script is. (accepted bytes script is).setup
 
+pub returns-clause-sessions : goal.returns-clause-sessions
+returns-clause-sessions c = λ bytes script is. (accepted bytes script is).sessions
+
 pub returns-clause-playable : goal.returns-clause-playable
 returns-clause-playable c = λ bytes script is. playable_of script (accepted bytes script is)

@@ -1,17 +1,18 @@
-use Rattle.std.proofs.Common.{inl, inr, ℕ, ◌+◌, ◌*◌, ◌<◌, ◌≤◌, ◌≡◌, true, ◌∷◌, length, Option, Some, None, refl, sym, arith}
+use Rattle.std.proofs.Common.{ℕ, ◌*◌, ◌<◌, ◌≤◌, ◌≡◌, true, length, Option, Some, None, refl, sym, arith}
 use Rattle.flat_base.specs.declared.limits.TheConstants.{TREE_NODES_MAX}
 use Rattle.flat_scene.specs.declared.setup.Setup.{Setup}
 use Rattle.flat_topology.specs.Shown.{Shown}
 use Rattle.flat_topology.specs.Pairs.{display_pair}
 use Rattle.flat_topology.specs.Links.{IsConnected}
 use Rattle.flat_topology.specs.Fit.{FitsSetup}
-use Rattle.flat_topology.specs.Join.{join, led_from, sessions_in, joined_sessions, is_joined}
+use Rattle.flat_topology.specs.Join.{join, led_from, joined_sessions, is_joined}
 use Rattle.flat_topology.specs.Place.{display_space, placed_in, placed_nodes}
 use Rattle.flat_topology.specs.Connected.{joined_count}
-use Rattle.flat_topology.proofs.lemmas.Distinct.{In, Distinct, pairs-distinct}
+use Rattle.flat_topology.proofs.lemmas.Distinct.{In, pairs-distinct}
+use Rattle.flat_topology.proofs.FewSessions.{standing_connected, few_sessions}
 use Rattle.flat_topology.proofs.lemmas.Distances.{no-cycle}
-use Rattle.flat_topology.proofs.Standing.{in-led, reached-connected, distinct-from, connected-reached, led-in}
-use Rattle.flat_topology.proofs.Whole.{found-in, in-found, few-below, connected-within, distance-low, led-whole}
+use Rattle.flat_topology.proofs.Standing.{distinct-from, connected-reached, led-in}
+use Rattle.flat_topology.proofs.Whole.{found-in, in-found, distance-low, led-whole}
 use Rattle.flat_topology.proofs.Few.{few-joined}
 use Rattle.flat_topology.proofs.Opacities.{HasLowOpacity, AllLow, low-led}
 use Rattle.std.proofs.lemmas.List.Elements.{All-nil}
@@ -21,13 +22,6 @@ use Rattle.flat_topology.proofs.links_make_a_tree.Goals as goal
 use Rattle.std.specs.Cmp.{both_ways}
 
 -- ---- the joined tree has the connected sessions
-
-standing_connected : (setup : Setup) (shown : Shown) → FitsSetup setup shown → (s : ℕ) (display : Option ℕ) → display_pair setup ≡ display
-    → In s (sessions_in (led_from shown display)) → IsConnected setup shown s
-standing_connected setup shown fit s None is on = absurd on
-standing_connected setup shown fit s (Some p) is on =
-    let way = in-led setup shown fit (length shown) p s on in
-    (way.0, reached-connected setup shown fit way.0 p s is way.1)
 
 joined_connected : (setup : Setup) (shown : Shown) → FitsSetup setup shown → (s : ℕ) → is_joined setup shown s ≡ true → IsConnected setup shown s
 joined_connected setup shown fit s joined = standing_connected setup shown fit s (display_pair setup) refl (found-in s (joined_sessions setup shown) joined)
@@ -52,20 +46,6 @@ pub returns-clause-whole : goal.returns-clause-whole
 returns-clause-whole c = λ setup shown fit. led-whole setup shown fit
 
 -- ---- it has few nodes
-
-few_sessions : (setup : Setup) (shown : Shown) → FitsSetup setup shown → length (joined_sessions setup shown) ≤ length shown
-few_sessions setup shown fit =
-    let low : length (0 ∷ joined_sessions setup shown) ≤ length shown + 1 = few-below (length shown + 1) (0 ∷ joined_sessions setup shown) all_differ bound in
-    omega (arith, low)
-  where
-    within : (s : ℕ) → In s (joined_sessions setup shown) → (0 < s) × (s ≤ length shown)
-    within s on = let connected = standing_connected setup shown fit s (display_pair setup) refl on in connected-within setup shown fit connected.0 s connected.1
-
-    all_differ : Distinct (0 ∷ joined_sessions setup shown)
-    all_differ = (λ on. let h = within 0 on in absurd (omega (arith, h.0)), distinct-from setup shown fit (display_pair setup) refl)
-
-    bound : (s : ℕ) → In s (0 ∷ joined_sessions setup shown) → s < length shown + 1
-    bound s on = elim on [ inl first ↦ omega (arith, first) | inr later ↦ omega (arith, (within s later).1) ]
 
 pub returns-clause-few : goal.returns-clause-few
 returns-clause-few c = λ setup shown fit.

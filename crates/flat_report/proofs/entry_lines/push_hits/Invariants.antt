@@ -1,5 +1,5 @@
 use Rattle.std.proofs.Common.{take}
-use Rattle.flat_report.specs.Pages.{Writes}
+use Rattle.flat_page.specs.Pages.{Writes}
 use Rattle.flat_report.specs.EntryLines.{hit_words}
 use Rattle.flat_report.proofs.entry_lines.push_hits.Given as goal
 

@@ -1,4 +1,4 @@
-use Rattle.flat_report.proofs.PageLemmas.{more_lines}
+use Rattle.flat_page.proofs.lemmas.PageLemmas.{more_lines}
 use Rattle.flat_report.specs.Handed.{post_line}
 use Rattle.flat_report.proofs.entry_lines.push_posts.Goals as goal
 

@@ -1,5 +1,5 @@
 use Rattle.std.proofs.Common.{take, map}
-use Rattle.flat_report.specs.Pages.{WritesLines}
+use Rattle.flat_page.specs.Pages.{WritesLines}
 use Rattle.flat_report.specs.Handed.{post_line}
 use Rattle.flat_report.proofs.entry_lines.push_posts.Given as goal
 

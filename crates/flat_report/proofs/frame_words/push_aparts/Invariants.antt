@@ -1,5 +1,5 @@
 use Rattle.std.proofs.Common.{take, map}
-use Rattle.flat_report.specs.Pages.{WritesLines}
+use Rattle.flat_page.specs.Pages.{WritesLines}
 use Rattle.flat_report.specs.FrameLines.{apart_line}
 use Rattle.flat_report.proofs.frame_words.push_aparts.Given as goal
 

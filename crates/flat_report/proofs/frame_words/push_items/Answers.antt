@@ -1,4 +1,4 @@
-use Rattle.flat_report.proofs.PageLemmas.{more_lines}
+use Rattle.flat_page.proofs.lemmas.PageLemmas.{more_lines}
 use Rattle.flat_report.specs.FrameLines.{item_line}
 use Rattle.flat_report.proofs.frame_words.push_items.Goals as goal
 

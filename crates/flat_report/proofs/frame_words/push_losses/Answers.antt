@@ -4,7 +4,7 @@ use Rattle.std.proofs.lemmas.List.Elements.{filter-append}
 use Rattle.flat_scene.specs.declared.frames.Lost.{Lost}
 use Rattle.flat_report.specs.FrameLines.{lost_line}
 use Rattle.flat_report.specs.Report.{lost_at}
-use Rattle.flat_report.proofs.PageLemmas.{then_lines, same_lines}
+use Rattle.flat_page.proofs.lemmas.PageLemmas.{then_lines, same_lines}
 use Rattle.flat_report.proofs.frame_words.push_losses.Goals as goal
 
 one_more : (n : ℕ) (xs : List Lost) (i : ℕ) (d : Lost) → i < length xs

@@ -1,4 +1,4 @@
-use Rattle.flat_report.proofs.PageLemmas.{one_line}
+use Rattle.flat_page.proofs.lemmas.PageLemmas.{one_line}
 use Rattle.flat_report.proofs.frame_words.push_lost.Goals as goal
 
 pub returns : goal.returns

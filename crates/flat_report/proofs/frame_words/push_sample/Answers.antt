@@ -1,4 +1,4 @@
-use Rattle.flat_report.proofs.PageLemmas.{then}
+use Rattle.flat_page.proofs.lemmas.PageLemmas.{then}
 use Rattle.flat_report.proofs.frame_words.push_sample.Goals as goal
 
 pub returns : goal.returns

@@ -1,4 +1,4 @@
-use Rattle.flat_report.proofs.PageLemmas.{then, one_line}
+use Rattle.flat_page.proofs.lemmas.PageLemmas.{then, one_line}
 use Rattle.flat_report.proofs.report.push_title.Goals as goal
 
 pub returns : goal.returns

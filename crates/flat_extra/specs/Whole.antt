@@ -1,0 +1,35 @@
+-- A text with extra lines: its script and the values of those lines, or its fault.
+use Rattle.std.specs.Prelude.{ℕ, nat_lt, if◌then◌else◌, List, length, Result, Ok, Err}
+use Rattle.flat_base.specs.declared.limits.TheConstants.{SCRIPT_BYTES_MAX}
+use Rattle.flat_places.specs.declared.script.Script.{Script}
+use Rattle.flat_script.specs.declared.script.ScriptFault.{ScriptFault}
+use Rattle.flat_script.specs.Grammar.{text_read}
+use Rattle.flat_extra.specs.declared.split.ExtraLine.{ExtraLine}
+use Rattle.flat_extra.specs.declared.split.ExtraSet.{ExtraSet}
+use Rattle.flat_extra.specs.declared.split.ExtraSet.TheVariants.{Focus, Pointer}
+use Rattle.flat_extra.specs.declared.whole.WithFocus.{WithFocus}
+use Rattle.flat_extra.specs.declared.whole.WithPointers.{WithPointers}
+use Rattle.flat_extra.specs.Extra.{rest_of, extra_of}
+use Rattle.flat_extra.specs.Reading.{focus_line, pointer_line, all_read}
+
+-- ---- one reading after another: the first fault decides
+
+abbrev pub and_then : {A B : Type 0} → Result A ScriptFault → (A → Result B ScriptFault) → Result B ScriptFault
+and_then (Ok value) next = next value
+and_then (Err fault) next = Err fault
+
+-- a text of more than 16 MiB is at fault as a whole
+abbrev pub unless_long : {A : Type 0} → List ℕ → Result A ScriptFault → Result A ScriptFault
+unless_long bytes read = if nat_lt SCRIPT_BYTES_MAX (length bytes) then Err (record { line = 0; kind = 1 }) else read
+
+-- the script of a text without its extra lines, and then what is read of these
+abbrev pub read_with_extra : {A : Type 0} → ExtraSet → (Script → List ExtraLine → Result A ScriptFault) → List ℕ → Result A ScriptFault
+read_with_extra set next bytes = unless_long bytes (and_then (text_read (rest_of set bytes)) (λ script. next script (extra_of set bytes)))
+
+-- ---- both sets
+
+abbrev pub focus_read : List ℕ → Result WithFocus ScriptFault
+focus_read bytes = read_with_extra Focus (λ script extra. and_then (all_read (focus_line script) 0 extra) (λ lines. Ok (record { script = script; lines = lines }))) bytes
+
+abbrev pub pointers_read : List ℕ → Result WithPointers ScriptFault
+pointers_read bytes = read_with_extra Pointer (λ script extra. and_then (all_read pointer_line 0 extra) (λ lines. Ok (record { script = script; lines = lines }))) bytes

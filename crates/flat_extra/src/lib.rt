@@ -1,0 +1,13 @@
+//! Extra lines: lines of a script's text that are no part of the script, and the
+//! rest of the text.
+#![tactic(auto)]
+
+mod laws;
+mod reading;
+mod split;
+mod whole;
+
+pub use laws::extra_laws;
+pub use reading::{read_focus, read_pointers};
+pub use split::{ByteList, ExtraLine, ExtraList, ExtraSet, Split, split_text};
+pub use whole::{WithFocus, WithPointers, parse_focus, parse_pointers};

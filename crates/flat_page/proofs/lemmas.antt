@@ -1,0 +1,4 @@
+-- Lemmas that other crates may cite.
+pub mod Merging
+pub mod PageLemmas
+pub mod Telling

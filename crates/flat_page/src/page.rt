@@ -1,0 +1,141 @@
+ghost use Rattle.std.specs.Prelude.{◌≡◌, [], ◌∷◌, ◌++◌, ℕ, List, false, OnOk, IfOk};
+ghost use Rattle.std.specs.Fmt.{decimal, signed_decimal};
+ghost use Rattle.flat_page.specs.Words.{number, numbers};
+ghost use Rattle.flat_page.specs.Pages.{HasRoom, IsText, bytes_of, is_counting, Puts, Writes};
+
+use flat_base::NoMemory;
+use itoa::Buffer;
+use std::alloc::Global;
+
+/// A text that is written, or whose bytes are counted first, so that the room for
+/// it can be taken at once.
+#[derive(Debug, Drop)]
+pub enum Page {
+    /// So many bytes would stand there.
+    Count(usize),
+    /// These bytes stand there.
+    Text(Vec<u8>),
+}
+
+impl Page {
+    /// An empty page with room for as many bytes as stand, or were counted, on
+    /// another.
+    pub fn with_room(alloc: Global, other: Page) -> Result<Page, NoMemory>
+        ensures sort { IfOk result (λ page. is_counting page ≡ false) }
+        ensures empty { IfOk result (λ page. IsText page []) }
+        ensures room { IfOk result (HasRoom (bytes_of other)) }
+    {
+        let room = match other {
+            Page::Count(count) => count,
+            Page::Text(text) => text.len(),
+        };
+        Ok(Page::Text(Vec::with_capacity(alloc, room)?))
+    }
+
+    /// The bytes of a page on which they stand.
+    pub fn into_text(self) -> Vec<u8>
+        requires { is_counting self ≡ false }
+        ensures { (text : List ℕ) → IsText self text → result.items ≡ text }
+    {
+        match self {
+            Page::Text(text) => text,
+            Page::Count(_) => unreachable!(),
+        }
+    }
+
+    /// Puts bytes behind those that stand there.
+    pub fn put(&mut self, bytes: &[u8]) -> Result<(), NoMemory>
+        ensures { OnOk result (Puts bytes.now self.old self.new) }
+    {
+        match self {
+            Page::Count(count) => *count = count.checked_add(bytes.len()).ok_or(NoMemory)?,
+            Page::Text(text) => text.extend_from_slice(bytes)?,
+        }
+        Ok(())
+    }
+
+    /// Puts a space and a word.
+    pub fn word(&mut self, word: &[u8]) -> Result<(), NoMemory>
+        ensures { OnOk result (Writes (word.now ∷ []) self.old self.new) }
+    {
+        self.put(b" ")?;
+        self.put(word)
+    }
+
+    /// Puts a space and a number.
+    pub fn number(&mut self, value: i128) -> Result<(), NoMemory>
+        ensures { OnOk result (Writes (signed_decimal value ∷ []) self.old self.new) }
+    {
+        let mut buffer = Buffer::new();
+        self.word(buffer.format(value).as_bytes())
+    }
+
+    /// Puts a number behind these bytes.
+    pub fn numbered(&mut self, before: &[u8], value: u32) -> Result<(), NoMemory>
+        ensures { OnOk result (Puts (before.now ++ decimal value) self.old self.new) }
+    {
+        let mut buffer = Buffer::new();
+        self.put(before)?;
+        self.put(buffer.format(value).as_bytes())?;
+        Ok(())
+    }
+
+    /// Puts a space and a number without a sign.
+    pub fn count(&mut self, value: u64) -> Result<(), NoMemory>
+        ensures { OnOk result (Writes (number value ∷ []) self.old self.new) }
+    {
+        self.number(value as i128)
+    }
+
+    fn place(&mut self, value: i64) -> Result<(), NoMemory>
+        ensures { OnOk result (Writes (signed_decimal value ∷ []) self.old self.new) }
+    {
+        self.number(value as i128)
+    }
+
+    fn two_places(&mut self, a: i64, b: i64) -> Result<(), NoMemory>
+        ensures { OnOk result (Writes (numbers (a ∷ b ∷ [])) self.old self.new) }
+    {
+        self.place(a)?;
+        self.place(b)
+    }
+
+    /// Puts two numbers of units, each behind a space.
+    pub fn point(&mut self, x: i32, y: i32) -> Result<(), NoMemory>
+        ensures { OnOk result (Writes (numbers (x ∷ y ∷ [])) self.old self.new) }
+    {
+        self.two_places(x as i64, y as i64)
+    }
+
+    /// Puts four numbers of places, each behind a space.
+    pub fn places(&mut self, a: i64, b: i64, c: i64, d: i64) -> Result<(), NoMemory>
+        ensures { OnOk result (Writes (numbers (a ∷ b ∷ c ∷ d ∷ [])) self.old self.new) }
+    {
+        self.two_places(a, b)?;
+        self.two_places(c, d)?;
+        Ok(())
+    }
+
+    /// Puts four numbers of units, each behind a space.
+    pub fn units(&mut self, a: i32, b: i32, c: i32, d: i32) -> Result<(), NoMemory>
+        ensures { OnOk result (Writes (numbers (a ∷ b ∷ c ∷ d ∷ [])) self.old self.new) }
+    {
+        self.places(a as i64, b as i64, c as i64, d as i64)
+    }
+
+    /// Puts a word, and a number without a sign.
+    pub fn counted(&mut self, word: &[u8], value: u32) -> Result<(), NoMemory>
+        ensures { OnOk result (Writes (word.now ∷ number value ∷ []) self.old self.new) }
+    {
+        self.word(word)?;
+        self.count(value as u64)
+    }
+
+    /// Puts two numbers without a sign, each behind a space.
+    pub fn counts(&mut self, a: u32, b: u32) -> Result<(), NoMemory>
+        ensures { OnOk result (Writes (number a ∷ number b ∷ []) self.old self.new) }
+    {
+        self.count(a as u64)?;
+        self.count(b as u64)
+    }
+}
