@@ -8,8 +8,8 @@ ghost use Rattle.flat_extra.specs.Reading.{has_room, session_at, focus_line, all
 use crate::split::{ExtraLine, ExtraList, is_word};
 use flat_base::{Items, SESSIONS_MAX, SessionNo};
 use flat_focus::{FocusLine, FocusLines};
-use flat_pointer::{POINTERS, PointerCall, PointerLine, PointerLines};
 use flat_places::{NameList, Script};
+use flat_pointer::{POINTERS, PointerCall, PointerLine, PointerLines};
 use flat_script::{ScriptError, ScriptFault};
 use flat_text::{read_natural, read_number, word};
 use std::alloc::Global;

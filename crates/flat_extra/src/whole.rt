@@ -1,4 +1,4 @@
-ghost use Rattle.flat_forms.specs.Progress.{Answers};
+ghost use Rattle.flat_script.specs.Answers.{Answers};
 ghost use Rattle.flat_extra.specs.Reading.{Reads};
 ghost use Rattle.flat_extra.specs.Whole.{focus_read, pointers_read};
 
@@ -6,9 +6,9 @@ use crate::reading::{read_focus, read_pointers};
 use crate::split::{ExtraSet, split_text};
 use flat_base::SCRIPT_BYTES_MAX;
 use flat_focus::FocusLines;
+use flat_places::Script;
 use flat_playable::scripts_are_playable;
 use flat_pointer::PointerLines;
-use flat_places::Script;
 use flat_script::{ScriptError, ScriptFault, parse};
 use std::alloc::Global;
 

@@ -10,8 +10,8 @@ ghost use Rattle.flat_focus.specs.Room.{AreFew};
 use crate::focus::{Focus, FocusAnswer};
 use flat_base::{FrameNo, Items, NoMemory, SessionNo};
 use flat_page::{Page, session_name};
-use flat_scene::{FrameOut, ViewTree};
 use flat_places::NameList;
+use flat_scene::{FrameOut, ViewTree};
 use std::alloc::Global;
 
 /// A line on which a session asks for the focus of another.

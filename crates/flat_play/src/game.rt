@@ -61,7 +61,13 @@ impl Game {
         let _journal = self.board.journal();
         shown_states_fit();
         let number = self.last.frame.0 + 1;
-        compose_frame(alloc, self.board.setup(), &self.shown, self.with_view, number)
+        compose_frame(
+            alloc,
+            self.board.setup(),
+            &self.shown,
+            self.with_view,
+            number,
+        )
     }
 
     /// Begins a frame.

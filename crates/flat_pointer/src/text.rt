@@ -8,8 +8,8 @@ ghost use Rattle.flat_pointer.specs.Text.{point_words, answer_words, touch_line,
 use crate::pointers::{POINTERS, PointerAnswer, Pointers};
 use flat_base::{FrameNo, Items, NoMemory, SessionNo};
 use flat_page::{Page, session_name};
-use flat_scene::{FrameOut, HitList, ViewTree};
 use flat_places::NameList;
+use flat_scene::{FrameOut, HitList, ViewTree};
 use std::alloc::Global;
 
 /// What a pointer does, at a point of the display in units.

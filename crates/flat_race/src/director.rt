@@ -24,11 +24,11 @@ use flat_base::{Actor, FenceNo, NoMemory};
 use flat_core::shown_states_fit;
 use flat_display::{Display, DisplaySet};
 use flat_hit::hits;
+use flat_places::Script;
 use flat_play::{LastFrame, compose_frame, show_last};
 use flat_report::{HitAnswer, HitAnswers};
 use flat_rules::{display_knows_frames, journals_keep_seats, seats_tell_actors};
 use flat_scene::{Body, Cond, DisplayLine, FrameOut, Reply};
-use flat_places::Script;
 use flat_stage::{CompositorSeat, OpenFrame, Stage};
 use std::alloc::Global;
 use std::sync::Wait;
@@ -304,7 +304,9 @@ fn direct_line<R: Wait, G: Gate>(
         }
         DisplayLine::Done => {
             let frame = hand.into_frame();
-            let seat = finish(rt, alloc, stage, script, gate, frame, film, displays, number)?;
+            let seat = finish(
+                rt, alloc, stage, script, gate, frame, film, displays, number,
+            )?;
             Ok(Hand::Idle(seat))
         }
         DisplayLine::Signal(f) => {
@@ -351,7 +353,19 @@ fn direct_next<R: Wait, G: Gate>(
 {
     let line = script.lines.at(place);
     match line.body {
-        Body::Display(text) => direct_line(rt, alloc, stage, script, gate, hand, film, displays, place, line.number, text),
+        Body::Display(text) => direct_line(
+            rt,
+            alloc,
+            stage,
+            script,
+            gate,
+            hand,
+            film,
+            displays,
+            place,
+            line.number,
+            text,
+        ),
         _ => Ok(hand),
     }
 }

@@ -17,17 +17,16 @@ use crate::threads::{put_back, start_each};
 use flat_base::{FrameNo, NoMemory, TryCopy};
 use flat_core::{Board, shown_states_fit};
 use flat_display::{Display, DisplaySet};
+use flat_places::Script;
 use flat_play::{LastFrame, Played, shares_of};
 use flat_report::HitAnswers;
 use flat_rules::{journals_keep_seats, seats_tell_actors};
-use flat_places::Script;
 use flat_stage::{CompositorSeat, SessionSeats, Stage};
 use flat_topology::{Shown, join};
 use std::alloc::Global;
-use std::mem;
 use std::sync::Wait;
-use std::thread;
 use std::thread::{Scope, Threads};
+use std::{mem, thread};
 
 /// What all actors leave, where each came to its end.
 #[derive(Drop)]
@@ -162,19 +161,19 @@ fn on_threads<T: Threads + Wait + Sync, G: Gate>(
         thread::scope_env(),
         rt,
         move |scope| -> Raced
-            requires {
-                (is_playable script.now ≡ true) × IsStageOf stage.now script.now
+            requires { (is_playable script.now ≡ true) × IsStageOf stage.now script.now
                 × (compositor ≡ record { stage = stage.now; seen = []; mine = [] })
                 × (seats.stage ≡ stage.now) × AreFresh stage.now script.now.setup.sessions seats.seats
                 × FilmStands script.now.setup [] film × (film.set.lost ≡ [])
-                × (length displays.items ≡ film.set.displays) × (film.set.displays < 2 ^ 32)
-            }
-            ensures {
-                IfOk result.ended (λ e. HaveEnded stage.entry.now script.entry.now e.compositor e.seats e.film)
+                × (length displays.items ≡ film.set.displays) × (film.set.displays < 2 ^ 32) }
+            ensures { IfOk result.ended (λ e. HaveEnded stage.entry.now script.entry.now e.compositor e.seats e.film)
                 × IfOk result.ended (λ e. HaveSeen (λ d. shown d) (λ d. faults d) e.film.frames.items (history_of e.compositor.seen) e.film.set.lost displays.entry.items result.displays.items)
-                × AreKept (λ d. shown d) (λ d. faults d) displays.entry.items result.displays.items (λ d. d.vtable)
-            }
-        { run_in(scope, rt, alloc, stage, script, gate, compositor, seats, film, displays) },
+                × AreKept (λ d. shown d) (λ d. faults d) displays.entry.items result.displays.items (λ d. d.vtable) }
+        {
+            run_in(
+                scope, rt, alloc, stage, script, gate, compositor, seats, film, displays,
+            )
+        },
     )
 }
 
@@ -251,7 +250,9 @@ pub fn race_script<T: Threads + Wait + Sync, G: Gate>(
     let film = new_film(alloc, script, displays.len() as u32)?;
     let (stage, compositor, seats) = new_stage(alloc, script)?;
     let shown_here = mem::replace(displays, Vec::new(alloc));
-    let raced = on_threads(rt, alloc, &stage, script, gate, compositor, seats, film, shown_here);
+    let raced = on_threads(
+        rt, alloc, &stage, script, gate, compositor, seats, film, shown_here,
+    );
     *displays = raced.displays;
     Ok(close(stage, script, raced.ended?))
 }

@@ -13,8 +13,8 @@ ghost use Rattle.flat_race.specs.Sessions.{HasRun, IsSame, IsStageOf, SessionSta
 
 use crate::gate::{ASKS, Gate, LOOKS, ask};
 use flat_base::{Actor, NoMemory, SessionNo, TryCopy};
-use flat_scene::{Body, Call, Cond, Line, Reply};
 use flat_places::Script;
+use flat_scene::{Body, Call, Cond, Line, Reply};
 use flat_stage::{SessionSeat, Stage, lines_are_read};
 use std::alloc::Global;
 use std::sync::Wait;

@@ -1,6 +1,8 @@
 ghost use Rattle.std.specs.Prelude.{◌<◌, ◌^◌, length};
 
-use crate::texts::{FILL, FILL_REPORTED, SHELL, SHELL_ORDER, SHELL_REPORTED, TWO, TWO_REPORTED, WAIT, WAIT_REPORTED};
+use crate::texts::{
+    FILL, FILL_REPORTED, SHELL, SHELL_ORDER, SHELL_REPORTED, TWO, TWO_REPORTED, WAIT, WAIT_REPORTED,
+};
 use flat_display::Display;
 use flat_io::{Failed, MemSink, MemSource};
 use flat_race::Gate;
@@ -169,7 +171,9 @@ impl Display for Slow {
         let meanwhile = &self.meanwhile;
         meanwhile.shows.store(true, Ordering::SeqCst);
         if is_set_in_time(&meanwhile.presented) {
-            meanwhile.presented_while_it_showed.store(true, Ordering::SeqCst);
+            meanwhile
+                .presented_while_it_showed
+                .store(true, Ordering::SeqCst);
         }
         Ok(())
     }
@@ -196,7 +200,13 @@ impl Gate for Holding {
             12 => self.meanwhile.first_presented.store(true, Ordering::SeqCst),
             14 => self.meanwhile.done.store(true, Ordering::SeqCst),
             15 => {
-                let second = matches!(reply, Reply::Presented { number: 2, credits: 4 });
+                let second = matches!(
+                    reply,
+                    Reply::Presented {
+                        number: 2,
+                        credits: 4
+                    }
+                );
                 self.meanwhile.presented.store(second, Ordering::SeqCst);
             }
             _ => {}

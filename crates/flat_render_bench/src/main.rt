@@ -14,6 +14,7 @@ use std::thread::Threads;
 use std::{env, io};
 
 const WIDTH: u32 = 1920;
+
 const HEIGHT: u32 = 1080;
 
 /// What is drawn, and how often.

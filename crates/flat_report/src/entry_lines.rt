@@ -8,8 +8,8 @@ use crate::entry_words::{push_event, push_reply};
 use crate::names::actor_name;
 use flat_base::NoMemory;
 use flat_page::{Page, session_name};
-use flat_scene::{Entry, Hit, Interaction, Kind, Post};
 use flat_places::Script;
+use flat_scene::{Entry, Hit, Interaction, Kind, Post};
 
 fn interaction_number(interaction: Interaction) -> u32
     ensures { result ≡ interaction_number interaction }

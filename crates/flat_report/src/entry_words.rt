@@ -6,8 +6,8 @@ ghost use Rattle.flat_report.specs.EntryLines.{layout_words, value_words, watche
 use crate::names::pair_name;
 use flat_base::{FlatlandError, NoMemory, Reason};
 use flat_page::Page;
-use flat_scene::{Event, Inset, Kind, Layout, Reply, Told, Watch};
 use flat_places::Script;
+use flat_scene::{Event, Inset, Kind, Layout, Reply, Told, Watch};
 
 fn push_inset(page: &mut Page, inset: &Inset) -> Result<(), NoMemory>
     ensures { OnOk result (Writes (number inset.now.top ∷ number inset.now.right ∷ number inset.now.bottom ∷ number inset.now.left ∷ []) page.old page.new) }

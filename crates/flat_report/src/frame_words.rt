@@ -8,8 +8,8 @@ ghost use Rattle.flat_report.specs.Report.{lost_at};
 use crate::names::buffers_name;
 use flat_base::{BufferNo, IntRect, NoMemory, Rect, SessionNo};
 use flat_page::{Page, session_name};
-use flat_scene::{BlendMode, DrawItem, FrameOut, ImageFlip, Lost, Paint, SceneMatrix, ViewNode};
 use flat_places::Script;
+use flat_scene::{BlendMode, DrawItem, FrameOut, ImageFlip, Lost, Paint, SceneMatrix, ViewNode};
 
 fn push_rect(page: &mut Page, rect: Rect) -> Result<(), NoMemory>
     ensures { OnOk result (Writes (rect_words rect) page.old page.new) }

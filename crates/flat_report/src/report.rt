@@ -8,8 +8,8 @@ use crate::entry_lines::{push_entry, push_posts};
 use crate::frame_words::push_frame;
 use flat_base::{Actor, FrameNo, Items, NoMemory};
 use flat_page::Page;
-use flat_scene::{Entry, FrameOut, Hit, HitList, Journal, Kind, Lost, Post};
 use flat_places::Script;
+use flat_scene::{Entry, FrameOut, Hit, HitList, Journal, Kind, Lost, Post};
 use std::alloc::Global;
 
 /// The answer to a line that asks for a point of the display.

@@ -15,12 +15,12 @@ ghost use Rattle.flat_run.specs.Promise.{fault_line, is_read, AreGiven, IsTold, 
 use flat_base::{NoMemory, SCRIPT_BYTES_MAX};
 use flat_display::Display;
 use flat_io::{ReadAll, Source, read_all};
+use flat_places::Script;
 use flat_play::{Played, play_script};
 use flat_playable::scripts_are_playable;
 use flat_race::{Gate, race_script};
 use flat_report::{handed_is_report, print_report};
 use flat_rules::families_are_alone;
-use flat_places::Script;
 use flat_script::{ScriptError, ScriptFault, parse};
 use flat_words::Form;
 use itoa::Buffer;
@@ -198,14 +198,7 @@ pub fn run_source<T: Threads + Wait + Sync, R: Source, G: Gate>(
         displays.old.items displays.new.items (λ d. d.vtable) }
 {
     match read_all(alloc, source, SCRIPT_BYTES_MAX) {
-        Ok(bytes) => Ok(answer_to(
-            rt,
-            alloc,
-            form,
-            bytes.as_slice(),
-            displays,
-            gate,
-        )?),
+        Ok(bytes) => Ok(answer_to(rt, alloc, form, bytes.as_slice(), displays, gate)?),
         Err(ReadAll::TooLong) => Ok(refusal(alloc, ScriptFault { line: 0, kind: 1 })?),
         Err(ReadAll::Fault) => Err(Unanswered::Fault),
         Err(ReadAll::Memory) => Err(Unanswered::Memory),
