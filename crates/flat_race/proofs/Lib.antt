@@ -3,4 +3,5 @@ pub mod Closing
 pub mod DirectSteps
 pub mod HandSteps
 pub mod Outs
+pub mod RaceEnds
 pub mod SessionSteps

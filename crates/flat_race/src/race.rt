@@ -167,8 +167,8 @@ fn on_threads<T: Threads + Wait + Sync, G: Gate>(
                 × FilmStands script.now.setup [] film × (film.set.lost ≡ [])
                 × (length displays.items ≡ film.set.displays) × (film.set.displays < 2 ^ 32) }
             ensures { IfOk result.ended (λ e. HaveEnded stage.entry.now script.entry.now e.compositor e.seats e.film)
-                × IfOk result.ended (λ e. HaveSeen (λ d. shown d) (λ d. faults d) e.film.frames.items (history_of e.compositor.seen) e.film.set.lost displays.entry.items result.displays.items)
-                × AreKept (λ d. shown d) (λ d. faults d) displays.entry.items result.displays.items (λ d. d.vtable) }
+                × IfOk result.ended (λ e. HaveSeen (λ d. shown d) (λ d. faults d) e.film.frames.items (history_of e.compositor.seen) e.film.set.lost displays.items result.displays.items)
+                × AreKept (λ d. shown d) (λ d. faults d) displays.items result.displays.items (λ d. d.vtable) }
         {
             run_in(
                 scope, rt, alloc, stage, script, gate, compositor, seats, film, displays,
@@ -254,5 +254,6 @@ pub fn race_script<T: Threads + Wait + Sync, G: Gate>(
         rt, alloc, &stage, script, gate, compositor, seats, film, shown_here,
     );
     *displays = raced.displays;
-    Ok(close(stage, script, raced.ended?))
+    let ended = raced.ended?;
+    Ok(close(stage, script, ended))
 }

@@ -89,6 +89,18 @@ kept_seen told count kind shown history lost olds news kinds seen = record { kin
 pub kept_same : {D K : Type 0} (told : D → Option (List FrameOut)) (count : D → ℕ) (kind : D → K) (olds news news' : List D) → news' ≡ news → AreKept told count olds news kind → AreKept told count olds news' kind
 kept_same {D} told count kind olds news news' same kept = let P : List D → Type 0 = λ ds. AreKept told count olds ds kind in subst P (sym same) kept
 
+-- by other names, where as many frames are finished
+pub seen_counted : {D : Type 0} (told : D → Option (List FrameOut)) (count : D → ℕ) (all all' : List FrameOut) (old new : List Entry) (lost lost' : List Lost) (olds olds' news : List D) → all' ≡ all → frames new ≡ frames old → lost' ≡ lost → olds' ≡ olds
+    → HaveSeen told count all old lost olds news → HaveSeen told count all' new lost' olds' news
+seen_counted {D} told count all all' old new lost lost' olds olds' news all_is number lost_is olds_is seen =
+    let F : List FrameOut → Type 0 = λ fs. HaveSeen told count fs new lost' olds' news in
+    let L : List Lost → Type 0 = λ ls. HaveSeen told count all new ls olds' news in
+    let O : List D → Type 0 = λ ds. HaveSeen told count all new lost ds news in
+    subst F (sym all_is) (subst L (sym lost_is) (subst O (sym olds_is) (record { driven = seen.driven; loss = loss_same old new lost number seen.loss; numbered = seen.numbered })))
+
+pub kept_from : {D K : Type 0} (told : D → Option (List FrameOut)) (count : D → ℕ) (kind : D → K) (olds olds' news : List D) → olds' ≡ olds → AreKept told count olds news kind → AreKept told count olds' news kind
+kept_from {D} told count kind olds olds' news same kept = let P : List D → Type 0 = λ ds. AreKept told count ds news kind in subst P (sym same) kept
+
 module _ {D : Type 0} (told : D → Option (List FrameOut)) (count : D → ℕ) where
   -- before any line
   pub seen_none : (shown : List FrameOut) (history : List Entry) (lost : List Lost) (ds : List D) → shown ≡ [] → lost ≡ [] → HaveSeen told count shown history lost ds ds

@@ -50,7 +50,7 @@ loop-last-preserved g c =
       out = (out-last view script c.loop-last.out.items left c.in-Some.last (length left) popped refl was.out).1;
       few = omega (arith, long, few);
       own = ap (λ (s : SeatsView). s.stage) c.put.ensures ∙ was.own;
-      back = back-more view script (length left) c.loop-last.are_whole c.both.result c.loop-last.seats.seats c.put.new.self.seats back run (omega (arith, long, few)) (ap (λ (s : SeatsView). s.seats) c.put.ensures)
-          (λ whole. let all = sym c.both.ensures ∙ whole in (and-left c.loop-last.are_whole back.is_whole all, and-right c.loop-last.are_whole back.is_whole all))
+      back = back-more view script (length left) c.loop-last.are_whole c.both-are_whole.result c.loop-last.seats.seats c.put.new.self.seats back run (omega (arith, long, few)) (ap (λ (s : SeatsView). s.seats) c.put.ensures)
+          (λ whole. let all = sym c.both-are_whole.ensures ∙ whole in (and-left c.loop-last.are_whole back.is_whole all, and-right c.loop-last.are_whole back.is_whole all))
           (let B : ℕ → Type 0 = λ k. AreBack view script k c.loop-last.are_whole c.loop-last.seats.seats in subst B long was.back);
     }

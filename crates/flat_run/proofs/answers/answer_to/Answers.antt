@@ -1,6 +1,9 @@
 use Rattle.std.proofs.Common.{Result, Ok, Err, IfOk, List, ℕ, ◌≡◌, Option, refl, subst}
 use Rattle.flat_scene.specs.declared.frames.FrameOut.{FrameOut}
 use Rattle.flat_script.specs.declared.script.ScriptFault.{ScriptFault}
+use borrow.Enum.Total.{values_d}
+use Rattle.flat_script.specs.contracts.script.ScriptError as the_error
+use Rattle.flat_script.specs.declared.script.ScriptError.{ScriptError}
 use Rattle.flat_script.specs.declared.script.ScriptError.TheVariants as error
 use Rattle.flat_script.specs.Grammar.{text_read}
 use Rattle.flat_script.specs.Answers.{Fails}
@@ -25,7 +28,8 @@ returns-in-Err-Fault-clause-reply g c =
     let whole = c.in-Err-Fault.is in
     let why = c.in-Err-Fault.field-0-is in
     let is : c.in-Err-Fault.field-0 ≡ error.Fault c.in-Err-Fault.fault = cc in
-    refused_result _ _ _ c.args.form c.args.bytes.now c.in-Err-Fault.fault (subst (λ e. Fails e (text_read c.args.bytes.now)) is c.in-Err-Fault.ensures) c.refusal.result c.refusal.ensures.status c.refusal.ensures.text
+    let V : ScriptError → Type 0 = λ e. IfOk c.refusal.result (λ a. a.text.items ≡ fault_line (values_d the_error.enum 0 (record { line = 0; kind = 0 }, tt {0}) e).0) in
+    refused_result _ _ _ c.args.form c.args.bytes.now c.in-Err-Fault.fault (subst (λ e. Fails e (text_read c.args.bytes.now)) is c.in-Err-Fault.ensures) c.refusal.result c.refusal.ensures.status (subst V is c.refusal.ensures.text)
 
 pub returns-in-Err-Fault-clause-kept : goal.returns-in-Err-Fault-clause-kept
 returns-in-Err-Fault-clause-kept g c = kept_none _ _ _ _

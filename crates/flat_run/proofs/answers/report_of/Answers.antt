@@ -1,12 +1,13 @@
-use Rattle.std.proofs.Common.{◌∙◌, refl}
-use Rattle.flat_run.proofs.Reporting.{if_ok, handed_text}
+use Rattle.std.proofs.Common.{◌≡◌, ℕ, List, IfOk, subst}
+use Rattle.flat_run.proofs.Reporting.{handed_text}
 use Rattle.flat_run.proofs.answers.report_of.Goals as goal
 
-pub returns-clause : goal.returns-clause
-returns-clause c =
+pub returns : goal.returns
+returns c =
     let script = c.args.script.now in
     let played = c.args.played.now in
     let journal = c.journal-journal.result.now in
-    let text = handed_text script played.board _ _ c.requires.playable c.requires.played c.handed_is_report.ensures played.set.lost c.lost-lost.result.now journal.entries.items journal.posts.items c.frames.result.now
-    c.journal-journal.ensures.entries c.journal-journal.ensures.posts c.frames.ensures.value c.lost-lost.ensures in
-    if_ok _ _ c.print_report.result (λ written is. is ∙ text) c.print_report.ensures
+    let text = handed_text script played.board _ _ c.requires.playable c.requires.played c.handed_is_report.ensures played.set.lost c.lost-lost.result.now journal.entries.items journal.posts.items c.as_slice-frames.result.now
+    c.journal-journal.ensures.entries c.journal-journal.ensures.posts c.as_slice-frames.ensures.value c.lost-lost.ensures in
+    let P : List ℕ → Type 0 = λ bytes. IfOk c.print_report.result (λ written. written.items ≡ bytes) in
+    subst P text c.print_report.ensures

@@ -9,6 +9,6 @@ returns-clause-told g c = λ bytes read.
     let board = c.in_ok-played.played.board in
     let lost = c.in_ok-played.played.set.lost in
     let played = c.in_ok-played.ensures.played in
-    let ran = has_run script board _ _ c.requires.playable played _ _ form lost _ _ c.in_ok-played.ensures.written c.in_ok-played.ensures.seen c.families_are_alone.ensures c._journal.ensures.legal (none_asked form _ c.requires.read) in
+    let ran = has_run script board _ _ c.requires.playable played _ _ form lost _ _ c.in_ok-played.ensures.written c.in_ok-played.ensures.seen c.families_are_alone.ensures c.journal-journal.ensures.legal (none_asked form _ c.requires.read) in
     let had = have_had script board _ _ c.requires.playable played _ _ lost _ _ c.in_ok-played.ensures.seen in
     if_ok _ _ c.report_of.result (λ written is. (record { ran = ran_of script board.history lost; read = read; has_run = ran; is = is ∙ tells_report form (ran_of script board.history lost) c.requires.read }, had)) c.report_of.ensures

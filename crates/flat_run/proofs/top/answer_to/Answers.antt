@@ -5,7 +5,7 @@ use Rattle.flat_run.proofs.Answering.{load_told}
 use Rattle.flat_run.proofs.top.answer_to.Goals as goal
 
 pub returns-in-Play-clause-answer : goal.returns-in-Play-clause-answer
-returns-in-Play-clause-answer g c = λ words calls. c.run_source.ensures.answer words (subst (λ (f : Form). CallFor words f) c.in-Play.is calls)
+returns-in-Play-clause-answer g c = λ words calls. c.run_source.ensures.answer words calls
 
 pub returns-in_ok-stress-in-Stress-clause-answer : goal.returns-in_ok-stress-in-Stress-clause-answer
 returns-in_ok-stress-in-Stress-clause-answer g c = λ words calls.
