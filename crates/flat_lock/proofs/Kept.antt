@@ -1,5 +1,5 @@
 -- Each step of a turn keeps the rule.
-use Rattle.std.proofs.Common.{◌≡◌, ◌≢◌, ℕ, ◌+◌, ◌%◌, ◌^◌, ◌≤◌, List, [], ◌∷◌, ◌++◌, length, get_or, set, drop, sym, refl, ap, ◌∙◌, subst, ⊎_elim, inl, inr, arith, Option, Some, None}
+use Rattle.std.proofs.Common.{◌≡◌, ◌≢◌, ℕ, ◌+◌, ◌%◌, ◌^◌, ◌≤◌, List, [], ◌∷◌, ◌++◌, length, get_or, set, drop, eqb, sym, refl, ap, ◌∙◌, subst, ⊎_elim, inl, inr, arith, Option, Some, None}
 use Rattle.std.proofs.Math.Nat.{mod-add-mod}
 use mathlib.Core.Logic.{dite}
 use mathlib.Core.Option.{none, some, some-injective}
@@ -7,8 +7,9 @@ use mathlib.Core.Option as maybe
 use native.Mathlib.Decide.{ℕ_discrete}
 use lib.ListN.{get_elem?}
 use lib.Seq.{set-get_or}
-use Rattle.atomic_table.specs.Table.{State, Me, step, keeps, takes, gives, stepped, put_back, rest, Allows}
-use Rattle.atomic_table.proofs.Lists.{set_else, set_again}
+use Rattle.atomic_table.specs.Table.{State, Me, Act, step, keeps, takes, gives, stepped, put_back, rest, Valid, carried_after, Allows}
+use Rattle.atomic_table.proofs.Lists.{set_else, set_again, exchanged}
+use prog.Atomic.{either}
 use Rattle.flat_lock.specs.declared.view.View.{View}
 use Rattle.flat_lock.specs.declared.view_parts.Turn.TheVariants.{Idle, Waits, Holds}
 use Rattle.flat_lock.specs.History.{StartsWith, entries_of, GoesOn}
@@ -90,8 +91,13 @@ module _ {T E F : Type 0} (history : T → List E) (actor : E → ℕ) (fixed : 
   unmoved s r i id cs v at = subst (λ (x : List ℕ × List V). Rule record { words = x.0; homes = s.homes; views = x.1 }) (λ k. (sym (set-get_or s.words i 0) k, sym (set_again s.views id v at) k)) r
 
   module _ (slots id : ℕ) (me : M) where
-    pub draws : me.0.turn ≡ Idle → Allows Rule slots id me 0 (λ n. (n + 1) % 2 ^ 64) (DrawsTicket (step slots 0 1 0 none) me)
-    draws idle s r _ at small =
+    -- what a step of the seat comes to, where the word i becomes n
+    abbrev Goes : St → ℕ → ℕ → (M → Type 0) → Type 0
+    Goes s i n then = (w : V) × (a : Act (Option T)) × Valid s.homes me.1 a × Rule (stepped s i n id me.1 w a) × then (w, carried_after me.1 a)
+
+    pub draws : (k next : ℕ) → next ≡ (k + 1) % 2 ^ 64 → me.0.turn ≡ Idle → Allows Rule slots id me 0 (λ n. either (eqb n k) next n) (DrawsTicket (step slots 0 k next none) me)
+    draws k next is idle s r _ at small = exchanged (get_or s.words 0 0) k next (λ n. Goes s 0 n (DrawsTicket (step slots 0 k next none) me (get_or s.words 0 0)))
+        (λ (hit : get_or s.words 0 0 ≡ k).
         let w : V = waiting r.drawn me.0 in
         let found : get_or s.words 0 0 ≡ r.drawn % 2 ^ 64 = ap (λ (l : List ℕ). get_or l 0 0) r.words_are in
         let was = r.each_seat id me.0 at in
@@ -99,12 +105,14 @@ module _ {T E F : Type 0} (history : T → List E) (actor : E → ℕ) (fixed : 
         let before : ℕ = total tickets_in s.views in let after : ℕ = total tickets_in (set s.views id w) in let own : ℕ = tickets_in me.0.turn in
         let queue : before + r.served ≡ r.drawn = r.queue in
         let one_more : after + own ≡ before + 1 = total-set tickets_in s.views id me.0 w at in let no_ticket : own ≡ 0 = ap tickets_in idle in
-        let queue' : after + r.served ≡ r.drawn + 1 = omega arith in (
+        let queue' : after + r.served ≡ r.drawn + 1 = omega arith in
+        let next_is : next ≡ (get_or s.words 0 0 + 1) % 2 ^ 64 = is ∙ ap (λ (n : ℕ). (n + 1) % 2 ^ 64) (sym hit) in (
           w,
           keeps,
           tt,
-          moved s r r.log (r.drawn + 1) r.served (updated r.drawn_by r.drawn id) (set s.words 0 ((get_or s.words 0 0 + 1) % 2 ^ 64)) s.homes id me.0 w at (sym (ap seats_in idle))
-              (ap (λ (l : List ℕ). set l 0 ((get_or l 0 0 + 1) % 2 ^ 64)) r.words_are ∙ ap (λ (x : ℕ). x ∷ r.served % 2 ^ 64 ∷ []) (mod-add-mod r.drawn (2 ^ 64) 1))
+          moved s r r.log (r.drawn + 1) r.served (updated r.drawn_by r.drawn id) (set s.words 0 next) s.homes id me.0 w at (sym (ap seats_in idle))
+              (ap (λ (n : ℕ). set s.words 0 n) next_is
+              ∙ (ap (λ (l : List ℕ). set l 0 ((get_or l 0 0 + 1) % 2 ^ 64)) r.words_are ∙ ap (λ (x : ℕ). x ∷ r.served % 2 ^ 64 ∷ []) (mod-add-mod r.drawn (2 ^ 64) 1)))
               queue'
               (home_stays r.constant r.log r.served s.views s.homes id me.0 w at (λ holds. let e : Idle ≡ Holds r.served = sym idle ∙ holds in cc) r.home)
               record {
@@ -117,19 +125,20 @@ module _ {T E F : Type 0} (history : T → List E) (actor : E → ℕ) (fixed : 
                 first = was.first;
                 ended = was.ended;
               }
-              (λ j v other e. let k = r.each_seat j v e in record {
-                seen = k.seen;
-                noted = k.noted;
-                turn = others_wait r.drawn r.served id j r.drawn_by v.turn k.turn;
-                seen_all = k.seen_all;
-                own = k.own;
-                lock = k.lock;
-                first = k.first;
-                ended = k.ended;
+              (λ j v other e. let of = r.each_seat j v e in record {
+                seen = of.seen;
+                noted = of.noted;
+                turn = others_wait r.drawn r.served id j r.drawn_by v.turn of.turn;
+                seen_all = of.seen_all;
+                own = of.own;
+                lock = of.lock;
+                first = of.first;
+                ended = of.ended;
               })
               r.others,
-          (r.drawn, sym found, refl),
-        )
+          ((λ _. (r.drawn, sym found, refl)), λ miss. absurd (miss hit)),
+        ))
+        (λ miss. (me.0, keeps, tt, unmoved s r 0 id me.1 me.0 at, ((λ hit. absurd (miss hit)), λ _. refl)))
 
     -- the seat of the ticket that is served, while another hasn't the turn
     value_there : (s : St) (r : Rule s) (n : ℕ) → get_elem? s.views id ≡ some me.0 → me.0.turn ≡ Waits n → n ≡ r.served

@@ -83,9 +83,11 @@ module _ {E F : Type 0} where
   seeing history v = record v { seen = history }
 
 module _ {S E F : Type 0} where
-  -- the seat has a ticket, and the word had its number
+  -- where the word had the number that was asked for, the seat has the ticket of that number; else nothing changes
   abbrev pub DrawsTicket : Step S → Me S (View E F) → ℕ → Me S (View E F) → Type 0
-  DrawsTicket step old found new = (ticket : ℕ) × (ticket % 2 ^ 64 ≡ found) × (new ≡ (waiting ticket old.0, old.1))
+  DrawsTicket step old found new =
+      (found ≡ step.first → (ticket : ℕ) × (ticket % 2 ^ 64 ≡ found) × (new ≡ (waiting ticket old.0, old.1)))
+      × (found ≢ step.first → new ≡ old)
 
   -- the seat has no ticket
   abbrev pub IsResting : Me S (View E F) → Type 0

@@ -26,7 +26,8 @@ impl<T: Storied> TableRule<Option<T>, View<T::Entry, T::Fixed>, (Snapshot<T>, u3
     ghost first = { λ key. first_view (Some (T.fixed key.0.value)) key.1 };
 }
 
-/// A ticket is drawn: an add on word 0.
+/// A ticket is drawn, where it is the one that was asked for: an exchange on word 0.
+/// Else nothing changes.
 pub(crate) struct TicketDrawn;
 
 impl<S, E, F> Play<S, View<E, F>> for TicketDrawn {

@@ -1,5 +1,5 @@
 //! The steps of a turn, and of a note.
-ghost use Rattle.std.specs.Prelude.{◌≡◌, ◌≢◌, Some};
+ghost use Rattle.std.specs.Prelude.{◌≡◌, ◌≢◌, Some, IsTrue, IsFalse};
 ghost use Rattle.flat_lock.specs.History.{GoesOn};
 ghost use Rattle.flat_lock.specs.Steps.{IsShaped, IsSameSeat, IsResting, IsWaiting, HasTurn, HasDrawn, HasEntered, HasTaken, HasLeft, HasBeenTold};
 
@@ -7,7 +7,10 @@ use crate::rule::{
     HistorySeen, NextServed, NoteMade, NoteTold, ServingRead, SharedTable, TableSeat, TicketDrawn,
 };
 use crate::storied::Storied;
+use crossbeam_utils::Backoff;
 use std::sync::Wait;
+use std::thread;
+use std::time::Duration;
 
 const TICKET: usize = 0;
 
@@ -15,14 +18,49 @@ const SERVING: usize = 1;
 
 const VALUE: usize = 0;
 
-fn draw_ticket<T: Storied>(table: &SharedTable<T>, seat: &mut TableSeat<T>) -> u64
+/// How many microseconds a seat sleeps that came at another's turn too often.
+const NAP: u64 = 50;
+
+// Draws the ticket of that number, if it is the next one. Else nothing changes.
+fn draw_ticket<T: Storied>(table: &SharedTable<T>, seat: &mut TableSeat<T>, ticket: u64) -> bool
+    requires shaped { IsShaped table.now.shared.table_id }
+    requires own { seat.old.table_id ≡ table.now.shared.table_id }
+    requires resting { IsResting seat.old.me }
+    ensures same { IsSameSeat seat.old seat.new }
+    ensures drawn { IsTrue result → HasDrawn ticket seat.old.me seat.new.me }
+    ensures resting { IsFalse result → seat.new.me ≡ seat.old.me }
+{
+    let next = ticket.wrapping_add(1);
+    table
+        .shared
+        .compare_exchange::<TicketDrawn>(seat, TICKET, ticket, next)
+        == ticket
+}
+
+// Draws a ticket when it is the one that is served, so that nobody has the turn or
+// waits for it with a ticket. A seat that comes at another time spins, lets other
+// threads run, and then sleeps in between.
+fn draw_served<T: Storied>(table: &SharedTable<T>, rt: &impl Wait, seat: &mut TableSeat<T>) -> u64
     requires shaped { IsShaped table.now.shared.table_id }
     requires own { seat.old.table_id ≡ table.now.shared.table_id }
     requires resting { IsResting seat.old.me }
     ensures same { IsSameSeat seat.old seat.new }
     ensures drawn { HasDrawn result seat.old.me seat.new.me }
 {
-    table.shared.fetch_add::<TicketDrawn>(seat, TICKET, 1)
+    let backoff = Backoff::new();
+    for _ in rt.forever() {
+        let serving = table.shared.peek(SERVING);
+        if draw_ticket(table, seat, serving) {
+            return serving;
+        }
+        if backoff.is_completed() {
+            let word = (serving % (1 << 32)) as u32;
+            table.shared.park_timeout(rt, SERVING, word, Duration::from_micros(NAP));
+        } else {
+            backoff.snooze();
+        }
+    }
+    unreachable!()
 }
 
 // Reads the ticket that is served. Where it is the seat's, the seat has the value.
@@ -51,16 +89,15 @@ fn wait_for_ticket<T: Storied>(
     ensures served { HasEntered T.history T.actor T.fixed seat.old.me seat.new.me }
 {
     for _ in rt.forever() {
-        let serving = read_serving(table, seat, ticket);
-        if serving == ticket {
+        if read_serving(table, seat, ticket) == ticket {
             return;
         }
-        table.shared.park(rt, SERVING, (serving % (1 << 32)) as u32);
+        thread::yield_now();
     }
     unreachable!()
 }
 
-/// Draws a ticket, waits until it is served, and takes the value out.
+/// Draws the ticket that is served, and takes the value out.
 pub(crate) fn enter<T: Storied>(
     table: &SharedTable<T>,
     rt: &impl Wait,
@@ -73,7 +110,7 @@ pub(crate) fn enter<T: Storied>(
     ensures turn { HasTurn seat.new.me }
     ensures taken { HasTaken T.history T.actor T.fixed seat.old.me result seat.new.me }
 {
-    let ticket = draw_ticket(table, seat);
+    let ticket = draw_served(table, rt, seat);
     wait_for_ticket(table, rt, seat, ticket);
     let Some(value) = table.shared.exchange(seat, VALUE, None) else {
         unreachable!()
@@ -81,7 +118,7 @@ pub(crate) fn enter<T: Storied>(
     value
 }
 
-/// Puts the value back, serves the next ticket, and wakes all that wait.
+/// Puts the value back, and serves the next ticket.
 pub(crate) fn leave<T: Storied>(table: &SharedTable<T>, seat: &mut TableSeat<T>, value: T)
     requires shaped { IsShaped table.now.shared.table_id }
     requires own { seat.old.table_id ≡ table.now.shared.table_id }
@@ -94,7 +131,6 @@ pub(crate) fn leave<T: Storied>(table: &SharedTable<T>, seat: &mut TableSeat<T>,
     let left = table.shared.exchange(seat, VALUE, Some(value));
     let None = left else { unreachable!() };
     table.shared.fetch_add::<NextServed<T>>(seat, SERVING, 1);
-    table.shared.wake_all(SERVING);
 }
 
 /// Tells a resting seat what another has seen, by a note of it.

@@ -2,5 +2,5 @@ use Rattle.std.proofs.Common.{rules}
 use Rattle.flat_lock.proofs.Kept.{draws}
 use Rattle.flat_lock.proofs.steps.draw_ticket.Goals as goal
 
-pub fetch_add-requires : goal.fetch_add-requires
-fetch_add-requires g c = (search rules, search rules, draws _ _ _ _ _ _ c.requires.resting.0)
+pub compare_exchange-requires : goal.compare_exchange-requires
+compare_exchange-requires g c = (search rules, search rules, draws _ _ _ _ _ _ _ _ (search rules) c.requires.resting.0)
