@@ -12,7 +12,7 @@ use Rattle.clap.proofs.OnLiterals.{clap_on_literals}
 use Rattle.clap.proofs.FaultLemmas.{stopped_fault}
 use Rattle.clap.proofs.WalkLemmas.{walk_stopped}
 use Rattle.flat_words.specs.declared.form.Form.{Form}
-use Rattle.flat_words.specs.declared.form.Form.TheVariants.{Play, Race, Stress}
+use Rattle.flat_words.specs.declared.form.Form.TheVariants.{Play, Race, Stress, Render, Damage, Focus, Pointer}
 use Rattle.flat_words.specs.Command.{IsNamed, frames, service}
 use Rattle.flat_words.specs.Forms.{is_option}
 
@@ -100,6 +100,22 @@ race_fault : (rest : List Text) → fault_of service (codes "race" ∷ rest) ≡
 unfolding clap_on_literals
 race_fault rest = ap₂ fault_at (stopped_fault (built service).top names start (codes "race", []) rest) (sym (walk_stopped [] names start (codes "race") [] rest))
 
+render_fault : (rest : List Text) → fault_of service (codes "render" ∷ rest) ≡ fault_at [] (met (codes "render") rest)
+unfolding clap_on_literals
+render_fault rest = ap₂ fault_at (stopped_fault (built service).top names start (codes "render", []) rest) (sym (walk_stopped [] names start (codes "render") [] rest))
+
+damage_fault : (rest : List Text) → fault_of service (codes "damage" ∷ rest) ≡ fault_at [] (met (codes "damage") rest)
+unfolding clap_on_literals
+damage_fault rest = ap₂ fault_at (stopped_fault (built service).top names start (codes "damage", []) rest) (sym (walk_stopped [] names start (codes "damage") [] rest))
+
+focus_fault : (rest : List Text) → fault_of service (codes "focus" ∷ rest) ≡ fault_at [] (met (codes "focus") rest)
+unfolding clap_on_literals
+focus_fault rest = ap₂ fault_at (stopped_fault (built service).top names start (codes "focus", []) rest) (sym (walk_stopped [] names start (codes "focus") [] rest))
+
+pointer_fault : (rest : List Text) → fault_of service (codes "pointer" ∷ rest) ≡ fault_at [] (met (codes "pointer") rest)
+unfolding clap_on_literals
+pointer_fault rest = ap₂ fault_at (stopped_fault (built service).top names start (codes "pointer", []) rest) (sym (walk_stopped [] names start (codes "pointer") [] rest))
+
 stress_fault : (rest : List Text) → fault_of service (codes "stress" ∷ rest) ≡ fault_at [] (met (codes "stress") rest)
 unfolding clap_on_literals
 stress_fault rest = ap₂ fault_at (stopped_fault (built service).top names start (codes "stress", []) rest) (sym (walk_stopped [] names start (codes "stress") [] rest))
@@ -162,6 +178,38 @@ pub race_more : (word : Text) (rest : List Text) → is_option word ≡ false �
 unfolding walk_fault defaults_fault
 race_more word rest plain = race_fault (word ∷ rest) ∙ ap (λ k. or_else k []) (bare_more (codes "race") word rest plain)
 
+pub render_alone : fault_of service (codes "render" ∷ []) ≡ []
+unfolding clap_on_literals
+render_alone = refl
+
+pub render_more : (word : Text) (rest : List Text) → is_option word ≡ false → fault_of service (codes "render" ∷ word ∷ rest) ≡ UnknownArgument ∷ []
+unfolding walk_fault defaults_fault
+render_more word rest plain = render_fault (word ∷ rest) ∙ ap (λ k. or_else k []) (bare_more (codes "render") word rest plain)
+
+pub damage_alone : fault_of service (codes "damage" ∷ []) ≡ []
+unfolding clap_on_literals
+damage_alone = refl
+
+pub damage_more : (word : Text) (rest : List Text) → is_option word ≡ false → fault_of service (codes "damage" ∷ word ∷ rest) ≡ UnknownArgument ∷ []
+unfolding walk_fault defaults_fault
+damage_more word rest plain = damage_fault (word ∷ rest) ∙ ap (λ k. or_else k []) (bare_more (codes "damage") word rest plain)
+
+pub focus_alone : fault_of service (codes "focus" ∷ []) ≡ []
+unfolding clap_on_literals
+focus_alone = refl
+
+pub focus_more : (word : Text) (rest : List Text) → is_option word ≡ false → fault_of service (codes "focus" ∷ word ∷ rest) ≡ UnknownArgument ∷ []
+unfolding walk_fault defaults_fault
+focus_more word rest plain = focus_fault (word ∷ rest) ∙ ap (λ k. or_else k []) (bare_more (codes "focus") word rest plain)
+
+pub pointer_alone : fault_of service (codes "pointer" ∷ []) ≡ []
+unfolding clap_on_literals
+pointer_alone = refl
+
+pub pointer_more : (word : Text) (rest : List Text) → is_option word ≡ false → fault_of service (codes "pointer" ∷ word ∷ rest) ≡ UnknownArgument ∷ []
+unfolding walk_fault defaults_fault
+pointer_more word rest plain = pointer_fault (word ∷ rest) ∙ ap (λ k. or_else k []) (bare_more (codes "pointer") word rest plain)
+
 pub stress_alone : fault_of service (codes "stress" ∷ []) ≡ MissingRequiredArgument ∷ []
 unfolding clap_on_literals
 stress_alone = refl
@@ -188,6 +236,22 @@ play_called = refl
 pub race_called : subcommand_of service (codes "race" ∷ []) ≡ Some (codes "race", [])
 unfolding clap_on_literals
 race_called = refl
+
+pub render_called : subcommand_of service (codes "render" ∷ []) ≡ Some (codes "render", [])
+unfolding clap_on_literals
+render_called = refl
+
+pub damage_called : subcommand_of service (codes "damage" ∷ []) ≡ Some (codes "damage", [])
+unfolding clap_on_literals
+damage_called = refl
+
+pub focus_called : subcommand_of service (codes "focus" ∷ []) ≡ Some (codes "focus", [])
+unfolding clap_on_literals
+focus_called = refl
+
+pub pointer_called : subcommand_of service (codes "pointer" ∷ []) ≡ Some (codes "pointer", [])
+unfolding clap_on_literals
+pointer_called = refl
 
 abbrev pub load_rows : Text → List Row
 load_rows word = finished load.rules (one word).held
@@ -219,6 +283,10 @@ load_only found rows word is read form named = go form (subst (λ o. IsSomeAnd o
     go : (form : Form) → IsNamed (codes "stress", rows) form → (n : ℕ) × (form ≡ Stress n) × (word ≡ Some (decimal n)) × (1 ≤ n) × (n ≤ 500)
     go Play e = absurd (true≢false (ap (bytes_eq (codes "stress")) e))
     go Race e = absurd (true≢false (ap (bytes_eq (codes "stress")) e))
+    go Render e = absurd (true≢false (ap (bytes_eq (codes "stress")) e))
+    go Damage e = absurd (true≢false (ap (bytes_eq (codes "stress")) e))
+    go Focus e = absurd (true≢false (ap (bytes_eq (codes "stress")) e))
+    go Pointer e = absurd (true≢false (ap (bytes_eq (codes "stress")) e))
     go (Stress n) e = (n, refl, sym read ∙ e.1, e.2, e.3)
 
 pub load_form : (found : Option (Text × List Row)) (rows : List Row) (word : Text) (n : ℕ) → found ≡ Some (codes "stress", rows)

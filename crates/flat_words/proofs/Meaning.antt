@@ -7,10 +7,11 @@ use Rattle.clap.proofs.CountText.{decimal-count_text}
 use Rattle.clap.specs.Words.{Row, Text, count_text, fault_of, subcommand_of}
 use Rattle.clap.specs.Walk.{idle, subcommand_met}
 use Rattle.flat_words.specs.declared.form.Form.{Form}
-use Rattle.flat_words.specs.declared.form.Form.TheVariants.{Play, Race, Stress}
+use Rattle.flat_words.specs.declared.form.Form.TheVariants.{Play, Race, Stress, Render, Damage, Focus, Pointer}
 use Rattle.flat_words.specs.Command.{IsNamed, service}
-use Rattle.flat_words.specs.Forms.{CallFor, is_option}
-use Rattle.flat_words.proofs.Calls.{load_only, load_read, load_rows, names, nothing, play_alone, play_called, play_more, race_alone, race_called, race_more, stray, stress_alone, stress_called, stress_more, stress_one}
+use Rattle.flat_words.specs.Forms.{CallFor, IsAllowed, is_option, words_of}
+use Rattle.clap.specs.declared.error.kind.ErrorKind.TheVariants.{UnknownArgument}
+use Rattle.flat_words.proofs.Calls.{load_only, load_read, load_rows, names, nothing, play_alone, play_called, play_more, race_alone, race_called, race_more, render_alone, render_called, render_more, damage_alone, damage_called, damage_more, focus_alone, focus_called, focus_more, pointer_alone, pointer_called, pointer_more, stray, stress_alone, stress_called, stress_more, stress_one}
 
 abbrev is_filled : {X : Type 0} → List X → Bool
 is_filled [] = false
@@ -24,25 +25,92 @@ Names found form = IsSomeAnd found (λ call. IsNamed call form)
 
 -- ---- the words that the command takes
 
-play_form : (form : Form) → IsNamed (codes "play", []) form → CallFor (codes "play" ∷ []) form
-play_form Play e = (refl, tt)
-play_form Race e = absurd (true≢false (ap (bytes_eq (codes "play")) e))
-play_form (Stress n) e = absurd (true≢false (ap (bytes_eq (codes "play")) e.0))
+-- a word that is the whole of a form: the command takes it alone, and it names that form alone
+record Lone (name : Text) (form : Form) : Type 0 where
+  pub words : words_of form ≡ name ∷ []
+  pub allowed : IsAllowed form
+  pub alone : fault_of service (name ∷ []) ≡ []
+  pub more : (word : Text) (rest : List Text) → is_option word ≡ false → fault_of service (name ∷ word ∷ rest) ≡ UnknownArgument ∷ []
+  pub called : subcommand_of service (name ∷ []) ≡ Some (name, [])
+  pub only : (other : Form) → IsNamed (name, []) other → other ≡ form
 
-race_form : (form : Form) → IsNamed (codes "race", []) form → CallFor (codes "race" ∷ []) form
-race_form Play e = absurd (true≢false (ap (bytes_eq (codes "race")) e))
-race_form Race e = (refl, tt)
-race_form (Stress n) e = absurd (true≢false (ap (bytes_eq (codes "race")) e.0))
+play_only : (other : Form) → IsNamed (codes "play", []) other → other ≡ Play
+play_only Play e = refl
+play_only Race e = absurd (true≢false (ap (bytes_eq (codes "play")) e))
+play_only (Stress n) e = absurd (true≢false (ap (bytes_eq (codes "play")) e.0))
+play_only Render e = absurd (true≢false (ap (bytes_eq (codes "play")) e))
+play_only Damage e = absurd (true≢false (ap (bytes_eq (codes "play")) e))
+play_only Focus e = absurd (true≢false (ap (bytes_eq (codes "play")) e))
+play_only Pointer e = absurd (true≢false (ap (bytes_eq (codes "play")) e))
 
-after_play : (rest : List Text) → list_any is_option rest ≡ false → fault_of service (codes "play" ∷ rest) ≡ [] → (form : Form)
-    → Names (subcommand_of service (codes "play" ∷ rest)) form → CallFor (codes "play" ∷ rest) form
-after_play [] plain ok form named = play_form form (subst (λ o. Names o form) play_called named)
-after_play (word ∷ rest) plain ok form named = absurd (filled (sym (play_more word rest (or_parts (is_option word) _ plain).0) ∙ ok))
+play : Lone (codes "play") Play
+play = record { words = refl; allowed = tt; alone = play_alone; more = play_more; called = play_called; only = play_only }
 
-after_race : (rest : List Text) → list_any is_option rest ≡ false → fault_of service (codes "race" ∷ rest) ≡ [] → (form : Form)
-    → Names (subcommand_of service (codes "race" ∷ rest)) form → CallFor (codes "race" ∷ rest) form
-after_race [] plain ok form named = race_form form (subst (λ o. Names o form) race_called named)
-after_race (word ∷ rest) plain ok form named = absurd (filled (sym (race_more word rest (or_parts (is_option word) _ plain).0) ∙ ok))
+race_only : (other : Form) → IsNamed (codes "race", []) other → other ≡ Race
+race_only Play e = absurd (true≢false (ap (bytes_eq (codes "race")) e))
+race_only Race e = refl
+race_only (Stress n) e = absurd (true≢false (ap (bytes_eq (codes "race")) e.0))
+race_only Render e = absurd (true≢false (ap (bytes_eq (codes "race")) e))
+race_only Damage e = absurd (true≢false (ap (bytes_eq (codes "race")) e))
+race_only Focus e = absurd (true≢false (ap (bytes_eq (codes "race")) e))
+race_only Pointer e = absurd (true≢false (ap (bytes_eq (codes "race")) e))
+
+race : Lone (codes "race") Race
+race = record { words = refl; allowed = tt; alone = race_alone; more = race_more; called = race_called; only = race_only }
+
+render_only : (other : Form) → IsNamed (codes "render", []) other → other ≡ Render
+render_only Play e = absurd (true≢false (ap (bytes_eq (codes "render")) e))
+render_only Race e = absurd (true≢false (ap (bytes_eq (codes "render")) e))
+render_only (Stress n) e = absurd (true≢false (ap (bytes_eq (codes "render")) e.0))
+render_only Render e = refl
+render_only Damage e = absurd (true≢false (ap (bytes_eq (codes "render")) e))
+render_only Focus e = absurd (true≢false (ap (bytes_eq (codes "render")) e))
+render_only Pointer e = absurd (true≢false (ap (bytes_eq (codes "render")) e))
+
+render : Lone (codes "render") Render
+render = record { words = refl; allowed = tt; alone = render_alone; more = render_more; called = render_called; only = render_only }
+
+damage_only : (other : Form) → IsNamed (codes "damage", []) other → other ≡ Damage
+damage_only Play e = absurd (true≢false (ap (bytes_eq (codes "damage")) e))
+damage_only Race e = absurd (true≢false (ap (bytes_eq (codes "damage")) e))
+damage_only (Stress n) e = absurd (true≢false (ap (bytes_eq (codes "damage")) e.0))
+damage_only Render e = absurd (true≢false (ap (bytes_eq (codes "damage")) e))
+damage_only Damage e = refl
+damage_only Focus e = absurd (true≢false (ap (bytes_eq (codes "damage")) e))
+damage_only Pointer e = absurd (true≢false (ap (bytes_eq (codes "damage")) e))
+
+damage : Lone (codes "damage") Damage
+damage = record { words = refl; allowed = tt; alone = damage_alone; more = damage_more; called = damage_called; only = damage_only }
+
+focus_only : (other : Form) → IsNamed (codes "focus", []) other → other ≡ Focus
+focus_only Play e = absurd (true≢false (ap (bytes_eq (codes "focus")) e))
+focus_only Race e = absurd (true≢false (ap (bytes_eq (codes "focus")) e))
+focus_only (Stress n) e = absurd (true≢false (ap (bytes_eq (codes "focus")) e.0))
+focus_only Render e = absurd (true≢false (ap (bytes_eq (codes "focus")) e))
+focus_only Damage e = absurd (true≢false (ap (bytes_eq (codes "focus")) e))
+focus_only Focus e = refl
+focus_only Pointer e = absurd (true≢false (ap (bytes_eq (codes "focus")) e))
+
+focus : Lone (codes "focus") Focus
+focus = record { words = refl; allowed = tt; alone = focus_alone; more = focus_more; called = focus_called; only = focus_only }
+
+pointer_only : (other : Form) → IsNamed (codes "pointer", []) other → other ≡ Pointer
+pointer_only Play e = absurd (true≢false (ap (bytes_eq (codes "pointer")) e))
+pointer_only Race e = absurd (true≢false (ap (bytes_eq (codes "pointer")) e))
+pointer_only (Stress n) e = absurd (true≢false (ap (bytes_eq (codes "pointer")) e.0))
+pointer_only Render e = absurd (true≢false (ap (bytes_eq (codes "pointer")) e))
+pointer_only Damage e = absurd (true≢false (ap (bytes_eq (codes "pointer")) e))
+pointer_only Focus e = absurd (true≢false (ap (bytes_eq (codes "pointer")) e))
+pointer_only Pointer e = refl
+
+pointer : Lone (codes "pointer") Pointer
+pointer = record { words = refl; allowed = tt; alone = pointer_alone; more = pointer_more; called = pointer_called; only = pointer_only }
+
+after_lone : {name : Text} {lone : Form} → Lone name lone → (rest : List Text) → list_any is_option rest ≡ false → fault_of service (name ∷ rest) ≡ [] → (form : Form)
+    → Names (subcommand_of service (name ∷ rest)) form → CallFor (name ∷ rest) form
+after_lone {name} {lone} is [] plain ok form named =
+    subst (CallFor (name ∷ [])) (sym (is.only form (subst (λ o. Names o form) is.called named))) (sym is.words, is.allowed)
+after_lone is (word ∷ rest) plain ok form named = absurd (filled (sym (is.more word rest (or_parts (is_option word) _ plain).0) ∙ ok))
 
 after_stress : (rest : List Text) → list_any is_option rest ≡ false → fault_of service (codes "stress" ∷ rest) ≡ [] → (form : Form)
     → Names (subcommand_of service (codes "stress" ∷ rest)) form → CallFor (codes "stress" ∷ rest) form
@@ -54,18 +122,19 @@ after_stress (word ∷ last ∷ rest) plain ok form named =
     let first = or_parts (is_option word) _ plain in
     absurd (filled (sym (stress_more word last rest first.0 (or_parts (is_option last) _ first.1).0) ∙ ok))
 
-unknown : (word : Text) → bytes_eq (codes "play") word ≡ false → bytes_eq (codes "race") word ≡ false → bytes_eq (codes "stress") word ≡ false
+unknown : (word : Text) → bytes_eq (codes "play") word ≡ false → bytes_eq (codes "race") word ≡ false → bytes_eq (codes "stress") word ≡ false → bytes_eq (codes "render") word ≡ false → bytes_eq (codes "damage") word ≡ false → bytes_eq (codes "focus") word ≡ false → bytes_eq (codes "pointer") word ≡ false
     → subcommand_met names idle word ≡ None
-unknown word play race stress =
-    λ i. option_map (λ (s : Text × List Text). s.0) (cond (play i || false) (Some (codes "play", []))
-    (cond (race i || false) (Some (codes "race", [])) (cond (stress i || false) (Some (codes "stress", [])) None)))
+unknown word play race stress render damage focus pointer =
+    λ i. option_map (λ (s : Text × List Text). s.0) (cond (play i || false) (Some (codes "play", [])) (cond (race i || false) (Some (codes "race", [])) (cond (stress i || false) (Some (codes "stress", [])) (cond (render i || false) (Some (codes "render", [])) (cond (damage i || false) (Some (codes "damage", [])) (cond (focus i || false) (Some (codes "focus", [])) (cond (pointer i || false) (Some (codes "pointer", [])) None)))))))
 
 -- where no word begins with a hyphen, and the command takes them all, they call for the form that they name
 pub called : (words : List Text) → list_any is_option words ≡ false → fault_of service words ≡ [] → (form : Form)
     → Names (subcommand_of service words) form → CallFor words form
 called [] plain ok form named = absurd (filled (sym nothing ∙ ok))
 called (word ∷ rest) plain ok form named =
-    by_play (bytes_eq (codes "play") word) refl (bytes_eq-Decides (codes "play") word)
+    by_lone play (λ no_play. by_lone race (λ no_race. by_stress (λ no_stress. by_lone render (λ no_render. by_lone damage (λ no_damage.
+    by_lone focus (λ no_focus. by_lone pointer (λ no_pointer.
+    absurd (filled (sym (stray word rest parts.0 (unknown word no_play no_race no_stress no_render no_damage no_focus no_pointer)) ∙ ok)))))))))
   where
     parts : (is_option word ≡ false) × (list_any is_option rest ≡ false)
     parts = or_parts (is_option word) _ plain
@@ -73,18 +142,17 @@ called (word ∷ rest) plain ok form named =
     Meant : Text → Type 0
     Meant name = fault_of service (name ∷ rest) ≡ [] → Names (subcommand_of service (name ∷ rest)) form → CallFor (name ∷ rest) form
 
-    by_stress : (b : Bool) → bytes_eq (codes "stress") word ≡ b → Decides b (codes "stress" ≡ word) → bytes_eq (codes "play") word ≡ false
-        → bytes_eq (codes "race") word ≡ false → CallFor (word ∷ rest) form
-    by_stress true e is play race = subst Meant (is.0 refl) (λ k n. after_stress rest parts.1 k form n) ok named
-    by_stress false e is play race = absurd (filled (sym (stray word rest parts.0 (unknown word play race e)) ∙ ok))
+    -- the word is that name, or it is left to the later ones
+    by_name : (name : Text) → Meant name → (b : Bool) → bytes_eq name word ≡ b → Decides b (name ≡ word) → (bytes_eq name word ≡ false → CallFor (word ∷ rest) form) → CallFor (word ∷ rest) form
+    by_name name meant true e is later = subst Meant (is.0 refl) meant ok named
+    by_name name meant false e is later = later e
 
-    by_race : (b : Bool) → bytes_eq (codes "race") word ≡ b → Decides b (codes "race" ≡ word) → bytes_eq (codes "play") word ≡ false → CallFor (word ∷ rest) form
-    by_race true e is play = subst Meant (is.0 refl) (λ k n. after_race rest parts.1 k form n) ok named
-    by_race false e is play = by_stress (bytes_eq (codes "stress") word) refl (bytes_eq-Decides (codes "stress") word) play e
+    by_lone : {name : Text} {lone : Form} → Lone name lone → (bytes_eq name word ≡ false → CallFor (word ∷ rest) form) → CallFor (word ∷ rest) form
+    by_lone {name} is later = by_name name (λ k n. after_lone is rest parts.1 k form n) (bytes_eq name word) refl (bytes_eq-Decides name word) later
 
-    by_play : (b : Bool) → bytes_eq (codes "play") word ≡ b → Decides b (codes "play" ≡ word) → CallFor (word ∷ rest) form
-    by_play true e is = subst Meant (is.0 refl) (λ k n. after_play rest parts.1 k form n) ok named
-    by_play false e is = by_race (bytes_eq (codes "race") word) refl (bytes_eq-Decides (codes "race") word) e
+    by_stress : (bytes_eq (codes "stress") word ≡ false → CallFor (word ∷ rest) form) → CallFor (word ∷ rest) form
+    by_stress later =
+        by_name (codes "stress") (λ k n. after_stress rest parts.1 k form n) (bytes_eq (codes "stress") word) refl (bytes_eq-Decides (codes "stress") word) later
 
 -- ---- the words of a form
 
@@ -110,6 +178,10 @@ Taken form words = (list_any is_option words ≡ false) × (fault_of service wor
 pub taken : (words : List Text) (form : Form) → CallFor words form → Taken form words
 taken words Play call = subst (Taken Play) (sym call.0) (refl, play_alone, subst (λ o. Names o Play) (sym play_called) refl)
 taken words Race call = subst (Taken Race) (sym call.0) (refl, race_alone, subst (λ o. Names o Race) (sym race_called) refl)
+taken words Render call = subst (Taken Render) (sym call.0) (refl, render_alone, subst (λ o. Names o Render) (sym render_called) refl)
+taken words Damage call = subst (Taken Damage) (sym call.0) (refl, damage_alone, subst (λ o. Names o Damage) (sym damage_called) refl)
+taken words Focus call = subst (Taken Focus) (sym call.0) (refl, focus_alone, subst (λ o. Names o Focus) (sym focus_called) refl)
+taken words Pointer call = subst (Taken Pointer) (sym call.0) (refl, pointer_alone, subst (λ o. Names o Pointer) (sym pointer_called) refl)
 taken words (Stress n) call =
     let plain = decimal_plain n call.1.1 in
     subst (Taken (Stress n)) (sym call.0) (

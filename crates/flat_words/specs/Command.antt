@@ -4,7 +4,7 @@ use Rattle.std.specs.Fmt.{decimal}
 use Rattle.clap.specs.Words.{App, Row, Rule, Text, first_of, new_app, new_rule, with_rule, with_subcommand}
 use Rattle.clap.specs.Simple.{Shape, on_top}
 use Rattle.flat_words.specs.declared.form.Form.{Form}
-use Rattle.flat_words.specs.declared.form.Form.TheVariants.{Play, Race, Stress}
+use Rattle.flat_words.specs.declared.form.Form.TheVariants.{Play, Race, Stress, Render, Damage, Focus, Pointer}
 
 -- the word after `stress`: the number of frames
 abbrev pub frames : Rule
@@ -25,9 +25,17 @@ abbrev pub service : App
 service =
     with_subcommand
     (with_subcommand
+    (with_subcommand
+    (with_subcommand
+    (with_subcommand
+    (with_subcommand
     (with_subcommand (on_top asking (new_app (codes "flatland"))) (new_app (codes "play")).top)
     (new_app (codes "race")).top)
-    (with_rule (new_app (codes "stress")) frames).top
+    (with_rule (new_app (codes "stress")) frames).top)
+    (new_app (codes "render")).top)
+    (new_app (codes "damage")).top)
+    (new_app (codes "focus")).top)
+    (new_app (codes "pointer")).top
 
 -- A subcommand, with its name and its own words, is that of a form.
 abbrev pub IsNamed : Text × List Row → Form → Type 0
@@ -36,3 +44,7 @@ IsNamed call Race = call.0 ≡ codes "race"
 IsNamed call (Stress number) = (call.0 ≡ codes "stress")
     × (first_of (codes "frames") call.1 ≡ Some (decimal number))
     × (1 ≤ number) × (number ≤ 500)
+IsNamed call Render = call.0 ≡ codes "render"
+IsNamed call Damage = call.0 ≡ codes "damage"
+IsNamed call Focus = call.0 ≡ codes "focus"
+IsNamed call Pointer = call.0 ≡ codes "pointer"

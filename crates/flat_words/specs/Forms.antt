@@ -2,19 +2,22 @@
 use Rattle.std.specs.Prelude.{◌≡◌, ◌==◌, ⊤, ℕ, ◌≤◌, Bool, false, List, [], ◌∷◌, codes}
 use Rattle.std.specs.Fmt.{decimal}
 use Rattle.flat_words.specs.declared.form.Form.{Form}
-use Rattle.flat_words.specs.declared.form.Form.TheVariants.{Play, Race, Stress}
+use Rattle.flat_words.specs.declared.form.Form.TheVariants.{Play, Race, Stress, Render, Damage, Focus, Pointer}
 
 -- how a form is written
 abbrev pub words_of : Form → List (List ℕ)
 words_of Play = codes "play" ∷ []
 words_of Race = codes "race" ∷ []
 words_of (Stress frames) = codes "stress" ∷ decimal frames ∷ []
+words_of Render = codes "render" ∷ []
+words_of Damage = codes "damage" ∷ []
+words_of Focus = codes "focus" ∷ []
+words_of Pointer = codes "pointer" ∷ []
 
 -- A load has at least one frame, and no more than are allowed.
 abbrev pub IsAllowed : Form → Type 0
-IsAllowed Play = ⊤
-IsAllowed Race = ⊤
 IsAllowed (Stress frames) = (1 ≤ frames) × (frames ≤ 500)
+IsAllowed _ = ⊤
 
 -- The words call for a form.
 abbrev pub CallFor : List (List ℕ) → Form → Type 0

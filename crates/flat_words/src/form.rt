@@ -1,11 +1,12 @@
 ghost use Rattle.flat_words.specs.declared.form.Form.{Form};
-ghost use Rattle.std.specs.Prelude.{◌≡◌, ℕ, ◌≤◌, [], map, Some, IfOk, IfSome, IsSomeAnd, IsTrue, is_some};
+ghost use Rattle.std.specs.Prelude.{◌≡◌, ℕ, ◌≤◌, [], codes, map, Some, IfOk, IfSome, IsSomeAnd, IsTrue, is_some};
 ghost use Rattle.std.specs.List.{list_any};
 ghost use Rattle.std.specs.String.{string_bytes};
 ghost use Rattle.std.specs.Fmt.{decimal};
-ghost use Rattle.clap.specs.Words.{app_of, fault_of, subcommand_of, subcommand_rows_of};
+ghost use Rattle.clap.specs.Simple.{on_top};
+ghost use Rattle.clap.specs.Words.{app_of, fault_of, new_app, subcommand_of, subcommand_rows_of, with_rule, with_subcommand};
 ghost use Rattle.flat_words.specs.Forms.{CallFor, is_option};
-ghost use Rattle.flat_words.specs.Command.{IsNamed, service};
+ghost use Rattle.flat_words.specs.Command.{IsNamed, asking, frames, service};
 
 use clap::error::ErrorKind;
 use clap::{Arg, ArgMatches, Command};
@@ -22,6 +23,14 @@ pub enum Form {
     Race,
     /// The built-in load of so many frames.
     Stress(u32),
+    /// The picture of a played script's last frame.
+    Render,
+    /// What changed from frame to frame of a played script.
+    Damage,
+    /// Who had the focus while a script was played.
+    Focus,
+    /// To which sessions the pointers' lines went while a script was played.
+    Pointer,
 }
 
 /// The form for which the words call: None exactly where they call for none. The
@@ -47,23 +56,51 @@ fn has_option(words: &[String]) -> bool
     words.iter().any(|word| word.as_str().starts_with('-'))
 }
 
+// The command with one form more, which is a word alone.
+fn with_form<'a>(
+    alloc: Global,
+    command: Command<'a>,
+    name: &'a str,
+) -> Result<Command<'a>, NoMemory>
+    ensures { IfOk result (λ more. app_of more ≡ with_subcommand (app_of command.entry) (new_app name.entry.now).top) }
+{
+    Ok(command.subcommand(Command::new(alloc, name))?)
+}
+
+// The command with the form of a load, which has the number of its frames behind its
+// word.
+fn with_load<'a>(alloc: Global, command: Command<'a>) -> Result<Command<'a>, NoMemory>
+    ensures { IfOk result (λ more. app_of more ≡ with_subcommand (app_of command.entry) (with_rule (new_app (codes "stress")) frames).top) }
+{
+    let frames = Arg::new(alloc, "frames").required(true);
+    let stress = Command::new(alloc, "stress").arg(frames)?;
+    Ok(command.subcommand(stress)?)
+}
+
+// The command without its forms.
+fn bare<'a>(alloc: Global) -> Command<'a>
+    ensures { app_of result ≡ on_top asking (new_app (codes "flatland")) }
+{
+    Command::new(alloc, "flatland")
+        .no_binary_name(true)
+        .disable_help_flag(true)
+        .disable_help_subcommand(true)
+        .disable_version_flag(true)
+        .subcommand_required(true)
+}
+
 // The command, whose subcommands are the forms.
 fn service<'a>(alloc: Global) -> Result<Command<'a>, NoMemory>
     ensures { IfOk result (λ command. app_of command ≡ service) }
 {
-    let frames = Arg::new(alloc, "frames").required(true);
-    let stress = Command::new(alloc, "stress").arg(frames)?;
-    Ok(
-        Command::new(alloc, "flatland")
-            .no_binary_name(true)
-            .disable_help_flag(true)
-            .disable_help_subcommand(true)
-            .disable_version_flag(true)
-            .subcommand_required(true)
-            .subcommand(Command::new(alloc, "play"))?
-            .subcommand(Command::new(alloc, "race"))?
-            .subcommand(stress)?,
-    )
+    let command = bare(alloc);
+    let command = with_form(alloc, command, "play")?;
+    let command = with_form(alloc, command, "race")?;
+    let command = with_load(alloc, command)?;
+    let command = with_form(alloc, command, "render")?;
+    let command = with_form(alloc, command, "damage")?;
+    let command = with_form(alloc, command, "focus")?;
+    with_form(alloc, command, "pointer")
 }
 
 // What the words give the command, or None where it refuses them.
@@ -94,6 +131,10 @@ fn named_form(matches: &ArgMatches) -> Option<Form>
         "play" => Some(Form::Play),
         "race" => Some(Form::Race),
         "stress" => Some(Form::Stress(read_frames(given.get_str("frames")?)?)),
+        "render" => Some(Form::Render),
+        "damage" => Some(Form::Damage),
+        "focus" => Some(Form::Focus),
+        "pointer" => Some(Form::Pointer),
         _ => None,
     }
 }
