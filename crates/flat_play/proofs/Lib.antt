@@ -5,3 +5,4 @@ pub mod Growing
 pub mod InOrder
 pub mod Losses
 pub mod lemmas
+pub mod Touching

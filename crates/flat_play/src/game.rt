@@ -14,7 +14,9 @@ ghost use Rattle.flat_topology.specs.Connected.{joined_lists};
 ghost use Rattle.flat_report.specs.Report.{frame_at};
 ghost use Rattle.flat_playable.specs.Playable.{is_playable};
 ghost use Rattle.flat_play.specs.Playing.{session_text, display_text};
+ghost use Rattle.flat_play.specs.Touches.{GoesOnAt, GoesOnByEnds};
 ghost use Rattle.flat_play.specs.Showing.{IsShown};
+ghost use Rattle.flat_scene.specs.declared.script.ScriptLine.{ScriptLine};
 
 use crate::frame::{Composed, LastFrame, compose_frame, show_last};
 use flat_base::{Actor, FenceNo, NoMemory, SessionNo, TryCopy};
@@ -158,6 +160,7 @@ impl Game {
         requires playable { is_playable script.now ≡ true }
         requires stands { GameStands script.now place self.old }
         ensures stands { OnOk result (GameStands script.now (place + 1) self.new) }
+        ensures goes_on { OnOk result (GoesOnAt number self.old.board.history self.new.board.history) }
         ensures frames { OnOk result (self.new.frames ≡ self.old.frames) }
     {
         lines_are_read();
@@ -183,6 +186,7 @@ impl Game {
         requires stands { GameStands script.now place self.old }
         requires number { length displays.old.items ≡ set.old.displays }
         ensures stands { OnOk result (GameStands script.now (place + 1) self.new) }
+        ensures goes_on { OnOk result (GoesOnAt number self.old.board.history self.new.board.history) }
         ensures shows { OnOk result (IsShown (λ d. shown d) (λ d. faults d) self.old.frames.items self.new.frames.items set.old set.new displays.old.items displays.new.items) }
         ensures unshown { OnErr result ((set.new ≡ set.old) × (displays.new ≡ displays.old)) }
         ensures same { set.new.displays ≡ set.old.displays }
@@ -228,6 +232,7 @@ impl Game {
         requires stands { GameStands script.now place self.old }
         requires number { length displays.old.items ≡ set.old.displays }
         ensures stands { OnOk result (GameStands script.now (place + 1) self.new) }
+        ensures goes_on { (line : ScriptLine) → slice_get script.now.lines place ≡ Some line → OnOk result (GoesOnAt line.number self.old.board.history self.new.board.history) }
         ensures shows { OnOk result (IsShown (λ d. shown d) (λ d. faults d) self.old.frames.items self.new.frames.items set.old set.new displays.old.items displays.new.items) }
         ensures unshown { OnErr result ((set.new ≡ set.old) × (displays.new ≡ displays.old)) }
         ensures same { set.new.displays ≡ set.old.displays }
@@ -255,6 +260,7 @@ impl Game {
         requires playable { is_playable script.now ≡ true }
         requires stands { EndsStand script.now before self.old }
         ensures stands { EndsStand script.now (before + 1) self.new }
+        ensures ends { GoesOnByEnds self.old.board.history self.new.board.history }
         ensures frames { self.new.frames ≡ self.old.frames }
     {
         lines_are_read();
@@ -268,6 +274,7 @@ impl Game {
         requires stands { GameStands script.now (length script.now.lines) self.old }
         ensures played { HasPlayed script.now self.new.board self.new.frames.items self.new.answers }
         ensures written { IsWritten script.now.setup self.new.board.history }
+        ensures ends { GoesOnByEnds self.old.board.history self.new.board.history }
         ensures frames { self.new.frames ≡ self.old.frames }
     {
         for before in 0..script.setup.sessions {

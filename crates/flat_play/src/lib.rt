@@ -1,5 +1,5 @@
 //! The play of a script in written order: its lines are read over one board, its frames
-//! composed and shown to displays.
+//! composed and shown to displays, and pointers' lines answered beside it.
 //!
 //! Other crates may cite the lemmas of proofs/lemmas/: lines at their places (Places,
 //! Steps, Unread), what a line of the display leaves (DisplaySteps), what displays have
@@ -9,7 +9,8 @@
 mod frame;
 mod game;
 mod run;
+mod touches;
 
 pub use frame::{Composed, LastFrame, compose_frame, show_last};
 pub use game::Game;
-pub use run::{Played, play_script, shares_of};
+pub use run::{Played, play_touched, play_script, shares_of};

@@ -5,14 +5,18 @@ ghost use Rattle.flat_scene.specs.Setups.{is_setup};
 ghost use Rattle.flat_playable.specs.Playable.{is_playable};
 ghost use Rattle.flat_play.specs.Playing.{lines_by, shares_of, AreNew, GameStands, HasPlayed};
 ghost use Rattle.flat_display.specs.Had.{AreKept};
+ghost use Rattle.flat_play.specs.Touches.{touch_of};
+ghost use Rattle.flat_pointer.specs.Lines.{rise_after};
 ghost use Rattle.flat_play.specs.Showing.{HaveSeen};
 
 use crate::frame::LastFrame;
 use crate::game::Game;
+use crate::touches::{answer_all, answer_upto};
 use flat_base::{Actor, FrameNo, NoMemory, SessionNo, ShareList, TryCopy};
 use flat_core::{Board, shown_states_fit};
 use flat_display::{Display, DisplaySet};
 use flat_places::Script;
+use flat_pointer::{PointerLine, Touch};
 use flat_report::HitAnswers;
 use flat_scene::{FrameOut, ScriptLine, SessionSet, Setup};
 use flat_stage::{Reader, lines_are_read};
@@ -74,6 +78,7 @@ fn start(alloc: Global, script: &Script) -> Result<Game, NoMemory>
     requires { is_playable script.now ≡ true }
     ensures stands { IfOk result (λ game. GameStands script.now 0 game) }
     ensures none { IfOk result (λ game. game.frames.items ≡ []) }
+    ensures no_entry { IfOk result (λ game. game.board.history ≡ []) }
 {
     lines_are_read();
     shown_states_fit();
@@ -97,26 +102,35 @@ fn start(alloc: Global, script: &Script) -> Result<Game, NoMemory>
 }
 
 /// Plays all lines of a script, in written order, and shows each frame to the
-/// displays before it is finished.
+/// displays before it is finished. Pointers' lines are answered in between, each in
+/// its place.
 fn play_lines(
     alloc: Global,
     script: &Script,
+    lines: &[PointerLine],
     set: &mut DisplaySet,
     displays: &mut Vec<Box<dyn Display>>,
-) -> Result<Game, NoMemory>
+) -> Result<(Game, Vec<Touch>), NoMemory>
     requires playable { is_playable script.now ≡ true }
+    requires rise { rise_after 0 lines.now ≡ true }
     requires number { length displays.old.items ≡ set.old.displays }
     requires few { set.old.displays < 2 ^ 32 }
     requires none { set.old.lost ≡ [] }
-    ensures stands { IfOk result (λ game. GameStands script.now (length script.now.lines) game) }
-    ensures seen { IfOk result (λ game. HaveSeen (λ d. shown d) (λ d. faults d) game.frames.items game.board.history set.new.lost displays.old.items displays.new.items) }
+    ensures stands { IfOk result (λ ran. GameStands script.now (length script.now.lines) ran.0) }
+    ensures touches { IfOk result (λ ran. ran.1.items ≡ map (touch_of script.now.setup ran.0.board.history) lines.now) }
+    ensures seen { IfOk result (λ ran. HaveSeen (λ d. shown d) (λ d. faults d) ran.0.frames.items ran.0.board.history set.new.lost displays.old.items displays.new.items) }
     ensures kept { AreKept (λ d. shown d) (λ d. faults d) displays.old.items displays.new.items (λ d. d.vtable) }
 {
     let mut game = start(alloc, script)?;
+    let mut left = lines;
+    let mut found = Vec::new(alloc);
     for place in 0..script.lines.len() {
+        let line = script.lines.at(place);
+        left = answer_upto(alloc, &game.last, left, line.number, &mut found)?;
         game.play_line(alloc, script, place, set, displays)?;
     }
-    Ok(game)
+    answer_all(alloc, &game.last, left, &mut found)?;
+    Ok((game, found))
 }
 
 /// A script that was run to its end.
@@ -130,6 +144,45 @@ pub struct Played {
     pub answers: HitAnswers,
     /// Which displays were lost.
     pub set: DisplaySet,
+}
+
+/// Plays a script to its end, as [`play_script`] does, and answers lines of pointers
+/// on the way: whom one that goes down hits, in the frame that was finished last
+/// before its line.
+pub fn play_touched(
+    alloc: Global,
+    script: &Script,
+    lines: &[PointerLine],
+    displays: &mut Vec<Box<dyn Display>>,
+) -> Result<(Played, Vec<Touch>), NoMemory>
+    requires playable { is_playable script.now ≡ true }
+    requires rise { rise_after 0 lines.now ≡ true }
+    requires few { length displays.old.items < 2 ^ 32 }
+    ensures played { IfOk result (λ ran. HasPlayed script.now ran.0.board ran.0.frames.items ran.0.answers) }
+    ensures touches { IfOk result (λ ran. ran.1.items ≡ map (touch_of script.now.setup ran.0.board.history) lines.now) }
+    ensures written { IfOk result (λ ran. IsWritten script.now.setup ran.0.board.history) }
+    ensures seen { IfOk result (λ ran. HaveSeen (λ d. shown d) (λ d. faults d) ran.0.frames.items ran.0.board.history ran.0.set.lost displays.old.items displays.new.items) }
+    ensures kept { AreKept (λ d. shown d) (λ d. faults d) displays.old.items displays.new.items (λ d. d.vtable) }
+{
+    let mut set = DisplaySet::new(alloc, displays.len() as u32)?;
+    let (mut game, touches) = play_lines(alloc, script, lines, &mut set, displays)?;
+    game.end_all(script);
+    let Game {
+        board,
+        readers: _,
+        shown: _,
+        with_view: _,
+        frames,
+        last: _,
+        answers,
+    } = game;
+    let played = Played {
+        board,
+        frames,
+        answers,
+        set,
+    };
+    Ok((played, touches))
 }
 
 /// Plays a script to its end: its lines in written order, and then an End of each
@@ -146,22 +199,6 @@ pub fn play_script(
     ensures seen { IfOk result (λ played. HaveSeen (λ d. shown d) (λ d. faults d) played.frames.items played.board.history played.set.lost displays.old.items displays.new.items) }
     ensures kept { AreKept (λ d. shown d) (λ d. faults d) displays.old.items displays.new.items (λ d. d.vtable) }
 {
-    let mut set = DisplaySet::new(alloc, displays.len() as u32)?;
-    let mut game = play_lines(alloc, script, &mut set, displays)?;
-    game.end_all(script);
-    let Game {
-        board,
-        readers: _,
-        shown: _,
-        with_view: _,
-        frames,
-        last: _,
-        answers,
-    } = game;
-    Ok(Played {
-        board,
-        frames,
-        answers,
-        set,
-    })
+    let (played, _touches) = play_touched(alloc, script, &[], displays)?;
+    Ok(played)
 }

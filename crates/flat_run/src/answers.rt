@@ -1,27 +1,30 @@
-ghost use Rattle.std.specs.Prelude.{◌≡◌, ◌≢◌, ◌<◌, ◌≤◌, ◌^◌, ◌||◌, ◌==◌, ℕ, List, [], true, length, IfOk, IsTrue, Ok, Err};
+ghost use Rattle.std.specs.Prelude.{◌≡◌, ◌≢◌, ◌<◌, ◌≤◌, ◌^◌, ◌||◌, ◌==◌, ℕ, List, true, map, length, IfOk, IsTrue, IsFalse, Ok, Err};
 ghost use Rattle.flat_io.specs.Counts.{has_risen};
 ghost use Rattle.flat_scene.specs.Interleave.{IsWritten};
-ghost use Rattle.flat_playable.specs.Playable.{is_playable};
-ghost use Rattle.flat_report.specs.Report.{report};
-ghost use Rattle.flat_script.specs.Grammar.{text_read};
-ghost use Rattle.flat_words.specs.declared.form.Form.TheVariants.{Race};
+ghost use Rattle.flat_words.specs.declared.form.Form.TheVariants.{Race, Render, Pointer};
 ghost use Rattle.flat_words.specs.Forms.{CallFor};
 ghost use Rattle.flat_display.specs.Had.{AreKept};
 ghost use Rattle.flat_play.specs.Playing.{HasPlayed};
 ghost use Rattle.flat_play.specs.Showing.{HaveSeen};
-ghost use Rattle.flat_run.specs.Answering.{IsReply};
-ghost use Rattle.flat_run.specs.Promise.{fault_line, is_read, AreGiven, IsTold, IsAnswer};
+ghost use Rattle.flat_play.specs.Touches.{touch_of};
+ghost use Rattle.flat_run.specs.Answering.{IsReply, IsRunnable};
+ghost use Rattle.flat_run.specs.Forms.{is_read, form_read, Fits};
+ghost use Rattle.flat_run.specs.Promise.{fault_line, large_line, AreGiven, IsTold, IsAnswer, IsTooLarge};
 
+use crate::reading::{Reading, read_text};
+use crate::texts::text_of;
 use flat_base::{NoMemory, SCRIPT_BYTES_MAX};
 use flat_display::Display;
+use flat_extra::extra_laws;
 use flat_io::{ReadAll, Source, read_all};
 use flat_places::Script;
-use flat_play::{Played, play_script};
+use flat_play::{Played, play_script, play_touched};
 use flat_playable::scripts_are_playable;
+use flat_pointer::Touch;
 use flat_race::{Gate, race_script};
-use flat_report::{handed_is_report, print_report};
+use flat_render::is_too_large;
 use flat_rules::families_are_alone;
-use flat_script::{ScriptError, ScriptFault, parse};
+use flat_script::{ScriptError, ScriptFault};
 use flat_words::Form;
 use itoa::Buffer;
 use std::alloc::Global;
@@ -33,6 +36,12 @@ pub const DONE: u8 = 0;
 
 /// The status where the text is no script.
 pub const REFUSED: u8 = 3;
+
+/// The status where a picture would have too many pixels.
+pub const TOO_LARGE: u8 = 7;
+
+/// What is written then.
+const LARGE: &[u8] = b"picture too large\n";
 
 /// What is to be written, and the status of a call that wrote it.
 #[derive(Drop)]
@@ -87,61 +96,110 @@ fn refusal(alloc: Global, fault: ScriptFault) -> Result<Answer, NoMemory>
     })
 }
 
-/// Runs a script as a form asks: in written order, or in a race on threads.
-fn run_script<T: Threads + Wait + Sync, G: Gate>(
+/// Runs a script as a form asks: in written order, or in a race on threads. Pointers'
+/// lines are answered on the way.
+fn run_reading<T: Threads + Wait + Sync, G: Gate>(
     rt: &T,
     alloc: Global,
     form: Form,
-    script: &Script,
+    reading: &Reading,
     displays: &mut Vec<Box<dyn Display>>,
     gate: &G,
-) -> Result<Played, NoMemory>
-    requires playable { is_playable script.now ≡ true }
+) -> Result<(Played, Vec<Touch>), NoMemory>
+    requires runnable { IsRunnable reading.now }
     requires few { length displays.old.items < 2 ^ 32 }
-    ensures played { IfOk result (λ played. HasPlayed script.now played.board played.frames.items played.answers) }
-    ensures written { form ≢ Race → IfOk result (λ played. IsWritten script.now.setup played.board.history) }
-    ensures seen { IfOk result (λ played. HaveSeen (λ d. shown d) (λ d. faults d) played.frames.items played.board.history played.set.lost displays.old.items displays.new.items) }
+    ensures played { IfOk result (λ ran. HasPlayed reading.now.script ran.0.board ran.0.frames.items ran.0.answers) }
+    ensures touches { form ≡ Pointer → IfOk result (λ ran. ran.1.items ≡ map (touch_of reading.now.script.setup ran.0.board.history) reading.now.pointers) }
+    ensures written { form ≢ Race → IfOk result (λ ran. IsWritten reading.now.script.setup ran.0.board.history) }
+    ensures seen { IfOk result (λ ran. HaveSeen (λ d. shown d) (λ d. faults d) ran.0.frames.items ran.0.board.history ran.0.set.lost displays.old.items displays.new.items) }
     ensures kept { AreKept (λ d. shown d) (λ d. faults d) displays.old.items displays.new.items (λ d. d.vtable) }
 {
     match form {
-        Form::Race => race_script(rt, alloc, script, displays, gate),
-        _ => play_script(alloc, script, displays),
+        Form::Race => {
+            let played = race_script(rt, alloc, &reading.script, displays, gate)?;
+            Ok((played, Vec::new(alloc)))
+        }
+        Form::Pointer => {
+            let lines = reading.pointers.as_slice();
+            play_touched(alloc, &reading.script, lines, displays)
+        }
+        _ => {
+            let played = play_script(alloc, &reading.script, displays)?;
+            Ok((played, Vec::new(alloc)))
+        }
     }
 }
 
-/// The report of a script that was run to its end.
-fn report_of(alloc: Global, script: &Script, played: &Played) -> Result<Vec<u8>, NoMemory>
-    requires playable { is_playable script.now ≡ true }
-    requires played { HasPlayed script.now played.now.board played.now.frames.items played.now.answers }
-    ensures { IfOk result (λ text. text.items ≡ report script.now played.now.board.history played.now.set.lost []) }
-{
-    handed_is_report();
-    let journal = played.board.journal();
-    let frames = played.frames.as_slice();
-    let lost = played.set.lost();
-    print_report(alloc, script, journal, frames, lost, &played.answers)
-}
-
-/// Runs a script, and reports its run.
-fn reported<T: Threads + Wait + Sync, G: Gate>(
+/// Runs what was read, and writes what its form asks for.
+fn told<T: Threads + Wait + Sync, G: Gate>(
     rt: &T,
     alloc: Global,
     form: Form,
-    script: &Script,
+    reading: &Reading,
     displays: &mut Vec<Box<dyn Display>>,
     gate: &G,
 ) -> Result<Vec<u8>, NoMemory>
     requires read { is_read form ≡ true }
-    requires playable { is_playable script.now ≡ true }
+    requires runnable { IsRunnable reading.now }
+    requires fits { Fits form reading.now.script.setup }
     requires few { length displays.old.items < 2 ^ 32 }
-    ensures told { (bytes : List ℕ) → text_read bytes ≡ Ok script.now →
+    ensures told { (bytes : List ℕ) → form_read form bytes ≡ Ok reading.now →
         IfOk result (λ text. IsTold (λ d. shown d) (λ d. faults d) displays.old.items displays.new.items form bytes text.items) }
     ensures kept { AreKept (λ d. shown d) (λ d. faults d) displays.old.items displays.new.items (λ d. d.vtable) }
 {
     families_are_alone();
-    let played = run_script(rt, alloc, form, script, displays, gate)?;
+    let (played, touches) = run_reading(rt, alloc, form, reading, displays, gate)?;
     let _journal = played.board.journal();
-    report_of(alloc, script, &played)
+    text_of(rt, alloc, form, reading, &played, touches.as_slice())
+}
+
+/// Whether a form writes a picture that would have too many pixels.
+fn is_too_large_for(form: Form, script: &Script) -> bool
+    ensures large { IsTrue result → (form ≡ Render) × IsTooLarge script.now.setup }
+    ensures fits { IsFalse result → Fits form script.now.setup }
+{
+    match form {
+        Form::Render => is_too_large(script.setup.width, script.setup.height),
+        _ => false,
+    }
+}
+
+/// The answer where a picture would have too many pixels.
+fn large(alloc: Global) -> Result<Answer, NoMemory>
+    ensures status { IfOk result (λ answer. answer.status ≡ TOO_LARGE) }
+    ensures text { IfOk result (λ answer. answer.text.items ≡ large_line) }
+{
+    Ok(Answer {
+        status: TOO_LARGE,
+        text: Vec::from_slice(alloc, LARGE)?,
+    })
+}
+
+/// The answer to what was read of a text.
+fn answer_reading<T: Threads + Wait + Sync, G: Gate>(
+    rt: &T,
+    alloc: Global,
+    form: Form,
+    reading: &Reading,
+    displays: &mut Vec<Box<dyn Display>>,
+    gate: &G,
+) -> Result<Answer, NoMemory>
+    requires read { is_read form ≡ true }
+    requires runnable { IsRunnable reading.now }
+    requires few { length displays.old.items < 2 ^ 32 }
+    ensures reply { (bytes : List ℕ) → form_read form bytes ≡ Ok reading.now →
+        IfOk result (λ answer. IsReply (λ d. shown d) (λ d. faults d) displays.old.items displays.new.items form bytes answer.status answer.text.items) }
+    ensures refused { IfOk result (λ answer. answer.status ≢ DONE → displays.new ≡ displays.old) }
+    ensures statuses { IfOk result (λ answer. IsTrue (answer.status == DONE || answer.status == TOO_LARGE)) }
+    ensures kept { AreKept (λ d. shown d) (λ d. faults d) displays.old.items displays.new.items (λ d. d.vtable) }
+{
+    if is_too_large_for(form, &reading.script) {
+        return large(alloc);
+    }
+    Ok(Answer {
+        status: DONE,
+        text: told(rt, alloc, form, reading, displays, gate)?,
+    })
 }
 
 /// The answer to a text that was read whole.
@@ -156,16 +214,14 @@ fn answer_to<T: Threads + Wait + Sync, G: Gate>(
     requires read { is_read form ≡ true }
     requires few { length displays.old.items < 2 ^ 32 }
     ensures reply { IfOk result (λ answer. IsReply (λ d. shown d) (λ d. faults d) displays.old.items displays.new.items form bytes.now answer.status answer.text.items) }
-    ensures refused { IfOk result (λ answer. answer.status ≡ REFUSED → displays.new ≡ displays.old) }
-    ensures statuses { IfOk result (λ answer. IsTrue (answer.status == DONE || answer.status == REFUSED)) }
+    ensures refused { IfOk result (λ answer. answer.status ≢ DONE → displays.new ≡ displays.old) }
+    ensures statuses { IfOk result (λ answer. IsTrue (answer.status == DONE || answer.status == REFUSED || answer.status == TOO_LARGE)) }
     ensures kept { AreKept (λ d. shown d) (λ d. faults d) displays.old.items displays.new.items (λ d. d.vtable) }
 {
     scripts_are_playable();
-    match parse(alloc, bytes) {
-        Ok(script) => Ok(Answer {
-            status: DONE,
-            text: reported(rt, alloc, form, &script, displays, gate)?,
-        }),
+    extra_laws();
+    match read_text(alloc, form, bytes) {
+        Ok(reading) => answer_reading(rt, alloc, form, &reading, displays, gate),
         Err(ScriptError::Fault(fault)) => refusal(alloc, fault),
         Err(ScriptError::Memory) => Err(NoMemory),
     }
@@ -187,8 +243,8 @@ pub fn run_source<T: Threads + Wait + Sync, R: Source, G: Gate>(
         (λ d. (⟦<dyn Display as Display>⟧ d.vtable).faults d.value)
         displays.old.items displays.new.items words (R.left source.old) (R.left source.new)
         answer.status answer.text.items) }
-    ensures refused { IfOk result (λ answer. answer.status ≡ REFUSED → displays.new ≡ displays.old) }
-    ensures statuses { IfOk result (λ answer. IsTrue (answer.status == DONE || answer.status == REFUSED)) }
+    ensures refused { IfOk result (λ answer. answer.status ≢ DONE → displays.new ≡ displays.old) }
+    ensures statuses { IfOk result (λ answer. IsTrue (answer.status == DONE || answer.status == REFUSED || answer.status == TOO_LARGE)) }
     ensures fault { result ≡ Err Unanswered.Fault → IsTrue (has_risen (R.faults source.old) (R.faults source.new)) }
     ensures failed { result ≡ Err Unanswered.Fault → displays.new ≡ displays.old }
     ensures given { (given : List ℕ) × AreGiven given (R.left source.old) (R.left source.new) }

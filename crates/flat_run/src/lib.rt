@@ -4,6 +4,8 @@
 mod answers;
 mod laws;
 mod load;
+mod reading;
+mod texts;
 mod top;
 
 pub use laws::plays_have_one_history;

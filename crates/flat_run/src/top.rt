@@ -6,9 +6,11 @@ ghost use Rattle.flat_io.specs.Whole.{AppendsPrefix};
 ghost use Rattle.flat_words.specs.declared.form.Form.{Form};
 ghost use Rattle.flat_words.specs.Forms.{CallFor, IsAllowed};
 ghost use Rattle.flat_display.specs.Had.{AreKept};
-ghost use Rattle.flat_run.specs.Promise.{is_read, CallForNothing, AreGiven, IsAnswer, IsWhole, IsCutOff, IsThere};
+ghost use Rattle.flat_words.specs.declared.form.Form.TheVariants.{Render};
+ghost use Rattle.flat_run.specs.Forms.{is_read};
+ghost use Rattle.flat_run.specs.Promise.{CallForNothing, AreGiven, IsAnswer, IsWhole, IsCutOff, IsThere, IsThereTooLarge};
 
-use crate::answers::{Answer, DONE, REFUSED, Unanswered, run_source};
+use crate::answers::{Answer, DONE, REFUSED, TOO_LARGE, Unanswered, run_source};
 use crate::load::stress;
 use flat_display::Display;
 use flat_io::{Sink, Source, write_all};
@@ -19,7 +21,7 @@ use std::sync::Wait;
 use std::thread::Threads;
 
 /// What is written where the words call for no form.
-const USAGE: &[u8] = b"usage: flatland play | race | stress N\n";
+const USAGE: &[u8] = b"usage: flatland play | race | stress N | render | damage | focus | pointer\n";
 
 /// The other statuses of a call.
 const USED_WRONGLY: u8 = 2;
@@ -46,8 +48,8 @@ fn answer_to<T: Threads + Wait + Sync, R: Source, G: Gate>(
         (λ d. (⟦<dyn Display as Display>⟧ d.vtable).faults d.value)
         displays.old.items displays.new.items words (R.left source.old) (R.left source.new)
         answer.status answer.text.items) }
-    ensures refused { IfOk result (λ answer. answer.status ≡ REFUSED → displays.new ≡ displays.old) }
-    ensures statuses { IfOk result (λ answer. IsTrue (answer.status == DONE || answer.status == REFUSED)) }
+    ensures refused { IfOk result (λ answer. answer.status ≢ DONE → displays.new ≡ displays.old) }
+    ensures statuses { IfOk result (λ answer. IsTrue (answer.status == DONE || answer.status == REFUSED || answer.status == TOO_LARGE)) }
     ensures fault { result ≡ Err Unanswered.Fault → IsTrue (has_risen (R.faults source.old) (R.faults source.new)) }
     ensures failed { result ≡ Err Unanswered.Fault → displays.new ≡ displays.old }
     ensures given { (given : List ℕ) × AreGiven given (R.left source.old) (R.left source.new) }
@@ -59,8 +61,8 @@ fn answer_to<T: Threads + Wait + Sync, R: Source, G: Gate>(
     ensures unread { is_read form ≡ false → source.new ≡ source.old }
 {
     match form {
-        Form::Play | Form::Race => run_source(rt, alloc, form, source, displays, gate),
         Form::Stress(frames) => Ok(stress(alloc, frames, displays)?),
+        _ => run_source(rt, alloc, form, source, displays, gate),
     }
 }
 
@@ -86,18 +88,19 @@ fn write_text<W: Sink>(sink: &mut W, text: &[u8], status: u8) -> u8
 /// frame is shown to the displays when it is finished; one that fails is shown no
 /// more, and the report says so. It answers the status.
 ///
-/// Statuses 0, 2 and 3 come only where the whole text was written: a report or the
-/// summary of a load, the usage, or the fault of a script. Status 5 comes only where
-/// the counts of the sink rose, and then the first bytes of such a text were written;
-/// 4 only where the count of the source rose. With 4 and with 6, want of memory,
-/// nothing was written. Where a script or a load was asked for and no count rose, the
-/// status is 0 or 6. A display that fails changes no status.
+/// Statuses 0, 2, 3 and 7 come only where the whole text was written: what the form
+/// writes of a run, the usage, the fault of a script, or that a picture would be too
+/// large. Status 5 comes only where the counts of the sink rose, and then the first
+/// bytes of such a text were written; 4 only where the count of the source rose. With 4
+/// and with 6, want of memory, nothing was written. Where a script or a load was asked
+/// for and no count rose, the status is 0 or 6, or 7 where a picture is asked for of a
+/// display that is too large. A display that fails changes no status.
 ///
 /// With status 0, and with 5 where there is a script, each display that tells its
 /// frames has had those of the history, in order and once, or those before the frame
-/// at which it was lost. With 2, 3 and 4 the displays are left as they were, and with
-/// 5 where the text was that of 2 or 3. With 6 they have had some frames in the same
-/// way, and it isn't said which.
+/// at which it was lost. With 2, 3, 4 and 7 the displays are left as they were, and
+/// with 5 where the text was that of 2, 3 or 7. With 6 they have had some frames in the
+/// same way, and it isn't said which.
 ///
 /// Whatever the status, the source has lost bytes from its front alone, the sink has
 /// only gained some, no count of faults or stalls has fallen, and each display stands
@@ -122,7 +125,7 @@ pub fn flatland<T: Threads + Wait + Sync, R: Source, W: Sink, G: Gate>(
         (λ d. (⟦<dyn Display as Display>⟧ d.vtable).faults d.value)
         displays.old.items displays.new.items (map string_bytes words.now)
         (R.left source.old) (R.left source.new) (W.held sink.old) (W.held sink.new) }
-    ensures untouched { IsTrue (result == USED_WRONGLY || result == REFUSED || result == READ_FAULT) →
+    ensures untouched { IsTrue (result == USED_WRONGLY || result == REFUSED || result == READ_FAULT || result == TOO_LARGE) →
         displays.new ≡ displays.old }
     ensures kept { AreKept (λ d. shown d)
         (λ d. (⟦<dyn Display as Display>⟧ d.vtable).faults d.value)
@@ -142,8 +145,12 @@ pub fn flatland<T: Threads + Wait + Sync, R: Source, W: Sink, G: Gate>(
         IsThere form (R.left source.old) (R.left source.new) (R.faults source.old) (R.faults source.new) →
         (has_risen (W.faults sink.old) (W.faults sink.new) || has_risen (W.stalls sink.old) (W.stalls sink.new)) ≡ false →
         IsTrue (result == DONE || result == NO_MEMORY) }
+    ensures too_large { CallFor (map string_bytes words.now) Render →
+        IsThereTooLarge (R.left source.old) (R.left source.new) (R.faults source.old) (R.faults source.new) →
+        (has_risen (W.faults sink.old) (W.faults sink.new) || has_risen (W.stalls sink.old) (W.stalls sink.new)) ≡ false →
+        IsTrue (result == TOO_LARGE || result == NO_MEMORY) }
     ensures statuses { IsTrue (result == DONE || result == USED_WRONGLY || result == REFUSED
-        || result == READ_FAULT || result == WRITE_FAULT || result == NO_MEMORY) }
+        || result == READ_FAULT || result == WRITE_FAULT || result == NO_MEMORY || result == TOO_LARGE) }
 {
     let form = match read(alloc, words) {
         Ok(Some(form)) => form,

@@ -1,5 +1,8 @@
 use Rattle.std.proofs.Common.{◌≡◌, ℕ, length, map, refl, sym, ap, ◌∙◌, subst, arith}
 use Rattle.flat_play.specs.Playing.{GameStands}
+use Rattle.flat_play.specs.Touches.{AreAnswered}
+use Rattle.flat_play.proofs.Touching.{answered-none, answered-more, answered-all}
+use Rattle.flat_play.proofs.lemmas.Steps.{at_place}
 use Rattle.flat_play.proofs.lemmas.Seen.{as_long, kept_none, kept_same, kept_seen, seen_none, seen_line}
 use Rattle.flat_play.proofs.run.play_lines.Goals as goal
 
@@ -10,6 +13,7 @@ loop-place-init g c = record {
   number = c.requires.number;
   kinds = refl;
   same = refl;
+  answered = answered-none _ _ _ _ c.in_ok-game.ensures.no_entry c.new.ensures c.requires.rise;
 }
 
 pub loop-place-preserved : goal.loop-place-preserved
@@ -23,6 +27,11 @@ loop-place-preserved g c =
       number = as_long _ _ _ c.play_line.ensures.kinds ∙ was.number ∙ sym c.play_line.ensures.same;
       kinds = c.play_line.ensures.kinds ∙ was.kinds;
       same = c.play_line.ensures.same ∙ was.same;
+      answered =
+          let at = at_place script c.loop-place.place c.at-line.result.now c.requires.playable c.at-line.ensures in
+          let A : ℕ → Type 0 = λ n. AreAnswered script.setup c.play_line.new.self.board.history n c.args.lines.now c.in_ok-answer_upto.left.now c.answer_upto.new.found.items in
+          subst A (sym at.last)
+          (answered-more script.setup _ _ _ _ _ _ was.answered was.stands.answers.joining c.at-line.result.now.number _ _ _ at.above c.in_ok-answer_upto.ensures (now.goes_on c.at-line.result.now c.at-line.ensures));
     }
 
 pub returns-clause-stands : goal.returns-clause-stands
@@ -30,6 +39,9 @@ returns-clause-stands g c =
     let last : c.loop-place.place ≡ length c.args.script.now.lines = omega (arith, c.loop-place.auto.place-end, c.loop-place-test.false) in
     let P : ℕ → Type 0 = λ n. GameStands c.args.script.now n c.loop-place.game in
     subst P last c.loop-place.invariant.stands
+
+pub returns-clause-touches : goal.returns-clause-touches
+returns-clause-touches g c = answered-all _ _ _ _ _ _ _ c.loop-place.invariant.answered c.loop-place.invariant.stands.answers.joining _ c.in_ok-answer_all.ensures
 
 pub returns-clause-seen : goal.returns-clause-seen
 returns-clause-seen g c = c.loop-place.invariant.seen

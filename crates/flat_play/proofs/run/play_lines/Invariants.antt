@@ -1,5 +1,6 @@
-use Rattle.std.proofs.Common.{◌≡◌, length, map}
-use Rattle.flat_play.specs.Playing.{GameStands}
+use Rattle.std.proofs.Common.{◌≡◌, length, map, take}
+use Rattle.flat_play.specs.Playing.{GameStands, last_number}
+use Rattle.flat_play.specs.Touches.{AreAnswered}
 use Rattle.flat_play.specs.Showing.{HaveSeen}
 use Rattle.flat_play.proofs.run.play_lines.Given as goal
 
@@ -10,4 +11,5 @@ invariant-loop-place g l = record {
   number : length l.displays.items ≡ l.set.displays;
   kinds : map (λ b. b.vtable) l.displays.items ≡ map (λ b. b.vtable) l.initial.displays.items;
   same : l.set.displays ≡ l.initial.set.displays;
+  answered : AreAnswered l.script.setup l.game.board.history (last_number 0 (take l.place l.script.lines)) l.lines l.left l.found.items;
 }

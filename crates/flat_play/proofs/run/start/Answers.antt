@@ -34,3 +34,6 @@ returns-clause-stands c =
     starts script _ c.requires c.lines_are_read.ensures.none (c.board.view_is ∙ board) c.in_ok-new_readers.ensures
     (first_shown c.shown_states_fit.ensures.nothing script.setup _ _ _ c.in_ok-shown.ensures.size c.in_ok-shown.ensures.none refl c.new-2.ensures.items) refl
     (first_answers c.shown_states_fit.ensures.nothing script.setup _ _ _ c.in_ok-shown.ensures.size c.in_ok-shown.ensures.none refl c.in_ok-joined.ensures.lists c.new-3.ensures)
+
+pub returns-clause-no_entry : goal.returns-clause-no_entry
+returns-clause-no_entry c = ap (λ (m : Machine). m.history) (c.board.view_is ∙ c.in_ok-board.ensures)

@@ -1,6 +1,7 @@
 use Rattle.std.proofs.Common.{◌≡◌}
 use Rattle.flat_play.specs.Playing.{EndsStand}
+use Rattle.flat_play.specs.Touches.{GoesOnByEnds}
 use Rattle.flat_play.proofs.game.Game.end_all.Given as goal
 
 abbrev pub invariant-loop-before : goal.invariant-loop-before
-invariant-loop-before l = (l.self.frames ≡ l.initial.self.frames) × EndsStand l.script l.before l.self
+invariant-loop-before l = (l.self.frames ≡ l.initial.self.frames) × EndsStand l.script l.before l.self × GoesOnByEnds l.initial.self.board.history l.self.board.history

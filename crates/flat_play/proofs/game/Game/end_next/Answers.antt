@@ -1,9 +1,10 @@
-use Rattle.std.proofs.Common.{◌≡◌, ◌+◌, ◌<◌, ℕ, length, get_or, refl, sym, subst, arith}
+use Rattle.std.proofs.Common.{◌≡◌, ◌+◌, ◌<◌, ℕ, length, get_or, refl, sym, ap, subst, arith}
 use Rattle.flat_places.specs.declared.script.Script.{Script}
 use Rattle.flat_stage.specs.declared.reader.Reader.{Reader}
 use Rattle.flat_play.specs.declared.game.Game.{Game}
 use Rattle.flat_play.specs.Playing.{ReaderStands, EndsStand}
 use Rattle.flat_play.proofs.Ending.{end_share, end_stands, ends_more}
+use Rattle.flat_play.proofs.Touching.{no-ends, one-end-more}
 use Rattle.flat_play.proofs.game.Game.end_next.Goals as goal
 
 waiting_is : (script : Script) (before : ℕ) (old : Game) (reader : Reader) → before < script.setup.sessions → EndsStand script before old → reader ≡ get_or old.readers.items before reader
@@ -36,3 +37,7 @@ returns-clause-stands c =
     let reader = c.index_mut-reader.result.now in
     let mine = waiting_is script c.args.before old reader c.requires.within c.requires.stands c.index_mut-reader.ensures.value in
     ends_more c.lines_are_read.ensures.ends script c.requires.playable c.args.before c.requires.within old c.requires.stands reader mine _ c.end-reply.new.self c.end-reply.ensures.entry refl refl refl
+
+pub returns-clause-ends : goal.returns-clause-ends
+returns-clause-ends c =
+    one-end-more c.args.self.now.board.history c.args.self.now.board.history _ _ refl (ap (λ m. m.history) c.end-reply.ensures.entry) (no-ends c.args.self.now.board.history)

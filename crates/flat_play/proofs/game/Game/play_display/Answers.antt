@@ -14,6 +14,7 @@ use Rattle.flat_play.proofs.lemmas.GameSteps.{begin_more, finish_more, beside_mo
 use Rattle.flat_play.proofs.lemmas.FramesShown.{few_frames}
 use Rattle.flat_play.proofs.lemmas.Starting.{few, by_at_most}
 use Rattle.flat_play.proofs.lemmas.Steps.{At, at_place}
+use Rattle.flat_play.proofs.Touching.{entered-on}
 use Rattle.flat_play.proofs.game.Game.play_display.Goals as goal
 
 pub begin-requires-clause-may : goal.begin-requires-clause-may
@@ -104,3 +105,20 @@ finish-requires-clause-few g c =
     let spent = c.requires.stands.spent.spent 0 in
     let frames_made = few_frames _ _ c.journal-journal.ensures.legal in
     omega (arith, all, most, spent, frames_made)
+
+pub returns-in-Begin-clause-goes_on : goal.returns-in-Begin-clause-goes_on
+returns-in-Begin-clause-goes_on g c = entered-on _ _ _ _ _ _ _ c.begin.ensures.board
+
+pub returns-in-Signal-clause-goes_on : goal.returns-in-Signal-clause-goes_on
+returns-in-Signal-clause-goes_on g c = entered-on _ _ _ _ _ _ _ c.signal.ensures.board
+
+pub returns-in-Wait-clause-goes_on : goal.returns-in-Wait-clause-goes_on
+returns-in-Wait-clause-goes_on g c = entered-on _ _ _ _ _ _ _ c.wait.ensures.board
+
+pub returns-in_ok-finish-in-Done-clause-goes_on : goal.returns-in_ok-finish-in-Done-clause-goes_on
+returns-in_ok-finish-in-Done-clause-goes_on g c = entered-on _ _ _ _ _ _ _ c.in_ok-finish-in-Done.ensures.finishes.board
+
+pub returns-in_ok-hit-in-Hit-clause-goes_on : goal.returns-in_ok-hit-in-Hit-clause-goes_on
+returns-in_ok-hit-in-Hit-clause-goes_on g c =
+    let asks : AsksPoint c.args.self.now c.hit.new.self c.args.number c.in-Hit.x c.in-Hit.y = search rules in
+    entered-on _ _ _ _ _ _ _ asks.board

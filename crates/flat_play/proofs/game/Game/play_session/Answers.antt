@@ -11,6 +11,7 @@ use Rattle.flat_stage.specs.Reads.{Reads, Stands}
 use Rattle.flat_play.proofs.lemmas.Places.{here}
 use Rattle.flat_play.proofs.lemmas.Readers.{on_board, reader_grows, reader_more, reader_owns}
 use Rattle.flat_play.proofs.lemmas.Steps.{at_place}
+use Rattle.flat_play.proofs.Touching.{grown-on}
 use Rattle.flat_play.proofs.game.Game.play_session.Goals as goal
 
 pub overflow_sub-s : goal.overflow_sub-s
@@ -70,3 +71,15 @@ returns-clause-stands c =
     let grown = reader_grows script c.args.s c.args.place c.args.number c.args.text.now h c.in_ok-_reply._reply old.board c.call.new.board reader c.call.new.self c.requires.stands.setup mine reads in
     session_more script c.args.place x (at_place script c.args.place x c.requires.playable c.requires.line) old
     _ c.args.s c.args.text.now c.call.new.self refl refl h.declared c.requires.stands refl after grown refl refl refl refl refl
+
+pub returns-clause-goes_on : goal.returns-clause-goes_on
+returns-clause-goes_on c =
+    let h = here c.args.script.now c.args.s c.args.place c.args.number c.args.text.now c.requires.playable c.requires.line in
+    let script = c.args.script.now in
+    let old = c.args.self.now in
+    let reader = c.index_mut-reader.result.now in
+    let mine = own_reader script c.args.place old.board.history old.readers.items c.args.s h.declared c.requires.stands.readers reader c.index_mut-reader.ensures.value in
+    let R : Line → Type 0 = λ text. Reads c.args.number text c.in_ok-_reply._reply old.board c.call.new.board reader c.call.new.self reader.closed in
+    let reads = subst R c.in_ok-text.ensures c.in_ok-_reply.ensures.reads in
+    grown-on old.board c.call.new.board (Session c.args.s) c.args.number
+    (reader_grows script c.args.s c.args.place c.args.number c.args.text.now h c.in_ok-_reply._reply old.board c.call.new.board reader c.call.new.self c.requires.stands.setup mine reads)

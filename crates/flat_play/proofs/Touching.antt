@@ -1,0 +1,308 @@
+-- Pointers' lines beside a script.
+use Rattle.std.proofs.Common.{◌≡◌, ℕ, zero, suc, ◌+◌, ◌<◌, ◌≤◌, Bool, true, false, cond, ◌&&◌, ◌==◌, not, nat_lt, nat_le, List, [], ◌∷◌, ◌++◌, length, map, take, drop, refl, sym, ap, ◌∙◌, subst, arith, append-nil, append_assoc, Some, slice_get}
+use Rattle.std.specs.Prelude.{take_while}
+use Rattle.std.specs.List.{list_all}
+use Rattle.std.proofs.lemmas.Bool.Decides.{nat_tests}
+use Rattle.std.proofs.lemmas.Grind.{common_steps}
+use Rattle.std.proofs.lemmas.List.{map-append}
+use Rattle.flat_base.proofs.lemmas.Tests.{and-left, and-right, and-true}
+use Rattle.flat_scene.specs.declared.frames.Hit.{Hit}
+use Rattle.flat_scene.specs.declared.journal.Entry.{Entry}
+use Rattle.flat_scene.specs.declared.journal.Kind.{Kind}
+use Rattle.flat_scene.specs.declared.journal.Kind.TheVariants.{End, Finish}
+use Rattle.flat_scene.specs.declared.setup.Setup.{Setup}
+use Rattle.flat_scene.specs.History.{◌▹◌, is_end, is_finish}
+use Rattle.flat_rules.specs.Ends.{to_begin, to_finished}
+use Rattle.flat_rules.specs.Legal.{frames}
+use Rattle.flat_rules.specs.Shown.{shown_states}
+use Rattle.flat_report.specs.Report.{begin_of, hits_at}
+use Rattle.flat_topology.specs.Connected.{joined_lists}
+use Rattle.flat_topology.specs.declared.Joined.{Joined}
+use Rattle.flat_topology.specs.Hits.{hits_among}
+use Rattle.flat_pointer.specs.declared.text.PointerCall.{PointerCall}
+use Rattle.flat_pointer.specs.declared.text.PointerCall.TheVariants.{Down, Move, Up}
+use Rattle.flat_pointer.specs.declared.text.PointerLine.{PointerLine}
+use Rattle.flat_pointer.specs.declared.text.Touch.{Touch}
+use Rattle.flat_base.specs.declared.ids.Actor.{Actor}
+use Rattle.flat_scene.specs.declared.calls.Call.{Call}
+use Rattle.flat_scene.specs.declared.journal.Reply.{Reply}
+use Rattle.flat_scene.specs.declared.script.ScriptLine.{ScriptLine}
+use Rattle.flat_core.specs.Machines.{Machine, entered, entry_of}
+use Rattle.flat_play.proofs.Growing.{Grows}
+use Rattle.flat_play.proofs.Growing as grow
+use Rattle.flat_pointer.specs.Lines.{rise_after}
+use Rattle.flat_play.specs.Touches.{frames_before, call_hits, touch_of, hits_in, touch_in, GoesOnAt, stays, enters, GoesOnByEnds, AnswersUpto, AreAnswered}
+
+-- ---- lists
+
+module _ {A B : Type 0} where
+  all-both : (p : A → Bool) (xs ys : List A) → list_all p xs ≡ true → list_all p ys ≡ true → list_all p (xs ++ ys) ≡ true
+  all-both p [] ys first second = second
+  all-both p (x ∷ xs) ys first second = and-true (and-left (p x) (list_all p xs) first) (all-both p xs ys (and-right (p x) (list_all p xs) first) second)
+
+  all-weaker : (p q : A → Bool) → ((x : A) → p x ≡ true → q x ≡ true) → (xs : List A) → list_all p xs ≡ true → list_all q xs ≡ true
+  all-weaker p q than [] all = refl
+  all-weaker p q than (x ∷ xs) all = and-true (than x (and-left (p x) (list_all p xs) all)) (all-weaker p q than xs (and-right (p x) (list_all p xs) all))
+
+  -- two maps agree where they agree on all of which a test holds
+  map-agrees : (p : A → Bool) (f g : A → B) → ((x : A) → p x ≡ true → f x ≡ g x) → (xs : List A) → list_all p xs ≡ true → map f xs ≡ map g xs
+  map-agrees p f g agree [] all = refl
+  map-agrees p f g agree (x ∷ xs) all = λ i. agree x (and-left (p x) (list_all p xs) all) i ∷ map-agrees p f g agree xs (and-right (p x) (list_all p xs) all) i
+
+  -- a list, cut where a test first fails
+  cut : (p : A → Bool) (xs : List A) → xs ≡ take (length (take_while p xs)) xs ++ drop (length (take_while p xs)) xs
+  cut p [] = refl
+  cut p (x ∷ xs) = by (p x)
+    where
+      by : (b : Bool) → x ∷ xs ≡ take (length (cond b (x ∷ take_while p xs) [])) (x ∷ xs) ++ drop (length (cond b (x ∷ take_while p xs) [])) (x ∷ xs)
+      by true = ap (λ ys. x ∷ ys) (cut p xs)
+      by false = refl
+
+  cut-all : (p : A → Bool) (xs : List A) → list_all p (take (length (take_while p xs)) xs) ≡ true
+  cut-all p [] = refl
+  cut-all p (x ∷ xs) = by (p x) refl
+    where
+      by : (b : Bool) → p x ≡ b → list_all p (take (length (cond b (x ∷ take_while p xs) [])) (x ∷ xs)) ≡ true
+      by true is = and-true is (cut-all p xs)
+      by false is = refl
+
+-- ---- numbers of frames
+
+frames-more : (before : List Entry) (entry : Entry) (b : Bool) → is_finish entry.kind ≡ b → frames (before ▹ entry) ≡ cond b 1 0 + frames before
+frames-more before entry true is = rw is refl
+frames-more before entry false is = rw is refl
+
+-- no more frames were finished before a line than in all
+few-before : (n : ℕ) (history : List Entry) → frames_before n history ≤ frames history
+few-before n [] = omega arith
+few-before n (before ▹ entry) = by (is_finish entry.kind) refl (nat_lt entry.line n) refl
+  where
+    by : (b : Bool) → is_finish entry.kind ≡ b → (early : Bool) → nat_lt entry.line n ≡ early → frames_before n (before ▹ entry) ≤ frames (before ▹ entry)
+    by true is true less = let few : frames_before n before ≤ frames before = few-before n before in rw (is, less) (omega arith)
+    by true is false less = let few : frames_before n before ≤ frames before = few-before n before in rw (is, less) (omega arith)
+    by false is early less = let few : frames_before n before ≤ frames before = few-before n before in rw is (omega arith)
+
+-- behind all entries, all frames are finished
+all-before : (last n : ℕ) → last < n → (history : List Entry) → list_all (λ entry. nat_le entry.line last) history ≡ true → frames_before n history ≡ frames history
+all-before last n less [] early = refl
+all-before last n less (before ▹ entry) early =
+    let line : nat_le entry.line last ≡ true = and-left (nat_le entry.line last) _ early in
+    let below : entry.line < n = let le : entry.line ≤ last = grind (arith, nat_tests) in omega (arith, le, less) in
+    let is : nat_lt entry.line n ≡ true = grind (arith, nat_tests) in
+    by (is_finish entry.kind) refl is (all-before last n less before (and-right (nat_le entry.line last) _ early))
+  where
+    by : (b : Bool) → is_finish entry.kind ≡ b → nat_lt entry.line n ≡ true → frames_before n before ≡ frames before → frames_before n (before ▹ entry) ≡ frames (before ▹ entry)
+    by true finish less_is same = rw (finish, less_is) (ap suc same)
+    by false finish less_is same = rw finish same
+
+-- the begin of the last of all finished frames
+last-begin : (history : List Entry) → begin_of (frames history) history ≡ to_finished history
+last-begin [] = refl
+last-begin (before ▹ entry) = by (is_finish entry.kind) refl
+  where
+    by : (b : Bool) → is_finish entry.kind ≡ b → begin_of (frames (before ▹ entry)) (before ▹ entry) ≡ to_finished (before ▹ entry)
+    by true is = let same : (suc (frames before) == suc (frames before)) ≡ true = grind (arith, nat_tests) in rw (is, same) refl
+    by false is = rw is (last-begin before)
+
+-- an earlier frame has the begin that it had
+same-begin : (n : ℕ) (before : List Entry) (entry : Entry) → n ≤ frames before → begin_of n (before ▹ entry) ≡ begin_of n before
+same-begin n before entry few =
+    let other : (suc (frames before) == n) ≡ false = grind (arith, nat_tests) in
+    by (is_finish entry.kind) refl other
+  where
+    by : (b : Bool) → is_finish entry.kind ≡ b → (suc (frames before) == n) ≡ false → begin_of n (before ▹ entry) ≡ begin_of n before
+    by true is other = rw (is, other) refl
+    by false is other = rw is refl
+
+-- ---- whom a line hits
+
+module _ (setup : Setup) where
+  by_call : (joined : Joined) (begun : List Entry) → joined ≡ joined_lists setup (shown_states setup begun) → (call : PointerCall) → hits_in joined call ≡ call_hits setup begun call
+  by_call joined begun is (Down x y) = ap (λ (j : Joined). hits_among j.nodes x y) is
+  by_call joined begun is (Move x y) = refl
+  by_call joined begun is Up = refl
+
+  -- a line behind all entries is answered by the last finished frame
+  touched-last : (joined : Joined) (last : ℕ) (history : List Entry) (line : PointerLine) → joined ≡ joined_lists setup (shown_states setup (to_finished history))
+      → list_all (λ entry. nat_le entry.line last) history ≡ true → last < line.number → touch_in joined line ≡ touch_of setup history line
+  touched-last joined last history line is early less =
+      let begun : begin_of (frames_before line.number history) history ≡ to_finished history =
+      ap (λ n. begin_of n history) (all-before last line.number less history early) ∙ last-begin history in
+      λ i. record { line = line; hits = (by_call joined (to_finished history) is line.call ∙ ap (λ b. call_hits setup b line.call) (sym begun)) i }
+
+  -- an entry that finishes no frame before the line
+  touched-entry : (before : List Entry) (entry : Entry) (line : PointerLine) → (is_finish entry.kind && nat_lt entry.line line.number) ≡ false
+      → touch_of setup (before ▹ entry) line ≡ touch_of setup before line
+  touched-entry before entry line late =
+      let same : frames_before line.number (before ▹ entry) ≡ frames_before line.number before = ap (λ b. cond b 1 0 + frames_before line.number before) late in
+      let begun : begin_of (frames_before line.number (before ▹ entry)) (before ▹ entry) ≡ begin_of (frames_before line.number before) before =
+      ap (λ n. begin_of n (before ▹ entry)) same ∙ same-begin (frames_before line.number before) before entry (few-before line.number before) in
+      λ i. record { line = line; hits = call_hits setup (begun i) line.call }
+
+  touched-on : (number : ℕ) (old new : List Entry) → GoesOnAt number old new → (line : PointerLine) → nat_le line.number number ≡ true → touch_of setup old line ≡ touch_of setup new line
+  touched-on number old new (stays is) line upto = ap (λ h. touch_of setup h line) (sym is)
+  touched-on number old new (enters entry at is) line upto =
+      let late : nat_lt entry.line line.number ≡ false = grind (arith, nat_tests) in
+      sym (ap (λ h. touch_of setup h line) is ∙ touched-entry old entry line (by (is_finish entry.kind) late))
+    where
+      by : (b : Bool) → nat_lt entry.line line.number ≡ false → (b && nat_lt entry.line line.number) ≡ false
+      by true late = late
+      by false late = refl
+
+  no-finish : (kind : Kind) → is_end kind ≡ true → is_finish kind ≡ false
+  no-finish Finish end = absurd (let f : false ≡ true = end in cc)
+  no-finish _ end = refl
+
+  touched-ends : (ends old : List Entry) → list_all (λ entry. is_end entry.kind) ends ≡ true → (line : PointerLine) → touch_of setup (ends ++ old) line ≡ touch_of setup old line
+  touched-ends [] old all line = refl
+  touched-ends (entry ∷ later) old all line =
+      touched-entry (later ++ old) entry line (ap (λ b. b && nat_lt entry.line line.number) (no-finish entry.kind (and-left (is_end entry.kind) _ all)))
+      ∙ touched-ends later old (and-right (is_end entry.kind) _ all) line
+
+-- ---- lines that come next
+
+abbrev is_upto : ℕ → PointerLine → Bool
+is_upto number line = nat_le line.number number
+
+-- behind lines up to one, the later ones rise after it
+rest-rises : (number : ℕ) (lines : List PointerLine) (from : ℕ) → rise_after from lines ≡ true
+    → rise_after number (drop (length (take_while (is_upto number) lines)) lines) ≡ true
+rest-rises number [] from rise = refl
+rest-rises number (line ∷ later) from rise = by (nat_le line.number number) refl
+  where
+    by : (b : Bool) → nat_le line.number number ≡ b → rise_after number (drop (length (cond b (line ∷ take_while (is_upto number) later) [])) (line ∷ later)) ≡ true
+    by true is = rest-rises number later line.number (and-right (nat_lt from line.number) _ rise)
+    by false is = and-true (let more : nat_lt number line.number ≡ true = grind (arith, nat_tests) in more) (and-right (nat_lt from line.number) _ rise)
+
+pub answers-upto : (joined : Joined) (number : ℕ) (lines early later : List PointerLine) (old new : List Touch) (count : ℕ) → count ≡ length (take_while (is_upto number) lines)
+    → early ≡ take count lines → later ≡ drop count lines → new ≡ old ++ map (touch_in joined) early → AnswersUpto joined number lines later old new
+answers-upto joined number lines early later old new count count_is early_is later_is touches =
+    let n : ℕ = length (take_while (is_upto number) lines) in
+    let front : early ≡ take n lines = early_is ∙ ap (λ k. take k lines) count_is in
+    let back : later ≡ drop n lines = later_is ∙ ap (λ k. drop k lines) count_is in
+    record {
+      early = early;
+      parts = cut {B = Bool} (is_upto number) lines ∙ (λ i. sym front i ++ sym back i);
+      up_to = ap (list_all (is_upto number)) front ∙ cut-all {B = Bool} (is_upto number) lines;
+      rest = λ from rise. ap (rise_after number) back ∙ rest-rises number lines from rise;
+      touches = touches;
+    }
+
+-- ---- the run
+
+pub answered-none : (setup : Setup) (lines : List PointerLine) (history : List Entry) (found : List Touch) → history ≡ [] → found ≡ [] → rise_after 0 lines ≡ true
+    → AreAnswered setup history 0 lines lines found
+answered-none setup lines history found none found_none rise = record {
+  answered = [];
+  parts = refl;
+  touches = found_none;
+  up_to = refl;
+  after = rise;
+  entries = ap (list_all (λ entry. nat_le entry.line 0)) none;
+}
+
+abbrev is_after : ℕ → PointerLine → Bool
+is_after from line = nat_lt from line.number
+
+-- lines that rise after one all come after it
+all-after : (from : ℕ) (lines : List PointerLine) → rise_after from lines ≡ true → list_all (is_after from) lines ≡ true
+all-after from [] rise = refl
+all-after from (line ∷ later) rise =
+    let first : nat_lt from line.number ≡ true = and-left (nat_lt from line.number) _ rise in
+    and-true first (all-weaker {B = Bool} (is_after line.number) (is_after from)
+        (λ one more. let test : nat_lt from one.number ≡ true = grind (arith, nat_tests) in test) later (all-after line.number later (and-right (nat_lt from line.number) _ rise)))
+
+module _ (setup : Setup) (history : List Entry) (last : ℕ) (lines left : List PointerLine) (found : List Touch) (joined : Joined)
+    (answered : AreAnswered setup history last lines left found) (joins : joined ≡ joined_lists setup (shown_states setup (to_finished history))) where
+  -- lines after the last one are answered by the last finished frame
+  next-touches : (early : List PointerLine) → list_all (is_after last) early ≡ true → map (touch_in joined) early ≡ map (touch_of setup history) early
+  next-touches early after = map-agrees (is_after last) (touch_in joined) (touch_of setup history)
+      (λ line more. touched-last setup joined last history line joins answered.entries (let less : last < line.number = grind (arith, nat_tests) in less)) early after
+
+  all-left : list_all (is_after last) left ≡ true
+  all-left = all-after last left answered.after
+
+  first-of : (early later : List PointerLine) → left ≡ early ++ later → list_all (is_after last) early ≡ true
+  first-of early later parts = split early (ap (list_all (is_after last)) (sym parts) ∙ all-left)
+    where
+      split : (xs : List PointerLine) → list_all (is_after last) (xs ++ later) ≡ true → list_all (is_after last) xs ≡ true
+      split [] all = refl
+      split (x ∷ xs) all = and-true (and-left (nat_lt last x.number) _ all) (split xs (and-right (nat_lt last x.number) _ all))
+
+  -- one more line of the script
+  pub answered-more : (number : ℕ) (later : List PointerLine) (found' : List Touch) (history' : List Entry) → last < number → AnswersUpto joined number left later found found'
+      → GoesOnAt number history history' → AreAnswered setup history' number lines later found'
+  answered-more number later found' history' above answers on =
+      let now : List PointerLine = answered.answered ++ answers.early in
+      let all_upto : list_all (is_upto number) now ≡ true =
+      all-both {B = Bool} (is_upto number) answered.answered answers.early
+      (all-weaker {B = Bool} (is_upto last) (is_upto number) (λ line le. let test : nat_le line.number number ≡ true = grind (arith, nat_tests) in test) answered.answered answered.up_to)
+      answers.up_to in
+      record {
+        answered = now;
+        parts = answered.parts ∙ ap (λ ps. answered.answered ++ ps) answers.parts ∙ sym (append_assoc answered.answered answers.early later);
+        touches = answers.touches ∙ (λ i. answered.touches i ++ next-touches answers.early (first-of answers.early later answers.parts) i)
+            ∙ sym (map-append (touch_of setup history) answered.answered answers.early)
+            ∙ map-agrees (is_upto number) (touch_of setup history) (touch_of setup history') (λ line le. touched-on setup number history history' on line le) now all_upto;
+        up_to = all_upto;
+        after = answers.rest last answered.after;
+        entries = entries history' on;
+      }
+    where
+      still : list_all (λ (entry : Entry). nat_le entry.line number) history ≡ true
+      still = all-weaker {B = Bool} (λ (entry : Entry). nat_le entry.line last) (λ (entry : Entry). nat_le entry.line number)
+          (λ entry le. let test : nat_le entry.line number ≡ true = grind (arith, nat_tests) in test) history answered.entries
+
+      entries : (h : List Entry) → GoesOnAt number history h → list_all (λ (entry : Entry). nat_le entry.line number) h ≡ true
+      entries h (stays is) = ap (list_all (λ (entry : Entry). nat_le entry.line number)) is ∙ still
+      entries h (enters entry at is) = ap (list_all (λ (one : Entry). nat_le one.line number)) is ∙ and-true (let test : nat_le entry.line number ≡ true = grind (arith, nat_tests) in test) still
+
+  -- the lines that are left, behind all lines of the script
+  pub answered-all : (found' : List Touch) → found' ≡ found ++ map (touch_in joined) left → found' ≡ map (touch_of setup history) lines
+  answered-all found' is =
+      is ∙ (λ i. answered.touches i ++ next-touches left all-left i) ∙ sym (map-append (touch_of setup history) answered.answered left) ∙ ap (map (touch_of setup history)) (sym answered.parts)
+
+-- behind the Ends of all sessions
+pub answered-ended : (setup : Setup) (old new : List Entry) (lines : List PointerLine) (found : List Touch) → GoesOnByEnds old new → found ≡ map (touch_of setup old) lines → found ≡ map (touch_of setup new) lines
+answered-ended setup old new lines found on touches = touches ∙ map-same lines
+  where
+    map-same : (ps : List PointerLine) → map (touch_of setup old) ps ≡ map (touch_of setup new) ps
+    map-same [] = refl
+    map-same (p ∷ ps) = λ i. (sym (ap (λ h. touch_of setup h p) on.is ∙ touched-ends setup on.ends old on.are_ends p)) i ∷ map-same ps i
+
+-- ---- how a history goes on
+
+pub no-ends : (history : List Entry) → GoesOnByEnds history history
+no-ends history = record { ends = []; is = refl; are_ends = refl }
+
+pub one-end-more : (first old new : List Entry) (entry : Entry) → is_end entry.kind ≡ true → new ≡ (old ▹ entry) → GoesOnByEnds first old → GoesOnByEnds first new
+one-end-more first old new entry end is on = record {
+  ends = entry ∷ on.ends;
+  is = is ∙ ap (λ h. h ▹ entry) on.is;
+  are_ends = and-true end on.are_ends;
+}
+
+pub ends-then : (first old new : List Entry) → GoesOnByEnds first old → GoesOnByEnds old new → GoesOnByEnds first new
+ends-then first old new begun on = record {
+  ends = on.ends ++ begun.ends;
+  is = on.is ∙ ap (λ h. on.ends ++ h) begun.is ∙ sym (append_assoc on.ends begun.ends first);
+  are_ends = all-both {B = Bool} (λ (entry : Entry). is_end entry.kind) on.ends begun.ends on.are_ends begun.are_ends;
+}
+
+pub entered-on : (old new : Machine) (who : Actor) (number : ℕ) (carries : List Call) (kind : Kind) (reply : Reply) → new ≡ entered old who number carries kind reply → GoesOnAt number old.history new.history
+entered-on old new who number carries kind reply is = enters (entry_of who number carries kind reply) refl (ap (λ (m : Machine). m.history) is)
+
+pub grown-on : (old new : Machine) (who : Actor) (number : ℕ) → Grows old new who number → GoesOnAt number old.history new.history
+grown-on old new who number (grow.stays is) = stays (ap (λ (m : Machine). m.history) is)
+grown-on old new who number (grow.grows carries kind reply calm is) = entered-on old new who number carries kind reply is
+
+same-some : (x y : ScriptLine) → Some x ≡ Some y → x ≡ y
+same-some x y e = cc
+
+-- the line at a place is one
+pub line-on : (number : ℕ) (old new : List Entry) (all : List ScriptLine) (place : ℕ) (x line : ScriptLine) → slice_get all place ≡ Some x → slice_get all place ≡ Some line
+    → number ≡ x.number → GoesOnAt number old new → GoesOnAt line.number old new
+line-on number old new all place x line at same is on =
+    let one : x ≡ line = same-some x line (sym at ∙ same) in
+    let P : ℕ → Type 0 = λ n. GoesOnAt n old new in
+    subst P (is ∙ ap (λ (l : ScriptLine). l.number) one) on

@@ -1,0 +1,69 @@
+-- Pointers' lines that stand beside a script: whom a pointer that goes down hits, in the frame that was finished last before its line.
+use Rattle.std.specs.Prelude.{◌≡◌, ℕ, ◌+◌, Bool, true, cond, ◌&&◌, not, nat_le, nat_lt, List, [], ◌∷◌, ◌++◌, map}
+use Rattle.std.specs.List.{list_all}
+use Rattle.flat_scene.specs.declared.frames.Hit.{Hit}
+use Rattle.flat_scene.specs.declared.journal.Entry.{Entry}
+use Rattle.flat_scene.specs.declared.setup.Setup.{Setup}
+use Rattle.flat_scene.specs.History.{◌▹◌, is_end, is_finish}
+use Rattle.flat_report.specs.Report.{begin_of, hits_at}
+use Rattle.flat_topology.specs.declared.Joined.{Joined}
+use Rattle.flat_topology.specs.Hits.{hits_among}
+use Rattle.flat_pointer.specs.declared.text.PointerCall.{PointerCall}
+use Rattle.flat_pointer.specs.declared.text.PointerCall.TheVariants.{Down}
+use Rattle.flat_pointer.specs.declared.text.PointerLine.{PointerLine}
+use Rattle.flat_pointer.specs.declared.text.Touch.{Touch}
+use Rattle.flat_pointer.specs.Lines.{rise_after}
+
+-- how many frames were finished by lines before that of a number
+abbrev pub frames_before : ℕ → List Entry → ℕ
+frames_before number [] = 0
+frames_before number (before ▹ entry) = cond (is_finish entry.kind && nat_lt entry.line number) 1 0 + frames_before number before
+
+-- whom a call hits by the states at a begin: a Down those at its point, and another call nobody
+abbrev pub call_hits : Setup → List Entry → PointerCall → List Hit
+call_hits setup begun (Down x y) = hits_at setup begun x y
+call_hits setup begun _ = []
+
+-- a line of a pointer, with whom it hits in the frame that was finished last before it
+abbrev pub touch_of : Setup → List Entry → PointerLine → Touch
+touch_of setup history line = record { line = line; hits = call_hits setup (begin_of (frames_before line.number history) history) line.call }
+
+-- the same by a joined tree
+abbrev pub hits_in : Joined → PointerCall → List Hit
+hits_in joined (Down x y) = hits_among joined.nodes x y
+hits_in joined _ = []
+
+abbrev pub touch_in : Joined → PointerLine → Touch
+touch_in joined line = record { line = line; hits = hits_in joined line.call }
+
+-- ---- how a history goes on
+
+-- by one entry of a line at most
+pub data GoesOnAt (number : ℕ) (old new : List Entry) : Type 0 where
+  stays : new ≡ old → GoesOnAt number old new
+  enters : (entry : Entry) → entry.line ≡ number → new ≡ (old ▹ entry) → GoesOnAt number old new
+
+-- by Ends alone
+pub record GoesOnByEnds (old new : List Entry) : Type 0 where
+  pub ends : List Entry
+  pub is : new ≡ ends ++ old
+  pub are_ends : list_all (λ entry. is_end entry.kind) ends ≡ true
+
+-- ---- how far the lines are answered
+
+-- The lines that come next, up to that of a number, are answered by a joined tree, and the later ones are left.
+pub record AnswersUpto (joined : Joined) (number : ℕ) (lines later : List PointerLine) (old new : List Touch) : Type 0 where
+  pub early : List PointerLine
+  pub parts : lines ≡ early ++ later
+  pub up_to : list_all (λ line. nat_le line.number number) early ≡ true
+  pub rest : (from : ℕ) → rise_after from lines ≡ true → rise_after number later ≡ true
+  pub touches : new ≡ old ++ map (touch_in joined) early
+
+-- The first lines are answered, those up to that of a number, behind which no entry stands; the others are left.
+pub record AreAnswered (setup : Setup) (history : List Entry) (number : ℕ) (lines left : List PointerLine) (found : List Touch) : Type 0 where
+  pub answered : List PointerLine
+  pub parts : lines ≡ answered ++ left
+  pub touches : found ≡ map (touch_of setup history) answered
+  pub up_to : list_all (λ line. nat_le line.number number) answered ≡ true
+  pub after : rise_after number left ≡ true
+  pub entries : list_all (λ entry. nat_le entry.line number) history ≡ true

@@ -1,0 +1,73 @@
+ghost use Rattle.flat_extra.specs.Reading.{Reads};
+ghost use Rattle.flat_words.specs.declared.form.Form.TheVariants.{Play, Focus, Pointer};
+ghost use Rattle.flat_run.specs.Forms.{form_read};
+
+use flat_extra::{WithFocus, WithPointers, parse_focus, parse_pointers};
+use flat_focus::FocusLines;
+use flat_places::Script;
+use flat_pointer::PointerLines;
+use flat_script::{ScriptError, parse};
+use flat_words::Form;
+use std::alloc::Global;
+
+/// What a form reads of a text: its script, and the values of the extra lines that the
+/// form knows.
+#[derive(Debug, Drop)]
+pub struct Reading {
+    pub script: Script,
+    pub focus: FocusLines,
+    pub pointers: PointerLines,
+}
+
+/// A text with extra lines that ask for the focus.
+fn read_focus(alloc: Global, bytes: &[u8]) -> Result<Reading, ScriptError>
+    ensures { Reads result (form_read Focus bytes.now) }
+{
+    match parse_focus(alloc, bytes) {
+        Ok(WithFocus { script, lines }) => Ok(Reading {
+            script,
+            focus: lines,
+            pointers: PointerLines::new(alloc),
+        }),
+        Err(error) => Err(error),
+    }
+}
+
+/// A text with extra lines that pointers have.
+fn read_pointers(alloc: Global, bytes: &[u8]) -> Result<Reading, ScriptError>
+    ensures { Reads result (form_read Pointer bytes.now) }
+{
+    match parse_pointers(alloc, bytes) {
+        Ok(WithPointers { script, lines }) => Ok(Reading {
+            script,
+            focus: FocusLines::new(alloc),
+            pointers: lines,
+        }),
+        Err(error) => Err(error),
+    }
+}
+
+/// A text without extra lines.
+fn read_plain(alloc: Global, bytes: &[u8]) -> Result<Reading, ScriptError>
+    ensures { Reads result (form_read Play bytes.now) }
+{
+    match parse(alloc, bytes) {
+        Ok(script) => Ok(Reading {
+            script,
+            focus: FocusLines::new(alloc),
+            pointers: PointerLines::new(alloc),
+        }),
+        Err(error) => Err(error),
+    }
+}
+
+/// What a form reads of a text, or the text's fault.
+pub(crate) fn read_text(alloc: Global, form: Form, bytes: &[u8]) -> Result<Reading, ScriptError>
+    ensures { Reads result (form_read form bytes.now) }
+{
+    match form {
+        Form::Focus => read_focus(alloc, bytes),
+        Form::Pointer => read_pointers(alloc, bytes),
+        _ => read_plain(alloc, bytes),
+    }
+}

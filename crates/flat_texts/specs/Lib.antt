@@ -1,0 +1,3 @@
+pub mod Damages
+pub mod Lines
+pub mod Pictures
