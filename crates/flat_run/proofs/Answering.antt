@@ -1,21 +1,23 @@
 -- What is answered to what a source gives, and what is written of it.
-use Rattle.std.proofs.Common.{◌≡◌, ◌≢◌, ◌==◌, ◌||◌, inl, inr, ◌⊎◌, ℕ, zero, suc, ◌<◌, Bool, true, false, List, [], ◌∷◌, ◌++◌, ap, ◌∙◌, length, take, Option, Result, None, Some, Ok, Err, IfOk, IfSome, IsTrue, refl, sym, subst, arith, append-nil}
-use Rattle.std.proofs.lemmas.Bool.{lt-ltb, eqb-true}
+use Rattle.std.proofs.Common.{◌≡◌, ◌≢◌, ◌==◌, ◌||◌, ◌*◌, ◌≤◌, nat_lt, inl, inr, ◌⊎◌, ℕ, zero, suc, ◌<◌, Bool, true, false, List, [], ◌∷◌, ◌++◌, ap, ◌∙◌, length, take, Option, Result, None, Some, Ok, Err, IfOk, IfSome, IsTrue, refl, sym, subst, arith, append-nil}
+use Rattle.std.proofs.lemmas.Bool.{lt-ltb, eqb-true, eq-eqb}
 use Rattle.std.proofs.lemmas.List.{append_cancel_right}
 use Rattle.flat_base.specs.declared.limits.TheConstants.{SCRIPT_BYTES_MAX}
 use Rattle.flat_io.specs.Counts.{has_risen}
 use Rattle.flat_io.specs.Told.{Appends}
 use Rattle.flat_io.specs.Whole.{Given, AppendsPrefix}
 use Rattle.flat_scene.specs.declared.frames.FrameOut.{FrameOut}
-use Rattle.flat_places.specs.declared.script.Script.{Script}
+use Rattle.flat_render.specs.declared.grid.TheConstants.{PIXELS_MAX}
+use Rattle.flat_scene.specs.declared.setup.Setup.{Setup}
 use Rattle.flat_script.specs.declared.script.ScriptFault.{ScriptFault}
-use Rattle.flat_script.specs.Grammar.{text_read}
 use Rattle.flat_stress.specs.Load.{load_text}
 use Rattle.flat_words.specs.declared.form.Form.{Form}
-use Rattle.flat_words.specs.declared.form.Form.TheVariants.{Play, Race, Stress}
-use Rattle.flat_words.specs.Forms.{CallFor, words_of}
+use Rattle.flat_words.specs.declared.form.Form.TheVariants.{Play, Race, Stress, Render, Damage, Focus, Pointer}
+use Rattle.flat_words.specs.Forms.{CallFor}
+use Rattle.flat_run.specs.declared.reading.Reading.{Reading}
 use Rattle.flat_run.specs.Answering.{IsReply}
-use Rattle.flat_run.specs.Promise.{fault_line, is_read, CallForNothing, AreTextOf, AreGiven, AreAll, AreTooMany, Refuses, IsRefused, IsTold, IsAnswer, IsWhole, IsCutOff, GivesScript, IsThere}
+use Rattle.flat_run.specs.Forms.{is_read, form_read, Fits}
+use Rattle.flat_run.specs.Promise.{fault_line, CallForNothing, AreTextOf, AreGiven, AreAll, AreTooMany, Refuses, IsRefused, IsTooLarge, Tells, IsTold, IsAnswer, IsWhole, IsCutOff, Gives, IsThere, IsThereTooLarge}
 
 -- the form that was found is that of the words
 pub called_for : (words : List (List ℕ)) (found : Option Form) (form : Form) → found ≡ Some form → IfSome found (λ f. CallFor words f) → CallFor words form
@@ -28,9 +30,18 @@ none_called words answer is only form calls =
 
 -- ---- the bytes
 
--- a text that is too long is at fault as a whole
-too_long : (bytes : List ℕ) → SCRIPT_BYTES_MAX < length bytes → text_read bytes ≡ Err (record { line = 0; kind = 1 })
-too_long bytes long = rw (lt-ltb SCRIPT_BYTES_MAX (length bytes) long) refl
+-- a text that is too long is at fault as a whole, for each form
+is_long : (bytes : List ℕ) → SCRIPT_BYTES_MAX < length bytes → nat_lt SCRIPT_BYTES_MAX (length bytes) ≡ true
+is_long bytes long = lt-ltb SCRIPT_BYTES_MAX (length bytes) long
+
+too_long : (form : Form) (bytes : List ℕ) → SCRIPT_BYTES_MAX < length bytes → form_read form bytes ≡ Err (record { line = 0; kind = 1 })
+too_long Play bytes long = rw (is_long bytes long) refl
+too_long Race bytes long = rw (is_long bytes long) refl
+too_long (Stress asked) bytes long = rw (is_long bytes long) refl
+too_long Render bytes long = rw (is_long bytes long) refl
+too_long Damage bytes long = rw (is_long bytes long) refl
+too_long Focus bytes long = rw (is_long bytes long) refl
+too_long Pointer bytes long = rw (is_long bytes long) refl
 
 -- a text that is longer than a limit
 longer : (limit : ℕ) → (bytes : List ℕ) × (limit < length bytes)
@@ -85,69 +96,91 @@ one_or : (a b : Bool) → (a || b) ≡ true → b ≢ true → a ≡ true
 one_or true b either not_b = refl
 one_or false b either not_b = absurd (not_b either)
 
-pub done_or_fault : (result status : ℕ) → (result == status || result == 5) ≡ true → status ≡ 0 → (result ≡ 5 → ⊥) → (result == 0 || result == 6) ≡ true
-done_or_fault result status either is not_5 =
+pub answered_or_fault : (result status expected : ℕ) → (result == status || result == 5) ≡ true → status ≡ expected → (result ≡ 5 → ⊥) → (result == expected || result == 6) ≡ true
+answered_or_fault result status expected either is not_5 =
     let same : result ≡ status = eqb-true result status (one_or (result == status) (result == 5) either (λ yes. not_5 (eqb-true result 5 yes))) in
-    let none : result ≡ 0 = same ∙ is in
-    rw none refl
+    ap (λ b. b || result == 6) (eq-eqb result expected (same ∙ is))
 
 -- ---- where a script is there
 
-refuses_none : (bytes bytes' text : List ℕ) (script : Script) → text_read bytes ≡ Ok script → bytes ≡ bytes' → Refuses bytes' text → ⊥
-refuses_none bytes bytes' text script read same refuses =
-    let both : Ok script ≡ Err refuses.fault = sym read ∙ ap text_read same ∙ refuses.read in
+-- the form of the words is the one that was found
+pub one_form : (found : Option Form) (mine form : Form) → found ≡ Some mine → found ≡ Some form → form ≡ mine
+one_form found mine form is only = cc
+
+refuses_none : (form : Form) (bytes bytes' text : List ℕ) (reading : Reading) → form_read form bytes ≡ Ok reading → bytes ≡ bytes' → Refuses form bytes' text → ⊥
+refuses_none form bytes bytes' text reading read same refuses =
+    let both : Ok reading ≡ Err refuses.fault = sym read ∙ ap (form_read form) same ∙ refuses.read in
     cc
 
--- a source that gives a script isn't refused
-gives_no_fault : (left left' : Option (List ℕ)) (failed failed' : ℕ) (text : List ℕ) → GivesScript left left' failed failed' → IsRefused left left' text → ⊥
-gives_no_fault left left' failed failed' text gives refused =
-    let P : Option (List ℕ) → Type 0 = λ l. AreAll refused.bytes l left' ⊎ AreTooMany refused.bytes l left' in
-    let Q : Option (List ℕ) → Type 0 = λ l. AreAll refused.bytes (Some (gives.given ++ gives.after)) l ⊎ AreTooMany refused.bytes (Some (gives.given ++ gives.after)) l in
-    by_given (subst Q gives.after_is (subst P gives.before_is refused.given))
-  where
-    same_given : (given after bytes : List ℕ) → given ++ after ≡ bytes → after ≡ [] → given ≡ bytes
-    same_given given after bytes is none = sym (append-nil given) ∙ ap (λ rest. given ++ rest) (sym none) ∙ is
+module _ (form : Form) (IsOfSort : Setup → Type 0) (left left' : Option (List ℕ)) (failed failed' : ℕ) (gives : Gives form IsOfSort left left' failed failed') where
+  -- what it gave is all that was read
+  gives_all : (bytes : List ℕ) → AreAll bytes left left' → gives.given ≡ bytes
+  gives_all bytes all =
+      let P : Option (List ℕ) → Type 0 = λ l. AreAll bytes l left' in
+      let Q : Option (List ℕ) → Type 0 = λ l. AreAll bytes (Some (gives.given ++ gives.after)) l in
+      let both : AreAll bytes (Some (gives.given ++ gives.after)) (Some gives.after) = subst Q gives.after_is (subst P gives.before_is all) in
+      sym (append-nil gives.given) ∙ ap (λ rest. gives.given ++ rest) (sym both.1) ∙ both.0
 
-    by_given : AreAll refused.bytes (Some (gives.given ++ gives.after)) (Some gives.after) ⊎ AreTooMany refused.bytes (Some (gives.given ++ gives.after)) (Some gives.after) → ⊥
-    by_given (inl all) = refuses_none gives.given refused.bytes text gives.script gives.read (same_given gives.given gives.after refused.bytes all.0 all.1) refused.refuses
-    by_given (inr many) =
-        let same : gives.given ≡ refused.bytes = append_cancel_right gives.given refused.bytes gives.after many.1 in
-        refuses_none gives.given refused.bytes text gives.script gives.read same refused.refuses
+  -- or more than that
+  gives_many : (bytes : List ℕ) → AreTooMany bytes left left' → gives.given ≡ bytes
+  gives_many bytes many =
+      let P : Option (List ℕ) → Type 0 = λ l. AreGiven bytes l left' in
+      let Q : Option (List ℕ) → Type 0 = λ l. AreGiven bytes (Some (gives.given ++ gives.after)) l in
+      let both : AreGiven bytes (Some (gives.given ++ gives.after)) (Some gives.after) = subst Q gives.after_is (subst P gives.before_is many.1) in
+      append_cancel_right gives.given bytes gives.after both
 
-two_words : (form : Form) (frames : ℕ) → words_of form ≡ words_of (Stress frames) → (m : ℕ) × (form ≡ Stress m)
-two_words Play frames same = absurd (cc)
-two_words Race frames same = absurd (cc)
-two_words (Stress m) frames same = (m, refl)
+  -- a source that gives a script isn't refused
+  gives_no_fault : (text : List ℕ) → IsRefused form left left' text → ⊥
+  gives_no_fault text refused = by_given refused.given
+    where
+      by_given : AreAll refused.bytes left left' ⊎ AreTooMany refused.bytes left left' → ⊥
+      by_given (inl all) = refuses_none form gives.given refused.bytes text gives.reading gives.read (gives_all refused.bytes all) refused.refuses
+      by_given (inr many) = refuses_none form gives.given refused.bytes text gives.reading gives.read (gives_many refused.bytes many) refused.refuses
 
-made : (form : Form) → ((m : ℕ) × (form ≡ Stress m)) → is_read form ≡ true → ⊥
-made form load read = let wrong : false ≡ true = ap is_read (sym load.1) ∙ read in cc
+  -- it is read as what it gives
+  reads_it : (bytes : List ℕ) (reading : Reading) → AreAll bytes left left' → form_read form bytes ≡ Ok reading → gives.reading ≡ reading
+  reads_it bytes reading all read =
+      let both : Ok gives.reading ≡ Ok reading = sym gives.read ∙ ap (form_read form) (gives_all bytes all) ∙ read in
+      cc
 
--- where the script of a form is there, nothing is refused
-there_no_fault : (words : List (List ℕ)) (form form' : Form) (left left' : Option (List ℕ)) (failed failed' : ℕ) (text : List ℕ) → CallFor words form → IsThere form left left' failed failed'
-    → CallFor words form' → is_read form' ≡ true → IsRefused left left' text → ⊥
-there_no_fault words Play form' left left' failed failed' text calls there calls' read refused = gives_no_fault left left' failed failed' text there refused
-there_no_fault words Race form' left left' failed failed' text calls there calls' read refused = gives_no_fault left left' failed failed' text there refused
-there_no_fault words (Stress asked) form' left left' failed failed' text calls there calls' read refused = made form' (two_words form' asked (sym calls'.0 ∙ calls.0)) read
+too_large_to_fit : (setup : Setup) → Fits Render setup → IsTooLarge setup → ⊥
+too_large_to_fit setup fits large = let size : ℕ = setup.width * setup.height in let most : size ≤ PIXELS_MAX = fits in let more : PIXELS_MAX < size = large in omega (arith, most, more)
 
--- and no read failed, where one was made
-pub there_no_read_fault : (words : List (List ℕ)) (form form' : Form) (left left' : Option (List ℕ)) (failed failed' : ℕ) → CallFor words form → IsThere form left left' failed failed'
-    → CallFor words form' → is_read form' ≡ true → IsTrue (has_risen failed failed') → ⊥
-there_no_read_fault words Play form' left left' failed failed' calls there calls' is risen = let both : true ≡ false = sym risen ∙ there.steady in cc
-there_no_read_fault words Race form' left left' failed failed' calls there calls' is risen = let both : true ≡ false = sym risen ∙ there.steady in cc
-there_no_read_fault words (Stress asked) form' left left' failed failed' calls there calls' is risen = made form' (two_words form' asked (sym calls'.0 ∙ calls.0)) is
+-- what a form whose script is read has there
+gives_of : (form : Form) (left left' : Option (List ℕ)) (failed failed' : ℕ) → is_read form ≡ true → IsThere form left left' failed failed' → Gives form (Fits form) left left' failed failed'
+gives_of Play left left' failed failed' read there = there
+gives_of Race left left' failed failed' read there = there
+gives_of (Stress asked) left left' failed failed' read there = absurd (let wrong : false ≡ true = read in cc)
+gives_of Render left left' failed failed' read there = there
+gives_of Damage left left' failed failed' read there = there
+gives_of Focus left left' failed failed' read there = there
+gives_of Pointer left left' failed failed' read there = there
+
+-- no read failed, where one was made
+pub there_no_read_fault : (form form' : Form) (left left' : Option (List ℕ)) (failed failed' : ℕ) → form' ≡ form → IsThere form left left' failed failed' → is_read form' ≡ true → IsTrue (has_risen failed failed') → ⊥
+there_no_read_fault form form' left left' failed failed' same there read risen =
+    let gives = gives_of form left left' failed failed' (sym (ap is_read same) ∙ read) there in
+    let both : true ≡ false = sym risen ∙ gives.steady in cc
+
+pub large_no_read_fault : (left left' : Option (List ℕ)) (failed failed' : ℕ) → IsThereTooLarge left left' failed failed' → IsTrue (has_risen failed failed') → ⊥
+large_no_read_fault left left' failed failed' there risen = let both : true ≡ false = sym risen ∙ there.steady in cc
 
 -- ---- what is answered
 
 -- the text of a script that is read is all that was read
 text_of : (form : Form) → is_read form ≡ true → (left left' : Option (List ℕ)) (bytes : List ℕ) → AreAll bytes left left' → AreTextOf form left left' bytes
+text_of (Stress asked) read left left' bytes all = absurd (let wrong : false ≡ true = read in cc)
 text_of Play read left left' bytes all = all
 text_of Race read left left' bytes all = all
-text_of (Stress asked) read left left' bytes all = absurd (let wrong : false ≡ true = read in cc)
+text_of Render read left left' bytes all = all
+text_of Damage read left left' bytes all = all
+text_of Focus read left left' bytes all = all
+text_of Pointer read left left' bytes all = all
 
 -- What displays tell, and how a call found and left them.
 module _ {D : Type 0} (shown : D → Option (List FrameOut)) (faults : D → ℕ) (olds news : List D) where
   -- a status and a text of a refusal
-  pub refused : (form : Form) (bytes : List ℕ) (fault : ScriptFault) → text_read bytes ≡ Err fault → (status : ℕ) (text : List ℕ) → status ≡ 3 → text ≡ fault_line fault → news ≡ olds → IsReply shown faults olds news form bytes status text
+  pub refused : (form : Form) (bytes : List ℕ) (fault : ScriptFault) → form_read form bytes ≡ Err fault → (status : ℕ) (text : List ℕ) → status ≡ 3 → text ≡ fault_line fault → news ≡ olds → IsReply shown faults olds news form bytes status text
   refused form bytes fault read status text is_3 is same =
       subst (λ n. IsReply shown faults olds news form bytes n text) (sym is_3) (IsReply.refusal (record { fault = fault; read = read; is = is }) same)
 
@@ -160,6 +193,8 @@ module _ {D : Type 0} (shown : D → Option (List FrameOut)) (faults : D → ℕ
     pub read_text : (form : Form) → is_read form ≡ true → CallFor words form → (bytes : List ℕ) → Given left left' (λ given after. (given ≡ bytes) × (after ≡ [])) → (status : ℕ) (text : List ℕ) → IsReply shown faults olds news form bytes status text
         → IsAnswer shown faults olds news words left left' status text
     read_text form read calls bytes it status text (IsReply.told told) = IsAnswer.told form bytes calls (text_of form read left left' bytes (all_read left left' bytes it)) told
+    read_text form read calls bytes it status text (IsReply.too_large is large same) =
+        IsAnswer.too_large bytes (subst (CallFor words) is calls) (all_read left left' bytes it) large same
     read_text form read calls bytes it status text (IsReply.refusal refuses same) = IsAnswer.refusal form calls read (record { bytes = bytes; given = inl (all_read left left' bytes it); refuses = refuses }) same
 
     -- more bytes than a script may have
@@ -168,7 +203,7 @@ module _ {D : Type 0} (shown : D → Option (List FrameOut)) (faults : D → ℕ
     long_text form read calls it status text is_3 is same =
         let many = too_many left left' it in
         subst (λ n. IsAnswer shown faults olds news words left left' n text) (sym is_3)
-        (IsAnswer.refusal form calls read (record { bytes = many.0; given = inr many.1; refuses = record { fault = record { line = 0; kind = 1 }; read = too_long many.0 many.1.0; is = is } }) same)
+        (IsAnswer.refusal form calls read (record { bytes = many.0; given = inr many.1; refuses = record { fault = record { line = 0; kind = 1 }; read = too_long form many.0 many.1.0; is = is } }) same)
 
     -- a load
     pub load_told : (asked status : ℕ) (text : List ℕ) → CallFor words (Stress asked) → status ≡ 0 → IsTold shown faults olds news (Stress asked) (load_text asked) text → IsAnswer shown faults olds news words left left' status text
@@ -192,7 +227,31 @@ module _ {D : Type 0} (shown : D → Option (List FrameOut)) (faults : D → ℕ
     -- ---- where a script is there
 
     -- then nothing but what ran is told
-    pub only_told : (form : Form) (failed failed' : ℕ) → CallFor words form → IsThere form left left' failed failed' → (status : ℕ) (text : List ℕ) → IsAnswer shown faults olds news words left left' status text → status ≡ 0
-    only_told form failed failed' calls there status text (IsAnswer.usage nothing same) = absurd (nothing form calls)
-    only_told form failed failed' calls there status text (IsAnswer.refusal form' calls' read refused same) = absurd (there_no_fault words form form' left left' failed failed' text calls there calls' read refused)
-    only_told form failed failed' calls there status text (IsAnswer.told form' bytes calls' of told) = refl
+    pub only_told : (form : Form) (failed failed' : ℕ) → CallFor words form → ((f : Form) → CallFor words f → f ≡ form) → IsThere form left left' failed failed'
+        → (status : ℕ) (text : List ℕ) → IsAnswer shown faults olds news words left left' status text → status ≡ 0
+    only_told form failed failed' calls one there status text (IsAnswer.usage nothing same) = absurd (nothing form calls)
+    only_told form failed failed' calls one there status text (IsAnswer.refusal form' calls' read refused same) =
+        let is : form' ≡ form = one form' calls' in
+        absurd (gives_no_fault form (Fits form) left left' failed failed' (gives_of form left left' failed failed' (sym (ap is_read is) ∙ read) there) text
+            (subst (λ f. IsRefused f left left' text) is refused))
+    only_told form failed failed' calls one there status text (IsAnswer.too_large bytes calls' all large same) =
+        let here : IsThere Render left left' failed failed' = subst (λ f. IsThere f left left' failed failed') (sym (one Render calls')) there in
+        let reads : here.reading ≡ large.reading = reads_it Render (Fits Render) left left' failed failed' here bytes large.reading all large.read in
+        let fits : Fits Render large.reading.script.setup = subst (λ (r : Reading). Fits Render r.script.setup) reads here.sort in
+        absurd (too_large_to_fit large.reading.script.setup fits large.large)
+    only_told form failed failed' calls one there status text (IsAnswer.told form' bytes calls' of told) = refl
+
+    -- or that a picture would be too large
+    pub only_large : (failed failed' : ℕ) → CallFor words Render → ((f : Form) → CallFor words f → f ≡ Render) → IsThereTooLarge left left' failed failed'
+        → (status : ℕ) (text : List ℕ) → IsAnswer shown faults olds news words left left' status text → status ≡ 7
+    only_large failed failed' calls one there status text (IsAnswer.usage nothing same) = absurd (nothing Render calls)
+    only_large failed failed' calls one there status text (IsAnswer.refusal form' calls' read refused same) =
+        absurd (gives_no_fault Render IsTooLarge left left' failed failed' there text (subst (λ f. IsRefused f left left' text) (one form' calls') refused))
+    only_large failed failed' calls one there status text (IsAnswer.too_large bytes calls' all large same) = refl
+    only_large failed failed' calls one there status text (IsAnswer.told form' bytes calls' of told) =
+        let is : form' ≡ Render = one form' calls' in
+        let all : AreTextOf Render left left' bytes = subst (λ f. AreTextOf f left left' bytes) is of in
+        let tells : Tells Render bytes text = subst (λ f. Tells f bytes text) is told.0 in
+        let reads : there.reading ≡ tells.ran.reading = reads_it Render IsTooLarge left left' failed failed' there bytes tells.ran.reading all tells.read in
+        let large : IsTooLarge tells.ran.reading.script.setup = subst (λ (r : Reading). IsTooLarge r.script.setup) reads there.sort in
+        absurd (too_large_to_fit tells.ran.reading.script.setup tells.has_run.fits large)

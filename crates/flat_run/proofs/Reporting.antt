@@ -26,8 +26,11 @@ use Rattle.flat_report.specs.declared.report.HitAnswer.{HitAnswer}
 use Rattle.flat_scene.specs.Interleave.{IsWritten}
 use Rattle.flat_play.specs.Playing.{HasPlayed}
 use Rattle.flat_words.specs.declared.form.Form.{Form}
-use Rattle.flat_words.specs.declared.form.Form.TheVariants.{Play, Race, Stress}
-use Rattle.flat_run.specs.Promise.{Ran, AreAsked, HasRun, form_text, is_read}
+use Rattle.flat_words.specs.declared.form.Form.TheVariants.{Play, Race, Stress, Render, Damage, Focus, Pointer}
+use Rattle.flat_run.specs.declared.reading.Reading.{Reading}
+use Rattle.flat_run.specs.Answering.{ran_of}
+use Rattle.flat_run.specs.Forms.{AreAsked, Fits, is_read}
+use Rattle.flat_run.specs.Promise.{HasRun}
 use Rattle.flat_play.specs.Showing.{HaveSeen}
 use Rattle.flat_base.proofs.lemmas.Tests.{and-left, and-right}
 use Rattle.flat_run.proofs.FramesDone.{frames-done}
@@ -51,32 +54,31 @@ none_seen script history none =
     let nothing : List ℕ = [] in
     ap (λ (ls : List ScriptLine). (0 == length ls) && true && never_falls (zip ls nothing)) (no_lines script.setup.probes script.lines none)
 
--- what ran, where a script was run to its end
-abbrev pub ran_of : Script → List Entry → List Lost → Ran
-ran_of script history lost = record { script = script; history = history; lost = lost; seen = [] }
-
--- a form whose script is read asks for no number of frames, and tells the report
+-- a form whose script is read asks for no number of frames
 pub none_asked : (form : Form) (n : ℕ) → is_read form ≡ true → AreAsked form n
+none_asked (Stress asked) n read = absurd (let wrong : false ≡ true = read in cc)
 none_asked Play n read = tt
 none_asked Race n read = tt
-none_asked (Stress asked) n read = absurd (let wrong : false ≡ true = read in cc)
+none_asked Render n read = tt
+none_asked Damage n read = tt
+none_asked Focus n read = tt
+none_asked Pointer n read = tt
 
-pub tells_report : (form : Form) (ran : Ran) → is_read form ≡ true → report ran.script ran.history ran.lost ran.seen ≡ form_text form ran
-tells_report Play ran read = refl
-tells_report Race ran read = refl
-tells_report (Stress asked) ran read = absurd (let wrong : false ≡ true = read in cc)
+module _ (reading : Reading) (board : Machine) (all : List FrameOut) (answers : List HitAnswer) (playable : is_playable reading.script ≡ true) (played : HasPlayed reading.script board all answers) where
+  abbrev script : Script
+  script = reading.script
 
-module _ (script : Script) (board : Machine) (all : List FrameOut) (answers : List HitAnswer) (playable : is_playable script ≡ true) (played : HasPlayed script board all answers) where
   legal_here : Legal board.setup board.history → Legal script.setup board.history
   legal_here legal = let L : Setup → Type 0 = λ st. Legal st board.history in subst L played.setup legal
 
   -- a run that came to its end, and what displays have had of it
   pub has_run : {D : Type 0} (shown : D → Option (List FrameOut)) (faults : D → ℕ) (form : Form) (lost : List Lost) (olds news : List D) → (form ≢ Race → IsWritten script.setup board.history)
-      → HaveSeen shown faults all board.history lost olds news → FamiliesAreAlone → Legal board.setup board.history → AreAsked form (frames board.history) → HasRun form (ran_of script board.history lost)
-  has_run shown faults form lost olds news written seen alone legal asked = record {
+      → HaveSeen shown faults all board.history lost olds news → FamiliesAreAlone → Legal board.setup board.history → AreAsked form (frames board.history) → Fits form script.setup → HasRun form (ran_of reading board.history lost)
+  has_run shown faults form lost olds news written seen alone legal asked fits = record {
     run = record { legal = legal_here legal; interleaves = played.interleaves; loss = seen.loss; numbered = seen.numbered; seeing = none_seen script board.history (no_probes script playable) };
     written = written;
     asked = asked;
+    fits = fits;
     families = λ s. alone script.setup (owners_are script playable) board.history (legal_here legal) s;
   }
 

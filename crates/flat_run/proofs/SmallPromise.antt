@@ -1,8 +1,9 @@
 -- What is said of bytes and of forms, on small examples.
-use Rattle.std.proofs.Common.{◌≡◌, true, false, [], ◌∷◌, None, Some, refl}
+use Rattle.std.proofs.Common.{◌≡◌, ℕ, true, false, List, [], ◌∷◌, None, Some, refl}
 use Rattle.flat_stress.specs.Load.{load_text}
 use Rattle.flat_words.specs.declared.form.Form.TheVariants.{Play, Race, Stress}
-use Rattle.flat_run.specs.Promise.{AreGiven, AreAll, AreTextOf, AreAsked, Ran, is_read, form_text}
+use Rattle.flat_run.specs.Forms.{AreAsked, Ran, IsTextOf, is_read}
+use Rattle.flat_run.specs.Promise.{AreGiven, AreAll, AreTextOf}
 
 -- one byte of two is given
 one-given : AreGiven (7 ∷ []) (Some (7 ∷ 8 ∷ [])) (Some (8 ∷ []))
@@ -34,5 +35,5 @@ three-asked : AreAsked (Stress 3) 3
 three-asked = refl
 
 -- a race tells what a play does
-same-text : (ran : Ran) → form_text Race ran ≡ form_text Play ran
-same-text ran = refl
+same-text : (ran : Ran) (text : List ℕ) → IsTextOf Race ran text ≡ IsTextOf Play ran text
+same-text ran text = refl

@@ -20,8 +20,8 @@ pub record IsRunnable (reading : Reading) : Type 0 where
   pub pointers : list_all (λ line. nat_lt line.pointer POINTERS) reading.pointers ≡ true
 
 -- what ran of it, where there are no probes
-abbrev pub has_run : Reading → List Entry → List Lost → Ran
-has_run reading history lost = record { reading = reading; history = history; lost = lost; seen = [] }
+abbrev pub ran_of : Reading → List Entry → List Lost → Ran
+ran_of reading history lost = record { reading = reading; history = history; lost = lost; seen = [] }
 
 module _ {D : Type 0} (shown : D → Option (List FrameOut)) (faults : D → ℕ) (olds news : List D) where
   -- These bytes are a script, which ran for the form; or its display is too large for a picture; or they are none, and the text says so.

@@ -10,7 +10,7 @@ ghost use Rattle.flat_words.specs.declared.form.Form.TheVariants.{Render, Pointe
 ghost use Rattle.flat_texts.specs.Damages.{IsDamageText};
 ghost use Rattle.flat_texts.specs.Lines.{finish_lines};
 ghost use Rattle.flat_texts.specs.Pictures.{picture_text};
-ghost use Rattle.flat_run.specs.Answering.{IsRunnable, has_run};
+ghost use Rattle.flat_run.specs.Answering.{IsRunnable, ran_of};
 ghost use Rattle.flat_run.specs.Forms.{is_read, Fits, IsTextOf};
 
 use crate::reading::Reading;
@@ -109,7 +109,7 @@ pub(crate) fn text_of<T: Threads + Sync>(
     requires fits { Fits form reading.now.script.setup }
     requires played { HasPlayed reading.now.script played.now.board played.now.frames.items played.now.answers }
     requires touches { form ≡ Pointer → touches.now ≡ map (touch_of reading.now.script.setup played.now.board.history) reading.now.pointers }
-    ensures { IfOk result (λ text. IsTextOf form (has_run reading.now played.now.board.history played.now.set.lost) text.items) }
+    ensures { IfOk result (λ text. IsTextOf form (ran_of reading.now played.now.board.history played.now.set.lost) text.items) }
 {
     match form {
         Form::Play | Form::Race => report_of(alloc, &reading.script, played),

@@ -5,17 +5,17 @@ use borrow.Enum.Total.{values_d}
 use Rattle.flat_script.specs.contracts.script.ScriptError as the_error
 use Rattle.flat_script.specs.declared.script.ScriptError.{ScriptError}
 use Rattle.flat_script.specs.declared.script.ScriptError.TheVariants as error
-use Rattle.flat_script.specs.Grammar.{text_read}
 use Rattle.flat_script.specs.Answers.{Fails}
 use Rattle.flat_words.specs.declared.form.Form.{Form}
 use Rattle.flat_run.specs.declared.answers.Answer.{Answer}
 use Rattle.flat_run.specs.Answering.{IsReply}
+use Rattle.flat_run.specs.Forms.{form_read}
 use Rattle.flat_run.specs.Promise.{fault_line}
 use Rattle.flat_run.proofs.Answering.{refused}
 use Rattle.flat_play.proofs.lemmas.Seen.{kept_none}
 use Rattle.flat_run.proofs.answers.answer_to.Goals as goal
 
-refused_result : {D E : Type 0} (shown : D → Option (List FrameOut)) (faults : D → ℕ) (ds : List D) (form : Form) (bytes : List ℕ) (fault : ScriptFault) → text_read bytes ≡ Err fault → (r : Result Answer E) → IfOk r (λ a. a.status ≡ 3) → IfOk r (λ a. a.text.items ≡ fault_line fault)
+refused_result : {D E : Type 0} (shown : D → Option (List FrameOut)) (faults : D → ℕ) (ds : List D) (form : Form) (bytes : List ℕ) (fault : ScriptFault) → form_read form bytes ≡ Err fault → (r : Result Answer E) → IfOk r (λ a. a.status ≡ 3) → IfOk r (λ a. a.text.items ≡ fault_line fault)
     → IfOk r (λ a. IsReply shown faults ds ds form bytes a.status a.text.items)
 refused_result shown faults ds form bytes fault read (Ok a) is_3 is = refused shown faults ds ds form bytes fault read a.status a.text.items is_3 is refl
 refused_result shown faults ds form bytes fault read (Err e) is_3 is = tt
@@ -29,7 +29,7 @@ returns-in-Err-Fault-clause-reply g c =
     let why = c.in-Err-Fault.field-0-is in
     let is : c.in-Err-Fault.field-0 ≡ error.Fault c.in-Err-Fault.fault = cc in
     let V : ScriptError → Type 0 = λ e. IfOk c.refusal.result (λ a. a.text.items ≡ fault_line (values_d the_error.enum 0 (record { line = 0; kind = 0 }, tt {0}) e).0) in
-    refused_result _ _ _ c.args.form c.args.bytes.now c.in-Err-Fault.fault (subst (λ e. Fails e (text_read c.args.bytes.now)) is c.in-Err-Fault.ensures) c.refusal.result c.refusal.ensures.status (subst V is c.refusal.ensures.text)
+    refused_result _ _ _ c.args.form c.args.bytes.now c.in-Err-Fault.fault (subst (λ e. Fails e (form_read c.args.form c.args.bytes.now)) is c.in-Err-Fault.ensures) c.refusal.result c.refusal.ensures.status (subst V is c.refusal.ensures.text)
 
 pub returns-in-Err-Fault-clause-kept : goal.returns-in-Err-Fault-clause-kept
 returns-in-Err-Fault-clause-kept g c = kept_none _ _ _ _

@@ -5,7 +5,9 @@ use Rattle.flat_stress.specs.Load.{load_text}
 use Rattle.flat_stress.specs.Summary.{summary_line}
 use Rattle.flat_run.specs.Totals.{totals_of}
 use Rattle.flat_words.specs.declared.form.Form.TheVariants.{Stress}
-use Rattle.flat_run.proofs.Reporting.{if_ok, ran_of, has_run, have_had, load_asked}
+use Rattle.flat_run.specs.Answering.{ran_of}
+use Rattle.flat_run.specs.Forms.{plain, read_as}
+use Rattle.flat_run.proofs.Reporting.{if_ok, has_run, have_had, load_asked}
 use Rattle.flat_run.proofs.load.summed.Goals as goal
 
 pub totals_of-totals-requires : goal.totals_of-totals-requires
@@ -19,14 +21,14 @@ returns-clause-told g c =
     let playable = c.scripts_are_playable.ensures.playable (load_text c.args.frames) script c.requires.read in
     let played = c.in_ok-played.ensures.played in
     let journal = c.journal-journal.ensures in
-    let asked = load_asked script board _ _ playable played c.args.frames journal.legal (c.loads_have_their_frames.ensures c.args.frames script c.requires.first c.requires.last c.requires.read) in
-    let ran = has_run script board _ _ playable played _ _ (Stress c.args.frames) lost _ _ (λ no_race. c.in_ok-played.ensures.written) c.in_ok-played.ensures.seen c.families_are_alone.ensures journal.legal asked in
-    let had = have_had script board _ _ playable played _ _ lost _ _ c.in_ok-played.ensures.seen in
+    let asked = load_asked (plain script) board _ _ playable played c.args.frames journal.legal (c.loads_have_their_frames.ensures c.args.frames script c.requires.first c.requires.last c.requires.read) in
+    let ran = has_run (plain script) board _ _ playable played _ _ (Stress c.args.frames) lost _ _ (λ no_race. c.in_ok-played.ensures.written) c.in_ok-played.ensures.seen c.families_are_alone.ensures journal.legal asked tt in
+    let had = have_had (plain script) board _ _ playable played _ _ lost _ _ c.in_ok-played.ensures.seen in
     if_ok (λ text. text.items ≡ summary_line c.totals_of-totals.result) _ c.summary.result
     (λ text is. (
       record {
-        ran = ran_of script board.history lost;
-        read = c.requires.read;
+        ran = ran_of (plain script) board.history lost;
+        read = ap (read_as plain) c.requires.read;
         has_run = ran;
         is = is ∙ ap summary_line c.totals_of-totals.ensures ∙ ap (λ (h : List Entry). summary_line (totals_of c.args.frames script.setup h)) journal.entries;
       },

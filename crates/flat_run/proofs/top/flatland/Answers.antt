@@ -1,6 +1,7 @@
 use Rattle.std.proofs.Common.{◌≡◌, ◌∙◌, true, false, refl, sym, ap, Ok, Err}
+use Rattle.flat_words.specs.declared.form.Form.TheVariants.{Render}
 use Rattle.flat_run.specs.Promise.{IsAnswer}
-use Rattle.flat_run.proofs.Answering.{called_for, none_called, text_same, text_whole, text_cut_off, only_told, there_no_read_fault, done_or_fault}
+use Rattle.flat_run.proofs.Answering.{called_for, none_called, text_same, text_whole, text_cut_off, one_form, only_told, only_large, there_no_read_fault, large_no_read_fault, answered_or_fault}
 use Rattle.flat_play.proofs.lemmas.Seen.{kept_none}
 use Rattle.flat_run.proofs.top.flatland.Goals as goal
 
@@ -29,15 +30,31 @@ pub returns-in-Ok-clause-complete : goal.returns-in-Ok-clause-complete
 returns-in-Ok-clause-complete g c = λ form calls there steady.
     let x = c.in-Ok.answer in
     let mine = called_for _ c.in-Ok-Some.field-0 c.in-Ok-Some.form c.in-Ok-Some.field-0-is c.in-Ok-Some.ensures.form in
-    let is : x.status ≡ 0 = only_told _ _ _ _ _ _ _ form _ _ calls there x.status x.text.items (c.in-Ok.ensures.answer _ mine) in
-    done_or_fault c.write_text-in-Ok.result x.status c.write_text-in-Ok.ensures.either is
+    let one = λ f called. one_form c.in-Ok-Some.field-0 form f (c.in-Ok-Some.ensures.only form calls) (c.in-Ok-Some.ensures.only f called) in
+    let is : x.status ≡ 0 = only_told _ _ _ _ _ _ _ form _ _ calls one there x.status x.text.items (c.in-Ok.ensures.answer _ mine) in
+    answered_or_fault c.write_text-in-Ok.result x.status 0 c.write_text-in-Ok.ensures.either is
     (λ is_5. let rose = c.write_text-in-Ok.ensures.fault is_5 in let both : true ≡ false = sym rose ∙ steady in cc)
+
+pub returns-in-Ok-clause-too_large : goal.returns-in-Ok-clause-too_large
+returns-in-Ok-clause-too_large g c = λ calls there steady.
+    let x = c.in-Ok.answer in
+    let mine = called_for _ c.in-Ok-Some.field-0 c.in-Ok-Some.form c.in-Ok-Some.field-0-is c.in-Ok-Some.ensures.form in
+    let one = λ f called. one_form c.in-Ok-Some.field-0 Render f (c.in-Ok-Some.ensures.only Render calls) (c.in-Ok-Some.ensures.only f called) in
+    let is : x.status ≡ 7 = only_large _ _ _ _ _ _ _ _ _ calls one there x.status x.text.items (c.in-Ok.ensures.answer _ mine) in
+    answered_or_fault c.write_text-in-Ok.result x.status 7 c.write_text-in-Ok.ensures.either is
+    (λ is_5. let rose = c.write_text-in-Ok.ensures.fault is_5 in let both : true ≡ false = sym rose ∙ steady in cc)
+
+pub returns-in-Ok-None-clause-too_large : goal.returns-in-Ok-None-clause-too_large
+returns-in-Ok-None-clause-too_large g c = λ calls there steady. absurd (none_called _ c.read.result (c.in-Ok-None.is ∙ ap Ok c.in-Ok-None.field-0-is) c.read.ensures.only Render calls)
 
 pub returns-in-Err-Fault-clause-complete : goal.returns-in-Err-Fault-clause-complete
 returns-in-Err-Fault-clause-complete g c = λ form calls there steady.
-    let mine = called_for _ c.in-Ok-Some.field-0 c.in-Ok-Some.form c.in-Ok-Some.field-0-is c.in-Ok-Some.ensures.form in
     let why = ap Err c.in-Err-Fault.field-0-is in
-    absurd (there_no_read_fault _ form c.in-Ok-Some.form _ _ _ _ calls there mine (c.in-Err-Fault.ensures.reads why) (c.in-Err-Fault.ensures.fault why))
+    let one = one_form c.in-Ok-Some.field-0 form c.in-Ok-Some.form (c.in-Ok-Some.ensures.only form calls) c.in-Ok-Some.field-0-is in
+    absurd (there_no_read_fault form c.in-Ok-Some.form _ _ _ _ one there (c.in-Err-Fault.ensures.reads why) (c.in-Err-Fault.ensures.fault why))
+
+pub returns-in-Err-Fault-clause-too_large : goal.returns-in-Err-Fault-clause-too_large
+returns-in-Err-Fault-clause-too_large g c = λ calls there steady. absurd (large_no_read_fault _ _ _ _ there (c.in-Err-Fault.ensures.fault (ap Err c.in-Err-Fault.field-0-is)))
 
 pub returns-in-Ok-None-clause-kept : goal.returns-in-Ok-None-clause-kept
 returns-in-Ok-None-clause-kept g c = kept_none _ _ _ _
