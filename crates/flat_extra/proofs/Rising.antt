@@ -23,7 +23,7 @@ use Rattle.flat_extra.specs.Whole.{and_then, focus_read, pointers_read}
 
 -- ---- one line
 
-passed : {A : Type 0} (fault : Option ℕ) (value found : A) → ◌≡◌ {A = Result A ℕ} (option_map_or (λ kind. Err kind) fault (Ok value)) (Ok found) → value ≡ found
+pub passed : {A : Type 0} (fault : Option ℕ) (value found : A) → ◌≡◌ {A = Result A ℕ} (option_map_or (λ kind. Err kind) fault (Ok value)) (Ok found) → value ≡ found
 passed None value found is = cc
 passed (Some kind) value found is = absurd (cc)
 
@@ -59,11 +59,11 @@ all-rise set begun n before from (line ∷ lines) values less is = by (begun && 
 
 -- ---- a whole text
 
-not-refused : {A : Type 0} (refused : Bool) (fault : ScriptFault) (read : Result A ScriptFault) (value : A) → (if refused then Err fault else read) ≡ Ok value → read ≡ Ok value
+pub not-refused : {A : Type 0} (refused : Bool) (fault : ScriptFault) (read : Result A ScriptFault) (value : A) → (if refused then Err fault else read) ≡ Ok value → read ≡ Ok value
 not-refused true fault read value is = absurd (cc)
 not-refused false fault read value is = is
 
-both-read : {A B : Type 0} (first : Result A ScriptFault) (next : A → Result B ScriptFault) (value : B) → and_then first next ≡ Ok value → (a : A) × (first ≡ Ok a) × (next a ≡ Ok value)
+pub both-read : {A B : Type 0} (first : Result A ScriptFault) (next : A → Result B ScriptFault) (value : B) → and_then first next ≡ Ok value → (a : A) × (first ≡ Ok a) × (next a ≡ Ok value)
 both-read (Ok a) next value is = (a, refl, is)
 both-read (Err fault) next value is = absurd (cc)
 

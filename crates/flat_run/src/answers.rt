@@ -15,7 +15,7 @@ use crate::reading::{Reading, read_text};
 use crate::texts::text_of;
 use flat_base::{NoMemory, SCRIPT_BYTES_MAX};
 use flat_display::Display;
-use flat_extra::extra_laws;
+use flat_extra::{extra_laws, pointers_rise, rests_are_read};
 use flat_io::{ReadAll, Source, read_all};
 use flat_places::Script;
 use flat_play::{Played, play_script, play_touched};
@@ -219,6 +219,8 @@ fn answer_to<T: Threads + Wait + Sync, G: Gate>(
     ensures kept { AreKept (λ d. shown d) (λ d. faults d) displays.old.items displays.new.items (λ d. d.vtable) }
 {
     scripts_are_playable();
+    rests_are_read();
+    pointers_rise();
     extra_laws();
     match read_text(alloc, form, bytes) {
         Ok(reading) => answer_reading(rt, alloc, form, &reading, displays, gate),

@@ -5,13 +5,15 @@ use borrow.Enum.Total.{values_d}
 use Rattle.flat_script.specs.contracts.script.ScriptError as the_error
 use Rattle.flat_script.specs.declared.script.ScriptError.{ScriptError}
 use Rattle.flat_script.specs.declared.script.ScriptError.TheVariants as error
-use Rattle.flat_script.specs.Answers.{Fails}
+use Rattle.flat_extra.specs.Reading.{Reads}
+use Rattle.flat_run.specs.declared.reading.Reading.{Reading}
 use Rattle.flat_words.specs.declared.form.Form.{Form}
 use Rattle.flat_run.specs.declared.answers.Answer.{Answer}
 use Rattle.flat_run.specs.Answering.{IsReply}
 use Rattle.flat_run.specs.Forms.{form_read}
 use Rattle.flat_run.specs.Promise.{fault_line}
 use Rattle.flat_run.proofs.Answering.{refused}
+use Rattle.flat_run.proofs.Runnable.{runnable}
 use Rattle.flat_play.proofs.lemmas.Seen.{kept_none}
 use Rattle.flat_run.proofs.answers.answer_to.Goals as goal
 
@@ -20,8 +22,13 @@ refused_result : {D E : Type 0} (shown : D → Option (List FrameOut)) (faults :
 refused_result shown faults ds form bytes fault read (Ok a) is_3 is = refused shown faults ds ds form bytes fault read a.status a.text.items is_3 is refl
 refused_result shown faults ds form bytes fault read (Err e) is_3 is = tt
 
-pub returns-in_ok-reported-in-Ok-clause-reply : goal.returns-in_ok-reported-in-Ok-clause-reply
-returns-in_ok-reported-in-Ok-clause-reply g c = IsReply.told (c.in_ok-reported-in-Ok.ensures.told c.args.bytes.now c.in-Ok.ensures)
+pub answer_reading-requires-clause-runnable : goal.answer_reading-requires-clause-runnable
+answer_reading-requires-clause-runnable g c =
+    runnable c.scripts_are_playable.ensures.playable c.rests_are_read.ensures.focus c.rests_are_read.ensures.pointers c.pointers_rise.ensures c.extra_laws.ensures.pointers_are_known
+    c.args.form c.args.bytes.now c.in-Ok.reading c.in-Ok.ensures
+
+pub returns-in-Ok-clause-reply : goal.returns-in-Ok-clause-reply
+returns-in-Ok-clause-reply g c = c.answer_reading.ensures.reply c.args.bytes.now c.in-Ok.ensures
 
 pub returns-in-Err-Fault-clause-reply : goal.returns-in-Err-Fault-clause-reply
 returns-in-Err-Fault-clause-reply g c =
@@ -29,7 +36,7 @@ returns-in-Err-Fault-clause-reply g c =
     let why = c.in-Err-Fault.field-0-is in
     let is : c.in-Err-Fault.field-0 ≡ error.Fault c.in-Err-Fault.fault = cc in
     let V : ScriptError → Type 0 = λ e. IfOk c.refusal.result (λ a. a.text.items ≡ fault_line (values_d the_error.enum 0 (record { line = 0; kind = 0 }, tt {0}) e).0) in
-    refused_result _ _ _ c.args.form c.args.bytes.now c.in-Err-Fault.fault (subst (λ e. Fails e (form_read c.args.form c.args.bytes.now)) is c.in-Err-Fault.ensures) c.refusal.result c.refusal.ensures.status (subst V is c.refusal.ensures.text)
+    refused_result _ _ _ c.args.form c.args.bytes.now c.in-Err-Fault.fault (subst (λ e. Reads {A = Reading} (Err e) (form_read c.args.form c.args.bytes.now)) is c.in-Err-Fault.ensures) c.refusal.result c.refusal.ensures.status (subst V is c.refusal.ensures.text)
 
 pub returns-in-Err-Fault-clause-kept : goal.returns-in-Err-Fault-clause-kept
 returns-in-Err-Fault-clause-kept g c = kept_none _ _ _ _
