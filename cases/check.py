@@ -19,9 +19,10 @@ A case is a folder with
 --only, --skip   globs on case names, each may be given more than once
 --stage LABEL    only the cases of that stage (may be given more than once)
 --up-to LABEL    the cases up to and with that stage, in the order of the stages
---at LABEL       the stage that the program has reached: it decides on `until` and
-                 `stdout.from.L`; by default the stage of --up-to, else the one that
-                 the file `reached` beside this one names
+--at LABEL       the stage that the program has reached, with all before it: they decide
+                 on `until` and `stdout.from.L`; by default the stage of --up-to, else those
+                 that the file `reached` beside this one names: the first word a stage with
+                 all before it, and each word after it one stage more
 A case that is named is run whatever its stage. Standard error must stay empty.
 Large files are made by make_large.py first.
 """
@@ -42,9 +43,14 @@ def stage_number(label):
     return STAGES.index(label)
 
 
+def all_to(stage):
+    return set(range(stage + 1))
+
+
 def reached():
     with open(os.path.join(ROOT, "reached")) as f:
-        return stage_number(f.read().strip())
+        first, *more = [stage_number(word) for word in f.read().split()]
+    return all_to(first) | set(more)
 
 
 def read(case, name):
@@ -83,8 +89,8 @@ def run(program, case, at, limit):
     words = (text(case, "words") or "").split() if exact is None else exact.split(b"\0")[:-1]
     stdin = read(case, "stdin")
     want = read(case, "stdout")
-    for label in STAGES[:at + 1]:
-        newer = read(case, "stdout.from." + label)
+    for n in sorted(at):
+        newer = read(case, "stdout.from." + STAGES[n])
         want = want if newer is None else newer
     contains = read(case, "stdout.contains")
     if stdin is None or (want is None and contains is None):
@@ -138,7 +144,7 @@ def main():
             elif a == "--up-to":
                 up_to = stage_number(v)
             elif a == "--at":
-                at = stage_number(v)
+                at = all_to(stage_number(v))
             else:
                 limit = int(v)
         elif a == "--list":
@@ -156,7 +162,7 @@ def main():
         if c.rstrip("/") not in known:
             sys.exit("no case %s" % c)
     if at is None:
-        at = up_to if up_to is not None else reached()
+        at = all_to(up_to) if up_to is not None else reached()
     cases = []
     for c in known:
         n = stage_number(text(c, "stage"))
@@ -164,7 +170,7 @@ def main():
         if plain:
             if c not in [p.rstrip("/") for p in plain]:
                 continue
-        elif n > at or (until is not None and stage_number(until) <= at):
+        elif n not in at or (until is not None and stage_number(until) in at):
             continue
         if only and not any(fnmatch.fnmatch(c, g) for g in only):
             continue

@@ -1,5 +1,5 @@
 -- What the texts of a run ask for.
-use Rattle.std.proofs.Common.{◌≡◌, ℕ, suc, ◌<◌, ◌≤◌, Bool, true, false, cond, nat_le, ◌&&◌, List, [], ◌∷◌, ◌++◌, length, reverse, refl, sym, ap, ◌∙◌, subst, arith}
+use Rattle.std.proofs.Common.{◌≡◌, ℕ, suc, ◌<◌, ◌≤◌, Bool, true, false, cond, nat_lt, nat_le, ◌&&◌, List, [], ◌∷◌, ◌++◌, length, reverse, refl, sym, ap, ◌∙◌, subst, arith}
 use Rattle.std.specs.List.{All}
 use Rattle.std.proofs.lemmas.Bool.Decides.{nat_tests}
 use Rattle.std.proofs.lemmas.Grind.{common_steps}
@@ -53,11 +53,11 @@ module _ (setup : Setup) (is : is_setup setup ≡ true) where
   pub wide : 0 < setup.width
   wide =
       let here : is_within SIDE_MAX setup.width ≡ true = and-left _ _ (and-left _ _ (and-left _ _ (and-left _ _ (and-left _ _ (and-left _ _ limits))))) in
-      let low : nat_le 1 setup.width ≡ true = and-left _ _ here in
+      let low : nat_lt 0 setup.width ≡ true = and-left _ _ here in
       grind (arith, nat_tests)
 
   pub high : 0 < setup.height
   high =
       let here : is_within SIDE_MAX setup.height ≡ true = and-right (is_within SIDE_MAX setup.width) _ (and-left _ _ (and-left _ _ (and-left _ _ (and-left _ _ (and-left _ _ limits))))) in
-      let low : nat_le 1 setup.height ≡ true = and-left _ _ here in
+      let low : nat_lt 0 setup.height ≡ true = and-left _ _ here in
       grind (arith, nat_tests)
