@@ -1,7 +1,6 @@
 -- A frame is composed of what the sessions show.
-use Rattle.std.proofs.Common.{◌≡◌, ℕ, ◌≤◌, Bool, true, ◌&&◌, nat_lt, nat_le, List, length, sym, ap, ◌∙◌, subst, arith}
+use Rattle.std.proofs.Common.{◌≡◌, ℕ, Bool, true, nat_lt, nat_le, List, ap, ◌∙◌, arith}
 use Rattle.std.proofs.lemmas.Bool.Decides.{nat_tests}
-use Rattle.flat_base.specs.declared.limits.TheConstants.{SESSIONS_MAX}
 use Rattle.flat_scene.specs.declared.frames.DrawItem.{DrawItem}
 use Rattle.flat_scene.specs.declared.frames.FrameOut.{FrameOut}
 use Rattle.flat_scene.specs.declared.frames.SessionSet.{SessionSet}
@@ -20,13 +19,8 @@ use Rattle.flat_tree.specs.Laws.{TreesFollow, IsSetOf}
 use Rattle.flat_tree.specs.Trees.{tree_from}
 use Rattle.flat_report.specs.Report.{frame_at}
 use Rattle.flat_stage.specs.Displays.{AreViewed}
-use Rattle.flat_base.proofs.lemmas.Tests.{and-left, and-right, and-true}
-
-pub few_sessions : (setup : Setup) → is_setup setup ≡ true → setup.sessions ≤ SESSIONS_MAX
-few_sessions setup is =
-    let within : (nat_lt 0 setup.sessions && nat_le setup.sessions SESSIONS_MAX) ≡ true = and-right _ _ (and-left _ _ (and-left _ _ (and-left _ _ (and-left _ _ (and-left _ _ (and-left _ _ is)))))) in
-    let few : nat_le setup.sessions SESSIONS_MAX ≡ true = and-right (nat_lt 0 setup.sessions) _ within in
-    grind (arith, nat_tests)
+use Rattle.flat_play.proofs.lemmas.Starting.{few_sessions}
+use Rattle.flat_base.proofs.lemmas.Tests.{and-true}
 
 module _ (setup : Setup) (begun : List Entry) (shown : Shown) (views : SessionSet) (showing : shown ≡ shown_states setup begun) (viewed : AreViewed setup begun views) where
   set_of : IsSetOf setup (λ s. has_view setup begun (record { 0 = s })) views

@@ -1,7 +1,7 @@
 -- How the sessions end.
 use Rattle.std.proofs.Common.{◌≡◌, ◌≢◌, ℕ, zero, suc, ◌+◌, ◌<◌, ◌≤◌, Bool, true, false, cond, ◌==◌, List, [], ◌∷◌, ◌++◌, length, drop, take, map, reverse, get_or, set, refl, sym, ap, ◌∙◌, subst, arith, add-one, append-nil, append_assoc, get_or-set_other}
 use Rattle.std.specs.List.{AllByRecursion}
-use Rattle.std.proofs.lemmas.List.{length-set, map-append, reverse-append}
+use Rattle.std.proofs.lemmas.List.{length-set, map-append, reverse-append, take_all}
 use Rattle.std.proofs.lemmas.Bool.{eq-eqb, eqb-true}
 use Rattle.std.proofs.lemmas.Grind.{common_steps}
 use Rattle.flat_base.specs.declared.ids.Actor.TheVariants.{Session}
@@ -28,10 +28,6 @@ use Rattle.flat_play.proofs.lemmas.Places.{all_to, drop_all, rises}
 use Rattle.flat_play.proofs.lemmas.Readers.{on_board, session_rise}
 use Rattle.flat_play.proofs.lemmas.GameSteps.{has_room, not_same}
 use Rattle.flat_play.proofs.lemmas.Starting.{sessions_more}
-
-take_all : {A : Type 0} (xs : List A) → take (length xs) xs ≡ xs
-take_all [] = refl
-take_all (x ∷ xs) = ap (λ ys. x ∷ ys) (take_all xs)
 
 -- ---- behind the last line
 
@@ -92,7 +88,7 @@ module _ (ends_are_read : EndsAreRead) (script : Script) (playable : is_playable
     reading : IsReading script.setup script.count (session_lines s script.lines) (own s (old.board.history ▹ last))
     reading =
         let given : List (ℕ × Line) = session_lines s (take (length script.lines) script.lines) in
-        let all : given ≡ session_lines s script.lines = ap (session_lines s) (take_all script.lines) in
+        let all : given ≡ session_lines s script.lines = ap (session_lines s) (take_all (length script.lines) script.lines (omega arith)) in
         let R : List (ℕ × Line) → Type 0 = Rise 0 in
         let rise : Rise 0 given = subst R (sym all) (session_rise s 0 script.lines (rises script playable)) in
         let has : HasRead old.board.setup given (own reader.session old.board.history) reader = on_board script.setup s old.board reader stands.setup mine.session (λ setup es r. HasRead setup given es r) mine.reads in

@@ -8,6 +8,7 @@ use Rattle.std.proofs.lemmas.List.{reverse-append, map-append, get_or_append_lef
 use Rattle.flat_scene.specs.declared.journal.Entry.{Entry}
 use Rattle.flat_scene.specs.History.{◌▹◌, is_end}
 use Rattle.flat_scene.specs.Interleave.{last_line}
+use Rattle.flat_play.proofs.lemmas.Places.{all_end}
 
 abbrev pub lines_of : List Entry → List ℕ
 lines_of history = map (λ entry. entry.line) (reverse history)
@@ -55,9 +56,5 @@ lines_rise (older ▹ last) entry rise less =
 abbrev pub NoEnds : List Entry → Type 0
 NoEnds = AllByRecursion (λ entry. is_end entry.kind ≡ false)
 
-all_append : (xs : List Entry) (entry : Entry) → NoEnds xs → is_end entry.kind ≡ false → NoEnds (xs ++ entry ∷ [])
-all_append [] entry all one = (one, tt)
-all_append (x ∷ xs) entry all one = (all.0, all_append xs entry all.1 one)
-
 pub no_ends_more : (before : List Entry) (entry : Entry) → NoEnds (reverse before) → is_end entry.kind ≡ false → NoEnds (reverse (before ▹ entry))
-no_ends_more before entry all one = let P : List Entry → Type 0 = NoEnds in subst P (sym (reversed before entry)) (all_append (reverse before) entry all one)
+no_ends_more before entry all one = let P : List Entry → Type 0 = NoEnds in subst P (sym (reversed before entry)) (all_end (λ (e : Entry). is_end e.kind ≡ false) (reverse before) entry all one)

@@ -2,6 +2,7 @@
 use Rattle.std.proofs.Common.{◌≡◌, ◌≢◌, ℕ, suc, ◌+◌, ◌^◌, ◌<◌, ◌≤◌, ◌==◌, ◌&&◌, nat_lt, nat_le, not, Bool, true, false, List, [], ◌∷◌, ◌++◌, length, Option, refl, sym, ap, ◌∙◌, subst, arith, lt-ltb, le-leb, leb-true}
 use Rattle.std.specs.List.{list_all}
 use Rattle.std.proofs.lemmas.Bool.Decides.{nat_tests}
+use Rattle.std.proofs.lemmas.List.Folds.{list_all-append}
 use Rattle.flat_base.specs.declared.ids.FrameNo.{FrameNo}
 use Rattle.flat_scene.specs.declared.frames.FrameOut.{FrameOut}
 use Rattle.flat_scene.specs.declared.frames.Lost.{Lost}
@@ -76,40 +77,45 @@ all_behind a before frame end n (one ∷ later) less (more at from to new rest) 
     and-true (behind_later a one (omega arith) (others a before one.display new)) (all_behind a before frame end (suc one.display) later less rest)
 
 all_append : {A : Type 0} (p : A → Bool) (xs ys : List A) → list_all p xs ≡ true → list_all p ys ≡ true → list_all p (xs ++ ys) ≡ true
-all_append p [] ys first second = second
-all_append p (x ∷ xs) ys first second = and-true (and-left (p x) (list_all p xs) first) (all_append p xs ys (and-right (p x) (list_all p xs) first) second)
+all_append p xs ys first second = list_all-append p xs ys ∙ and-true first second
+
+-- What the first of some losses says, and what is left.
+record First (history : List Entry) (a : Lost) (later : List Lost) : Type 0 where
+  above : nat_lt 0 a.frame.0 ≡ true
+  within : nat_le a.frame.0 (frames history) ≡ true
+  order : list_all (goes_before a) later ≡ true
+  rest : is_loss history later ≡ true
+
+first_of : (history : List Entry) (a : Lost) (later : List Lost) → is_loss history (a ∷ later) ≡ true → First history a later
+first_of history a later was =
+    let number_fits = nat_lt 0 a.frame.0 && nat_le a.frame.0 (frames history) in
+    let first_fits = number_fits && list_all (goes_before a) later in
+    let first = and-left first_fits (is_loss history later) was in
+    let fits = and-left number_fits (list_all (goes_before a) later) first in
+    record {
+      above = and-left (nat_lt 0 a.frame.0) (nat_le a.frame.0 (frames history)) fits;
+      within = and-right (nat_lt 0 a.frame.0) (nat_le a.frame.0 (frames history)) fits;
+      order = and-right number_fits (list_all (goes_before a) later) first;
+      rest = and-right first_fits (is_loss history later) was;
+    }
 
 -- the losses of one frame more
 pub loss_more : (history history' : List Entry) (frame : FrameNo) (end n : ℕ) (lost losses : List Lost) → is_loss history lost ≡ true → frame.0 ≡ suc (frames history) → frames history' ≡ suc (frames history) → Rise lost frame end n losses
     → is_loss history' (lost ++ losses) ≡ true
 loss_more history history' frame end n [] losses was number grown rise = rise_loss history' [] frame end n losses (omega arith) (omega arith) rise
 loss_more history history' frame end n (a ∷ later) losses was number grown rise =
-    let number_fits = nat_lt 0 a.frame.0 && nat_le a.frame.0 (frames history) in
-    let first_fits = number_fits && list_all (goes_before a) later in
-    let first = and-left first_fits (is_loss history later) was in
-    let fits = and-left number_fits (list_all (goes_before a) later) first in
-    let one = and-left (nat_lt 0 a.frame.0) (nat_le a.frame.0 (frames history)) fits in
-    let two = and-right (nat_lt 0 a.frame.0) (nat_le a.frame.0 (frames history)) fits in
-    let three = and-right number_fits (list_all (goes_before a) later) first in
-    let four = and-right first_fits (is_loss history later) was in
-    let below : a.frame.0 ≤ frames history = leb-true a.frame.0 (frames history) two in
+    let first = first_of history a later was in
+    let below : a.frame.0 ≤ frames history = leb-true a.frame.0 (frames history) first.within in
     and-true
-    (and-true (and-true one (le-leb a.frame.0 (frames history') (omega arith))) (all_append (goes_before a) later losses three (all_behind a later frame end n losses (omega arith) rise)))
-    (loss_more history history' frame end n later losses four number grown (shorter a later frame end n losses rise))
+    (and-true (and-true first.above (le-leb a.frame.0 (frames history') (omega arith))) (all_append (goes_before a) later losses first.order (all_behind a later frame end n losses (omega arith) rise)))
+    (loss_more history history' frame end n later losses first.rest number grown (shorter a later frame end n losses rise))
 
 -- what is lost depends on the number of frames alone
 pub loss_same : (history history' : List Entry) (lost : List Lost) → frames history' ≡ frames history → is_loss history lost ≡ true → is_loss history' lost ≡ true
 loss_same history history' [] same was = refl
 loss_same history history' (a ∷ later) same was =
-    let number_fits = nat_lt 0 a.frame.0 && nat_le a.frame.0 (frames history) in
-    let first_fits = number_fits && list_all (goes_before a) later in
-    let first = and-left first_fits (is_loss history later) was in
-    let fits = and-left number_fits (list_all (goes_before a) later) first in
-    let one = and-left (nat_lt 0 a.frame.0) (nat_le a.frame.0 (frames history)) fits in
-    let two = and-right (nat_lt 0 a.frame.0) (nat_le a.frame.0 (frames history)) fits in
-    let three = and-right number_fits (list_all (goes_before a) later) first in
-    let four = and-right first_fits (is_loss history later) was in
-    and-true (and-true (and-true one (ap (nat_le a.frame.0) same ∙ two)) three) (loss_same history history' later same four)
+    let first = first_of history a later was in
+    and-true (and-true (and-true first.above (ap (nat_le a.frame.0) same ∙ first.within)) first.order) (loss_same history history' later same first.rest)
 
 -- the numbers of the displays that are lost have 32 bits
 abbrev numbered : List Lost → Bool

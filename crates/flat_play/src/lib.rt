@@ -2,8 +2,8 @@
 //! composed and shown to displays, and pointers' lines answered beside it.
 //!
 //! Other crates may cite the lemmas of proofs/lemmas/: lines at their places (Places,
-//! Steps, Unread), what a line of the display leaves (DisplaySteps), what displays have
-//! had (Seen), and what a run begins with (Starting).
+//! Steps, Unread), what a line leaves (GameSteps, Readers, DisplaySteps), what is shown
+//! (FramesShown), what displays have had (Seen), and what a run begins with (Starting).
 #![tactic(auto)]
 
 mod frame;

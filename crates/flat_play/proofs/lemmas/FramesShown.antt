@@ -6,8 +6,6 @@ use Rattle.flat_base.specs.declared.ids.Actor.TheVariants.{Display, Session, Pro
 use Rattle.flat_scene.specs.declared.frames.FrameOut.{FrameOut}
 use Rattle.flat_scene.specs.declared.frames.SessionSet.{SessionSet}
 use Rattle.flat_scene.specs.declared.journal.Entry.{Entry}
-use Rattle.flat_scene.specs.declared.journal.Kind.{Kind}
-use Rattle.flat_scene.specs.declared.journal.Kind.TheVariants.{Finish}
 use Rattle.flat_scene.specs.declared.setup.Setup.{Setup}
 use Rattle.flat_scene.specs.History.{◌▹◌, is_finish, seat_number}
 use Rattle.flat_scene.specs.Setups.{is_declared}
@@ -19,6 +17,7 @@ use Rattle.flat_topology.specs.Fit.{FitsSetup}
 use Rattle.flat_topology.specs.Shown.{Shown}
 use Rattle.flat_stage.specs.Displays.{AreViewed}
 use Rattle.flat_play.specs.Playing.{FramesStand, HasViews}
+use Rattle.flat_rules.proofs.lemmas.FrameKinds.{not-finish}
 use Rattle.flat_base.proofs.lemmas.Tests.{and-left}
 
 module _ (setup : Setup) (history : List Entry) (shown : Shown) (views : SessionSet) (done : List FrameOut) (stands : FramesStand setup history shown views done) where
@@ -32,10 +31,6 @@ module _ (setup : Setup) (history : List Entry) (shown : Shown) (views : Session
   viewed none = record { members = stands.viewing; others = none }
 
 -- ---- the display alone finishes frames
-
-no_finish : (kind : Kind) → session_may kind ≡ true → is_finish kind ≡ false
-no_finish Finish may = absurd (cc)
-no_finish _ may = refl
 
 one_of_display : (setup : Setup) (before : List Entry) (entry : Entry) → may_act setup entry.kind entry.actor ≡ true → frames before ≤ made 0 before → frames (before ▹ entry) ≤ made 0 (before ▹ entry)
 one_of_display setup before entry acts few = by_actor entry.actor refl (is_finish entry.kind) refl
@@ -52,7 +47,7 @@ one_of_display setup before entry acts few = by_actor entry.actor refl (is_finis
     by_actor _ is false finish = let f = frames_grow false finish in omega (arith, grown, f)
     by_actor (Session s) is true finish =
         let may = and-left (session_may entry.kind) (is_declared setup s) (sym (ap (may_act setup entry.kind) is) ∙ acts) in
-        absurd (let both : true ≡ false = sym finish ∙ no_finish entry.kind may in cc)
+        absurd (let both : true ≡ false = sym finish ∙ not-finish entry.kind may in cc)
     by_actor (Probe p) is true finish = absurd (let both : false ≡ true = sym (ap (may_act setup entry.kind) is) ∙ acts in cc)
 
 -- no more frames are finished than the display made entries

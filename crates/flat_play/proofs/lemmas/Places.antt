@@ -114,7 +114,7 @@ here script s place number text playable at =
 
 -- ---- all sessions
 
-all_end : {A : Type 0} (P : A → Type 0) (xs : List A) (x : A) → AllByRecursion P xs → P x → AllByRecursion P (xs ++ x ∷ [])
+pub all_end : {A : Type 0} (P : A → Type 0) (xs : List A) (x : A) → AllByRecursion P xs → P x → AllByRecursion P (xs ++ x ∷ [])
 all_end P [] x all one = (one, tt)
 all_end P (y ∷ xs) x all one = (all.0, all_end P xs x all.1 one)
 
