@@ -1,5 +1,6 @@
 -- Lemmas that other crates may cite.
 pub mod DisplaySteps
+pub mod FewViews
 pub mod FramesShown
 pub mod GameSteps
 pub mod Places
