@@ -51,8 +51,8 @@ pub few-finished : ViewsAreFew → BegunStatesFit → EachSessionHasOneState →
 few-finished few begun each setup history legal =
     all-finished setup (λ (out : FrameOut). nat_le (length out.tree.nodes) setup.sessions)
     (λ n before before_legal.
-        let shown : Shown = shown_states setup (to_begin before) in
-        within (length (view_nodes setup shown)) (length shown) setup.sessions (few setup shown (begun setup before before_legal)) (each setup (to_begin before)))
+    let shown : Shown = shown_states setup (to_begin before) in
+    within (length (view_nodes setup shown)) (length shown) setup.sessions (few setup shown (begun setup before before_legal)) (each setup (to_begin before)))
     history legal
 
 -- ---- the frames of a script that was played
