@@ -18,6 +18,7 @@ use Rattle.flat_extra.specs.declared.whole.WithPointers.{WithPointers}
 use Rattle.flat_extra.specs.Extra.{rest_of, extra_of}
 use Rattle.flat_extra.specs.Reading.{failed, tested, pointer_in, pointer_at, pointer_tests, pointer_value, pointer_line, then_read, all_read}
 use Rattle.flat_extra.specs.Whole.{and_then, pointers_read}
+use Rattle.flat_extra.proofs.Rising.{passed, not-refused, both-read}
 
 -- ---- one line
 
@@ -32,10 +33,6 @@ known-natural (Some n) = known-number n (nat_lt n 16) refl
 known-word : (word : Option (List ℕ)) → nat_lt (unwrap_or (option_and_then pointer_in word) 0) 16 ≡ true
 known-word None = refl
 known-word (Some word) = known-natural (natural word)
-
-passed : {A : Type 0} (fault : Option ℕ) (value found : A) → ◌≡◌ {A = Result A ℕ} (option_map_or (λ kind. Err kind) fault (Ok value)) (Ok found) → value ≡ found
-passed None value found is = cc
-passed (Some kind) value found is = absurd (cc)
 
 known-line : (before : ℕ) (line : ExtraLine) (found : PointerLine) → pointer_line before line ≡ Ok found → nat_lt found.pointer 16 ≡ true
 known-line before line found is =
@@ -61,14 +58,6 @@ module _ {A : Type 0} (test : A → Bool) (read : ℕ → ExtraLine → Result A
       one-read line.number (read before line) (all_read read (before + 1) lines) values (each before line) (all-values (before + 1) lines) is
 
 -- ---- a whole text
-
-not-refused : {A : Type 0} (refused : Bool) (fault : ScriptFault) (read : Result A ScriptFault) (value : A) → (if refused then Err fault else read) ≡ Ok value → read ≡ Ok value
-not-refused true fault read value is = absurd (cc)
-not-refused false fault read value is = is
-
-both-read : {A B : Type 0} (first : Result A ScriptFault) (next : A → Result B ScriptFault) (value : B) → and_then first next ≡ Ok value → (a : A) × (first ≡ Ok a) × (next a ≡ Ok value)
-both-read (Ok a) next value is = (a, refl, is)
-both-read (Err fault) next value is = absurd (cc)
 
 pub pointers-known : (bytes : List ℕ) (read : WithPointers) → pointers_read bytes ≡ Ok read → IsTrue (list_all (λ line. nat_lt line.pointer POINTERS) read.lines)
 pointers-known bytes read is =
