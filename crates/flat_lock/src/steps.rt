@@ -55,7 +55,9 @@ fn draw_served<T: Storied>(table: &SharedTable<T>, rt: &impl Wait, seat: &mut Ta
         }
         if backoff.is_completed() {
             let word = (serving % (1 << 32)) as u32;
-            table.shared.park_timeout(rt, SERVING, word, Duration::from_micros(NAP));
+            table
+                .shared
+                .park_timeout(rt, SERVING, word, Duration::from_micros(NAP));
         } else {
             backoff.snooze();
         }

@@ -210,7 +210,7 @@ all-after from [] rise = refl
 all-after from (line ∷ later) rise =
     let first : nat_lt from line.number ≡ true = and-left (nat_lt from line.number) _ rise in
     and-true first (all-weaker {B = Bool} (is_after line.number) (is_after from)
-        (λ one more. let test : nat_lt from one.number ≡ true = grind (arith, nat_tests) in test) later (all-after line.number later (and-right (nat_lt from line.number) _ rise)))
+    (λ one more. let test : nat_lt from one.number ≡ true = grind (arith, nat_tests) in test) later (all-after line.number later (and-right (nat_lt from line.number) _ rise)))
 
 module _ (setup : Setup) (history : List Entry) (last : ℕ) (lines left : List PointerLine) (found : List Touch) (joined : Joined)
     (answered : AreAnswered setup history last lines left found) (joins : joined ≡ joined_lists setup (shown_states setup (to_finished history))) where

@@ -13,4 +13,4 @@ mod touches;
 
 pub use frame::{Composed, LastFrame, compose_frame, show_last};
 pub use game::Game;
-pub use run::{Played, play_touched, play_script, shares_of};
+pub use run::{Played, play_script, play_touched, shares_of};

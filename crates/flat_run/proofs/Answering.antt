@@ -233,7 +233,7 @@ module _ {D : Type 0} (shown : D → Option (List FrameOut)) (faults : D → ℕ
     only_told form failed failed' calls one there status text (IsAnswer.refusal form' calls' read refused same) =
         let is : form' ≡ form = one form' calls' in
         absurd (gives_no_fault form (Fits form) left left' failed failed' (gives_of form left left' failed failed' (sym (ap is_read is) ∙ read) there) text
-            (subst (λ f. IsRefused f left left' text) is refused))
+        (subst (λ f. IsRefused f left left' text) is refused))
     only_told form failed failed' calls one there status text (IsAnswer.too_large bytes calls' all large same) =
         let here : IsThere Render left left' failed failed' = subst (λ f. IsThere f left left' failed failed') (sym (one Render calls')) there in
         let reads : here.reading ≡ large.reading = reads_it Render (Fits Render) left left' failed failed' here bytes large.reading all large.read in

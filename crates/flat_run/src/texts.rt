@@ -92,7 +92,13 @@ fn pointers_of(
     let journal = played.board.journal();
     let dones = finish_lines(alloc, journal.entries.as_slice())?;
     let frames = played.frames.as_slice();
-    print_pointers(alloc, &reading.script.sessions, dones.as_slice(), frames, touches)
+    print_pointers(
+        alloc,
+        &reading.script.sessions,
+        dones.as_slice(),
+        frames,
+        touches,
+    )
 }
 
 /// What a form writes of a run.

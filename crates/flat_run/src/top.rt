@@ -21,7 +21,8 @@ use std::sync::Wait;
 use std::thread::Threads;
 
 /// What is written where the words call for no form.
-const USAGE: &[u8] = b"usage: flatland play | race | stress N | render | damage | focus | pointer\n";
+const USAGE: &[u8] =
+    b"usage: flatland play | race | stress N | render | damage | focus | pointer\n";
 
 /// The other statuses of a call.
 const USED_WRONGLY: u8 = 2;
