@@ -1,1 +1,2 @@
+pub mod Damaging
 pub mod Printing
