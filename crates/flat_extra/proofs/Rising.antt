@@ -5,7 +5,8 @@ use Rattle.std.specs.Option.{option_map_or}
 use Rattle.std.proofs.lemmas.Bool.Decides.{nat_tests}
 use Rattle.flat_base.proofs.lemmas.Tests.{and-true}
 use Rattle.flat_base.specs.declared.limits.TheConstants.{SCRIPT_BYTES_MAX}
-use Rattle.flat_text.specs.Pieces.{words_of}
+use Rattle.std.specs.List.{slice_split}
+use Rattle.flat_text.specs.Pieces.{is_feed, words_of}
 use Rattle.flat_places.specs.declared.script.Script.{Script}
 use Rattle.flat_script.specs.declared.script.ScriptFault.{ScriptFault}
 use Rattle.flat_script.specs.Grammar.{text_read}
@@ -48,14 +49,18 @@ one-more from n (Err kind) later values less first others is = absurd (cc)
 all-rise : (set : ExtraSet) (begun : Bool) (n before from : ℕ) (lines : List (List ℕ)) (values : List PointerLine) → from < n → all_read pointer_line before (extra_from set begun n lines) ≡ Ok values
     → rise_after from values ≡ true
 all-rise set begun n before from [] values less is = let same : [] ≡ values = cc in subst (λ (vs : List PointerLine). rise_after from vs ≡ true) same refl
-all-rise set begun n before from (line ∷ lines) values less is = by (begun && is_extra set line) is
+all-rise set begun n before from (line ∷ lines) values less is =
+    by (begun && is_extra set line) (λ count last rest earlier ok. all-rise set (begun || is_run line) (n + 1) count last lines rest earlier ok) is
   where
-    by : (b : Bool) → all_read pointer_line before (if_extra b n line ++ extra_from set (begun || is_run line) (n + 1) lines) ≡ Ok values → rise_after from values ≡ true
-    by true is =
+    later : List ExtraLine
+    later = extra_from set (begun || is_run line) (n + 1) lines
+
+    by : (b : Bool) → ((count last : ℕ) (rest : List PointerLine) → last < n + 1 → all_read pointer_line count later ≡ Ok rest → rise_after last rest ≡ true)
+        → all_read pointer_line before (if_extra b n line ++ later) ≡ Ok values → rise_after from values ≡ true
+    by true rises is =
         let x : ExtraLine = record { number = n; text = line } in
-        one-more from n (pointer_line before x) (all_read pointer_line (before + 1) (extra_from set (begun || is_run line) (n + 1) lines)) values less (number-of before x)
-        (λ rest ok. all-rise set (begun || is_run line) (n + 1) (before + 1) n lines rest (omega arith) ok) is
-    by false is = all-rise set (begun || is_run line) (n + 1) before from lines values (omega (arith, less)) is
+        one-more from n (pointer_line before x) (all_read pointer_line (before + 1) later) values less (number-of before x) (λ rest ok. rises (before + 1) n rest (omega arith) ok) is
+    by false rises is = rises before from values (omega (arith, less)) is
 
 -- ---- a whole text
 
@@ -76,7 +81,7 @@ pointers-rise bytes read is =
     let second : List PointerLine → Result WithPointers ScriptFault = λ ls. Ok (record { script = parts.0; lines = ls }) in
     let lines = both-read found second read parts.2 in
     let same : ◌≡◌ {A = WithPointers} (record { script = parts.0; lines = lines.0 }) read = let ok = lines.2 in cc in
-    subst (λ (w : WithPointers). rise_after 0 w.lines ≡ true) same (all-rise Pointer false 1 0 0 _ lines.0 (omega arith) lines.1)
+    subst (λ (w : WithPointers). rise_after 0 w.lines ≡ true) same (all-rise Pointer false 1 0 0 (slice_split is_feed bytes) lines.0 (omega arith) lines.1)
 
 -- ---- the rest
 

@@ -52,19 +52,20 @@ module _ {A B : Type 0} where
   -- a list, cut where a test first fails
   cut : (p : A → Bool) (xs : List A) → xs ≡ take (length (take_while p xs)) xs ++ drop (length (take_while p xs)) xs
   cut p [] = refl
-  cut p (x ∷ xs) = by (p x)
+  cut p (x ∷ xs) = by (p x) (cut p xs)
     where
-      by : (b : Bool) → x ∷ xs ≡ take (length (cond b (x ∷ take_while p xs) [])) (x ∷ xs) ++ drop (length (cond b (x ∷ take_while p xs) [])) (x ∷ xs)
-      by true = ap (λ ys. x ∷ ys) (cut p xs)
-      by false = refl
+      by : (b : Bool) → xs ≡ take (length (take_while p xs)) xs ++ drop (length (take_while p xs)) xs
+          → x ∷ xs ≡ take (length (cond b (x ∷ take_while p xs) [])) (x ∷ xs) ++ drop (length (cond b (x ∷ take_while p xs) [])) (x ∷ xs)
+      by true rest = ap (λ ys. x ∷ ys) rest
+      by false rest = refl
 
   cut-all : (p : A → Bool) (xs : List A) → list_all p (take (length (take_while p xs)) xs) ≡ true
   cut-all p [] = refl
-  cut-all p (x ∷ xs) = by (p x) refl
+  cut-all p (x ∷ xs) = by (p x) refl (cut-all p xs)
     where
-      by : (b : Bool) → p x ≡ b → list_all p (take (length (cond b (x ∷ take_while p xs) [])) (x ∷ xs)) ≡ true
-      by true is = and-true is (cut-all p xs)
-      by false is = refl
+      by : (b : Bool) → p x ≡ b → list_all p (take (length (take_while p xs)) xs) ≡ true → list_all p (take (length (cond b (x ∷ take_while p xs) [])) (x ∷ xs)) ≡ true
+      by true is rest = and-true is rest
+      by false is rest = refl
 
 -- ---- numbers of frames
 
@@ -75,12 +76,12 @@ frames-more before entry false is = rw is refl
 -- no more frames were finished before a line than in all
 few-before : (n : ℕ) (history : List Entry) → frames_before n history ≤ frames history
 few-before n [] = omega arith
-few-before n (before ▹ entry) = by (is_finish entry.kind) refl (nat_lt entry.line n) refl
+few-before n (before ▹ entry) = by (is_finish entry.kind) refl (nat_lt entry.line n) refl (few-before n before)
   where
-    by : (b : Bool) → is_finish entry.kind ≡ b → (early : Bool) → nat_lt entry.line n ≡ early → frames_before n (before ▹ entry) ≤ frames (before ▹ entry)
-    by true is true less = let few : frames_before n before ≤ frames before = few-before n before in rw (is, less) (omega arith)
-    by true is false less = let few : frames_before n before ≤ frames before = few-before n before in rw (is, less) (omega arith)
-    by false is early less = let few : frames_before n before ≤ frames before = few-before n before in rw is (omega arith)
+    by : (b : Bool) → is_finish entry.kind ≡ b → (early : Bool) → nat_lt entry.line n ≡ early → frames_before n before ≤ frames before → frames_before n (before ▹ entry) ≤ frames (before ▹ entry)
+    by true is true less few = rw (is, less) (omega (arith, few))
+    by true is false less few = rw (is, less) (omega (arith, few))
+    by false is early less few = rw is (omega (arith, few))
 
 -- behind all entries, all frames are finished
 all-before : (last n : ℕ) → last < n → (history : List Entry) → list_all (λ entry. nat_le entry.line last) history ≡ true → frames_before n history ≡ frames history
@@ -98,11 +99,11 @@ all-before last n less (before ▹ entry) early =
 -- the begin of the last of all finished frames
 last-begin : (history : List Entry) → begin_of (frames history) history ≡ to_finished history
 last-begin [] = refl
-last-begin (before ▹ entry) = by (is_finish entry.kind) refl
+last-begin (before ▹ entry) = by (is_finish entry.kind) refl (last-begin before)
   where
-    by : (b : Bool) → is_finish entry.kind ≡ b → begin_of (frames (before ▹ entry)) (before ▹ entry) ≡ to_finished (before ▹ entry)
-    by true is = let same : (suc (frames before) == suc (frames before)) ≡ true = grind (arith, nat_tests) in rw (is, same) refl
-    by false is = rw is (last-begin before)
+    by : (b : Bool) → is_finish entry.kind ≡ b → begin_of (frames before) before ≡ to_finished before → begin_of (frames (before ▹ entry)) (before ▹ entry) ≡ to_finished (before ▹ entry)
+    by true is rest = let same : (suc (frames before) == suc (frames before)) ≡ true = grind (arith, nat_tests) in rw (is, same) refl
+    by false is rest = rw is rest
 
 -- an earlier frame has the begin that it had
 same-begin : (n : ℕ) (before : List Entry) (entry : Entry) → n ≤ frames before → begin_of n (before ▹ entry) ≡ begin_of n before
@@ -168,11 +169,12 @@ is_upto number line = nat_le line.number number
 rest-rises : (number : ℕ) (lines : List PointerLine) (from : ℕ) → rise_after from lines ≡ true
     → rise_after number (drop (length (take_while (is_upto number) lines)) lines) ≡ true
 rest-rises number [] from rise = refl
-rest-rises number (line ∷ later) from rise = by (nat_le line.number number) refl
+rest-rises number (line ∷ later) from rise = by (nat_le line.number number) refl (rest-rises number later line.number (and-right (nat_lt from line.number) _ rise))
   where
-    by : (b : Bool) → nat_le line.number number ≡ b → rise_after number (drop (length (cond b (line ∷ take_while (is_upto number) later) [])) (line ∷ later)) ≡ true
-    by true is = rest-rises number later line.number (and-right (nat_lt from line.number) _ rise)
-    by false is = and-true (let more : nat_lt number line.number ≡ true = grind (arith, nat_tests) in more) (and-right (nat_lt from line.number) _ rise)
+    by : (b : Bool) → nat_le line.number number ≡ b → rise_after number (drop (length (take_while (is_upto number) later)) later) ≡ true
+        → rise_after number (drop (length (cond b (line ∷ take_while (is_upto number) later) [])) (line ∷ later)) ≡ true
+    by true is rest = rest
+    by false is rest = and-true (let more : nat_lt number line.number ≡ true = grind (arith, nat_tests) in more) (and-right (nat_lt from line.number) _ rise)
 
 pub answers-upto : (joined : Joined) (number : ℕ) (lines early later : List PointerLine) (old new : List Touch) (count : ℕ) → count ≡ length (take_while (is_upto number) lines)
     → early ≡ take count lines → later ≡ drop count lines → new ≡ old ++ map (touch_in joined) early → AnswersUpto joined number lines later old new
