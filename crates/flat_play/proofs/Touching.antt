@@ -1,10 +1,11 @@
 -- Pointers' lines beside a script.
-use Rattle.std.proofs.Common.{◌≡◌, ℕ, zero, suc, ◌+◌, ◌<◌, ◌≤◌, Bool, true, false, cond, ◌&&◌, ◌==◌, not, nat_lt, nat_le, List, [], ◌∷◌, ◌++◌, length, map, take, drop, refl, sym, ap, ◌∙◌, subst, arith, append-nil, append_assoc, Some, slice_get}
+use Rattle.std.proofs.Common.{◌≡◌, ℕ, zero, suc, ◌+◌, ◌<◌, ◌≤◌, Bool, true, false, cond, ◌&&◌, ◌==◌, not, nat_lt, nat_le, List, [], ◌∷◌, ◌++◌, length, map, take, drop, refl, sym, ap, ◌∙◌, subst, arith, append-nil, append_assoc, zero-add, get_or, Some, slice_get}
 use Rattle.std.specs.Prelude.{take_while}
 use Rattle.std.specs.List.{list_all}
 use Rattle.std.proofs.lemmas.Bool.Decides.{nat_tests}
 use Rattle.std.proofs.lemmas.Grind.{common_steps}
-use Rattle.std.proofs.lemmas.List.{map-append}
+use Rattle.std.proofs.lemmas.List.{map-append, take_more}
+use Rattle.std.proofs.lemmas.List.Sums.{take_while-cons}
 use Rattle.flat_base.proofs.lemmas.Tests.{and-left, and-right, and-true}
 use Rattle.flat_scene.specs.declared.frames.Hit.{Hit}
 use Rattle.flat_scene.specs.declared.journal.Entry.{Entry}
@@ -35,7 +36,7 @@ use Rattle.flat_play.specs.Touches.{frames_before, call_hits, touch_of, hits_in,
 
 -- ---- lists
 
-module _ {A B : Type 0} where
+module _ {A : Type 0} where
   all-both : (p : A → Bool) (xs ys : List A) → list_all p xs ≡ true → list_all p ys ≡ true → list_all p (xs ++ ys) ≡ true
   all-both p [] ys first second = second
   all-both p (x ∷ xs) ys first second = and-true (and-left (p x) (list_all p xs) first) (all-both p xs ys (and-right (p x) (list_all p xs) first) second)
@@ -44,15 +45,12 @@ module _ {A B : Type 0} where
   all-weaker p q than [] all = refl
   all-weaker p q than (x ∷ xs) all = and-true (than x (and-left (p x) (list_all p xs) all)) (all-weaker p q than xs (and-right (p x) (list_all p xs) all))
 
-  -- two maps agree where they agree on all of which a test holds
-  map-agrees : (p : A → Bool) (f g : A → B) → ((x : A) → p x ≡ true → f x ≡ g x) → (xs : List A) → list_all p xs ≡ true → map f xs ≡ map g xs
-  map-agrees p f g agree [] all = refl
-  map-agrees p f g agree (x ∷ xs) all = λ i. agree x (and-left (p x) (list_all p xs) all) i ∷ map-agrees p f g agree xs (and-right (p x) (list_all p xs) all) i
-
   -- a list, cut where a test first fails
   cut : (p : A → Bool) (xs : List A) → xs ≡ take (length (take_while p xs)) xs ++ drop (length (take_while p xs)) xs
   cut p [] = refl
-  cut p (x ∷ xs) = by (p x) (cut p xs)
+  cut p (x ∷ xs) =
+      let P : List A → Type 0 = λ ys. x ∷ xs ≡ take (length ys) (x ∷ xs) ++ drop (length ys) (x ∷ xs) in
+      subst P (sym (take_while-cons p x xs)) (by (p x) (cut p xs))
     where
       by : (b : Bool) → xs ≡ take (length (take_while p xs)) xs ++ drop (length (take_while p xs)) xs
           → x ∷ xs ≡ take (length (cond b (x ∷ take_while p xs) [])) (x ∷ xs) ++ drop (length (cond b (x ∷ take_while p xs) [])) (x ∷ xs)
@@ -61,17 +59,24 @@ module _ {A B : Type 0} where
 
   cut-all : (p : A → Bool) (xs : List A) → list_all p (take (length (take_while p xs)) xs) ≡ true
   cut-all p [] = refl
-  cut-all p (x ∷ xs) = by (p x) refl (cut-all p xs)
+  cut-all p (x ∷ xs) =
+      let P : List A → Type 0 = λ ys. list_all p (take (length ys) (x ∷ xs)) ≡ true in
+      subst P (sym (take_while-cons p x xs)) (by (p x) refl (cut-all p xs))
     where
       by : (b : Bool) → p x ≡ b → list_all p (take (length (take_while p xs)) xs) ≡ true → list_all p (take (length (cond b (x ∷ take_while p xs) [])) (x ∷ xs)) ≡ true
       by true is rest = and-true is rest
       by false is rest = refl
 
+-- two maps agree where they agree on all of which a test holds
+map-agrees : {A B : Type 0} (p : A → Bool) (f g : A → B) → ((x : A) → p x ≡ true → f x ≡ g x) → (xs : List A) → list_all p xs ≡ true → map f xs ≡ map g xs
+map-agrees p f g agree [] all = refl
+map-agrees p f g agree (x ∷ xs) all = λ i. agree x (and-left (p x) (list_all p xs) all) i ∷ map-agrees p f g agree xs (and-right (p x) (list_all p xs) all) i
+
 -- ---- numbers of frames
 
 frames-more : (before : List Entry) (entry : Entry) (b : Bool) → is_finish entry.kind ≡ b → frames (before ▹ entry) ≡ cond b 1 0 + frames before
-frames-more before entry true is = rw is refl
-frames-more before entry false is = rw is refl
+frames-more before entry true is = rw is (omega arith)
+frames-more before entry false is = rw is (omega arith)
 
 -- no more frames were finished before a line than in all
 few-before : (n : ℕ) (history : List Entry) → frames_before n history ≤ frames history
@@ -93,8 +98,8 @@ all-before last n less (before ▹ entry) early =
     by (is_finish entry.kind) refl is (all-before last n less before (and-right (nat_le entry.line last) _ early))
   where
     by : (b : Bool) → is_finish entry.kind ≡ b → nat_lt entry.line n ≡ true → frames_before n before ≡ frames before → frames_before n (before ▹ entry) ≡ frames (before ▹ entry)
-    by true finish less_is same = rw (finish, less_is) (ap suc same)
-    by false finish less_is same = rw finish same
+    by true finish less_is same = rw (finish, less_is) (omega (arith, same))
+    by false finish less_is same = rw finish (omega (arith, same))
 
 -- the begin of the last of all finished frames
 last-begin : (history : List Entry) → begin_of (frames history) history ≡ to_finished history
@@ -102,8 +107,17 @@ last-begin [] = refl
 last-begin (before ▹ entry) = by (is_finish entry.kind) refl (last-begin before)
   where
     by : (b : Bool) → is_finish entry.kind ≡ b → begin_of (frames before) before ≡ to_finished before → begin_of (frames (before ▹ entry)) (before ▹ entry) ≡ to_finished (before ▹ entry)
-    by true is rest = let same : (suc (frames before) == suc (frames before)) ≡ true = grind (arith, nat_tests) in rw (is, same) refl
-    by false is rest = rw is rest
+    by true is rest =
+        let many : frames (before ▹ entry) ≡ suc (frames before) = frames-more before entry true is ∙ omega arith in
+        let same : (suc (frames before) == suc (frames before)) ≡ true = grind (arith, nat_tests) in
+        let here : begin_of (suc (frames before)) (before ▹ entry) ≡ to_begin before = rw (is, same) refl in
+        let last : to_finished (before ▹ entry) ≡ to_begin before = rw is refl in
+        ap (λ n. begin_of n (before ▹ entry)) many ∙ here ∙ sym last
+    by false is rest =
+        let many : frames (before ▹ entry) ≡ frames before = frames-more before entry false is ∙ omega arith in
+        let here : begin_of (frames before) (before ▹ entry) ≡ begin_of (frames before) before = rw is refl in
+        let last : to_finished (before ▹ entry) ≡ to_finished before = rw is refl in
+        ap (λ n. begin_of n (before ▹ entry)) many ∙ here ∙ rest ∙ sym last
 
 -- an earlier frame has the begin that it had
 same-begin : (n : ℕ) (before : List Entry) (entry : Entry) → n ≤ frames before → begin_of n (before ▹ entry) ≡ begin_of n before
@@ -135,7 +149,7 @@ module _ (setup : Setup) where
   touched-entry : (before : List Entry) (entry : Entry) (line : PointerLine) → (is_finish entry.kind && nat_lt entry.line line.number) ≡ false
       → touch_of setup (before ▹ entry) line ≡ touch_of setup before line
   touched-entry before entry line late =
-      let same : frames_before line.number (before ▹ entry) ≡ frames_before line.number before = ap (λ b. cond b 1 0 + frames_before line.number before) late in
+      let same : frames_before line.number (before ▹ entry) ≡ frames_before line.number before = ap (λ b. cond b 1 0 + frames_before line.number before) late ∙ zero-add (frames_before line.number before) in
       let begun : begin_of (frames_before line.number (before ▹ entry)) (before ▹ entry) ≡ begin_of (frames_before line.number before) before =
       ap (λ n. begin_of n (before ▹ entry)) same ∙ same-begin (frames_before line.number before) before entry (few-before line.number before) in
       λ i. record { line = line; hits = call_hits setup (begun i) line.call }
@@ -169,7 +183,9 @@ is_upto number line = nat_le line.number number
 rest-rises : (number : ℕ) (lines : List PointerLine) (from : ℕ) → rise_after from lines ≡ true
     → rise_after number (drop (length (take_while (is_upto number) lines)) lines) ≡ true
 rest-rises number [] from rise = refl
-rest-rises number (line ∷ later) from rise = by (nat_le line.number number) refl (rest-rises number later line.number (and-right (nat_lt from line.number) _ rise))
+rest-rises number (line ∷ later) from rise =
+    let P : List PointerLine → Type 0 = λ ys. rise_after number (drop (length ys) (line ∷ later)) ≡ true in
+    subst P (sym (take_while-cons (is_upto number) line later)) (by (nat_le line.number number) refl (rest-rises number later line.number (and-right (nat_lt from line.number) _ rise)))
   where
     by : (b : Bool) → nat_le line.number number ≡ b → rise_after number (drop (length (take_while (is_upto number) later)) later) ≡ true
         → rise_after number (drop (length (cond b (line ∷ take_while (is_upto number) later) [])) (line ∷ later)) ≡ true
@@ -184,8 +200,8 @@ answers-upto joined number lines early later old new count count_is early_is lat
     let back : later ≡ drop n lines = later_is ∙ ap (λ k. drop k lines) count_is in
     record {
       early = early;
-      parts = cut {B = Bool} (is_upto number) lines ∙ (λ i. sym front i ++ sym back i);
-      up_to = ap (list_all (is_upto number)) front ∙ cut-all {B = Bool} (is_upto number) lines;
+      parts = cut (is_upto number) lines ∙ (λ i. sym front i ++ sym back i);
+      up_to = ap (list_all (is_upto number)) front ∙ cut-all (is_upto number) lines;
       rest = λ from rise. ap (rise_after number) back ∙ rest-rises number lines from rise;
       touches = touches;
     }
@@ -211,7 +227,7 @@ all-after : (from : ℕ) (lines : List PointerLine) → rise_after from lines �
 all-after from [] rise = refl
 all-after from (line ∷ later) rise =
     let first : nat_lt from line.number ≡ true = and-left (nat_lt from line.number) _ rise in
-    and-true first (all-weaker {B = Bool} (is_after line.number) (is_after from)
+    and-true first (all-weaker (is_after line.number) (is_after from)
     (λ one more. let test : nat_lt from one.number ≡ true = grind (arith, nat_tests) in test) later (all-after line.number later (and-right (nat_lt from line.number) _ rise)))
 
 module _ (setup : Setup) (history : List Entry) (last : ℕ) (lines left : List PointerLine) (found : List Touch) (joined : Joined)
@@ -237,8 +253,8 @@ module _ (setup : Setup) (history : List Entry) (last : ℕ) (lines left : List 
   answered-more number later found' history' above answers on =
       let now : List PointerLine = answered.answered ++ answers.early in
       let all_upto : list_all (is_upto number) now ≡ true =
-      all-both {B = Bool} (is_upto number) answered.answered answers.early
-      (all-weaker {B = Bool} (is_upto last) (is_upto number) (λ line le. let test : nat_le line.number number ≡ true = grind (arith, nat_tests) in test) answered.answered answered.up_to)
+      all-both (is_upto number) answered.answered answers.early
+      (all-weaker (is_upto last) (is_upto number) (λ line le. let test : nat_le line.number number ≡ true = grind (arith, nat_tests) in test) answered.answered answered.up_to)
       answers.up_to in
       record {
         answered = now;
@@ -252,7 +268,7 @@ module _ (setup : Setup) (history : List Entry) (last : ℕ) (lines left : List 
       }
     where
       still : list_all (λ (entry : Entry). nat_le entry.line number) history ≡ true
-      still = all-weaker {B = Bool} (λ (entry : Entry). nat_le entry.line last) (λ (entry : Entry). nat_le entry.line number)
+      still = all-weaker (λ (entry : Entry). nat_le entry.line last) (λ (entry : Entry). nat_le entry.line number)
           (λ entry le. let test : nat_le entry.line number ≡ true = grind (arith, nat_tests) in test) history answered.entries
 
       entries : (h : List Entry) → GoesOnAt number history h → list_all (λ (entry : Entry). nat_le entry.line number) h ≡ true
@@ -288,7 +304,7 @@ pub ends-then : (first old new : List Entry) → GoesOnByEnds first old → Goes
 ends-then first old new begun on = record {
   ends = on.ends ++ begun.ends;
   is = on.is ∙ ap (λ h. on.ends ++ h) begun.is ∙ sym (append_assoc on.ends begun.ends first);
-  are_ends = all-both {B = Bool} (λ (entry : Entry). is_end entry.kind) on.ends begun.ends on.are_ends begun.are_ends;
+  are_ends = all-both (λ (entry : Entry). is_end entry.kind) on.ends begun.ends on.are_ends begun.are_ends;
 }
 
 pub entered-on : (old new : Machine) (who : Actor) (number : ℕ) (carries : List Call) (kind : Kind) (reply : Reply) → new ≡ entered old who number carries kind reply → GoesOnAt number old.history new.history
@@ -308,3 +324,10 @@ line-on number old new all place x line at same is on =
     let one : x ≡ line = same-some x line (sym at ∙ same) in
     let P : ℕ → Type 0 = λ n. GoesOnAt n old new in
     subst P (is ∙ ap (λ (l : ScriptLine). l.number) one) on
+
+-- a loop over items that puts one behind others for each
+pub mapped-more : {A B : Type 0} (f : A → B) (xs : List A) (i : ℕ) (d : A) (one : B) (old found new : List B) → i < length xs → found ≡ old ++ map f (take i xs) → one ≡ f (get_or xs i d) → new ≡ found ++ one ∷ []
+    → new ≡ old ++ map f (take (i + 1) xs)
+mapped-more f xs i d one old found new within was is push =
+    push ∙ (λ k. was k ++ is k ∷ []) ∙ append_assoc old (map f (take i xs)) (f (get_or xs i d) ∷ [])
+    ∙ ap (λ (ys : List _). old ++ ys) (sym (ap (map f) (take_more xs i d within) ∙ map-append f (take i xs) (get_or xs i d ∷ [])))

@@ -13,7 +13,7 @@ loop-place-init g c = record {
   number = c.requires.number;
   kinds = refl;
   same = refl;
-  answered = answered-none _ _ _ _ c.in_ok-game.ensures.no_entry c.new.ensures c.requires.rise;
+  answered = answered-none _ _ _ _ c.in_ok-game.ensures.no_entry c.new-found.ensures.items c.requires.rise;
 }
 
 pub loop-place-preserved : goal.loop-place-preserved
@@ -29,9 +29,9 @@ loop-place-preserved g c =
       same = c.play_line.ensures.same ∙ was.same;
       answered =
           let at = at_place script c.loop-place.place c.at-line.result.now c.requires.playable c.at-line.ensures in
-          let A : ℕ → Type 0 = λ n. AreAnswered script.setup c.play_line.new.self.board.history n c.args.lines.now c.in_ok-answer_upto.left.now c.answer_upto.new.found.items in
+          let A : ℕ → Type 0 = λ n. AreAnswered script.setup c.play_line.new.self.board.history n c.args.lines.now c.in_ok-left.left.now c.answer_upto.new.found.items in
           subst A (sym at.last)
-          (answered-more script.setup _ _ _ _ _ _ was.answered was.stands.answers.joining c.at-line.result.now.number _ _ _ at.above c.in_ok-answer_upto.ensures (now.goes_on c.at-line.result.now c.at-line.ensures));
+          (answered-more script.setup _ _ _ _ _ _ was.answered was.stands.answers.joining c.at-line.result.now.number _ _ _ at.above c.in_ok-left.ensures (now.goes_on c.at-line.result.now c.at-line.ensures));
     }
 
 pub returns-clause-stands : goal.returns-clause-stands
