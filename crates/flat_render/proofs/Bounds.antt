@@ -1,7 +1,7 @@
 -- Bounds of pixels and of parts.
-use Rattle.std.proofs.Common.{ℕ, ℤ, pos, ◌*◌, ◌/◌, ◌<◌, ◌≡◌, ◌-ℤ◌, ◌<ℤ◌, ◌≤ℤ◌, Bool, true, false, not, ◌&&◌, nat_lt, nat_le, int_lt, int_le, unsigned_abs, if◌then◌else◌, FitsSigned, w64, to_z, of_z, ap, ◌∙◌, sym, arith}
+use Rattle.std.proofs.Common.{ℕ, ℤ, pos, ◌+◌, ◌*◌, ◌/◌, ◌%◌, ◌<◌, ◌≡◌, ◌-ℤ◌, ◌<ℤ◌, ◌≤ℤ◌, Bool, true, false, not, ◌&&◌, nat_lt, nat_le, int_lt, int_le, unsigned_abs, if◌then◌else◌, FitsSigned, w64, to_z, of_z, ap, ◌∙◌, sym, arith}
 use Rattle.std.proofs.lemmas.Int.{ints, to_z-of_z}
-use Rattle.std.proofs.lemmas.Nat.{div_below}
+use Rattle.std.proofs.lemmas.Nat.{div_below, mod_below, div-add-mod', div-mul-add, mul-add-lt}
 use Rattle.std.proofs.lemmas.Bool.Decides.{nat_tests}
 use Rattle.flat_base.proofs.lemmas.Tests.{and-left, and-right}
 use Rattle.flat_geom.specs.Rectangles.{is_between}
@@ -35,6 +35,16 @@ depth-below axis p h =
 -- so its part is one of those that there are
 pub part-below : (d count extent : ℕ) → d < extent → 0 < count → d * count / extent < count
 part-below d count extent h k = grind (arith, div_below (d * count) extent count)
+
+-- a part that is as wide as the others
+pub wide-part : (d count k extent : ℕ) → 0 < count → 0 < k → extent ≡ count * k → d / k ≡ d * count / extent
+wide-part d count k extent some wide e =
+    let rest : d % k * count + 0 < count * k = mul-add-lt (d % k) count 0 k (mod_below d k wide) some in
+    let cut : (d / k * k + d % k) * count ≡ d * count = ap (λ (n : ℕ). n * count) (div-add-mod' d k) in
+    let place : d / k * (count * k) + d % k * count ≡ (d / k * k + d % k) * count = grind arith in
+    sym (div-mul-add (d / k) (count * k) (d % k * count) (omega (arith, rest)))
+    ∙ ap (λ (n : ℕ). n / (count * k)) (place ∙ cut)
+    ∙ ap (λ (m : ℕ). d * count / m) (sym e)
 
 -- a test from below is the opposite of the test from above
 le-not_lt : (a b : ℕ) → nat_le a b ≡ not (nat_lt b a)

@@ -55,6 +55,10 @@ repainted-more h s old pixels line n z fits zs len so_far tile =
       above = λ i l. put-after (n * s) z pixels line i room size (omega arith) ∙ so_far.above i (omega arith);
     }
 
+-- a part of a list, read at a place
+pub part-there : (a z : ℕ) (xs : List ℕ) (k : ℕ) → k < z → get_or (take z (drop a xs)) k 0 ≡ get_or xs (a + k) 0
+part-there a z xs k small = get_or-take z (drop a xs) k 0 small ∙ get_or-drop a xs k 0
+
 -- a byte, drawn anew where a test holds of its pixel
 abbrev pub redrawn : List DrawItem → Grid → (ℕ → ℕ → Bool) → ℕ → ℕ → ℕ
 redrawn items g test i old = if test (stored_x g i) (stored_y g i) then drawn_at g items i else old

@@ -16,4 +16,5 @@ pub mod Bytes
 pub mod Brushing
 pub mod Bands
 pub mod Runs
+pub mod Wholes
 mod Examples

@@ -1,11 +1,16 @@
 -- Some of the items, which serve for a part of the picture.
-use Rattle.std.specs.Prelude.{◌≡◌, ℕ, ◌<◌, ◌≤◌, true, List}
+use Rattle.std.specs.Prelude.{◌≡◌, ℕ, ◌<◌, ◌≤◌, true, List, map}
 use Rattle.std.specs.List.{All}
+use Rattle.flat_base.specs.declared.shapes.Rect.{Rect}
 use Rattle.flat_drawable.specs.Drawable.{IsDrawable}
 use Rattle.flat_scene.specs.declared.frames.DrawItem.{DrawItem}
 use Rattle.flat_render.specs.declared.area.Area.{Area}
 use Rattle.flat_render.specs.Areas.{has_pixel}
 use Rattle.flat_render.specs.Channels.{channel_after}
+
+-- the visible rectangles of items
+abbrev pub rects_of : List DrawItem → List Rect
+rects_of items = map (λ item. item.visible) items
 
 -- some of the items give each pixel of which a fact holds what all of them give it
 pub record IsSeenWhere (P : ℕ → ℕ → Type 0) (items seen : List DrawItem) : Type 0 where

@@ -39,7 +39,8 @@ fn extent(axis: Axis) -> u128
     (axis.high as i128 - axis.low as i128).unsigned_abs()
 }
 
-/// In which of so many equal parts of an extent a depth lies.
+/// In which of so many equal parts of an extent a depth lies. Where each part is one
+/// unit wide, nothing has to be divided by the extent.
 fn share(depth: u128, count: u32, extent: u128) -> u32
     requires within { depth < extent }
     requires narrow { extent < 2 ^ 66 }
@@ -47,7 +48,9 @@ fn share(depth: u128, count: u32, extent: u128) -> u32
     ensures value { result ≡ depth * count / extent }
     ensures below { result < count }
 {
-    if extent < 1 << 32 {
+    if extent == count as u128 * ONE as u128 {
+        (depth / ONE as u128) as u32
+    } else if extent < 1 << 32 {
         (depth as u64 * count as u64 / extent as u64) as u32
     } else {
         (depth * count as u128 / extent) as u32

@@ -1,7 +1,7 @@
 ghost use Rattle.std.specs.Prelude.{◌≡◌, ◌+◌, ◌<◌, ◌^◌, ◌*◌, ℕ, All, IfOk, length, slice_index};
 ghost use Rattle.flat_drawable.specs.Drawable.{IsDrawable};
 ghost use Rattle.flat_render.specs.Areas.{IsWindow};
-ghost use Rattle.flat_render.specs.Bands.{IsSeenBetween, IsSeenIn};
+ghost use Rattle.flat_render.specs.Bands.{rects_of, IsSeenBetween, IsSeenIn};
 ghost use Rattle.flat_render.specs.Grids.{band_bytes, IsGrid};
 ghost use Rattle.flat_render.specs.Stored.{drawn_at, drawn_in};
 ghost use Rattle.flat_render.specs.Tiles.{pixels_of, IsTile};
@@ -9,72 +9,114 @@ ghost use Rattle.flat_render.specs.Tiles.{pixels_of, IsTile};
 use crate::area::{Area, is_beside, is_missed};
 use crate::grid::{Grid, bytes_of_tiles, tile};
 use crate::tile::{Tile, area, draw};
-use flat_base::NoMemory;
+use flat_base::{NoMemory, Rect};
 use flat_scene::DrawItem;
 use std::alloc::Global;
 
 /// So many items are looked at twice sooner than they are copied.
 const FEW: usize = 32;
 
+/// The visible rectangles of items. They take less room than the items do, where all
+/// of them are looked at again and again.
+pub fn visible_rects(alloc: Global, items: &[DrawItem]) -> Result<Vec<Rect>, NoMemory>
+    ensures { IfOk result (λ rects. rects.items ≡ rects_of items.now) }
+{
+    let mut rects = Vec::new(alloc);
+    for item in items {
+        rects.push(item.visible)?;
+    }
+    Ok(rects)
+}
+
 /// The items of which something may be seen on some rows of pixels.
 fn seen_between(
     alloc: Global,
     items: &[DrawItem],
+    rects: &[Rect],
     top: usize,
     bottom: usize,
 ) -> Result<Vec<DrawItem>, NoMemory>
     requires items { All IsDrawable items.now }
+    requires rects { rects.now ≡ rects_of items.now }
     requires some { top < bottom }
     requires near { bottom < 2 ^ 29 }
     ensures { IfOk result (λ seen. IsSeenBetween top bottom items.now seen.items) }
 {
     let mut seen = Vec::new(alloc);
-    for item in items {
-        if is_beside(item.visible.y0, item.visible.y1, top, bottom) {
+    for n in 0..items.len() {
+        if is_beside(rects[n].y0, rects[n].y1, top, bottom) {
             continue;
         }
-        seen.push(*item)?;
+        seen.push(items[n])?;
     }
     Ok(seen)
 }
 
 /// The items of which something may be seen in an area.
-fn seen_in(alloc: Global, items: &[DrawItem], area: Area) -> Result<Vec<DrawItem>, NoMemory>
+fn seen_in(
+    alloc: Global,
+    items: &[DrawItem],
+    rects: &[Rect],
+    area: Area,
+) -> Result<Vec<DrawItem>, NoMemory>
     requires items { All IsDrawable items.now }
+    requires rects { rects.now ≡ rects_of items.now }
     requires area { IsWindow area }
     ensures { IfOk result (λ seen. IsSeenIn area items.now seen.items) }
 {
     let mut seen = Vec::new(alloc);
-    for item in items {
-        if is_missed(area, item.visible) {
+    for n in 0..items.len() {
+        if is_missed(area, rects[n]) {
             continue;
         }
-        seen.push(*item)?;
+        seen.push(items[n])?;
     }
     Ok(seen)
 }
 
-/// Draws a tile that is black. Of many items it looks twice at those alone that may
-/// be seen there; where memory is wanting, at all of them.
-fn draw_tile(alloc: Global, items: &[DrawItem], tile: Tile, bytes: &mut [u8])
+/// Draws a tile that is black, by the items that may be seen there. Where memory is
+/// wanting it looks at all of them.
+fn draw_tile(alloc: Global, items: &[DrawItem], rects: &[Rect], tile: Tile, bytes: &mut [u8])
     requires items { All IsDrawable items.now }
+    requires rects { rects.now ≡ rects_of items.now }
     requires tile { IsTile tile }
     requires size { length bytes.old ≡ 3 * pixels_of tile }
     requires black { (m : ℕ) → m < length bytes.old → slice_index bytes.old m ≡ 0 }
     ensures { (m : ℕ) → m < length bytes.old → slice_index bytes.new m ≡ drawn_in tile items.now m }
 {
-    if items.len() <= FEW {
-        return draw(items, tile, bytes);
-    }
-    match seen_in(alloc, items, area(tile)) {
+    match seen_in(alloc, items, rects, area(tile)) {
         Ok(seen) => draw(seen.as_slice(), tile, bytes),
         Err(_) => draw(items, tile, bytes),
     }
 }
 
-/// Draws a row of tiles, which are black.
-fn draw_row(alloc: Global, items: &[DrawItem], grid: &Grid, row: usize, bytes: &mut [u8])
+/// Draws a row of tiles, which are black, each by all of the items.
+fn draw_each(items: &[DrawItem], grid: &Grid, row: usize, bytes: &mut [u8])
     requires items { All IsDrawable items.now }
+    requires grid { IsGrid grid.now }
+    requires row { row < grid.now.down }
+    requires size { length bytes.old ≡ band_bytes grid.now }
+    requires black { (m : ℕ) → m < length bytes.old → slice_index bytes.old m ≡ 0 }
+    ensures { (m : ℕ) → m < length bytes.old → slice_index bytes.new m ≡ drawn_at grid.now items.now (row * band_bytes grid.now + m) }
+{
+    let size = bytes_of_tiles(grid);
+    for n in 0..grid.across {
+        let bytes_of_tile = &mut bytes[n * size..n * size + size];
+        draw(items, tile(grid, row * grid.across + n), bytes_of_tile);
+    }
+}
+
+/// Draws a row of tiles, which are black, each by the items that may be seen there.
+fn draw_picked(
+    alloc: Global,
+    items: &[DrawItem],
+    rects: &[Rect],
+    grid: &Grid,
+    row: usize,
+    bytes: &mut [u8],
+)
+    requires items { All IsDrawable items.now }
+    requires rects { rects.now ≡ rects_of items.now }
     requires grid { IsGrid grid.now }
     requires row { row < grid.now.down }
     requires size { length bytes.old ≡ band_bytes grid.now }
@@ -87,15 +129,16 @@ fn draw_row(alloc: Global, items: &[DrawItem], grid: &Grid, row: usize, bytes: &
         draw_tile(
             alloc,
             items,
+            rects,
             tile(grid, row * grid.across + n),
             bytes_of_tile,
         );
     }
 }
 
-/// Draws a row of tiles, which are black, by the items that are seen there. Where
-/// memory is wanting it looks at all of them.
-pub fn draw_band(alloc: Global, items: &[DrawItem], grid: &Grid, row: usize, bytes: &mut [u8])
+/// Draws a row of tiles, which are black. Of many items it looks twice at those alone
+/// that may be seen on a tile, where memory isn't wanting.
+fn draw_row(alloc: Global, items: &[DrawItem], grid: &Grid, row: usize, bytes: &mut [u8])
     requires items { All IsDrawable items.now }
     requires grid { IsGrid grid.now }
     requires row { row < grid.now.down }
@@ -103,8 +146,35 @@ pub fn draw_band(alloc: Global, items: &[DrawItem], grid: &Grid, row: usize, byt
     requires black { (m : ℕ) → m < length bytes.old → slice_index bytes.old m ≡ 0 }
     ensures { (m : ℕ) → m < length bytes.old → slice_index bytes.new m ≡ drawn_at grid.now items.now (row * band_bytes grid.now + m) }
 {
+    if items.len() <= FEW {
+        return draw_each(items, grid, row, bytes);
+    }
+    match visible_rects(alloc, items) {
+        Ok(rects) => draw_picked(alloc, items, rects.as_slice(), grid, row, bytes),
+        Err(_) => draw_each(items, grid, row, bytes),
+    }
+}
+
+/// Draws a row of tiles, which are black, by the items that are seen there. Where
+/// memory is wanting it looks at all of them.
+pub fn draw_band(
+    alloc: Global,
+    items: &[DrawItem],
+    rects: &[Rect],
+    grid: &Grid,
+    row: usize,
+    bytes: &mut [u8],
+)
+    requires items { All IsDrawable items.now }
+    requires rects { rects.now ≡ rects_of items.now }
+    requires grid { IsGrid grid.now }
+    requires row { row < grid.now.down }
+    requires size { length bytes.old ≡ band_bytes grid.now }
+    requires black { (m : ℕ) → m < length bytes.old → slice_index bytes.old m ≡ 0 }
+    ensures { (m : ℕ) → m < length bytes.old → slice_index bytes.new m ≡ drawn_at grid.now items.now (row * band_bytes grid.now + m) }
+{
     let top = row * grid.tile_h;
-    match seen_between(alloc, items, top, top + grid.tile_h) {
+    match seen_between(alloc, items, rects, top, top + grid.tile_h) {
         Ok(seen) => draw_row(alloc, seen.as_slice(), grid, row, bytes),
         Err(_) => draw_row(alloc, items, grid, row, bytes),
     }

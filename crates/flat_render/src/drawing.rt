@@ -1,6 +1,7 @@
 ghost use Rattle.std.specs.Prelude.{◌≡◌, ◌+◌, ◌*◌, ◌/◌, ◌<◌, ℕ, All, if◌then◌else◌, length, slice_index};
 ghost use Rattle.flat_drawable.specs.Drawable.{IsDrawable};
 ghost use Rattle.flat_render.specs.Areas.{has_pixel};
+ghost use Rattle.flat_render.specs.Bands.{rects_of};
 ghost use Rattle.flat_render.specs.Damaged.{is_in_any};
 ghost use Rattle.flat_render.specs.Grids.{band_bytes, grid_bytes, IsGrid};
 ghost use Rattle.flat_render.specs.Stored.{stored_x, stored_y, drawn_at};
@@ -20,10 +21,12 @@ pub fn draw_tiles(
     rt: &(impl Threads + Sync),
     alloc: Global,
     items: &[DrawItem],
+    rects: &[Rect],
     grid: &Grid,
     bytes: &mut [u8],
 )
     requires items { All IsDrawable items.now }
+    requires rects { rects.now ≡ rects_of items.now }
     requires grid { IsGrid grid.now }
     requires size { length bytes.old ≡ grid_bytes grid.now }
     requires black { (i : ℕ) → i < length bytes.old → slice_index bytes.old i ≡ 0 }
@@ -35,9 +38,9 @@ pub fn draw_tiles(
         bytes,
         size,
         |start: usize, band: &mut [u8]|
-            requires { All IsDrawable items.now × IsGrid grid.now × (0 < size) × (start / size < grid.now.down) × (length band.old ≡ band_bytes grid.now) × ((m : ℕ) → m < length band.old → slice_index band.old m ≡ 0) }
+            requires { All IsDrawable items.now × (rects.now ≡ rects_of items.now) × IsGrid grid.now × (0 < size) × (start / size < grid.now.down) × (length band.old ≡ band_bytes grid.now) × ((m : ℕ) → m < length band.old → slice_index band.old m ≡ 0) }
             ensures { (m : ℕ) → m < length band.old → slice_index band.new m ≡ drawn_at grid.entry.now items.entry.now (start / size * band_bytes grid.entry.now + m) }
-        { draw_band(alloc, items, grid, start / size, band) },
+        { draw_band(alloc, items, rects, grid, start / size, band) },
     );
 }
 

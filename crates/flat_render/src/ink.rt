@@ -1,4 +1,4 @@
-ghost use Rattle.std.specs.Prelude.{◌≡◌, ◌<◌, ◌≤◌, ℕ, IfSome, length, slice_index};
+ghost use Rattle.std.specs.Prelude.{◌≡◌, ◌*◌, ◌<◌, ◌≤◌, ℕ, IfSome, length, slice_index};
 ghost use Rattle.flat_render.specs.Colours.{covered};
 ghost use Rattle.flat_render.specs.Inks.{inked, mix_of, mixed, tone, IsShade};
 
@@ -56,8 +56,7 @@ pub fn mix_for(blend: BlendMode, opacity: u32, alpha: u8) -> Mix
     }
 }
 
-/// Puts one value in place of a line of pixels.
-pub fn wash(s: u8, line: &mut [u8])
+fn wash_all(s: u8, line: &mut [u8])
     ensures { (i : ℕ) → i < length line.old → slice_index line.new i ≡ s }
 {
     for i in 0..line.len() {
@@ -65,7 +64,46 @@ pub fn wash(s: u8, line: &mut [u8])
     }
 }
 
-fn veil(weight: u8, s: u8, line: &mut [u8])
+/// Puts one value in place of so many pixels at each end of a line, which are all of
+/// its pixels. The compiler knows how many they are, and calls nothing.
+#[inline(always)]
+fn wash_ends(s: u8, count: usize, line: &mut [u8])
+    requires some { count ≤ length line.old }
+    requires all { length line.old ≤ 2 * count }
+    ensures { (i : ℕ) → i < length line.old → slice_index line.new i ≡ s }
+{
+    for i in 0..count {
+        line[i] = s;
+    }
+    let rest = line.len() - count;
+    for i in 0..count {
+        line[rest + i] = s;
+    }
+}
+
+/// Puts one value in place of a line of pixels.
+#[inline(always)]
+pub fn wash(s: u8, line: &mut [u8])
+    ensures { (i : ℕ) → i < length line.old → slice_index line.new i ≡ s }
+{
+    let count = line.len();
+    if count > TILE_SIDE {
+        return wash_all(s, line);
+    }
+    if count >= TILE_SIDE / 2 {
+        return wash_ends(s, TILE_SIDE / 2, line);
+    }
+    if count >= TILE_SIDE / 4 {
+        return wash_ends(s, TILE_SIDE / 4, line);
+    }
+    if count >= TILE_SIDE / 8 {
+        return wash_ends(s, TILE_SIDE / 8, line);
+    }
+    wash_all(s, line);
+}
+
+/// Mixes one value with a line of pixels, weighted so.
+pub fn veil(weight: u8, s: u8, line: &mut [u8])
     ensures { (i : ℕ) → i < length line.old → slice_index line.new i ≡ covered weight s (slice_index line.old i) }
 {
     for i in 0..line.len() {
@@ -83,7 +121,7 @@ fn weave(weight: u8, values: &[u8], line: &mut [u8])
 }
 
 /// Mixes one value with a line of pixels.
-fn mix_one(mix: Mix, s: u8, line: &mut [u8])
+pub fn mix_one(mix: Mix, s: u8, line: &mut [u8])
     ensures { (i : ℕ) → i < length line.old → slice_index line.new i ≡ mixed mix s (slice_index line.old i) }
 {
     match mix {
@@ -103,12 +141,12 @@ fn mix_each(mix: Mix, values: &[u8], line: &mut [u8])
     }
 }
 
-/// The value that ink puts everywhere in place of what is there, if it is such ink.
-pub fn solid(ink: &Ink) -> Option<u8>
-    ensures { IfSome result (λ s. (i j old : ℕ) → inked ink.now i j old ≡ s) }
+/// The value that ink mixes with each pixel, if that is one value.
+pub fn only_value(ink: &Ink) -> Option<u8>
+    ensures { IfSome result (λ s. (i j old : ℕ) → inked ink.now i j old ≡ mixed ink.now.mix s old) }
 {
-    match (ink.shade, ink.mix) {
-        (Shade::Even(s), Mix::Replace) => Some(s),
+    match &ink.shade {
+        Shade::Even(s) => Some(*s),
         _ => None,
     }
 }

@@ -3,6 +3,7 @@ ghost use Rattle.flat_drawable.specs.Drawable.{IsDrawable};
 ghost use Rattle.flat_render.specs.Pixels.{pixel};
 ghost use Rattle.flat_render.specs.Pictures.{Shows};
 
+use crate::band::visible_rects;
 use crate::drawing::draw_tiles;
 use crate::grid::{PIXELS_MAX, grid_for, stored};
 use crate::picture::Picture;
@@ -37,7 +38,16 @@ pub fn render(
     ensures { IfOk result (λ picture. Shows picture w h (pixel items.now)) }
 {
     let grid = grid_for(w, h);
+    let drawn = items.as_slice();
+    let rects = visible_rects(alloc, drawn)?;
     let mut bytes = vec![in alloc; 0u8; stored(&grid)]?;
-    draw_tiles(rt, alloc, items.as_slice(), &grid, bytes.as_mut_slice());
+    draw_tiles(
+        rt,
+        alloc,
+        drawn,
+        rects.as_slice(),
+        &grid,
+        bytes.as_mut_slice(),
+    );
     Ok(Picture { grid, bytes })
 }

@@ -1,5 +1,5 @@
 ghost use Rattle.std.specs.Prelude.{◌≡◌, ◌+◌, ◌-◌, ◌<◌, ◌≤◌, ◌≤ℤ◌, ℕ, pos, true, if◌then◌else◌};
-ghost use Rattle.flat_drawable.specs.Drawable.{IsSample};
+ghost use Rattle.flat_drawable.specs.Drawable.{full_rect as full_rect_of, IsSample};
 ghost use Rattle.flat_geom.specs.Rectangles.{is_between};
 ghost use Rattle.flat_render.specs.Areas.{has_pixel};
 ghost use Rattle.flat_scene.specs.declared.frames.Paint.TheVariants.{Image};
@@ -12,7 +12,7 @@ use crate::axis::{Axis, part};
 use crate::colour::{blue, green, red};
 use crate::ink::{Shade, tone_of};
 use crate::tile::TILE_SIDE;
-use flat_base::{BufferNo, IntRect, OPACITY_MAX};
+use flat_base::{BufferNo, IntRect, OPACITY_MAX, Rect};
 use flat_drawable::full_rect;
 use flat_scene::{BlendMode, DrawItem, ImageFlip};
 
@@ -43,23 +43,24 @@ pub fn texture_of(
     requires { item.now.paint ≡ Image buffers index sample flip }
     ensures { IsTextureOf item.now result }
 {
+    let rect = full_rect(item);
     Texture {
         buffers: buffers.0,
         index,
         sample,
         flip,
         swap: item.matrix.swap,
-        columns: for_columns(item),
-        rows: for_rows(item),
+        columns: for_columns(item, rect),
+        rows: for_rows(item, rect),
         blend: item.blend,
         opacity: item.opacity,
     }
 }
 
-fn across(item: &DrawItem) -> Axis
+fn across(item: &DrawItem, rect: Rect) -> Axis
+    requires { rect ≡ full_rect_of item.now }
     ensures { result ≡ along_x item.now }
 {
-    let rect = full_rect(item);
     Axis {
         entry: item.matrix.a,
         low: rect.x0,
@@ -67,10 +68,10 @@ fn across(item: &DrawItem) -> Axis
     }
 }
 
-fn down(item: &DrawItem) -> Axis
+fn down(item: &DrawItem, rect: Rect) -> Axis
+    requires { rect ≡ full_rect_of item.now }
     ensures { result ≡ along_y item.now }
 {
-    let rect = full_rect(item);
     Axis {
         entry: item.matrix.b,
         low: rect.y0,
@@ -79,24 +80,26 @@ fn down(item: &DrawItem) -> Axis
 }
 
 /// The axis along which the columns of an image lie.
-fn for_columns(item: &DrawItem) -> Axis
+fn for_columns(item: &DrawItem, rect: Rect) -> Axis
+    requires { rect ≡ full_rect_of item.now }
     ensures { result ≡ column_axis item.now }
 {
     if item.matrix.swap {
-        down(item)
+        down(item, rect)
     } else {
-        across(item)
+        across(item, rect)
     }
 }
 
 /// The axis along which the rows of an image lie.
-fn for_rows(item: &DrawItem) -> Axis
+fn for_rows(item: &DrawItem, rect: Rect) -> Axis
+    requires { rect ≡ full_rect_of item.now }
     ensures { result ≡ row_axis item.now }
 {
     if item.matrix.swap {
-        across(item)
+        across(item, rect)
     } else {
-        down(item)
+        down(item, rect)
     }
 }
 

@@ -2,14 +2,15 @@ ghost use Rattle.std.specs.Prelude.{◌≡◌, ◌*◌, ◌<◌, ◌≤◌, ◌-
 ghost use Rattle.flat_drawable.specs.Drawable.{IsDrawable};
 ghost use Rattle.flat_render.specs.Areas.{has_pixel, IsInArea, IsWindow};
 ghost use Rattle.flat_render.specs.Channels.{channel_step, channel_after};
+ghost use Rattle.flat_render.specs.Colours.{covered};
 ghost use Rattle.flat_render.specs.Hiding.{HidesIn};
-ghost use Rattle.flat_render.specs.Inks.{inked, IsShade};
+ghost use Rattle.flat_render.specs.Inks.{inked, mixed, IsShade};
 ghost use Rattle.flat_render.specs.Pixels.{covers};
 ghost use Rattle.flat_render.specs.Tiles.{x_of, y_of, x_at, y_at, channel_at, pixels_of, tile_area, IsTile};
 
 use crate::area::{Area, area_of, common, is_covered, is_missed};
 use crate::brush::brush_for;
-use crate::ink::{Ink, Mix, Shade, ink_line, solid, wash};
+use crate::ink::{Ink, Mix, Shade, ink_line, mix_one, only_value, veil, wash};
 use flat_scene::{BlendMode, DrawItem};
 
 /// The sides of tiles, where the picture has no smaller ones.
@@ -43,8 +44,8 @@ pub fn area(tile: Tile) -> Area
     }
 }
 
-/// Puts one value in place of the pixels of an area, in a plane.
-fn wash_plane(s: u8, tile: Tile, cut: Area, plane: &mut [u8])
+/// Puts one value in place of the pixels of an area, in a plane, row by row.
+fn wash_rows(s: u8, tile: Tile, cut: Area, plane: &mut [u8])
     requires tile { IsTile tile }
     requires size { length plane.old ≡ pixels_of tile }
     requires cut { IsInArea (tile_area tile) cut }
@@ -56,6 +57,42 @@ fn wash_plane(s: u8, tile: Tile, cut: Area, plane: &mut [u8])
         let line = &mut plane[row + (cut.x0 - tile.left)..row + (cut.x1 - tile.left)];
         wash(s, line);
     }
+}
+
+/// Mixes one value with the pixels of an area, in a plane, row by row, weighted so.
+fn veil_rows(weight: u8, s: u8, tile: Tile, cut: Area, plane: &mut [u8])
+    requires tile { IsTile tile }
+    requires size { length plane.old ≡ pixels_of tile }
+    requires cut { IsInArea (tile_area tile) cut }
+    requires some { IsWindow cut }
+    ensures { (k : ℕ) → k < length plane.old → slice_index plane.new k ≡ (if has_pixel cut (x_of tile k) (y_of tile k) then covered weight s (slice_index plane.old k) else slice_index plane.old k) }
+{
+    for py in cut.y0..cut.y1 {
+        let row = (py - tile.top) * tile.width;
+        let line = &mut plane[row + (cut.x0 - tile.left)..row + (cut.x1 - tile.left)];
+        veil(weight, s, line);
+    }
+}
+
+/// Mixes one value with the pixels of an area, in a plane. Where the area is as wide
+/// as the tile, its rows are one line.
+fn mix_plane(mix: Mix, s: u8, tile: Tile, cut: Area, plane: &mut [u8])
+    requires tile { IsTile tile }
+    requires size { length plane.old ≡ pixels_of tile }
+    requires cut { IsInArea (tile_area tile) cut }
+    requires some { IsWindow cut }
+    ensures { (k : ℕ) → k < length plane.old → slice_index plane.new k ≡ (if has_pixel cut (x_of tile k) (y_of tile k) then mixed mix s (slice_index plane.old k) else slice_index plane.old k) }
+{
+    if cut.x1 - cut.x0 < tile.width {
+        return match mix {
+            Mix::Replace => wash_rows(s, tile, cut, plane),
+            Mix::Cover(weight) => veil_rows(weight, s, tile, cut, plane),
+        };
+    }
+    let from = (cut.y0 - tile.top) * tile.width;
+    let upto = (cut.y1 - tile.top) * tile.width;
+    let lines = &mut plane[from..upto];
+    mix_one(mix, s, lines);
 }
 
 /// Lays ink on the pixels of an area, in a plane.
@@ -83,8 +120,8 @@ fn lay_plane(ink: &Ink, tile: Tile, cut: Area, plane: &mut [u8])
     requires some { IsWindow cut }
     ensures { (k : ℕ) → k < length plane.old → slice_index plane.new k ≡ (if has_pixel cut (x_of tile k) (y_of tile k) then inked ink.now (x_of tile k - cut.x0) (y_of tile k - cut.y0) (slice_index plane.old k) else slice_index plane.old k) }
 {
-    match solid(ink) {
-        Some(s) => wash_plane(s, tile, cut, plane),
+    match only_value(ink) {
+        Some(s) => mix_plane(ink.mix, s, tile, cut, plane),
         None => ink_plane(ink, tile, cut, plane),
     }
 }

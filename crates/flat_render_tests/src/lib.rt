@@ -4,6 +4,8 @@
 #[cfg(test)]
 mod damages;
 #[cfg(test)]
+mod edges;
+#[cfg(test)]
 mod flips;
 #[cfg(test)]
 mod pictures;

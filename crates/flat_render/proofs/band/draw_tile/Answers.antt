@@ -8,6 +8,6 @@ use Rattle.flat_render.proofs.band.draw_tile.Goals as goal
 
 pub returns-in-Ok : goal.returns-in-Ok
 returns-in-Ok c = λ m small.
-    c.draw-in-Ok.ensures m small
+    c.draw.ensures m small
     ∙ ap (λ (items : List DrawItem). drawn_in c.args.tile items m) c.as_slice.ensures.value
     ∙ seen-drawn-in c.args.tile c.args.items.now c.in-Ok.seen.items m c.requires.tile (subst (λ (area : Area). IsSeenIn area c.args.items.now c.in-Ok.seen.items) c.area.ensures c.in-Ok.ensures)

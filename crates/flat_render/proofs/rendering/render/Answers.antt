@@ -22,7 +22,7 @@ returns g c = record {
       omega (arith, place-there c.grid_for-grid.result c.grid_for-grid.ensures.grid n x y low wide high, c.in_ok-bytes.ensures.len, c.stored.ensures, c.as_mut_slice.ensures.len) in
       ap (λ (xs : List ℕ). get_or xs i 0) (with_items_is c.in_ok-bytes.bytes c.draw_tiles.new.bytes (c.draw_tiles.auto.bytes ∙ c.as_mut_slice.ensures.len))
       ∙ c.draw_tiles.ensures i there
-      ∙ drawn-place c.grid_for-grid.result c.grid_for-grid.ensures.grid n x y low wide high c.as_slice.result.now
-      ∙ ap (λ (items : List DrawItem). channel_after n items x y 0) c.as_slice.ensures) in
+      ∙ drawn-place c.grid_for-grid.result c.grid_for-grid.ensures.grid n x y low wide high c.as_slice-drawn.result.now
+      ∙ ap (λ (items : List DrawItem). channel_after n items x y 0) c.as_slice-drawn.ensures) in
       pixel-channels c.args.items.now x y _ _ _ (channel 0 (omega arith)) (channel 1 (omega arith)) (channel 2 (omega arith));
 }

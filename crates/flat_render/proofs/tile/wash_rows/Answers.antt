@@ -1,6 +1,6 @@
 use Rattle.std.proofs.Common.{arith}
 use Rattle.flat_render.proofs.Rows.{row-step}
-use Rattle.flat_render.proofs.tile.wash_plane.Goals as goal
+use Rattle.flat_render.proofs.tile.wash_rows.Goals as goal
 
 pub loop-py-preserved : goal.loop-py-preserved
 loop-py-preserved c =

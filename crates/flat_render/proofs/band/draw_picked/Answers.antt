@@ -1,0 +1,32 @@
+use Rattle.std.proofs.Common.{ℕ, ◌+◌, ◌*◌, ◌≤◌, ◌≡◌, ◌∙◌, ap, sym, length, arith}
+use Rattle.std.proofs.lemmas.List.{length-take, length-drop}
+use Rattle.std.proofs.lemmas.Nat.{row_fits}
+use Rattle.flat_render.specs.Grids.{band_bytes}
+use Rattle.flat_render.specs.Stored.{drawn_in, drawn_at}
+use Rattle.flat_render.specs.declared.tile.Tile.{Tile}
+use Rattle.flat_render.proofs.Bands.{tile-of-band, tile-of-row}
+use Rattle.flat_render.proofs.Chunks.{repainted-more}
+use Rattle.flat_render.proofs.Places.{count-most}
+use Rattle.flat_render.proofs.band.draw_picked.Goals as goal
+
+pub overflow_mul-row : goal.overflow_mul-row
+overflow_mul-row c = omega (arith, tile-of-band c.args.grid.now c.args.row c.loop-n.n c.requires.row c.loop-n-test.true, count-most c.args.grid.now c.requires.grid)
+
+pub overflow_add-row : goal.overflow_add-row
+overflow_add-row c = omega (arith, tile-of-band c.args.grid.now c.args.row c.loop-n.n c.requires.row c.loop-n-test.true, count-most c.args.grid.now c.requires.grid)
+
+pub loop-n-preserved : goal.loop-n-preserved
+loop-n-preserved c =
+    let s : ℕ = c.bytes_of_tiles-size.result in
+    let n : ℕ = c.loop-n.n in
+    let one_more : n * s + s ≤ c.args.grid.now.across * s = row_fits n s c.args.grid.now.across s c.loop-n-test.true (omega arith) in
+    let all : length c.loop-n.bytes ≡ c.args.grid.now.across * s =
+    c.loop-n.auto.bytes ∙ c.requires.size ∙ ap (λ (m : ℕ). c.args.grid.now.across * m) (sym c.bytes_of_tiles-size.ensures) in
+    let fits : n * s + s ≤ length c.loop-n.bytes = omega (arith, one_more, all) in
+    repainted-more (λ k old. drawn_at c.args.grid.now c.args.items.now (c.args.row * band_bytes c.args.grid.now + k)) s c.args.bytes.now c.loop-n.bytes c.draw_tile.new.bytes n _ fits
+    (omega arith) (c.draw_tile.auto.bytes ∙ simp (length-take, length-drop) (omega arith)) c.loop-n.invariant
+    (λ k small.
+    c.draw_tile.ensures k (simp (length-take, length-drop) (omega arith))
+    ∙ ap (λ (t : Tile). drawn_in t c.args.items.now k) c.tile.ensures.value
+    ∙ tile-of-row c.args.grid.now c.requires.grid c.args.row n c.loop-n-test.true c.args.items.now k (omega (arith, c.bytes_of_tiles-size.ensures, small))
+    ∙ ap (λ (m : ℕ). drawn_at c.args.grid.now c.args.items.now (c.args.row * band_bytes c.args.grid.now + (n * m + k))) (sym c.bytes_of_tiles-size.ensures))
