@@ -10,9 +10,9 @@ use Rattle.flat_scene.specs.declared.frames.FrameOut.{FrameOut}
 use Rattle.flat_scene.specs.declared.frames.Hit as point
 use Rattle.flat_scene.specs.declared.journal.Entry.{Entry}
 use Rattle.flat_scene.specs.declared.journal.Kind.{Kind}
-use Rattle.flat_scene.specs.declared.journal.Kind.TheVariants.{Begin, Finish, Hit}
+use Rattle.flat_scene.specs.declared.journal.Kind.TheVariants.{Hit}
 use Rattle.flat_scene.specs.declared.setup.Setup.{Setup}
-use Rattle.flat_scene.specs.History.{◌▹◌, history_of, is_begin, is_display, is_finish, seat_number}
+use Rattle.flat_scene.specs.History.{◌▹◌, history_of, is_display, seat_number}
 use Rattle.flat_scene.specs.Interleave.{by_display}
 use Rattle.flat_scene.specs.Setups.{is_declared}
 use Rattle.flat_rules.specs.Ends.{to_begin, to_finished}
@@ -21,6 +21,7 @@ use Rattle.flat_report.specs.declared.report.HitAnswer.{HitAnswer}
 use Rattle.flat_report.specs.Handed.{answer_to, answers_of}
 use Rattle.flat_report.specs.Report.{finished, frame_at, hits_at}
 use Rattle.flat_stage.specs.Seats.{MakesOne, entries_of_seat}
+use Rattle.flat_rules.proofs.lemmas.FrameKinds.{not-begin, not-finish}
 use Rattle.flat_base.proofs.lemmas.Tests.{and-left, and-right}
 
 -- all that is told of the display is the same in both histories
@@ -33,14 +34,6 @@ pub record IsBeside (setup : Setup) (before after : List Entry) : Type 0 where
   pub number : frames after ≡ frames before
   pub finishing : finished setup after ≡ finished setup before
   pub answering : answers_of setup after ≡ answers_of setup before
-
-not_begin : (kind : Kind) → session_may kind ≡ true → is_begin kind ≡ false
-not_begin (Begin time) may = absurd (cc)
-not_begin _ may = refl
-
-not_finish : (kind : Kind) → session_may kind ≡ true → is_finish kind ≡ false
-not_finish Finish may = absurd (cc)
-not_finish _ may = refl
 
 not_hit : (entry : Entry) (n : ℕ) (hits : ℤ → ℤ → List point.Hit) (kind : Kind) → session_may kind ≡ true → answer_to entry n hits kind ≡ []
 not_hit entry n hits (Hit x y) may = absurd (cc)
@@ -62,8 +55,8 @@ sessions_entry setup entry (Probe p) is acts other = absurd (let both : false �
 module _ (setup : Setup) where
   one_beside : (before : List Entry) (entry : Entry) → IsSessions setup entry → IsBeside setup before (before ▹ entry)
   one_beside before entry is =
-      let begins = not_begin entry.kind is.may in
-      let finishes = not_finish entry.kind is.may in
+      let begins = not-begin entry.kind is.may in
+      let finishes = not-finish entry.kind is.may in
       let other = is.other in
       record {
         display = rw other refl;

@@ -2,7 +2,6 @@
 use Rattle.std.proofs.Common.{◌≡◌, ℕ, suc, ◌+◌, ◌<◌, ◌≤◌, ◌&&◌, nat_lt, nat_le, Bool, true, List, [], ◌∷◌, ◌++◌, length, reverse, slice_get, Option, Some, refl, sym, ap, ◌∙◌, subst, arith}
 use Rattle.std.specs.List.{list_all}
 use Rattle.std.specs.Option.{is_some}
-use Rattle.std.proofs.lemmas.Bool.Decides.{nat_tests}
 use Rattle.std.proofs.lemmas.List.{reverse-reverse}
 use Rattle.flat_base.specs.declared.ids.SessionNo.{SessionNo}
 use Rattle.flat_base.specs.declared.limits.TheConstants.{SESSIONS_MAX}
@@ -10,7 +9,6 @@ use Rattle.flat_scene.specs.declared.journal.Entry.{Entry}
 use Rattle.flat_scene.specs.declared.setup.Setup.{Setup}
 use Rattle.flat_scene.specs.History.{history_of, own}
 use Rattle.flat_scene.specs.Interleave.{IsReading, display_lines, session_lines}
-use Rattle.flat_scene.specs.Setups.{is_declared}
 use Rattle.flat_core.specs.Machines.{Machine}
 use Rattle.flat_lock.specs.History.{StartsWith}
 use Rattle.flat_rules.specs.Legal.{Legal, frames}
@@ -21,6 +19,7 @@ use Rattle.flat_stage.specs.Homes.{SeatsView}
 use Rattle.flat_stage.specs.Seats.{SessionView, StageView, entries_of_seat, setup_of}
 use Rattle.flat_play.specs.Playing.{HasPlayed}
 use Rattle.flat_play.proofs.lemmas.Places.{all_to, drop_all}
+use Rattle.flat_play.proofs.lemmas.Starting.{is_numbered}
 use Rattle.flat_race.specs.declared.director.Film.{Film}
 use Rattle.flat_race.specs.Ends.{HaveEnded}
 use Rattle.flat_race.specs.Sessions.{IsStageOf}
@@ -58,16 +57,13 @@ module _ (script : Script) (view : StageView) (compositor : DisplayView) (seats 
         subst (λ (h : List Entry). IsBeside script.setup (history_of compositor.seen) h) (sym whole)
         (seen_beside script.setup compositor.seen rest (subst (λ (h : List Entry). Legal script.setup h) whole legal) own)
 
-    declared_is : (k : ℕ) → k < script.setup.sessions → is_declared script.setup (record { 0 = k + 1 }) ≡ true
-    declared_is k below = and-true (let a : nat_lt 0 (k + 1) ≡ true = grind (arith, nat_tests) in a) (let b : nat_le (k + 1) script.setup.sessions ≡ true = grind (arith, nat_tests) in b)
-
     reading : SeatsTellActors → JournalsKeepSeats → (k : ℕ) → k < script.setup.sessions → IsReading script.setup script.count (session_lines (record { 0 = k + 1 }) script.lines) (own (record { 0 = k + 1 }) board.history)
     reading tell keep k below =
         let s : SessionNo = record { 0 = k + 1 } in
         let home = ended.back.home k (omega arith) below in
         let mine : home.0.mine ≡ entries_of_seat (k + 1) (reverse board.history) = (closed.sessions k home.0 home.1).1 ∙ ap (λ (n : ℕ). entries_of_seat n (reverse board.history)) home.2 in
         let whole : own s board.history ≡ history_of home.0.mine =
-        (tell script.setup few board.history legal).sessions s (declared_is k below) ∙ ap (of_seat (k + 1)) (sym (reverse-reverse board.history)) ∙ keep (k + 1) (reverse board.history) ∙ ap history_of (sym mine) in
+        (tell script.setup few board.history legal).sessions s (is_numbered script.setup k below) ∙ ap (of_seat (k + 1)) (sym (reverse-reverse board.history)) ∙ keep (k + 1) (reverse board.history) ∙ ap history_of (sym mine) in
         subst (λ (es : List Entry). IsReading script.setup script.count (session_lines s script.lines) es) (sym whole) (ended.back.read k home.0 (omega arith) below home.1 refl)
 
     pub has_played : SeatsTellActors → JournalsKeepSeats → HasPlayed script board film.frames.items film.answers

@@ -52,8 +52,8 @@ use Rattle.flat_play.proofs.lemmas.Places.{drop_all}
 use Rattle.flat_play.proofs.lemmas.Starting.{by_at_most, few, first_display}
 use Rattle.flat_play.proofs.lemmas.Steps.{At}
 use Rattle.flat_race.specs.declared.director.Film.{Film}
-use Rattle.flat_race.specs.declared.director.Hand.{Hand}
-use Rattle.flat_race.specs.declared.director.Hand.TheVariants.{Idle, Open}
+use Rattle.flat_race.specs.declared.hand.Hand.{Hand}
+use Rattle.flat_race.specs.declared.hand.Hand.TheVariants.{Idle, Open}
 use Rattle.flat_race.specs.Directing.{FilmStands, HandStands, HasLooked, KeepsFrame, KeepsNext, SeatStands, ShowsBegin, hand_seat, is_open}
 use Rattle.flat_race.specs.Sessions.{IsStageOf}
 use Rattle.flat_base.proofs.lemmas.Tests.{and-left, and-right}

@@ -4,7 +4,7 @@ use Rattle.std.specs.List.{list_all}
 use Rattle.std.proofs.lemmas.Bool.{eqb-true}
 use Rattle.std.proofs.lemmas.Bool.Decides.{nat_tests}
 use Rattle.std.proofs.lemmas.Grind.{common_steps, flat_map-append}
-use Rattle.std.proofs.lemmas.List.{take-append-drop}
+use Rattle.std.proofs.lemmas.List.{take_all, take-append-drop}
 use Rattle.flat_base.specs.declared.ids.Actor.{Actor}
 use Rattle.flat_base.specs.declared.ids.Actor.TheVariants.{Display, Session, Probe}
 use Rattle.flat_base.specs.declared.ids.SessionNo.{SessionNo}
@@ -32,10 +32,6 @@ use Rattle.flat_play.proofs.lemmas.Places.{counted, few_lines, rises, split_at}
 use Rattle.flat_play.proofs.lemmas.Readers.{session_rise}
 use Rattle.flat_race.specs.Sessions.{IsStageOf, SessionStands}
 use Rattle.flat_base.proofs.lemmas.Tests.{all-at, and-left, and-right}
-
-take_all : {A : Type 0} (xs : List A) → take (length xs) xs ≡ xs
-take_all [] = refl
-take_all (x ∷ xs) = ap (λ ys. x ∷ ys) (take_all xs)
 
 -- ---- whose line it is
 
@@ -153,12 +149,12 @@ module _ (script : Script) (view : StageView) (seat : SessionView) (place : ℕ)
 
 module _ (script : Script) (view : StageView) (seat : SessionView) where
   all_given : SessionStands script view seat.session (length script.lines) seat → SeatHasRead (session_lines seat.session script.lines) seat
-  all_given stands = let R : List ScriptLine → Type 0 = λ lines. SeatHasRead (session_lines seat.session lines) seat in subst R (take_all script.lines) stands.reads
+  all_given stands = let R : List ScriptLine → Type 0 = λ lines. SeatHasRead (session_lines seat.session lines) seat in subst R (take_all (length script.lines) script.lines (omega arith)) stands.reads
 
   pub end_room : IsStageOf view script → SessionStands script view seat.session (length script.lines) seat → is_declared (setup_of seat.stage) seat.session ≡ true → HasRoom seat
   end_room of stands declared =
       let D : Setup → Type 0 = λ setup. is_declared setup seat.session ≡ true in
-      let whole = ap (lines_by seat.session.0) (take_all script.lines) in
+      let whole = ap (lines_by seat.session.0) (take_all (length script.lines) script.lines (omega arith)) in
       let spent = stands.spent in
       room script view seat of stands.own (subst D (ap setup_of stands.own ∙ of.setup) declared) (omega (arith, whole, spent))
 

@@ -13,8 +13,8 @@ use Rattle.flat_places.specs.declared.script.Script.{Script}
 use Rattle.flat_stage.specs.Displays.{AreViewed, DisplaySees, DisplayView}
 use Rattle.flat_stage.specs.Seats.{StageView, entries_of_seat}
 use Rattle.flat_play.specs.Playing.{AnswersStand, DisplayStands, lines_by}
-use Rattle.flat_race.specs.declared.director.Hand.{Hand}
-use Rattle.flat_race.specs.declared.director.Hand.TheVariants.{Idle, Open}
+use Rattle.flat_race.specs.declared.hand.Hand.{Hand}
+use Rattle.flat_race.specs.declared.hand.Hand.TheVariants.{Idle, Open}
 use Rattle.flat_race.specs.declared.director.Film.{Film}
 
 -- the compositor's seat, whether a frame is open or not

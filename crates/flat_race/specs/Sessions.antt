@@ -1,8 +1,11 @@
 -- The sessions of a race: how a seat stands at a place of the script, and what a thread promises.
 use Rattle.std.specs.Prelude.{◌≡◌, ℕ, ◌+◌, ◌<◌, ◌≤◌, Bool, true, false, List, length, take, Option, Some, slice_get}
 use Rattle.flat_base.specs.declared.ids.SessionNo.{SessionNo}
+use Rattle.flat_scene.specs.declared.script.Line.{Line}
+use Rattle.flat_scene.specs.declared.script.Line.TheVariants as line
 use Rattle.flat_scene.specs.History.{history_of}
 use Rattle.flat_scene.specs.Interleave.{IsReading, session_lines}
+use Rattle.flat_rules.specs.Legal.{is_link}
 use Rattle.flat_places.specs.declared.script.Script.{Script}
 use Rattle.flat_stage.specs.Homes.{SeatsView, fresh_view}
 use Rattle.flat_stage.specs.Readings.{SeatHasRead}
@@ -19,6 +22,11 @@ pub record IsStageOf (view : StageView) (script : Script) : Type 0 where
   pub shares : stage.shares_of view ≡ shares_of script
 
 -- ---- one session
+
+-- a line that makes an entry of each session that is open: all do but calls of its own draft
+abbrev pub makes_entry : Line → Bool
+makes_entry (line.Call call) = is_link call
+makes_entry _ = true
 
 -- the seat may have seen more, and is else as it was
 abbrev pub IsSame : SessionView → SessionView → Type 0

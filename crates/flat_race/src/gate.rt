@@ -1,3 +1,5 @@
+ghost use Rattle.std.specs.Prelude.{◌≡◌, ◌≤◌, ◌-◌, true};
+
 use flat_scene::Reply;
 use std::thread;
 
@@ -21,7 +23,9 @@ pub trait Gate: Sync {
 pub struct OpenGate;
 
 impl Gate for OpenGate {
-    fn open(&self, _actor: u32, _line: u32) -> bool {
+    fn open(&self, _actor: u32, _line: u32) -> bool
+        ensures { result ≡ true }
+    {
         true
     }
 
@@ -35,7 +39,9 @@ pub const ASKS: u32 = 1_000_000;
 pub const LOOKS: u32 = 100_000;
 
 /// Asks until the gate is open, or until no ask is left, and answers how many are left.
-pub(crate) fn ask<G: Gate>(gate: &G, actor: u32, line: u32, left: u32) -> u32 {
+pub(crate) fn ask<G: Gate>(gate: &G, actor: u32, line: u32, left: u32) -> u32
+    ensures { result ≤ left - 1 }
+{
     for asked in 0..left {
         if gate.open(actor, line) {
             return left - asked - 1;

@@ -4,6 +4,8 @@
 
 mod director;
 mod gate;
+mod hand;
+mod lent;
 mod race;
 mod session;
 mod threads;

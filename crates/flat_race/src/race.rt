@@ -13,6 +13,7 @@ ghost use Rattle.flat_race.specs.Sessions.{IsStageOf};
 
 use crate::director::{Film, direct};
 use crate::gate::Gate;
+use crate::lent::Lent;
 use crate::threads::{put_back, start_each};
 use flat_base::{FrameNo, NoMemory, TryCopy};
 use flat_core::{Board, shown_states_fit};
@@ -67,30 +68,26 @@ fn new_film(alloc: Global, script: &Script, displays: u32) -> Result<Film, NoMem
 /// Runs the sessions beside the compositor, and puts all seats back.
 fn run_in<'s, E, T: Threads + Wait + Sync, G: Gate>(
     scope: &Scope<'s, E>,
-    rt: &'s T,
-    alloc: Global,
-    stage: &'s Stage,
-    script: &'s Script,
-    gate: &'s G,
+    lent: &Lent<'s, T, G>,
     compositor: CompositorSeat,
     mut seats: SessionSeats,
     mut film: Film,
     mut displays: Vec<Box<dyn Display>>,
 ) -> Raced
-    requires playable { is_playable script.now ≡ true }
-    requires of { IsStageOf stage.now script.now }
-    requires compositor { compositor ≡ record { stage = stage.now; seen = []; mine = [] } }
-    requires own { seats.stage ≡ stage.now }
-    requires sessions { AreFresh stage.now script.now.setup.sessions seats.seats }
-    requires film { FilmStands script.now.setup [] film }
+    requires playable { is_playable lent.now.script.now ≡ true }
+    requires of { IsStageOf lent.now.stage.now lent.now.script.now }
+    requires compositor { compositor ≡ record { stage = lent.now.stage.now; seen = []; mine = [] } }
+    requires own { seats.stage ≡ lent.now.stage.now }
+    requires sessions { AreFresh lent.now.stage.now lent.now.script.now.setup.sessions seats.seats }
+    requires film { FilmStands lent.now.script.now.setup [] film }
     requires none { film.set.lost ≡ [] }
     requires number { length displays.items ≡ film.set.displays }
     requires few { film.set.displays < 2 ^ 32 }
-    ensures ended { IfOk result.ended (λ e. HaveEnded stage.now script.now e.compositor e.seats e.film) }
+    ensures ended { IfOk result.ended (λ e. HaveEnded lent.now.stage.now lent.now.script.now e.compositor e.seats e.film) }
     ensures seen { IfOk result.ended (λ e. HaveSeen (λ d. shown d) (λ d. faults d) e.film.frames.items (history_of e.compositor.seen) e.film.set.lost displays.items result.displays.items) }
     ensures kept { AreKept (λ d. shown d) (λ d. faults d) displays.items result.displays.items (λ d. d.vtable) }
 {
-    let out = match start_each(scope, rt, alloc, stage, script, gate, &mut seats) {
+    let out = match start_each(scope, lent, &mut seats) {
         Ok(out) => out,
         Err(NoMemory) => {
             return Raced {
@@ -99,17 +96,8 @@ fn run_in<'s, E, T: Threads + Wait + Sync, G: Gate>(
             };
         }
     };
-    let directed = direct(
-        rt,
-        alloc,
-        stage,
-        script,
-        gate,
-        compositor,
-        &mut film,
-        &mut displays,
-    );
-    let are_whole = put_back(rt, stage, script, &mut seats, out);
+    let directed = direct(lent, compositor, &mut film, &mut displays);
+    let are_whole = put_back(lent, &mut seats, out);
     let Ok(compositor) = directed else {
         return Raced {
             displays,
@@ -170,9 +158,14 @@ fn on_threads<T: Threads + Wait + Sync, G: Gate>(
                 × IfOk result.ended (λ e. HaveSeen (λ d. shown d) (λ d. faults d) e.film.frames.items (history_of e.compositor.seen) e.film.set.lost displays.items result.displays.items)
                 × AreKept (λ d. shown d) (λ d. faults d) displays.items result.displays.items (λ d. d.vtable) }
         {
-            run_in(
-                scope, rt, alloc, stage, script, gate, compositor, seats, film, displays,
-            )
+            let lent = Lent {
+                rt,
+                alloc,
+                stage,
+                script,
+                gate,
+            };
+            run_in(scope, &lent, compositor, seats, film, displays)
         },
     )
 }

@@ -9,14 +9,13 @@ ghost use Rattle.flat_playable.specs.Playable.{is_playable};
 ghost use Rattle.flat_stage.specs.Homes.{fresh_view};
 ghost use Rattle.flat_stage.specs.Readings.{SeatHasRead};
 ghost use Rattle.flat_stage.specs.Seats.{GoesOn, HasRoom, is_ended, setup_of};
-ghost use Rattle.flat_race.specs.Sessions.{HasRun, IsSame, IsStageOf, SessionStands};
+ghost use Rattle.flat_race.specs.Sessions.{makes_entry, HasRun, IsSame, IsStageOf, SessionStands};
 
 use crate::gate::{ASKS, Gate, LOOKS, ask};
+use crate::lent::Lent;
 use flat_base::{Actor, NoMemory, SessionNo, TryCopy};
-use flat_places::Script;
 use flat_scene::{Body, Call, Cond, Line, Reply};
-use flat_stage::{SessionSeat, Stage, lines_are_read};
-use std::alloc::Global;
+use flat_stage::{SessionSeat, lines_are_read};
 use std::sync::Wait;
 use std::thread;
 
@@ -43,7 +42,9 @@ pub(crate) fn asked_of(c: Cond) -> u32
 
 /// Whether a line of an open session always makes an entry: all do but calls of its
 /// own draft.
-fn makes_entry(text: &Line) -> bool {
+fn makes_entry(text: &Line) -> bool
+    ensures { result ≡ makes_entry text.now }
+{
     match text {
         Line::Call(Call::CreateView { .. } | Call::CreateViewport { .. }) => true,
         Line::Call(_) => false,
@@ -53,15 +54,8 @@ fn makes_entry(text: &Line) -> bool {
 
 /// Looks until the value of a condition is enough, or so often as a Wait may look;
 /// the gate is asked before each look, with one budget of the line.
-fn look_again<R: Wait, G: Gate>(
-    rt: &R,
-    stage: &Stage,
-    gate: &G,
-    seat: &mut SessionSeat,
-    number: u32,
-    c: Cond,
-)
-    requires own { seat.old.stage ≡ stage.now }
+fn look_again<R: Wait, G: Gate>(lent: &Lent<R, G>, seat: &mut SessionSeat, number: u32, c: Cond)
+    requires own { seat.old.stage ≡ lent.now.stage.now }
     requires owned { is_played_condition (setup_of seat.old.stage) seat.old.session c ≡ true }
     ensures { IsSame seat.old seat.new }
 {
@@ -69,8 +63,8 @@ fn look_again<R: Wait, G: Gate>(
     let wanted = asked_of(c);
     let mut left = ASKS;
     for _ in 0..LOOKS {
-        left = ask(gate, actor, number, left);
-        if wanted <= seat.look(rt, stage, c) {
+        left = ask(lent.gate, actor, number, left);
+        if wanted <= seat.look(lent.rt, lent.stage, c) {
             return;
         }
         thread::yield_now();
@@ -78,23 +72,16 @@ fn look_again<R: Wait, G: Gate>(
 }
 
 /// Asks the gate as is due before a line of an open session.
-fn pause<R: Wait, G: Gate>(
-    rt: &R,
-    stage: &Stage,
-    gate: &G,
-    seat: &mut SessionSeat,
-    number: u32,
-    text: &Line,
-)
-    requires own { seat.old.stage ≡ stage.now }
+fn pause<R: Wait, G: Gate>(lent: &Lent<R, G>, seat: &mut SessionSeat, number: u32, text: &Line)
+    requires own { seat.old.stage ≡ lent.now.stage.now }
     requires owned { is_played_line (setup_of seat.old.stage) seat.old.session text.now ≡ true }
     ensures { IsSame seat.old seat.new }
 {
     match text {
-        Line::Wait(c) => look_again(rt, stage, gate, seat, number, *c),
+        Line::Wait(c) => look_again(lent, seat, number, *c),
         _ => {
             if makes_entry(text) {
-                ask(gate, seat.session().0, number, ASKS);
+                ask(lent.gate, seat.session().0, number, ASKS);
             }
         }
     }
@@ -102,15 +89,12 @@ fn pause<R: Wait, G: Gate>(
 
 /// Reads one line of the session. The gate hears of the entry, where one is made.
 fn read_line<R: Wait, G: Gate>(
-    rt: &R,
-    alloc: Global,
-    stage: &Stage,
-    gate: &G,
+    lent: &Lent<R, G>,
     seat: &mut SessionSeat,
     number: u32,
     text: &Line,
 ) -> Result<(), NoMemory>
-    requires own { seat.old.stage ≡ stage.now }
+    requires own { seat.old.stage ≡ lent.now.stage.now }
     requires unended { is_ended seat.old.mine ≡ false }
     requires owned { is_played_line (setup_of seat.old.stage) seat.old.session text.now ≡ true }
     requires room { HasRoom seat.old }
@@ -118,15 +102,15 @@ fn read_line<R: Wait, G: Gate>(
     ensures goes_on { GoesOn seat.old seat.new }
     ensures follows { (given : List (ℕ × Line)) → SeatHasRead given seat.old → OnOk result (SeatHasRead (given ++ (number, text.now) ∷ []) seat.new) }
 {
-    let line = text.copy(alloc)?;
+    let line = text.copy(lent.alloc)?;
     if seat.is_closed() {
-        let _ = seat.call(rt, stage, number, line)?;
+        let _ = seat.call(lent.rt, lent.stage, number, line)?;
         return Ok(());
     }
-    pause(rt, stage, gate, seat, number, text);
-    let reply = seat.call(rt, stage, number, line)?;
+    pause(lent, seat, number, text);
+    let reply = seat.call(lent.rt, lent.stage, number, line)?;
     if makes_entry(text) || matches!(reply, Reply::Closed(..)) {
-        gate.passed(seat.session().0, number, &reply);
+        lent.gate.passed(seat.session().0, number, &reply);
     }
     Ok(())
 }
@@ -143,28 +127,24 @@ fn is_session(s: SessionNo, actor: Actor) -> bool
 
 /// Reads the line at a place of the script, where it is the session's.
 fn read_next<R: Wait, G: Gate>(
-    rt: &R,
-    alloc: Global,
-    stage: &Stage,
-    script: &Script,
-    gate: &G,
+    lent: &Lent<R, G>,
     seat: &mut SessionSeat,
     place: usize,
 ) -> Result<(), NoMemory>
-    requires place { place < length script.now.lines }
-    requires playable { is_playable script.now ≡ true }
-    requires of { IsStageOf stage.now script.now }
-    requires stands { SessionStands script.now stage.now seat.old.session place seat.old }
-    ensures stands { OnOk result (SessionStands script.now stage.now seat.old.session (place + 1) seat.new) }
+    requires place { place < length lent.now.script.now.lines }
+    requires playable { is_playable lent.now.script.now ≡ true }
+    requires of { IsStageOf lent.now.stage.now lent.now.script.now }
+    requires stands { SessionStands lent.now.script.now lent.now.stage.now seat.old.session place seat.old }
+    ensures stands { OnOk result (SessionStands lent.now.script.now lent.now.stage.now seat.old.session (place + 1) seat.new) }
     ensures same { (seat.new.stage ≡ seat.old.stage) × (seat.new.session ≡ seat.old.session) }
 {
-    let line = script.lines.at(place);
+    let line = lent.script.lines.at(place);
     if !is_session(seat.session(), line.actor) {
         return Ok(());
     }
     match &line.body {
         Body::Session(text) => {
-            read_line(rt, alloc, stage, gate, seat, line.number, text)?;
+            read_line(lent, seat, line.number, text)?;
             Ok(())
         }
         _ => Ok(()),
@@ -172,63 +152,43 @@ fn read_next<R: Wait, G: Gate>(
 }
 
 /// Ends the session.
-fn finish<R: Wait, G: Gate>(
-    rt: &R,
-    stage: &Stage,
-    script: &Script,
-    gate: &G,
-    seat: &mut SessionSeat,
-)
-    requires playable { is_playable script.now ≡ true }
-    requires of { IsStageOf stage.now script.now }
-    requires stands { SessionStands script.now stage.now seat.old.session (length script.now.lines) seat.old }
+fn finish<R: Wait, G: Gate>(lent: &Lent<R, G>, seat: &mut SessionSeat)
+    requires playable { is_playable lent.now.script.now ≡ true }
+    requires of { IsStageOf lent.now.stage.now lent.now.script.now }
+    requires stands { SessionStands lent.now.script.now lent.now.stage.now seat.old.session (length lent.now.script.now.lines) seat.old }
     ensures same { (seat.new.stage ≡ seat.old.stage) × (seat.new.session ≡ seat.old.session) }
-    ensures read { IsReading script.now.setup script.now.count (session_lines seat.old.session script.now.lines) (history_of seat.new.mine) }
+    ensures read { IsReading lent.now.script.now.setup lent.now.script.now.count (session_lines seat.old.session lent.now.script.now.lines) (history_of seat.new.mine) }
 {
     let SessionNo(actor) = seat.session();
-    let number = script.count + 1;
-    ask(gate, actor, number, ASKS);
-    let reply = seat.end(rt, stage, number);
-    gate.passed(actor, number, &reply);
+    let number = lent.script.count + 1;
+    ask(lent.gate, actor, number, ASKS);
+    let reply = seat.end(lent.rt, lent.stage, number);
+    lent.gate.passed(actor, number, &reply);
 }
 
 /// Reads all lines of the session, and ends it.
-fn read_all<R: Wait, G: Gate>(
-    rt: &R,
-    alloc: Global,
-    stage: &Stage,
-    script: &Script,
-    gate: &G,
-    seat: &mut SessionSeat,
-) -> Result<(), NoMemory>
-    requires playable { is_playable script.now ≡ true }
-    requires of { IsStageOf stage.now script.now }
-    requires fresh { seat.old ≡ fresh_view stage.now seat.old.session }
+fn read_all<R: Wait, G: Gate>(lent: &Lent<R, G>, seat: &mut SessionSeat) -> Result<(), NoMemory>
+    requires playable { is_playable lent.now.script.now ≡ true }
+    requires of { IsStageOf lent.now.stage.now lent.now.script.now }
+    requires fresh { seat.old ≡ fresh_view lent.now.stage.now seat.old.session }
     ensures same { (seat.new.stage ≡ seat.old.stage) × (seat.new.session ≡ seat.old.session) }
-    ensures read { OnOk result (IsReading script.now.setup script.now.count (session_lines seat.old.session script.now.lines) (history_of seat.new.mine)) }
+    ensures read { OnOk result (IsReading lent.now.script.now.setup lent.now.script.now.count (session_lines seat.old.session lent.now.script.now.lines) (history_of seat.new.mine)) }
 {
     lines_are_read();
-    for place in 0..script.lines.len() {
-        read_next(rt, alloc, stage, script, gate, seat, place)?;
+    for place in 0..lent.script.lines.len() {
+        read_next(lent, seat, place)?;
     }
-    finish(rt, stage, script, gate, seat);
+    finish(lent, seat);
     Ok(())
 }
 
 /// Runs a session. Where it finds no memory, it makes no further entry.
-pub(crate) fn run<R: Wait, G: Gate>(
-    rt: &R,
-    alloc: Global,
-    stage: &Stage,
-    script: &Script,
-    gate: &G,
-    mut seat: SessionSeat,
-) -> Back
-    requires playable { is_playable script.now ≡ true }
-    requires of { IsStageOf stage.now script.now }
-    requires fresh { seat ≡ fresh_view stage.now seat.session }
-    ensures { HasRun stage.now script.now seat.session result }
+pub(crate) fn run<R: Wait, G: Gate>(lent: &Lent<R, G>, mut seat: SessionSeat) -> Back
+    requires playable { is_playable lent.now.script.now ≡ true }
+    requires of { IsStageOf lent.now.stage.now lent.now.script.now }
+    requires fresh { seat ≡ fresh_view lent.now.stage.now seat.session }
+    ensures { HasRun lent.now.stage.now lent.now.script.now seat.session result }
 {
-    let is_whole = read_all(rt, alloc, stage, script, gate, &mut seat).is_ok();
+    let is_whole = read_all(lent, &mut seat).is_ok();
     Back { seat, is_whole }
 }

@@ -4,6 +4,7 @@ ghost use Rattle.flat_stage.specs.Homes.{AreFresh, fresh_view};
 ghost use Rattle.flat_race.specs.Sessions.{AreBack, AreOut, HasRun, IsOut, IsStageOf};
 
 use crate::gate::Gate;
+use crate::lent::Lent;
 use crate::session::{Back, run};
 use flat_base::{NoMemory, SessionNo};
 use flat_places::Script;
@@ -35,12 +36,12 @@ pub(crate) enum Out<'a> {
 
 impl<'a> Out<'a> {
     /// Waits until the session's run is over.
-    fn wait<R: Threads>(self, rt: &R, stage: &Stage, script: &Script, session: SessionNo) -> Back
-        requires { IsOut stage.now script.now session self }
-        ensures { HasRun stage.now script.now session result }
+    fn wait<R: Threads, G>(self, lent: &Lent<R, G>, session: SessionNo) -> Back
+        requires { IsOut lent.now.stage.now lent.now.script.now session self }
+        ensures { HasRun lent.now.stage.now lent.now.script.now session result }
     {
         match self {
-            Out::Thread(handle) => handle.join(rt),
+            Out::Thread(handle) => handle.join(lent.rt),
             Out::Here(back) => back,
         }
     }
@@ -71,7 +72,16 @@ fn start<'s, E, R: Threads + Wait + Sync, G: Gate>(
         move || -> Back
             requires { (is_playable script.now ≡ true) × IsStageOf stage.now script.now × (seat ≡ fresh_view stage.now seat.session) }
             ensures { HasRun stage.entry.now script.entry.now seat.session result }
-        { run(rt, alloc, stage, script, gate, seat) },
+        {
+            let lent = Lent {
+                rt,
+                alloc,
+                stage,
+                script,
+                gate,
+            };
+            run(&lent, seat)
+        },
     ) {
         Ok(handle) => Out::Thread(handle),
         Err(refused) => Out::Here((refused.value)()),
@@ -81,27 +91,32 @@ fn start<'s, E, R: Threads + Wait + Sync, G: Gate>(
 /// Starts each session. The seats are handed out, the first session's first.
 pub(crate) fn start_each<'s, E, R: Threads + Wait + Sync, G: Gate>(
     scope: &Scope<'s, E>,
-    rt: &'s R,
-    alloc: Global,
-    stage: &'s Stage,
-    script: &'s Script,
-    gate: &'s G,
+    lent: &Lent<'s, R, G>,
     seats: &mut SessionSeats,
 ) -> Result<Vec<Out<'s>>, NoMemory>
-    requires playable { is_playable script.now ≡ true }
-    requires of { IsStageOf stage.now script.now }
-    requires own { seats.old.stage ≡ stage.now }
-    requires fresh { AreFresh stage.now script.now.setup.sessions seats.old.seats }
-    ensures out { IfOk result (λ out. AreOut stage.now script.now script.now.setup.sessions out.items) }
+    requires playable { is_playable lent.now.script.now ≡ true }
+    requires of { IsStageOf lent.now.stage.now lent.now.script.now }
+    requires own { seats.old.stage ≡ lent.now.stage.now }
+    requires fresh { AreFresh lent.now.stage.now lent.now.script.now.setup.sessions seats.old.seats }
+    ensures out { IfOk result (λ out. AreOut lent.now.stage.now lent.now.script.now lent.now.script.now.setup.sessions out.items) }
     ensures own { seats.new.stage ≡ seats.old.stage }
     ensures count { length seats.new.seats ≡ length seats.old.seats }
 {
-    let mut out = Vec::with_capacity(alloc, script.setup.sessions as usize)?;
-    for before in 0..script.setup.sessions {
+    let mut out = Vec::with_capacity(lent.alloc, lent.script.setup.sessions as usize)?;
+    for before in 0..lent.script.setup.sessions {
         let Some(seat) = seats.take(SessionNo(before + 1)) else {
             unreachable!()
         };
-        let Ok(()) = out.push(start(scope, rt, alloc, stage, script, gate, seat)) else {
+        let started = start(
+            scope,
+            lent.rt,
+            lent.alloc,
+            lent.stage,
+            lent.script,
+            lent.gate,
+            seat,
+        );
+        let Ok(()) = out.push(started) else {
             unreachable!()
         };
     }
@@ -116,24 +131,22 @@ fn both(first: bool, second: bool) -> bool
 
 /// Waits for each session, the last first, and puts its seat back. Whether all came
 /// to their End.
-pub(crate) fn put_back<'s, R: Threads>(
-    rt: &R,
-    stage: &Stage,
-    script: &Script,
+pub(crate) fn put_back<'s, R: Threads, G>(
+    lent: &Lent<R, G>,
     seats: &mut SessionSeats,
     mut out: Vec<Out<'s>>,
 ) -> bool
-    requires playable { is_playable script.now ≡ true }
-    requires out { AreOut stage.now script.now script.now.setup.sessions out.items }
-    requires own { seats.old.stage ≡ stage.now }
-    requires count { length seats.old.seats ≡ script.now.setup.sessions }
+    requires playable { is_playable lent.now.script.now ≡ true }
+    requires out { AreOut lent.now.stage.now lent.now.script.now lent.now.script.now.setup.sessions out.items }
+    requires own { seats.old.stage ≡ lent.now.stage.now }
+    requires count { length seats.old.seats ≡ lent.now.script.now.setup.sessions }
     ensures own { seats.new.stage ≡ seats.old.stage }
-    ensures back { AreBack stage.now script.now 0 result seats.new.seats }
+    ensures back { AreBack lent.now.stage.now lent.now.script.now 0 result seats.new.seats }
 {
     let mut are_whole = true;
     while let Some(last) = out.pop() {
         let session = SessionNo(out.len() as u32 + 1);
-        let Back { seat, is_whole } = last.wait(rt, stage, script, session);
+        let Back { seat, is_whole } = last.wait(lent, session);
         are_whole = both(are_whole, is_whole);
         seats.put(seat);
     }

@@ -6,7 +6,7 @@ use Rattle.flat_race.proofs.director.direct.Given as goal
 
 abbrev pub invariant-loop-place : goal.invariant-loop-place
 invariant-loop-place g l = record {
-  stands : HandStands l.script l.stage l.place l.hand l.film;
+  stands : HandStands l.lent.script.now l.lent.stage.now l.place l.hand l.film;
   seen : HaveSeen (λ b. (goal.Display-dyn g (b.vtable, b.value)).shown b.value) (λ b. (goal.Display-dyn g (b.vtable, b.value)).faults b.value) l.film.frames.items (history_of (hand_seat l.hand).seen) l.film.set.lost l.initial.displays.items
       l.displays.items;
   number : length l.displays.items ≡ l.film.set.displays;

@@ -19,16 +19,16 @@ use Rattle.flat_play.proofs.lemmas.Places.{setup_is}
 use Rattle.flat_play.proofs.lemmas.Seen.{finished_length}
 use Rattle.flat_play.proofs.lemmas.Starting.{few_sessions}
 use Rattle.flat_play.proofs.lemmas.Steps.{At, at_place}
-use Rattle.flat_race.specs.declared.director.Hand.{Hand}
-use Rattle.flat_race.specs.declared.director.Hand.TheVariants.{Idle, Open}
+use Rattle.flat_race.specs.declared.hand.Hand.{Hand}
+use Rattle.flat_race.specs.declared.hand.Hand.TheVariants.{Idle, Open}
 use Rattle.flat_race.specs.Directing.{HandStands, hand_seat}
 use Rattle.flat_race.proofs.HandSteps.{begins_idle, finishes_open, frames_few, hand_begins, hand_finishes, hand_hits, hand_looks, hand_room, hand_signals, hand_waits, looked_there, time_fits, wait_fits}
 use Rattle.flat_race.proofs.director.direct_line.Goals as goal
 
 pub into_seat-requires : goal.into_seat-requires
 into_seat-requires g c =
-    let script = c.args.script.now in
-    let view = c.args.stage.now in
+    let script = c.args.lent.now.script.now in
+    let view = c.args.lent.now.stage.now in
     let x : ScriptLine = record { number = c.args.number; actor = Display; body = body.Display c.args.text } in
     let at : At script c.args.place x = at_place script c.args.place x c.requires.playable c.requires.line in
     let is : x.body ≡ body.Display (display.Begin c.in-Begin.time) = ap (λ t. body.Display t) c.in-Begin.is in
@@ -36,8 +36,8 @@ into_seat-requires g c =
 
 pub begin-frame-requires-clause-room : goal.begin-frame-requires-clause-room
 begin-frame-requires-clause-room g c κs within =
-    let script = c.args.script.now in
-    let view = c.args.stage.now in
+    let script = c.args.lent.now.script.now in
+    let view = c.args.lent.now.stage.now in
     let x : ScriptLine = record { number = c.args.number; actor = Display; body = body.Display c.args.text } in
     let at : At script c.args.place x = at_place script c.args.place x c.requires.playable c.requires.line in
     let idle : HandStands script view c.args.place (Idle c.into_seat.result) c.args.film.now = subst (λ (h : Hand). HandStands script view c.args.place h c.args.film.now) (sym c.into_seat.ensures) c.requires.stands in
@@ -45,8 +45,8 @@ begin-frame-requires-clause-room g c κs within =
 
 pub begin-frame-requires-clause-time : goal.begin-frame-requires-clause-time
 begin-frame-requires-clause-time g c κs within =
-    let script = c.args.script.now in
-    let view = c.args.stage.now in
+    let script = c.args.lent.now.script.now in
+    let view = c.args.lent.now.stage.now in
     let x : ScriptLine = record { number = c.args.number; actor = Display; body = body.Display c.args.text } in
     let at : At script c.args.place x = at_place script c.args.place x c.requires.playable c.requires.line in
     let is : x.body ≡ body.Display (display.Begin c.in-Begin.time) = ap (λ t. body.Display t) c.in-Begin.is in
@@ -55,8 +55,8 @@ begin-frame-requires-clause-time g c κs within =
 
 pub into_frame-frame-requires : goal.into_frame-frame-requires
 into_frame-frame-requires g c =
-    let script = c.args.script.now in
-    let view = c.args.stage.now in
+    let script = c.args.lent.now.script.now in
+    let view = c.args.lent.now.stage.now in
     let x : ScriptLine = record { number = c.args.number; actor = Display; body = body.Display c.args.text } in
     let at : At script c.args.place x = at_place script c.args.place x c.requires.playable c.requires.line in
     let is : x.body ≡ body.Display (display.Done) = ap (λ t. body.Display t) c.in-Done.is in
@@ -64,8 +64,8 @@ into_frame-frame-requires g c =
 
 pub finish-requires-clause-room : goal.finish-requires-clause-room
 finish-requires-clause-room g c κs within =
-    let script = c.args.script.now in
-    let view = c.args.stage.now in
+    let script = c.args.lent.now.script.now in
+    let view = c.args.lent.now.stage.now in
     let x : ScriptLine = record { number = c.args.number; actor = Display; body = body.Display c.args.text } in
     let at : At script c.args.place x = at_place script c.args.place x c.requires.playable c.requires.line in
     let held : HandStands script view c.args.place (Open c.into_frame-frame.result) c.args.film.now = subst (λ (h : Hand). HandStands script view c.args.place h c.args.film.now) (sym c.into_frame-frame.ensures) c.requires.stands in
@@ -73,8 +73,8 @@ finish-requires-clause-room g c κs within =
 
 pub finish-requires-clause-counted : goal.finish-requires-clause-counted
 finish-requires-clause-counted g c κs within =
-    let script = c.args.script.now in
-    let view = c.args.stage.now in
+    let script = c.args.lent.now.script.now in
+    let view = c.args.lent.now.stage.now in
     let x : ScriptLine = record { number = c.args.number; actor = Display; body = body.Display c.args.text } in
     let at : At script c.args.place x = at_place script c.args.place x c.requires.playable c.requires.line in
     let held : HandStands script view c.args.place (Open c.into_frame-frame.result) c.args.film.now = subst (λ (h : Hand). HandStands script view c.args.place h c.args.film.now) (sym c.into_frame-frame.ensures) c.requires.stands in
@@ -82,8 +82,8 @@ finish-requires-clause-counted g c κs within =
 
 pub finish-requires-clause-few : goal.finish-requires-clause-few
 finish-requires-clause-few g c κs within =
-    let script = c.args.script.now in
-    let view = c.args.stage.now in
+    let script = c.args.lent.now.script.now in
+    let view = c.args.lent.now.stage.now in
     let x : ScriptLine = record { number = c.args.number; actor = Display; body = body.Display c.args.text } in
     let at : At script c.args.place x = at_place script c.args.place x c.requires.playable c.requires.line in
     let held : HandStands script view c.args.place (Open c.into_frame-frame.result) c.args.film.now = subst (λ (h : Hand). HandStands script view c.args.place h c.args.film.now) (sym c.into_frame-frame.ensures) c.requires.stands in
@@ -91,16 +91,16 @@ finish-requires-clause-few g c κs within =
 
 pub signal-reply-requires-clause-room : goal.signal-reply-requires-clause-room
 signal-reply-requires-clause-room g c =
-    let script = c.args.script.now in
-    let view = c.args.stage.now in
+    let script = c.args.lent.now.script.now in
+    let view = c.args.lent.now.stage.now in
     let x : ScriptLine = record { number = c.args.number; actor = Display; body = body.Display c.args.text } in
     let at : At script c.args.place x = at_place script c.args.place x c.requires.playable c.requires.line in
     hand_room script view c.args.place x at refl c.requires.of (hand_seat c.args.hand) c.requires.stands.seat
 
 pub signal-reply-requires-clause-named : goal.signal-reply-requires-clause-named
 signal-reply-requires-clause-named g c =
-    let script = c.args.script.now in
-    let view = c.args.stage.now in
+    let script = c.args.lent.now.script.now in
+    let view = c.args.lent.now.stage.now in
     let x : ScriptLine = record { number = c.args.number; actor = Display; body = body.Display c.args.text } in
     let at : At script c.args.place x = at_place script c.args.place x c.requires.playable c.requires.line in
     let D : DisplayLine → Type 0 = λ t. is_played_display script.setup t ≡ true in
@@ -109,8 +109,8 @@ signal-reply-requires-clause-named g c =
 
 pub look_again-requires-clause-may : goal.look_again-requires-clause-may
 look_again-requires-clause-may g c κs within =
-    let script = c.args.script.now in
-    let view = c.args.stage.now in
+    let script = c.args.lent.now.script.now in
+    let view = c.args.lent.now.stage.now in
     let x : ScriptLine = record { number = c.args.number; actor = Display; body = body.Display c.args.text } in
     let at : At script c.args.place x = at_place script c.args.place x c.requires.playable c.requires.line in
     let D : DisplayLine → Type 0 = λ t. is_played_display script.setup t ≡ true in
@@ -120,8 +120,8 @@ look_again-requires-clause-may g c κs within =
 
 pub wait-reply-requires-clause-room : goal.wait-reply-requires-clause-room
 wait-reply-requires-clause-room g c =
-    let script = c.args.script.now in
-    let view = c.args.stage.now in
+    let script = c.args.lent.now.script.now in
+    let view = c.args.lent.now.stage.now in
     let x : ScriptLine = record { number = c.args.number; actor = Display; body = body.Display c.args.text } in
     let at : At script c.args.place x = at_place script c.args.place x c.requires.playable c.requires.line in
     let looked = hand_looks script view c.args.place c.args.hand c.look_again.new.hand c.args.film.now (looked_there _ _ _ _ c.requires.of.setup c.look_again.ensures) c.requires.stands in
@@ -129,8 +129,8 @@ wait-reply-requires-clause-room g c =
 
 pub wait-reply-requires-clause-acts : goal.wait-reply-requires-clause-acts
 wait-reply-requires-clause-acts g c =
-    let script = c.args.script.now in
-    let view = c.args.stage.now in
+    let script = c.args.lent.now.script.now in
+    let view = c.args.lent.now.stage.now in
     let x : ScriptLine = record { number = c.args.number; actor = Display; body = body.Display c.args.text } in
     let at : At script c.args.place x = at_place script c.args.place x c.requires.playable c.requires.line in
     let D : DisplayLine → Type 0 = λ t. is_played_display script.setup t ≡ true in
@@ -138,8 +138,8 @@ wait-reply-requires-clause-acts g c =
 
 pub wait-reply-requires-clause-named : goal.wait-reply-requires-clause-named
 wait-reply-requires-clause-named g c =
-    let script = c.args.script.now in
-    let view = c.args.stage.now in
+    let script = c.args.lent.now.script.now in
+    let view = c.args.lent.now.stage.now in
     let x : ScriptLine = record { number = c.args.number; actor = Display; body = body.Display c.args.text } in
     let at : At script c.args.place x = at_place script c.args.place x c.requires.playable c.requires.line in
     let D : DisplayLine → Type 0 = λ t. is_played_display script.setup t ≡ true in
@@ -149,16 +149,16 @@ wait-reply-requires-clause-named g c =
 
 pub hit-requires-clause-room : goal.hit-requires-clause-room
 hit-requires-clause-room g c κs within =
-    let script = c.args.script.now in
-    let view = c.args.stage.now in
+    let script = c.args.lent.now.script.now in
+    let view = c.args.lent.now.stage.now in
     let x : ScriptLine = record { number = c.args.number; actor = Display; body = body.Display c.args.text } in
     let at : At script c.args.place x = at_place script c.args.place x c.requires.playable c.requires.line in
     hand_room script view c.args.place x at refl c.requires.of (hand_seat c.args.hand) c.requires.stands.seat
 
 pub returns-in-Begin-clause-stands : goal.returns-in-Begin-clause-stands
 returns-in-Begin-clause-stands g c =
-    let script = c.args.script.now in
-    let view = c.args.stage.now in
+    let script = c.args.lent.now.script.now in
+    let view = c.args.lent.now.stage.now in
     let x : ScriptLine = record { number = c.args.number; actor = Display; body = body.Display c.args.text } in
     let at : At script c.args.place x = at_place script c.args.place x c.requires.playable c.requires.line in
     let is : x.body ≡ body.Display (display.Begin c.in-Begin.time) = ap (λ t. body.Display t) c.in-Begin.is in
@@ -167,8 +167,8 @@ returns-in-Begin-clause-stands g c =
 
 pub returns-in_ok-seat-in-Done-clause-stands : goal.returns-in_ok-seat-in-Done-clause-stands
 returns-in_ok-seat-in-Done-clause-stands g c =
-    let script = c.args.script.now in
-    let view = c.args.stage.now in
+    let script = c.args.lent.now.script.now in
+    let view = c.args.lent.now.stage.now in
     let x : ScriptLine = record { number = c.args.number; actor = Display; body = body.Display c.args.text } in
     let at : At script c.args.place x = at_place script c.args.place x c.requires.playable c.requires.line in
     let is : x.body ≡ body.Display (display.Done) = ap (λ t. body.Display t) c.in-Done.is in
@@ -177,8 +177,8 @@ returns-in_ok-seat-in-Done-clause-stands g c =
 
 pub returns-in-Signal-clause-stands : goal.returns-in-Signal-clause-stands
 returns-in-Signal-clause-stands g c =
-    let script = c.args.script.now in
-    let view = c.args.stage.now in
+    let script = c.args.lent.now.script.now in
+    let view = c.args.lent.now.stage.now in
     let x : ScriptLine = record { number = c.args.number; actor = Display; body = body.Display c.args.text } in
     let at : At script c.args.place x = at_place script c.args.place x c.requires.playable c.requires.line in
     let is : x.body ≡ body.Display (display.Signal c.in-Signal.f) = ap (λ t. body.Display t) c.in-Signal.is in
@@ -186,8 +186,8 @@ returns-in-Signal-clause-stands g c =
 
 pub returns-in-Wait-clause-stands : goal.returns-in-Wait-clause-stands
 returns-in-Wait-clause-stands g c =
-    let script = c.args.script.now in
-    let view = c.args.stage.now in
+    let script = c.args.lent.now.script.now in
+    let view = c.args.lent.now.stage.now in
     let x : ScriptLine = record { number = c.args.number; actor = Display; body = body.Display c.args.text } in
     let at : At script c.args.place x = at_place script c.args.place x c.requires.playable c.requires.line in
     let is : x.body ≡ body.Display (display.Wait c.in-Wait.c) = ap (λ t. body.Display t) c.in-Wait.is in
@@ -196,8 +196,8 @@ returns-in-Wait-clause-stands g c =
 
 pub returns-in_ok-hit-in-Hit-clause-stands : goal.returns-in_ok-hit-in-Hit-clause-stands
 returns-in_ok-hit-in-Hit-clause-stands g c =
-    let script = c.args.script.now in
-    let view = c.args.stage.now in
+    let script = c.args.lent.now.script.now in
+    let view = c.args.lent.now.stage.now in
     let x : ScriptLine = record { number = c.args.number; actor = Display; body = body.Display c.args.text } in
     let at : At script c.args.place x = at_place script c.args.place x c.requires.playable c.requires.line in
     let is : x.body ≡ body.Display (display.Hit c.in-Hit.x c.in-Hit.y) = ap (λ t. body.Display t) c.in-Hit.is in

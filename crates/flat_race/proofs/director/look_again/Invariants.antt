@@ -4,4 +4,4 @@ use Rattle.flat_race.specs.Directing.{HasLooked, hand_seat}
 use Rattle.flat_race.proofs.director.look_again.Given as goal
 
 abbrev pub invariant-loop : goal.invariant-loop
-invariant-loop g l = ((hand_seat l.hand).stage ≡ l.stage) × HasLooked (setup_of l.stage) l.fn.hand l.hand
+invariant-loop g l = ((hand_seat l.hand).stage ≡ l.lent.stage.now) × HasLooked (setup_of l.lent.stage.now) l.fn.hand l.hand

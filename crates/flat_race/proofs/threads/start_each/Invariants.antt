@@ -4,8 +4,8 @@ use Rattle.flat_race.proofs.threads.start_each.Given as goal
 
 abbrev pub invariant-loop-before : goal.invariant-loop-before
 invariant-loop-before g l = record {
-  own : l.seats.stage ≡ l.stage;
-  left : AreLeft l.stage l.script.setup.sessions l.before l.seats.seats;
-  out : AreOut l.stage l.script l.before l.out.items;
-  room : l.script.setup.sessions ≤ vec_capacity l.out;
+  own : l.seats.stage ≡ l.lent.stage.now;
+  left : AreLeft l.lent.stage.now l.lent.script.now.setup.sessions l.before l.seats.seats;
+  out : AreOut l.lent.stage.now l.lent.script.now l.before l.out.items;
+  room : l.lent.script.now.setup.sessions ≤ vec_capacity l.out;
 }
