@@ -1,11 +1,15 @@
 -- What a focus chain is, whatever happened.
-use Rattle.std.specs.Prelude.{◌≡◌, ℕ, Bool, true, false, ◌&&◌, ◌==◌, IsTrue, List, [], ◌∷◌, Option, Some, None}
-use Rattle.std.specs.List.{list_any}
+use Rattle.std.specs.Prelude.{◌≡◌, ℕ, Bool, true, false, ◌&&◌, ◌==◌, IsTrue, List, [], ◌∷◌, ◌++◌, Option, Some, None}
+use Rattle.std.specs.List.{list_all, list_any}
 use Rattle.flat_base.specs.declared.ids.SessionNo.{SessionNo}
+use Rattle.flat_scene.specs.declared.frames.FrameOut.{FrameOut}
 use Rattle.flat_scene.specs.declared.frames.ViewNode.{ViewNode}
 use Rattle.flat_scene.specs.ViewTrees.{is_node, is_tree}
+use Rattle.flat_page.specs.Happenings.{Happening, merged, after_all}
+use Rattle.flat_focus.specs.declared.text.FocusLine.{FocusLine}
 use Rattle.flat_focus.specs.Chains.{Focusing, root_of, path_to, is_granted, unfocused, framed, asked}
 use Rattle.flat_focus.specs.Events.{FocusEvent, frame, ask, nodes_after, chain_after}
+use Rattle.flat_focus.specs.Text.{event_of}
 
 -- ---- the calls
 
@@ -78,6 +82,15 @@ pub record IsChain (nodes : List ViewNode) (chain : List SessionNo) : Type 0 whe
 
 abbrev pub ChainsArePaths : Type 0
 ChainsArePaths = (events : List FocusEvent) → IsTrue (are_trees events) → IsChain (nodes_after events) (chain_after events)
+
+-- the events of what happens in a text, the newest first
+abbrev pub events_of : List (Happening FocusLine) → List FocusEvent
+events_of happenings = after_all (λ one before. event_of one ∷ before) happenings []
+
+-- so in a text whose frames have view trees, wherever it stands
+abbrev pub ChainsInTexts : Type 0
+ChainsInTexts = (dones : List ℕ) (frames : List FrameOut) (lines : List FocusLine) → IsTrue (list_all (λ out. is_tree out.tree.nodes) frames)
+    → (early late : List (Happening FocusLine)) → merged (λ line. line.number) dones frames lines ≡ early ++ late → IsChain (nodes_after (events_of early)) (chain_after (events_of early))
 
 -- the focus is given by a node to a node
 abbrev pub NodesGive : Type 0
