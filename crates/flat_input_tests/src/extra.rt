@@ -9,12 +9,14 @@ use std::test::Fail;
 const HEAD: &str = "flatland 1\ndisplay 9 9\nsession A\nsession B\npair t0 display A\nrun\n";
 
 // What follows HEAD, and the line and the kind of its fault, or 0 and the number of extra lines.
-const FOCUS: [(&str, u32, u32); 9] = [
+const FOCUS: [(&str, u32, u32); 10] = [
     ("A Focus B\nA Clear\nB Focus A", 0, 2),
     // a remark
     ("# Focus x\nA Focus B\n", 0, 1),
-    // not ASCII
+    // a byte that has no sign
     ("A Focus B\r\n", 7, 2),
+    // not ASCII
+    ("A Focus \u{e9}\n", 7, 2),
     // the other set
     ("display Up 0\n", 7, 6),
     // the rest is no script
@@ -91,9 +93,12 @@ fn pointer_lines(rt: HostRuntime) -> Result<(), Fail> {
 }
 
 // What follows HEAD, what follows that and how often, and the outcome.
-const REPEATED: [(&str, &str, u32, u32, u32); 4] = [
+const REPEATED: [(&str, &str, u32, u32, u32); 6] = [
     ("", "A Focus B\n", 65_536, 0, 65_536),
     ("", "A Focus B\n", 65_537, 65_543, 11),
+    // a text of 16 MiB, and one of a byte more
+    ("", "\n", 16_777_151, 0, 0),
+    ("", "\n", 16_777_152, 0, 1),
     // a line of 1,024 bytes is extra, and a longer one isn't
     ("A Focus ", "x", 1_016, 7, 9),
     ("A Focus ", "x", 1_017, 7, 3),

@@ -1,6 +1,6 @@
 ghost use Rattle.std.specs.Prelude.{◌≡◌, ◌≤◌, length, OnOk};
 
-use crate::frames::tree;
+use crate::frames::{frame, tree, two_names};
 use flat_base::{Items, NoMemory, SessionNo};
 use flat_focus::{Focus, FocusAnswer, FocusLine, print_focus};
 use std::alloc::Global;
@@ -65,6 +65,28 @@ fn a_request_before_any_frame_is_denied(rt: HostRuntime) -> Result<(), Fail> {
     };
     let text = print_focus(alloc, 3, &Items::new(alloc), &[], &[], &[line])?;
     let expected = b"focus 7   denied chain\nfocus ends requests 1\n";
+    assert_eq!(rt; text.as_slice(), expected.as_slice());
+    Ok(())
+}
+
+#[test]
+fn text_of_frames_and_lines(rt: HostRuntime) -> Result<(), Fail> {
+    let alloc = rt.alloc();
+    let frames = [
+        frame(alloc, 1, &[(1, 0), (2, 1)])?,
+        frame(alloc, 2, &[(1, 0)])?,
+    ];
+    let line = FocusLine {
+        number: 8,
+        by: SessionNo(1),
+        of: SessionNo(2),
+    };
+    let text = print_focus(alloc, 2, &two_names(alloc)?, &[7, 9], &frames, &[line])?;
+    let expected = b"frame 1 chain A
+focus 8 A B granted chain A B
+frame 2 chain A
+focus ends requests 1
+";
     assert_eq!(rt; text.as_slice(), expected.as_slice());
     Ok(())
 }

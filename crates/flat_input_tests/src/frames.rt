@@ -1,6 +1,7 @@
 ghost use Rattle.std.specs.Prelude.{◌≡◌, length, IfOk};
 
 use flat_base::{FrameNo, Items, NoMemory, Rect, SessionNo};
+use flat_places::{Name, NameList};
 use flat_scene::{FrameOut, ViewNode, ViewTree};
 use std::alloc::Global;
 
@@ -34,10 +35,20 @@ pub fn tree(alloc: Global, rows: &[(u32, u32)]) -> Result<ViewTree, NoMemory>
 }
 
 /// The frame of a number with such a view tree, and nothing drawn.
-pub fn frame(alloc: Global, number: u32, rows: &[(u32, u32)]) -> Result<FrameOut, NoMemory> {
+pub fn frame(alloc: Global, number: u32, rows: &[(u32, u32)]) -> Result<FrameOut, NoMemory>
+    ensures { IfOk result (λ frame. length frame.tree.nodes ≡ length rows.now) }
+{
     Ok(FrameOut {
         frame: FrameNo(number),
         items: Items::new(alloc),
         tree: tree(alloc, rows)?,
     })
+}
+
+/// The names of two sessions.
+pub fn two_names(alloc: Global) -> Result<NameList, NoMemory> {
+    let mut names = Items::new(alloc);
+    names.push(Name::new(b"A"))?;
+    names.push(Name::new(b"B"))?;
+    Ok(names)
 }

@@ -1,6 +1,10 @@
-use crate::frames::{frame, tree};
+ghost use Rattle.std.specs.Prelude.{◌≡◌, IfOk};
+
+use crate::frames::{frame, tree, two_names};
 use flat_base::{Items, NoMemory, SessionNo};
-use flat_pointer::{POINTERS, PointerAnswer, Pointers, print_pointers};
+use flat_pointer::{
+    POINTERS, PointerAnswer, PointerCall, PointerLine, Pointers, Touch, print_pointers,
+};
 use flat_scene::{Hit, HitList, Interaction};
 use std::alloc::Global;
 use std::test::Fail;
@@ -103,6 +107,48 @@ fn text_without_lines(rt: HostRuntime) -> Result<(), Fail> {
     let frames = [frame(alloc, 1, &[(1, 0)])?];
     let text = print_pointers(alloc, &Items::new(alloc), &[9], &frames, &[])?;
     let expected = b"frame 1\npointer ends lines 0\n";
+    assert_eq!(rt; text.as_slice(), expected.as_slice());
+    Ok(())
+}
+
+/// A line of pointer 3, and whom its point hits.
+fn touch(alloc: Global, number: u32, call: PointerCall, sessions: &[u32]) -> Result<Touch, NoMemory>
+    ensures { IfOk result (λ touch. touch.line.pointer ≡ 3) }
+{
+    let line = PointerLine {
+        number,
+        pointer: 3,
+        call,
+    };
+    Ok(Touch {
+        line,
+        hits: hits(alloc, sessions)?,
+    })
+}
+
+#[test]
+fn text_of_frames_and_lines(rt: HostRuntime) -> Result<(), Fail> {
+    let alloc = rt.alloc();
+    let frames = [
+        frame(alloc, 1, &[(1, 0), (2, 1)])?,
+        frame(alloc, 2, &[(1, 0)])?,
+    ];
+    let touches = [
+        touch(alloc, 8, PointerCall::Down { x: 5, y: 5 }, &[2, 1])?,
+        touch(alloc, 9, PointerCall::Move { x: 3, y: -4 }, &[])?,
+        touch(alloc, 10, PointerCall::Down { x: 1, y: 1 }, &[1])?,
+        touch(alloc, 12, PointerCall::Up, &[])?,
+    ];
+    let text = print_pointers(alloc, &two_names(alloc)?, &[7, 11], &frames, &touches)?;
+    let expected = b"frame 1
+pointer 8 3 down B
+pointer 9 3 move B 3 -4
+pointer 10 3 busy
+frame 2
+cancel 2 3 B
+pointer 12 3 nobody
+pointer ends lines 4
+";
     assert_eq!(rt; text.as_slice(), expected.as_slice());
     Ok(())
 }
