@@ -22,8 +22,7 @@ pub damaged-more : {E : Type 0} (before : List DrawItem) (frames : List FrameOut
     → OnOk r ((more : List Damaged) × (new ≡ found ++ more) × AreDamaged before frames more)
 damaged-more before frames frame one found mid new (Err e) some at number damage is later = tt
 damaged-more before frames frame one found mid new (Ok done) some at number damage is later =
-    let parts : frames ≡ frame ∷ left frames = parted frames frame some ∙ ap (λ (f : FrameOut). f ∷ left frames) (sym at) in
-    (
+    let parts : frames ≡ frame ∷ left frames = parted frames frame some ∙ ap (λ (f : FrameOut). f ∷ left frames) (sym at) in (
       one ∷ later.0,
       later.1 ∙ ap (λ ds. ds ++ later.0) is ∙ append_assoc found (one ∷ []) later.0,
       subst (λ fs. AreDamaged before fs (one ∷ later.0)) (sym parts) (next number damage later.2),
