@@ -1,10 +1,15 @@
 -- What the texts of a run ask for.
-use Rattle.std.proofs.Common.{◌≡◌, ℕ, suc, ◌<◌, ◌≤◌, Bool, true, false, cond, nat_lt, nat_le, ◌&&◌, List, [], ◌∷◌, ◌++◌, length, reverse, refl, sym, ap, ◌∙◌, subst, arith}
+use Rattle.std.proofs.Common.{◌≡◌, ℕ, zero, suc, ◌<◌, ◌≤◌, Bool, true, false, cond, nat_lt, nat_le, ◌&&◌, List, [], ◌∷◌, ◌++◌, length, map, reverse, refl, sym, ap, ◌∙◌, subst, arith}
 use Rattle.std.specs.List.{All}
 use Rattle.std.proofs.lemmas.Bool.Decides.{nat_tests}
 use Rattle.std.proofs.lemmas.Grind.{common_steps}
 use Rattle.std.proofs.lemmas.List.Elements.{All-append}
-use Rattle.flat_base.proofs.lemmas.Tests.{and-left, and-right}
+use Rattle.std.specs.List.{list_all}
+use Rattle.flat_base.proofs.lemmas.Tests.{and-left, and-right, and-true}
+use Rattle.flat_play.specs.Touches.{touch_of}
+use Rattle.flat_pointer.specs.declared.pointers.TheConstants.{POINTERS}
+use Rattle.flat_pointer.specs.declared.text.PointerLine.{PointerLine}
+use Rattle.flat_pointer.specs.declared.text.Touch.{Touch}
 use Rattle.flat_drawable.specs.Drawable.{IsDrawable}
 use Rattle.flat_rules.specs.Drawable.{ItemsAreDrawable}
 use Rattle.flat_rules.specs.Ends.{to_begin}
@@ -20,7 +25,7 @@ use Rattle.flat_texts.specs.Lines.{finish_lines}
 
 -- the entries of a journal, from its history
 reversed : {A : Type 0} (xs : List A) → xs ≡ reverse (reverse xs)
-reversed xs = grind (common_steps)
+reversed xs = grind (arith, common_steps)
 
 pub lines_of : (entries history : List Entry) → history_of entries ≡ history → finish_lines entries ≡ finish_lines (reverse history)
 lines_of entries history is = ap finish_lines (reversed entries ∙ ap reverse is)
@@ -32,13 +37,13 @@ AreDrawable frame = All IsDrawable frame.items
 pub drawn : ItemsAreDrawable → (setup : Setup) (history : List Entry) → All AreDrawable (finished setup history)
 drawn law setup [] = λ k d inside. absurd (omega (arith, inside))
 drawn law setup (before ▹ entry) =
-    All-append (finished setup before) (cond (is_finish entry.kind) (frame_at setup (suc (frames before)) (to_begin before) ∷ []) []) (drawn law setup before) (by (is_finish entry.kind))
+    All-append AreDrawable (finished setup before) (cond (is_finish entry.kind) (frame_at setup (suc (frames before)) (to_begin before) ∷ []) []) (drawn law setup before) (by (is_finish entry.kind))
   where
     by : (b : Bool) → All AreDrawable (cond b (frame_at setup (suc (frames before)) (to_begin before) ∷ []) [])
     by true = one
       where
         one : All AreDrawable (frame_at setup (suc (frames before)) (to_begin before) ∷ [])
-        one 0 d inside = law setup (to_begin before)
+        one zero d inside = law setup (to_begin before)
         one (suc k) d inside = absurd (omega (arith, inside))
     by false = λ k d inside. absurd (omega (arith, inside))
 
@@ -61,3 +66,10 @@ module _ (setup : Setup) (is : is_setup setup ≡ true) where
       let here : is_within SIDE_MAX setup.height ≡ true = and-right (is_within SIDE_MAX setup.width) _ (and-left _ _ (and-left _ _ (and-left _ _ (and-left _ _ (and-left _ _ limits))))) in
       let low : nat_lt 0 setup.height ≡ true = and-left _ _ here in
       grind (arith, nat_tests)
+
+-- lines of known pointers, with whom they hit
+pub pointers_touched : (setup : Setup) (history : List Entry) (lines : List PointerLine) → list_all (λ (line : PointerLine). nat_lt line.pointer POINTERS) lines ≡ true
+    → list_all (λ (touch : Touch). nat_lt touch.line.pointer POINTERS) (map (touch_of setup history) lines) ≡ true
+pointers_touched setup history [] all = refl
+pointers_touched setup history (line ∷ later) all =
+    and-true (and-left (nat_lt line.pointer POINTERS) _ all) (pointers_touched setup history later (and-right (nat_lt line.pointer POINTERS) _ all))

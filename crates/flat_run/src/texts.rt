@@ -1,5 +1,4 @@
-ghost use Rattle.std.specs.Prelude.{◌≡◌, true, map, reverse, All, IfOk};
-ghost use Rattle.flat_drawable.specs.Drawable.{IsDrawable};
+ghost use Rattle.std.specs.Prelude.{◌≡◌, true, [], map, reverse, IfOk};
 ghost use Rattle.flat_play.specs.Playing.{HasPlayed};
 ghost use Rattle.flat_play.specs.Touches.{touch_of};
 ghost use Rattle.flat_playable.specs.Playable.{is_playable};

@@ -23,7 +23,7 @@ refused_result shown faults ds form bytes fault read (Ok a) is_3 is = refused sh
 refused_result shown faults ds form bytes fault read (Err e) is_3 is = tt
 
 pub answer_reading-requires-clause-runnable : goal.answer_reading-requires-clause-runnable
-answer_reading-requires-clause-runnable g c =
+answer_reading-requires-clause-runnable g c κs within =
     runnable c.scripts_are_playable.ensures.playable c.rests_are_read.ensures.focus c.rests_are_read.ensures.pointers c.pointers_rise.ensures c.extra_laws.ensures.pointers_are_known
     c.args.form c.args.bytes.now c.in-Ok.reading c.in-Ok.ensures
 

@@ -7,10 +7,10 @@ pub returns-clause-told : goal.returns-clause-told
 returns-clause-told g c = λ bytes read.
     let reading = c.args.reading.now in
     let form = c.args.form in
-    let board = c.in_ok-run_reading.played.board in
-    let lost = c.in_ok-run_reading.played.set.lost in
-    let played = c.in_ok-run_reading.ensures.played in
+    let board = c.in_ok-played.played.board in
+    let lost = c.in_ok-played.played.set.lost in
+    let played = c.in_ok-played.ensures.played in
     let playable = c.requires.runnable.playable in
-    let ran = has_run reading board _ _ playable played _ _ form lost _ _ c.in_ok-run_reading.ensures.written c.in_ok-run_reading.ensures.seen c.families_are_alone.ensures c.journal-journal.ensures.legal (none_asked form _ c.requires.read) c.requires.fits in
-    let had = have_had reading board _ _ playable played _ _ lost _ _ c.in_ok-run_reading.ensures.seen in
+    let ran = has_run reading board _ _ playable played _ _ form lost _ _ c.in_ok-played.ensures.written c.in_ok-played.ensures.seen c.families_are_alone.ensures c.journal-journal.ensures.legal (none_asked form _ c.requires.read) c.requires.fits in
+    let had = have_had reading board _ _ playable played _ _ lost _ _ c.in_ok-played.ensures.seen in
     if_ok _ _ c.text_of.result (λ written is. (record { ran = ran_of reading board.history lost; read = read; has_run = ran; is = is }, had)) c.text_of.ensures

@@ -4,9 +4,6 @@ use Rattle.flat_words.specs.Forms.{CallFor}
 use Rattle.flat_run.proofs.Answering.{load_told}
 use Rattle.flat_run.proofs.top.answer_to.Goals as goal
 
-pub returns-clause-answer : goal.returns-clause-answer
-returns-clause-answer g c = λ words calls. c.run_source.ensures.answer words calls
-
 pub returns-in_ok-stress-in-Stress-clause-answer : goal.returns-in_ok-stress-in-Stress-clause-answer
 returns-in_ok-stress-in-Stress-clause-answer g c = λ words calls.
     let x = c.in_ok-stress-in-Stress.field-0 in

@@ -1,4 +1,7 @@
-use Rattle.std.proofs.Common.{◌≡◌, ◌∙◌, true, false, refl, sym, ap, Ok, Err}
+use Rattle.std.proofs.Common.{◌≡◌, ◌∙◌, true, false, map, refl, sym, ap, Ok, Err}
+use Rattle.std.specs.String.{string_bytes}
+use Rattle.flat_words.specs.declared.form.Form.{Form}
+use Rattle.flat_words.specs.Forms.{CallFor}
 use Rattle.flat_words.specs.declared.form.Form.TheVariants.{Render}
 use Rattle.flat_run.specs.Promise.{IsAnswer}
 use Rattle.flat_run.proofs.Answering.{called_for, none_called, text_same, text_whole, text_cut_off, one_form, only_told, only_large, there_no_read_fault, large_no_read_fault, answered_or_fault}
@@ -30,7 +33,7 @@ pub returns-in-Ok-clause-complete : goal.returns-in-Ok-clause-complete
 returns-in-Ok-clause-complete g c = λ form calls there steady.
     let x = c.in-Ok.answer in
     let mine = called_for _ c.in-Ok-Some.field-0 c.in-Ok-Some.form c.in-Ok-Some.field-0-is c.in-Ok-Some.ensures.form in
-    let one = λ f called. one_form c.in-Ok-Some.field-0 form f (c.in-Ok-Some.ensures.only form calls) (c.in-Ok-Some.ensures.only f called) in
+    let one : (f : Form) → CallFor (map string_bytes c.args.words.now) f → f ≡ form = λ f called. one_form c.in-Ok-Some.field-0 form f (c.in-Ok-Some.ensures.only form calls) (c.in-Ok-Some.ensures.only f called) in
     let is : x.status ≡ 0 = only_told _ _ _ _ _ _ _ form _ _ calls one there x.status x.text.items (c.in-Ok.ensures.answer _ mine) in
     answered_or_fault c.write_text-in-Ok.result x.status 0 c.write_text-in-Ok.ensures.either is
     (λ is_5. let rose = c.write_text-in-Ok.ensures.fault is_5 in let both : true ≡ false = sym rose ∙ steady in cc)
@@ -39,7 +42,7 @@ pub returns-in-Ok-clause-too_large : goal.returns-in-Ok-clause-too_large
 returns-in-Ok-clause-too_large g c = λ calls there steady.
     let x = c.in-Ok.answer in
     let mine = called_for _ c.in-Ok-Some.field-0 c.in-Ok-Some.form c.in-Ok-Some.field-0-is c.in-Ok-Some.ensures.form in
-    let one = λ f called. one_form c.in-Ok-Some.field-0 Render f (c.in-Ok-Some.ensures.only Render calls) (c.in-Ok-Some.ensures.only f called) in
+    let one : (f : Form) → CallFor (map string_bytes c.args.words.now) f → f ≡ Render = λ f called. one_form c.in-Ok-Some.field-0 Render f (c.in-Ok-Some.ensures.only Render calls) (c.in-Ok-Some.ensures.only f called) in
     let is : x.status ≡ 7 = only_large _ _ _ _ _ _ _ _ _ calls one there x.status x.text.items (c.in-Ok.ensures.answer _ mine) in
     answered_or_fault c.write_text-in-Ok.result x.status 7 c.write_text-in-Ok.ensures.either is
     (λ is_5. let rose = c.write_text-in-Ok.ensures.fault is_5 in let both : true ≡ false = sym rose ∙ steady in cc)
