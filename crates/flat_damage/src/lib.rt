@@ -6,7 +6,6 @@ mod difference;
 mod laws;
 mod rects;
 mod redrawing;
-mod same;
 
 pub use difference::{RECTS_MAX, damage};
 pub use laws::damage_laws;

@@ -1,10 +1,13 @@
 //! Which draw items can be drawn: what a renderer asks of each of them, and the
-//! test of it.
+//! test of it; and whether two are equal.
 #![tactic(auto)]
 
 ghost use Rattle.std.specs.Prelude.{◌≡◌, ◌↔◌, IsTrue, All};
 ghost use Rattle.flat_drawable.specs.Drawable.{matrix_of, full_rect as full_rect_of, IsDrawable, IsWithin, IsSample, HasSample};
 
+mod equality;
+
+pub use equality::is_same;
 use flat_base::{IntRect, OPACITY_MAX, Rect};
 use flat_geom::{Matrix, map_rect, sized};
 use flat_scene::{DrawItem, Paint, SceneMatrix};

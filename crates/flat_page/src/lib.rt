@@ -6,6 +6,7 @@
 //! is written of them all (Telling).
 #![tactic(auto)]
 
+mod digits;
 mod names;
 mod page;
 

@@ -1,10 +1,11 @@
-ghost use Rattle.std.specs.Prelude.{◌≡◌, [], ◌∷◌, ◌++◌, ℕ, List, false, OnOk, IfOk};
+ghost use Rattle.std.specs.Prelude.{◌≡◌, ◌≤◌, ◌+◌, [], ◌∷◌, ◌++◌, ℕ, List, length, false, OnOk, IfOk};
 ghost use Rattle.std.specs.Fmt.{decimal, signed_decimal};
 ghost use Rattle.flat_page.specs.Words.{number, numbers};
-ghost use Rattle.flat_page.specs.Pages.{HasRoom, IsText, bytes_of, is_counting, Puts, Writes};
+ghost use Rattle.flat_page.specs.Pages.{HasRoom, IsText, StandsAt, bytes_of, is_counting, Puts, Writes};
 
+use crate::digits::{NUMBER_BYTES, count_length, place_length, write_count, write_place};
 use flat_base::NoMemory;
-use itoa::Buffer;
+use itoa::write_digits;
 use std::alloc::Global;
 
 /// A text that is written, or whose bytes are counted first, so that the room for
@@ -30,6 +31,47 @@ impl Page {
             Page::Text(text) => text.len(),
         };
         Ok(Page::Text(Vec::with_capacity(alloc, room)?))
+    }
+
+    /// An empty page of the same sort, with room for as many bytes as stand on this one.
+    pub fn like(&self, alloc: Global) -> Result<Page, NoMemory>
+        ensures sort { IfOk result (λ page. is_counting page ≡ is_counting self.now) }
+        ensures empty { IfOk result (λ page. IsText page []) }
+    {
+        match self {
+            Page::Count(_) => Ok(Page::Count(0)),
+            Page::Text(text) => Ok(Page::Text(Vec::with_capacity(alloc, text.len())?)),
+        }
+    }
+
+    /// How many bytes stand on the page, or were counted.
+    pub fn len(&self) -> usize
+        ensures { result ≡ bytes_of self.now }
+    {
+        match self {
+            Page::Count(count) => *count,
+            Page::Text(text) => text.len(),
+        }
+    }
+
+    /// Puts what stands on a part of another page of the same sort.
+    pub fn put_part(&mut self, other: &Page, start: usize, end: usize) -> Result<(), NoMemory>
+        requires sort { is_counting other.now ≡ is_counting self.old }
+        requires order { start ≤ end }
+        requires within { end ≤ bytes_of other.now }
+        ensures { (bytes : List ℕ) → StandsAt start bytes other.now → end ≡ start + length bytes → OnOk result (Puts bytes self.old self.new) }
+    {
+        match (self, other) {
+            (Page::Count(count), Page::Count(_)) => {
+                *count = count.checked_add(end - start).ok_or(NoMemory)?;
+                Ok(())
+            }
+            (Page::Text(text), Page::Text(from)) => {
+                text.extend_from_slice(&from[start..end])?;
+                Ok(())
+            }
+            _ => unreachable!(),
+        }
     }
 
     /// The bytes of a page on which they stand.
@@ -62,35 +104,51 @@ impl Page {
         self.put(word)
     }
 
-    /// Puts a space and a number.
-    pub fn number(&mut self, value: i128) -> Result<(), NoMemory>
-        ensures { OnOk result (Writes (signed_decimal value ∷ []) self.old self.new) }
-    {
-        let mut buffer = Buffer::new();
-        self.word(buffer.format(value).as_bytes())
-    }
-
     /// Puts a number behind these bytes.
     pub fn numbered(&mut self, before: &[u8], value: u32) -> Result<(), NoMemory>
         ensures { OnOk result (Puts (before.now ++ decimal value) self.old self.new) }
     {
-        let mut buffer = Buffer::new();
+        let mut bytes = [0; NUMBER_BYTES];
+        let start = write_digits(u64::from(value), &mut bytes, NUMBER_BYTES);
         self.put(before)?;
-        self.put(buffer.format(value).as_bytes())?;
-        Ok(())
+        self.put(&bytes[start..])
     }
 
     /// Puts a space and a number without a sign.
     pub fn count(&mut self, value: u64) -> Result<(), NoMemory>
         ensures { OnOk result (Writes (number value ∷ []) self.old self.new) }
     {
-        self.number(value as i128)
+        match self {
+            Page::Count(count) => {
+                *count = count
+                    .checked_add(count_length(value))
+                    .ok_or(NoMemory)?;
+            }
+            Page::Text(text) => {
+                let mut bytes = [0; NUMBER_BYTES];
+                let start = write_count(value, &mut bytes);
+                text.extend_from_slice(&bytes[start..])?;
+            }
+        }
+        Ok(())
     }
 
     fn place(&mut self, value: i64) -> Result<(), NoMemory>
         ensures { OnOk result (Writes (signed_decimal value ∷ []) self.old self.new) }
     {
-        self.number(value as i128)
+        match self {
+            Page::Count(count) => {
+                *count = count
+                    .checked_add(place_length(value))
+                    .ok_or(NoMemory)?;
+            }
+            Page::Text(text) => {
+                let mut bytes = [0; NUMBER_BYTES];
+                let start = write_place(value, &mut bytes);
+                text.extend_from_slice(&bytes[start..])?;
+            }
+        }
+        Ok(())
     }
 
     fn two_places(&mut self, a: i64, b: i64) -> Result<(), NoMemory>

@@ -1,8 +1,10 @@
 pub mod Composing
 pub mod Displayed
 pub mod Ending
+pub mod Examples
 pub mod Growing
 pub mod InOrder
 pub mod Losses
+pub mod Shares
 pub mod lemmas
 pub mod Touching

@@ -4,9 +4,10 @@ use Rattle.std.specs.Prelude.{take_while}
 use Rattle.std.specs.List.{list_all}
 use Rattle.std.proofs.lemmas.Bool.Decides.{nat_tests}
 use Rattle.std.proofs.lemmas.Grind.{common_steps}
-use Rattle.std.proofs.lemmas.List.{map-append, take_more}
+use Rattle.std.proofs.lemmas.List.{map-append, take_more, take-append-drop}
 use Rattle.std.proofs.lemmas.List.Sums.{take_while-cons}
-use Rattle.flat_base.proofs.lemmas.Tests.{and-left, and-right, and-true}
+use Rattle.flat_base.proofs.lemmas.Tests.{and-left, and-right, and-true, all-also}
+use Rattle.flat_rules.proofs.lemmas.AllOrSome.{all-append}
 use Rattle.flat_scene.specs.declared.frames.Hit.{Hit}
 use Rattle.flat_scene.specs.declared.journal.Entry.{Entry}
 use Rattle.flat_scene.specs.declared.journal.Kind.{Kind}
@@ -29,6 +30,7 @@ use Rattle.flat_scene.specs.declared.calls.Call.{Call}
 use Rattle.flat_scene.specs.declared.journal.Reply.{Reply}
 use Rattle.flat_scene.specs.declared.script.ScriptLine.{ScriptLine}
 use Rattle.flat_core.specs.Machines.{Machine, entered, entry_of}
+use Rattle.flat_play.proofs.lemmas.Seen.{frames_more}
 use Rattle.flat_play.proofs.Growing.{Grows}
 use Rattle.flat_play.proofs.Growing as grow
 use Rattle.flat_pointer.specs.Lines.{rise_after}
@@ -37,26 +39,7 @@ use Rattle.flat_play.specs.Touches.{frames_before, call_hits, touch_of, hits_in,
 -- ---- lists
 
 module _ {A : Type 0} where
-  all-both : (p : A → Bool) (xs ys : List A) → list_all p xs ≡ true → list_all p ys ≡ true → list_all p (xs ++ ys) ≡ true
-  all-both p [] ys first second = second
-  all-both p (x ∷ xs) ys first second = and-true (and-left (p x) (list_all p xs) first) (all-both p xs ys (and-right (p x) (list_all p xs) first) second)
-
-  all-weaker : (p q : A → Bool) → ((x : A) → p x ≡ true → q x ≡ true) → (xs : List A) → list_all p xs ≡ true → list_all q xs ≡ true
-  all-weaker p q than [] all = refl
-  all-weaker p q than (x ∷ xs) all = and-true (than x (and-left (p x) (list_all p xs) all)) (all-weaker p q than xs (and-right (p x) (list_all p xs) all))
-
   -- a list, cut where a test first fails
-  cut : (p : A → Bool) (xs : List A) → xs ≡ take (length (take_while p xs)) xs ++ drop (length (take_while p xs)) xs
-  cut p [] = refl
-  cut p (x ∷ xs) =
-      let P : List A → Type 0 = λ ys. x ∷ xs ≡ take (length ys) (x ∷ xs) ++ drop (length ys) (x ∷ xs) in
-      subst P (sym (take_while-cons p x xs)) (by (p x) (cut p xs))
-    where
-      by : (b : Bool) → xs ≡ take (length (take_while p xs)) xs ++ drop (length (take_while p xs)) xs
-          → x ∷ xs ≡ take (length (cond b (x ∷ take_while p xs) [])) (x ∷ xs) ++ drop (length (cond b (x ∷ take_while p xs) [])) (x ∷ xs)
-      by true rest = ap (λ ys. x ∷ ys) rest
-      by false rest = refl
-
   cut-all : (p : A → Bool) (xs : List A) → list_all p (take (length (take_while p xs)) xs) ≡ true
   cut-all p [] = refl
   cut-all p (x ∷ xs) =
@@ -73,10 +56,6 @@ map-agrees p f g agree [] all = refl
 map-agrees p f g agree (x ∷ xs) all = λ i. agree x (and-left (p x) (list_all p xs) all) i ∷ map-agrees p f g agree xs (and-right (p x) (list_all p xs) all) i
 
 -- ---- numbers of frames
-
-frames-more : (before : List Entry) (entry : Entry) (b : Bool) → is_finish entry.kind ≡ b → frames (before ▹ entry) ≡ cond b 1 0 + frames before
-frames-more before entry true is = rw is (omega arith)
-frames-more before entry false is = rw is (omega arith)
 
 -- no more frames were finished before a line than in all
 few-before : (n : ℕ) (history : List Entry) → frames_before n history ≤ frames history
@@ -108,13 +87,13 @@ last-begin (before ▹ entry) = by (is_finish entry.kind) refl (last-begin befor
   where
     by : (b : Bool) → is_finish entry.kind ≡ b → begin_of (frames before) before ≡ to_finished before → begin_of (frames (before ▹ entry)) (before ▹ entry) ≡ to_finished (before ▹ entry)
     by true is rest =
-        let many : frames (before ▹ entry) ≡ suc (frames before) = frames-more before entry true is ∙ omega arith in
+        let many : frames (before ▹ entry) ≡ suc (frames before) = (let more = frames_more before entry true is in omega (arith, more)) in
         let same : (suc (frames before) == suc (frames before)) ≡ true = grind (arith, nat_tests) in
         let here : begin_of (suc (frames before)) (before ▹ entry) ≡ to_begin before = rw (is, same) refl in
         let last : to_finished (before ▹ entry) ≡ to_begin before = rw is refl in
         ap (λ n. begin_of n (before ▹ entry)) many ∙ here ∙ sym last
     by false is rest =
-        let many : frames (before ▹ entry) ≡ frames before = frames-more before entry false is ∙ omega arith in
+        let many : frames (before ▹ entry) ≡ frames before = (let more = frames_more before entry false is in omega (arith, more)) in
         let here : begin_of (frames before) (before ▹ entry) ≡ begin_of (frames before) before = rw is refl in
         let last : to_finished (before ▹ entry) ≡ to_finished before = rw is refl in
         ap (λ n. begin_of n (before ▹ entry)) many ∙ here ∙ rest ∙ sym last
@@ -200,7 +179,7 @@ answers-upto joined number lines early later old new count count_is early_is lat
     let back : later ≡ drop n lines = later_is ∙ ap (λ k. drop k lines) count_is in
     record {
       early = early;
-      parts = cut (is_upto number) lines ∙ (λ i. sym front i ++ sym back i);
+      parts = sym (take-append-drop n lines) ∙ (λ i. sym front i ++ sym back i);
       up_to = ap (list_all (is_upto number)) front ∙ cut-all (is_upto number) lines;
       rest = λ from rise. ap (rise_after number) back ∙ rest-rises number lines from rise;
       touches = touches;
@@ -227,7 +206,7 @@ all-after : (from : ℕ) (lines : List PointerLine) → rise_after from lines �
 all-after from [] rise = refl
 all-after from (line ∷ later) rise =
     let first : nat_lt from line.number ≡ true = and-left (nat_lt from line.number) _ rise in
-    and-true first (all-weaker (is_after line.number) (is_after from)
+    and-true first (all-also (is_after line.number) (is_after from)
     (λ one more. let test : nat_lt from one.number ≡ true = grind (arith, nat_tests) in test) later (all-after line.number later (and-right (nat_lt from line.number) _ rise)))
 
 module _ (setup : Setup) (history : List Entry) (last : ℕ) (lines left : List PointerLine) (found : List Touch) (joined : Joined)
@@ -253,8 +232,8 @@ module _ (setup : Setup) (history : List Entry) (last : ℕ) (lines left : List 
   answered-more number later found' history' above answers on =
       let now : List PointerLine = answered.answered ++ answers.early in
       let all_upto : list_all (is_upto number) now ≡ true =
-      all-both (is_upto number) answered.answered answers.early
-      (all-weaker (is_upto last) (is_upto number) (λ line le. let test : nat_le line.number number ≡ true = grind (arith, nat_tests) in test) answered.answered answered.up_to)
+      all-append (is_upto number) answered.answered answers.early
+      (all-also (is_upto last) (is_upto number) (λ line le. let test : nat_le line.number number ≡ true = grind (arith, nat_tests) in test) answered.answered answered.up_to)
       answers.up_to in
       record {
         answered = now;
@@ -268,7 +247,7 @@ module _ (setup : Setup) (history : List Entry) (last : ℕ) (lines left : List 
       }
     where
       still : list_all (λ (entry : Entry). nat_le entry.line number) history ≡ true
-      still = all-weaker (λ (entry : Entry). nat_le entry.line last) (λ (entry : Entry). nat_le entry.line number)
+      still = all-also (λ (entry : Entry). nat_le entry.line last) (λ (entry : Entry). nat_le entry.line number)
           (λ entry le. let test : nat_le entry.line number ≡ true = grind (arith, nat_tests) in test) history answered.entries
 
       entries : (h : List Entry) → GoesOnAt number history h → list_all (λ (entry : Entry). nat_le entry.line number) h ≡ true
@@ -304,7 +283,7 @@ pub ends-then : (first old new : List Entry) → GoesOnByEnds first old → Goes
 ends-then first old new begun on = record {
   ends = on.ends ++ begun.ends;
   is = on.is ∙ ap (λ h. on.ends ++ h) begun.is ∙ sym (append_assoc on.ends begun.ends first);
-  are_ends = all-both (λ (entry : Entry). is_end entry.kind) on.ends begun.ends on.are_ends begun.are_ends;
+  are_ends = all-append (λ (entry : Entry). is_end entry.kind) on.ends begun.ends on.are_ends begun.are_ends;
 }
 
 pub entered-on : (old new : Machine) (who : Actor) (number : ℕ) (carries : List Call) (kind : Kind) (reply : Reply) → new ≡ entered old who number carries kind reply → GoesOnAt number old.history new.history

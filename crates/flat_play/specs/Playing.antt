@@ -1,5 +1,5 @@
 -- How a session stands at a place of the script.
-use Rattle.std.specs.Prelude.{◌≡◌, ℕ, ℤ, ◌+◌, ◌<◌, ◌≤◌, ◌==◌, true, false, List, [], ◌∷◌, ◌++◌, length, take, drop, map, reverse, count_by, slice_index_or, Option, Some, None}
+use Rattle.std.specs.Prelude.{◌≡◌, ℕ, ℤ, ◌+◌, ◌<◌, ◌≤◌, ◌==◌, true, false, List, [], ◌∷◌, ◌++◌, length, take, drop, map, reverse, count_by, slice_index, slice_index_or, slice_set, Option, Some, None}
 use Rattle.std.specs.List.{AllByRecursion}
 use Rattle.std.specs.List.Sorted.{IsStrictlyIncreasing}
 use Rattle.flat_base.specs.declared.ids.Actor.TheVariants.{Display, Session}
@@ -59,6 +59,10 @@ pub record ReaderStands (script : Script) (s : SessionNo) (place : ℕ) (history
 -- how many of some lines are of the actor of a seat
 abbrev pub lines_by : ℕ → List ScriptLine → ℕ
 lines_by seat = count_by (λ next. seat_number next.actor == seat)
+
+-- some shares, of which that at a place is one more
+abbrev pub with_one_more : ℕ → List ℕ → List ℕ
+with_one_more place shares = slice_set shares place (slice_index shares place + 1)
 
 -- what a board is to give room for: the display's lines, and those of each session with its End
 abbrev pub rest_shares : Script → List ℕ

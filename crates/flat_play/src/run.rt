@@ -1,9 +1,9 @@
-ghost use Rattle.std.specs.Prelude.{map, ◌≡◌, ◌+◌, ◌<◌, ◌==◌, ◌^◌, [], ◌∷◌, ◌++◌, List, true, length, All, IfOk};
+ghost use Rattle.std.specs.Prelude.{map, ◌≡◌, ◌+◌, ◌<◌, ◌^◌, slice_index, [], ◌∷◌, ◌++◌, List, true, length, All, IfOk};
 ghost use Rattle.flat_scene.specs.History.{seat_number};
 ghost use Rattle.flat_scene.specs.Interleave.{IsWritten};
 ghost use Rattle.flat_scene.specs.Setups.{is_setup};
 ghost use Rattle.flat_playable.specs.Playable.{is_playable};
-ghost use Rattle.flat_play.specs.Playing.{lines_by, shares_of, AreNew, GameStands, HasPlayed};
+ghost use Rattle.flat_play.specs.Playing.{with_one_more, shares_of, AreNew, GameStands, HasPlayed};
 ghost use Rattle.flat_display.specs.Had.{AreKept};
 ghost use Rattle.flat_play.specs.Touches.{touch_of};
 ghost use Rattle.flat_pointer.specs.Lines.{rise_after};
@@ -18,7 +18,7 @@ use flat_display::{Display, DisplaySet};
 use flat_places::Script;
 use flat_pointer::{PointerLine, Touch};
 use flat_report::HitAnswers;
-use flat_scene::{FrameOut, ScriptLine, SessionSet, Setup};
+use flat_scene::{FrameOut, SessionSet, Setup};
 use flat_stage::{Reader, lines_are_read};
 use flat_topology::{Shown, join};
 use std::alloc::Global;
@@ -34,28 +34,31 @@ fn seat_of(actor: Actor) -> u64
     }
 }
 
-/// How many of some lines are of the actor of a seat.
-fn lines_by(lines: &[ScriptLine], seat: u32) -> u32
-    requires { length lines.now < 2 ^ 32 }
-    ensures { result ≡ lines_by seat lines.now }
+/// Counts one more line of an actor, where its seat has a share.
+fn count_line(shares: &mut ShareList, actor: Actor)
+    requires { slice_index shares.old (seat_number actor) + 1 < 2 ^ 32 }
+    ensures { shares.new ≡ with_one_more (seat_number actor) shares.old }
 {
-    lines
-        .iter()
-        .filter(|line| seat_of(line.actor) == u64::from(seat))
-        .count() as u32
+    let place = seat_of(actor) as usize;
+    if place < shares.len() {
+        let share = *shares.at(place);
+        shares.set(place, share + 1);
+    }
 }
 
 /// How many entries each actor may make: one for each of its lines, and a session
-/// its End.
+/// its End. The lines are gone through once.
 pub fn shares_of(alloc: Global, script: &Script) -> Result<ShareList, NoMemory>
     requires { length script.now.lines < 2 ^ 31 }
     ensures { IfOk result (λ shares. shares ≡ shares_of script.now) }
 {
-    let lines = script.lines.as_slice();
     let mut shares = ShareList::new(alloc);
-    shares.push(lines_by(lines, 0))?;
-    for before in 0..script.setup.sessions {
-        shares.push(lines_by(lines, before + 1) + 1)?;
+    shares.push(0)?;
+    for _ in 0..script.setup.sessions {
+        shares.push(1)?;
+    }
+    for place in 0..script.lines.len() {
+        count_line(&mut shares, script.lines.at(place).actor);
     }
     Ok(shares)
 }

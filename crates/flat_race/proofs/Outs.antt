@@ -27,12 +27,12 @@ module _ {X : Type 0} where
   got-last [] x = refl
   got-last (y ∷ ys) x = got-last ys x
 
-  got-same : (xs : List X) (n : ℕ) (x : X) → n < length xs → slice_get (slice_set xs n x) n ≡ Some x
+  pub got-same : (xs : List X) (n : ℕ) (x : X) → n < length xs → slice_get (slice_set xs n x) n ≡ Some x
   got-same [] n x less = absurd (omega arith)
   got-same (y ∷ ys) zero x less = refl
   got-same (y ∷ ys) (suc n) x less = got-same ys n x (omega arith)
 
-  got-other : (xs : List X) (n m : ℕ) (x : X) → (m ≡ n → ⊥) → slice_get (slice_set xs n x) m ≡ slice_get xs m
+  pub got-other : (xs : List X) (n m : ℕ) (x : X) → (m ≡ n → ⊥) → slice_get (slice_set xs n x) m ≡ slice_get xs m
   got-other [] n m x other = refl
   got-other (y ∷ ys) zero zero x other = absurd (other refl)
   got-other (y ∷ ys) zero (suc m) x other = refl

@@ -1,3 +1,4 @@
 pub mod Directing
 pub mod Ends
+pub mod OwnLines
 pub mod Sessions

@@ -6,6 +6,7 @@ mod director;
 mod gate;
 mod hand;
 mod lent;
+mod own_lines;
 mod race;
 mod session;
 mod threads;

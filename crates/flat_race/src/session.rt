@@ -1,6 +1,7 @@
-ghost use Rattle.std.specs.Prelude.{◌≡◌, ◌+◌, ◌<◌, ◌^◌, ℕ, List, [], ◌∷◌, ◌++◌, Bool, true, false, length, OnOk};
+ghost use Rattle.std.specs.Prelude.{◌≡◌, ◌+◌, ◌<◌, ◌^◌, ℕ, List, [], ◌∷◌, ◌++◌, Bool, true, false, length, Some, slice_get, OnOk};
 ghost use Rattle.flat_base.specs.declared.ids.Actor.TheVariants.{Session};
 ghost use Rattle.flat_scene.specs.declared.script.Line.{Line};
+ghost use Rattle.flat_scene.specs.declared.script.ScriptLine.{ScriptLine};
 ghost use Rattle.flat_scene.specs.History.{history_of, closes, is_session};
 ghost use Rattle.flat_scene.specs.Interleave.{IsReading, session_lines};
 ghost use Rattle.flat_rules.specs.Legal.{asked_of};
@@ -9,11 +10,12 @@ ghost use Rattle.flat_playable.specs.Playable.{is_playable};
 ghost use Rattle.flat_stage.specs.Homes.{fresh_view};
 ghost use Rattle.flat_stage.specs.Readings.{SeatHasRead};
 ghost use Rattle.flat_stage.specs.Seats.{GoesOn, HasRoom, is_ended, setup_of};
+ghost use Rattle.flat_race.specs.OwnLines.{own_places};
 ghost use Rattle.flat_race.specs.Sessions.{makes_entry, HasRun, IsSame, IsStageOf, SessionStands};
 
 use crate::gate::{ASKS, Gate, LOOKS, ask};
 use crate::lent::Lent;
-use flat_base::{Actor, NoMemory, SessionNo, TryCopy};
+use flat_base::{NoMemory, SessionNo, TryCopy};
 use flat_scene::{Body, Call, Cond, Line, Reply};
 use flat_stage::{SessionSeat, lines_are_read};
 use std::sync::Wait;
@@ -115,23 +117,14 @@ fn read_line<R: Wait, G: Gate>(
     Ok(())
 }
 
-/// Whether an actor is a session.
-fn is_session(s: SessionNo, actor: Actor) -> bool
-    ensures { result ≡ is_session s actor }
-{
-    match actor {
-        Actor::Session(t) => t.0 == s.0,
-        _ => false,
-    }
-}
-
-/// Reads the line at a place of the script, where it is the session's.
+/// Reads the session's line at a place of the script.
 fn read_next<R: Wait, G: Gate>(
     lent: &Lent<R, G>,
     seat: &mut SessionSeat,
     place: usize,
 ) -> Result<(), NoMemory>
     requires place { place < length lent.now.script.now.lines }
+    requires mine { (next : ScriptLine) → slice_get lent.now.script.now.lines place ≡ Some next → is_session seat.old.session next.actor ≡ true }
     requires playable { is_playable lent.now.script.now ≡ true }
     requires of { IsStageOf lent.now.stage.now lent.now.script.now }
     requires stands { SessionStands lent.now.script.now lent.now.stage.now seat.old.session place seat.old }
@@ -139,9 +132,6 @@ fn read_next<R: Wait, G: Gate>(
     ensures same { (seat.new.stage ≡ seat.old.stage) × (seat.new.session ≡ seat.old.session) }
 {
     let line = lent.script.lines.at(place);
-    if !is_session(seat.session(), line.actor) {
-        return Ok(());
-    }
     match &line.body {
         Body::Session(text) => {
             read_line(lent, seat, line.number, text)?;
@@ -166,8 +156,13 @@ fn finish<R: Wait, G: Gate>(lent: &Lent<R, G>, seat: &mut SessionSeat)
     lent.gate.passed(actor, number, &reply);
 }
 
-/// Reads all lines of the session, and ends it.
-fn read_all<R: Wait, G: Gate>(lent: &Lent<R, G>, seat: &mut SessionSeat) -> Result<(), NoMemory>
+/// Reads all lines of the session, which stand at these places, and ends it.
+fn read_all<R: Wait, G: Gate>(
+    lent: &Lent<R, G>,
+    seat: &mut SessionSeat,
+    places: &[usize],
+) -> Result<(), NoMemory>
+    requires places { places.now ≡ own_places seat.old.session lent.now.script.now.lines }
     requires playable { is_playable lent.now.script.now ≡ true }
     requires of { IsStageOf lent.now.stage.now lent.now.script.now }
     requires fresh { seat.old ≡ fresh_view lent.now.stage.now seat.old.session }
@@ -175,20 +170,26 @@ fn read_all<R: Wait, G: Gate>(lent: &Lent<R, G>, seat: &mut SessionSeat) -> Resu
     ensures read { OnOk result (IsReading lent.now.script.now.setup lent.now.script.now.count (session_lines seat.old.session lent.now.script.now.lines) (history_of seat.new.mine)) }
 {
     lines_are_read();
-    for place in 0..lent.script.lines.len() {
-        read_next(lent, seat, place)?;
+    for i in 0..places.len() {
+        read_next(lent, seat, places[i])?;
     }
     finish(lent, seat);
     Ok(())
 }
 
-/// Runs a session. Where it finds no memory, it makes no further entry.
-pub(crate) fn run<R: Wait, G: Gate>(lent: &Lent<R, G>, mut seat: SessionSeat) -> Back
+/// Runs a session, whose lines stand at these places of the script. Where it finds no
+/// memory, it makes no further entry.
+pub(crate) fn run<R: Wait, G: Gate>(
+    lent: &Lent<R, G>,
+    mut seat: SessionSeat,
+    places: &[usize],
+) -> Back
+    requires places { places.now ≡ own_places seat.session lent.now.script.now.lines }
     requires playable { is_playable lent.now.script.now ≡ true }
     requires of { IsStageOf lent.now.stage.now lent.now.script.now }
     requires fresh { seat ≡ fresh_view lent.now.stage.now seat.session }
     ensures { HasRun lent.now.stage.now lent.now.script.now seat.session result }
 {
-    let is_whole = read_all(lent, &mut seat).is_ok();
+    let is_whole = read_all(lent, &mut seat, places).is_ok();
     Back { seat, is_whole }
 }

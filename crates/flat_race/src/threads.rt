@@ -1,15 +1,18 @@
 ghost use Rattle.std.specs.Prelude.{◌≡◌, ◌&&◌, true, length, IfOk};
 ghost use Rattle.flat_playable.specs.Playable.{is_playable};
 ghost use Rattle.flat_stage.specs.Homes.{AreFresh, fresh_view};
+ghost use Rattle.flat_race.specs.OwnLines.{own_places};
 ghost use Rattle.flat_race.specs.Sessions.{AreBack, AreOut, HasRun, IsOut, IsStageOf};
 
 use crate::gate::Gate;
 use crate::lent::Lent;
+use crate::own_lines::{PlaceList, places_by_session};
 use crate::session::{Back, run};
 use flat_base::{NoMemory, SessionNo};
 use flat_places::Script;
 use flat_stage::{SessionSeat, SessionSeats, Stage};
 use std::alloc::Global;
+use std::mem;
 use std::sync::Wait;
 use std::thread::{Promise, PromisedHandle, Scope, Threads};
 
@@ -47,7 +50,8 @@ impl<'a> Out<'a> {
     }
 }
 
-/// Runs a session on a thread of its own, or here where none can be started.
+/// Runs a session, whose lines stand at these places, on a thread of its own, or here
+/// where none can be started.
 fn start<'s, E, R: Threads + Wait + Sync, G: Gate>(
     scope: &Scope<'s, E>,
     rt: &'s R,
@@ -56,10 +60,12 @@ fn start<'s, E, R: Threads + Wait + Sync, G: Gate>(
     script: &'s Script,
     gate: &'s G,
     seat: SessionSeat,
+    places: PlaceList,
 ) -> Out<'s>
     requires playable { is_playable script.now ≡ true }
     requires of { IsStageOf stage.now script.now }
     requires fresh { seat ≡ fresh_view stage.now seat.session }
+    requires places { places ≡ own_places seat.session script.now.lines }
     ensures { IsOut stage.now script.now seat.session result }
 {
     let session = seat.session();
@@ -70,7 +76,8 @@ fn start<'s, E, R: Threads + Wait + Sync, G: Gate>(
             session,
         },
         move || -> Back
-            requires { (is_playable script.now ≡ true) × IsStageOf stage.now script.now × (seat ≡ fresh_view stage.now seat.session) }
+            requires { (is_playable script.now ≡ true) × IsStageOf stage.now script.now × (seat ≡ fresh_view stage.now seat.session)
+                × (places ≡ own_places seat.session script.now.lines) }
             ensures { HasRun stage.entry.now script.entry.now seat.session result }
         {
             let lent = Lent {
@@ -80,7 +87,7 @@ fn start<'s, E, R: Threads + Wait + Sync, G: Gate>(
                 script,
                 gate,
             };
-            run(&lent, seat)
+            run(&lent, seat, places.as_slice())
         },
     ) {
         Ok(handle) => Out::Thread(handle),
@@ -102,11 +109,13 @@ pub(crate) fn start_each<'s, E, R: Threads + Wait + Sync, G: Gate>(
     ensures own { seats.new.stage ≡ seats.old.stage }
     ensures count { length seats.new.seats ≡ length seats.old.seats }
 {
+    let mut places = places_by_session(lent.alloc, lent.script)?;
     let mut out = Vec::with_capacity(lent.alloc, lent.script.setup.sessions as usize)?;
     for before in 0..lent.script.setup.sessions {
         let Some(seat) = seats.take(SessionNo(before + 1)) else {
             unreachable!()
         };
+        let own = mem::replace(&mut places[before as usize], PlaceList::new(lent.alloc));
         let started = start(
             scope,
             lent.rt,
@@ -115,6 +124,7 @@ pub(crate) fn start_each<'s, E, R: Threads + Wait + Sync, G: Gate>(
             lent.script,
             lent.gate,
             seat,
+            own,
         );
         let Ok(()) = out.push(started) else {
             unreachable!()

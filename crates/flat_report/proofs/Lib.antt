@@ -1,6 +1,7 @@
 pub mod Determined
 pub mod Examples
 pub mod FewFrames
+pub mod ItemLines
 pub mod Losses
 pub mod Named
 pub mod Openings

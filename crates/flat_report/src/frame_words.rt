@@ -3,8 +3,10 @@ ghost use Rattle.flat_page.specs.Words.{number, numbers, session_name};
 ghost use Rattle.flat_report.specs.Names.{buffers_name};
 ghost use Rattle.flat_page.specs.Pages.{Writes, WritesLines};
 ghost use Rattle.flat_report.specs.FrameLines.{rect_words, flip_number, blend_word, paint_words, matrix_words, item_line, parent_word, view_line, apart_line, lost_line, frame_lines};
+ghost use Rattle.flat_report.specs.ItemLines.{AreLast};
 ghost use Rattle.flat_report.specs.Report.{lost_at};
 
+use crate::item_lines::{ItemLines, push_items};
 use crate::names::buffers_name;
 use flat_base::{BufferNo, IntRect, NoMemory, Rect, SessionNo};
 use flat_page::{Page, session_name};
@@ -227,15 +229,6 @@ pub fn push_lost(page: &mut Page, lost: &Lost) -> Result<(), NoMemory>
     Ok(())
 }
 
-fn push_items(page: &mut Page, script: &Script, items: &[DrawItem]) -> Result<(), NoMemory>
-    ensures { OnOk result (WritesLines (map (item_line script.now) items.now) page.old page.new) }
-{
-    for item in items {
-        push_item(page, script, item)?;
-    }
-    Ok(())
-}
-
 fn push_views(page: &mut Page, script: &Script, views: &[ViewNode]) -> Result<(), NoMemory>
     ensures { OnOk result (WritesLines (map (view_line script.now) views.now) page.old page.new) }
 {
@@ -255,10 +248,17 @@ fn push_aparts(page: &mut Page, script: &Script, sessions: &[SessionNo]) -> Resu
 }
 
 /// The lines of a frame: its items, its views, the sessions apart.
-fn push_parts(page: &mut Page, script: &Script, frame: &FrameOut) -> Result<(), NoMemory>
-    ensures { OnOk result (WritesLines (frame_lines script.now frame.now) page.old page.new) }
+fn push_parts<'a>(
+    page: &mut Page,
+    script: &Script,
+    frame: &'a FrameOut,
+    last: &mut ItemLines<'a>,
+) -> Result<(), NoMemory>
+    requires last { AreLast script.now page.old last.old }
+    ensures lines { OnOk result (WritesLines (frame_lines script.now frame.now) page.old page.new) }
+    ensures last { OnOk result (AreLast script.now page.new last.new) }
 {
-    push_items(page, script, frame.items.as_slice())?;
+    push_items(page, script, frame.items.as_slice(), last)?;
     push_views(page, script, frame.tree.nodes.as_slice())?;
     push_aparts(page, script, frame.tree.apart.as_slice())?;
     Ok(())
@@ -285,16 +285,20 @@ fn push_losses(page: &mut Page, number: u32, lost: &[Lost]) -> Result<(), NoMemo
 }
 
 /// What stands between a done line and its events: the frame's lines, and those of
-/// the displays that were lost at it.
-pub fn push_frame(
+/// the displays that were lost at it. The lines of its items are kept for the frame
+/// after it.
+pub(crate) fn push_frame<'a>(
     page: &mut Page,
     script: &Script,
-    frame: &FrameOut,
+    frame: &'a FrameOut,
     lost: &[Lost],
+    last: &mut ItemLines<'a>,
 ) -> Result<(), NoMemory>
-    ensures { OnOk result (WritesLines (frame_lines script.now frame.now ++ map lost_line (lost_at frame.now.frame.0 lost.now)) page.old page.new) }
+    requires last { AreLast script.now page.old last.old }
+    ensures last { OnOk result (AreLast script.now page.new last.new) }
+    ensures lines { OnOk result (WritesLines (frame_lines script.now frame.now ++ map lost_line (lost_at frame.now.frame.0 lost.now)) page.old page.new) }
 {
-    push_parts(page, script, frame)?;
+    push_parts(page, script, frame, last)?;
     push_losses(page, frame.frame.0, lost)?;
     Ok(())
 }

@@ -4,6 +4,7 @@
 mod entry_lines;
 mod entry_words;
 mod frame_words;
+mod item_lines;
 mod laws;
 mod names;
 mod report;

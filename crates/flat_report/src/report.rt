@@ -2,10 +2,12 @@ ghost use Rattle.std.specs.Prelude.{◌≡◌, ◌++◌, ◌∷◌, ◌+◌, ◌
 ghost use Rattle.flat_scene.specs.History.{is_finish};
 ghost use Rattle.flat_report.specs.Handed.{first_hits, first_frame_lines, frames_after, answers_after, first_posts, handed_lines, handed_entries, handed_report_lines, handed_report};
 ghost use Rattle.flat_page.specs.Pages.{Writes, WritesLines};
+ghost use Rattle.flat_report.specs.ItemLines.{AreLast};
 ghost use Rattle.flat_page.specs.Words.{number};
 
 use crate::entry_lines::{push_entry, push_posts};
 use crate::frame_words::push_frame;
+use crate::item_lines::ItemLines;
 use flat_base::{Actor, FrameNo, Items, NoMemory};
 use flat_page::Page;
 use flat_places::Script;
@@ -78,59 +80,69 @@ fn finished_after(finished: u64, kind: &Kind) -> u64
 }
 
 /// The lines of the first frame.
-fn push_first(
+fn push_first<'a>(
     page: &mut Page,
     script: &Script,
     lost: &[Lost],
-    frames: &[FrameOut],
+    frames: &'a [FrameOut],
+    last: &mut ItemLines<'a>,
 ) -> Result<(), NoMemory>
-    ensures { OnOk result (WritesLines (first_frame_lines script.now lost.now frames.now) page.old page.new) }
+    requires last { AreLast script.now page.old last.old }
+    ensures last { OnOk result (AreLast script.now page.new last.new) }
+    ensures lines { OnOk result (WritesLines (first_frame_lines script.now lost.now frames.now) page.old page.new) }
 {
     match frames {
-        [first, ..] => push_frame(page, script, first, lost),
+        [first, ..] => push_frame(page, script, first, lost, last),
         [] => Ok(()),
     }
 }
 
 /// The lines of the frame that an entry of this kind finishes.
-fn push_shown(
+fn push_shown<'a>(
     page: &mut Page,
     script: &Script,
     lost: &[Lost],
-    frames: &[FrameOut],
+    frames: &'a [FrameOut],
     kind: &Kind,
+    last: &mut ItemLines<'a>,
 ) -> Result<(), NoMemory>
-    ensures { OnOk result (WritesLines (cond (is_finish kind.now) (first_frame_lines script.now lost.now frames.now) []) page.old page.new) }
+    requires last { AreLast script.now page.old last.old }
+    ensures last { OnOk result (AreLast script.now page.new last.new) }
+    ensures lines { OnOk result (WritesLines (cond (is_finish kind.now) (first_frame_lines script.now lost.now frames.now) []) page.old page.new) }
 {
     match kind {
-        Kind::Finish => push_first(page, script, lost, frames),
+        Kind::Finish => push_first(page, script, lost, frames, last),
         _ => Ok(()),
     }
 }
 
 /// The lines of an entry, by what is handed in from it on: the frames and the
 /// answers, and its own events.
-fn push_handed(
+fn push_handed<'a>(
     page: &mut Page,
     script: &Script,
     lost: &[Lost],
     finished: u64,
-    frames: &[FrameOut],
+    frames: &'a [FrameOut],
     answers: &[HitAnswer],
     posts: &[Post],
     entry: &Entry,
+    last: &mut ItemLines<'a>,
 ) -> Result<(), NoMemory>
-    requires { finished < 2 ^ 64 - 1 }
-    ensures { OnOk result (WritesLines (handed_lines script.now lost.now finished frames.now answers.now posts.now entry.now) page.old page.new) }
+    requires few { finished < 2 ^ 64 - 1 }
+    requires last { AreLast script.now page.old last.old }
+    ensures last { OnOk result (AreLast script.now page.new last.new) }
+    ensures lines { OnOk result (WritesLines (handed_lines script.now lost.now finished frames.now answers.now posts.now entry.now) page.old page.new) }
 {
     push_entry(page, script, finished, first_hits(answers), entry)?;
-    push_shown(page, script, lost, frames, &entry.kind)?;
+    push_shown(page, script, lost, frames, &entry.kind, last)?;
     push_posts(page, script, posts)?;
     Ok(())
 }
 
 /// The lines of all entries.
 fn push_history(
+    alloc: Global,
     page: &mut Page,
     script: &Script,
     journal: &Journal,
@@ -143,13 +155,16 @@ fn push_history(
         journal.now.posts.items journal.now.entries.items)
         page.old page.new) }
 {
+    let mut last = ItemLines::none(alloc, page)?;
     let mut posts = journal.posts.as_slice();
     let mut frames = frames;
     let mut answers = answers;
     let mut finished = 0;
     for (place, entry) in journal.entries.iter().enumerate() {
         let (mine, later) = posts.split_at(posts_of(posts, place));
-        push_handed(page, script, lost, finished, frames, answers, mine, entry)?;
+        push_handed(
+            page, script, lost, finished, frames, answers, mine, entry, &mut last,
+        )?;
         posts = later;
         frames = frames_after(frames, &entry.kind);
         answers = answers_after(answers, &entry.kind);
@@ -192,6 +207,7 @@ fn push_end(page: &mut Page, entries: usize, frames: usize) -> Result<(), NoMemo
 
 /// All lines, in order.
 fn push_report(
+    alloc: Global,
     page: &mut Page,
     script: &Script,
     journal: &Journal,
@@ -205,7 +221,7 @@ fn push_report(
         page.old page.new) }
 {
     push_title(page)?;
-    push_history(page, script, journal, frames, lost, answers)?;
+    push_history(alloc, page, script, journal, frames, lost, answers)?;
     let entries = journal.entries.as_slice();
     push_end(page, entries.len(), frames.len())?;
     Ok(())
@@ -230,8 +246,8 @@ pub fn print_report(
 {
     let answers = answers.as_slice();
     let mut count = Page::Count(0);
-    push_report(&mut count, script, journal, frames, lost, answers)?;
+    push_report(alloc, &mut count, script, journal, frames, lost, answers)?;
     let mut page = Page::with_room(alloc, count)?;
-    push_report(&mut page, script, journal, frames, lost, answers)?;
+    push_report(alloc, &mut page, script, journal, frames, lost, answers)?;
     Ok(page.into_text())
 }

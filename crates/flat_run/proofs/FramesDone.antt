@@ -21,7 +21,9 @@ use Rattle.flat_places.specs.declared.script.Script.{Script}
 use Rattle.flat_forms.specs.Body.{dones, ends_frame}
 use Rattle.flat_playable.specs.Playable.{is_playable, rise_from}
 use Rattle.flat_base.proofs.lemmas.Tests.{and-left}
+use Rattle.flat_rules.proofs.lemmas.FrameKinds.{not-finish}
 use Rattle.flat_play.proofs.lemmas.Places.{rises}
+use Rattle.flat_play.proofs.lemmas.Seen.{frames_more}
 use Rattle.flat_play.proofs.lemmas.Unread.{rise_first, rise_later}
 
 -- ---- lines whose numbers rise
@@ -140,41 +142,23 @@ dones-are (next ∷ later) =
 
 -- ---- only the display finishes frames
 
-no-finish : (k : Kind) → session_may k ≡ true → is_finish k ≡ false
-no-finish kind.Finish may = absurd (let e : false ≡ true = may in cc)
-no-finish (kind.View p) may = refl
-no-finish (kind.Viewport p props) may = refl
-no-finish (kind.Present args) may = refl
-no-finish (kind.Get get) may = refl
-no-finish (kind.Signal f) may = refl
-no-finish kind.Poll may = refl
-no-finish (kind.Wait c) may = refl
-no-finish (kind.Close reason) may = refl
-no-finish (kind.End refused) may = refl
-no-finish (kind.Begin time) may = refl
-no-finish (kind.Hit x y) may = refl
-
 abbrev number_of : Bool → ℕ
 number_of b = cond b 1 0
 
 -- how many frames an entry finishes, by who makes it
 one-more : (setup : Setup) (k : Kind) (actor : Actor) → may_act setup k actor ≡ true → cond (is_display actor) (number_of (is_finish k)) 0 ≡ number_of (is_finish k)
 one-more setup k Display may = refl
-one-more setup k (Session s) may = ap number_of (sym (no-finish k (and-left (session_may k) _ may)))
+one-more setup k (Session s) may = ap number_of (sym (not-finish k (and-left (session_may k) _ may)))
 one-more setup k (Probe p) may = absurd (let e : false ≡ true = may in cc)
 
 finishes-more : (b : Bool) (before : List Entry) (entry : Entry) → finishes (cond b (entry ∷ by_display before) (by_display before)) ≡ finishes (by_display before) + cond b (cond (is_finish entry.kind) 1 0) 0
 finishes-more true before entry = refl
 finishes-more false before entry = omega arith
 
-frames-more : (b : Bool) (before : List Entry) (entry : Entry) → is_finish entry.kind ≡ b → frames (before ▹ entry) ≡ frames before + cond b 1 0
-frames-more true before entry is = rw is (omega arith)
-frames-more false before entry is = rw is (omega arith)
-
 frames-are : (setup : Setup) (history : List Entry) → Legal setup history → frames history ≡ finishes (by_display history)
 frames-are setup [] legal = refl
 frames-are setup (before ▹ entry) (legal, last) =
-    frames-more (is_finish entry.kind) before entry refl ∙ ap (λ n. n + cond (is_finish entry.kind) 1 0) (frames-are setup before legal)
+    frames_more before entry (is_finish entry.kind) refl ∙ ap (λ n. n + cond (is_finish entry.kind) 1 0) (frames-are setup before legal)
     ∙ ap (λ n. finishes (by_display before) + n) (sym (one-more setup entry.kind entry.actor last.may.acts)) ∙ sym (finishes-more (is_display entry.actor) before entry)
 
 all-finished : (f u n : ℕ) → f + u ≡ n → u ≡ 0 → f ≡ n

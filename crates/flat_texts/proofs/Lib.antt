@@ -1,2 +1,3 @@
 pub mod Damaging
+pub mod Examples
 pub mod Printing

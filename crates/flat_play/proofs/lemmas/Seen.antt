@@ -22,7 +22,8 @@ use Rattle.flat_play.specs.Showing.{IsShown, shows_frame, shows_none, HaveSeen}
 use Rattle.flat_base.proofs.lemmas.Tests.{or-false}
 use Rattle.flat_play.proofs.Losses.{shows_rise, loss_more, loss_same, numbered_more}
 
-frames_more : (before : List Entry) (entry : Entry) (b : Bool) → is_finish entry.kind ≡ b → frames (before ▹ entry) ≡ frames before + cond b 1 0
+-- how many frames were finished, with one entry more
+pub frames_more : (before : List Entry) (entry : Entry) (b : Bool) → is_finish entry.kind ≡ b → frames (before ▹ entry) ≡ frames before + cond b 1 0
 frames_more before entry true is = rw is (omega arith)
 frames_more before entry false is = rw is (omega arith)
 

@@ -46,16 +46,6 @@ use Rattle.flat_play.proofs.lemmas.Unread.{rise_first, rise_later, later_all}
 pub sessions_more : (n : ℕ) → sessions_to (n + 1) ≡ sessions_to n ++ (let s : SessionNo = record { 0 = n + 1 } in s) ∷ []
 sessions_more n = ap sessions_to (add-one n) ∙ ap (λ k. sessions_to n ++ (let s : SessionNo = record { 0 = k } in s) ∷ []) (sym (add-one n))
 
--- the shares of the display and of the first sessions
-abbrev pub shares_to : List ScriptLine → ℕ → List ℕ
-shares_to lines n = lines_by 0 lines ∷ map (λ s. lines_by s.0 lines + 1) (sessions_to n)
-
-pub shares_more : (lines : List ScriptLine) (n : ℕ) → shares_to lines n ++ (lines_by (n + 1) lines + 1) ∷ [] ≡ shares_to lines (n + 1)
-shares_more lines n =
-    let f : SessionNo → ℕ = λ s. lines_by s.0 lines + 1 in
-    let s : SessionNo = record { 0 = n + 1 } in
-    ap (λ t. lines_by 0 lines ∷ t) (sym (ap (map f) (sessions_more n) ∙ map-append f (sessions_to n) (s ∷ [])))
-
 pub shares_length : (script : Script) → length (shares_of script) ≡ script.setup.sessions + 1
 shares_length script =
     let rest : length (rest_shares script) ≡ script.setup.sessions = length-listed (λ s. lines_by s.0 script.lines + 1) script.setup.sessions in

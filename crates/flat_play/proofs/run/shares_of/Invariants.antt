@@ -1,6 +1,9 @@
-use Rattle.std.proofs.Common.{◌≡◌}
-use Rattle.flat_play.proofs.lemmas.Starting.{shares_to}
+use Rattle.std.proofs.Common.{◌≡◌, take, []}
+use Rattle.flat_play.proofs.Shares.{shares_to}
 use Rattle.flat_play.proofs.run.shares_of.Given as goal
 
-abbrev pub invariant-loop-before : goal.invariant-loop-before
-invariant-loop-before l = record { shares : l.shares ≡ shares_to l.script.lines l.before; lines : l.lines ≡ l.script.lines }
+abbrev pub invariant-loop : goal.invariant-loop
+invariant-loop l = l.shares ≡ shares_to [] l.counter
+
+abbrev pub invariant-loop-place : goal.invariant-loop-place
+invariant-loop-place l = l.shares ≡ shares_to (take l.place l.script.lines) l.script.setup.sessions

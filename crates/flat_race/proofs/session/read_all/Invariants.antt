@@ -1,6 +1,6 @@
-use Rattle.std.proofs.Common.{◌≡◌}
-use Rattle.flat_race.specs.Sessions.{SessionStands}
+use Rattle.std.proofs.Common.{drop}
+use Rattle.flat_race.specs.OwnLines.{StandsBefore}
 use Rattle.flat_race.proofs.session.read_all.Given as goal
 
-abbrev pub invariant-loop-place : goal.invariant-loop-place
-invariant-loop-place g l = SessionStands l.lent.script.now l.lent.stage.now l.initial.seat.session l.place l.seat
+abbrev pub invariant-loop-i : goal.invariant-loop-i
+invariant-loop-i g l = StandsBefore l.lent.script.now l.lent.stage.now l.initial.seat.session (drop l.i l.places.now) l.seat

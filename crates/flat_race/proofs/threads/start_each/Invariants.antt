@@ -1,4 +1,5 @@
 use Rattle.std.proofs.Common.{◌≡◌, ◌≤◌, length, vec_capacity}
+use Rattle.flat_race.specs.OwnLines.{ArePlaces}
 use Rattle.flat_race.specs.Sessions.{AreLeft, AreOut}
 use Rattle.flat_race.proofs.threads.start_each.Given as goal
 
@@ -7,5 +8,7 @@ invariant-loop-before g l = record {
   own : l.seats.stage ≡ l.lent.stage.now;
   left : AreLeft l.lent.stage.now l.lent.script.now.setup.sessions l.before l.seats.seats;
   out : AreOut l.lent.stage.now l.lent.script.now l.before l.out.items;
+  places : ArePlaces l.lent.script.now.lines l.before l.places.items;
+  many : length l.places.items ≡ l.lent.script.now.setup.sessions;
   room : l.lent.script.now.setup.sessions ≤ vec_capacity l.out;
 }

@@ -1,0 +1,172 @@
+-- The places of the sessions' lines, noted one after another, and read one after another.
+use Rattle.std.proofs.Common.{◌≡◌, ◌⊎◌, inl, inr, ℕ, zero, suc, ◌+◌, ◌-◌, ◌<◌, ◌≤◌, Bool, true, false, cond, ◌==◌, List, [], ◌∷◌, ◌++◌, length, take, drop, slice_get, slice_set, slice_index_or, Option, Some, None, refl, sym, ap, ◌∙◌, subst, arith, append-nil, get_or, eq-or-lt_of_le}
+use Rattle.std.proofs.lemmas.Bool.Decides.{nat_tests}
+use Rattle.std.proofs.lemmas.Option.{slice_get-get_or}
+use Rattle.flat_base.specs.declared.ids.Actor.{Actor}
+use Rattle.flat_base.specs.declared.ids.Actor.TheVariants.{Display, Session, Probe}
+use Rattle.flat_base.specs.declared.ids.SessionNo.{SessionNo}
+use Rattle.flat_scene.specs.declared.script.ScriptLine.{ScriptLine}
+use Rattle.flat_scene.specs.History.{is_session}
+use Rattle.flat_places.specs.declared.script.Script.{Script}
+use Rattle.flat_playable.specs.Playable.{is_playable}
+use Rattle.flat_stage.specs.Seats.{SessionView, StageView}
+use Rattle.flat_play.proofs.lemmas.Places.{drop_at}
+use Rattle.flat_play.proofs.lemmas.Steps.{At, at_place}
+use Rattle.flat_race.specs.OwnLines.{ArePlaces, StandsBefore, noted, own_places, places_from}
+use Rattle.flat_race.specs.Sessions.{SessionStands}
+use Rattle.flat_race.proofs.Outs.{got-other, got-same}
+use Rattle.flat_race.proofs.SessionSteps.{no_line, skips}
+
+-- ---- one line more
+
+-- the places of one line more
+abbrev last-place : SessionNo → ℕ → ScriptLine → List ℕ
+last-place s place x = cond (is_session s x.actor) (place ∷ []) []
+
+by-last : (b : Bool) (first : ℕ) (xs ys : List ℕ) → cond b (first ∷ (xs ++ ys)) (xs ++ ys) ≡ cond b (first ∷ xs) xs ++ ys
+by-last true first xs ys = refl
+by-last false first xs ys = refl
+
+places-behind : (s : SessionNo) (first : ℕ) (lines : List ScriptLine) (x : ScriptLine) → places_from s first (lines ++ x ∷ []) ≡ places_from s first lines ++ last-place s (first + length lines) x
+places-behind s first [] x = ap (λ n. last-place s n x) (let same : first ≡ first + 0 = omega arith in same)
+places-behind s first (next ∷ later) x =
+    let at : suc first + length later ≡ first + suc (length later) = omega arith in
+    let rest : places_from s (suc first) (later ++ x ∷ []) ≡ places_from s (suc first) later ++ last-place s (first + suc (length later)) x =
+    places-behind s (suc first) later x ∙ ap (λ n. places_from s (suc first) later ++ last-place s n x) at in
+    ap (λ ps. cond (is_session s next.actor) (first ∷ ps) ps) rest ∙ by-last (is_session s next.actor) first (places_from s (suc first) later) (last-place s (first + suc (length later)) x)
+
+module _ (lines : List ScriptLine) (place : ℕ) (x : ScriptLine) (taken : take (place + 1) lines ≡ take place lines ++ x ∷ []) (long : length (take place lines) ≡ place) where
+  own-more : (s : SessionNo) → own_places s (take (place + 1) lines) ≡ own_places s (take place lines) ++ last-place s place x
+  own-more s = ap (own_places s) taken ∙ places-behind s 0 (take place lines) x ∙ ap (λ n. own_places s (take place lines) ++ last-place s n x) (let same : 0 + length (take place lines) ≡ place = omega (arith, long) in same)
+
+  own-same : (s : SessionNo) → is_session s x.actor ≡ false → own_places s (take (place + 1) lines) ≡ own_places s (take place lines)
+  own-same s other = own-more s ∙ ap (λ b. own_places s (take place lines) ++ cond b (place ∷ []) []) other ∙ append-nil (own_places s (take place lines))
+
+  own-one : (s : SessionNo) → is_session s x.actor ≡ true → own_places s (take (place + 1) lines) ≡ own_places s (take place lines) ++ place ∷ []
+  own-one s is = own-more s ∙ ap (λ b. own_places s (take place lines) ++ cond b (place ∷ []) []) is
+
+  -- a line that is no session's
+  pub noted-none : (places : List (List ℕ)) → ((s : SessionNo) → is_session s x.actor ≡ false) → ArePlaces (take place lines) 0 places → ArePlaces (take (place + 1) lines) 0 places
+  noted-none places none are = record { each = λ k own le got. are.each k own le got ∙ sym (own-same (record { 0 = k + 1 }) (none (record { 0 = k + 1 }))) }
+
+  -- a session's line
+  pub noted-one : (s : SessionNo) (places : List (List ℕ)) → x.actor ≡ Session s → 0 < s.0 → s.0 - 1 < length places → ArePlaces (take place lines) 0 places → ArePlaces (take (place + 1) lines) 0 (noted s place places)
+  noted-one s places who some within are = record { each = λ k own le got. by k own got (s.0 == (k + 1)) refl }
+    where
+      of : (k : ℕ) → SessionNo
+      of k = record { 0 = k + 1 }
+
+      by : (k : ℕ) (own : List ℕ) → slice_get (noted s place places) k ≡ Some own → (b : Bool) → (s.0 == (k + 1)) ≡ b → own ≡ own_places (of k) (take (place + 1) lines)
+      by k own got true is =
+          let here : k ≡ s.0 - 1 = let same : s.0 ≡ k + 1 = grind (arith, nat_tests) in omega (arith, same) in
+          let new : List ℕ = slice_index_or places (s.0 - 1) [] ++ place ∷ [] in
+          let old : slice_index_or places (s.0 - 1) [] ≡ own_places (of k) (take place lines) =
+          are.each k (slice_index_or places (s.0 - 1) []) (omega arith) (ap (slice_get places) here ∙ slice_get-get_or places (s.0 - 1) [] within) in
+          let mine : Some own ≡ Some new = sym got ∙ ap (slice_get (noted s place places)) here ∙ got-same places (s.0 - 1) new within in
+          let one : own ≡ new = cc in
+          one ∙ ap (λ ps. ps ++ place ∷ []) old ∙ sym (own-one (of k) (ap (is_session (of k)) who ∙ is))
+      by k own got false is =
+          let apart : k ≡ s.0 - 1 → ⊥ = λ same. (let wrong : (s.0 == (k + 1)) ≡ true = (let at : s.0 ≡ k + 1 = omega (arith, same, some) in grind (arith, nat_tests)) in let both : true ≡ false = sym wrong ∙ is in absurd (cc)) in
+          are.each k own (omega arith) (sym (got-other places (s.0 - 1) k (slice_index_or places (s.0 - 1) [] ++ place ∷ []) apart) ∙ got) ∙ sym (own-same (of k) (ap (is_session (of k)) who ∙ is))
+
+-- before any line
+pub placed-none : (lines : List ScriptLine) (places : List (List ℕ)) → ((k : ℕ) (own : List ℕ) → slice_get places k ≡ Some own → own ≡ []) → ArePlaces (take 0 lines) 0 places
+placed-none lines places none = record { each = λ k own le got. none k own got }
+
+-- ---- reading them
+
+same-some : (x y : ScriptLine) → Some x ≡ Some y → x ≡ y
+same-some x y is = cc
+
+first-is : (x y : ℕ) (xs ys : List ℕ) → x ∷ xs ≡ y ∷ ys → x ≡ y
+first-is x y xs ys is = cc
+
+rest-is : (x y : ℕ) (xs ys : List ℕ) → x ∷ xs ≡ y ∷ ys → xs ≡ ys
+rest-is x y xs ys is = cc
+
+module _ (script : Script) (view : StageView) (s : SessionNo) (seat : SessionView) (playable : is_playable script ≡ true) where
+  -- A seat before its next line stands at that place.
+  pub record StandsAt (place : ℕ) (left : List ℕ) : Type 0 where
+    pub line : ScriptLine
+    pub here : slice_get script.lines place ≡ Some line
+    pub mine : is_session s line.actor ≡ true
+    pub stands : SessionStands script view s place seat
+    pub are_left : left ≡ places_from s (place + 1) (drop (place + 1) script.lines)
+
+  -- the line at a place, and those behind it
+  got-first : (place : ℕ) (lines : List ScriptLine) (x : ScriptLine) (later : List ScriptLine) → drop place lines ≡ x ∷ later → slice_get lines place ≡ Some x
+  got-first zero (y ∷ ys) x later is = let same : y ≡ x = cc in ap Some same
+  got-first zero [] x later is = absurd (cc)
+  got-first (suc place) [] x later is = absurd (cc)
+  got-first (suc place) (y ∷ ys) x later is = got-first place ys x later is
+
+  same-later : (x y : ScriptLine) (xs ys : List ScriptLine) → x ∷ xs ≡ y ∷ ys → xs ≡ ys
+  same-later x y xs ys is = cc
+
+  stand-on : (place : ℕ) (x : ScriptLine) → slice_get script.lines place ≡ Some x → is_session s x.actor ≡ false → SessionStands script view s place seat → SessionStands script view s (place + 1) seat
+  stand-on place x here other stands = skips script view s place x (at_place script place x playable here) (no_line s x.actor x.number x.body other) seat stands
+
+  behind-is : (place : ℕ) (x : ScriptLine) (later : List ScriptLine) → drop place script.lines ≡ x ∷ later → later ≡ drop (place + 1) script.lines
+  behind-is place x later is = same-later x x later (drop (place + 1) script.lines) (sym is ∙ drop_at script.lines place x (got-first place script.lines x later is))
+
+  next-at : (lines : List ScriptLine) (place next : ℕ) (left : List ℕ) → drop place script.lines ≡ lines → next ∷ left ≡ places_from s place lines → SessionStands script view s place seat → StandsAt next left
+  next-at [] place next left at is stands = absurd (cc)
+  next-at (x ∷ later) place next left at is stands = by (is_session s x.actor) refl is
+    where
+      here : slice_get script.lines place ≡ Some x
+      here = got-first place script.lines x later at
+
+      behind : later ≡ drop (place + 1) script.lines
+      behind = behind-is place x later at
+
+      step : suc place ≡ place + 1
+      step = omega arith
+
+      by : (b : Bool) → is_session s x.actor ≡ b → next ∷ left ≡ cond b (place ∷ places_from s (suc place) later) (places_from s (suc place) later) → StandsAt next left
+      by true mine is =
+          let same : place ≡ next = sym (first-is next place left _ is) in
+          let rest : left ≡ places_from s (place + 1) (drop (place + 1) script.lines) = rest-is next place left _ is ∙ (λ i. places_from s (step i) (behind i)) in
+          subst (λ n. StandsAt n left) same (record { line = x; here = here; mine = mine; stands = stands; are_left = rest })
+      by false other is =
+          let on : SessionStands script view s (suc place) seat = subst (λ n. SessionStands script view s n seat) (sym step) (stand-on place x here other stands) in
+          next-at later (suc place) next left (ap (λ n. drop n script.lines) step ∙ sym behind) is on
+
+  pub next-line : (next : ℕ) (left : List ℕ) → StandsBefore script view s (next ∷ left) seat → StandsAt next left
+  next-line next left before = next-at (drop before.place script.lines) before.place next left refl before.are_left before.stands
+
+  all-behind : (lines : List ScriptLine) (place : ℕ) → drop place script.lines ≡ lines → [] ≡ places_from s place lines → place ≤ length script.lines → SessionStands script view s place seat → SessionStands script view s (length script.lines) seat
+  all-behind [] place at is within stands = subst (λ n. SessionStands script view s n seat) (end place script.lines at within) stands
+    where
+      end : (n : ℕ) (ys : List ScriptLine) → drop n ys ≡ [] → n ≤ length ys → n ≡ length ys
+      end zero [] none le = refl
+      end (suc n) [] none le = absurd (omega arith)
+      end zero (y ∷ ys) none le = absurd (cc)
+      end (suc n) (y ∷ ys) none le = ap suc (end n ys none (omega arith))
+  all-behind (x ∷ later) place at is within stands = by (is_session s x.actor) refl is
+    where
+      step : suc place ≡ place + 1
+      step = omega arith
+
+      more : (n : ℕ) (ys : List ScriptLine) → drop n ys ≡ x ∷ later → suc n ≤ length ys
+      more zero [] some = absurd (cc)
+      more zero (y ∷ ys) some = omega arith
+      more (suc n) [] some = absurd (cc)
+      more (suc n) (y ∷ ys) some = let rest = more n ys some in omega (arith, rest)
+
+      by : (b : Bool) → is_session s x.actor ≡ b → [] ≡ cond b (place ∷ places_from s (suc place) later) (places_from s (suc place) later) → SessionStands script view s (length script.lines) seat
+      by true mine is = absurd (cc)
+      by false other is =
+          let on : SessionStands script view s (suc place) seat = subst (λ n. SessionStands script view s n seat) (sym step) (stand-on place x (got-first place script.lines x later at) other stands) in
+          all-behind later (suc place) (ap (λ n. drop n script.lines) step ∙ sym (behind-is place x later at)) is (more place script.lines at) on
+
+  pub all-read : StandsBefore script view s [] seat → SessionStands script view s (length script.lines) seat
+  all-read before = all-behind (drop before.place script.lines) before.place refl before.are_left before.within before.stands
+
+  -- behind a line that was read
+  pub line-read : (seat' : SessionView) (place : ℕ) (left : List ℕ) → StandsAt place left → SessionStands script view s (place + 1) seat' → StandsBefore script view s left seat'
+  line-read seat' place left at stands = record { place = place + 1; within = inside place script.lines at.line at.here; stands = stands; are_left = at.are_left }
+    where
+      inside : (n : ℕ) (ys : List ScriptLine) (x : ScriptLine) → slice_get ys n ≡ Some x → n + 1 ≤ length ys
+      inside n [] x got = absurd (cc)
+      inside zero (y ∷ ys) x got = omega arith
+      inside (suc n) (y ∷ ys) x got = let rest = inside n ys x got in omega (arith, rest)

@@ -1,0 +1,69 @@
+-- Worked cases, computed.
+use Rattle.std.proofs.Common.{ℕ, ◌+◌, ◌*◌, ◌≡◌, refl, false, List, [], ◌∷◌}
+use Rattle.std.specs.Prelude.{codes, pos}
+use Rattle.std.specs.Fmt.{digits}
+use Rattle.flat_base.specs.declared.ids.Actor.TheVariants.{Display}
+use Rattle.flat_base.specs.declared.shapes.Rect.{Rect}
+use Rattle.flat_scene.specs.declared.calls.BlendMode.TheVariants.{Src}
+use Rattle.flat_scene.specs.declared.frames.DrawItem.{DrawItem}
+use Rattle.flat_scene.specs.declared.frames.FrameOut.{FrameOut}
+use Rattle.flat_scene.specs.declared.frames.Paint.TheVariants.{Fill}
+use Rattle.flat_scene.specs.declared.journal.Entry.{Entry}
+use Rattle.flat_scene.specs.declared.journal.Kind.{Kind}
+use Rattle.flat_scene.specs.declared.journal.Kind.TheVariants.{Begin, Finish}
+use Rattle.flat_scene.specs.declared.journal.Reply.TheVariants.{Done}
+use Rattle.flat_texts.specs.declared.damage.Damaged.{Damaged}
+use Rattle.flat_texts.specs.Damages.{IsDamageText, damaged_text, none}
+use Rattle.flat_texts.specs.Lines.{finish_lines}
+use Rattle.flat_texts.specs.Pictures.{last_list}
+
+abbrev square : Rect
+square = record { x0 = pos 0; y0 = pos 0; x1 = pos 655360; y1 = pos 655360 }
+
+abbrev fill : ℕ → DrawItem
+fill serial = record {
+  session = record { 0 = 1 };
+  serial = serial;
+  paint = Fill (255 ∷ 0 ∷ 0 ∷ 255 ∷ []);
+  w = 10;
+  h = 10;
+  matrix = record { swap = false; a = pos 65536; b = pos 65536; x = pos 0; y = pos 0 };
+  visible = square;
+  opacity = 65536;
+  blend = Src;
+}
+
+abbrev frame_with : ℕ → List DrawItem → FrameOut
+frame_with number items = record { frame = record { 0 = number }; items = items; tree = record { nodes = []; apart = [] } }
+
+-- ---- pictures
+
+the_last_frame_is_shown : last_list [] (frame_with 1 (fill 1 ∷ []) ∷ frame_with 2 (fill 2 ∷ []) ∷ []) ≡ fill 2 ∷ []
+the_last_frame_is_shown = refl
+
+nothing_is_shown_before_the_first : last_list [] [] ≡ []
+nothing_is_shown_before_the_first = refl
+
+-- ---- damage
+
+unfolding digits
+nothing_changed : damaged_text [] ≡ codes "damage ends frames 0\n"
+nothing_changed = refl
+
+abbrev one_rectangle : Damaged
+one_rectangle = record { frame = record { 0 = 1 }; rects = square ∷ [] }
+
+unfolding digits
+a_rectangle_has_a_line : damaged_text (one_rectangle ∷ []) ≡ codes "damage frame 1 rects 1\nrect 0 0 655360 655360\ndamage ends frames 1\n"
+a_rectangle_has_a_line = refl
+
+no_frames_have_this_text : IsDamageText [] (damaged_text [])
+no_frames_have_this_text = record { damaged = []; are = none; is = refl }
+
+-- ---- lines
+
+abbrev by_line : ℕ → Kind → Entry
+by_line number kind = record { actor = Display; line = number; calls = []; kind = kind; reply = Done }
+
+frames_are_finished_by_their_done : finish_lines (by_line 4 (Begin 1) ∷ by_line 6 Finish ∷ by_line 7 (Begin 2) ∷ by_line 9 Finish ∷ []) ≡ 6 ∷ 9 ∷ []
+frames_are_finished_by_their_done = refl
