@@ -120,9 +120,7 @@ impl Page {
     {
         match self {
             Page::Count(count) => {
-                *count = count
-                    .checked_add(count_length(value))
-                    .ok_or(NoMemory)?;
+                *count = count.checked_add(count_length(value)).ok_or(NoMemory)?;
             }
             Page::Text(text) => {
                 let mut bytes = [0; NUMBER_BYTES];
@@ -138,9 +136,7 @@ impl Page {
     {
         match self {
             Page::Count(count) => {
-                *count = count
-                    .checked_add(place_length(value))
-                    .ok_or(NoMemory)?;
+                *count = count.checked_add(place_length(value)).ok_or(NoMemory)?;
             }
             Page::Text(text) => {
                 let mut bytes = [0; NUMBER_BYTES];

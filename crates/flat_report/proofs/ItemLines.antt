@@ -14,11 +14,11 @@ use Rattle.flat_report.specs.FrameLines.{item_line}
 use Rattle.flat_report.specs.ItemLines.{AreLast, AreLines, HasLine, HaveLines, line_text}
 
 -- The lines of the first so many items stand on a page, each on its part.
-pub record AreSoFar (script : Script) (items : List DrawItem) (place : ℕ) (page : Page) (parts : List Part) (sort : Bool) : Type 0 where
+pub record AreSoFar (script : Script) (items : List DrawItem) (place : ℕ) (page : Page) (parts : List Part) (kind : Bool) : Type 0 where
   pub count : length parts ≡ place
   pub text : IsText page (text_of (map (item_line script) (take place items)))
   pub each : HaveLines script page (take place items) parts
-  pub sort : is_counting page ≡ sort
+  pub sort : is_counting page ≡ kind
 
 module _ (script : Script) where
   -- behind them more is put
@@ -33,10 +33,10 @@ module _ (script : Script) where
       let other : part ≡ part' = cc in
       subst (λ (x : DrawItem). HasLine script page x part') one (subst (λ (p : Part). HasLine script page item p) other has)
   have-more page [] [] item part long have has (suc i) item' part' is at = absurd (let wrong : None ≡ Some item' = is in cc)
-  have-more page [] (p ∷ parts) item part long have has = absurd (omega (arith, long))
-  have-more page (x ∷ items) [] item part long have has = absurd (omega (arith, long))
-  have-more page (x ∷ items) (p ∷ parts) item part long have has zero = have zero
-  have-more page (x ∷ items) (p ∷ parts) item part long have has (suc i) = have-more page items parts item part (omega (arith, long)) (λ j. have (suc j)) has i
+  have-more page [] (p ∷ parts) item part long have has i item' part' is at = absurd (omega (arith, long))
+  have-more page (x ∷ items) [] item part long have has i item' part' is at = absurd (omega (arith, long))
+  have-more page (x ∷ items) (p ∷ parts) item part long have has zero item' part' is at = have zero item' part' is at
+  have-more page (x ∷ items) (p ∷ parts) item part long have has (suc i) item' part' is at = have-more page items parts item part (omega (arith, long)) (λ j. have (suc j)) has i item' part' is at
 
   long-take : (place : ℕ) (items : List DrawItem) → place < length items → length (take place items) ≡ place
   long-take place items within = grind (arith, common_steps)

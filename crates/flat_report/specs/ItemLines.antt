@@ -28,6 +28,6 @@ pub record AreLines (script : Script) (lines : ItemLines) : Type 0 where
   pub each : HaveLines script lines.page lines.items.now lines.parts.items
 
 -- The lines are of the same sort as a page, on which they may be put.
-pub record AreLast (script : Script) (page : Page) (lines : ItemLines) : Type 0 where
-  pub lines : AreLines script lines
-  pub sort : is_counting lines.page ≡ is_counting page
+pub record AreLast (script : Script) (page : Page) (last : ItemLines) : Type 0 where
+  pub lines : AreLines script last
+  pub sort : is_counting last.page ≡ is_counting page

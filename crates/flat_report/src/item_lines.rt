@@ -67,7 +67,10 @@ impl<'a> ItemLines<'a> {
         ensures { OnOk result (WritesLines (item_line script.now item.now ∷ []) page.old page.new) }
     {
         match self.line_of(place, item) {
-            Some(part) => page.put_part(&self.page, part.start, part.end),
+            Some(part) => {
+                page.put_part(&self.page, part.start, part.end)?;
+                Ok(())
+            }
             None => push_item(page, script, item),
         }
     }
