@@ -13,6 +13,18 @@ use Rattle.flat_play.proofs.lemmas.Starting.{by_at_most, sessions_more}
 
 -- ---- one more at a place
 
+-- both one more are equal where the numbers are
+both-more : (m n : ℕ) → (suc m == suc n) ≡ (m == n)
+both-more m n = by (m == n) refl
+  where
+    by : (b : Bool) → (m == n) ≡ b → (suc m == suc n) ≡ b
+    by true is = let same : m ≡ n = grind (arith, nat_tests) in grind (arith, nat_tests)
+    by false is = by_other (suc m == suc n) refl
+      where
+        by_other : (c : Bool) → (suc m == suc n) ≡ c → c ≡ false
+        by_other true same = absurd (let equal : m ≡ n = grind (arith, nat_tests) in let wrong : (m == n) ≡ true = grind (arith, nat_tests) in let both : true ≡ false = sym wrong ∙ is in cc)
+        by_other false same = refl
+
 -- of a list that has one item more
 one-more-behind : (place : ℕ) (shares : List ℕ) (last : ℕ) → with_one_more place (shares ++ last ∷ []) ≡ with_one_more place shares ++ (last + cond (place == length shares) 1 0) ∷ []
 one-more-behind zero [] last = refl
@@ -20,8 +32,10 @@ one-more-behind (suc place) [] last = let other : (suc place == 0) ≡ false = g
 one-more-behind zero (share ∷ shares) last =
     let other : (0 == suc (length shares)) ≡ false = grind (arith, nat_tests) in
     let same : last ≡ last + cond (0 == suc (length shares)) 1 0 = rw other (omega arith) in
-    ap (λ n. share + 1 ∷ (shares ++ n ∷ [])) same
-one-more-behind (suc place) (share ∷ shares) last = ap (λ rest. share ∷ rest) (one-more-behind place shares last)
+    ap (λ n. (share + 1) ∷ (shares ++ n ∷ [])) same
+one-more-behind (suc place) (share ∷ shares) last =
+    ap (λ rest. share ∷ rest) (one-more-behind place shares last)
+    ∙ ap (λ b. share ∷ (with_one_more place shares ++ (last + cond b 1 0) ∷ [])) (sym (both-more place (length shares)))
 
 -- ---- the shares of the display and of the first sessions
 
