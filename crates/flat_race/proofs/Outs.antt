@@ -39,7 +39,7 @@ module _ {X : Type 0} where
   got-other (y ∷ ys) (suc n) zero x other = refl
   got-other (y ∷ ys) (suc n) (suc m) x other = got-other ys n m x (λ e. other (ap suc e))
 
-  set-length : (xs : List X) (n : ℕ) (x : X) → length (slice_set xs n x) ≡ length xs
+  pub set-length : (xs : List X) (n : ℕ) (x : X) → length (slice_set xs n x) ≡ length xs
   set-length [] n x = refl
   set-length (y ∷ ys) zero x = refl
   set-length (y ∷ ys) (suc n) x = ap suc (set-length ys n x)

@@ -1,6 +1,7 @@
 -- The places of the sessions' lines, noted one after another, and read one after another.
-use Rattle.std.proofs.Common.{◌≡◌, ◌⊎◌, inl, inr, ℕ, zero, suc, ◌+◌, ◌-◌, ◌<◌, ◌≤◌, Bool, true, false, cond, ◌==◌, List, [], ◌∷◌, ◌++◌, length, take, drop, slice_get, slice_set, slice_index_or, Option, Some, None, refl, sym, ap, ◌∙◌, subst, arith, append-nil, get_or, eq-or-lt_of_le}
+use Rattle.std.proofs.Common.{◌≡◌, ◌⊎◌, inl, inr, ℕ, zero, suc, ◌+◌, ◌-◌, ◌<◌, ◌≤◌, Bool, true, false, cond, ◌==◌, List, [], ◌∷◌, ◌++◌, length, take, drop, slice_get, slice_set, slice_index_or, Option, Some, None, refl, sym, ap, ◌∙◌, subst, arith, append-nil, get_or, add-one, eq-or-lt_of_le}
 use Rattle.std.proofs.lemmas.Bool.Decides.{nat_tests}
+use Rattle.std.proofs.Math.Seq.{drop-cons}
 use Rattle.std.proofs.lemmas.Option.{slice_get-get_or}
 use Rattle.flat_base.specs.declared.ids.Actor.{Actor}
 use Rattle.flat_base.specs.declared.ids.Actor.TheVariants.{Display, Session, Probe}
@@ -8,13 +9,19 @@ use Rattle.flat_base.specs.declared.ids.SessionNo.{SessionNo}
 use Rattle.flat_scene.specs.declared.script.ScriptLine.{ScriptLine}
 use Rattle.flat_scene.specs.History.{is_session}
 use Rattle.flat_places.specs.declared.script.Script.{Script}
-use Rattle.flat_playable.specs.Playable.{is_playable}
+use Rattle.flat_scene.specs.declared.script.Body.{Body}
+use Rattle.flat_scene.specs.declared.script.Body.TheVariants as body
+use Rattle.flat_scene.specs.declared.setup.Setup.{Setup}
+use Rattle.flat_scene.specs.Setups.{is_declared}
+use Rattle.flat_playable.specs.Playable.{is_playable, is_played}
+use Rattle.flat_base.proofs.lemmas.Tests.{and-left}
+use Rattle.flat_play.proofs.lemmas.GameSteps.{below_declared}
 use Rattle.flat_stage.specs.Seats.{SessionView, StageView}
 use Rattle.flat_play.proofs.lemmas.Places.{drop_at}
 use Rattle.flat_play.proofs.lemmas.Steps.{At, at_place}
 use Rattle.flat_race.specs.OwnLines.{ArePlaces, StandsBefore, noted, own_places, places_from}
 use Rattle.flat_race.specs.Sessions.{SessionStands}
-use Rattle.flat_race.proofs.Outs.{got-other, got-same}
+use Rattle.flat_race.proofs.Outs.{got-other, got-same, set-length}
 use Rattle.flat_race.proofs.SessionSteps.{no_line, skips}
 
 -- ---- one line more
@@ -46,32 +53,69 @@ module _ (lines : List ScriptLine) (place : ℕ) (x : ScriptLine) (taken : take 
   own-one s is = own-more s ∙ ap (λ b. own_places s (take place lines) ++ cond b (place ∷ []) []) is
 
   -- a line that is no session's
-  pub noted-none : (places : List (List ℕ)) → ((s : SessionNo) → is_session s x.actor ≡ false) → ArePlaces (take place lines) 0 places → ArePlaces (take (place + 1) lines) 0 places
+  noted-none : (places : List (List ℕ)) → ((s : SessionNo) → is_session s x.actor ≡ false) → ArePlaces (take place lines) 0 places → ArePlaces (take (place + 1) lines) 0 places
   noted-none places none are = record { each = λ k own le got. are.each k own le got ∙ sym (own-same (record { 0 = k + 1 }) (none (record { 0 = k + 1 }))) }
 
   -- a session's line
-  pub noted-one : (s : SessionNo) (places : List (List ℕ)) → x.actor ≡ Session s → 0 < s.0 → s.0 - 1 < length places → ArePlaces (take place lines) 0 places → ArePlaces (take (place + 1) lines) 0 (noted s place places)
+  noted-one : (s : SessionNo) (places : List (List ℕ)) → x.actor ≡ Session s → 0 < s.0 → s.0 - 1 < length places → ArePlaces (take place lines) 0 places → ArePlaces (take (place + 1) lines) 0 (noted (Session s) place places)
   noted-one s places who some within are = record { each = λ k own le got. by k own got (s.0 == (k + 1)) refl }
     where
       of : (k : ℕ) → SessionNo
       of k = record { 0 = k + 1 }
 
-      by : (k : ℕ) (own : List ℕ) → slice_get (noted s place places) k ≡ Some own → (b : Bool) → (s.0 == (k + 1)) ≡ b → own ≡ own_places (of k) (take (place + 1) lines)
+      by : (k : ℕ) (own : List ℕ) → slice_get (noted (Session s) place places) k ≡ Some own → (b : Bool) → (s.0 == (k + 1)) ≡ b → own ≡ own_places (of k) (take (place + 1) lines)
       by k own got true is =
           let here : k ≡ s.0 - 1 = let same : s.0 ≡ k + 1 = grind (arith, nat_tests) in omega (arith, same) in
           let new : List ℕ = slice_index_or places (s.0 - 1) [] ++ place ∷ [] in
           let old : slice_index_or places (s.0 - 1) [] ≡ own_places (of k) (take place lines) =
           are.each k (slice_index_or places (s.0 - 1) []) (omega arith) (ap (slice_get places) here ∙ slice_get-get_or places (s.0 - 1) [] within) in
-          let mine : Some own ≡ Some new = sym got ∙ ap (slice_get (noted s place places)) here ∙ got-same places (s.0 - 1) new within in
+          let mine : Some own ≡ Some new = sym got ∙ ap (slice_get (noted (Session s) place places)) here ∙ got-same places (s.0 - 1) new within in
           let one : own ≡ new = cc in
           one ∙ ap (λ ps. ps ++ place ∷ []) old ∙ sym (own-one (of k) (ap (is_session (of k)) who ∙ is))
       by k own got false is =
           let apart : k ≡ s.0 - 1 → ⊥ = λ same. (let wrong : (s.0 == (k + 1)) ≡ true = (let at : s.0 ≡ k + 1 = omega (arith, same, some) in grind (arith, nat_tests)) in let both : true ≡ false = sym wrong ∙ is in absurd (cc)) in
           are.each k own (omega arith) (sym (got-other places (s.0 - 1) k (slice_index_or places (s.0 - 1) [] ++ place ∷ []) apart) ∙ got) ∙ sym (own-same (of k) (ap (is_session (of k)) who ∙ is))
 
+  -- a line
+  pub noted-line : (places : List (List ℕ)) → ((s : SessionNo) → x.actor ≡ Session s → (0 < s.0) × (s.0 ≤ length places)) → ArePlaces (take place lines) 0 places → ArePlaces (take (place + 1) lines) 0 (noted x.actor place places)
+  noted-line places within are = by x.actor refl
+    where
+      by : (who : Actor) → x.actor ≡ who → ArePlaces (take (place + 1) lines) 0 (noted who place places)
+      by (Session s) who = let inside = within s who in noted-one s places who inside.0 (let some = inside.0 in let few = inside.1 in omega (arith, some, few)) are
+      by Display who = noted-none places (λ s. ap (is_session s) who) are
+      by (Probe p) who = noted-none places (λ s. ap (is_session s) who) are
+
+-- there are as many lists as before
+pub noted-long : (who : Actor) (place : ℕ) (places : List (List ℕ)) → length (noted who place places) ≡ length places
+noted-long (Session s) place places = set-length places (s.0 - 1) (slice_index_or places (s.0 - 1) [] ++ place ∷ [])
+noted-long Display place places = refl
+noted-long (Probe p) place places = refl
+
 -- before any line
 pub placed-none : (lines : List ScriptLine) (places : List (List ℕ)) → ((k : ℕ) (own : List ℕ) → slice_get places k ≡ Some own → own ≡ []) → ArePlaces (take 0 lines) 0 places
 placed-none lines places none = record { each = λ k own le got. none k own got }
+
+-- ---- handing them out
+
+-- the next session's
+pub placed-own : (lines : List ScriptLine) (k : ℕ) (places : List (List ℕ)) (own : List ℕ) → slice_get places k ≡ Some own → ArePlaces lines k places → own ≡ own_places (record { 0 = k + 1 }) lines
+placed-own lines k places own got are = are.each k own (omega arith) got
+
+-- and those behind it
+pub placed-next : (lines : List ScriptLine) (k : ℕ) (places : List (List ℕ)) (other : List ℕ) → ArePlaces lines k places → ArePlaces lines (k + 1) (slice_set places k other)
+placed-next lines k places other are = record {
+  each = λ j own le got. are.each j own (omega (arith, le)) (sym (got-other places k j other (λ same. let wrong : ⊥ = absurd (omega (arith, le, same)) in wrong)) ∙ got);
+}
+
+-- the session of a line is declared
+declared-of : (setup : Setup) (s : SessionNo) (text : Body) → is_played setup (Session s) text ≡ true → is_declared setup s ≡ true
+declared-of setup s (body.Session line) played = and-left _ _ played
+declared-of setup s (body.Display line) played = absurd (let wrong : false ≡ true = played in cc)
+declared-of setup s (body.Probe line) played = absurd (let wrong : false ≡ true = played in cc)
+
+pub declared-at : (script : Script) (place : ℕ) (x : ScriptLine) (s : SessionNo) → is_playable script ≡ true → slice_get script.lines place ≡ Some x → x.actor ≡ Session s → (0 < s.0) × (s.0 ≤ script.setup.sessions)
+declared-at script place x s playable here who =
+    below_declared script.setup s (declared-of script.setup s x.body (sym (ap (λ a. is_played script.setup a x.body) who) ∙ (at_place script place x playable here).played))
 
 -- ---- reading them
 
@@ -111,7 +155,8 @@ module _ (script : Script) (view : StageView) (s : SessionNo) (seat : SessionVie
 
   next-at : (lines : List ScriptLine) (place next : ℕ) (left : List ℕ) → drop place script.lines ≡ lines → next ∷ left ≡ places_from s place lines → SessionStands script view s place seat → StandsAt next left
   next-at [] place next left at is stands = absurd (cc)
-  next-at (x ∷ later) place next left at is stands = by (is_session s x.actor) refl is
+  next-at (x ∷ later) place next left at is stands =
+      by (is_session s x.actor) refl is (next-at later (suc place) next left (ap (λ n. drop n script.lines) step ∙ sym behind))
     where
       here : slice_get script.lines place ≡ Some x
       here = got-first place script.lines x later at
@@ -122,14 +167,13 @@ module _ (script : Script) (view : StageView) (s : SessionNo) (seat : SessionVie
       step : suc place ≡ place + 1
       step = omega arith
 
-      by : (b : Bool) → is_session s x.actor ≡ b → next ∷ left ≡ cond b (place ∷ places_from s (suc place) later) (places_from s (suc place) later) → StandsAt next left
-      by true mine is =
+      by : (b : Bool) → is_session s x.actor ≡ b → next ∷ left ≡ cond b (place ∷ places_from s (suc place) later) (places_from s (suc place) later)
+          → (next ∷ left ≡ places_from s (suc place) later → SessionStands script view s (suc place) seat → StandsAt next left) → StandsAt next left
+      by true mine is again =
           let same : place ≡ next = sym (first-is next place left _ is) in
           let rest : left ≡ places_from s (place + 1) (drop (place + 1) script.lines) = rest-is next place left _ is ∙ (λ i. places_from s (step i) (behind i)) in
           subst (λ n. StandsAt n left) same (record { line = x; here = here; mine = mine; stands = stands; are_left = rest })
-      by false other is =
-          let on : SessionStands script view s (suc place) seat = subst (λ n. SessionStands script view s n seat) (sym step) (stand-on place x here other stands) in
-          next-at later (suc place) next left (ap (λ n. drop n script.lines) step ∙ sym behind) is on
+      by false other is again = again is (subst (λ n. SessionStands script view s n seat) (sym step) (stand-on place x here other stands))
 
   pub next-line : (next : ℕ) (left : List ℕ) → StandsBefore script view s (next ∷ left) seat → StandsAt next left
   next-line next left before = next-at (drop before.place script.lines) before.place next left refl before.are_left before.stands
@@ -142,7 +186,8 @@ module _ (script : Script) (view : StageView) (s : SessionNo) (seat : SessionVie
       end (suc n) [] none le = absurd (omega arith)
       end zero (y ∷ ys) none le = absurd (cc)
       end (suc n) (y ∷ ys) none le = ap suc (end n ys none (omega arith))
-  all-behind (x ∷ later) place at is within stands = by (is_session s x.actor) refl is
+  all-behind (x ∷ later) place at is within stands =
+      by (is_session s x.actor) refl is (λ none on. all-behind later (suc place) (ap (λ n. drop n script.lines) step ∙ sym (behind-is place x later at)) none (more place script.lines at) on)
     where
       step : suc place ≡ place + 1
       step = omega arith
@@ -153,11 +198,10 @@ module _ (script : Script) (view : StageView) (s : SessionNo) (seat : SessionVie
       more (suc n) [] some = absurd (cc)
       more (suc n) (y ∷ ys) some = let rest = more n ys some in omega (arith, rest)
 
-      by : (b : Bool) → is_session s x.actor ≡ b → [] ≡ cond b (place ∷ places_from s (suc place) later) (places_from s (suc place) later) → SessionStands script view s (length script.lines) seat
-      by true mine is = absurd (cc)
-      by false other is =
-          let on : SessionStands script view s (suc place) seat = subst (λ n. SessionStands script view s n seat) (sym step) (stand-on place x (got-first place script.lines x later at) other stands) in
-          all-behind later (suc place) (ap (λ n. drop n script.lines) step ∙ sym (behind-is place x later at)) is (more place script.lines at) on
+      by : (b : Bool) → is_session s x.actor ≡ b → [] ≡ cond b (place ∷ places_from s (suc place) later) (places_from s (suc place) later)
+          → ([] ≡ places_from s (suc place) later → SessionStands script view s (suc place) seat → SessionStands script view s (length script.lines) seat) → SessionStands script view s (length script.lines) seat
+      by true mine is again = absurd (cc)
+      by false other is again = again is (subst (λ n. SessionStands script view s n seat) (sym step) (stand-on place x (got-first place script.lines x later at) other stands))
 
   pub all-read : StandsBefore script view s [] seat → SessionStands script view s (length script.lines) seat
   all-read before = all-behind (drop before.place script.lines) before.place refl before.are_left before.within before.stands
@@ -170,3 +214,26 @@ module _ (script : Script) (view : StageView) (s : SessionNo) (seat : SessionVie
       inside n [] x got = absurd (cc)
       inside zero (y ∷ ys) x got = omega arith
       inside (suc n) (y ∷ ys) x got = let rest = inside n ys x got in omega (arith, rest)
+
+  -- ---- the same at a place of the list
+
+  module _ (places : List ℕ) (i : ℕ) (inside : i < length places) (before : StandsBefore script view s (drop i places) seat) where
+    there : StandsAt (slice_index_or places i 0) (drop (i + 1) places)
+    there = next-line (slice_index_or places i 0) (drop (i + 1) places) (subst (λ left. StandsBefore script view s left seat) (drop-cons places i 0 inside ∙ ap (λ n. slice_index_or places i 0 ∷ drop n places) (sym (add-one i))) before)
+
+    pub line-here : SessionStands script view s (slice_index_or places i 0) seat
+    line-here = there.stands
+
+    pub line-within : slice_index_or places i 0 < length script.lines
+    line-within = bound (slice_index_or places i 0) script.lines there.line there.here
+      where
+        bound : (n : ℕ) (ys : List ScriptLine) (x : ScriptLine) → slice_get ys n ≡ Some x → n < length ys
+        bound n [] x got = absurd (cc)
+        bound zero (y ∷ ys) x got = omega arith
+        bound (suc n) (y ∷ ys) x got = let rest = bound n ys x got in omega (arith, rest)
+
+    pub line-mine : (next : ScriptLine) → slice_get script.lines (slice_index_or places i 0) ≡ Some next → is_session s next.actor ≡ true
+    line-mine next here = ap (λ (x : ScriptLine). is_session s x.actor) (same-some next there.line (sym here ∙ there.here)) ∙ there.mine
+
+    pub stands-at : (seat' : SessionView) → SessionStands script view s (slice_index_or places i 0 + 1) seat' → StandsBefore script view s (drop (i + 1) places) seat'
+    stands-at seat' stands = line-read seat' (slice_index_or places i 0) (drop (i + 1) places) there stands

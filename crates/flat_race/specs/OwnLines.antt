@@ -1,5 +1,7 @@
 -- The places of a session's own lines in a script.
 use Rattle.std.specs.Prelude.{◌≡◌, ℕ, suc, ◌+◌, ◌-◌, ◌≤◌, cond, List, [], ◌∷◌, ◌++◌, length, drop, Some, slice_get, slice_index_or, slice_set}
+use Rattle.flat_base.specs.declared.ids.Actor.{Actor}
+use Rattle.flat_base.specs.declared.ids.Actor.TheVariants.{Session}
 use Rattle.flat_base.specs.declared.ids.SessionNo.{SessionNo}
 use Rattle.flat_scene.specs.declared.script.ScriptLine.{ScriptLine}
 use Rattle.flat_scene.specs.History.{is_session}
@@ -20,9 +22,10 @@ own_places s lines = places_from s 0 lines
 pub record ArePlaces (lines : List ScriptLine) (first : ℕ) (places : List (List ℕ)) : Type 0 where
   pub each : (k : ℕ) (own : List ℕ) → first ≤ k → slice_get places k ≡ Some own → own ≡ own_places (record { 0 = k + 1 }) lines
 
--- the lists with one place more of a session
-abbrev pub noted : SessionNo → ℕ → List (List ℕ) → List (List ℕ)
-noted s place places = slice_set places (s.0 - 1) (slice_index_or places (s.0 - 1) [] ++ place ∷ [])
+-- the lists with the place of one line more of an actor
+abbrev pub noted : Actor → ℕ → List (List ℕ) → List (List ℕ)
+noted (Session s) place places = slice_set places (s.0 - 1) (slice_index_or places (s.0 - 1) [] ++ place ∷ [])
+noted _ place places = places
 
 -- A session's seat stands behind some of its lines, and before the first of those that are left.
 pub record StandsBefore (script : Script) (view : StageView) (s : SessionNo) (left : List ℕ) (seat : SessionView) : Type 0 where
