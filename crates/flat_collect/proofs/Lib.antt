@@ -1,5 +1,9 @@
+pub mod Counting
+pub mod Finding
 pub mod Judging
+pub mod Marks
 pub mod Searches
+pub mod Sweeps
 pub mod Twice
 pub mod Walks
 pub mod lemmas
