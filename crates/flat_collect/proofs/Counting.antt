@@ -67,10 +67,6 @@ all-listed (key ∷ keys) nodes once kept many k there =
 abbrev pub keys_of : List Named → List ℕ
 keys_of names = map (λ name. name.key) names
 
-pub keys-count : (names : List Named) → length (keys_of names) ≡ length names
-keys-count [] = refl
-keys-count (name ∷ names) = omega (arith, keys-count names)
-
 first-named : (name : Named) (names : List Named) (key : ℕ) → name.key ≡ key → key_named (name ∷ names) name.id ≡ Some key
 first-named name names key same = by_test (name.id == name.id) refl
   where

@@ -1,4 +1,5 @@
 pub mod Counting
+pub mod Examples
 pub mod Finding
 pub mod Judging
 pub mod Marks

@@ -2,6 +2,8 @@
 use Rattle.std.proofs.Common.{ℕ, ◌≡◌, inl, inr, refl, sym, ◌∙◌, ap, subst, List, length, Some}
 use Rattle.std.specs.Prelude.{is_some, count_by}
 use Rattle.std.specs.List.{Contains}
+use Rattle.std.proofs.lemmas.List.{length-map}
+use Rattle.flat_graph.specs.declared.names.Named.{Named}
 use Rattle.flat_graph.specs.declared.nodes.GraphNode.{GraphNode}
 use Rattle.flat_graph.specs.Reasons.{links_in, links_of}
 use Rattle.flat_graph.specs.State.{GraphState, IsKept, IsMarked, IsSound, MayKeep, marked_nodes, node_at, only_marked}
@@ -9,7 +11,7 @@ use Rattle.flat_graph.proofs.lemmas.FewerNodes.{Leaves, leaves-marked}
 use Rattle.flat_collect.specs.declared.reached.Reached.{Reached}
 use Rattle.flat_collect.specs.Marking.{AreReached}
 use Rattle.flat_collect.specs.Sweep.{IsReached, IsSwept}
-use Rattle.flat_collect.proofs.Counting.{all-listed, keys-count, keys_of, listed-named, names-once}
+use Rattle.flat_collect.proofs.Counting.{all-listed, keys_of, listed-named, names-once}
 use Rattle.flat_collect.proofs.Finding.{reached-child, reached-kept, reached-start}
 
 module _ (graph : GraphState) where
@@ -24,7 +26,7 @@ module _ (graph : GraphState) where
       all-kept key has = let named = listed-named graph.names sound.rising key has in sound.names_kept named.0 key named.1
 
       listed : (key : ℕ) → IsKept graph.nodes key → Contains (keys_of graph.names) key
-      listed = all-listed (keys_of graph.names) graph.nodes (names-once graph.names sound.rising sound.apart) all-kept (keys-count graph.names ∙ many)
+      listed = all-listed (keys_of graph.names) graph.nodes (names-once graph.names sound.rising sound.apart) all-kept (length-map graph.names (λ (name : Named). name.key) ∙ many)
 
   module _ (found : Reached) (all : AreReached graph found) where
     -- there are as many nodes as keys that are found

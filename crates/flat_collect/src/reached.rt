@@ -47,8 +47,8 @@ impl Reached {
     /// No key, of those below a number of places.
     fn none(alloc: Global, places: usize) -> Result<Reached, NoMemory>
         ensures places { IfOk result (λ found. length found.marks.items ≡ places) }
-        ensures empty { IfOk result (λ found. Adds [] found found) }
-        ensures nothing { IfOk result (λ found. found.keys.items ≡ []) }
+        ensures listed { IfOk result IsListed }
+        ensures empty { IfOk result (λ found. found.keys.items ≡ []) }
     {
         Ok(Reached {
             marks: Vec::from_elem(alloc, false, places)?,

@@ -9,9 +9,10 @@ use std::alloc::Global;
 /// Drops the nodes that are reached neither from the root nor from a transform that
 /// has a name, and answers how many. All else stays.
 ///
-/// Where each node has a name, it looks at none. Otherwise it goes once through what
-/// is reached and its links, and over the places only where it drops something. On
-/// want of memory the graph is as it was.
+/// Where there are as many nodes as names, it looks at none. Otherwise it takes a mark
+/// for each place, goes once through what is reached and its links, and through the
+/// places of the nodes only where it drops some. On want of memory the graph is as it
+/// was.
 pub fn sweep(alloc: Global, graph: &mut Graph) -> Result<u32, NoMemory>
     ensures swept { OnOk result (IsSwept graph.old graph.new) }
     ensures dropped { IfOk result (λ dropped. dropped + count_by is_some graph.new.nodes ≡ count_by is_some graph.old.nodes) }

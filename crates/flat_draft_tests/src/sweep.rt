@@ -67,7 +67,10 @@ fn draws_what_is_released_and_reached(rt: HostRuntime) -> Result<(), Fail> {
     for id in 1..=3 {
         draft.call(&Call::CreateTransform { t: TransformId(id) })?;
     }
-    draft.call(&Call::AddChild { p: FIRST, k: SECOND })?;
+    draft.call(&Call::AddChild {
+        p: FIRST,
+        k: SECOND,
+    })?;
     draft.call(&Call::SetRootTransform { t: FIRST })?;
     for id in 1..=3 {
         draft.call(&Call::ReleaseTransform { t: TransformId(id) })?;

@@ -29,5 +29,5 @@ returns c =
     let named : Adds (keys_of c.args.graph.now.names) c.add_some.new.self c.add_names.new.self =
     subst (λ (names : List Named). Adds (keys_of names) c.add_some.new.self c.add_names.new.self) c.names.ensures c.in_ok-add_names.ensures in
     finding-begin c.args.graph.now c.in_ok-found.found c.add_some.new.self c.add_names.new.self c.requires
-    (λ k kept. let low : k < c.places.result = c.places.ensures k kept in omega (arith, low, c.in_ok-found.ensures.places)) c.in_ok-found.ensures.nothing
-    c.in_ok-found.ensures.empty.listed rooted named
+    (λ k kept. let low : k < c.places.result = c.places.ensures k kept in omega (arith, low, c.in_ok-found.ensures.places)) c.in_ok-found.ensures.empty
+    c.in_ok-found.ensures.listed rooted named
