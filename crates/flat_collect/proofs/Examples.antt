@@ -1,9 +1,8 @@
 -- A sweep on a small graph: a root that was released, its released child, a transform with a name, and two that lead to each other.
-use Rattle.std.proofs.Common.{ℕ, zero, suc, ◌<◌, ◌≡◌, ◌⊎◌, inl, inr, refl, Bool, true, false, cond, [], ◌∷◌, Option, Some, None, arith}
+use Rattle.std.proofs.Common.{ℕ, zero, suc, ◌<◌, ◌≡◌, inl, inr, refl, Bool, true, false, cond, [], ◌∷◌, Option, Some, None, arith}
 use Rattle.std.specs.Prelude.{◌==◌}
 use Rattle.std.specs.List.{Contains}
 use Rattle.flat_scene.specs.Cycles.{Walk}
-use Rattle.flat_graph.specs.Names.{key_named}
 use Rattle.flat_graph.specs.Reasons.{links_in}
 use Rattle.flat_graph.specs.State.{GraphState, IsKept, new_node, node_at}
 use Rattle.flat_collect.specs.Sweep.{IsReached, IsStart, IsSwept}
