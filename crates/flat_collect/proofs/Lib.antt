@@ -1,5 +1,10 @@
+pub mod Counting
+pub mod Examples
+pub mod Finding
 pub mod Judging
+pub mod Marks
 pub mod Searches
+pub mod Sweeps
 pub mod Twice
 pub mod Walks
 pub mod lemmas

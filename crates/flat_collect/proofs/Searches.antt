@@ -11,7 +11,7 @@ use Rattle.flat_collect.specs.declared.cycle.Mark.TheVariants.{New, Open, Done}
 use Rattle.flat_collect.specs.Search.{IsOn, IsSearch, mark_of, work, work_at, left, trail}
 use Rattle.flat_graph.specs.declared.nodes.GraphNode.{GraphNode}
 use Rattle.flat_graph.specs.Reasons.{links_in}
-use Rattle.flat_graph.specs.State.{GraphState, IsSound, node_at}
+use Rattle.flat_graph.specs.State.{GraphState, IsKept, IsSound, node_at}
 use Rattle.flat_collect.proofs.Walks.{acyclic-children, at_contained, cycle_found}
 
 -- what the mark of a key is after a change of one key's mark
@@ -280,13 +280,16 @@ search-begin links root marks new within start = record {
     rooted h (inl same) = let e : Open 0 ≡ New = sym same.1 ∙ h in absurd (cc)
     rooted h (inr apart) = apart.0 refl
 
+pub child_kept : (graph : GraphState) → IsSound graph → (key child : ℕ) → Contains (links_in graph key) child → IsKept graph.nodes child
+child_kept graph sound key child has = by_node (node_at graph key) refl
+  where
+    by_node : (node : Option GraphNode) → node ≡ node_at graph key → IsKept graph.nodes child
+    by_node None e = let none = rw (← e) at has in let no : none.0 < 0 = none.1 in absurd (omega arith)
+    by_node (Some node) e = sound.children_kept key node (sym e) child (rw (← e) at has)
+
 pub links_within : (graph : GraphState) (places : ℕ) → IsSound graph → ((key : ℕ) → IsSome (node_at graph key) → key < places)
     → (key child : ℕ) → Contains (links_in graph key) child → child < places
-links_within graph places sound above key child has = by_node (node_at graph key) refl
-  where
-    by_node : (node : Option GraphNode) → node ≡ node_at graph key → child < places
-    by_node None e = let none = rw (← e) at has in let no : none.0 < 0 = none.1 in absurd (omega arith)
-    by_node (Some node) e = above child (sound.children_kept key node (sym e) child (rw (← e) at has))
+links_within graph places sound above key child has = above child (child_kept graph sound key child has)
 
 pub new_marks : (n key : ℕ) → mark_of (replicate n New) key ≡ New
 new_marks zero key = refl

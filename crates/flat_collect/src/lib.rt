@@ -1,7 +1,9 @@
-//! Whether a graph of transforms unfolds to a tree that can be presented.
+//! Whether a graph of transforms unfolds to a tree that can be presented, and which
+//! of its nodes are still reached.
 //!
 //! Other crates may cite the lemmas of proofs/lemmas/: that the graph stands for the
-//! draft (Stands), how the judge walks (Walking), and its verdicts (Verdicts).
+//! draft (Stands), how the judge walks (Walking), its verdicts (Verdicts), and what a
+//! swept graph stands for (Swept).
 #![tactic(auto)]
 
 ghost use Rattle.std.specs.Prelude.{IfOk};
@@ -9,12 +11,15 @@ ghost use Rattle.flat_collect.specs.Judge.{IsJudged};
 
 mod cycle;
 mod laws;
+mod reached;
 mod repeats;
+mod sweeping;
 mod walk;
 
 use crate::cycle::has_cycle;
-pub use crate::laws::verdict_laws;
+pub use crate::laws::{sweep_laws, verdict_laws};
 use crate::repeats::has_twice;
+pub use crate::sweeping::sweep;
 use crate::walk::walk;
 use flat_base::{NoMemory, PATH_NODES_MAX, Reason};
 use flat_graph::Graph;

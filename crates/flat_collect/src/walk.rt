@@ -7,7 +7,7 @@ use flat_base::{NoMemory, TREE_NODES_MAX};
 use flat_graph::Graph;
 
 /// The keys of the children of a key's node.
-fn children(graph: &Graph, key: usize) -> &[usize]
+pub fn children(graph: &Graph, key: usize) -> &[usize]
     ensures { result.now ≡ links_in graph.now key }
 {
     match graph.node(key) {

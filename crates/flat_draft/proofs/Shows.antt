@@ -21,14 +21,18 @@ use Rattle.flat_graph.specs.Stands as graph_stands
 use Rattle.flat_graph.specs.State.{GraphState, IsKept, node_at}
 use Rattle.flat_collect.specs.Forest.{height, size, unfolded}
 use Rattle.flat_collect.specs.Judge.{HasTree, graph_tree}
+use Rattle.flat_collect.specs.Sweep.{IsSwept}
 use Rattle.flat_collect.specs.Walking.{below}
 use Rattle.flat_collect.proofs.lemmas.Stands.{Each, each-contained}
+use Rattle.flat_collect.proofs.lemmas.Swept.{swept_stands}
 use Rattle.flat_collect.proofs.lemmas.Walking.{below-first}
 use Rattle.flat_content.specs.Stands as content_stands
 use Rattle.flat_content.specs.Table.{TableState}
 use Rattle.flat_content.proofs.lemmas.Standing.{content_calls_stand}
 use Rattle.flat_snap.specs.Building.{with_children}
 use Rattle.flat_draft.specs.Shown.{HasRoom, all_shown, leaf, shown_nodes, shown_tree}
+use Rattle.flat_draft.specs.Stands.{StandsFor}
+use Rattle.flat_draft.specs.State.{DraftState}
 use Rattle.flat_draft.proofs.Applying.{first-of-more, first-of-rest}
 use Rattle.flat_draft.proofs.Laying.{shown-none, shown-more}
 
@@ -107,3 +111,9 @@ fences-refuse draft args e is = fences-decide draft args true e is
 
 pub fences-allow : (draft : Draft) (args : PresentArgs) → first_reason (tree_tests draft) ≡ None → many args ≡ false → first_reason (present_tests draft args) ≡ None
 fences-allow draft args e is = fences-decide draft args false e is
+
+-- a sweep leaves what the state stands for
+pub stands-swept : (setup : Setup) (old new : DraftState) (draft : Draft) → IsSwept old.graph new.graph → new ≡ record old { graph = new.graph } → StandsFor setup old draft → StandsFor setup new draft
+stands-swept setup old new draft swept rest s =
+    subst (λ (state : DraftState). StandsFor setup state draft) (sym rest)
+    (record { graph = (swept_stands old.graph new.graph swept).stands draft s.graph; contents = s.contents; view = s.view })

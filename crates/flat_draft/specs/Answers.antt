@@ -17,6 +17,7 @@ use Rattle.flat_scene.specs.Draft.{Draft, made_of}
 use Rattle.flat_scene.specs.Effect.{effect}
 use Rattle.flat_scene.specs.Misuse.{first_reason, misuse}
 use Rattle.flat_scene.specs.Tree.{present_tests, tree}
+use Rattle.flat_collect.specs.Sweep.{IsSwept}
 use Rattle.flat_draft.specs.declared.fault.DraftFault.{DraftFault}
 use Rattle.flat_draft.specs.declared.fault.DraftFault.TheVariants.{Bad, Closed, Memory}
 use Rattle.flat_draft.specs.State.{DraftState, closed}
@@ -74,12 +75,14 @@ module _ (setup : Setup) (draft : Draft) (call : Call) (old new : DraftState) wh
   IsTested (Err part.Memory) = (misuse setup draft call ≡ None) × (takes_memory call ≡ true) × (new ≡ old)
 
 module _ (draft : Draft) (args : PresentArgs) (old new : DraftState) where
-  -- a present is done, and shows this tree
+  -- A present is done, and shows this tree. The transforms are dropped that nothing reaches any more, and each draft for which the old state stands, the new one stands for.
   pub record Presents (shown : Tree) : Type 0 where
     pub still_open : old.closed ≡ false
     pub allowed : first_reason (present_tests draft args) ≡ None
     pub shows : tree draft ≡ Some shown
-    pub kept : new ≡ old
+    pub swept : IsSwept old.graph new.graph
+    pub rest : new ≡ record old { graph = new.graph }
+    pub stands : (setup : Setup) (other : Draft) → StandsFor setup old other → StandsFor setup new other
 
   -- A present is refused. A misuse closes the draft; a closed one does nothing.
   abbrev pub IsRefused : DraftFault → Type 0

@@ -14,7 +14,7 @@ use crate::parts::{
     set_content, set_hits, watched,
 };
 use flat_base::{FENCES_PER_LIST_MAX, NoMemory, PairNo, Reason};
-use flat_collect::{Verdict, judge};
+use flat_collect::{Verdict, judge, sweep};
 use flat_content::ContentTable;
 use flat_graph::Graph;
 use flat_scene::{BufferList, Call, GraphFault, HitRegion, PresentArgs, ViewportProps, Watch};
@@ -51,9 +51,10 @@ fn has_too_many(args: &PresentArgs) -> bool
 }
 
 impl Draft {
-    ghost use Rattle.std.specs.Prelude.{IfOk, IsErrOf};
+    ghost use Rattle.std.specs.Prelude.{IfOk, IsErrOf, OnOk, OnErr};
     ghost use Rattle.flat_collect.specs.Forest.{size};
     ghost use Rattle.flat_collect.specs.Judge.{HasTree, graph_tree};
+    ghost use Rattle.flat_collect.specs.Sweep.{IsSwept};
     ghost use Rattle.flat_draft.specs.Shown.{shown_tree};
     ghost use Rattle.std.specs.List.{list_all};
     ghost use Rattle.flat_content.specs.Limits.{are_sides};
@@ -151,8 +152,9 @@ impl Draft {
     /// The snapshot of the draft.
     ///
     /// A misuse closes the draft: the reason is Cycle, TreeTooLarge, ViewportTwice
-    /// or TooManyFences, the first that holds. A present that is done changes
-    /// nothing.
+    /// or TooManyFences, the first that holds. A present that is done drops the
+    /// transforms that nothing reaches any more, and changes nothing else; one that is
+    /// refused drops none.
     pub fn present(&mut self, args: &PresentArgs) -> Result<Arc<Snapshot>, DraftFault>
         ensures answered { (setup : Setup) (draft : scene.Draft) → StandsFor setup self.old draft
             → MatchResult result (λ snapshot. Presents draft args.now self.old self.new (arc_value snapshot)) (IsRefused draft args.now self.old self.new) }
@@ -175,14 +177,20 @@ impl Draft {
         }
     }
 
-    /// The snapshot of a tree of so many nodes.
-    fn snapshot(&self, nodes: u32) -> Result<Arc<Snapshot>, NoMemory>
-        requires tree { HasTree self.now.graph }
-        requires counted { nodes ≡ size (graph_tree self.now.graph) }
-        ensures { IfOk result (λ snapshot. arc_value snapshot ≡ shown_tree self.now.view self.now.graph self.now.contents) }
+    /// The snapshot of a tree of so many nodes. What may be refused comes before the
+    /// sweep, so that want of memory leaves all as it was.
+    fn snapshot(&mut self, nodes: u32) -> Result<Arc<Snapshot>, NoMemory>
+        requires tree { HasTree self.old.graph }
+        requires counted { nodes ≡ size (graph_tree self.old.graph) }
+        ensures shown { IfOk result (λ snapshot. arc_value snapshot ≡ shown_tree self.old.view self.old.graph self.old.contents) }
+        ensures swept { OnOk result (IsSwept self.old.graph self.new.graph) }
+        ensures rest { OnOk result (self.new ≡ record self.old { graph = self.new.graph }) }
+        ensures kept { OnErr result (self.new ≡ self.old) }
     {
         let snapshot = flatten(self.alloc, &self.graph, &self.contents, self.view, nodes)?;
-        Ok(Arc::new(self.alloc, snapshot)?)
+        let shared = Arc::new(self.alloc, snapshot)?;
+        sweep(self.alloc, &mut self.graph)?;
+        Ok(shared)
     }
 
     /// Closes the draft for a misuse.

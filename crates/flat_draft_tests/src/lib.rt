@@ -11,4 +11,6 @@ mod links;
 #[cfg(test)]
 mod scene;
 #[cfg(test)]
+mod sweep;
+#[cfg(test)]
 mod watch;

@@ -1,5 +1,5 @@
 -- What each change of a graph leaves sound.
-use Rattle.std.proofs.Common.{ℕ, zero, suc, ◌+◌, ◌<◌, ◌≤◌, ◌≡◌, ◌≢◌, ◌⊎◌, inl, inr, refl, sym, ◌∙◌, ap, subst, Bool, true, false, cond, List, [], ◌∷◌, ◌++◌, filter, map, Option, Some, None, IsSome, slice_index_or, slice_set, length, arith}
+use Rattle.std.proofs.Common.{ℕ, zero, suc, ◌+◌, ◌<◌, ◌≤◌, ◌≡◌, ◌≢◌, ◌⊎◌, inl, inr, refl, sym, ◌∙◌, ap, subst, Bool, true, false, cond, List, [], ◌∷◌, ◌++◌, filter, map, Option, Some, None, slice_index_or, slice_set, length, arith}
 use Rattle.std.specs.Prelude.{◌==◌, is_some, count_by, Result, Ok, Err, OnOk, is_ok}
 use Rattle.std.specs.Option.{option_map}
 use Rattle.std.specs.List.{Contains}
@@ -10,6 +10,7 @@ use Rattle.std.proofs.lemmas.Bool.Decides.{eqb_tells, nat_tests}
 use Rattle.flat_graph.specs.declared.nodes.GraphNode.{GraphNode}
 use Rattle.flat_graph.specs.Names.{key_named, names_but, names_with}
 use Rattle.flat_graph.specs.State.{GraphState, IsGraph, IsSound, IsKept, IsMarked, MayKeep, node_at, with_node, new_node, marked_nodes, without_content}
+use Rattle.flat_graph.proofs.lemmas.FewerNodes.{kept-marked, leaves-marked, sound-fewer}
 use Rattle.flat_graph.proofs.lemmas.NameLemmas.{named-with, named-but, rising-with, rising-but}
 
 -- a number is a key, or another one
@@ -53,8 +54,20 @@ sound-created old nodes id key serial sound adds absent some = record {
   children_kept = λ k node h child has. by_node k node child has (node-added old.nodes nodes key (new_node serial) node adds k h);
   rising = rising-with (record { id = id; key = key }) old.names absent sound.rising;
   no_zero = named-with (record { id = id; key = key }) old.names 0 absent ∙ zero_none (id == 0) refl;
+  apart = λ a b k h h'.
+      by_two a b k (id == a) refl (id == b) refl (sym (named-with (record { id = id; key = key }) old.names a absent) ∙ h) (sym (named-with (record { id = id; key = key }) old.names b absent) ∙ h');
 }
   where
+    -- the key of the new node was free
+    not_old : (a k : ℕ) → key ≡ k → key_named old.names a ≡ Some k → ⊥
+    not_old a k same h = let was : IsKept old.nodes k = sound.names_kept a k h in let free : IsKept old.nodes key = rw same was in let no : ◌≡◌ {A = Bool} false true = rw adds.was_free at free in cc
+
+    by_two : (a b k : ℕ) (x : Bool) → (id == a) ≡ x → (y : Bool) → (id == b) ≡ y → cond x (Some key) (key_named old.names a) ≡ Some k → cond y (Some key) (key_named old.names b) ≡ Some k → a ≡ b
+    by_two a b k true e true e' h h' = grind (arith, nat_tests)
+    by_two a b k true e false e' h h' = absurd (not_old b k (cc) h')
+    by_two a b k false e true e' h h' = absurd (not_old a k (cc) h)
+    by_two a b k false e false e' h h' = sound.apart a b k h h'
+
     kept : (k : ℕ) → IsKept old.nodes k → IsKept nodes k
     kept = kept-more old.nodes nodes key (new_node serial) adds
 
@@ -95,8 +108,14 @@ sound-released old id sound = record {
   children_kept = sound.children_kept;
   rising = rising-but id old.names sound.rising;
   no_zero = named-but id old.names 0 ∙ zero_none (id == 0);
+  apart = λ a b k h h'. by_two a b k (id == a) (id == b) (sym (named-but id old.names a) ∙ h) (sym (named-but id old.names b) ∙ h');
 }
   where
+    by_two : (a b k : ℕ) (x y : Bool) → cond x None (key_named old.names a) ≡ Some k → cond y None (key_named old.names b) ≡ Some k → a ≡ b
+    by_two a b k true y h h' = absurd (cc)
+    by_two a b k false true h h' = absurd (cc)
+    by_two a b k false false h h' = sound.apart a b k h h'
+
     by_name : (other k : ℕ) (b : Bool) → cond b None (key_named old.names other) ≡ Some k → IsKept old.nodes k
     by_name other k true h = absurd (cc)
     by_name other k false h = sound.names_kept other k h
@@ -162,6 +181,7 @@ sound-changed graph key old new sound there children = record {
   children_kept = λ k node h child has. kept child (by_key k node child has (node-changed graph.nodes key old new there k node h));
   rising = sound.rising;
   no_zero = sound.no_zero;
+  apart = sound.apart;
 }
   where
     kept : (k : ℕ) → IsKept graph.nodes k → IsKept (slice_set graph.nodes key (Some new)) k
@@ -247,6 +267,7 @@ sound-without graph serial sound = record {
   children_kept = λ k node h child has. kept child (by_node k node child has (was-node serial (slice_index_or graph.nodes k None) node (sym (node-without serial graph.nodes k) ∙ h)));
   rising = sound.rising;
   no_zero = sound.no_zero;
+  apart = sound.apart;
 }
   where
     kept : (k : ℕ) → IsKept graph.nodes k → IsKept (all_without serial graph.nodes) k
@@ -264,47 +285,8 @@ graph-without places graph serial g = record {
 
 -- ---- nodes dropped
 
--- where a key is marked, its node is there as before; where not, there is none
-pub node-marked : (marks : List Bool) (nodes : List (Option GraphNode)) (k : ℕ) → slice_index_or (marked_nodes marks nodes) k None ≡ cond (slice_index_or marks k false) (slice_index_or nodes k None) None
-node-marked [] [] k = refl
-node-marked (mark ∷ marks) [] k = by_mark (slice_index_or (mark ∷ marks) k false)
-  where
-    by_mark : (b : Bool) → ◌≡◌ {A = Option GraphNode} None (cond b None None)
-    by_mark true = refl
-    by_mark false = refl
-node-marked [] (slot ∷ slots) zero = refl
-node-marked [] (slot ∷ slots) (suc k) = node-marked [] slots k
-node-marked (mark ∷ marks) (slot ∷ slots) zero = refl
-node-marked (mark ∷ marks) (slot ∷ slots) (suc k) = node-marked marks slots k
-
-marked-was : (b : Bool) (x : Option GraphNode) (node : GraphNode) → cond b x None ≡ Some node → (b ≡ true) × (x ≡ Some node)
-marked-was true x node e = (refl, e)
-marked-was false x node e = absurd (cc)
-
-pub node-kept : (marks : List Bool) (nodes : List (Option GraphNode)) (k : ℕ) (node : GraphNode) → slice_index_or (marked_nodes marks nodes) k None ≡ Some node
-    → IsMarked marks k × (slice_index_or nodes k None ≡ Some node)
-node-kept marks nodes k node h = marked-was (slice_index_or marks k false) (slice_index_or nodes k None) node (sym (node-marked marks nodes k) ∙ h)
-
-pub still-kept : (marks : List Bool) (nodes : List (Option GraphNode)) (k : ℕ) → IsMarked marks k → IsKept nodes k → IsKept (marked_nodes marks nodes) k
-still-kept marks nodes k marked kept = rw (node-marked marks nodes k, marked) kept
-
-kept-cond : (b : Bool) (x : Option GraphNode) → IsSome (cond b x None) → IsSome x
-kept-cond true x h = h
-kept-cond false x h = absurd (cc)
-
-pub was-kept : (marks : List Bool) (nodes : List (Option GraphNode)) (k : ℕ) → IsKept (marked_nodes marks nodes) k → IsKept nodes k
-was-kept marks nodes k kept = kept-cond (slice_index_or marks k false) (slice_index_or nodes k None) (rw (node-marked marks nodes k) at kept)
-
 pub sound-marked : (graph : GraphState) (marks : List Bool) → IsSound graph → MayKeep marks graph → IsSound (record graph { nodes = marked_nodes marks graph.nodes })
-sound-marked graph marks sound may = record {
-  names_kept = λ id k h. still-kept marks graph.nodes k (may.names_marked id k h) (sound.names_kept id k h);
-  root_kept = λ k h. still-kept marks graph.nodes k (may.root_marked k h) (sound.root_kept k h);
-  children_kept = λ k node h child has.
-      let was = node-kept marks graph.nodes k node h in
-      still-kept marks graph.nodes child (may.children_marked k node was.1 was.0 child has) (sound.children_kept k node was.1 child has);
-  rising = sound.rising;
-  no_zero = sound.no_zero;
-}
+sound-marked graph marks sound may = sound-fewer (IsMarked marks) graph (marked_nodes marks graph.nodes) (leaves-marked graph marks may) sound
 
 count-marked : (marks : List Bool) (nodes : List (Option GraphNode)) → count_by is_some (marked_nodes marks nodes) ≤ count_by is_some nodes
 count-marked [] [] = omega arith
@@ -316,7 +298,7 @@ count-marked (false ∷ marks) (slot ∷ slots) = omega (arith, count-marked mar
 pub graph-marked : (places : ℕ) (graph : GraphState) (marks : List Bool) → IsGraph places graph → MayKeep marks graph → IsGraph places (record graph { nodes = marked_nodes marks graph.nodes })
 graph-marked places graph marks g may = record {
   sound = sound-marked graph marks g.sound may;
-  in_range = λ k h. g.in_range k (was-kept marks graph.nodes k h);
+  in_range = λ k h. g.in_range k (kept-marked marks graph.nodes k h).1;
   few = let low : count_by is_some graph.nodes ≤ graph.made = g.few in let more : count_by is_some (marked_nodes marks graph.nodes) ≤ count_by is_some graph.nodes = count-marked marks graph.nodes in omega (arith, low, more);
 }
 

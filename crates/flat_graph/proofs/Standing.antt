@@ -15,21 +15,8 @@ use Rattle.flat_graph.specs.Names.{key_named}
 use Rattle.flat_graph.specs.State.{GraphState, IsKept, node_at, with_node, changed_node, change_at, change_named, with_child, without_child}
 use Rattle.flat_graph.specs.Stands.{StandsFor, IsHeld, serial_at, node_serial, as_transform}
 use Rattle.flat_graph.proofs.lemmas.DraftNames.{changed-length, changed-same, changed-other}
+use Rattle.flat_graph.proofs.lemmas.FewerNodes.{option_map-same, transform-same}
 use Rattle.flat_graph.proofs.Soundness.{KeyCases, sound-changed, node-changed, in_list}
-
--- ---- functions that agree
-
-pub option_map-same : {A B : Type 0} (f g : A → B) (x : Option A) → ((a : A) → x ≡ Some a → f a ≡ g a) → option_map f x ≡ option_map g x
-option_map-same f g None same = refl
-option_map-same f g (Some a) same = ap Some (same a refl)
-
-pub map-same : (f g : ℕ → ℕ) (xs : List ℕ) → ((x : ℕ) → Contains xs x → f x ≡ g x) → map f xs ≡ map g xs
-map-same f g [] same = refl
-map-same f g (x ∷ xs) same = rw (same x (0, omega arith, refl), map-same f g xs (λ y has. same y (suc has.0, omega (arith, has.1), has.2))) refl
-
--- two graphs in which the children of a node have the same serials
-pub transform-same : (old new : GraphState) (node : GraphNode) → ((child : ℕ) → Contains node.children child → serial_at new child ≡ serial_at old child) → as_transform new node ≡ as_transform old node
-transform-same old new node same = ap (λ (children : List ℕ). record (as_transform old node) { children = children }) (map-same (serial_at new) (serial_at old) node.children same)
 
 -- ---- a change of one node
 

@@ -13,12 +13,12 @@ use Rattle.flat_scene.specs.Effect.{effect, is_serial}
 use Rattle.flat_graph.specs.declared.names.Named.{Named}
 use Rattle.flat_graph.specs.declared.nodes.GraphNode.{GraphNode}
 use Rattle.flat_graph.specs.Names.{key_named, names_but, IsRising}
-use Rattle.flat_graph.specs.State.{GraphState, IsSound, IsKept, IsMarked, MayKeep, Creates, node_at, new_node, without_content, held_but, released, with_root, emptied, without_held, only_marked, empty_graph}
+use Rattle.flat_graph.specs.State.{GraphState, IsSound, IsKept, IsMarked, MayKeep, Creates, node_at, new_node, without_content, held_but, released, with_root, emptied, without_held, marked_nodes, only_marked, empty_graph}
 use Rattle.flat_graph.specs.Stands.{StandsFor, IsHeld, serial_at, serial_of, node_serial, as_transform}
 use Rattle.flat_graph.proofs.lemmas.NameLemmas as keys
 use Rattle.flat_graph.proofs.lemmas.DraftNames.{named-append, once-append, named-without, once-without, length-without, of_serial-append, of_serial-last, of_serial-low, of_serial-map}
-use Rattle.flat_graph.proofs.Soundness.{AddsNode, created, sound-created, sound-released, sound-without, sound-marked, node-added, node-without, node-kept, node-marked, was-node, some-map}
-use Rattle.flat_graph.proofs.Standing.{option_map-same, transform-same}
+use Rattle.flat_graph.proofs.lemmas.FewerNodes.{leaves-marked, option_map-same, stands-fewer, transform-same}
+use Rattle.flat_graph.proofs.Soundness.{AddsNode, created, sound-created, sound-released, sound-without, node-added, node-without, was-node, some-map}
 
 pub stands-empty : StandsFor empty_graph empty_draft
 stands-empty = record {
@@ -28,6 +28,7 @@ stands-empty = record {
     children_kept = λ key node e child has. absurd (cc);
     rising = tt;
     no_zero = refl;
+    apart = λ id other key e e'. absurd (cc);
   };
   made = refl;
   names = λ id. refl;
@@ -76,6 +77,7 @@ module _ (graph : GraphState) (draft : Draft) (s : StandsFor graph draft) where
       children_kept = s.sound.children_kept;
       rising = s.sound.rising;
       no_zero = s.sound.no_zero;
+      apart = s.sound.apart;
     };
     made = s.made;
     names = s.names;
@@ -107,6 +109,7 @@ module _ (graph : GraphState) (draft : Draft) (s : StandsFor graph draft) where
       children_kept = λ key node e child has. absurd (cc);
       rising = tt;
       no_zero = refl;
+      apart = λ id other key e e'. absurd (cc);
     };
     made = s.made;
     names = λ id. refl;
@@ -119,22 +122,7 @@ module _ (graph : GraphState) (draft : Draft) (s : StandsFor graph draft) where
   }
 
   pub stands-marked : (marks : List Bool) → MayKeep marks graph → StandsFor (only_marked marks graph) draft
-  stands-marked marks may = record {
-    sound = sound-marked graph marks s.sound may;
-    made = s.made;
-    names = λ id. option_map-same (serial_at (only_marked marks graph)) (serial_at graph) (key_named graph.names id) (λ k e. same k (may.names_marked id k e)) ∙ s.names id;
-    count = s.count;
-    once = s.once;
-    root = option_map-same (serial_at (only_marked marks graph)) (serial_at graph) graph.root (λ k e. same k (may.root_marked k e)) ∙ s.root;
-    nodes = λ k node e.
-        let was = node-kept marks graph.nodes k node e in
-        s.nodes k node was.1 ∙ ap Some (sym (transform-same graph (only_marked marks graph) node (λ child has. same child (may.children_marked k node was.1 was.0 child has))));
-    apart = λ k k' node node' e e'. s.apart k k' node node' (node-kept marks graph.nodes k node e).1 (node-kept marks graph.nodes k' node' e').1;
-    contents = λ k node held e. s.contents k node held (node-kept marks graph.nodes k node e).1;
-  }
-    where
-      same : (k : ℕ) → IsMarked marks k → serial_at (only_marked marks graph) k ≡ serial_at graph k
-      same k marked = ap node_serial (node-marked marks graph.nodes k ∙ ap (λ (b : Bool). cond b (slice_index_or graph.nodes k None) None) marked)
+  stands-marked marks may = stands-fewer (IsMarked marks) graph (marked_nodes marks graph.nodes) (leaves-marked graph marks may) draft s
 
   -- ---- dropped contents
 
@@ -255,6 +243,8 @@ module _ (graph : GraphState) (draft : Draft) (s : StandsFor graph draft) where
           children_kept = sound'.children_kept;
           rising = subst (λ (ns : List Named). IsRising ns) (sym made.names) sound'.rising;
           no_zero = ap (λ (ns : List Named). key_named ns 0) made.names ∙ sound'.no_zero;
+          apart = λ id other key e e'.
+              sound'.apart id other key (ap (λ (ns : List Named). key_named ns id) (sym made.names) ∙ e) (ap (λ (ns : List Named). key_named ns other) (sym made.names) ∙ e');
         }
 
         by_same : (id : ℕ) (b : Bool) → option_map (serial_at new) (cond b (Some made.key) (key_named graph.names id)) ≡ cond b (Some (length draft.transforms + 1)) (named draft.transform_names id)

@@ -1,4 +1,5 @@
 -- Lemmas that other crates may cite.
 pub mod DraftNames
+pub mod FewerNodes
 pub mod NameLemmas
 pub mod StandingLaws

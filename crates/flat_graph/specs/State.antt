@@ -26,13 +26,14 @@ node_at graph key = slice_index_or graph.nodes key None
 abbrev pub IsKept : List (Option GraphNode) → ℕ → Type 0
 IsKept nodes key = IsSome (slice_index_or nodes key None)
 
--- what is named, the root, and each child of a node have a node; each id stands once among the names, and 0 not at all
+-- what is named, the root, and each child of a node have a node; each id stands once among the names, and 0 not at all; no two ids name one node
 pub record IsSound (graph : GraphState) : Type 0 where
   pub names_kept : (id key : ℕ) → key_named graph.names id ≡ Some key → IsKept graph.nodes key
   pub root_kept : (key : ℕ) → graph.root ≡ Some key → IsKept graph.nodes key
   pub children_kept : (key : ℕ) (node : GraphNode) → node_at graph key ≡ Some node → (child : ℕ) → Contains node.children child → IsKept graph.nodes child
   pub rising : IsRising graph.names
   pub no_zero : key_named graph.names 0 ≡ None
+  pub apart : (id other key : ℕ) → key_named graph.names id ≡ Some key → key_named graph.names other ≡ Some key → id ≡ other
 
 -- what is true of each graph, whose keys are below the places
 pub record IsGraph (places : ℕ) (graph : GraphState) : Type 0 where

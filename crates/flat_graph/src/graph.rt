@@ -66,6 +66,13 @@ impl Graph {
         self.root
     }
 
+    /// How many nodes there are.
+    pub fn len(&self) -> usize
+        ensures { result ≡ count_by is_some self.now.nodes }
+    {
+        self.nodes.len()
+    }
+
     /// A number above each key.
     pub fn places(&self) -> usize
         ensures { (key : ℕ) → IsKept self.now.nodes key → key < result }

@@ -2,8 +2,9 @@
 //! that name them, and the root. A node lives on without a name for as long as
 //! something may reach it.
 //!
-//! Other crates may cite the lemmas of proofs/lemmas/: names, and what stands for a
-//! draft (DraftNames, NameLemmas, StandingLaws).
+//! Other crates may cite the lemmas of proofs/lemmas/: names (DraftNames, NameLemmas),
+//! what stands for a draft (StandingLaws), and what is left where nodes are dropped
+//! (FewerNodes).
 #![tactic(auto)]
 
 mod graph;

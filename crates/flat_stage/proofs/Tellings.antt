@@ -75,8 +75,7 @@ module _ (setup : Setup) (s : SessionNo) (draft : Draft) where
         → ((waiting ++ []) ≡ waiting) × ((list_all (owns_fence setup s) args.acquire && list_all (owns_fence setup s) args.release) ≡ true) × (first_reason (present_tests draft args) ≡ None)
         × (tree draft ≡ Some shown) × StandsFor setup new draft × (new.closed ≡ false)
     present_leaves args shown presents played stands waiting =
-        let P : DraftState → Type 0 = λ state. StandsFor setup state draft in
-        (append-nil waiting, played, presents.allowed, presents.shows, subst P (sym presents.kept) stands, ap (λ (state : DraftState). state.closed) presents.kept ∙ presents.still_open)
+        (append-nil waiting, played, presents.allowed, presents.shows, presents.stands setup draft stands, ap (λ (state : DraftState). state.closed) presents.rest ∙ presents.still_open)
 
     -- a get
     pub get_done : (get : Watch) (pair : PairNo) → IsWatched draft get old new (Ok pair) → StandsFor setup old draft → Tells setup s draft (line.Get get) new (Some (made.Get get pair))

@@ -1,4 +1,4 @@
-use Rattle.std.proofs.Common.{◌≡◌, ◌∙◌, ap, refl, subst, sym, false, true, Option, Some, rules}
+use Rattle.std.proofs.Common.{◌≡◌, ◌∙◌, ap, subst, sym, false, true, Option, Some, rules}
 use Rattle.flat_base.specs.declared.ids.PairNo.{PairNo}
 use Rattle.flat_scene.specs.Tree.{tree}
 use Rattle.flat_draft.specs.State.{DraftState}
@@ -7,7 +7,7 @@ use Rattle.flat_graph.specs.Stands as graph
 use Rattle.flat_collect.specs.Judge.{HasTree, IsJudged}
 use Rattle.flat_collect.specs.declared.Verdict.TheVariants.{Good, Bad}
 use Rattle.flat_collect.proofs.lemmas.Verdicts.{verdict_stands}
-use Rattle.flat_draft.proofs.Shows.{many, tree-refuses, fences-allow, fences-refuse, tree-stands}
+use Rattle.flat_draft.proofs.Shows.{many, stands-swept, tree-refuses, fences-allow, fences-refuse, tree-stands}
 use Rattle.flat_draft.proofs.draft.Draft.present.Goals as goal
 
 pub returns-in-Ok-Bad-clause-answered : goal.returns-in-Ok-Bad-clause-answered
@@ -39,6 +39,8 @@ returns-in-Ok-clause-answered c = λ setup draft s.
     record {
       still_open = not_closed;
       allowed = fences-allow draft c.args.args.now verdict.no_reason many_so;
-      shows = shown ∙ ap (λ (view : Option PairNo). Some (shown_tree view c.args.self.now.graph c.args.self.now.contents)) (sym s.view) ∙ ap Some (sym c.in-Ok.ensures);
-      kept = refl;
+      shows = shown ∙ ap (λ (view : Option PairNo). Some (shown_tree view c.args.self.now.graph c.args.self.now.contents)) (sym s.view) ∙ ap Some (sym c.in-Ok.ensures.shown);
+      swept = c.in-Ok.ensures.swept;
+      rest = c.in-Ok.ensures.rest;
+      stands = λ other_setup other stands. stands-swept other_setup c.args.self.now c.snapshot.new.self other c.in-Ok.ensures.swept c.in-Ok.ensures.rest stands;
     }

@@ -1,0 +1,15 @@
+use Rattle.std.proofs.Common.{◌<◌, length, slice_index_or, arith}
+use Rattle.flat_graph.specs.declared.names.Named.{Named}
+use Rattle.flat_collect.proofs.Marks.{adds-next-name, name-there}
+use Rattle.flat_collect.proofs.reached.Reached.add_names.Goals as goal
+
+pub add-requires-clause-within : goal.add-requires-clause-within
+add-requires-clause-within c =
+    let none : Named = record { id = 0; key = 0 } in
+    let low : (slice_index_or c.args.names.now c.loop-name.name-index none).key < length c.args.self.now.marks.items =
+    c.requires.within _ (name-there c.args.names.now c.loop-name.name-index none c.loop-name-test.true) in
+    omega (arith, low, c.loop-name.invariant.places)
+
+pub loop-name-preserved : goal.loop-name-preserved
+loop-name-preserved c =
+    adds-next-name c.args.names.now c.loop-name.name-index (record { id = 0; key = 0 }) c.args.self.now c.loop-name.self c.add.new.self c.loop-name-test.true c.loop-name.invariant c.in_ok-add.ensures
