@@ -17,4 +17,5 @@ pub mod Brushing
 pub mod Bands
 pub mod Runs
 pub mod Wholes
+pub mod Steps
 mod Examples
