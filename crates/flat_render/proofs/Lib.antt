@@ -18,4 +18,5 @@ pub mod Bands
 pub mod Runs
 pub mod Wholes
 pub mod Steps
+pub mod Choices
 mod Examples

@@ -1,5 +1,5 @@
 -- Pixels side by side, which lie in parts side by side where each part is one unit wide.
-use Rattle.std.proofs.Common.{ℕ, ℤ, pos, ◌+◌, ◌*◌, ◌/◌, ◌%◌, ◌-◌, ◌<◌, ◌≤◌, ◌≡◌, ◌-ℤ◌, ◌<ℤ◌, ◌≤ℤ◌, Bool, true, false, not, int_lt, int_le, unsigned_abs, if◌then◌else◌, refl, ap, ◌∙◌, sym, List, length, get_or, arith}
+use Rattle.std.proofs.Common.{ℕ, ℤ, pos, ◌+◌, ◌*◌, ◌/◌, ◌%◌, ◌-◌, ◌<◌, ◌≡◌, ◌-ℤ◌, ◌<ℤ◌, ◌≤ℤ◌, Bool, true, false, not, int_lt, int_le, unsigned_abs, if◌then◌else◌, refl, ap, ◌∙◌, sym, List, length, get_or, arith}
 use Rattle.std.proofs.lemmas.Int.{ints}
 use Rattle.flat_base.proofs.lemmas.Tests.{and-left, and-right}
 use Rattle.flat_base.specs.declared.shapes.IntRect.{IntRect}

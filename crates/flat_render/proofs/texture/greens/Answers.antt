@@ -1,4 +1,4 @@
-use Rattle.std.proofs.Common.{ℕ, ◌+◌, ◌*◌, ◌%◌, ◌-ℤ◌, ◌<◌, ◌≤◌, ◌≡◌, unsigned_abs, true, rules, refl, ap, ◌∙◌, arith}
+use Rattle.std.proofs.Common.{ℕ, ◌+◌, ◌*◌, ◌%◌, ◌-ℤ◌, ◌<◌, ◌≡◌, unsigned_abs, true, rules, refl, ap, ◌∙◌, arith}
 use Rattle.std.proofs.lemmas.Int.{ints}
 use Rattle.flat_geom.specs.Rectangles.{is_between}
 use Rattle.flat_render.specs.Colours.{green_at}
