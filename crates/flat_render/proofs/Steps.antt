@@ -40,7 +40,7 @@ moved true o m n i s = omega arith
 moved false o m n i s = omega arith
 
 module _ (axis : Axis) (count p i : ℕ) (some : 0 < count) (units : unsigned_abs (axis.high -ℤ axis.low) ≡ count * 65536)
-  (here : is_between axis.low axis.high (centre p) ≡ true) (there : is_between axis.low axis.high (centre (p + i)) ≡ true) where
+    (here : is_between axis.low axis.high (centre p) ≡ true) (there : is_between axis.low axis.high (centre (p + i)) ≡ true) where
   unit-part : (q : ℕ) → depth axis q / 65536 ≡ part_of axis count q
   unit-part q = wide-part (depth axis q) count 65536 (unsigned_abs (axis.high -ℤ axis.low)) some (omega arith) units
 

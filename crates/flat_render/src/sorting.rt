@@ -79,7 +79,11 @@ pub fn sorted(
 }
 
 /// The items with some numbers.
-pub fn choose(alloc: Global, items: &[DrawItem], places: &[usize]) -> Result<Vec<DrawItem>, NoMemory>
+pub fn choose(
+    alloc: Global,
+    items: &[DrawItem],
+    places: &[usize],
+) -> Result<Vec<DrawItem>, NoMemory>
     requires { All (λ p. p < length items.now) places.now }
     ensures { IfOk result (λ seen. seen.items ≡ chosen items.now places.now) }
 {

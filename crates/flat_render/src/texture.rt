@@ -203,13 +203,7 @@ fn stride(rises: bool) -> u32
 
 /// A channel of pixels side by side, as it is mixed, where it grows by one stride from
 /// each to the next one.
-fn strides(
-    blend: BlendMode,
-    opacity: u32,
-    first: u8,
-    stride: u32,
-    count: usize,
-) -> [u8; TILE_SIDE]
+fn strides(blend: BlendMode, opacity: u32, first: u8, stride: u32, count: usize) -> [u8; TILE_SIDE]
     requires opacity { opacity ≤ OPACITY_MAX }
     requires stride { stride < 256 }
     requires room { count ≤ 64 }
@@ -218,7 +212,11 @@ fn strides(
 {
     let mut table = [0; TILE_SIDE];
     for i in 0..count {
-        table[i] = tone_of(blend, opacity, ((first as u32 + stride * i as u32) % 256) as u8);
+        table[i] = tone_of(
+            blend,
+            opacity,
+            ((first as u32 + stride * i as u32) % 256) as u8,
+        );
     }
     table
 }
