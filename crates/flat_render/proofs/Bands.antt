@@ -1,17 +1,17 @@
 -- Rows of tiles, drawn by the items that are seen there.
-use Rattle.std.proofs.Common.{ℕ, ℤ, ◌+◌, ◌*◌, ◌/◌, ◌%◌, ◌^◌, ◌<◌, ◌≤◌, ◌≡◌, refl, ap, ◌∙◌, sym, subst, false, List, [], ◌∷◌, ◌++◌, length, get_or, take, drop, arith}
-use Rattle.std.proofs.lemmas.List.{take_all, get_or-map, get_or-take, get_or-drop, length-map, length-take, length-drop}
+use Rattle.std.proofs.Common.{ℕ, ℤ, ◌+◌, ◌*◌, ◌/◌, ◌%◌, ◌^◌, ◌<◌, ◌≤◌, ◌≡◌, refl, ap, ◌∙◌, sym, false, List, [], ◌∷◌, ◌++◌, length, get_or, take, drop, arith}
+use Rattle.std.proofs.lemmas.List.{get_or-map, get_or-take, get_or-drop, length-map, length-take, length-drop}
 use Rattle.std.proofs.lemmas.List.Elements.{All-nil, All-cons, All-append}
 use Rattle.std.proofs.lemmas.Grind.{fold-append}
 use Rattle.std.proofs.lemmas.Nat.{div-mul-add, mod-mul-add, div-add-mod', mod_below, div_below, mul-add-lt, mul-le}
 use Rattle.flat_base.specs.declared.shapes.Rect.{Rect}
 use Rattle.flat_drawable.specs.Drawable.{IsDrawable}
-use Rattle.flat_geom.specs.Rectangles.{has_point, is_between}
+use Rattle.flat_geom.specs.Rectangles.{is_between}
 use Rattle.flat_scene.specs.declared.frames.DrawItem.{DrawItem}
 use Rattle.flat_render.specs.Bands.{rects_of, IsSeenWhere, IsSeenBetween, IsSeenIn}
 use Rattle.flat_render.specs.Channels.{channel_step, channel_after}
 use Rattle.flat_render.specs.Grids.{tile_size, tile_bytes, tile_count, band_bytes, grid_bytes, tile_of, IsGrid}
-use Rattle.flat_render.specs.Pixels.{centre, covers}
+use Rattle.flat_render.specs.Pixels.{covers}
 use Rattle.flat_render.specs.Stored.{stored_x, stored_y, drawn_in, drawn_at}
 use Rattle.flat_render.specs.Tiles.{channel_at, x_at, y_at, tile_area, IsTile}
 use Rattle.flat_render.specs.declared.grid.Grid.{Grid}
@@ -56,12 +56,6 @@ rects-count items rects e = ap length e ∙ length-map items (λ it. it.visible)
 
 rect-there : (items : List DrawItem) (rects : List Rect) (n : ℕ) (d : DrawItem) (r : Rect) → rects ≡ rects_of items → n < length items → get_or rects n r ≡ (get_or items n d).visible
 rect-there items rects n d r e within = ap (λ (rs : List Rect). get_or rs n r) e ∙ get_or-map (λ it. it.visible) items n d r within
-
--- where one has no pixel, the item covers none
-pub rect-missed : (items : List DrawItem) (rects : List Rect) (n : ℕ) (d : DrawItem) (r : Rect) (px py : ℕ) → rects ≡ rects_of items → n < length items
-    → has_point (get_or rects n r) (centre px) (centre py) ≡ false → covers (get_or items n d) px py ≡ false
-rect-missed items rects n d r px py e within h =
-    sym (ap (λ (rect : Rect). has_point rect (centre px) (centre py)) (rect-there items rects n d r e within)) ∙ h
 
 -- where one lies beside some pixels, the item does
 pub rect-beside : (items : List DrawItem) (rects : List Rect) (n : ℕ) (d : DrawItem) (r : Rect) (z : ℤ) → rects ≡ rects_of items → n < length items

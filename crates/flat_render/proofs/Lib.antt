@@ -17,4 +17,6 @@ pub mod Brushing
 pub mod Bands
 pub mod Runs
 pub mod Wholes
+pub mod Steps
+pub mod Choices
 mod Examples

@@ -1,12 +1,16 @@
 -- Some of the items, which serve for a part of the picture.
-use Rattle.std.specs.Prelude.{◌≡◌, ℕ, ◌<◌, ◌≤◌, true, List, map}
+use Rattle.std.specs.Prelude.{◌≡◌, ℕ, ◌+◌, ◌*◌, ◌<◌, ◌≤◌, true, if◌then◌else◌, List, [], ◌∷◌, ◌++◌, length, map, flat_map, take, drop, slice_index_or, Vec}
 use Rattle.std.specs.List.{All}
+use Rattle.std.specs.declared.alloc.Global.{Global}
 use Rattle.flat_base.specs.declared.shapes.Rect.{Rect}
 use Rattle.flat_drawable.specs.Drawable.{IsDrawable}
 use Rattle.flat_scene.specs.declared.frames.DrawItem.{DrawItem}
 use Rattle.flat_render.specs.declared.area.Area.{Area}
-use Rattle.flat_render.specs.Areas.{has_pixel}
+use Rattle.flat_render.specs.declared.grid.Grid.{Grid}
+use Rattle.flat_render.specs.Areas.{is_among, has_pixel}
 use Rattle.flat_render.specs.Channels.{channel_after}
+use Rattle.flat_render.specs.Grids.{tile_of}
+use Rattle.flat_render.specs.Tiles.{tile_area}
 
 -- the visible rectangles of items
 abbrev pub rects_of : List DrawItem → List Rect
@@ -24,3 +28,28 @@ IsSeenBetween top bottom = IsSeenWhere (λ px py. (top ≤ py) × (py < bottom))
 -- each pixel of an area
 abbrev pub IsSeenIn : Area → List DrawItem → List DrawItem → Type 0
 IsSeenIn area = IsSeenWhere (λ px py. has_pixel area px py ≡ true)
+
+-- the items with some numbers
+abbrev pub chosen : List DrawItem → List ℕ → List DrawItem
+chosen items places = flat_map (λ p. take 1 (drop p items)) places
+
+-- of the first n items, the numbers of some that give each pixel of an area what all of these give it
+pub record IsChoice (area : Area) (items : List DrawItem) (places : List ℕ) (n : ℕ) : Type 0 where
+  pub within : All (λ p. p < length items) places
+  pub seen : IsSeenIn area (take n items) (chosen items places)
+
+-- a list of such numbers for each tile of a row
+pub record AreChoices (grid : Grid) (row : ℕ) (items : List DrawItem) (lists : List (Vec ℕ Global)) (n : ℕ) : Type 0 where
+  pub count : length lists ≡ grid.across
+  pub serve : (c : ℕ) (d : Vec ℕ Global) → c < grid.across → IsChoice (tile_area (tile_of grid (row * grid.across + c))) items (slice_index_or lists c d).items n
+
+-- so many lists, and nothing in them
+pub record AreEmpty (n : ℕ) (lists : List (Vec ℕ Global)) : Type 0 where
+  pub count : length lists ≡ n
+  pub empty : (c : ℕ) (d : Vec ℕ Global) → c < n → (slice_index_or lists c d).items ≡ []
+
+-- a number is put at the end of the lists from a first one up to a last one, which isn't among them
+pub record IsNoted (n from upto : ℕ) (old lists : List (Vec ℕ Global)) : Type 0 where
+  pub count : length lists ≡ length old
+  pub noted : (c : ℕ) (d : Vec ℕ Global) → c < length old
+      → (slice_index_or lists c d).items ≡ (if is_among from upto c then (slice_index_or old c d).items ++ n ∷ [] else (slice_index_or old c d).items)

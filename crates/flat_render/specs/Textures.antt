@@ -1,10 +1,13 @@
 -- Textures: what an image shows, read along the axes of the display.
-use Rattle.std.specs.Prelude.{◌≡◌, ℕ, ◌+◌, ◌<◌, ◌≤◌, true, if◌then◌else◌, List, length, slice_index}
+use Rattle.std.specs.Prelude.{◌≡◌, ℕ, ◌+◌, ◌<◌, ◌≤◌, Bool, true, not, pos, int_lt, if◌then◌else◌, List, length, slice_index}
 use Rattle.flat_base.specs.declared.ids.BufferNo.{BufferNo}
 use Rattle.flat_geom.specs.Rectangles.{is_between}
 use Rattle.flat_scene.specs.declared.frames.DrawItem.{DrawItem}
 use Rattle.flat_scene.specs.declared.frames.Paint.TheVariants.{Image}
+use Rattle.flat_scene.specs.declared.calls.ImageFlip.{ImageFlip}
+use Rattle.flat_scene.specs.declared.calls.ImageFlip.TheVariants.{LeftRight, UpDown}
 use Rattle.flat_render.specs.declared.area.Area.{Area}
+use Rattle.flat_render.specs.declared.axis.Axis.{Axis}
 use Rattle.flat_render.specs.declared.texture.Texture.{Texture}
 use Rattle.flat_render.specs.Colours.{red_at, green_at, blue_at}
 use Rattle.flat_render.specs.Inks.{tone}
@@ -44,3 +47,17 @@ pub record IsTextureOf (item : DrawItem) (texture : Texture) : Type 0 where
   pub rows : texture.rows ≡ row_axis item
   pub blend : texture.blend ≡ item.blend
   pub opacity : texture.opacity ≡ item.opacity
+
+-- whether pixels side by side have columns of the buffer that rise, and not ones that fall
+abbrev pub rises_across : Axis → ImageFlip → Bool
+rises_across axis LeftRight = not (int_lt (pos 0) axis.entry)
+rises_across axis _ = int_lt (pos 0) axis.entry
+
+-- and rows
+abbrev pub rises_down : Axis → ImageFlip → Bool
+rises_down axis UpDown = not (int_lt (pos 0) axis.entry)
+rises_down axis _ = int_lt (pos 0) axis.entry
+
+-- how much a buffer's red grows from a column to the next one, and its green from row to row: up, or else down, which is the rest of 256
+abbrev pub stride_of : Bool → ℕ
+stride_of rises = if rises then 64 else 192

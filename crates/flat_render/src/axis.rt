@@ -1,4 +1,4 @@
-ghost use Rattle.std.specs.Prelude.{◌≡◌, ◌<◌, ◌*◌, ◌/◌, ◌^◌, ◌-ℤ◌, true, unsigned_abs};
+ghost use Rattle.std.specs.Prelude.{◌≡◌, ◌<◌, ◌*◌, ◌/◌, ◌^◌, ◌-ℤ◌, true, unsigned_abs, IsTrue};
 ghost use Rattle.flat_geom.specs.Rectangles.{is_between};
 ghost use Rattle.flat_render.specs.Pixels.{centre, depth, part_of};
 
@@ -37,6 +37,14 @@ fn extent(axis: Axis) -> u128
     ensures { result ≡ unsigned_abs (axis.high -ℤ axis.low) }
 {
     (axis.high as i128 - axis.low as i128).unsigned_abs()
+}
+
+/// Whether so many equal parts are each one unit wide: pixels side by side then lie in
+/// parts side by side.
+pub fn is_by_units(axis: Axis, count: u32) -> bool
+    ensures { IsTrue result → unsigned_abs (axis.high -ℤ axis.low) ≡ count * ONE }
+{
+    extent(axis) == count as u128 * ONE as u128
 }
 
 /// In which of so many equal parts of an extent a depth lies. Where each part is one

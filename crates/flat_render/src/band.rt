@@ -1,14 +1,14 @@
 ghost use Rattle.std.specs.Prelude.{◌≡◌, ◌+◌, ◌<◌, ◌^◌, ◌*◌, ℕ, All, IfOk, length, slice_index};
 ghost use Rattle.flat_drawable.specs.Drawable.{IsDrawable};
-ghost use Rattle.flat_render.specs.Areas.{IsWindow};
-ghost use Rattle.flat_render.specs.Bands.{rects_of, IsSeenBetween, IsSeenIn};
+ghost use Rattle.flat_render.specs.Bands.{rects_of, AreChoices, IsChoice, IsSeenBetween};
 ghost use Rattle.flat_render.specs.Grids.{band_bytes, IsGrid};
 ghost use Rattle.flat_render.specs.Stored.{drawn_at, drawn_in};
-ghost use Rattle.flat_render.specs.Tiles.{pixels_of, IsTile};
+ghost use Rattle.flat_render.specs.Tiles.{pixels_of, tile_area, IsTile};
 
-use crate::area::{Area, is_beside, is_missed};
+use crate::area::is_beside;
 use crate::grid::{Grid, bytes_of_tiles, tile};
-use crate::tile::{Tile, area, draw};
+use crate::sorting::{choose, sorted};
+use crate::tile::{Tile, draw};
 use flat_base::{NoMemory, Rect};
 use flat_scene::DrawItem;
 use std::alloc::Global;
@@ -52,39 +52,17 @@ fn seen_between(
     Ok(seen)
 }
 
-/// The items of which something may be seen in an area.
-fn seen_in(
-    alloc: Global,
-    items: &[DrawItem],
-    rects: &[Rect],
-    area: Area,
-) -> Result<Vec<DrawItem>, NoMemory>
+/// Draws a tile that is black, by the items with some numbers, which are those that may
+/// be seen there. Where memory is wanting it looks at all of them.
+fn draw_tile(alloc: Global, items: &[DrawItem], places: &[usize], tile: Tile, bytes: &mut [u8])
     requires items { All IsDrawable items.now }
-    requires rects { rects.now ≡ rects_of items.now }
-    requires area { IsWindow area }
-    ensures { IfOk result (λ seen. IsSeenIn area items.now seen.items) }
-{
-    let mut seen = Vec::new(alloc);
-    for n in 0..items.len() {
-        if is_missed(area, rects[n]) {
-            continue;
-        }
-        seen.push(items[n])?;
-    }
-    Ok(seen)
-}
-
-/// Draws a tile that is black, by the items that may be seen there. Where memory is
-/// wanting it looks at all of them.
-fn draw_tile(alloc: Global, items: &[DrawItem], rects: &[Rect], tile: Tile, bytes: &mut [u8])
-    requires items { All IsDrawable items.now }
-    requires rects { rects.now ≡ rects_of items.now }
     requires tile { IsTile tile }
+    requires places { IsChoice (tile_area tile) items.now places.now (length items.now) }
     requires size { length bytes.old ≡ 3 * pixels_of tile }
     requires black { (m : ℕ) → m < length bytes.old → slice_index bytes.old m ≡ 0 }
     ensures { (m : ℕ) → m < length bytes.old → slice_index bytes.new m ≡ drawn_in tile items.now m }
 {
-    match seen_in(alloc, items, rects, area(tile)) {
+    match choose(alloc, items, places) {
         Ok(seen) => draw(seen.as_slice(), tile, bytes),
         Err(_) => draw(items, tile, bytes),
     }
@@ -110,13 +88,13 @@ fn draw_each(items: &[DrawItem], grid: &Grid, row: usize, bytes: &mut [u8])
 fn draw_picked(
     alloc: Global,
     items: &[DrawItem],
-    rects: &[Rect],
+    lists: &[Vec<usize>],
     grid: &Grid,
     row: usize,
     bytes: &mut [u8],
 )
     requires items { All IsDrawable items.now }
-    requires rects { rects.now ≡ rects_of items.now }
+    requires lists { AreChoices grid.now row items.now lists.now (length items.now) }
     requires grid { IsGrid grid.now }
     requires row { row < grid.now.down }
     requires size { length bytes.old ≡ band_bytes grid.now }
@@ -126,13 +104,8 @@ fn draw_picked(
     let size = bytes_of_tiles(grid);
     for n in 0..grid.across {
         let bytes_of_tile = &mut bytes[n * size..n * size + size];
-        draw_tile(
-            alloc,
-            items,
-            rects,
-            tile(grid, row * grid.across + n),
-            bytes_of_tile,
-        );
+        let tile = tile(grid, row * grid.across + n);
+        draw_tile(alloc, items, lists[n].as_slice(), tile, bytes_of_tile);
     }
 }
 
@@ -149,8 +122,8 @@ fn draw_row(alloc: Global, items: &[DrawItem], grid: &Grid, row: usize, bytes: &
     if items.len() <= FEW {
         return draw_each(items, grid, row, bytes);
     }
-    match visible_rects(alloc, items) {
-        Ok(rects) => draw_picked(alloc, items, rects.as_slice(), grid, row, bytes),
+    match sorted(alloc, items, grid, row) {
+        Ok(lists) => draw_picked(alloc, items, lists.as_slice(), grid, row, bytes),
         Err(_) => draw_each(items, grid, row, bytes),
     }
 }

@@ -99,6 +99,12 @@ pub fn wash(s: u8, line: &mut [u8])
     if count >= TILE_SIDE / 8 {
         return wash_ends(s, TILE_SIDE / 8, line);
     }
+    if count >= TILE_SIDE / 16 {
+        return wash_ends(s, TILE_SIDE / 16, line);
+    }
+    if count >= TILE_SIDE / 32 {
+        return wash_ends(s, TILE_SIDE / 32, line);
+    }
     wash_all(s, line);
 }
 

@@ -12,6 +12,7 @@ mod ink;
 mod picture;
 mod ppm;
 mod rendering;
+mod sorting;
 mod texture;
 mod tile;
 

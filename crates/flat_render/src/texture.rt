@@ -1,14 +1,14 @@
-ghost use Rattle.std.specs.Prelude.{◌≡◌, ◌+◌, ◌-◌, ◌<◌, ◌≤◌, ◌≤ℤ◌, ℕ, pos, true, if◌then◌else◌};
+ghost use Rattle.std.specs.Prelude.{◌≡◌, ◌+◌, ◌*◌, ◌%◌, ◌-◌, ◌<◌, ◌≤◌, ◌≤ℤ◌, ℕ, pos, true, if◌then◌else◌, length, slice_index};
 ghost use Rattle.flat_drawable.specs.Drawable.{full_rect as full_rect_of, IsSample};
 ghost use Rattle.flat_geom.specs.Rectangles.{is_between};
 ghost use Rattle.flat_render.specs.Areas.{has_pixel};
 ghost use Rattle.flat_scene.specs.declared.frames.Paint.TheVariants.{Image};
-ghost use Rattle.flat_render.specs.Inks.{shade_at, IsShade};
+ghost use Rattle.flat_render.specs.Inks.{shade_at, tone, IsShade};
 ghost use Rattle.flat_render.specs.Pixels.{centre, flipped_column, flipped_row, buffer_column, buffer_row, along_x, along_y, column_axis, row_axis};
-ghost use Rattle.flat_render.specs.Textures.{texture_red, texture_green, texture_blue, IsBelow, IsTable, IsTextureOf};
+ghost use Rattle.flat_render.specs.Textures.{texture_red, texture_green, texture_blue, rises_across, rises_down, stride_of, IsBelow, IsTable, IsTextureOf};
 
 use crate::area::Area;
-use crate::axis::{Axis, part};
+use crate::axis::{Axis, is_by_units, part};
 use crate::colour::{blue, green, red};
 use crate::ink::{Shade, tone_of};
 use crate::tile::TILE_SIDE;
@@ -173,7 +173,56 @@ pub fn blue_of(texture: &Texture) -> u8
     tone_of(texture.blend, texture.opacity, blue(texture.buffers))
 }
 
-fn reds(texture: &Texture, from: usize, upto: usize) -> [u8; TILE_SIDE]
+/// Whether pixels side by side have columns of the buffer that rise.
+fn rises(axis: Axis, flip: ImageFlip) -> bool
+    ensures { result ≡ rises_across axis flip }
+{
+    match flip {
+        ImageFlip::LeftRight => axis.entry <= 0,
+        ImageFlip::Plain | ImageFlip::UpDown => axis.entry > 0,
+    }
+}
+
+/// Whether pixels one below another have rows of the buffer that rise.
+fn sinks(axis: Axis, flip: ImageFlip) -> bool
+    ensures { result ≡ rises_down axis flip }
+{
+    match flip {
+        ImageFlip::UpDown => axis.entry <= 0,
+        ImageFlip::Plain | ImageFlip::LeftRight => axis.entry > 0,
+    }
+}
+
+/// How much a channel that rises, or else falls, grows from a pixel to the next one.
+fn stride(rises: bool) -> u32
+    ensures value { result ≡ stride_of rises }
+    ensures below { result < 256 }
+{
+    if rises { 64 } else { 192 }
+}
+
+/// A channel of pixels side by side, as it is mixed, where it grows by one stride from
+/// each to the next one.
+fn strides(blend: BlendMode, opacity: u32, first: u8, stride: u32, count: usize) -> [u8; TILE_SIDE]
+    requires opacity { opacity ≤ OPACITY_MAX }
+    requires stride { stride < 256 }
+    requires room { count ≤ 64 }
+    ensures size { length result ≡ 64 }
+    ensures values { (i : ℕ) → i < count → slice_index result i ≡ tone blend opacity ((first + stride * i) % 256) }
+{
+    let mut table = [0; TILE_SIDE];
+    for i in 0..count {
+        table[i] = tone_of(
+            blend,
+            opacity,
+            ((first as u32 + stride * i as u32) % 256) as u8,
+        );
+    }
+    table
+}
+
+/// The reds for pixels side by side, each read by itself.
+fn each_red(texture: &Texture, from: usize, upto: usize) -> [u8; TILE_SIDE]
     requires sample { IsSample texture.now.sample }
     requires opacity { texture.now.opacity ≤ OPACITY_MAX }
     requires room { upto ≤ from + 64 }
@@ -187,7 +236,8 @@ fn reds(texture: &Texture, from: usize, upto: usize) -> [u8; TILE_SIDE]
     table
 }
 
-fn greens(texture: &Texture, from: usize, upto: usize) -> [u8; TILE_SIDE]
+/// The greens for pixels side by side, each read by itself.
+fn each_green(texture: &Texture, from: usize, upto: usize) -> [u8; TILE_SIDE]
     requires sample { IsSample texture.now.sample }
     requires opacity { texture.now.opacity ≤ OPACITY_MAX }
     requires room { upto ≤ from + 64 }
@@ -199,6 +249,48 @@ fn greens(texture: &Texture, from: usize, upto: usize) -> [u8; TILE_SIDE]
         table[p - from] = green_of(texture, p);
     }
     table
+}
+
+/// The reds for pixels side by side. Where each column is one unit wide, only the first
+/// one is read.
+fn reds(texture: &Texture, from: usize, upto: usize) -> [u8; TILE_SIDE]
+    requires sample { IsSample texture.now.sample }
+    requires opacity { texture.now.opacity ≤ OPACITY_MAX }
+    requires room { upto ≤ from + 64 }
+    requires within { (p : ℕ) → from ≤ p → p < upto → is_between texture.now.columns.low texture.now.columns.high (centre p) ≡ true }
+    ensures { IsTable (texture_red texture.now) from upto result }
+{
+    if from >= upto {
+        return [0; TILE_SIDE];
+    }
+    let (axis, sample, flip) = (texture.columns, texture.sample, texture.flip);
+    if !is_by_units(axis, sample.w.unsigned_abs()) {
+        return each_red(texture, from, upto);
+    }
+    let first = red(texture.index, column(axis, sample, flip, from));
+    let stride = stride(rises(axis, flip));
+    strides(texture.blend, texture.opacity, first, stride, upto - from)
+}
+
+/// The greens for pixels one below another. Where each row is one unit high, only the
+/// first one is read.
+fn greens(texture: &Texture, from: usize, upto: usize) -> [u8; TILE_SIDE]
+    requires sample { IsSample texture.now.sample }
+    requires opacity { texture.now.opacity ≤ OPACITY_MAX }
+    requires room { upto ≤ from + 64 }
+    requires within { (p : ℕ) → from ≤ p → p < upto → is_between texture.now.rows.low texture.now.rows.high (centre p) ≡ true }
+    ensures { IsTable (texture_green texture.now) from upto result }
+{
+    if from >= upto {
+        return [0; TILE_SIDE];
+    }
+    let (axis, sample, flip) = (texture.rows, texture.sample, texture.flip);
+    if !is_by_units(axis, sample.h.unsigned_abs()) {
+        return each_green(texture, from, upto);
+    }
+    let first = green(row(axis, sample, flip, from));
+    let stride = stride(sinks(axis, flip));
+    strides(texture.blend, texture.opacity, first, stride, upto - from)
 }
 
 /// The red of a texture in an area.

@@ -1,7 +1,10 @@
-use Rattle.std.proofs.Common.{ℕ, ◌+◌, ◌*◌, ◌≤◌, ◌≡◌, ◌∙◌, ap, sym, length, arith}
+use Rattle.std.proofs.Common.{ℕ, ◌+◌, ◌*◌, ◌≤◌, ◌≡◌, ◌∙◌, ap, sym, subst, List, Vec, length, arith}
+use Rattle.std.specs.declared.alloc.Global.{Global}
 use Rattle.std.proofs.lemmas.List.{length-take, length-drop}
 use Rattle.std.proofs.lemmas.Nat.{row_fits}
-use Rattle.flat_render.specs.Grids.{band_bytes}
+use Rattle.flat_render.specs.Bands.{IsChoice}
+use Rattle.flat_render.specs.Grids.{band_bytes, tile_of}
+use Rattle.flat_render.specs.Tiles.{tile_area}
 use Rattle.flat_render.specs.Stored.{drawn_in, drawn_at}
 use Rattle.flat_render.specs.declared.tile.Tile.{Tile}
 use Rattle.flat_render.proofs.Bands.{tile-of-band, tile-of-row}
@@ -27,6 +30,14 @@ loop-n-preserved c =
     (omega arith) (c.draw_tile.auto.bytes ∙ simp (length-take, length-drop) (omega arith)) c.loop-n.invariant
     (λ k small.
     c.draw_tile.ensures k (simp (length-take, length-drop) (omega arith))
-    ∙ ap (λ (t : Tile). drawn_in t c.args.items.now k) c.tile.ensures.value
+    ∙ ap (λ (t : Tile). drawn_in t c.args.items.now k) c.tile-tile.ensures.value
     ∙ tile-of-row c.args.grid.now c.requires.grid c.args.row n c.loop-n-test.true c.args.items.now k (omega (arith, c.bytes_of_tiles-size.ensures, small))
     ∙ ap (λ (m : ℕ). drawn_at c.args.grid.now c.args.items.now (c.args.row * band_bytes c.args.grid.now + (n * m + k))) (sym c.bytes_of_tiles-size.ensures))
+
+pub draw_tile-requires-clause-places : goal.draw_tile-requires-clause-places
+draw_tile-requires-clause-places c =
+    let n : ℕ = c.args.row * c.args.grid.now.across + c.loop-n.n in
+    subst (λ (tile : Tile). IsChoice (tile_area tile) c.args.items.now c.as_slice.result.now (length c.args.items.now)) (sym c.tile-tile.ensures.value)
+    (subst (λ (places : List ℕ). IsChoice (tile_area (tile_of c.args.grid.now n)) c.args.items.now places (length c.args.items.now)) (sym c.as_slice.ensures.value)
+    (subst (λ (list : Vec ℕ Global). IsChoice (tile_area (tile_of c.args.grid.now n)) c.args.items.now list.items (length c.args.items.now)) (sym c.index-lists-n.is)
+    (c.requires.lists.serve c.loop-n.n c.index-lists-n.result c.loop-n-test.true)))

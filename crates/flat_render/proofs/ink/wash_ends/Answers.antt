@@ -1,4 +1,4 @@
-use Rattle.std.proofs.Common.{◌<◌, ◌+◌, arith}
+use Rattle.std.proofs.Common.{arith}
 use Rattle.std.proofs.lemmas.Bool.{cases_lt}
 use Rattle.flat_render.proofs.Lines.{washed-more, washed-still}
 use Rattle.flat_render.proofs.Rows.{either}

@@ -1,6 +1,6 @@
 use Rattle.std.proofs.Common.{ℕ, ◌≡◌, ◌+◌, ◌<◌, length, get_or}
 use Rattle.flat_render.specs.Textures.{texture_red}
-use Rattle.flat_render.proofs.texture.reds.Given as goal
+use Rattle.flat_render.proofs.texture.each_red.Given as goal
 
 abbrev pub invariant-loop-p : goal.invariant-loop-p
 invariant-loop-p l = record {

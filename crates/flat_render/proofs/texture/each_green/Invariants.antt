@@ -1,6 +1,6 @@
 use Rattle.std.proofs.Common.{ℕ, ◌≡◌, ◌+◌, ◌<◌, length, get_or}
 use Rattle.flat_render.specs.Textures.{texture_green}
-use Rattle.flat_render.proofs.texture.greens.Given as goal
+use Rattle.flat_render.proofs.texture.each_green.Given as goal
 
 abbrev pub invariant-loop-p : goal.invariant-loop-p
 invariant-loop-p l = record {

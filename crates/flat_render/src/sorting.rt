@@ -1,0 +1,95 @@
+ghost use Rattle.std.specs.Prelude.{◌≡◌, ◌+◌, ◌*◌, ◌<◌, ◌≤◌, ◌^◌, ◌++◌, ◌∷◌, [], ℕ, false, All, IfOk, OnOk, length, if◌then◌else◌, slice_index_or};
+ghost use Rattle.flat_drawable.specs.Drawable.{IsDrawable};
+ghost use Rattle.flat_geom.specs.Rectangles.{has_point};
+ghost use Rattle.flat_render.specs.Areas.{is_among};
+ghost use Rattle.flat_render.specs.Bands.{chosen, AreChoices, AreEmpty, IsNoted};
+ghost use Rattle.flat_render.specs.Grids.{IsGrid};
+ghost use Rattle.flat_render.specs.Pixels.{centre};
+
+use crate::area::area_of;
+use crate::grid::Grid;
+use flat_base::{NoMemory, Rect};
+use flat_scene::DrawItem;
+use std::alloc::Global;
+
+/// Some of the tiles of a row, from a first one up to a last one, which isn't among
+/// them.
+#[derive(Clone, Copy)]
+struct Columns {
+    from: usize,
+    upto: usize,
+}
+
+/// The tiles of a row in which a rectangle may have the centre of a pixel.
+fn columns_of(grid: &Grid, r: Rect) -> Columns
+    requires { IsGrid grid.now }
+    ensures within { result.upto ≤ grid.now.across }
+    ensures others { (c px py : ℕ) → c < grid.now.across → c * grid.now.tile_w ≤ px → px < c * grid.now.tile_w + grid.now.tile_w → py < 2 ^ 29 → is_among result.from result.upto c ≡ false → has_point r (centre px) (centre py) ≡ false }
+{
+    let area = area_of(r);
+    Columns {
+        from: area.x0 / grid.tile_w,
+        upto: area.x1.div_ceil(grid.tile_w).min(grid.across),
+    }
+}
+
+/// So many lists without numbers.
+fn empties(alloc: Global, count: usize) -> Result<Vec<Vec<usize>>, NoMemory>
+    ensures { IfOk result (λ lists. AreEmpty count lists.items) }
+{
+    let mut lists = Vec::new(alloc);
+    for _ in 0..count {
+        lists.push(Vec::new(alloc))?;
+    }
+    Ok(lists)
+}
+
+/// Puts a number at the end of some of the lists.
+fn note(lists: &mut [Vec<usize>], n: usize, columns: Columns) -> Result<(), NoMemory>
+    requires { columns.upto ≤ length lists.old }
+    ensures { OnOk result (IsNoted n columns.from columns.upto lists.old lists.new) }
+{
+    if columns.from >= columns.upto {
+        return Ok(());
+    }
+    for c in columns.from..columns.upto {
+        lists[c].push(n)?;
+    }
+    Ok(())
+}
+
+/// For each tile of a row, the numbers of the items that may be seen there.
+pub fn sorted(
+    alloc: Global,
+    items: &[DrawItem],
+    grid: &Grid,
+    row: usize,
+) -> Result<Vec<Vec<usize>>, NoMemory>
+    requires items { All IsDrawable items.now }
+    requires grid { IsGrid grid.now }
+    requires row { row < grid.now.down }
+    ensures { IfOk result (λ lists. AreChoices grid.now row items.now lists.items (length items.now)) }
+{
+    let mut lists = empties(alloc, grid.across)?;
+    for n in 0..items.len() {
+        let columns = columns_of(grid, items[n].visible);
+        note(lists.as_mut_slice(), n, columns)?;
+    }
+    Ok(lists)
+}
+
+/// The items with some numbers.
+pub fn choose(
+    alloc: Global,
+    items: &[DrawItem],
+    places: &[usize],
+) -> Result<Vec<DrawItem>, NoMemory>
+    requires { All (λ p. p < length items.now) places.now }
+    ensures { IfOk result (λ seen. seen.items ≡ chosen items.now places.now) }
+{
+    let mut seen = Vec::new(alloc);
+    for place in places {
+        seen.push(items[*place])?;
+    }
+    Ok(seen)
+}
