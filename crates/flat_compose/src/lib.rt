@@ -32,7 +32,7 @@ fn visible(at: &Placed, w: u32, h: u32) -> Rect
 }
 
 /// The item that a node gives, if it gives one.
-fn item(at: &Placed) -> Option<DrawItem>
+pub fn item(at: &Placed) -> Option<DrawItem>
     requires { at.now.opacity ≤ OPACITY_MAX }
     ensures { result ≡ node_item at.now }
 {

@@ -2,3 +2,4 @@ mod Examples
 pub mod Parts
 pub mod Wholes
 pub mod lemmas
+pub mod Sameness

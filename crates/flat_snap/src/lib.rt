@@ -6,6 +6,7 @@
 
 mod builder;
 mod flat;
+mod same;
 mod snapshot;
 
 pub use builder::SnapshotBuilder;

@@ -24,7 +24,7 @@ use Rattle.flat_topology.specs.Climbing.{leads_to, is_shown_by, IsAbovePair, IsA
 use Rattle.flat_topology.proofs.lemmas.Distinct.{in-contains, contains-in}
 use Rattle.flat_topology.proofs.lemmas.Distances.{viewport-owner, below-one, below-none}
 use Rattle.flat_topology.proofs.Whole.{found-in, in-found, distance-low}
-use Rattle.flat_topology.proofs.Walking.{rooted-alone}
+use Rattle.flat_topology.proofs.lemmas.Rooted.{rooted-alone}
 use Rattle.std.proofs.Math.Bool.{or-false, or_assoc}
 
 -- ---- a search

@@ -23,6 +23,7 @@ use Rattle.flat_topology.specs.Shown.{Shown, state_of, nodes_of, root_alone}
 use Rattle.flat_topology.specs.Join.{JoinedTree, node, child_view, nothing, viewer_from, viewed, linked_to, joined_nodes, led_to}
 use Rattle.flat_topology.specs.Place.{Space, seen_through, node_space, linked_space, placed_node, placed_in}
 use Rattle.flat_topology.specs.Connected.{joined_count, connected_in}
+use Rattle.flat_topology.proofs.lemmas.Rooted.{rooted-alone}
 use Rattle.flat_topology.specs.Walking.{viewer_at, flat_of, space_of, tree_of, still_count, still_placed, still_connected, work, work_in, below_stretch, after_stretch, HasPut, IsOf, Continues, IsOnTheWay}
 
 -- ---- one more stretch, which comes first
@@ -69,10 +70,6 @@ pub continue-none : (shown : Shown) (walk : Walk) (outer : Space) (at : Option �
 continue-none shown walk outer at whole =
     let e : length walk.nodes + 0 ≡ length walk.nodes = omega arith in
     record { placed = refl; connected = rw e refl; whole = whole }
-
-pub rooted-alone : (root : Option Node) → rooted root ≡ root_alone root
-rooted-alone None = refl
-rooted-alone (Some root) = refl
 
 forest-of : (state : Option Tree) → forest (flat_of state) ≡ nodes_of state
 forest-of None = refl

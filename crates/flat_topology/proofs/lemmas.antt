@@ -1,3 +1,4 @@
 -- Lemmas that other crates may cite.
 pub mod Distances
 pub mod Distinct
+pub mod Rooted

@@ -7,6 +7,7 @@ pub mod Place
 pub mod Preorder
 pub mod Draw
 pub mod Views
+pub mod Changes
 pub mod Connected
 pub mod Hits
 pub mod Laws

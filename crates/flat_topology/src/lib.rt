@@ -7,8 +7,9 @@
 //! `specs/`: which sessions are connected, where each node is placed, what is
 //! drawn, the view tree, and what a point hits.
 //!
-//! Other crates may cite the lemmas of proofs/lemmas/: lists without repeats, and
-//! distances from the display (Distances, Distinct).
+//! Other crates may cite the lemmas of proofs/lemmas/: lists without repeats,
+//! distances from the display, and the nodes of a state (Distances, Distinct,
+//! Rooted).
 #![tactic(auto)]
 
 ghost use Rattle.flat_topology.specs.Laws.{JoinsTheConnected, JoinsEachOnce, ReachesNoCycle, JoinsAll, JoinsFewSessions, JoinsFew, PlacesLowOpacities, ParentsDecide, DrawsInPreorder, ViewsTheJoined, ViewsBelowParents, ViewsTheConnected, HitsEachOnce};
@@ -20,8 +21,9 @@ mod shown;
 mod walk;
 
 pub use crate::joining::join;
-pub use crate::scope::through;
+pub use crate::scope::{Scope, outermost, through};
 pub use crate::shown::Shown;
+pub use crate::walk::{pair_of_display, viewer};
 use flat_base::{Items, Rect, SessionNo};
 use flat_geom::Matrix;
 use flat_scene::{Content, RegionList};

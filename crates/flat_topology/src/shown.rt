@@ -1,4 +1,4 @@
-ghost use Rattle.std.specs.Prelude.{◌≡◌, ◌<◌, ◌≤◌, ◌-◌, length, IfOk, All, None, slice_index_or, slice_set, option_map};
+ghost use Rattle.std.specs.Prelude.{◌≡◌, ◌<◌, ◌≤◌, ◌-◌, [], length, IfOk, All, None, slice_index_or, slice_set, option_map};
 ghost use Rattle.std.specs.Arc.{arc_value};
 ghost use Rattle.flat_topology.specs.Shown.{state_of};
 
@@ -40,6 +40,15 @@ impl Shown {
             states.push_reserved(None);
         }
         Ok(Shown { states })
+    }
+
+    /// No session. It takes no memory.
+    pub fn none(alloc: Global) -> Shown
+        ensures { result ≡ [] }
+    {
+        Shown {
+            states: Vec::new(alloc),
+        }
     }
 
     /// Shows this state of a session from now on, or nothing. It takes no memory.

@@ -69,7 +69,7 @@ fn shows(shown: &Shown, session: SessionNo, pair: usize) -> bool
 }
 
 /// Who shows the view of a pair.
-fn viewer(shown: &Shown, pair: usize) -> Option<SessionNo>
+pub fn viewer(shown: &Shown, pair: usize) -> Option<SessionNo>
     requires { length shown.now < 2 ^ 31 }
     ensures found { option_map (viewer_at shown.now) result ≡ viewer_from 1 shown.now pair }
     ensures within { IfSome result (λ s. (0 < s.0) × (s.0 ≤ length shown.now)) }

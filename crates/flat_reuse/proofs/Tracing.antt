@@ -1,0 +1,179 @@
+-- The steps of the walk that collects what the nodes of a session give.
+use Rattle.std.proofs.Common.{ℕ, ◌+◌, ◌*◌, ◌<◌, ◌≤◌, ◌≡◌, refl, sym, ap, ◌∙◌, List, [], ◌∷◌, ◌++◌, length, Some, All, slice_get, get_or, arith}
+use Rattle.std.proofs.lemmas.List.{append_assoc, append-nil}
+use Rattle.std.proofs.lemmas.List.Elements.{All-nil, All-cons, All-append, All-push, All-pop, All-get_or}
+use Rattle.std.proofs.lemmas.Option.{slice_get_cases}
+use Rattle.std.proofs.Math.Nat.{mul-le-mul_right}
+use Rattle.flat_base.specs.declared.limits.TheConstants.{OPACITY_MAX}
+use Rattle.flat_scene.specs.declared.trees.Children.{Children}
+use Rattle.flat_scene.specs.declared.trees.Children.TheVariants.{Empty}
+use Rattle.flat_scene.specs.declared.trees.Tree.{Tree}
+use Rattle.flat_scene.specs.Trees.{first, more, node_count}
+use Rattle.flat_snap.specs.declared.flat.FlatNode.{FlatNode}
+use Rattle.flat_snap.specs.Flat.{flat_from, flat_nodes, rooted}
+use Rattle.flat_snap.specs.Forest.{as_node, forest_in}
+use Rattle.flat_snap.proofs.lemmas.Rebuilding.{forest-whole}
+use Rattle.flat_snap.proofs.lemmas.Stretches.{IsFirst, stretch-first, stretch-whole, stretch-none, stretch-within}
+use Rattle.flat_topology.specs.declared.scope.Scope.{Scope}
+use Rattle.flat_topology.specs.Fit.{greatest_opacity}
+use Rattle.flat_topology.specs.Place.{Space, seen_through, node_space}
+use Rattle.flat_topology.specs.Shown.{nodes_of}
+use Rattle.flat_topology.specs.Walking.{space_of}
+use Rattle.flat_topology.proofs.lemmas.Rooted.{rooted-alone}
+use Rattle.flat_reuse.specs.declared.piece.Piece.{Piece}
+use Rattle.flat_reuse.specs.declared.trace.Span.{Span}
+use Rattle.flat_reuse.specs.declared.trace.Trace.{Trace}
+use Rattle.flat_reuse.specs.Pieces.{node_pieces, pieces}
+use Rattle.flat_reuse.specs.Tracing.{span_pieces, still_given, span_work, work, IsSpan, AreLow, IsTracing, GoesOn}
+
+-- ---- one more span, which comes first
+
+pub given-more : (s : ℕ) (ns : List FlatNode) (left : List Span) (span : Span) → still_given s ns (left ++ span ∷ []) ≡ span_pieces s ns span ++ still_given s ns left
+given-more s ns [] span = sym (append-nil (span_pieces s ns span))
+given-more s ns (x ∷ left) span =
+    ap (λ (ps : List Piece). ps ++ span_pieces s ns x) (given-more s ns left span)
+    ∙ append_assoc (span_pieces s ns span) (still_given s ns left) (span_pieces s ns x)
+
+pub work-more : (ns : List FlatNode) (left : List Span) (span : Span) → work ns (left ++ span ∷ []) ≡ work ns left + span_work ns span
+work-more ns [] span = omega arith
+work-more ns (x ∷ left) span = omega (arith, work-more ns left span)
+
+-- ---- opacities
+
+-- an opacity through another is no greater than it
+pub seen-low : (outer own : ℕ) → outer ≤ OPACITY_MAX → own ≤ OPACITY_MAX → seen_through outer own ≤ OPACITY_MAX
+seen-low outer own low own_low =
+    let product : outer * own ≤ OPACITY_MAX * own = mul-le-mul_right own low in
+    omega (arith, product)
+
+flat-low : (next : ℕ) (nodes : Children) → greatest_opacity nodes ≤ OPACITY_MAX → AreLow (flat_from next nodes)
+flat-low next Empty low = All-nil (λ n. n.opacity ≤ OPACITY_MAX)
+flat-low next (first serial scale turn place clip opacity hits content children rest) low =
+    All-cons (λ n. n.opacity ≤ OPACITY_MAX) _ _ (omega (arith, low))
+    (All-append (λ n. n.opacity ≤ OPACITY_MAX) (flat_from (next + 1) children) (flat_from (next + 1 + node_count children) rest)
+    (flat-low (next + 1) children (omega (arith, low))) (flat-low (next + 1 + node_count children) rest (omega (arith, low))))
+
+pub tree-low : (tree : Tree) → greatest_opacity (nodes_of (Some tree)) ≤ OPACITY_MAX → AreLow (flat_nodes tree)
+tree-low tree low = flat-low 0 (rooted tree.root) (rw (rooted-alone tree.root) low)
+
+at-low : (ns : List FlatNode) (i : ℕ) (n : FlatNode) → AreLow ns → i < length ns → get_or ns i n ≡ n → n.opacity ≤ OPACITY_MAX
+at-low ns i n low within is = let own : (get_or ns i n).opacity ≤ OPACITY_MAX = All-get_or (λ n. n.opacity ≤ OPACITY_MAX) ns i n within low in rw is at own
+
+-- ---- the first node of a span
+
+-- the nodes below it
+abbrev pub below_span : Span → FlatNode → Scope → Span
+below_span span n scope = record { next = span.next + 1; end = n.end; scope = scope }
+
+-- the nodes after it
+abbrev pub after_span : Span → FlatNode → Span
+after_span span n = record span { next = n.end }
+
+pub next-within : (ns : List FlatNode) (span : Span) → IsSpan ns span → span.next < span.end → span.next < length ns
+next-within ns span is some = let within = stretch-within ns span.next span.end is.stretch in omega (arith, within.1)
+
+found-low : (ns : List FlatNode) (i : ℕ) (n : FlatNode) → AreLow ns → i < length ns → slice_get ns i ≡ Some n → n.opacity ≤ OPACITY_MAX
+found-low ns i n low within at =
+    at-low ns i n low within (grind (arith, slice_get_cases ns i))
+
+pub inner-low : (ns : List FlatNode) (span : Span) (n : FlatNode) → IsSpan ns span → span.next < span.end → AreLow ns → slice_get ns span.next ≡ Some n
+    → seen_through span.scope.opacity n.opacity ≤ OPACITY_MAX
+inner-low ns span n is some low at = seen-low span.scope.opacity n.opacity is.low (found-low ns span.next n low (next-within ns span is some) at)
+
+-- the first node was gone over: what it gives is there, the nodes below it come next, and then those after it
+pub record HasStepped (s : ℕ) (old : Trace) (span : Span) (n : FlatNode) (scope : Scope) (new : Trace) : Type 0 where
+  pub pieces : new.pieces ≡ old.pieces ++ node_pieces s (space_of scope) (as_node n Empty)
+  pub left : new.left.items ≡ (old.left.items ++ after_span span n ∷ []) ++ below_span span n scope ∷ []
+  pub scope_is : space_of scope ≡ node_space (space_of span.scope) (as_node n Empty)
+  pub low : scope.opacity ≤ OPACITY_MAX
+
+pieces-first : (s : ℕ) (outer here : Space) (n : FlatNode) (children rest : Children) → here ≡ node_space outer (as_node n Empty)
+    → pieces s (more (as_node n children) rest) outer ≡ node_pieces s here (as_node n Empty) ++ (pieces s children here ++ pieces s rest outer)
+pieces-first s outer here n children rest inner = rw inner refl
+
+span-first : (s : ℕ) (ns : List FlatNode) (span : Span) (n : FlatNode) (scope : Scope) → IsFirst ns span.next span.end n
+    → space_of scope ≡ node_space (space_of span.scope) (as_node n Empty)
+    → span_pieces s ns span ≡ node_pieces s (space_of scope) (as_node n Empty) ++ (span_pieces s ns (below_span span n scope) ++ span_pieces s ns (after_span span n))
+span-first s ns span n scope parts inner =
+    ap (λ (nodes : Children). pieces s nodes (space_of span.scope)) parts.trees
+    ∙ pieces-first s (space_of span.scope) (space_of scope) n (forest_in ns 0 (span.next + 1) n.end) (forest_in ns 0 n.end span.end) inner
+
+four-lists : {X : Type 0} (old own below after left : List X) → (old ++ own) ++ (below ++ (after ++ left)) ≡ old ++ ((own ++ (below ++ after)) ++ left)
+four-lists old own below after left = simp append_assoc
+
+pub goes-first : (s : ℕ) (ns : List FlatNode) (old : Trace) (span : Span) (n : FlatNode) (scope : Scope) (new : Trace)
+    → IsSpan ns span → span.next < span.end → slice_get ns span.next ≡ Some n → All (IsSpan ns) old.left.items → HasStepped s old span n scope new
+    → GoesOn s ns old span new
+goes-first s ns old span n scope new is some at whole h =
+    let parts : IsFirst ns span.next span.end n = stretch-first ns span.next span.end n is.stretch some at in
+    let below : Span = below_span span n scope in
+    let after : Span = after_span span n in
+    let still : still_given s ns new.left.items ≡ span_pieces s ns below ++ (span_pieces s ns after ++ still_given s ns old.left.items)
+    = ap (still_given s ns) h.left ∙ given-more s ns (old.left.items ++ after ∷ []) below
+    ∙ ap (λ (ps : List Piece). span_pieces s ns below ++ ps) (given-more s ns old.left.items after) in
+    let is_below : IsSpan ns below = record { stretch = parts.below; low = h.low } in
+    let is_after : IsSpan ns after = record { stretch = parts.after; low = is.low } in
+    record {
+      given = rw (h.pieces, still, span-first s ns span n scope parts h.scope_is)
+          (four-lists old.pieces (node_pieces s (space_of scope) (as_node n Empty)) (span_pieces s ns below) (span_pieces s ns after) (still_given s ns old.left.items));
+      whole = rw h.left (All-push (IsSpan ns) _ _ (All-push (IsSpan ns) _ _ whole is_after) is_below);
+    }
+
+pub work-first : (s : ℕ) (ns : List FlatNode) (old : Trace) (span : Span) (n : FlatNode) (scope : Scope) (new : Trace)
+    → IsSpan ns span → span.next < span.end → slice_get ns span.next ≡ Some n → HasStepped s old span n scope new
+    → work ns new.left.items < work ns old.left.items + span_work ns span
+work-first s ns old span n scope new is some at h =
+    let parts : IsFirst ns span.next span.end n = stretch-first ns span.next span.end n is.stretch some at in
+    let one = work-more ns old.left.items (after_span span n) in
+    let two = work-more ns (old.left.items ++ after_span span n ∷ []) (below_span span n scope) in
+    let all : work ns new.left.items ≡ work ns old.left.items + span_work ns (after_span span n) + span_work ns (below_span span n scope) = rw (h.left, two, one) refl in
+    let count : node_count (forest_in ns 0 span.next span.end) ≡ 1 + node_count (forest_in ns 0 (span.next + 1) n.end) + node_count (forest_in ns 0 n.end span.end)
+    = ap node_count parts.trees in
+    omega (arith, all, count)
+
+-- ---- an empty span
+
+pub goes-empty : (s : ℕ) (ns : List FlatNode) (old : Trace) (span : Span) → IsSpan ns span → span.end ≤ span.next → All (IsSpan ns) old.left.items → GoesOn s ns old span old
+goes-empty s ns old span is low whole =
+    let none : span_pieces s ns span ≡ [] = ap (λ (nodes : Children). pieces s nodes (space_of span.scope)) (stretch-none ns span.next span.end is.stretch low) in
+    record { given = rw none refl; whole = whole }
+
+-- ---- the walk from its beginning to its end
+
+-- the nodes of a tree, as a span
+abbrev pub whole_span : ℕ → Scope → Span
+whole_span end scope = record { next = 0; end = end; scope = scope }
+
+pub starts : (s : ℕ) (tree : Tree) (scope : Scope) (end : ℕ) (trace : Trace) → scope.opacity ≤ OPACITY_MAX → end ≡ length (flat_nodes tree) → trace.pieces ≡ []
+    → trace.left.items ≡ whole_span end scope ∷ [] → IsTracing s (flat_nodes tree) (pieces s (nodes_of (Some tree)) (space_of scope)) trace
+starts s tree scope end trace low ends none left =
+    let ns : List FlatNode = flat_nodes tree in
+    let all : forest_in ns 0 0 end ≡ nodes_of (Some tree)
+    = ap (λ (n : ℕ). forest_in ns 0 0 n) ends ∙ forest-whole (rooted tree.root) ∙ rooted-alone tree.root in
+    let is : IsSpan ns (whole_span end scope) = record { stretch = rw ends (stretch-whole (rooted tree.root)); low = low } in
+    record {
+      given = rw (none, left) (ap (λ (nodes : Children). pieces s nodes (space_of scope)) all);
+      whole = rw left (All-cons (IsSpan ns) (whole_span end scope) [] is (All-nil (IsSpan ns)));
+    }
+
+-- a span is taken from those that are left
+pub record IsTaken (s : ℕ) (ns : List FlatNode) (all : List Piece) (span : Span) (trace : Trace) : Type 0 where
+  pub given : trace.pieces ++ (span_pieces s ns span ++ still_given s ns trace.left.items) ≡ all
+  pub whole : All (IsSpan ns) trace.left.items
+  pub is : IsSpan ns span
+
+pub taken : (s : ℕ) (ns : List FlatNode) (all : List Piece) (span : Span) (old trace : Trace) → IsTracing s ns all old
+    → old.left.items ≡ trace.left.items ++ span ∷ [] → trace.pieces ≡ old.pieces → IsTaken s ns all span trace
+taken s ns all span old trace way left same =
+    let whole = All-pop (IsSpan ns) old.left.items trace.left.items (Some span) left way.whole in
+    record { given = rw (same, ← given-more s ns trace.left.items span, ← left) way.given; whole = whole.0; is = whole.1 }
+
+pub taken-goes-on : (s : ℕ) (ns : List FlatNode) (all : List Piece) (span : Span) (trace new : Trace) → IsTaken s ns all span trace → GoesOn s ns trace span new
+    → IsTracing s ns all new
+taken-goes-on s ns all span trace new is next = record { given = next.given ∙ is.given; whole = next.whole }
+
+pub work-taken : (ns : List FlatNode) (old left : List Span) (span : Span) → old ≡ left ++ span ∷ [] → work ns old ≡ work ns left + span_work ns span
+work-taken ns old left span e = ap (work ns) e ∙ work-more ns left span
+
+pub ends : (s : ℕ) (ns : List FlatNode) (all : List Piece) (trace : Trace) → IsTracing s ns all trace → trace.left.items ≡ [] → trace.pieces ≡ all
+ends s ns all trace way none = sym (append-nil trace.pieces) ∙ rw none at way.given

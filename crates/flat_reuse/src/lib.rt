@@ -1,0 +1,17 @@
+//! Composition that keeps what did not change between frames.
+//!
+//! A session gives a list of pieces of its own: the items that its nodes paint, and
+//! where the child views of its viewports come between them. What it gives depends
+//! on what it shows and on the scope in which it is shown, and on nothing else, so
+//! the pieces of a session are kept until one of the two changes.
+#![tactic(auto)]
+
+mod follow;
+mod piece;
+mod reuse;
+mod show;
+mod slots;
+mod trace;
+
+pub use crate::reuse::Reuse;
+pub use crate::show::Drawing;
