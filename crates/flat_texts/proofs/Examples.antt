@@ -47,6 +47,7 @@ nothing_is_shown_before_the_first = refl
 -- ---- damage
 
 unfolding digits
+
 nothing_changed : damaged_text [] ≡ codes "damage ends frames 0\n"
 nothing_changed = refl
 
@@ -54,6 +55,7 @@ abbrev one_rectangle : Damaged
 one_rectangle = record { frame = record { 0 = 1 }; rects = square ∷ [] }
 
 unfolding digits
+
 a_rectangle_has_a_line : damaged_text (one_rectangle ∷ []) ≡ codes "damage frame 1 rects 1\nrect 0 0 655360 655360\ndamage ends frames 1\n"
 a_rectangle_has_a_line = refl
 
