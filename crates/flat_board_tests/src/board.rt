@@ -23,7 +23,7 @@ fn a_frame_and_a_poll(rt: HostRuntime) -> Result<(), Fail> {
     shares.push(1)?;
     let mut shown = Shown::new(alloc, 1)?;
     let mut board = Board::open(alloc, setup, shares)?;
-    let begun = board.begin(1, 5, &mut shown).0;
+    let begun = board.begin(1, 5, &mut shown).frame.0;
     let done = board.done(2).0;
     assert!(rt; begun == 1 && done == 1);
     let mut events = EventList::new(alloc);
@@ -70,7 +70,8 @@ fn a_present_is_taken(rt: HostRuntime) -> Result<(), Fail> {
                 credits: 0
             }
     );
-    board.begin(2, 5, &mut shown);
+    let begun = board.begin(2, 5, &mut shown);
+    assert!(rt; begun.changed.has[0]);
     assert_eq!(rt; board.journal().posts.len(), 1);
     Ok(())
 }

@@ -1,4 +1,5 @@
 pub mod Alone
+pub mod Changes
 pub mod BeginSteps
 pub mod FewEvents
 pub mod FinishEvents

@@ -1,3 +1,4 @@
+pub mod Changes
 pub mod Journals
 pub mod Polls
 pub use Rattle.flat_states.specs.Machines

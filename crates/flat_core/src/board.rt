@@ -4,6 +4,7 @@ ghost use Rattle.flat_base.specs.declared.ids.SessionNo.{SessionNo};
 ghost use Rattle.flat_scene.specs.Frames.{is_ready, is_signalled, waiting};
 ghost use Rattle.flat_scene.specs.History.{is_closed, history_of, Published};
 ghost use Rattle.flat_scene.specs.Setups.{is_declared, is_within_limits};
+ghost use Rattle.flat_topology.specs.Changes.{AreSame};
 ghost use Rattle.flat_topology.specs.Views.{is_member};
 ghost use Rattle.flat_states.specs.Machines.{MayCall, MayLook, entered, present_of};
 ghost use Rattle.flat_core.specs.Journals.{FamiliesStandAlone, IsDecidedByGlimpses, IsQuietBeside};
@@ -50,6 +51,15 @@ pub struct Back {
     pub calls: CallList,
     pub args: Option<PresentArgs>,
     pub snap: Option<Arc<Snapshot>>,
+}
+
+/// A frame that began.
+#[derive(Clone, Copy, Debug)]
+pub struct Begun {
+    /// Its number.
+    pub frame: FrameNo,
+    /// The sessions from which it took a present, or which closed.
+    pub changed: SessionSet,
 }
 
 /// The machine and its journal. Each call below that answers a reply makes one
@@ -479,17 +489,20 @@ impl Board {
         Reply::Done
     }
 
-    /// Begins a frame, and answers its number. The states shown are made those of
-    /// this frame: what was taken last of each open session, and nothing of a closed
-    /// one. It takes no memory.
-    pub fn begin(&mut self, line: u32, time: u64, into: &mut Shown) -> FrameNo
+    /// Begins a frame. The states shown are made those of this frame: what was taken
+    /// last of each open session, and nothing of a closed one. Answers the frame's
+    /// number, and the sessions of which another state may be shown than before. It
+    /// takes no memory.
+    pub fn begin(&mut self, line: u32, time: u64, into: &mut Shown) -> Begun
         requires may { MayCall self.old Display [] (Begin time) }
         requires shown { into.old ≡ shown_states self.old.setup (to_begin self.old.history) }
         ensures entry { self.new ≡ entered self.old Display line [] (Begin time) Done }
-        ensures frame { result.0 ≡ frames self.new.history + 1 }
+        ensures frame { result.frame.0 ≡ frames self.new.history + 1 }
         ensures shown { into.new ≡ shown_states self.new.setup self.new.history }
+        ensures changed { AreSame result.changed into.old into.new }
         ensures next { (s : SessionNo) (present : Published) → is_closed s self.old.history ≡ false → slice_get (waiting self.new.setup self.new.history s) 0 ≡ Some present → is_ready time (is_signalled self.old.setup self.old.history) present.args ≡ false }
     {
+        let mut changed = SessionSet { has: [false; 16] };
         let count = begin_all(
             &self.setup,
             line,
@@ -498,6 +511,7 @@ impl Board {
             &mut self.sessions,
             &mut self.log,
             into,
+            &mut changed,
         );
         self.ties.begin(&self.setup, self.sessions.as_slice(), into);
         self.owed -= count;
@@ -514,7 +528,10 @@ impl Board {
             kind: Kind::Begin(time),
             reply: Reply::Done,
         });
-        FrameNo(frames + 1)
+        Begun {
+            frame: FrameNo(frames + 1),
+            changed,
+        }
     }
 
     /// Ends the open frame, and answers its number. The release fences of what it

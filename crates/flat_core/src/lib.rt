@@ -8,6 +8,6 @@ mod dones;
 mod laws;
 mod polls;
 
-pub use board::{Back, Board};
+pub use board::{Back, Begun, Board};
 pub use laws::shown_states_fit;
 pub use polls::EventList;

@@ -4,19 +4,18 @@ use Rattle.std.proofs.lemmas.Bool.Decides.{nat_tests}
 use Rattle.flat_scene.specs.declared.frames.DrawItem.{DrawItem}
 use Rattle.flat_scene.specs.declared.frames.FrameOut.{FrameOut}
 use Rattle.flat_scene.specs.declared.frames.SessionSet.{SessionSet}
+use Rattle.flat_scene.specs.declared.frames.ViewNode.{ViewNode}
 use Rattle.flat_scene.specs.declared.frames.ViewTree.{ViewTree}
 use Rattle.flat_scene.specs.declared.journal.Entry.{Entry}
 use Rattle.flat_scene.specs.declared.setup.Setup.{Setup}
 use Rattle.flat_scene.specs.Setups.{is_declared, is_setup}
 use Rattle.flat_rules.specs.Ends.{has_view}
 use Rattle.flat_rules.specs.Shown.{shown_states}
-use Rattle.flat_topology.specs.declared.Joined.{Joined}
-use Rattle.flat_topology.specs.Connected.{joined_lists}
-use Rattle.flat_topology.specs.Draw.{items_of}
+use Rattle.flat_topology.specs.Draw.{draw_list}
 use Rattle.flat_topology.specs.Shown.{Shown}
-use Rattle.flat_topology.specs.Views.{view_tree}
-use Rattle.flat_tree.specs.Laws.{TreesFollow, IsSetOf}
-use Rattle.flat_tree.specs.Trees.{tree_from}
+use Rattle.flat_topology.specs.Views.{view_nodes, view_tree}
+use Rattle.flat_tree.specs.Laws.{ViewsGiveTrees, IsSetOf}
+use Rattle.flat_tree.specs.Trees.{tree_of}
 use Rattle.flat_report.specs.Report.{frame_at}
 use Rattle.flat_stage.specs.Displays.{AreViewed}
 use Rattle.flat_play.proofs.lemmas.Starting.{few_sessions}
@@ -31,13 +30,12 @@ module _ (setup : Setup) (begun : List Entry) (shown : Shown) (views : SessionSe
     beyond = viewed.others;
   }
 
-  pub composed : (n : ℕ) (joined : Joined) (items : List DrawItem) (tree : ViewTree) → is_setup setup ≡ true → TreesFollow → joined ≡ joined_lists setup shown → items ≡ items_of joined.nodes → tree ≡ tree_from joined views
-      → record { frame = record { 0 = n }; items = items; tree = tree } ≡ frame_at setup n begun
-  composed n joined items tree is_one follow joined_is items_is tree_is =
+  pub composed : (n : ℕ) (items : List DrawItem) (nodes : List ViewNode) (tree : ViewTree) → is_setup setup ≡ true → ViewsGiveTrees → items ≡ draw_list setup shown → nodes ≡ view_nodes setup shown
+      → tree ≡ tree_of nodes views → record { frame = record { 0 = n }; items = items; tree = tree } ≡ frame_at setup n begun
+  composed n items nodes tree is_one follow items_is nodes_is tree_is =
       let has : ℕ → Bool = λ s. has_view setup begun (record { 0 = s }) in
-      let drawn : items ≡ items_of (joined_lists setup shown).nodes = items_is ∙ ap (λ (j : Joined). items_of j.nodes) joined_is in
-      let seen : tree ≡ view_tree setup shown has = tree_is ∙ ap (λ (j : Joined). tree_from j views) joined_is ∙ follow setup shown has views (few_sessions setup is_one) set_of in
-      let drawn_then : items ≡ items_of (joined_lists setup (shown_states setup begun)).nodes = drawn ∙ ap (λ (sh : Shown). items_of (joined_lists setup sh).nodes) showing in
+      let seen : tree ≡ view_tree setup shown has = tree_is ∙ ap (λ (vs : List ViewNode). tree_of vs views) nodes_is ∙ follow setup shown has views (few_sessions setup is_one) set_of in
+      let drawn_then : items ≡ draw_list setup (shown_states setup begun) = items_is ∙ ap (draw_list setup) showing in
       let seen_then : tree ≡ view_tree setup (shown_states setup begun) has = seen ∙ ap (λ (sh : Shown). view_tree setup sh has) showing in
       ap (λ (is : List DrawItem). let f : FrameOut = record { frame = record { 0 = n }; items = is; tree = tree } in f) drawn_then
-      ∙ ap (λ (t : ViewTree). let f : FrameOut = record { frame = record { 0 = n }; items = items_of (joined_lists setup (shown_states setup begun)).nodes; tree = t } in f) seen_then
+      ∙ ap (λ (t : ViewTree). let f : FrameOut = record { frame = record { 0 = n }; items = draw_list setup (shown_states setup begun); tree = t } in f) seen_then

@@ -18,9 +18,8 @@ use Rattle.flat_rules.specs.Ends.{to_begin, to_finished}
 use Rattle.flat_rules.specs.Legal.{frames}
 use Rattle.flat_rules.specs.Shown.{shown_states}
 use Rattle.flat_report.specs.Report.{begin_of, hits_at}
-use Rattle.flat_topology.specs.Connected.{joined_lists}
-use Rattle.flat_topology.specs.declared.Joined.{Joined}
-use Rattle.flat_topology.specs.Hits.{hits_among}
+use Rattle.flat_topology.specs.Hits.{hit_list}
+use Rattle.flat_topology.specs.Shown.{Shown}
 use Rattle.flat_pointer.specs.declared.text.PointerCall.{PointerCall}
 use Rattle.flat_pointer.specs.declared.text.PointerCall.TheVariants.{Down, Move, Up}
 use Rattle.flat_pointer.specs.declared.text.PointerLine.{PointerLine}
@@ -111,18 +110,18 @@ same-begin n before entry few =
 -- ---- whom a line hits
 
 module _ (setup : Setup) where
-  by_call : (joined : Joined) (begun : List Entry) → joined ≡ joined_lists setup (shown_states setup begun) → (call : PointerCall) → hits_in joined call ≡ call_hits setup begun call
-  by_call joined begun is (Down x y) = ap (λ (j : Joined). hits_among j.nodes x y) is
-  by_call joined begun is (Move x y) = refl
-  by_call joined begun is Up = refl
+  by_call : (shown : Shown) (begun : List Entry) → shown ≡ shown_states setup begun → (call : PointerCall) → hits_in setup shown call ≡ call_hits setup begun call
+  by_call shown begun is (Down x y) = ap (λ (sh : Shown). hit_list setup sh x y) is
+  by_call shown begun is (Move x y) = refl
+  by_call shown begun is Up = refl
 
   -- a line behind all entries is answered by the last finished frame
-  touched-last : (joined : Joined) (last : ℕ) (history : List Entry) (line : PointerLine) → joined ≡ joined_lists setup (shown_states setup (to_finished history))
-      → list_all (λ entry. nat_le entry.line last) history ≡ true → last < line.number → touch_in joined line ≡ touch_of setup history line
-  touched-last joined last history line is early less =
+  touched-last : (shown : Shown) (last : ℕ) (history : List Entry) (line : PointerLine) → shown ≡ shown_states setup (to_finished history)
+      → list_all (λ entry. nat_le entry.line last) history ≡ true → last < line.number → touch_in setup shown line ≡ touch_of setup history line
+  touched-last shown last history line is early less =
       let begun : begin_of (frames_before line.number history) history ≡ to_finished history =
       ap (λ n. begin_of n history) (all-before last line.number less history early) ∙ last-begin history in
-      λ i. record { line = line; hits = (by_call joined (to_finished history) is line.call ∙ ap (λ b. call_hits setup b line.call) (sym begun)) i }
+      λ i. record { line = line; hits = (by_call shown (to_finished history) is line.call ∙ ap (λ b. call_hits setup b line.call) (sym begun)) i }
 
   -- an entry that finishes no frame before the line
   touched-entry : (before : List Entry) (entry : Entry) (line : PointerLine) → (is_finish entry.kind && nat_lt entry.line line.number) ≡ false
@@ -171,9 +170,9 @@ rest-rises number (line ∷ later) from rise =
     by true is rest = rest
     by false is rest = and-true (let more : nat_lt number line.number ≡ true = grind (arith, nat_tests) in more) (and-right (nat_lt from line.number) _ rise)
 
-pub answers-upto : (joined : Joined) (number : ℕ) (lines early later : List PointerLine) (old new : List Touch) (count : ℕ) → count ≡ length (take_while (is_upto number) lines)
-    → early ≡ take count lines → later ≡ drop count lines → new ≡ old ++ map (touch_in joined) early → AnswersUpto joined number lines later old new
-answers-upto joined number lines early later old new count count_is early_is later_is touches =
+pub answers-upto : (setup : Setup) (shown : Shown) (number : ℕ) (lines early later : List PointerLine) (old new : List Touch) (count : ℕ) → count ≡ length (take_while (is_upto number) lines)
+    → early ≡ take count lines → later ≡ drop count lines → new ≡ old ++ map (touch_in setup shown) early → AnswersUpto setup shown number lines later old new
+answers-upto setup shown number lines early later old new count count_is early_is later_is touches =
     let n : ℕ = length (take_while (is_upto number) lines) in
     let front : early ≡ take n lines = early_is ∙ ap (λ k. take k lines) count_is in
     let back : later ≡ drop n lines = later_is ∙ ap (λ k. drop k lines) count_is in
@@ -209,12 +208,12 @@ all-after from (line ∷ later) rise =
     and-true first (all-also (is_after line.number) (is_after from)
     (λ one more. let test : nat_lt from one.number ≡ true = grind (arith, nat_tests) in test) later (all-after line.number later (and-right (nat_lt from line.number) _ rise)))
 
-module _ (setup : Setup) (history : List Entry) (last : ℕ) (lines left : List PointerLine) (found : List Touch) (joined : Joined)
-    (answered : AreAnswered setup history last lines left found) (joins : joined ≡ joined_lists setup (shown_states setup (to_finished history))) where
+module _ (setup : Setup) (history : List Entry) (last : ℕ) (lines left : List PointerLine) (found : List Touch) (shown : Shown)
+    (answered : AreAnswered setup history last lines left found) (shows : shown ≡ shown_states setup (to_finished history)) where
   -- lines after the last one are answered by the last finished frame
-  next-touches : (early : List PointerLine) → list_all (is_after last) early ≡ true → map (touch_in joined) early ≡ map (touch_of setup history) early
-  next-touches early after = map-agrees (is_after last) (touch_in joined) (touch_of setup history)
-      (λ line more. touched-last setup joined last history line joins answered.entries (let less : last < line.number = grind (arith, nat_tests) in less)) early after
+  next-touches : (early : List PointerLine) → list_all (is_after last) early ≡ true → map (touch_in setup shown) early ≡ map (touch_of setup history) early
+  next-touches early after = map-agrees (is_after last) (touch_in setup shown) (touch_of setup history)
+      (λ line more. touched-last setup shown last history line shows answered.entries (let less : last < line.number = grind (arith, nat_tests) in less)) early after
 
   all-left : list_all (is_after last) left ≡ true
   all-left = all-after last left answered.after
@@ -227,7 +226,7 @@ module _ (setup : Setup) (history : List Entry) (last : ℕ) (lines left : List 
       split (x ∷ xs) all = and-true (and-left (nat_lt last x.number) _ all) (split xs (and-right (nat_lt last x.number) _ all))
 
   -- one more line of the script
-  pub answered-more : (number : ℕ) (later : List PointerLine) (found' : List Touch) (history' : List Entry) → last < number → AnswersUpto joined number left later found found'
+  pub answered-more : (number : ℕ) (later : List PointerLine) (found' : List Touch) (history' : List Entry) → last < number → AnswersUpto setup shown number left later found found'
       → GoesOnAt number history history' → AreAnswered setup history' number lines later found'
   answered-more number later found' history' above answers on =
       let now : List PointerLine = answered.answered ++ answers.early in
@@ -255,7 +254,7 @@ module _ (setup : Setup) (history : List Entry) (last : ℕ) (lines left : List 
       entries h (enters entry at is) = ap (list_all (λ (one : Entry). nat_le one.line number)) is ∙ and-true (let test : nat_le entry.line number ≡ true = grind (arith, nat_tests) in test) still
 
   -- the lines that are left, behind all lines of the script
-  pub answered-all : (found' : List Touch) → found' ≡ found ++ map (touch_in joined) left → found' ≡ map (touch_of setup history) lines
+  pub answered-all : (found' : List Touch) → found' ≡ found ++ map (touch_in setup shown) left → found' ≡ map (touch_of setup history) lines
   answered-all found' is =
       is ∙ (λ i. answered.touches i ++ next-touches left all-left i) ∙ sym (map-append (touch_of setup history) answered.answered left) ∙ ap (map (touch_of setup history)) (sym answered.parts)
 

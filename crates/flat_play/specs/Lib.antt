@@ -1,3 +1,4 @@
+pub mod Last
 pub mod Playing
 pub mod Showing
 pub mod Touches

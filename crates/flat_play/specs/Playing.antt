@@ -25,8 +25,8 @@ use Rattle.flat_core.specs.Machines.{Machine, entered, made}
 use Rattle.flat_rules.specs.Ends.{to_begin, to_finished, has_view}
 use Rattle.flat_rules.specs.Legal.{is_frame_open, begin_time, frames}
 use Rattle.flat_rules.specs.Shown.{shown_states}
-use Rattle.flat_topology.specs.Connected.{joined_lists}
-use Rattle.flat_topology.specs.Hits.{hits_among}
+use Rattle.flat_topology.specs.Changes.{AreSame}
+use Rattle.flat_topology.specs.Hits.{hit_list}
 use Rattle.flat_topology.specs.Shown.{Shown}
 use Rattle.flat_topology.specs.Views.{is_member}
 use Rattle.flat_report.specs.declared.report.HitAnswer.{HitAnswer}
@@ -38,6 +38,7 @@ use Rattle.flat_stage.specs.Readings.{HasRead}
 use Rattle.flat_stage.specs.Reads.{IsNew, Stands}
 use Rattle.flat_play.specs.declared.game.Game.{Game}
 use Rattle.flat_play.specs.declared.frame.LastFrame.{LastFrame}
+use Rattle.flat_play.specs.Last.{IsLast, StaysLast}
 use Rattle.flat_playable.specs.Playable.{frames_close}
 
 -- ---- a session at a place
@@ -96,7 +97,8 @@ pub record FramesStand (setup : Setup) (history : List Entry) (shown : Shown) (w
 -- The last finished frame is known, and the points that were asked for are answered.
 pub record AnswersStand (setup : Setup) (history : List Entry) (last : LastFrame) (answers : List HitAnswer) : Type 0 where
   pub number : last.frame.0 ≡ frames history
-  pub joining : last.joined ≡ joined_lists setup (shown_states setup (to_finished history))
+  pub is_last : IsLast setup last
+  pub showing : last.reuse ≡ shown_states setup (to_finished history)
   pub answering : answers ≡ answers_of setup history
 
 -- a set of sessions has none beyond those of the setup
@@ -118,6 +120,7 @@ pub record GameStands (script : Script) (place : ℕ) (game : Game) : Type 0 whe
   pub spent : IsSpent script place game.board.history
   pub views : HasViews script.setup game.with_view
   pub shows : FramesStand script.setup game.board.history game.shown game.with_view game.frames.items
+  pub same : AreSame game.changed game.last.reuse game.shown
   pub answers : AnswersStand script.setup game.board.history game.last game.answers
 
 -- ---- what the display does to a run
@@ -126,6 +129,7 @@ pub record GameStands (script : Script) (place : ℕ) (game : Game) : Type 0 whe
 pub record BeginsFrame (old new : Game) (number time : ℕ) : Type 0 where
   pub board : new.board ≡ entered old.board Display number [] (Begin time) Done
   pub shown : new.shown ≡ shown_states new.board.setup new.board.history
+  pub changed : AreSame new.changed old.shown new.shown
   pub viewing : (s : SessionNo) → is_declared new.board.setup s ≡ true → is_member new.with_view s.0 ≡ has_view new.board.setup new.board.history s
   pub views : HasViews new.board.setup new.with_view
   pub readers : new.readers ≡ old.readers
@@ -141,13 +145,15 @@ pub record FinishesFrame (old new : Game) (number : ℕ) : Type 0 where
   pub readers : new.readers ≡ old.readers
   pub kept : new.frames.items ≡ old.frames.items ++ frame_at old.board.setup (frames new.board.history) (to_begin old.board.history) ∷ []
   pub shows : new.last.frame.0 ≡ frames new.board.history
-  pub joined : new.last.joined ≡ joined_lists old.board.setup old.shown
+  pub is_last : IsLast old.board.setup new.last
+  pub showing : new.last.reuse ≡ old.shown
   pub answers : new.answers ≡ old.answers
 
 -- The display makes an entry that begins no frame and ends none.
 pub record EntersBeside (old new : Game) (number : ℕ) (kind : Kind) (reply : Reply) : Type 0 where
   pub board : new.board ≡ entered old.board Display number [] kind reply
   pub shown : new.shown ≡ old.shown
+  pub changed : new.changed ≡ old.changed
   pub with_view : new.with_view ≡ old.with_view
   pub readers : new.readers ≡ old.readers
   pub kept : new.frames ≡ old.frames
@@ -158,11 +164,12 @@ pub record EntersBeside (old new : Game) (number : ℕ) (kind : Kind) (reply : R
 pub record AsksPoint (old new : Game) (number : ℕ) (x y : ℤ) : Type 0 where
   pub board : new.board ≡ entered old.board Display number [] (Hit x y) Done
   pub shown : new.shown ≡ old.shown
+  pub changed : new.changed ≡ old.changed
   pub with_view : new.with_view ≡ old.with_view
   pub readers : new.readers ≡ old.readers
   pub kept : new.frames ≡ old.frames
-  pub last : new.last ≡ old.last
-  pub answers : new.answers ≡ old.answers ++ (record { actor = Display; line = number; frame = old.last.frame; hits = hits_among old.last.joined.nodes x y }) ∷ []
+  pub last : StaysLast old.board.setup old.last new.last
+  pub answers : new.answers ≡ old.answers ++ (record { actor = Display; line = number; frame = old.last.frame; hits = hit_list old.board.setup old.last.reuse x y }) ∷ []
 
 -- the line of a session that a body is, and the line of the display
 abbrev pub session_text : Body → Option Line

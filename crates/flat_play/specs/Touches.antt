@@ -6,8 +6,8 @@ use Rattle.flat_scene.specs.declared.journal.Entry.{Entry}
 use Rattle.flat_scene.specs.declared.setup.Setup.{Setup}
 use Rattle.flat_scene.specs.History.{◌▹◌, is_end, is_finish}
 use Rattle.flat_report.specs.Report.{begin_of, hits_at}
-use Rattle.flat_topology.specs.declared.Joined.{Joined}
-use Rattle.flat_topology.specs.Hits.{hits_among}
+use Rattle.flat_topology.specs.Hits.{hit_list}
+use Rattle.flat_topology.specs.Shown.{Shown}
 use Rattle.flat_pointer.specs.declared.text.PointerCall.{PointerCall}
 use Rattle.flat_pointer.specs.declared.text.PointerCall.TheVariants.{Down}
 use Rattle.flat_pointer.specs.declared.text.PointerLine.{PointerLine}
@@ -28,13 +28,13 @@ call_hits setup begun _ = []
 abbrev pub touch_of : Setup → List Entry → PointerLine → Touch
 touch_of setup history line = record { line = line; hits = call_hits setup (begin_of (frames_before line.number history) history) line.call }
 
--- the same by a joined tree
-abbrev pub hits_in : Joined → PointerCall → List Hit
-hits_in joined (Down x y) = hits_among joined.nodes x y
-hits_in joined _ = []
+-- the same by the states that are shown
+abbrev pub hits_in : Setup → Shown → PointerCall → List Hit
+hits_in setup shown (Down x y) = hit_list setup shown x y
+hits_in setup shown _ = []
 
-abbrev pub touch_in : Joined → PointerLine → Touch
-touch_in joined line = record { line = line; hits = hits_in joined line.call }
+abbrev pub touch_in : Setup → Shown → PointerLine → Touch
+touch_in setup shown line = record { line = line; hits = hits_in setup shown line.call }
 
 -- ---- how a history goes on
 
@@ -51,13 +51,13 @@ pub record GoesOnByEnds (old new : List Entry) : Type 0 where
 
 -- ---- how far the lines are answered
 
--- The lines that come next, up to that of a number, are answered by a joined tree, and the later ones are left.
-pub record AnswersUpto (joined : Joined) (number : ℕ) (lines later : List PointerLine) (old new : List Touch) : Type 0 where
+-- The lines that come next, up to that of a number, are answered by what is shown, and the later ones are left.
+pub record AnswersUpto (setup : Setup) (shown : Shown) (number : ℕ) (lines later : List PointerLine) (old new : List Touch) : Type 0 where
   pub early : List PointerLine
   pub parts : lines ≡ early ++ later
   pub up_to : list_all (λ line. nat_le line.number number) early ≡ true
   pub rest : (from : ℕ) → rise_after from lines ≡ true → rise_after number later ≡ true
-  pub touches : new ≡ old ++ map (touch_in joined) early
+  pub touches : new ≡ old ++ map (touch_in setup shown) early
 
 -- The first lines are answered, those up to that of a number, behind which no entry stands; the others are left.
 pub record AreAnswered (setup : Setup) (history : List Entry) (number : ℕ) (lines left : List PointerLine) (found : List Touch) : Type 0 where

@@ -1,63 +1,131 @@
-ghost use Rattle.std.specs.Prelude.{◌≡◌, ◌++◌, List, [], ◌∷◌, true, length, map, IfOk};
+ghost use Rattle.std.specs.Prelude.{◌≡◌, ◌+◌, ◌<◌, ◌^◌, ◌++◌, List, [], ◌∷◌, true, length, map, IfOk, OnOk};
 ghost use Rattle.flat_scene.specs.declared.frames.FrameOut.{FrameOut};
 ghost use Rattle.flat_scene.specs.declared.frames.Lost.{Lost};
 ghost use Rattle.flat_scene.specs.declared.journal.Entry.{Entry};
 ghost use Rattle.flat_display.specs.Shows.{Shows};
 ghost use Rattle.flat_scene.specs.Setups.{is_setup};
+ghost use Rattle.flat_topology.specs.Changes.{AreSame};
 ghost use Rattle.flat_topology.specs.Connected.{joined_lists};
 ghost use Rattle.flat_topology.specs.Fit.{FitsSetup};
+ghost use Rattle.flat_topology.specs.Hits.{hit_list};
 ghost use Rattle.flat_rules.specs.Shown.{shown_states};
 ghost use Rattle.flat_report.specs.Report.{frame_at};
 ghost use Rattle.flat_stage.specs.Displays.{AreViewed};
+ghost use Rattle.flat_play.specs.Last.{IsJoined};
 
 use flat_base::{FrameNo, NoMemory};
-use flat_compose::compose;
+use flat_core::shown_states_fit;
 use flat_display::{Display, DisplaySet};
-use flat_scene::{FrameOut, SessionSet, Setup};
+use flat_hit::hits;
+use flat_reuse::{Drawing, Reuse};
+use flat_scene::{FrameOut, HitList, SessionSet, Setup};
 use flat_topology::{Joined, Shown, join};
-use flat_tree::{trees_follow, view_tree};
+use flat_tree::{tree_of, trees_follow};
 use std::alloc::Global;
 
-/// The last finished frame: its number, 0 where there is none, and what its sessions
-/// show, joined.
-#[derive(Debug, Drop)]
-pub struct LastFrame {
-    pub frame: FrameNo,
-    pub joined: Joined,
-}
-
-/// A frame, and the joined tree of which it is composed.
+/// The last finished frame: what is kept of it for the next one, and for points.
 #[derive(Drop)]
-pub struct Composed {
-    pub frame: FrameOut,
-    pub joined: Joined,
+pub struct LastFrame {
+    /// Its number, 0 where there is none.
+    pub frame: FrameNo,
+    /// What it was composed of. Contracts see what its sessions show.
+    pub reuse: Reuse,
+    /// What they show, joined, once a point was asked for.
+    pub joined: Option<Joined>,
 }
 
-/// The frame of a number, as it is composed of what the sessions show. Where that,
-/// and who has a view, is what a begin shows, it is the frame of this begin.
-pub fn compose_frame(
+/// What shown states are, joined, if that isn't done yet.
+fn joined_once(
     alloc: Global,
     setup: &Setup,
     shown: &Shown,
-    with_view: SessionSet,
-    number: u32,
-) -> Result<Composed, NoMemory>
+    joined: Option<Joined>,
+) -> Result<Joined, NoMemory>
     requires setup { is_setup setup.now ≡ true }
     requires count { length shown.now ≡ setup.now.sessions }
     requires fit { FitsSetup setup.now shown.now }
-    ensures frame { (begun : List Entry) → shown.now ≡ shown_states setup.now begun → AreViewed setup.now begun with_view → IfOk result (λ composed. composed.frame ≡ frame_at setup.now number begun) }
-    ensures joined { IfOk result (λ composed. composed.joined ≡ joined_lists setup.now shown.now) }
+    requires joined { IsJoined setup.now shown.now joined }
+    ensures { IfOk result (λ all. all ≡ joined_lists setup.now shown.now) }
 {
-    trees_follow();
-    let joined = join(alloc, shown, setup)?;
-    let items = compose(alloc, &joined)?;
-    let tree = view_tree(alloc, &joined, with_view)?;
-    let frame = FrameOut {
-        frame: FrameNo(number),
-        items,
-        tree,
-    };
-    Ok(Composed { frame, joined })
+    match joined {
+        Some(joined) => Ok(joined),
+        None => join(alloc, shown, setup),
+    }
+}
+
+impl LastFrame {
+    ghost use Rattle.flat_play.specs.Last.{IsLast, StaysLast};
+
+    /// No frame: nothing is shown.
+    pub fn none(alloc: Global, setup: &Setup) -> Result<LastFrame, NoMemory>
+        requires { is_setup setup.now ≡ true }
+        ensures number { IfOk result (λ last. last.frame.0 ≡ 0) }
+        ensures is { IfOk result (λ last. IsLast setup.now last) }
+        ensures shows { IfOk result (λ last. last.reuse ≡ shown_states setup.now []) }
+    {
+        shown_states_fit();
+        let shown = Shown::new(alloc, setup.sessions)?;
+        let mut reuse = Reuse::new(alloc)?;
+        let _nothing = reuse.draw_next(alloc, &shown, setup)?;
+        Ok(LastFrame {
+            frame: FrameNo(0),
+            reuse,
+            joined: None,
+        })
+    }
+
+    /// The next frame, as it is composed of what the sessions show. Those outside
+    /// `changed` show what they showed in this one. Where what is shown, and who has a
+    /// view, is that of a begin, it is the frame of this begin.
+    ///
+    /// What is kept is that of the next frame from then on, but for its number.
+    pub fn compose_next(
+        &mut self,
+        alloc: Global,
+        setup: &Setup,
+        shown: &Shown,
+        changed: SessionSet,
+        with_view: SessionSet,
+    ) -> Result<FrameOut, NoMemory>
+        requires setup { is_setup setup.now ≡ true }
+        requires count { length shown.now ≡ setup.now.sessions }
+        requires fit { FitsSetup setup.now shown.now }
+        requires same { AreSame changed self.old.reuse shown.now }
+        requires few { self.old.frame.0 + 1 < 2 ^ 32 }
+        ensures frame { (begun : List Entry) → shown.now ≡ shown_states setup.now begun → AreViewed setup.now begun with_view → IfOk result (λ frame. frame ≡ frame_at setup.now (self.old.frame.0 + 1) begun) }
+        ensures is { OnOk result (IsLast setup.now self.new) }
+        ensures shows { OnOk result (self.new.reuse ≡ shown.now) }
+        ensures number { self.new.frame ≡ self.old.frame }
+    {
+        trees_follow();
+        self.joined = None;
+        let Drawing { items, views } = self.reuse.draw_changed(alloc, shown, setup, changed)?;
+        let tree = tree_of(alloc, views, with_view)?;
+        Ok(FrameOut {
+            frame: FrameNo(self.frame.0 + 1),
+            items,
+            tree,
+        })
+    }
+
+    /// Who is hit at a point. What the sessions show is joined at the first one.
+    pub fn hits(
+        &mut self,
+        alloc: Global,
+        setup: &Setup,
+        x: i32,
+        y: i32,
+    ) -> Result<HitList, NoMemory>
+        requires setup { is_setup setup.now ≡ true }
+        requires is { IsLast setup.now self.old }
+        ensures hits { IfOk result (λ hits. hits ≡ hit_list setup.now self.old.reuse x y) }
+        ensures stays { OnOk result (StaysLast setup.now self.old self.new) }
+    {
+        let joined = joined_once(alloc, setup, self.reuse.shown(), self.joined.take())?;
+        let found = hits(alloc, &joined, x, y)?;
+        self.joined = Some(joined);
+        Ok(found)
+    }
 }
 
 /// Shows the last of some frames to the displays that aren't lost.

@@ -10,7 +10,7 @@ ghost use Rattle.flat_core.specs.Machines.{MayCall};
 ghost use Rattle.flat_rules.specs.Ends.{to_begin};
 ghost use Rattle.flat_rules.specs.Legal.{frames, reply_to};
 ghost use Rattle.flat_rules.specs.Shown.{shown_states};
-ghost use Rattle.flat_topology.specs.Connected.{joined_lists};
+ghost use Rattle.flat_topology.specs.Changes.{AreSame};
 ghost use Rattle.flat_report.specs.Report.{frame_at};
 ghost use Rattle.flat_playable.specs.Playable.{is_playable};
 ghost use Rattle.flat_play.specs.Playing.{session_text, display_text};
@@ -18,11 +18,10 @@ ghost use Rattle.flat_play.specs.Touches.{GoesOnAt, GoesOnByEnds};
 ghost use Rattle.flat_play.specs.Showing.{IsShown};
 ghost use Rattle.flat_scene.specs.declared.script.ScriptLine.{ScriptLine};
 
-use crate::frame::{Composed, LastFrame, compose_frame, show_last};
+use crate::frame::{LastFrame, show_last};
 use flat_base::{Actor, FenceNo, NoMemory, SessionNo, TryCopy};
 use flat_core::{Board, shown_states_fit};
 use flat_display::{Display, DisplaySet};
-use flat_hit::hits;
 use flat_places::Script;
 use flat_report::{HitAnswer, HitAnswers};
 use flat_scene::{Body, CallList, Cond, DisplayLine, FrameOut, Line, SessionSet};
@@ -38,6 +37,8 @@ pub struct Game {
     pub readers: Vec<Reader>,
     /// What the last frame shows of each session.
     pub shown: Shown,
+    /// The sessions of which it may show another state than the frame before.
+    pub changed: SessionSet,
     /// The sessions that had a view at its begin.
     pub with_view: SessionSet,
     /// All finished frames.
@@ -48,27 +49,30 @@ pub struct Game {
 }
 
 impl Game {
+    ghost use Rattle.flat_play.specs.Last.{IsLast};
     ghost use Rattle.flat_play.specs.Playing.{GameStands, FramesStand, HasViews, BeginsFrame, FinishesFrame, EntersBeside, AsksPoint, EndsStand, HasPlayed};
 
     /// The next frame, as it is composed of what the sessions show.
-    fn compose_next(&self, alloc: Global) -> Result<Composed, NoMemory>
-        requires setup { is_setup self.now.board.setup ≡ true }
-        requires stands { FramesStand self.now.board.setup self.now.board.history self.now.shown self.now.with_view self.now.frames.items }
-        requires views { HasViews self.now.board.setup self.now.with_view }
-        requires last { self.now.last.frame.0 ≡ frames self.now.board.history }
-        requires few { frames self.now.board.history + 1 < 2 ^ 32 }
-        ensures frame { IfOk result (λ composed. composed.frame ≡ frame_at self.now.board.setup (frames self.now.board.history + 1) (to_begin self.now.board.history)) }
-        ensures joined { IfOk result (λ composed. composed.joined ≡ joined_lists self.now.board.setup self.now.shown) }
+    fn compose_next(&mut self, alloc: Global) -> Result<FrameOut, NoMemory>
+        requires setup { is_setup self.old.board.setup ≡ true }
+        requires stands { FramesStand self.old.board.setup self.old.board.history self.old.shown self.old.with_view self.old.frames.items }
+        requires views { HasViews self.old.board.setup self.old.with_view }
+        requires last { self.old.last.frame.0 ≡ frames self.old.board.history }
+        requires same { AreSame self.old.changed self.old.last.reuse self.old.shown }
+        requires few { frames self.old.board.history + 1 < 2 ^ 32 }
+        ensures frame { IfOk result (λ frame. frame ≡ frame_at self.old.board.setup (frames self.old.board.history + 1) (to_begin self.old.board.history)) }
+        ensures is { OnOk result (IsLast self.old.board.setup self.new.last) }
+        ensures shows { OnOk result (self.new.last.reuse ≡ self.old.shown) }
+        ensures others { self.new ≡ record self.old { last = self.new.last } }
     {
         let _journal = self.board.journal();
         shown_states_fit();
-        let number = self.last.frame.0 + 1;
-        compose_frame(
+        self.last.compose_next(
             alloc,
             self.board.setup(),
             &self.shown,
+            self.changed,
             self.with_view,
-            number,
         )
     }
 
@@ -78,7 +82,8 @@ impl Game {
         requires shown { self.old.shown ≡ shown_states self.old.board.setup (to_begin self.old.board.history) }
         ensures { BeginsFrame self.old self.new number time }
     {
-        let _frame = self.board.begin(number, time, &mut self.shown);
+        let begun = self.board.begin(number, time, &mut self.shown);
+        self.changed = begun.changed;
         self.with_view = self.board.with_view();
     }
 
@@ -96,6 +101,7 @@ impl Game {
         requires stands { FramesStand self.old.board.setup self.old.board.history self.old.shown self.old.with_view self.old.frames.items }
         requires views { HasViews self.old.board.setup self.old.with_view }
         requires last { self.old.last.frame.0 ≡ frames self.old.board.history }
+        requires same { AreSame self.old.changed self.old.last.reuse self.old.shown }
         requires few { frames self.old.board.history + 1 < 2 ^ 32 }
         requires number { length displays.old.items ≡ set.old.displays }
         ensures finishes { OnOk result (FinishesFrame self.old self.new number) }
@@ -104,11 +110,10 @@ impl Game {
         ensures same { set.new.displays ≡ set.old.displays }
         ensures kinds { map (λ d. d.vtable) displays.new.items ≡ map (λ d. d.vtable) displays.old.items }
     {
-        let Composed { frame, joined } = self.compose_next(alloc)?;
+        let frame = self.compose_next(alloc)?;
         self.frames.push(frame)?;
         show_last(set, displays, self.frames.as_slice());
-        let frame = self.board.done(number);
-        self.last = LastFrame { frame, joined };
+        self.last.frame = self.board.done(number);
         Ok(())
     }
 
@@ -132,10 +137,12 @@ impl Game {
 
     /// Asks what a point of the last finished frame hits.
     fn hit(&mut self, alloc: Global, number: u32, x: i32, y: i32) -> Result<(), NoMemory>
-        requires { MayCall self.old.board Display [] (Hit x y) }
+        requires may { MayCall self.old.board Display [] (Hit x y) }
+        requires setup { is_setup self.old.board.setup ≡ true }
+        requires is { IsLast self.old.board.setup self.old.last }
         ensures { OnOk result (AsksPoint self.old self.new number x y) }
     {
-        let hits = hits(alloc, &self.last.joined, x, y)?;
+        let hits = self.last.hits(alloc, self.board.setup(), x, y)?;
         self.answers.push(HitAnswer {
             actor: Actor::Display,
             line: number,

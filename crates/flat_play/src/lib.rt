@@ -11,6 +11,6 @@ mod game;
 mod run;
 mod touches;
 
-pub use frame::{Composed, LastFrame, compose_frame, show_last};
+pub use frame::{LastFrame, show_last};
 pub use game::Game;
 pub use run::{Played, play_script, play_touched, shares_of};

@@ -12,7 +12,7 @@ ghost use Rattle.flat_play.specs.Showing.{HaveSeen};
 use crate::frame::LastFrame;
 use crate::game::Game;
 use crate::touches::{answer_all, answer_upto};
-use flat_base::{Actor, FrameNo, NoMemory, SessionNo, ShareList, TryCopy};
+use flat_base::{Actor, NoMemory, SessionNo, ShareList, TryCopy};
 use flat_core::{Board, shown_states_fit};
 use flat_display::{Display, DisplaySet};
 use flat_places::Script;
@@ -20,7 +20,7 @@ use flat_pointer::{PointerLine, Touch};
 use flat_report::HitAnswers;
 use flat_scene::{FrameOut, SessionSet, Setup};
 use flat_stage::{Reader, lines_are_read};
-use flat_topology::{Shown, join};
+use flat_topology::Shown;
 use std::alloc::Global;
 
 /// The number of an actor's seat.
@@ -89,17 +89,15 @@ fn start(alloc: Global, script: &Script) -> Result<Game, NoMemory>
     let setup = script.setup.copy(alloc)?;
     let board = Board::open(alloc, setup, shares)?;
     let shown = Shown::new(alloc, script.setup.sessions)?;
-    let joined = join(alloc, &shown, &script.setup)?;
+    let last = LastFrame::none(alloc, &script.setup)?;
     Ok(Game {
         board,
         readers: new_readers(alloc, &script.setup)?,
         shown,
+        changed: SessionSet { has: [false; 16] },
         with_view: SessionSet { has: [false; 16] },
         frames: Vec::new(alloc),
-        last: LastFrame {
-            frame: FrameNo(0),
-            joined,
-        },
+        last,
         answers: HitAnswers::new(alloc),
     })
 }
@@ -125,14 +123,15 @@ fn play_lines(
     ensures kept { AreKept (λ d. shown d) (λ d. faults d) displays.old.items displays.new.items (λ d. d.vtable) }
 {
     let mut game = start(alloc, script)?;
+    let setup = &script.setup;
     let mut left = lines;
     let mut found = Vec::new(alloc);
     for place in 0..script.lines.len() {
         let line = script.lines.at(place);
-        left = answer_upto(alloc, &game.last, left, line.number, &mut found)?;
+        left = answer_upto(alloc, setup, &mut game.last, left, line.number, &mut found)?;
         game.play_line(alloc, script, place, set, displays)?;
     }
-    answer_all(alloc, &game.last, left, &mut found)?;
+    answer_all(alloc, setup, &mut game.last, left, &mut found)?;
     Ok((game, found))
 }
 
@@ -174,6 +173,7 @@ pub fn play_touched(
         board,
         readers: _,
         shown: _,
+        changed: _,
         with_view: _,
         frames,
         last: _,

@@ -1,36 +1,54 @@
-ghost use Rattle.std.specs.Prelude.{◌≡◌, ◌++◌, map, length, OnOk, IfOk, nat_le, take_while};
+ghost use Rattle.std.specs.Prelude.{◌≡◌, ◌++◌, true, map, length, OnOk, IfOk, nat_le, take_while};
+ghost use Rattle.flat_scene.specs.Setups.{is_setup};
+ghost use Rattle.flat_play.specs.Last.{IsLast, StaysLast};
 ghost use Rattle.flat_play.specs.Touches.{AnswersUpto, touch_in};
 
 use crate::frame::LastFrame;
 use flat_base::NoMemory;
-use flat_hit::hits;
 use flat_pointer::{PointerCall, PointerLine, Touch};
-use flat_scene::HitList;
+use flat_scene::{HitList, Setup};
 use std::alloc::Global;
 
 /// Answers a line of a pointer: whom it hits in the last finished frame, where it
 /// goes down.
-fn answer(alloc: Global, last: &LastFrame, line: PointerLine) -> Result<Touch, NoMemory>
-    ensures { IfOk result (λ touch. touch ≡ touch_in last.now.joined line) }
+fn answer(
+    alloc: Global,
+    setup: &Setup,
+    last: &mut LastFrame,
+    line: PointerLine,
+) -> Result<Touch, NoMemory>
+    requires setup { is_setup setup.now ≡ true }
+    requires is { IsLast setup.now last.old }
+    ensures touch { IfOk result (λ touch. touch ≡ touch_in setup.now last.old.reuse line) }
+    ensures stays { OnOk result (StaysLast setup.now last.old last.new) }
 {
-    let hits = match line.call {
-        PointerCall::Down { x, y } => hits(alloc, &last.joined, x, y)?,
-        _ => HitList::new(alloc),
-    };
-    Ok(Touch { line, hits })
+    match line.call {
+        PointerCall::Down { x, y } => {
+            let hits = last.hits(alloc, setup, x, y)?;
+            Ok(Touch { line, hits })
+        }
+        _ => Ok(Touch {
+            line,
+            hits: HitList::new(alloc),
+        }),
+    }
 }
 
 /// Answers some lines of pointers.
 pub(crate) fn answer_all(
     alloc: Global,
-    last: &LastFrame,
+    setup: &Setup,
+    last: &mut LastFrame,
     lines: &[PointerLine],
     found: &mut Vec<Touch>,
 ) -> Result<(), NoMemory>
-    ensures { OnOk result (found.new.items ≡ found.old.items ++ map (touch_in last.now.joined) lines.now) }
+    requires setup { is_setup setup.now ≡ true }
+    requires is { IsLast setup.now last.old }
+    ensures answers { OnOk result (found.new.items ≡ found.old.items ++ map (touch_in setup.now last.old.reuse) lines.now) }
+    ensures stays { OnOk result (StaysLast setup.now last.old last.new) }
 {
     for line in lines {
-        found.push(answer(alloc, last, *line)?)?;
+        found.push(answer(alloc, setup, last, *line)?)?;
     }
     Ok(())
 }
@@ -49,14 +67,18 @@ fn count_upto(lines: &[PointerLine], number: u32) -> usize
 /// later ones.
 pub(crate) fn answer_upto<'a>(
     alloc: Global,
-    last: &LastFrame,
+    setup: &Setup,
+    last: &mut LastFrame,
     lines: &'a [PointerLine],
     number: u32,
     found: &mut Vec<Touch>,
 ) -> Result<&'a [PointerLine], NoMemory>
-    ensures { IfOk result (λ later. AnswersUpto last.now.joined number lines.entry.now later.now found.old.items found.new.items) }
+    requires setup { is_setup setup.now ≡ true }
+    requires is { IsLast setup.now last.old }
+    ensures answers { IfOk result (λ later. AnswersUpto setup.now last.old.reuse number lines.entry.now later.now found.old.items found.new.items) }
+    ensures stays { OnOk result (StaysLast setup.now last.old last.new) }
 {
     let (early, later) = lines.split_at(count_upto(lines, number));
-    answer_all(alloc, last, early, found)?;
+    answer_all(alloc, setup, last, early, found)?;
     Ok(later)
 }

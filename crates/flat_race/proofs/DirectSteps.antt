@@ -21,7 +21,6 @@ use Rattle.flat_core.specs.Machines.{entry_of}
 use Rattle.flat_rules.specs.Ends.{to_begin, to_finished}
 use Rattle.flat_rules.specs.Legal.{Legal, is_frame_open, begin_time, frames}
 use Rattle.flat_rules.specs.Shown.{shown_states}
-use Rattle.flat_topology.specs.Connected.{joined_lists}
 use Rattle.flat_topology.specs.Shown.{Shown}
 use Rattle.flat_report.specs.declared.report.HitAnswer.{HitAnswer}
 use Rattle.flat_report.specs.Report.{finished}
@@ -51,7 +50,8 @@ module _ (script : Script) (place : ℕ) (before after : List Entry) (same : IsB
 pub answers_same : (setup : Setup) (before after : List Entry) (last : LastFrame) (answers : List HitAnswer) → IsBeside setup before after → AnswersStand setup before last answers → AnswersStand setup after last answers
 answers_same setup before after last answers same stands = record {
   number = stands.number ∙ sym same.number;
-  joining = stands.joining ∙ ap (λ (h : List Entry). joined_lists setup (shown_states setup h)) (sym same.ended);
+  is_last = stands.is_last;
+  showing = stands.showing ∙ ap (shown_states setup) (sym same.ended);
   answering = stands.answering ∙ sym same.answering;
 }
 

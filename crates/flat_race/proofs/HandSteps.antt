@@ -33,8 +33,9 @@ use Rattle.flat_rules.specs.Legal.{Legal, is_frame_open, begin_time, display_may
 use Rattle.flat_rules.specs.Owned.{is_played_display}
 use Rattle.flat_rules.specs.Seats.{DisplayKnowsFrames, JournalsKeepSeats, SeatsTellActors, of_seat}
 use Rattle.flat_rules.specs.Shown.{shown_states}
-use Rattle.flat_topology.specs.Connected.{joined_lists}
-use Rattle.flat_topology.specs.Hits.{hits_among}
+use Rattle.flat_topology.specs.Changes.{AreSame}
+use Rattle.flat_topology.specs.Hits.{hit_list}
+use Rattle.flat_topology.specs.Shown.{Shown}
 use Rattle.flat_report.specs.declared.report.HitAnswer.{HitAnswer}
 use Rattle.flat_report.specs.Handed.{answer_to, answers_of}
 use Rattle.flat_report.specs.Report.{finished, frame_at, hits_at}
@@ -43,10 +44,11 @@ use Rattle.flat_playable.specs.Playable.{frames_close, is_playable, is_played, k
 use Rattle.flat_stage.specs.Displays.{AreViewed, DisplayEnters, DisplaySees, DisplayView, FrameView, HasDisplayRoom}
 use Rattle.flat_stage.specs.Seats.{StageView, setup_of, entries_of_seat}
 use Rattle.flat_stage.specs.Seats as stage
+use Rattle.flat_play.specs.Last.{StaysLast}
 use Rattle.flat_play.specs.Playing.{AnswersStand, lines_by, rest_shares, shares_of}
 use Rattle.flat_play.proofs.lemmas.DisplaySteps.{answers_beside, answers_done, answers_point, begin_time_ok, display_session, done_ok}
 use Rattle.flat_play.proofs.lemmas.DisplaySteps as quiet
-use Rattle.flat_play.proofs.lemmas.FramesShown.{few_frames}
+use Rattle.flat_play.proofs.lemmas.FramesShown.{all-finished, few_frames}
 use Rattle.flat_play.specs.Showing.{HaveSeen}
 use Rattle.flat_play.proofs.lemmas.Places.{drop_all}
 use Rattle.flat_play.proofs.lemmas.Starting.{by_at_most, few, first_display}
@@ -54,7 +56,7 @@ use Rattle.flat_play.proofs.lemmas.Steps.{At}
 use Rattle.flat_race.specs.declared.director.Film.{Film}
 use Rattle.flat_race.specs.declared.hand.Hand.{Hand}
 use Rattle.flat_race.specs.declared.hand.Hand.TheVariants.{Idle, Open}
-use Rattle.flat_race.specs.Directing.{FilmStands, HandStands, HasLooked, KeepsFrame, KeepsNext, SeatStands, ShowsBegin, hand_seat, is_open}
+use Rattle.flat_race.specs.Directing.{FilmStands, HandStands, HasLooked, KeepsFrame, KeepsNext, KnowsChanges, SeatStands, ShowsBegin, hand_seat, is_open}
 use Rattle.flat_race.specs.Sessions.{IsStageOf}
 use Rattle.flat_base.proofs.lemmas.Tests.{and-left, and-right}
 use Rattle.flat_race.proofs.Beside.{IsBeside, seen_beside}
@@ -93,29 +95,29 @@ module _ (setup : Setup) (middle : List Entry) (film : Film) (stands : FilmStand
             ∙ ap (λ (h : List Entry). film.frames.items ++ frame_at setup (suc (frames middle)) h ∷ []) (sym same.begun)
             ∙ ap (λ (fs : List FrameOut). fs ++ frame_at setup (suc (frames middle)) (to_begin middle) ∷ []) stands.finishing;
         answering = subst A (sym keeps.answers) (answers_done setup middle film.last film.answers stands.answering n film'.last (keeps.number ∙ after_is)
-            (keeps.joined ∙ ap (λ (h : List Entry). joined_lists setup (shown_states setup h)) (sym same.begun)));
+            keeps.is_last (keeps.showing ∙ ap (shown_states setup) (sym same.begun)));
       }
 
   -- a point
-  film_point : (n : ℕ) (x y : ℤ) (film' : Film) → film' ≡ record film { answers = film'.answers }
-      → film'.answers ≡ film.answers ++ (record { actor = Display; line = n; frame = film.last.frame; hits = hits_among film.last.joined.nodes x y }) ∷ [] → FilmStands setup (middle ▹ entry_of Display n [] (Hit x y) Done) film'
-  film_point n x y film' rest gained =
+  film_point : (n : ℕ) (x y : ℤ) (film' : Film) → film' ≡ record film { last = film'.last; answers = film'.answers } → StaysLast setup film.last film'.last
+      → film'.answers ≡ film.answers ++ (record { actor = Display; line = n; frame = film.last.frame; hits = hit_list setup film.last.reuse x y }) ∷ [] → FilmStands setup (middle ▹ entry_of Display n [] (Hit x y) Done) film'
+  film_point n x y film' rest stays gained =
       let h : List Entry = middle ▹ entry_of Display n [] (Hit x y) Done in
       let F : Film → Type 0 = FilmStands setup h in
       subst F (sym rest) (record {
         finishing = stands.finishing ∙ sym (append-nil (finished setup middle));
-        answering = answers_point setup middle film.last film.answers stands.answering n x y film'.answers gained;
+        answering = answers_point setup middle film.last film.answers stands.answering n x y film'.last film'.answers stays gained;
       })
 
 -- ---- what is held
 
 keeps_itself : (hand : Hand) → KeepsFrame hand hand
 keeps_itself (Idle seat) = tt
-keeps_itself (Open frame) = (refl, refl)
+keeps_itself (Open frame) = (refl, refl, refl)
 
 keeps_both : (a b c : Hand) → KeepsFrame a b → KeepsFrame b c → KeepsFrame a c
 keeps_both (Idle a) (Idle b) (Idle c) one two = tt
-keeps_both (Open a) (Open b) (Open c) one two = (two.0 ∙ one.0, two.1 ∙ one.1)
+keeps_both (Open a) (Open b) (Open c) one two = (two.0 ∙ one.0, two.1 ∙ one.1, two.2 ∙ one.2)
 keeps_both (Idle a) (Open b) c one two = absurd one
 keeps_both (Open a) (Idle b) c one two = absurd one
 keeps_both (Idle a) (Idle b) (Open c) one two = absurd two
@@ -143,6 +145,13 @@ module _ (setup : Setup) where
   shows_same before after (Idle old) (Open new) begun opened kept shows = absurd (let wrong : true ≡ false = opened in cc)
   shows_same before after (Open old) (Idle new) begun opened kept shows = absurd (let wrong : false ≡ true = opened in cc)
 
+-- what an open frame knows is kept, whatever is joined of the last one
+changes_same : (last last' : Shown) (hand hand' : Hand) → last' ≡ last → is_open hand' ≡ is_open hand → KeepsFrame hand hand' → KnowsChanges last hand → KnowsChanges last' hand'
+changes_same last last' (Idle old) (Idle new) same opened kept knows = tt
+changes_same last last' (Open old) (Open new) same opened kept knows = rw (kept.2, same, kept.0) knows
+changes_same last last' (Idle old) (Open new) same opened kept knows = absurd (let wrong : true ≡ false = opened in cc)
+changes_same last last' (Open old) (Idle new) same opened kept knows = absurd (let wrong : false ≡ true = opened in cc)
+
 module _ (script : Script) (view : StageView) (place : ℕ) where
   -- the compositor looked
   pub hand_looks : (hand hand' : Hand) (film : Film) → HasLooked script.setup hand hand' → HandStands script view place hand film → HandStands script view place hand' film
@@ -165,6 +174,7 @@ module _ (script : Script) (view : StageView) (place : ℕ) where
         };
         frame = same.is_open ∙ stands.frame ∙ sym looks.opened;
         shows = shows_same script.setup (history_of old) (history_of new) hand hand' same.begun looks.opened looks.kept stands.shows;
+        changes = changes_same film.last.reuse film.last.reuse hand hand' refl looks.opened looks.kept stands.changes;
         kept = film_same script.setup (history_of old) (history_of new) same film stands.kept;
       }
 
@@ -181,8 +191,8 @@ module _ (script : Script) (view : StageView) (place : ℕ) where
 
     -- a frame begins
     pub hand_begins : (time : ℕ) → x.body ≡ body.Display (display.Begin time) → (seat : DisplayView) (frame : FrameView) (film : Film) → HandStands script view place (Idle seat) film → DisplayEnters x.number (Begin time) Done seat frame.display
-        → frame.shown ≡ shown_states (setup_of seat.stage) (history_of frame.display.seen) → AreViewed (setup_of seat.stage) (history_of frame.display.seen) frame.with_view → HandStands script view (place + 1) (Open frame) film
-    hand_begins time is seat frame film stands enters shown viewed =
+        → frame.shown ≡ shown_states (setup_of seat.stage) (history_of frame.display.seen) → AreSame frame.changed (shown_states (setup_of seat.stage) (to_begin (history_of seat.seen))) frame.shown → AreViewed (setup_of seat.stage) (history_of frame.display.seen) frame.with_view → HandStands script view (place + 1) (Open frame) film
+    hand_begins time is seat frame film stands enters shown changed viewed =
         let e : Entry = entry_of Display x.number [] (Begin time) Done in
         let en = enters_as script view place x at of.setup seat frame.display stands.seat (Begin time) Done enters in
         let setup : setup_of seat.stage ≡ script.setup = ap setup_of stands.seat.own ∙ of.setup in
@@ -190,10 +200,14 @@ module _ (script : Script) (view : StageView) (place : ℕ) where
         let V : Setup → Type 0 = λ s. AreViewed s (history_of frame.display.seen) frame.with_view in
         let W : List Entry → Type 0 = λ h. AreViewed script.setup h frame.with_view in
         let F : List Entry → Type 0 = λ h. FilmStands script.setup h film in
+        let S : Shown → Type 0 = λ was. AreSame frame.changed was frame.shown in
+        let before : shown_states (setup_of seat.stage) (to_begin (history_of seat.seen)) ≡ film.last.reuse =
+        ap (λ s. shown_states s (to_begin (history_of seat.seen))) setup ∙ ap (shown_states script.setup) (sym (all-finished (history_of seat.seen) stands.frame)) ∙ sym stands.kept.answering.showing in
         record {
           seat = seat_begins script view place x at of.setup seat frame.display stands.seat time actor is enters;
           frame = ap is_frame_open en.grown;
           shows = (shown ∙ ap (λ s. shown_states s (history_of frame.display.seen)) setup ∙ ap (shown_states script.setup) begun, subst W begun (subst V setup viewed));
+          changes = subst S before changed;
           kept = subst F (sym en.grown) (film_beside script.setup en.middle film (film_same script.setup (history_of seat.seen) en.middle en.beside film stands.kept) e refl refl);
         }
 
@@ -208,6 +222,7 @@ module _ (script : Script) (view : StageView) (place : ℕ) where
           seat = seat_finishes script view place x at of.setup frame.display seat stands.seat actor is enters;
           frame = ap is_frame_open en.grown;
           shows = tt;
+          changes = tt;
           kept = subst F (sym en.grown) (film_done script.setup en.middle film (film_same script.setup (history_of frame.display.seen) en.middle en.beside film stands.kept) (history_of frame.display.seen) x.number
               (frames (history_of seat.seen)) film' en.beside (ap frames en.grown) keeps);
         }
@@ -215,9 +230,9 @@ module _ (script : Script) (view : StageView) (place : ℕ) where
     -- a line that begins no frame and ends none
     hand_beside : (text : DisplayLine) (kind : Kind) (reply : Reply) → x.body ≡ body.Display text → entry_of_display text ≡ kind → is_begin kind ≡ false → is_finish kind ≡ false
         → ((o : Bool) (t : ℕ) (follows : Bool → ℕ → Bool) → keeps_frames o t (body.Display text) follows ≡ follows o t)
-        → (hand hand' : Hand) (film film' : Film) → HandStands script view place hand film → (enters : DisplayEnters x.number kind reply (hand_seat hand) (hand_seat hand')) → is_open hand' ≡ is_open hand → KeepsFrame hand hand'
+        → (hand hand' : Hand) (film film' : Film) → HandStands script view place hand film → (enters : DisplayEnters x.number kind reply (hand_seat hand) (hand_seat hand')) → is_open hand' ≡ is_open hand → KeepsFrame hand hand' → film'.last.reuse ≡ film.last.reuse
         → ((middle : List Entry) → FilmStands script.setup middle film → FilmStands script.setup (middle ▹ entry_of Display x.number [] kind reply) film') → HandStands script view (place + 1) hand' film'
-    hand_beside text kind reply is makes no_begin no_finish keeps hand hand' film film' stands enters same kept films =
+    hand_beside text kind reply is makes no_begin no_finish keeps hand hand' film film' stands enters same kept reuse films =
         let e : Entry = entry_of Display x.number [] kind reply in
         let en = enters_as script view place x at of.setup (hand_seat hand) (hand_seat hand') stands.seat kind reply enters in
         let F : List Entry → Type 0 = λ h. FilmStands script.setup h film' in
@@ -227,24 +242,26 @@ module _ (script : Script) (view : StageView) (place : ℕ) where
           seat = seat_beside script view place x at of.setup (hand_seat hand) (hand_seat hand') stands.seat text kind reply actor is makes no_begin no_finish keeps enters;
           frame = ap is_frame_open en.grown ∙ opened ∙ en.beside.is_open ∙ stands.frame ∙ sym same;
           shows = shows_same script.setup (history_of (hand_seat hand).seen) (history_of (hand_seat hand').seen) hand hand' (ap to_begin en.grown ∙ begun ∙ en.beside.begun) same kept stands.shows;
+          changes = changes_same film.last.reuse film'.last.reuse hand hand' reuse same kept stands.changes;
           kept = subst F (sym en.grown) (films en.middle (film_same script.setup (history_of (hand_seat hand).seen) en.middle en.beside film stands.kept));
         }
 
     pub hand_signals : (f : FenceNo) (reply : Reply) → x.body ≡ body.Display (display.Signal f) → (hand hand' : Hand) (film : Film) → HandStands script view place hand film → DisplayEnters x.number (Signal f) reply (hand_seat hand) (hand_seat hand') → is_open hand' ≡ is_open hand → KeepsFrame hand hand'
         → HandStands script view (place + 1) hand' film
     hand_signals f reply is hand hand' film stands enters same kept =
-        hand_beside (display.Signal f) (Signal f) reply is refl refl refl (λ o t follows. refl) hand hand' film film stands enters same kept (λ middle stood. film_beside script.setup middle film stood (entry_of Display x.number [] (Signal f) reply) refl refl)
+        hand_beside (display.Signal f) (Signal f) reply is refl refl refl (λ o t follows. refl) hand hand' film film stands enters same kept refl (λ middle stood. film_beside script.setup middle film stood (entry_of Display x.number [] (Signal f) reply) refl refl)
 
     pub hand_waits : (c : Cond) (reply : Reply) → x.body ≡ body.Display (display.Wait c) → (hand hand' : Hand) (film : Film) → HandStands script view place hand film → DisplayEnters x.number (Wait c) reply (hand_seat hand) (hand_seat hand') → is_open hand' ≡ is_open hand → KeepsFrame hand hand'
         → HandStands script view (place + 1) hand' film
     hand_waits c reply is hand hand' film stands enters same kept =
-        hand_beside (display.Wait c) (Wait c) reply is refl refl refl (λ o t follows. refl) hand hand' film film stands enters same kept (λ middle stood. film_beside script.setup middle film stood (entry_of Display x.number [] (Wait c) reply) refl refl)
+        hand_beside (display.Wait c) (Wait c) reply is refl refl refl (λ o t follows. refl) hand hand' film film stands enters same kept refl (λ middle stood. film_beside script.setup middle film stood (entry_of Display x.number [] (Wait c) reply) refl refl)
 
     pub hand_hits : (px py : ℤ) → x.body ≡ body.Display (display.Hit px py) → (hand hand' : Hand) (film film' : Film) → HandStands script view place hand film → DisplayEnters x.number (Hit px py) Done (hand_seat hand) (hand_seat hand') → is_open hand' ≡ is_open hand → KeepsFrame hand hand'
-        → film' ≡ record film { answers = film'.answers } → film'.answers ≡ film.answers ++ (record { actor = Display; line = x.number; frame = film.last.frame; hits = hits_among film.last.joined.nodes px py }) ∷ []
+        → film' ≡ record film { last = film'.last; answers = film'.answers } → StaysLast script.setup film.last film'.last
+        → film'.answers ≡ film.answers ++ (record { actor = Display; line = x.number; frame = film.last.frame; hits = hit_list script.setup film.last.reuse px py }) ∷ []
         → HandStands script view (place + 1) hand' film'
-    hand_hits px py is hand hand' film film' stands enters same kept rest gained =
-        hand_beside (display.Hit px py) (Hit px py) Done is refl refl refl (λ o t follows. refl) hand hand' film film' stands enters same kept (λ middle stood. film_point script.setup middle film stood x.number px py film' rest gained)
+    hand_hits px py is hand hand' film film' stands enters same kept rest stays gained =
+        hand_beside (display.Hit px py) (Hit px py) Done is refl refl refl (λ o t follows. refl) hand hand' film film' stands enters same kept stays.reuse (λ middle stood. film_point script.setup middle film stood x.number px py film' rest stays gained)
 
     -- ---- what a line asks for
 
@@ -282,7 +299,7 @@ module _ (script : Script) (view : StageView) (place : ℕ) where
     where
       by_body : (b : Body) → x.body ≡ b → HandStands script view (place + 1) hand film
       by_body (body.Display text) is = absurd (other text is)
-      by_body (body.Session text) is = record { seat = record { own = stands.seat.own; mine = stands.seat.mine; legal = stands.seat.legal; display = display_session script place x at text is _ _ (quiet.same refl) stands.seat.display; spent = spent }; frame = stands.frame; shows = stands.shows; kept = stands.kept }
+      by_body (body.Session text) is = record { seat = record { own = stands.seat.own; mine = stands.seat.mine; legal = stands.seat.legal; display = display_session script place x at text is _ _ (quiet.same refl) stands.seat.display; spent = spent }; frame = stands.frame; shows = stands.shows; changes = stands.changes; kept = stands.kept }
         where
           spent : length (hand_seat hand).mine + lines_by 0 (drop (place + 1) script.lines) ≤ lines_by 0 script.lines
           spent = let was = stands.seat.spent in let left = ap (lines_by 0) at.left in let more : lines_by 0 (x ∷ drop (place + 1) script.lines) ≡ lines_by 0 (drop (place + 1) script.lines) + cond (seat_number x.actor == 0) 1 0 = grind (arith, common_steps) in omega (arith, was, left, more)
@@ -329,6 +346,7 @@ hand_starts script view seat film playable is kept =
       seat = record { own = refl; mine = refl; legal = tt; display = first_display script playable; spent = omega arith };
       frame = refl;
       shows = tt;
+      changes = tt;
       kept = kept;
     })
 

@@ -2,6 +2,7 @@ pub mod Beside
 pub mod Closing
 pub mod DirectSteps
 pub mod HandSteps
+pub mod Points
 pub mod Outs
 pub mod OwnLines
 pub mod RaceEnds

@@ -7,11 +7,13 @@ use Rattle.flat_scene.specs.History.{history_of}
 use Rattle.flat_rules.specs.Ends.{to_begin}
 use Rattle.flat_rules.specs.Legal.{Legal, frames, is_frame_open}
 use Rattle.flat_rules.specs.Shown.{shown_states}
-use Rattle.flat_topology.specs.Connected.{joined_lists}
+use Rattle.flat_topology.specs.Changes.{AreSame}
+use Rattle.flat_topology.specs.Shown.{Shown}
 use Rattle.flat_report.specs.Report.{finished, frame_at}
 use Rattle.flat_places.specs.declared.script.Script.{Script}
 use Rattle.flat_stage.specs.Displays.{AreViewed, DisplaySees, DisplayView}
 use Rattle.flat_stage.specs.Seats.{StageView, entries_of_seat}
+use Rattle.flat_play.specs.Last.{IsLast}
 use Rattle.flat_play.specs.Playing.{AnswersStand, DisplayStands, lines_by}
 use Rattle.flat_race.specs.declared.hand.Hand.{Hand}
 use Rattle.flat_race.specs.declared.hand.Hand.TheVariants.{Idle, Open}
@@ -31,10 +33,15 @@ abbrev pub ShowsBegin : Setup → List Entry → Hand → Type 0
 ShowsBegin setup history (Idle seat) = Unit {0}
 ShowsBegin setup history (Open frame) = (frame.shown ≡ shown_states setup (to_begin history)) × AreViewed setup (to_begin history) frame.with_view
 
+-- an open frame knows of which sessions it may show another state than the last one
+abbrev pub KnowsChanges : Shown → Hand → Type 0
+KnowsChanges last (Idle seat) = Unit {0}
+KnowsChanges last (Open frame) = AreSame frame.changed last frame.shown
+
 -- an open frame stays as it was
 abbrev pub KeepsFrame : Hand → Hand → Type 0
 KeepsFrame (Idle old) (Idle new) = Unit {0}
-KeepsFrame (Open old) (Open new) = (new.shown ≡ old.shown) × (new.with_view ≡ old.with_view)
+KeepsFrame (Open old) (Open new) = (new.shown ≡ old.shown) × (new.with_view ≡ old.with_view) × (new.changed ≡ old.changed)
 KeepsFrame _ _ = ⊥
 
 -- The seat knows its own entries in what it has seen, and these are the reading of the display's lines before a place.
@@ -55,6 +62,7 @@ pub record HandStands (script : Script) (view : StageView) (place : ℕ) (hand :
   pub seat : SeatStands script view place (hand_seat hand)
   pub frame : is_frame_open (history_of (hand_seat hand).seen) ≡ is_open hand
   pub shows : ShowsBegin script.setup (history_of (hand_seat hand).seen) hand
+  pub changes : KnowsChanges film.last.reuse hand
   pub kept : FilmStands script.setup (history_of (hand_seat hand).seen) film
 
 -- ---- what one line does
@@ -71,5 +79,6 @@ pub record HasLooked (setup : Setup) (old new : Hand) : Type 0 where
 pub record KeepsNext (setup : Setup) (history : List Entry) (after : ℕ) (old new : Film) : Type 0 where
   pub frame : new.frames.items ≡ old.frames.items ++ frame_at setup (frames history + 1) (to_begin history) ∷ []
   pub number : new.last.frame.0 ≡ after
-  pub joined : new.last.joined ≡ joined_lists setup (shown_states setup (to_begin history))
+  pub is_last : IsLast setup new.last
+  pub showing : new.last.reuse ≡ shown_states setup (to_begin history)
   pub answers : new.answers ≡ old.answers

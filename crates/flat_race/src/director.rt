@@ -6,13 +6,16 @@ ghost use Rattle.flat_scene.specs.declared.script.Body.TheVariants as body;
 ghost use Rattle.flat_scene.specs.History.{history_of};
 ghost use Rattle.flat_scene.specs.Setups.{is_setup};
 ghost use Rattle.flat_core.specs.Machines.{MayLook};
+ghost use Rattle.flat_rules.specs.Ends.{to_begin};
 ghost use Rattle.flat_rules.specs.Legal.{begin_time, frames, Legal};
 ghost use Rattle.flat_rules.specs.Shown.{shown_states};
-ghost use Rattle.flat_topology.specs.Hits.{hits_among};
+ghost use Rattle.flat_topology.specs.Changes.{AreSame};
+ghost use Rattle.flat_topology.specs.Hits.{hit_list};
 ghost use Rattle.flat_playable.specs.Playable.{is_playable};
 ghost use Rattle.flat_display.specs.Had.{AreKept};
 ghost use Rattle.flat_stage.specs.Displays.{AreViewed, DisplayEnters, HasDisplayRoom};
 ghost use Rattle.flat_stage.specs.Seats.{entries_of_seat, setup_of};
+ghost use Rattle.flat_play.specs.Last.{IsLast, StaysLast};
 ghost use Rattle.flat_play.specs.Showing.{HaveSeen, IsShown};
 ghost use Rattle.flat_race.specs.declared.hand.Hand.TheVariants.{Open};
 ghost use Rattle.flat_race.specs.Directing.{hand_seat, is_open, KeepsFrame, HasLooked, KeepsNext, ShowsBegin, FilmStands, HandStands, SeatStands};
@@ -25,8 +28,7 @@ use crate::session::asked_of;
 use flat_base::{Actor, NoMemory};
 use flat_core::shown_states_fit;
 use flat_display::{Display, DisplaySet};
-use flat_hit::hits;
-use flat_play::{LastFrame, compose_frame, show_last};
+use flat_play::{LastFrame, show_last};
 use flat_report::{HitAnswer, HitAnswers};
 use flat_rules::{display_knows_frames, journals_keep_seats, seats_tell_actors};
 use flat_scene::{Body, Cond, DisplayLine, FrameOut, Reply};
@@ -81,6 +83,7 @@ fn begin<R: Wait, G: Gate>(
     requires time { begin_time (history_of seat.mine) ≤ time }
     ensures enters { DisplayEnters number (Begin time) Done seat result.display }
     ensures shown { result.shown ≡ shown_states (setup_of seat.stage) (history_of result.display.seen) }
+    ensures changed { AreSame result.changed (shown_states (setup_of seat.stage) (to_begin (history_of seat.seen))) result.shown }
     ensures views { AreViewed (setup_of seat.stage) (history_of result.display.seen) result.with_view }
 {
     ask(lent.gate, DISPLAY, number, ASKS);
@@ -104,6 +107,7 @@ fn finish<R: Wait, G: Gate>(
     requires room { HasDisplayRoom frame.display }
     requires legal { Legal lent.now.script.now.setup (history_of frame.display.seen) }
     requires shows { ShowsBegin lent.now.script.now.setup (history_of frame.display.seen) (Open frame) }
+    requires same { AreSame frame.changed film.old.last.reuse frame.shown }
     requires last { film.old.last.frame.0 ≡ frames (history_of frame.display.seen) }
     requires counted { length film.old.frames.items ≡ frames (history_of frame.display.seen) }
     requires few { frames (history_of frame.display.seen) + 1 < 2 ^ 32 }
@@ -117,23 +121,18 @@ fn finish<R: Wait, G: Gate>(
 {
     shown_states_fit();
     ask(lent.gate, DISPLAY, number, ASKS);
-    let next = film.last.frame.0 + 1;
-    let with_view = frame.with_view();
-    let composed = compose_frame(
+    let composed = film.last.compose_next(
         lent.alloc,
         &lent.script.setup,
         frame.shown(),
-        with_view,
-        next,
+        frame.changed(),
+        frame.with_view(),
     )?;
-    film.frames.push(composed.frame)?;
+    film.frames.push(composed)?;
     show_last(&mut film.set, displays, film.frames.as_slice());
-    let (seat, frame) = frame.done(lent.rt, lent.stage, number);
+    let (seat, finished) = frame.done(lent.rt, lent.stage, number);
     lent.gate.passed(DISPLAY, number, &Reply::Done);
-    film.last = LastFrame {
-        frame,
-        joined: composed.joined,
-    };
+    film.last.frame = finished;
     Ok(seat)
 }
 
@@ -148,13 +147,16 @@ fn hit<R: Wait, G: Gate>(
 ) -> Result<(), NoMemory>
     requires own { (hand_seat hand.old).stage ≡ lent.now.stage.now }
     requires room { HasDisplayRoom (hand_seat hand.old) }
+    requires setup { is_setup lent.now.script.now.setup ≡ true }
+    requires last { IsLast lent.now.script.now.setup film.old.last }
     ensures enters { OnOk result (DisplayEnters number (Hit x y) Done (hand_seat hand.old) (hand_seat hand.new)) }
     ensures open { is_open hand.new ≡ is_open hand.old }
     ensures kept { KeepsFrame hand.old hand.new }
-    ensures answers { OnOk result (film.new.answers ≡ film.old.answers ++ (record { actor = Display; line = number; frame = film.old.last.frame; hits = hits_among film.old.last.joined.nodes x y }) ∷ []) }
-    ensures others { film.new ≡ record film.old { answers = film.new.answers } }
+    ensures answers { OnOk result (film.new.answers ≡ film.old.answers ++ (record { actor = Display; line = number; frame = film.old.last.frame; hits = hit_list lent.now.script.now.setup film.old.last.reuse x y }) ∷ []) }
+    ensures stays { OnOk result (StaysLast lent.now.script.now.setup film.old.last film.new.last) }
+    ensures others { film.new ≡ record film.old { last = film.new.last; answers = film.new.answers } }
 {
-    let hits = hits(lent.alloc, &film.last.joined, x, y)?;
+    let hits = film.last.hits(lent.alloc, &lent.script.setup, x, y)?;
     film.answers.push(HitAnswer {
         actor: Actor::Display,
         line: number,

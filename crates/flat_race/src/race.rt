@@ -15,15 +15,14 @@ use crate::director::{Film, direct};
 use crate::gate::Gate;
 use crate::lent::Lent;
 use crate::threads::{put_back, start_each};
-use flat_base::{FrameNo, NoMemory, TryCopy};
-use flat_core::{Board, shown_states_fit};
+use flat_base::{NoMemory, TryCopy};
+use flat_core::Board;
 use flat_display::{Display, DisplaySet};
 use flat_places::Script;
 use flat_play::{LastFrame, Played, shares_of};
 use flat_report::HitAnswers;
 use flat_rules::{journals_keep_seats, seats_tell_actors};
 use flat_stage::{CompositorSeat, SessionSeats, Stage};
-use flat_topology::{Shown, join};
 use std::alloc::Global;
 use std::sync::Wait;
 use std::thread::{Scope, Threads};
@@ -51,15 +50,9 @@ fn new_film(alloc: Global, script: &Script, displays: u32) -> Result<Film, NoMem
     ensures none { IfOk result (λ film. film.set.lost ≡ []) }
     ensures number { IfOk result (λ film. film.set.displays ≡ displays) }
 {
-    shown_states_fit();
-    let shown = Shown::new(alloc, script.setup.sessions)?;
-    let joined = join(alloc, &shown, &script.setup)?;
     Ok(Film {
         frames: Vec::new(alloc),
-        last: LastFrame {
-            frame: FrameNo(0),
-            joined,
-        },
+        last: LastFrame::none(alloc, &script.setup)?,
         answers: HitAnswers::new(alloc),
         set: DisplaySet::new(alloc, displays)?,
     })

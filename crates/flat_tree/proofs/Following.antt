@@ -5,15 +5,17 @@ use Rattle.std.specs.List.{list_any, range_with_len}
 use Rattle.std.proofs.lemmas.List.{map-append}
 use Rattle.std.proofs.lemmas.List.Elements.{filter-append}
 use Rattle.flat_base.specs.declared.ids.SessionNo.{SessionNo}
+use Rattle.flat_base.specs.declared.limits.TheConstants.{SESSIONS_MAX}
 use Rattle.flat_scene.specs.declared.frames.SessionSet.{SessionSet}
 use Rattle.flat_scene.specs.declared.setup.Setup.{Setup}
-use Rattle.flat_topology.specs.declared.Connected.{Connected}
+use Rattle.flat_scene.specs.declared.frames.ViewNode.{ViewNode}
+use Rattle.flat_scene.specs.declared.frames.ViewTree.{ViewTree}
 use Rattle.flat_topology.specs.Shown.{Shown}
-use Rattle.flat_topology.specs.Join.{JoinedTree, nothing, node, child_view, sessions_in, join, is_joined}
-use Rattle.flat_topology.specs.Views.{apart_sessions}
-use Rattle.flat_topology.specs.Connected.{joined_count, connected_in, connected_sessions}
+use Rattle.flat_topology.specs.Join.{is_joined}
+use Rattle.flat_topology.specs.Laws.{ViewsTheJoined}
+use Rattle.flat_topology.specs.Views.{view_nodes, apart_sessions}
 use Rattle.flat_tree.specs.Trees.{is_among, is_apart, if_apart, apart_below}
-use Rattle.flat_tree.specs.Laws.{IsSetOf}
+use Rattle.flat_tree.specs.Laws.{IsSetOf, ViewsGiveTrees}
 
 -- ---- one session more
 
@@ -31,10 +33,10 @@ one-apart : (b : Bool) (s : ℕ) → map numbered (cond b (s ∷ []) []) ≡ if_
 one-apart true s = refl
 one-apart false s = refl
 
-pub apart-more : (before : ℕ) (connected : List Connected) (with_view : SessionSet)
-    → apart_below (before + 1) connected with_view ≡ apart_below before connected with_view ++ if_apart (is_apart connected with_view (before + 1)) (before + 1)
-apart-more before connected with_view =
-    let test : ℕ → Bool = is_apart connected with_view in
+pub apart-more : (before : ℕ) (views : List ViewNode) (with_view : SessionSet)
+    → apart_below (before + 1) views with_view ≡ apart_below before views with_view ++ if_apart (is_apart views with_view (before + 1)) (before + 1)
+apart-more before views with_view =
+    let test : ℕ → Bool = is_apart views with_view in
     let e : 1 + before ≡ before + 1 = omega arith in
     let range : range_with_len 1 (before + 1) ≡ range_with_len 1 before ++ (before + 1) ∷ [] = range-more 1 before ∙ ap (λ (s : ℕ). range_with_len 1 before ++ s ∷ []) e in
     ap (λ (all : List ℕ). map numbered (filter test all)) range
@@ -44,26 +46,12 @@ apart-more before connected with_view =
 
 -- ---- the definition
 
-sessions-connected : (next : ℕ) (at : Option ℕ) (tree : JoinedTree) → map (λ c. c.session.0) (connected_in next at tree) ≡ sessions_in tree
-sessions-connected next at nothing = refl
-sessions-connected next at (child_view s root) = ap (λ (others : List ℕ). s ∷ others) (sessions-connected next at root)
-sessions-connected next at (node s n linked below after) =
-    rw (
-      map-append,
-      map-append,
-      sessions-connected (suc next) (Some next) linked,
-      sessions-connected (suc next + joined_count linked) at below,
-      sessions-connected (suc next + joined_count linked + joined_count below) at after,
-    ) refl
-
-any-of : (s : ℕ) (connected : List Connected) → is_among connected s ≡ list_any (λ other. other == s) (map (λ c. c.session.0) connected)
+any-of : (s : ℕ) (views : List ViewNode) → is_among views s ≡ list_any (λ other. other == s) (map (λ view. view.session.0) views)
 any-of s [] = refl
-any-of s (c ∷ connected) = rw (any-of s connected) refl
+any-of s (view ∷ views) = rw (any-of s views) refl
 
-among-joined : (setup : Setup) (shown : Shown) (s : ℕ) → is_among (connected_sessions setup shown) s ≡ is_joined setup shown s
-among-joined setup shown s =
-    any-of s (connected_sessions setup shown)
-    ∙ ap (list_any (λ (other : ℕ). other == s)) (sessions-connected 0 None (join setup shown))
+among-joined : ViewsTheJoined → (setup : Setup) (shown : Shown) (s : ℕ) → is_among (view_nodes setup shown) s ≡ is_joined setup shown s
+among-joined views setup shown s = any-of s (view_nodes setup shown) ∙ ap (list_any (λ (other : ℕ). other == s)) (views setup shown)
 
 -- a filter of a range, by tests that agree on its first part, where the second doesn't pass beyond it
 filter-range : (test other : ℕ → Bool) (from count more : ℕ) → ((s : ℕ) → from ≤ s → s < from + count → test s ≡ other s)
@@ -80,11 +68,16 @@ filter-range test other from (suc count) more same beyond =
     = filter-range test other (from + 1) count more (λ s low high. same s (omega arith) (omega arith)) (λ s high. beyond s (omega arith)) in
     rw (e, here, rest) refl
 
-pub apart-same : (setup : Setup) (shown : Shown) (has_view : ℕ → Bool) (with_view : SessionSet) (limit : ℕ) → setup.sessions ≤ limit → IsSetOf setup has_view with_view
-    → apart_below limit (connected_sessions setup shown) with_view ≡ apart_sessions setup shown has_view
-apart-same setup shown has_view with_view limit few is =
+apart-same : ViewsTheJoined → (setup : Setup) (shown : Shown) (has_view : ℕ → Bool) (with_view : SessionSet) (limit : ℕ) → setup.sessions ≤ limit → IsSetOf setup has_view with_view
+    → apart_below limit (view_nodes setup shown) with_view ≡ apart_sessions setup shown has_view
+apart-same views setup shown has_view with_view limit few is =
     let e : limit ≡ setup.sessions + (limit - setup.sessions) = omega arith in
-    let same = filter-range (is_apart (connected_sessions setup shown) with_view) (λ s. has_view s && not (is_joined setup shown s)) 1 setup.sessions (limit - setup.sessions)
-    (λ s low high. rw (is.within s (omega arith) (omega arith), among-joined setup shown s) refl)
+    let same = filter-range (is_apart (view_nodes setup shown) with_view) (λ s. has_view s && not (is_joined setup shown s)) 1 setup.sessions (limit - setup.sessions)
+    (λ s low high. rw (is.within s (omega arith) (omega arith), among-joined views setup shown s) refl)
     (λ s high. rw (is.beyond s (omega arith)) refl) in
-    ap (map numbered) (ap (λ (n : ℕ). filter (is_apart (connected_sessions setup shown) with_view) (range_with_len 1 n)) e ∙ same)
+    ap (map numbered) (ap (λ (n : ℕ). filter (is_apart (view_nodes setup shown) with_view) (range_with_len 1 n)) e ∙ same)
+
+pub tree-same : ViewsTheJoined → ViewsGiveTrees
+tree-same views setup shown has_view with_view few is =
+    let tree : List SessionNo → ViewTree = λ apart. record { nodes = view_nodes setup shown; apart = apart } in
+    ap tree (apart-same views setup shown has_view with_view SESSIONS_MAX few is)

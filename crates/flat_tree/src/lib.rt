@@ -4,8 +4,8 @@
 ghost use Rattle.std.specs.Prelude.{◌≡◌, ◌+◌, ◌<◌, ◌≤◌, ◌++◌, IfOk, map};
 ghost use Rattle.flat_topology.specs.Views.{viewport_bounds};
 ghost use Rattle.flat_topology.specs.Connected.{connected_view};
-ghost use Rattle.flat_tree.specs.Trees.{is_among, is_apart, if_apart, apart_below, tree_from};
-ghost use Rattle.flat_tree.specs.Laws.{TreesFollow, ViewsAreATree, ViewsAreFew};
+ghost use Rattle.flat_tree.specs.Trees.{is_among, is_apart, if_apart, apart_below, tree_of, tree_from};
+ghost use Rattle.flat_tree.specs.Laws.{ViewsGiveTrees, TreesFollow, ViewsAreATree, ViewsAreFew};
 
 use flat_base::{NoMemory, Rect, Roomy, SESSIONS_MAX, SessionList, SessionNo};
 use flat_geom::{map_rect, sized};
@@ -59,39 +59,52 @@ fn views(alloc: Global, joined: &Joined) -> Result<NodeList, NoMemory>
     Ok(views.into_items())
 }
 
-fn is_connected(joined: &Joined, number: u32) -> bool
-    ensures { result ≡ is_among joined.now.connected number }
+/// Whether the session of a number has one of some views.
+fn is_among(views: &NodeList, number: u32) -> bool
+    ensures { result ≡ is_among views.now number }
 {
-    let connected = joined.connected.as_slice();
-    connected.iter().any(|c| c.session.0 == number)
+    let views = views.as_slice();
+    views.iter().any(|view| view.session.0 == number)
 }
 
-/// Appends the session of a number, if it is in a set and isn't connected.
-fn add_apart(apart: &mut Roomy<SessionNo>, joined: &Joined, with_view: &SessionSet, before: u32)
+/// Appends the session of a number, if it is in a set and has no view.
+fn add_apart(apart: &mut Roomy<SessionNo>, views: &NodeList, with_view: &SessionSet, before: u32)
     requires known { before < SESSIONS_MAX }
     requires room { 0 < apart.old.room }
-    ensures items { apart.new.items ≡ apart.old.items ++ if_apart (is_apart joined.now.connected with_view.now (before + 1)) (before + 1) }
+    ensures items { apart.new.items ≡ apart.old.items ++ if_apart (is_apart views.now with_view.now (before + 1)) (before + 1) }
     ensures room { apart.old.room ≤ apart.new.room + 1 }
 {
     let number = before + 1;
-    if with_view.has[before as usize] && !is_connected(joined, number) {
+    if with_view.has[before as usize] && !is_among(views, number) {
         apart.push(SessionNo(number));
     }
 }
 
-/// The sessions of a set that aren't connected.
+/// The sessions of a set that have none of some views.
 fn sessions_apart(
     alloc: Global,
-    joined: &Joined,
+    views: &NodeList,
     with_view: &SessionSet,
 ) -> Result<SessionList, NoMemory>
-    ensures { IfOk result (λ apart. apart ≡ apart_below SESSIONS_MAX joined.now.connected with_view.now) }
+    ensures { IfOk result (λ apart. apart ≡ apart_below SESSIONS_MAX views.now with_view.now) }
 {
     let mut apart = Roomy::with_capacity(alloc, SESSIONS_MAX as usize)?;
     for before in 0..SESSIONS_MAX {
-        add_apart(&mut apart, joined, with_view, before);
+        add_apart(&mut apart, views, with_view, before);
     }
     Ok(apart.into_items())
+}
+
+/// The view tree of these views, where these sessions are open and made a view
+/// whose end isn't lost.
+pub fn tree_of(alloc: Global, views: NodeList, with_view: SessionSet) -> Result<ViewTree, NoMemory>
+    ensures { IfOk result (λ tree. tree ≡ tree_of views with_view) }
+{
+    let apart = sessions_apart(alloc, &views, &with_view)?;
+    Ok(ViewTree {
+        nodes: views,
+        apart,
+    })
 }
 
 /// The view tree of a joined tree, where these sessions are open and made a view
@@ -103,17 +116,16 @@ pub fn view_tree(
 ) -> Result<ViewTree, NoMemory>
     ensures { IfOk result (λ tree. tree ≡ tree_from joined.now with_view) }
 {
-    Ok(ViewTree {
-        nodes: views(alloc, joined)?,
-        apart: sessions_apart(alloc, joined, &with_view)?,
-    })
+    tree_of(alloc, views(alloc, joined)?, with_view)
 }
 
-/// The view tree of a joined tree is that of the shown states which were joined.
+/// The view tree of the views of shown states is theirs, and so is that of the joined
+/// tree of shown states.
 ///
 /// The call does nothing. Its contract is a law about the definitions.
 pub fn trees_follow()
-    ensures { TreesFollow }
+    ensures views { ViewsGiveTrees }
+    ensures joined { TreesFollow }
 {
     views_follow_links();
 }

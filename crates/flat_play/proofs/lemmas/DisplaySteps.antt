@@ -29,9 +29,7 @@ use Rattle.flat_core.specs.Machines.{Machine, MayCall, HasShare, entry_of}
 use Rattle.flat_rules.specs.Ends.{to_begin, to_finished, has_view}
 use Rattle.flat_rules.specs.Legal.{is_frame_open, begin_time, frames, is_fence, names_declared, display_may}
 use Rattle.flat_rules.specs.Shown.{shown_states}
-use Rattle.flat_topology.specs.declared.Joined.{Joined}
-use Rattle.flat_topology.specs.Connected.{joined_lists}
-use Rattle.flat_topology.specs.Hits.{hits_among}
+use Rattle.flat_topology.specs.Hits.{hit_list}
 use Rattle.flat_topology.specs.Shown.{Shown}
 use Rattle.flat_topology.specs.Views.{is_member}
 use Rattle.flat_report.specs.declared.report.HitAnswer.{HitAnswer}
@@ -42,6 +40,7 @@ use Rattle.flat_playable.specs.Playable.{frames_close, keeps_frames}
 use Rattle.flat_rules.specs.Owned.{is_played_display}
 use Rattle.flat_play.specs.Playing.{DisplayStands, FramesStand, IsSpent, lines_by, rest_shares, AnswersStand}
 use Rattle.flat_play.specs.declared.frame.LastFrame.{LastFrame}
+use Rattle.flat_play.specs.Last.{IsLast, StaysLast}
 use Rattle.flat_play.proofs.Displayed.{display_more}
 use Rattle.flat_play.proofs.Growing.{is_quiet}
 use Rattle.flat_play.proofs.lemmas.Steps.{At}
@@ -253,7 +252,8 @@ module _ (setup : Setup) (old : List Entry) (last : LastFrame) (answers : List H
       let as_many : frames (old ▹ e) ≡ frames old = rw no_finish refl in
       record {
         number = stands.number ∙ sym as_many;
-        joining = stands.joining ∙ ap (λ (h : List Entry). joined_lists setup (shown_states setup h)) (sym ended);
+        is_last = stands.is_last;
+        showing = stands.showing ∙ ap (shown_states setup) (sym ended);
         answering = stands.answering ∙ sym (append-nil (answers_of setup old)) ∙ ap (λ (more : List HitAnswer). answers_of setup old ++ more) (sym none);
       }
 
@@ -264,25 +264,36 @@ module _ (setup : Setup) (old : List Entry) (last : LastFrame) (answers : List H
       subst P (sym now) (answers_beside e (quiet_finish e.kind quiet) (quiet_answers e (frames old) (hits_at setup (to_finished old)) e.kind quiet))
 
   -- the end of a frame
-  pub answers_done : (n : ℕ) (then : LastFrame) → then.frame.0 ≡ suc (frames old) → then.joined ≡ joined_lists setup (shown_states setup (to_begin old)) → AnswersStand setup (old ▹ entry_of Display n [] Finish Done) then answers
-  answers_done n then number joined = record {
+  pub answers_done : (n : ℕ) (then : LastFrame) → then.frame.0 ≡ suc (frames old) → IsLast setup then → then.reuse ≡ shown_states setup (to_begin old) → AnswersStand setup (old ▹ entry_of Display n [] Finish Done) then answers
+  answers_done n then number is showing = record {
     number = number;
-    joining = joined;
+    is_last = is;
+    showing = showing;
     answering = stands.answering ∙ sym (append-nil (answers_of setup old));
   }
 
+  -- what was joined plays no part
+  pub answers_stay : (then : LastFrame) → StaysLast setup last then → AnswersStand setup old then answers
+  answers_stay then stays = record {
+    number = ap (λ (f : FrameNo). f.0) stays.frame ∙ stands.number;
+    is_last = stays.is;
+    showing = stays.reuse ∙ stands.showing;
+    answering = stands.answering;
+  }
+
   -- a point
-  pub answers_point : (n : ℕ) (x y : ℤ) (all : List HitAnswer) → all ≡ answers ++ (record { actor = Display; line = n; frame = last.frame; hits = hits_among last.joined.nodes x y }) ∷ []
-      → AnswersStand setup (old ▹ entry_of Display n [] (Hit x y) Done) last all
-  answers_point n x y all is =
-      let hits : hits_among last.joined.nodes x y ≡ hits_at setup (to_finished old) x y = ap (λ (j : Joined). hits_among j.nodes x y) stands.joining in
+  pub answers_point : (n : ℕ) (x y : ℤ) (then : LastFrame) (all : List HitAnswer) → StaysLast setup last then
+      → all ≡ answers ++ (record { actor = Display; line = n; frame = last.frame; hits = hit_list setup last.reuse x y }) ∷ [] → AnswersStand setup (old ▹ entry_of Display n [] (Hit x y) Done) then all
+  answers_point n x y then all stays is =
+      let hits : hit_list setup last.reuse x y ≡ hits_at setup (to_finished old) x y = ap (λ (sh : Shown). hit_list setup sh x y) stands.showing in
       let one : FrameNo → List point.Hit → List HitAnswer = λ f hs. (record { actor = Display; line = n; frame = f; hits = hs }) ∷ [] in
       let number : last.frame ≡ record { 0 = frames old } = ap (λ (k : ℕ). let f : FrameNo = record { 0 = k } in f) stands.number in
       record {
-        number = stands.number;
-        joining = stands.joining;
-        answering = is ∙ ap (λ (given : List HitAnswer). given ++ one last.frame (hits_among last.joined.nodes x y)) stands.answering
-            ∙ ap (λ (f : FrameNo). answers_of setup old ++ one f (hits_among last.joined.nodes x y)) number ∙ ap (λ (hs : List point.Hit). answers_of setup old ++ one (record { 0 = frames old }) hs) hits;
+        number = ap (λ (f : FrameNo). f.0) stays.frame ∙ stands.number;
+        is_last = stays.is;
+        showing = stays.reuse ∙ stands.showing;
+        answering = is ∙ ap (λ (given : List HitAnswer). given ++ one last.frame (hit_list setup last.reuse x y)) stands.answering
+            ∙ ap (λ (f : FrameNo). answers_of setup old ++ one f (hit_list setup last.reuse x y)) number ∙ ap (λ (hs : List point.Hit). answers_of setup old ++ one (record { 0 = frames old }) hs) hits;
       }
 
 pub may_hit : (m : Machine) (x y : ℤ) → HasShare m Display → MayCall m Display [] (Hit x y)

@@ -1,5 +1,5 @@
 -- What is shown at a place, and how many frames there may be.
-use Rattle.std.proofs.Common.{◌≡◌, ℕ, ◌+◌, ◌≤◌, ◌<◌, Bool, true, false, cond, ◌&&◌, ◌==◌, List, [], length, sym, ap, ◌∙◌, subst, arith, refl}
+use Rattle.std.proofs.Common.{◌≡◌, ℕ, ◌+◌, ◌≤◌, ◌<◌, Bool, true, false, cond, ◌&&◌, ◌||◌, not, ◌==◌, List, [], length, sym, ap, ◌∙◌, subst, arith, refl}
 use Rattle.std.proofs.lemmas.Grind.{common_steps}
 use Rattle.flat_base.specs.declared.ids.Actor.{Actor}
 use Rattle.flat_base.specs.declared.ids.Actor.TheVariants.{Display, Session, Probe}
@@ -7,12 +7,12 @@ use Rattle.flat_scene.specs.declared.frames.FrameOut.{FrameOut}
 use Rattle.flat_scene.specs.declared.frames.SessionSet.{SessionSet}
 use Rattle.flat_scene.specs.declared.journal.Entry.{Entry}
 use Rattle.flat_scene.specs.declared.setup.Setup.{Setup}
-use Rattle.flat_scene.specs.History.{◌▹◌, is_finish, seat_number}
+use Rattle.flat_scene.specs.History.{◌▹◌, is_begin, is_finish, seat_number}
 use Rattle.flat_scene.specs.Setups.{is_declared}
 use Rattle.flat_core.specs.Machines.{made}
-use Rattle.flat_rules.specs.Ends.{to_begin}
+use Rattle.flat_rules.specs.Ends.{to_begin, to_finished}
 use Rattle.flat_rules.specs.Laws.{BegunStatesFit, EachSessionHasOneState}
-use Rattle.flat_rules.specs.Legal.{Legal, frames, may_act, session_may}
+use Rattle.flat_rules.specs.Legal.{Legal, frames, is_frame_open, may_act, session_may}
 use Rattle.flat_topology.specs.Fit.{FitsSetup}
 use Rattle.flat_topology.specs.Shown.{Shown}
 use Rattle.flat_stage.specs.Displays.{AreViewed}
@@ -29,6 +29,18 @@ module _ (setup : Setup) (history : List Entry) (shown : Shown) (views : Session
 
   pub viewed : HasViews setup views → AreViewed setup (to_begin history) views
   viewed none = record { members = stands.viewing; others = none }
+
+-- while no frame is open, the last one that began is finished
+pub all-finished : (history : List Entry) → is_frame_open history ≡ false → to_finished history ≡ to_begin history
+all-finished [] shut = refl
+all-finished (before ▹ entry) shut = by_kind (all-finished before) (is_begin entry.kind) refl (is_finish entry.kind) refl
+  where
+    by_kind : (is_frame_open before ≡ false → to_finished before ≡ to_begin before) → (b : Bool) → is_begin entry.kind ≡ b → (f : Bool) → is_finish entry.kind ≡ f → to_finished (before ▹ entry) ≡ to_begin (before ▹ entry)
+    by_kind earlier true begins f is = absurd (let wrong : true ≡ false = sym (ap (λ b. b || (not (is_finish entry.kind) && is_frame_open before)) begins) ∙ shut in cc)
+    by_kind earlier false begins true ends = rw (begins, ends) refl
+    by_kind earlier false begins false ends =
+        let rests : is_frame_open before ≡ false = sym (λ i. begins i || (not (ends i) && is_frame_open before)) ∙ shut in
+        rw (begins, ends) (earlier rests)
 
 -- ---- the display alone finishes frames
 

@@ -1,5 +1,5 @@
 -- The whole run after one more line of the script.
-use Rattle.std.proofs.Common.{◌≡◌, ◌≢◌, ℕ, ℤ, zero, suc, ◌+◌, ◌-◌, ◌<◌, ◌≤◌, Bool, true, false, ◌==◌, nat_lt, nat_le, List, [], ◌∷◌, ◌++◌, length, map, get_or, set, refl, sym, ap, ◌∙◌, subst, arith, None, get_or-set_other, get_or-set_same}
+use Rattle.std.proofs.Common.{◌≡◌, ◌≢◌, ℕ, ℤ, zero, suc, ◌+◌, ◌-◌, ◌<◌, ◌≤◌, Bool, true, false, not, ◌==◌, nat_lt, nat_le, List, [], ◌∷◌, ◌++◌, length, map, get_or, set, refl, sym, ap, ◌∙◌, subst, arith, None, get_or-set_other, get_or-set_same}
 use Rattle.std.proofs.lemmas.List.{length-set, map-append, get_or_append_left}
 use Rattle.std.proofs.Math.Seq.{get_or-append_seam}
 use Rattle.std.proofs.lemmas.Bool.{eq-eqb, eqb-true}
@@ -8,7 +8,8 @@ use Rattle.flat_base.specs.declared.ids.Actor.TheVariants.{Display, Session, Pro
 use Rattle.flat_base.specs.declared.ids.SessionNo.{SessionNo}
 use Rattle.flat_scene.specs.declared.frames.FrameOut.{FrameOut}
 use Rattle.flat_scene.specs.declared.frames.SessionSet.{SessionSet}
-use Rattle.flat_topology.specs.Shown.{Shown}
+use Rattle.flat_topology.specs.Shown.{Shown, state_of}
+use Rattle.flat_topology.specs.Changes.{AreSame}
 use Rattle.flat_scene.specs.declared.journal.Entry.{Entry}
 use Rattle.flat_scene.specs.declared.journal.Kind.{Kind}
 use Rattle.flat_scene.specs.declared.journal.Kind.TheVariants.{Begin, Finish, Hit}
@@ -26,23 +27,31 @@ use Rattle.flat_scene.specs.Interleave.{entry_of_display}
 use Rattle.flat_scene.specs.History.{◌▹◌, is_begin, is_end, is_finish, is_session}
 use Rattle.flat_scene.specs.Setups.{is_declared}
 use Rattle.flat_core.specs.Machines.{Machine, HasShare, entered, entry_of, made}
-use Rattle.flat_topology.specs.Connected.{joined_lists}
+use Rattle.flat_topology.specs.Hits.{hit_list}
 use Rattle.flat_rules.specs.Ends.{to_begin, to_finished, has_view}
 use Rattle.flat_topology.specs.Views.{is_member}
-use Rattle.flat_rules.specs.Legal.{frames}
+use Rattle.flat_rules.specs.Legal.{frames, is_frame_open}
 use Rattle.flat_rules.specs.Shown.{shown_states}
 use Rattle.flat_report.specs.Report.{frame_at, hits_at}
 use Rattle.flat_places.specs.declared.script.Script.{Script}
+use Rattle.flat_play.specs.declared.frame.LastFrame.{LastFrame}
 use Rattle.flat_play.specs.declared.game.Game.{Game}
+use Rattle.flat_play.specs.Last.{IsLast, StaysLast}
+use Rattle.flat_report.specs.declared.report.HitAnswer.{HitAnswer}
 use Rattle.flat_stage.specs.declared.reader.Reader.{Reader}
 use Rattle.flat_playable.specs.Playable.{is_played, keeps_frames}
 use Rattle.flat_play.specs.Playing.{IsSpent, lines_by, shares_of, ReaderStands, ReadersStand, DisplayStands, FramesStand, GameStands, BeginsFrame, FinishesFrame, EntersBeside, AsksPoint, AnswersStand, HasViews, session_text, display_text}
 use Rattle.flat_play.proofs.Growing.{Grows, grows, stays, is_quiet}
-use Rattle.flat_play.proofs.lemmas.DisplaySteps.{QuietStep, quiet_begin, quiet_finish, quiet_end, quiet_answers, answers_session, answers_beside, answers_done, answers_point, display_session, display_begin, display_done, display_beside, frames_session, frames_beside, frames_begin, frames_done}
+use Rattle.flat_play.proofs.lemmas.FramesShown.{all-finished}
+use Rattle.flat_play.proofs.lemmas.DisplaySteps.{QuietStep, begin_time_ok, quiet_begin, quiet_finish, quiet_end, quiet_answers, answers_session, answers_beside, answers_done, answers_point, answers_stay, display_session, display_begin, display_done, display_beside, frames_session, frames_beside, frames_begin, frames_done}
 use Rattle.flat_play.proofs.lemmas.DisplaySteps as quiet
 use Rattle.flat_rules.proofs.lemmas.ShownList.{length-listed}
 use Rattle.flat_play.proofs.lemmas.Steps.{At, Step, same, more, order_more, spent_more, reader_other}
 use Rattle.flat_base.proofs.lemmas.Tests.{and-left, and-right}
+
+shut : (is_open : Bool) → not is_open ≡ true → is_open ≡ false
+shut true is = absurd (let wrong : false ≡ true = is in cc)
+shut false is = refl
 
 -- ---- sessions and their shares
 
@@ -150,8 +159,8 @@ module _ (script : Script) (place : ℕ) (x : ScriptLine) (at : At script place 
   -- a line of a session, which its reader has played
   pub session_more : (old new : Game) (s : SessionNo) (text : Line) (reader : Reader) → x.actor ≡ Session s → x.body ≡ body.Session text → is_declared script.setup s ≡ true → GameStands script place old
       → new.readers.items ≡ set old.readers.items (s.0 - 1) reader → ReaderStands script s (place + 1) new.board.history reader → Grows old.board new.board (Session s) x.number
-      → new.shown ≡ old.shown → new.with_view ≡ old.with_view → new.frames.items ≡ old.frames.items → new.last ≡ old.last → new.answers ≡ old.answers → GameStands script (place + 1) new
-  session_more old new s text reader actor is declared stands readers_is mine grown shown_is views_is frames_are last_is answers_are =
+      → new.shown ≡ old.shown → new.with_view ≡ old.with_view → new.frames.items ≡ old.frames.items → new.last ≡ old.last → new.answers ≡ old.answers → new.changed ≡ old.changed → GameStands script (place + 1) new
+  session_more old new s text reader actor is declared stands readers_is mine grown shown_is views_is frames_are last_is answers_are changed_is =
       let g : Grown x old.board new.board = grown_is x s old.board new.board actor grown in
       let within = below_declared script.setup s declared in
       let inside : s.0 ≤ length old.readers.items = let count = stands.readers.count in let below = within.1 in omega arith in
@@ -167,6 +176,7 @@ module _ (script : Script) (place : ℕ) (x : ScriptLine) (at : At script place 
         spent = spent_more script place x at old.board.history new.board.history g.step stands.spent;
         views = subst V (sym views_is) stands.views;
         shows = rw (shown_is, views_is, frames_are) (frames_session script.setup old.board.history old.shown old.with_view old.frames.items stands.shows new.board.history g.calm);
+        same = rw (changed_is, last_is, shown_is) stands.same;
         answers = rw (last_is, answers_are) (answers_session script.setup old.board.history old.last old.answers stands.answers new.board.history g.calm);
       }
 
@@ -187,6 +197,8 @@ module _ (script : Script) (place : ℕ) (x : ScriptLine) (at : At script place 
       let F : List Entry → Type 0 = λ es. FramesStand script.setup es new.shown new.with_view new.frames.items in
       let K : List FrameOut → Type 0 = λ fs. FramesStand script.setup (h ▹ e) new.shown new.with_view fs in
       let kept : new.frames.items ≡ old.frames.items = ap (λ v. v.items) begins.kept in
+      let S : Shown → Type 0 = λ was. AreSame new.changed was new.shown in
+      let finished : to_finished h ≡ to_begin h = all-finished h (shut (is_frame_open h) (and-left (not (is_frame_open h)) _ (begin_time_ok script place x at time is h stands.display))) in
       record {
         setup = setup;
         shares = ap (λ (m : Machine). m.shares) begins.board ∙ stands.shares;
@@ -197,6 +209,7 @@ module _ (script : Script) (place : ℕ) (x : ScriptLine) (at : At script place 
         views = subst W setup begins.views;
         shows = subst F (sym grown) (subst K (sym kept)
             (frames_begin script.setup h old.shown old.with_view old.frames.items stands.shows x.number time new.shown new.with_view shown (subst V2 grown (subst V1 setup begins.viewing))));
+        same = rw begins.last (subst S (sym (stands.answers.showing ∙ ap (shown_states script.setup) finished ∙ sym stands.shows.showing)) begins.changed);
         answers = rw (grown, begins.last, begins.answers) (answers_beside script.setup h old.last old.answers stands.answers e refl refl);
       }
 
@@ -210,6 +223,7 @@ module _ (script : Script) (place : ℕ) (x : ScriptLine) (at : At script place 
       let D : List Entry → Type 0 = DisplayStands script (place + 1) in
       let V : SessionSet → Type 0 = HasViews script.setup in
       let F : List Entry → Type 0 = λ es. FramesStand script.setup es new.shown new.with_view new.frames.items in
+      let L : Setup → Type 0 = λ st. IsLast st new.last in
       let number : frames new.board.history ≡ suc (frames h) = ap frames grown in
       let frame : frame_at old.board.setup (frames new.board.history) (to_begin h) ≡ frame_at script.setup (suc (frames h)) (to_begin h) =
       ap (λ st. frame_at st (frames new.board.history) (to_begin h)) stands.setup ∙ ap (λ n. frame_at script.setup n (to_begin h)) number in
@@ -223,16 +237,17 @@ module _ (script : Script) (place : ℕ) (x : ScriptLine) (at : At script place 
         views = subst V (sym finishes.with_view) stands.views;
         shows = subst F (sym grown) (rw (finishes.shown, finishes.with_view)
             (frames_done script.setup h old.shown old.with_view old.frames.items stands.shows x.number new.frames.items _ finishes.kept frame));
+        same = λ s within none. ap (λ (states : Shown). state_of states s) (finishes.showing ∙ sym finishes.shown);
         answers = rw (grown, finishes.answers) (answers_done script.setup h old.last old.answers stands.answers x.number new.last (finishes.shows ∙ number)
-            (finishes.joined ∙ ap (λ st. joined_lists st old.shown) stands.setup ∙ ap (joined_lists script.setup) stands.shows.showing));
+            (subst L stands.setup finishes.is_last) (finishes.showing ∙ stands.shows.showing));
       }
 
   -- any of these, by what becomes of the answers
   entered_more : (old new : Game) (text : DisplayLine) (kind : Kind) (reply : Reply) → x.actor ≡ Display → x.body ≡ body.Display text → entry_of_display text ≡ kind → is_begin kind ≡ false → is_finish kind ≡ false → is_end kind ≡ false
       → ((o : Bool) (t : ℕ) (follows : Bool → ℕ → Bool) → keeps_frames o t (body.Display text) follows ≡ follows o t)
-      → GameStands script place old → new.board ≡ entered old.board Display x.number [] kind reply → new.shown ≡ old.shown → new.with_view ≡ old.with_view → new.readers ≡ old.readers → new.frames ≡ old.frames
+      → GameStands script place old → new.board ≡ entered old.board Display x.number [] kind reply → new.shown ≡ old.shown → new.changed ≡ old.changed → new.with_view ≡ old.with_view → new.readers ≡ old.readers → new.frames ≡ old.frames → new.last.reuse ≡ old.last.reuse
       → AnswersStand script.setup (old.board.history ▹ entry_of Display x.number [] kind reply) new.last new.answers → GameStands script (place + 1) new
-  entered_more old new text kind reply actor is makes no_begin no_finish no_end keeps stands board shown_is views_is readers_are frames_are answers =
+  entered_more old new text kind reply actor is makes no_begin no_finish no_end keeps stands board shown_is changed_is views_is readers_are frames_are reuse_is answers =
       let e : Entry = entry_of Display x.number [] kind reply in
       let h : List Entry = old.board.history in
       let grown : new.board.history ≡ (h ▹ e) = ap (λ (m : Machine). m.history) board in
@@ -250,6 +265,7 @@ module _ (script : Script) (place : ℕ) (x : ScriptLine) (at : At script place 
         spent = spent_more script place x at h new.board.history step stands.spent;
         views = subst V (sym views_is) stands.views;
         shows = subst F (sym grown) (rw (shown_is, views_is, kept) (frames_beside script.setup h old.shown old.with_view old.frames.items stands.shows e no_begin no_finish));
+        same = rw (changed_is, reuse_is, shown_is) stands.same;
         answers = rw grown answers;
       }
 
@@ -260,14 +276,32 @@ module _ (script : Script) (place : ℕ) (x : ScriptLine) (at : At script place 
   beside_more old new text kind reply actor is makes calm keeps stands enters =
       let e : Entry = entry_of Display x.number [] kind reply in
       let h : List Entry = old.board.history in
-      entered_more old new text kind reply actor is makes (quiet_begin kind calm) (quiet_finish kind calm) (quiet_end kind calm) keeps stands enters.board enters.shown enters.with_view enters.readers enters.kept
+      entered_more old new text kind reply actor is makes (quiet_begin kind calm) (quiet_finish kind calm) (quiet_end kind calm) keeps stands enters.board enters.shown enters.changed enters.with_view enters.readers enters.kept (ap (λ (l : LastFrame). l.reuse) enters.last)
       (rw (enters.last, enters.answers) (answers_beside script.setup h old.last old.answers stands.answers e (quiet_finish kind calm) (quiet_answers e (frames h) (hits_at script.setup (to_finished h)) kind calm)))
 
   -- a line that asks for a point
   pub point_more : (old new : Game) (px py : ℤ) → x.actor ≡ Display → x.body ≡ body.Display (display.Hit px py) → GameStands script place old → AsksPoint old new x.number px py → GameStands script (place + 1) new
   point_more old new px py actor is stands asks =
-      entered_more old new (display.Hit px py) (Hit px py) Done actor is refl refl refl refl (λ o t follows. refl) stands asks.board asks.shown asks.with_view asks.readers asks.kept
-      (rw asks.last (answers_point script.setup old.board.history old.last old.answers stands.answers x.number px py new.answers asks.answers))
+      let L : Setup → Type 0 = λ st. StaysLast st old.last new.last in
+      let given : Setup → List HitAnswer = λ st. (record { actor = Display; line = x.number; frame = old.last.frame; hits = hit_list st old.last.reuse px py }) ∷ [] in
+      entered_more old new (display.Hit px py) (Hit px py) Done actor is refl refl refl refl (λ o t follows. refl) stands asks.board asks.shown asks.changed asks.with_view asks.readers asks.kept asks.last.reuse
+      (answers_point script.setup old.board.history old.last old.answers stands.answers x.number px py new.last new.answers
+      (subst L stands.setup asks.last) (asks.answers ∙ ap (λ st. old.answers ++ given st) stands.setup))
+
+-- what is joined of the last frame plays no part
+pub game_stays : (script : Script) (place : ℕ) (game : Game) (last : LastFrame) → StaysLast script.setup game.last last → GameStands script place game → GameStands script place (record game { last = last })
+game_stays script place game last kept stands = record {
+  setup = stands.setup;
+  shares = stands.shares;
+  readers = stands.readers;
+  display = stands.display;
+  order = stands.order;
+  spent = stands.spent;
+  views = stands.views;
+  shows = stands.shows;
+  same = subst (λ (was : Shown). AreSame game.changed was game.shown) (sym kept.reuse) stands.same;
+  answers = answers_stay script.setup game.board.history game.last game.answers stands.answers last kept;
+}
 
 -- the reader of a session
 pub own_reader : (script : Script) (place : ℕ) (history : List Entry) (readers : List Reader) (s : SessionNo) → is_declared script.setup s ≡ true → ReadersStand script place history readers

@@ -22,9 +22,8 @@ use Rattle.flat_rules.proofs.lemmas.ShownList.{length-listed}
 use Rattle.flat_rules.specs.Laws.{BegunStatesFit, NothingIsShownAtFirst}
 use Rattle.flat_core.specs.Machines.{Machine}
 use Rattle.flat_rules.specs.Ends.{has_view, views_of}
-use Rattle.flat_topology.specs.Connected.{joined_lists}
 use Rattle.flat_report.specs.declared.report.HitAnswer.{HitAnswer}
-use Rattle.flat_topology.specs.Shown.{Shown}
+use Rattle.flat_topology.specs.Shown.{Shown, state_of}
 use Rattle.flat_topology.specs.Views.{is_member}
 use Rattle.flat_stage.specs.declared.reader.Reader.{Reader}
 use Rattle.flat_stage.specs.Readings.{NoneIsRead}
@@ -34,6 +33,8 @@ use Rattle.flat_playable.specs.Playable.{rise_from, is_playable}
 use Rattle.flat_play.specs.declared.game.Game.{Game}
 use Rattle.flat_topology.specs.Fit.{FitsSetup}
 use Rattle.flat_play.specs.declared.frame.LastFrame.{LastFrame}
+use Rattle.flat_play.specs.Last.{IsLast}
+use Rattle.flat_rules.specs.Shown.{shown_states}
 use Rattle.flat_play.specs.Playing.{AnswersStand, lines_by, rest_shares, shares_of, AreNew, ReadersStand, DisplayStands, IsInOrder, IsSpent, FramesStand, GameStands}
 use Rattle.flat_play.proofs.lemmas.Places.{few_lines, rises, counted, frames_are, setup_is}
 use Rattle.flat_play.proofs.lemmas.DisplaySteps.{display_numbered}
@@ -205,13 +206,8 @@ pub nothing_fits : BegunStatesFit → NothingIsShownAtFirst → (setup : Setup) 
 nothing_fits begun at_first setup shown count none = subst (FitsSetup setup) (sym (at_first setup shown count none)) (begun setup [] tt)
 
 -- nothing is shown, and no frame is finished
-pub first_answers : NothingIsShownAtFirst → (setup : Setup) (shown : Shown) (last : LastFrame) (answers : List HitAnswer) → length shown ≡ setup.sessions → All (λ state. state ≡ None) shown → last.frame.0 ≡ 0 → last.joined ≡ joined_lists setup shown → answers ≡ []
-    → AnswersStand setup [] last answers
-first_answers at_first setup shown last answers count none number joined nothing = record {
-  number = number;
-  joining = joined ∙ ap (joined_lists setup) (at_first setup shown count none);
-  answering = nothing;
-}
+pub first_answers : (setup : Setup) (last : LastFrame) (answers : List HitAnswer) → last.frame.0 ≡ 0 → IsLast setup last → last.reuse ≡ shown_states setup [] → answers ≡ [] → AnswersStand setup [] last answers
+first_answers setup last answers number is showing nothing = record { number = number; is_last = is; showing = showing; answering = nothing }
 
 pub starts : (script : Script) (game : Game) → is_playable script ≡ true → NoneIsRead → game.board ≡ record { setup = script.setup; shares = shares_of script; history = [] } → AreNew script.setup script.setup.sessions game.readers.items
     → FramesStand script.setup [] game.shown game.with_view game.frames.items → list_all not game.with_view.has ≡ true → AnswersStand script.setup [] game.last game.answers → GameStands script 0 game
@@ -232,5 +228,6 @@ starts script game playable none_is_read board new shows none answers =
       spent = subst S history (first_spent script playable);
       views = λ s beyond. no_members game.with_view none s;
       shows = subst F history shows;
+      same = λ s within none. ap (λ (states : Shown). state_of states s) (answers.showing ∙ sym shows.showing);
       answers = subst A history answers;
     }

@@ -7,10 +7,10 @@ use Rattle.flat_tree.proofs.sessions_apart.Goals as goal
 pub loop-before-preserved : goal.loop-before-preserved
 loop-before-preserved c =
     let before = c.loop-before.before in
-    let connected = c.args.joined.now.connected in
+    let views = c.args.views.now in
     record {
       room = omega arith;
       items = c.add_apart.ensures.items
-          ∙ ap (λ (items : List SessionNo). items ++ if_apart (is_apart connected c.args.with_view.now (before + 1)) (before + 1)) c.loop-before.invariant.items
-          ∙ sym (apart-more before connected c.args.with_view.now);
+          ∙ ap (λ (items : List SessionNo). items ++ if_apart (is_apart views c.args.with_view.now (before + 1)) (before + 1)) c.loop-before.invariant.items
+          ∙ sym (apart-more before views c.args.with_view.now);
     }

@@ -10,6 +10,7 @@ use Rattle.flat_states.specs.Begins.{begun}
 use Rattle.flat_rules.specs.Ends.{to_begin}
 use Rattle.flat_rules.specs.Shown.{shown}
 use Rattle.flat_rules.proofs.lemmas.ShownList.{listed, each-listed}
+use Rattle.flat_core.proofs.Changes.{changes-both}
 use Rattle.flat_core.proofs.begins.begin_all.Goals as goal
 
 pub loop-i-preserved : goal.loop-i-preserved
@@ -31,6 +32,7 @@ loop-i-preserved c =
       kept = kept-next setup c.loop-i.log.history h line time i c.loop-i.sessions.items c.begin_one-count.new.state same inv.kept e.kept;
       shown_count = after.0;
       shown = after.1;
+      changes = changes-both _ _ _ _ _ _ inv.changes e.changes;
       posts = posts-next setup c.loop-i.log.history h (begin_entry line time) i c.args.log.now.posts c.loop-i.log.posts c.begin_one-count.new.log.posts same inv.posts e.posts;
       posted = omega (arith, e.count, inv.posted);
       history = e.history ∙ same;
@@ -49,6 +51,7 @@ loop-i-init c =
       kept = kept-start setup h c.args.line c.args.time c.args.sessions.now.items c.requires.kept;
       shown_count = states.0;
       shown = shown-start setup h c.args.line c.args.time c.args.into.now states.1;
+      changes = λ k none. (none, refl);
       posts = sym (append-nil _);
       posted = omega arith;
       history = refl;

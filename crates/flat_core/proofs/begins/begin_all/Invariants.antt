@@ -4,6 +4,7 @@ use Rattle.flat_states.specs.Begins.{begin_entry, posts_to}
 use Rattle.flat_states.specs.Machines.{due}
 use Rattle.flat_rules.specs.Numbers.{AllNumbered}
 use Rattle.flat_states.proofs.lemmas.BeginLoop.{KeptUpTo, ShownUpTo}
+use Rattle.flat_core.specs.Changes.{NotesChanges}
 use Rattle.flat_core.proofs.begins.begin_all.Given as goal
 
 abbrev pub invariant-loop-i : goal.invariant-loop-i
@@ -12,6 +13,7 @@ invariant-loop-i l = record {
   kept : AllNumbered (KeptUpTo l.setup l.fn.log.history l.line l.time l.i) l.sessions.items;
   shown_count : length l.into ≡ l.setup.sessions;
   shown : AllNumbered (ShownUpTo l.setup l.fn.log.history l.line l.time l.i) l.into;
+  changes : NotesChanges l.fn.changed l.changed l.fn.into l.into;
   posts : l.log.posts ≡ l.fn.log.posts ++ posts_to l.setup l.fn.log.history (begin_entry l.line l.time) l.i;
   posted : length l.log.posts ≡ length l.fn.log.posts + l.count;
   history : l.log.history ≡ l.fn.log.history;

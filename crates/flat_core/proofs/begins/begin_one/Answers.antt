@@ -31,7 +31,7 @@ returns-in-None-clause-kept c =
 
 pub returns-in-Some-clause-shown : goal.returns-in-Some-clause-shown
 returns-in-Some-clause-shown c =
-    c.set-in-Some.ensures
+    c.show-in-Some.ensures.shown
     ∙ ap (λ state. slice_set c.args.into.now (c.args.s.0 - 1) state)
     (sym (shown-some c.args.setup.now c.args.log.now.history c.args.line c.args.time c.args.s (has c.args.fences.now) c.args.state.now c.in-Some.snap c.requires.kept c.if-state.false c.requires.fences c.in-Some.ensures.last))
 

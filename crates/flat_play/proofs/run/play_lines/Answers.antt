@@ -2,6 +2,8 @@ use Rattle.std.proofs.Common.{◌≡◌, ℕ, length, map, refl, sym, ap, ◌∙
 use Rattle.flat_play.specs.Playing.{GameStands}
 use Rattle.flat_play.specs.Touches.{AreAnswered}
 use Rattle.flat_play.proofs.Touching.{answered-none, answered-more, answered-all}
+use Rattle.flat_play.proofs.lemmas.GameSteps.{game_stays}
+use Rattle.flat_play.proofs.lemmas.Places.{setup_is}
 use Rattle.flat_play.proofs.lemmas.Steps.{at_place}
 use Rattle.flat_play.proofs.lemmas.Seen.{as_long, kept_none, kept_same, kept_seen, seen_none, seen_line}
 use Rattle.flat_play.proofs.run.play_lines.Goals as goal
@@ -15,6 +17,21 @@ loop-place-init g c = record {
   same = refl;
   answered = answered-none _ _ _ _ c.in_ok-game.ensures.no_entry c.new-found.ensures.items c.requires.rise;
 }
+
+pub answer_upto-requires-clause-setup : goal.answer_upto-requires-clause-setup
+answer_upto-requires-clause-setup g c = setup_is c.args.script.now c.requires.playable
+
+pub answer_upto-requires-clause-is : goal.answer_upto-requires-clause-is
+answer_upto-requires-clause-is g c = c.loop-place.invariant.stands.answers.is_last
+
+pub answer_all-requires-clause-setup : goal.answer_all-requires-clause-setup
+answer_all-requires-clause-setup g c = setup_is c.args.script.now c.requires.playable
+
+pub answer_all-requires-clause-is : goal.answer_all-requires-clause-is
+answer_all-requires-clause-is g c = c.loop-place.invariant.stands.answers.is_last
+
+pub play_line-requires-clause-stands : goal.play_line-requires-clause-stands
+play_line-requires-clause-stands g c = game_stays c.args.script.now c.loop-place.place c.loop-place.game _ c.in_ok-left.ensures.stays c.loop-place.invariant.stands
 
 pub loop-place-preserved : goal.loop-place-preserved
 loop-place-preserved g c =
@@ -31,17 +48,17 @@ loop-place-preserved g c =
           let at = at_place script c.loop-place.place c.at-line.result.now c.requires.playable c.at-line.ensures in
           let A : ℕ → Type 0 = λ n. AreAnswered script.setup c.play_line.new.self.board.history n c.args.lines.now c.in_ok-left.left.now c.answer_upto.new.found.items in
           subst A (sym at.last)
-          (answered-more script.setup _ _ _ _ _ _ was.answered was.stands.answers.joining c.at-line.result.now.number _ _ _ at.above c.in_ok-left.ensures (now.goes_on c.at-line.result.now c.at-line.ensures));
+          (answered-more script.setup _ _ _ _ _ _ was.answered was.stands.answers.showing c.at-line.result.now.number _ _ _ at.above c.in_ok-left.ensures.answers (now.goes_on c.at-line.result.now c.at-line.ensures));
     }
 
 pub returns-clause-stands : goal.returns-clause-stands
 returns-clause-stands g c =
     let last : c.loop-place.place ≡ length c.args.script.now.lines = omega (arith, c.loop-place.auto.place-end, c.loop-place-test.false) in
     let P : ℕ → Type 0 = λ n. GameStands c.args.script.now n c.loop-place.game in
-    subst P last c.loop-place.invariant.stands
+    game_stays c.args.script.now _ c.loop-place.game _ c.in_ok-answer_all.ensures.stays (subst P last c.loop-place.invariant.stands)
 
 pub returns-clause-touches : goal.returns-clause-touches
-returns-clause-touches g c = answered-all _ _ _ _ _ _ _ c.loop-place.invariant.answered c.loop-place.invariant.stands.answers.joining _ c.in_ok-answer_all.ensures
+returns-clause-touches g c = answered-all _ _ _ _ _ _ _ c.loop-place.invariant.answered c.loop-place.invariant.stands.answers.showing _ c.in_ok-answer_all.ensures.answers
 
 pub returns-clause-seen : goal.returns-clause-seen
 returns-clause-seen g c = c.loop-place.invariant.seen

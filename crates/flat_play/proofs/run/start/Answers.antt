@@ -3,7 +3,7 @@ use Rattle.flat_scene.specs.declared.setup.Setup.{Setup}
 use Rattle.flat_scene.specs.Setups.{is_within_limits}
 use Rattle.flat_core.specs.Machines.{Machine}
 use Rattle.flat_play.proofs.lemmas.Places.{setup_is}
-use Rattle.flat_play.proofs.lemmas.Starting.{few, first_answers, nothing_fits, limits_are, shares_length, shares_small, starts, first_shown}
+use Rattle.flat_play.proofs.lemmas.Starting.{few, first_answers, limits_are, shares_length, shares_small, starts, first_shown}
 use Rattle.flat_play.proofs.run.start.Goals as goal
 
 pub shares_of-requires : goal.shares_of-requires
@@ -23,9 +23,6 @@ open-requires-clause-total c =
 pub new_readers-requires : goal.new_readers-requires
 new_readers-requires c = setup_is c.args.script.now c.requires
 
-pub join-requires-clause-fit : goal.join-requires-clause-fit
-join-requires-clause-fit c = nothing_fits c.shown_states_fit.ensures.begun c.shown_states_fit.ensures.nothing c.args.script.now.setup c.in_ok-shown.shown c.in_ok-shown.ensures.size c.in_ok-shown.ensures.none
-
 pub returns-clause-stands : goal.returns-clause-stands
 returns-clause-stands c =
     let script = c.args.script.now in
@@ -33,7 +30,7 @@ returns-clause-stands c =
     ∙ ap (λ xs. let m : Machine = record { setup = script.setup; shares = xs; history = [] } in m) c.in_ok-shares.ensures in
     starts script _ c.requires c.lines_are_read.ensures.none (c.board.view_is ∙ board) c.in_ok-new_readers.ensures
     (first_shown c.shown_states_fit.ensures.nothing script.setup _ _ _ c.in_ok-shown.ensures.size c.in_ok-shown.ensures.none refl c.new-2.ensures.items) refl
-    (first_answers c.shown_states_fit.ensures.nothing script.setup _ _ _ c.in_ok-shown.ensures.size c.in_ok-shown.ensures.none refl c.in_ok-joined.ensures.lists c.new-3.ensures)
+    (first_answers script.setup _ _ c.in_ok-last.ensures.number c.in_ok-last.ensures.is c.in_ok-last.ensures.shows c.new-3.ensures)
 
 pub returns-clause-no_entry : goal.returns-clause-no_entry
 returns-clause-no_entry c = ap (λ (m : Machine). m.history) (c.board.view_is ∙ c.in_ok-board.ensures)

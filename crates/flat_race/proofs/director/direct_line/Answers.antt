@@ -12,7 +12,8 @@ use Rattle.flat_scene.specs.declared.script.DisplayLine.TheVariants as display
 use Rattle.flat_scene.specs.declared.script.ScriptLine.{ScriptLine}
 use Rattle.flat_scene.specs.declared.setup.Setup.{Setup}
 use Rattle.flat_scene.specs.History.{history_of}
-use Rattle.flat_topology.specs.Hits.{hits_among}
+use Rattle.flat_topology.specs.Hits.{hit_list}
+use Rattle.flat_play.specs.Last.{StaysLast}
 use Rattle.flat_stage.specs.Displays.{DisplayEnters}
 use Rattle.flat_stage.specs.Seats.{StageView, setup_of}
 use Rattle.flat_play.proofs.lemmas.Places.{setup_is}
@@ -70,6 +71,13 @@ finish-requires-clause-room g c κs within =
     let at : At script c.args.place x = at_place script c.args.place x c.requires.playable c.requires.line in
     let held : HandStands script view c.args.place (Open c.into_frame-frame.result) c.args.film.now = subst (λ (h : Hand). HandStands script view c.args.place h c.args.film.now) (sym c.into_frame-frame.ensures) c.requires.stands in
     hand_room script view c.args.place x at refl c.requires.of c.into_frame-frame.result.display held.seat
+
+pub finish-requires-clause-same : goal.finish-requires-clause-same
+finish-requires-clause-same g c κs within =
+    let script = c.args.lent.now.script.now in
+    let view = c.args.lent.now.stage.now in
+    let held : HandStands script view c.args.place (Open c.into_frame-frame.result) c.args.film.now = subst (λ (h : Hand). HandStands script view c.args.place h c.args.film.now) (sym c.into_frame-frame.ensures) c.requires.stands in
+    held.changes
 
 pub finish-requires-clause-counted : goal.finish-requires-clause-counted
 finish-requires-clause-counted g c κs within =
@@ -163,7 +171,7 @@ returns-in-Begin-clause-stands g c =
     let at : At script c.args.place x = at_place script c.args.place x c.requires.playable c.requires.line in
     let is : x.body ≡ body.Display (display.Begin c.in-Begin.time) = ap (λ t. body.Display t) c.in-Begin.is in
     let idle : HandStands script view c.args.place (Idle c.into_seat.result) c.args.film.now = subst (λ (h : Hand). HandStands script view c.args.place h c.args.film.now) (sym c.into_seat.ensures) c.requires.stands in
-    hand_begins script view c.args.place x at refl c.requires.of c.in-Begin.time is c.into_seat.result c.begin-frame.result c.args.film.now idle c.begin-frame.ensures.enters c.begin-frame.ensures.shown c.begin-frame.ensures.views
+    hand_begins script view c.args.place x at refl c.requires.of c.in-Begin.time is c.into_seat.result c.begin-frame.result c.args.film.now idle c.begin-frame.ensures.enters c.begin-frame.ensures.shown c.begin-frame.ensures.changed c.begin-frame.ensures.views
 
 pub returns-in_ok-seat-in-Done-clause-stands : goal.returns-in_ok-seat-in-Done-clause-stands
 returns-in_ok-seat-in-Done-clause-stands g c =
@@ -204,5 +212,6 @@ returns-in_ok-hit-in-Hit-clause-stands g c =
     let hits = c.in_ok-hit-in-Hit.ensures in
     let was = c.args.film.now in
     let entered : DisplayEnters c.args.number (Hit c.in-Hit.x c.in-Hit.y) Done (hand_seat c.args.hand) (hand_seat c.hit.new.hand) = search rules in
-    let gained : c.hit.new.film.answers ≡ was.answers ++ (record { actor = Display; line = c.args.number; frame = was.last.frame; hits = hits_among was.last.joined.nodes c.in-Hit.x c.in-Hit.y }) ∷ [] = search rules in
-    hand_hits script view c.args.place x at refl c.requires.of c.in-Hit.x c.in-Hit.y is c.args.hand c.hit.new.hand c.args.film.now c.hit.new.film c.requires.stands entered hits.open hits.kept hits.others gained
+    let stays : StaysLast script.setup was.last c.hit.new.film.last = search rules in
+    let gained : c.hit.new.film.answers ≡ was.answers ++ (record { actor = Display; line = c.args.number; frame = was.last.frame; hits = hit_list script.setup was.last.reuse c.in-Hit.x c.in-Hit.y }) ∷ [] = search rules in
+    hand_hits script view c.args.place x at refl c.requires.of c.in-Hit.x c.in-Hit.y is c.args.hand c.hit.new.hand c.args.film.now c.hit.new.film c.requires.stands entered hits.open hits.kept hits.others stays gained

@@ -10,10 +10,10 @@ use Rattle.flat_race.proofs.director.finish.Goals as goal
 pub returns-clause-shown : goal.returns-clause-shown
 returns-clause-shown g c =
     let old = c.args.film.now in
-    let frame = c.in_ok-composed.composed.frame in
+    let frame = c.in_ok-composed.composed in
     let kept : c.push.new.self.items ≡ old.frames.items ++ frame ∷ [] = search rules in
     let V : SessionSet → Type 0 = AreViewed c.args.lent.now.script.now.setup (to_begin (history_of c.args.frame.display.seen)) in
-    let composed = c.in_ok-composed.ensures.frame _ (c.shown.ensures.shown ∙ c.requires.shows.0) (subst V (sym c.with_view-with_view.ensures) c.requires.shows.1) in
+    let composed = c.in_ok-composed.ensures.frame _ (c.shown.ensures.shown ∙ c.requires.shows.0) (subst V (sym c.with_view.ensures) c.requires.shows.1) in
     let numbered = ap (λ (f : FrameOut). f.frame.0) composed in
     let last = c.requires.last in
     let counted = c.requires.counted in

@@ -21,11 +21,19 @@ use Rattle.flat_rules.specs.Legal.{Legal}
 use Rattle.flat_gets.proofs.lemmas.EndSteps.{ends-other}
 use Rattle.flat_states.proofs.lemmas.ShownFits.{begun-fits}
 use Rattle.flat_states.specs.Begins.{begun, begin_entry}
+use Rattle.flat_states.proofs.lemmas.Opened.{few-declared}
 use Rattle.flat_states.proofs.lemmas.Steps.{has-room, legal-entered}
+use Rattle.flat_core.proofs.Changes.{changes-same}
 use Rattle.flat_gets.proofs.lemmas.BoardBegins.{kept-begun, place-small, not-ready}
 use Rattle.flat_gets.proofs.lemmas.WatchingSteps.{watched-after}
 use Rattle.flat_core.proofs.board.Board.begin.Goals as goal
 use Rattle.flat_rules.proofs.lemmas.ShownList.{length-listed}
+
+pub begin_all-count-requires-clause-within : goal.begin_all-count-requires-clause-within
+begin_all-count-requires-clause-within c = (few-declared c.self.inside.setup c.self.invariant.1.limits).0
+
+pub returns-clause-changed : goal.returns-clause-changed
+returns-clause-changed c = changes-same c.begin_all-count.new.changed c.args.into.now c.begin_all-count.new.into (λ k none. (c.begin_all-count.ensures.changes k none).1)
 
 pub begin_all-count-requires-clause-place : goal.begin_all-count-requires-clause-place
 begin_all-count-requires-clause-place c =

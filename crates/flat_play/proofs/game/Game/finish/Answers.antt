@@ -10,8 +10,7 @@ returns-clause-shows g c =
     let frame = c.in_ok-frame.frame in
     let counted = ap length c.requires.stands.finishing ∙ finished_length old.board.setup old.board.history in
     let kept : c.push.new.self.items ≡ old.frames.items ++ frame ∷ [] = search rules in
-    let same = ap (λ (f : FrameOut). f.frame.0) c.in_ok-frame.frame-is in
     let numbered = ap (λ (f : FrameOut). f.frame.0) c.in_ok-frame.ensures.frame in
-    let number : frame.frame.0 ≡ suc (length old.frames.items) = omega (arith, counted, same, numbered) in
+    let number : frame.frame.0 ≡ suc (length old.frames.items) = omega (arith, counted, numbered) in
     let shows = c.show_last.ensures.shows old.frames.items frame (c.as_slice.ensures.value ∙ kept) in
     IsShown.shows_frame frame shows.0 kept number shows.1 shows.2

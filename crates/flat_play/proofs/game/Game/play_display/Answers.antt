@@ -1,3 +1,4 @@
+use Rattle.flat_play.specs.Last.{IsLast}
 use Rattle.flat_play.specs.Playing.{AsksPoint}
 use Rattle.std.proofs.Common.{rules, ◌≡◌, ◌≤◌, true, length, refl, sym, ap, subst, arith}
 use Rattle.flat_base.specs.declared.ids.Actor.TheVariants.{Display}
@@ -55,11 +56,14 @@ wait-requires g c =
     (display_share c.args.script.now c.args.place x at c.args.self.now.board c.requires.stands.shares refl c.requires.stands.spent)
     (subst Q (sym c.requires.stands.setup) (subst P c.in-Wait.is at.played))
 
-pub hit-requires : goal.hit-requires
-hit-requires g c =
+pub hit-requires-clause-may : goal.hit-requires-clause-may
+hit-requires-clause-may g c =
     let x : ScriptLine = record { number = c.args.number; actor = Display; body = body.Display c.args.text } in
     let at : At c.args.script.now c.args.place x = at_place c.args.script.now c.args.place x c.requires.playable c.requires.line in
     may_hit c.args.self.now.board _ _ (display_share c.args.script.now c.args.place x at c.args.self.now.board c.requires.stands.shares refl c.requires.stands.spent)
+
+pub hit-requires-clause-is : goal.hit-requires-clause-is
+hit-requires-clause-is g c = let P : Setup → Type 0 = λ s. IsLast s c.args.self.now.last in subst P (sym c.requires.stands.setup) c.requires.stands.answers.is_last
 
 pub returns-in-Begin-clause-stands : goal.returns-in-Begin-clause-stands
 returns-in-Begin-clause-stands g c =
