@@ -1,6 +1,5 @@
 -- How the sessions end.
-use Rattle.std.proofs.Common.{◌≡◌, ◌≢◌, ℕ, zero, suc, ◌+◌, ◌<◌, ◌≤◌, Bool, true, false, cond, ◌==◌, List, [], ◌∷◌, ◌++◌, length, drop, take, map, reverse, get_or, set, refl, sym, ap, ◌∙◌, subst, arith, add-one, append-nil, append_assoc, get_or-set_other}
-use Rattle.std.specs.List.{AllByRecursion}
+use Rattle.std.proofs.Common.{◌≡◌, ◌≢◌, ℕ, ◌+◌, ◌<◌, ◌≤◌, Bool, true, false, cond, ◌==◌, List, [], ◌∷◌, ◌++◌, length, take, map, reverse, get_or, set, refl, sym, ap, ◌∙◌, subst, arith, append-nil, append_assoc, get_or-set_other}
 use Rattle.std.proofs.lemmas.List.{length-set, map-append, reverse-append, take_all}
 use Rattle.std.proofs.lemmas.Bool.{eq-eqb, eqb-true}
 use Rattle.std.proofs.lemmas.Grind.{common_steps}

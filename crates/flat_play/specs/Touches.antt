@@ -1,5 +1,5 @@
 -- Pointers' lines that stand beside a script: whom a pointer that goes down hits, in the frame that was finished last before its line.
-use Rattle.std.specs.Prelude.{◌≡◌, ℕ, ◌+◌, Bool, true, cond, ◌&&◌, not, nat_le, nat_lt, List, [], ◌∷◌, ◌++◌, map}
+use Rattle.std.specs.Prelude.{◌≡◌, ℕ, ◌+◌, true, cond, ◌&&◌, nat_le, nat_lt, List, [], ◌++◌, map}
 use Rattle.std.specs.List.{list_all}
 use Rattle.flat_scene.specs.declared.frames.Hit.{Hit}
 use Rattle.flat_scene.specs.declared.journal.Entry.{Entry}

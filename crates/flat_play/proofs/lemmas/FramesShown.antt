@@ -1,5 +1,5 @@
 -- What is shown at a place, and how many frames there may be.
-use Rattle.std.proofs.Common.{◌≡◌, ℕ, ◌+◌, ◌≤◌, ◌<◌, Bool, true, false, cond, ◌&&◌, ◌||◌, not, ◌==◌, List, [], length, sym, ap, ◌∙◌, subst, arith, refl}
+use Rattle.std.proofs.Common.{◌≡◌, ℕ, ◌+◌, ◌≤◌, Bool, true, false, cond, ◌&&◌, ◌||◌, not, ◌==◌, List, [], length, sym, ap, ◌∙◌, subst, arith, refl}
 use Rattle.std.proofs.lemmas.Grind.{common_steps}
 use Rattle.flat_base.specs.declared.ids.Actor.{Actor}
 use Rattle.flat_base.specs.declared.ids.Actor.TheVariants.{Display, Session, Probe}

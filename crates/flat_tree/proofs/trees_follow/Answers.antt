@@ -1,5 +1,4 @@
 use Rattle.std.proofs.Common.{ap, ◌∙◌, sym}
-use Rattle.flat_base.specs.declared.limits.TheConstants.{SESSIONS_MAX}
 use Rattle.flat_tree.proofs.Following.{tree-same}
 use Rattle.flat_tree.specs.Trees.{tree_of}
 use Rattle.flat_tree.proofs.trees_follow.Goals as goal

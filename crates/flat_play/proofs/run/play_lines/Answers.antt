@@ -1,4 +1,4 @@
-use Rattle.std.proofs.Common.{◌≡◌, ℕ, length, map, refl, sym, ap, ◌∙◌, subst, arith}
+use Rattle.std.proofs.Common.{◌≡◌, ℕ, length, refl, sym, ap, ◌∙◌, subst, arith}
 use Rattle.flat_play.specs.Playing.{GameStands}
 use Rattle.flat_play.specs.Touches.{AreAnswered}
 use Rattle.flat_play.proofs.Touching.{answered-none, answered-more, answered-all}

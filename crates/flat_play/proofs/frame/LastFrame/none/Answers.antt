@@ -1,7 +1,6 @@
 use Rattle.std.proofs.Common.{length, sym, ap, ◌∙◌, subst}
 use Rattle.flat_topology.specs.Fit.{FitsSetup}
 use Rattle.flat_topology.specs.Shown.{Shown}
-use Rattle.flat_play.specs.Last.{IsLast}
 use Rattle.flat_play.proofs.lemmas.Starting.{nothing_fits}
 use Rattle.flat_play.proofs.frame.LastFrame.none.Goals as goal
 

@@ -5,7 +5,6 @@ use Rattle.flat_rules.specs.Ends.{to_begin}
 use Rattle.flat_rules.specs.Shown.{shown_states}
 use Rattle.flat_stage.specs.Displays.{AreViewed}
 use Rattle.flat_report.specs.Report.{frame_at}
-use Rattle.flat_play.specs.Last.{IsLast}
 use Rattle.flat_play.proofs.lemmas.FramesShown.{shown_count, shown_fits, viewed}
 use Rattle.flat_play.proofs.game.Game.compose_next.Goals as goal
 
