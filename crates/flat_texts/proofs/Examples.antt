@@ -46,17 +46,15 @@ nothing_is_shown_before_the_first = refl
 
 -- ---- damage
 
-unfolding digits
-
 nothing_changed : damaged_text [] ≡ codes "damage ends frames 0\n"
+unfolding digits
 nothing_changed = refl
 
 abbrev one_rectangle : Damaged
 one_rectangle = record { frame = record { 0 = 1 }; rects = square ∷ [] }
 
-unfolding digits
-
 a_rectangle_has_a_line : damaged_text (one_rectangle ∷ []) ≡ codes "damage frame 1 rects 1\nrect 0 0 655360 655360\ndamage ends frames 1\n"
+unfolding digits
 a_rectangle_has_a_line = refl
 
 no_frames_have_this_text : IsDamageText [] (damaged_text [])
