@@ -6,8 +6,8 @@ use Rattle.flat_rules.specs.Shown.{shown_states}
 use Rattle.flat_rules.proofs.lemmas.ShownList.{nothing-shown}
 use Rattle.flat_board_tests.proofs.board.a_present_is_taken.Goals as goal
 
-pub begin-requires-clause-shown : goal.begin-requires-clause-shown
-begin-requires-clause-shown g c =
+pub begin-begun-requires-clause-shown : goal.begin-begun-requires-clause-shown
+begin-begun-requires-clause-shown g c =
     let board = c.in_ok-board.board in
     let shown = c.in_ok-shown.shown in
     let none : board.history ≡ [] = ap (λ (m : Machine). m.history) c.in_ok-board.ensures in
