@@ -1,4 +1,4 @@
-use flat_base::{ContentId, Items, PairNo, Reason, TransformId};
+use flat_base::{ContentId, Items, PairNo, Reason};
 use flat_draft::{Draft, DraftFault};
 use flat_scene::{Call, Inset, Watch};
 use std::test::Fail;
@@ -43,18 +43,5 @@ fn readies_what_uses_an_end(rt: HostRuntime) -> Result<(), Fail> {
     let watched = draft.get(Watch::Child(ContentId(2)))?;
     assert_eq!(rt; (second_view, is_open), (Some(Reason::HasView), true));
     assert_eq!(rt; (second_viewport, watched), (Some(Reason::IdInUse), PAIR));
-    Ok(())
-}
-
-#[test]
-fn closes_at_a_misuse(rt: HostRuntime) -> Result<(), Fail> {
-    let alloc = rt.alloc();
-    let mut draft = Draft::new(alloc, Items::new(alloc));
-    let misuse = reason(draft.call(&Call::ReleaseTransform { t: TransformId(1) }));
-    assert_eq!(rt;
-        (misuse, draft.is_closed()),
-        (Some(Reason::UnknownTransform), true)
-    );
-    assert!(rt; matches!(draft.ready(&CREATE_VIEW), Err(DraftFault::Closed)));
     Ok(())
 }

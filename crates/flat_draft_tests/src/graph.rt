@@ -45,17 +45,3 @@ fn drops_a_content(rt: HostRuntime) -> Result<(), Fail> {
     );
     Ok(())
 }
-
-#[test]
-fn tells_names_and_clears(rt: HostRuntime) -> Result<(), Fail> {
-    let mut graph = three(rt.alloc())?;
-    graph.add_child(FIRST, SECOND)?;
-    graph.release(SECOND)?;
-    graph.release(THIRD)?;
-    let named = [graph.is_named(0), graph.is_named(1), graph.is_named(2)];
-    assert_eq!(rt; named, [true, false, false]);
-    graph.clear();
-    assert_eq!(rt; (graph.root(), graph.names().len()), (None, 0));
-    assert_eq!(rt; graph.create(FIRST)?, 4);
-    Ok(())
-}

@@ -1,8 +1,6 @@
-use flat_base::{Items, TransformId};
+use flat_base::TransformId;
 use flat_collect::sweep;
-use flat_draft::Draft;
 use flat_graph::Graph;
-use flat_scene::{Call, PresentArgs};
 use std::test::Fail;
 
 const FIRST: TransformId = TransformId(1);
@@ -57,31 +55,5 @@ fn sweeps_a_cycle_that_nothing_reaches(rt: HostRuntime) -> Result<(), Fail> {
     graph.release(SECOND)?;
     let both = sweep(alloc, &mut graph)?;
     assert_eq!(rt; (none, both, graph.len()), (0, 2, 1));
-    Ok(())
-}
-
-#[test]
-fn draws_what_is_released_and_reached(rt: HostRuntime) -> Result<(), Fail> {
-    let alloc = rt.alloc();
-    let mut draft = Draft::new(alloc, Items::new(alloc));
-    for id in 1..=3 {
-        draft.call(&Call::CreateTransform { t: TransformId(id) })?;
-    }
-    draft.call(&Call::AddChild {
-        p: FIRST,
-        k: SECOND,
-    })?;
-    draft.call(&Call::SetRootTransform { t: FIRST })?;
-    for id in 1..=3 {
-        draft.call(&Call::ReleaseTransform { t: TransformId(id) })?;
-    }
-    let args = PresentArgs {
-        time: 0,
-        acquire: Items::new(alloc),
-        release: Items::new(alloc),
-    };
-    let first = draft.present(&args)?.nodes();
-    let second = draft.present(&args)?.nodes();
-    assert_eq!(rt; (first, second), (2, 2));
     Ok(())
 }

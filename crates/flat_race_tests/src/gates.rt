@@ -1,13 +1,12 @@
 ghost use Rattle.std.specs.Prelude.{◌<◌, ◌^◌, length};
 
-use crate::texts::{
-    FILL, FILL_REPORTED, SHELL, SHELL_ORDER, SHELL_REPORTED, TWO, TWO_REPORTED, WAIT, WAIT_REPORTED,
-};
+use crate::texts::{FILL, FILL_REPORTED, SHELL_ORDER, TWO, TWO_REPORTED, WAIT, WAIT_REPORTED};
 use flat_display::Display;
 use flat_io::{Failed, MemSink, MemSource};
 use flat_race::Gate;
 use flat_run::flatland;
 use flat_scene::{FrameOut, Reply};
+use flat_worked::{SHELL, SHELL_REPORTED};
 use std::alloc::Global;
 use std::sync::atomic::{AtomicBool, AtomicU32, Ordering};
 use std::sync::{Arc, Wait};

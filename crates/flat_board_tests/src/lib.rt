@@ -1,5 +1,0 @@
-//! Tests of the board.
-#![tactic(auto)]
-
-#[cfg(test)]
-mod board;
