@@ -8,8 +8,7 @@ use Rattle.flat_scene.specs.declared.trees.Children.TheVariants.{Empty}
 use Rattle.flat_scene.specs.declared.trees.Node.{Node}
 use Rattle.flat_scene.specs.declared.trees.Tree.{Tree}
 use Rattle.flat_scene.specs.Trees.{first}
-use Rattle.flat_snap.specs.declared.flat.FlatNode.{FlatNode}
-use Rattle.flat_snap.specs.Flat.{flat_nodes, rooted}
+use Rattle.flat_snap.specs.Flat.{FlatNode, flat_nodes, rooted}
 use Rattle.flat_snap.specs.Forest.{as_node, forest_in, forest}
 use Rattle.flat_snap.specs.Stretch.{IsStretch}
 use Rattle.flat_snap.proofs.lemmas.Rebuilding.{forest-whole}

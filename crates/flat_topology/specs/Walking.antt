@@ -4,8 +4,7 @@ use Rattle.std.specs.List.{All}
 use Rattle.flat_base.specs.declared.ids.SessionNo.{SessionNo}
 use Rattle.flat_scene.specs.declared.trees.Children.TheVariants.{Empty}
 use Rattle.flat_scene.specs.declared.trees.Tree.{Tree}
-use Rattle.flat_snap.specs.declared.flat.FlatNode.{FlatNode}
-use Rattle.flat_snap.specs.Flat.{flat_nodes}
+use Rattle.flat_snap.specs.Flat.{FlatNode, flat_nodes}
 use Rattle.flat_snap.specs.Forest.{as_node, forest_in}
 use Rattle.flat_snap.specs.Stretch.{IsStretch}
 use Rattle.flat_topology.specs.declared.Placed.{Placed}

@@ -1,4 +1,5 @@
 ghost use Rattle.std.specs.Prelude.{◌≡◌, ◌+◌, ◌-◌, ◌<◌, ◌≤◌, ◌^◌, length, IfOk, IfSome, OnOk, All, Some, None, option_map, slice_get};
+ghost use Rattle.flat_snap.specs.Flat.{lent};
 ghost use Rattle.flat_topology.specs.Shown.{state_of, view_of};
 ghost use Rattle.flat_topology.specs.Pairs.{display_pair};
 ghost use Rattle.flat_topology.specs.Join.{viewer_from, is_view_of, linked_to, led_to};
@@ -160,11 +161,11 @@ impl Walk {
         &mut self,
         alloc: Global,
         s: Stretch,
-        node: &FlatNode,
+        node: &FlatNode<'_>,
         scope: Scope,
     ) -> Result<(), NoMemory>
         requires { s.next < 2 ^ 32 - 1 }
-        ensures { OnOk result (HasPut self.old s node.now scope self.new) }
+        ensures { OnOk result (HasPut self.old s (lent node.now) scope self.new) }
     {
         self.nodes.push(scope.placed(alloc, s.session, node)?)?;
         self.left.push(Stretch {
@@ -196,9 +197,9 @@ impl Walk {
             return Ok(());
         };
         let node = state.node(s.next);
-        let scope = s.scope.inner(node);
+        let scope = s.scope.inner(&node);
         let at = self.nodes.len() as u32;
-        self.put(alloc, s, node, scope)?;
+        self.put(alloc, s, &node, scope)?;
         self.show_linked(shown, node.content, s.views, scope, at)?;
         Ok(())
     }
