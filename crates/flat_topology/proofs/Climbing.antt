@@ -122,6 +122,7 @@ places-within next (what ∷ contents) = by_test (is_viewport what) (rw (sym (ne
   where
     next-size : (n m : ℕ) → n + suc m ≡ n + 1 + m
     next-size n m = omega arith
+
     by_test : (b : Bool) → All (λ place. place < next + suc (length contents)) (viewport_places (next + 1) contents)
         → All (λ place. place < next + suc (length contents)) (cond b (next ∷ viewport_places (next + 1) contents) (viewport_places (next + 1) contents))
     by_test true later =

@@ -98,12 +98,7 @@ fn above_pair(shown: &Shown, setup: &Setup, display: Option<usize>, pair: PairNo
 }
 
 /// Who shows the view of a session, where this is the display's pair.
-fn above_session(
-    shown: &Shown,
-    setup: &Setup,
-    display: Option<usize>,
-    session: SessionNo,
-) -> Above
+fn above_session(shown: &Shown, setup: &Setup, display: Option<usize>, session: SessionNo) -> Above
     requires display { display ≡ display_pair setup.now }
     requires some { 0 < session.0 }
     requires few { session.0 ≤ length shown.now }

@@ -6,7 +6,7 @@ ghost use Rattle.flat_topology.specs.Join.{viewer_from, is_view_of, linked_to, l
 ghost use Rattle.flat_topology.specs.Place.{linked_space, display_space, seen_through, placed_nodes, placed_in};
 ghost use Rattle.flat_topology.specs.Connected.{joined_count, connected_sessions};
 ghost use Rattle.flat_topology.specs.Fit.{FitsSetup};
-ghost use Rattle.flat_topology.specs.Walking.{viewer_at, flat_of, space_of, tree_of, work, work_in, HasPut, IsOf, Continues, IsOnTheWay};
+ghost use Rattle.flat_topology.specs.Walking.{viewer_at, flat_of, space_of, tree_of, work, work_in, pushed, HasPut, IsOf, Continues, IsOnTheWay};
 
 use crate::scope::{Scope, outermost};
 use crate::shown::Shown;
@@ -85,7 +85,7 @@ pub fn viewer(shown: &Shown, pair: usize) -> Option<SessionNo>
 }
 
 /// How many nodes a session shows.
-fn nodes_shown(shown: &Shown, session: SessionNo) -> u32
+pub fn nodes_shown(shown: &Shown, session: SessionNo) -> u32
     requires some { 0 < session.0 }
     requires few { session.0 ≤ length shown.now }
     ensures { result ≡ length (flat_of (state_of shown.now session.0)) }
@@ -155,6 +155,18 @@ impl Walk {
         }
     }
 
+    /// A stretch comes next, if it has a node.
+    fn push(&mut self, s: Stretch) -> Result<(), NoMemory>
+        ensures nodes { self.new.nodes ≡ self.old.nodes }
+        ensures connected { self.new.connected ≡ self.old.connected }
+        ensures left { OnOk result (self.new.left.items ≡ pushed self.old.left.items s) }
+    {
+        if s.next < s.end {
+            self.left.push(s)?;
+        }
+        Ok(())
+    }
+
     /// Puts a node of a stretch into its place. The nodes below it come next, and
     /// then those after it.
     fn put(
@@ -168,11 +180,11 @@ impl Walk {
         ensures { OnOk result (HasPut self.old s (lent node.now) scope self.new) }
     {
         self.nodes.push(scope.placed(alloc, s.session, node)?)?;
-        self.left.push(Stretch {
+        self.push(Stretch {
             next: node.end,
             ..s
         })?;
-        self.left.push(Stretch {
+        self.push(Stretch {
             next: s.next + 1,
             end: node.end,
             scope,
