@@ -4,32 +4,35 @@ ghost use Rattle.flat_graph.specs.Reasons.{links_in};
 ghost use Rattle.flat_collect.specs.Forest.{size};
 ghost use Rattle.flat_collect.specs.Judge.{HasTree, graph_tree};
 ghost use Rattle.flat_collect.specs.Walking.{below};
+ghost use Rattle.flat_scene.specs.declared.trees.Children.TheVariants.{Empty};
 ghost use Rattle.flat_snap.specs.Building.{adds};
+ghost use Rattle.flat_snap.specs.Flat.{lent};
+ghost use Rattle.flat_snap.specs.Forest.{as_node};
 ghost use Rattle.flat_draft.specs.Shown as shown;
 ghost use Rattle.flat_draft.specs.Shown.{HasRoom, all_shown, content_shown, shown_nodes, shown_tree};
 
-use flat_base::{Items, NoMemory, PATH_NODES_MAX, PairNo};
+use flat_base::{NoMemory, PATH_NODES_MAX, PairNo};
 use flat_content::ContentTable;
 use flat_graph::{Graph, GraphNode};
-use flat_scene::{Children, Content, Held, HitRegion, Interaction, Node, RegionList};
-use flat_snap::{Snapshot, SnapshotBuilder};
+use flat_scene::{Content, Held, HitRegion, Interaction};
+use flat_snap::{FlatNode, Snapshot, SnapshotBuilder};
 use std::alloc::Global;
 
-/// The hit regions of a node: of a root the infinite one, where none were ever set.
-fn regions(alloc: Global, node: &GraphNode, is_root: bool) -> Result<RegionList, NoMemory>
-    ensures { IfOk result (λ regions. regions ≡ regions_of is_root node.now.hits) }
+/// The regions of a root on which none were ever set: the infinite one.
+const EVERYWHERE: [HitRegion; 1] = [HitRegion {
+    area: None,
+    interaction: Interaction::Default,
+}];
+
+/// The hit regions of a node.
+fn regions(node: &GraphNode, is_root: bool) -> &[HitRegion]
+    ensures { result.now ≡ regions_of is_root node.now.hits }
 {
-    if let Some(regions) = &node.hits {
-        return regions.copy(alloc);
+    match &node.hits {
+        Some(regions) => regions.as_slice(),
+        None if is_root => &EVERYWHERE,
+        None => &[],
     }
-    let mut regions = Items::new(alloc);
-    if is_root {
-        regions.push(HitRegion {
-            area: None,
-            interaction: Interaction::Default,
-        })?;
-    }
-    Ok(regions)
 }
 
 /// What a transform shows that holds a content.
@@ -39,32 +42,25 @@ fn content(contents: &ContentTable, held: Option<Held>) -> Option<Content>
     contents.content(held?.serial)
 }
 
-/// The node of a transform, without children.
-fn leaf(
-    alloc: Global,
-    contents: &ContentTable,
-    node: &GraphNode,
-    is_root: bool,
-) -> Result<Node, NoMemory>
-    ensures { IfOk result (λ made. made ≡ shown.leaf contents.now is_root node.now) }
+/// The node of a transform, which has no end yet.
+fn leaf<'a>(contents: &ContentTable, node: &'a GraphNode, is_root: bool) -> FlatNode<'a>
+    ensures { as_node (lent result) Empty ≡ shown.leaf contents.entry.now is_root node.entry.now }
 {
-    let hits = regions(alloc, node, is_root)?;
-    Ok(Node {
+    FlatNode {
         serial: node.serial,
         scale: node.scale,
         turn: node.turn,
         place: node.place,
         clip: node.clip,
         opacity: node.opacity,
-        hits,
+        hits: regions(node, is_root),
         content: content(contents, node.content),
-        children: Children::Empty,
-    })
+        end: 0,
+    }
 }
 
 /// Builds the nodes of some keys, each with all below it.
 fn lay(
-    alloc: Global,
     graph: &Graph,
     contents: &ContentTable,
     keys: &[usize],
@@ -79,9 +75,9 @@ fn lay(
         let Some(node) = graph.node(key) else {
             continue;
         };
-        builder.enter(leaf(alloc, contents, node, is_root)?);
+        builder.enter(&leaf(contents, node, is_root))?;
         let children = node.children.as_slice();
-        lay(alloc, graph, contents, children, levels - 1, false, builder)?;
+        lay(graph, contents, children, levels - 1, false, builder)?;
         builder.leave();
     }
     Ok(())
@@ -89,7 +85,6 @@ fn lay(
 
 /// Builds the nodes of the paths from the root.
 fn lay_root(
-    alloc: Global,
     graph: &Graph,
     contents: &ContentTable,
     builder: &mut SnapshotBuilder,
@@ -98,15 +93,7 @@ fn lay_root(
     ensures { OnOk result (builder.new ≡ adds builder.old (all_shown graph.now contents.now)) }
 {
     match graph.root() {
-        Some(root) => lay(
-            alloc,
-            graph,
-            contents,
-            &[root],
-            PATH_NODES_MAX,
-            true,
-            builder,
-        ),
+        Some(root) => lay(graph, contents, &[root], PATH_NODES_MAX, true, builder),
         None => Ok(()),
     }
 }
@@ -124,7 +111,7 @@ pub fn flatten(
     ensures { IfOk result (λ snapshot. snapshot ≡ shown_tree view graph.now contents.now) }
 {
     let mut builder = SnapshotBuilder::new(alloc, nodes)?;
-    lay_root(alloc, graph, contents, &mut builder)?;
+    lay_root(graph, contents, &mut builder)?;
     let viewports = contents.uses(alloc)?;
     Ok(builder.finish(view, viewports))
 }

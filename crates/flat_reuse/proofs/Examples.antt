@@ -1,5 +1,8 @@
 -- The definitions, computed on a session with a fill and, after it, a viewport.
 use Rattle.std.proofs.Common.{ℕ, ◌*◌, pos, ◌≡◌, refl, [], ◌∷◌, None, Some}
+use Rattle.flat_topology.specs.declared.scope.Scope.{Scope}
+use Rattle.flat_reuse.specs.declared.trace.Span.{Span}
+use Rattle.flat_reuse.specs.Tracing.{pushed}
 use Rattle.flat_base.specs.declared.ids.SessionNo.{SessionNo}
 use Rattle.flat_base.specs.declared.shapes.Orientation.TheVariants.{Ccw0}
 use Rattle.flat_base.specs.declared.shapes.Rect.{Rect}
@@ -86,3 +89,15 @@ a_link_gives_items = refl
 
 a_link_gives_views : piece_views led (session 1) (Linked link) ≡ record { session = session 2; parent = Some (session 1); bounds = square 20 } ∷ []
 a_link_gives_views = refl
+
+-- ---- spans that are left
+
+abbrev span_of : Scope → ℕ → ℕ → Span
+span_of scope next end = record { next = next; end = end; scope = scope }
+
+-- a span with a node comes first, and one without is left out
+kept_span : (scope : Scope) → pushed [] (span_of scope 1 3) ≡ span_of scope 1 3 ∷ []
+kept_span scope = refl
+
+empty_span : (scope : Scope) → pushed (span_of scope 1 3 ∷ []) (span_of scope 3 3) ≡ span_of scope 1 3 ∷ []
+empty_span scope = refl

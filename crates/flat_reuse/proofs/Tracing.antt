@@ -1,5 +1,6 @@
 -- The steps of the walk that collects what the nodes of a session give.
-use Rattle.std.proofs.Common.{ℕ, ◌+◌, ◌*◌, ◌<◌, ◌≤◌, ◌≡◌, refl, sym, ap, ◌∙◌, List, [], ◌∷◌, ◌++◌, length, Some, All, slice_get, get_or, arith}
+use Rattle.std.proofs.Common.{ℕ, ◌+◌, ◌*◌, ◌<◌, ◌≤◌, ◌≡◌, refl, sym, ap, ◌∙◌, Bool, true, false, cond, nat_lt, List, [], ◌∷◌, ◌++◌, length, Some, All, slice_get, get_or, arith}
+use Rattle.std.proofs.lemmas.Bool.Decides.{nat_tests}
 use Rattle.std.proofs.lemmas.List.{append_assoc, append-nil}
 use Rattle.std.proofs.lemmas.List.Elements.{All-nil, All-cons, All-append, All-push, All-pop, All-get_or}
 use Rattle.std.proofs.lemmas.Option.{slice_get_cases}
@@ -9,8 +10,7 @@ use Rattle.flat_scene.specs.declared.trees.Children.{Children}
 use Rattle.flat_scene.specs.declared.trees.Children.TheVariants.{Empty}
 use Rattle.flat_scene.specs.declared.trees.Tree.{Tree}
 use Rattle.flat_scene.specs.Trees.{first, more, node_count}
-use Rattle.flat_snap.specs.declared.flat.FlatNode.{FlatNode}
-use Rattle.flat_snap.specs.Flat.{flat_from, flat_nodes, rooted}
+use Rattle.flat_snap.specs.Flat.{FlatNode, flat_from, flat_nodes, rooted}
 use Rattle.flat_snap.specs.Forest.{as_node, forest_in}
 use Rattle.flat_snap.proofs.lemmas.Rebuilding.{forest-whole}
 use Rattle.flat_snap.proofs.lemmas.Stretches.{IsFirst, stretch-first, stretch-whole, stretch-none, stretch-within}
@@ -24,7 +24,7 @@ use Rattle.flat_reuse.specs.declared.piece.Piece.{Piece}
 use Rattle.flat_reuse.specs.declared.trace.Span.{Span}
 use Rattle.flat_reuse.specs.declared.trace.Trace.{Trace}
 use Rattle.flat_reuse.specs.Pieces.{node_pieces, pieces}
-use Rattle.flat_reuse.specs.Tracing.{span_pieces, still_given, span_work, work, IsSpan, AreLow, IsTracing, GoesOn}
+use Rattle.flat_reuse.specs.Tracing.{pushed, span_pieces, still_given, span_work, work, IsSpan, AreLow, IsTracing, GoesOn}
 
 -- ---- one more span, which comes first
 
@@ -37,6 +37,34 @@ given-more s ns (x ∷ left) span =
 pub work-more : (ns : List FlatNode) (left : List Span) (span : Span) → work ns (left ++ span ∷ []) ≡ work ns left + span_work ns span
 work-more ns [] span = omega arith
 work-more ns (x ∷ left) span = omega (arith, work-more ns left span)
+
+-- the same of a span that comes next if it has a node: one without gives nothing
+
+none-given : (s : ℕ) (ns : List FlatNode) (span : Span) → IsSpan ns span → nat_lt span.next span.end ≡ false → span_pieces s ns span ≡ []
+none-given s ns span is none =
+    let low : span.end ≤ span.next = grind (arith, nat_tests) in
+    ap (λ (nodes : Children). pieces s nodes (space_of span.scope)) (stretch-none ns span.next span.end is.stretch low)
+
+given-pushed : (s : ℕ) (ns : List FlatNode) (left : List Span) (span : Span) → IsSpan ns span → still_given s ns (pushed left span) ≡ span_pieces s ns span ++ still_given s ns left
+given-pushed s ns left span is = by_test (nat_lt span.next span.end) refl
+  where
+    by_test : (b : Bool) → nat_lt span.next span.end ≡ b → still_given s ns (cond b (left ++ span ∷ []) left) ≡ span_pieces s ns span ++ still_given s ns left
+    by_test true e = given-more s ns left span
+    by_test false e = rw (none-given s ns span is e) refl
+
+work-pushed : (ns : List FlatNode) (left : List Span) (span : Span) → work ns (pushed left span) ≤ work ns left + span_work ns span
+work-pushed ns left span = by_test (nat_lt span.next span.end)
+  where
+    by_test : (b : Bool) → work ns (cond b (left ++ span ∷ []) left) ≤ work ns left + span_work ns span
+    by_test true = omega (arith, work-more ns left span)
+    by_test false = omega arith
+
+whole-pushed : (ns : List FlatNode) (left : List Span) (span : Span) → All (IsSpan ns) left → IsSpan ns span → All (IsSpan ns) (pushed left span)
+whole-pushed ns left span whole is = by_test (nat_lt span.next span.end)
+  where
+    by_test : (b : Bool) → All (IsSpan ns) (cond b (left ++ span ∷ []) left)
+    by_test true = All-push (IsSpan ns) left span whole is
+    by_test false = whole
 
 -- ---- opacities
 
@@ -83,7 +111,7 @@ inner-low ns span n is some low at = seen-low span.scope.opacity n.opacity is.lo
 -- the first node was gone over: what it gives is there, the nodes below it come next, and then those after it
 pub record HasStepped (s : ℕ) (old : Trace) (span : Span) (n : FlatNode) (scope : Scope) (new : Trace) : Type 0 where
   pub pieces : new.pieces ≡ old.pieces ++ node_pieces s (space_of scope) (as_node n Empty)
-  pub left : new.left.items ≡ (old.left.items ++ after_span span n ∷ []) ++ below_span span n scope ∷ []
+  pub left : new.left.items ≡ pushed (pushed old.left.items (after_span span n)) (below_span span n scope)
   pub scope_is : space_of scope ≡ node_space (space_of span.scope) (as_node n Empty)
   pub low : scope.opacity ≤ OPACITY_MAX
 
@@ -108,15 +136,15 @@ goes-first s ns old span n scope new is some at whole h =
     let parts : IsFirst ns span.next span.end n = stretch-first ns span.next span.end n is.stretch some at in
     let below : Span = below_span span n scope in
     let after : Span = after_span span n in
-    let still : still_given s ns new.left.items ≡ span_pieces s ns below ++ (span_pieces s ns after ++ still_given s ns old.left.items)
-    = ap (still_given s ns) h.left ∙ given-more s ns (old.left.items ++ after ∷ []) below
-    ∙ ap (λ (ps : List Piece). span_pieces s ns below ++ ps) (given-more s ns old.left.items after) in
     let is_below : IsSpan ns below = record { stretch = parts.below; low = h.low } in
     let is_after : IsSpan ns after = record { stretch = parts.after; low = is.low } in
+    let still : still_given s ns new.left.items ≡ span_pieces s ns below ++ (span_pieces s ns after ++ still_given s ns old.left.items)
+    = ap (still_given s ns) h.left ∙ given-pushed s ns (pushed old.left.items after) below is_below
+    ∙ ap (λ (ps : List Piece). span_pieces s ns below ++ ps) (given-pushed s ns old.left.items after is_after) in
     record {
       given = rw (h.pieces, still, span-first s ns span n scope parts h.scope_is)
           (four-lists old.pieces (node_pieces s (space_of scope) (as_node n Empty)) (span_pieces s ns below) (span_pieces s ns after) (still_given s ns old.left.items));
-      whole = rw h.left (All-push (IsSpan ns) _ _ (All-push (IsSpan ns) _ _ whole is_after) is_below);
+      whole = rw h.left (whole-pushed ns (pushed old.left.items after) below (whole-pushed ns old.left.items after whole is_after) is_below);
     }
 
 pub work-first : (s : ℕ) (ns : List FlatNode) (old : Trace) (span : Span) (n : FlatNode) (scope : Scope) (new : Trace)
@@ -124,9 +152,9 @@ pub work-first : (s : ℕ) (ns : List FlatNode) (old : Trace) (span : Span) (n :
     → work ns new.left.items < work ns old.left.items + span_work ns span
 work-first s ns old span n scope new is some at h =
     let parts : IsFirst ns span.next span.end n = stretch-first ns span.next span.end n is.stretch some at in
-    let one = work-more ns old.left.items (after_span span n) in
-    let two = work-more ns (old.left.items ++ after_span span n ∷ []) (below_span span n scope) in
-    let all : work ns new.left.items ≡ work ns old.left.items + span_work ns (after_span span n) + span_work ns (below_span span n scope) = rw (h.left, two, one) refl in
+    let one = work-pushed ns old.left.items (after_span span n) in
+    let two = work-pushed ns (pushed old.left.items (after_span span n)) (below_span span n scope) in
+    let all : work ns new.left.items ≤ work ns old.left.items + span_work ns (after_span span n) + span_work ns (below_span span n scope) = rw h.left (omega (arith, one, two)) in
     let count : node_count (forest_in ns 0 span.next span.end) ≡ 1 + node_count (forest_in ns 0 (span.next + 1) n.end) + node_count (forest_in ns 0 n.end span.end)
     = ap node_count parts.trees in
     omega (arith, all, count)

@@ -1,6 +1,7 @@
 ghost use Rattle.std.specs.Prelude.{◌≡◌, ◌≤◌, ◌++◌, [], IfOk, OnOk, map, option_to_list};
 ghost use Rattle.flat_reuse.specs.declared.piece.Piece.TheVariants.{Drawn, Linked};
 ghost use Rattle.flat_scene.specs.declared.trees.Children.TheVariants.{Empty};
+ghost use Rattle.flat_snap.specs.Flat.{lent};
 ghost use Rattle.flat_snap.specs.Forest.{as_node};
 ghost use Rattle.flat_topology.specs.Draw.{node_item};
 ghost use Rattle.flat_topology.specs.Place.{placed_node};
@@ -59,9 +60,9 @@ fn viewport_link(scope: &Scope, content: Option<Content>) -> Option<Link>
 }
 
 /// The item of a node of a session that hands on this scope, if it gives one.
-fn item_in(alloc: Global, session: SessionNo, scope: &Scope, node: &FlatNode) -> Option<DrawItem>
+fn item_in(alloc: Global, session: SessionNo, scope: &Scope, node: &FlatNode<'_>) -> Option<DrawItem>
     requires { scope.now.opacity ≤ OPACITY_MAX }
-    ensures { result ≡ node_item (placed_node session.0 (space_of scope.now) (as_node node.now Empty)) }
+    ensures { result ≡ node_item (placed_node session.0 (space_of scope.now) (as_node (lent node.now) Empty)) }
 {
     item(&Placed {
         session,
@@ -100,10 +101,10 @@ pub fn add_node(
     pieces: &mut PieceList,
     session: SessionNo,
     scope: &Scope,
-    node: &FlatNode,
+    node: &FlatNode<'_>,
 ) -> Result<(), NoMemory>
     requires { scope.now.opacity ≤ OPACITY_MAX }
-    ensures { OnOk result (pieces.new ≡ pieces.old ++ node_pieces session.0 (space_of scope.now) (as_node node.now Empty)) }
+    ensures { OnOk result (pieces.new ≡ pieces.old ++ node_pieces session.0 (space_of scope.now) (as_node (lent node.now) Empty)) }
 {
     add_item(pieces, item_in(alloc, session, scope, node))?;
     add_link(pieces, viewport_link(scope, node.content))?;

@@ -1,12 +1,19 @@
 -- The definitions, computed on a small tree.
-use Rattle.std.proofs.Common.{ℕ, pos, ◌≡◌, refl, [], ◌∷◌, ◌++◌, None, Some, map}
+use Rattle.std.proofs.Common.{ℕ, pos, ◌≡◌, refl, List, [], ◌∷◌, ◌++◌, None, Some, Option, map}
 use Rattle.flat_base.specs.declared.shapes.Orientation.TheVariants.{Ccw0}
+use Rattle.flat_scene.specs.declared.calls.HitRegion.{HitRegion}
+use Rattle.flat_scene.specs.declared.calls.Interaction.TheVariants.{Default}
 use Rattle.flat_scene.specs.declared.trees.Children.{Children}
 use Rattle.flat_scene.specs.declared.trees.Children.TheVariants.{Empty}
+use Rattle.flat_scene.specs.declared.trees.Content.{Content}
+use Rattle.flat_scene.specs.declared.trees.Content.TheVariants.{Fill, Viewport}
 use Rattle.flat_scene.specs.declared.trees.Node.{Node}
 use Rattle.flat_scene.specs.declared.trees.Tree.{Tree}
 use Rattle.flat_scene.specs.Trees.{more}
-use Rattle.flat_snap.specs.Flat.{flat_from, flat_nodes}
+use Rattle.flat_snap.specs.declared.flat.FlatNode.{FlatNode as Lent}
+use Rattle.flat_snap.specs.declared.flat.PackedNode.{PackedNode}
+use Rattle.flat_snap.specs.Flat.{flat_from, flat_node, flat_nodes, lent, viewport_places}
+use Rattle.flat_snap.specs.Packed.{unfinished, unpacked_all}
 use Rattle.flat_snap.specs.Forest.{forest}
 use Rattle.flat_snap.specs.Building.{Opened, followed_by, with_children, begun, entered, left, adds}
 use Rattle.flat_snap.specs.Inside.{part, path_count, flat_path, places_of}
@@ -78,3 +85,28 @@ sample_followed = refl
 
 sample_children : with_children (plain 2 Empty) closed_child ≡ plain 2 closed_child
 sample_children = refl
+
+-- ---- regions in one list
+
+abbrev region : ℕ → HitRegion
+region x = record { area = Some (record { x = pos x; y = pos 0; w = pos 1; h = pos 1 }); interaction = Default }
+
+abbrev three : List HitRegion
+three = region 1 ∷ region 2 ∷ region 3 ∷ []
+
+abbrev part_of : ℕ → ℕ → PackedNode
+part_of start end = unfinished (flat_node (plain 1 Empty) 0) (record { start = start; end = end })
+
+-- the second and the third region, and none
+sample_regions : map (λ n. n.hits) (unpacked_all three (part_of 1 3 ∷ part_of 3 3 ∷ [])) ≡ (region 2 ∷ region 3 ∷ []) ∷ [] ∷ []
+sample_regions = refl
+
+-- a node that is lent has the regions that it shows
+sample_lent : (n : Lent) → (lent n).hits ≡ n.hits.now
+sample_lent n = refl
+
+abbrev shown : Option Content
+shown = Some (Viewport 1 (record { 0 = 0 }) (record { w = 1; h = 1; inset = record { top = 0; right = 0; bottom = 0; left = 0 } }))
+
+sample_viewports : viewport_places 0 (shown ∷ None ∷ Some (Fill 2 (0 ∷ 0 ∷ 0 ∷ 0 ∷ []) 1 1) ∷ shown ∷ []) ≡ 0 ∷ 3 ∷ []
+sample_viewports = refl

@@ -3,3 +3,4 @@ pub mod Parts
 pub mod Wholes
 pub mod lemmas
 pub mod Sameness
+pub mod Packing

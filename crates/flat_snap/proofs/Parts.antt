@@ -5,8 +5,7 @@ use Rattle.flat_scene.specs.declared.trees.Children.{Children}
 use Rattle.flat_scene.specs.declared.trees.Children.TheVariants.{Empty}
 use Rattle.flat_scene.specs.declared.trees.Node.{Node}
 use Rattle.flat_scene.specs.Trees.{first, more, node_count}
-use Rattle.flat_snap.specs.declared.flat.FlatNode.{FlatNode}
-use Rattle.flat_snap.specs.Flat.{flat_node, flat_from}
+use Rattle.flat_snap.specs.Flat.{FlatNode, flat_node, flat_from}
 use Rattle.flat_snap.specs.Forest.{as_node, forest_in}
 use Rattle.flat_snap.specs.Building.{Opened, followed_by, with_children}
 use Rattle.flat_snap.specs.Inside.{part, path_count, flat_path, places_of, AreLeaves, IsPart}

@@ -1,9 +1,19 @@
 -- The derived tests of equality decide whether two values are equal.
-use Rattle.std.proofs.Common.{◌≡◌, refl, ap, Bool, ℕ, ℤ, Option, Some, None, rules}
+use Rattle.std.proofs.Common.{◌≡◌, ◌+◌, refl, sym, ap, ◌∙◌, Bool, ℕ, ℤ, List, [], ◌∷◌, ◌++◌, take, get_or, slice_get, Option, Some, None, rules}
+use Rattle.std.proofs.lemmas.List.{take_more}
+use Rattle.std.proofs.lemmas.Option.{get_or_from_slice_get, slice_get_within}
 use Rattle.std.specs.Bool.{Decides}
 use Rattle.std.specs.Option.{option_eq}
 use Rattle.std.proofs.lemmas.Bool.Decides.{Decides-and, Decides-like, Decides-eqb, Decides-int_eq}
 use Rattle.flat_base.specs.declared.ids.BufferNo.{BufferNo}
+use Rattle.flat_base.specs.declared.ids.PairNo.{PairNo}
+use Rattle.flat_scene.specs.declared.trees.Node.{Node}
+use Rattle.flat_scene.specs.declared.trees.Tree.{Tree}
+use Rattle.flat_scene.specs.declared.trees.ViewportUse.{ViewportUse}
+use Rattle.flat_scene.specs.Tree.{head_of}
+use Rattle.flat_snap.specs.Flat.{flat_from, flat_nodes, rooted}
+use Rattle.flat_snap.specs.Forest.{forest}
+use Rattle.flat_snap.proofs.lemmas.Rebuilding.{forest-whole}
 use Rattle.flat_base.specs.declared.shapes.IntRect.{IntRect}
 use Rattle.flat_base.specs.contracts.shapes.IntRectPartialEq.TheImpl.{eq-value as rect}
 use Rattle.flat_scene.specs.declared.calls.BlendMode.{BlendMode}
@@ -66,3 +76,33 @@ content-same (content.Image serial buffers index sample w h b f opacity) (conten
 content-same (content.Image serial buffers index sample w h b f opacity) (content.Viewport serial' pair' props') = search rules
 content-same (content.Viewport serial pair props) (content.Fill serial' rgba' w' h') = search rules
 content-same (content.Viewport serial pair props) (content.Image serial' buffers' index' sample' w' h' b' f' opacity') = search rules
+
+-- ---- trees
+
+head-rooted : (root : Option Node) → head_of (rooted root) ≡ root
+head-rooted None = refl
+head-rooted (Some root) = refl
+
+root-same : (a b : Option Node) → flat_from 0 (rooted a) ≡ flat_from 0 (rooted b) → a ≡ b
+root-same a b e =
+    let all : rooted a ≡ rooted b = sym (forest-whole (rooted a)) ∙ ap forest e ∙ forest-whole (rooted b) in
+    sym (head-rooted a) ∙ ap head_of all ∙ head-rooted b
+
+abbrev tree_at : Option PairNo → Option Node → List ViewportUse → Tree
+tree_at view root viewports = record { view = view; root = root; viewports = viewports }
+
+-- trees with the same nodes in their lists are the same, but for the view and the viewports in use
+pub tree-same : (a b : Tree) → a.view ≡ b.view → a.viewports ≡ b.viewports → flat_nodes a ≡ flat_nodes b → a ≡ b
+tree-same a b view viewports nodes =
+    ap (λ (v : Option PairNo). tree_at v a.root a.viewports) view ∙ ap (λ (r : Option Node). tree_at b.view r a.viewports) (root-same a.root b.root nodes)
+    ∙ ap (λ (us : List ViewportUse). tree_at b.view b.root us) viewports
+
+-- ---- lists
+
+-- two lists begin with the same items, and have the same next one
+pub front-next : {X : Type 0} (xs ys : List X) (i : ℕ) (x y : X) → slice_get xs i ≡ Some x → slice_get ys i ≡ Some y → x ≡ y → take i xs ≡ take i ys → take (i + 1) xs ≡ take (i + 1) ys
+front-next {X = X} xs ys i x y at at' same front =
+    let more : take (i + 1) xs ≡ take i xs ++ get_or xs i x ∷ [] = take_more xs i x (slice_get_within xs i x at) in
+    let more' : take (i + 1) ys ≡ take i ys ++ get_or ys i y ∷ [] = take_more ys i y (slice_get_within ys i y at') in
+    let last : get_or xs i x ≡ get_or ys i y = get_or_from_slice_get xs i x x at ∙ same ∙ sym (get_or_from_slice_get ys i y y at') in
+    more ∙ ap (λ (zs : List X). zs ++ get_or xs i x ∷ []) front ∙ ap (λ (z : X). take i ys ++ z ∷ []) last ∙ sym more'

@@ -4,7 +4,7 @@ use Rattle.flat_scene.specs.declared.trees.Children.{Children}
 use Rattle.flat_scene.specs.declared.trees.Children.TheVariants.{Empty}
 use Rattle.flat_scene.specs.declared.trees.Node.{Node}
 use Rattle.flat_scene.specs.Trees.{more}
-use Rattle.flat_snap.specs.declared.flat.FlatNode.{FlatNode}
+use Rattle.flat_snap.specs.Flat.{FlatNode}
 
 -- a node with these children
 abbrev pub as_node : FlatNode → Children → Node

@@ -1,10 +1,9 @@
 -- What the lists of a builder stand for.
-use Rattle.std.specs.Prelude.{ℕ, ◌+◌, ◌≡◌, List, [], ◌∷◌, ◌++◌, Option, Some, None, slice_get}
+use Rattle.std.specs.Prelude.{ℕ, ◌+◌, ◌≡◌, List, [], ◌∷◌, ◌++◌, length, reverse, Option, Some, None, slice_get}
 use Rattle.flat_scene.specs.declared.trees.Children.{Children}
 use Rattle.flat_scene.specs.declared.trees.Children.TheVariants.{Empty}
 use Rattle.flat_scene.specs.Trees.{node_count}
-use Rattle.flat_snap.specs.declared.flat.FlatNode.{FlatNode}
-use Rattle.flat_snap.specs.Flat.{flat_node, flat_from}
+use Rattle.flat_snap.specs.Flat.{FlatNode, flat_node, flat_from}
 use Rattle.flat_snap.specs.Forest.{as_node, forest_in}
 use Rattle.flat_snap.specs.Building.{Opened}
 
@@ -22,6 +21,10 @@ opened_at (Some n) outer done = record { path = record { node = as_node n Empty;
 abbrev pub part : List FlatNode → ℕ → List ℕ → Part
 part ns to [] = record { path = []; done = forest_in ns 0 0 to }
 part ns to (p ∷ places) = opened_at (slice_get ns p) (part ns p places) (forest_in ns 0 (p + 1) to)
+
+-- what all nodes stand for, where these are the places of the open ones, the innermost last
+abbrev pub whole_part : List FlatNode → List ℕ → Part
+whole_part ns places = part ns (length ns) (reverse places)
 
 -- how many nodes stand before the closed ones
 abbrev pub path_count : List Opened → ℕ
@@ -48,3 +51,7 @@ pub record IsPart (ns : List FlatNode) (places : List ℕ) (path : List Opened) 
   pub leaves : AreLeaves path
   pub flat : ns ≡ flat_path path ++ flat_from (path_count path) done
   pub at : places ≡ places_of path
+
+-- The lists are those of what they stand for.
+abbrev pub IsWhole : List FlatNode → List ℕ → Type 0
+IsWhole ns places = IsPart ns places (whole_part ns places).path (whole_part ns places).done

@@ -1,4 +1,5 @@
 pub mod Flat
+pub mod Packed
 pub mod Forest
 pub mod Building
 pub mod Inside

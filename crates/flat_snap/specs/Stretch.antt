@@ -2,8 +2,7 @@
 use Rattle.std.specs.Prelude.{ℕ, ◌+◌, ◌≡◌, List, ◌++◌, length}
 use Rattle.flat_scene.specs.declared.trees.Children.{Children}
 use Rattle.flat_scene.specs.Trees.{node_count}
-use Rattle.flat_snap.specs.declared.flat.FlatNode.{FlatNode}
-use Rattle.flat_snap.specs.Flat.{flat_from}
+use Rattle.flat_snap.specs.Flat.{FlatNode, flat_from}
 
 -- The nodes with the numbers from one to before another are those of some trees.
 pub record IsStretch (ns : List FlatNode) (from to : ℕ) : Type 0 where

@@ -1,8 +1,9 @@
 ghost use Rattle.std.specs.Prelude.{◌≡◌, ◌↔◌, IsTrue, length};
+ghost use Rattle.flat_snap.specs.Flat.{flat_nodes, lent};
 
 use crate::flat::FlatNode;
 use crate::snapshot::Snapshot;
-use flat_base::IntRect;
+use flat_base::{IntRect, PairNo};
 use flat_scene::{Content, HitRegion, ViewportUse};
 
 fn is_same_area(one: Option<IntRect>, other: Option<IntRect>) -> bool
@@ -38,8 +39,8 @@ fn is_same_content(one: Option<Content>, other: Option<Content>) -> bool
 }
 
 /// Whether two nodes are equal, and their subtrees end at one number.
-fn is_same_node(one: &FlatNode, other: &FlatNode) -> bool
-    ensures { IsTrue result ↔ (one.now ≡ other.now) }
+fn is_same_node(one: &FlatNode<'_>, other: &FlatNode<'_>) -> bool
+    ensures { IsTrue result ↔ (lent one.now ≡ lent other.now) }
 {
     if one.serial != other.serial || one.opacity != other.opacity || one.end != other.end {
         return false;
@@ -50,21 +51,28 @@ fn is_same_node(one: &FlatNode, other: &FlatNode) -> bool
     if !is_same_area(one.clip, other.clip) || !is_same_content(one.content, other.content) {
         return false;
     }
-    are_same_regions(one.hits.as_slice(), other.hits.as_slice())
+    are_same_regions(one.hits, other.hits)
 }
 
-fn are_same_nodes(one: &[FlatNode], other: &[FlatNode]) -> bool
-    ensures { IsTrue result ↔ (one.now ≡ other.now) }
+/// Whether two trees have the same nodes, wherever their regions lie.
+fn are_same_nodes(one: &Snapshot, other: &Snapshot) -> bool
+    ensures { IsTrue result ↔ (flat_nodes one.now ≡ flat_nodes other.now) }
 {
-    if one.len() != other.len() {
+    if one.nodes() != other.nodes() {
         return false;
     }
-    for i in 0..one.len() {
-        if !is_same_node(&one[i], &other[i]) {
+    for i in 0..one.nodes() {
+        if !is_same_node(&one.node(i), &other.node(i)) {
             return false;
         }
     }
     true
+}
+
+fn is_same_view(one: Option<PairNo>, other: Option<PairNo>) -> bool
+    ensures { IsTrue result ↔ (one ≡ other) }
+{
+    one == other
 }
 
 fn is_same_use(one: ViewportUse, other: ViewportUse) -> bool
@@ -93,8 +101,12 @@ impl Snapshot {
     pub fn same(&self, other: &Snapshot) -> bool
         ensures { IsTrue result ↔ (self.now ≡ other.now) }
     {
-        self.pair == other.pair
-            && are_same_uses(self.uses.as_slice(), other.uses.as_slice())
-            && are_same_nodes(self.flat.as_slice(), other.flat.as_slice())
+        if !is_same_view(self.view(), other.view()) {
+            return false;
+        }
+        if !are_same_uses(self.viewports().as_slice(), other.viewports().as_slice()) {
+            return false;
+        }
+        are_same_nodes(self, other)
     }
 }

@@ -1,5 +1,6 @@
 -- The steps of the walk that places the nodes of the joined tree.
-use Rattle.std.proofs.Common.{ℕ, zero, suc, ◌+◌, ◌<◌, ◌≤◌, ◌≡◌, refl, sym, ap, ◌∙◌, List, [], ◌∷◌, ◌++◌, length, Option, Some, None, All, slice_get, arith}
+use Rattle.std.proofs.Common.{ℕ, zero, suc, ◌+◌, ◌<◌, ◌≤◌, ◌≡◌, refl, sym, ap, ◌∙◌, Bool, true, false, cond, nat_lt, List, [], ◌∷◌, ◌++◌, length, Option, Some, None, All, slice_get, arith}
+use Rattle.std.proofs.lemmas.Bool.Decides.{nat_tests}
 use Rattle.std.proofs.lemmas.List.{append_assoc, append-nil, length-append, length_push, take_at, drop_at}
 use Rattle.std.proofs.lemmas.List.Elements.{All-nil, All-push, All-pop, All-head, All-take, All-drop}
 use Rattle.flat_base.specs.declared.ids.SessionNo.{SessionNo}
@@ -8,8 +9,7 @@ use Rattle.flat_scene.specs.declared.trees.Children.TheVariants.{Empty}
 use Rattle.flat_scene.specs.declared.trees.Node.{Node}
 use Rattle.flat_scene.specs.declared.trees.Tree.{Tree}
 use Rattle.flat_scene.specs.Trees.{first}
-use Rattle.flat_snap.specs.declared.flat.FlatNode.{FlatNode}
-use Rattle.flat_snap.specs.Flat.{flat_nodes, rooted}
+use Rattle.flat_snap.specs.Flat.{FlatNode, flat_nodes, rooted}
 use Rattle.flat_snap.specs.Forest.{as_node, forest_in, forest}
 use Rattle.flat_snap.specs.Stretch.{IsStretch}
 use Rattle.flat_snap.proofs.lemmas.Rebuilding.{forest-whole}
@@ -19,12 +19,12 @@ use Rattle.flat_topology.specs.declared.Connected.{Connected}
 use Rattle.flat_topology.specs.declared.scope.Scope.{Scope}
 use Rattle.flat_topology.specs.declared.walk.Stretch.{Stretch}
 use Rattle.flat_topology.specs.declared.walk.Walk.{Walk}
-use Rattle.flat_topology.specs.Shown.{Shown, state_of, nodes_of, root_alone}
+use Rattle.flat_topology.specs.Shown.{Shown, state_of, nodes_of}
 use Rattle.flat_topology.specs.Join.{JoinedTree, node, child_view, nothing, viewer_from, viewed, linked_to, joined_nodes, led_to}
 use Rattle.flat_topology.specs.Place.{Space, seen_through, node_space, linked_space, placed_node, placed_in}
 use Rattle.flat_topology.specs.Connected.{joined_count, connected_in}
 use Rattle.flat_topology.proofs.lemmas.Rooted.{rooted-alone}
-use Rattle.flat_topology.specs.Walking.{viewer_at, flat_of, space_of, tree_of, still_count, still_placed, still_connected, work, work_in, below_stretch, after_stretch, HasPut, IsOf, Continues, IsOnTheWay}
+use Rattle.flat_topology.specs.Walking.{viewer_at, flat_of, space_of, tree_of, still_count, still_placed, still_connected, work, work_in, below_stretch, after_stretch, pushed, HasPut, IsOf, Continues, IsOnTheWay}
 
 -- ---- one more stretch, which comes first
 
@@ -53,6 +53,44 @@ connected-more shown next (x ∷ left) s =
 pub work-more : (shown : Shown) (left : List Stretch) (s : Stretch) → work shown (left ++ s ∷ []) ≡ work shown left + work_in (tree_of shown s)
 work-more shown [] s = omega arith
 work-more shown (x ∷ left) s = omega (arith, work-more shown left s)
+
+-- the same of a stretch that comes next if it has a node: one without gives nothing
+
+none-in : (shown : Shown) (s : Stretch) → IsOf shown s → nat_lt s.next s.end ≡ false → tree_of shown s ≡ nothing
+none-in shown s is none =
+    let low : s.end ≤ s.next = grind (arith, nat_tests) in
+    ap (joined_nodes (led_to shown s.views) s.session.0) (stretch-none (flat_of (state_of shown s.session.0)) s.next s.end is.stretch low)
+
+pub placed-pushed : (shown : Shown) (left : List Stretch) (s : Stretch) → IsOf shown s
+    → still_placed shown (pushed left s) ≡ placed_in (space_of s.scope) (tree_of shown s) ++ still_placed shown left
+placed-pushed shown left s is = by_test (nat_lt s.next s.end) refl
+  where
+    by_test : (b : Bool) → nat_lt s.next s.end ≡ b → still_placed shown (cond b (left ++ s ∷ []) left) ≡ placed_in (space_of s.scope) (tree_of shown s) ++ still_placed shown left
+    by_test true e = placed-more shown left s
+    by_test false e = rw (none-in shown s is e) refl
+
+pub connected-pushed : (shown : Shown) (next : ℕ) (left : List Stretch) (s : Stretch) → IsOf shown s
+    → still_connected shown next (pushed left s) ≡ connected_in next None (tree_of shown s) ++ still_connected shown (next + joined_count (tree_of shown s)) left
+connected-pushed shown next left s is = by_test (nat_lt s.next s.end) refl
+  where
+    by_test : (b : Bool) → nat_lt s.next s.end ≡ b
+        → still_connected shown next (cond b (left ++ s ∷ []) left) ≡ connected_in next None (tree_of shown s) ++ still_connected shown (next + joined_count (tree_of shown s)) left
+    by_test true e = connected-more shown next left s
+    by_test false e = let same : next + 0 ≡ next = omega arith in rw (none-in shown s is e, same) refl
+
+pub work-pushed : (shown : Shown) (left : List Stretch) (s : Stretch) → work shown (pushed left s) ≤ work shown left + work_in (tree_of shown s)
+work-pushed shown left s = by_test (nat_lt s.next s.end)
+  where
+    by_test : (b : Bool) → work shown (cond b (left ++ s ∷ []) left) ≤ work shown left + work_in (tree_of shown s)
+    by_test true = omega (arith, work-more shown left s)
+    by_test false = omega arith
+
+pub whole-pushed : (shown : Shown) (left : List Stretch) (s : Stretch) → All (IsOf shown) left → IsOf shown s → All (IsOf shown) (pushed left s)
+whole-pushed shown left s whole is = by_test (nat_lt s.next s.end)
+  where
+    by_test : (b : Bool) → All (IsOf shown) (cond b (left ++ s ∷ []) left)
+    by_test true = All-push (IsOf shown) left s whole is
+    by_test false = whole
 
 -- the nodes of a session don't tell below which node it hangs
 pub connected-anywhere : (led : ℕ → JoinedTree) (s next : ℕ) (at at' : Option ℕ) (nodes : Children)
@@ -168,7 +206,7 @@ low-first shown s n scope limit f low =
 pub whole-first : (shown : Shown) (old : Walk) (s : Stretch) (n : FlatNode) (scope : Scope) (mid : Walk) → HasFirst shown s n scope → HasPut old s n scope mid
     → All (IsOf shown) old.left.items → All (IsOf shown) mid.left.items
 whole-first shown old s n scope mid f m whole =
-    rw m.left (All-push (IsOf shown) _ _ (All-push (IsOf shown) _ _ whole f.after) f.below)
+    rw m.left (whole-pushed shown (pushed old.left.items (after_stretch s n)) (below_stretch s n scope) (whole-pushed shown old.left.items (after_stretch s n) whole f.after) f.below)
 
 five-lists : {X : Type 0} (old : List X) (own : X) (linked below after left : List X)
     → (old ++ own ∷ []) ++ (linked ++ (below ++ (after ++ left))) ≡ old ++ ((own ∷ (linked ++ (below ++ after))) ++ left)
@@ -201,17 +239,17 @@ continue-first shown old s n scope mid new f m inner next =
     = ap (placed_in (space_of s.scope)) f.tree ∙ placed-tree (space_of s.scope) (space_of scope) s.session.0 f.fields n linked (tree_of shown below) (tree_of shown after) f.is inner in
     let still : still_placed shown mid.left.items
     ≡ placed_in (space_of scope) (tree_of shown below) ++ (placed_in (space_of s.scope) (tree_of shown after) ++ still_placed shown left)
-    = ap (still_placed shown) m.left ∙ placed-more shown (left ++ after ∷ []) below
-    ∙ ap (λ (ps : List Placed). placed_in (space_of scope) (tree_of shown below) ++ ps) (placed-more shown left after) in
+    = ap (still_placed shown) m.left ∙ placed-pushed shown (pushed left after) below f.below
+    ∙ ap (λ (ps : List Placed). placed_in (space_of scope) (tree_of shown below) ++ ps) (placed-pushed shown left after f.after) in
     let counted : length mid.nodes ≡ suc count = ap length m.nodes ∙ length_push old.nodes _ ∙ omega arith in
     let from : ℕ = suc count + joined_count linked in
     let then : ℕ = from + joined_count (tree_of shown below) in
     let end : then + joined_count (tree_of shown after) ≡ count + joined_count (tree_of shown s) = rw f.tree (omega arith) in
     let sessions : still_connected shown from mid.left.items
     ≡ connected_in from None (tree_of shown below) ++ (connected_in then None (tree_of shown after) ++ still_connected shown (count + joined_count (tree_of shown s)) left)
-    = ap (still_connected shown from) m.left ∙ connected-more shown from (left ++ after ∷ []) below
+    = ap (still_connected shown from) m.left ∙ connected-pushed shown from (pushed left after) below f.below
     ∙ ap (λ (cs : List Connected). connected_in from None (tree_of shown below) ++ cs)
-    (connected-more shown then left after ∙ ap (λ (k : ℕ). connected_in then None (tree_of shown after) ++ still_connected shown k left) end) in
+    (connected-pushed shown then left after f.after ∙ ap (λ (k : ℕ). connected_in then None (tree_of shown after) ++ still_connected shown k left) end) in
     record {
       placed = next.placed ∙ rw (m.nodes, still, placed) (simp append_assoc);
       connected = next.connected ∙ rw (m.connected, counted, sessions, f.tree) (simp append_assoc);
@@ -225,9 +263,9 @@ work-first shown old s n scope mid new f m less =
     let linked : JoinedTree = linked_to (led_to shown s.views) n.content in
     let below : JoinedTree = tree_of shown (below_stretch s n scope) in
     let after : JoinedTree = tree_of shown (after_stretch s n) in
-    let one = work-more shown old.left.items (after_stretch s n) in
-    let two = work-more shown (old.left.items ++ after_stretch s n ∷ []) (below_stretch s n scope) in
-    let all : work shown mid.left.items ≡ work shown old.left.items + work_in after + work_in below = rw (m.left, two, one) refl in
+    let one = work-pushed shown old.left.items (after_stretch s n) in
+    let two = work-pushed shown (pushed old.left.items (after_stretch s n)) (below_stretch s n scope) in
+    let all : work shown mid.left.items ≤ work shown old.left.items + work_in after + work_in below = rw m.left (omega (arith, one, two)) in
     rw f.tree (omega (arith, all, less))
 
 -- ---- the first node, as the code finds it

@@ -4,7 +4,7 @@ use Rattle.flat_geom.specs.Matrices.{identity_matrix}
 use Rattle.flat_topology.specs.declared.scope.Scope.{Scope}
 use Rattle.flat_topology.specs.declared.walk.Stretch.{Stretch}
 use Rattle.flat_topology.specs.Place.{display_rect, display_space, placed_nodes}
-use Rattle.flat_topology.specs.Walking.{viewer_at, flat_of, space_of, tree_of, still_count, still_placed, still_connected, work, below_stretch, after_stretch}
+use Rattle.flat_topology.specs.Walking.{viewer_at, flat_of, space_of, tree_of, still_count, still_placed, still_connected, work, below_stretch, after_stretch, pushed}
 use Rattle.flat_topology.specs.Climbing.{leads_to, is_shown_by}
 use Rattle.flat_topology.specs.Join.{viewer_from, sessions_in}
 use Rattle.flat_topology.specs.Shown.{state_of}
@@ -67,3 +67,10 @@ shell_shows_mail = refl
 
 mail_shows_none : is_shown_by shell_shown 1 2 ≡ false
 mail_shows_none = refl
+
+-- a stretch with a node comes first, and one without is left out
+pushed_some : pushed [] whole_shell ≡ whole_shell ∷ []
+pushed_some = refl
+
+pushed_none : pushed (whole_shell ∷ []) (record whole_shell { next = whole_shell.end }) ≡ whole_shell ∷ []
+pushed_none = refl

@@ -1,11 +1,10 @@
 -- A walk that places the nodes of the joined tree, and what is left of it.
-use Rattle.std.specs.Prelude.{ℕ, ◌+◌, ◌*◌, ◌<◌, ◌≤◌, ◌≡◌, List, [], ◌∷◌, ◌++◌, length, Option, Some, None}
+use Rattle.std.specs.Prelude.{ℕ, ◌+◌, ◌*◌, ◌<◌, ◌≤◌, ◌≡◌, nat_lt, if◌then◌else◌, List, [], ◌∷◌, ◌++◌, length, Option, Some, None}
 use Rattle.std.specs.List.{All}
 use Rattle.flat_base.specs.declared.ids.SessionNo.{SessionNo}
 use Rattle.flat_scene.specs.declared.trees.Children.TheVariants.{Empty}
 use Rattle.flat_scene.specs.declared.trees.Tree.{Tree}
-use Rattle.flat_snap.specs.declared.flat.FlatNode.{FlatNode}
-use Rattle.flat_snap.specs.Flat.{flat_nodes}
+use Rattle.flat_snap.specs.Flat.{FlatNode, flat_nodes}
 use Rattle.flat_snap.specs.Forest.{as_node, forest_in}
 use Rattle.flat_snap.specs.Stretch.{IsStretch}
 use Rattle.flat_topology.specs.declared.Placed.{Placed}
@@ -72,11 +71,15 @@ below_stretch s n scope = record s { next = s.next + 1; end = n.end; scope = sco
 abbrev pub after_stretch : Stretch → FlatNode → Stretch
 after_stretch s n = record s { next = n.end }
 
+-- a stretch comes first, if it has a node
+abbrev pub pushed : List Stretch → Stretch → List Stretch
+pushed left s = if nat_lt s.next s.end then left ++ s ∷ [] else left
+
 -- The first node of a stretch is in its place, the nodes below it come next, and then those after it.
 pub record HasPut (old : Walk) (s : Stretch) (n : FlatNode) (scope : Scope) (new : Walk) : Type 0 where
   pub nodes : new.nodes ≡ old.nodes ++ placed_node s.session.0 (space_of scope) (as_node n Empty) ∷ []
   pub connected : new.connected ≡ old.connected
-  pub left : new.left.items ≡ (old.left.items ++ after_stretch s n ∷ []) ++ below_stretch s n scope ∷ []
+  pub left : new.left.items ≡ pushed (pushed old.left.items (after_stretch s n)) (below_stretch s n scope)
 
 -- The nodes and sessions of a tree come next, and then what was left before.
 pub record Continues (shown : Shown) (old : Walk) (outer : Space) (at : Option ℕ) (tree : JoinedTree) (new : Walk) : Type 0 where

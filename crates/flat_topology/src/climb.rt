@@ -34,7 +34,8 @@ fn is_viewport_of(content: Option<Content>, pair: PairNo) -> bool
 fn has_viewport(state: &Snapshot, pair: PairNo) -> bool
     ensures { result ≡ list_any (λ n. leads_to pair.0 n.content) (flat_nodes state.now) }
 {
-    for i in 0..state.nodes() {
+    let places = state.viewport_nodes();
+    for &i in places {
         if is_viewport_of(state.node(i).content, pair) {
             return true;
         }
@@ -63,10 +64,10 @@ fn view_shown(shown: &Shown, session: SessionNo) -> Option<PairNo>
     shown.state(session)?.view()
 }
 
-fn is_of_display(setup: &Setup, pair: PairNo) -> bool
-    ensures { IsTrue result ↔ (display_pair setup.now ≡ Some pair.0) }
+fn is_pair(known: Option<usize>, pair: PairNo) -> bool
+    ensures { IsTrue result ↔ (known ≡ Some pair.0) }
 {
-    pair_of_display(setup) == Some(pair.0 as usize)
+    known == Some(pair.0 as usize)
 }
 
 /// The session that owns the viewport end of a pair.
@@ -80,13 +81,14 @@ fn viewport_owner(setup: &Setup, pair: PairNo) -> Option<SessionNo>
     }
 }
 
-/// Who shows the viewport of a pair.
-fn above_pair(shown: &Shown, setup: &Setup, pair: PairNo) -> Above
+/// Who shows the viewport of a pair, where this is the display's pair.
+fn above_pair(shown: &Shown, setup: &Setup, display: Option<usize>, pair: PairNo) -> Above
+    requires display { display ≡ display_pair setup.now }
     requires fit { FitsSetup setup.now shown.now }
     requires known { pair.0 < length setup.now.pairs }
     ensures { IsAbovePair setup.now shown.now pair.0 result }
 {
-    if is_of_display(setup, pair) {
+    if is_pair(display, pair) {
         return Above::Display;
     }
     match viewport_owner(setup, pair) {
@@ -95,15 +97,16 @@ fn above_pair(shown: &Shown, setup: &Setup, pair: PairNo) -> Above
     }
 }
 
-/// Who shows the view of a session.
-fn above_session(shown: &Shown, setup: &Setup, session: SessionNo) -> Above
+/// Who shows the view of a session, where this is the display's pair.
+fn above_session(shown: &Shown, setup: &Setup, display: Option<usize>, session: SessionNo) -> Above
+    requires display { display ≡ display_pair setup.now }
     requires some { 0 < session.0 }
     requires few { session.0 ≤ length shown.now }
     requires fit { FitsSetup setup.now shown.now }
     ensures { IsAbove setup.now shown.now session.0 result }
 {
     match view_shown(shown, session) {
-        Some(pair) => above_pair(shown, setup, pair),
+        Some(pair) => above_pair(shown, setup, display, pair),
         None => Above::Nobody,
     }
 }
@@ -117,9 +120,10 @@ impl Shown {
         ensures { result ≡ is_joined setup.now self.now s.0 }
     {
         links_make_a_tree();
+        let display = pair_of_display(setup);
         let mut below = s;
         for _ in 0..self.sessions() {
-            match above_session(self, setup, below) {
+            match above_session(self, setup, display, below) {
                 Above::Display => return true,
                 Above::Session(parent) => below = parent,
                 Above::Nobody => return false,

@@ -6,19 +6,30 @@ ghost use Rattle.flat_topology.specs.Walking.{IsOnTheWay};
 
 use crate::scope::{outermost, whole_display};
 use crate::shown::Shown;
-use crate::walk::{Walk, pair_of_display};
+use crate::walk::{Walk, nodes_shown, pair_of_display};
 use crate::{Joined, links_make_a_tree};
-use flat_base::{Items, NoMemory, OPACITY_MAX, SESSIONS_MAX};
+use flat_base::{Items, NoMemory, OPACITY_MAX, SESSIONS_MAX, SessionNo};
 use flat_scene::Setup;
 use std::alloc::Global;
 
-/// A walk that has placed nothing yet.
+/// How many nodes all sessions show. Only room hangs on it.
+fn nodes_in_all(shown: &Shown) -> usize
+    requires { length shown.now < 2 ^ 31 }
+{
+    let mut nodes: usize = 0;
+    for number in 1..shown.sessions() as u32 + 1 {
+        nodes = nodes.saturating_add(nodes_shown(shown, SessionNo(number)) as usize);
+    }
+    nodes
+}
+
+/// A walk that has placed nothing yet, with room for all nodes.
 fn start(alloc: Global, shown: &Shown, setup: &Setup) -> Result<Walk, NoMemory>
     requires { length shown.now < 2 ^ 31 }
     ensures { IfOk result (IsOnTheWay shown.now (placed_nodes setup.now shown.now) (connected_sessions setup.now shown.now)) }
 {
     let mut walk = Walk {
-        nodes: Items::new(alloc),
+        nodes: Items::from_vec(Vec::with_capacity(alloc, nodes_in_all(shown))?),
         connected: Items::new(alloc),
         left: Vec::new(alloc),
     };

@@ -1,13 +1,14 @@
 ghost use Rattle.std.specs.Prelude.{◌≡◌, ◌<◌, ◌^◌, IfOk, Some};
 ghost use Rattle.flat_scene.specs.declared.trees.Content.TheVariants as content;
 ghost use Rattle.flat_scene.specs.declared.trees.Children.TheVariants.{Empty};
+ghost use Rattle.flat_snap.specs.Flat.{lent};
 ghost use Rattle.flat_snap.specs.Forest.{as_node};
 ghost use Rattle.flat_topology.specs.Place.{seen_through, cut_clip, display_rect, display_space, node_matrix, node_space, viewport_rect, placed_node};
 ghost use Rattle.flat_geom.specs.Rectangles.{shared_part};
 ghost use Rattle.flat_topology.specs.Walking.{space_of};
 
 use crate::Placed;
-use flat_base::{IntRect, NoMemory, ONE, OPACITY_MAX, Rect, SessionNo};
+use flat_base::{IntRect, Items, NoMemory, ONE, OPACITY_MAX, Rect, SessionNo};
 use flat_geom::{Matrix, compose, identity, intersect, local, map_rect, sized, units};
 use flat_scene::{Setup, ViewportProps};
 use flat_snap::FlatNode;
@@ -59,9 +60,9 @@ fn cut(clip: Rect, matrix: Matrix, boundary: Option<IntRect>) -> Rect
 
 impl Scope {
     /// What a node in this scope hands on.
-    pub fn inner(&self, node: &FlatNode) -> Scope
+    pub fn inner(&self, node: &FlatNode<'_>) -> Scope
         requires { seen_through self.now.opacity node.now.opacity < 2 ^ 32 }
-        ensures { space_of result ≡ node_space (space_of self.now) (as_node node.now Empty) }
+        ensures { space_of result ≡ node_space (space_of self.now) (as_node (lent node.now) Empty) }
     {
         let (sx, sy) = node.scale;
         let (tx, ty) = node.place;
@@ -90,9 +91,9 @@ impl Scope {
         &self,
         alloc: Global,
         session: SessionNo,
-        node: &FlatNode,
+        node: &FlatNode<'_>,
     ) -> Result<Placed, NoMemory>
-        ensures { IfOk result (λ placed. placed ≡ placed_node session.0 (space_of self.now) (as_node node.now Empty)) }
+        ensures { IfOk result (λ placed. placed ≡ placed_node session.0 (space_of self.now) (as_node (lent node.now) Empty)) }
     {
         Ok(Placed {
             session,
@@ -101,7 +102,7 @@ impl Scope {
             clip: self.clip,
             opacity: self.opacity,
             content: node.content,
-            hits: node.hits.copy(alloc)?,
+            hits: Items::from_vec(Vec::from_slice(alloc, node.hits)?),
         })
     }
 }

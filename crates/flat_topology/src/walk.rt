@@ -1,11 +1,12 @@
 ghost use Rattle.std.specs.Prelude.{◌≡◌, ◌+◌, ◌-◌, ◌<◌, ◌≤◌, ◌^◌, length, IfOk, IfSome, OnOk, All, Some, None, option_map, slice_get};
+ghost use Rattle.flat_snap.specs.Flat.{lent};
 ghost use Rattle.flat_topology.specs.Shown.{state_of, view_of};
 ghost use Rattle.flat_topology.specs.Pairs.{display_pair};
 ghost use Rattle.flat_topology.specs.Join.{viewer_from, is_view_of, linked_to, led_to};
 ghost use Rattle.flat_topology.specs.Place.{linked_space, display_space, seen_through, placed_nodes, placed_in};
 ghost use Rattle.flat_topology.specs.Connected.{joined_count, connected_sessions};
 ghost use Rattle.flat_topology.specs.Fit.{FitsSetup};
-ghost use Rattle.flat_topology.specs.Walking.{viewer_at, flat_of, space_of, tree_of, work, work_in, HasPut, IsOf, Continues, IsOnTheWay};
+ghost use Rattle.flat_topology.specs.Walking.{viewer_at, flat_of, space_of, tree_of, work, work_in, pushed, HasPut, IsOf, Continues, IsOnTheWay};
 
 use crate::scope::{Scope, outermost};
 use crate::shown::Shown;
@@ -84,7 +85,7 @@ pub fn viewer(shown: &Shown, pair: usize) -> Option<SessionNo>
 }
 
 /// How many nodes a session shows.
-fn nodes_shown(shown: &Shown, session: SessionNo) -> u32
+pub fn nodes_shown(shown: &Shown, session: SessionNo) -> u32
     requires some { 0 < session.0 }
     requires few { session.0 ≤ length shown.now }
     ensures { result ≡ length (flat_of (state_of shown.now session.0)) }
@@ -154,24 +155,36 @@ impl Walk {
         }
     }
 
+    /// A stretch comes next, if it has a node.
+    fn push(&mut self, s: Stretch) -> Result<(), NoMemory>
+        ensures nodes { self.new.nodes ≡ self.old.nodes }
+        ensures connected { self.new.connected ≡ self.old.connected }
+        ensures left { OnOk result (self.new.left.items ≡ pushed self.old.left.items s) }
+    {
+        if s.next < s.end {
+            self.left.push(s)?;
+        }
+        Ok(())
+    }
+
     /// Puts a node of a stretch into its place. The nodes below it come next, and
     /// then those after it.
     fn put(
         &mut self,
         alloc: Global,
         s: Stretch,
-        node: &FlatNode,
+        node: &FlatNode<'_>,
         scope: Scope,
     ) -> Result<(), NoMemory>
         requires { s.next < 2 ^ 32 - 1 }
-        ensures { OnOk result (HasPut self.old s node.now scope self.new) }
+        ensures { OnOk result (HasPut self.old s (lent node.now) scope self.new) }
     {
         self.nodes.push(scope.placed(alloc, s.session, node)?)?;
-        self.left.push(Stretch {
+        self.push(Stretch {
             next: node.end,
             ..s
         })?;
-        self.left.push(Stretch {
+        self.push(Stretch {
             next: s.next + 1,
             end: node.end,
             scope,
@@ -196,9 +209,9 @@ impl Walk {
             return Ok(());
         };
         let node = state.node(s.next);
-        let scope = s.scope.inner(node);
+        let scope = s.scope.inner(&node);
         let at = self.nodes.len() as u32;
-        self.put(alloc, s, node, scope)?;
+        self.put(alloc, s, &node, scope)?;
         self.show_linked(shown, node.content, s.views, scope, at)?;
         Ok(())
     }

@@ -5,8 +5,7 @@ use Rattle.std.proofs.lemmas.Bool.Decides.{nat_tests}
 use Rattle.flat_scene.specs.declared.trees.Children.{Children}
 use Rattle.flat_scene.specs.declared.trees.Children.TheVariants.{Empty}
 use Rattle.flat_scene.specs.Trees.{first, more, node_count}
-use Rattle.flat_snap.specs.declared.flat.FlatNode.{FlatNode}
-use Rattle.flat_snap.specs.Flat.{flat_from}
+use Rattle.flat_snap.specs.Flat.{FlatNode, flat_from}
 use Rattle.flat_snap.specs.Forest.{as_node, forest_in, forest}
 
 pub length-flat : (next : ℕ) (all : Children) → length (flat_from next all) ≡ node_count all

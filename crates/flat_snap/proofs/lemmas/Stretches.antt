@@ -4,8 +4,7 @@ use Rattle.std.proofs.lemmas.List.{append_assoc, append-nil, length-append}
 use Rattle.flat_scene.specs.declared.trees.Children.{Children}
 use Rattle.flat_scene.specs.declared.trees.Children.TheVariants.{Empty}
 use Rattle.flat_scene.specs.Trees.{first, more, node_count}
-use Rattle.flat_snap.specs.declared.flat.FlatNode.{FlatNode}
-use Rattle.flat_snap.specs.Flat.{flat_from}
+use Rattle.flat_snap.specs.Flat.{FlatNode, flat_from}
 use Rattle.flat_snap.specs.Forest.{as_node, forest_in}
 use Rattle.flat_snap.specs.Stretch.{IsStretch}
 use Rattle.flat_snap.proofs.lemmas.Rebuilding.{length-flat, forest-skips, forest-flat}

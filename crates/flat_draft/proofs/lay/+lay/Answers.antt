@@ -10,8 +10,8 @@ loop-key-preserved-in_default t c =
     let w = laying-at _ _ _ _ _ c.loop-key.key-index _ _ within c.loop-key.invariant in
     laying-skip _ _ _ _ _ _ _ _ _ none w
 
-pub enter-requires-clause-room : goal.enter-requires-clause-room
-enter-requires-clause-room t c =
+pub enter-requires : goal.enter-requires
+enter-requires t c =
     let within : c.loop-key.key-index < length c.args.keys.now = omega arith in
     let w = laying-at _ _ _ _ _ c.loop-key.key-index _ _ within c.loop-key.invariant in
     let fits = laying-fits _ _ _ _ _ _ _ _ _ w in omega (arith, fits.1)
@@ -29,7 +29,7 @@ lay-requires t c =
     let fits = laying-fits _ _ _ _ _ _ _ _ _ w in
     let less : c.args.levels ≡ suc (c.args.levels - 1) = omega (arith, fits.0) in
     let node = sym (rw c.in-Some.is at c.node.ensures) in
-    (omega (arith, fits.0), rw (c.as_slice-children.ensures, c.enter.ensures) (laying-below _ _ c.args.levels (c.args.levels - 1) _ _ _ _ _ _ _ less node w))
+    (omega (arith, fits.0), rw (c.as_slice-children.ensures, c.in_ok-enter.ensures.ok) (laying-below _ _ c.args.levels (c.args.levels - 1) _ _ _ _ _ _ _ less node w))
 
 pub loop-key-preserved : goal.loop-key-preserved
 loop-key-preserved t c =
@@ -38,7 +38,7 @@ loop-key-preserved t c =
     let fits = laying-fits _ _ _ _ _ _ _ _ _ w in
     let less : c.args.levels ≡ suc (c.args.levels - 1) = omega (arith, fits.0) in
     let node = sym (rw c.in-Some.is at c.node.ensures) in
-    let built = rw (c.as_slice-children.ensures, c.enter.ensures, c.in_ok-leaf.ensures) at c.in_ok-lay.ensures in
+    let built = rw (c.as_slice-children.ensures, c.in_ok-enter.ensures.ok, c.leaf.ensures) at c.in_ok-lay.ensures in
     laying-more _ _ c.args.levels (c.args.levels - 1) _ _ _ _ _ _ _ _ _ less node built c.leave.ensures w
 
 pub returns : goal.returns
