@@ -3,6 +3,8 @@ ghost use Rattle.flat_base.specs.declared.shapes.Orientation.TheVariants.{Ccw0};
 ghost use Rattle.flat_base.specs.declared.ids.Actor.TheVariants.{Display, Session};
 ghost use Rattle.flat_scene.specs.declared.trees.Children.TheVariants.{Empty};
 ghost use Rattle.flat_scene.specs.Trees.{node_count};
+ghost use Rattle.flat_snap.specs.Flat.{lent};
+ghost use Rattle.flat_snap.specs.Forest.{as_node};
 ghost use Rattle.flat_topology.specs.Shown.{nodes_of, pair_in, pairs_in};
 ghost use Rattle.flat_topology.specs.Fit.{greatest_opacity, image_opacity};
 
@@ -10,8 +12,8 @@ use flat_base::{
     Actor, Items, NoMemory, ONE, OPACITY_MAX, Orientation, PairNo, SessionNo, TREE_NODES_MAX,
 };
 use flat_reuse::{Drawing, Reuse};
-use flat_scene::{Children, Content, Inset, Node, Paint, PairDecl, Setup, ViewportProps};
-use flat_snap::{Snapshot, SnapshotBuilder};
+use flat_scene::{Content, Inset, Paint, PairDecl, Setup, ViewportProps};
+use flat_snap::{FlatNode, Snapshot, SnapshotBuilder};
 use flat_topology::Shown;
 use std::alloc::Global;
 use std::sync::Arc;
@@ -56,8 +58,9 @@ fn setup(alloc: Global) -> Result<Setup, NoMemory>
     })
 }
 
-fn node(alloc: Global, right: i32, content: Option<Content>) -> Node
-    ensures { result ≡ record {
+/// A node that has no end yet.
+fn node(right: i32, content: Option<Content>) -> FlatNode<'static>
+    ensures { as_node (lent result) Empty ≡ record {
       serial = 1;
       scale = (65536, 65536);
       turn = Ccw0;
@@ -69,16 +72,16 @@ fn node(alloc: Global, right: i32, content: Option<Content>) -> Node
       children = Empty;
     } }
 {
-    Node {
+    FlatNode {
         serial: 1,
         scale: (ONE, ONE),
         turn: Orientation::Ccw0,
         place: (right, 0),
         clip: None,
         opacity: ONE,
-        hits: Items::new(alloc),
+        hits: &[],
         content,
-        children: Children::Empty,
+        end: 0,
     }
 }
 
@@ -96,7 +99,7 @@ fn app(alloc: Global, pair: u32, colour: u8) -> Result<Snapshot, NoMemory>
         h: 10,
     };
     let mut builder = SnapshotBuilder::new(alloc, 1)?;
-    builder.enter(node(alloc, 0, Some(fill)));
+    builder.enter(&node(0, Some(fill)))?;
     builder.leave();
     Ok(builder.finish(Some(PairNo(pair)), Items::new(alloc)))
 }
@@ -129,10 +132,10 @@ fn shell(alloc: Global, left: u32, right: u32, apart: i32) -> Result<Snapshot, N
     ensures low { IfOk result (λ state. greatest_opacity (nodes_of (Some state)) ≤ OPACITY_MAX) }
 {
     let mut builder = SnapshotBuilder::new(alloc, 3)?;
-    builder.enter(node(alloc, 0, None));
-    builder.enter(node(alloc, 0, viewport(left)));
+    builder.enter(&node(0, None))?;
+    builder.enter(&node(0, viewport(left)))?;
     builder.leave();
-    builder.enter(node(alloc, apart, viewport(right)));
+    builder.enter(&node(apart, viewport(right)))?;
     builder.leave();
     builder.leave();
     Ok(builder.finish(Some(PairNo(0)), Items::new(alloc)))
