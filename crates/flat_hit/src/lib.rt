@@ -34,10 +34,13 @@ fn region_at(at: &Placed, x: i64, y: i64) -> Option<HitRegion>
         .find(|region| contains(covered(at, region.area), x, y))
 }
 
-/// The hit of a place on a node.
+/// The hit of a place on a node. Outside of the node's clip no region has it.
 fn hit_at(at: &Placed, x: i64, y: i64) -> Option<Hit>
     ensures { result ≡ hit_on x y at.now }
 {
+    if !contains(at.clip, x, y) {
+        return None;
+    }
     let region = region_at(at, x, y)?;
     Some(Hit {
         session: at.session,
@@ -51,14 +54,15 @@ fn is_listed(hits: &HitList, session: SessionNo) -> bool
     hits.as_slice().iter().any(|hit| hit.session.0 == session.0)
 }
 
-/// Appends a hit, if its session has none yet.
-fn add(hits: &mut HitList, hit: Option<Hit>) -> Result<(), NoMemory>
-    ensures { OnOk result (hits.new ≡ hits.old ++ if_new hits.old hit) }
+/// Appends the hit of a place on a node, if its session has none yet.
+fn add(hits: &mut HitList, at: &Placed, x: i64, y: i64) -> Result<(), NoMemory>
+    ensures { OnOk result (hits.new ≡ hits.old ++ if_new hits.old (hit_on x y at.now)) }
 {
-    if let Some(hit) = hit {
-        if !is_listed(hits, hit.session) {
-            hits.push(hit)?;
-        }
+    if is_listed(hits, at.session) {
+        return Ok(());
+    }
+    if let Some(hit) = hit_at(at, x, y) {
+        hits.push(hit)?;
     }
     Ok(())
 }
@@ -76,7 +80,7 @@ fn first_hits(alloc: Global, nodes: &[Placed], x: i64, y: i64) -> Result<HitList
     let mut hits = Items::new(alloc);
     for before in 0..nodes.len() {
         let at = &nodes[nodes.len() - 1 - before];
-        add(&mut hits, hit_at(at, x, y))?;
+        add(&mut hits, at, x, y)?;
     }
     Ok(hits)
 }

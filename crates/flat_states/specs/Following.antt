@@ -1,5 +1,5 @@
 -- What is kept of sessions and of pairs, so that what the ends of a pair tell can be told at once.
-use Rattle.std.specs.Prelude.{◌≡◌, ℕ, ◌-◌, ◌^◌, ◌<◌, true, false, min, List, [], length, Option, Some, None, ◌&&◌, option_and_then}
+use Rattle.std.specs.Prelude.{◌≡◌, ℕ, ◌+◌, ◌-◌, ◌^◌, ◌<◌, true, false, min, List, [], length, Option, Some, None, ◌&&◌, option_and_then}
 use Rattle.flat_base.specs.declared.ids.Actor.TheVariants.{Session}
 use Rattle.flat_base.specs.declared.ids.PairNo.{PairNo}
 use Rattle.flat_base.specs.declared.ids.SessionNo.{SessionNo}
@@ -110,6 +110,10 @@ sight_of_state setup shown state s = record {
   view = option_and_then (λ t. t.view) (state_of shown s.0);
   connected = is_joined setup shown s.0;
 }
+
+-- of so many sessions, the first ones, the begin of the frame saw whether they are connected
+abbrev pub SeesConnected : Setup → Shown → ℕ → List Following → Type 0
+SeesConnected setup shown count = AllNumbered (λ i following. i < count → following.begun.connected ≡ is_joined setup shown (i + 1))
 
 -- A frame began: what is kept of the sessions, and what is shown, stand for the history with the begin.
 pub record IsBegun (setup : Setup) (history : List Entry) (line time : ℕ) (states : List SessionState) (shows : Shown) : Type 0 where

@@ -3,9 +3,11 @@ ghost use Rattle.flat_scene.specs.declared.setup.Setup.{Setup};
 ghost use Rattle.flat_scene.specs.declared.journal.Entry.{Entry};
 ghost use Rattle.flat_scene.specs.History.{◌▹◌};
 ghost use Rattle.flat_topology.specs.Fit.{FitsSetup};
+ghost use Rattle.flat_topology.specs.Join.{is_joined};
+ghost use Rattle.flat_topology.specs.Pairs.{display_pair};
 ghost use Rattle.flat_topology.specs.Shown.{state_of};
 ghost use Rattle.flat_states.specs.Begins.{begun, finished};
-ghost use Rattle.flat_states.specs.Following.{AreTied, IsBegun, IsOwnEntry, UsesNone, sight_of_state};
+ghost use Rattle.flat_states.specs.Following.{AreTied, IsBegun, IsOwnEntry, SeesConnected, UsesNone, sight_of_state};
 ghost use Rattle.flat_rules.specs.Legal.{Legal};
 ghost use Rattle.flat_states.specs.Usage.{IsUse, NotesCalls, SeesUses, uses_if};
 
@@ -16,7 +18,7 @@ use crate::state::SessionState;
 use crate::usage::count_contents;
 use flat_base::{NoMemory, PairNo, SessionNo};
 use flat_scene::{Call, Setup, ViewportProps};
-use flat_topology::Shown;
+use flat_topology::{Above, Shown, pair_of_display};
 use std::alloc::Global;
 
 /// What a history without a frame says of a session.
@@ -34,10 +36,49 @@ const NEW_FOLLOWING: Following = Following {
     finished: NOTHING,
 };
 
-/// What the begin of a frame sees of a session.
-fn see_session(setup: &Setup, shown: &Shown, state: &SessionState, s: SessionNo) -> Sight
+/// Whether a session is connected, where the begin of this frame saw that already of
+/// the sessions before it.
+fn is_connected(
+    setup: &Setup,
+    shown: &Shown,
+    display: Option<usize>,
+    seen: &[Following],
+    s: SessionNo,
+) -> bool
+    requires display { display ≡ display_pair setup.now }
     requires some { 0 < s.0 }
     requires few { s.0 ≤ length shown.now }
+    requires all { length seen.now ≡ length shown.now }
+    requires seen { SeesConnected setup.now shown.now (s.0 - 1) seen.now }
+    requires fit { FitsSetup setup.now shown.now }
+    ensures { result ≡ is_joined setup.now shown.now s.0 }
+{
+    match shown.above(setup, display, s) {
+        Above::Display => true,
+        Above::Nobody => false,
+        Above::Session(parent) => {
+            if parent.0 < s.0 {
+                return seen[parent.0 as usize - 1].begun.connected;
+            }
+            shown.connected(setup, parent)
+        }
+    }
+}
+
+/// What the begin of a frame sees of a session, after it saw those before it.
+fn see_session(
+    setup: &Setup,
+    shown: &Shown,
+    display: Option<usize>,
+    seen: &[Following],
+    state: &SessionState,
+    s: SessionNo,
+) -> Sight
+    requires display { display ≡ display_pair setup.now }
+    requires some { 0 < s.0 }
+    requires few { s.0 ≤ length shown.now }
+    requires all { length seen.now ≡ length shown.now }
+    requires seen { SeesConnected setup.now shown.now (s.0 - 1) seen.now }
     requires goes { length state.now.going.items ≤ 5 }
     requires fit { FitsSetup setup.now shown.now }
     ensures { result ≡ sight_of_state setup.now shown.now state.now s }
@@ -50,7 +91,7 @@ fn see_session(setup: &Setup, shown: &Shown, state: &SessionState, s: SessionNo)
         closed: state.closed,
         taken: state.taken(),
         view,
-        connected: shown.connected(setup, s),
+        connected: is_connected(setup, shown, display, seen, s),
     }
 }
 
@@ -134,9 +175,11 @@ impl Ties {
         ensures count { length self.new.pairs.items ≡ length self.old.pairs.items }
         ensures tied { (h : List Entry) (line time : ℕ) → IsBegun setup.now h line time sessions.now shown.now → AreTied setup.now h self.old.followings.items self.old.pairs.items → AreTied setup.now (begun h line time) self.new.followings.items self.new.pairs.items }
     {
+        let display = pair_of_display(setup);
         for i in 0..setup.sessions {
             let s = SessionNo(i + 1);
-            let sight = see_session(setup, shown, &sessions[i as usize], s);
+            let seen = self.followings.as_slice();
+            let sight = see_session(setup, shown, display, seen, &sessions[i as usize], s);
             let one = &mut self.followings[i as usize];
             let took = one.begun.taken < sight.taken;
             one.begun = sight;

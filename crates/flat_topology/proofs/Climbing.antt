@@ -20,7 +20,8 @@ use Rattle.flat_topology.specs.Shown.{Shown, state_of, view_of, nodes_of, pair_i
 use Rattle.flat_topology.specs.Pairs.{OwnsViewport}
 use Rattle.flat_topology.specs.Links.{IsBelow, IsTop, IsConnectedThrough, IsConnected}
 use Rattle.flat_topology.specs.Fit.{FitsSetup}
-use Rattle.flat_topology.specs.Climbing.{leads_to, is_shown_by, IsAbovePair, IsAbove, IsClimbed}
+use Rattle.flat_topology.specs.Join.{is_joined}
+use Rattle.flat_topology.specs.Climbing.{leads_to, is_joined_under, is_shown_by, IsAbovePair, IsAbove, IsClimbed}
 use Rattle.flat_topology.proofs.lemmas.Distinct.{in-contains, contains-in}
 use Rattle.flat_topology.proofs.lemmas.Distances.{viewport-owner, below-one, below-none}
 use Rattle.flat_topology.proofs.Whole.{found-in, in-found, distance-low}
@@ -232,3 +233,29 @@ same-test false P means not = refl
 
 pub is-false : (b : Bool) (P : Type 0) → (IsTrue b ↔ P) → b ≡ false → ¬ P
 is-false b P tells fails holds = let e : b ≡ true = tells.1 holds in absurd (cc)
+
+same-tests : (a b : Bool) → (a ≡ true → b ≡ true) → (b ≡ true → a ≡ true) → a ≡ b
+same-tests true b there back = sym (there refl)
+same-tests false true there back = back refl
+same-tests false false there back = refl
+
+-- a session is connected where who shows its view is
+module _ (setup : Setup) (shown : Shown) (fit : FitsSetup setup shown) (law : (c : ℕ) → IsTrue (is_joined setup shown c) ↔ IsConnected setup shown c) where
+  pub joined-under : (c : ℕ) (who : Above) → IsAbove setup shown c who → is_joined_under setup shown who ≡ is_joined setup shown c
+  joined-under c above.Display top = sym ((law c).1 (0, top))
+  joined-under c above.Nobody nobody = same-test (is_joined setup shown c) (IsConnected setup shown c) (law c).0 (λ connected. no_way connected.0 connected.1)
+    where
+      no_way : (between : ℕ) → IsConnectedThrough setup shown between c → ⊥
+      no_way zero top = nobody.0 top
+      no_way (suc between) way = nobody.1 way.0 way.1
+  joined-under c (above.Session s) is = same-tests (is_joined setup shown s.0) (is_joined setup shown c) down up
+    where
+      down : is_joined setup shown s.0 ≡ true → is_joined setup shown c ≡ true
+      down joined = let connected = (law s.0).0 joined in (law c).1 (suc connected.0, (s.0, is.0, connected.1))
+
+      through : (between : ℕ) → IsConnectedThrough setup shown between c → is_joined setup shown s.0 ≡ true
+      through zero top = absurd (below-none setup shown fit c s.0 top is.0)
+      through (suc between) way = let same : way.0 ≡ s.0 = below-one setup shown fit c way.0 s.0 way.1 is.0 in (law s.0).1 (between, rw same at way.2)
+
+      up : is_joined setup shown c ≡ true → is_joined setup shown s.0 ≡ true
+      up joined = let connected = (law c).0 joined in through connected.0 connected.1

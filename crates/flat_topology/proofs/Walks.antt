@@ -5,7 +5,8 @@ use Rattle.flat_topology.specs.declared.scope.Scope.{Scope}
 use Rattle.flat_topology.specs.declared.walk.Stretch.{Stretch}
 use Rattle.flat_topology.specs.Place.{display_rect, display_space, placed_nodes}
 use Rattle.flat_topology.specs.Walking.{viewer_at, flat_of, space_of, tree_of, still_count, still_placed, still_connected, work, below_stretch, after_stretch, pushed}
-use Rattle.flat_topology.specs.Climbing.{leads_to, is_shown_by}
+use Rattle.flat_topology.specs.declared.climb.Above.TheVariants as above
+use Rattle.flat_topology.specs.Climbing.{leads_to, is_joined_under, is_shown_by}
 use Rattle.flat_topology.specs.Join.{viewer_from, sessions_in}
 use Rattle.flat_topology.specs.Shown.{state_of}
 use Rattle.flat_topology.proofs.Samples.{session, shell_setup, shell_shown, viewport, fill}
@@ -74,3 +75,10 @@ pushed_some = refl
 
 pushed_none : pushed (whole_shell ∷ []) (record whole_shell { next = whole_shell.end }) ≡ whole_shell ∷ []
 pushed_none = refl
+
+-- what the shell shows is connected, as the shell is, and what nobody shows isn't
+under_shell : is_joined_under shell_setup shell_shown (above.Session (session 1)) ≡ true
+under_shell = refl
+
+under_nobody : is_joined_under shell_setup shell_shown above.Nobody ≡ false
+under_nobody = refl

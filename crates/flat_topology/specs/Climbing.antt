@@ -1,5 +1,5 @@
 -- From a session up to the display.
-use Rattle.std.specs.Prelude.{ℕ, ◌+◌, ◌<◌, ◌≤◌, ◌≡◌, ◌≢◌, Bool, false, ◌==◌, length, Option, Some}
+use Rattle.std.specs.Prelude.{ℕ, ◌+◌, ◌<◌, ◌≤◌, ◌≡◌, ◌≢◌, Bool, true, false, ◌==◌, length, Option, Some}
 use Rattle.std.specs.List.{Contains, list_any}
 use Rattle.flat_scene.specs.declared.setup.Setup.{Setup}
 use Rattle.flat_scene.specs.declared.trees.Content.{Content}
@@ -7,6 +7,7 @@ use Rattle.flat_scene.specs.declared.trees.Content.TheVariants as content
 use Rattle.flat_topology.specs.declared.climb.Above.{Above}
 use Rattle.flat_topology.specs.declared.climb.Above.TheVariants as above
 use Rattle.flat_topology.specs.Shown.{Shown, pairs_shown}
+use Rattle.flat_topology.specs.Join.{is_joined}
 use Rattle.flat_topology.specs.Pairs.{display_pair}
 use Rattle.flat_topology.specs.Links.{IsBelow, IsTop, IsConnectedThrough}
 
@@ -30,6 +31,12 @@ abbrev pub IsAbove : Setup → Shown → ℕ → Above → Type 0
 IsAbove setup shown c above.Nobody = (¬ IsTop setup shown c) × ((s : ℕ) → ¬ IsBelow shown c s)
 IsAbove setup shown c above.Display = IsTop setup shown c
 IsAbove setup shown c (above.Session s) = IsBelow shown c s.0 × (0 < s.0) × (s.0 ≤ length shown)
+
+-- whether who shows a view is the display, or a connected session
+abbrev pub is_joined_under : Setup → Shown → Above → Bool
+is_joined_under setup shown above.Nobody = false
+is_joined_under setup shown above.Display = true
+is_joined_under setup shown (above.Session s) = is_joined setup shown s.0
 
 -- A session was climbed from, by so many steps.
 pub record IsClimbed (setup : Setup) (shown : Shown) (from steps to : ℕ) : Type 0 where

@@ -5,7 +5,7 @@ ghost use Rattle.flat_topology.specs.Shown.{state_of, view_of, pairs_shown};
 ghost use Rattle.flat_topology.specs.Fit.{FitsSetup};
 ghost use Rattle.flat_topology.specs.Pairs.{display_pair, OwnsViewport};
 ghost use Rattle.flat_topology.specs.Join.{is_joined};
-ghost use Rattle.flat_topology.specs.Climbing.{leads_to, is_shown_by, IsAbovePair, IsAbove};
+ghost use Rattle.flat_topology.specs.Climbing.{leads_to, is_joined_under, is_shown_by, IsAbovePair, IsAbove};
 
 use crate::links_make_a_tree;
 use crate::shown::Shown;
@@ -112,6 +112,21 @@ fn above_session(shown: &Shown, setup: &Setup, display: Option<usize>, session: 
 }
 
 impl Shown {
+    /// Who shows the view of a session, where this is the display's pair. The session
+    /// is connected where that is the display, or a session that is connected. It
+    /// takes no memory.
+    pub fn above(&self, setup: &Setup, display: Option<usize>, s: SessionNo) -> Above
+        requires display { display ≡ display_pair setup.now }
+        requires some { 0 < s.0 }
+        requires few { s.0 ≤ length self.now }
+        requires fit { FitsSetup setup.now self.now }
+        ensures above { IsAbove setup.now self.now s.0 result }
+        ensures connected { is_joined_under setup.now self.now result ≡ is_joined setup.now self.now s.0 }
+    {
+        links_make_a_tree();
+        above_session(self, setup, display, s)
+    }
+
     /// Whether a session is connected to the display. It takes no memory.
     pub fn connected(&self, setup: &Setup, s: SessionNo) -> bool
         requires some { 0 < s.0 }

@@ -20,6 +20,7 @@ mod scope;
 mod shown;
 mod walk;
 
+pub use crate::climb::Above;
 pub use crate::joining::join;
 pub use crate::scope::{Scope, outermost, through};
 pub use crate::shown::Shown;

@@ -1,4 +1,4 @@
-use Rattle.std.proofs.Common.{◌≡◌, ◌∙◌, sym, subst, ℕ, ◌+◌, ◌<◌, arith, length, List, refl, slice_set}
+use Rattle.std.proofs.Common.{◌≡◌, ◌∙◌, ap, sym, subst, ℕ, ◌+◌, ◌-◌, ◌<◌, arith, length, List, refl, slice_set}
 use Rattle.std.proofs.lemmas.List.{length-set}
 use Rattle.flat_scene.specs.declared.trees.ViewportUse.{ViewportUse}
 use Rattle.flat_states.specs.declared.following.Following.{Following}
@@ -7,7 +7,7 @@ use Rattle.flat_states.specs.Begins.{begun}
 use Rattle.flat_states.specs.Following.{pair}
 use Rattle.flat_states.specs.Usage.{SeesUses}
 use Rattle.flat_rules.specs.Numbers.{AllNumbered}
-use Rattle.flat_states.proofs.TiesBegin.{FollowedUpTo, begun-on, followed-start, sight-at}
+use Rattle.flat_states.proofs.TiesBegin.{FollowedUpTo, begun-on, connected-on, followed-start, sight-at}
 use Rattle.flat_states.proofs.TiesSees.{PairUpTo, looked-at, pairs-on, pairs-start, tied-begun}
 use Rattle.flat_states.proofs.ties.Ties.begin.Goals as goal
 
@@ -15,9 +15,13 @@ pub loop-i-init : goal.loop-i-init
 loop-i-init c = record {
   count = c.requires.count;
   many = refl;
+  known = λ j d below low. absurd (omega (arith, low));
   followed = λ h line time begins tied. followed-start c.args.setup.now h (begun h line time) c.args.self.now.followings.items tied.each_session;
   each = λ h line time begins tied. pairs-start c.args.setup.now h line time c.args.sessions.now c.args.shown.now begins c.args.self.now.pairs.items tied.each_pair;
 }
+
+pub see_session-sight-requires-clause-seen : goal.see_session-sight-requires-clause-seen
+see_session-sight-requires-clause-seen c = let same : c.loop-i.i + 1 - 1 ≡ c.loop-i.i = omega arith in rw (c.as_slice-seen.ensures.value, same) c.loop-i.invariant.known
 
 pub loop-i-preserved : goal.loop-i-preserved
 loop-i-preserved c =
@@ -28,6 +32,9 @@ loop-i-preserved c =
     record {
       count = length-set c.loop-i.self.followings.items i _ ∙ inv.count;
       many = c.see_taken.ensures.count ∙ inv.many;
+      known =
+          let connected = ap (λ (g : Sight). g.connected) c.see_session-sight.ensures in
+          connected-on c.args.setup.now c.args.shown.now i c.loop-i.self.followings.items (let new : Following = record was { begun = c.see_session-sight.result } in new) connected inv.known;
       followed = λ h line time begins tied.
           let on = begun-on c.args.setup.now h line time c.args.sessions.now c.args.shown.now begins i c.loop-i.self.followings.items was c.index-sessions-i.result c.loop-i-test.true c.requires.all inv.count c.index-sessions-i.is c.index_mut-one.ensures.value (inv.followed h line time begins tied) in
           subst (λ (g : Sight). AllNumbered (FollowedUpTo c.args.setup.now h (begun h line time) (c.loop-i.i + 1)) (slice_set c.loop-i.self.followings.items c.loop-i.i (let new : Following = record c.index_mut-one.result.now { begun = g } in new))) (sym c.see_session-sight.ensures) on;
