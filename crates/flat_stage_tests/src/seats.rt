@@ -2,9 +2,9 @@ ghost use Rattle.std.specs.Prelude.{◌≡◌, ◌+◌, ◌<◌, ◌^◌, [], �
 ghost use Rattle.flat_base.specs.declared.ids.Actor.TheVariants.{Display, Session};
 ghost use Rattle.flat_stage_tests.specs.Room.{MayRead, MayBegin};
 
-use flat_base::{Actor, FlatlandError, Items, NoMemory, Reason, SessionNo, ShareList};
+use flat_base::{Actor, Items, NoMemory, SessionNo, ShareList};
 use flat_core::Board;
-use flat_scene::{Call, Entry, Event, Kind, Line, PairDecl, PresentArgs, Reply, Setup};
+use flat_scene::{Entry, Kind, Line, PairDecl, PresentArgs, Reply, Setup};
 use flat_stage::{CompositorSeat, SessionSeat, SessionSeats, Stage};
 use std::alloc::Global;
 use std::sync::Wait;
@@ -277,73 +277,6 @@ fn new_cast(alloc: Global) -> Result<Cast, Fail>
         first,
         second,
     })
-}
-
-/// A call that is a misuse where there is no view.
-fn misuse<R: Wait>(rt: &R, stage: &Stage, seat: &mut SessionSeat) -> Result<Reply, NoMemory>
-    requires own { seat.old.stage ≡ stage.now }
-    requires may { MayRead 101 seat.old }
-    ensures own { seat.new.stage ≡ seat.old.stage }
-    ensures may { MayRead 100 seat.new }
-{
-    seat.call(rt, stage, 1, Line::Call(Call::ReleaseView))
-}
-
-/// The replies to a misuse and to the next line.
-fn misuse_and_poll<R: Wait>(
-    rt: &R,
-    stage: &Stage,
-    seat: &mut SessionSeat,
-) -> Result<[Reply; 2], NoMemory>
-    requires own { seat.old.stage ≡ stage.now }
-    requires may { MayRead 101 seat.old }
-{
-    let closing = misuse(rt, stage, seat)?;
-    let after = poll(rt, stage, seat, 2, 99)?;
-    Ok([closing, after])
-}
-
-/// The replies to a present, and to a poll after its frame.
-fn present_and_poll<R: Wait>(
-    rt: &R,
-    alloc: Global,
-    stage: &Stage,
-    seat: &mut SessionSeat,
-    compositor: CompositorSeat,
-) -> Result<[Reply; 2], NoMemory>
-    requires compositor { (compositor.stage ≡ stage.now) × MayBegin 10 0 compositor }
-    requires own { seat.old.stage ≡ stage.now }
-    requires may { MayRead 101 seat.old }
-{
-    let presented = present(rt, alloc, stage, seat, 100)?;
-    let _compositor = make_frame(rt, stage, compositor, 0, 9);
-    let polled = poll(rt, stage, seat, 2, 99)?;
-    Ok([presented, polled])
-}
-
-#[test]
-fn a_misuse_closes_its_own_seat_alone(rt: HostRuntime) -> Result<(), Fail> {
-    let alloc = rt.alloc();
-    let Cast {
-        stage,
-        compositor,
-        seats: _,
-        mut first,
-        mut second,
-    } = new_cast(alloc)?;
-    let misused = misuse_and_poll(&rt, &stage, &mut second)?;
-    let played = present_and_poll(&rt, alloc, &stage, &mut first, compositor)?;
-    let events = first.events();
-    let no_view = Reply::Closed(Some(FlatlandError::BadOperation), Some(Reason::NoView));
-    assert!(rt; misused == [no_view, Reply::Closed(None, None)]);
-    let presented = Reply::Presented {
-        number: 1,
-        credits: 0,
-    };
-    assert!(rt; played == [presented, Reply::Polled(2)]);
-    let told = [Event::Credits(5), Event::FramePresented(1)];
-    assert!(rt; events.as_slice() == told.as_slice() && first.events().is_empty());
-    Ok(())
 }
 
 /// The board that a stage leaves, once both sessions and all frames are done.
