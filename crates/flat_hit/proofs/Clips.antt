@@ -1,5 +1,5 @@
 -- Outside of a node's clip no region has a place.
-use Rattle.std.proofs.Common.{ℤ, ◌≡◌, refl, sym, ap, ◌∙◌, Bool, true, false, ◌&&◌, List, [], ◌∷◌, Option, Some, None, arith}
+use Rattle.std.proofs.Common.{ℤ, ◌≡◌, refl, Bool, true, false, ◌&&◌, List, [], ◌∷◌, Option, Some, None, arith}
 use Rattle.std.specs.Int.{int_min, int_max}
 use Rattle.std.specs.List.{find}
 use Rattle.std.proofs.lemmas.Int.{ints, clamps}

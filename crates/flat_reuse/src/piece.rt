@@ -60,7 +60,12 @@ fn viewport_link(scope: &Scope, content: Option<Content>) -> Option<Link>
 }
 
 /// The item of a node of a session that hands on this scope, if it gives one.
-fn item_in(alloc: Global, session: SessionNo, scope: &Scope, node: &FlatNode<'_>) -> Option<DrawItem>
+fn item_in(
+    alloc: Global,
+    session: SessionNo,
+    scope: &Scope,
+    node: &FlatNode<'_>,
+) -> Option<DrawItem>
     requires { scope.now.opacity ≤ OPACITY_MAX }
     ensures { result ≡ node_item (placed_node session.0 (space_of scope.now) (as_node (lent node.now) Empty)) }
 {
