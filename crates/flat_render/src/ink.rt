@@ -136,13 +136,54 @@ pub fn mix_one(mix: Mix, s: u8, line: &mut [u8])
     }
 }
 
+/// Copies so many values to each end of a line, which are all of its pixels. The
+/// compiler knows how many they are, and calls nothing.
+#[inline(always)]
+fn copy_ends(values: &[u8], count: usize, line: &mut [u8])
+    requires same { length values.now ≡ length line.old }
+    requires some { count ≤ length line.old }
+    requires all { length line.old ≤ 2 * count }
+    ensures { (i : ℕ) → i < length line.old → slice_index line.new i ≡ slice_index values.now i }
+{
+    for i in 0..count {
+        line[i] = values[i];
+    }
+    let rest = line.len() - count;
+    for i in 0..count {
+        line[rest + i] = values[rest + i];
+    }
+}
+
+/// Puts a value for each pixel in place of a line of them.
+#[inline(always)]
+fn copy(values: &[u8], line: &mut [u8])
+    requires { length values.now ≡ length line.old }
+    ensures { (i : ℕ) → i < length line.old → slice_index line.new i ≡ slice_index values.now i }
+{
+    let count = line.len();
+    if count > TILE_SIDE / 2 {
+        line.copy_from_slice(values);
+        return;
+    }
+    if count >= TILE_SIDE / 4 {
+        return copy_ends(values, TILE_SIDE / 4, line);
+    }
+    if count >= TILE_SIDE / 8 {
+        return copy_ends(values, TILE_SIDE / 8, line);
+    }
+    if count >= TILE_SIDE / 16 {
+        return copy_ends(values, TILE_SIDE / 16, line);
+    }
+    line.copy_from_slice(values);
+}
+
 /// Mixes a value for each pixel with a line of them.
 fn mix_each(mix: Mix, values: &[u8], line: &mut [u8])
     requires { length values.now ≡ length line.old }
     ensures { (i : ℕ) → i < length line.old → slice_index line.new i ≡ mixed mix (slice_index values.now i) (slice_index line.old i) }
 {
     match mix {
-        Mix::Replace => line.copy_from_slice(values),
+        Mix::Replace => copy(values, line),
         Mix::Cover(weight) => weave(weight, values, line),
     }
 }
