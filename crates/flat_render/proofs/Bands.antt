@@ -3,7 +3,7 @@ use Rattle.std.proofs.Common.{ℕ, ℤ, ◌+◌, ◌*◌, ◌/◌, ◌%◌, ◌^
 use Rattle.std.proofs.lemmas.List.{get_or-map, get_or-take, get_or-drop, length-map, length-take, length-drop}
 use Rattle.std.proofs.lemmas.List.Elements.{All-nil, All-cons, All-append}
 use Rattle.std.proofs.lemmas.Grind.{fold-append}
-use Rattle.std.proofs.lemmas.Nat.{div-mul-add, mod-mul-add, div-add-mod', mod_below, div_below, mul-add-lt, mul-le}
+use Rattle.std.proofs.lemmas.Nat.{div-mul-add, mod-mul-add, div-add-mod', mul-add-lt, mul-le}
 use Rattle.flat_base.specs.declared.shapes.Rect.{Rect}
 use Rattle.flat_drawable.specs.Drawable.{IsDrawable}
 use Rattle.flat_geom.specs.Rectangles.{has_point}
@@ -11,16 +11,16 @@ use Rattle.flat_scene.specs.declared.frames.DrawItem.{DrawItem}
 use Rattle.flat_render.specs.Areas.{has_pixel}
 use Rattle.flat_render.specs.Bands.{rects_of, IsSeenIn}
 use Rattle.flat_render.specs.Channels.{channel_step, channel_after}
-use Rattle.flat_render.specs.Grids.{tile_size, tile_bytes, tile_count, band_bytes, grid_bytes, tile_of, IsGrid}
+use Rattle.flat_render.specs.Grids.{tile_bytes, tile_count, band_bytes, grid_bytes, tile_of, IsGrid}
 use Rattle.flat_render.specs.Pixels.{covers}
-use Rattle.flat_render.specs.Stored.{stored_x, stored_y, drawn_in, drawn_at}
+use Rattle.flat_render.specs.Stored.{drawn_in, drawn_at}
 use Rattle.flat_render.specs.Tiles.{channel_at, x_at, y_at, tile_area, IsTile}
 use Rattle.flat_render.specs.declared.area.Area.{Area}
 use Rattle.flat_render.specs.declared.grid.Grid.{Grid}
 use Rattle.flat_render.specs.declared.tile.Tile.{Tile}
 use Rattle.flat_render.proofs.Items.{after-more, tile-has-byte}
 use Rattle.flat_render.proofs.Planes.{some-pixels}
-use Rattle.flat_render.proofs.Places.{some-pixel, some-byte}
+use Rattle.flat_render.proofs.Places.{some-byte}
 
 step-none : (c : ℕ) (item : DrawItem) (px py was : ℕ) → covers item px py ≡ false → channel_step c item px py was ≡ was
 step-none c item px py was e = rw e refl

@@ -147,13 +147,11 @@ fn copy_ends(values: &[u8], count: usize, line: &mut [u8])
     requires all { length line.old ≤ 2 * count }
     ensures { (i : ℕ) → i < length line.old → slice_index line.new i ≡ slice_index values.now i }
 {
-    for i in 0..count {
-        line[i] = values[i];
-    }
     let rest = line.len() - count;
-    for i in 0..count {
-        line[rest + i] = values[rest + i];
-    }
+    let front = &mut line[..count];
+    front.copy_from_slice(&values[..count]);
+    let back = &mut line[rest..];
+    back.copy_from_slice(&values[rest..rest + count]);
 }
 
 /// Puts a value for each pixel in place of a line of them: the first of these.

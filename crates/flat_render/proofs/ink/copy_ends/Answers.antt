@@ -1,20 +1,13 @@
-use Rattle.std.proofs.Common.{refl, arith, get_or}
-use Rattle.std.proofs.lemmas.Bool.{cases_lt}
-use Rattle.flat_render.proofs.Lines.{laid-more, laid-still}
-use Rattle.flat_render.proofs.Rows.{either}
+use Rattle.std.proofs.Common.{ℕ, List, ◌-◌, ◌∙◌, ap, drop, length, get_or, arith}
+use Rattle.std.proofs.lemmas.List.{get_or-take, get_or-drop, length-take, length-drop}
+use Rattle.flat_render.proofs.Lines.{ends-copied}
 use Rattle.flat_render.proofs.ink.copy_ends.Goals as goal
 
-pub loop-i-preserved : goal.loop-i-preserved
-loop-i-preserved c = laid-more (λ k. get_or c.args.values.now k 0) c.loop-i.line 0 c.loop-i.i _ (omega arith) refl c.loop-i.invariant
-
-pub loop-i-2-preserved : goal.loop-i-2-preserved
-loop-i-2-preserved c = record {
-  front = laid-still (λ k. get_or c.args.values.now k 0) c.loop-i-2.line _ _ 0 c.args.count (omega arith) refl c.loop-i-2.invariant.front;
-  back = λ k low high. laid-more (λ k. get_or c.args.values.now k 0) c.loop-i-2.line _ _ _ (omega arith) refl c.loop-i-2.invariant.back k low (omega arith);
-}
-
 pub returns : goal.returns
-returns c = λ i small.
-    either _ _ (cases_lt i c.args.count)
-    (λ front. c.loop-i-2.invariant.front i (omega arith) front)
-    (λ back. c.loop-i-2.invariant.back i (omega arith) (omega arith))
+returns c =
+    let rest : ℕ = length c.args.line.now - c.args.count in
+    ends-copied c.args.count c.args.line.now c.args.values.now c.copy_from_slice.new.self c.copy_from_slice-2.new.self c.requires.some c.requires.all
+    (ap (λ (xs : List ℕ). length xs) c.copy_from_slice.ensures.after ∙ simp (length-take, length-drop) (omega (arith, c.requires.values, c.requires.some, c.requires.all)))
+    (ap (λ (xs : List ℕ). length xs) c.copy_from_slice-2.ensures.after ∙ simp (length-take, length-drop) (omega (arith, c.requires.values, c.requires.some, c.requires.all)))
+    (λ j below. ap (λ (xs : List ℕ). get_or xs j 0) c.copy_from_slice.ensures.after ∙ get_or-take _ c.args.values.now j 0 (omega (arith, below)))
+    (λ j below. ap (λ (xs : List ℕ). get_or xs j 0) c.copy_from_slice-2.ensures.after ∙ get_or-take _ (drop rest c.args.values.now) j 0 (omega (arith, below)) ∙ get_or-drop rest c.args.values.now j 0)
