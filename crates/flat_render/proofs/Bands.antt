@@ -1,31 +1,33 @@
 -- Rows of tiles, drawn by the items that are seen there.
-use Rattle.std.proofs.Common.{ℕ, ℤ, ◌+◌, ◌*◌, ◌/◌, ◌%◌, ◌^◌, ◌<◌, ◌≤◌, ◌≡◌, refl, ap, ◌∙◌, sym, false, List, [], ◌∷◌, ◌++◌, length, get_or, take, drop, arith}
+use Rattle.std.proofs.Common.{ℕ, ℤ, ◌+◌, ◌*◌, ◌/◌, ◌%◌, ◌^◌, ◌<◌, ◌≤◌, ◌≡◌, refl, ap, ◌∙◌, sym, true, false, List, [], ◌∷◌, ◌++◌, length, get_or, take, drop, arith}
 use Rattle.std.proofs.lemmas.List.{get_or-map, get_or-take, get_or-drop, length-map, length-take, length-drop}
 use Rattle.std.proofs.lemmas.List.Elements.{All-nil, All-cons, All-append}
 use Rattle.std.proofs.lemmas.Grind.{fold-append}
-use Rattle.std.proofs.lemmas.Nat.{div-mul-add, mod-mul-add, div-add-mod', mod_below, div_below, mul-add-lt, mul-le}
+use Rattle.std.proofs.lemmas.Nat.{div-mul-add, mod-mul-add, div-add-mod', mul-add-lt, mul-le}
 use Rattle.flat_base.specs.declared.shapes.Rect.{Rect}
 use Rattle.flat_drawable.specs.Drawable.{IsDrawable}
-use Rattle.flat_geom.specs.Rectangles.{is_between}
+use Rattle.flat_geom.specs.Rectangles.{has_point}
 use Rattle.flat_scene.specs.declared.frames.DrawItem.{DrawItem}
-use Rattle.flat_render.specs.Bands.{rects_of, IsSeenWhere, IsSeenBetween, IsSeenIn}
+use Rattle.flat_render.specs.Areas.{has_pixel}
+use Rattle.flat_render.specs.Bands.{rects_of, IsSeenIn}
 use Rattle.flat_render.specs.Channels.{channel_step, channel_after}
-use Rattle.flat_render.specs.Grids.{tile_size, tile_bytes, tile_count, band_bytes, grid_bytes, tile_of, IsGrid}
+use Rattle.flat_render.specs.Grids.{tile_bytes, tile_count, band_bytes, grid_bytes, tile_of, IsGrid}
 use Rattle.flat_render.specs.Pixels.{covers}
-use Rattle.flat_render.specs.Stored.{stored_x, stored_y, drawn_in, drawn_at}
+use Rattle.flat_render.specs.Stored.{drawn_in, drawn_at}
 use Rattle.flat_render.specs.Tiles.{channel_at, x_at, y_at, tile_area, IsTile}
+use Rattle.flat_render.specs.declared.area.Area.{Area}
 use Rattle.flat_render.specs.declared.grid.Grid.{Grid}
 use Rattle.flat_render.specs.declared.tile.Tile.{Tile}
 use Rattle.flat_render.proofs.Items.{after-more, tile-has-byte}
 use Rattle.flat_render.proofs.Planes.{some-pixels}
-use Rattle.flat_render.proofs.Places.{some-pixel, some-byte}
+use Rattle.flat_render.proofs.Places.{some-byte}
 
 step-none : (c : ℕ) (item : DrawItem) (px py was : ℕ) → covers item px py ≡ false → channel_step c item px py was ≡ was
 step-none c item px py was e = rw e refl
 
-module _ (P : ℕ → ℕ → Type 0) (items seen : List DrawItem) where
+module _ (area : Area) (items seen : List DrawItem) where
   -- one item more that may be seen
-  pub seen-more : (i : ℕ) (d : DrawItem) → i < length items → IsDrawable (get_or items i d) → IsSeenWhere P (take i items) seen → IsSeenWhere P (take (i + 1) items) (seen ++ get_or items i d ∷ [])
+  pub seen-more : (i : ℕ) (d : DrawItem) → i < length items → IsDrawable (get_or items i d) → IsSeenIn area (take i items) seen → IsSeenIn area (take (i + 1) items) (seen ++ get_or items i d ∷ [])
   seen-more i d within drawable is = record {
     drawable = All-append IsDrawable seen (get_or items i d ∷ []) is.drawable (All-cons IsDrawable (get_or items i d) [] drawable (All-nil IsDrawable));
     same = λ c px py old there.
@@ -35,8 +37,8 @@ module _ (P : ℕ → ℕ → Type 0) (items seen : List DrawItem) where
   }
 
   -- and one that isn't seen there
-  pub seen-past : (i : ℕ) (d : DrawItem) → i < length items → ((px py : ℕ) → P px py → covers (get_or items i d) px py ≡ false)
-      → IsSeenWhere P (take i items) seen → IsSeenWhere P (take (i + 1) items) seen
+  pub seen-past : (i : ℕ) (d : DrawItem) → i < length items → ((px py : ℕ) → has_pixel area px py ≡ true → covers (get_or items i d) px py ≡ false)
+      → IsSeenIn area (take i items) seen → IsSeenIn area (take (i + 1) items) seen
   seen-past i d within unseen is = record {
     drawable = is.drawable;
     same = λ c px py old there.
@@ -57,11 +59,11 @@ rects-count items rects e = ap length e ∙ length-map items (λ it. it.visible)
 rect-there : (items : List DrawItem) (rects : List Rect) (n : ℕ) (d : DrawItem) (r : Rect) → rects ≡ rects_of items → n < length items → get_or rects n r ≡ (get_or items n d).visible
 rect-there items rects n d r e within = ap (λ (rs : List Rect). get_or rs n r) e ∙ get_or-map (λ it. it.visible) items n d r within
 
--- where one lies beside some pixels, the item does
-pub rect-beside : (items : List DrawItem) (rects : List Rect) (n : ℕ) (d : DrawItem) (r : Rect) (z : ℤ) → rects ≡ rects_of items → n < length items
-    → is_between (get_or rects n r).y0 (get_or rects n r).y1 z ≡ false → is_between (get_or items n d).visible.y0 (get_or items n d).visible.y1 z ≡ false
-rect-beside items rects n d r z e within h =
-    sym (ap (λ (rect : Rect). is_between rect.y0 rect.y1 z) (rect-there items rects n d r e within)) ∙ h
+-- where one misses a point, the item does
+pub rect-misses : (items : List DrawItem) (rects : List Rect) (n : ℕ) (d : DrawItem) (r : Rect) (x y : ℤ) → rects ≡ rects_of items → n < length items
+    → has_point (get_or rects n r) x y ≡ false → has_point (get_or items n d).visible x y ≡ false
+rect-misses items rects n d r x y e within h =
+    sym (ap (λ (rect : Rect). has_point rect x y) (rect-there items rects n d r e within)) ∙ h
 
 -- the bytes of a tile in its row
 module _ (g : Grid) (is : IsGrid g) (row n : ℕ) (column : n < g.across) where
@@ -71,34 +73,6 @@ module _ (g : Grid) (is : IsGrid g) (row n : ℕ) (column : n < g.across) where
       ap (λ (k : ℕ). drawn_in (tile_of g k) items m) (sym (div-mul-add (row * g.across + n) (tile_bytes g) m small))
       ∙ ap (λ (k : ℕ). drawn_in (tile_of g (((row * g.across + n) * tile_bytes g + m) / tile_bytes g)) items k) (sym (mod-mul-add (row * g.across + n) (tile_bytes g) m small))
       ∙ ap (λ (i : ℕ). drawn_at g items i) place
-
--- the rows of pixels of a row of tiles
-module _ (g : Grid) (is : IsGrid g) (row m : ℕ) (small : m < band_bytes g) where
-  row-of : (row * band_bytes g + m) / tile_bytes g / g.across ≡ row
-  row-of =
-      let q : ℕ = m / tile_bytes g in
-      let column : q < g.across = div_below m (tile_bytes g) g.across (some-byte g is) small in
-      let rest : m % tile_bytes g < tile_bytes g = mod_below m (tile_bytes g) (some-byte g is) in
-      let place : (row * g.across + q) * tile_bytes g + m % tile_bytes g ≡ row * band_bytes g + m = omega (arith, div-add-mod' m (tile_bytes g)) in
-      ap (λ (i : ℕ). i / tile_bytes g / g.across) (sym place)
-      ∙ ap (λ (n : ℕ). n / g.across) (div-mul-add (row * g.across + q) (tile_bytes g) (m % tile_bytes g) rest)
-      ∙ div-mul-add row g.across q column
-
-  pub row-top : row * g.tile_h ≤ stored_y g (row * band_bytes g + m)
-  row-top = omega (arith, ap (λ (r : ℕ). r * g.tile_h) row-of)
-
-  pub row-bottom : stored_y g (row * band_bytes g + m) < row * g.tile_h + g.tile_h
-  row-bottom =
-      let k : ℕ = (row * band_bytes g + m) % tile_bytes g % tile_size g in
-      let inner : k / g.tile_w < g.tile_h = div_below k g.tile_w g.tile_h is.tile_w (omega (arith, mod_below ((row * band_bytes g + m) % tile_bytes g) (tile_size g) (some-pixel g is))) in
-      omega (arith, ap (λ (r : ℕ). r * g.tile_h) row-of, inner)
-
--- drawn by what is seen in a row, each byte is what it is by all items
-pub seen-drawn : (g : Grid) (items seen : List DrawItem) (row m : ℕ) → IsGrid g → m < band_bytes g → IsSeenBetween (row * g.tile_h) (row * g.tile_h + g.tile_h) items seen
-    → drawn_at g seen (row * band_bytes g + m) ≡ drawn_at g items (row * band_bytes g + m)
-seen-drawn g items seen row m is small seen_is =
-    let i : ℕ = row * band_bytes g + m in
-    seen_is.same (channel_at (tile_of g (i / tile_bytes g)) (i % tile_bytes g)) (stored_x g i) (stored_y g i) 0 (row-top g is row m small, row-bottom g is row m small)
 
 -- drawn by what is seen in a tile, each of its bytes is what it is by all items
 pub seen-drawn-in : (tile : Tile) (items seen : List DrawItem) (m : ℕ) → IsTile tile → IsSeenIn (tile_area tile) items seen → drawn_in tile seen m ≡ drawn_in tile items m

@@ -1,24 +1,23 @@
 -- Items chosen by their numbers, for each tile of a row.
-use Rattle.std.proofs.Common.{ℕ, zero, suc, ◌+◌, ◌*◌, ◌/◌, ◌%◌, ◌^◌, ◌<◌, ◌≤◌, ◌≡◌, refl, ap, ◌∙◌, sym, subst, Bool, true, false, if◌then◌else◌, List, [], ◌∷◌, ◌++◌, length, get_or, take, drop, Vec, arith}
+use Rattle.std.proofs.Common.{ℕ, zero, suc, ◌+◌, ◌*◌, ◌/◌, ◌%◌, ◌<◌, ◌≤◌, ◌≡◌, refl, ap, ◌∙◌, sym, subst, Bool, true, false, if◌then◌else◌, List, [], ◌∷◌, ◌++◌, length, get_or, take, drop, Vec, arith}
 use Rattle.std.specs.Prelude.{min}
 use Rattle.std.specs.declared.alloc.Global.{Global}
 use Rattle.std.proofs.lemmas.Bool.{cases_lt, false_from_ne_true, false≢true}
 use Rattle.std.proofs.lemmas.Grind.{flat_map-append, div_ceil_times}
 use Rattle.std.proofs.lemmas.List.{take_all}
 use Rattle.std.proofs.lemmas.List.Elements.{All-nil, All-cons, All-append}
-use Rattle.std.proofs.lemmas.Nat.{div_below, mod-mul-add, mul-le}
+use Rattle.std.proofs.lemmas.Nat.{div_below, div-mul-add, mod-mul-add, mul-le}
 use Rattle.flat_base.proofs.lemmas.Tests.{and-left, and-right}
 use Rattle.flat_drawable.specs.Drawable.{IsDrawable}
 use Rattle.flat_scene.specs.declared.frames.DrawItem.{DrawItem}
 use Rattle.flat_render.specs.Areas.{is_among, has_pixel}
 use Rattle.flat_render.specs.Bands.{chosen, AreChoices, AreEmpty, IsChoice, IsNoted, IsSeenIn}
-use Rattle.flat_render.specs.Grids.{tile_of, IsGrid}
+use Rattle.flat_render.specs.Grids.{tile_of}
 use Rattle.flat_render.specs.Pixels.{covers}
-use Rattle.flat_render.specs.Tiles.{tile_area, IsTile}
+use Rattle.flat_render.specs.Tiles.{tile_area}
 use Rattle.flat_render.specs.declared.area.Area.{Area}
 use Rattle.flat_render.specs.declared.grid.Grid.{Grid}
-use Rattle.flat_render.proofs.Bands.{seen-more, seen-past, tile-of-band}
-use Rattle.flat_render.proofs.Places.{tile-is}
+use Rattle.flat_render.proofs.Bands.{seen-more, seen-past}
 use Rattle.flat_render.proofs.Rows.{among, among-low, among-high, either}
 
 -- the item with a number, as a list
@@ -56,25 +55,28 @@ choice-more : (area : Area) (items : List DrawItem) (places : List ℕ) (n : ℕ
 choice-more area items places n d small drawable is = record {
   within = All-append (λ p. p < length items) places (n ∷ []) is.within (All-cons (λ p. p < length items) n [] small (All-nil (λ p. p < length items)));
   seen = subst (λ (seen : List DrawItem). IsSeenIn area (take (n + 1) items) seen) (sym (chosen-one items places n d small))
-      (seen-more (λ px py. has_pixel area px py ≡ true) items (chosen items places) n d small drawable is.seen);
+      (seen-more area items (chosen items places) n d small drawable is.seen);
 }
 
 choice-past : (area : Area) (items : List DrawItem) (places : List ℕ) (n : ℕ) (d : DrawItem) → n < length items → ((px py : ℕ) → has_pixel area px py ≡ true → covers (get_or items n d) px py ≡ false)
     → IsChoice area items places n → IsChoice area items places (n + 1)
 choice-past area items places n d small unseen is = record {
   within = is.within;
-  seen = seen-past (λ px py. has_pixel area px py ≡ true) items (chosen items places) n d small unseen is.seen;
+  seen = seen-past area items (chosen items places) n d small unseen is.seen;
 }
 
 -- where a tile of a row begins
 tile-left : (g : Grid) (row c : ℕ) → c < g.across → (tile_of g (row * g.across + c)).left ≡ c * g.tile_w
 tile-left g row c small = ap (λ (n : ℕ). n * g.tile_w) (mod-mul-add row g.across c small)
 
+tile-top : (g : Grid) (row c : ℕ) → c < g.across → (tile_of g (row * g.across + c)).top ≡ row * g.tile_h
+tile-top g row c small = ap (λ (n : ℕ). n * g.tile_h) (div-mul-add row g.across c small)
+
 -- one item more for all tiles of a row
-pub choices-more : (g : Grid) (row n from upto : ℕ) (items : List DrawItem) (old lists : List (Vec ℕ Global)) (d : DrawItem) → IsGrid g → row < g.down → n < length items → IsDrawable (get_or items n d)
-    → ((c px py : ℕ) → c < g.across → c * g.tile_w ≤ px → px < c * g.tile_w + g.tile_w → py < 2 ^ 29 → is_among from upto c ≡ false → covers (get_or items n d) px py ≡ false)
+pub choices-more : (g : Grid) (row n from upto : ℕ) (items : List DrawItem) (old lists : List (Vec ℕ Global)) (d : DrawItem) → n < length items → IsDrawable (get_or items n d)
+    → ((c px py : ℕ) → c < g.across → c * g.tile_w ≤ px → px < c * g.tile_w + g.tile_w → row * g.tile_h ≤ py → py < row * g.tile_h + g.tile_h → is_among from upto c ≡ false → covers (get_or items n d) px py ≡ false)
     → AreChoices g row items old n → IsNoted n from upto old lists → AreChoices g row items lists (n + 1)
-choices-more g row n from upto items old lists d is low small drawable others were noted = record {
+choices-more g row n from upto items old lists d small drawable others were noted = record {
   count = noted.count ∙ were.count;
   serve = λ c e column. by_test c e column (is_among from upto c) refl;
 } where
@@ -88,14 +90,14 @@ choices-more g row n from upto items old lists d is low small drawable others we
       (sym (noted.noted c e (omega (arith, were.count, column)) ∙ ap (λ (b : Bool). if b then (get_or old c e).items ++ n ∷ [] else (get_or old c e).items) t))
       (choice-past (tile_area (tile_of g (row * g.across + c))) items (get_or old c e).items n d small
       (λ px py has.
-      let tile : IsTile (tile_of g (row * g.across + c)) = tile-is g (row * g.across + c) is (tile-of-band g row c low column) in
       let across : is_among (tile_of g (row * g.across + c)).left ((tile_of g (row * g.across + c)).left + g.tile_w) px ≡ true = and-left _ _ has in
       let down : is_among (tile_of g (row * g.across + c)).top ((tile_of g (row * g.across + c)).top + g.tile_h) py ≡ true =
       and-right (is_among (tile_of g (row * g.across + c)).left ((tile_of g (row * g.across + c)).left + g.tile_w) px) _ has in
       others c px py column
       (omega (arith, among-low _ _ px across, tile-left g row c column))
       (omega (arith, among-high (tile_of g (row * g.across + c)).left _ px across, tile-left g row c column))
-      (omega (arith, among-high (tile_of g (row * g.across + c)).top _ py down, tile.bottom)) t)
+      (omega (arith, among-low _ _ py down, tile-top g row c column))
+      (omega (arith, among-high (tile_of g (row * g.across + c)).top _ py down, tile-top g row c column)) t)
       (were.serve c e column))
 
 -- lists without numbers, for no items

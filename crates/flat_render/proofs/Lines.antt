@@ -1,8 +1,10 @@
 -- A line of pixels that is changed one by one.
-use Rattle.std.proofs.Common.{ℕ, ◌+◌, ◌<◌, ◌≤◌, ◌≡◌, ◌≢◌, refl, ap, ◌∙◌, List, length, get_or, set, get_or-set_same, get_or-set_other, arith}
+use Rattle.std.proofs.Common.{ℕ, ◌+◌, ◌*◌, ◌-◌, ◌<◌, ◌≤◌, ◌≡◌, ◌≢◌, refl, ap, ◌∙◌, sym, List, ◌++◌, drop, length, length-append, get_or, set, get_or-set_same, get_or-set_other, arith}
 use Rattle.std.proofs.Common.{below_more}
 use Rattle.std.proofs.lemmas.Bool.{cases_lt}
-use Rattle.flat_render.proofs.Rows.{either}
+use Rattle.std.proofs.lemmas.List.{length-drop, get_or_append_left}
+use borrow.Rule.Slice.PartMut.{put_mid}
+use Rattle.flat_render.proofs.Rows.{either, put-before, put-inside}
 
 -- the first i pixels of a line are changed by f, and the others are as they were
 pub record IsChangedTo (f : ℕ → ℕ → ℕ) (old line : List ℕ) (i : ℕ) : Type 0 where
@@ -22,22 +24,42 @@ changed-more f old line i y lt h e = record {
   above = λ k l. let ne : k ≢ i = omega arith in rw get_or-set_other (h.above k (omega arith));
 }
 
--- the pixels of a line from a first one up to a last one, which isn't among them, have one value
-abbrev pub IsWashed : ℕ → List ℕ → ℕ → ℕ → Type 0
-IsWashed s line from upto = (k : ℕ) → from ≤ k → k < upto → get_or line k 0 ≡ s
+-- the pixels of a line from a first one up to a last one, which isn't among them, have the values of f
+abbrev pub IsLaid : (ℕ → ℕ) → List ℕ → ℕ → ℕ → Type 0
+IsLaid f line from upto = (k : ℕ) → from ≤ k → k < upto → get_or line k 0 ≡ f k
 
-wash-one : (s : ℕ) (line : List ℕ) (i k : ℕ) → i < length line → (k ≢ i → get_or line k 0 ≡ s) → get_or (set line i s) k 0 ≡ s
-wash-one s line i k lt h =
+lay-one : (f : ℕ → ℕ) (line : List ℕ) (i y k : ℕ) → i < length line → y ≡ f i → (k ≢ i → get_or line k 0 ≡ f k) → get_or (set line i y) k 0 ≡ f k
+lay-one f line i y k lt is h =
     either _ _ (cases_lt k i)
     (λ below. let ne : k ≢ i = omega arith in rw get_or-set_other (h ne))
     (λ above. either _ _ (cases_lt i k)
     (λ past. let ne : k ≢ i = omega arith in rw get_or-set_other (h ne))
-    (λ here. let e : k ≡ i = omega arith in ap (λ (n : ℕ). get_or (set line i s) n 0) e ∙ get_or-set_same line i s 0 lt))
+    (λ here. let e : k ≡ i = omega arith in ap (λ (n : ℕ). get_or (set line i y) n 0) e ∙ get_or-set_same line i y 0 lt ∙ is ∙ ap f (sym e)))
 
 -- one more
-pub washed-more : (s : ℕ) (line : List ℕ) (from i : ℕ) → i < length line → IsWashed s line from i → IsWashed s (set line i s) from (i + 1)
-washed-more s line from i lt h = λ k low high. wash-one s line i k lt (λ ne. h k low (omega arith))
+pub laid-more : (f : ℕ → ℕ) (line : List ℕ) (from i y : ℕ) → i < length line → y ≡ f i → IsLaid f line from i → IsLaid f (set line i y) from (i + 1)
+laid-more f line from i y lt is h = λ k low high. lay-one f line i y k lt is (λ ne. h k low (omega arith))
 
--- and they stay where one more pixel has that value
-pub washed-still : (s : ℕ) (line : List ℕ) (i from upto : ℕ) → i < length line → IsWashed s line from upto → IsWashed s (set line i s) from upto
-washed-still s line i from upto lt h = λ k low high. wash-one s line i k lt (λ ne. h k low high)
+-- and they stay where one more pixel has its value
+pub laid-still : (f : ℕ → ℕ) (line : List ℕ) (i y from upto : ℕ) → i < length line → y ≡ f i → IsLaid f line from upto → IsLaid f (set line i y) from upto
+laid-still f line i y from upto lt is h = λ k low high. lay-one f line i y k lt is (λ ne. h k low high)
+
+-- a line whose first and last pixels, which are all, are copied one after the other
+pub ends-copied : (count : ℕ) (line values front back : List ℕ) → count ≤ length line → length line ≤ 2 * count → length front ≡ count → length back ≡ count
+    → ((i : ℕ) → i < count → get_or front i 0 ≡ get_or values i 0)
+    → ((i : ℕ) → i < count → get_or back i 0 ≡ get_or values (length line - count + i) 0)
+    → (i : ℕ) → i < length line
+    → get_or (put_mid (length line - count) (length (front ++ drop count line) - (length line - count)) (front ++ drop count line) back) i 0 ≡ get_or values i 0
+ends-copied count line values front back some all front_len back_len in_front in_back i small =
+    let rest : ℕ = length line - count in
+    let mid : List ℕ = front ++ drop count line in
+    let len : length mid ≡ length line = length-append front (drop count line) ∙ simp length-drop (omega (arith, front_len)) in
+    either _ _ (cases_lt i rest)
+    (λ before. put-before rest (length mid - rest) mid back i (omega (arith, len)) before
+    ∙ get_or_append_left front (drop count line) 0 i (omega (arith, front_len))
+    ∙ in_front i (omega arith))
+    (λ above.
+    let place : rest + (i - rest) ≡ i = omega arith in
+    put-inside rest (length mid - rest) mid back i (omega (arith, len)) (omega (arith, len, back_len)) above (omega (arith, len))
+    ∙ in_back (i - rest) (omega arith)
+    ∙ ap (λ (n : ℕ). get_or values n 0) place)

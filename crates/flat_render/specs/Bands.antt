@@ -1,5 +1,5 @@
 -- Some of the items, which serve for a part of the picture.
-use Rattle.std.specs.Prelude.{◌≡◌, ℕ, ◌+◌, ◌*◌, ◌<◌, ◌≤◌, true, if◌then◌else◌, List, [], ◌∷◌, ◌++◌, length, map, flat_map, take, drop, slice_index_or, Vec}
+use Rattle.std.specs.Prelude.{◌≡◌, ℕ, ◌+◌, ◌*◌, ◌<◌, true, if◌then◌else◌, List, [], ◌∷◌, ◌++◌, length, map, flat_map, take, drop, slice_index_or, Vec}
 use Rattle.std.specs.List.{All}
 use Rattle.std.specs.declared.alloc.Global.{Global}
 use Rattle.flat_base.specs.declared.shapes.Rect.{Rect}
@@ -16,18 +16,10 @@ use Rattle.flat_render.specs.Tiles.{tile_area}
 abbrev pub rects_of : List DrawItem → List Rect
 rects_of items = map (λ item. item.visible) items
 
--- some of the items give each pixel of which a fact holds what all of them give it
-pub record IsSeenWhere (P : ℕ → ℕ → Type 0) (items seen : List DrawItem) : Type 0 where
+-- some of the items give each pixel of an area what all of them give it
+pub record IsSeenIn (area : Area) (items seen : List DrawItem) : Type 0 where
   pub drawable : All IsDrawable seen
-  pub same : (c px py old : ℕ) → P px py → channel_after c seen px py old ≡ channel_after c items px py old
-
--- each pixel from a first row up to a last one, which isn't among them
-abbrev pub IsSeenBetween : ℕ → ℕ → List DrawItem → List DrawItem → Type 0
-IsSeenBetween top bottom = IsSeenWhere (λ px py. (top ≤ py) × (py < bottom))
-
--- each pixel of an area
-abbrev pub IsSeenIn : Area → List DrawItem → List DrawItem → Type 0
-IsSeenIn area = IsSeenWhere (λ px py. has_pixel area px py ≡ true)
+  pub same : (c px py old : ℕ) → has_pixel area px py ≡ true → channel_after c seen px py old ≡ channel_after c items px py old
 
 -- the items with some numbers
 abbrev pub chosen : List DrawItem → List ℕ → List DrawItem

@@ -1,11 +1,10 @@
-ghost use Rattle.std.specs.Prelude.{◌≡◌, ◌+◌, ◌<◌, ◌^◌, ◌*◌, ℕ, All, IfOk, length, slice_index};
+ghost use Rattle.std.specs.Prelude.{◌≡◌, ◌+◌, ◌<◌, ◌*◌, ℕ, All, IfOk, length, slice_index};
 ghost use Rattle.flat_drawable.specs.Drawable.{IsDrawable};
-ghost use Rattle.flat_render.specs.Bands.{rects_of, AreChoices, IsChoice, IsSeenBetween};
+ghost use Rattle.flat_render.specs.Bands.{rects_of, AreChoices, IsChoice};
 ghost use Rattle.flat_render.specs.Grids.{band_bytes, IsGrid};
 ghost use Rattle.flat_render.specs.Stored.{drawn_at, drawn_in};
 ghost use Rattle.flat_render.specs.Tiles.{pixels_of, tile_area, IsTile};
 
-use crate::area::is_beside;
 use crate::grid::{Grid, bytes_of_tiles, tile};
 use crate::sorting::{choose, sorted};
 use crate::tile::{Tile, draw};
@@ -26,30 +25,6 @@ pub fn visible_rects(alloc: Global, items: &[DrawItem]) -> Result<Vec<Rect>, NoM
         rects.push(item.visible)?;
     }
     Ok(rects)
-}
-
-/// The items of which something may be seen on some rows of pixels.
-fn seen_between(
-    alloc: Global,
-    items: &[DrawItem],
-    rects: &[Rect],
-    top: usize,
-    bottom: usize,
-) -> Result<Vec<DrawItem>, NoMemory>
-    requires items { All IsDrawable items.now }
-    requires rects { rects.now ≡ rects_of items.now }
-    requires some { top < bottom }
-    requires near { bottom < 2 ^ 29 }
-    ensures { IfOk result (λ seen. IsSeenBetween top bottom items.now seen.items) }
-{
-    let mut seen = Vec::new(alloc);
-    for n in 0..items.len() {
-        if is_beside(rects[n].y0, rects[n].y1, top, bottom) {
-            continue;
-        }
-        seen.push(items[n])?;
-    }
-    Ok(seen)
 }
 
 /// Draws a tile that is black, by the items with some numbers, which are those that may
@@ -111,25 +86,6 @@ fn draw_picked(
 
 /// Draws a row of tiles, which are black. Of many items it looks twice at those alone
 /// that may be seen on a tile, where memory isn't wanting.
-fn draw_row(alloc: Global, items: &[DrawItem], grid: &Grid, row: usize, bytes: &mut [u8])
-    requires items { All IsDrawable items.now }
-    requires grid { IsGrid grid.now }
-    requires row { row < grid.now.down }
-    requires size { length bytes.old ≡ band_bytes grid.now }
-    requires black { (m : ℕ) → m < length bytes.old → slice_index bytes.old m ≡ 0 }
-    ensures { (m : ℕ) → m < length bytes.old → slice_index bytes.new m ≡ drawn_at grid.now items.now (row * band_bytes grid.now + m) }
-{
-    if items.len() <= FEW {
-        return draw_each(items, grid, row, bytes);
-    }
-    match sorted(alloc, items, grid, row) {
-        Ok(lists) => draw_picked(alloc, items, lists.as_slice(), grid, row, bytes),
-        Err(_) => draw_each(items, grid, row, bytes),
-    }
-}
-
-/// Draws a row of tiles, which are black, by the items that are seen there. Where
-/// memory is wanting it looks at all of them.
 pub fn draw_band(
     alloc: Global,
     items: &[DrawItem],
@@ -146,9 +102,11 @@ pub fn draw_band(
     requires black { (m : ℕ) → m < length bytes.old → slice_index bytes.old m ≡ 0 }
     ensures { (m : ℕ) → m < length bytes.old → slice_index bytes.new m ≡ drawn_at grid.now items.now (row * band_bytes grid.now + m) }
 {
-    let top = row * grid.tile_h;
-    match seen_between(alloc, items, rects, top, top + grid.tile_h) {
-        Ok(seen) => draw_row(alloc, seen.as_slice(), grid, row, bytes),
-        Err(_) => draw_row(alloc, items, grid, row, bytes),
+    if items.len() <= FEW {
+        return draw_each(items, grid, row, bytes);
+    }
+    match sorted(alloc, items, rects, grid, row) {
+        Ok(lists) => draw_picked(alloc, items, lists.as_slice(), grid, row, bytes),
+        Err(_) => draw_each(items, grid, row, bytes),
     }
 }

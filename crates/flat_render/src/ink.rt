@@ -1,6 +1,6 @@
-ghost use Rattle.std.specs.Prelude.{◌≡◌, ◌*◌, ◌<◌, ◌≤◌, ℕ, IfSome, length, slice_index};
+ghost use Rattle.std.specs.Prelude.{◌≡◌, ◌*◌, ◌<◌, ◌≤◌, ℕ, length, slice_index};
 ghost use Rattle.flat_render.specs.Colours.{covered};
-ghost use Rattle.flat_render.specs.Inks.{inked, mix_of, mixed, tone, IsShade};
+ghost use Rattle.flat_render.specs.Inks.{mix_of, mixed, tone};
 
 use crate::colour::{cover, replace, weight_of};
 use crate::tile::TILE_SIDE;
@@ -117,8 +117,9 @@ pub fn veil(weight: u8, s: u8, line: &mut [u8])
     }
 }
 
+/// Mixes a value for each pixel with a line of them, weighted so.
 fn weave(weight: u8, values: &[u8], line: &mut [u8])
-    requires { length values.now ≡ length line.old }
+    requires { length line.old ≤ length values.now }
     ensures { (i : ℕ) → i < length line.old → slice_index line.new i ≡ covered weight (slice_index values.now i) (slice_index line.old i) }
 {
     for i in 0..line.len() {
@@ -127,6 +128,7 @@ fn weave(weight: u8, values: &[u8], line: &mut [u8])
 }
 
 /// Mixes one value with a line of pixels.
+#[inline(always)]
 pub fn mix_one(mix: Mix, s: u8, line: &mut [u8])
     ensures { (i : ℕ) → i < length line.old → slice_index line.new i ≡ mixed mix s (slice_index line.old i) }
 {
@@ -136,37 +138,53 @@ pub fn mix_one(mix: Mix, s: u8, line: &mut [u8])
     }
 }
 
-/// Mixes a value for each pixel with a line of them.
-fn mix_each(mix: Mix, values: &[u8], line: &mut [u8])
-    requires { length values.now ≡ length line.old }
+/// Copies so many values to each end of a line, which are all of its pixels. The
+/// compiler knows how many they are, and calls nothing.
+#[inline(always)]
+fn copy_ends(values: &[u8], count: usize, line: &mut [u8])
+    requires values { length line.old ≤ length values.now }
+    requires some { count ≤ length line.old }
+    requires all { length line.old ≤ 2 * count }
+    ensures { (i : ℕ) → i < length line.old → slice_index line.new i ≡ slice_index values.now i }
+{
+    let rest = line.len() - count;
+    let front = &mut line[..count];
+    front.copy_from_slice(&values[..count]);
+    let back = &mut line[rest..];
+    back.copy_from_slice(&values[rest..rest + count]);
+}
+
+/// Puts a value for each pixel in place of a line of them: the first of these.
+#[inline(always)]
+fn copy(values: &[u8], line: &mut [u8])
+    requires { length line.old ≤ length values.now }
+    ensures { (i : ℕ) → i < length line.old → slice_index line.new i ≡ slice_index values.now i }
+{
+    let count = line.len();
+    if count > TILE_SIDE / 2 {
+        line.copy_from_slice(&values[..count]);
+        return;
+    }
+    if count >= TILE_SIDE / 4 {
+        return copy_ends(values, TILE_SIDE / 4, line);
+    }
+    if count >= TILE_SIDE / 8 {
+        return copy_ends(values, TILE_SIDE / 8, line);
+    }
+    if count >= TILE_SIDE / 16 {
+        return copy_ends(values, TILE_SIDE / 16, line);
+    }
+    line.copy_from_slice(&values[..count]);
+}
+
+/// Mixes a value for each pixel with a line of them: the first of these.
+#[inline(always)]
+pub fn mix_each(mix: Mix, values: &[u8], line: &mut [u8])
+    requires { length line.old ≤ length values.now }
     ensures { (i : ℕ) → i < length line.old → slice_index line.new i ≡ mixed mix (slice_index values.now i) (slice_index line.old i) }
 {
     match mix {
-        Mix::Replace => line.copy_from_slice(values),
+        Mix::Replace => copy(values, line),
         Mix::Cover(weight) => weave(weight, values, line),
-    }
-}
-
-/// The value that ink mixes with each pixel, if that is one value.
-pub fn only_value(ink: &Ink) -> Option<u8>
-    ensures { IfSome result (λ s. (i j old : ℕ) → inked ink.now i j old ≡ mixed ink.now.mix s old) }
-{
-    match &ink.shade {
-        Shade::Even(s) => Some(*s),
-        _ => None,
-    }
-}
-
-/// Lays ink on the j-th row of its area, or on the first pixels of it.
-pub fn ink_line(ink: &Ink, j: usize, line: &mut [u8])
-    requires ink { IsShade ink.now.shade }
-    requires row { j < 64 }
-    requires narrow { length line.old ≤ 64 }
-    ensures { (i : ℕ) → i < length line.old → slice_index line.new i ≡ inked ink.now i j (slice_index line.old i) }
-{
-    match &ink.shade {
-        Shade::Even(value) => mix_one(ink.mix, *value, line),
-        Shade::Down(values) => mix_one(ink.mix, values[j], line),
-        Shade::Across(values) => mix_each(ink.mix, &values[..line.len()], line),
     }
 }

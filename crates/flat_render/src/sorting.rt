@@ -1,12 +1,12 @@
-ghost use Rattle.std.specs.Prelude.{◌≡◌, ◌+◌, ◌*◌, ◌<◌, ◌≤◌, ◌^◌, ◌++◌, ◌∷◌, [], ℕ, false, All, IfOk, OnOk, length, if◌then◌else◌, slice_index_or};
+ghost use Rattle.std.specs.Prelude.{◌≡◌, ◌+◌, ◌*◌, ◌<◌, ◌≤◌, ◌++◌, ◌∷◌, [], ℕ, false, All, IfOk, OnOk, length, if◌then◌else◌, slice_index_or};
 ghost use Rattle.flat_drawable.specs.Drawable.{IsDrawable};
 ghost use Rattle.flat_geom.specs.Rectangles.{has_point};
 ghost use Rattle.flat_render.specs.Areas.{is_among};
-ghost use Rattle.flat_render.specs.Bands.{chosen, AreChoices, AreEmpty, IsNoted};
+ghost use Rattle.flat_render.specs.Bands.{chosen, rects_of, AreChoices, AreEmpty, IsNoted};
 ghost use Rattle.flat_render.specs.Grids.{IsGrid};
 ghost use Rattle.flat_render.specs.Pixels.{centre};
 
-use crate::area::area_of;
+use crate::area::{area_of, is_beside};
 use crate::grid::Grid;
 use flat_base::{NoMemory, Rect};
 use flat_scene::DrawItem;
@@ -21,11 +21,16 @@ struct Columns {
 }
 
 /// The tiles of a row in which a rectangle may have the centre of a pixel.
-fn columns_of(grid: &Grid, r: Rect) -> Columns
-    requires { IsGrid grid.now }
+fn columns_of(grid: &Grid, row: usize, r: Rect) -> Columns
+    requires grid { IsGrid grid.now }
+    requires row { row < grid.now.down }
     ensures within { result.upto ≤ grid.now.across }
-    ensures others { (c px py : ℕ) → c < grid.now.across → c * grid.now.tile_w ≤ px → px < c * grid.now.tile_w + grid.now.tile_w → py < 2 ^ 29 → is_among result.from result.upto c ≡ false → has_point r (centre px) (centre py) ≡ false }
+    ensures others { (c px py : ℕ) → c < grid.now.across → c * grid.now.tile_w ≤ px → px < c * grid.now.tile_w + grid.now.tile_w → row * grid.now.tile_h ≤ py → py < row * grid.now.tile_h + grid.now.tile_h → is_among result.from result.upto c ≡ false → has_point r (centre px) (centre py) ≡ false }
 {
+    let top = row * grid.tile_h;
+    if is_beside(r.y0, r.y1, top, top + grid.tile_h) {
+        return Columns { from: 0, upto: 0 };
+    }
     let area = area_of(r);
     Columns {
         from: area.x0 / grid.tile_w,
@@ -58,21 +63,24 @@ fn note(lists: &mut [Vec<usize>], n: usize, columns: Columns) -> Result<(), NoMe
     Ok(())
 }
 
-/// For each tile of a row, the numbers of the items that may be seen there.
+/// For each tile of a row, the numbers of the items that may be seen there. Of the
+/// other rows' items it reads the visible rectangles alone.
 pub fn sorted(
     alloc: Global,
     items: &[DrawItem],
+    rects: &[Rect],
     grid: &Grid,
     row: usize,
 ) -> Result<Vec<Vec<usize>>, NoMemory>
     requires items { All IsDrawable items.now }
+    requires rects { rects.now ≡ rects_of items.now }
     requires grid { IsGrid grid.now }
     requires row { row < grid.now.down }
     ensures { IfOk result (λ lists. AreChoices grid.now row items.now lists.items (length items.now)) }
 {
     let mut lists = empties(alloc, grid.across)?;
     for n in 0..items.len() {
-        let columns = columns_of(grid, items[n].visible);
+        let columns = columns_of(grid, row, rects[n]);
         note(lists.as_mut_slice(), n, columns)?;
     }
     Ok(lists)

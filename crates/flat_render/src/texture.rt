@@ -3,13 +3,14 @@ ghost use Rattle.flat_drawable.specs.Drawable.{full_rect as full_rect_of, IsSamp
 ghost use Rattle.flat_geom.specs.Rectangles.{is_between};
 ghost use Rattle.flat_render.specs.Areas.{has_pixel};
 ghost use Rattle.flat_scene.specs.declared.frames.Paint.TheVariants.{Image};
+ghost use Rattle.flat_render.specs.Colours.{replaced};
 ghost use Rattle.flat_render.specs.Inks.{shade_at, tone, IsShade};
 ghost use Rattle.flat_render.specs.Pixels.{centre, flipped_column, flipped_row, buffer_column, buffer_row, along_x, along_y, column_axis, row_axis};
 ghost use Rattle.flat_render.specs.Textures.{texture_red, texture_green, texture_blue, rises_across, rises_down, stride_of, IsBelow, IsTable, IsTextureOf};
 
 use crate::area::Area;
 use crate::axis::{Axis, is_by_units, part};
-use crate::colour::{blue, green, red};
+use crate::colour::{blue, green, red, replace};
 use crate::ink::{Shade, tone_of};
 use crate::tile::TILE_SIDE;
 use flat_base::{BufferNo, IntRect, OPACITY_MAX, Rect};
@@ -201,24 +202,44 @@ fn stride(rises: bool) -> u32
     if rises { 64 } else { 192 }
 }
 
-/// A channel of pixels side by side, as it is mixed, where it grows by one stride from
-/// each to the next one.
-fn strides(blend: BlendMode, opacity: u32, first: u8, stride: u32, count: usize) -> [u8; TILE_SIDE]
-    requires opacity { opacity ≤ OPACITY_MAX }
-    requires stride { stride < 256 }
-    requires room { count ≤ 64 }
+/// A channel of pixels side by side, where it grows by one stride from each to the next
+/// one. The compiler knows how many they are.
+fn strides(first: u8, stride: u32) -> [u8; TILE_SIDE]
+    requires { stride < 256 }
     ensures size { length result ≡ 64 }
-    ensures values { (i : ℕ) → i < count → slice_index result i ≡ tone blend opacity ((first + stride * i) % 256) }
+    ensures values { (i : ℕ) → i < 64 → slice_index result i ≡ (first + stride * i) % 256 }
 {
     let mut table = [0; TILE_SIDE];
-    for i in 0..count {
-        table[i] = tone_of(
-            blend,
-            opacity,
-            ((first as u32 + stride * i as u32) % 256) as u8,
-        );
+    for i in 0..TILE_SIDE {
+        table[i] = ((first as u32 + stride * i as u32) % 256) as u8;
     }
     table
+}
+
+/// Channels at an opacity.
+fn replace_all(opacity: u32, values: [u8; TILE_SIDE]) -> [u8; TILE_SIDE]
+    requires { opacity ≤ OPACITY_MAX }
+    ensures size { length result ≡ 64 }
+    ensures values { (i : ℕ) → i < 64 → slice_index result i ≡ replaced opacity (slice_index values i) }
+{
+    let mut table = values;
+    for i in 0..TILE_SIDE {
+        table[i] = replace(opacity, values[i]);
+    }
+    table
+}
+
+/// Channels as they are mixed with what is there.
+fn tones_of(blend: BlendMode, opacity: u32, values: [u8; TILE_SIDE]) -> [u8; TILE_SIDE]
+    requires { opacity ≤ OPACITY_MAX }
+    ensures size { length result ≡ 64 }
+    ensures values { (i : ℕ) → i < 64 → slice_index result i ≡ tone blend opacity (slice_index values i) }
+{
+    match blend {
+        BlendMode::SrcOver => values,
+        BlendMode::Src if opacity == OPACITY_MAX => values,
+        BlendMode::Src => replace_all(opacity, values),
+    }
 }
 
 /// The reds for pixels side by side, each read by itself.
@@ -269,7 +290,7 @@ fn reds(texture: &Texture, from: usize, upto: usize) -> [u8; TILE_SIDE]
     }
     let first = red(texture.index, column(axis, sample, flip, from));
     let stride = stride(rises(axis, flip));
-    strides(texture.blend, texture.opacity, first, stride, upto - from)
+    tones_of(texture.blend, texture.opacity, strides(first, stride))
 }
 
 /// The greens for pixels one below another. Where each row is one unit high, only the
@@ -290,7 +311,7 @@ fn greens(texture: &Texture, from: usize, upto: usize) -> [u8; TILE_SIDE]
     }
     let first = green(row(axis, sample, flip, from));
     let stride = stride(sinks(axis, flip));
-    strides(texture.blend, texture.opacity, first, stride, upto - from)
+    tones_of(texture.blend, texture.opacity, strides(first, stride))
 }
 
 /// The red of a texture in an area.

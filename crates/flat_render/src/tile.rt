@@ -10,7 +10,7 @@ ghost use Rattle.flat_render.specs.Tiles.{x_of, y_of, x_at, y_at, channel_at, pi
 
 use crate::area::{Area, area_of, common, is_covered, is_missed};
 use crate::brush::brush_for;
-use crate::ink::{Ink, Mix, Shade, ink_line, mix_one, only_value, veil, wash};
+use crate::ink::{Ink, Mix, Shade, mix_each, mix_one, veil, wash};
 use flat_scene::{BlendMode, DrawItem};
 
 /// The sides of tiles, where the picture has no smaller ones.
@@ -95,23 +95,39 @@ fn mix_plane(mix: Mix, s: u8, tile: Tile, cut: Area, plane: &mut [u8])
     mix_one(mix, s, lines);
 }
 
-/// Lays ink on the pixels of an area, in a plane.
-fn ink_plane(ink: &Ink, tile: Tile, cut: Area, plane: &mut [u8])
-    requires ink { IsShade ink.now.shade }
+/// Mixes a value for each column with the pixels of an area, in a plane, row by row.
+fn mix_across(mix: Mix, values: &[u8], tile: Tile, cut: Area, plane: &mut [u8])
+    requires values { cut.x1 - cut.x0 ≤ length values.now }
     requires tile { IsTile tile }
     requires size { length plane.old ≡ pixels_of tile }
     requires cut { IsInArea (tile_area tile) cut }
     requires some { IsWindow cut }
-    ensures { (k : ℕ) → k < length plane.old → slice_index plane.new k ≡ (if has_pixel cut (x_of tile k) (y_of tile k) then inked ink.now (x_of tile k - cut.x0) (y_of tile k - cut.y0) (slice_index plane.old k) else slice_index plane.old k) }
+    ensures { (k : ℕ) → k < length plane.old → slice_index plane.new k ≡ (if has_pixel cut (x_of tile k) (y_of tile k) then mixed mix (slice_index values.now (x_of tile k - cut.x0)) (slice_index plane.old k) else slice_index plane.old k) }
 {
     for py in cut.y0..cut.y1 {
         let row = (py - tile.top) * tile.width;
         let line = &mut plane[row + (cut.x0 - tile.left)..row + (cut.x1 - tile.left)];
-        ink_line(ink, py - cut.y0, line);
+        mix_each(mix, values, line);
     }
 }
 
-/// Lays ink on the pixels of an area, in a plane, the shortest way.
+/// Mixes a value for each row with the pixels of an area, in a plane.
+fn mix_down(mix: Mix, values: &[u8], tile: Tile, cut: Area, plane: &mut [u8])
+    requires values { cut.y1 - cut.y0 ≤ length values.now }
+    requires tile { IsTile tile }
+    requires size { length plane.old ≡ pixels_of tile }
+    requires cut { IsInArea (tile_area tile) cut }
+    requires some { IsWindow cut }
+    ensures { (k : ℕ) → k < length plane.old → slice_index plane.new k ≡ (if has_pixel cut (x_of tile k) (y_of tile k) then mixed mix (slice_index values.now (y_of tile k - cut.y0)) (slice_index plane.old k) else slice_index plane.old k) }
+{
+    for py in cut.y0..cut.y1 {
+        let row = (py - tile.top) * tile.width;
+        let line = &mut plane[row + (cut.x0 - tile.left)..row + (cut.x1 - tile.left)];
+        mix_one(mix, values[py - cut.y0], line);
+    }
+}
+
+/// Lays ink on the pixels of an area, in a plane.
 fn lay_plane(ink: &Ink, tile: Tile, cut: Area, plane: &mut [u8])
     requires ink { IsShade ink.now.shade }
     requires tile { IsTile tile }
@@ -120,9 +136,10 @@ fn lay_plane(ink: &Ink, tile: Tile, cut: Area, plane: &mut [u8])
     requires some { IsWindow cut }
     ensures { (k : ℕ) → k < length plane.old → slice_index plane.new k ≡ (if has_pixel cut (x_of tile k) (y_of tile k) then inked ink.now (x_of tile k - cut.x0) (y_of tile k - cut.y0) (slice_index plane.old k) else slice_index plane.old k) }
 {
-    match only_value(ink) {
-        Some(s) => mix_plane(ink.mix, s, tile, cut, plane),
-        None => ink_plane(ink, tile, cut, plane),
+    match &ink.shade {
+        Shade::Even(value) => mix_plane(ink.mix, *value, tile, cut, plane),
+        Shade::Across(values) => mix_across(ink.mix, values.as_slice(), tile, cut, plane),
+        Shade::Down(values) => mix_down(ink.mix, values.as_slice(), tile, cut, plane),
     }
 }
 

@@ -1,16 +1,16 @@
-use Rattle.std.proofs.Common.{arith}
+use Rattle.std.proofs.Common.{refl, arith}
 use Rattle.std.proofs.lemmas.Bool.{cases_lt}
-use Rattle.flat_render.proofs.Lines.{washed-more, washed-still}
+use Rattle.flat_render.proofs.Lines.{laid-more, laid-still}
 use Rattle.flat_render.proofs.Rows.{either}
 use Rattle.flat_render.proofs.ink.wash_ends.Goals as goal
 
 pub loop-i-preserved : goal.loop-i-preserved
-loop-i-preserved c = washed-more c.args.s c.loop-i.line 0 c.loop-i.i (omega arith) c.loop-i.invariant
+loop-i-preserved c = laid-more (λ k. c.args.s) c.loop-i.line 0 c.loop-i.i _ (omega arith) refl c.loop-i.invariant
 
 pub loop-i-2-preserved : goal.loop-i-2-preserved
 loop-i-2-preserved c = record {
-  front = washed-still c.args.s c.loop-i-2.line _ 0 c.args.count (omega arith) c.loop-i-2.invariant.front;
-  back = λ k low high. washed-more c.args.s c.loop-i-2.line _ _ (omega arith) c.loop-i-2.invariant.back k low (omega arith);
+  front = laid-still (λ k. c.args.s) c.loop-i-2.line _ _ 0 c.args.count (omega arith) refl c.loop-i-2.invariant.front;
+  back = λ k low high. laid-more (λ k. c.args.s) c.loop-i-2.line _ _ _ (omega arith) refl c.loop-i-2.invariant.back k low (omega arith);
 }
 
 pub returns : goal.returns

@@ -1,7 +1,7 @@
 use Rattle.std.proofs.Common.{ℕ, List, ◌+◌, ◌-◌, ◌≡◌, ◌∙◌, ap, get_or, take, drop, arith}
-use Rattle.flat_render.specs.Inks.{inked}
+use Rattle.flat_render.specs.Inks.{mixed}
 use Rattle.flat_render.proofs.Rows.{row-step, row_start, row_size}
-use Rattle.flat_render.proofs.tile.ink_plane.Goals as goal
+use Rattle.flat_render.proofs.tile.mix_across.Goals as goal
 
 back : (a i : ℕ) → i ≡ a + i - a
 back a i = omega arith
@@ -10,7 +10,7 @@ pub loop-py-preserved : goal.loop-py-preserved
 loop-py-preserved c =
     let part : List ℕ = take (row_size c.args.tile c.args.cut c.loop-py.py) (drop (row_start c.args.tile c.args.cut c.loop-py.py) c.loop-py.plane) in
     row-step c.args.tile c.args.cut c.loop-py.py c.requires.tile.width c.requires.cut c.requires.some.columns (omega arith) c.loop-py-test.true
-    (λ px py old. inked c.args.ink.now (px - c.args.cut.x0) (py - c.args.cut.y0) old) c.args.plane.now c.loop-py.plane c.ink_line.new.line
-    c.requires.size c.loop-py.auto.plane c.ink_line.auto.line
-    (λ i small. c.ink_line.ensures i small ∙ ap (λ (n : ℕ). inked c.args.ink.now n (c.loop-py.py - c.args.cut.y0) (get_or part i 0)) (back c.args.cut.x0 i))
+    (λ px py old. mixed c.args.mix (get_or c.args.values.now (px - c.args.cut.x0) 0) old) c.args.plane.now c.loop-py.plane c.mix_each.new.line
+    c.requires.size c.loop-py.auto.plane c.mix_each.auto.line
+    (λ i small. c.mix_each.ensures i small ∙ ap (λ (n : ℕ). mixed c.args.mix (get_or c.args.values.now n 0) (get_or part i 0)) (back c.args.cut.x0 i))
     c.loop-py.invariant
