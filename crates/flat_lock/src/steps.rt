@@ -39,7 +39,8 @@ fn draw_ticket<T: Storied>(table: &SharedTable<T>, seat: &mut TableSeat<T>, tick
 
 // Draws a ticket when it is the one that is served, so that nobody has the turn or
 // waits for it with a ticket. A seat that comes at another time spins, lets other
-// threads run, and then sleeps in between.
+// threads run, and then sleeps in between. It looks before it exchanges, since a
+// failed exchange too takes the words from the seat that has the turn.
 fn draw_served<T: Storied>(table: &SharedTable<T>, rt: &impl Wait, seat: &mut TableSeat<T>) -> u64
     requires shaped { IsShaped table.now.shared.table_id }
     requires own { seat.old.table_id ≡ table.now.shared.table_id }
@@ -50,7 +51,7 @@ fn draw_served<T: Storied>(table: &SharedTable<T>, rt: &impl Wait, seat: &mut Ta
     let backoff = Backoff::new();
     for _ in rt.forever() {
         let serving = table.shared.peek(SERVING);
-        if draw_ticket(table, seat, serving) {
+        if table.shared.peek(TICKET) == serving && draw_ticket(table, seat, serving) {
             return serving;
         }
         if backoff.is_completed() {
