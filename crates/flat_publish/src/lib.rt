@@ -1,0 +1,19 @@
+//! Published frames: one writer publishes what each frame joins, and probes answer by
+//! the last frame that they saw. A probe takes no lock, waits for nobody, and never goes
+//! back.
+//!
+//! Other crates may cite the lemmas of proofs/lemmas/: beginnings of lists of frames
+//! (Beginnings).
+#![tactic(auto)]
+
+mod frame;
+mod latest;
+mod probe;
+mod published;
+mod rule;
+mod seats;
+
+pub use frame::Frame;
+pub use probe::Probe;
+pub use published::Published;
+pub use seats::ProbeSeats;

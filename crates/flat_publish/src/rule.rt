@@ -1,0 +1,68 @@
+//! The rule over the two copies: what each seat knows of their home.
+use crate::latest::Latest;
+use atomic_table::{Join, Split};
+use crossbeam_utils::rule::{Outcome, Protocol};
+use left_right::reader::Reader;
+use left_right::writer::Writer;
+use std::marker::Model;
+
+/// Which book. No value of it is made.
+pub struct Home {
+    marker: (),
+}
+
+impl Model for Home {
+    ghost use Rattle.logbook.specs.Pages.{Book};
+
+    ghost Value = { Book };
+
+    ghost view = { λ _. record { number = 0; log_name = 0; cells_name = 0 } };
+}
+
+pub struct SameHome;
+
+impl Protocol<Latest, Option<Home>> for SameHome {
+    ghost use Rattle.std.specs.Prelude.{None};
+    ghost use Rattle.flat_publish.specs.Told.{KnowsHome};
+
+    ghost holds = { KnowsHome };
+
+    ghost first = { None };
+}
+
+pub struct Looked;
+
+impl Outcome<Latest, Option<Home>> for Looked {
+    ghost use Rattle.flat_publish.specs.Told.{Looks};
+
+    ghost then = { Looks };
+}
+
+pub struct NextShown;
+
+impl Outcome<Latest, Option<Home>> for NextShown {
+    ghost use Rattle.flat_publish.specs.Told.{Shows};
+
+    ghost then = { Shows };
+}
+
+/// The writer tells its home, and a reader takes it over.
+pub struct HomeTold;
+
+impl Split<Option<Home>> for HomeTold {
+    ghost left = { λ v. v };
+
+    ghost right = { λ v. v };
+}
+
+impl Join<Option<Home>> for HomeTold {
+    ghost use Rattle.std.specs.Prelude.{None};
+
+    ghost both = { λ _ w. w };
+
+    ghost spent = { None };
+}
+
+pub type LatestReader = Reader<Latest, Option<Home>, SameHome>;
+
+pub type LatestWriter = Writer<Latest, Latest, Option<Home>, SameHome>;
