@@ -34,7 +34,7 @@ returns-in-Ok-clause-complete g c = λ form calls there steady.
     let x = c.in-Ok.answer in
     let mine = called_for _ c.in-Ok-Some.field-0 c.in-Ok-Some.form c.in-Ok-Some.field-0-is c.in-Ok-Some.ensures.form in
     let one : (f : Form) → CallFor (map string_bytes c.args.words.now) f → f ≡ form = λ f called. one_form c.in-Ok-Some.field-0 form f (c.in-Ok-Some.ensures.only form calls) (c.in-Ok-Some.ensures.only f called) in
-    let is : x.status ≡ 0 = only_told _ _ _ _ _ _ _ form _ _ calls one there x.status x.text.items (c.in-Ok.ensures.answer _ mine) in
+    let is : x.status ≡ 0 = only_told _ _ _ _ _ _ _ form _ _ calls one there x.status x.text (c.in-Ok.ensures.answer _ mine) in
     answered_or_fault c.write_text-in-Ok.result x.status 0 c.write_text-in-Ok.ensures.either is
     (λ is_5. let rose = c.write_text-in-Ok.ensures.fault is_5 in let both : true ≡ false = sym rose ∙ steady in cc)
 
@@ -43,7 +43,7 @@ returns-in-Ok-clause-too_large g c = λ calls there steady.
     let x = c.in-Ok.answer in
     let mine = called_for _ c.in-Ok-Some.field-0 c.in-Ok-Some.form c.in-Ok-Some.field-0-is c.in-Ok-Some.ensures.form in
     let one : (f : Form) → CallFor (map string_bytes c.args.words.now) f → f ≡ Render = λ f called. one_form c.in-Ok-Some.field-0 Render f (c.in-Ok-Some.ensures.only Render calls) (c.in-Ok-Some.ensures.only f called) in
-    let is : x.status ≡ 7 = only_large _ _ _ _ _ _ _ _ _ calls one there x.status x.text.items (c.in-Ok.ensures.answer _ mine) in
+    let is : x.status ≡ 7 = only_large _ _ _ _ _ _ _ _ _ calls one there x.status x.text (c.in-Ok.ensures.answer _ mine) in
     answered_or_fault c.write_text-in-Ok.result x.status 7 c.write_text-in-Ok.ensures.either is
     (λ is_5. let rose = c.write_text-in-Ok.ensures.fault is_5 in let both : true ≡ false = sym rose ∙ steady in cc)
 
