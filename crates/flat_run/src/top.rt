@@ -96,8 +96,9 @@ fn write_pieces<W: Sink>(sink: &mut W, text: &Pieces, status: u8) -> u8
     ensures faults { W.faults sink.old ≤ W.faults sink.new }
     ensures stalls { W.stalls sink.old ≤ W.stalls sink.new }
 {
-    for piece in text.as_slice() {
-        if write_text(sink, piece.as_slice(), status) == WRITE_FAULT {
+    let pieces = text.as_slice();
+    for place in 0..pieces.len() {
+        if write_text(sink, pieces[place].as_slice(), status) == WRITE_FAULT {
             return WRITE_FAULT;
         }
     }

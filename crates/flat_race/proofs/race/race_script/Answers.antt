@@ -14,7 +14,7 @@ returns-in_err-stage-clause-kept g c = kept_none _ _ _ _
 pub returns-clause-seen : goal.returns-clause-seen
 returns-clause-seen g c =
     seen_counted _ _ _ _ _ _ _ _ _ _ _ c.close.ensures.frames c.close.ensures.as_many (ap (λ (s : Driven). s.lost) c.close.ensures.set) (ap (λ v. v.items) (sym c.replace-shown_here.ensures.value))
-    (ok_seen _ c.in_ok-ended.ended c.in_ok-ended.was _ _ _ _ _ c.on_threads-raced.ensures.seen)
+    (ok_seen _ c.in_ok-ended.ended c.in_ok-ended.was _ _ c.args.script.now.setup _ _ c.on_threads-raced.ensures.seen)
 
 pub returns-clause-kept : goal.returns-clause-kept
 returns-clause-kept g c = kept_from _ _ _ _ _ _ (ap (λ v. v.items) (sym c.replace-shown_here.ensures.value)) c.on_threads-raced.ensures.kept
