@@ -46,6 +46,7 @@ risen-on old mid new below risen = by_test (nat_lt mid new) refl risen
     at_end : (b : Bool) → (b || true) ≡ true
     at_end true = refl
     at_end false = refl
+
     by_test : (b : Bool) → nat_lt mid new ≡ b → (b || nat_le count_end new) ≡ true → (nat_lt old new || nat_le count_end new) ≡ true
     by_test true is rose = let less : nat_lt old new ≡ true = grind (arith, nat_tests, is, below) in ap (λ b. b || nat_le count_end new) less
     by_test false is rose = ap (λ b. nat_lt old new || b) rose ∙ at_end (nat_lt old new)
@@ -56,6 +57,7 @@ either-on old mid new old' mid' new' below below' risen = by_test (has_risen mid
     at_end : (b : Bool) → (b || true) ≡ true
     at_end true = refl
     at_end false = refl
+
     by_test : (b : Bool) → has_risen mid new ≡ b → (b || has_risen mid' new') ≡ true → (has_risen old new || has_risen old' new') ≡ true
     by_test true is rose = ap (λ b. b || has_risen old' new') (risen-on old mid new below is)
     by_test false is rose = ap (λ b. has_risen old new || b) (risen-on old' mid' new' below' rose) ∙ at_end (has_risen old new)

@@ -1,5 +1,5 @@
 -- What is said of a run that was played to its end.
-use Rattle.std.proofs.Common.{◌≡◌, ◌≢◌, ℕ, zero, suc, ◌==◌, ◌&&◌, true, false, List, [], length, Option, Result, Ok, Err, IfOk, refl, sym, ap, ◌∙◌, subst, arith}
+use Rattle.std.proofs.Common.{◌≡◌, ◌≢◌, ℕ, zero, suc, ◌==◌, ◌&&◌, true, false, List, [], length, Option, Result, Ok, Err, IfOk, refl, sym, ap, ◌∙◌, subst, arith, map}
 use Rattle.std.specs.List.{flat_map, zip}
 use Rattle.std.proofs.lemmas.Bool.{eqb-true}
 use Rattle.std.proofs.lemmas.Bool.Decides.{nat_tests}
@@ -25,7 +25,7 @@ use Rattle.flat_core.specs.Machines.{Machine}
 use Rattle.flat_report.specs.declared.report.HitAnswer.{HitAnswer}
 use Rattle.flat_scene.specs.Interleave.{IsWritten}
 use Rattle.flat_report.specs.declared.frame_texts.FrameTexts.{FrameTexts}
-use Rattle.flat_report.specs.FrameTexts.{frame_text}
+use Rattle.flat_report.specs.FrameTexts.{frame_text, AreTexts}
 use Rattle.flat_play.specs.declared.kept.Kept.{Kept}
 use Rattle.flat_play.specs.declared.kept.Kept.TheVariants as kept
 use Rattle.flat_play.specs.Keeping.{Keeps}
@@ -100,7 +100,7 @@ module _ (reading : Reading) (board : Machine) (kept_frames : Kept) (answers : L
       → handed ≡ lost → handed_report script entries sent texts.texts.items handed answers ≡ report script board.history lost []
   handed_whole law texts texts_are lost handed entries sent entries_are sent_are lost_are =
       let K : Kept → Type 0 = λ k. Keeps script k (finished script.setup board.history) in
-      let written = subst K (sym texts_are) played.keeps in
+      let written : AreTexts script (finished script.setup board.history) texts = subst K (sym texts_are) played.keeps in
       law script entries sent texts.texts.items handed answers (eqb-true script.setup.probes 0 (no_probes script playable))
       (sent_are ∙ ap (λ (st : Setup). posts st board.history) played.setup ∙ ap (posts script.setup) (sym entries_are)) (written.texts ∙ ap (λ (h : List Entry). map (frame_text script) (finished script.setup h)) (sym entries_are))
       (played.answering ∙ ap (answers_of script.setup) (sym entries_are)) ∙ ap (λ (h : List Entry). report script h handed []) entries_are ∙ ap (λ (ls : List Lost). report script board.history ls []) lost_are

@@ -15,7 +15,7 @@ pub picture_text-requires-clause-height : goal.picture_text-requires-clause-heig
 picture_text-requires-clause-height g c κs within = high c.args.script.now.setup (setup_is c.args.script.now c.requires.playable)
 
 pub returns : goal.returns
-returns g c κs within =
+returns g c =
     let script = c.args.script.now in
     let P : List FrameOut → Type 0 = λ frames. IfOk c.picture_text.result (λ text. text.items ≡ picture_text script.setup frames) in
     subst P (c.frames.ensures script _ c.requires.played.keeps) c.picture_text.ensures
