@@ -22,6 +22,8 @@ use Rattle.flat_stage.specs.declared.reader.Reader.{Reader}
 use Rattle.flat_stage.specs.Readings.{EndsAreRead, HasRead, Rise}
 use Rattle.flat_stage.specs.Reads.{Stands}
 use Rattle.flat_playable.specs.Playable.{is_playable}
+use Rattle.flat_play.specs.Keeping.{Keeps}
+use Rattle.flat_play.proofs.lemmas.GameSteps.{keeps_same}
 use Rattle.flat_play.specs.Playing.{lines_by, ReaderStands, DisplayStands, GameStands, HasEnds, EndsStand, HasPlayed}
 use Rattle.flat_play.proofs.lemmas.Places.{all_to, drop_all, rises}
 use Rattle.flat_play.proofs.lemmas.Readers.{on_board, session_rise}
@@ -48,7 +50,7 @@ ends_first script game stands = record {
     in_order = refl;
   };
   unspent = λ k from. let spent = stands.spent.spent (k + 1) in omega arith;
-  finishing = stands.shows.finishing;
+  keeps = stands.keeps;
   answering = stands.answers.answering;
 }
 
@@ -128,8 +130,8 @@ module _ (ends_are_read : EndsAreRead) (script : Script) (playable : is_playable
         omega (arith, more, none, was)
 
     pub ends_more : (new : Game) (changed : Reader) → new.board ≡ entered old.board (Session reader.session) (script.count + 1) reader.pending (End reader.refused) Done
-        → new.readers.items ≡ set old.readers.items before changed → new.frames.items ≡ old.frames.items → new.answers ≡ old.answers → EndsStand script (before + 1) new
-    ends_more new changed board readers same_frames same_answers =
+        → new.readers.items ≡ set old.readers.items before changed → new.kept ≡ old.kept → new.answers ≡ old.answers → EndsStand script (before + 1) new
+    ends_more new changed board readers same_kept same_answers =
         let h : List Entry = old.board.history in
         let own_entry : entry_of (Session reader.session) (script.count + 1) reader.pending (End reader.refused) Done ≡ last = ap (λ (n : SessionNo). entry_of (Session n) (script.count + 1) reader.pending (End reader.refused) Done) mine.session in
         let grown : (h ▹ last) ≡ new.board.history = sym (ap (λ (m : Machine). m.history) board ∙ ap (λ (e : Entry). h ▹ e) own_entry) in
@@ -142,7 +144,7 @@ module _ (ends_are_read : EndsAreRead) (script : Script) (playable : is_playable
         let E : List Entry → Type 0 = HasEnds (before + 1) in
         let U : List Entry → Type 0 = λ es. (k : ℕ) → before + 1 ≤ k → made (k + 1) es ≤ lines_by (k + 1) script.lines in
         let Q : List Entry → Type 0 = λ es. new.answers ≡ answers_of script.setup es in
-        let F : List Entry → Type 0 = λ es. new.frames.items ≡ finished script.setup es in
+        let K : List Entry → Type 0 = λ es. Keeps script new.kept (finished script.setup es) in
         let waiting : W still (h ▹ last) = (λ k d from inside.
         let other : k ≢ before = (λ same. omega arith) in
         let there : k < length old.readers.items = omega (arith, length-set old.readers.items before changed) in
@@ -156,13 +158,13 @@ module _ (ends_are_read : EndsAreRead) (script : Script) (playable : is_playable
           display = subst D grown (let d = stands.display in record { follows = d.follows; left = d.left; closing = d.closing });
           has_ends = subst E grown more_ends;
           unspent = subst U grown still_unspent;
-          finishing = subst F grown (same_frames ∙ stands.finishing ∙ sym (append-nil (finished script.setup h)));
+          keeps = subst K grown (keeps_same script old.kept new.kept (finished script.setup h) (finished script.setup (h ▹ last)) same_kept (append-nil (finished script.setup h)) stands.keeps);
           answering = subst Q grown (same_answers ∙ stands.answering ∙ sym (append-nil (answers_of script.setup h)));
         }
 
 -- ---- all sessions have ended
 
-pub has_played : (script : Script) (game : Game) → EndsStand script script.setup.sessions game → HasPlayed script game.board game.frames.items game.answers
+pub has_played : (script : Script) (game : Game) → EndsStand script script.setup.sessions game → HasPlayed script game.board game.kept game.answers
 has_played script game stands =
     let h : List Entry = game.board.history in
     record {
@@ -172,7 +174,7 @@ has_played script game stands =
         display = stands.display.follows;
         all_read = stands.display.left ∙ ap display_lines (drop_all script.lines);
       };
-      finishing = stands.finishing;
+      keeps = stands.keeps;
       answering = stands.answering;
     }
 

@@ -1,3 +1,4 @@
+pub mod Keeping
 pub mod Last
 pub mod Playing
 pub mod Showing

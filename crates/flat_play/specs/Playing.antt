@@ -15,7 +15,6 @@ use Rattle.flat_scene.specs.declared.journal.Reply.{Reply}
 use Rattle.flat_scene.specs.declared.script.Line.{Line}
 use Rattle.flat_scene.specs.declared.script.ScriptLine.{ScriptLine}
 use Rattle.flat_scene.specs.declared.setup.Setup.{Setup}
-use Rattle.flat_scene.specs.declared.frames.FrameOut.{FrameOut}
 use Rattle.flat_scene.specs.declared.frames.SessionSet.{SessionSet}
 use Rattle.flat_scene.specs.Frames.{sessions_to}
 use Rattle.flat_scene.specs.History.{own, is_end, seat_number}
@@ -38,6 +37,8 @@ use Rattle.flat_stage.specs.Readings.{HasRead}
 use Rattle.flat_stage.specs.Reads.{IsNew, Stands}
 use Rattle.flat_play.specs.declared.game.Game.{Game}
 use Rattle.flat_play.specs.declared.frame.LastFrame.{LastFrame}
+use Rattle.flat_play.specs.declared.kept.Kept.{Kept}
+use Rattle.flat_play.specs.Keeping.{Keeps, KeepsMore}
 use Rattle.flat_play.specs.Last.{IsLast, StaysLast}
 use Rattle.flat_playable.specs.Playable.{frames_close}
 
@@ -88,11 +89,10 @@ pub record DisplayStands (script : Script) (place : ℕ) (history : List Entry) 
   pub left : unread_lines (by_display history) (display_lines script.lines) ≡ display_lines (drop place script.lines)
   pub closing : frames_close (is_frame_open history) (begin_time history) (drop place script.lines) ≡ true
 
--- What is shown is that of the last begin, and the frames are those that are finished.
-pub record FramesStand (setup : Setup) (history : List Entry) (shown : Shown) (with_view : SessionSet) (frames : List FrameOut) : Type 0 where
+-- What is shown is that of the last begin.
+pub record FramesStand (setup : Setup) (history : List Entry) (shown : Shown) (with_view : SessionSet) : Type 0 where
   pub showing : shown ≡ shown_states setup (to_begin history)
   pub viewing : (s : SessionNo) → is_declared setup s ≡ true → is_member with_view s.0 ≡ has_view setup (to_begin history) s
-  pub finishing : frames ≡ finished setup history
 
 -- The last finished frame is known, and the points that were asked for are answered.
 pub record AnswersStand (setup : Setup) (history : List Entry) (last : LastFrame) (answers : List HitAnswer) : Type 0 where
@@ -119,7 +119,8 @@ pub record GameStands (script : Script) (place : ℕ) (game : Game) : Type 0 whe
   pub order : IsInOrder script place game.board.history
   pub spent : IsSpent script place game.board.history
   pub views : HasViews script.setup game.with_view
-  pub shows : FramesStand script.setup game.board.history game.shown game.with_view game.frames.items
+  pub shows : FramesStand script.setup game.board.history game.shown game.with_view
+  pub keeps : Keeps script game.kept (finished script.setup game.board.history)
   pub same : AreSame game.changed game.last.reuse game.shown
   pub answers : AnswersStand script.setup game.board.history game.last game.answers
 
@@ -133,17 +134,17 @@ pub record BeginsFrame (old new : Game) (number time : ℕ) : Type 0 where
   pub viewing : (s : SessionNo) → is_declared new.board.setup s ≡ true → is_member new.with_view s.0 ≡ has_view new.board.setup new.board.history s
   pub views : HasViews new.board.setup new.with_view
   pub readers : new.readers ≡ old.readers
-  pub kept : new.frames ≡ old.frames
+  pub kept : new.kept ≡ old.kept
   pub last : new.last ≡ old.last
   pub answers : new.answers ≡ old.answers
 
 -- A frame is finished, and kept.
-pub record FinishesFrame (old new : Game) (number : ℕ) : Type 0 where
+pub record FinishesFrame (script : Script) (old new : Game) (number : ℕ) : Type 0 where
   pub board : new.board ≡ entered old.board Display number [] Finish Done
   pub shown : new.shown ≡ old.shown
   pub with_view : new.with_view ≡ old.with_view
   pub readers : new.readers ≡ old.readers
-  pub kept : new.frames.items ≡ old.frames.items ++ frame_at old.board.setup (frames new.board.history) (to_begin old.board.history) ∷ []
+  pub kept : KeepsMore script (frame_at script.setup (frames new.board.history) (to_begin old.board.history)) old.kept new.kept
   pub shows : new.last.frame.0 ≡ frames new.board.history
   pub is_last : IsLast old.board.setup new.last
   pub showing : new.last.reuse ≡ old.shown
@@ -156,7 +157,7 @@ pub record EntersBeside (old new : Game) (number : ℕ) (kind : Kind) (reply : R
   pub changed : new.changed ≡ old.changed
   pub with_view : new.with_view ≡ old.with_view
   pub readers : new.readers ≡ old.readers
-  pub kept : new.frames ≡ old.frames
+  pub kept : new.kept ≡ old.kept
   pub last : new.last ≡ old.last
   pub answers : new.answers ≡ old.answers
 
@@ -167,7 +168,7 @@ pub record AsksPoint (old new : Game) (number : ℕ) (x y : ℤ) : Type 0 where
   pub changed : new.changed ≡ old.changed
   pub with_view : new.with_view ≡ old.with_view
   pub readers : new.readers ≡ old.readers
-  pub kept : new.frames ≡ old.frames
+  pub kept : new.kept ≡ old.kept
   pub last : StaysLast old.board.setup old.last new.last
   pub answers : new.answers ≡ old.answers ++ (record { actor = Display; line = number; frame = old.last.frame; hits = hit_list old.board.setup old.last.reuse x y }) ∷ []
 
@@ -208,12 +209,12 @@ pub record EndsStand (script : Script) (ended : ℕ) (game : Game) : Type 0 wher
   pub display : DisplayStands script (length script.lines) game.board.history
   pub has_ends : HasEnds ended game.board.history
   pub unspent : (k : ℕ) → ended ≤ k → made (k + 1) game.board.history ≤ lines_by (k + 1) script.lines
-  pub finishing : game.frames.items ≡ finished script.setup game.board.history
+  pub keeps : Keeps script game.kept (finished script.setup game.board.history)
   pub answering : game.answers ≡ answers_of script.setup game.board.history
 
--- A script was run to its end: the history interleaves the script's actors, the frames are those that it finishes, and the answers those to the points that it asks for.
-pub record HasPlayed (script : Script) (board : Machine) (shown_frames : List FrameOut) (answers : List HitAnswer) : Type 0 where
+-- A script was run to its end: the history interleaves the script's actors, what is kept of frames is that of those that it finishes, and the answers are those to the points that it asks for.
+pub record HasPlayed (script : Script) (board : Machine) (kept : Kept) (answers : List HitAnswer) : Type 0 where
   pub setup : board.setup ≡ script.setup
   pub interleaves : Interleaves script.setup script.count script.lines board.history
-  pub finishing : shown_frames ≡ finished script.setup board.history
+  pub keeps : Keeps script kept (finished script.setup board.history)
   pub answering : answers ≡ answers_of script.setup board.history

@@ -11,8 +11,11 @@ ghost use Rattle.flat_topology.specs.Hits.{hit_list};
 ghost use Rattle.flat_rules.specs.Shown.{shown_states};
 ghost use Rattle.flat_report.specs.Report.{frame_at};
 ghost use Rattle.flat_stage.specs.Displays.{AreViewed};
+ghost use Rattle.flat_places.specs.declared.script.Script.{Script};
+ghost use Rattle.flat_play.specs.Keeping.{Keeps};
 ghost use Rattle.flat_play.specs.Last.{IsJoined};
 
+use crate::kept::Kept;
 use flat_base::{FrameNo, NoMemory};
 use flat_core::shown_states_fit;
 use flat_display::{Display, DisplaySet};
@@ -128,17 +131,17 @@ impl LastFrame {
     }
 }
 
-/// Shows the last of some frames to the displays that aren't lost.
-pub fn show_last(set: &mut DisplaySet, displays: &mut Vec<Box<dyn Display>>, frames: &[FrameOut])
+/// Shows the last frame that is kept to the displays that aren't lost.
+pub fn show_last(set: &mut DisplaySet, displays: &mut Vec<Box<dyn Display>>, kept: &Kept)
     requires { length displays.old.items ≡ set.old.displays }
-    ensures shows { (before : List FrameOut) (frame : FrameOut) → frames.now ≡ before ++ frame ∷ [] →
+    ensures shows { (script : Script) (before : List FrameOut) (frame : FrameOut) → Keeps script kept.now (before ++ frame ∷ []) →
         (more : List Lost) × (set.new ≡ record set.old { lost = set.old.lost ++ more })
         × Shows (λ d. shown d) (λ d. faults d) frame set.old.lost 1 displays.old.items displays.new.items more }
     ensures same { set.new.displays ≡ set.old.displays }
     ensures length { length displays.new.items ≡ length displays.old.items }
     ensures kinds { map (λ d. d.vtable) displays.new.items ≡ map (λ d. d.vtable) displays.old.items }
 {
-    if let Some(frame) = frames.last() {
+    if let Some(frame) = kept.last() {
         set.show(displays, frame);
     }
 }

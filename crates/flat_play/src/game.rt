@@ -11,14 +11,16 @@ ghost use Rattle.flat_rules.specs.Ends.{to_begin};
 ghost use Rattle.flat_rules.specs.Legal.{frames, reply_to};
 ghost use Rattle.flat_rules.specs.Shown.{shown_states};
 ghost use Rattle.flat_topology.specs.Changes.{AreSame};
-ghost use Rattle.flat_report.specs.Report.{frame_at};
+ghost use Rattle.flat_report.specs.Report.{finished, frame_at};
 ghost use Rattle.flat_playable.specs.Playable.{is_playable};
 ghost use Rattle.flat_play.specs.Playing.{session_text, display_text};
 ghost use Rattle.flat_play.specs.Touches.{GoesOnAt, GoesOnByEnds};
+ghost use Rattle.flat_play.specs.Keeping.{Keeps, keeping_of};
 ghost use Rattle.flat_play.specs.Showing.{IsShown};
 ghost use Rattle.flat_scene.specs.declared.script.ScriptLine.{ScriptLine};
 
 use crate::frame::{LastFrame, show_last};
+use crate::kept::Kept;
 use flat_base::{Actor, FenceNo, NoMemory, SessionNo, TryCopy};
 use flat_core::{Board, shown_states_fit};
 use flat_display::{Display, DisplaySet};
@@ -41,8 +43,8 @@ pub struct Game {
     pub changed: SessionSet,
     /// The sessions that had a view at its begin.
     pub with_view: SessionSet,
-    /// All finished frames.
-    pub frames: Vec<FrameOut>,
+    /// What is kept of the finished frames.
+    pub kept: Kept,
     pub last: LastFrame,
     /// The answers to the points that were asked for.
     pub answers: HitAnswers,
@@ -55,7 +57,7 @@ impl Game {
     /// The next frame, as it is composed of what the sessions show.
     fn compose_next(&mut self, alloc: Global) -> Result<FrameOut, NoMemory>
         requires setup { is_setup self.old.board.setup ≡ true }
-        requires stands { FramesStand self.old.board.setup self.old.board.history self.old.shown self.old.with_view self.old.frames.items }
+        requires stands { FramesStand self.old.board.setup self.old.board.history self.old.shown self.old.with_view }
         requires views { HasViews self.old.board.setup self.old.with_view }
         requires last { self.old.last.frame.0 ≡ frames self.old.board.history }
         requires same { AreSame self.old.changed self.old.last.reuse self.old.shown }
@@ -92,27 +94,30 @@ impl Game {
     fn finish(
         &mut self,
         alloc: Global,
+        script: &Script,
         number: u32,
         set: &mut DisplaySet,
         displays: &mut Vec<Box<dyn Display>>,
     ) -> Result<(), NoMemory>
         requires may { MayCall self.old.board Display [] Finish }
         requires setup { is_setup self.old.board.setup ≡ true }
-        requires stands { FramesStand self.old.board.setup self.old.board.history self.old.shown self.old.with_view self.old.frames.items }
+        requires stands { FramesStand self.old.board.setup self.old.board.history self.old.shown self.old.with_view }
         requires views { HasViews self.old.board.setup self.old.with_view }
         requires last { self.old.last.frame.0 ≡ frames self.old.board.history }
         requires same { AreSame self.old.changed self.old.last.reuse self.old.shown }
         requires few { frames self.old.board.history + 1 < 2 ^ 32 }
+        requires of { self.old.board.setup ≡ script.now.setup }
+        requires keeps { Keeps script.now self.old.kept (finished script.now.setup self.old.board.history) }
         requires number { length displays.old.items ≡ set.old.displays }
-        ensures finishes { OnOk result (FinishesFrame self.old self.new number) }
-        ensures shows { OnOk result (IsShown (λ d. shown d) (λ d. faults d) self.old.frames.items self.new.frames.items set.old set.new displays.old.items displays.new.items) }
+        ensures finishes { OnOk result (FinishesFrame script.now self.old self.new number) }
+        ensures shows { OnOk result (IsShown (λ d. shown d) (λ d. faults d) (finished script.now.setup self.old.board.history) (finished script.now.setup self.new.board.history) set.old set.new displays.old.items displays.new.items) }
         ensures unshown { OnErr result ((set.new ≡ set.old) × (displays.new ≡ displays.old)) }
         ensures same { set.new.displays ≡ set.old.displays }
         ensures kinds { map (λ d. d.vtable) displays.new.items ≡ map (λ d. d.vtable) displays.old.items }
     {
         let frame = self.compose_next(alloc)?;
-        self.frames.push(frame)?;
-        show_last(set, displays, self.frames.as_slice());
+        self.kept.keep(script, frame)?;
+        show_last(set, displays, &self.kept);
         self.last.frame = self.board.done(number);
         Ok(())
     }
@@ -168,7 +173,8 @@ impl Game {
         requires stands { GameStands script.now place self.old }
         ensures stands { OnOk result (GameStands script.now (place + 1) self.new) }
         ensures goes_on { OnOk result (GoesOnAt number self.old.board.history self.new.board.history) }
-        ensures frames { OnOk result (self.new.frames ≡ self.old.frames) }
+        ensures frames { OnOk result (finished script.now.setup self.new.board.history ≡ finished script.now.setup self.old.board.history) }
+        ensures kept { OnOk result (self.new.kept ≡ self.old.kept) }
     {
         lines_are_read();
         let text = text.copy(alloc)?;
@@ -194,7 +200,8 @@ impl Game {
         requires number { length displays.old.items ≡ set.old.displays }
         ensures stands { OnOk result (GameStands script.now (place + 1) self.new) }
         ensures goes_on { OnOk result (GoesOnAt number self.old.board.history self.new.board.history) }
-        ensures shows { OnOk result (IsShown (λ d. shown d) (λ d. faults d) self.old.frames.items self.new.frames.items set.old set.new displays.old.items displays.new.items) }
+        ensures keeping { OnOk result (keeping_of self.new.kept ≡ keeping_of self.old.kept) }
+        ensures shows { OnOk result (IsShown (λ d. shown d) (λ d. faults d) (finished script.now.setup self.old.board.history) (finished script.now.setup self.new.board.history) set.old set.new displays.old.items displays.new.items) }
         ensures unshown { OnErr result ((set.new ≡ set.old) × (displays.new ≡ displays.old)) }
         ensures same { set.new.displays ≡ set.old.displays }
         ensures kinds { map (λ d. d.vtable) displays.new.items ≡ map (λ d. d.vtable) displays.old.items }
@@ -206,7 +213,7 @@ impl Game {
                 Ok(())
             }
             DisplayLine::Done => {
-                self.finish(alloc, number, set, displays)?;
+                self.finish(alloc, script, number, set, displays)?;
                 Ok(())
             }
             DisplayLine::Signal(f) => {
@@ -240,7 +247,8 @@ impl Game {
         requires number { length displays.old.items ≡ set.old.displays }
         ensures stands { OnOk result (GameStands script.now (place + 1) self.new) }
         ensures goes_on { (line : ScriptLine) → slice_get script.now.lines place ≡ Some line → OnOk result (GoesOnAt line.number self.old.board.history self.new.board.history) }
-        ensures shows { OnOk result (IsShown (λ d. shown d) (λ d. faults d) self.old.frames.items self.new.frames.items set.old set.new displays.old.items displays.new.items) }
+        ensures keeping { OnOk result (keeping_of self.new.kept ≡ keeping_of self.old.kept) }
+        ensures shows { OnOk result (IsShown (λ d. shown d) (λ d. faults d) (finished script.now.setup self.old.board.history) (finished script.now.setup self.new.board.history) set.old set.new displays.old.items displays.new.items) }
         ensures unshown { OnErr result ((set.new ≡ set.old) × (displays.new ≡ displays.old)) }
         ensures same { set.new.displays ≡ set.old.displays }
         ensures kinds { map (λ d. d.vtable) displays.new.items ≡ map (λ d. d.vtable) displays.old.items }
@@ -268,7 +276,8 @@ impl Game {
         requires stands { EndsStand script.now before self.old }
         ensures stands { EndsStand script.now (before + 1) self.new }
         ensures ends { GoesOnByEnds self.old.board.history self.new.board.history }
-        ensures frames { self.new.frames ≡ self.old.frames }
+        ensures frames { finished script.now.setup self.new.board.history ≡ finished script.now.setup self.old.board.history }
+        ensures kept { self.new.kept ≡ self.old.kept }
     {
         lines_are_read();
         let reader = &mut self.readers[before as usize];
@@ -279,10 +288,11 @@ impl Game {
     pub fn end_all(&mut self, script: &Script)
         requires playable { is_playable script.now ≡ true }
         requires stands { GameStands script.now (length script.now.lines) self.old }
-        ensures played { HasPlayed script.now self.new.board self.new.frames.items self.new.answers }
+        ensures played { HasPlayed script.now self.new.board self.new.kept self.new.answers }
         ensures written { IsWritten script.now.setup self.new.board.history }
         ensures ends { GoesOnByEnds self.old.board.history self.new.board.history }
-        ensures frames { self.new.frames ≡ self.old.frames }
+        ensures frames { finished script.now.setup self.new.board.history ≡ finished script.now.setup self.old.board.history }
+        ensures kept { self.new.kept ≡ self.old.kept }
     {
         for before in 0..script.setup.sessions {
             self.end_next(script, before);

@@ -8,9 +8,11 @@
 
 mod frame;
 mod game;
+mod kept;
 mod run;
 mod touches;
 
 pub use frame::{LastFrame, show_last};
 pub use game::Game;
+pub use kept::{Keeping, Kept};
 pub use run::{Played, play_script, play_touched, shares_of};

@@ -4,6 +4,8 @@ ghost use Rattle.flat_scene.specs.Interleave.{IsWritten};
 ghost use Rattle.flat_scene.specs.Setups.{is_setup};
 ghost use Rattle.flat_playable.specs.Playable.{is_playable};
 ghost use Rattle.flat_play.specs.Playing.{with_one_more, shares_of, AreNew, GameStands, HasPlayed};
+ghost use Rattle.flat_report.specs.Report.{finished};
+ghost use Rattle.flat_play.specs.Keeping.{keeping_of};
 ghost use Rattle.flat_display.specs.Had.{AreKept};
 ghost use Rattle.flat_play.specs.Touches.{touch_of};
 ghost use Rattle.flat_pointer.specs.Lines.{rise_after};
@@ -11,6 +13,7 @@ ghost use Rattle.flat_play.specs.Showing.{HaveSeen};
 
 use crate::frame::LastFrame;
 use crate::game::Game;
+use crate::kept::{Keeping, Kept};
 use crate::touches::{answer_all, answer_upto};
 use flat_base::{Actor, NoMemory, SessionNo, ShareList, TryCopy};
 use flat_core::{Board, shown_states_fit};
@@ -18,7 +21,7 @@ use flat_display::{Display, DisplaySet};
 use flat_places::Script;
 use flat_pointer::{PointerLine, Touch};
 use flat_report::HitAnswers;
-use flat_scene::{FrameOut, SessionSet, Setup};
+use flat_scene::{SessionSet, Setup};
 use flat_stage::{Reader, lines_are_read};
 use flat_topology::Shown;
 use std::alloc::Global;
@@ -77,10 +80,10 @@ fn new_readers(alloc: Global, setup: &Setup) -> Result<Vec<Reader>, NoMemory>
 }
 
 /// A run of which no line is played.
-fn start(alloc: Global, script: &Script) -> Result<Game, NoMemory>
+fn start(alloc: Global, script: &Script, keeping: Keeping) -> Result<Game, NoMemory>
     requires { is_playable script.now ≡ true }
     ensures stands { IfOk result (λ game. GameStands script.now 0 game) }
-    ensures none { IfOk result (λ game. game.frames.items ≡ []) }
+    ensures keeping { IfOk result (λ game. keeping_of game.kept ≡ keeping) }
     ensures no_entry { IfOk result (λ game. game.board.history ≡ []) }
 {
     lines_are_read();
@@ -96,7 +99,7 @@ fn start(alloc: Global, script: &Script) -> Result<Game, NoMemory>
         shown,
         changed: SessionSet { has: [false; 16] },
         with_view: SessionSet { has: [false; 16] },
-        frames: Vec::new(alloc),
+        kept: Kept::new(alloc, keeping),
         last,
         answers: HitAnswers::new(alloc),
     })
@@ -108,6 +111,7 @@ fn start(alloc: Global, script: &Script) -> Result<Game, NoMemory>
 fn play_lines(
     alloc: Global,
     script: &Script,
+    keeping: Keeping,
     lines: &[PointerLine],
     set: &mut DisplaySet,
     displays: &mut Vec<Box<dyn Display>>,
@@ -119,10 +123,11 @@ fn play_lines(
     requires none { set.old.lost ≡ [] }
     ensures stands { IfOk result (λ ran. GameStands script.now (length script.now.lines) ran.0) }
     ensures touches { IfOk result (λ ran. ran.1.items ≡ map (touch_of script.now.setup ran.0.board.history) lines.now) }
-    ensures seen { IfOk result (λ ran. HaveSeen (λ d. shown d) (λ d. faults d) ran.0.frames.items ran.0.board.history set.new.lost displays.old.items displays.new.items) }
+    ensures keeping { IfOk result (λ ran. keeping_of ran.0.kept ≡ keeping) }
+    ensures seen { IfOk result (λ ran. HaveSeen (λ d. shown d) (λ d. faults d) (finished script.now.setup ran.0.board.history) ran.0.board.history set.new.lost displays.old.items displays.new.items) }
     ensures kept { AreKept (λ d. shown d) (λ d. faults d) displays.old.items displays.new.items (λ d. d.vtable) }
 {
-    let mut game = start(alloc, script)?;
+    let mut game = start(alloc, script, keeping)?;
     let setup = &script.setup;
     let mut left = lines;
     let mut found = Vec::new(alloc);
@@ -140,8 +145,8 @@ fn play_lines(
 pub struct Played {
     /// Its journal is that of the run.
     pub board: Board,
-    /// All finished frames.
-    pub frames: Vec<FrameOut>,
+    /// What is kept of the finished frames.
+    pub kept: Kept,
     /// The answers to the points that were asked for.
     pub answers: HitAnswers,
     /// Which displays were lost.
@@ -154,20 +159,22 @@ pub struct Played {
 pub fn play_touched(
     alloc: Global,
     script: &Script,
+    keeping: Keeping,
     lines: &[PointerLine],
     displays: &mut Vec<Box<dyn Display>>,
 ) -> Result<(Played, Vec<Touch>), NoMemory>
     requires playable { is_playable script.now ≡ true }
     requires rise { rise_after 0 lines.now ≡ true }
     requires few { length displays.old.items < 2 ^ 32 }
-    ensures played { IfOk result (λ ran. HasPlayed script.now ran.0.board ran.0.frames.items ran.0.answers) }
+    ensures played { IfOk result (λ ran. HasPlayed script.now ran.0.board ran.0.kept ran.0.answers) }
     ensures touches { IfOk result (λ ran. ran.1.items ≡ map (touch_of script.now.setup ran.0.board.history) lines.now) }
     ensures written { IfOk result (λ ran. IsWritten script.now.setup ran.0.board.history) }
-    ensures seen { IfOk result (λ ran. HaveSeen (λ d. shown d) (λ d. faults d) ran.0.frames.items ran.0.board.history ran.0.set.lost displays.old.items displays.new.items) }
+    ensures keeping { IfOk result (λ ran. keeping_of ran.0.kept ≡ keeping) }
+    ensures seen { IfOk result (λ ran. HaveSeen (λ d. shown d) (λ d. faults d) (finished script.now.setup ran.0.board.history) ran.0.board.history ran.0.set.lost displays.old.items displays.new.items) }
     ensures kept { AreKept (λ d. shown d) (λ d. faults d) displays.old.items displays.new.items (λ d. d.vtable) }
 {
     let mut set = DisplaySet::new(alloc, displays.len() as u32)?;
-    let (mut game, touches) = play_lines(alloc, script, lines, &mut set, displays)?;
+    let (mut game, touches) = play_lines(alloc, script, keeping, lines, &mut set, displays)?;
     game.end_all(script);
     let Game {
         board,
@@ -175,13 +182,13 @@ pub fn play_touched(
         shown: _,
         changed: _,
         with_view: _,
-        frames,
+        kept,
         last: _,
         answers,
     } = game;
     let played = Played {
         board,
-        frames,
+        kept,
         answers,
         set,
     };
@@ -193,15 +200,17 @@ pub fn play_touched(
 pub fn play_script(
     alloc: Global,
     script: &Script,
+    keeping: Keeping,
     displays: &mut Vec<Box<dyn Display>>,
 ) -> Result<Played, NoMemory>
     requires playable { is_playable script.now ≡ true }
     requires few { length displays.old.items < 2 ^ 32 }
-    ensures played { IfOk result (λ played. HasPlayed script.now played.board played.frames.items played.answers) }
+    ensures played { IfOk result (λ played. HasPlayed script.now played.board played.kept played.answers) }
     ensures written { IfOk result (λ played. IsWritten script.now.setup played.board.history) }
-    ensures seen { IfOk result (λ played. HaveSeen (λ d. shown d) (λ d. faults d) played.frames.items played.board.history played.set.lost displays.old.items displays.new.items) }
+    ensures keeping { IfOk result (λ played. keeping_of played.kept ≡ keeping) }
+    ensures seen { IfOk result (λ played. HaveSeen (λ d. shown d) (λ d. faults d) (finished script.now.setup played.board.history) played.board.history played.set.lost displays.old.items displays.new.items) }
     ensures kept { AreKept (λ d. shown d) (λ d. faults d) displays.old.items displays.new.items (λ d. d.vtable) }
 {
-    let (played, _touches) = play_touched(alloc, script, &[], displays)?;
+    let (played, _touches) = play_touched(alloc, script, keeping, &[], displays)?;
     Ok(played)
 }

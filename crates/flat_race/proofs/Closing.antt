@@ -17,6 +17,7 @@ use Rattle.flat_places.specs.declared.script.Script.{Script}
 use Rattle.flat_stage.specs.Displays.{DisplayView}
 use Rattle.flat_stage.specs.Homes.{SeatsView}
 use Rattle.flat_stage.specs.Seats.{SessionView, StageView, entries_of_seat, setup_of}
+use Rattle.flat_report.specs.Report.{finished}
 use Rattle.flat_play.specs.Playing.{HasPlayed}
 use Rattle.flat_play.proofs.lemmas.Places.{all_to, drop_all}
 use Rattle.flat_play.proofs.lemmas.Starting.{is_numbered}
@@ -66,10 +67,10 @@ module _ (script : Script) (view : StageView) (compositor : DisplayView) (seats 
         (tell script.setup few board.history legal).sessions s (is_numbered script.setup k below) ∙ ap (of_seat (k + 1)) (sym (reverse-reverse board.history)) ∙ keep (k + 1) (reverse board.history) ∙ ap history_of (sym mine) in
         subst (λ (es : List Entry). IsReading script.setup script.count (session_lines s script.lines) es) (sym whole) (ended.back.read k home.0 (omega arith) below home.1 refl)
 
-    pub has_played : SeatsTellActors → JournalsKeepSeats → HasPlayed script board film.frames.items film.answers
+    pub has_played : SeatsTellActors → JournalsKeepSeats → HasPlayed script board film.kept film.answers
     has_played tell keep =
         let stood = display_same script (length script.lines) (history_of compositor.seen) board.history same_display ended.directed.display in
-        let shot = film_same script.setup (history_of compositor.seen) board.history same_display film ended.kept in
+        let shot = film_same script (history_of compositor.seen) board.history same_display film ended.kept in
         record {
           setup = setup;
           interleaves = record {
@@ -77,9 +78,12 @@ module _ (script : Script) (view : StageView) (compositor : DisplayView) (seats 
             display = stood.follows;
             all_read = stood.left ∙ ap display_lines (drop_all script.lines);
           };
-          finishing = shot.finishing;
+          keeps = shot.keeps;
           answering = shot.answering.answering;
         }
 
     pub as_many : frames board.history ≡ frames (history_of compositor.seen)
     as_many = same_display.number
+
+    pub same_frames : finished script.setup board.history ≡ finished script.setup (history_of compositor.seen)
+    same_frames = same_display.finishing

@@ -46,10 +46,12 @@ use Rattle.flat_stage.specs.Seats.{StageView, setup_of, entries_of_seat}
 use Rattle.flat_stage.specs.Seats as stage
 use Rattle.flat_play.specs.Last.{StaysLast}
 use Rattle.flat_play.specs.Playing.{AnswersStand, lines_by, rest_shares, shares_of}
-use Rattle.flat_play.proofs.lemmas.DisplaySteps.{answers_beside, answers_done, answers_point, begin_time_ok, display_session, done_ok}
+use Rattle.flat_play.proofs.lemmas.GameSteps.{keeps_same}
+use Rattle.flat_play.proofs.lemmas.DisplaySteps.{finished-beside, answers_beside, answers_done, answers_point, begin_time_ok, display_session, done_ok}
 use Rattle.flat_play.proofs.lemmas.DisplaySteps as quiet
 use Rattle.flat_play.proofs.lemmas.FramesShown.{all-finished, few_frames}
-use Rattle.flat_play.specs.Showing.{HaveSeen}
+use Rattle.flat_display.specs.Lost.{Driven}
+use Rattle.flat_play.specs.Showing.{HaveSeen, IsShown}
 use Rattle.flat_play.proofs.lemmas.Places.{drop_all}
 use Rattle.flat_play.proofs.lemmas.Starting.{by_at_most, few, first_display}
 use Rattle.flat_play.proofs.lemmas.Steps.{At}
@@ -73,39 +75,51 @@ closed_then false closed = refl
 
 -- ---- what is kept of frames
 
-module _ (setup : Setup) (before after : List Entry) (same : IsBeside setup before after) (film : Film) (stands : FilmStands setup before film) where
-  pub film_same : FilmStands setup after film
-  film_same = record { finishing = stands.finishing ∙ sym same.finishing; answering = answers_same setup before after film.last film.answers same stands.answering }
+-- the frame that an open one becomes is the next finished one, whatever sessions entered in between
+pub next_frame : (setup : Setup) (before middle : List Entry) → IsBeside setup before middle
+    → finished setup middle ++ frame_at setup (frames before + 1) (to_begin before) ∷ [] ≡ finished setup middle ++ frame_at setup (suc (frames middle)) (to_begin middle) ∷ []
+next_frame setup before middle same =
+    let number : frames before + 1 ≡ suc (frames middle) = let m = same.number in omega (arith, m) in
+    ap (λ (k : ℕ). finished setup middle ++ frame_at setup k (to_begin before) ∷ []) number
+    ∙ ap (λ (h : List Entry). finished setup middle ++ frame_at setup (suc (frames middle)) h ∷ []) (sym same.begun)
 
-module _ (setup : Setup) (middle : List Entry) (film : Film) (stands : FilmStands setup middle film) where
+module _ (script : Script) (before after : List Entry) (same : IsBeside script.setup before after) (film : Film) (stands : FilmStands script before film) where
+  pub film_same : FilmStands script after film
+  film_same = record {
+    keeps = keeps_same script film.kept film.kept (finished script.setup before) (finished script.setup after) refl same.finishing stands.keeps;
+    answering = answers_same script.setup before after film.last film.answers same stands.answering;
+  }
+
+module _ (script : Script) (middle : List Entry) (film : Film) (stands : FilmStands script middle film) where
+  abbrev setup : Setup
+  setup = script.setup
+
   -- an entry that ends no frame and asks for no point
-  film_beside : (e : Entry) → is_finish e.kind ≡ false → answer_to e (frames middle) (hits_at setup (to_finished middle)) e.kind ≡ [] → FilmStands setup (middle ▹ e) film
+  film_beside : (e : Entry) → is_finish e.kind ≡ false → answer_to e (frames middle) (hits_at setup (to_finished middle)) e.kind ≡ [] → FilmStands script (middle ▹ e) film
   film_beside e no_finish none = record {
-    finishing = stands.finishing ∙ sym (ap (λ b. finished setup middle ++ cond b (frame_at setup (suc (frames middle)) (to_begin middle) ∷ []) []) no_finish ∙ append-nil (finished setup middle));
+    keeps = keeps_same script film.kept film.kept (finished setup middle) (finished setup (middle ▹ e)) refl (finished-beside setup middle e no_finish) stands.keeps;
     answering = answers_beside setup middle film.last film.answers stands.answering e no_finish none;
   }
 
   -- the end of a frame
-  film_done : (before : List Entry) (n after : ℕ) (film' : Film) → IsBeside setup before middle → after ≡ suc (frames middle) → KeepsNext setup before after film film' → FilmStands setup (middle ▹ entry_of Display n [] Finish Done) film'
+  film_done : (before : List Entry) (n after : ℕ) (film' : Film) → IsBeside setup before middle → after ≡ suc (frames middle) → KeepsNext script before after film film' → FilmStands script (middle ▹ entry_of Display n [] Finish Done) film'
   film_done before n after film' same after_is keeps =
       let A : List HitAnswer → Type 0 = λ all. AnswersStand setup (middle ▹ entry_of Display n [] Finish Done) film'.last all in
-      let number : frames before + 1 ≡ suc (frames middle) = let m = same.number in omega (arith, m) in
       record {
-        finishing = keeps.frame ∙ ap (λ (k : ℕ). film.frames.items ++ frame_at setup k (to_begin before) ∷ []) number
-            ∙ ap (λ (h : List Entry). film.frames.items ++ frame_at setup (suc (frames middle)) h ∷ []) (sym same.begun)
-            ∙ ap (λ (fs : List FrameOut). fs ++ frame_at setup (suc (frames middle)) (to_begin middle) ∷ []) stands.finishing;
+        keeps = keeps_same script film'.kept film'.kept (finished setup middle ++ frame_at setup (frames before + 1) (to_begin before) ∷ []) (finished setup (middle ▹ entry_of Display n [] Finish Done)) refl
+            (sym (next_frame setup before middle same)) (keeps.frame.more (finished setup middle) stands.keeps);
         answering = subst A (sym keeps.answers) (answers_done setup middle film.last film.answers stands.answering n film'.last (keeps.number ∙ after_is)
             keeps.is_last (keeps.showing ∙ ap (shown_states setup) (sym same.begun)));
       }
 
   -- a point
   film_point : (n : ℕ) (x y : ℤ) (film' : Film) → film' ≡ record film { last = film'.last; answers = film'.answers } → StaysLast setup film.last film'.last
-      → film'.answers ≡ film.answers ++ (record { actor = Display; line = n; frame = film.last.frame; hits = hit_list setup film.last.reuse x y }) ∷ [] → FilmStands setup (middle ▹ entry_of Display n [] (Hit x y) Done) film'
+      → film'.answers ≡ film.answers ++ (record { actor = Display; line = n; frame = film.last.frame; hits = hit_list setup film.last.reuse x y }) ∷ [] → FilmStands script (middle ▹ entry_of Display n [] (Hit x y) Done) film'
   film_point n x y film' rest stays gained =
       let h : List Entry = middle ▹ entry_of Display n [] (Hit x y) Done in
-      let F : Film → Type 0 = FilmStands setup h in
+      let F : Film → Type 0 = FilmStands script h in
       subst F (sym rest) (record {
-        finishing = stands.finishing ∙ sym (append-nil (finished setup middle));
+        keeps = keeps_same script film.kept film.kept (finished setup middle) (finished setup h) refl (append-nil (finished setup middle)) stands.keeps;
         answering = answers_point setup middle film.last film.answers stands.answering n x y film'.last film'.answers stays gained;
       })
 
@@ -154,16 +168,26 @@ changes_same last last' (Open old) (Idle new) same opened kept knows = absurd (l
 
 module _ (script : Script) (view : StageView) (place : ℕ) where
   -- the compositor looked
-  pub hand_looks : (hand hand' : Hand) (film : Film) → HasLooked script.setup hand hand' → HandStands script view place hand film → HandStands script view place hand' film
-  hand_looks hand hand' film looks stands =
+  looked_beside : (hand hand' : Hand) (film : Film) → HasLooked script.setup hand hand' → HandStands script view place hand film → IsBeside script.setup (history_of (hand_seat hand).seen) (history_of (hand_seat hand').seen)
+  looked_beside hand hand' film looks stands =
       let old : List Entry = (hand_seat hand).seen in
-      let new : List Entry = (hand_seat hand').seen in
       let more : List Entry = looks.sees.longer.0 in
       let L : List Entry → Type 0 = λ es. Legal script.setup (history_of es) in
       let B : List Entry → Type 0 = λ es. IsBeside script.setup (history_of old) (history_of es) in
       let mine : (hand_seat hand').mine ≡ (hand_seat hand).mine = ap (λ (d : DisplayView). d.mine) looks.sees.rest in
       let own : entries_of_seat 0 (old ++ more) ≡ entries_of_seat 0 old = ap (entries_of_seat 0) (sym looks.sees.longer.1) ∙ sym looks.whole ∙ mine ∙ stands.seat.mine in
-      let same : IsBeside script.setup (history_of old) (history_of new) = subst B (sym looks.sees.longer.1) (seen_beside script.setup old more (subst L looks.sees.longer.1 looks.legal) own) in
+      subst B (sym looks.sees.longer.1) (seen_beside script.setup old more (subst L looks.sees.longer.1 looks.legal) own)
+
+  pub looked_finishes : (hand hand' : Hand) (film : Film) → HasLooked script.setup hand hand' → HandStands script view place hand film
+      → finished script.setup (history_of (hand_seat hand').seen) ≡ finished script.setup (history_of (hand_seat hand).seen)
+  looked_finishes hand hand' film looks stands = (looked_beside hand hand' film looks stands).finishing
+
+  pub hand_looks : (hand hand' : Hand) (film : Film) → HasLooked script.setup hand hand' → HandStands script view place hand film → HandStands script view place hand' film
+  hand_looks hand hand' film looks stands =
+      let old : List Entry = (hand_seat hand).seen in
+      let new : List Entry = (hand_seat hand').seen in
+      let mine : (hand_seat hand').mine ≡ (hand_seat hand).mine = ap (λ (d : DisplayView). d.mine) looks.sees.rest in
+      let same : IsBeside script.setup (history_of old) (history_of new) = looked_beside hand hand' film looks stands in
       record {
         seat = record {
           own = ap (λ (d : DisplayView). d.stage) looks.sees.rest ∙ stands.seat.own;
@@ -175,7 +199,7 @@ module _ (script : Script) (view : StageView) (place : ℕ) where
         frame = same.is_open ∙ stands.frame ∙ sym looks.opened;
         shows = shows_same script.setup (history_of old) (history_of new) hand hand' same.begun looks.opened looks.kept stands.shows;
         changes = changes_same film.last.reuse film.last.reuse hand hand' refl looks.opened looks.kept stands.changes;
-        kept = film_same script.setup (history_of old) (history_of new) same film stands.kept;
+        kept = film_same script (history_of old) (history_of new) same film stands.kept;
       }
 
   module _ (x : ScriptLine) (at : At script place x) (actor : x.actor ≡ Display) (of : IsStageOf view script) where
@@ -199,7 +223,7 @@ module _ (script : Script) (view : StageView) (place : ℕ) where
         let begun : history_of frame.display.seen ≡ to_begin (history_of frame.display.seen) = en.grown ∙ ap to_begin (sym en.grown) in
         let V : Setup → Type 0 = λ s. AreViewed s (history_of frame.display.seen) frame.with_view in
         let W : List Entry → Type 0 = λ h. AreViewed script.setup h frame.with_view in
-        let F : List Entry → Type 0 = λ h. FilmStands script.setup h film in
+        let F : List Entry → Type 0 = λ h. FilmStands script h film in
         let S : Shown → Type 0 = λ was. AreSame frame.changed was frame.shown in
         let before : shown_states (setup_of seat.stage) (to_begin (history_of seat.seen)) ≡ film.last.reuse =
         ap (λ s. shown_states s (to_begin (history_of seat.seen))) setup ∙ ap (shown_states script.setup) (sym (all-finished (history_of seat.seen) stands.frame)) ∙ sym stands.kept.answering.showing in
@@ -208,22 +232,36 @@ module _ (script : Script) (view : StageView) (place : ℕ) where
           frame = ap is_frame_open en.grown;
           shows = (shown ∙ ap (λ s. shown_states s (history_of frame.display.seen)) setup ∙ ap (shown_states script.setup) begun, subst W begun (subst V setup viewed));
           changes = subst S before changed;
-          kept = subst F (sym en.grown) (film_beside script.setup en.middle film (film_same script.setup (history_of seat.seen) en.middle en.beside film stands.kept) e refl refl);
+          kept = subst F (sym en.grown) (film_beside script en.middle film (film_same script (history_of seat.seen) en.middle en.beside film stands.kept) e refl refl);
         }
+
+    -- the frames that are finished, after the end of one and after another line
+    pub finished_then : (seat seat' : DisplayView) → SeatStands script view place seat → DisplayEnters x.number Finish Done seat seat'
+        → finished script.setup (history_of seat'.seen) ≡ finished script.setup (history_of seat.seen) ++ frame_at script.setup (frames (history_of seat.seen) + 1) (to_begin (history_of seat.seen)) ∷ []
+    finished_then seat seat' stands enters =
+        let en = enters_as script view place x at of.setup seat seat' stands Finish Done enters in
+        ap (finished script.setup) en.grown ∙ sym (next_frame script.setup (history_of seat.seen) en.middle en.beside)
+        ∙ ap (λ (fs : List FrameOut). fs ++ frame_at script.setup (frames (history_of seat.seen) + 1) (to_begin (history_of seat.seen)) ∷ []) en.beside.finishing
+
+    pub finished_still : (kind : Kind) (reply : Reply) (seat seat' : DisplayView) → is_finish kind ≡ false → SeatStands script view place seat → DisplayEnters x.number kind reply seat seat'
+        → finished script.setup (history_of seat'.seen) ≡ finished script.setup (history_of seat.seen)
+    finished_still kind reply seat seat' no_finish stands enters =
+        let en = enters_as script view place x at of.setup seat seat' stands kind reply enters in
+        ap (finished script.setup) en.grown ∙ finished-beside script.setup en.middle (entry_of Display x.number [] kind reply) no_finish ∙ en.beside.finishing
 
     -- a frame is finished
     pub hand_finishes : x.body ≡ body.Display display.Done → (frame : FrameView) (seat : DisplayView) (film film' : Film) → HandStands script view place (Open frame) film → DisplayEnters x.number Finish Done frame.display seat
-        → KeepsNext script.setup (history_of frame.display.seen) (frames (history_of seat.seen)) film film' → HandStands script view (place + 1) (Idle seat) film'
+        → KeepsNext script (history_of frame.display.seen) (frames (history_of seat.seen)) film film' → HandStands script view (place + 1) (Idle seat) film'
     hand_finishes is frame seat film film' stands enters keeps =
         let e : Entry = entry_of Display x.number [] Finish Done in
         let en = enters_as script view place x at of.setup frame.display seat stands.seat Finish Done enters in
-        let F : List Entry → Type 0 = λ h. FilmStands script.setup h film' in
+        let F : List Entry → Type 0 = λ h. FilmStands script h film' in
         record {
           seat = seat_finishes script view place x at of.setup frame.display seat stands.seat actor is enters;
           frame = ap is_frame_open en.grown;
           shows = tt;
           changes = tt;
-          kept = subst F (sym en.grown) (film_done script.setup en.middle film (film_same script.setup (history_of frame.display.seen) en.middle en.beside film stands.kept) (history_of frame.display.seen) x.number
+          kept = subst F (sym en.grown) (film_done script en.middle film (film_same script (history_of frame.display.seen) en.middle en.beside film stands.kept) (history_of frame.display.seen) x.number
               (frames (history_of seat.seen)) film' en.beside (ap frames en.grown) keeps);
         }
 
@@ -231,11 +269,11 @@ module _ (script : Script) (view : StageView) (place : ℕ) where
     hand_beside : (text : DisplayLine) (kind : Kind) (reply : Reply) → x.body ≡ body.Display text → entry_of_display text ≡ kind → is_begin kind ≡ false → is_finish kind ≡ false
         → ((o : Bool) (t : ℕ) (follows : Bool → ℕ → Bool) → keeps_frames o t (body.Display text) follows ≡ follows o t)
         → (hand hand' : Hand) (film film' : Film) → HandStands script view place hand film → (enters : DisplayEnters x.number kind reply (hand_seat hand) (hand_seat hand')) → is_open hand' ≡ is_open hand → KeepsFrame hand hand' → film'.last.reuse ≡ film.last.reuse
-        → ((middle : List Entry) → FilmStands script.setup middle film → FilmStands script.setup (middle ▹ entry_of Display x.number [] kind reply) film') → HandStands script view (place + 1) hand' film'
+        → ((middle : List Entry) → FilmStands script middle film → FilmStands script (middle ▹ entry_of Display x.number [] kind reply) film') → HandStands script view (place + 1) hand' film'
     hand_beside text kind reply is makes no_begin no_finish keeps hand hand' film film' stands enters same kept reuse films =
         let e : Entry = entry_of Display x.number [] kind reply in
         let en = enters_as script view place x at of.setup (hand_seat hand) (hand_seat hand') stands.seat kind reply enters in
-        let F : List Entry → Type 0 = λ h. FilmStands script.setup h film' in
+        let F : List Entry → Type 0 = λ h. FilmStands script h film' in
         let opened : is_frame_open (en.middle ▹ e) ≡ is_frame_open en.middle = rw (no_begin, no_finish) refl in
         let begun : to_begin (en.middle ▹ e) ≡ to_begin en.middle = rw no_begin refl in
         record {
@@ -243,25 +281,25 @@ module _ (script : Script) (view : StageView) (place : ℕ) where
           frame = ap is_frame_open en.grown ∙ opened ∙ en.beside.is_open ∙ stands.frame ∙ sym same;
           shows = shows_same script.setup (history_of (hand_seat hand).seen) (history_of (hand_seat hand').seen) hand hand' (ap to_begin en.grown ∙ begun ∙ en.beside.begun) same kept stands.shows;
           changes = changes_same film.last.reuse film'.last.reuse hand hand' reuse same kept stands.changes;
-          kept = subst F (sym en.grown) (films en.middle (film_same script.setup (history_of (hand_seat hand).seen) en.middle en.beside film stands.kept));
+          kept = subst F (sym en.grown) (films en.middle (film_same script (history_of (hand_seat hand).seen) en.middle en.beside film stands.kept));
         }
 
     pub hand_signals : (f : FenceNo) (reply : Reply) → x.body ≡ body.Display (display.Signal f) → (hand hand' : Hand) (film : Film) → HandStands script view place hand film → DisplayEnters x.number (Signal f) reply (hand_seat hand) (hand_seat hand') → is_open hand' ≡ is_open hand → KeepsFrame hand hand'
         → HandStands script view (place + 1) hand' film
     hand_signals f reply is hand hand' film stands enters same kept =
-        hand_beside (display.Signal f) (Signal f) reply is refl refl refl (λ o t follows. refl) hand hand' film film stands enters same kept refl (λ middle stood. film_beside script.setup middle film stood (entry_of Display x.number [] (Signal f) reply) refl refl)
+        hand_beside (display.Signal f) (Signal f) reply is refl refl refl (λ o t follows. refl) hand hand' film film stands enters same kept refl (λ middle stood. film_beside script middle film stood (entry_of Display x.number [] (Signal f) reply) refl refl)
 
     pub hand_waits : (c : Cond) (reply : Reply) → x.body ≡ body.Display (display.Wait c) → (hand hand' : Hand) (film : Film) → HandStands script view place hand film → DisplayEnters x.number (Wait c) reply (hand_seat hand) (hand_seat hand') → is_open hand' ≡ is_open hand → KeepsFrame hand hand'
         → HandStands script view (place + 1) hand' film
     hand_waits c reply is hand hand' film stands enters same kept =
-        hand_beside (display.Wait c) (Wait c) reply is refl refl refl (λ o t follows. refl) hand hand' film film stands enters same kept refl (λ middle stood. film_beside script.setup middle film stood (entry_of Display x.number [] (Wait c) reply) refl refl)
+        hand_beside (display.Wait c) (Wait c) reply is refl refl refl (λ o t follows. refl) hand hand' film film stands enters same kept refl (λ middle stood. film_beside script middle film stood (entry_of Display x.number [] (Wait c) reply) refl refl)
 
     pub hand_hits : (px py : ℤ) → x.body ≡ body.Display (display.Hit px py) → (hand hand' : Hand) (film film' : Film) → HandStands script view place hand film → DisplayEnters x.number (Hit px py) Done (hand_seat hand) (hand_seat hand') → is_open hand' ≡ is_open hand → KeepsFrame hand hand'
         → film' ≡ record film { last = film'.last; answers = film'.answers } → StaysLast script.setup film.last film'.last
         → film'.answers ≡ film.answers ++ (record { actor = Display; line = x.number; frame = film.last.frame; hits = hit_list script.setup film.last.reuse px py }) ∷ []
         → HandStands script view (place + 1) hand' film'
     hand_hits px py is hand hand' film film' stands enters same kept rest stays gained =
-        hand_beside (display.Hit px py) (Hit px py) Done is refl refl refl (λ o t follows. refl) hand hand' film film' stands enters same kept stays.reuse (λ middle stood. film_point script.setup middle film stood x.number px py film' rest stays gained)
+        hand_beside (display.Hit px py) (Hit px py) Done is refl refl refl (λ o t follows. refl) hand hand' film film' stands enters same kept stays.reuse (λ middle stood. film_point script middle film stood x.number px py film' rest stays gained)
 
     -- ---- what a line asks for
 
@@ -339,7 +377,7 @@ display_line_at script place x at here text is =
 
 -- ---- before the first line, and behind the last
 
-pub hand_starts : (script : Script) (view : StageView) (seat : DisplayView) (film : Film) → is_playable script ≡ true → seat ≡ record { stage = view; seen = []; mine = [] } → FilmStands script.setup [] film → HandStands script view 0 (Idle seat) film
+pub hand_starts : (script : Script) (view : StageView) (seat : DisplayView) (film : Film) → is_playable script ≡ true → seat ≡ record { stage = view; seen = []; mine = [] } → FilmStands script [] film → HandStands script view 0 (Idle seat) film
 hand_starts script view seat film playable is kept =
     let P : DisplayView → Type 0 = λ s. HandStands script view 0 (Idle s) film in
     subst P (sym is) (record {
@@ -356,5 +394,12 @@ hand_ends script view hand film stands =
     let closed : not (is_frame_open h) ≡ true = ap (frames_close (is_frame_open h) (begin_time h)) (sym (drop_all script.lines)) ∙ stands.seat.display.closing in
     sym stands.frame ∙ closed_then (is_frame_open h) closed
 
-pub seen_there : {D : Type 0} (told : D → Option (List FrameOut)) (count : D → ℕ) (all : List FrameOut) (h h' : List Entry) (lost : List Lost) (olds news : List D) → h ≡ h' → HaveSeen told count all h lost olds news → HaveSeen told count all h' lost olds news
-seen_there told count all h h' lost olds news same seen = let P : List Entry → Type 0 = λ es. HaveSeen told count all es lost olds news in subst P same seen
+pub seen_there : {D : Type 0} (told : D → Option (List FrameOut)) (count : D → ℕ) (setup : Setup) (h h' : List Entry) (lost : List Lost) (olds news : List D) → h ≡ h' → HaveSeen told count (finished setup h) h lost olds news → HaveSeen told count (finished setup h') h' lost olds news
+seen_there told count setup h h' lost olds news same seen = let P : List Entry → Type 0 = λ es. HaveSeen told count (finished setup es) es lost olds news in subst P same seen
+
+-- what was shown, by other names of the frames before and after
+pub shown_as : {D : Type 0} (told : D → Option (List FrameOut)) (count : D → ℕ) (old old' new new' : List FrameOut) (set set' : Driven) (olds news : List D) → old' ≡ old → new' ≡ new → IsShown told count old new set set' olds news → IsShown told count old' new' set set' olds news
+shown_as told count old old' new new' set set' olds news old_is new_is shown =
+    let P : List FrameOut → Type 0 = λ fs. IsShown told count fs new set set' olds news in
+    let Q : List FrameOut → Type 0 = λ fs. IsShown told count old' fs set set' olds news in
+    subst Q (sym new_is) (subst P (sym old_is) shown)

@@ -1,6 +1,5 @@
 -- The compositor of a race: how its seat stands at a place of the script.
 use Rattle.std.specs.Prelude.{◌≡◌, ℕ, ◌+◌, ◌≤◌, Bool, true, false, List, [], ◌∷◌, ◌++◌, length, drop}
-use Rattle.flat_scene.specs.declared.frames.FrameOut.{FrameOut}
 use Rattle.flat_scene.specs.declared.journal.Entry.{Entry}
 use Rattle.flat_scene.specs.declared.setup.Setup.{Setup}
 use Rattle.flat_scene.specs.History.{history_of}
@@ -13,6 +12,7 @@ use Rattle.flat_report.specs.Report.{finished, frame_at}
 use Rattle.flat_places.specs.declared.script.Script.{Script}
 use Rattle.flat_stage.specs.Displays.{AreViewed, DisplaySees, DisplayView}
 use Rattle.flat_stage.specs.Seats.{StageView, entries_of_seat}
+use Rattle.flat_play.specs.Keeping.{Keeps, KeepsMore}
 use Rattle.flat_play.specs.Last.{IsLast}
 use Rattle.flat_play.specs.Playing.{AnswersStand, DisplayStands, lines_by}
 use Rattle.flat_race.specs.declared.hand.Hand.{Hand}
@@ -52,10 +52,10 @@ pub record SeatStands (script : Script) (view : StageView) (place : ℕ) (seat :
   pub display : DisplayStands script place (history_of seat.seen)
   pub spent : length seat.mine + lines_by 0 (drop place script.lines) ≤ lines_by 0 script.lines
 
--- What is kept of frames is that of the history seen: the finished ones, the last of them, and the answers to points.
-pub record FilmStands (setup : Setup) (history : List Entry) (film : Film) : Type 0 where
-  pub finishing : film.frames.items ≡ finished setup history
-  pub answering : AnswersStand setup history film.last film.answers
+-- What is kept of frames is that of the history seen: of the finished ones, the last of them, and the answers to points.
+pub record FilmStands (script : Script) (history : List Entry) (film : Film) : Type 0 where
+  pub keeps : Keeps script film.kept (finished script.setup history)
+  pub answering : AnswersStand script.setup history film.last film.answers
 
 -- The whole compositor stands at a place.
 pub record HandStands (script : Script) (view : StageView) (place : ℕ) (hand : Hand) (film : Film) : Type 0 where
@@ -63,7 +63,7 @@ pub record HandStands (script : Script) (view : StageView) (place : ℕ) (hand :
   pub frame : is_frame_open (history_of (hand_seat hand).seen) ≡ is_open hand
   pub shows : ShowsBegin script.setup (history_of (hand_seat hand).seen) hand
   pub changes : KnowsChanges film.last.reuse hand
-  pub kept : FilmStands script.setup (history_of (hand_seat hand).seen) film
+  pub kept : FilmStands script (history_of (hand_seat hand).seen) film
 
 -- ---- what one line does
 
@@ -76,9 +76,9 @@ pub record HasLooked (setup : Setup) (old new : Hand) : Type 0 where
   pub kept : KeepsFrame old new
 
 -- The next frame is kept, which shows the last begin; after the entry so many frames are finished.
-pub record KeepsNext (setup : Setup) (history : List Entry) (after : ℕ) (old new : Film) : Type 0 where
-  pub frame : new.frames.items ≡ old.frames.items ++ frame_at setup (frames history + 1) (to_begin history) ∷ []
+pub record KeepsNext (script : Script) (history : List Entry) (after : ℕ) (old new : Film) : Type 0 where
+  pub frame : KeepsMore script (frame_at script.setup (frames history + 1) (to_begin history)) old.kept new.kept
   pub number : new.last.frame.0 ≡ after
-  pub is_last : IsLast setup new.last
-  pub showing : new.last.reuse ≡ shown_states setup (to_begin history)
+  pub is_last : IsLast script.setup new.last
+  pub showing : new.last.reuse ≡ shown_states script.setup (to_begin history)
   pub answers : new.answers ≡ old.answers

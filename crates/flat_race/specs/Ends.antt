@@ -13,6 +13,6 @@ use Rattle.flat_race.specs.Sessions.{AreBack}
 -- The compositor has read all its lines, and so has each session, which ended.
 pub record HaveEnded (view : StageView) (script : Script) (compositor : DisplayView) (seats : SeatsView) (film : Film) : Type 0 where
   pub directed : SeatStands script view (length script.lines) compositor
-  pub kept : FilmStands script.setup (history_of compositor.seen) film
+  pub kept : FilmStands script (history_of compositor.seen) film
   pub own : seats.stage ≡ view
   pub back : AreBack view script 0 true seats.seats

@@ -15,6 +15,8 @@ ghost use Rattle.flat_playable.specs.Playable.{is_playable};
 ghost use Rattle.flat_display.specs.Had.{AreKept};
 ghost use Rattle.flat_stage.specs.Displays.{AreViewed, DisplayEnters, HasDisplayRoom};
 ghost use Rattle.flat_stage.specs.Seats.{entries_of_seat, setup_of};
+ghost use Rattle.flat_report.specs.Report.{finished, frame_at};
+ghost use Rattle.flat_play.specs.Keeping.{Keeps, keeping_of};
 ghost use Rattle.flat_play.specs.Last.{IsLast, StaysLast};
 ghost use Rattle.flat_play.specs.Showing.{HaveSeen, IsShown};
 ghost use Rattle.flat_race.specs.declared.hand.Hand.TheVariants.{Open};
@@ -28,10 +30,10 @@ use crate::session::asked_of;
 use flat_base::{Actor, NoMemory};
 use flat_core::shown_states_fit;
 use flat_display::{Display, DisplaySet};
-use flat_play::{LastFrame, show_last};
+use flat_play::{Kept, LastFrame, show_last};
 use flat_report::{HitAnswer, HitAnswers};
 use flat_rules::{display_knows_frames, journals_keep_seats, seats_tell_actors};
-use flat_scene::{Body, Cond, DisplayLine, FrameOut, Reply};
+use flat_scene::{Body, Cond, DisplayLine, Reply};
 use flat_stage::{CompositorSeat, OpenFrame};
 use std::sync::Wait;
 use std::thread;
@@ -39,8 +41,8 @@ use std::thread;
 /// What is kept of a race's frames.
 #[derive(Drop)]
 pub(crate) struct Film {
-    /// All finished frames.
-    pub(crate) frames: Vec<FrameOut>,
+    /// What is kept of the finished frames.
+    pub(crate) kept: Kept,
     pub(crate) last: LastFrame,
     /// The answers to the points that were asked for.
     pub(crate) answers: HitAnswers,
@@ -109,12 +111,16 @@ fn finish<R: Wait, G: Gate>(
     requires shows { ShowsBegin lent.now.script.now.setup (history_of frame.display.seen) (Open frame) }
     requires same { AreSame frame.changed film.old.last.reuse frame.shown }
     requires last { film.old.last.frame.0 ≡ frames (history_of frame.display.seen) }
-    requires counted { length film.old.frames.items ≡ frames (history_of frame.display.seen) }
+    requires kept { Keeps lent.now.script.now film.old.kept (finished lent.now.script.now.setup (history_of frame.display.seen)) }
     requires few { frames (history_of frame.display.seen) + 1 < 2 ^ 32 }
     requires number { length displays.old.items ≡ film.old.set.displays }
     ensures enters { IfOk result (λ seat. DisplayEnters number Finish Done frame.display seat) }
-    ensures keeps { IfOk result (λ seat. KeepsNext lent.now.script.now.setup (history_of frame.display.seen) (frames (history_of seat.seen)) film.old film.new) }
-    ensures shown { OnOk result (IsShown (λ d. shown d) (λ d. faults d) film.old.frames.items film.new.frames.items film.old.set film.new.set displays.old.items displays.new.items) }
+    ensures keeps { IfOk result (λ seat. KeepsNext lent.now.script.now (history_of frame.display.seen) (frames (history_of seat.seen)) film.old film.new) }
+    ensures shown { OnOk result (IsShown (λ d. shown d) (λ d. faults d)
+        (finished lent.now.script.now.setup (history_of frame.display.seen))
+        (finished lent.now.script.now.setup (history_of frame.display.seen)
+        ++ frame_at lent.now.script.now.setup (frames (history_of frame.display.seen) + 1) (to_begin (history_of frame.display.seen)) ∷ [])
+        film.old.set film.new.set displays.old.items displays.new.items) }
     ensures unshown { OnErr result (displays.new ≡ displays.old) }
     ensures same { film.new.set.displays ≡ film.old.set.displays }
     ensures kinds { map (λ d. d.vtable) displays.new.items ≡ map (λ d. d.vtable) displays.old.items }
@@ -128,8 +134,8 @@ fn finish<R: Wait, G: Gate>(
         frame.changed(),
         frame.with_view(),
     )?;
-    film.frames.push(composed)?;
-    show_last(&mut film.set, displays, film.frames.as_slice());
+    film.kept.keep(lent.script, composed)?;
+    show_last(&mut film.set, displays, &film.kept);
     let (seat, finished) = frame.done(lent.rt, lent.stage, number);
     lent.gate.passed(DISPLAY, number, &Reply::Done);
     film.last.frame = finished;
@@ -185,7 +191,11 @@ fn direct_line<R: Wait, G: Gate>(
     requires stands { HandStands lent.now.script.now lent.now.stage.now place hand film.old }
     requires number { length displays.old.items ≡ film.old.set.displays }
     ensures stands { IfOk result (λ hand. HandStands lent.now.script.now lent.now.stage.now (place + 1) hand film.new) }
-    ensures shown { OnOk result (IsShown (λ d. shown d) (λ d. faults d) film.old.frames.items film.new.frames.items film.old.set film.new.set displays.old.items displays.new.items) }
+    ensures shown { IfOk result (λ new. IsShown (λ d. shown d) (λ d. faults d)
+        (finished lent.now.script.now.setup (history_of (hand_seat hand).seen))
+        (finished lent.now.script.now.setup (history_of (hand_seat new).seen))
+        film.old.set film.new.set displays.old.items displays.new.items) }
+    ensures keeping { OnOk result (keeping_of film.new.kept ≡ keeping_of film.old.kept) }
     ensures unshown { OnErr result (displays.new ≡ displays.old) }
     ensures same { film.new.set.displays ≡ film.old.set.displays }
     ensures kinds { map (λ d. d.vtable) displays.new.items ≡ map (λ d. d.vtable) displays.old.items }
@@ -236,7 +246,11 @@ fn direct_next<R: Wait, G: Gate>(
     requires stands { HandStands lent.now.script.now lent.now.stage.now place hand film.old }
     requires number { length displays.old.items ≡ film.old.set.displays }
     ensures stands { IfOk result (λ hand. HandStands lent.now.script.now lent.now.stage.now (place + 1) hand film.new) }
-    ensures shown { OnOk result (IsShown (λ d. shown d) (λ d. faults d) film.old.frames.items film.new.frames.items film.old.set film.new.set displays.old.items displays.new.items) }
+    ensures shown { IfOk result (λ new. IsShown (λ d. shown d) (λ d. faults d)
+        (finished lent.now.script.now.setup (history_of (hand_seat hand).seen))
+        (finished lent.now.script.now.setup (history_of (hand_seat new).seen))
+        film.old.set film.new.set displays.old.items displays.new.items) }
+    ensures keeping { OnOk result (keeping_of film.new.kept ≡ keeping_of film.old.kept) }
     ensures unshown { OnErr result (displays.new ≡ displays.old) }
     ensures same { film.new.set.displays ≡ film.old.set.displays }
     ensures kinds { map (λ d. d.vtable) displays.new.items ≡ map (λ d. d.vtable) displays.old.items }
@@ -258,13 +272,14 @@ pub(crate) fn direct<R: Wait, G: Gate>(
     requires playable { is_playable lent.now.script.now ≡ true }
     requires of { IsStageOf lent.now.stage.now lent.now.script.now }
     requires fresh { seat ≡ record { stage = lent.now.stage.now; seen = []; mine = [] } }
-    requires film { FilmStands lent.now.script.now.setup [] film.old }
+    requires film { FilmStands lent.now.script.now [] film.old }
     requires none { film.old.set.lost ≡ [] }
     requires number { length displays.old.items ≡ film.old.set.displays }
     requires few { film.old.set.displays < 2 ^ 32 }
     ensures stands { IfOk result (λ seat. SeatStands lent.now.script.now lent.now.stage.now (length lent.now.script.now.lines) seat) }
-    ensures film { IfOk result (λ seat. FilmStands lent.now.script.now.setup (history_of seat.seen) film.new) }
-    ensures seen { IfOk result (λ seat. HaveSeen (λ d. shown d) (λ d. faults d) film.new.frames.items (history_of seat.seen) film.new.set.lost displays.old.items displays.new.items) }
+    ensures film { IfOk result (λ seat. FilmStands lent.now.script.now (history_of seat.seen) film.new) }
+    ensures seen { IfOk result (λ seat. HaveSeen (λ d. shown d) (λ d. faults d) (finished lent.now.script.now.setup (history_of seat.seen)) (history_of seat.seen) film.new.set.lost displays.old.items displays.new.items) }
+    ensures keeping { OnOk result (keeping_of film.new.kept ≡ keeping_of film.old.kept) }
     ensures kept { AreKept (λ d. shown d) (λ d. faults d) displays.old.items displays.new.items (λ d. d.vtable) }
 {
     let mut hand = Hand::Idle(seat);

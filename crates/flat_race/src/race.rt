@@ -5,6 +5,8 @@ ghost use Rattle.flat_scene.specs.History.{history_of};
 ghost use Rattle.flat_rules.specs.Legal.{frames};
 ghost use Rattle.flat_stage.specs.Homes.{AreFresh};
 ghost use Rattle.flat_stage.specs.Seats.{setup_of};
+ghost use Rattle.flat_report.specs.Report.{finished};
+ghost use Rattle.flat_play.specs.Keeping.{keeping_of};
 ghost use Rattle.flat_play.specs.Playing.{HasPlayed};
 ghost use Rattle.flat_play.specs.Showing.{HaveSeen};
 ghost use Rattle.flat_race.specs.Directing.{FilmStands};
@@ -19,7 +21,7 @@ use flat_base::{NoMemory, TryCopy};
 use flat_core::Board;
 use flat_display::{Display, DisplaySet};
 use flat_places::Script;
-use flat_play::{LastFrame, Played, shares_of};
+use flat_play::{Keeping, Kept, LastFrame, Played, shares_of};
 use flat_report::HitAnswers;
 use flat_rules::{journals_keep_seats, seats_tell_actors};
 use flat_stage::{CompositorSeat, SessionSeats, Stage};
@@ -44,14 +46,20 @@ struct Raced {
 }
 
 /// What is kept of frames before the first one.
-fn new_film(alloc: Global, script: &Script, displays: u32) -> Result<Film, NoMemory>
+fn new_film(
+    alloc: Global,
+    script: &Script,
+    keeping: Keeping,
+    displays: u32,
+) -> Result<Film, NoMemory>
     requires playable { is_playable script.now ≡ true }
-    ensures stands { IfOk result (λ film. FilmStands script.now.setup [] film) }
+    ensures stands { IfOk result (λ film. FilmStands script.now [] film) }
     ensures none { IfOk result (λ film. film.set.lost ≡ []) }
     ensures number { IfOk result (λ film. film.set.displays ≡ displays) }
+    ensures keeping { IfOk result (λ film. keeping_of film.kept ≡ keeping) }
 {
     Ok(Film {
-        frames: Vec::new(alloc),
+        kept: Kept::new(alloc, keeping),
         last: LastFrame::none(alloc, &script.setup)?,
         answers: HitAnswers::new(alloc),
         set: DisplaySet::new(alloc, displays)?,
@@ -72,12 +80,13 @@ fn run_in<'s, E, T: Threads + Wait + Sync, G: Gate>(
     requires compositor { compositor ≡ record { stage = lent.now.stage.now; seen = []; mine = [] } }
     requires own { seats.stage ≡ lent.now.stage.now }
     requires sessions { AreFresh lent.now.stage.now lent.now.script.now.setup.sessions seats.seats }
-    requires film { FilmStands lent.now.script.now.setup [] film }
+    requires film { FilmStands lent.now.script.now [] film }
     requires none { film.set.lost ≡ [] }
     requires number { length displays.items ≡ film.set.displays }
     requires few { film.set.displays < 2 ^ 32 }
     ensures ended { IfOk result.ended (λ e. HaveEnded lent.now.stage.now lent.now.script.now e.compositor e.seats e.film) }
-    ensures seen { IfOk result.ended (λ e. HaveSeen (λ d. shown d) (λ d. faults d) e.film.frames.items (history_of e.compositor.seen) e.film.set.lost displays.items result.displays.items) }
+    ensures seen { IfOk result.ended (λ e. HaveSeen (λ d. shown d) (λ d. faults d) (finished lent.now.script.now.setup (history_of e.compositor.seen)) (history_of e.compositor.seen) e.film.set.lost displays.items result.displays.items) }
+    ensures keeping { IfOk result.ended (λ e. keeping_of e.film.kept ≡ keeping_of film.kept) }
     ensures kept { AreKept (λ d. shown d) (λ d. faults d) displays.items result.displays.items (λ d. d.vtable) }
 {
     let out = match start_each(scope, lent, &mut seats) {
@@ -130,12 +139,13 @@ fn on_threads<T: Threads + Wait + Sync, G: Gate>(
     requires compositor { compositor ≡ record { stage = stage.now; seen = []; mine = [] } }
     requires own { seats.stage ≡ stage.now }
     requires sessions { AreFresh stage.now script.now.setup.sessions seats.seats }
-    requires film { FilmStands script.now.setup [] film }
+    requires film { FilmStands script.now [] film }
     requires none { film.set.lost ≡ [] }
     requires number { length displays.items ≡ film.set.displays }
     requires few { film.set.displays < 2 ^ 32 }
     ensures ended { IfOk result.ended (λ e. HaveEnded stage.now script.now e.compositor e.seats e.film) }
-    ensures seen { IfOk result.ended (λ e. HaveSeen (λ d. shown d) (λ d. faults d) e.film.frames.items (history_of e.compositor.seen) e.film.set.lost displays.items result.displays.items) }
+    ensures seen { IfOk result.ended (λ e. HaveSeen (λ d. shown d) (λ d. faults d) (finished script.now.setup (history_of e.compositor.seen)) (history_of e.compositor.seen) e.film.set.lost displays.items result.displays.items) }
+    ensures keeping { IfOk result.ended (λ e. keeping_of e.film.kept ≡ keeping_of film.kept) }
     ensures kept { AreKept (λ d. shown d) (λ d. faults d) displays.items result.displays.items (λ d. d.vtable) }
 {
     thread::scope(
@@ -145,10 +155,11 @@ fn on_threads<T: Threads + Wait + Sync, G: Gate>(
             requires { (is_playable script.now ≡ true) × IsStageOf stage.now script.now
                 × (compositor ≡ record { stage = stage.now; seen = []; mine = [] })
                 × (seats.stage ≡ stage.now) × AreFresh stage.now script.now.setup.sessions seats.seats
-                × FilmStands script.now.setup [] film × (film.set.lost ≡ [])
+                × FilmStands script.now [] film × (film.set.lost ≡ [])
                 × (length displays.items ≡ film.set.displays) × (film.set.displays < 2 ^ 32) }
             ensures { IfOk result.ended (λ e. HaveEnded stage.entry.now script.entry.now e.compositor e.seats e.film)
-                × IfOk result.ended (λ e. HaveSeen (λ d. shown d) (λ d. faults d) e.film.frames.items (history_of e.compositor.seen) e.film.set.lost displays.items result.displays.items)
+                × IfOk result.ended (λ e. HaveSeen (λ d. shown d) (λ d. faults d) (finished script.entry.now.setup (history_of e.compositor.seen)) (history_of e.compositor.seen) e.film.set.lost displays.items result.displays.items)
+                × IfOk result.ended (λ e. keeping_of e.film.kept ≡ keeping_of film.kept)
                 × AreKept (λ d. shown d) (λ d. faults d) displays.items result.displays.items (λ d. d.vtable) }
         {
             let lent = Lent {
@@ -185,8 +196,9 @@ fn close(stage: Stage, script: &Script, ended: Ended) -> Played
     requires playable { is_playable script.now ≡ true }
     requires of { IsStageOf stage script.now }
     requires ended { HaveEnded stage script.now ended.compositor ended.seats ended.film }
-    ensures played { HasPlayed script.now result.board result.frames.items result.answers }
-    ensures frames { result.frames ≡ ended.film.frames }
+    ensures played { HasPlayed script.now result.board result.kept result.answers }
+    ensures frames { finished script.now.setup result.board.history ≡ finished script.now.setup (history_of ended.compositor.seen) }
+    ensures kept { result.kept ≡ ended.film.kept }
     ensures set { result.set ≡ ended.film.set }
     ensures as_many { frames result.board.history ≡ frames (history_of ended.compositor.seen) }
 {
@@ -199,14 +211,14 @@ fn close(stage: Stage, script: &Script, ended: Ended) -> Played
     } = ended;
     let board = stage.close(compositor, seats);
     let Film {
-        frames,
+        kept,
         last: _,
         answers,
         set,
     } = film;
     Played {
         board,
-        frames,
+        kept,
         answers,
         set,
     }
@@ -224,16 +236,18 @@ pub fn race_script<T: Threads + Wait + Sync, G: Gate>(
     rt: &T,
     alloc: Global,
     script: &Script,
+    keeping: Keeping,
     displays: &mut Vec<Box<dyn Display>>,
     gate: &G,
 ) -> Result<Played, NoMemory>
     requires playable { is_playable script.now ≡ true }
     requires few { length displays.old.items < 2 ^ 32 }
-    ensures played { IfOk result (λ played. HasPlayed script.now played.board played.frames.items played.answers) }
-    ensures seen { IfOk result (λ played. HaveSeen (λ d. shown d) (λ d. faults d) played.frames.items played.board.history played.set.lost displays.old.items displays.new.items) }
+    ensures played { IfOk result (λ played. HasPlayed script.now played.board played.kept played.answers) }
+    ensures keeping { IfOk result (λ played. keeping_of played.kept ≡ keeping) }
+    ensures seen { IfOk result (λ played. HaveSeen (λ d. shown d) (λ d. faults d) (finished script.now.setup played.board.history) played.board.history played.set.lost displays.old.items displays.new.items) }
     ensures kept { AreKept (λ d. shown d) (λ d. faults d) displays.old.items displays.new.items (λ d. d.vtable) }
 {
-    let film = new_film(alloc, script, displays.len() as u32)?;
+    let film = new_film(alloc, script, keeping, displays.len() as u32)?;
     let (stage, compositor, seats) = new_stage(alloc, script)?;
     let shown_here = mem::replace(displays, Vec::new(alloc));
     let raced = on_threads(

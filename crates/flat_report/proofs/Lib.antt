@@ -5,11 +5,14 @@ pub mod ItemLines
 pub mod Losses
 pub mod Named
 pub mod Openings
+pub mod Paging
+pub mod Piecing
 pub mod Reading
 pub mod SeenTold
 pub mod Sheets
 mod SmallHanded
 pub mod Tails
+pub mod Texting
 pub mod Turns
 pub mod WholeReport
 pub mod Written

@@ -1,5 +1,6 @@
 -- What is said of the entries after some others.
-use Rattle.std.proofs.Common.{◌≡◌, ℕ, suc, ℤ, ◌+◌, ◌<◌, Bool, true, false, ◌==◌, cond, List, [], ◌∷◌, ◌++◌, length, reverse, map, take, drop, take_while, get_or, refl, sym, ap, ◌∙◌, append_assoc, append-nil, arith}
+use Rattle.std.proofs.Common.{◌≡◌, ℕ, suc, ℤ, ◌+◌, ◌<◌, Bool, true, false, ◌==◌, cond, List, [], ◌∷◌, ◌++◌, length, reverse, map, take, drop, take_while, get_or, refl, sym, ap, ◌∙◌, append_assoc, append-nil, add-one, arith}
+use Rattle.std.proofs.lemmas.Grind.{flat_map-append}
 use Rattle.std.proofs.lemmas.Bool.Decides.{nat_tests}
 use Rattle.std.proofs.lemmas.List.{take_more, reverse-append}
 use Rattle.std.proofs.lemmas.List.Sums.{take_while-cons}
@@ -19,9 +20,11 @@ use Rattle.flat_rules.specs.Posts.{Sent, posted}
 use Rattle.flat_places.specs.declared.script.Script.{Script}
 use Rattle.flat_report.specs.declared.report.HitAnswer.{HitAnswer}
 use Rattle.flat_report.specs.EntryLines.{point_words, said_words, entry_line, event_line}
-use Rattle.flat_report.specs.Handed.{answer_to, post_line, first_hits, first_frame_lines, frames_after, answers_after, handed_lines}
-use Rattle.flat_report.specs.Report.{frame_at, hits_at, shown_lines, entry_lines}
-use Rattle.flat_page.specs.Words.{number}
+use Rattle.flat_report.specs.FrameLines.{frame_lines, lost_line}
+use Rattle.flat_report.specs.FrameTexts.{frame_text}
+use Rattle.flat_report.specs.Handed.{answer_to, post_line, first_hits, texts_after, answers_after, shown_text, handed_text}
+use Rattle.flat_report.specs.Report.{frame_at, hits_at, lost_at, shown_lines, entry_lines}
+use Rattle.flat_page.specs.Words.{Word, line_of, number, text_of}
 use Rattle.flat_report.specs.Names.{actor_name}
 
 -- ---- histories, from the oldest entry on
@@ -123,38 +126,51 @@ first_hits_are : (entry : Entry) (n : ℕ) (hits : ℤ → ℤ → List Hit) (la
     → first_hits (answer_to entry n hits asked ++ later) ≡ hits x y
 first_hits_are entry n hits later x y asked is = rw is refl
 
-frame_is : (script : Script) (lost : List Lost) (before : List Entry) (later : List FrameOut) (b : Bool)
-    → cond b (first_frame_lines script lost (cond b (frame_at script.setup (suc (frames before)) (to_begin before) ∷ []) [] ++ later)) [] ≡ cond b (shown_lines script lost before) []
-frame_is script lost before later true = refl
-frame_is script lost before later false = refl
+pub text-append : (xs ys : List (List Word)) → text_of (xs ++ ys) ≡ text_of xs ++ text_of ys
+text-append xs ys = flat_map-append (λ words. line_of words ++ 10 ∷ []) xs ys
+
+shown_is : (script : Script) (lost : List Lost) (before : List Entry) (later : List FrameOut) (b : Bool)
+    → cond b (shown_text lost (frames before + 1) (map (frame_text script) (cond b (frame_at script.setup (suc (frames before)) (to_begin before) ∷ []) [] ++ later))) [] ≡ text_of (cond b (shown_lines script lost before) [])
+shown_is script lost before later true =
+    let frame : FrameOut = frame_at script.setup (suc (frames before)) (to_begin before) in
+    ap (λ n. frame_text script frame ++ text_of (map lost_line (lost_at n lost))) (add-one (frames before))
+    ∙ sym (text-append (frame_lines script frame) (map lost_line (lost_at (suc (frames before)) lost)))
+shown_is script lost before later false = refl
 
 posts_are : (script : Script) (n : ℕ) (sent : List Sent)
     → map (post_line script) (map (λ (one : Sent). let p : Post = record { entry = n; session = one.to; event = one.event } in p) sent) ≡ map (λ one. event_line script one.to one.event) sent
 posts_are script n [] = refl
 posts_are script n (one ∷ sent) = ap (λ t. event_line script one.to one.event ∷ t) (posts_are script n sent)
 
--- what is written of the next entry by what is handed in from it on are its lines
-pub next_lines : (script : Script) (lost : List Lost) (before : List Entry) (entry : Entry) (later_frames : List FrameOut) (later_answers : List HitAnswer)
-    → handed_lines script lost (frames before) (frame_step script.setup before entry ++ later_frames) (answer_step script.setup before entry ++ later_answers) (post_step script.setup before entry) entry
-    ≡ entry_lines script lost before entry
-next_lines script lost before entry later_frames later_answers =
+-- what is written of the next entry by what is handed in from it on is the text of its lines
+pub next_text : (script : Script) (lost : List Lost) (before : List Entry) (entry : Entry) (later_frames : List FrameOut) (later_answers : List HitAnswer)
+    → handed_text script lost (frames before) (map (frame_text script) (frame_step script.setup before entry ++ later_frames)) (answer_step script.setup before entry ++ later_answers) (post_step script.setup before entry) entry
+    ≡ text_of (entry_lines script lost before entry)
+next_text script lost before entry later_frames later_answers =
     let hits : ℤ → ℤ → List Hit = hits_at script.setup (to_finished before) in
     let line : said_words script (frames before) (λ x y. first_hits (answer_step script.setup before entry ++ later_answers)) entry.line entry.kind entry.reply ≡ said_words script (frames before) hits entry.line entry.kind entry.reply =
     said script (frames before) entry.line entry.kind entry.reply hits _ (λ x y is. first_hits_are entry (frames before) hits later_answers x y entry.kind is) in
-    ap (λ ws. (actor_name script entry.actor ∷ ws) ∷ cond (is_finish entry.kind) (first_frame_lines script lost (frame_step script.setup before entry ++ later_frames)) [] ++ map (post_line script) (post_step script.setup before entry)) line
-    ∙ ap (λ fs. entry_line script (frames before) hits entry ∷ fs ++ map (post_line script) (post_step script.setup before entry)) (frame_is script lost before later_frames (is_finish entry.kind))
-    ∙ ap (λ ps. entry_line script (frames before) hits entry ∷ cond (is_finish entry.kind) (shown_lines script lost before) [] ++ ps) (posts_are script (length before) (posted script.setup before entry))
+    let own : List Word = entry_line script (frames before) hits entry in
+    let shown : List (List Word) = cond (is_finish entry.kind) (shown_lines script lost before) [] in
+    let events : List (List Word) = map (λ sent. event_line script sent.to sent.event) (posted script.setup before entry) in
+    let handed_shown : List ℕ = cond (is_finish entry.kind) (shown_text lost (frames before + 1) (map (frame_text script) (frame_step script.setup before entry ++ later_frames))) [] in
+    ap (λ ws. text_of ((actor_name script entry.actor ∷ ws) ∷ []) ++ handed_shown ++ text_of (map (post_line script) (post_step script.setup before entry))) line
+    ∙ ap (λ t. text_of (own ∷ []) ++ t ++ text_of (map (post_line script) (post_step script.setup before entry))) (shown_is script lost before later_frames (is_finish entry.kind))
+    ∙ ap (λ ps. text_of (own ∷ []) ++ text_of shown ++ text_of ps) (posts_are script (length before) (posted script.setup before entry))
+    ∙ ap (λ t. t ++ text_of events) (sym (text-append (own ∷ []) shown))
+    ∙ sym (text-append (own ∷ shown) events)
 
 -- ---- what is left after an entry
 
-frames_left : (b : Bool) (frame : FrameOut) (later : List FrameOut) → cond b (drop 1 (cond b (frame ∷ []) [] ++ later)) (cond b (frame ∷ []) [] ++ later) ≡ later
-frames_left true frame later = refl
-frames_left false frame later = refl
+texts_left : (script : Script) (b : Bool) (frame : FrameOut) (later : List FrameOut)
+    → cond b (drop 1 (map (frame_text script) (cond b (frame ∷ []) [] ++ later))) (map (frame_text script) (cond b (frame ∷ []) [] ++ later)) ≡ map (frame_text script) later
+texts_left script true frame later = refl
+texts_left script false frame later = refl
 
-pub later_frames : (setup : Setup) (before : List Entry) (entry : Entry) (later : List Entry)
-    → frames_after entry.kind (tail (frame_step setup) before (entry ∷ later)) ≡ tail (frame_step setup) (before ▹ entry) later
-later_frames setup before entry later =
-    frames_left (is_finish entry.kind) (frame_at setup (suc (frames before)) (to_begin before)) (tail (frame_step setup) (before ▹ entry) later)
+pub later_texts : (script : Script) (before : List Entry) (entry : Entry) (later : List Entry)
+    → texts_after entry.kind (map (frame_text script) (tail (frame_step script.setup) before (entry ∷ later))) ≡ map (frame_text script) (tail (frame_step script.setup) (before ▹ entry) later)
+later_texts script before entry later =
+    texts_left script (is_finish entry.kind) (frame_at script.setup (suc (frames before)) (to_begin before)) (tail (frame_step script.setup) (before ▹ entry) later)
 
 answers_left : (entry : Entry) (n : ℕ) (hits : ℤ → ℤ → List Hit) (later : List HitAnswer) (asked : Kind) → answers_after asked (answer_to entry n hits asked ++ later) ≡ later
 answers_left entry n hits later (kind.Hit x y) = refl

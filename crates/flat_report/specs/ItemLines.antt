@@ -1,9 +1,8 @@
--- The lines of draw items on a page of their own, each on its part.
-use Rattle.std.specs.Prelude.{◌≡◌, ℕ, ◌+◌, List, [], ◌∷◌, length, map, Some, slice_get}
+-- The lines of draw items in a text, each on its part.
+use Rattle.std.specs.Prelude.{◌≡◌, ℕ, ◌+◌, List, [], ◌∷◌, ◌++◌, length, Option, Some, None, slice_get}
 use Rattle.flat_scene.specs.declared.frames.DrawItem.{DrawItem}
+use Rattle.flat_scene.specs.declared.frames.FrameOut.{FrameOut}
 use Rattle.flat_places.specs.declared.script.Script.{Script}
-use Rattle.flat_page.specs.declared.page.Page.{Page}
-use Rattle.flat_page.specs.Pages.{IsText, StandsAt, is_counting}
 use Rattle.flat_page.specs.Words.{text_of}
 use Rattle.flat_report.specs.declared.item_lines.ItemLines.{ItemLines}
 use Rattle.flat_report.specs.declared.item_lines.Part.{Part}
@@ -13,21 +12,24 @@ use Rattle.flat_report.specs.FrameLines.{item_line}
 abbrev pub line_text : Script → DrawItem → List ℕ
 line_text script item = text_of (item_line script item ∷ [])
 
--- A part of a page has the line of an item.
-pub record HasLine (script : Script) (page : Page) (item : DrawItem) (part : Part) : Type 0 where
+-- bytes stand in a text, from a place on
+abbrev pub StandsIn : ℕ → List ℕ → List ℕ → Type 0
+StandsIn start bytes text = (before : List ℕ) × (after : List ℕ) × (text ≡ before ++ bytes ++ after) × (length before ≡ start)
+
+-- A part of a text is the line of an item.
+pub record HasLine (script : Script) (text : List ℕ) (item : DrawItem) (part : Part) : Type 0 where
   pub ends : part.end ≡ part.start + length (line_text script item)
-  pub stands : StandsAt part.start (line_text script item) page
+  pub stands : StandsIn part.start (line_text script item) text
 
--- at each place of some parts stands the line of the item at that place
-abbrev pub HaveLines : Script → Page → List DrawItem → List Part → Type 0
-HaveLines script page items parts = (i : ℕ) (item : DrawItem) (part : Part) → slice_get items i ≡ Some item → slice_get parts i ≡ Some part → HasLine script page item part
+-- at each place of some parts is the line of the item at that place
+abbrev pub HaveLines : Script → List ℕ → List DrawItem → List Part → Type 0
+HaveLines script text items parts = (i : ℕ) (item : DrawItem) (part : Part) → slice_get items i ≡ Some item → slice_get parts i ≡ Some part → HasLine script text item part
 
--- The page has the lines of the items, one behind another.
-pub record AreLines (script : Script) (lines : ItemLines) : Type 0 where
-  pub text : IsText lines.page (text_of (map (item_line script) lines.items.now))
-  pub each : HaveLines script lines.page lines.items.now lines.parts.items
+-- the draw items of a frame, if there is one
+abbrev pub items_of : Option FrameOut → List DrawItem
+items_of None = []
+items_of (Some frame) = frame.items
 
--- The lines are of the same sort as a page, on which they may be put.
-pub record AreLast (script : Script) (page : Page) (last : ItemLines) : Type 0 where
-  pub lines : AreLines script last
-  pub sort : is_counting last.page ≡ is_counting page
+-- the text has the lines of the frame's items
+abbrev pub AreLines : Script → ItemLines → Type 0
+AreLines script lines = HaveLines script lines.text.items (items_of lines.frame) lines.parts.items

@@ -1,9 +1,8 @@
 -- What a report says of the run: all of it.
-use Rattle.std.specs.Prelude.{◌≡◌, ◌^◌, ℕ, [], nat_lt, IsTrue, List}
+use Rattle.std.specs.Prelude.{◌≡◌, ◌^◌, ℕ, [], map, nat_lt, IsTrue, List}
 use Rattle.std.specs.List.{list_all}
 use Rattle.flat_scene.specs.declared.frames.Lost.{Lost}
 use Rattle.flat_scene.specs.declared.journal.Entry.{Entry}
-use Rattle.flat_scene.specs.declared.frames.FrameOut.{FrameOut}
 use Rattle.flat_scene.specs.declared.journal.Post.{Post}
 use Rattle.flat_scene.specs.History.{history_of}
 use Rattle.flat_scene.specs.Interleave.{Interleaves}
@@ -12,6 +11,7 @@ use Rattle.flat_rules.specs.Posts.{posts}
 use Rattle.flat_places.specs.declared.script.Script.{Script}
 use Rattle.flat_script.specs.Grammar.{IsScript}
 use Rattle.flat_report.specs.declared.report.HitAnswer.{HitAnswer}
+use Rattle.flat_report.specs.FrameTexts.{frame_text}
 use Rattle.flat_report.specs.Handed.{answers_of, handed_report}
 use Rattle.flat_report.specs.Report.{report, finished, is_loss, is_seeing}
 
@@ -30,8 +30,8 @@ ReportsDetermineHistories = (bytes : List ℕ) (script : Script) → IsScript by
     → (history history' : List Entry) (lost lost' : List Lost) (seen seen' : List ℕ) → IsRun script history lost seen → IsRun script history' lost' seen'
     → report script history lost seen ≡ report script history' lost' seen' → (history ≡ history') × (lost ≡ lost') × (seen ≡ seen')
 
--- the text of what is handed in is the report, where it is what the rules say of the history: the posts, the finished frames and the answers to points; and where there are no probes
+-- the text of what is handed in is the report, where it is what the rules say of the history: the posts, the texts of the finished frames and the answers to points; and where there are no probes
 abbrev pub HandedIsReport : Type 0
-HandedIsReport = (script : Script) (entries : List Entry) (sent : List Post) (frames : List FrameOut) (lost : List Lost) (answers : List HitAnswer) → script.setup.probes ≡ 0
-    → sent ≡ posts script.setup (history_of entries) → frames ≡ finished script.setup (history_of entries) → answers ≡ answers_of script.setup (history_of entries)
-    → handed_report script entries sent frames lost answers ≡ report script (history_of entries) lost []
+HandedIsReport = (script : Script) (entries : List Entry) (sent : List Post) (texts : List (List ℕ)) (lost : List Lost) (answers : List HitAnswer) → script.setup.probes ≡ 0
+    → sent ≡ posts script.setup (history_of entries) → texts ≡ map (frame_text script) (finished script.setup (history_of entries)) → answers ≡ answers_of script.setup (history_of entries)
+    → handed_report script entries sent texts lost answers ≡ report script (history_of entries) lost []

@@ -1,7 +1,9 @@
 pub mod EntryLines
 pub mod FrameLines
+pub mod FrameTexts
 pub mod Handed
 pub mod ItemLines
 pub mod Laws
 pub mod Names
+pub mod Pieces
 pub mod Report

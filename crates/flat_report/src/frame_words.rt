@@ -2,16 +2,14 @@ ghost use Rattle.std.specs.Prelude.{◌≡◌, ◌++◌, ◌∷◌, [], OnOk, co
 ghost use Rattle.flat_page.specs.Words.{number, numbers, session_name};
 ghost use Rattle.flat_report.specs.Names.{buffers_name};
 ghost use Rattle.flat_page.specs.Pages.{Writes, WritesLines};
-ghost use Rattle.flat_report.specs.FrameLines.{rect_words, flip_number, blend_word, paint_words, matrix_words, item_line, parent_word, view_line, apart_line, lost_line, frame_lines};
-ghost use Rattle.flat_report.specs.ItemLines.{AreLast};
+ghost use Rattle.flat_report.specs.FrameLines.{rect_words, flip_number, blend_word, paint_words, matrix_words, item_line, parent_word, view_line, apart_line, lost_line};
 ghost use Rattle.flat_report.specs.Report.{lost_at};
 
-use crate::item_lines::{ItemLines, push_items};
 use crate::names::buffers_name;
 use flat_base::{BufferNo, IntRect, NoMemory, Rect, SessionNo};
 use flat_page::{Page, session_name};
 use flat_places::Script;
-use flat_scene::{BlendMode, DrawItem, FrameOut, ImageFlip, Lost, Paint, SceneMatrix, ViewNode};
+use flat_scene::{BlendMode, DrawItem, ImageFlip, Lost, Paint, SceneMatrix, ViewNode, ViewTree};
 
 fn push_rect(page: &mut Page, rect: Rect) -> Result<(), NoMemory>
     ensures { OnOk result (Writes (rect_words rect) page.old page.new) }
@@ -247,58 +245,32 @@ fn push_aparts(page: &mut Page, script: &Script, sessions: &[SessionNo]) -> Resu
     Ok(())
 }
 
-/// The lines of a frame: its items, its views, the sessions apart.
-fn push_parts<'a>(
-    page: &mut Page,
-    script: &Script,
-    frame: &'a FrameOut,
-    last: &mut ItemLines<'a>,
-) -> Result<(), NoMemory>
-    requires last { AreLast script.now page.old last.old }
-    ensures lines { OnOk result (WritesLines (frame_lines script.now frame.now) page.old page.new) }
-    ensures last { OnOk result (AreLast script.now page.new last.new) }
+/// The lines of a view tree: its views, the sessions apart.
+pub(crate) fn push_tree(page: &mut Page, script: &Script, tree: &ViewTree) -> Result<(), NoMemory>
+    ensures { OnOk result (WritesLines (map (view_line script.now) tree.now.nodes ++ map (apart_line script.now) tree.now.apart) page.old page.new) }
 {
-    push_items(page, script, frame.items.as_slice(), last)?;
-    push_views(page, script, frame.tree.nodes.as_slice())?;
-    push_aparts(page, script, frame.tree.apart.as_slice())?;
+    push_views(page, script, tree.nodes.as_slice())?;
+    push_aparts(page, script, tree.apart.as_slice())?;
     Ok(())
 }
 
 /// The line of a display, if it was lost at the frame of that number.
-fn push_lost_at(page: &mut Page, number: u32, lost: &Lost) -> Result<(), NoMemory>
+fn push_lost_at(page: &mut Page, number: u64, lost: &Lost) -> Result<(), NoMemory>
     ensures { OnOk result (WritesLines (map lost_line (lost_at number (lost.now ∷ []))) page.old page.new) }
 {
-    if lost.frame.0 == number {
+    if u64::from(lost.frame.0) == number {
         push_lost(page, lost)
     } else {
         Ok(())
     }
 }
 
-fn push_losses(page: &mut Page, number: u32, lost: &[Lost]) -> Result<(), NoMemory>
+/// The lines of the displays that were lost at the frame of a number.
+pub(crate) fn push_losses(page: &mut Page, number: u64, lost: &[Lost]) -> Result<(), NoMemory>
     ensures { OnOk result (WritesLines (map lost_line (lost_at number lost.now)) page.old page.new) }
 {
     for one in lost {
         push_lost_at(page, number, one)?;
     }
-    Ok(())
-}
-
-/// What stands between a done line and its events: the frame's lines, and those of
-/// the displays that were lost at it. The lines of its items are kept for the frame
-/// after it.
-pub(crate) fn push_frame<'a>(
-    page: &mut Page,
-    script: &Script,
-    frame: &'a FrameOut,
-    lost: &[Lost],
-    last: &mut ItemLines<'a>,
-) -> Result<(), NoMemory>
-    requires last { AreLast script.now page.old last.old }
-    ensures last { OnOk result (AreLast script.now page.new last.new) }
-    ensures lines { OnOk result (WritesLines (frame_lines script.now frame.now ++ map lost_line (lost_at frame.now.frame.0 lost.now)) page.old page.new) }
-{
-    push_parts(page, script, frame, last)?;
-    push_losses(page, frame.frame.0, lost)?;
     Ok(())
 }

@@ -1,55 +1,81 @@
 //! The lines of a frame's draw items, which are copied where the frame before has
 //! the same item at the same place.
-ghost use Rattle.std.specs.Prelude.{◌≡◌, [], ◌∷◌, map, IfOk, IfSome, OnOk};
+ghost use Rattle.std.specs.Prelude.{◌≡◌, ◌+◌, [], ◌∷◌, List, ℕ, length, map, false, None, IfOk, IfSome, OnOk};
 ghost use Rattle.flat_page.specs.Pages.{is_counting, WritesLines};
 ghost use Rattle.flat_report.specs.FrameLines.{item_line};
-ghost use Rattle.flat_report.specs.ItemLines.{AreLast, AreLines, HasLine};
+ghost use Rattle.flat_report.specs.ItemLines.{AreLines, HaveLines, StandsIn, items_of, line_text};
+ghost use Rattle.flat_report.specs.Pieces.{text_on};
 
 use crate::frame_words::push_item;
 use flat_base::NoMemory;
 use flat_drawable::is_same;
 use flat_page::Page;
 use flat_places::Script;
-use flat_scene::DrawItem;
+use flat_scene::{DrawItem, FrameOut};
 use std::alloc::Global;
 
-/// A part of a page, from one byte to before another.
+/// A part of a text, from one byte to before another.
 #[derive(Clone, Copy, Debug)]
 pub(crate) struct Part {
     start: usize,
     end: usize,
 }
 
-/// The draw items of a frame, and a page of their lines, each on its part.
-#[derive(Drop)]
-pub(crate) struct ItemLines<'a> {
-    alloc: Global,
-    items: &'a [DrawItem],
-    page: Page,
-    parts: Vec<Part>,
+impl Part {
+    /// The bytes of a text on this part, where it has one.
+    fn of(self, text: &[u8]) -> Option<&[u8]>
+        ensures { (bytes : List ℕ) → StandsIn self.start bytes text.now → self.end ≡ self.start + length bytes → IfSome result (λ part. part.now ≡ bytes) }
+    {
+        if self.start > self.end {
+            return None;
+        }
+        if self.end > text.len() {
+            return None;
+        }
+        Some(&text[self.start..self.end])
+    }
 }
 
-impl<'a> ItemLines<'a> {
-    /// Before the first frame, for a page of this sort.
-    pub(crate) fn none(alloc: Global, page: &Page) -> Result<ItemLines<'a>, NoMemory>
-        ensures { (script : Script) → IfOk result (AreLast script page.now) }
+/// A frame, if there is one, and a text with the lines of its draw items, each on its
+/// part.
+#[derive(Drop)]
+pub(crate) struct ItemLines {
+    pub(crate) frame: Option<FrameOut>,
+    pub(crate) text: Vec<u8>,
+    pub(crate) parts: Vec<Part>,
+}
+
+impl ItemLines {
+    /// No frame. It takes no memory.
+    pub(crate) fn none(alloc: Global) -> ItemLines
+        ensures lines { (script : Script) → AreLines script result }
+        ensures frame { result.frame ≡ None }
     {
-        Ok(ItemLines {
-            alloc,
-            items: &[],
-            page: page.like(alloc)?,
+        ItemLines {
+            frame: None,
+            text: Vec::new(alloc),
             parts: Vec::new(alloc),
-        })
+        }
     }
 
-    /// The part with the line of the item at a place, where it is this item.
-    fn line_of(&self, place: usize, item: &DrawItem) -> Option<Part>
-        ensures { (script : Script) → AreLines script self.now → IfSome result (HasLine script self.now.page item.now) }
+    /// The frame's draw items.
+    fn items(&self) -> &[DrawItem]
+        ensures { result.now ≡ items_of self.now.frame }
     {
-        let old = self.items.get(place)?;
+        match &self.frame {
+            Some(frame) => frame.items.as_slice(),
+            None => &[],
+        }
+    }
+
+    /// The line of the item at a place, where it is this item.
+    fn line_of(&self, place: usize, item: &DrawItem) -> Option<&[u8]>
+        ensures { (script : Script) → AreLines script self.now → IfSome result (λ line. line.now ≡ line_text script item.now) }
+    {
+        let old = self.items().get(place)?;
         let part = self.parts.get(place)?;
         if is_same(old, item) {
-            Some(*part)
+            part.of(self.text.as_slice())
         } else {
             None
         }
@@ -63,55 +89,36 @@ impl<'a> ItemLines<'a> {
         place: usize,
         item: &DrawItem,
     ) -> Result<(), NoMemory>
-        requires last { AreLast script.now page.old self.now }
-        ensures { OnOk result (WritesLines (item_line script.now item.now ∷ []) page.old page.new) }
+        ensures line { AreLines script.now self.now → OnOk result (WritesLines (item_line script.now item.now ∷ []) page.old page.new) }
+        ensures sort { OnOk result (is_counting page.new ≡ is_counting page.old) }
     {
         match self.line_of(place, item) {
-            Some(part) => {
-                page.put_part(&self.page, part.start, part.end)?;
-                Ok(())
-            }
+            Some(line) => page.put(line),
             None => push_item(page, script, item),
         }
     }
 
-    /// The lines of the items of the next frame.
-    fn next(&self, script: &Script, items: &'a [DrawItem]) -> Result<ItemLines<'a>, NoMemory>
-        requires lines { AreLines script.now self.now }
-        ensures lines { IfOk result (AreLines script.now) }
-        ensures items { IfOk result (λ next. next.items.now ≡ items.now) }
-        ensures sort { IfOk result (λ next. is_counting next.page ≡ is_counting self.now.page) }
+    /// Puts the lines of the next frame's items, of which these are the lines of the
+    /// frame before. It answers where each stands.
+    pub(crate) fn push_next(
+        &self,
+        alloc: Global,
+        page: &mut Page,
+        script: &Script,
+        items: &[DrawItem],
+    ) -> Result<Vec<Part>, NoMemory>
+        ensures lines { AreLines script.now self.now → OnOk result (WritesLines (map (item_line script.now) items.now) page.old page.new) }
+        ensures sort { OnOk result (is_counting page.new ≡ is_counting page.old) }
+        ensures parts { AreLines script.now self.now → is_counting page.old ≡ false →
+            IfOk result (λ parts. HaveLines script.now (text_on page.new) items.now parts.items) }
     {
-        let mut page = self.page.like(self.alloc)?;
-        let mut parts = Vec::with_capacity(self.alloc, items.len())?;
+        let mut parts = Vec::with_capacity(alloc, items.len())?;
         for (place, item) in items.iter().enumerate() {
             let start = page.len();
-            self.push_line(&mut page, script, place, item)?;
+            self.push_line(page, script, place, item)?;
             let end = page.len();
             parts.push(Part { start, end })?;
         }
-        Ok(ItemLines {
-            alloc: self.alloc,
-            items,
-            page,
-            parts,
-        })
+        Ok(parts)
     }
-}
-
-/// The lines of the draw items of a frame, behind those of the frame before.
-pub(crate) fn push_items<'a>(
-    page: &mut Page,
-    script: &Script,
-    items: &'a [DrawItem],
-    last: &mut ItemLines<'a>,
-) -> Result<(), NoMemory>
-    requires last { AreLast script.now page.old last.old }
-    ensures lines { OnOk result (WritesLines (map (item_line script.now) items.now) page.old page.new) }
-    ensures last { OnOk result (AreLast script.now page.new last.new) }
-{
-    let next = last.next(script, items)?;
-    page.put_part(&next.page, 0, next.page.len())?;
-    *last = next;
-    Ok(())
 }

@@ -8,8 +8,8 @@ pub fn reports_determine_histories()
     ensures { ReportsDetermineHistories }
 {}
 
-/// What is written of a journal, its frames and its answers is the report of its
-/// history, where they are what the rules say of it, and the script has no probe.
+/// What is written of a journal, the texts of its frames and its answers is the report
+/// of its history, where they are what the rules say of it, and the script has no probe.
 ///
 /// The call does nothing. Its contract is a law about the definitions.
 pub fn handed_is_report()

@@ -1,18 +1,15 @@
-ghost use Rattle.std.specs.Prelude.{◌≡◌, ◌++◌, ◌∷◌, ◌+◌, ◌-◌, ◌<◌, ◌^◌, [], OnOk, IfOk, length, cond, codes};
+ghost use Rattle.std.specs.Prelude.{◌≡◌, ◌++◌, ◌+◌, ◌-◌, ◌<◌, ◌^◌, [], OnOk, IfOk, cond, drop};
 ghost use Rattle.flat_scene.specs.History.{is_finish};
-ghost use Rattle.flat_report.specs.Handed.{first_hits, first_frame_lines, frames_after, answers_after, first_posts, handed_lines, handed_entries, handed_report_lines, handed_report};
-ghost use Rattle.flat_page.specs.Pages.{Writes, WritesLines};
-ghost use Rattle.flat_report.specs.ItemLines.{AreLast};
-ghost use Rattle.flat_page.specs.Words.{number};
+ghost use Rattle.flat_report.specs.Handed.{first_hits, answers_after, texts_after, first_posts, shown_text, handed_text, handed_entries, handed_report};
 
-use crate::entry_lines::{push_entry, push_posts};
-use crate::frame_words::push_frame;
-use crate::item_lines::ItemLines;
+use crate::frame_texts::FrameTexts;
+use crate::paged_text::PagedText;
+use crate::pieces::Pieces;
 use flat_base::{Actor, FrameNo, Items, NoMemory};
-use flat_page::Page;
 use flat_places::Script;
-use flat_scene::{Entry, FrameOut, Hit, HitList, Journal, Kind, Lost, Post};
+use flat_scene::{Entry, Hit, HitList, Journal, Kind, Lost, Post};
 use std::alloc::Global;
+use std::collections::VecDeque;
 
 /// The answer to a line that asks for a point of the display.
 #[derive(Debug, Drop)]
@@ -58,16 +55,6 @@ fn answers_after<'a>(answers: &'a [HitAnswer], kind: &Kind) -> &'a [HitAnswer]
     }
 }
 
-/// The frames after an entry of this kind.
-fn frames_after<'a>(frames: &'a [FrameOut], kind: &Kind) -> &'a [FrameOut]
-    ensures { result.now ≡ frames_after kind.now frames.now }
-{
-    match (kind, frames) {
-        (Kind::Finish, [_, later @ ..]) => later,
-        _ => frames,
-    }
-}
-
 /// How many frames are finished after an entry of this kind.
 fn finished_after(finished: u64, kind: &Kind) -> u64
     requires { finished < 2 ^ 64 - 1 }
@@ -79,175 +66,122 @@ fn finished_after(finished: u64, kind: &Kind) -> u64
     }
 }
 
-/// The lines of the first frame.
-fn push_first<'a>(
-    page: &mut Page,
-    script: &Script,
+/// What stands between a done line and its events: the text of the frame, which is
+/// the first of those left and is taken off them, and the lines of the displays that
+/// were lost at it.
+fn push_shown(
+    paged: &mut PagedText,
     lost: &[Lost],
-    frames: &'a [FrameOut],
-    last: &mut ItemLines<'a>,
+    number: u64,
+    texts: &mut VecDeque<Items<u8>>,
 ) -> Result<(), NoMemory>
-    requires last { AreLast script.now page.old last.old }
-    ensures last { OnOk result (AreLast script.now page.new last.new) }
-    ensures lines { OnOk result (WritesLines (first_frame_lines script.now lost.now frames.now) page.old page.new) }
+    ensures text { OnOk result (paged.new ≡ paged.old ++ shown_text lost.now number texts.old.items) }
+    ensures left { OnOk result (texts.new.items ≡ drop 1 texts.old.items) }
 {
-    match frames {
-        [first, ..] => push_frame(page, script, first, lost, last),
-        [] => Ok(()),
+    if let Some(text) = texts.pop_front() {
+        paged.add(text)?;
     }
+    paged.losses(number, lost)?;
+    Ok(())
 }
 
-/// The lines of the frame that an entry of this kind finishes.
-fn push_shown<'a>(
-    page: &mut Page,
-    script: &Script,
+/// The same, where an entry of this kind finishes a frame.
+fn push_finished(
+    paged: &mut PagedText,
     lost: &[Lost],
-    frames: &'a [FrameOut],
+    number: u64,
+    texts: &mut VecDeque<Items<u8>>,
     kind: &Kind,
-    last: &mut ItemLines<'a>,
 ) -> Result<(), NoMemory>
-    requires last { AreLast script.now page.old last.old }
-    ensures last { OnOk result (AreLast script.now page.new last.new) }
-    ensures lines { OnOk result (WritesLines (cond (is_finish kind.now) (first_frame_lines script.now lost.now frames.now) []) page.old page.new) }
+    ensures text { OnOk result (paged.new ≡ paged.old ++ cond (is_finish kind.now) (shown_text lost.now number texts.old.items) []) }
+    ensures left { OnOk result (texts.new.items ≡ texts_after kind.now texts.old.items) }
 {
     match kind {
-        Kind::Finish => push_first(page, script, lost, frames, last),
+        Kind::Finish => push_shown(paged, lost, number, texts),
         _ => Ok(()),
     }
 }
 
-/// The lines of an entry, by what is handed in from it on: the frames and the
+/// The text of an entry, by what is handed in from it on: the texts of frames and the
 /// answers, and its own events.
-fn push_handed<'a>(
-    page: &mut Page,
+fn push_handed(
+    paged: &mut PagedText,
     script: &Script,
     lost: &[Lost],
     finished: u64,
-    frames: &'a [FrameOut],
+    texts: &mut VecDeque<Items<u8>>,
     answers: &[HitAnswer],
     posts: &[Post],
     entry: &Entry,
-    last: &mut ItemLines<'a>,
 ) -> Result<(), NoMemory>
     requires few { finished < 2 ^ 64 - 1 }
-    requires last { AreLast script.now page.old last.old }
-    ensures last { OnOk result (AreLast script.now page.new last.new) }
-    ensures lines { OnOk result (WritesLines (handed_lines script.now lost.now finished frames.now answers.now posts.now entry.now) page.old page.new) }
+    ensures text { OnOk result (paged.new ≡ paged.old ++ handed_text script.now lost.now finished texts.old.items answers.now posts.now entry.now) }
+    ensures left { OnOk result (texts.new.items ≡ texts_after entry.now.kind texts.old.items) }
 {
-    push_entry(page, script, finished, first_hits(answers), entry)?;
-    push_shown(page, script, lost, frames, &entry.kind, last)?;
-    push_posts(page, script, posts)?;
+    paged.entry(script, finished, first_hits(answers), entry)?;
+    push_finished(paged, lost, finished + 1, texts, &entry.kind)?;
+    paged.posts(script, posts)?;
+    paged.turn_full()?;
     Ok(())
 }
 
-/// The lines of all entries.
+/// The text of all entries, and the last line.
 fn push_history(
-    alloc: Global,
-    page: &mut Page,
+    paged: &mut PagedText,
     script: &Script,
     journal: &Journal,
-    frames: &[FrameOut],
+    texts: &mut VecDeque<Items<u8>>,
     lost: &[Lost],
     answers: &[HitAnswer],
 ) -> Result<(), NoMemory>
-    ensures { OnOk result (WritesLines
-        (handed_entries script.now lost.now 0 0 frames.now answers.now
-        journal.now.posts.items journal.now.entries.items)
-        page.old page.new) }
+    ensures { OnOk result (paged.new ≡ paged.old ++ handed_entries script.now lost.now 0 0 texts.old.items answers.now
+        journal.now.posts.items journal.now.entries.items) }
 {
-    let mut last = ItemLines::none(alloc, page)?;
     let mut posts = journal.posts.as_slice();
-    let mut frames = frames;
     let mut answers = answers;
     let mut finished = 0;
     for (place, entry) in journal.entries.iter().enumerate() {
         let (mine, later) = posts.split_at(posts_of(posts, place));
-        push_handed(
-            page, script, lost, finished, frames, answers, mine, entry, &mut last,
-        )?;
+        push_handed(paged, script, lost, finished, texts, answers, mine, entry)?;
         posts = later;
-        frames = frames_after(frames, &entry.kind);
         answers = answers_after(answers, &entry.kind);
         finished = finished_after(finished, &entry.kind);
     }
-    Ok(())
-}
-
-/// The first line.
-fn push_title(page: &mut Page) -> Result<(), NoMemory>
-    ensures { OnOk result (WritesLines ((codes "report" ∷ codes "flatland" ∷ codes "1" ∷ []) ∷ []) page.old page.new) }
-{
-    page.put(b"report")?;
-    page.word(b"flatland")?;
-    page.word(b"1")?;
-    page.put(b"\n")?;
-    Ok(())
-}
-
-fn push_totals(page: &mut Page, entries: usize, frames: usize) -> Result<(), NoMemory>
-    ensures { OnOk result (Writes (codes "ends" ∷ codes "entries" ∷ number entries ∷ codes "frames" ∷ number frames ∷ []) page.old page.new) }
-{
-    page.word(b"ends")?;
-    page.word(b"entries")?;
-    page.count(entries as u64)?;
-    page.word(b"frames")?;
-    page.count(frames as u64)?;
-    Ok(())
-}
-
-/// The last line.
-fn push_end(page: &mut Page, entries: usize, frames: usize) -> Result<(), NoMemory>
-    ensures { OnOk result (WritesLines ((codes "report" ∷ codes "ends" ∷ codes "entries" ∷ number entries ∷ codes "frames" ∷ number frames ∷ []) ∷ []) page.old page.new) }
-{
-    page.put(b"report")?;
-    push_totals(page, entries, frames)?;
-    page.put(b"\n")?;
-    Ok(())
-}
-
-/// All lines, in order.
-fn push_report(
-    alloc: Global,
-    page: &mut Page,
-    script: &Script,
-    journal: &Journal,
-    frames: &[FrameOut],
-    lost: &[Lost],
-    answers: &[HitAnswer],
-) -> Result<(), NoMemory>
-    ensures { OnOk result (WritesLines
-        (handed_report_lines script.now journal.now.entries.items journal.now.posts.items
-        frames.now lost.now answers.now)
-        page.old page.new) }
-{
-    push_title(page)?;
-    push_history(alloc, page, script, journal, frames, lost, answers)?;
     let entries = journal.entries.as_slice();
-    push_end(page, entries.len(), frames.len())?;
+    paged.end(entries.len(), finished)?;
     Ok(())
 }
 
-/// The report of a run, in memory of its own, for which room is taken once.
+/// The report of a run.
 ///
 /// What is handed in is written as it is: with each entry of the journal its own
-/// posts, with each `done` the next frame and the displays in `lost` that were lost
-/// at it, with each point the next answer. Where all that is what the rules say of the
-/// journal's history, the text is its report (`handed_is_report`).
+/// posts, with each `done` the text of the next frame and the displays in `lost` that
+/// were lost at it, with each point the next answer. Where all that is what the rules
+/// say of the journal's history, the text is its report (`handed_is_report`).
+///
+/// Texts of frames are moved into the report or let go, so that what it takes beside
+/// them is the room of the other lines.
 pub fn print_report(
     alloc: Global,
     script: &Script,
     journal: &Journal,
-    frames: &[FrameOut],
+    frames: FrameTexts,
     lost: &[Lost],
     answers: &HitAnswers,
-) -> Result<Vec<u8>, NoMemory>
-    ensures { IfOk result (λ text. text.items ≡ handed_report script.now journal.now.entries.items
-        journal.now.posts.items frames.now lost.now answers.now) }
+) -> Result<Pieces, NoMemory>
+    ensures { IfOk result (λ text. text ≡ handed_report script.now journal.now.entries.items
+        journal.now.posts.items frames.texts.items lost.now answers.now) }
 {
-    let answers = answers.as_slice();
-    let mut count = Page::Count(0);
-    push_report(alloc, &mut count, script, journal, frames, lost, answers)?;
-    let mut page = Page::with_room(alloc, count)?;
-    push_report(alloc, &mut page, script, journal, frames, lost, answers)?;
-    Ok(page.into_text())
+    let mut texts = frames.texts;
+    let mut paged = PagedText::new(alloc);
+    paged.title()?;
+    push_history(
+        &mut paged,
+        script,
+        journal,
+        &mut texts,
+        lost,
+        answers.as_slice(),
+    )?;
+    paged.into_pieces()
 }

@@ -96,6 +96,10 @@ one_or : (a b : Bool) → (a || b) ≡ true → b ≢ true → a ≡ true
 one_or true b either not_b = refl
 one_or false b either not_b = absurd (not_b either)
 
+-- a status that is no write fault is the one that was given
+pub is_status : (result status : ℕ) → (result == status || result == 5) ≡ true → result ≢ 5 → result ≡ status
+is_status result status either not_5 = eqb-true result status (one_or (result == status) (result == 5) either (λ yes. not_5 (eqb-true result 5 yes)))
+
 pub answered_or_fault : (result status expected : ℕ) → (result == status || result == 5) ≡ true → status ≡ expected → (result ≡ 5 → ⊥) → (result == expected || result == 6) ≡ true
 answered_or_fault result status expected either is not_5 =
     let same : result ≡ status = eqb-true result status (one_or (result == status) (result == 5) either (λ yes. not_5 (eqb-true result 5 yes))) in

@@ -2,6 +2,7 @@ pub mod Answering
 pub mod FramesDone
 pub mod Loads
 pub mod OneHistory
+pub mod PieceByPiece
 pub mod Reporting
 pub mod Runnable
 pub mod SmallPromise

@@ -1,5 +1,5 @@
 -- What is said of a run that was played to its end.
-use Rattle.std.proofs.Common.{◌≡◌, ◌≢◌, ℕ, zero, suc, ◌==◌, ◌&&◌, true, false, List, [], length, Option, Result, Ok, Err, IfOk, refl, sym, ap, ◌∙◌, subst, arith}
+use Rattle.std.proofs.Common.{◌≡◌, ◌≢◌, ℕ, zero, suc, ◌==◌, ◌&&◌, true, false, List, [], length, Option, Result, Ok, Err, IfOk, refl, sym, ap, ◌∙◌, subst, arith, map}
 use Rattle.std.specs.List.{flat_map, zip}
 use Rattle.std.proofs.lemmas.Bool.{eqb-true}
 use Rattle.std.proofs.lemmas.Bool.Decides.{nat_tests}
@@ -24,6 +24,11 @@ use Rattle.flat_playable.specs.Playable.{is_playable}
 use Rattle.flat_core.specs.Machines.{Machine}
 use Rattle.flat_report.specs.declared.report.HitAnswer.{HitAnswer}
 use Rattle.flat_scene.specs.Interleave.{IsWritten}
+use Rattle.flat_report.specs.declared.frame_texts.FrameTexts.{FrameTexts}
+use Rattle.flat_report.specs.FrameTexts.{frame_text, AreTexts}
+use Rattle.flat_play.specs.declared.kept.Kept.{Kept}
+use Rattle.flat_play.specs.declared.kept.Kept.TheVariants as kept
+use Rattle.flat_play.specs.Keeping.{Keeps}
 use Rattle.flat_play.specs.Playing.{HasPlayed}
 use Rattle.flat_words.specs.declared.form.Form.{Form}
 use Rattle.flat_words.specs.declared.form.Form.TheVariants.{Play, Race, Stress, Render, Damage, Focus, Pointer}
@@ -64,7 +69,7 @@ none_asked Damage n read = tt
 none_asked Focus n read = tt
 none_asked Pointer n read = tt
 
-module _ (reading : Reading) (board : Machine) (all : List FrameOut) (answers : List HitAnswer) (playable : is_playable reading.script ≡ true) (played : HasPlayed reading.script board all answers) where
+module _ (reading : Reading) (board : Machine) (kept_frames : Kept) (answers : List HitAnswer) (playable : is_playable reading.script ≡ true) (played : HasPlayed reading.script board kept_frames answers) where
   abbrev script : Script
   script = reading.script
 
@@ -73,7 +78,7 @@ module _ (reading : Reading) (board : Machine) (all : List FrameOut) (answers : 
 
   -- a run that came to its end, and what displays have had of it
   pub has_run : {D : Type 0} (shown : D → Option (List FrameOut)) (faults : D → ℕ) (form : Form) (lost : List Lost) (olds news : List D) → (form ≢ Race → IsWritten script.setup board.history)
-      → HaveSeen shown faults all board.history lost olds news → FamiliesAreAlone → Legal board.setup board.history → AreAsked form (frames board.history) → Fits form script.setup → HasRun form (ran_of reading board.history lost)
+      → HaveSeen shown faults (finished script.setup board.history) board.history lost olds news → FamiliesAreAlone → Legal board.setup board.history → AreAsked form (frames board.history) → Fits form script.setup → HasRun form (ran_of reading board.history lost)
   has_run shown faults form lost olds news written seen alone legal asked fits = record {
     run = record { legal = legal_here legal; interleaves = played.interleaves; loss = seen.loss; numbered = seen.numbered; seeing = none_seen script board.history (no_probes script playable) };
     written = written;
@@ -83,19 +88,19 @@ module _ (reading : Reading) (board : Machine) (all : List FrameOut) (answers : 
   }
 
   -- the displays have had the frames of the history
-  pub have_had : {D : Type 0} (told : D → Option (List FrameOut)) (count : D → ℕ) (lost : List Lost) (olds news : List D) → HaveSeen told count all board.history lost olds news → AreDriven told count lost (finished script.setup board.history) olds news
-  have_had told count lost olds news seen =
-      let S : List FrameOut → Type 0 = λ fs. AreDriven told count lost fs olds news in
-      subst S played.finishing seen.driven
+  pub have_had : {D : Type 0} (told : D → Option (List FrameOut)) (count : D → ℕ) (lost : List Lost) (olds news : List D) → HaveSeen told count (finished script.setup board.history) board.history lost olds news → AreDriven told count lost (finished script.setup board.history) olds news
+  have_had told count lost olds news seen = seen.driven
 
   -- a load finishes as many frames as were asked for
   pub load_asked : (asked : ℕ) → Legal board.setup board.history → dones script ≡ asked → frames board.history ≡ asked
   load_asked asked legal many = frames-done script board.history playable (legal_here legal) played.interleaves ∙ many
 
   -- what a run hands to the report is written as its report
-  pub handed_text : HandedIsReport → (lost handed : List Lost) (entries : List Entry) (sent : List Post) (frames_shown : List FrameOut) → history_of entries ≡ board.history → sent ≡ posts board.setup board.history
-      → frames_shown ≡ all → handed ≡ lost → handed_report script entries sent frames_shown handed answers ≡ report script board.history lost []
-  handed_text law lost handed entries sent frames_shown entries_are sent_are shown_are lost_are =
-      law script entries sent frames_shown handed answers (eqb-true script.setup.probes 0 (no_probes script playable))
-      (sent_are ∙ ap (λ (st : Setup). posts st board.history) played.setup ∙ ap (posts script.setup) (sym entries_are)) (shown_are ∙ played.finishing ∙ ap (finished script.setup) (sym entries_are))
+  pub handed_whole : HandedIsReport → (texts : FrameTexts) → kept.Texts texts ≡ kept_frames → (lost handed : List Lost) (entries : List Entry) (sent : List Post) → history_of entries ≡ board.history → sent ≡ posts board.setup board.history
+      → handed ≡ lost → handed_report script entries sent texts.texts.items handed answers ≡ report script board.history lost []
+  handed_whole law texts texts_are lost handed entries sent entries_are sent_are lost_are =
+      let K : Kept → Type 0 = λ k. Keeps script k (finished script.setup board.history) in
+      let written : AreTexts script (finished script.setup board.history) texts = subst K (sym texts_are) played.keeps in
+      law script entries sent texts.texts.items handed answers (eqb-true script.setup.probes 0 (no_probes script playable))
+      (sent_are ∙ ap (λ (st : Setup). posts st board.history) played.setup ∙ ap (posts script.setup) (sym entries_are)) (written.texts ∙ ap (λ (h : List Entry). map (frame_text script) (finished script.setup h)) (sym entries_are))
       (played.answering ∙ ap (answers_of script.setup) (sym entries_are)) ∙ ap (λ (h : List Entry). report script h handed []) entries_are ∙ ap (λ (ls : List Lost). report script board.history ls []) lost_are

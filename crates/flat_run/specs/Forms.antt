@@ -1,5 +1,7 @@
 -- What each form reads, and what it writes of what ran: a row for each.
 use Rattle.std.specs.Prelude.{◌≡◌, ⊤, ℕ, ◌*◌, ◌≤◌, Bool, true, false, List, [], map, reverse, Result, Ok, Err}
+use Rattle.flat_play.specs.declared.kept.Keeping.{Keeping}
+use Rattle.flat_play.specs.declared.kept.Keeping.TheVariants as keeping
 use Rattle.flat_extra.specs.Whole.{focus_read, pointers_read}
 use Rattle.flat_focus.specs.Text.{focus_text}
 use Rattle.flat_pointer.specs.Text.{pointer_text}
@@ -46,6 +48,12 @@ form_read _ bytes = read_as plain (text_read bytes)
 abbrev pub Fits : Form → Setup → Type 0
 Fits Render setup = setup.width * setup.height ≤ PIXELS_MAX
 Fits _ setup = ⊤
+
+-- what a run keeps of its frames for what a form writes
+abbrev pub keeping_for : Form → Keeping
+keeping_for Play = keeping.Texts
+keeping_for Race = keeping.Texts
+keeping_for _ = keeping.Frames
 
 -- ---- what ran
 

@@ -4,15 +4,17 @@ ghost use Rattle.flat_scene.specs.Interleave.{IsWritten};
 ghost use Rattle.flat_words.specs.declared.form.Form.TheVariants.{Race, Render, Pointer};
 ghost use Rattle.flat_words.specs.Forms.{CallFor};
 ghost use Rattle.flat_display.specs.Had.{AreKept};
+ghost use Rattle.flat_report.specs.Report.{finished};
+ghost use Rattle.flat_play.specs.Keeping.{keeping_of};
 ghost use Rattle.flat_play.specs.Playing.{HasPlayed};
 ghost use Rattle.flat_play.specs.Showing.{HaveSeen};
 ghost use Rattle.flat_play.specs.Touches.{touch_of};
 ghost use Rattle.flat_run.specs.Answering.{IsReply, IsRunnable};
-ghost use Rattle.flat_run.specs.Forms.{is_read, form_read, Fits};
+ghost use Rattle.flat_run.specs.Forms.{is_read, form_read, keeping_for, Fits};
 ghost use Rattle.flat_run.specs.Promise.{fault_line, large_line, AreGiven, IsTold, IsAnswer, IsTooLarge};
 
 use crate::reading::{Reading, read_text};
-use crate::texts::text_of;
+use crate::texts::{keeping_for, text_of};
 use flat_base::{NoMemory, SCRIPT_BYTES_MAX};
 use flat_display::Display;
 use flat_extra::{extra_laws, pointers_rise, rests_are_read};
@@ -23,6 +25,7 @@ use flat_playable::scripts_are_playable;
 use flat_pointer::Touch;
 use flat_race::{Gate, race_script};
 use flat_render::is_too_large;
+use flat_report::Pieces;
 use flat_rules::families_are_alone;
 use flat_script::{ScriptError, ScriptFault};
 use flat_words::Form;
@@ -47,7 +50,7 @@ const LARGE: &[u8] = b"picture too large\n";
 #[derive(Drop)]
 pub struct Answer {
     pub status: u8,
-    pub text: Vec<u8>,
+    pub text: Pieces,
 }
 
 /// Why there is nothing to be written.
@@ -88,11 +91,12 @@ fn fault_text(alloc: Global, fault: ScriptFault) -> Result<Vec<u8>, NoMemory>
 /// The answer to a text that is no script.
 fn refusal(alloc: Global, fault: ScriptFault) -> Result<Answer, NoMemory>
     ensures status { IfOk result (λ answer. answer.status ≡ REFUSED) }
-    ensures text { IfOk result (λ answer. answer.text.items ≡ fault_line fault) }
+    ensures text { IfOk result (λ answer. answer.text ≡ fault_line fault) }
 {
+    let text = fault_text(alloc, fault)?;
     Ok(Answer {
         status: REFUSED,
-        text: fault_text(alloc, fault)?,
+        text: Pieces::one(alloc, text)?,
     })
 }
 
@@ -108,23 +112,25 @@ fn run_reading<T: Threads + Wait + Sync, G: Gate>(
 ) -> Result<(Played, Vec<Touch>), NoMemory>
     requires runnable { IsRunnable reading.now }
     requires few { length displays.old.items < 2 ^ 32 }
-    ensures played { IfOk result (λ ran. HasPlayed reading.now.script ran.0.board ran.0.frames.items ran.0.answers) }
+    ensures played { IfOk result (λ ran. HasPlayed reading.now.script ran.0.board ran.0.kept ran.0.answers) }
+    ensures keeping { IfOk result (λ ran. keeping_of ran.0.kept ≡ keeping_for form) }
     ensures touches { form ≡ Pointer → IfOk result (λ ran. ran.1.items ≡ map (touch_of reading.now.script.setup ran.0.board.history) reading.now.pointers) }
     ensures written { form ≢ Race → IfOk result (λ ran. IsWritten reading.now.script.setup ran.0.board.history) }
-    ensures seen { IfOk result (λ ran. HaveSeen (λ d. shown d) (λ d. faults d) ran.0.frames.items ran.0.board.history ran.0.set.lost displays.old.items displays.new.items) }
+    ensures seen { IfOk result (λ ran. HaveSeen (λ d. shown d) (λ d. faults d) (finished reading.now.script.setup ran.0.board.history) ran.0.board.history ran.0.set.lost displays.old.items displays.new.items) }
     ensures kept { AreKept (λ d. shown d) (λ d. faults d) displays.old.items displays.new.items (λ d. d.vtable) }
 {
+    let keeping = keeping_for(form);
     match form {
         Form::Race => {
-            let played = race_script(rt, alloc, &reading.script, displays, gate)?;
+            let played = race_script(rt, alloc, &reading.script, keeping, displays, gate)?;
             Ok((played, Vec::new(alloc)))
         }
         Form::Pointer => {
             let lines = reading.pointers.as_slice();
-            play_touched(alloc, &reading.script, lines, displays)
+            play_touched(alloc, &reading.script, keeping, lines, displays)
         }
         _ => {
-            let played = play_script(alloc, &reading.script, displays)?;
+            let played = play_script(alloc, &reading.script, keeping, displays)?;
             Ok((played, Vec::new(alloc)))
         }
     }
@@ -138,19 +144,19 @@ fn told<T: Threads + Wait + Sync, G: Gate>(
     reading: &Reading,
     displays: &mut Vec<Box<dyn Display>>,
     gate: &G,
-) -> Result<Vec<u8>, NoMemory>
+) -> Result<Pieces, NoMemory>
     requires read { is_read form ≡ true }
     requires runnable { IsRunnable reading.now }
     requires fits { Fits form reading.now.script.setup }
     requires few { length displays.old.items < 2 ^ 32 }
     ensures told { (bytes : List ℕ) → form_read form bytes ≡ Ok reading.now →
-        IfOk result (λ text. IsTold (λ d. shown d) (λ d. faults d) displays.old.items displays.new.items form bytes text.items) }
+        IfOk result (λ text. IsTold (λ d. shown d) (λ d. faults d) displays.old.items displays.new.items form bytes text) }
     ensures kept { AreKept (λ d. shown d) (λ d. faults d) displays.old.items displays.new.items (λ d. d.vtable) }
 {
     families_are_alone();
     let (played, touches) = run_reading(rt, alloc, form, reading, displays, gate)?;
     let _journal = played.board.journal();
-    text_of(rt, alloc, form, reading, &played, touches.as_slice())
+    text_of(rt, alloc, form, reading, played, touches.as_slice())
 }
 
 /// Whether a form writes a picture that would have too many pixels.
@@ -167,11 +173,12 @@ fn is_too_large_for(form: Form, script: &Script) -> bool
 /// The answer where a picture would have too many pixels.
 fn large(alloc: Global) -> Result<Answer, NoMemory>
     ensures status { IfOk result (λ answer. answer.status ≡ TOO_LARGE) }
-    ensures text { IfOk result (λ answer. answer.text.items ≡ large_line) }
+    ensures text { IfOk result (λ answer. answer.text ≡ large_line) }
 {
+    let text = Vec::from_slice(alloc, LARGE)?;
     Ok(Answer {
         status: TOO_LARGE,
-        text: Vec::from_slice(alloc, LARGE)?,
+        text: Pieces::one(alloc, text)?,
     })
 }
 
@@ -188,7 +195,7 @@ fn answer_reading<T: Threads + Wait + Sync, G: Gate>(
     requires runnable { IsRunnable reading.now }
     requires few { length displays.old.items < 2 ^ 32 }
     ensures reply { (bytes : List ℕ) → form_read form bytes ≡ Ok reading.now →
-        IfOk result (λ answer. IsReply (λ d. shown d) (λ d. faults d) displays.old.items displays.new.items form bytes answer.status answer.text.items) }
+        IfOk result (λ answer. IsReply (λ d. shown d) (λ d. faults d) displays.old.items displays.new.items form bytes answer.status answer.text) }
     ensures refused { IfOk result (λ answer. answer.status ≢ DONE → displays.new ≡ displays.old) }
     ensures statuses { IfOk result (λ answer. IsTrue (answer.status == DONE || answer.status == TOO_LARGE)) }
     ensures kept { AreKept (λ d. shown d) (λ d. faults d) displays.old.items displays.new.items (λ d. d.vtable) }
@@ -213,7 +220,7 @@ fn answer_to<T: Threads + Wait + Sync, G: Gate>(
 ) -> Result<Answer, NoMemory>
     requires read { is_read form ≡ true }
     requires few { length displays.old.items < 2 ^ 32 }
-    ensures reply { IfOk result (λ answer. IsReply (λ d. shown d) (λ d. faults d) displays.old.items displays.new.items form bytes.now answer.status answer.text.items) }
+    ensures reply { IfOk result (λ answer. IsReply (λ d. shown d) (λ d. faults d) displays.old.items displays.new.items form bytes.now answer.status answer.text) }
     ensures refused { IfOk result (λ answer. answer.status ≢ DONE → displays.new ≡ displays.old) }
     ensures statuses { IfOk result (λ answer. IsTrue (answer.status == DONE || answer.status == REFUSED || answer.status == TOO_LARGE)) }
     ensures kept { AreKept (λ d. shown d) (λ d. faults d) displays.old.items displays.new.items (λ d. d.vtable) }
@@ -244,7 +251,7 @@ pub fn run_source<T: Threads + Wait + Sync, R: Source, G: Gate>(
         IfOk result (λ answer. IsAnswer (λ d. shown d)
         (λ d. (⟦<dyn Display as Display>⟧ d.vtable).faults d.value)
         displays.old.items displays.new.items words (R.left source.old) (R.left source.new)
-        answer.status answer.text.items) }
+        answer.status answer.text) }
     ensures refused { IfOk result (λ answer. answer.status ≢ DONE → displays.new ≡ displays.old) }
     ensures statuses { IfOk result (λ answer. IsTrue (answer.status == DONE || answer.status == REFUSED || answer.status == TOO_LARGE)) }
     ensures fault { result ≡ Err Unanswered.Fault → IsTrue (has_risen (R.faults source.old) (R.faults source.new)) }

@@ -12,8 +12,9 @@ use crate::answers::{Answer, DONE};
 use flat_base::NoMemory;
 use flat_display::Display;
 use flat_places::Script;
-use flat_play::play_script;
+use flat_play::{Keeping, play_script};
 use flat_playable::scripts_are_playable;
+use flat_report::Pieces;
 use flat_rules::families_are_alone;
 use flat_scene::{Entry, FrameOut, Journal, Kind, Setup};
 use flat_script::{ScriptError, parse};
@@ -83,9 +84,9 @@ fn summed(
     families_are_alone();
     scripts_are_playable();
     loads_have_their_frames();
-    let played = play_script(alloc, script, displays)?;
+    let played = play_script(alloc, script, Keeping::Frames, displays)?;
     let journal = played.board.journal();
-    let totals = totals_of(frames, &script.setup, journal, played.frames.as_slice());
+    let totals = totals_of(frames, &script.setup, journal, played.kept.frames());
     summary(alloc, totals)
 }
 
@@ -115,10 +116,13 @@ pub fn stress(
     requires few { length displays.old.items < 2 ^ 32 }
     ensures status { IfOk result (λ answer. answer.status ≡ DONE) }
     ensures told { IfOk result (λ answer. IsTold (λ d. shown d) (λ d. faults d)
-        displays.old.items displays.new.items (Stress frames) (load_text frames) answer.text.items) }
+        displays.old.items displays.new.items (Stress frames) (load_text frames) answer.text) }
     ensures kept { AreKept (λ d. shown d) (λ d. faults d) displays.old.items displays.new.items (λ d. d.vtable) }
 {
     let script = load_script(alloc, frames)?;
     let text = summed(alloc, frames, &script, displays)?;
-    Ok(Answer { status: DONE, text })
+    Ok(Answer {
+        status: DONE,
+        text: Pieces::one(alloc, text)?,
+    })
 }

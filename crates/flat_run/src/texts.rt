@@ -4,22 +4,24 @@ ghost use Rattle.flat_play.specs.Touches.{touch_of};
 ghost use Rattle.flat_playable.specs.Playable.{is_playable};
 ghost use Rattle.flat_pointer.specs.Text.{pointer_text};
 ghost use Rattle.flat_focus.specs.Text.{focus_text};
-ghost use Rattle.flat_report.specs.Report.{report};
+ghost use Rattle.flat_report.specs.Report.{finished, report};
+ghost use Rattle.flat_play.specs.declared.kept.Keeping.TheVariants as keeping;
+ghost use Rattle.flat_play.specs.Keeping.{keeping_of};
 ghost use Rattle.flat_words.specs.declared.form.Form.TheVariants.{Render, Pointer};
 ghost use Rattle.flat_texts.specs.Damages.{IsDamageText};
 ghost use Rattle.flat_texts.specs.Lines.{finish_lines};
 ghost use Rattle.flat_texts.specs.Pictures.{picture_text};
 ghost use Rattle.flat_run.specs.Answering.{IsRunnable, ran_of};
-ghost use Rattle.flat_run.specs.Forms.{is_read, Fits, IsTextOf};
+ghost use Rattle.flat_run.specs.Forms.{is_read, keeping_for, Fits, IsTextOf};
 
 use crate::reading::Reading;
 use flat_base::NoMemory;
 use flat_core::shown_states_fit;
 use flat_focus::print_focus;
 use flat_places::Script;
-use flat_play::Played;
+use flat_play::{Keeping, Played};
 use flat_pointer::{Touch, print_pointers};
-use flat_report::{handed_is_report, print_report};
+use flat_report::{Pieces, handed_is_report, print_report};
 use flat_rules::items_are_drawable;
 use flat_texts::{damage_text, finish_lines, picture_text};
 use flat_tree::views_are_a_tree;
@@ -27,17 +29,33 @@ use flat_words::Form;
 use std::alloc::Global;
 use std::thread::Threads;
 
+/// What a run keeps of its frames for what a form writes.
+pub(crate) fn keeping_for(form: Form) -> Keeping
+    ensures { result ≡ keeping_for form }
+{
+    match form {
+        Form::Play | Form::Race => Keeping::Texts,
+        _ => Keeping::Frames,
+    }
+}
+
 /// The report of a script that was run to its end.
-fn report_of(alloc: Global, script: &Script, played: &Played) -> Result<Vec<u8>, NoMemory>
+fn report_of(alloc: Global, script: &Script, played: Played) -> Result<Pieces, NoMemory>
     requires playable { is_playable script.now ≡ true }
-    requires played { HasPlayed script.now played.now.board played.now.frames.items played.now.answers }
-    ensures { IfOk result (λ text. text.items ≡ report script.now played.now.board.history played.now.set.lost []) }
+    requires played { HasPlayed script.now played.board played.kept played.answers }
+    requires keeping { keeping_of played.kept ≡ keeping.Texts }
+    ensures { IfOk result (λ text. text ≡ report script.now played.board.history played.set.lost []) }
 {
     handed_is_report();
-    let journal = played.board.journal();
-    let frames = played.frames.as_slice();
-    let lost = played.set.lost();
-    print_report(alloc, script, journal, frames, lost, &played.answers)
+    let Played {
+        board,
+        kept,
+        answers,
+        set,
+    } = played;
+    let frames = kept.into_texts();
+    let lost = set.lost();
+    print_report(alloc, script, board.journal(), frames, lost, &answers)
 }
 
 /// The picture of the last frame of a run.
@@ -48,19 +66,21 @@ fn picture_of<T: Threads + Sync>(
     played: &Played,
 ) -> Result<Vec<u8>, NoMemory>
     requires playable { is_playable script.now ≡ true }
-    requires played { HasPlayed script.now played.now.board played.now.frames.items played.now.answers }
+    requires played { HasPlayed script.now played.now.board played.now.kept played.now.answers }
+    requires keeping { keeping_of played.now.kept ≡ keeping.Frames }
     requires fits { Fits Render script.now.setup }
-    ensures { IfOk result (λ text. text.items ≡ picture_text script.now.setup played.now.frames.items) }
+    ensures { IfOk result (λ text. text.items ≡ picture_text script.now.setup (finished script.now.setup played.now.board.history)) }
 {
     items_are_drawable();
     let _journal = played.board.journal();
-    picture_text(rt, alloc, &script.setup, played.frames.as_slice())
+    picture_text(rt, alloc, &script.setup, played.kept.frames())
 }
 
 /// Who had the focus in a run.
 fn focus_of(alloc: Global, reading: &Reading, played: &Played) -> Result<Vec<u8>, NoMemory>
-    requires played { HasPlayed reading.now.script played.now.board played.now.frames.items played.now.answers }
-    ensures { IfOk result (λ text. text.items ≡ focus_text reading.now.script.sessions (finish_lines (reverse played.now.board.history)) played.now.frames.items reading.now.focus) }
+    requires played { HasPlayed reading.now.script played.now.board played.now.kept played.now.answers }
+    requires keeping { keeping_of played.now.kept ≡ keeping.Frames }
+    ensures { IfOk result (λ text. text.items ≡ focus_text reading.now.script.sessions (finish_lines (reverse played.now.board.history)) (finished reading.now.script.setup played.now.board.history) reading.now.focus) }
 {
     views_are_a_tree();
     shown_states_fit();
@@ -72,7 +92,7 @@ fn focus_of(alloc: Global, reading: &Reading, played: &Played) -> Result<Vec<u8>
         script.setup.sessions,
         &script.sessions,
         dones.as_slice(),
-        played.frames.as_slice(),
+        played.kept.frames(),
         reading.focus.as_slice(),
     )
 }
@@ -85,12 +105,14 @@ fn pointers_of(
     touches: &[Touch],
 ) -> Result<Vec<u8>, NoMemory>
     requires runnable { IsRunnable reading.now }
+    requires played { HasPlayed reading.now.script played.now.board played.now.kept played.now.answers }
+    requires keeping { keeping_of played.now.kept ≡ keeping.Frames }
     requires touches { touches.now ≡ map (touch_of reading.now.script.setup played.now.board.history) reading.now.pointers }
-    ensures { IfOk result (λ text. text.items ≡ pointer_text reading.now.script.sessions (finish_lines (reverse played.now.board.history)) played.now.frames.items touches.now) }
+    ensures { IfOk result (λ text. text.items ≡ pointer_text reading.now.script.sessions (finish_lines (reverse played.now.board.history)) (finished reading.now.script.setup played.now.board.history) touches.now) }
 {
     let journal = played.board.journal();
     let dones = finish_lines(alloc, journal.entries.as_slice())?;
-    let frames = played.frames.as_slice();
+    let frames = played.kept.frames();
     print_pointers(
         alloc,
         &reading.script.sessions,
@@ -100,8 +122,17 @@ fn pointers_of(
     )
 }
 
-/// What a form writes of a run.
-pub(crate) fn text_of<T: Threads + Sync>(
+/// What damage there was from frame to frame in a run.
+fn damage_of(alloc: Global, script: &Script, played: &Played) -> Result<Vec<u8>, NoMemory>
+    requires played { HasPlayed script.now played.now.board played.now.kept played.now.answers }
+    requires keeping { keeping_of played.now.kept ≡ keeping.Frames }
+    ensures { IfOk result (λ text. IsDamageText (finished script.now.setup played.now.board.history) text.items) }
+{
+    damage_text(alloc, played.kept.frames())
+}
+
+/// What a form that keeps the frames writes of a run.
+fn picture_or_lines<T: Threads + Sync>(
     rt: &T,
     alloc: Global,
     form: Form,
@@ -110,18 +141,46 @@ pub(crate) fn text_of<T: Threads + Sync>(
     touches: &[Touch],
 ) -> Result<Vec<u8>, NoMemory>
     requires read { is_read form ≡ true }
+    requires keeping { keeping_of played.now.kept ≡ keeping_for form }
+    requires frames { keeping_for form ≡ keeping.Frames }
     requires runnable { IsRunnable reading.now }
     requires fits { Fits form reading.now.script.setup }
-    requires played { HasPlayed reading.now.script played.now.board played.now.frames.items played.now.answers }
+    requires played { HasPlayed reading.now.script played.now.board played.now.kept played.now.answers }
     requires touches { form ≡ Pointer → touches.now ≡ map (touch_of reading.now.script.setup played.now.board.history) reading.now.pointers }
     ensures { IfOk result (λ text. IsTextOf form (ran_of reading.now played.now.board.history played.now.set.lost) text.items) }
 {
     match form {
-        Form::Play | Form::Race => report_of(alloc, &reading.script, played),
-        Form::Stress(_) => unreachable!(),
+        Form::Play | Form::Race | Form::Stress(_) => unreachable!(),
         Form::Render => picture_of(rt, alloc, &reading.script, played),
-        Form::Damage => damage_text(alloc, played.frames.as_slice()),
+        Form::Damage => damage_of(alloc, &reading.script, played),
         Form::Focus => focus_of(alloc, reading, played),
         Form::Pointer => pointers_of(alloc, reading, played, touches),
+    }
+}
+
+/// What a form writes of a run.
+pub(crate) fn text_of<T: Threads + Sync>(
+    rt: &T,
+    alloc: Global,
+    form: Form,
+    reading: &Reading,
+    played: Played,
+    touches: &[Touch],
+) -> Result<Pieces, NoMemory>
+    requires read { is_read form ≡ true }
+    requires keeping { keeping_of played.kept ≡ keeping_for form }
+    requires runnable { IsRunnable reading.now }
+    requires fits { Fits form reading.now.script.setup }
+    requires played { HasPlayed reading.now.script played.board played.kept played.answers }
+    requires touches { form ≡ Pointer → touches.now ≡ map (touch_of reading.now.script.setup played.board.history) reading.now.pointers }
+    ensures { IfOk result (λ text. IsTextOf form (ran_of reading.now played.board.history played.set.lost) text) }
+{
+    match form {
+        Form::Play | Form::Race => report_of(alloc, &reading.script, played),
+        _ => {
+            let text = picture_or_lines(rt, alloc, form, reading, &played, touches)?;
+            let pieces = Pieces::one(alloc, text)?;
+            Ok(pieces)
+        }
     }
 }

@@ -15,6 +15,7 @@ use crate::load::stress;
 use flat_display::Display;
 use flat_io::{Sink, Source, write_all};
 use flat_race::Gate;
+use flat_report::Pieces;
 use flat_words::{Form, read};
 use std::alloc::Global;
 use std::sync::Wait;
@@ -48,7 +49,7 @@ fn answer_to<T: Threads + Wait + Sync, R: Source, G: Gate>(
         IfOk result (λ answer. IsAnswer (λ d. shown d)
         (λ d. (⟦<dyn Display as Display>⟧ d.vtable).faults d.value)
         displays.old.items displays.new.items words (R.left source.old) (R.left source.new)
-        answer.status answer.text.items) }
+        answer.status answer.text) }
     ensures refused { IfOk result (λ answer. answer.status ≢ DONE → displays.new ≡ displays.old) }
     ensures statuses { IfOk result (λ answer. IsTrue (answer.status == DONE || answer.status == REFUSED || answer.status == TOO_LARGE)) }
     ensures fault { result ≡ Err Unanswered.Fault → IsTrue (has_risen (R.faults source.old) (R.faults source.new)) }
@@ -82,6 +83,26 @@ fn write_text<W: Sink>(sink: &mut W, text: &[u8], status: u8) -> u8
         Ok(()) => status,
         Err(_) => WRITE_FAULT,
     }
+}
+
+/// Writes a text in pieces, piece by piece, and answers its status.
+fn write_pieces<W: Sink>(sink: &mut W, text: &Pieces, status: u8) -> u8
+    requires { status ≢ WRITE_FAULT }
+    ensures whole { result ≡ status → Appends text.now (W.held sink.old) (W.held sink.new) }
+    ensures part { result ≡ WRITE_FAULT → AppendsPrefix text.now (W.held sink.old) (W.held sink.new) }
+    ensures fault { result ≡ WRITE_FAULT → IsTrue (has_risen (W.faults sink.old) (W.faults sink.new) || has_risen (W.stalls sink.old) (W.stalls sink.new)) }
+    ensures either { IsTrue (result == status || result == WRITE_FAULT) }
+    ensures gains { (more : List ℕ) × Appends more (W.held sink.old) (W.held sink.new) }
+    ensures faults { W.faults sink.old ≤ W.faults sink.new }
+    ensures stalls { W.stalls sink.old ≤ W.stalls sink.new }
+{
+    let pieces = text.as_slice();
+    for place in 0..pieces.len() {
+        if write_text(sink, pieces[place].as_slice(), status) == WRITE_FAULT {
+            return WRITE_FAULT;
+        }
+    }
+    status
 }
 
 /// A call of the service, with the words after the program's name: what is to be
@@ -159,7 +180,7 @@ pub fn flatland<T: Threads + Wait + Sync, R: Source, W: Sink, G: Gate>(
         Err(_) => return NO_MEMORY,
     };
     match answer_to(rt, alloc, form, source, displays, gate) {
-        Ok(answer) => write_text(sink, answer.text.as_slice(), answer.status),
+        Ok(answer) => write_pieces(sink, &answer.text, answer.status),
         Err(Unanswered::Fault) => READ_FAULT,
         Err(Unanswered::Memory) => NO_MEMORY,
     }

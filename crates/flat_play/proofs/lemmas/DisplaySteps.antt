@@ -207,40 +207,40 @@ may_wait_for m (asks.Answers n) share played = absurd (cc)
 
 -- ---- frames
 
-module _ (setup : Setup) (old : List Entry) (shown : Shown) (views : SessionSet) (done : List FrameOut) (stands : FramesStand setup old shown views done) where
+-- an entry that ends no frame leaves the finished ones
+pub finished-beside : (setup : Setup) (old : List Entry) (e : Entry) → is_finish e.kind ≡ false → finished setup (old ▹ e) ≡ finished setup old
+finished-beside setup old e no_finish = ap (λ b. finished setup old ++ cond b (frame_at setup (suc (frames old)) (to_begin old) ∷ []) []) no_finish ∙ append-nil (finished setup old)
+
+-- so does what a session enters
+pub finished-session : (setup : Setup) (old new : List Entry) → QuietStep old new → finished setup new ≡ finished setup old
+finished-session setup old new (same now) = ap (finished setup) now
+finished-session setup old new (more e other quiet now) = ap (finished setup) now ∙ finished-beside setup old e (quiet_finish e.kind quiet)
+
+module _ (setup : Setup) (old : List Entry) (shown : Shown) (views : SessionSet) (stands : FramesStand setup old shown views) where
   -- an entry that begins no frame and ends none
-  pub frames_beside : (e : Entry) → is_begin e.kind ≡ false → is_finish e.kind ≡ false → FramesStand setup (old ▹ e) shown views done
-  frames_beside e no_begin no_finish =
+  pub frames_beside : (e : Entry) → is_begin e.kind ≡ false → FramesStand setup (old ▹ e) shown views
+  frames_beside e no_begin =
       let begun : to_begin (old ▹ e) ≡ to_begin old = rw no_begin refl in
-      let same_frames : finished setup (old ▹ e) ≡ finished setup old =
-      ap (λ b. finished setup old ++ cond b (frame_at setup (suc (frames old)) (to_begin old) ∷ []) []) no_finish ∙ append-nil (finished setup old) in
       record {
         showing = stands.showing ∙ ap (shown_states setup) (sym begun);
         viewing = λ s declared. stands.viewing s declared ∙ ap (λ h. has_view setup h s) (sym begun);
-        finishing = stands.finishing ∙ sym same_frames;
       }
 
-  pub frames_session : (new : List Entry) → QuietStep old new → FramesStand setup new shown views done
-  frames_session new (same now) = let P : List Entry → Type 0 = λ h. FramesStand setup h shown views done in subst P (sym now) stands
-  frames_session new (more e other quiet now) = let P : List Entry → Type 0 = λ h. FramesStand setup h shown views done in subst P (sym now) (frames_beside e (quiet_begin e.kind quiet) (quiet_finish e.kind quiet))
+  pub frames_session : (new : List Entry) → QuietStep old new → FramesStand setup new shown views
+  frames_session new (same now) = let P : List Entry → Type 0 = λ h. FramesStand setup h shown views in subst P (sym now) stands
+  frames_session new (more e other quiet now) = let P : List Entry → Type 0 = λ h. FramesStand setup h shown views in subst P (sym now) (frames_beside e (quiet_begin e.kind quiet))
 
   pub frames_begin : (n time : ℕ) (new_shown : Shown) (new_views : SessionSet)
       → new_shown ≡ shown_states setup (old ▹ entry_of Display n [] (Begin time) Done)
       → ((s : SessionNo) → is_declared setup s ≡ true → is_member new_views s.0 ≡ has_view setup (old ▹ entry_of Display n [] (Begin time) Done) s)
-      → FramesStand setup (old ▹ entry_of Display n [] (Begin time) Done) new_shown new_views done
+      → FramesStand setup (old ▹ entry_of Display n [] (Begin time) Done) new_shown new_views
   frames_begin n time new_shown new_views shows views_are = record {
     showing = shows;
     viewing = views_are;
-    finishing = stands.finishing ∙ sym (append-nil (finished setup old));
   }
 
-  pub frames_done : (n : ℕ) (all : List FrameOut) (frame : FrameOut) → all ≡ done ++ frame ∷ [] → frame ≡ frame_at setup (suc (frames old)) (to_begin old)
-      → FramesStand setup (old ▹ entry_of Display n [] Finish Done) shown views all
-  frames_done n all frame all_is frame_is = record {
-    showing = stands.showing;
-    viewing = stands.viewing;
-    finishing = all_is ∙ ap (λ f. done ++ f ∷ []) frame_is ∙ ap (λ fs. fs ++ frame_at setup (suc (frames old)) (to_begin old) ∷ []) stands.finishing;
-  }
+  pub frames_done : (n : ℕ) → FramesStand setup (old ▹ entry_of Display n [] Finish Done) shown views
+  frames_done n = record { showing = stands.showing; viewing = stands.viewing }
 
 -- ---- answers
 

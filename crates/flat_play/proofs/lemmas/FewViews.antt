@@ -21,6 +21,7 @@ use Rattle.flat_report.specs.Report.{finished, frame_at}
 use Rattle.flat_topology.specs.Shown.{Shown}
 use Rattle.flat_topology.specs.Views.{view_nodes}
 use Rattle.flat_tree.specs.Laws.{ViewsAreATree, ViewsAreFew}
+use Rattle.flat_play.specs.declared.kept.Kept.{Kept}
 use Rattle.flat_play.specs.Playing.{HasPlayed}
 
 -- ---- all finished frames of a legal history
@@ -57,18 +58,12 @@ few-finished few begun each setup history legal =
 
 -- ---- the frames of a script that was played
 
-module _ (script : Script) (board : Machine) (shown_frames : List FrameOut) (answers : List HitAnswer) (played : HasPlayed script board shown_frames answers) (legal : Legal board.setup board.history) where
+module _ (script : Script) (board : Machine) (kept : Kept) (answers : List HitAnswer) (played : HasPlayed script board kept answers) (legal : Legal board.setup board.history) where
   legal_here : Legal script.setup board.history
   legal_here = let L : Setup → Type 0 = λ setup. Legal setup board.history in subst L played.setup legal
 
-  pub trees-played : ViewsAreATree → BegunStatesFit → IsTrue (list_all (λ out. is_tree out.tree.nodes) shown_frames)
-  trees-played tree begun =
-      let test : FrameOut → Bool = λ out. is_tree out.tree.nodes in
-      let all : list_all test (finished script.setup board.history) ≡ true = trees-finished tree begun script.setup board.history legal_here in
-      ap (list_all test) played.finishing ∙ all
+  pub trees-played : ViewsAreATree → BegunStatesFit → IsTrue (list_all (λ out. is_tree out.tree.nodes) (finished script.setup board.history))
+  trees-played tree begun = trees-finished tree begun script.setup board.history legal_here
 
-  pub few-played : ViewsAreFew → BegunStatesFit → EachSessionHasOneState → IsTrue (list_all (λ out. nat_le (length out.tree.nodes) script.setup.sessions) shown_frames)
-  few-played few begun each =
-      let test : FrameOut → Bool = λ out. nat_le (length out.tree.nodes) script.setup.sessions in
-      let all : list_all test (finished script.setup board.history) ≡ true = few-finished few begun each script.setup board.history legal_here in
-      ap (list_all test) played.finishing ∙ all
+  pub few-played : ViewsAreFew → BegunStatesFit → EachSessionHasOneState → IsTrue (list_all (λ out. nat_le (length out.tree.nodes) script.setup.sessions) (finished script.setup board.history))
+  few-played few begun each = few-finished few begun each script.setup board.history legal_here

@@ -20,7 +20,7 @@ use Rattle.flat_play.specs.Playing.{FramesStand, HasViews}
 use Rattle.flat_rules.proofs.lemmas.FrameKinds.{not-finish}
 use Rattle.flat_base.proofs.lemmas.Tests.{and-left}
 
-module _ (setup : Setup) (history : List Entry) (shown : Shown) (views : SessionSet) (done : List FrameOut) (stands : FramesStand setup history shown views done) where
+module _ (setup : Setup) (history : List Entry) (shown : Shown) (views : SessionSet) (stands : FramesStand setup history shown views) where
   pub shown_count : EachSessionHasOneState → length shown ≡ setup.sessions
   shown_count each = ap (length {A = _}) stands.showing ∙ each setup (to_begin history)
 

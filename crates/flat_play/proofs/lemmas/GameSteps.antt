@@ -1,5 +1,5 @@
 -- The whole run after one more line of the script.
-use Rattle.std.proofs.Common.{◌≡◌, ◌≢◌, ℕ, ℤ, zero, suc, ◌+◌, ◌-◌, ◌<◌, ◌≤◌, Bool, true, false, not, ◌==◌, nat_lt, nat_le, List, [], ◌∷◌, ◌++◌, length, map, get_or, set, refl, sym, ap, ◌∙◌, subst, arith, None, get_or-set_other, get_or-set_same}
+use Rattle.std.proofs.Common.{◌≡◌, ◌≢◌, ℕ, ℤ, zero, suc, ◌+◌, ◌-◌, ◌<◌, ◌≤◌, Bool, true, false, not, ◌==◌, nat_lt, nat_le, List, [], ◌∷◌, ◌++◌, length, map, get_or, set, refl, sym, ap, ◌∙◌, subst, arith, append-nil, None, get_or-set_other, get_or-set_same}
 use Rattle.std.proofs.lemmas.List.{length-set, map-append, get_or_append_left}
 use Rattle.std.proofs.Math.Seq.{get_or-append_seam}
 use Rattle.std.proofs.lemmas.Bool.{eq-eqb, eqb-true}
@@ -32,10 +32,12 @@ use Rattle.flat_rules.specs.Ends.{to_begin, to_finished, has_view}
 use Rattle.flat_topology.specs.Views.{is_member}
 use Rattle.flat_rules.specs.Legal.{frames, is_frame_open}
 use Rattle.flat_rules.specs.Shown.{shown_states}
-use Rattle.flat_report.specs.Report.{frame_at, hits_at}
+use Rattle.flat_report.specs.Report.{finished, frame_at, hits_at}
 use Rattle.flat_places.specs.declared.script.Script.{Script}
 use Rattle.flat_play.specs.declared.frame.LastFrame.{LastFrame}
 use Rattle.flat_play.specs.declared.game.Game.{Game}
+use Rattle.flat_play.specs.declared.kept.Kept.{Kept}
+use Rattle.flat_play.specs.Keeping.{Keeps}
 use Rattle.flat_play.specs.Last.{IsLast, StaysLast}
 use Rattle.flat_report.specs.declared.report.HitAnswer.{HitAnswer}
 use Rattle.flat_stage.specs.declared.reader.Reader.{Reader}
@@ -43,11 +45,15 @@ use Rattle.flat_playable.specs.Playable.{is_played, keeps_frames}
 use Rattle.flat_play.specs.Playing.{IsSpent, lines_by, shares_of, ReaderStands, ReadersStand, DisplayStands, FramesStand, GameStands, BeginsFrame, FinishesFrame, EntersBeside, AsksPoint, AnswersStand, HasViews, session_text, display_text}
 use Rattle.flat_play.proofs.Growing.{Grows, grows, stays, is_quiet}
 use Rattle.flat_play.proofs.lemmas.FramesShown.{all-finished}
-use Rattle.flat_play.proofs.lemmas.DisplaySteps.{QuietStep, begin_time_ok, quiet_begin, quiet_finish, quiet_end, quiet_answers, answers_session, answers_beside, answers_done, answers_point, answers_stay, display_session, display_begin, display_done, display_beside, frames_session, frames_beside, frames_begin, frames_done}
+use Rattle.flat_play.proofs.lemmas.DisplaySteps.{QuietStep, begin_time_ok, quiet_begin, quiet_finish, quiet_end, quiet_answers, answers_session, answers_beside, answers_done, answers_point, answers_stay, display_session, display_begin, display_done, display_beside, finished-beside, finished-session, frames_session, frames_beside, frames_begin, frames_done}
 use Rattle.flat_play.proofs.lemmas.DisplaySteps as quiet
 use Rattle.flat_rules.proofs.lemmas.ShownList.{length-listed}
 use Rattle.flat_play.proofs.lemmas.Steps.{At, Step, same, more, order_more, spent_more, reader_other}
 use Rattle.flat_base.proofs.lemmas.Tests.{and-left, and-right}
+
+-- the same is kept of the same frames
+pub keeps_same : (script : Script) (old new : Kept) (was now : List FrameOut) → new ≡ old → now ≡ was → Keeps script old was → Keeps script new now
+keeps_same script old new was now kept_is frames_are keeps = let P : List FrameOut → Type 0 = Keeps script old in let Q : Kept → Type 0 = λ k. Keeps script k now in subst Q (sym kept_is) (subst P (sym frames_are) keeps)
 
 shut : (is_open : Bool) → not is_open ≡ true → is_open ≡ false
 shut true is = absurd (let wrong : false ≡ true = is in cc)
@@ -115,6 +121,14 @@ grown_is x s old new actor (grows carries kind reply calm is) =
       calm = quiet.more e refl calm (ap (λ (m : Machine). m.history) is);
     }
 
+-- what a session's line leaves of the finished frames
+pub session_finishes : (setup : Setup) (x : ScriptLine) (s : SessionNo) (old new : Machine) → x.actor ≡ Session s → Grows old new (Session s) x.number → finished setup new.history ≡ finished setup old.history
+session_finishes setup x s old new actor grown = finished-session setup old.history new.history (grown_is x s old new actor grown).calm
+
+-- what an entry of the display leaves of them, where it ends no frame
+pub display_finishes : (setup : Setup) (old new : Machine) (n : ℕ) (kind : Kind) (reply : Reply) → is_finish kind ≡ false → new ≡ entered old Display n [] kind reply → finished setup new.history ≡ finished setup old.history
+display_finishes setup old new n kind reply no_finish board = ap (λ (m : Machine). finished setup m.history) board ∙ finished-beside setup old.history (entry_of Display n [] kind reply) no_finish
+
 pub not_same : (n m : ℕ) → n ≢ m → (n == m) ≡ false
 not_same n m other = grind (arith, nat_tests)
 
@@ -159,14 +173,13 @@ module _ (script : Script) (place : ℕ) (x : ScriptLine) (at : At script place 
   -- a line of a session, which its reader has played
   pub session_more : (old new : Game) (s : SessionNo) (text : Line) (reader : Reader) → x.actor ≡ Session s → x.body ≡ body.Session text → is_declared script.setup s ≡ true → GameStands script place old
       → new.readers.items ≡ set old.readers.items (s.0 - 1) reader → ReaderStands script s (place + 1) new.board.history reader → Grows old.board new.board (Session s) x.number
-      → new.shown ≡ old.shown → new.with_view ≡ old.with_view → new.frames.items ≡ old.frames.items → new.last ≡ old.last → new.answers ≡ old.answers → new.changed ≡ old.changed → GameStands script (place + 1) new
-  session_more old new s text reader actor is declared stands readers_is mine grown shown_is views_is frames_are last_is answers_are changed_is =
+      → new.shown ≡ old.shown → new.with_view ≡ old.with_view → new.kept ≡ old.kept → new.last ≡ old.last → new.answers ≡ old.answers → new.changed ≡ old.changed → GameStands script (place + 1) new
+  session_more old new s text reader actor is declared stands readers_is mine grown shown_is views_is kept_is last_is answers_are changed_is =
       let g : Grown x old.board new.board = grown_is x s old.board new.board actor grown in
       let within = below_declared script.setup s declared in
       let inside : s.0 ≤ length old.readers.items = let count = stands.readers.count in let below = within.1 in omega arith in
       let P : List Reader → Type 0 = ReadersStand script (place + 1) new.board.history in
       let V : SessionSet → Type 0 = HasViews script.setup in
-      let F : Shown → SessionSet → List FrameOut → Type 0 = FramesStand script.setup new.board.history in
       record {
         setup = g.setup ∙ stands.setup;
         shares = g.shares ∙ stands.shares;
@@ -175,7 +188,8 @@ module _ (script : Script) (place : ℕ) (x : ScriptLine) (at : At script place 
         order = order_more script place x at old.board.history new.board.history g.step stands.order;
         spent = spent_more script place x at old.board.history new.board.history g.step stands.spent;
         views = subst V (sym views_is) stands.views;
-        shows = rw (shown_is, views_is, frames_are) (frames_session script.setup old.board.history old.shown old.with_view old.frames.items stands.shows new.board.history g.calm);
+        shows = rw (shown_is, views_is) (frames_session script.setup old.board.history old.shown old.with_view stands.shows new.board.history g.calm);
+        keeps = keeps_same script old.kept new.kept (finished script.setup old.board.history) (finished script.setup new.board.history) kept_is (finished-session script.setup old.board.history new.board.history g.calm) stands.keeps;
         same = rw (changed_is, last_is, shown_is) stands.same;
         answers = rw (last_is, answers_are) (answers_session script.setup old.board.history old.last old.answers stands.answers new.board.history g.calm);
       }
@@ -194,11 +208,9 @@ module _ (script : Script) (place : ℕ) (x : ScriptLine) (at : At script place 
       let V : Setup → List Entry → Type 0 = λ st es. (s : SessionNo) → is_declared st s ≡ true → is_member new.with_view s.0 ≡ has_view st es s in
       let V1 : Setup → Type 0 = λ st. V st new.board.history in
       let V2 : List Entry → Type 0 = V script.setup in
-      let F : List Entry → Type 0 = λ es. FramesStand script.setup es new.shown new.with_view new.frames.items in
-      let K : List FrameOut → Type 0 = λ fs. FramesStand script.setup (h ▹ e) new.shown new.with_view fs in
-      let kept : new.frames.items ≡ old.frames.items = ap (λ v. v.items) begins.kept in
+      let F : List Entry → Type 0 = λ es. FramesStand script.setup es new.shown new.with_view in
       let S : Shown → Type 0 = λ was. AreSame new.changed was new.shown in
-      let finished : to_finished h ≡ to_begin h = all-finished h (shut (is_frame_open h) (and-left (not (is_frame_open h)) _ (begin_time_ok script place x at time is h stands.display))) in
+      let ended : to_finished h ≡ to_begin h = all-finished h (shut (is_frame_open h) (and-left (not (is_frame_open h)) _ (begin_time_ok script place x at time is h stands.display))) in
       record {
         setup = setup;
         shares = ap (λ (m : Machine). m.shares) begins.board ∙ stands.shares;
@@ -207,14 +219,15 @@ module _ (script : Script) (place : ℕ) (x : ScriptLine) (at : At script place 
         order = order_more script place x at h new.board.history step stands.order;
         spent = spent_more script place x at h new.board.history step stands.spent;
         views = subst W setup begins.views;
-        shows = subst F (sym grown) (subst K (sym kept)
-            (frames_begin script.setup h old.shown old.with_view old.frames.items stands.shows x.number time new.shown new.with_view shown (subst V2 grown (subst V1 setup begins.viewing))));
-        same = rw begins.last (subst S (sym (stands.answers.showing ∙ ap (shown_states script.setup) finished ∙ sym stands.shows.showing)) begins.changed);
+        shows = subst F (sym grown)
+            (frames_begin script.setup h old.shown old.with_view stands.shows x.number time new.shown new.with_view shown (subst V2 grown (subst V1 setup begins.viewing)));
+        keeps = keeps_same script old.kept new.kept (finished script.setup h) (finished script.setup new.board.history) begins.kept (ap (finished script.setup) grown ∙ append-nil (finished script.setup h)) stands.keeps;
+        same = rw begins.last (subst S (sym (stands.answers.showing ∙ ap (shown_states script.setup) ended ∙ sym stands.shows.showing)) begins.changed);
         answers = rw (grown, begins.last, begins.answers) (answers_beside script.setup h old.last old.answers stands.answers e refl refl);
       }
 
   -- a line that ends one
-  pub finish_more : (old new : Game) → x.actor ≡ Display → x.body ≡ body.Display display.Done → GameStands script place old → FinishesFrame old new x.number → GameStands script (place + 1) new
+  pub finish_more : (old new : Game) → x.actor ≡ Display → x.body ≡ body.Display display.Done → GameStands script place old → FinishesFrame script old new x.number → GameStands script (place + 1) new
   finish_more old new actor is stands finishes =
       let e : Entry = entry_of Display x.number [] Finish Done in
       let h : List Entry = old.board.history in
@@ -222,11 +235,11 @@ module _ (script : Script) (place : ℕ) (x : ScriptLine) (at : At script place 
       let step : Step x h new.board.history = more e (sym actor) refl refl grown in
       let D : List Entry → Type 0 = DisplayStands script (place + 1) in
       let V : SessionSet → Type 0 = HasViews script.setup in
-      let F : List Entry → Type 0 = λ es. FramesStand script.setup es new.shown new.with_view new.frames.items in
+      let F : List Entry → Type 0 = λ es. FramesStand script.setup es new.shown new.with_view in
       let L : Setup → Type 0 = λ st. IsLast st new.last in
       let number : frames new.board.history ≡ suc (frames h) = ap frames grown in
-      let frame : frame_at old.board.setup (frames new.board.history) (to_begin h) ≡ frame_at script.setup (suc (frames h)) (to_begin h) =
-      ap (λ st. frame_at st (frames new.board.history) (to_begin h)) stands.setup ∙ ap (λ n. frame_at script.setup n (to_begin h)) number in
+      let all : finished script.setup new.board.history ≡ finished script.setup h ++ frame_at script.setup (frames new.board.history) (to_begin h) ∷ [] =
+      ap (finished script.setup) grown ∙ ap (λ n. finished script.setup h ++ frame_at script.setup n (to_begin h) ∷ []) (sym number) in
       record {
         setup = ap (λ (m : Machine). m.setup) finishes.board ∙ stands.setup;
         shares = ap (λ (m : Machine). m.shares) finishes.board ∙ stands.shares;
@@ -236,7 +249,8 @@ module _ (script : Script) (place : ℕ) (x : ScriptLine) (at : At script place 
         spent = spent_more script place x at h new.board.history step stands.spent;
         views = subst V (sym finishes.with_view) stands.views;
         shows = subst F (sym grown) (rw (finishes.shown, finishes.with_view)
-            (frames_done script.setup h old.shown old.with_view old.frames.items stands.shows x.number new.frames.items _ finishes.kept frame));
+            (frames_done script.setup h old.shown old.with_view stands.shows x.number));
+        keeps = keeps_same script new.kept new.kept (finished script.setup h ++ frame_at script.setup (frames new.board.history) (to_begin h) ∷ []) (finished script.setup new.board.history) refl all (finishes.kept.more (finished script.setup h) stands.keeps);
         same = λ s within none. ap (λ (states : Shown). state_of states s) (finishes.showing ∙ sym finishes.shown);
         answers = rw (grown, finishes.answers) (answers_done script.setup h old.last old.answers stands.answers x.number new.last (finishes.shows ∙ number)
             (subst L stands.setup finishes.is_last) (finishes.showing ∙ stands.shows.showing));
@@ -245,17 +259,16 @@ module _ (script : Script) (place : ℕ) (x : ScriptLine) (at : At script place 
   -- any of these, by what becomes of the answers
   entered_more : (old new : Game) (text : DisplayLine) (kind : Kind) (reply : Reply) → x.actor ≡ Display → x.body ≡ body.Display text → entry_of_display text ≡ kind → is_begin kind ≡ false → is_finish kind ≡ false → is_end kind ≡ false
       → ((o : Bool) (t : ℕ) (follows : Bool → ℕ → Bool) → keeps_frames o t (body.Display text) follows ≡ follows o t)
-      → GameStands script place old → new.board ≡ entered old.board Display x.number [] kind reply → new.shown ≡ old.shown → new.changed ≡ old.changed → new.with_view ≡ old.with_view → new.readers ≡ old.readers → new.frames ≡ old.frames → new.last.reuse ≡ old.last.reuse
+      → GameStands script place old → new.board ≡ entered old.board Display x.number [] kind reply → new.shown ≡ old.shown → new.changed ≡ old.changed → new.with_view ≡ old.with_view → new.readers ≡ old.readers → new.kept ≡ old.kept → new.last.reuse ≡ old.last.reuse
       → AnswersStand script.setup (old.board.history ▹ entry_of Display x.number [] kind reply) new.last new.answers → GameStands script (place + 1) new
-  entered_more old new text kind reply actor is makes no_begin no_finish no_end keeps stands board shown_is changed_is views_is readers_are frames_are reuse_is answers =
+  entered_more old new text kind reply actor is makes no_begin no_finish no_end keeps stands board shown_is changed_is views_is readers_are kept_is reuse_is answers =
       let e : Entry = entry_of Display x.number [] kind reply in
       let h : List Entry = old.board.history in
       let grown : new.board.history ≡ (h ▹ e) = ap (λ (m : Machine). m.history) board in
       let step : Step x h new.board.history = more e (sym actor) refl no_end grown in
       let D : List Entry → Type 0 = DisplayStands script (place + 1) in
       let V : SessionSet → Type 0 = HasViews script.setup in
-      let F : List Entry → Type 0 = λ es. FramesStand script.setup es new.shown new.with_view new.frames.items in
-      let kept : new.frames.items ≡ old.frames.items = ap (λ v. v.items) frames_are in
+      let F : List Entry → Type 0 = λ es. FramesStand script.setup es new.shown new.with_view in
       record {
         setup = ap (λ (m : Machine). m.setup) board ∙ stands.setup;
         shares = ap (λ (m : Machine). m.shares) board ∙ stands.shares;
@@ -264,7 +277,8 @@ module _ (script : Script) (place : ℕ) (x : ScriptLine) (at : At script place 
         order = order_more script place x at h new.board.history step stands.order;
         spent = spent_more script place x at h new.board.history step stands.spent;
         views = subst V (sym views_is) stands.views;
-        shows = subst F (sym grown) (rw (shown_is, views_is, kept) (frames_beside script.setup h old.shown old.with_view old.frames.items stands.shows e no_begin no_finish));
+        shows = subst F (sym grown) (rw (shown_is, views_is) (frames_beside script.setup h old.shown old.with_view stands.shows e no_begin));
+        keeps = keeps_same script old.kept new.kept (finished script.setup h) (finished script.setup new.board.history) kept_is (ap (finished script.setup) grown ∙ finished-beside script.setup h e no_finish) stands.keeps;
         same = rw (changed_is, reuse_is, shown_is) stands.same;
         answers = rw grown answers;
       }
@@ -299,6 +313,7 @@ game_stays script place game last kept stands = record {
   spent = stands.spent;
   views = stands.views;
   shows = stands.shows;
+  keeps = stands.keeps;
   same = subst (λ (was : Shown). AreSame game.changed was game.shown) (sym kept.reuse) stands.same;
   answers = answers_stay script.setup game.board.history game.last game.answers stands.answers last kept;
 }

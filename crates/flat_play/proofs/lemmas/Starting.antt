@@ -35,6 +35,8 @@ use Rattle.flat_topology.specs.Fit.{FitsSetup}
 use Rattle.flat_play.specs.declared.frame.LastFrame.{LastFrame}
 use Rattle.flat_play.specs.Last.{IsLast}
 use Rattle.flat_rules.specs.Shown.{shown_states}
+use Rattle.flat_report.specs.Report.{finished}
+use Rattle.flat_play.specs.Keeping.{Keeps}
 use Rattle.flat_play.specs.Playing.{AnswersStand, lines_by, rest_shares, shares_of, AreNew, ReadersStand, DisplayStands, IsInOrder, IsSpent, FramesStand, GameStands}
 use Rattle.flat_play.proofs.lemmas.Places.{few_lines, rises, counted, frames_are, setup_is}
 use Rattle.flat_play.proofs.lemmas.DisplaySteps.{display_numbered}
@@ -193,12 +195,11 @@ pub no_members : (set : SessionSet) → list_all not set.has ≡ true → (s : �
 no_members set all zero = refl
 no_members set all (suc before) = all_false set.has all before
 
-pub first_shown : NothingIsShownAtFirst → (setup : Setup) (shown : Shown) (views : SessionSet) (shown_frames : List FrameOut) → length shown ≡ setup.sessions → All (λ state. state ≡ None) shown
-    → list_all not views.has ≡ true → shown_frames ≡ [] → FramesStand setup [] shown views shown_frames
-first_shown at_first setup shown views shown_frames count none all nothing = record {
+pub first_shown : NothingIsShownAtFirst → (setup : Setup) (shown : Shown) (views : SessionSet) → length shown ≡ setup.sessions → All (λ state. state ≡ None) shown
+    → list_all not views.has ≡ true → FramesStand setup [] shown views
+first_shown at_first setup shown views count none all = record {
   showing = at_first setup shown count none;
   viewing = λ s declared. no_members views all s.0 ∙ sym (no_view setup s);
-  finishing = nothing;
 }
 
 -- what shows nothing fits
@@ -210,14 +211,15 @@ pub first_answers : (setup : Setup) (last : LastFrame) (answers : List HitAnswer
 first_answers setup last answers number is showing nothing = record { number = number; is_last = is; showing = showing; answering = nothing }
 
 pub starts : (script : Script) (game : Game) → is_playable script ≡ true → NoneIsRead → game.board ≡ record { setup = script.setup; shares = shares_of script; history = [] } → AreNew script.setup script.setup.sessions game.readers.items
-    → FramesStand script.setup [] game.shown game.with_view game.frames.items → list_all not game.with_view.has ≡ true → AnswersStand script.setup [] game.last game.answers → GameStands script 0 game
-starts script game playable none_is_read board new shows none answers =
+    → FramesStand script.setup [] game.shown game.with_view → Keeps script game.kept [] → list_all not game.with_view.has ≡ true → AnswersStand script.setup [] game.last game.answers → GameStands script 0 game
+starts script game playable none_is_read board new shows keeps none answers =
     let history : [] ≡ game.board.history = sym (ap (λ (m : Machine). m.history) board) in
     let P : List Entry → Type 0 = λ es. ReadersStand script 0 es game.readers.items in
     let D : List Entry → Type 0 = DisplayStands script 0 in
     let O : List Entry → Type 0 = IsInOrder script 0 in
     let S : List Entry → Type 0 = IsSpent script 0 in
-    let F : List Entry → Type 0 = λ es. FramesStand script.setup es game.shown game.with_view game.frames.items in
+    let F : List Entry → Type 0 = λ es. FramesStand script.setup es game.shown game.with_view in
+    let K : List Entry → Type 0 = λ es. Keeps script game.kept (finished script.setup es) in
     let A : List Entry → Type 0 = λ es. AnswersStand script.setup es game.last game.answers in
     record {
       setup = ap (λ (m : Machine). m.setup) board;
@@ -228,6 +230,7 @@ starts script game playable none_is_read board new shows none answers =
       spent = subst S history (first_spent script playable);
       views = λ s beyond. no_members game.with_view none s;
       shows = subst F history shows;
+      keeps = subst K history keeps;
       same = λ s within none. ap (λ (states : Shown). state_of states s) (answers.showing ∙ sym shows.showing);
       answers = subst A history answers;
     }

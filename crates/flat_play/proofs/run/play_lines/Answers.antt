@@ -1,4 +1,6 @@
-use Rattle.std.proofs.Common.{◌≡◌, ℕ, length, refl, sym, ap, ◌∙◌, subst, arith}
+use Rattle.std.proofs.Common.{◌≡◌, ℕ, List, length, refl, sym, ap, ◌∙◌, subst, arith}
+use Rattle.flat_scene.specs.declared.journal.Entry.{Entry}
+use Rattle.flat_report.specs.Report.{finished}
 use Rattle.flat_play.specs.Playing.{GameStands}
 use Rattle.flat_play.specs.Touches.{AreAnswered}
 use Rattle.flat_play.proofs.Touching.{answered-none, answered-more, answered-all}
@@ -11,7 +13,8 @@ use Rattle.flat_play.proofs.run.play_lines.Goals as goal
 pub loop-place-init : goal.loop-place-init
 loop-place-init g c = record {
   stands = c.in_ok-game.ensures.stands;
-  seen = seen_none _ _ _ _ _ _ c.in_ok-game.ensures.none c.requires.none;
+  seen = seen_none _ _ _ _ _ _ (ap (λ (h : List Entry). finished c.args.script.now.setup h) c.in_ok-game.ensures.no_entry) c.requires.none;
+  keeping = c.in_ok-game.ensures.keeping;
   number = c.requires.number;
   kinds = refl;
   same = refl;
@@ -40,9 +43,10 @@ loop-place-preserved g c =
     let now = c.in_ok-play_line.ensures in
     record {
       stands = now.stands;
-      seen = seen_line _ _ script.setup _ _ _ _ was.stands.shows.finishing now.stands.shows.finishing _ _ _ _ _ (omega (arith, was.number, was.same, c.requires.few)) now.shows was.seen;
+      seen = seen_line _ _ script.setup _ _ _ _ refl refl _ _ _ _ _ (omega (arith, was.number, was.same, c.requires.few)) now.shows was.seen;
       number = as_long _ _ _ c.play_line.ensures.kinds ∙ was.number ∙ sym c.play_line.ensures.same;
       kinds = c.play_line.ensures.kinds ∙ was.kinds;
+      keeping = now.keeping ∙ was.keeping;
       same = c.play_line.ensures.same ∙ was.same;
       answered =
           let at = at_place script c.loop-place.place c.at-line.result.now c.requires.playable c.at-line.ensures in

@@ -1,4 +1,6 @@
 use Rattle.std.proofs.Common.{◌≡◌, length, map, take}
+use Rattle.flat_report.specs.Report.{finished}
+use Rattle.flat_play.specs.Keeping.{keeping_of}
 use Rattle.flat_play.specs.Playing.{GameStands, last_number}
 use Rattle.flat_play.specs.Touches.{AreAnswered}
 use Rattle.flat_play.specs.Showing.{HaveSeen}
@@ -7,9 +9,10 @@ use Rattle.flat_play.proofs.run.play_lines.Given as goal
 abbrev pub invariant-loop-place : goal.invariant-loop-place
 invariant-loop-place g l = record {
   stands : GameStands l.script l.place l.game;
-  seen : HaveSeen (λ b. (goal.Display-dyn g (b.vtable, b.value)).shown b.value) (λ b. (goal.Display-dyn g (b.vtable, b.value)).faults b.value) l.game.frames.items l.game.board.history l.set.lost l.initial.displays.items l.displays.items;
+  seen : HaveSeen (λ b. (goal.Display-dyn g (b.vtable, b.value)).shown b.value) (λ b. (goal.Display-dyn g (b.vtable, b.value)).faults b.value) (finished l.script.setup l.game.board.history) l.game.board.history l.set.lost l.initial.displays.items l.displays.items;
   number : length l.displays.items ≡ l.set.displays;
   kinds : map (λ b. b.vtable) l.displays.items ≡ map (λ b. b.vtable) l.initial.displays.items;
+  keeping : keeping_of l.game.kept ≡ l.fn.keeping;
   same : l.set.displays ≡ l.initial.set.displays;
   answered : AreAnswered l.script.setup l.game.board.history (last_number 0 (take l.place l.script.lines)) l.lines l.left l.found.items;
 }

@@ -1,4 +1,4 @@
-use Rattle.std.proofs.Common.{ap}
+use Rattle.std.proofs.Common.{refl}
 use Rattle.flat_play.proofs.Touching.{answered-ended}
 use Rattle.flat_play.proofs.lemmas.Seen.{kept_none, seen_same}
 use Rattle.flat_play.proofs.run.play_touched.Goals as goal
@@ -8,8 +8,7 @@ returns-clause-touches g c = answered-ended c.args.script.now.setup _ _ _ _ c.en
 
 pub returns-clause-seen : goal.returns-clause-seen
 returns-clause-seen g c =
-    let stands = c.in_ok-game.ensures.stands in
-    seen_same _ _ c.args.script.now.setup _ _ _ _ stands.shows.finishing c.end_all.ensures.played.finishing _ _ _ (ap (λ v. v.items) c.end_all.ensures.frames) c.in_ok-game.ensures.seen
+    seen_same _ _ c.args.script.now.setup _ _ _ _ refl refl _ _ _ c.end_all.ensures.frames c.in_ok-game.ensures.seen
 
 pub returns-in_err-set-clause-kept : goal.returns-in_err-set-clause-kept
 returns-in_err-set-clause-kept g c = kept_none _ _ _ _

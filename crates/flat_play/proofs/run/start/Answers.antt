@@ -29,7 +29,7 @@ returns-clause-stands c =
     let board = c.in_ok-board.ensures ∙ ap (λ s. let m : Machine = record { setup = s; shares = c.in_ok-shares.shares; history = [] } in m) c.in_ok-setup.ensures
     ∙ ap (λ xs. let m : Machine = record { setup = script.setup; shares = xs; history = [] } in m) c.in_ok-shares.ensures in
     starts script _ c.requires c.lines_are_read.ensures.none (c.board.view_is ∙ board) c.in_ok-new_readers.ensures
-    (first_shown c.shown_states_fit.ensures.nothing script.setup _ _ _ c.in_ok-shown.ensures.size c.in_ok-shown.ensures.none refl c.new-2.ensures.items) refl
+    (first_shown c.shown_states_fit.ensures.nothing script.setup _ _ c.in_ok-shown.ensures.size c.in_ok-shown.ensures.none refl) (c.new-2.ensures.none script) refl
     (first_answers script.setup _ _ c.in_ok-last.ensures.number c.in_ok-last.ensures.is c.in_ok-last.ensures.shows c.new-3.ensures)
 
 pub returns-clause-no_entry : goal.returns-clause-no_entry

@@ -1,7 +1,8 @@
 use Rattle.std.proofs.Common.{◌≡◌, ℕ, List, length, map, refl, sym, ap, ◌∙◌, subst, arith}
 use Rattle.flat_scene.specs.declared.journal.Entry.{Entry}
 use Rattle.flat_scene.specs.History.{history_of}
-use Rattle.flat_play.specs.Showing.{HaveSeen}
+use Rattle.flat_report.specs.Report.{finished}
+use Rattle.flat_stage.specs.Displays.{DisplayView}
 use Rattle.flat_play.proofs.lemmas.Seen.{as_long, kept_none, kept_same, kept_seen, seen_none, seen_line}
 use Rattle.flat_race.specs.declared.hand.Hand.{Hand}
 use Rattle.flat_race.specs.declared.hand.Hand.TheVariants.{Idle}
@@ -12,7 +13,8 @@ use Rattle.flat_race.proofs.director.direct.Goals as goal
 pub loop-place-init : goal.loop-place-init
 loop-place-init g c = record {
   stands = hand_starts c.args.lent.now.script.now c.args.lent.now.stage.now c.args.seat c.args.film.now c.requires.playable c.requires.fresh c.requires.film;
-  seen = seen_none _ _ _ _ _ _ c.requires.film.finishing c.requires.none;
+  seen = seen_none _ _ _ _ _ _ (ap (λ (s : DisplayView). finished c.args.lent.now.script.now.setup (history_of s.seen)) c.requires.fresh) c.requires.none;
+  keeping = refl;
   number = c.requires.number;
   kinds = refl;
   same = refl;
@@ -25,9 +27,10 @@ loop-place-preserved g c =
     let now = c.in_ok-hand.ensures in
     record {
       stands = now.stands;
-      seen = seen_line _ _ script.setup _ _ _ _ was.stands.kept.finishing now.stands.kept.finishing _ _ _ _ _ (omega (arith, was.number, was.same, c.requires.few)) now.shown was.seen;
+      seen = seen_line _ _ script.setup _ _ _ _ refl refl _ _ _ _ _ (omega (arith, was.number, was.same, c.requires.few)) now.shown was.seen;
       number = as_long _ _ _ c.direct_next.ensures.kinds ∙ was.number ∙ sym c.direct_next.ensures.same;
       kinds = c.direct_next.ensures.kinds ∙ was.kinds;
+      keeping = now.keeping ∙ was.keeping;
       same = c.direct_next.ensures.same ∙ was.same;
     }
 
@@ -51,7 +54,7 @@ returns-clause-film g c =
     (subst P (sym c.into_seat.ensures) c.loop-place.invariant.stands).kept
 
 pub returns-clause-seen : goal.returns-clause-seen
-returns-clause-seen g c = seen_there _ _ _ _ _ _ _ _ (ap (λ (h : Hand). history_of (hand_seat h).seen) (sym c.into_seat.ensures)) c.loop-place.invariant.seen
+returns-clause-seen g c = seen_there _ _ c.args.lent.now.script.now.setup _ _ _ _ _ (ap (λ (h : Hand). history_of (hand_seat h).seen) (sym c.into_seat.ensures)) c.loop-place.invariant.seen
 
 pub returns-clause-kept : goal.returns-clause-kept
 returns-clause-kept g c = kept_seen _ _ _ _ _ _ _ _ c.loop-place.invariant.kinds c.loop-place.invariant.seen

@@ -4,7 +4,7 @@ use Rattle.flat_base.specs.declared.limits.TheConstants.{SESSIONS_MAX}
 use Rattle.flat_core.specs.Machines.{MayLook}
 use Rattle.flat_rules.specs.Legal.{frames, is_fence, names_declared}
 use Rattle.flat_rules.specs.Owned.{is_played_display}
-use Rattle.flat_scene.specs.declared.journal.Kind.TheVariants.{Hit, Wait}
+use Rattle.flat_scene.specs.declared.journal.Kind.TheVariants.{Begin, Hit, Signal, Wait}
 use Rattle.flat_scene.specs.declared.journal.Reply.TheVariants.{Done}
 use Rattle.flat_scene.specs.declared.script.Body.TheVariants as body
 use Rattle.flat_scene.specs.declared.script.DisplayLine.{DisplayLine}
@@ -17,13 +17,15 @@ use Rattle.flat_play.specs.Last.{StaysLast}
 use Rattle.flat_stage.specs.Displays.{DisplayEnters}
 use Rattle.flat_stage.specs.Seats.{StageView, setup_of}
 use Rattle.flat_play.proofs.lemmas.Places.{setup_is}
-use Rattle.flat_play.proofs.lemmas.Seen.{finished_length}
+use Rattle.flat_report.specs.Report.{finished}
+use Rattle.flat_play.specs.Showing.{IsShown}
+use Rattle.flat_race.specs.declared.director.Film.{Film}
 use Rattle.flat_play.proofs.lemmas.Starting.{few_sessions}
 use Rattle.flat_play.proofs.lemmas.Steps.{At, at_place}
 use Rattle.flat_race.specs.declared.hand.Hand.{Hand}
 use Rattle.flat_race.specs.declared.hand.Hand.TheVariants.{Idle, Open}
 use Rattle.flat_race.specs.Directing.{HandStands, hand_seat}
-use Rattle.flat_race.proofs.HandSteps.{begins_idle, finishes_open, frames_few, hand_begins, hand_finishes, hand_hits, hand_looks, hand_room, hand_signals, hand_waits, looked_there, time_fits, wait_fits}
+use Rattle.flat_race.proofs.HandSteps.{begins_idle, finished_still, finished_then, finishes_open, frames_few, looked_finishes, shown_as, hand_begins, hand_finishes, hand_hits, hand_looks, hand_room, hand_signals, hand_waits, looked_there, time_fits, wait_fits}
 use Rattle.flat_race.proofs.director.direct_line.Goals as goal
 
 pub into_seat-requires : goal.into_seat-requires
@@ -79,14 +81,14 @@ finish-requires-clause-same g c κs within =
     let held : HandStands script view c.args.place (Open c.into_frame-frame.result) c.args.film.now = subst (λ (h : Hand). HandStands script view c.args.place h c.args.film.now) (sym c.into_frame-frame.ensures) c.requires.stands in
     held.changes
 
-pub finish-requires-clause-counted : goal.finish-requires-clause-counted
-finish-requires-clause-counted g c κs within =
+pub finish-requires-clause-kept : goal.finish-requires-clause-kept
+finish-requires-clause-kept g c κs within =
     let script = c.args.lent.now.script.now in
     let view = c.args.lent.now.stage.now in
     let x : ScriptLine = record { number = c.args.number; actor = Display; body = body.Display c.args.text } in
     let at : At script c.args.place x = at_place script c.args.place x c.requires.playable c.requires.line in
     let held : HandStands script view c.args.place (Open c.into_frame-frame.result) c.args.film.now = subst (λ (h : Hand). HandStands script view c.args.place h c.args.film.now) (sym c.into_frame-frame.ensures) c.requires.stands in
-    ap length held.kept.finishing ∙ finished_length script.setup (history_of c.into_frame-frame.result.display.seen)
+    held.kept.keeps
 
 pub finish-requires-clause-few : goal.finish-requires-clause-few
 finish-requires-clause-few g c κs within =
@@ -215,3 +217,51 @@ returns-in_ok-hit-in-Hit-clause-stands g c =
     let stays : StaysLast script.setup was.last c.hit.new.film.last = search rules in
     let gained : c.hit.new.film.answers ≡ was.answers ++ (record { actor = Display; line = c.args.number; frame = was.last.frame; hits = hit_list script.setup was.last.reuse c.in-Hit.x c.in-Hit.y }) ∷ [] = search rules in
     hand_hits script view c.args.place x at refl c.requires.of c.in-Hit.x c.in-Hit.y is c.args.hand c.hit.new.hand c.args.film.now c.hit.new.film c.requires.stands entered hits.open hits.kept hits.others stays gained
+
+pub returns-in-Begin-clause-shown : goal.returns-in-Begin-clause-shown
+returns-in-Begin-clause-shown g c =
+    let script = c.args.lent.now.script.now in
+    let view = c.args.lent.now.stage.now in
+    let x : ScriptLine = record { number = c.args.number; actor = Display; body = body.Display c.args.text } in
+    let at : At script c.args.place x = at_place script c.args.place x c.requires.playable c.requires.line in
+    let idle : HandStands script view c.args.place (Idle c.into_seat.result) c.args.film.now = subst (λ (h : Hand). HandStands script view c.args.place h c.args.film.now) (sym c.into_seat.ensures) c.requires.stands in
+    IsShown.shows_none (finished_still script view c.args.place x at refl c.requires.of (Begin c.in-Begin.time) Done c.into_seat.result c.begin-frame.result.display refl idle.seat c.begin-frame.ensures.enters
+    ∙ ap (λ (h : Hand). finished script.setup (history_of (hand_seat h).seen)) c.into_seat.ensures) refl refl
+
+pub returns-in_ok-seat-in-Done-clause-shown : goal.returns-in_ok-seat-in-Done-clause-shown
+returns-in_ok-seat-in-Done-clause-shown g c =
+    let script = c.args.lent.now.script.now in
+    let view = c.args.lent.now.stage.now in
+    let x : ScriptLine = record { number = c.args.number; actor = Display; body = body.Display c.args.text } in
+    let at : At script c.args.place x = at_place script c.args.place x c.requires.playable c.requires.line in
+    let held : HandStands script view c.args.place (Open c.into_frame-frame.result) c.args.film.now = subst (λ (h : Hand). HandStands script view c.args.place h c.args.film.now) (sym c.into_frame-frame.ensures) c.requires.stands in
+    let all = finished_then script view c.args.place x at refl c.requires.of c.into_frame-frame.result.display c.in_ok-seat-in-Done.seat held.seat c.in_ok-seat-in-Done.ensures.enters in
+    shown_as _ _ _ _ _ _ _ _ _ _ (ap (λ (h : Hand). finished script.setup (history_of (hand_seat h).seen)) (sym c.into_frame-frame.ensures)) all c.in_ok-seat-in-Done.ensures.shown
+
+pub returns-in-Signal-clause-shown : goal.returns-in-Signal-clause-shown
+returns-in-Signal-clause-shown g c =
+    let script = c.args.lent.now.script.now in
+    let view = c.args.lent.now.stage.now in
+    let x : ScriptLine = record { number = c.args.number; actor = Display; body = body.Display c.args.text } in
+    let at : At script c.args.place x = at_place script c.args.place x c.requires.playable c.requires.line in
+    IsShown.shows_none (finished_still script view c.args.place x at refl c.requires.of (Signal c.in-Signal.f) c.signal-reply.result (hand_seat c.args.hand) (hand_seat c.signal-reply.new.self) refl c.requires.stands.seat c.signal-reply.ensures.enters) refl refl
+
+pub returns-in-Wait-clause-shown : goal.returns-in-Wait-clause-shown
+returns-in-Wait-clause-shown g c =
+    let script = c.args.lent.now.script.now in
+    let view = c.args.lent.now.stage.now in
+    let x : ScriptLine = record { number = c.args.number; actor = Display; body = body.Display c.args.text } in
+    let at : At script c.args.place x = at_place script c.args.place x c.requires.playable c.requires.line in
+    let there = looked_there _ _ _ _ c.requires.of.setup c.look_again.ensures in
+    let looked = hand_looks script view c.args.place c.args.hand c.look_again.new.hand c.args.film.now there c.requires.stands in
+    IsShown.shows_none (finished_still script view c.args.place x at refl c.requires.of (Wait c.in-Wait.c) c.wait-reply.result (hand_seat c.look_again.new.hand) (hand_seat c.wait-reply.new.self) refl looked.seat c.wait-reply.ensures.enters
+    ∙ looked_finishes script view c.args.place c.args.hand c.look_again.new.hand c.args.film.now there c.requires.stands) refl refl
+
+pub returns-in_ok-hit-in-Hit-clause-shown : goal.returns-in_ok-hit-in-Hit-clause-shown
+returns-in_ok-hit-in-Hit-clause-shown g c =
+    let script = c.args.lent.now.script.now in
+    let view = c.args.lent.now.stage.now in
+    let x : ScriptLine = record { number = c.args.number; actor = Display; body = body.Display c.args.text } in
+    let at : At script c.args.place x = at_place script c.args.place x c.requires.playable c.requires.line in
+    let entered : DisplayEnters c.args.number (Hit c.in-Hit.x c.in-Hit.y) Done (hand_seat c.args.hand) (hand_seat c.hit.new.hand) = search rules in
+    IsShown.shows_none (finished_still script view c.args.place x at refl c.requires.of (Hit c.in-Hit.x c.in-Hit.y) Done (hand_seat c.args.hand) (hand_seat c.hit.new.hand) refl c.requires.stands.seat entered) (ap (λ (f : Film). f.set) c.in_ok-hit-in-Hit.ensures.others) refl

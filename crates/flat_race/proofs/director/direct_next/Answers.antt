@@ -19,6 +19,7 @@ returns-in_default g c =
     record {
       stands = hand_other c.args.lent.now.script.now c.args.lent.now.stage.now c.args.place x at (λ text is. c.in_default.not-Display text is) c.args.hand c.args.film.now c.requires.stands;
       shown = IsShown.shows_none refl refl refl;
+      keeping = refl;
       unshown = tt;
       same = refl;
       kinds = refl;

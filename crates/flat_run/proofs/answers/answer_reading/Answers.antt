@@ -11,11 +11,11 @@ use Rattle.flat_run.specs.Promise.{IsTooLarge, AreTooLarge, large_line}
 use Rattle.flat_run.proofs.answers.answer_reading.Goals as goal
 
 large_reply : {D E : Type 0} (shown : D → Option (List FrameOut)) (faults : D → ℕ) (ds : List D) (form : Form) (bytes : List ℕ) (reading : Reading) → form_read form bytes ≡ Ok reading
-    → (form ≡ Render) × IsTooLarge reading.script.setup → (r : Result Answer E) → IfOk r (λ a. a.status ≡ 7) → IfOk r (λ a. a.text.items ≡ large_line)
-    → IfOk r (λ a. IsReply shown faults ds ds form bytes a.status a.text.items)
+    → (form ≡ Render) × IsTooLarge reading.script.setup → (r : Result Answer E) → IfOk r (λ a. a.status ≡ 7) → IfOk r (λ a. a.text ≡ large_line)
+    → IfOk r (λ a. IsReply shown faults ds ds form bytes a.status a.text)
 large_reply shown faults ds form bytes reading read is (Ok a) is_7 text =
     let large : AreTooLarge bytes = record { reading = reading; read = subst (λ f. form_read f bytes ≡ Ok reading) is.0 read; large = is.1 } in
-    subst (λ n. IsReply shown faults ds ds form bytes n a.text.items) (sym is_7)
+    subst (λ n. IsReply shown faults ds ds form bytes n a.text) (sym is_7)
     (subst (λ t. IsReply shown faults ds ds form bytes 7 t) (sym text) (IsReply.too_large is.0 large refl))
 large_reply shown faults ds form bytes reading read is (Err e) is_7 text = tt
 

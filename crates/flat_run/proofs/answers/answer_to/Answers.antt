@@ -17,9 +17,9 @@ use Rattle.flat_run.proofs.Runnable.{runnable}
 use Rattle.flat_play.proofs.lemmas.Seen.{kept_none}
 use Rattle.flat_run.proofs.answers.answer_to.Goals as goal
 
-refused_result : {D E : Type 0} (shown : D → Option (List FrameOut)) (faults : D → ℕ) (ds : List D) (form : Form) (bytes : List ℕ) (fault : ScriptFault) → form_read form bytes ≡ Err fault → (r : Result Answer E) → IfOk r (λ a. a.status ≡ 3) → IfOk r (λ a. a.text.items ≡ fault_line fault)
-    → IfOk r (λ a. IsReply shown faults ds ds form bytes a.status a.text.items)
-refused_result shown faults ds form bytes fault read (Ok a) is_3 is = refused shown faults ds ds form bytes fault read a.status a.text.items is_3 is refl
+refused_result : {D E : Type 0} (shown : D → Option (List FrameOut)) (faults : D → ℕ) (ds : List D) (form : Form) (bytes : List ℕ) (fault : ScriptFault) → form_read form bytes ≡ Err fault → (r : Result Answer E) → IfOk r (λ a. a.status ≡ 3) → IfOk r (λ a. a.text ≡ fault_line fault)
+    → IfOk r (λ a. IsReply shown faults ds ds form bytes a.status a.text)
+refused_result shown faults ds form bytes fault read (Ok a) is_3 is = refused shown faults ds ds form bytes fault read a.status a.text is_3 is refl
 refused_result shown faults ds form bytes fault read (Err e) is_3 is = tt
 
 pub answer_reading-requires-clause-runnable : goal.answer_reading-requires-clause-runnable
@@ -35,7 +35,7 @@ returns-in-Err-Fault-clause-reply g c =
     let whole = c.in-Err-Fault.is in
     let why = c.in-Err-Fault.field-0-is in
     let is : c.in-Err-Fault.field-0 ≡ error.Fault c.in-Err-Fault.fault = cc in
-    let V : ScriptError → Type 0 = λ e. IfOk c.refusal.result (λ a. a.text.items ≡ fault_line (values_d the_error.enum 0 (record { line = 0; kind = 0 }, tt {0}) e).0) in
+    let V : ScriptError → Type 0 = λ e. IfOk c.refusal.result (λ a. a.text ≡ fault_line (values_d the_error.enum 0 (record { line = 0; kind = 0 }, tt {0}) e).0) in
     refused_result _ _ _ c.args.form c.args.bytes.now c.in-Err-Fault.fault (subst (λ e. Reads {A = Reading} (Err e) (form_read c.args.form c.args.bytes.now)) is c.in-Err-Fault.ensures) c.refusal.result c.refusal.ensures.status (subst V is c.refusal.ensures.text)
 
 pub returns-in-Err-Fault-clause-kept : goal.returns-in-Err-Fault-clause-kept

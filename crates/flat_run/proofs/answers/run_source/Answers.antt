@@ -9,8 +9,8 @@ use Rattle.flat_run.proofs.answers.run_source.Goals as goal
 pub returns-in_ok-answer_to-in-Ok-clause-answer : goal.returns-in_ok-answer_to-in-Ok-clause-answer
 returns-in_ok-answer_to-in-Ok-clause-answer g c = λ words calls.
     let x = c.in_ok-answer_to-in-Ok.field-0 in
-    read_text _ _ _ _ words (g.R.Source.left c.args.source.now) (g.R.Source.left c.read_all.new.source) c.args.form c.requires.read calls c.in-Ok.bytes.items c.in-Ok.ensures.whole x.status x.text.items
-    (reply_same _ _ _ _ c.args.form _ _ x.status x.text.items c.as_slice.ensures.value c.in_ok-answer_to-in-Ok.ensures.reply)
+    read_text _ _ _ _ words (g.R.Source.left c.args.source.now) (g.R.Source.left c.read_all.new.source) c.args.form c.requires.read calls c.in-Ok.bytes.items c.in-Ok.ensures.whole x.status x.text
+    (reply_same _ _ _ _ c.args.form _ _ x.status x.text c.as_slice.ensures.value c.in_ok-answer_to-in-Ok.ensures.reply)
 
 pub returns-in_ok-refusal-in-Err-TooLong-clause-answer : goal.returns-in_ok-refusal-in-Err-TooLong-clause-answer
 returns-in_ok-refusal-in-Err-TooLong-clause-answer g c = λ words calls.
@@ -20,7 +20,7 @@ returns-in_ok-refusal-in-Err-TooLong-clause-answer g c = λ words calls.
     let whole = c.in-Err-TooLong.is in
     let why = c.in-Err-TooLong.field-0-is in
     let is : c.in-Err-TooLong.field-0 ≡ TooLong = cc in
-    long_text _ _ _ _ words left left' c.args.form c.requires.read calls (subst (λ e. Given left left' (λ given after. IsTooLong SCRIPT_BYTES_MAX (length given) e)) is c.in-Err-TooLong.ensures.refused) x.status x.text.items
+    long_text _ _ _ _ words left left' c.args.form c.requires.read calls (subst (λ e. Given left left' (λ given after. IsTooLong SCRIPT_BYTES_MAX (length given) e)) is c.in-Err-TooLong.ensures.refused) x.status x.text
     c.in_ok-refusal-in-Err-TooLong.ensures.status c.in_ok-refusal-in-Err-TooLong.ensures.text refl
 
 pub returns-in_err-refusal-in-Err-TooLong-clause-kept : goal.returns-in_err-refusal-in-Err-TooLong-clause-kept

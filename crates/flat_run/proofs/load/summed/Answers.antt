@@ -11,7 +11,7 @@ use Rattle.flat_run.proofs.Reporting.{if_ok, has_run, have_had, load_asked}
 use Rattle.flat_run.proofs.load.summed.Goals as goal
 
 pub totals_of-totals-requires : goal.totals_of-totals-requires
-totals_of-totals-requires g c = c.as_slice.ensures.value ∙ c.in_ok-played.ensures.played.finishing ∙ ap (λ (h : List Entry). finished c.args.script.now.setup h) (sym c.journal-journal.ensures.entries)
+totals_of-totals-requires g c = c.frames.ensures c.args.script.now _ c.in_ok-played.ensures.played.keeps ∙ ap (λ (h : List Entry). finished c.args.script.now.setup h) (sym c.journal-journal.ensures.entries)
 
 pub returns-clause-told : goal.returns-clause-told
 returns-clause-told g c =

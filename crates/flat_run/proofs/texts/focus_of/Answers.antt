@@ -9,6 +9,6 @@ print_focus-requires c =
     let script = c.args.reading.now.script in
     let F : List FrameOut → Type 0 = λ shown. list_all (λ (out : FrameOut). nat_le (length out.tree.nodes) script.setup.sessions) shown ≡ true in
     record {
-      few = subst F (sym c.as_slice-3.ensures.value)
+      few = subst F (sym (c.frames.ensures script _ c.requires.played.keeps))
           (few-played script _ _ _ c.requires.played c.journal-journal.ensures.legal c.views_are_a_tree.ensures.few c.shown_states_fit.ensures.begun c.shown_states_fit.ensures.each);
     }

@@ -4,7 +4,7 @@ use Rattle.flat_words.specs.declared.form.Form.{Form}
 use Rattle.flat_words.specs.Forms.{CallFor}
 use Rattle.flat_words.specs.declared.form.Form.TheVariants.{Render}
 use Rattle.flat_run.specs.Promise.{IsAnswer}
-use Rattle.flat_run.proofs.Answering.{called_for, none_called, text_same, text_whole, text_cut_off, one_form, only_told, only_large, there_no_read_fault, large_no_read_fault, answered_or_fault}
+use Rattle.flat_run.proofs.Answering.{called_for, none_called, text_whole, text_cut_off, one_form, only_told, only_large, there_no_read_fault, large_no_read_fault, answered_or_fault}
 use Rattle.flat_play.proofs.lemmas.Seen.{kept_none}
 use Rattle.flat_run.proofs.top.flatland.Goals as goal
 
@@ -22,30 +22,30 @@ returns-in-Ok-None-clause-complete g c = λ form calls there steady. absurd (non
 pub returns-in-Ok-clause-whole : goal.returns-in-Ok-clause-whole
 returns-in-Ok-clause-whole g c = λ not_4 not_5 not_6.
     let calls = called_for _ c.in-Ok-Some.field-0 c.in-Ok-Some.form c.in-Ok-Some.field-0-is c.in-Ok-Some.ensures.form in
-    text_whole _ _ _ _ _ _ _ _ _ _ _ _ (text_same _ _ _ _ _ _ _ _ _ _ c.as_slice.ensures.value (c.in-Ok.ensures.answer _ calls)) c.write_text-in-Ok.ensures.whole c.write_text-in-Ok.ensures.either not_5
+    text_whole _ _ _ _ _ _ _ _ _ _ _ _ (c.in-Ok.ensures.answer _ calls) c.write_pieces.ensures.whole c.write_pieces.ensures.either not_5
 
 pub returns-in-Ok-clause-cut_off : goal.returns-in-Ok-clause-cut_off
 returns-in-Ok-clause-cut_off g c = λ is_5.
     let calls = called_for _ c.in-Ok-Some.field-0 c.in-Ok-Some.form c.in-Ok-Some.field-0-is c.in-Ok-Some.ensures.form in
-    text_cut_off _ _ _ _ _ _ _ _ _ _ c.write_text-in-Ok.result _ (text_same _ _ _ _ _ _ _ _ _ _ c.as_slice.ensures.value (c.in-Ok.ensures.answer _ calls)) (c.write_text-in-Ok.ensures.part is_5)
+    text_cut_off _ _ _ _ _ _ _ _ _ _ c.write_pieces.result _ (c.in-Ok.ensures.answer _ calls) (c.write_pieces.ensures.part is_5)
 
 pub returns-in-Ok-clause-complete : goal.returns-in-Ok-clause-complete
 returns-in-Ok-clause-complete g c = λ form calls there steady.
     let x = c.in-Ok.answer in
     let mine = called_for _ c.in-Ok-Some.field-0 c.in-Ok-Some.form c.in-Ok-Some.field-0-is c.in-Ok-Some.ensures.form in
     let one : (f : Form) → CallFor (map string_bytes c.args.words.now) f → f ≡ form = λ f called. one_form c.in-Ok-Some.field-0 form f (c.in-Ok-Some.ensures.only form calls) (c.in-Ok-Some.ensures.only f called) in
-    let is : x.status ≡ 0 = only_told _ _ _ _ _ _ _ form _ _ calls one there x.status x.text.items (c.in-Ok.ensures.answer _ mine) in
-    answered_or_fault c.write_text-in-Ok.result x.status 0 c.write_text-in-Ok.ensures.either is
-    (λ is_5. let rose = c.write_text-in-Ok.ensures.fault is_5 in let both : true ≡ false = sym rose ∙ steady in cc)
+    let is : x.status ≡ 0 = only_told _ _ _ _ _ _ _ form _ _ calls one there x.status x.text (c.in-Ok.ensures.answer _ mine) in
+    answered_or_fault c.write_pieces.result x.status 0 c.write_pieces.ensures.either is
+    (λ is_5. let rose = c.write_pieces.ensures.fault is_5 in let both : true ≡ false = sym rose ∙ steady in cc)
 
 pub returns-in-Ok-clause-too_large : goal.returns-in-Ok-clause-too_large
 returns-in-Ok-clause-too_large g c = λ calls there steady.
     let x = c.in-Ok.answer in
     let mine = called_for _ c.in-Ok-Some.field-0 c.in-Ok-Some.form c.in-Ok-Some.field-0-is c.in-Ok-Some.ensures.form in
     let one : (f : Form) → CallFor (map string_bytes c.args.words.now) f → f ≡ Render = λ f called. one_form c.in-Ok-Some.field-0 Render f (c.in-Ok-Some.ensures.only Render calls) (c.in-Ok-Some.ensures.only f called) in
-    let is : x.status ≡ 7 = only_large _ _ _ _ _ _ _ _ _ calls one there x.status x.text.items (c.in-Ok.ensures.answer _ mine) in
-    answered_or_fault c.write_text-in-Ok.result x.status 7 c.write_text-in-Ok.ensures.either is
-    (λ is_5. let rose = c.write_text-in-Ok.ensures.fault is_5 in let both : true ≡ false = sym rose ∙ steady in cc)
+    let is : x.status ≡ 7 = only_large _ _ _ _ _ _ _ _ _ calls one there x.status x.text (c.in-Ok.ensures.answer _ mine) in
+    answered_or_fault c.write_pieces.result x.status 7 c.write_pieces.ensures.either is
+    (λ is_5. let rose = c.write_pieces.ensures.fault is_5 in let both : true ≡ false = sym rose ∙ steady in cc)
 
 pub returns-in-Ok-None-clause-too_large : goal.returns-in-Ok-None-clause-too_large
 returns-in-Ok-None-clause-too_large g c = λ calls there steady. absurd (none_called _ c.read.result (c.in-Ok-None.is ∙ ap Ok c.in-Ok-None.field-0-is) c.read.ensures.only Render calls)

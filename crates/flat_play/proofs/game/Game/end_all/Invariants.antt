@@ -1,7 +1,8 @@
 use Rattle.std.proofs.Common.{◌≡◌}
+use Rattle.flat_report.specs.Report.{finished}
 use Rattle.flat_play.specs.Playing.{EndsStand}
 use Rattle.flat_play.specs.Touches.{GoesOnByEnds}
 use Rattle.flat_play.proofs.game.Game.end_all.Given as goal
 
 abbrev pub invariant-loop-before : goal.invariant-loop-before
-invariant-loop-before l = (l.self.frames ≡ l.initial.self.frames) × EndsStand l.script l.before l.self × GoesOnByEnds l.initial.self.board.history l.self.board.history
+invariant-loop-before l = (l.self.kept ≡ l.initial.self.kept) × (finished l.script.setup l.self.board.history ≡ finished l.script.setup l.initial.self.board.history) × EndsStand l.script l.before l.self × GoesOnByEnds l.initial.self.board.history l.self.board.history

@@ -1,5 +1,6 @@
-use Rattle.std.proofs.Common.{◌≡◌, ◌+◌, ◌<◌, ℕ, length, get_or, refl, sym, ap, subst, arith}
+use Rattle.std.proofs.Common.{◌≡◌, ◌+◌, ◌<◌, ℕ, length, get_or, refl, sym, ap, ◌∙◌, subst, arith, append-nil}
 use Rattle.flat_places.specs.declared.script.Script.{Script}
+use Rattle.flat_report.specs.Report.{finished}
 use Rattle.flat_stage.specs.declared.reader.Reader.{Reader}
 use Rattle.flat_play.specs.declared.game.Game.{Game}
 use Rattle.flat_play.specs.Playing.{ReaderStands, EndsStand}
@@ -41,3 +42,7 @@ returns-clause-stands c =
 pub returns-clause-ends : goal.returns-clause-ends
 returns-clause-ends c =
     one-end-more c.args.self.now.board.history c.args.self.now.board.history _ _ refl (ap (λ m. m.history) c.end-reply.ensures.entry) (no-ends c.args.self.now.board.history)
+
+pub returns-clause-frames : goal.returns-clause-frames
+returns-clause-frames c =
+    ap (λ m. finished c.args.script.now.setup m.history) c.end-reply.ensures.entry ∙ append-nil (finished c.args.script.now.setup c.args.self.now.board.history)

@@ -1,5 +1,6 @@
 use Rattle.flat_play.specs.Last.{IsLast}
 use Rattle.flat_play.specs.Playing.{AsksPoint}
+use Rattle.flat_play.specs.Showing.{IsShown}
 use Rattle.std.proofs.Common.{rules, ◌≡◌, ◌≤◌, true, length, refl, sym, ap, subst, arith}
 use Rattle.flat_base.specs.declared.ids.Actor.TheVariants.{Display}
 use Rattle.flat_scene.specs.declared.script.Body.TheVariants as body
@@ -11,7 +12,7 @@ use Rattle.flat_scene.specs.declared.setup.Setup.{Setup}
 use Rattle.flat_rules.specs.Legal.{is_fence}
 use Rattle.flat_rules.specs.Owned.{is_played_display}
 use Rattle.flat_play.proofs.lemmas.DisplaySteps.{display_share, begin_time_ok, done_ok, may_begin, may_finish, may_hit, may_signal_fence, may_wait_for}
-use Rattle.flat_play.proofs.lemmas.GameSteps.{begin_more, finish_more, beside_more, point_more}
+use Rattle.flat_play.proofs.lemmas.GameSteps.{begin_more, display_finishes, finish_more, beside_more, point_more}
 use Rattle.flat_play.proofs.lemmas.FramesShown.{few_frames}
 use Rattle.flat_play.proofs.lemmas.Starting.{few, by_at_most}
 use Rattle.flat_play.proofs.lemmas.Steps.{At, at_place}
@@ -126,3 +127,20 @@ pub returns-in_ok-hit-in-Hit-clause-goes_on : goal.returns-in_ok-hit-in-Hit-clau
 returns-in_ok-hit-in-Hit-clause-goes_on g c =
     let asks : AsksPoint c.args.self.now c.hit.new.self c.args.number c.in-Hit.x c.in-Hit.y = search rules in
     entered-on _ _ _ _ _ _ _ asks.board
+
+pub returns-in-Begin-clause-shows : goal.returns-in-Begin-clause-shows
+returns-in-Begin-clause-shows g c =
+    IsShown.shows_none (display_finishes c.args.script.now.setup c.args.self.now.board c.begin.new.self.board _ _ _ refl c.begin.ensures.board) refl refl
+
+pub returns-in-Signal-clause-shows : goal.returns-in-Signal-clause-shows
+returns-in-Signal-clause-shows g c =
+    IsShown.shows_none (display_finishes c.args.script.now.setup c.args.self.now.board c.signal.new.self.board _ _ _ refl c.signal.ensures.board) refl refl
+
+pub returns-in-Wait-clause-shows : goal.returns-in-Wait-clause-shows
+returns-in-Wait-clause-shows g c =
+    IsShown.shows_none (display_finishes c.args.script.now.setup c.args.self.now.board c.wait.new.self.board _ _ _ refl c.wait.ensures.board) refl refl
+
+pub returns-in_ok-hit-in-Hit-clause-shows : goal.returns-in_ok-hit-in-Hit-clause-shows
+returns-in_ok-hit-in-Hit-clause-shows g c =
+    let asks : AsksPoint c.args.self.now c.hit.new.self c.args.number c.in-Hit.x c.in-Hit.y = search rules in
+    IsShown.shows_none (display_finishes c.args.script.now.setup c.args.self.now.board c.hit.new.self.board _ _ _ refl asks.board) refl refl

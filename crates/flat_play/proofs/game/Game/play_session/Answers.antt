@@ -3,7 +3,7 @@ use Rattle.flat_base.specs.declared.ids.SessionNo.{SessionNo}
 use Rattle.flat_base.specs.declared.ids.Actor.TheVariants.{Session}
 use Rattle.flat_scene.specs.declared.script.Body.TheVariants as body
 use Rattle.flat_scene.specs.declared.script.ScriptLine.{ScriptLine}
-use Rattle.flat_play.proofs.lemmas.GameSteps.{below_declared, session_share, session_more, own_reader}
+use Rattle.flat_play.proofs.lemmas.GameSteps.{below_declared, session_finishes, session_share, session_more, own_reader}
 use Rattle.flat_scene.specs.declared.script.Line.{Line}
 use Rattle.flat_core.specs.Machines.{HasShare}
 use Rattle.flat_rules.specs.Owned.{is_played_line}
@@ -82,4 +82,17 @@ returns-clause-goes_on c =
     let R : Line → Type 0 = λ text. Reads c.args.number text c.in_ok-_reply._reply old.board c.call.new.board reader c.call.new.self reader.closed in
     let reads = subst R c.in_ok-text.ensures c.in_ok-_reply.ensures.reads in
     grown-on old.board c.call.new.board (Session c.args.s) c.args.number
+    (reader_grows script c.args.s c.args.place c.args.number c.args.text.now h c.in_ok-_reply._reply old.board c.call.new.board reader c.call.new.self c.requires.stands.setup mine reads)
+
+pub returns-clause-frames : goal.returns-clause-frames
+returns-clause-frames c =
+    let x : ScriptLine = record { number = c.args.number; actor = Session c.args.s; body = body.Session c.args.text.now } in
+    let h = here c.args.script.now c.args.s c.args.place c.args.number c.args.text.now c.requires.playable c.requires.line in
+    let script = c.args.script.now in
+    let old = c.args.self.now in
+    let reader = c.index_mut-reader.result.now in
+    let mine = own_reader script c.args.place old.board.history old.readers.items c.args.s h.declared c.requires.stands.readers reader c.index_mut-reader.ensures.value in
+    let R : Line → Type 0 = λ text. Reads c.args.number text c.in_ok-_reply._reply old.board c.call.new.board reader c.call.new.self reader.closed in
+    let reads = subst R c.in_ok-text.ensures c.in_ok-_reply.ensures.reads in
+    session_finishes script.setup x c.args.s old.board c.call.new.board refl
     (reader_grows script c.args.s c.args.place c.args.number c.args.text.now h c.in_ok-_reply._reply old.board c.call.new.board reader c.call.new.self c.requires.stands.setup mine reads)

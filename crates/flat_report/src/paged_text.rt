@@ -1,0 +1,173 @@
+ghost use Rattle.std.specs.Prelude.{◌≡◌, ◌<◌, ◌^◌, ◌-◌, ◌∷◌, ◌++◌, [], map, false, IfOk, OnOk};
+ghost use Rattle.flat_page.specs.Pages.{Puts, is_counting};
+ghost use Rattle.flat_page.specs.Words.{text_of};
+ghost use Rattle.flat_report.specs.EntryLines.{entry_line};
+ghost use Rattle.flat_report.specs.FrameLines.{lost_line};
+ghost use Rattle.flat_report.specs.Handed.{end_line, post_line, title_line};
+ghost use Rattle.flat_report.specs.Pieces.{text_on};
+ghost use Rattle.flat_report.specs.Report.{lost_at};
+
+use crate::ends::{push_end, push_title};
+use crate::entry_lines::{push_entry, push_posts};
+use crate::frame_words::push_losses;
+use crate::pieces::Pieces;
+use flat_base::{Items, NoMemory};
+use flat_page::Page;
+use flat_places::Script;
+use flat_scene::{Entry, Hit, Lost, Post};
+use std::alloc::Global;
+use std::marker::Model;
+use std::mem;
+
+/// A page of so many bytes is full, and a text that long is a piece of its own.
+const PIECE_BYTES: usize = 65_536;
+
+/// A text that is written in pieces: those that are full, and the page behind them.
+#[derive(Drop)]
+pub(crate) struct PagedText {
+    alloc: Global,
+    full: Pieces,
+    page: Page,
+}
+
+impl Model for PagedText {
+    ghost use Rattle.std.specs.Prelude.{◌≡◌, List, ℕ, ◌++◌, false};
+    ghost use Rattle.flat_page.specs.Pages.{is_counting};
+    ghost use Rattle.flat_report.specs.Pieces.{text_on};
+
+    ghost Value = { List ℕ };
+
+    ghost view = { λ s. s.full ++ text_on s.page };
+
+    ghost invariant = { λ s. is_counting s.page ≡ false };
+}
+
+/// Puts the text of a page behind full pieces, and leaves an empty page.
+fn end_page(alloc: Global, full: &mut Pieces, page: &mut Page) -> Result<(), NoMemory>
+    requires { is_counting page.old ≡ false }
+    ensures full { OnOk result (full.new ≡ full.old ++ text_on page.old) }
+    ensures page { OnOk result (text_on page.new ≡ []) }
+    ensures sort { is_counting page.new ≡ false }
+{
+    let next = Page::Text(Vec::with_capacity(alloc, 2 * PIECE_BYTES)?);
+    let ended = mem::replace(page, next);
+    full.push(Items::from_vec(ended.into_text()))?;
+    Ok(())
+}
+
+impl PagedText {
+    /// A text without bytes.
+    pub(crate) fn new(alloc: Global) -> PagedText
+        ensures { result ≡ [] }
+    {
+        PagedText {
+            alloc,
+            full: Pieces::new(alloc),
+            page: Page::Text(Vec::new(alloc)),
+        }
+    }
+
+    /// Begins a new page.
+    fn turn(&mut self) -> Result<(), NoMemory>
+        ensures { OnOk result (self.new ≡ self.old) }
+    {
+        end_page(self.alloc, &mut self.full, &mut self.page)?;
+        Ok(())
+    }
+
+    /// Begins a new page where this one is full.
+    pub(crate) fn turn_full(&mut self) -> Result<(), NoMemory>
+        ensures { OnOk result (self.new ≡ self.old) }
+    {
+        if self.page.len() < PIECE_BYTES {
+            return Ok(());
+        }
+        self.turn()?;
+        Ok(())
+    }
+
+    /// Puts a text. A long one isn't copied.
+    pub(crate) fn add(&mut self, text: Items<u8>) -> Result<(), NoMemory>
+        ensures { OnOk result (self.new ≡ self.old ++ text) }
+    {
+        if text.len() < PIECE_BYTES {
+            let mut page = mem::replace(&mut self.page, Page::Text(Vec::new(self.alloc)));
+            page.put(text.as_slice())?;
+            self.page = page;
+            return Ok(());
+        }
+        end_page(self.alloc, &mut self.full, &mut self.page)?;
+        self.full.push(text)?;
+        Ok(())
+    }
+
+    /// Puts the first line.
+    pub(crate) fn title(&mut self) -> Result<(), NoMemory>
+        ensures { OnOk result (self.new ≡ self.old ++ text_of (title_line ∷ [])) }
+    {
+        let mut page = mem::replace(&mut self.page, Page::Text(Vec::new(self.alloc)));
+        push_title(&mut page)?;
+        self.page = page;
+        Ok(())
+    }
+
+    /// Puts the line of an entry, before which so many frames were finished.
+    pub(crate) fn entry(
+        &mut self,
+        script: &Script,
+        finished: u64,
+        hits: &[Hit],
+        entry: &Entry,
+    ) -> Result<(), NoMemory>
+        requires { finished < 2 ^ 64 - 1 }
+        ensures { OnOk result (self.new ≡ self.old ++ text_of (entry_line script.now finished (λ x y. hits.now) entry.now ∷ [])) }
+    {
+        let mut page = mem::replace(&mut self.page, Page::Text(Vec::new(self.alloc)));
+        push_entry(&mut page, script, finished, hits, entry)?;
+        self.page = page;
+        Ok(())
+    }
+
+    /// Puts the lines of the displays that were lost at the frame of a number.
+    pub(crate) fn losses(&mut self, number: u64, lost: &[Lost]) -> Result<(), NoMemory>
+        ensures { OnOk result (self.new ≡ self.old ++ text_of (map lost_line (lost_at number lost.now))) }
+    {
+        let mut page = mem::replace(&mut self.page, Page::Text(Vec::new(self.alloc)));
+        push_losses(&mut page, number, lost)?;
+        self.page = page;
+        Ok(())
+    }
+
+    /// Puts the lines of events.
+    pub(crate) fn posts(&mut self, script: &Script, posts: &[Post]) -> Result<(), NoMemory>
+        ensures { OnOk result (self.new ≡ self.old ++ text_of (map (post_line script.now) posts.now)) }
+    {
+        let mut page = mem::replace(&mut self.page, Page::Text(Vec::new(self.alloc)));
+        push_posts(&mut page, script, posts)?;
+        self.page = page;
+        Ok(())
+    }
+
+    /// Puts the last line, after so many entries and finished frames.
+    pub(crate) fn end(&mut self, entries: usize, finished: u64) -> Result<(), NoMemory>
+        ensures { OnOk result (self.new ≡ self.old ++ text_of (end_line entries finished ∷ [])) }
+    {
+        let mut page = mem::replace(&mut self.page, Page::Text(Vec::new(self.alloc)));
+        push_end(&mut page, entries, finished)?;
+        self.page = page;
+        Ok(())
+    }
+
+    /// All pieces.
+    pub(crate) fn into_pieces(self) -> Result<Pieces, NoMemory>
+        ensures { IfOk result (λ pieces. pieces ≡ self) }
+    {
+        let PagedText {
+            alloc: _,
+            mut full,
+            page,
+        } = self;
+        full.push(Items::from_vec(page.into_text()))?;
+        Ok(full)
+    }
+}
