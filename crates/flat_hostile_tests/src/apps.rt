@@ -31,7 +31,11 @@ fn mail_leaves_before(alloc: Global, before: u32) -> Result<Vec<u8>, Fail> {
 
 /// The number of the line that was this one.
 fn moved(line: u32, before: u32) -> u32 {
-    if line < before { line } else { line + 1 }
+    if line < before {
+        line
+    } else {
+        line.saturating_add(1)
+    }
 }
 
 /// Whether a report has this line once.

@@ -30,7 +30,8 @@ fn a_script_is_cut_after_each_byte(rt: HostRuntime) -> Result<(), Fail> {
     for end in 0..SHELL.len() {
         let called = play(&rt, alloc, &SHELL[..end], NONE, &mut Vec::new(alloc))?;
         let text = called.sink.bytes();
-        match called.status {
+        let status = called.status;
+        match status {
             0 => assert!(rt; is_report(text) && end >= HEAD),
             3 => assert!(rt; is_fault(text)),
             _ => assert!(rt; false),
