@@ -301,7 +301,7 @@ def written_otherwise(rng, lines):
         while rng.random() < 0.1:
             out.append(rng.choice(["", "#", "# a remark"]))
         words = line.split(" ")
-        if words[1:2] == ["CreateViewport"] and len(words) == 6 or words[1:2] == ["SetViewportProperties"] and len(words) == 5:
+        if words[1:2] == ["CreateViewport"] and len(words) == 6:
             line += " 0 0 0 0"
         out.append(line)
         numbers[len(out)] = number
