@@ -23,7 +23,8 @@ A case is a folder with
                  on `until` and `stdout.from.L`; by default the stage of --up-to, else those
                  that the file `reached` beside this one names: the first word a stage with
                  all before it, and each word after it one stage more
-A case that is named is run whatever its stage. Standard error must stay empty.
+--list runs none, and prints for each case its stage, its name and what it shows. A case
+that is named is run whatever its stage. Standard error must stay empty.
 Large files are made by make_large.py first.
 """
 import fnmatch
@@ -182,7 +183,7 @@ def main():
     passed = failed = 0
     for n, c in sorted(cases):
         if listing:
-            print(STAGES[n], c)
+            print("%-14s %-52s %s" % (STAGES[n], c, " ".join((text(c, "note") or "").split())))
             continue
         wrong = run(program, c, at, limit)
         if wrong is None:
