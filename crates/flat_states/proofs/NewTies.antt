@@ -11,17 +11,11 @@ use Rattle.flat_states.specs.declared.following.Sight.{Sight}
 use Rattle.flat_states.specs.declared.pairs.PairState.{PairState}
 use Rattle.flat_rules.specs.Numbers.{number}
 use Rattle.flat_states.specs.Noted.{new_pair}
-use Rattle.flat_states.specs.Following.{AreTied, IsFollowed, IsPairKept, sight_of, pair}
+use Rattle.flat_states.specs.Following.{AreTied, IsFollowed, IsPairKept, new_following, nothing, sight_of, pair}
 use Rattle.flat_rules.specs.Shown.{shown, shown_states, is_connected}
 use Rattle.flat_topology.specs.Join.{viewer_from, led_to, led_from, sessions_in, join}
 use Rattle.flat_topology.specs.Pairs.{display_pair}
 use Rattle.flat_topology.specs.Shown.{Shown}
-
-abbrev pub nothing : Sight
-nothing = record { closed = false; taken = 0; view = None; connected = false }
-
-abbrev pub new_following : Following
-new_following = record { view = None; contents = 0; begun = nothing; finished = nothing }
 
 -- nobody shows a view where nothing is shown
 no-viewer : (f : SessionNo → Option Tree) → ((s : SessionNo) → f s ≡ None) → (n p : ℕ) (xs : List SessionNo) → viewer_from n (map f xs) p ≡ None

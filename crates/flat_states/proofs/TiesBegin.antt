@@ -8,7 +8,7 @@ use Rattle.flat_states.specs.declared.following.Following.{Following}
 use Rattle.flat_states.specs.declared.state.SessionState.{SessionState}
 use Rattle.flat_states.specs.Begins.{begun, begin_entry}
 use Rattle.flat_rules.specs.Numbers.{number, AllNumbered}
-use Rattle.flat_states.specs.Following.{IsBegun, IsFollowed, SeesConnected, sight_of, sight_of_state}
+use Rattle.flat_states.specs.Following.{IsBegun, IsFollowed, sight_of, sight_of_state}
 use Rattle.flat_states.specs.Kept.{IsKept, taken_in}
 use Rattle.flat_states.specs.Seen.{seen_of}
 use Rattle.flat_rules.specs.Shown.{shown, shown_states}
@@ -46,13 +46,6 @@ pub followed-here : (setup : Setup) (h after : List Entry) (i : ℕ) (followings
 followed-here setup h after i followings state each below is =
     let here : IsFollowed setup h (number i) (slice_index_or followings i state) = rw (not-below i) at (each i state below) in
     subst (IsFollowed setup h (number i)) (sym is) here
-
--- of one session more it is known whether it is connected
-pub connected-on : (setup : Setup) (shows : Shown) (i : ℕ) (followings : List Following) (new : Following) → new.begun.connected ≡ is_joined setup shows (i + 1) → SeesConnected setup shows i followings
-    → SeesConnected setup shows (i + 1) (slice_set followings i new)
-connected-on setup shows i followings new here each =
-    changed-one (λ j f. j < i → f.begun.connected ≡ is_joined setup shows (j + 1)) (λ j f. j < i + 1 → f.begun.connected ≡ is_joined setup shows (j + 1)) followings i new
-    (λ j x other kept low. kept (omega (arith, low, other))) (λ low. here) each
 
 module _ (setup : Setup) (h : List Entry) (line time : ℕ) (states : List SessionState) (shows : Shown) (begins : IsBegun setup h line time states shows) where
   sight-is : (i : ℕ) (state : SessionState) → i < setup.sessions → IsKept setup (seen_of setup (begun h line time) (number i)) state → sight_of_state setup shows state (number i) ≡ sight_of setup (begun h line time) (number i)

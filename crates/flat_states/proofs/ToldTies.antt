@@ -20,7 +20,7 @@ use Rattle.flat_states.specs.declared.following.Following.{Following}
 use Rattle.flat_states.specs.declared.following.Sight.{Sight}
 use Rattle.flat_states.specs.declared.pairs.PairState.{PairState}
 use Rattle.flat_rules.specs.Ends.{is_viewport_lost, to_finished, view_owner, viewport_owner, viewport_uses}
-use Rattle.flat_states.specs.Following.{AreTied, IsFollowed, IsLastSight, IsPairKept}
+use Rattle.flat_states.specs.Following.{AreTied, IsFollowed, IsLastSight, IsPairKept, nothing}
 use Rattle.flat_rules.specs.Numbers.{AllNumbered, number}
 use Rattle.flat_states.proofs.lemmas.Counts.{at-session}
 use Rattle.flat_rules.specs.Legal.{Legal}
@@ -30,7 +30,6 @@ use Rattle.flat_states.specs.Views.{child_by}
 use Rattle.flat_rules.specs.Watch.{child_of, props_seen, props_told, told}
 use Rattle.flat_watch.specs.Told.{or_else}
 use Rattle.flat_states.proofs.lemmas.Earlier.{finished-earlier, legal-earlier}
-use Rattle.flat_states.proofs.NewTies.{nothing}
 use Rattle.flat_states.proofs.PairTold.{child-told, view-lost, viewport-lost}
 use Rattle.flat_states.proofs.Undeclared.{none-taken, own-none}
 

@@ -29,6 +29,19 @@ use Rattle.flat_rules.specs.Watch.{props_given, props_seen}
 use Rattle.flat_topology.specs.Join.{is_joined}
 use Rattle.flat_topology.specs.Shown.{Shown, state_of}
 
+-- what contracts see of what is kept of all sessions, and of how they are connected
+pub record KeptFollowings : Type 0 where
+  pub items : List Following
+  pub distances : List (Option ℕ)
+
+-- what a history without a frame says of a session
+abbrev pub nothing : Sight
+nothing = record { closed = false; taken = 0; view = None; connected = false }
+
+-- what is kept of a session to which nothing happened
+abbrev pub new_following : Following
+new_following = record { view = None; contents = 0; begun = nothing; finished = nothing }
+
 -- a count that stays at its end, which is beyond every serial of a tree
 abbrev pub capped : ℕ → ℕ
 capped n = min n (2 ^ 64 - 1)
@@ -110,10 +123,6 @@ sight_of_state setup shown state s = record {
   view = option_and_then (λ t. t.view) (state_of shown s.0);
   connected = is_joined setup shown s.0;
 }
-
--- of so many sessions, the first ones, the begin of the frame saw whether they are connected
-abbrev pub SeesConnected : Setup → Shown → ℕ → List Following → Type 0
-SeesConnected setup shown count = AllNumbered (λ i following. i < count → following.begun.connected ≡ is_joined setup shown (i + 1))
 
 -- A frame began: what is kept of the sessions, and what is shown, stand for the history with the begin.
 pub record IsBegun (setup : Setup) (history : List Entry) (line time : ℕ) (states : List SessionState) (shows : Shown) : Type 0 where

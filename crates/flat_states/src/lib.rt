@@ -11,6 +11,7 @@ mod clears;
 pub mod clock;
 pub mod ends;
 pub mod following;
+pub mod followings;
 pub mod live;
 pub mod log;
 pub mod noted;

@@ -4,84 +4,30 @@ ghost use Rattle.flat_scene.specs.declared.journal.Entry.{Entry};
 ghost use Rattle.flat_scene.specs.History.{◌▹◌};
 ghost use Rattle.flat_topology.specs.Fit.{FitsSetup};
 ghost use Rattle.flat_topology.specs.Join.{is_joined};
-ghost use Rattle.flat_topology.specs.Pairs.{display_pair};
 ghost use Rattle.flat_topology.specs.Shown.{state_of};
 ghost use Rattle.flat_states.specs.Begins.{begun, finished};
-ghost use Rattle.flat_states.specs.Following.{AreTied, IsBegun, IsOwnEntry, SeesConnected, UsesNone, sight_of_state};
+ghost use Rattle.flat_states.specs.Following.{AreTied, IsBegun, IsOwnEntry, UsesNone, sight_of_state};
 ghost use Rattle.flat_rules.specs.Legal.{Legal};
 ghost use Rattle.flat_states.specs.Usage.{IsUse, NotesCalls, SeesUses, uses_if};
 
 use crate::following::{Following, Sight};
+use crate::followings::Followings;
 use crate::live::Live;
 use crate::noted::PairStates;
 use crate::state::SessionState;
 use crate::usage::count_contents;
 use flat_base::{NoMemory, PairNo, SessionNo};
 use flat_scene::{Call, Setup, ViewportProps};
-use flat_topology::{Above, Shown, pair_of_display};
+use flat_topology::Shown;
 use std::alloc::Global;
 
-/// What a history without a frame says of a session.
-pub const NOTHING: Sight = Sight {
-    closed: false,
-    taken: 0,
-    view: None,
-    connected: false,
-};
-
-const NEW_FOLLOWING: Following = Following {
-    view: None,
-    contents: 0,
-    begun: NOTHING,
-    finished: NOTHING,
-};
-
-/// Whether a session is connected, where the begin of this frame saw that already of
-/// the sessions before it.
-fn is_connected(
-    setup: &Setup,
-    shown: &Shown,
-    display: Option<usize>,
-    seen: &[Following],
-    s: SessionNo,
-) -> bool
-    requires display { display ≡ display_pair setup.now }
+/// What the begin of a frame sees of a session, of which it knows whether it is
+/// connected.
+fn see_session(shown: &Shown, connected: bool, state: &SessionState, s: SessionNo) -> Sight
     requires some { 0 < s.0 }
     requires few { s.0 ≤ length shown.now }
-    requires all { length seen.now ≡ length shown.now }
-    requires seen { SeesConnected setup.now shown.now (s.0 - 1) seen.now }
-    requires fit { FitsSetup setup.now shown.now }
-    ensures { result ≡ is_joined setup.now shown.now s.0 }
-{
-    match shown.above(setup, display, s) {
-        Above::Display => true,
-        Above::Nobody => false,
-        Above::Session(parent) => {
-            if parent.0 < s.0 {
-                return seen[parent.0 as usize - 1].begun.connected;
-            }
-            shown.connected(setup, parent)
-        }
-    }
-}
-
-/// What the begin of a frame sees of a session, after it saw those before it.
-fn see_session(
-    setup: &Setup,
-    shown: &Shown,
-    display: Option<usize>,
-    seen: &[Following],
-    state: &SessionState,
-    s: SessionNo,
-) -> Sight
-    requires display { display ≡ display_pair setup.now }
-    requires some { 0 < s.0 }
-    requires few { s.0 ≤ length shown.now }
-    requires all { length seen.now ≡ length shown.now }
-    requires seen { SeesConnected setup.now shown.now (s.0 - 1) seen.now }
     requires goes { length state.now.going.items ≤ 5 }
-    requires fit { FitsSetup setup.now shown.now }
-    ensures { result ≡ sight_of_state setup.now shown.now state.now s }
+    ensures { (setup : Setup) → connected ≡ is_joined setup shown.now s.0 → result ≡ sight_of_state setup shown.now state.now s }
 {
     let view = match shown.state(s) {
         Some(state) => state.view(),
@@ -91,7 +37,31 @@ fn see_session(
         closed: state.closed,
         taken: state.taken(),
         view,
-        connected: is_connected(setup, shown, display, seen, s),
+        connected,
+    }
+}
+
+/// What is kept of a session after the begin of a frame that saw this of it.
+fn begun_by(old: Following, sight: Sight) -> Following
+    ensures { result ≡ record old { begun = sight } }
+{
+    Following {
+        view: old.view,
+        contents: old.contents,
+        begun: sight,
+        finished: old.finished,
+    }
+}
+
+/// What is kept of a session after the end of a frame.
+fn finished_by(old: Following) -> Following
+    ensures { result ≡ record old { finished = old.begun } }
+{
+    Following {
+        view: old.view,
+        contents: old.contents,
+        begun: old.begun,
+        finished: old.begun,
     }
 }
 
@@ -115,7 +85,7 @@ fn see_taken(pairs: &mut PairStates, shown: &Shown, s: SessionNo, took: bool)
 #[derive(Debug, Drop)]
 pub struct Ties {
     /// The sessions, the first of them session 1.
-    pub followings: Vec<Following>,
+    pub followings: Followings,
     pub pairs: PairStates,
 }
 
@@ -124,7 +94,7 @@ impl Ties {
     pub fn new(alloc: Global, setup: &Setup) -> Result<Ties, NoMemory>
         ensures { IfOk result (λ ties. AreTied setup.now [] ties.followings.items ties.pairs.items) }
     {
-        let followings = Vec::from_elem(alloc, NEW_FOLLOWING, setup.sessions as usize)?;
+        let followings = Followings::new(alloc, setup.sessions)?;
         let pairs = PairStates::new(alloc, setup.pairs.len())?;
         Ok(Ties { followings, pairs })
     }
@@ -175,14 +145,14 @@ impl Ties {
         ensures count { length self.new.pairs.items ≡ length self.old.pairs.items }
         ensures tied { (h : List Entry) (line time : ℕ) → IsBegun setup.now h line time sessions.now shown.now → AreTied setup.now h self.old.followings.items self.old.pairs.items → AreTied setup.now (begun h line time) self.new.followings.items self.new.pairs.items }
     {
-        let display = pair_of_display(setup);
+        self.followings.find_connected(setup, shown);
         for i in 0..setup.sessions {
             let s = SessionNo(i + 1);
-            let seen = self.followings.as_slice();
-            let sight = see_session(setup, shown, display, seen, &sessions[i as usize], s);
-            let one = &mut self.followings[i as usize];
+            let connected = self.followings.is_connected(i as usize);
+            let sight = see_session(shown, connected, &sessions[i as usize], s);
+            let one = self.followings.at(i as usize);
             let took = one.begun.taken < sight.taken;
-            one.begun = sight;
+            self.followings.set(i as usize, begun_by(one, sight));
             see_taken(&mut self.pairs, shown, s, took);
         }
     }
@@ -197,8 +167,8 @@ impl Ties {
         ensures tied { (h : List Entry) (line : ℕ) → Legal setup.now (finished h line) → AreTied setup.now h self.old.followings.items self.old.pairs.items → AreTied setup.now (finished h line) self.new.followings.items self.new.pairs.items }
     {
         for i in 0..setup.sessions {
-            let one = &mut self.followings[i as usize];
-            one.finished = one.begun;
+            let one = self.followings.at(i as usize);
+            self.followings.set(i as usize, finished_by(one));
         }
         self.pairs.settle();
     }
@@ -210,15 +180,16 @@ impl Ties {
         ensures { NotesCalls s calls.now presents live.now result self.old.followings.items self.new.followings.items self.old.pairs.items self.new.pairs.items }
     {
         let place = s.0 as usize - 1;
-        let old = self.followings[place];
+        let old = self.followings.at(place);
         let view = self.pairs.note(old.view, calls, presents, live);
         let contents = count_contents(old.contents, calls);
-        self.followings[place] = Following {
+        let new = Following {
             view,
             contents,
             begun: old.begun,
             finished: old.finished,
         };
+        self.followings.set(place, new);
         contents
     }
 }

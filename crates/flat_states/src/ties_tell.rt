@@ -12,7 +12,8 @@ ghost use Rattle.flat_watch.specs.Told.{or_else};
 ghost use Rattle.flat_rules.specs.Watch.{are_joined, props_told, told, layout_of, status_of, child_of};
 
 use crate::following::Sight;
-use crate::ties::{NOTHING, Ties};
+use crate::followings::NOTHING;
+use crate::ties::Ties;
 use crate::told::{child_by, is_seen, layout_by, status_by};
 use flat_base::{Actor, PairNo, SessionNo};
 use flat_scene::{Inset, Setup, Told, ViewportProps};
@@ -51,10 +52,11 @@ impl Ties {
         if s.0 == 0 {
             return NOTHING;
         }
-        match self.followings.get(s.0 as usize - 1) {
-            Some(following) => following.finished,
-            None => NOTHING,
+        let place = s.0 as usize - 1;
+        if place >= self.followings.len() {
+            return NOTHING;
         }
+        self.followings.at(place).finished
     }
 
     /// Whether the viewport end of a pair is lost for its view.

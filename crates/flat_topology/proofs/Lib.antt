@@ -13,5 +13,5 @@ pub mod Samples
 mod Walks
 mod Examples
 pub mod Fitting
-pub mod Climbing
+pub mod Finding
 pub mod lemmas

@@ -1,14 +1,14 @@
--- The definitions of the walk and of the way up, computed on the shell.
-use Rattle.std.proofs.Common.{ℕ, ◌≡◌, refl, true, false, [], ◌∷◌, Some, map}
+-- The definitions of the walk and of the distances, computed on the shell.
+use Rattle.std.proofs.Common.{ℕ, zero, suc, ◌≡◌, refl, true, false, cond, [], ◌∷◌, Option, Some, None, map, slice_index_or, arith}
 use Rattle.flat_geom.specs.Matrices.{identity_matrix}
 use Rattle.flat_topology.specs.declared.scope.Scope.{Scope}
 use Rattle.flat_topology.specs.declared.walk.Stretch.{Stretch}
 use Rattle.flat_topology.specs.Place.{display_rect, display_space, placed_nodes}
 use Rattle.flat_topology.specs.Walking.{viewer_at, flat_of, space_of, tree_of, still_count, still_placed, still_connected, work, below_stretch, after_stretch, pushed}
-use Rattle.flat_topology.specs.declared.climb.Above.TheVariants as above
-use Rattle.flat_topology.specs.Climbing.{leads_to, is_joined_under, is_shown_by}
+use Rattle.flat_topology.specs.Distances.{leads_to, is_shown_by, is_view_among, NotesViews}
+use Rattle.flat_topology.specs.Links.{IsConnectedThrough}
 use Rattle.flat_topology.specs.Join.{viewer_from, sessions_in}
-use Rattle.flat_topology.specs.Shown.{state_of}
+use Rattle.flat_topology.specs.Shown.{state_of, view_of}
 use Rattle.flat_topology.proofs.Samples.{session, shell_setup, shell_shown, viewport, fill}
 
 abbrev display_scope : Scope
@@ -52,7 +52,7 @@ first_parts = refl
 other_parts : map {B = ℕ × ℕ} (λ s. (s.next, s.end)) (map (after_stretch whole_shell) (flat_of (state_of shell_shown 1))) ≡ (3, 3) ∷ (2, 3) ∷ (3, 3) ∷ []
 other_parts = refl
 
--- ---- the way up
+-- ---- who is shown by whom
 
 mail_leads : leads_to 1 (viewport 1 1 640 760) ≡ true
 mail_leads = refl
@@ -76,9 +76,24 @@ pushed_some = refl
 pushed_none : pushed (whole_shell ∷ []) (record whole_shell { next = whole_shell.end }) ≡ whole_shell ∷ []
 pushed_none = refl
 
--- what the shell shows is connected, as the shell is, and what nobody shows isn't
-under_shell : is_joined_under shell_setup shell_shown (above.Session (session 1)) ≡ true
-under_shell = refl
+-- the mail's view is of a pair that the shell shows, and the shell's own is of none of them
+mail_among : is_view_among (λ p. is_shown_by shell_shown p 1) (view_of (state_of shell_shown 2)) ≡ true
+mail_among = refl
 
-under_nobody : is_joined_under shell_setup shell_shown above.Nobody ≡ false
-under_nobody = refl
+shell_apart : is_view_among (λ p. is_shown_by shell_shown p 1) (view_of (state_of shell_shown 1)) ≡ false
+shell_apart = refl
+
+-- what the shell shows is one farther than the shell itself
+shell_notes : NotesViews shell_shown (λ p. is_shown_by shell_shown p 1) 1 (Some 0 ∷ None ∷ None ∷ []) (Some 0 ∷ Some 1 ∷ Some 1 ∷ [])
+shell_notes = record { count = refl; each = each }
+  where
+    each : (s : ℕ) → slice_index_or {A = Option ℕ} (Some 0 ∷ Some 1 ∷ Some 1 ∷ []) s None
+        ≡ cond (is_view_among (λ p. is_shown_by shell_shown p 1) (view_of (state_of shell_shown (suc s)))) (Some 1) (slice_index_or {A = Option ℕ} (Some 0 ∷ None ∷ None ∷ []) s None)
+    each zero = refl
+    each (suc zero) = refl
+    each (suc (suc zero)) = refl
+    each (suc (suc (suc s))) = refl
+
+-- so it is connected through the shell
+mail_through : IsConnectedThrough shell_setup shell_shown 1 2
+mail_through = (1, record { pair = 1; viewport = (0, omega arith, refl); view = refl }, record { pair = 0; viewport = refl; view = refl })

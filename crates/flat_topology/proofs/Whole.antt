@@ -118,7 +118,7 @@ module _ (setup : Setup) (shown : Shown) (fit : FitsSetup setup shown) where
   has-view (suc d) c x = (x.1.pair, x.1.view)
 
   -- who shows a view, has a number of the list
-  number-within : (c p : ℕ) → view_of (state_of shown c) ≡ Some p → (0 < c) × (c ≤ length shown)
+  pub number-within : (c p : ℕ) → view_of (state_of shown c) ≡ Some p → (0 < c) × (c ≤ length shown)
   number-within zero p e = absurd (cc)
   number-within (suc i) p e = (omega arith, by_length (cases_lt i (length shown)))
     where

@@ -12,4 +12,4 @@ pub mod Connected
 pub mod Hits
 pub mod Laws
 pub mod Walking
-pub mod Climbing
+pub mod Distances

@@ -14,13 +14,12 @@
 
 ghost use Rattle.flat_topology.specs.Laws.{JoinsTheConnected, JoinsEachOnce, ReachesNoCycle, JoinsAll, JoinsFewSessions, JoinsFew, PlacesLowOpacities, ParentsDecide, DrawsInPreorder, ViewsTheJoined, ViewsBelowParents, ViewsTheConnected, HitsEachOnce};
 
-mod climb;
+mod distances;
 mod joining;
 mod scope;
 mod shown;
 mod walk;
 
-pub use crate::climb::Above;
 pub use crate::joining::join;
 pub use crate::scope::{Scope, outermost, through};
 pub use crate::shown::Shown;

@@ -58,7 +58,7 @@ fn is_of_pair(view: Option<PairNo>, pair: usize) -> bool
 }
 
 /// Whether a session shows the view of a pair.
-fn shows(shown: &Shown, session: SessionNo, pair: usize) -> bool
+pub fn shows(shown: &Shown, session: SessionNo, pair: usize) -> bool
     requires some { 0 < session.0 }
     requires few { session.0 ≤ length shown.now }
     ensures { result ≡ is_view_of pair (view_of (state_of shown.now session.0)) }

@@ -1,5 +1,6 @@
-use Rattle.std.proofs.Common.{◌≡◌, ◌∙◌, subst, ℕ, ◌<◌, arith, length, List, refl}
+use Rattle.std.proofs.Common.{◌≡◌, ◌∙◌, ap, sym, subst, ℕ, ◌+◌, ◌<◌, arith, length, List, refl, slice_set}
 use Rattle.std.proofs.lemmas.List.{length-set}
+use Rattle.flat_states.specs.declared.following.Following.{Following}
 use Rattle.flat_states.specs.declared.pairs.PairState.{PairState}
 use Rattle.flat_states.specs.Begins.{finished}
 use Rattle.flat_states.specs.Usage.{SettlesPairs}
@@ -18,12 +19,16 @@ loop-i-init c = record {
 pub loop-i-preserved : goal.loop-i-preserved
 loop-i-preserved c =
     let inv = c.loop-i.invariant in
+    let was : Following = c.at-one.result in
+    let new : Following = record was { finished = was.begun } in
+    let items : c.set.new.self.items ≡ slice_set c.loop-i.self.followings.items c.loop-i.i new = c.set.ensures.items ∙ ap (slice_set c.loop-i.self.followings.items c.loop-i.i) c.finished_by.ensures in
     let below : c.loop-i.i < length c.loop-i.self.followings.items = omega (arith, inv.count, c.loop-i-test.true) in
     record {
-      count = length-set c.loop-i.self.followings.items c.loop-i.i _ ∙ inv.count;
+      count = ap (length {A = Following}) items ∙ length-set c.loop-i.self.followings.items c.loop-i.i new ∙ inv.count;
       pairs = inv.pairs;
       followed = λ h line legal tied.
-          finished-on c.args.setup.now h line legal c.loop-i.i c.loop-i.self.followings.items c.index_mut-one.result.now below c.index_mut-one.ensures.value (inv.followed h line legal tied);
+          subst (λ (fs : List Following). AllNumbered (FollowedUpTo c.args.setup.now h (finished h line) (c.loop-i.i + 1)) fs) (sym items)
+          (finished-on c.args.setup.now h line legal c.loop-i.i c.loop-i.self.followings.items was below c.at-one.ensures (inv.followed h line legal tied));
     }
 
 pub returns-clause-tied : goal.returns-clause-tied

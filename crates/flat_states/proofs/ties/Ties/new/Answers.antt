@@ -3,4 +3,4 @@ use Rattle.flat_states.proofs.ties.Ties.new.Goals as goal
 
 pub returns : goal.returns
 returns c =
-    new-tied c.args.setup.now _ _ c.len.result (c.in_ok-followings.ensures.items_if_clones_equal (λ y same. same)) c.in_ok-pairs.ensures c.len.ensures
+    new-tied c.args.setup.now _ _ c.len.result c.in_ok-followings.ensures c.in_ok-pairs.ensures c.len.ensures
