@@ -1,14 +1,14 @@
 -- The text by what is kept is the text by the events.
-use Rattle.std.proofs.Common.{ℕ, ◌≡◌, refl, ap, ◌∙◌, Bool, true, List, [], ◌∷◌}
+use Rattle.std.proofs.Common.{ℕ, ◌≡◌, refl, ap, ◌∙◌, Bool, true, List, [], ◌∷◌, ◌++◌, length}
 use Rattle.std.specs.List.{list_all}
-use Rattle.flat_page.specs.Happenings.{Happening, finished, said, after_all, all_lines}
-use Rattle.flat_page.specs.Words.{Word}
+use Rattle.flat_page.specs.Happenings.{Happening, finished, said, after_all, all_lines, without_items}
+use Rattle.flat_page.specs.Words.{Word, text_of}
 use Rattle.flat_page.proofs.lemmas.Telling as told
 use Rattle.flat_focus.specs.declared.text.FocusLine.{FocusLine}
 use Rattle.flat_focus.specs.Chains.{Focusing, framed, asked}
 use Rattle.flat_focus.specs.Events.{FocusEvent, nodes_after, chain_after}
-use Rattle.flat_focus.specs.Laws.{kept_after}
-use Rattle.flat_focus.specs.Text.{event_of, lines_at, after, lines_with}
+use Rattle.flat_focus.specs.Laws.{ItemsPlayNoPart, kept_after}
+use Rattle.flat_focus.specs.Text.{event_of, lines_at, end_line, after, lines_with}
 use Rattle.flat_focus.proofs.Chaining.{calls-follow}
 
 -- nobody changes for how many sessions there is room
@@ -43,3 +43,8 @@ lines-follow names sessions xs =
     (λ before one pass. line-follows names sessions before one)
     (λ before one pass. after-follows sessions before one)
     xs [] (all-pass xs)
+
+pub items-play-no-part : ItemsPlayNoPart
+items-play-no-part names dones frames lines =
+    ap (λ (written : List (List Word)). text_of (written ++ end_line (length lines) ∷ []))
+    (told.lines-left (lines_at names) (λ one before. event_of one ∷ before) (λ line. line.number) without_items (λ before out. refl) (λ before out. refl) dones frames lines [])

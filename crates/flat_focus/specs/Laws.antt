@@ -1,15 +1,16 @@
 -- What a focus chain is, whatever happened.
-use Rattle.std.specs.Prelude.{◌≡◌, ℕ, Bool, true, false, ◌&&◌, ◌==◌, IsTrue, List, [], ◌∷◌, ◌++◌, Option, Some, None}
+use Rattle.std.specs.Prelude.{◌≡◌, ℕ, Bool, true, false, ◌&&◌, ◌==◌, IsTrue, List, [], ◌∷◌, ◌++◌, map, Option, Some, None}
 use Rattle.std.specs.List.{list_all, list_any}
 use Rattle.flat_base.specs.declared.ids.SessionNo.{SessionNo}
 use Rattle.flat_scene.specs.declared.frames.FrameOut.{FrameOut}
 use Rattle.flat_scene.specs.declared.frames.ViewNode.{ViewNode}
 use Rattle.flat_scene.specs.ViewTrees.{is_node, is_tree}
-use Rattle.flat_page.specs.Happenings.{Happening, merged, after_all}
+use Rattle.flat_page.specs.Happenings.{Happening, merged, after_all, without_items}
+use Rattle.flat_page.specs.Words.{Word}
 use Rattle.flat_focus.specs.declared.text.FocusLine.{FocusLine}
 use Rattle.flat_focus.specs.Chains.{Focusing, root_of, path_to, is_granted, unfocused, framed, asked}
 use Rattle.flat_focus.specs.Events.{FocusEvent, frame, ask, nodes_after, chain_after}
-use Rattle.flat_focus.specs.Text.{event_of}
+use Rattle.flat_focus.specs.Text.{event_of, focus_text}
 
 -- ---- the calls
 
@@ -91,6 +92,10 @@ events_of happenings = after_all (λ one before. event_of one ∷ before) happen
 abbrev pub ChainsInTexts : Type 0
 ChainsInTexts = (dones : List ℕ) (frames : List FrameOut) (lines : List FocusLine) → IsTrue (list_all (λ out. is_tree out.tree.nodes) frames)
     → (early late : List (Happening FocusLine)) → merged (λ line. line.number) dones frames lines ≡ early ++ late → IsChain (nodes_after (events_of early)) (chain_after (events_of early))
+
+-- a text hangs on the numbers and the view trees of its frames alone: draw items play no part
+abbrev pub ItemsPlayNoPart : Type 0
+ItemsPlayNoPart = (names : List Word) (dones : List ℕ) (frames : List FrameOut) (lines : List FocusLine) → focus_text names dones (map without_items frames) lines ≡ focus_text names dones frames lines
 
 -- the focus is given by a node to a node
 abbrev pub NodesGive : Type 0

@@ -20,6 +20,10 @@ merged number (done ∷ dones) (frame ∷ frames) lines =
     map said (take (count_before number done lines) lines) ++ finished frame ∷ merged number dones frames (drop (count_before number done lines) lines)
 merged number _ _ lines = map said lines
 
+-- a frame without its draw items
+abbrev pub without_items : FrameOut → FrameOut
+without_items out = record out { items = [] }
+
 -- ---- one after another
 
 -- what is kept after all that happens, by what is kept after one thing

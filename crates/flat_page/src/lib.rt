@@ -2,8 +2,8 @@
 //! room for it can be taken at once.
 //!
 //! Other crates may cite the lemmas of proofs/lemmas/: words and lines written one
-//! after another (PageLemmas), lines and frames by their numbers (Merging), and what
-//! is written of them all (Telling).
+//! after another (PageLemmas), lines and frames by their numbers (Merging), what is
+//! written of them all (Telling), and the last item of a list (LastItems).
 #![tactic(auto)]
 
 mod digits;

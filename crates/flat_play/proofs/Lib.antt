@@ -8,3 +8,4 @@ pub mod Losses
 pub mod Shares
 pub mod lemmas
 pub mod Touching
+pub mod KeptTrees

@@ -1,21 +1,39 @@
 -- What a run keeps of the frames that it finished.
-use Rattle.std.specs.Prelude.{◌≡◌, List, [], ◌∷◌, ◌++◌}
+use Rattle.std.specs.Prelude.{◌≡◌, List, [], ◌∷◌, ◌++◌, map, Option, Some, None}
+use Rattle.flat_base.specs.Last.{last_item}
 use Rattle.flat_scene.specs.declared.frames.FrameOut.{FrameOut}
+use Rattle.flat_page.specs.Happenings.{without_items}
 use Rattle.flat_places.specs.declared.script.Script.{Script}
 use Rattle.flat_report.specs.FrameTexts.{AreTexts}
+use Rattle.flat_texts.specs.Damages.{IsFound}
 use Rattle.flat_play.specs.declared.kept.Kept.{Kept}
 use Rattle.flat_play.specs.declared.kept.Kept.TheVariants as kept
 use Rattle.flat_play.specs.declared.kept.Keeping.{Keeping}
 use Rattle.flat_play.specs.declared.kept.Keeping.TheVariants as keeping
+use Rattle.flat_play.specs.declared.trees.FrameTrees.{FrameTrees}
+
+-- a list of the last frame, if there is one
+abbrev pub listed : Option FrameOut → List FrameOut
+listed None = []
+listed (Some frame) = frame ∷ []
+
+-- The view trees of some frames are kept: of those before the last one without items, and the last one whole.
+pub record AreTrees (frames : List FrameOut) (trees : FrameTrees) : Type 0 where
+  pub before : trees.before ++ map without_items (listed trees.last) ≡ map without_items frames
+  pub last : trees.last ≡ last_item frames
 
 abbrev pub keeping_of : Kept → Keeping
 keeping_of (kept.Texts texts) = keeping.Texts
-keeping_of (kept.Frames frames) = keeping.Frames
+keeping_of (kept.Damages damages) = keeping.Damages
+keeping_of (kept.Trees trees) = keeping.Trees
+keeping_of (kept.Last last) = keeping.Last
 
 -- what is kept is that of these frames
 abbrev pub Keeps : Script → Kept → List FrameOut → Type 0
 Keeps script (kept.Texts texts) frames = AreTexts script frames texts
-Keeps script (kept.Frames all) frames = all ≡ frames
+Keeps script (kept.Damages damages) frames = IsFound frames damages
+Keeps script (kept.Trees trees) frames = AreTrees frames trees
+Keeps script (kept.Last last) frames = last ≡ last_item frames
 
 -- One frame more is kept, in the same way.
 pub record KeepsMore (script : Script) (frame : FrameOut) (old new : Kept) : Type 0 where

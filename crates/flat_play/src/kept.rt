@@ -1,14 +1,17 @@
-ghost use Rattle.std.specs.Prelude.{◌≡◌, ◌∷◌, ◌++◌, [], List, Some, OnOk};
+ghost use Rattle.std.specs.Prelude.{◌≡◌, ◌∷◌, ◌++◌, [], List, OnOk};
 ghost use Rattle.std.specs.Option.{option_copied};
+ghost use Rattle.flat_base.specs.Last.{last_item};
 ghost use Rattle.flat_scene.specs.declared.frames.FrameOut.{FrameOut};
 ghost use Rattle.flat_play.specs.Keeping.{Keeps, KeepsMore, keeping_of};
 ghost use Rattle.flat_play.specs.declared.kept.Kept.TheVariants as kept;
 ghost use Rattle.flat_play.specs.declared.kept.Keeping.TheVariants as keeping;
 
-use flat_base::{Items, NoMemory};
+use crate::trees::FrameTrees;
+use flat_base::NoMemory;
 use flat_places::Script;
 use flat_report::FrameTexts;
 use flat_scene::FrameOut;
+use flat_texts::FrameDamages;
 use std::alloc::Global;
 
 /// What a run is to keep of the frames that it finishes.
@@ -16,15 +19,22 @@ use std::alloc::Global;
 pub enum Keeping {
     /// The texts of their lines, as a report has them.
     Texts,
-    /// The frames themselves.
-    Frames,
+    /// What changed with each of them.
+    Damages,
+    /// Their view trees.
+    Trees,
+    /// The last of them alone.
+    Last,
 }
 
-/// What a run keeps of the frames that it finished.
+/// What a run keeps of the frames that it finished. The last of them is always there
+/// whole; no item of a frame before it is.
 #[derive(Drop)]
 pub enum Kept {
     Texts(FrameTexts),
-    Frames(Items<FrameOut>),
+    Damages(FrameDamages),
+    Trees(FrameTrees),
+    Last(Option<FrameOut>),
 }
 
 impl Kept {
@@ -35,7 +45,9 @@ impl Kept {
     {
         match keeping {
             Keeping::Texts => Kept::Texts(FrameTexts::new(alloc)),
-            Keeping::Frames => Kept::Frames(Items::new(alloc)),
+            Keeping::Damages => Kept::Damages(FrameDamages::new(alloc)),
+            Keeping::Trees => Kept::Trees(FrameTrees::new(alloc)),
+            Keeping::Last => Kept::Last(None),
         }
     }
 
@@ -45,17 +57,24 @@ impl Kept {
     {
         match self {
             Kept::Texts(texts) => texts.push(script, frame),
-            Kept::Frames(frames) => frames.push(frame),
+            Kept::Damages(damages) => damages.push(frame),
+            Kept::Trees(trees) => trees.push(frame),
+            Kept::Last(last) => {
+                *last = Some(frame);
+                Ok(())
+            }
         }
     }
 
-    /// The last frame, if there is one.
+    /// The last frame; none exactly where there is none.
     pub fn last(&self) -> Option<&FrameOut>
-        ensures { (script : Script) (before : List FrameOut) (frame : FrameOut) → Keeps script self.now (before ++ frame ∷ []) → option_copied result ≡ Some frame }
+        ensures { (script : Script) (frames : List FrameOut) → Keeps script self.now frames → option_copied result ≡ last_item frames }
     {
         match self {
             Kept::Texts(texts) => texts.last(),
-            Kept::Frames(frames) => frames.as_slice().last(),
+            Kept::Damages(damages) => damages.last(),
+            Kept::Trees(trees) => trees.last(),
+            Kept::Last(last) => last.as_ref(),
         }
     }
 
@@ -66,18 +85,29 @@ impl Kept {
     {
         match self {
             Kept::Texts(texts) => texts,
-            Kept::Frames(_) => unreachable!(),
+            Kept::Damages(_) | Kept::Trees(_) | Kept::Last(_) => unreachable!(),
         }
     }
 
-    /// The frames, where these are kept.
-    pub fn frames(&self) -> &[FrameOut]
-        requires { keeping_of self.now ≡ keeping.Frames }
-        ensures { (script : Script) (frames : List FrameOut) → Keeps script self.now frames → result.now ≡ frames }
+    /// What changed with each frame, where this is kept.
+    pub fn into_damages(self) -> FrameDamages
+        requires { keeping_of self ≡ keeping.Damages }
+        ensures { kept.Damages result ≡ self }
     {
         match self {
-            Kept::Frames(frames) => frames.as_slice(),
-            Kept::Texts(_) => unreachable!(),
+            Kept::Damages(damages) => damages,
+            Kept::Texts(_) | Kept::Trees(_) | Kept::Last(_) => unreachable!(),
+        }
+    }
+
+    /// The view trees of the frames, where these are kept.
+    pub fn into_trees(self) -> FrameTrees
+        requires { keeping_of self ≡ keeping.Trees }
+        ensures { kept.Trees result ≡ self }
+    {
+        match self {
+            Kept::Trees(trees) => trees,
+            Kept::Texts(_) | Kept::Damages(_) | Kept::Last(_) => unreachable!(),
         }
     }
 }

@@ -11,6 +11,7 @@ mod game;
 mod kept;
 mod run;
 mod touches;
+mod trees;
 
 pub use frame::{LastFrame, show_last};
 pub use game::Game;

@@ -9,17 +9,18 @@ use Rattle.flat_base.specs.declared.ids.SessionNo.{SessionNo}
 use Rattle.flat_scene.specs.declared.frames.FrameOut.{FrameOut}
 use Rattle.flat_scene.specs.declared.frames.ViewNode.{ViewNode}
 use Rattle.flat_page.specs.declared.page.Page.{Page}
-use Rattle.flat_page.specs.Happenings.{Happening, finished, said, merged, all_lines}
+use Rattle.flat_page.specs.Happenings.{Happening, finished, said, merged, all_lines, without_items}
 use Rattle.flat_page.specs.Pages.{WritesLines}
-use Rattle.flat_page.specs.Words.{Word}
+use Rattle.flat_page.specs.Words.{Word, text_of}
 use Rattle.flat_page.proofs.lemmas.PageLemmas.{then_lines, same_lines}
-use Rattle.flat_page.proofs.lemmas.Telling.{lines-follow, all-parted, all-merged}
+use Rattle.flat_page.proofs.lemmas.Telling.{lines-follow, lines-left, all-parted, all-merged}
 use Rattle.flat_pointer.specs.declared.text.PointerCall.{PointerCall}
 use Rattle.flat_pointer.specs.declared.text.PointerCall.TheVariants.{Down, Move, Up}
 use Rattle.flat_pointer.specs.declared.text.Touch.{Touch}
 use Rattle.flat_pointer.specs.Streams.{Streams, no_streams, stream_of, with_stream, kept_in, cancelled_in, framed_below, framed}
 use Rattle.flat_pointer.specs.Events.{PointerEvent, streams_after}
-use Rattle.flat_pointer.specs.Text.{cancel_line, cancel_lines, touch_line, call_answer, called, event_of, lines_at, after_call, after, lines_with, ArePointers}
+use Rattle.flat_pointer.specs.Laws.{ItemsPlayNoPart}
+use Rattle.flat_pointer.specs.Text.{cancel_line, cancel_lines, touch_line, call_answer, called, event_of, lines_at, end_line, after_call, after, lines_with, ArePointers}
 use Rattle.flat_pointer.proofs.Follows.{stream-here, stream-kept, more-kept, calls-follow}
 
 -- ---- pointers that see a frame, one after another
@@ -106,3 +107,10 @@ merged-follows names number dones frames touches are =
     ap (λ (s : Streams). all_lines (lines_with names) after s all) none
     ∙ lines-follow (lines_with names) after (lines_at names) (λ one before. event_of one ∷ before) streams_after is_one (line-follows names) after-follows all []
     (all-merged is_one (λ out. refl) number dones frames touches are.all)
+
+-- ---- draw items
+
+pub items-play-no-part : ItemsPlayNoPart
+items-play-no-part names dones frames touches =
+    ap (λ (written : List (List Word)). text_of (written ++ end_line (length touches) ∷ []))
+    (lines-left (lines_at names) (λ one before. event_of one ∷ before) (λ touch. touch.line.number) without_items (λ before out. refl) (λ before out. refl) dones frames touches [])

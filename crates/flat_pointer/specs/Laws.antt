@@ -1,13 +1,18 @@
 -- What the streams are, whatever happened.
-use Rattle.std.specs.Prelude.{◌≡◌, ℕ, suc, ◌<◌, Bool, true, false, not, ◌==◌, IsTrue, List, [], ◌∷◌, ◌++◌, Some, None}
+use Rattle.std.specs.Prelude.{◌≡◌, ℕ, suc, ◌<◌, Bool, true, false, not, ◌==◌, IsTrue, List, [], ◌∷◌, ◌++◌, map, Some, None}
 use Rattle.std.specs.List.{list_any}
 use Rattle.flat_base.specs.declared.ids.SessionNo.{SessionNo}
+use Rattle.flat_scene.specs.declared.frames.FrameOut.{FrameOut}
 use Rattle.flat_scene.specs.declared.frames.Hit.{Hit}
 use Rattle.flat_scene.specs.declared.frames.ViewNode.{ViewNode}
 use Rattle.flat_pointer.specs.declared.pointers.TheConstants.{POINTERS}
 use Rattle.flat_pointer.specs.declared.pointers.PointerAnswer.{PointerAnswer}
 use Rattle.flat_pointer.specs.declared.pointers.PointerAnswer.TheVariants.{Down, Moved, Up, Nobody, Busy}
 use Rattle.flat_scene.specs.ViewTrees.{is_node}
+use Rattle.flat_page.specs.Happenings.{without_items}
+use Rattle.flat_page.specs.Words.{Word}
+use Rattle.flat_pointer.specs.declared.text.Touch.{Touch}
+use Rattle.flat_pointer.specs.Text.{pointer_text}
 use Rattle.flat_pointer.specs.Streams.{no_streams, stream_of, with_stream, framed_below, framed, after_down, kept_in, cancelled_in}
 use Rattle.flat_pointer.specs.Events.{PointerEvent, frame, down, move, up, stream_after, answer_to, only, told, streams_after, cancel_at}
 
@@ -69,6 +74,12 @@ pub record StreamTo (p : ℕ) (s : SessionNo) (history : List PointerEvent) : Ty
 abbrev pub OneSession : Type 0
 OneSession = (p : ℕ) (s : SessionNo) (hits : List Hit) (before during : List PointerEvent) → answer_to before (down p hits) ≡ Some (Down s) → list_any (ends p s) during ≡ false
     → StreamTo p s (during ++ down p hits ∷ before)
+
+-- ---- frames
+
+-- a text hangs on the numbers and the view trees of its frames alone: draw items play no part
+abbrev pub ItemsPlayNoPart : Type 0
+ItemsPlayNoPart = (names : List Word) (dones : List ℕ) (frames : List FrameOut) (touches : List Touch) → pointer_text names dones (map without_items frames) touches ≡ pointer_text names dones frames touches
 
 -- ---- one pointer
 

@@ -1,13 +1,12 @@
 -- One frame more is written.
-use Rattle.std.proofs.Common.{◌≡◌, ℕ, ◌-◌, ◌<◌, false, List, [], ◌∷◌, ◌++◌, length, length-append, map, Some, slice_get, refl, sym, ap, ◌∙◌, subst, arith, append_assoc}
+use Rattle.std.proofs.Common.{◌≡◌, ℕ, false, List, [], ◌∷◌, ◌++◌, map, Some, refl, sym, ap, ◌∙◌, subst, append_assoc}
 use Rattle.std.proofs.lemmas.List.{map-append}
-use Rattle.std.proofs.lemmas.Option.{slice_get_read}
-use Rattle.std.proofs.Math.Seq.{get_or-append_seam}
 use Rattle.flat_base.specs.Last.{last_item}
 use Rattle.flat_scene.specs.declared.frames.FrameOut.{FrameOut}
 use Rattle.flat_places.specs.declared.script.Script.{Script}
 use Rattle.flat_page.specs.declared.page.Page.{Page}
 use Rattle.flat_page.specs.Pages.{IsText, WritesLines, is_counting}
+use Rattle.flat_page.proofs.lemmas.LastItems.{last-more}
 use Rattle.flat_page.proofs.lemmas.PageLemmas.{then_lines, same_lines}
 use Rattle.flat_report.specs.declared.frame_texts.FrameTexts.{FrameTexts}
 use Rattle.flat_report.specs.declared.item_lines.Part.{Part}
@@ -17,12 +16,6 @@ use Rattle.flat_report.specs.ItemLines.{AreLines, HaveLines}
 use Rattle.flat_report.specs.Pieces.{text_on}
 use Rattle.flat_report.proofs.ItemLines.{kept}
 use Rattle.flat_report.proofs.Paging.{grown, is-text, still}
-
-pub last-more : {A : Type 0} (xs : List A) (x : A) → last_item (xs ++ x ∷ []) ≡ Some x
-last-more xs x =
-    let place : length (xs ++ x ∷ []) - 1 ≡ length xs = let long = length-append xs (x ∷ []) in omega (arith, long) in
-    let within : length xs < length (xs ++ x ∷ []) = let long = length-append xs (x ∷ []) in omega (arith, long) in
-    ap (slice_get (xs ++ x ∷ [])) place ∙ slice_get_read (xs ++ x ∷ []) (length (xs ++ x ∷ [])) (length xs) x refl within (sym (get_or-append_seam xs x [] x))
 
 module _ (script : Script) (frame : FrameOut) (first mid page : Page) (has : is_counting first ≡ false) (none : IsText first [])
     (items : WritesLines (map (item_line script) frame.items) first mid) (tree : WritesLines (map (view_line script) frame.tree.nodes ++ map (apart_line script) frame.tree.apart) mid page) where

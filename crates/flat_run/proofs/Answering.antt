@@ -102,7 +102,7 @@ is_status result status either not_5 = eqb-true result status (one_or (result ==
 
 pub answered_or_fault : (result status expected : ℕ) → (result == status || result == 5) ≡ true → status ≡ expected → (result ≡ 5 → ⊥) → (result == expected || result == 6) ≡ true
 answered_or_fault result status expected either is not_5 =
-    let same : result ≡ status = eqb-true result status (one_or (result == status) (result == 5) either (λ yes. not_5 (eqb-true result 5 yes))) in
+    let same : result ≡ status = is_status result status either not_5 in
     ap (λ b. b || result == 6) (eq-eqb result expected (same ∙ is))
 
 -- ---- where a script is there
@@ -213,16 +213,12 @@ module _ {D : Type 0} (shown : D → Option (List FrameOut)) (faults : D → ℕ
     pub load_told : (asked status : ℕ) (text : List ℕ) → CallFor words (Stress asked) → status ≡ 0 → IsTold shown faults olds news (Stress asked) (load_text asked) text → IsAnswer shown faults olds news words left left' status text
     load_told asked status text calls is_0 told = subst (λ n. IsAnswer shown faults olds news words left left' n text) (sym is_0) (IsAnswer.told (Stress asked) (load_text asked) calls refl told)
 
-    -- the same text
-    pub text_same : (status : ℕ) (text text' : List ℕ) → text' ≡ text → IsAnswer shown faults olds news words left left' status text → IsAnswer shown faults olds news words left left' status text'
-    text_same status text text' same is = subst (λ t. IsAnswer shown faults olds news words left left' status t) (sym same) is
-
     -- ---- what is written
 
     module _ (held held' : Option (List ℕ)) (status result : ℕ) (text : List ℕ) (is : IsAnswer shown faults olds news words left left' status text) where
       pub text_whole : (result ≡ status → Appends text held held') → (result == status || result == 5) ≡ true → result ≢ 5 → IsWhole shown faults olds news words left left' held held' result
       text_whole whole either not_5 =
-          let same : result ≡ status = eqb-true result status (one_or (result == status) (result == 5) either (λ yes. not_5 (eqb-true result 5 yes))) in
+          let same : result ≡ status = is_status result status either not_5 in
           record { text = text; is = subst (λ n. IsAnswer shown faults olds news words left left' n text) (sym same) is; whole = whole same }
 
       pub text_cut_off : AppendsPrefix text held held' → IsCutOff shown faults olds news words left left' held held'

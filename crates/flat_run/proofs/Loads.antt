@@ -1,17 +1,17 @@
 -- What a run of the load comes to.
-use Rattle.std.proofs.Common.{◌≡◌, ℕ, ◌+◌, Bool, List, [], ◌∷◌, ◌++◌, length, length-append, filter, reverse, refl, sym, ap, ◌∙◌, arith}
+use Rattle.std.proofs.Common.{◌≡◌, ℕ, ◌+◌, Bool, List, [], ◌∷◌, ◌++◌, length, length-append, filter, reverse, Option, refl, sym, ap, ◌∙◌, arith}
 use Rattle.std.specs.List.{count_by}
 use Rattle.std.proofs.lemmas.List.{reverse-append, length-reverse}
 use Rattle.std.proofs.lemmas.List.Elements.{filter-append}
 use Rattle.std.proofs.lemmas.List.Sums.{length-filter}
+use Rattle.flat_base.specs.Last.{last_item}
 use Rattle.flat_scene.specs.declared.frames.FrameOut.{FrameOut}
 use Rattle.flat_scene.specs.declared.journal.Entry.{Entry}
 use Rattle.flat_scene.specs.declared.setup.Setup.{Setup}
-use Rattle.flat_scene.specs.History.{history_of}
+use Rattle.flat_scene.specs.History.{history_of, is_finish}
 use Rattle.flat_rules.specs.Legal.{frames}
 use Rattle.flat_report.specs.Report.{finished}
-use Rattle.flat_run.specs.Totals.{is_present, last_items, totals_of}
-use Rattle.flat_play.proofs.lemmas.Seen.{finished_length}
+use Rattle.flat_run.specs.Totals.{is_present, items_of, last_items, totals_of}
 
 count_by-append : {A : Type 0} (p : A → Bool) (xs ys : List A) → count_by p (xs ++ ys) ≡ count_by p xs + count_by p ys
 count_by-append p xs ys =
@@ -26,13 +26,16 @@ count_by-reverse p (x ∷ xs) =
     let same = count_by-reverse p xs in
     omega (arith, back, there, same)
 
--- the numbers of a journal, the oldest entry first, and of its frames
-pub totals : (asked sessions entries shown presents items : ℕ) (setup : Setup) (history journal : List Entry) (all : List FrameOut) → history_of journal ≡ history → all ≡ finished setup history → sessions ≡ setup.sessions → entries ≡ length journal
-    → shown ≡ length all → presents ≡ count_by (λ entry. is_present entry.kind) journal → items ≡ last_items all
+-- the numbers of a journal, the oldest entry first, and of its last frame
+pub totals : (asked sessions entries shown presents items : ℕ) (setup : Setup) (history journal : List Entry) (last : Option FrameOut) → history_of journal ≡ history → last ≡ last_item (finished setup history) → sessions ≡ setup.sessions → entries ≡ length journal
+    → shown ≡ count_by (λ entry. is_finish entry.kind) journal → presents ≡ count_by (λ entry. is_present entry.kind) journal → items ≡ items_of last
     → record { load = asked; sessions = sessions; entries = entries; frames = shown; presents = presents; items = items } ≡ totals_of asked setup history
-totals asked sessions entries shown presents items setup history journal all is all_are sessions_are entries_are shown_are presents_are items_are =
+totals asked sessions entries shown presents items setup history journal last is last_is sessions_are entries_are shown_are presents_are items_are =
     let e : entries ≡ length history = entries_are ∙ sym (length-reverse journal) ∙ ap length is in
-    let f : shown ≡ frames history = shown_are ∙ ap length all_are ∙ finished_length setup history in
-    let p : presents ≡ count_by (λ (entry : Entry). is_present entry.kind) history = presents_are ∙ sym (count_by-reverse (λ (entry : Entry). is_present entry.kind) journal) ∙ ap (count_by (λ (entry : Entry). is_present entry.kind)) is in
-    let i : items ≡ last_items (finished setup history) = items_are ∙ ap last_items all_are in
+    let f : shown ≡ frames history = shown_are ∙ counted (λ (entry : Entry). is_finish entry.kind) ∙ sym (length-filter (λ (entry : Entry). is_finish entry.kind) history) in
+    let p : presents ≡ count_by (λ (entry : Entry). is_present entry.kind) history = presents_are ∙ counted (λ (entry : Entry). is_present entry.kind) in
+    let i : items ≡ last_items (finished setup history) = items_are ∙ ap items_of last_is in
     rw (sessions_are, e, f, p, i) refl
+  where
+    counted : (test : Entry → Bool) → count_by test journal ≡ count_by test history
+    counted test = sym (count_by-reverse test journal) ∙ ap (count_by test) is

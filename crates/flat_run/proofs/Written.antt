@@ -1,11 +1,16 @@
 -- What the texts of a run ask for.
-use Rattle.std.proofs.Common.{◌≡◌, ℕ, zero, suc, ◌<◌, ◌≤◌, Bool, true, false, cond, nat_lt, nat_le, ◌&&◌, List, [], ◌∷◌, ◌++◌, length, map, reverse, refl, sym, ap, ◌∙◌, subst, arith}
+use Rattle.std.proofs.Common.{◌≡◌, ℕ, zero, suc, ◌<◌, ◌≤◌, Bool, true, false, cond, nat_lt, nat_le, ◌&&◌, List, [], ◌∷◌, ◌++◌, length, map, reverse, refl, sym, ap, ◌∙◌, subst, arith, Option}
 use Rattle.std.specs.List.{All}
 use Rattle.std.proofs.lemmas.Bool.Decides.{nat_tests}
 use Rattle.std.proofs.lemmas.Grind.{common_steps}
 use Rattle.std.proofs.lemmas.List.Elements.{All-append}
 use Rattle.std.specs.List.{list_all}
 use Rattle.flat_base.proofs.lemmas.Tests.{and-left, and-right, and-true}
+use Rattle.flat_places.specs.declared.script.Script.{Script}
+use Rattle.flat_play.specs.declared.kept.Kept.{Kept}
+use Rattle.flat_play.specs.declared.kept.Kept.TheVariants as kept
+use Rattle.flat_play.specs.declared.trees.FrameTrees.{FrameTrees}
+use Rattle.flat_play.specs.Keeping.{AreTrees, Keeps}
 use Rattle.flat_play.specs.Touches.{touch_of}
 use Rattle.flat_pointer.specs.declared.pointers.TheConstants.{POINTERS}
 use Rattle.flat_pointer.specs.declared.text.PointerLine.{PointerLine}
@@ -21,7 +26,11 @@ use Rattle.flat_scene.specs.History.{◌▹◌, history_of, is_finish}
 use Rattle.flat_scene.specs.Setups.{is_setup, is_within, is_within_limits}
 use Rattle.flat_base.specs.declared.limits.TheConstants.{SIDE_MAX, SESSIONS_MAX}
 use Rattle.flat_report.specs.Report.{finished, frame_at}
+use Rattle.flat_page.specs.Happenings.{without_items}
+use Rattle.flat_page.proofs.lemmas.LastItems.{last-behind}
 use Rattle.flat_texts.specs.Lines.{finish_lines}
+use Rattle.flat_texts.specs.Pictures.{list_of}
+use Rattle.flat_base.specs.Last.{last_item}
 
 -- the entries of a journal, from its history
 reversed : {A : Type 0} (xs : List A) → xs ≡ reverse (reverse xs)
@@ -34,7 +43,7 @@ lines_of entries history is = ap finish_lines (reversed entries ∙ ap reverse i
 abbrev AreDrawable : FrameOut → Type 0
 AreDrawable frame = All IsDrawable frame.items
 
-pub drawn : ItemsAreDrawable → (setup : Setup) (history : List Entry) → All AreDrawable (finished setup history)
+drawn : ItemsAreDrawable → (setup : Setup) (history : List Entry) → All AreDrawable (finished setup history)
 drawn law setup [] = λ k d inside. absurd (omega (arith, inside))
 drawn law setup (before ▹ entry) =
     All-append AreDrawable (finished setup before) (cond (is_finish entry.kind) (frame_at setup (suc (frames before)) (to_begin before) ∷ []) []) (drawn law setup before) (by (is_finish entry.kind))
@@ -47,8 +56,31 @@ drawn law setup (before ▹ entry) =
         one (suc k) d inside = absurd (omega (arith, inside))
     by false = λ k d inside. absurd (omega (arith, inside))
 
-pub all_drawn : ItemsAreDrawable → (setup : Setup) (history : List Entry) (shown : List FrameOut) → shown ≡ finished setup history → All AreDrawable shown
-all_drawn law setup history shown is = subst (All AreDrawable) (sym is) (drawn law setup history)
+-- and so can what the last of them draws
+last-of : (frames : List FrameOut) → All AreDrawable frames → All IsDrawable (list_of (last_item frames))
+last-of [] all = λ k d inside. absurd (omega (arith, inside))
+last-of (frame ∷ []) all = all 0 frame (omega arith)
+last-of (frame ∷ next ∷ later) all =
+    let P : Option FrameOut → Type 0 = λ last. All IsDrawable (list_of last) in
+    subst P (sym (last-behind frame next later)) (last-of (next ∷ later) (λ k d inside. all (suc k) d (omega (arith, inside))))
+
+pub last-drawn : ItemsAreDrawable → (setup : Setup) (history : List Entry) (last : Option FrameOut) → last ≡ last_item (finished setup history) → All IsDrawable (list_of last)
+last-drawn law setup history last is = let P : Option FrameOut → Type 0 = λ it. All IsDrawable (list_of it) in subst P (sym is) (last-of (finished setup history) (drawn law setup history))
+
+-- ---- view trees
+
+-- the view trees that are kept are those of the finished frames
+pub trees-kept : (script : Script) (frames : List FrameOut) (all : Kept) (trees : FrameTrees) → kept.Trees trees ≡ all → Keeps script all frames → AreTrees frames trees
+trees-kept script frames all trees is keeps = let K : Kept → Type 0 = λ it. Keeps script it frames in subst K (sym is) keeps
+
+-- frames without their items have the same views
+pub few-left : (sessions : ℕ) (frames : List FrameOut) → list_all (λ (out : FrameOut). nat_le (length out.tree.nodes) sessions) frames ≡ true
+    → list_all (λ (out : FrameOut). nat_le (length out.tree.nodes) sessions) (map without_items frames) ≡ true
+few-left sessions [] few = refl
+few-left sessions (out ∷ later) few =
+    and-true (and-left (nat_le (length out.tree.nodes) sessions) _ few) (few-left sessions later (and-right (nat_le (length out.tree.nodes) sessions) _ few))
+
+-- ---- displays
 
 -- a display has a side of one unit at least
 module _ (setup : Setup) (is : is_setup setup ≡ true) where

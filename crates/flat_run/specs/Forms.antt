@@ -53,7 +53,10 @@ Fits _ setup = ⊤
 abbrev pub keeping_for : Form → Keeping
 keeping_for Play = keeping.Texts
 keeping_for Race = keeping.Texts
-keeping_for _ = keeping.Frames
+keeping_for Damage = keeping.Damages
+keeping_for Focus = keeping.Trees
+keeping_for Pointer = keeping.Trees
+keeping_for _ = keeping.Last
 
 -- ---- what ran
 

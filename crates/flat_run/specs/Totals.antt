@@ -1,5 +1,5 @@
 -- What a run of the load comes to.
-use Rattle.std.specs.Prelude.{ℕ, Bool, true, false, List, length, count_by}
+use Rattle.std.specs.Prelude.{ℕ, Bool, true, false, List, length, count_by, Option}
 use Rattle.std.specs.Option.{option_map_or}
 use Rattle.flat_base.specs.Last.{last_item}
 use Rattle.flat_scene.specs.declared.frames.FrameOut.{FrameOut}
@@ -15,9 +15,13 @@ unfoldable pub is_present : Kind → Bool
 is_present (Present args) = true
 is_present _ = false
 
+-- how many items this frame has, if there is one
+abbrev pub items_of : Option FrameOut → ℕ
+items_of last = option_map_or (λ frame. length frame.items) last 0
+
 -- how many items the last frame has
 abbrev pub last_items : List FrameOut → ℕ
-last_items shown = option_map_or (λ frame. length frame.items) (last_item shown) 0
+last_items shown = items_of (last_item shown)
 
 -- the numbers of a history, for a load of so many frames
 abbrev pub totals_of : ℕ → Setup → List Entry → Totals

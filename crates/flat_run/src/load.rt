@@ -1,12 +1,14 @@
 ghost use Rattle.std.specs.Prelude.{◌≡◌, ◌<◌, ◌≤◌, ◌^◌, length, count_by, IfOk, Ok, Some, None};
 ghost use Rattle.flat_report.specs.Report.{finished};
-ghost use Rattle.flat_scene.specs.History.{history_of};
+ghost use Rattle.flat_scene.specs.History.{history_of, is_finish};
+ghost use Rattle.flat_base.specs.Last.{last_item};
+ghost use Rattle.std.specs.Option.{option_copied};
 ghost use Rattle.flat_script.specs.Grammar.{text_read};
 ghost use Rattle.flat_stress.specs.Load.{load_text};
 ghost use Rattle.flat_words.specs.declared.form.Form.TheVariants.{Stress};
 ghost use Rattle.flat_display.specs.Had.{AreKept};
 ghost use Rattle.flat_run.specs.Promise.{IsTold};
-ghost use Rattle.flat_run.specs.Totals.{is_present, last_items, totals_of};
+ghost use Rattle.flat_run.specs.Totals.{is_present, items_of, totals_of};
 
 use crate::answers::{Answer, DONE};
 use flat_base::NoMemory;
@@ -39,20 +41,37 @@ fn is_present(kind: &Kind) -> bool
     matches!(kind, Kind::Present(_))
 }
 
-/// How many items the last of some frames has.
-fn last_items(frames: &[FrameOut]) -> usize
-    ensures { result ≡ last_items frames.now }
+/// How many of some entries end a frame.
+fn finishes(entries: &[Entry]) -> usize
+    ensures { result ≡ count_by (λ entry. is_finish entry.kind) entries.now }
 {
-    match frames.last() {
+    let mut found = 0;
+    for entry in entries {
+        found += usize::from(is_finish(&entry.kind));
+    }
+    found
+}
+
+fn is_finish(kind: &Kind) -> bool
+    ensures { result ≡ is_finish kind.now }
+{
+    matches!(kind, Kind::Finish)
+}
+
+/// How many items the last frame has.
+fn items_of(last: Option<&FrameOut>) -> usize
+    ensures { result ≡ items_of (option_copied last.entry) }
+{
+    match last {
         Some(frame) => frame.items.len(),
         None => 0,
     }
 }
 
-/// What a run of the load of so many frames comes to, by its setup, its journal and
-/// the frames that it finished.
-fn totals_of(frames: u32, setup: &Setup, journal: &Journal, shown: &[FrameOut]) -> Totals
-    requires { shown.now ≡ finished setup.now (history_of journal.now.entries.items) }
+/// What a run of the load of so many frames comes to, by its setup, its journal and the
+/// last of the frames that it finished.
+fn totals_of(frames: u32, setup: &Setup, journal: &Journal, last: Option<&FrameOut>) -> Totals
+    requires { option_copied last ≡ last_item (finished setup.now (history_of journal.now.entries.items)) }
     ensures { result ≡ totals_of frames setup.now (history_of journal.now.entries.items) }
 {
     let entries = journal.entries.as_slice();
@@ -60,9 +79,9 @@ fn totals_of(frames: u32, setup: &Setup, journal: &Journal, shown: &[FrameOut]) 
         load: frames,
         sessions: setup.sessions,
         entries: entries.len(),
-        frames: shown.len(),
+        frames: finishes(entries),
         presents: presents(entries),
-        items: last_items(shown),
+        items: items_of(last),
     }
 }
 
@@ -84,9 +103,9 @@ fn summed(
     families_are_alone();
     scripts_are_playable();
     loads_have_their_frames();
-    let played = play_script(alloc, script, Keeping::Frames, displays)?;
+    let played = play_script(alloc, script, Keeping::Last, displays)?;
     let journal = played.board.journal();
-    let totals = totals_of(frames, &script.setup, journal, played.kept.frames());
+    let totals = totals_of(frames, &script.setup, journal, played.kept.last());
     summary(alloc, totals)
 }
 

@@ -1,4 +1,4 @@
-ghost use Rattle.std.specs.Prelude.{◌≡◌, true, [], map, reverse, IfOk};
+ghost use Rattle.std.specs.Prelude.{◌≡◌, ◌≢◌, true, [], map, reverse, IfOk};
 ghost use Rattle.flat_play.specs.Playing.{HasPlayed};
 ghost use Rattle.flat_play.specs.Touches.{touch_of};
 ghost use Rattle.flat_playable.specs.Playable.{is_playable};
@@ -8,7 +8,6 @@ ghost use Rattle.flat_report.specs.Report.{finished, report};
 ghost use Rattle.flat_play.specs.declared.kept.Keeping.TheVariants as keeping;
 ghost use Rattle.flat_play.specs.Keeping.{keeping_of};
 ghost use Rattle.flat_words.specs.declared.form.Form.TheVariants.{Render, Pointer};
-ghost use Rattle.flat_texts.specs.Damages.{IsDamageText};
 ghost use Rattle.flat_texts.specs.Lines.{finish_lines};
 ghost use Rattle.flat_texts.specs.Pictures.{picture_text};
 ghost use Rattle.flat_run.specs.Answering.{IsRunnable, ran_of};
@@ -17,13 +16,13 @@ ghost use Rattle.flat_run.specs.Forms.{is_read, keeping_for, Fits, IsTextOf};
 use crate::reading::Reading;
 use flat_base::NoMemory;
 use flat_core::shown_states_fit;
-use flat_focus::print_focus;
+use flat_focus::{focus_laws, print_focus};
 use flat_places::Script;
 use flat_play::{Keeping, Played};
-use flat_pointer::{Touch, print_pointers};
+use flat_pointer::{Touch, pointer_laws, print_pointers};
 use flat_report::{Pieces, handed_is_report, print_report};
 use flat_rules::items_are_drawable;
-use flat_texts::{damage_text, finish_lines, picture_text};
+use flat_texts::{finish_lines, picture_of};
 use flat_tree::views_are_a_tree;
 use flat_words::Form;
 use std::alloc::Global;
@@ -35,7 +34,9 @@ pub(crate) fn keeping_for(form: Form) -> Keeping
 {
     match form {
         Form::Play | Form::Race => Keeping::Texts,
-        _ => Keeping::Frames,
+        Form::Damage => Keeping::Damages,
+        Form::Focus | Form::Pointer => Keeping::Trees,
+        Form::Render | Form::Stress(_) => Keeping::Last,
     }
 }
 
@@ -59,7 +60,7 @@ fn report_of(alloc: Global, script: &Script, played: Played) -> Result<Pieces, N
 }
 
 /// The picture of the last frame of a run.
-fn picture_of<T: Threads + Sync>(
+fn last_picture<T: Threads + Sync>(
     rt: &T,
     alloc: Global,
     script: &Script,
@@ -67,32 +68,33 @@ fn picture_of<T: Threads + Sync>(
 ) -> Result<Vec<u8>, NoMemory>
     requires playable { is_playable script.now ≡ true }
     requires played { HasPlayed script.now played.now.board played.now.kept played.now.answers }
-    requires keeping { keeping_of played.now.kept ≡ keeping.Frames }
     requires fits { Fits Render script.now.setup }
     ensures { IfOk result (λ text. text.items ≡ picture_text script.now.setup (finished script.now.setup played.now.board.history)) }
 {
     items_are_drawable();
-    let _journal = played.board.journal();
-    picture_text(rt, alloc, &script.setup, played.kept.frames())
+    picture_of(rt, alloc, &script.setup, played.kept.last())
 }
 
 /// Who had the focus in a run.
-fn focus_of(alloc: Global, reading: &Reading, played: &Played) -> Result<Vec<u8>, NoMemory>
-    requires played { HasPlayed reading.now.script played.now.board played.now.kept played.now.answers }
-    requires keeping { keeping_of played.now.kept ≡ keeping.Frames }
-    ensures { IfOk result (λ text. text.items ≡ focus_text reading.now.script.sessions (finish_lines (reverse played.now.board.history)) (finished reading.now.script.setup played.now.board.history) reading.now.focus) }
+fn focus_of(alloc: Global, reading: &Reading, played: Played) -> Result<Vec<u8>, NoMemory>
+    requires played { HasPlayed reading.now.script played.board played.kept played.answers }
+    requires keeping { keeping_of played.kept ≡ keeping.Trees }
+    ensures { IfOk result (λ text. text.items ≡ focus_text reading.now.script.sessions (finish_lines (reverse played.board.history)) (finished reading.now.script.setup played.board.history) reading.now.focus) }
 {
     views_are_a_tree();
     shown_states_fit();
-    let journal = played.board.journal();
+    focus_laws();
+    let Played { board, kept, .. } = played;
+    let journal = board.journal();
     let dones = finish_lines(alloc, journal.entries.as_slice())?;
+    let frames = kept.into_trees().into_frames()?;
     let script = &reading.script;
     print_focus(
         alloc,
         script.setup.sessions,
         &script.sessions,
         dones.as_slice(),
-        played.kept.frames(),
+        frames.as_slice(),
         reading.focus.as_slice(),
     )
 }
@@ -101,58 +103,54 @@ fn focus_of(alloc: Global, reading: &Reading, played: &Played) -> Result<Vec<u8>
 fn pointers_of(
     alloc: Global,
     reading: &Reading,
-    played: &Played,
+    played: Played,
     touches: &[Touch],
 ) -> Result<Vec<u8>, NoMemory>
     requires runnable { IsRunnable reading.now }
-    requires played { HasPlayed reading.now.script played.now.board played.now.kept played.now.answers }
-    requires keeping { keeping_of played.now.kept ≡ keeping.Frames }
-    requires touches { touches.now ≡ map (touch_of reading.now.script.setup played.now.board.history) reading.now.pointers }
-    ensures { IfOk result (λ text. text.items ≡ pointer_text reading.now.script.sessions (finish_lines (reverse played.now.board.history)) (finished reading.now.script.setup played.now.board.history) touches.now) }
+    requires played { HasPlayed reading.now.script played.board played.kept played.answers }
+    requires keeping { keeping_of played.kept ≡ keeping.Trees }
+    requires touches { touches.now ≡ map (touch_of reading.now.script.setup played.board.history) reading.now.pointers }
+    ensures { IfOk result (λ text. text.items ≡ pointer_text reading.now.script.sessions (finish_lines (reverse played.board.history)) (finished reading.now.script.setup played.board.history) touches.now) }
 {
-    let journal = played.board.journal();
+    pointer_laws();
+    let Played { board, kept, .. } = played;
+    let journal = board.journal();
     let dones = finish_lines(alloc, journal.entries.as_slice())?;
-    let frames = played.kept.frames();
+    let frames = kept.into_trees().into_frames()?;
     print_pointers(
         alloc,
         &reading.script.sessions,
         dones.as_slice(),
-        frames,
+        frames.as_slice(),
         touches,
     )
 }
 
-/// What damage there was from frame to frame in a run.
-fn damage_of(alloc: Global, script: &Script, played: &Played) -> Result<Vec<u8>, NoMemory>
-    requires played { HasPlayed script.now played.now.board played.now.kept played.now.answers }
-    requires keeping { keeping_of played.now.kept ≡ keeping.Frames }
-    ensures { IfOk result (λ text. IsDamageText (finished script.now.setup played.now.board.history) text.items) }
-{
-    damage_text(alloc, played.kept.frames())
-}
-
-/// What a form that keeps the frames writes of a run.
+/// What a form writes of a run in place of its report.
 fn picture_or_lines<T: Threads + Sync>(
     rt: &T,
     alloc: Global,
     form: Form,
     reading: &Reading,
-    played: &Played,
+    played: Played,
     touches: &[Touch],
 ) -> Result<Vec<u8>, NoMemory>
     requires read { is_read form ≡ true }
-    requires keeping { keeping_of played.now.kept ≡ keeping_for form }
-    requires frames { keeping_for form ≡ keeping.Frames }
+    requires keeping { keeping_of played.kept ≡ keeping_for form }
+    requires lines { keeping_for form ≢ keeping.Texts }
     requires runnable { IsRunnable reading.now }
     requires fits { Fits form reading.now.script.setup }
-    requires played { HasPlayed reading.now.script played.now.board played.now.kept played.now.answers }
-    requires touches { form ≡ Pointer → touches.now ≡ map (touch_of reading.now.script.setup played.now.board.history) reading.now.pointers }
-    ensures { IfOk result (λ text. IsTextOf form (ran_of reading.now played.now.board.history played.now.set.lost) text.items) }
+    requires played { HasPlayed reading.now.script played.board played.kept played.answers }
+    requires touches { form ≡ Pointer → touches.now ≡ map (touch_of reading.now.script.setup played.board.history) reading.now.pointers }
+    ensures { IfOk result (λ text. IsTextOf form (ran_of reading.now played.board.history played.set.lost) text.items) }
 {
     match form {
         Form::Play | Form::Race | Form::Stress(_) => unreachable!(),
-        Form::Render => picture_of(rt, alloc, &reading.script, played),
-        Form::Damage => damage_of(alloc, &reading.script, played),
+        Form::Render => last_picture(rt, alloc, &reading.script, &played),
+        Form::Damage => {
+            let damages = played.kept.into_damages();
+            damages.text()
+        }
         Form::Focus => focus_of(alloc, reading, played),
         Form::Pointer => pointers_of(alloc, reading, played, touches),
     }
@@ -178,7 +176,7 @@ pub(crate) fn text_of<T: Threads + Sync>(
     match form {
         Form::Play | Form::Race => report_of(alloc, &reading.script, played),
         _ => {
-            let text = picture_or_lines(rt, alloc, form, reading, &played, touches)?;
+            let text = picture_or_lines(rt, alloc, form, reading, played, touches)?;
             let pieces = Pieces::one(alloc, text)?;
             Ok(pieces)
         }

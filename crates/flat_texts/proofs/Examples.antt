@@ -15,7 +15,8 @@ use Rattle.flat_scene.specs.declared.journal.Reply.TheVariants.{Done}
 use Rattle.flat_texts.specs.declared.damage.Damaged.{Damaged}
 use Rattle.flat_texts.specs.Damages.{IsDamageText, damaged_text, none}
 use Rattle.flat_texts.specs.Lines.{finish_lines}
-use Rattle.flat_texts.specs.Pictures.{last_list}
+use Rattle.flat_base.specs.Last.{last_item}
+use Rattle.flat_texts.specs.Pictures.{list_of}
 
 abbrev square : Rect
 square = record { x0 = pos 0; y0 = pos 0; x1 = pos 655360; y1 = pos 655360 }
@@ -38,10 +39,10 @@ frame_with number items = record { frame = record { 0 = number }; items = items;
 
 -- ---- pictures
 
-the_last_frame_is_shown : last_list [] (frame_with 1 (fill 1 ∷ []) ∷ frame_with 2 (fill 2 ∷ []) ∷ []) ≡ fill 2 ∷ []
+the_last_frame_is_shown : list_of (last_item (frame_with 1 (fill 1 ∷ []) ∷ frame_with 2 (fill 2 ∷ []) ∷ [])) ≡ fill 2 ∷ []
 the_last_frame_is_shown = refl
 
-nothing_is_shown_before_the_first : last_list [] [] ≡ []
+nothing_is_shown_before_the_first : list_of (last_item []) ≡ []
 nothing_is_shown_before_the_first = refl
 
 -- ---- damage

@@ -1,6 +1,7 @@
 -- What changed from frame to frame, and its text.
 use Rattle.std.specs.Prelude.{◌≡◌, ℕ, List, [], ◌∷◌, ◌++◌, length, map, codes}
 use Rattle.std.specs.List.{flat_map}
+use Rattle.flat_base.specs.Last.{last_item}
 use Rattle.flat_base.specs.declared.ids.FrameNo.{FrameNo}
 use Rattle.flat_base.specs.declared.shapes.Rect.{Rect}
 use Rattle.flat_scene.specs.declared.frames.DrawItem.{DrawItem}
@@ -8,6 +9,7 @@ use Rattle.flat_scene.specs.declared.frames.FrameOut.{FrameOut}
 use Rattle.flat_damage.specs.Damage.{IsDamage}
 use Rattle.flat_page.specs.Words.{Word, number, numbers, text_of}
 use Rattle.flat_texts.specs.declared.damage.Damaged.{Damaged}
+use Rattle.flat_texts.specs.declared.damage.FrameDamages.{FrameDamages}
 
 -- The damage of each frame: from the draw list before it to its own. Before the first of them this one is shown.
 pub data AreDamaged : List DrawItem → List FrameOut → List Damaged → Type 0 where
@@ -36,3 +38,8 @@ pub record IsDamageText (frames : List FrameOut) (text : List ℕ) : Type 0 wher
   pub damaged : List Damaged
   pub are : AreDamaged [] frames damaged
   pub is : text ≡ damaged_text damaged
+
+-- The damage of some frames was found; the last of them is kept for the next one.
+pub record IsFound (frames : List FrameOut) (found : FrameDamages) : Type 0 where
+  pub damaged : AreDamaged [] frames found.damaged.items
+  pub last : found.last ≡ last_item frames

@@ -1,8 +1,13 @@
 ghost use Rattle.std.specs.Prelude.{◌≡◌, [], ◌∷◌, ◌++◌, List, length, map, codes, IfOk, OnOk};
 ghost use Rattle.std.specs.List.{flat_map};
+ghost use Rattle.std.specs.Option.{option_copied};
+ghost use Rattle.flat_base.specs.Last.{last_item};
+ghost use Rattle.flat_damage.specs.Damage.{IsDamage};
+ghost use Rattle.flat_scene.specs.declared.frames.FrameOut.{FrameOut};
 ghost use Rattle.flat_page.specs.Pages.{Writes, WritesLines};
 ghost use Rattle.flat_page.specs.Words.{number};
-ghost use Rattle.flat_texts.specs.Damages.{AreDamaged, IsDamageText, damaged_lines, damaged_text, end_line, rect_line};
+ghost use Rattle.flat_texts.specs.Damages.{IsDamageText, IsFound, damaged_lines, damaged_text, end_line, rect_line};
+ghost use Rattle.flat_texts.specs.Pictures.{list_of};
 
 use flat_base::{FrameNo, NoMemory, Rect};
 use flat_damage::damage;
@@ -18,26 +23,71 @@ pub struct Damaged {
     pub rects: RectList,
 }
 
-/// What changed with each of some frames. Before the first of them this list is shown.
-fn push_damages(
+/// What changed with each of some finished frames. The last one is kept too, so that it
+/// is known what changes with the next.
+#[derive(Debug, Drop)]
+pub struct FrameDamages {
     alloc: Global,
-    before: &ItemList,
-    frames: &[FrameOut],
-    found: &mut Vec<Damaged>,
-) -> Result<(), NoMemory>
-    ensures { OnOk result ((damaged : List Damaged) × (found.new.items ≡ found.old.items ++ damaged) × AreDamaged before.now frames.now damaged) }
+    damaged: Vec<Damaged>,
+    last: Option<FrameOut>,
+}
+
+/// What changed with a frame, where this was the one before it, if there was one.
+fn damage_since(
+    alloc: Global,
+    before: Option<&FrameOut>,
+    frame: &FrameOut,
+) -> Result<RectList, NoMemory>
+    ensures { IfOk result (λ rects. IsDamage (list_of (option_copied before.entry)) frame.now.items rects) }
 {
-    match frames {
-        [frame, later @ ..] => {
-            let rects = damage(alloc, before, &frame.items)?;
-            let frame_no = frame.frame;
-            found.push(Damaged {
-                frame: frame_no,
-                rects,
-            })?;
-            push_damages(alloc, &frame.items, later, found)
+    match before {
+        Some(before) => damage(alloc, &before.items, &frame.items),
+        None => {
+            let nothing = ItemList::new(alloc);
+            damage(alloc, &nothing, &frame.items)
         }
-        [] => Ok(()),
+    }
+}
+
+impl FrameDamages {
+    /// Before the first frame: nothing is drawn. It takes no memory.
+    pub fn new(alloc: Global) -> FrameDamages
+        ensures { IsFound [] result }
+    {
+        FrameDamages {
+            alloc,
+            damaged: Vec::new(alloc),
+            last: None,
+        }
+    }
+
+    /// Finds what changes with the next frame, which is kept until the one after it.
+    pub fn push(&mut self, frame: FrameOut) -> Result<(), NoMemory>
+        ensures { (frames : List FrameOut) → IsFound frames self.old → OnOk result (IsFound (frames ++ frame ∷ []) self.new) }
+    {
+        let rects = damage_since(self.alloc, self.last.as_ref(), &frame)?;
+        let frame_no = frame.frame;
+        self.damaged.push(Damaged {
+            frame: frame_no,
+            rects,
+        })?;
+        self.last = Some(frame);
+        Ok(())
+    }
+
+    /// The last frame, if there is one.
+    pub fn last(&self) -> Option<&FrameOut>
+        ensures { (frames : List FrameOut) → IsFound frames self.now → option_copied result ≡ last_item frames }
+    {
+        self.last.as_ref()
+    }
+
+    /// The text of what changed from frame to frame: for each finished frame the damage
+    /// between the draw list before it and its own. Before the first one nothing is drawn.
+    pub fn text(&self) -> Result<Vec<u8>, NoMemory>
+        ensures { (frames : List FrameOut) → IsFound frames self.now → IfOk result (λ text. IsDamageText frames text.items) }
+    {
+        print_damages(self.alloc, self.damaged.as_slice())
     }
 }
 
@@ -130,15 +180,4 @@ fn print_damages(alloc: Global, damaged: &[Damaged]) -> Result<Vec<u8>, NoMemory
     let mut page = Page::with_room(alloc, count)?;
     push_text(&mut page, damaged)?;
     Ok(page.into_text())
-}
-
-/// The text of what changed from frame to frame: for each finished frame the damage
-/// between the draw list before it and its own. Before the first one nothing is drawn.
-pub fn damage_text(alloc: Global, frames: &[FrameOut]) -> Result<Vec<u8>, NoMemory>
-    ensures { IfOk result (λ text. IsDamageText frames.now text.items) }
-{
-    let nothing = ItemList::new(alloc);
-    let mut damaged = Vec::new(alloc);
-    push_damages(alloc, &nothing, frames, &mut damaged)?;
-    print_damages(alloc, damaged.as_slice())
 }

@@ -7,6 +7,6 @@ mod damage;
 mod lines;
 mod picture;
 
-pub use damage::{Damaged, damage_text};
+pub use damage::{Damaged, FrameDamages};
 pub use lines::finish_lines;
-pub use picture::picture_text;
+pub use picture::picture_of;

@@ -74,6 +74,26 @@ module _ {A S T : Type 0} (lines : S → Happening A → List (List Word)) (afte
       ∙ ap (λ (s : S). others t one ++ all_lines lines after s xs) (kept t one here)
       ∙ ap (λ (l : List (List Word)). others t one ++ l) (lines-follow same kept xs (next one t) (and-right (test one) (list_all test xs) all))
 
+-- ---- frames of which a part plays no part
+
+module _ {A S : Type 0} (lines : S → Happening A → List (List Word)) (after : Happening A → S → S) (number : A → ℕ) (f : FrameOut → FrameOut) where
+  -- where nothing of a frame is written and kept but what is left of it, so it is of all frames
+  pub lines-left : ((now : S) (out : FrameOut) → lines now (finished (f out)) ≡ lines now (finished out)) → ((now : S) (out : FrameOut) → after (finished (f out)) now ≡ after (finished out) now)
+      → (dones : List ℕ) (frames : List FrameOut) (items : List A) (now : S) → all_lines lines after now (merged number dones (map f frames) items) ≡ all_lines lines after now (merged number dones frames items)
+  lines-left same kept [] frames items now = refl
+  lines-left same kept (done ∷ dones) [] items now = refl
+  lines-left same kept (done ∷ dones) (out ∷ frames) items now =
+      let n : ℕ = count_before number done items in
+      let early : List (Happening A) = map said (take n items) in
+      let then : S = after_all after early now in
+      let late : List (Happening A) = merged number dones frames (drop n items) in
+      let less : List (Happening A) = merged number dones (map f frames) (drop n items) in
+      lines-append lines after early (finished (f out) ∷ less) now
+      ∙ ap (λ (l : List (List Word)). all_lines lines after now early ++ (l ++ all_lines lines after (after (finished (f out)) then) less)) (same then out)
+      ∙ ap (λ (s : S). all_lines lines after now early ++ (lines then (finished out) ++ all_lines lines after s less)) (kept then out)
+      ∙ ap (λ (l : List (List Word)). all_lines lines after now early ++ (lines then (finished out) ++ l)) (lines-left same kept dones frames (drop n items) (after (finished out) then))
+      ∙ sym (lines-append lines after early (finished out ∷ late) now)
+
 -- ---- tests of all lines
 
 pub all-parted : {A : Type 0} (test : A → Bool) (n : ℕ) (items : List A) → list_all test items ≡ true → (list_all test (take n items) ≡ true) × (list_all test (drop n items) ≡ true)

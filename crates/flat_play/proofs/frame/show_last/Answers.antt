@@ -1,5 +1,6 @@
-use Rattle.std.proofs.Common.{◌≡◌, Option, Some, sym, ◌∙◌}
+use Rattle.std.proofs.Common.{◌≡◌, Option, Some, None, List, [], ◌∷◌, ◌++◌, sym, ◌∙◌}
 use Rattle.flat_scene.specs.declared.frames.FrameOut.{FrameOut}
+use Rattle.flat_page.proofs.lemmas.LastItems.{last-more}
 use Rattle.flat_play.proofs.lemmas.Seen.{shows_same}
 use Rattle.flat_play.proofs.frame.show_last.Goals as goal
 
@@ -8,6 +9,6 @@ same-frame one other is = cc
 
 pub returns-in-Some-clause-shows : goal.returns-in-Some-clause-shows
 returns-in-Some-clause-shows g c = λ script before frame keeps.
-    let same : c.in-Some.frame.now ≡ frame = same-frame c.in-Some.frame.now frame (c.in-Some.ensures script before frame keeps) in
+    let same : c.in-Some.frame.now ≡ frame = same-frame c.in-Some.frame.now frame (c.in-Some.ensures script (before ++ frame ∷ []) keeps ∙ last-more before frame) in
     let shows = c.show.ensures.shows in
     (shows.0, shows.1, shows_same _ _ _ _ _ _ _ _ _ same shows.2)

@@ -1,4 +1,5 @@
 use Rattle.std.proofs.Common.{◌≡◌, List, ap, sym, ◌∙◌}
+use Rattle.flat_base.specs.Last.{last_item}
 use Rattle.flat_scene.specs.declared.journal.Entry.{Entry}
 use Rattle.flat_report.specs.Report.{finished}
 use Rattle.flat_stress.specs.Load.{load_text}
@@ -11,7 +12,7 @@ use Rattle.flat_run.proofs.Reporting.{if_ok, has_run, have_had, load_asked}
 use Rattle.flat_run.proofs.load.summed.Goals as goal
 
 pub totals_of-totals-requires : goal.totals_of-totals-requires
-totals_of-totals-requires g c = c.frames.ensures c.args.script.now _ c.in_ok-played.ensures.played.keeps ∙ ap (λ (h : List Entry). finished c.args.script.now.setup h) (sym c.journal-journal.ensures.entries)
+totals_of-totals-requires g c = c.last.ensures c.args.script.now _ c.in_ok-played.ensures.played.keeps ∙ ap (λ (h : List Entry). last_item (finished c.args.script.now.setup h)) (sym c.journal-journal.ensures.entries)
 
 pub returns-clause-told : goal.returns-clause-told
 returns-clause-told g c =
