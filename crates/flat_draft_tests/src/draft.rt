@@ -30,10 +30,9 @@ fn reason<T: Drop>(answer: Result<T, DraftFault>) -> Option<Reason> {
     }
 }
 
-#[test]
-fn readies_what_uses_an_end(rt: HostRuntime) -> Result<(), Fail> {
-    let alloc = rt.alloc();
-    let mut draft = Draft::new(alloc, Items::new(alloc));
+/// Why a second view and a second viewport are refused, whether the draft is open in
+/// between, and the pair of the first viewport.
+fn use_ends(draft: &mut Draft) -> Result<(Option<Reason>, bool, Option<Reason>, PairNo), Fail> {
     draft.call(&CREATE_VIEW)?;
     let second_view = reason(draft.ready(&CREATE_VIEW));
     let is_open = !draft.is_closed();
@@ -41,7 +40,14 @@ fn readies_what_uses_an_end(rt: HostRuntime) -> Result<(), Fail> {
     draft.call(&CREATE_VIEWPORT)?;
     let second_viewport = reason(draft.ready(&CREATE_VIEWPORT));
     let watched = draft.get(Watch::Child(ContentId(2)))?;
-    assert_eq!(rt; (second_view, is_open), (Some(Reason::HasView), true));
-    assert_eq!(rt; (second_viewport, watched), (Some(Reason::IdInUse), PAIR));
+    Ok((second_view, is_open, second_viewport, watched))
+}
+
+#[test]
+fn readies_what_uses_an_end(rt: HostRuntime) -> Result<(), Fail> {
+    let mut draft = Draft::new(rt.alloc(), Items::new(rt.alloc()));
+    let used = use_ends(&mut draft)?;
+    let (has_view, in_use) = (Some(Reason::HasView), Some(Reason::IdInUse));
+    assert_eq!(rt; used, (has_view, true, in_use, PAIR));
     Ok(())
 }

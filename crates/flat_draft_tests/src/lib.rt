@@ -9,8 +9,6 @@ mod graph;
 #[cfg(test)]
 mod links;
 #[cfg(test)]
-mod scene;
-#[cfg(test)]
 mod sweep;
 #[cfg(test)]
 mod watch;

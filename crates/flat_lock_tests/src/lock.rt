@@ -147,34 +147,35 @@ fn new_journal(alloc: Global) -> Journal
 }
 
 #[test]
-fn seats_are_taken_and_put_back(rt: HostRuntime) -> Result<(), Fail> {
-    let (lock, mut seats) = TicketLock::new(rt.alloc(), new_journal(rt.alloc()), 3)?;
-    assert!(rt; seats.all_home());
-    let (Some(mut first), Some(mut second)) = (seats.take(0), seats.take(2)) else {
+fn a_seat_is_taken_once(rt: HostRuntime) -> Result<(), Fail> {
+    let (_, mut seats) = TicketLock::new(rt.alloc(), new_journal(rt.alloc()), 3)?;
+    let all = seats.all_home();
+    let (Some(first), Some(second)) = (seats.take(0), seats.take(2)) else {
         panic!(rt; "two seats are at home")
     };
-    assert!(rt; first.actor() == 0 && second.actor() == 2);
-    assert!(rt; seats.take(2).is_none(), "a seat taken twice");
-    assert!(rt;
-        seats.take(3).is_none() && seats.take(u32::MAX).is_none(),
-        "no such seat"
-    );
-    assert!(rt; !seats.all_home());
-    write(&rt, &lock, &mut second, 40)?;
-    write(&rt, &lock, &mut first, 50)?;
-    seats.put(second);
-    let Some(mut second) = seats.take(2) else {
+    let others = [seats.take(2), seats.take(3), seats.take(u32::MAX)];
+    assert!(rt; all && !seats.all_home());
+    assert!(rt; others.iter().all(|seat| seat.is_none()), "a seat twice, or no such seat");
+    assert_eq!(rt; [first.actor(), second.actor()], [0, 2]);
+    Ok(())
+}
+
+#[test]
+fn a_seat_is_put_back(rt: HostRuntime) -> Result<(), Fail> {
+    let (lock, mut seats) = TicketLock::new(rt.alloc(), new_journal(rt.alloc()), 3)?;
+    let Some(mut seat) = seats.take(2) else {
+        panic!(rt; "the seat is at home")
+    };
+    write(&rt, &lock, &mut seat, 40)?;
+    seats.put(seat);
+    let Some(mut seat) = seats.take(2) else {
         panic!(rt; "the seat is at home again")
     };
-    let journal = lock.turn(&rt, &mut second);
-    assert_eq!(rt; journal.lines.len(), 2);
-    lock.give(&mut second, journal);
-    write(&rt, &lock, &mut second, 41)?;
-    seats.put(first);
-    seats.put(second);
+    write(&rt, &lock, &mut seat, 41)?;
+    seats.put(seat);
     assert!(rt; seats.all_home());
     let journal = lock.close(seats);
-    let written = [(2, 40), (0, 50), (2, 41)].map(|(actor, number)| Line { actor, number });
+    let written = [40, 41].map(|number| Line { actor: 2, number });
     assert_eq!(rt; journal.name, 7);
     assert_eq!(rt; journal.lines.as_slice(), written.as_slice());
     Ok(())

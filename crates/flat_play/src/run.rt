@@ -1,4 +1,4 @@
-ghost use Rattle.std.specs.Prelude.{map, ◌≡◌, ◌+◌, ◌<◌, ◌^◌, slice_index, [], ◌∷◌, ◌++◌, List, true, length, All, IfOk};
+ghost use Rattle.std.specs.Prelude.{map, ◌≡◌, ◌+◌, ◌<◌, ◌^◌, slice_index, [], ◌∷◌, ◌++◌, List, true, length, All, IfOk, OnOk};
 ghost use Rattle.flat_scene.specs.History.{seat_number};
 ghost use Rattle.flat_scene.specs.Interleave.{IsWritten};
 ghost use Rattle.flat_scene.specs.Setups.{is_setup};
@@ -79,6 +79,16 @@ fn new_readers(alloc: Global, setup: &Setup) -> Result<Vec<Reader>, NoMemory>
     Ok(readers)
 }
 
+/// A board of a script's setup before any entry, with room for its lines.
+fn open_board(alloc: Global, script: &Script) -> Result<Board, NoMemory>
+    requires { is_playable script.now ≡ true }
+    ensures { IfOk result (λ board. board ≡ record { setup = script.now.setup; shares = shares_of script.now; history = [] }) }
+{
+    let shares = shares_of(alloc, script)?;
+    let setup = script.setup.copy(alloc)?;
+    Board::open(alloc, setup, shares)
+}
+
 /// A run of which no line is played.
 fn start(alloc: Global, script: &Script, keeping: Keeping) -> Result<Game, NoMemory>
     requires { is_playable script.now ≡ true }
@@ -88,14 +98,13 @@ fn start(alloc: Global, script: &Script, keeping: Keeping) -> Result<Game, NoMem
 {
     lines_are_read();
     shown_states_fit();
-    let shares = shares_of(alloc, script)?;
-    let setup = script.setup.copy(alloc)?;
-    let board = Board::open(alloc, setup, shares)?;
+    let readers = new_readers(alloc, &script.setup)?;
     let shown = Shown::new(alloc, script.setup.sessions)?;
     let last = LastFrame::none(alloc, &script.setup)?;
+    let board = open_board(alloc, script)?;
     Ok(Game {
         board,
-        readers: new_readers(alloc, &script.setup)?,
+        readers,
         shown,
         changed: SessionSet { has: [false; 16] },
         with_view: SessionSet { has: [false; 16] },
@@ -105,9 +114,44 @@ fn start(alloc: Global, script: &Script, keeping: Keeping) -> Result<Game, NoMem
     })
 }
 
-/// Plays all lines of a script, in written order, and shows each frame to the
-/// displays before it is finished. Pointers' lines are answered in between, each in
-/// its place.
+/// Plays all lines of a script in a run of which none is played, in written order, and
+/// shows each frame to the displays before it is finished. Pointers' lines are answered
+/// in between, each in its place.
+fn play_each(
+    alloc: Global,
+    script: &Script,
+    game: &mut Game,
+    lines: &[PointerLine],
+    found: &mut Vec<Touch>,
+    set: &mut DisplaySet,
+    displays: &mut Vec<Box<dyn Display>>,
+) -> Result<(), NoMemory>
+    requires playable { is_playable script.now ≡ true }
+    requires begins { GameStands script.now 0 game.old }
+    requires no_entry { game.old.board.history ≡ [] }
+    requires no_answer { found.old.items ≡ [] }
+    requires rise { rise_after 0 lines.now ≡ true }
+    requires number { length displays.old.items ≡ set.old.displays }
+    requires few { set.old.displays < 2 ^ 32 }
+    requires none { set.old.lost ≡ [] }
+    ensures stands { OnOk result (GameStands script.now (length script.now.lines) game.new) }
+    ensures touches { OnOk result (found.new.items ≡ map (touch_of script.now.setup game.new.board.history) lines.now) }
+    ensures keeping { OnOk result (keeping_of game.new.kept ≡ keeping_of game.old.kept) }
+    ensures seen { OnOk result (HaveSeen (λ d. shown d) (λ d. faults d) (finished script.now.setup game.new.board.history) game.new.board.history set.new.lost displays.old.items displays.new.items) }
+    ensures kept { AreKept (λ d. shown d) (λ d. faults d) displays.old.items displays.new.items (λ d. d.vtable) }
+{
+    let setup = &script.setup;
+    let mut left = lines;
+    for place in 0..script.lines.len() {
+        let line = script.lines.at(place);
+        left = answer_upto(alloc, setup, &mut game.last, left, line.number, found)?;
+        game.play_line(alloc, script, place, set, displays)?;
+    }
+    answer_all(alloc, setup, &mut game.last, left, found)?;
+    Ok(())
+}
+
+/// The run of a script to the end of its lines, with the answers to pointers' lines.
 fn play_lines(
     alloc: Global,
     script: &Script,
@@ -128,15 +172,8 @@ fn play_lines(
     ensures kept { AreKept (λ d. shown d) (λ d. faults d) displays.old.items displays.new.items (λ d. d.vtable) }
 {
     let mut game = start(alloc, script, keeping)?;
-    let setup = &script.setup;
-    let mut left = lines;
     let mut found = Vec::new(alloc);
-    for place in 0..script.lines.len() {
-        let line = script.lines.at(place);
-        left = answer_upto(alloc, setup, &mut game.last, left, line.number, &mut found)?;
-        game.play_line(alloc, script, place, set, displays)?;
-    }
-    answer_all(alloc, setup, &mut game.last, left, &mut found)?;
+    play_each(alloc, script, &mut game, lines, &mut found, set, displays)?;
     Ok((game, found))
 }
 

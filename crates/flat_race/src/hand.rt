@@ -3,7 +3,7 @@ ghost use Rattle.flat_base.specs.declared.ids.Actor.TheVariants.{Display};
 ghost use Rattle.flat_scene.specs.declared.journal.Kind.TheVariants.{Hit, Signal, Wait};
 ghost use Rattle.flat_scene.specs.History.{history_of};
 ghost use Rattle.flat_core.specs.Machines.{MayLook};
-ghost use Rattle.flat_rules.specs.Legal.{display_may, names_declared, Legal};
+ghost use Rattle.flat_rules.specs.Legal.{display_may, names_declared, value_of, Legal};
 ghost use Rattle.flat_stage.specs.Displays.{DisplayEnters, DisplaySees, HasDisplayRoom};
 ghost use Rattle.flat_stage.specs.Seats.{entries_of_seat, setup_of};
 ghost use Rattle.flat_race.specs.declared.hand.Hand.TheVariants.{Idle, Open};
@@ -48,6 +48,7 @@ impl Hand {
     pub(crate) fn look<R: Wait>(&mut self, rt: &R, stage: &Stage, c: Cond) -> u32
         requires own { (hand_seat self.old).stage ≡ stage.now }
         requires may { MayLook (setup_of (hand_seat self.old).stage) Display c }
+        ensures value { result ≡ value_of (setup_of (hand_seat self.old).stage) (history_of (hand_seat self.new).seen) Display c }
         ensures legal { Legal (setup_of (hand_seat self.old).stage) (history_of (hand_seat self.new).seen) }
         ensures whole { (hand_seat self.new).mine ≡ entries_of_seat 0 (hand_seat self.new).seen }
         ensures sees { DisplaySees (hand_seat self.old) (hand_seat self.new) }

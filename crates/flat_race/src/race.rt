@@ -1,4 +1,4 @@
-ghost use Rattle.std.specs.Prelude.{◌≡◌, ◌<◌, ◌^◌, [], true, length, IfOk};
+ghost use Rattle.std.specs.Prelude.{◌≡◌, ◌<◌, ◌^◌, [], true, length, IfOk, OnOk};
 ghost use Rattle.flat_playable.specs.Playable.{is_playable};
 ghost use Rattle.flat_display.specs.Had.{AreKept};
 ghost use Rattle.flat_scene.specs.History.{history_of};
@@ -58,15 +58,49 @@ fn new_film(
     ensures number { IfOk result (λ film. film.set.displays ≡ displays) }
     ensures keeping { IfOk result (λ film. keeping_of film.kept ≡ keeping) }
 {
+    let set = DisplaySet::new(alloc, displays)?;
+    let last = LastFrame::none(alloc, &script.setup)?;
     Ok(Film {
         kept: Kept::new(alloc, keeping),
-        last: LastFrame::none(alloc, &script.setup)?,
+        last,
         answers: HitAnswers::new(alloc),
-        set: DisplaySet::new(alloc, displays)?,
+        set,
     })
 }
 
-/// Runs the sessions beside the compositor, and puts all seats back.
+/// Runs the sessions beside the compositor, and puts all their seats back.
+fn run_all<'s, E, T: Threads + Wait + Sync, G: Gate>(
+    scope: &Scope<'s, E>,
+    lent: &Lent<'s, T, G>,
+    compositor: CompositorSeat,
+    seats: &mut SessionSeats,
+    film: &mut Film,
+    displays: &mut Vec<Box<dyn Display>>,
+) -> Result<CompositorSeat, NoMemory>
+    requires playable { is_playable lent.now.script.now ≡ true }
+    requires of { IsStageOf lent.now.stage.now lent.now.script.now }
+    requires compositor { compositor ≡ record { stage = lent.now.stage.now; seen = []; mine = [] } }
+    requires own { seats.old.stage ≡ lent.now.stage.now }
+    requires sessions { AreFresh lent.now.stage.now lent.now.script.now.setup.sessions seats.old.seats }
+    requires film { FilmStands lent.now.script.now [] film.old }
+    requires none { film.old.set.lost ≡ [] }
+    requires number { length displays.old.items ≡ film.old.set.displays }
+    requires few { film.old.set.displays < 2 ^ 32 }
+    ensures ended { IfOk result (λ compositor. HaveEnded lent.now.stage.now lent.now.script.now compositor seats.new film.new) }
+    ensures seen { IfOk result (λ compositor. HaveSeen (λ d. shown d) (λ d. faults d) (finished lent.now.script.now.setup (history_of compositor.seen)) (history_of compositor.seen) film.new.set.lost displays.old.items displays.new.items) }
+    ensures keeping { OnOk result (keeping_of film.new.kept ≡ keeping_of film.old.kept) }
+    ensures kept { AreKept (λ d. shown d) (λ d. faults d) displays.old.items displays.new.items (λ d. d.vtable) }
+{
+    let out = start_each(scope, lent, seats)?;
+    let directed = direct(lent, compositor, film, displays);
+    if put_back(lent, seats, out) {
+        directed
+    } else {
+        Err(NoMemory)
+    }
+}
+
+/// Runs the sessions beside the compositor, and answers what all of them leave.
 fn run_in<'s, E, T: Threads + Wait + Sync, G: Gate>(
     scope: &Scope<'s, E>,
     lent: &Lent<'s, T, G>,
@@ -89,36 +123,26 @@ fn run_in<'s, E, T: Threads + Wait + Sync, G: Gate>(
     ensures keeping { IfOk result.ended (λ e. keeping_of e.film.kept ≡ keeping_of film.kept) }
     ensures kept { AreKept (λ d. shown d) (λ d. faults d) displays.items result.displays.items (λ d. d.vtable) }
 {
-    let out = match start_each(scope, lent, &mut seats) {
-        Ok(out) => out,
-        Err(NoMemory) => {
-            return Raced {
-                displays,
-                ended: Err(NoMemory),
-            };
-        }
-    };
-    let directed = direct(lent, compositor, &mut film, &mut displays);
-    let are_whole = put_back(lent, &mut seats, out);
-    let Ok(compositor) = directed else {
-        return Raced {
+    match run_all(
+        scope,
+        lent,
+        compositor,
+        &mut seats,
+        &mut film,
+        &mut displays,
+    ) {
+        Ok(compositor) => Raced {
+            displays,
+            ended: Ok(Ended {
+                compositor,
+                seats,
+                film,
+            }),
+        },
+        Err(NoMemory) => Raced {
             displays,
             ended: Err(NoMemory),
-        };
-    };
-    if !are_whole {
-        return Raced {
-            displays,
-            ended: Err(NoMemory),
-        };
-    }
-    Raced {
-        displays,
-        ended: Ok(Ended {
-            compositor,
-            seats,
-            film,
-        }),
+        },
     }
 }
 

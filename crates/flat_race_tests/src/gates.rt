@@ -1,9 +1,12 @@
 ghost use Rattle.std.specs.Prelude.{◌<◌, ◌^◌, length};
 
-use crate::texts::{FILL, FILL_REPORTED, SHELL_ORDER, TWO, TWO_REPORTED, WAIT, WAIT_REPORTED};
+use crate::texts::{
+    DISPLAY_WAIT, DISPLAY_WAIT_REPORTED, FILL, FILL_REPORTED, LOOKING_END, SHELL_ORDER, SHUT,
+    SHUT_LINE, SHUT_REPORTED, TWO, TWO_REPORTED, WAIT, WAIT_REPORTED,
+};
 use flat_display::Display;
 use flat_io::{Failed, MemSink, MemSource};
-use flat_race::Gate;
+use flat_race::{ASKS, Gate};
 use flat_run::flatland;
 use flat_scene::{FrameOut, Reply};
 use flat_worked::{SHELL, SHELL_REPORTED};
@@ -241,28 +244,51 @@ fn present_while_a_display_shows(rt: HostRuntime) -> Result<(), Fail> {
     Ok(())
 }
 
-/// Lets a session look once, and again only after the frame.
+/// Lets an actor look once, and again only after the entry that it waits for.
 #[derive(Drop)]
 struct Looking {
+    /// The line that waits.
+    waits: u32,
+    /// The line that is held until the one that waits has looked.
+    held: u32,
+    /// The line whose entry shows enough.
+    shows: u32,
     asked: AtomicU32,
-    finished: AtomicBool,
+    shown: AtomicBool,
+    waited: AtomicBool,
+}
+
+impl Looking {
+    fn new(waits: u32, held: u32, shows: u32) -> Looking {
+        Looking {
+            waits,
+            held,
+            shows,
+            asked: AtomicU32::new(0),
+            shown: AtomicBool::new(false),
+            waited: AtomicBool::new(false),
+        }
+    }
 }
 
 impl Gate for Looking {
     fn open(&self, _actor: u32, line: u32) -> bool {
-        match line {
-            6 => {
-                let before = self.asked.fetch_add(1, Ordering::SeqCst);
-                before == 0 || self.finished.load(Ordering::SeqCst)
-            }
-            7 => self.asked.load(Ordering::SeqCst) > 1,
-            _ => true,
+        if line == self.waits {
+            let before = self.asked.fetch_add(1, Ordering::SeqCst);
+            return before == 0 || self.shown.load(Ordering::SeqCst);
         }
+        if line == self.held {
+            return self.asked.load(Ordering::SeqCst) > 1;
+        }
+        line != LOOKING_END || self.waited.load(Ordering::SeqCst)
     }
 
     fn passed(&self, _actor: u32, line: u32, _reply: &Reply) {
-        if line == 8 {
-            self.finished.store(true, Ordering::SeqCst);
+        if line == self.waits {
+            self.waited.store(true, Ordering::SeqCst);
+        }
+        if line == self.shows {
+            self.shown.store(true, Ordering::SeqCst);
         }
     }
 }
@@ -270,12 +296,50 @@ impl Gate for Looking {
 #[test]
 fn a_wait_looks_again(rt: HostRuntime) -> Result<(), Fail> {
     let alloc = rt.alloc();
-    let gate = Looking {
-        asked: AtomicU32::new(0),
-        finished: AtomicBool::new(false),
-    };
+    let gate = Looking::new(6, 7, 8);
     let (status, sink) = race(&rt, alloc, WAIT, &mut Vec::new(alloc), &gate)?;
     assert_eq!(rt; status, 0);
     assert_eq!(rt; sink.bytes(), WAIT_REPORTED);
+    Ok(())
+}
+
+#[test]
+fn a_wait_of_the_display_looks_again(rt: HostRuntime) -> Result<(), Fail> {
+    let alloc = rt.alloc();
+    let gate = Looking::new(7, 8, 8);
+    let (status, sink) = race(&rt, alloc, DISPLAY_WAIT, &mut Vec::new(alloc), &gate)?;
+    assert_eq!(rt; status, 0);
+    assert_eq!(rt; sink.bytes(), DISPLAY_WAIT_REPORTED);
+    Ok(())
+}
+
+/// Never opens for the line that waits, and counts how often it was asked.
+#[derive(Drop)]
+struct Shut {
+    asked: AtomicU32,
+}
+
+impl Gate for Shut {
+    fn open(&self, _actor: u32, line: u32) -> bool {
+        if line == SHUT_LINE {
+            self.asked.fetch_add(1, Ordering::SeqCst);
+            return false;
+        }
+        true
+    }
+
+    fn passed(&self, _actor: u32, _line: u32, _reply: &Reply) {}
+}
+
+#[test]
+fn a_shut_gate_is_asked_so_often_for_a_line(rt: HostRuntime) -> Result<(), Fail> {
+    let alloc = rt.alloc();
+    let gate = Shut {
+        asked: AtomicU32::new(0),
+    };
+    let (status, sink) = race(&rt, alloc, SHUT, &mut Vec::new(alloc), &gate)?;
+    assert_eq!(rt; status, 0);
+    assert_eq!(rt; gate.asked.load(Ordering::SeqCst), ASKS);
+    assert_eq!(rt; sink.bytes(), SHUT_REPORTED);
     Ok(())
 }

@@ -101,3 +101,45 @@ A 6 Wait met 1
 A end 0
 report ends entries 4 frames 1
 ";
+
+/// The number of the End in the scripts that wait.
+pub const LOOKING_END: u32 = 9;
+
+/// A display that waits for the present behind it.
+pub const DISPLAY_WAIT: &[u8] = b"flatland 1
+display 100 100
+session A
+pair t0 display A
+run
+A CreateView t0
+display Wait presents A 1
+A Present 0
+";
+
+/// The report of it where the display looks again.
+pub const DISPLAY_WAIT_REPORTED: &[u8] = b"report flatland 1
+A 6 CreateView ok
+A 8 Present 1 credits 0
+display 7 Wait met 1
+A end 0
+report ends entries 4 frames 0
+";
+
+/// A session that waits for a frame that never comes.
+pub const SHUT: &[u8] = b"flatland 1
+display 100 100
+session A
+pair t0 display A
+run
+A Wait frames 1
+";
+
+/// The line of it that waits.
+pub const SHUT_LINE: u32 = 6;
+
+/// The report of it.
+pub const SHUT_REPORTED: &[u8] = b"report flatland 1
+A 6 Wait unmet 0
+A end 0
+report ends entries 2 frames 0
+";

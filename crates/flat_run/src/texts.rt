@@ -1,20 +1,23 @@
 ghost use Rattle.std.specs.Prelude.{◌≡◌, ◌≢◌, true, [], map, reverse, IfOk};
 ghost use Rattle.flat_play.specs.Playing.{HasPlayed};
 ghost use Rattle.flat_play.specs.Touches.{touch_of};
+ghost use Rattle.flat_page.specs.Happenings.{without_items};
 ghost use Rattle.flat_playable.specs.Playable.{is_playable};
 ghost use Rattle.flat_pointer.specs.Text.{pointer_text};
 ghost use Rattle.flat_focus.specs.Text.{focus_text};
 ghost use Rattle.flat_report.specs.Report.{finished, report};
+ghost use Rattle.flat_rules.specs.Legal.{Legal};
 ghost use Rattle.flat_play.specs.declared.kept.Keeping.TheVariants as keeping;
 ghost use Rattle.flat_play.specs.Keeping.{keeping_of};
 ghost use Rattle.flat_words.specs.declared.form.Form.TheVariants.{Render, Pointer};
+ghost use Rattle.flat_texts.specs.Damages.{IsDamageText};
 ghost use Rattle.flat_texts.specs.Lines.{finish_lines};
 ghost use Rattle.flat_texts.specs.Pictures.{picture_text};
 ghost use Rattle.flat_run.specs.Answering.{IsRunnable, ran_of};
 ghost use Rattle.flat_run.specs.Forms.{is_read, keeping_for, Fits, IsTextOf};
 
 use crate::reading::Reading;
-use flat_base::NoMemory;
+use flat_base::{Items, NoMemory};
 use flat_core::shown_states_fit;
 use flat_focus::{focus_laws, print_focus};
 use flat_places::Script;
@@ -22,6 +25,7 @@ use flat_play::{Keeping, Played};
 use flat_pointer::{Touch, pointer_laws, print_pointers};
 use flat_report::{Pieces, handed_is_report, print_report};
 use flat_rules::items_are_drawable;
+use flat_scene::FrameOut;
 use flat_texts::{finish_lines, picture_of};
 use flat_tree::views_are_a_tree;
 use flat_words::Form;
@@ -75,6 +79,24 @@ fn last_picture<T: Threads + Sync>(
     picture_of(rt, alloc, &script.setup, played.kept.last())
 }
 
+/// The numbers of the lines that finished a run's frames, and the frames without their
+/// items.
+fn finished_of(
+    alloc: Global,
+    script: &Script,
+    played: Played,
+) -> Result<(Vec<u32>, Items<FrameOut>), NoMemory>
+    requires played { HasPlayed script.now played.board played.kept played.answers }
+    requires keeping { keeping_of played.kept ≡ keeping.Trees }
+    ensures lines { IfOk result (λ r. r.0.items ≡ finish_lines (reverse played.board.history)) }
+    ensures frames { IfOk result (λ r. r.1 ≡ map without_items (finished script.now.setup played.board.history)) }
+    ensures legal { Legal played.board.setup played.board.history }
+{
+    let dones = finish_lines(alloc, played.board.journal().entries.as_slice())?;
+    let frames = played.kept.into_trees().into_frames()?;
+    Ok((dones, frames))
+}
+
 /// Who had the focus in a run.
 fn focus_of(alloc: Global, reading: &Reading, played: Played) -> Result<Vec<u8>, NoMemory>
     requires played { HasPlayed reading.now.script played.board played.kept played.answers }
@@ -84,11 +106,8 @@ fn focus_of(alloc: Global, reading: &Reading, played: Played) -> Result<Vec<u8>,
     views_are_a_tree();
     shown_states_fit();
     focus_laws();
-    let Played { board, kept, .. } = played;
-    let journal = board.journal();
-    let dones = finish_lines(alloc, journal.entries.as_slice())?;
-    let frames = kept.into_trees().into_frames()?;
     let script = &reading.script;
+    let (dones, frames) = finished_of(alloc, script, played)?;
     print_focus(
         alloc,
         script.setup.sessions,
@@ -113,17 +132,24 @@ fn pointers_of(
     ensures { IfOk result (λ text. text.items ≡ pointer_text reading.now.script.sessions (finish_lines (reverse played.board.history)) (finished reading.now.script.setup played.board.history) touches.now) }
 {
     pointer_laws();
-    let Played { board, kept, .. } = played;
-    let journal = board.journal();
-    let dones = finish_lines(alloc, journal.entries.as_slice())?;
-    let frames = kept.into_trees().into_frames()?;
+    let script = &reading.script;
+    let (dones, frames) = finished_of(alloc, script, played)?;
     print_pointers(
         alloc,
-        &reading.script.sessions,
+        &script.sessions,
         dones.as_slice(),
         frames.as_slice(),
         touches,
     )
+}
+
+/// What changed from frame to frame in a run.
+fn damages_of(script: &Script, played: Played) -> Result<Vec<u8>, NoMemory>
+    requires played { HasPlayed script.now played.board played.kept played.answers }
+    requires keeping { keeping_of played.kept ≡ keeping.Damages }
+    ensures { IfOk result (λ text. IsDamageText (finished script.now.setup played.board.history) text.items) }
+{
+    played.kept.into_damages().text()
 }
 
 /// What a form writes of a run in place of its report.
@@ -147,10 +173,7 @@ fn picture_or_lines<T: Threads + Sync>(
     match form {
         Form::Play | Form::Race | Form::Stress(_) => unreachable!(),
         Form::Render => last_picture(rt, alloc, &reading.script, &played),
-        Form::Damage => {
-            let damages = played.kept.into_damages();
-            damages.text()
-        }
+        Form::Damage => damages_of(&reading.script, played),
         Form::Focus => focus_of(alloc, reading, played),
         Form::Pointer => pointers_of(alloc, reading, played, touches),
     }

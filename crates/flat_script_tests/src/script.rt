@@ -1,7 +1,7 @@
-use flat_base::{Actor, ContentId, FenceNo, Items, PairNo, SessionNo};
+use flat_base::TransformId;
 use flat_places::Script;
 use flat_print::print;
-use flat_scene::{Body, Call, Cond, DisplayLine, Inset, Line, PresentArgs, ScriptLine};
+use flat_scene::{Body, Call, DisplayLine, Line};
 use flat_script::{ScriptError, parse};
 use std::alloc::{AllocError, Global};
 use std::test::Fail;
@@ -473,32 +473,33 @@ fn texts(rt: HostRuntime) {
     }
 }
 
+// A script with a remark, an empty line, and a line of each actor.
+const LINES: &str =
+    "flatland 1\ndisplay 100 90\nsession A\npair t0 display A\nrun\n# a remark\n\nA SetTranslation 7 -5 40\ndisplay begin 16\ndisplay done";
+
 #[test]
 fn a_script(rt: HostRuntime) -> Result<(), Fail> {
-    let rest = "# a remark\n\nA SetTranslation 7 -5 40\ndisplay begin 16\ndisplay done";
-    let text = joined(rt.alloc(), HEAD, rest)?;
-    let script = parse(rt.alloc(), text.as_slice())?;
-    assert_eq!(rt; script.count, 10);
-    assert_eq!(rt; (script.setup.width, script.setup.height), (100, 100));
-    assert_eq!(rt; script.setup.sessions, 1);
-    assert_eq!(rt; script.sessions.len(), 1);
-    assert_eq!(rt; script.pairs.len(), 1);
-    assert_eq!(rt; script.setup.pairs.len(), 1);
-    assert_eq!(rt; script.pairs.at(0).as_slice(), b"t0".as_slice());
-    assert_eq!(rt; script.setup.pairs.at(0).viewport, Actor::Display);
-    assert_eq!(rt; script.lines.len(), 3);
-    let first = script.lines.at(0);
-    assert_eq!(rt; first.number, 8);
-    match &first.body {
-        Body::Session(Line::Call(Call::SetTranslation { t, x, y })) => {
-            assert_eq!(rt; (t.0, *x, *y), (7, -5, 40));
-        }
-        _ => assert!(rt; false, "no translation"),
-    }
-    match &script.lines.at(2).body {
-        Body::Display(line) => assert_eq!(rt; *line, DisplayLine::Done),
-        _ => assert!(rt; false, "no end of a frame"),
-    }
+    let script = parse(rt.alloc(), LINES.as_bytes())?;
+    let Script { setup, lines, .. } = &script;
+    let counts = [script.count, setup.width, setup.height, setup.sessions];
+    assert_eq!(rt; counts, [10, 100, 90, 1]);
+    let lengths = [
+        script.sessions.len(),
+        script.pairs.len(),
+        setup.pairs.len(),
+        lines.len(),
+    ];
+    assert_eq!(rt; lengths, [1, 1, 1, 3]);
+    let translates = matches!(
+        lines.at(0).body,
+        Body::Session(Line::Call(Call::SetTranslation {
+            t: TransformId(7),
+            x: -5,
+            y: 40
+        }))
+    );
+    let ends = matches!(lines.at(2).body, Body::Display(DisplayLine::Done));
+    assert!(rt; lines.at(0).number == 8 && translates && ends);
     Ok(())
 }
 
@@ -656,86 +657,33 @@ const LOOSE: &str =
 const CANONICAL: &str =
     "flatland 1\ndisplay 100 90\nsession A\nsession B\nbuffers b A 2 8 9\npair t0 display A\npair t1 A B\nfence f A display A\nrun\nB CreateView t1\nA SetTranslation 7 -5 40\nA SetHitRegions 1 0 0 1 1 0 -5 0 1 1 1\nA SetHitRegions 1\nA SetSolidFill 2 1 2 3 4 5 6\nA SetInfiniteHitRegion 1 1\nA Present 9\ndisplay begin 16\ndisplay done\nA Clear";
 
-#[test]
-fn printed(rt: HostRuntime) -> Result<(), Fail> {
-    let script = parse(rt.alloc(), LOOSE.as_bytes())?;
-    let text = print(rt.alloc(), &script)?;
-    assert_eq!(rt; text.as_slice(), CANONICAL.as_bytes());
-    let again = parse(rt.alloc(), text.as_slice())?;
-    assert_eq!(rt; again.count, 19);
-    let second = print(rt.alloc(), &again)?;
-    assert_eq!(rt; second.as_slice(), text.as_slice());
-    Ok(())
-}
-
 // An inset of zeros goes without saying for a viewport that is made, but not for one that is changed.
 const INSETS: &str =
-    "A CreateViewport 1 t1 5 6 0 0 0 0\nA CreateViewport 2 t1 5 6 0 0 0 1\nA SetViewportProperties 1 7 8\nA SetViewportProperties 1 7 8 0 0 0 0\nA ReleaseViewport 1\nB GetLayout\nB GetStatus\nA GetChildStatus 2\nB Wait answers 3\ndisplay hit -1 2147483647";
+    "flatland 1\ndisplay 100 100\nsession A\nsession B\npair t0 display A\npair t1 A B\nrun\nA CreateViewport 1 t1 5 6 0 0 0 0\nA CreateViewport 2 t1 5 6 0 0 0 1\nA SetViewportProperties 1 7 8\nA SetViewportProperties 1 7 8 0 0 0 0\nA ReleaseViewport 1\nB GetLayout\nB GetStatus\nA GetChildStatus 2\nB Wait answers 3\ndisplay hit -1 2147483647";
 
 const INSETS_PRINTED: &str =
-    "A CreateViewport 1 t1 5 6\nA CreateViewport 2 t1 5 6 0 0 0 1\nA SetViewportProperties 1 7 8\nA SetViewportProperties 1 7 8 0 0 0 0\nA ReleaseViewport 1\nB GetLayout\nB GetStatus\nA GetChildStatus 2\nB Wait answers 3\ndisplay hit -1 2147483647";
+    "flatland 1\ndisplay 100 100\nsession A\nsession B\npair t0 display A\npair t1 A B\nrun\nA CreateViewport 1 t1 5 6\nA CreateViewport 2 t1 5 6 0 0 0 1\nA SetViewportProperties 1 7 8\nA SetViewportProperties 1 7 8 0 0 0 0\nA ReleaseViewport 1\nB GetLayout\nB GetStatus\nA GetChildStatus 2\nB Wait answers 3\ndisplay hit -1 2147483647";
 
-#[test]
-fn printed_insets(rt: HostRuntime) -> Result<(), Fail> {
-    let text = joined(rt.alloc(), PAIRED, INSETS)?;
-    let want = joined(rt.alloc(), PAIRED, INSETS_PRINTED)?;
-    let script = parse(rt.alloc(), text.as_slice())?;
-    let first = print(rt.alloc(), &script)?;
-    assert_eq!(rt; first.as_slice(), want.as_slice());
-    let again = parse(rt.alloc(), first.as_slice())?;
-    assert_eq!(rt; again.lines.len(), 10);
-    match &again.lines.at(0).body {
-        Body::Session(Line::Call(Call::CreateViewport { pair, inset, .. })) => {
-            assert_eq!(rt; (pair.0, inset.top, inset.left), (1, 0, 0));
-        }
-        _ => assert!(rt; false, "no viewport"),
-    }
-    let second = print(rt.alloc(), &again)?;
-    assert_eq!(rt; second.as_slice(), first.as_slice());
-    Ok(())
+// Lists of fences, and a condition of another session.
+const CALLS: &str =
+    "flatland 1\ndisplay 100 100\nsession A\nsession B\npair t0 display A\npair t1 A B\nfence f A display\nfence g display A\nrun\nA CreateViewport 1 t1 5 6\nA Present 3 release f\nA Present 4 acquire g release f\ndisplay Wait presents B 4";
+
+// What is printed of the script that a text has.
+fn reprinted(alloc: Global, text: &str) -> Result<Vec<u8>, Fail> {
+    let script = parse(alloc, text.as_bytes())?;
+    Ok(print(alloc, &script)?)
 }
 
-// A script that was made by hand.
+// Texts, and what is printed of their scripts, which is printed of itself.
+const PRINTED: [(&str, &str); 3] = [(LOOSE, CANONICAL), (INSETS, INSETS_PRINTED), (CALLS, CALLS)];
+
 #[test]
-fn printed_calls(rt: HostRuntime) -> Result<(), Fail> {
-    let mut script = parse(rt.alloc(), LOOSE.as_bytes())?;
-    script.lines.clear();
-    let inset = Inset {
-        top: 0,
-        right: 0,
-        bottom: 0,
-        left: 0,
-    };
-    let viewport = Call::CreateViewport {
-        c: ContentId(1),
-        pair: PairNo(1),
-        w: 5,
-        h: 6,
-        inset,
-    };
-    script.lines.push(ScriptLine {
-        number: 1,
-        actor: Actor::Session(SessionNo(1)),
-        body: Body::Session(Line::Call(viewport)),
-    })?;
-    let mut release = Items::new(rt.alloc());
-    release.push(FenceNo(0))?;
-    script.lines.push(ScriptLine {
-        number: 2,
-        actor: Actor::Session(SessionNo(1)),
-        body: Body::Session(Line::Present(PresentArgs {
-            time: 3,
-            acquire: Items::new(rt.alloc()),
-            release,
-        })),
-    })?;
-    script.lines.push(ScriptLine {
-        number: 3,
-        actor: Actor::Display,
-        body: Body::Display(DisplayLine::Wait(Cond::Presents(SessionNo(2), 4))),
-    })?;
-    let text = print(rt.alloc(), &script)?;
-    let end = b"\nA CreateViewport 1 t1 5 6\nA Present 3 release f\ndisplay Wait presents B 4";
-    assert!(rt; text.as_slice().ends_with(end));
+fn printed(rt: HostRuntime) -> Result<(), Fail> {
+    for (text, canonical) in PRINTED.iter() {
+        for text in [*text, *canonical].iter() {
+            let printed = reprinted(rt.alloc(), text)?;
+            assert_eq!(rt; printed.as_slice(), canonical.as_bytes(), "{text}");
+        }
+    }
     Ok(())
 }

@@ -302,18 +302,24 @@ fn run<R: Threads + Wait + Sync>(rt: &R, alloc: Global, cast: Cast) -> Result<Bo
     Ok(stage.close(compositor, seats))
 }
 
+/// How many entries a board has, how many frames, and how many polls of each session.
+fn counts(board: &Board) -> [Option<u32>; 4] {
+    let entries = board.journal().entries.as_slice();
+    [
+        Some(entries.len() as u32),
+        frames_of(entries),
+        polls_of(entries, Actor::Session(SessionNo(1))),
+        polls_of(entries, Actor::Session(SessionNo(2))),
+    ]
+}
+
 #[test]
 fn seats_on_two_threads(rt: HostRuntime) -> Result<(), Fail> {
-    let alloc = rt.alloc();
-    let mut cast = new_cast(alloc)?;
-    assert!(rt;
-        cast.seats.take(SessionNo(2)).is_none(),
-        "a seat taken twice"
-    );
-    let board = run(&rt, alloc, cast)?;
-    let entries = board.journal().entries.as_slice();
-    assert!(rt; entries.len() == 222 && frames_of(entries) == Some(10));
-    assert!(rt; polls_of(entries, Actor::Session(SessionNo(1))) == Some(POLLS));
-    assert!(rt; polls_of(entries, Actor::Session(SessionNo(2))) == Some(POLLS));
+    let mut cast = new_cast(rt.alloc())?;
+    let is_away = cast.seats.take(SessionNo(2)).is_none();
+    let board = run(&rt, rt.alloc(), cast)?;
+    let counts = counts(&board);
+    let all = [Some(222), Some(FRAMES), Some(POLLS), Some(POLLS)];
+    assert_eq!(rt; (is_away, counts), (true, all));
     Ok(())
 }

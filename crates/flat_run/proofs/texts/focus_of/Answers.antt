@@ -7,17 +7,16 @@ use Rattle.flat_page.specs.Happenings.{without_items}
 use Rattle.flat_play.proofs.lemmas.FewViews.{few-played}
 use Rattle.flat_report.specs.Report.{finished}
 use Rattle.flat_texts.specs.Lines.{finish_lines}
-use Rattle.flat_run.proofs.Written.{few-left, lines_of, trees-kept}
+use Rattle.flat_run.proofs.Written.{few-left}
 use Rattle.flat_run.proofs.texts.focus_of.Goals as goal
 
 pub print_focus-requires : goal.print_focus-requires
 print_focus-requires c =
     let script = c.args.reading.now.script in
     let F : List FrameOut → Type 0 = λ shown. list_all (λ (out : FrameOut). nat_le (length out.tree.nodes) script.setup.sessions) shown ≡ true in
-    let frames = c.as_slice-3.ensures ∙ c.in_ok-frames.ensures _ (trees-kept script _ _ _ c.into_trees.ensures c.requires.played.keeps) in
     record {
-      few = subst F (sym frames)
-          (few-left script.setup.sessions _ (few-played script _ _ _ c.requires.played c.journal-journal.ensures.legal c.views_are_a_tree.ensures.few c.shown_states_fit.ensures.begun c.shown_states_fit.ensures.each));
+      few = subst F (sym (c.as_slice-2.ensures ∙ c.in_ok-dones.ensures.frames))
+          (few-left script.setup.sessions _ (few-played script _ _ _ c.requires.played c.finished_of.ensures.legal c.views_are_a_tree.ensures.few c.shown_states_fit.ensures.begun c.shown_states_fit.ensures.each));
     }
 
 pub returns : goal.returns
@@ -25,13 +24,12 @@ returns c =
     let script = c.args.reading.now.script in
     let history = c.args.played.board.history in
     let all : List FrameOut = finished script.setup history in
-    let frames : c.as_slice-3.result.now ≡ map without_items all = c.as_slice-3.ensures ∙ c.in_ok-frames.ensures _ (trees-kept script _ _ _ c.into_trees.ensures c.requires.played.keeps) in
-    let dones : c.as_slice-2.result.now ≡ finish_lines (reverse history) =
-    c.as_slice-2.ensures.value ∙ c.in_ok-dones.ensures ∙ ap finish_lines c.as_slice.ensures.value ∙ lines_of c.journal-journal.result.now.entries.items history c.journal-journal.ensures.entries in
+    let frames : c.as_slice-2.result.now ≡ map without_items all = c.as_slice-2.ensures ∙ c.in_ok-dones.ensures.frames in
+    let dones : c.as_slice.result.now ≡ finish_lines (reverse history) = c.as_slice.ensures.value ∙ c.in_ok-dones.ensures.lines in
     let P : List ℕ → Type 0 = λ text. IfOk c.print_focus.result (λ written. written.items ≡ text) in
     subst P
-    (ap (λ (lines : List FocusLine). focus_text script.sessions c.as_slice-2.result.now c.as_slice-3.result.now lines) c.as_slice-4.ensures
-    ∙ ap (λ (ds : List ℕ). focus_text script.sessions ds c.as_slice-3.result.now c.args.reading.now.focus) dones
+    (ap (λ (lines : List FocusLine). focus_text script.sessions c.as_slice.result.now c.as_slice-2.result.now lines) c.as_slice-3.ensures
+    ∙ ap (λ (ds : List ℕ). focus_text script.sessions ds c.as_slice-2.result.now c.args.reading.now.focus) dones
     ∙ ap (λ (fs : List FrameOut). focus_text script.sessions (finish_lines (reverse history)) fs c.args.reading.now.focus) frames
     ∙ c.focus_laws.ensures.items_play_no_part script.sessions (finish_lines (reverse history)) all c.args.reading.now.focus)
     c.print_focus.ensures

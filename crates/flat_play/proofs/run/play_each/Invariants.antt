@@ -4,7 +4,7 @@ use Rattle.flat_play.specs.Keeping.{keeping_of}
 use Rattle.flat_play.specs.Playing.{GameStands, last_number}
 use Rattle.flat_play.specs.Touches.{AreAnswered}
 use Rattle.flat_play.specs.Showing.{HaveSeen}
-use Rattle.flat_play.proofs.run.play_lines.Given as goal
+use Rattle.flat_play.proofs.run.play_each.Given as goal
 
 abbrev pub invariant-loop-place : goal.invariant-loop-place
 invariant-loop-place g l = record {
@@ -12,7 +12,7 @@ invariant-loop-place g l = record {
   seen : HaveSeen (λ b. (goal.Display-dyn g (b.vtable, b.value)).shown b.value) (λ b. (goal.Display-dyn g (b.vtable, b.value)).faults b.value) (finished l.script.setup l.game.board.history) l.game.board.history l.set.lost l.initial.displays.items l.displays.items;
   number : length l.displays.items ≡ l.set.displays;
   kinds : map (λ b. b.vtable) l.displays.items ≡ map (λ b. b.vtable) l.initial.displays.items;
-  keeping : keeping_of l.game.kept ≡ l.fn.keeping;
+  keeping : keeping_of l.game.kept ≡ keeping_of l.initial.game.kept;
   same : l.set.displays ≡ l.initial.set.displays;
   answered : AreAnswered l.script.setup l.game.board.history (last_number 0 (take l.place l.script.lines)) l.lines l.left l.found.items;
 }
