@@ -1,4 +1,4 @@
-ghost use Rattle.std.specs.Prelude.{◌≡◌, ◌≤◌, ◌<◌, ◌+◌, ◌^◌, [], ◌∷◌, ◌++◌, true, length, map, slice_get, Some, IfOk, OnErr, OnOk};
+ghost use Rattle.std.specs.Prelude.{◌≡◌, ◌≤◌, ◌<◌, ◌+◌, ◌^◌, [], ◌∷◌, ◌++◌, true, length, map, slice_get, Some, IfOk, IsTrue, OnErr, OnOk};
 ghost use Rattle.flat_base.specs.declared.ids.Actor.TheVariants.{Display};
 ghost use Rattle.flat_scene.specs.declared.journal.Kind.TheVariants.{Begin, Finish, Hit};
 ghost use Rattle.flat_scene.specs.declared.journal.Reply.TheVariants.{Done};
@@ -7,7 +7,7 @@ ghost use Rattle.flat_scene.specs.History.{history_of};
 ghost use Rattle.flat_scene.specs.Setups.{is_setup};
 ghost use Rattle.flat_core.specs.Machines.{MayLook};
 ghost use Rattle.flat_rules.specs.Ends.{to_begin};
-ghost use Rattle.flat_rules.specs.Legal.{begin_time, frames, Legal};
+ghost use Rattle.flat_rules.specs.Legal.{asked_of, begin_time, frames, value_of, Legal};
 ghost use Rattle.flat_rules.specs.Shown.{shown_states};
 ghost use Rattle.flat_topology.specs.Changes.{AreSame};
 ghost use Rattle.flat_topology.specs.Hits.{hit_list};
@@ -53,24 +53,27 @@ pub(crate) struct Film {
 /// The number of the display among the actors.
 const DISPLAY: u32 = 0;
 
-/// Looks until the value of a condition is enough, or so often as a Wait may look;
-/// the gate is asked before each look, with one budget of the line.
-fn look_again<R: Wait, G: Gate>(lent: &Lent<R, G>, hand: &mut Hand, number: u32, c: Cond)
+/// Looks until the value of a condition is enough, or so often as a Wait may look, and
+/// answers whether it was enough; the gate is asked before each look, with one budget of
+/// the line.
+fn look_again<R: Wait, G: Gate>(lent: &Lent<R, G>, hand: &mut Hand, number: u32, c: Cond) -> bool
     requires own { (hand_seat hand.old).stage ≡ lent.now.stage.now }
     requires may { MayLook (setup_of lent.now.stage.now) Display c }
     requires legal { Legal (setup_of lent.now.stage.now) (history_of (hand_seat hand.old).seen) }
     requires whole { (hand_seat hand.old).mine ≡ entries_of_seat 0 (hand_seat hand.old).seen }
-    ensures { HasLooked (setup_of lent.now.stage.now) hand.old hand.new }
+    ensures looked { HasLooked (setup_of lent.now.stage.now) hand.old hand.new }
+    ensures met { IsTrue result → asked_of c ≤ value_of (setup_of lent.now.stage.now) (history_of (hand_seat hand.new).seen) Display c }
 {
     let wanted = asked_of(c);
     let mut left = ASKS;
     for _ in 0..LOOKS {
         left = ask(lent.gate, DISPLAY, number, left);
         if wanted <= hand.look(lent.rt, lent.stage, c) {
-            return;
+            return true;
         }
         thread::yield_now();
     }
+    false
 }
 
 /// Begins a frame.

@@ -1,10 +1,10 @@
-ghost use Rattle.std.specs.Prelude.{◌≡◌, ◌+◌, ◌<◌, ◌^◌, ℕ, List, [], ◌∷◌, ◌++◌, Bool, true, false, length, Some, slice_get, OnOk};
+ghost use Rattle.std.specs.Prelude.{◌≡◌, ◌+◌, ◌<◌, ◌≤◌, ◌^◌, ℕ, List, [], ◌∷◌, ◌++◌, Bool, true, false, length, Some, slice_get, IsTrue, OnOk};
 ghost use Rattle.flat_base.specs.declared.ids.Actor.TheVariants.{Session};
 ghost use Rattle.flat_scene.specs.declared.script.Line.{Line};
 ghost use Rattle.flat_scene.specs.declared.script.ScriptLine.{ScriptLine};
 ghost use Rattle.flat_scene.specs.History.{history_of, closes, is_session};
 ghost use Rattle.flat_scene.specs.Interleave.{IsReading, session_lines};
-ghost use Rattle.flat_rules.specs.Legal.{asked_of};
+ghost use Rattle.flat_rules.specs.Legal.{asked_of, value_of};
 ghost use Rattle.flat_rules.specs.Owned.{is_played_line, is_played_condition};
 ghost use Rattle.flat_playable.specs.Playable.{is_playable};
 ghost use Rattle.flat_stage.specs.Homes.{fresh_view};
@@ -54,12 +54,19 @@ fn makes_entry(text: &Line) -> bool
     }
 }
 
-/// Looks until the value of a condition is enough, or so often as a Wait may look;
-/// the gate is asked before each look, with one budget of the line.
-fn look_again<R: Wait, G: Gate>(lent: &Lent<R, G>, seat: &mut SessionSeat, number: u32, c: Cond)
+/// Looks until the value of a condition is enough, or so often as a Wait may look, and
+/// answers whether it was enough; the gate is asked before each look, with one budget of
+/// the line.
+fn look_again<R: Wait, G: Gate>(
+    lent: &Lent<R, G>,
+    seat: &mut SessionSeat,
+    number: u32,
+    c: Cond,
+) -> bool
     requires own { seat.old.stage ≡ lent.now.stage.now }
     requires owned { is_played_condition (setup_of seat.old.stage) seat.old.session c ≡ true }
-    ensures { IsSame seat.old seat.new }
+    ensures same { IsSame seat.old seat.new }
+    ensures met { IsTrue result → asked_of c ≤ value_of (setup_of seat.old.stage) (history_of seat.new.seen) (Session seat.old.session) c }
 {
     let SessionNo(actor) = seat.session();
     let wanted = asked_of(c);
@@ -67,10 +74,11 @@ fn look_again<R: Wait, G: Gate>(lent: &Lent<R, G>, seat: &mut SessionSeat, numbe
     for _ in 0..LOOKS {
         left = ask(lent.gate, actor, number, left);
         if wanted <= seat.look(lent.rt, lent.stage, c) {
-            return;
+            return true;
         }
         thread::yield_now();
     }
+    false
 }
 
 /// Asks the gate as is due before a line of an open session.
@@ -80,7 +88,9 @@ fn pause<R: Wait, G: Gate>(lent: &Lent<R, G>, seat: &mut SessionSeat, number: u3
     ensures { IsSame seat.old seat.new }
 {
     match text {
-        Line::Wait(c) => look_again(lent, seat, number, *c),
+        Line::Wait(c) => {
+            look_again(lent, seat, number, *c);
+        }
         _ => {
             if makes_entry(text) {
                 ask(lent.gate, seat.session().0, number, ASKS);

@@ -1,12 +1,12 @@
 ghost use Rattle.std.specs.Prelude.{◌<◌, ◌^◌, length};
 
 use crate::texts::{
-    DISPLAY_WAIT, DISPLAY_WAIT_REPORTED, FILL, FILL_REPORTED, LOOKING_END, SHELL_ORDER, SHUT,
-    SHUT_LINE, SHUT_REPORTED, TWO, TWO_REPORTED, WAIT, WAIT_REPORTED,
+    DISPLAY_WAIT, DISPLAY_WAIT_REPORTED, FILL, FILL_REPORTED, LOOKING_END, SHELL_ORDER, TWO,
+    TWO_REPORTED, WAIT, WAIT_REPORTED,
 };
 use flat_display::Display;
 use flat_io::{Failed, MemSink, MemSource};
-use flat_race::{ASKS, Gate};
+use flat_race::Gate;
 use flat_run::flatland;
 use flat_scene::{FrameOut, Reply};
 use flat_worked::{SHELL, SHELL_REPORTED};
@@ -24,7 +24,7 @@ const TURNS: u32 = 100_000_000;
 const ROOM: usize = 4096;
 
 /// Waits until a flag is set, for so many turns at most. Whether it is.
-fn is_set_in_time(flag: &AtomicBool) -> bool {
+pub fn is_set_in_time(flag: &AtomicBool) -> bool {
     for _ in 0..TURNS {
         if flag.load(Ordering::SeqCst) {
             return true;
@@ -35,7 +35,7 @@ fn is_set_in_time(flag: &AtomicBool) -> bool {
 }
 
 /// Races a script, and answers the status with the sink.
-fn race<T: Threads + Wait + Sync, G: Gate>(
+pub fn race<T: Threads + Wait + Sync, G: Gate>(
     rt: &T,
     alloc: Global,
     text: &[u8],
@@ -158,6 +158,7 @@ struct Meanwhile {
     presented_while_it_showed: AtomicBool,
     first_presented: AtomicBool,
     done: AtomicBool,
+    is_asked_late: AtomicBool,
 }
 
 /// A display that shows until a session has presented.
@@ -191,6 +192,13 @@ impl Gate for Holding {
     fn open(&self, _actor: u32, line: u32) -> bool {
         match line {
             13 => self.meanwhile.first_presented.load(Ordering::SeqCst),
+            // A done asks before its frame is shown.
+            14 => {
+                if self.meanwhile.shows.load(Ordering::SeqCst) {
+                    self.meanwhile.is_asked_late.store(true, Ordering::SeqCst);
+                }
+                true
+            }
             15 => self.meanwhile.shows.load(Ordering::SeqCst),
             16 => self.meanwhile.done.load(Ordering::SeqCst),
             _ => true,
@@ -227,6 +235,7 @@ fn present_while_a_display_shows(rt: HostRuntime) -> Result<(), Fail> {
             presented_while_it_showed: AtomicBool::new(false),
             first_presented: AtomicBool::new(false),
             done: AtomicBool::new(false),
+            is_asked_late: AtomicBool::new(false),
         },
     )?;
     let gate = Holding {
@@ -240,6 +249,7 @@ fn present_while_a_display_shows(rt: HostRuntime) -> Result<(), Fail> {
     let (status, sink) = race(&rt, alloc, FILL, &mut displays, &gate)?;
     assert_eq!(rt; status, 0);
     assert!(rt; meanwhile.presented_while_it_showed.load(Ordering::SeqCst));
+    assert!(rt; !meanwhile.is_asked_late.load(Ordering::SeqCst));
     assert_eq!(rt; sink.bytes(), FILL_REPORTED);
     Ok(())
 }
@@ -254,6 +264,7 @@ struct Looking {
     /// The line whose entry shows enough.
     shows: u32,
     asked: AtomicU32,
+    opened: AtomicU32,
     shown: AtomicBool,
     waited: AtomicBool,
 }
@@ -265,6 +276,7 @@ impl Looking {
             held,
             shows,
             asked: AtomicU32::new(0),
+            opened: AtomicU32::new(0),
             shown: AtomicBool::new(false),
             waited: AtomicBool::new(false),
         }
@@ -275,7 +287,9 @@ impl Gate for Looking {
     fn open(&self, _actor: u32, line: u32) -> bool {
         if line == self.waits {
             let before = self.asked.fetch_add(1, Ordering::SeqCst);
-            return before == 0 || self.shown.load(Ordering::SeqCst);
+            let is_open = before == 0 || self.shown.load(Ordering::SeqCst);
+            self.opened.fetch_add(u32::from(is_open), Ordering::SeqCst);
+            return is_open;
         }
         if line == self.held {
             return self.asked.load(Ordering::SeqCst) > 1;
@@ -298,7 +312,9 @@ fn a_wait_looks_again(rt: HostRuntime) -> Result<(), Fail> {
     let alloc = rt.alloc();
     let gate = Looking::new(6, 7, 8);
     let (status, sink) = race(&rt, alloc, WAIT, &mut Vec::new(alloc), &gate)?;
-    assert_eq!(rt; status, 0);
+    // It looked before the entry that shows enough, and once behind it.
+    let looks = gate.opened.load(Ordering::SeqCst);
+    assert_eq!(rt; (status, looks), (0, 2));
     assert_eq!(rt; sink.bytes(), WAIT_REPORTED);
     Ok(())
 }
@@ -308,38 +324,9 @@ fn a_wait_of_the_display_looks_again(rt: HostRuntime) -> Result<(), Fail> {
     let alloc = rt.alloc();
     let gate = Looking::new(7, 8, 8);
     let (status, sink) = race(&rt, alloc, DISPLAY_WAIT, &mut Vec::new(alloc), &gate)?;
-    assert_eq!(rt; status, 0);
+    // It looked before the entry that shows enough, and once behind it.
+    let looks = gate.opened.load(Ordering::SeqCst);
+    assert_eq!(rt; (status, looks), (0, 2));
     assert_eq!(rt; sink.bytes(), DISPLAY_WAIT_REPORTED);
-    Ok(())
-}
-
-/// Never opens for the line that waits, and counts how often it was asked.
-#[derive(Drop)]
-struct Shut {
-    asked: AtomicU32,
-}
-
-impl Gate for Shut {
-    fn open(&self, _actor: u32, line: u32) -> bool {
-        if line == SHUT_LINE {
-            self.asked.fetch_add(1, Ordering::SeqCst);
-            return false;
-        }
-        true
-    }
-
-    fn passed(&self, _actor: u32, _line: u32, _reply: &Reply) {}
-}
-
-#[test]
-fn a_shut_gate_is_asked_so_often_for_a_line(rt: HostRuntime) -> Result<(), Fail> {
-    let alloc = rt.alloc();
-    let gate = Shut {
-        asked: AtomicU32::new(0),
-    };
-    let (status, sink) = race(&rt, alloc, SHUT, &mut Vec::new(alloc), &gate)?;
-    assert_eq!(rt; status, 0);
-    assert_eq!(rt; gate.asked.load(Ordering::SeqCst), ASKS);
-    assert_eq!(rt; sink.bytes(), SHUT_REPORTED);
     Ok(())
 }

@@ -2,6 +2,10 @@
 #![tactic(auto)]
 
 #[cfg(test)]
+mod asks;
+#[cfg(test)]
 mod gates;
+#[cfg(test)]
+mod hearing;
 #[cfg(test)]
 mod texts;

@@ -125,21 +125,51 @@ A end 0
 report ends entries 4 frames 0
 ";
 
-/// A session that waits for a frame that never comes.
-pub const SHUT: &[u8] = b"flatland 1
+/// A session and the display that wait for what never comes.
+pub const NEVER: &[u8] = b"flatland 1
 display 100 100
 session A
 pair t0 display A
 run
 A Wait frames 1
+display Wait presents A 1
 ";
 
-/// The line of it that waits.
-pub const SHUT_LINE: u32 = 6;
+/// A line of each sort that makes an entry, and a misuse that closes.
+pub const SORTS: &[u8] = b"flatland 1
+display 100 100
+session A
+pair t0 display A
+fence f1 display A
+run
+A CreateView t0
+A Present 0
+display Wait presents A 1
+display Signal f1
+A Wait fence f1
+display begin 1
+display done
+display hit 5 5
+A Poll
+A CreateTransform 0
+A Poll
+";
 
-/// The report of it.
-pub const SHUT_REPORTED: &[u8] = b"report flatland 1
-A 6 Wait unmet 0
-A end 0
-report ends entries 2 frames 0
+/// The report of it in written order.
+pub const SORTS_REPORTED: &[u8] = b"report flatland 1
+A 7 CreateView ok
+A 8 Present 1 credits 0
+display 9 Wait met 1
+display 10 Signal ok
+A 11 Wait met 1
+display 12 begin 1 frame 1
+> A credits 5
+display 13 done frame 1
+view A - 0 0 6553600 6553600
+> A framepresented 1
+display 14 hit 5 5 frame 1
+A 15 Poll 2
+A 16 closed BAD_OPERATION B1
+A end 1
+report ends entries 11 frames 1
 ";

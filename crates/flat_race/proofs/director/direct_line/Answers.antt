@@ -134,7 +134,7 @@ wait-reply-requires-clause-room g c =
     let view = c.args.lent.now.stage.now in
     let x : ScriptLine = record { number = c.args.number; actor = Display; body = body.Display c.args.text } in
     let at : At script c.args.place x = at_place script c.args.place x c.requires.playable c.requires.line in
-    let looked = hand_looks script view c.args.place c.args.hand c.look_again.new.hand c.args.film.now (looked_there _ _ _ _ c.requires.of.setup c.look_again.ensures) c.requires.stands in
+    let looked = hand_looks script view c.args.place c.args.hand c.look_again.new.hand c.args.film.now (looked_there _ _ _ _ c.requires.of.setup c.look_again.ensures.looked) c.requires.stands in
     hand_room script view c.args.place x at refl c.requires.of (hand_seat c.look_again.new.hand) looked.seat
 
 pub wait-reply-requires-clause-acts : goal.wait-reply-requires-clause-acts
@@ -153,7 +153,7 @@ wait-reply-requires-clause-named g c =
     let x : ScriptLine = record { number = c.args.number; actor = Display; body = body.Display c.args.text } in
     let at : At script c.args.place x = at_place script c.args.place x c.requires.playable c.requires.line in
     let D : DisplayLine → Type 0 = λ t. is_played_display script.setup t ≡ true in
-    let looked = hand_looks script view c.args.place c.args.hand c.look_again.new.hand c.args.film.now (looked_there _ _ _ _ c.requires.of.setup c.look_again.ensures) c.requires.stands in
+    let looked = hand_looks script view c.args.place c.args.hand c.look_again.new.hand c.args.film.now (looked_there _ _ _ _ c.requires.of.setup c.look_again.ensures.looked) c.requires.stands in
     let N : Setup → Type 0 = λ s. names_declared s (Wait c.in-Wait.c) ≡ true in
     subst N (sym (ap setup_of looked.seat.own ∙ c.requires.of.setup)) (wait_fits script.setup c.in-Wait.c (subst D c.in-Wait.is at.played)).1
 
@@ -201,7 +201,7 @@ returns-in-Wait-clause-stands g c =
     let x : ScriptLine = record { number = c.args.number; actor = Display; body = body.Display c.args.text } in
     let at : At script c.args.place x = at_place script c.args.place x c.requires.playable c.requires.line in
     let is : x.body ≡ body.Display (display.Wait c.in-Wait.c) = ap (λ t. body.Display t) c.in-Wait.is in
-    let looked = hand_looks script view c.args.place c.args.hand c.look_again.new.hand c.args.film.now (looked_there _ _ _ _ c.requires.of.setup c.look_again.ensures) c.requires.stands in
+    let looked = hand_looks script view c.args.place c.args.hand c.look_again.new.hand c.args.film.now (looked_there _ _ _ _ c.requires.of.setup c.look_again.ensures.looked) c.requires.stands in
     hand_waits script view c.args.place x at refl c.requires.of c.in-Wait.c c.wait-reply.result is c.look_again.new.hand c.wait-reply.new.self c.args.film.now looked c.wait-reply.ensures.enters c.wait-reply.ensures.open c.wait-reply.ensures.kept
 
 pub returns-in_ok-hit-in-Hit-clause-stands : goal.returns-in_ok-hit-in-Hit-clause-stands
@@ -252,7 +252,7 @@ returns-in-Wait-clause-shown g c =
     let view = c.args.lent.now.stage.now in
     let x : ScriptLine = record { number = c.args.number; actor = Display; body = body.Display c.args.text } in
     let at : At script c.args.place x = at_place script c.args.place x c.requires.playable c.requires.line in
-    let there = looked_there _ _ _ _ c.requires.of.setup c.look_again.ensures in
+    let there = looked_there _ _ _ _ c.requires.of.setup c.look_again.ensures.looked in
     let looked = hand_looks script view c.args.place c.args.hand c.look_again.new.hand c.args.film.now there c.requires.stands in
     IsShown.shows_none (finished_still script view c.args.place x at refl c.requires.of (Wait c.in-Wait.c) c.wait-reply.result (hand_seat c.look_again.new.hand) (hand_seat c.wait-reply.new.self) refl looked.seat c.wait-reply.ensures.enters
     ∙ looked_finishes script view c.args.place c.args.hand c.look_again.new.hand c.args.film.now there c.requires.stands) refl refl
