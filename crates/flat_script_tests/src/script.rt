@@ -483,23 +483,21 @@ fn a_script(rt: HostRuntime) -> Result<(), Fail> {
     let Script { setup, lines, .. } = &script;
     let counts = [script.count, setup.width, setup.height, setup.sessions];
     assert_eq!(rt; counts, [10, 100, 90, 1]);
-    let lengths = [
-        script.sessions.len(),
-        script.pairs.len(),
-        setup.pairs.len(),
-        lines.len(),
-    ];
-    assert_eq!(rt; lengths, [1, 1, 1, 3]);
+    let lengths = [script.sessions.len(), script.pairs.len(), setup.pairs.len()];
+    assert_eq!(rt; lengths, [1, 1, 1]);
+    let [first, _, last] = lines.as_slice() else {
+        return Err("another number of lines".into());
+    };
     let translates = matches!(
-        lines.at(0).body,
+        first.body,
         Body::Session(Line::Call(Call::SetTranslation {
             t: TransformId(7),
             x: -5,
             y: 40
         }))
     );
-    let ends = matches!(lines.at(2).body, Body::Display(DisplayLine::Done));
-    assert!(rt; lines.at(0).number == 8 && translates && ends);
+    let ends = matches!(last.body, Body::Display(DisplayLine::Done));
+    assert!(rt; first.number == 8 && translates && ends);
     Ok(())
 }
 
