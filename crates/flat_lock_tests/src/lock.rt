@@ -155,7 +155,10 @@ fn a_seat_is_taken_once(rt: HostRuntime) -> Result<(), Fail> {
     };
     let others = [seats.take(2), seats.take(3), seats.take(u32::MAX)];
     assert!(rt; all && !seats.all_home());
-    assert!(rt; others.iter().all(|seat| seat.is_none()), "a seat twice, or no such seat");
+    assert!(rt;
+        others.iter().all(|seat| seat.is_none()),
+        "a seat twice, or no such seat"
+    );
     assert_eq!(rt; [first.actor(), second.actor()], [0, 2]);
     Ok(())
 }
