@@ -28,30 +28,31 @@ fn play(
     Ok(answer)
 }
 
+/// Session 3 has the focus and goes, and then session 2.
+fn play_three(
+    alloc: Global,
+    focus: &mut Focus,
+    told: &mut Vec<u32>,
+) -> Result<[FocusAnswer; 3], NoMemory>
+    requires { focus.old.sessions ≡ 3 }
+{
+    let handed = play(alloc, focus, &[(1, 0), (2, 1), (3, 2)], 1, 3, told)?;
+    let taken = play(alloc, focus, &[(1, 0), (2, 1)], 2, 1, told)?;
+    let nobody = play(alloc, focus, &[], 1, 1, told)?;
+    Ok([handed, taken, nobody])
+}
+
 #[test]
 fn a_lost_focus_goes_to_the_last_that_is_left(rt: HostRuntime) -> Result<(), Fail> {
-    let alloc = rt.alloc();
-    let mut focus = Focus::new(alloc, 3)?;
-    let mut told = Vec::new(alloc);
-    let handed = play(
-        alloc,
-        &mut focus,
-        &[(1, 0), (2, 1), (3, 2)],
-        1,
-        3,
-        &mut told,
-    )?;
-    let taken = play(alloc, &mut focus, &[(1, 0), (2, 1)], 2, 1, &mut told)?;
-    let nobody = play(alloc, &mut focus, &[], 1, 1, &mut told)?;
-    assert!(rt;
-        [handed, taken, nobody]
-            == [
-                FocusAnswer::Granted,
-                FocusAnswer::Denied,
-                FocusAnswer::Denied
-            ]
-    );
-    assert!(rt; told.as_slice() == [1, 2, 3, 0, 1, 2, 0, 0].as_slice());
+    let mut focus = Focus::new(rt.alloc(), 3)?;
+    let mut told = Vec::new(rt.alloc());
+    let answers = play_three(rt.alloc(), &mut focus, &mut told)?;
+    let expected = [
+        FocusAnswer::Granted,
+        FocusAnswer::Denied,
+        FocusAnswer::Denied,
+    ];
+    assert!(rt; answers == expected && told.as_slice() == [1, 2, 3, 0, 1, 2, 0, 0].as_slice());
     Ok(())
 }
 
@@ -69,9 +70,9 @@ fn a_request_before_any_frame_is_denied(rt: HostRuntime) -> Result<(), Fail> {
     Ok(())
 }
 
-#[test]
-fn text_of_frames_and_lines(rt: HostRuntime) -> Result<(), Fail> {
-    let alloc = rt.alloc();
+/// The focus text of two frames and a line between them.
+fn text_of_two(alloc: Global) -> Result<Vec<u8>, NoMemory> {
+    let names = two_names(alloc)?;
     let frames = [
         frame(alloc, 1, &[(1, 0), (2, 1)])?,
         frame(alloc, 2, &[(1, 0)])?,
@@ -81,7 +82,12 @@ fn text_of_frames_and_lines(rt: HostRuntime) -> Result<(), Fail> {
         by: SessionNo(1),
         of: SessionNo(2),
     };
-    let text = print_focus(alloc, 2, &two_names(alloc)?, &[7, 9], &frames, &[line])?;
+    print_focus(alloc, 2, &names, &[7, 9], &frames, &[line])
+}
+
+#[test]
+fn text_of_frames_and_lines(rt: HostRuntime) -> Result<(), Fail> {
+    let text = text_of_two(rt.alloc())?;
     let expected = b"frame 1 chain A
 focus 8 A B granted chain A B
 frame 2 chain A
