@@ -306,7 +306,7 @@ fn run<R: Threads + Wait + Sync>(rt: &R, alloc: Global, cast: Cast) -> Result<Bo
 fn counts(board: &Board) -> [Option<u32>; 4] {
     let entries = board.journal().entries.as_slice();
     [
-        Some(entries.len() as u32),
+        u32::try_from(entries.len()).ok(),
         frames_of(entries),
         polls_of(entries, Actor::Session(SessionNo(1))),
         polls_of(entries, Actor::Session(SessionNo(2))),
