@@ -1,12 +1,17 @@
 use crate::gates::race;
 use crate::texts::{FILL, NEVER, SORTS};
-use flat_race::{ASKS, Gate, LOOKS};
+use flat_race::Gate;
 use flat_scene::Reply;
 use std::alloc::Global;
 use std::sync::Wait;
 use std::sync::atomic::{AtomicU32, Ordering};
 use std::test::Fail;
 use std::thread::Threads;
+
+/// How often a gate is asked for one line at most, and how often a Wait looks, by the rules.
+const ASKS: u32 = 1_000_000;
+
+const LOOKS: u32 = 100_000;
 
 /// Is shut for one line until it was asked so often, and counts its asks for the line.
 #[derive(Drop)]

@@ -1,5 +1,5 @@
 use crate::gates::{is_set_in_time, race};
-use crate::texts::{FILL, SORTS, SORTS_REPORTED};
+use crate::texts::{FILL, FILL_REPORTED, SORTS, SORTS_REPORTED};
 use flat_base::{FlatlandError, Reason};
 use flat_race::Gate;
 use flat_scene::Reply;
@@ -119,7 +119,8 @@ fn a_begin_is_made_before_the_gate_hears_of_it(rt: HostRuntime) -> Result<(), Fa
         done: AtomicBool::new(false),
         is_missed: AtomicBool::new(false),
     };
-    let (status, _) = race(&rt, rt.alloc(), FILL, &mut Vec::new(rt.alloc()), &gate)?;
+    let (status, sink) = race(&rt, rt.alloc(), FILL, &mut Vec::new(rt.alloc()), &gate)?;
     assert_eq!(rt; (status, gate.is_missed.load(Ordering::SeqCst)), (0, false));
+    assert_eq!(rt; sink.bytes(), FILL_REPORTED);
     Ok(())
 }
