@@ -1,6 +1,6 @@
 ghost use Rattle.flat_io.specs.Counts.{count_end};
 
-use crate::call::{NONE, play};
+use crate::call::{Called, NONE, play};
 use flat_base::NoMemory;
 use flat_display::{Display, MemDisplay};
 use flat_io::Failed;
@@ -9,7 +9,9 @@ use flat_worked::{SIX_FRAMES, SIX_REPORTED};
 use std::alloc::Global;
 use std::cell::RefCell;
 use std::rc::Rc;
+use std::sync::Wait;
 use std::test::Fail;
+use std::thread::Threads;
 
 /// How many frames are shown.
 const FRAMES: u32 = 6;
@@ -67,29 +69,40 @@ fn frames_before(fault: u32) -> usize {
     }
 }
 
+/// A display that fails at one of its shows (0: at none), which a test can look at.
+fn failing(alloc: Global, show: u32) -> Result<Rc<RefCell<MemDisplay>>, Fail> {
+    let display = MemDisplay::new(alloc, vec![in alloc; show]?);
+    Ok(Rc::new(alloc, RefCell::new(display))?)
+}
+
+/// Plays the six frames on two displays.
+fn play_on<T: Threads + Wait + Sync>(
+    rt: &T,
+    alloc: Global,
+    one: &Rc<RefCell<MemDisplay>>,
+    other: &Rc<RefCell<MemDisplay>>,
+) -> Result<Called, Fail> {
+    let mut displays: Vec<Box<dyn Display>> = Vec::new(alloc);
+    displays.push(Box::new(alloc, Shared(one.clone()?))?)?;
+    displays.push(Box::new(alloc, Shared(other.clone()?))?)?;
+    play(rt, alloc, SIX_FRAMES, NONE, &mut displays)
+}
+
 #[test]
 fn each_display_fails_at_each_show(rt: HostRuntime) -> Result<(), Fail> {
     let alloc = rt.alloc();
     for first in 0..=FRAMES {
         for second in 0..=FRAMES {
-            let one = Rc::new(
-                alloc,
-                RefCell::new(MemDisplay::new(alloc, vec![in alloc; first]?)),
-            )?;
-            let other = Rc::new(
-                alloc,
-                RefCell::new(MemDisplay::new(alloc, vec![in alloc; second]?)),
-            )?;
-            let mut displays: Vec<Box<dyn Display>> = Vec::new(alloc);
-            displays.push(Box::new(alloc, Shared(one.clone()?))?)?;
-            displays.push(Box::new(alloc, Shared(other.clone()?))?)?;
-            let called = play(&rt, alloc, SIX_FRAMES, NONE, &mut displays)?;
-            assert_eq!(rt; called.status, 0);
+            let (one, other) = (failing(alloc, first)?, failing(alloc, second)?);
+            let called = play_on(&rt, alloc, &one, &other)?;
             let wanted = report_with(alloc, first, second)?;
+            let had = [
+                one.try_borrow()?.frames().len(),
+                other.try_borrow()?.frames().len(),
+            ];
+            assert_eq!(rt; called.status, 0);
             assert_eq!(rt; called.sink.bytes(), wanted.as_slice());
-            assert_eq!(rt; displays.len(), 2);
-            assert_eq!(rt; one.try_borrow()?.frames().len(), frames_before(first));
-            assert_eq!(rt; other.try_borrow()?.frames().len(), frames_before(second));
+            assert_eq!(rt; had, [frames_before(first), frames_before(second)]);
         }
     }
     Ok(())
