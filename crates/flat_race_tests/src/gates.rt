@@ -307,26 +307,30 @@ impl Gate for Looking {
     }
 }
 
+/// Whether a script is reported so, and its Wait looked before the entry that shows enough
+/// and once behind it.
+fn looks_twice<T: Threads + Wait + Sync>(
+    rt: &T,
+    alloc: Global,
+    gate: &Looking,
+    text: &[u8],
+    reported: &[u8],
+) -> Result<bool, Fail> {
+    let (status, sink) = race(rt, alloc, text, &mut Vec::new(alloc), gate)?;
+    let looks = gate.opened.load(Ordering::SeqCst);
+    Ok(status == 0 && looks == 2 && sink.bytes() == reported)
+}
+
 #[test]
 fn a_wait_looks_again(rt: HostRuntime) -> Result<(), Fail> {
-    let alloc = rt.alloc();
     let gate = Looking::new(6, 7, 8);
-    let (status, sink) = race(&rt, alloc, WAIT, &mut Vec::new(alloc), &gate)?;
-    // It looked before the entry that shows enough, and once behind it.
-    let looks = gate.opened.load(Ordering::SeqCst);
-    assert_eq!(rt; (status, looks), (0, 2));
-    assert_eq!(rt; sink.bytes(), WAIT_REPORTED);
+    assert!(rt; looks_twice(&rt, rt.alloc(), &gate, WAIT, WAIT_REPORTED)?);
     Ok(())
 }
 
 #[test]
 fn a_wait_of_the_display_looks_again(rt: HostRuntime) -> Result<(), Fail> {
-    let alloc = rt.alloc();
     let gate = Looking::new(7, 8, 8);
-    let (status, sink) = race(&rt, alloc, DISPLAY_WAIT, &mut Vec::new(alloc), &gate)?;
-    // It looked before the entry that shows enough, and once behind it.
-    let looks = gate.opened.load(Ordering::SeqCst);
-    assert_eq!(rt; (status, looks), (0, 2));
-    assert_eq!(rt; sink.bytes(), DISPLAY_WAIT_REPORTED);
+    assert!(rt; looks_twice(&rt, rt.alloc(), &gate, DISPLAY_WAIT, DISPLAY_WAIT_REPORTED)?);
     Ok(())
 }
