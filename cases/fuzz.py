@@ -4,7 +4,7 @@
 fuzz.py PROGRAM [--count N] [--seed S] [--jobs J] [--keep FOLDER]
 
 Scripts are made at random: sessions that link, present, get, poll, wait and leave, some of
-them with misuses, and frames beside them. Every third is spoilt, in a line or a byte. No
+them with misuses, frames beside them, and probes that ask. Every third is spoilt, in a line or a byte. No
 second service is asked; it is checked that
 
   status 0 comes with a report and status 3 with the line of a fault, and nothing else comes;
@@ -12,7 +12,8 @@ second service is asked; it is checked that
     line behind its session's close; the counts at its end and in each End are right; a
     closed session hears nothing; credits add up, and what a frame took is what its begin
     gave back; a Poll counts the events before it; a view stands below one that was told, no
-    view is apart, and items and hits are those of sessions in view;
+    view is apart, and items and hits are those of sessions in view; a probe's line stands
+    behind all entries and was answered by the frame finished last before it;
   a script played twice gives the same bytes;
   a script written otherwise (lines skipped, the head in another order, insets of nothing
     said) gives the same report but for the numbers of lines;
@@ -126,6 +127,8 @@ class Maker:
                 owner.fences.append("f%d" % i)
             if shared:
                 self.display_fences.append("f%d" % i)
+        self.probes = rng.sample(["eye", "Q", "await"], rng.choice([0, 0, 1, 2, 3]))
+        tail += ["probe " + name for name in self.probes]
         rng.shuffle(tail)
         return ["flatland 1"] + lines + tail + ["run"]
 
@@ -244,7 +247,15 @@ class Maker:
         self.time += rng.choice([0, 1, 16])
         return "begin %d" % self.time
 
+    def probe_call(self):
+        rng = self.rng
+        if self.chance(0.3):
+            return "await %d" % rng.choice([0, 1, self.frames, 3])
+        return "hit %d %d" % (rng.choice([0, 3, -1, 50]), rng.choice([0, 3, 99]))
+
     def line(self):
+        if self.probes and self.chance(0.08):
+            return self.rng.choice(self.probes) + " " + self.probe_call()
         if self.chance(0.22):
             return "display " + self.display_call()
         c = self.rng.choice(self.clients)
@@ -447,10 +458,14 @@ def check_report(lines, report):
     size = [int(w) for w in next(l for l in lines if l.startswith("display ")).split(" ")[1:]]
     sessions = [line.split(" ")[1] for line in lines[:run] if line.startswith("session ")]
     told = {name: Told() for name in sessions}
+    asked = {line.split(" ")[1]: [] for line in lines[:run] if line.startswith("probe ")}
     made = iter(entries)
     frames, views, is_open = 0, [], False
     for number, text in enumerate(lines[run + 1:], run + 2):
         line = text.split(" ")
+        if line[0] in asked:
+            asked[line[0]].append((number, line, frames, views))
+            continue
         who = told.get(line[0])
         if who and who.closed:
             who.ignored += 1
@@ -480,8 +495,22 @@ def check_report(lines, report):
         entry = step(made)
         ensure(entry.words == [name, "end", str(told[name].ignored)], "an End", entry.words)
         ensure(not entry.parts and not entry.events, "an End with events", entry.words)
+    for name, questions in asked.items():
+        for question in questions:
+            check_answer(name, question, step(made))
     ensure(next(made, None) is None, "an entry too many")
-    ensure((count, finished) == (len(entries), frames), "the counts at the end")
+    ensure((count, finished) == (len(entries) - sum(map(len, asked.values())), frames), "the counts at the end")
+
+
+def check_answer(name, question, answer):
+    """The line of a probe in a report."""
+    number, line, frame, views = question
+    said = line[1:] if line[1] == "hit" else ["await"]
+    begins = [name, str(number)] + said + ["frame", str(frame)]
+    ensure(answer.words[:len(begins)] == begins, "a probe's answer", answer.words, begins)
+    ensure(not answer.parts and not answer.events, "a probe's line with events", answer.words)
+    hit = answer.words[len(begins)::2]
+    ensure(len(set(hit)) == len(hit) and set(hit) <= set(views), "a probe's hits of others", answer.words)
 
 
 def step(made):

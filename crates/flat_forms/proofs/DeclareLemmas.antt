@@ -9,22 +9,22 @@ use Rattle.flat_scene.specs.declared.setup.BufferDecl.{BufferDecl}
 use Rattle.flat_scene.specs.declared.setup.FenceDecl.{FenceDecl}
 use Rattle.flat_places.specs.declared.script.Script.{Script}
 use Rattle.flat_places.specs.declared.names.Meaning.{Meaning}
-use Rattle.flat_places.specs.declared.names.Meaning.TheVariants.{Session, Buffers, Pair, Fence}
+use Rattle.flat_places.specs.declared.names.Meaning.TheVariants.{Session, Probe, Buffers, Pair, Fence}
 use Rattle.flat_places.specs.Forms.{Word, whole, unless_kind, ◌<$>◌, ◌<*>◌}
 use Rattle.flat_places.specs.Names.{place_of}
 use Rattle.flat_places.specs.Places.{session, number_from, new_name, pair_owner, owners}
-use Rattle.flat_forms.specs.Head.{empty, side, buffers, pair, fence, with_session, with_buffers, with_pair, with_fence}
+use Rattle.flat_forms.specs.Head.{empty, side, buffers, pair, fence, with_session, with_probe, with_buffers, with_pair, with_fence}
 use Rattle.flat_places.specs.Index.{Means, session_place, probe_place, buffers_place, pair_place, fence_place}
 use Rattle.flat_forms.proofs.lemmas.FormLemmas.{apply_ok, map_ok, whole_ok, unless_ok}
-use Rattle.flat_forms.proofs.lemmas.IndexLemmas.{IsFresh, new_name_ok, finds_sessions, finds_buffers, finds_pairs, finds_fences}
+use Rattle.flat_forms.proofs.lemmas.IndexLemmas.{IsFresh, new_name_ok, finds_sessions, finds_probes, finds_buffers, finds_pairs, finds_fences}
 
 -- there was room, and the name may be declared
 pub record Declares (s : Script) (room : Bool) (name : Word) : Type 0 where
   pub allowed : room ≡ true
   pub fresh : IsFresh s name
 
-pub session_declares : (s : Script) (words : List Word) (room : Bool) (v : Word) → Ok v ≡ unless_kind 11 room (whole (new_name s) words) → Declares s room v
-session_declares s words room v is =
+pub name_declares : (s : Script) (words : List Word) (room : Bool) (v : Word) → Ok v ≡ unless_kind 11 room (whole (new_name s) words) → Declares s room v
+name_declares s words room v is =
     let tested = unless_ok 11 room (whole (new_name s) words) v (sym is) in
     record { allowed = tested.passed; fresh = new_name_ok s words v [] (whole_ok (new_name s) words v tested.given) }
 
@@ -90,6 +90,12 @@ pub sessions_found : (s t : Script) (name made w : Word) (n : ℕ) (o o' : Optio
 sessions_found s t name made w n o o' is same same_probes same_buffers same_pairs same_fences count fresh meaning m =
     means_at (with_session s name) t o' w (more s.sessions t.sessions name made is same) same_probes same_buffers same_pairs same_fences
     (finds_sessions s name w o o' fresh (numbered (λ k. Session k) (bytes_eq w name) n (length s.sessions) o o' count meaning) m)
+
+pub probes_found : (s t : Script) (name made w : Word) (n : ℕ) (o o' : Option Meaning) → t.probes ≡ s.probes ++ made ∷ [] → made ≡ name → t.sessions ≡ s.sessions → t.buffers ≡ s.buffers → t.pairs ≡ s.pairs → t.fences ≡ s.fences → n ≡ length s.probes → IsFresh s name
+    → o' ≡ cond (bytes_eq w name) (Some (Probe n)) o → Means o s w → Means o' t w
+probes_found s t name made w n o o' is same same_sessions same_buffers same_pairs same_fences count fresh meaning m =
+    means_at (with_probe s name) t o' w same_sessions (more s.probes t.probes name made is same) same_buffers same_pairs same_fences
+    (finds_probes s name w o o' fresh (numbered (λ k. Probe k) (bytes_eq w name) n (length s.probes) o o' count meaning) m)
 
 pub buffers_found : (s t : Script) (name made w : Word) (d : BufferDecl) (n : ℕ) (o o' : Option Meaning) → t.buffers ≡ s.buffers ++ made ∷ [] → made ≡ name → t.sessions ≡ s.sessions → t.probes ≡ s.probes → t.pairs ≡ s.pairs → t.fences ≡ s.fences → n ≡ length s.buffers → IsFresh s name
     → o' ≡ cond (bytes_eq w name) (Some (Buffers n)) o → Means o s w → Means o' t w

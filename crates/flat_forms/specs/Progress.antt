@@ -12,6 +12,7 @@ use Rattle.flat_places.specs.Slots.{slot, IsCounted}
 pub record Kept (p : Parser) : Type 0 where
   pub indexed : IsIndexed p.text
   pub sessions : p.text.script.setup.sessions ≡ length p.text.script.sessions
+  pub probes : p.text.script.setup.probes ≡ length p.text.script.probes
   pub paired : p.paired ≡ has_display_pair p.text.script
   pub begins : p.begins ≡ length (begin_times p.text.script)
   pub dones : p.dones ≡ dones p.text.script

@@ -79,8 +79,8 @@ pub fn display_condition(script: &Indexed, words: Option<&[u8]>) -> Result<Cond,
     Err(6)
 }
 
-/// The number that a condition asks for.
-fn count(words: Option<&[u8]>) -> Result<u32, u32>
+/// The number that a condition or a probe's `await` asks for.
+pub fn count(words: Option<&[u8]>) -> Result<u32, u32>
     ensures { result ≡ whole u32 (pieces_left is_space words.entry) }
 {
     let mut places = Places::new(words);

@@ -14,7 +14,7 @@ ghost use Rattle.flat_scene.specs.declared.script.DisplayLine.TheVariants.{Done}
 ghost use Rattle.flat_scene.specs.declared.script.DisplayLine.TheVariants as display;
 ghost use Rattle.flat_scene.specs.declared.script.ProbeLine.TheVariants as probe;
 
-use crate::conditions::display_condition;
+use crate::conditions::{count, display_condition};
 use crate::lines::LineError;
 use flat_base::{Actor, FenceNo, SessionNo};
 use flat_places::{Indexed, Places, is_word};
@@ -48,12 +48,8 @@ pub fn size(fresh: bool, words: Option<&[u8]>) -> Result<(u32, u32), u32>
     places.finish((w, h))
 }
 
-/// A session's name, where `room` says whether there may be one more.
-pub fn new_session<'a>(
-    script: &Indexed,
-    room: bool,
-    words: Option<&'a [u8]>,
-) -> Result<&'a [u8], u32>
+/// The name of a session or a probe, where `room` says whether there may be one more.
+pub fn lone_name<'a>(script: &Indexed, room: bool, words: Option<&'a [u8]>) -> Result<&'a [u8], u32>
     requires { IsIndexed script.now }
     ensures { mapped (λ w. w.now) result ≡ unless_kind 11 room (whole (new_name script.now.script) (pieces_left is_space words.entry)) }
 {
@@ -257,6 +253,12 @@ pub fn probe_line(words: Option<&[u8]>) -> Result<ProbeLine, u32>
     let (word, rest) = next_piece(words, b' ');
     if is_word(word, "hit") {
         return probe_hit(rest);
+    }
+    if is_word(word, "await") {
+        return match count(rest) {
+            Ok(n) => Ok(ProbeLine::Await(n)),
+            Err(k) => Err(k),
+        };
     }
     Err(6)
 }

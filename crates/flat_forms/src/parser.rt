@@ -4,7 +4,7 @@ ghost use Rattle.flat_forms.specs.declared.lines.LineError.TheVariants.{Memory};
 ghost use Rattle.flat_forms.specs.declared.lines.Part.TheVariants.{Start};
 ghost use Rattle.flat_places.specs.Known.{known_words};
 ghost use Rattle.flat_places.specs.Forms.{Reading, mapped};
-ghost use Rattle.flat_forms.specs.Head.{has_display, display_line, session_line, buffers_line, pair_line, fence_line, head_line, is_ready, empty};
+ghost use Rattle.flat_forms.specs.Head.{has_display, display_line, session_line, probe_line, buffers_line, pair_line, fence_line, head_line, is_ready, empty};
 ghost use Rattle.flat_forms.specs.Body.{with_line, counted_line, body_line, actor_line, lines_of_actor};
 ghost use Rattle.flat_forms.specs.Lines.{words_read};
 ghost use Rattle.flat_places.specs.Slots.{IsCounted};
@@ -15,7 +15,8 @@ use crate::counts::{ends_frame, last_after, limited, one_if, or_display, slot, t
 use crate::lines::{LineError, Part};
 use crate::{forms, session_forms};
 use flat_base::{
-    Actor, BUFFER_COLLECTIONS_MAX, FENCES_MAX, Items, LINES_PER_ACTOR_MAX, PAIRS_MAX, SESSIONS_MAX,
+    Actor, BUFFER_COLLECTIONS_MAX, FENCES_MAX, Items, LINES_PER_ACTOR_MAX, PAIRS_MAX, PROBES_MAX,
+    SESSIONS_MAX,
 };
 use flat_places::{Indexed, Meaning, Name, Names, Script, is_word};
 use flat_scene::{Body, ScriptLine, Setup};
@@ -87,12 +88,28 @@ impl Parser {
         ensures same { SameFrames self.old self.new }
     {
         let number = self.text.script.sessions.len() as u32;
-        let name = forms::new_session(&self.text, number < SESSIONS_MAX, words)?;
+        let name = forms::lone_name(&self.text, number < SESSIONS_MAX, words)?;
         self.text.script.setup.sessions += 1;
         self.text.script.sessions.push(Name::new(name))?;
         self.text
             .names
             .declare(alloc, name, Meaning::Session(number))?;
+        Ok(())
+    }
+
+    fn probe(&mut self, alloc: Global, words: Option<&[u8]>) -> Result<(), LineError>
+        requires { Kept self.old }
+        ensures steps { Steps result (probe_line self.old.text.script (pieces_left is_space words.entry)) self.new.text.script }
+        ensures kept { OnOk result (Kept self.new) }
+        ensures same { SameFrames self.old self.new }
+    {
+        let number = self.text.script.probes.len() as u32;
+        let name = forms::lone_name(&self.text, number < PROBES_MAX, words)?;
+        self.text.script.setup.probes += 1;
+        self.text.script.probes.push(Name::new(name))?;
+        self.text
+            .names
+            .declare(alloc, name, Meaning::Probe(number))?;
         Ok(())
     }
 
@@ -155,6 +172,9 @@ impl Parser {
         }
         if is_word(word, "session") {
             return self.session(alloc, rest);
+        }
+        if is_word(word, "probe") {
+            return self.probe(alloc, rest);
         }
         if is_word(word, "buffers") {
             return self.buffers(alloc, rest);

@@ -1,14 +1,16 @@
--- The words that a script may use so far. The grammar is that of the whole version; a word that isn't here yet is as if
--- the grammar didn't have it.
+-- The words that a script may use: all those of the version. The grammar takes them as an argument, and a word that isn't
+-- among them is as if the grammar didn't have it.
 use Rattle.std.specs.Prelude.{ℕ, Bool, List, [], ◌∷◌, codes}
 use Rattle.std.specs.List.{list_any}
 use Rattle.std.specs.Str.{bytes_eq}
 
--- the words of head lines, of calls, of the lines of sessions and of the display, and of conditions; a fence is a head line and a condition
+-- the words of head lines, of calls, of the lines of sessions, of the display and of probes, and of conditions; a fence is
+-- a head line and a condition, and `hit` a line of the display and of a probe
 abbrev pub known_words : List (List ℕ)
 known_words =
     codes "display" ∷
     codes "session" ∷
+    codes "probe" ∷
     codes "buffers" ∷
     codes "pair" ∷
     codes "fence" ∷
@@ -58,7 +60,8 @@ known_words =
     codes "Disconnect" ∷
     codes "begin" ∷
     codes "done" ∷
-    codes "hit" ∷ []
+    codes "hit" ∷
+    codes "await" ∷ []
 
 -- the word is one of them
 abbrev pub knows : List (List ℕ) → List ℕ → Bool

@@ -4,7 +4,9 @@ pub mod Ending
 pub mod Examples
 pub mod Growing
 pub mod InOrder
+pub mod InTurn
 pub mod Losses
+pub mod Probed
 pub mod Shares
 pub mod lemmas
 pub mod Touching

@@ -29,7 +29,7 @@ use Rattle.flat_scene.specs.declared.calls.Call.{Call}
 use Rattle.flat_scene.specs.declared.journal.Reply.{Reply}
 use Rattle.flat_scene.specs.declared.script.ScriptLine.{ScriptLine}
 use Rattle.flat_core.specs.Machines.{Machine, entered, entry_of}
-use Rattle.flat_play.proofs.lemmas.Seen.{frames_more}
+use Rattle.flat_play.proofs.lemmas.Seen.{frames_more, last-begin}
 use Rattle.flat_play.proofs.Growing.{Grows}
 use Rattle.flat_play.proofs.Growing as grow
 use Rattle.flat_pointer.specs.Lines.{rise_after}
@@ -67,7 +67,7 @@ few-before n (before ▹ entry) = by (is_finish entry.kind) refl (nat_lt entry.l
     by false is early less few = rw is (omega (arith, few))
 
 -- behind all entries, all frames are finished
-all-before : (last n : ℕ) → last < n → (history : List Entry) → list_all (λ entry. nat_le entry.line last) history ≡ true → frames_before n history ≡ frames history
+pub all-before : (last n : ℕ) → last < n → (history : List Entry) → list_all (λ entry. nat_le entry.line last) history ≡ true → frames_before n history ≡ frames history
 all-before last n less [] early = refl
 all-before last n less (before ▹ entry) early =
     let line : nat_le entry.line last ≡ true = and-left (nat_le entry.line last) _ early in
@@ -78,24 +78,6 @@ all-before last n less (before ▹ entry) early =
     by : (b : Bool) → is_finish entry.kind ≡ b → nat_lt entry.line n ≡ true → frames_before n before ≡ frames before → frames_before n (before ▹ entry) ≡ frames (before ▹ entry)
     by true finish less_is same = rw (finish, less_is) (omega (arith, same))
     by false finish less_is same = rw finish (omega (arith, same))
-
--- the begin of the last of all finished frames
-last-begin : (history : List Entry) → begin_of (frames history) history ≡ to_finished history
-last-begin [] = refl
-last-begin (before ▹ entry) = by (is_finish entry.kind) refl (last-begin before)
-  where
-    by : (b : Bool) → is_finish entry.kind ≡ b → begin_of (frames before) before ≡ to_finished before → begin_of (frames (before ▹ entry)) (before ▹ entry) ≡ to_finished (before ▹ entry)
-    by true is rest =
-        let many : frames (before ▹ entry) ≡ suc (frames before) = (let more = frames_more before entry true is in omega (arith, more)) in
-        let same : (suc (frames before) == suc (frames before)) ≡ true = grind (arith, nat_tests) in
-        let here : begin_of (suc (frames before)) (before ▹ entry) ≡ to_begin before = rw (is, same) refl in
-        let last : to_finished (before ▹ entry) ≡ to_begin before = rw is refl in
-        ap (λ n. begin_of n (before ▹ entry)) many ∙ here ∙ sym last
-    by false is rest =
-        let many : frames (before ▹ entry) ≡ frames before = (let more = frames_more before entry false is in omega (arith, more)) in
-        let here : begin_of (frames before) (before ▹ entry) ≡ begin_of (frames before) before = rw is refl in
-        let last : to_finished (before ▹ entry) ≡ to_finished before = rw is refl in
-        ap (λ n. begin_of n (before ▹ entry)) many ∙ here ∙ rest ∙ sym last
 
 -- an earlier frame has the begin that it had
 same-begin : (n : ℕ) (before : List Entry) (entry : Entry) → n ≤ frames before → begin_of n (before ▹ entry) ≡ begin_of n before
@@ -142,7 +124,7 @@ module _ (setup : Setup) where
       by true late = late
       by false late = refl
 
-  no-finish : (kind : Kind) → is_end kind ≡ true → is_finish kind ≡ false
+  pub no-finish : (kind : Kind) → is_end kind ≡ true → is_finish kind ≡ false
   no-finish Finish end = absurd (let f : false ≡ true = end in cc)
   no-finish _ end = refl
 

@@ -1,5 +1,7 @@
 -- The last finished frame, as it is kept.
 use Rattle.std.specs.Prelude.{◌≡◌, Option, Some, None, length}
+use Rattle.std.specs.Arc.{arc_value}
+use Rattle.std.specs.declared.sync.Arc.{Arc}
 use Rattle.flat_scene.specs.declared.setup.Setup.{Setup}
 use Rattle.flat_topology.specs.declared.Joined.{Joined}
 use Rattle.flat_topology.specs.Connected.{joined_lists}
@@ -8,9 +10,9 @@ use Rattle.flat_topology.specs.Shown.{Shown}
 use Rattle.flat_play.specs.declared.frame.LastFrame.{LastFrame}
 
 -- what is joined, if anything is, are these states
-abbrev pub IsJoined : Setup → Shown → Option Joined → Type 0
+abbrev pub IsJoined : {Z : Type 0} → Setup → Shown → Option (Arc Joined Z) → Type 0
 IsJoined setup shown None = Unit {0}
-IsJoined setup shown (Some joined) = joined ≡ joined_lists setup shown
+IsJoined setup shown (Some joined) = arc_value joined ≡ joined_lists setup shown
 
 -- What the frame shows fits the setup, and nothing else is joined of it.
 pub record IsLast (setup : Setup) (last : LastFrame) : Type 0 where

@@ -1,5 +1,6 @@
 pub mod Keeping
 pub mod Last
 pub mod Playing
+pub mod Probing
 pub mod Showing
 pub mod Touches

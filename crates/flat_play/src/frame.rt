@@ -1,4 +1,5 @@
 ghost use Rattle.std.specs.Prelude.{◌≡◌, ◌+◌, ◌<◌, ◌^◌, ◌++◌, List, [], ◌∷◌, true, length, map, IfOk, OnOk};
+ghost use Rattle.std.specs.Arc.{arc_value};
 ghost use Rattle.flat_scene.specs.declared.frames.FrameOut.{FrameOut};
 ghost use Rattle.flat_scene.specs.declared.frames.Lost.{Lost};
 ghost use Rattle.flat_scene.specs.declared.journal.Entry.{Entry};
@@ -25,6 +26,7 @@ use flat_scene::{FrameOut, HitList, SessionSet, Setup};
 use flat_topology::{Joined, Shown, join};
 use flat_tree::{tree_of, trees_follow};
 use std::alloc::Global;
+use std::sync::Arc;
 
 /// The last finished frame: what is kept of it for the next one, and for points.
 #[derive(Drop)]
@@ -33,8 +35,8 @@ pub struct LastFrame {
     pub frame: FrameNo,
     /// What it was composed of. Contracts see what its sessions show.
     pub reuse: Reuse,
-    /// What they show, joined, once a point was asked for.
-    pub joined: Option<Joined>,
+    /// What they show, joined, once that was asked for.
+    pub joined: Option<Arc<Joined>>,
 }
 
 /// What shown states are, joined, if that isn't done yet.
@@ -42,17 +44,17 @@ fn joined_once(
     alloc: Global,
     setup: &Setup,
     shown: &Shown,
-    joined: Option<Joined>,
-) -> Result<Joined, NoMemory>
+    joined: Option<Arc<Joined>>,
+) -> Result<Arc<Joined>, NoMemory>
     requires setup { is_setup setup.now ≡ true }
     requires count { length shown.now ≡ setup.now.sessions }
     requires fit { FitsSetup setup.now shown.now }
     requires joined { IsJoined setup.now shown.now joined }
-    ensures { IfOk result (λ all. all ≡ joined_lists setup.now shown.now) }
+    ensures { IfOk result (λ all. arc_value all ≡ joined_lists setup.now shown.now) }
 {
     match joined {
         Some(joined) => Ok(joined),
-        None => join(alloc, shown, setup),
+        None => Ok(Arc::new(alloc, join(alloc, shown, setup)?)?),
     }
 }
 
@@ -128,6 +130,19 @@ impl LastFrame {
         let found = hits(alloc, &joined, x, y)?;
         self.joined = Some(joined);
         Ok(found)
+    }
+
+    /// One more handle of what the sessions show, joined, as points are answered by it.
+    pub fn share_joined(&mut self, alloc: Global, setup: &Setup) -> Result<Arc<Joined>, NoMemory>
+        requires setup { is_setup setup.now ≡ true }
+        requires is { IsLast setup.now self.old }
+        ensures joined { IfOk result (λ all. arc_value all ≡ joined_lists setup.now self.old.reuse) }
+        ensures stays { OnOk result (StaysLast setup.now self.old self.new) }
+    {
+        let joined = joined_once(alloc, setup, self.reuse.shown(), self.joined.take())?;
+        let shared = Arc::try_clone(&joined)?;
+        self.joined = Some(joined);
+        Ok(shared)
     }
 }
 

@@ -232,7 +232,8 @@ impl Game {
     }
 
     /// Plays the line at a place of the script. Where it finishes a frame, this is
-    /// shown to the displays before the entry is made.
+    /// shown to the displays before the entry is made. A line of a probe leaves the run
+    /// as it is.
     pub fn play_line(
         &mut self,
         alloc: Global,
@@ -265,7 +266,7 @@ impl Game {
                 }
                 None => unreachable!(),
             },
-            Actor::Probe(_) => unreachable!(),
+            Actor::Probe(_) => Ok(()),
         }
     }
 

@@ -3,12 +3,14 @@
 //!
 //! Other crates may cite the lemmas of proofs/lemmas/: lines at their places (Places,
 //! Steps, Unread), what a line leaves (GameSteps, Readers, DisplaySteps), what is shown
-//! (FramesShown), what displays have had (Seen), and what a run begins with (Starting).
+//! (FramesShown) and to how many sessions (FewViews), what displays have had (Seen), and
+//! what a run begins with (Starting).
 #![tactic(auto)]
 
 mod frame;
 mod game;
 mod kept;
+mod probes;
 mod run;
 mod touches;
 mod trees;
@@ -16,4 +18,4 @@ mod trees;
 pub use frame::{LastFrame, show_last};
 pub use game::Game;
 pub use kept::{Keeping, Kept};
-pub use run::{Played, play_script, play_touched, shares_of};
+pub use run::{Played, open_board, play_script, play_touched};

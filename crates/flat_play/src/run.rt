@@ -1,8 +1,10 @@
-ghost use Rattle.std.specs.Prelude.{map, ◌≡◌, ◌+◌, ◌<◌, ◌^◌, slice_index, [], ◌∷◌, ◌++◌, List, true, length, All, IfOk, OnOk};
+ghost use Rattle.std.specs.Prelude.{map, ◌≡◌, ◌+◌, ◌<◌, ◌^◌, slice_index, [], ◌∷◌, ◌++◌, List, true, length, replicate, All, IfOk, OnOk};
 ghost use Rattle.flat_scene.specs.History.{seat_number};
 ghost use Rattle.flat_scene.specs.Interleave.{IsWritten};
 ghost use Rattle.flat_scene.specs.Setups.{is_setup};
 ghost use Rattle.flat_playable.specs.Playable.{is_playable};
+ghost use Rattle.flat_report.specs.Probes.{ProbesAnswered, frames_seen};
+ghost use Rattle.flat_play.specs.Probing.{seen_in_turn};
 ghost use Rattle.flat_play.specs.Playing.{with_one_more, shares_of, AreNew, GameStands, HasPlayed};
 ghost use Rattle.flat_report.specs.Report.{finished};
 ghost use Rattle.flat_play.specs.Keeping.{keeping_of};
@@ -14,13 +16,14 @@ ghost use Rattle.flat_play.specs.Showing.{HaveSeen};
 use crate::frame::LastFrame;
 use crate::game::Game;
 use crate::kept::{Keeping, Kept};
+use crate::probes::{answer_line, no_answers};
 use crate::touches::{answer_all, answer_upto};
 use flat_base::{Actor, NoMemory, SessionNo, ShareList, TryCopy};
 use flat_core::{Board, shown_states_fit};
 use flat_display::{Display, DisplaySet};
 use flat_places::Script;
 use flat_pointer::{PointerLine, Touch};
-use flat_report::HitAnswers;
+use flat_report::{HitAnswers, ProbeAnswers};
 use flat_scene::{SessionSet, Setup};
 use flat_stage::{Reader, lines_are_read};
 use flat_topology::Shown;
@@ -51,7 +54,7 @@ fn count_line(shares: &mut ShareList, actor: Actor)
 
 /// How many entries each actor may make: one for each of its lines, and a session
 /// its End. The lines are gone through once.
-pub fn shares_of(alloc: Global, script: &Script) -> Result<ShareList, NoMemory>
+fn shares_of(alloc: Global, script: &Script) -> Result<ShareList, NoMemory>
     requires { length script.now.lines < 2 ^ 31 }
     ensures { IfOk result (λ shares. shares ≡ shares_of script.now) }
 {
@@ -80,7 +83,7 @@ fn new_readers(alloc: Global, setup: &Setup) -> Result<Vec<Reader>, NoMemory>
 }
 
 /// A board of a script's setup before any entry, with room for its lines.
-fn open_board(alloc: Global, script: &Script) -> Result<Board, NoMemory>
+pub fn open_board(alloc: Global, script: &Script) -> Result<Board, NoMemory>
     requires { is_playable script.now ≡ true }
     ensures { IfOk result (λ board. board ≡ record { setup = script.now.setup; shares = shares_of script.now; history = [] }) }
 {
@@ -115,14 +118,15 @@ fn start(alloc: Global, script: &Script, keeping: Keeping) -> Result<Game, NoMem
 }
 
 /// Plays all lines of a script in a run of which none is played, in written order, and
-/// shows each frame to the displays before it is finished. Pointers' lines are answered
-/// in between, each in its place.
+/// shows each frame to the displays before it is finished. Pointers' lines and those of
+/// probes are answered in between, each in its place.
 fn play_each(
     alloc: Global,
     script: &Script,
     game: &mut Game,
     lines: &[PointerLine],
     found: &mut Vec<Touch>,
+    answers: &mut Vec<ProbeAnswers>,
     set: &mut DisplaySet,
     displays: &mut Vec<Box<dyn Display>>,
 ) -> Result<(), NoMemory>
@@ -130,12 +134,15 @@ fn play_each(
     requires begins { GameStands script.now 0 game.old }
     requires no_entry { game.old.board.history ≡ [] }
     requires no_answer { found.old.items ≡ [] }
+    requires unasked { answers.old.items ≡ replicate script.now.setup.probes [] }
     requires rise { rise_after 0 lines.now ≡ true }
     requires number { length displays.old.items ≡ set.old.displays }
     requires few { set.old.displays < 2 ^ 32 }
     requires none { set.old.lost ≡ [] }
     ensures stands { OnOk result (GameStands script.now (length script.now.lines) game.new) }
     ensures touches { OnOk result (found.new.items ≡ map (touch_of script.now.setup game.new.board.history) lines.now) }
+    ensures probes { OnOk result (ProbesAnswered script.now game.new.board.history answers.new.items) }
+    ensures in_turn { OnOk result (frames_seen answers.new.items ≡ seen_in_turn script.now game.new.board.history) }
     ensures keeping { OnOk result (keeping_of game.new.kept ≡ keeping_of game.old.kept) }
     ensures seen { OnOk result (HaveSeen (λ d. shown d) (λ d. faults d) (finished script.now.setup game.new.board.history) game.new.board.history set.new.lost displays.old.items displays.new.items) }
     ensures kept { AreKept (λ d. shown d) (λ d. faults d) displays.old.items displays.new.items (λ d. d.vtable) }
@@ -145,13 +152,23 @@ fn play_each(
     for place in 0..script.lines.len() {
         let line = script.lines.at(place);
         left = answer_upto(alloc, setup, &mut game.last, left, line.number, found)?;
+        answer_line(alloc, setup, &mut game.last, line, answers)?;
         game.play_line(alloc, script, place, set, displays)?;
     }
     answer_all(alloc, setup, &mut game.last, left, found)?;
     Ok(())
 }
 
-/// The run of a script to the end of its lines, with the answers to pointers' lines.
+/// The run of a script to the end of its lines, with the answers to pointers' lines and
+/// to those of probes.
+#[derive(Drop)]
+struct LinesPlayed {
+    game: Game,
+    touches: Vec<Touch>,
+    probes: Vec<ProbeAnswers>,
+}
+
+/// Plays a script to the end of its lines.
 fn play_lines(
     alloc: Global,
     script: &Script,
@@ -159,22 +176,38 @@ fn play_lines(
     lines: &[PointerLine],
     set: &mut DisplaySet,
     displays: &mut Vec<Box<dyn Display>>,
-) -> Result<(Game, Vec<Touch>), NoMemory>
+) -> Result<LinesPlayed, NoMemory>
     requires playable { is_playable script.now ≡ true }
     requires rise { rise_after 0 lines.now ≡ true }
     requires number { length displays.old.items ≡ set.old.displays }
     requires few { set.old.displays < 2 ^ 32 }
     requires none { set.old.lost ≡ [] }
-    ensures stands { IfOk result (λ ran. GameStands script.now (length script.now.lines) ran.0) }
-    ensures touches { IfOk result (λ ran. ran.1.items ≡ map (touch_of script.now.setup ran.0.board.history) lines.now) }
-    ensures keeping { IfOk result (λ ran. keeping_of ran.0.kept ≡ keeping) }
-    ensures seen { IfOk result (λ ran. HaveSeen (λ d. shown d) (λ d. faults d) (finished script.now.setup ran.0.board.history) ran.0.board.history set.new.lost displays.old.items displays.new.items) }
+    ensures stands { IfOk result (λ ran. GameStands script.now (length script.now.lines) ran.game) }
+    ensures touches { IfOk result (λ ran. ran.touches.items ≡ map (touch_of script.now.setup ran.game.board.history) lines.now) }
+    ensures probes { IfOk result (λ ran. ProbesAnswered script.now ran.game.board.history ran.probes.items) }
+    ensures in_turn { IfOk result (λ ran. frames_seen ran.probes.items ≡ seen_in_turn script.now ran.game.board.history) }
+    ensures keeping { IfOk result (λ ran. keeping_of ran.game.kept ≡ keeping) }
+    ensures seen { IfOk result (λ ran. HaveSeen (λ d. shown d) (λ d. faults d) (finished script.now.setup ran.game.board.history) ran.game.board.history set.new.lost displays.old.items displays.new.items) }
     ensures kept { AreKept (λ d. shown d) (λ d. faults d) displays.old.items displays.new.items (λ d. d.vtable) }
 {
+    let mut probes = no_answers(alloc, script.setup.probes)?;
+    let mut touches = Vec::new(alloc);
     let mut game = start(alloc, script, keeping)?;
-    let mut found = Vec::new(alloc);
-    play_each(alloc, script, &mut game, lines, &mut found, set, displays)?;
-    Ok((game, found))
+    play_each(
+        alloc,
+        script,
+        &mut game,
+        lines,
+        &mut touches,
+        &mut probes,
+        set,
+        displays,
+    )?;
+    Ok(LinesPlayed {
+        game,
+        touches,
+        probes,
+    })
 }
 
 /// A script that was run to its end.
@@ -186,6 +219,8 @@ pub struct Played {
     pub kept: Kept,
     /// The answers to the points that were asked for.
     pub answers: HitAnswers,
+    /// The answers of probes: those of each, in the order of its lines.
+    pub probes: Vec<ProbeAnswers>,
     /// Which displays were lost.
     pub set: DisplaySet,
 }
@@ -205,13 +240,19 @@ pub fn play_touched(
     requires few { length displays.old.items < 2 ^ 32 }
     ensures played { IfOk result (λ ran. HasPlayed script.now ran.0.board ran.0.kept ran.0.answers) }
     ensures touches { IfOk result (λ ran. ran.1.items ≡ map (touch_of script.now.setup ran.0.board.history) lines.now) }
+    ensures probes { IfOk result (λ ran. ProbesAnswered script.now ran.0.board.history ran.0.probes.items) }
+    ensures in_turn { IfOk result (λ ran. frames_seen ran.0.probes.items ≡ seen_in_turn script.now ran.0.board.history) }
     ensures written { IfOk result (λ ran. IsWritten script.now.setup ran.0.board.history) }
     ensures keeping { IfOk result (λ ran. keeping_of ran.0.kept ≡ keeping) }
     ensures seen { IfOk result (λ ran. HaveSeen (λ d. shown d) (λ d. faults d) (finished script.now.setup ran.0.board.history) ran.0.board.history ran.0.set.lost displays.old.items displays.new.items) }
     ensures kept { AreKept (λ d. shown d) (λ d. faults d) displays.old.items displays.new.items (λ d. d.vtable) }
 {
     let mut set = DisplaySet::new(alloc, displays.len() as u32)?;
-    let (mut game, touches) = play_lines(alloc, script, keeping, lines, &mut set, displays)?;
+    let LinesPlayed {
+        mut game,
+        touches,
+        probes,
+    } = play_lines(alloc, script, keeping, lines, &mut set, displays)?;
     game.end_all(script);
     let Game {
         board,
@@ -227,6 +268,7 @@ pub fn play_touched(
         board,
         kept,
         answers,
+        probes,
         set,
     };
     Ok((played, touches))
@@ -243,6 +285,8 @@ pub fn play_script(
     requires playable { is_playable script.now ≡ true }
     requires few { length displays.old.items < 2 ^ 32 }
     ensures played { IfOk result (λ played. HasPlayed script.now played.board played.kept played.answers) }
+    ensures probes { IfOk result (λ played. ProbesAnswered script.now played.board.history played.probes.items) }
+    ensures in_turn { IfOk result (λ played. frames_seen played.probes.items ≡ seen_in_turn script.now played.board.history) }
     ensures written { IfOk result (λ played. IsWritten script.now.setup played.board.history) }
     ensures keeping { IfOk result (λ played. keeping_of played.kept ≡ keeping) }
     ensures seen { IfOk result (λ played. HaveSeen (λ d. shown d) (λ d. faults d) (finished script.now.setup played.board.history) played.board.history played.set.lost displays.old.items displays.new.items) }

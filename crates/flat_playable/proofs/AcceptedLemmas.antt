@@ -47,21 +47,21 @@ end_at h a b s e done = let P : ℕ → Type 0 = λ k. BodyEnd h k s in subst P 
 abbrev BodyEnds : Script → List (List ℕ) → Script → Type 0
 BodyEnds h ls s = (us : List ScriptLine) (n : ℕ) → BodyKept h us n → lines_read known_words n (part.Body, with_lines h us) ls ≡ Ok s → BodyEnd h (n + length ls) s
 
-body_by : (h : Script) (ls : List (List ℕ)) (us : List ScriptLine) (n : ℕ) (s : Script) (l : List ℕ) (next : NextOk n (part.Body, with_lines h us) l ls s) → h.setup.sessions ≡ length h.sessions → h.probes ≡ [] → BodyKept h us n
+body_by : (h : Script) (ls : List (List ℕ)) (us : List ScriptLine) (n : ℕ) (s : Script) (l : List ℕ) (next : NextOk n (part.Body, with_lines h us) l ls s) → h.setup.sessions ≡ length h.sessions → h.setup.probes ≡ length h.probes → BodyKept h us n
     → ((part.Body, with_lines h us) ≡ next.next) ⊎ Read n (part.Body, with_lines h us) next.next l → BodyEnds h ls s → BodyEnd h (n + 1 + length ls) s
-body_by h ls us n s l next many none kept (inl e) ends = ends us (n + 1) (body_skipped h us n kept) (read_at (n + 1) (part.Body, with_lines h us) next.next ls s e next.rest)
-body_by h ls us n s l next many none kept (inr r) ends =
+body_by h ls us n s l next many probed kept (inl e) ends = ends us (n + 1) (body_skipped h us n kept) (read_at (n + 1) (part.Body, with_lines h us) next.next ls s e next.rest)
+body_by h ls us n s l next many probed kept (inr r) ends =
     let t = mapped_ok (λ v. (part.Body, v)) (body_line known_words (with_lines h us) n (words_of l)) next.next r.words in
     let a = body_again h us us n n (words_of l) t.a (record { same = refl }) t.given in
     let x : ScriptLine = record { number = n; actor = a.actor; body = a.body } in
     let here : (part.Body, with_lines h (us ++ x ∷ [])) ≡ next.next = ap (λ v. (part.Body, v)) (sym a.read) ∙ t.value in
-    ends (us ++ x ∷ []) (n + 1) (body_line_kept h us n (words_of l) t.a a many none kept) (read_at (n + 1) (part.Body, with_lines h (us ++ x ∷ [])) next.next ls s here next.rest)
+    ends (us ++ x ∷ []) (n + 1) (body_line_kept h us n (words_of l) t.a a many probed kept) (read_at (n + 1) (part.Body, with_lines h (us ++ x ∷ [])) next.next ls s here next.rest)
 
-body_end : (h : Script) (ls : List (List ℕ)) (us : List ScriptLine) (n : ℕ) (s : Script) → h.setup.sessions ≡ length h.sessions → h.probes ≡ [] → BodyKept h us n → lines_read known_words n (part.Body, with_lines h us) ls ≡ Ok s → BodyEnd h (n + length ls) s
-body_end h [] us n s many none kept is = end_at h n (n + 0) s (omega arith) (ended h us n s (is_open (with_lines h us)) kept refl is)
-body_end h (l ∷ ls) us n s many none kept is =
+body_end : (h : Script) (ls : List (List ℕ)) (us : List ScriptLine) (n : ℕ) (s : Script) → h.setup.sessions ≡ length h.sessions → h.setup.probes ≡ length h.probes → BodyKept h us n → lines_read known_words n (part.Body, with_lines h us) ls ≡ Ok s → BodyEnd h (n + length ls) s
+body_end h [] us n s many probed kept is = end_at h n (n + 0) s (omega arith) (ended h us n s (is_open (with_lines h us)) kept refl is)
+body_end h (l ∷ ls) us n s many probed kept is =
     let next = next_ok n (part.Body, with_lines h us) l ls s is in
-    end_at h (n + 1 + length ls) (n + length (l ∷ ls)) s (omega arith) (body_by h ls us n s l next many none kept (line_ok n (part.Body, with_lines h us) next.next l next.read) (λ vs k more rest. body_end h ls vs k s many none more rest))
+    end_at h (n + 1 + length ls) (n + length (l ∷ ls)) s (omega arith) (body_by h ls us n s l next many probed kept (line_ok n (part.Body, with_lines h us) next.next l next.read) (λ vs k more rest. body_end h ls vs k s many probed more rest))
 
 -- the head
 
@@ -86,7 +86,7 @@ head_by u n s ls next w words true kept rest read ends =
     let tested = unless_ok 4 (is_ready u) (whole (give (tt {0})) words) m.a m.given in
     let bare : with_lines u [] ≡ u = ap (with_lines u) (sym kept.lines) in
     let here : (part.Body, with_lines u []) ≡ next = ap (λ v. (part.Body, v)) bare ∙ m.value in
-    record { h = u; kept = kept; ready = tested.passed; body = body_end u ls [] (n + 1) s kept.sessions kept.probe_names (body_empty u (n + 1) (omega arith)) (read_at (n + 1) (part.Body, with_lines u []) next ls s here rest) }
+    record { h = u; kept = kept; ready = tested.passed; body = body_end u ls [] (n + 1) s kept.sessions kept.probes (body_empty u (n + 1) (omega arith)) (read_at (n + 1) (part.Body, with_lines u []) next ls s here rest) }
 head_by u n s ls next w words false kept rest read ends =
     let m = mapped_ok (λ t. (part.Head, t)) (head_line known_words u (w ∷ words)) next read in
     ends m.a (n + 1) (omega arith) (step_kept u (w ∷ words) m.a (step_found u (w ∷ words) m.a m.given) kept) (read_at (n + 1) (part.Head, m.a) next ls s m.value rest)
@@ -145,7 +145,6 @@ few_lines text = omega (arith, few_pieces (slice_split is_feed text) (some_parts
 pub record Accepted (s : Script) : Type 0 where
   pub setup : is_setup s.setup ≡ true
   pub sessions : length s.sessions ≤ 16
-  pub probes : (s.setup.probes == 0) ≡ true
   pub count : nat_le s.count SCRIPT_BYTES_MAX ≡ true
   pub rise : rise_from 0 s.lines ≡ true
   pub counted : list_all (λ (next : ScriptLine). nat_le next.number s.count) s.lines ≡ true
@@ -165,7 +164,6 @@ accepted_at n few s is less done =
     subst P (sym b.made) (record {
       setup = setup_given done.h done.kept done.ready;
       sessions = done.kept.few_sessions;
-      probes = ap (λ p. p == 0) done.kept.probes;
       count = within count (omega arith);
       rise = ap (rise_from 0) (sym (append-nil b.us)) ∙ k.rise [];
       counted = k.counted count (omega arith);
@@ -190,4 +188,4 @@ accepted bytes s is = by_size bytes s (nat_lt (16 * 1024 * 1024) (length bytes))
 -- all of the parts
 pub playable_of : (s : Script) → Accepted s → is_playable s ≡ true
 playable_of s a =
-    and_from _ _ (and_from _ _ (and_from _ _ (and_from _ _ (and_from _ _ (and_from _ _ a.setup a.probes) a.count) a.rise) a.counted) a.frames) a.played
+    and_from _ _ (and_from _ _ (and_from _ _ (and_from _ _ (and_from _ _ a.setup a.count) a.rise) a.counted) a.frames) a.played

@@ -195,8 +195,8 @@ below_count n c few = grind (arith, nat_tests)
 above_last : (last n : ℕ) → last < n → nat_lt last n ≡ true
 above_last last n less = grind (arith, nat_tests)
 
-pub body_line_kept : (h : Script) (us : List ScriptLine) (n : ℕ) (words : List Word) (u : Script) (a : Again h us us n n words u) → h.setup.sessions ≡ length h.sessions → h.probes ≡ [] → BodyKept h us n → BodyKept h (us ++ record { number = n; actor = a.actor; body = a.body } ∷ []) (n + 1)
-body_line_kept h us n words u a many none kept =
+pub body_line_kept : (h : Script) (us : List ScriptLine) (n : ℕ) (words : List Word) (u : Script) (a : Again h us us n n words u) → h.setup.sessions ≡ length h.sessions → h.setup.probes ≡ length h.probes → BodyKept h us n → BodyKept h (us ++ record { number = n; actor = a.actor; body = a.body } ∷ []) (n + 1)
+body_line_kept h us n words u a many probed kept =
     let x : ScriptLine = record { number = n; actor = a.actor; body = a.body } in
     record {
       last = n;
@@ -204,5 +204,5 @@ body_line_kept h us n words u a many none kept =
       rise = λ later. ap (rise_from 0) (append_assoc us (x ∷ []) later) ∙ kept.rise (x ∷ later) ∙ ap (λ b. b && rise_from n later) (above_last kept.last n kept.below);
       counted = λ c few. all-more (λ next. nat_le next.number c) us x (kept.counted c (omega arith)) (below_count n c few);
       frames = line_frames (with_lines h us) n a.actor a.rest a.body kept.frames.opened kept.frames.time kept.frames.kept a.line;
-      played = all-more (λ next. is_played h.setup next.actor next.body) us x kept.played (line_played (with_lines h us) a.actor a.rest a.body many (actor_declared h a.first a.actor many none a.named) a.line);
+      played = all-more (λ next. is_played h.setup next.actor next.body) us x kept.played (line_played (with_lines h us) a.actor a.rest a.body many (actor_declared h a.first a.actor many probed a.named) a.line);
     }

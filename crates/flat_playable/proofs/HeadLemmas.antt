@@ -23,7 +23,7 @@ use Rattle.flat_places.specs.Names.{session_named, owner_named, is_actor}
 use Rattle.flat_places.specs.Places.{number_from, owner_word, has_display_pair}
 use Rattle.flat_forms.specs.Head.{empty, size, side, has_display, is_ready}
 use Rattle.flat_forms.proofs.lemmas.FormLemmas.{both_ok, or_kind_ok, whole_ok, apply_ok, map_ok, place_ok}
-use Rattle.flat_forms.proofs.lemmas.StepLemmas.{SizeStep, SessionStep, BuffersStep, PairStep, FenceStep, Step, size_step, session_step, buffers_step, pair_step, fence_step}
+use Rattle.flat_forms.proofs.lemmas.StepLemmas.{SizeStep, SessionStep, ProbeStep, BuffersStep, PairStep, FenceStep, Step, size_step, session_step, probe_step, buffers_step, pair_step, fence_step}
 use Rattle.flat_playable.proofs.PlayedLemmas.{within_of, session_declared, owner_declared}
 use Rattle.std.proofs.lemmas.Bool.{and_parts, and_from}
 use Rattle.flat_print.proofs.lemmas.OrderLemmas.{test_passes}
@@ -56,35 +56,39 @@ declared_more setup s is = let b = and_parts (nat_lt 0 s.0) (nat_le s.0 setup.se
     wider : (n m : ℕ) → nat_le n m ≡ true → nat_le n (m + 1) ≡ true
     wider n m q = grind (arith, nat_tests)
 
-owner_more : (setup : Setup) (a : Actor) → may_own setup a ≡ true → may_own (record setup { sessions = setup.sessions + 1 }) a ≡ true
-owner_more setup Display is = refl
-owner_more setup (Session s) is = declared_more setup s is
-owner_more setup (Probe p) is = absurd (cc)
+-- what is declared in one setup is declared in another
+abbrev IsWider : Setup → Setup → Type 0
+IsWider old new = (s : SessionNo) → is_declared old s ≡ true → is_declared new s ≡ true
 
-pair_more : (setup : Setup) (d : PairDecl) → is_pair_declared setup d ≡ true → is_pair_declared (record setup { sessions = setup.sessions + 1 }) d ≡ true
-pair_more setup d is = let b = and_parts (may_own setup d.viewport) (is_declared setup d.view) is in and_from _ _ (owner_more setup d.viewport b.0) (declared_more setup d.view b.1)
+owner_more : (old new : Setup) → IsWider old new → (a : Actor) → may_own old a ≡ true → may_own new a ≡ true
+owner_more old new wider Display is = refl
+owner_more old new wider (Session s) is = wider s is
+owner_more old new wider (Probe p) is = absurd (cc)
 
-buffer_more : (setup : Setup) (d : BufferDecl) → is_buffer_declared setup d ≡ true → is_buffer_declared (record setup { sessions = setup.sessions + 1 }) d ≡ true
-buffer_more setup d is =
+pair_more : (old new : Setup) → IsWider old new → (d : PairDecl) → is_pair_declared old d ≡ true → is_pair_declared new d ≡ true
+pair_more old new wider d is = let b = and_parts (may_own old d.viewport) (is_declared old d.view) is in and_from _ _ (owner_more old new wider d.viewport b.0) (wider d.view b.1)
+
+buffer_more : (old new : Setup) → IsWider old new → (d : BufferDecl) → is_buffer_declared old d ≡ true → is_buffer_declared new d ≡ true
+buffer_more old new wider d is =
     let count = is_within 64 d.count in
     let w = is_within 65536 d.w in
     let h = is_within 65536 d.h in
-    let c = and_parts (is_declared setup d.owner && count && w) h is in
-    let b = and_parts (is_declared setup d.owner && count) w c.0 in
-    let a = and_parts (is_declared setup d.owner) count b.0 in
-    let more = is_declared (record setup { sessions = setup.sessions + 1 }) d.owner in
-    and_from (more && count && w) h (and_from (more && count) w (and_from more count (declared_more setup d.owner a.0) a.1) b.1) c.1
+    let c = and_parts (is_declared old d.owner && count && w) h is in
+    let b = and_parts (is_declared old d.owner && count) w c.0 in
+    let a = and_parts (is_declared old d.owner) count b.0 in
+    let more = is_declared new d.owner in
+    and_from (more && count && w) h (and_from (more && count) w (and_from more count (wider d.owner a.0) a.1) b.1) c.1
 
-fence_more : (setup : Setup) (d : FenceDecl) → is_fence_declared setup d ≡ true → is_fence_declared (record setup { sessions = setup.sessions + 1 }) d ≡ true
-fence_more setup d is =
-    let b = and_parts (nat_lt 0 (length d.owners)) (list_all (may_own setup) d.owners) is in
-    and_from _ _ b.0 (all-also (may_own setup) (may_own (record setup { sessions = setup.sessions + 1 })) (owner_more setup) d.owners b.1)
+fence_more : (old new : Setup) → IsWider old new → (d : FenceDecl) → is_fence_declared old d ≡ true → is_fence_declared new d ≡ true
+fence_more old new wider d is =
+    let b = and_parts (nat_lt 0 (length d.owners)) (list_all (may_own old) d.owners) is in
+    and_from _ _ b.0 (all-also (may_own old) (may_own new) (owner_more old new wider) d.owners b.1)
 
 -- what a head keeps
 pub record HeadKept (u : Script) : Type 0 where
   pub lines : u.lines ≡ []
-  pub probes : u.setup.probes ≡ 0
-  pub probe_names : u.probes ≡ []
+  pub probes : u.setup.probes ≡ length u.probes
+  pub few_probes : length u.probes ≤ 8
   pub sessions : u.setup.sessions ≡ length u.sessions
   pub few_sessions : length u.sessions ≤ 16
   pub buffer_names : length u.setup.buffers ≡ length u.buffers
@@ -103,7 +107,7 @@ pub head_empty : HeadKept empty
 head_empty = record {
   lines = refl;
   probes = refl;
-  probe_names = refl;
+  few_probes = omega arith;
   sessions = refl;
   few_sessions = omega arith;
   buffer_names = refl;
@@ -132,7 +136,7 @@ size_kept u ws t x o =
     subst P (sym x.made) (record {
       lines = o.lines;
       probes = o.probes;
-      probe_names = o.probe_names;
+      few_probes = o.few_probes;
       sessions = o.sessions;
       few_sessions = o.few_sessions;
       buffer_names = o.buffer_names;
@@ -156,7 +160,7 @@ session_kept u ws t x o =
     subst P (sym x.made) (record {
       lines = o.lines;
       probes = o.probes;
-      probe_names = o.probe_names;
+      few_probes = o.few_probes;
       sessions = omega (arith, length-append u.sessions (x.name ∷ []));
       few_sessions = room_left u.sessions x.name 16 x.room;
       buffer_names = o.buffer_names;
@@ -166,9 +170,33 @@ session_kept u ws t x o =
       fence_names = o.fence_names;
       few_fences = o.few_fences;
       sizes = o.sizes;
-      pairs_owned = all-also (is_pair_declared u.setup) (is_pair_declared more) (pair_more u.setup) u.setup.pairs o.pairs_owned;
-      buffers_owned = all-also (is_buffer_declared u.setup) (is_buffer_declared more) (buffer_more u.setup) u.setup.buffers o.buffers_owned;
-      fences_owned = all-also (is_fence_declared u.setup) (is_fence_declared more) (fence_more u.setup) u.setup.fences o.fences_owned;
+      pairs_owned = all-also (is_pair_declared u.setup) (is_pair_declared more) (pair_more u.setup more (declared_more u.setup)) u.setup.pairs o.pairs_owned;
+      buffers_owned = all-also (is_buffer_declared u.setup) (is_buffer_declared more) (buffer_more u.setup more (declared_more u.setup)) u.setup.buffers o.buffers_owned;
+      fences_owned = all-also (is_fence_declared u.setup) (is_fence_declared more) (fence_more u.setup more (declared_more u.setup)) u.setup.fences o.fences_owned;
+      shown = o.shown;
+    })
+
+probe_kept : (u : Script) (ws : List Word) (t : Script) → ProbeStep u ws t → HeadKept u → HeadKept t
+probe_kept u ws t x o =
+    let P : Script → Type 0 = HeadKept in
+    let more : Setup = record u.setup { probes = u.setup.probes + 1 } in
+    let before = o.probes in
+    subst P (sym x.made) (record {
+      lines = o.lines;
+      probes = omega (arith, length-append u.probes (x.name ∷ []));
+      few_probes = room_left u.probes x.name 8 x.room;
+      sessions = o.sessions;
+      few_sessions = o.few_sessions;
+      buffer_names = o.buffer_names;
+      few_buffers = o.few_buffers;
+      pair_names = o.pair_names;
+      few_pairs = o.few_pairs;
+      fence_names = o.fence_names;
+      few_fences = o.few_fences;
+      sizes = o.sizes;
+      pairs_owned = all-also (is_pair_declared u.setup) (is_pair_declared more) (pair_more u.setup more (λ s is. is)) u.setup.pairs o.pairs_owned;
+      buffers_owned = all-also (is_buffer_declared u.setup) (is_buffer_declared more) (buffer_more u.setup more (λ s is. is)) u.setup.buffers o.buffers_owned;
+      fences_owned = all-also (is_fence_declared u.setup) (is_fence_declared more) (fence_more u.setup more (λ s is. is)) u.setup.fences o.fences_owned;
       shown = o.shown;
     })
 
@@ -182,7 +210,7 @@ buffers_kept u ws t x o =
     subst P (sym x.made) (record {
       lines = o.lines;
       probes = o.probes;
-      probe_names = o.probe_names;
+      few_probes = o.few_probes;
       sessions = o.sessions;
       few_sessions = o.few_sessions;
       buffer_names = few_more u.setup.buffers u.buffers x.decl x.name o.buffer_names;
@@ -249,7 +277,7 @@ pair_kept u ws t x o =
     subst P (sym x.made) (record {
       lines = o.lines;
       probes = o.probes;
-      probe_names = o.probe_names;
+      few_probes = o.few_probes;
       sessions = o.sessions;
       few_sessions = o.few_sessions;
       buffer_names = o.buffer_names;
@@ -287,7 +315,7 @@ fence_kept u ws t x o =
     subst P (sym x.made) (record {
       lines = o.lines;
       probes = o.probes;
-      probe_names = o.probe_names;
+      few_probes = o.few_probes;
       sessions = o.sessions;
       few_sessions = o.few_sessions;
       buffer_names = o.buffer_names;
@@ -306,6 +334,7 @@ fence_kept u ws t x o =
 pub step_kept : (u : Script) (ws : List Word) (t : Script) → Step u ws t → HeadKept u → HeadKept t
 step_kept u ws t (size_step x) o = size_kept u ws t x o
 step_kept u ws t (session_step x) o = session_kept u ws t x o
+step_kept u ws t (probe_step x) o = probe_kept u ws t x o
 step_kept u ws t (buffers_step x) o = buffers_kept u ws t x o
 step_kept u ws t (pair_step x) o = pair_kept u ws t x o
 step_kept u ws t (fence_step x) o = fence_kept u ws t x o
@@ -325,7 +354,7 @@ setup_given u o ready =
     let sizes = o.sizes q.0 in
     let some : 0 < length u.sessions = positive (length u.sessions) q.1 in
     let sessions : is_within 16 u.setup.sessions ≡ true = ap (is_within 16) o.sessions ∙ within_of 16 (length u.sessions) some o.few_sessions in
-    let probes : nat_le u.setup.probes 8 ≡ true = ap (λ n. nat_le n 8) o.probes in
+    let probes : nat_le u.setup.probes 8 ≡ true = within_most u.setup.probes (length u.probes) 8 o.probes o.few_probes in
     let pairs = within_most (length u.setup.pairs) (length u.pairs) 4096 o.pair_names o.few_pairs in
     let buffers = within_most (length u.setup.buffers) (length u.buffers) 256 o.buffer_names o.few_buffers in
     let fences = within_most (length u.setup.fences) (length u.fences) 4096 o.fence_names o.few_fences in

@@ -42,7 +42,7 @@ use Rattle.flat_places.specs.Places.{time, u32, content, session, fence, fence_w
 use Rattle.flat_forms.specs.Calls.{call_form, inset_or_none}
 use Rattle.flat_forms.specs.declared.calls.CallName.TheVariants.{CreateViewport, CreateImage}
 use Rattle.flat_forms.specs.Lists.{ends_list}
-use Rattle.flat_forms.specs.Body.{fence_lists, present, presents_asked, session_line, display_line, actor_line}
+use Rattle.flat_forms.specs.Body.{fence_lists, present, presents_asked, session_line, display_line, probe_line, actor_line}
 use Rattle.flat_print.specs.Print.{pair_word, buffers_word, session_word, numbers, call_fields, call_words, lists_words, session_words, display_words}
 use Rattle.flat_print.specs.Print.{fence_word as fence_name}
 use Rattle.flat_forms.proofs.lemmas.FormLemmas.{apply_ok, map_ok, place_ok, whole_ok, unless_ok, or_kind_ok, mapped_ok, both_ok}
@@ -81,23 +81,35 @@ owner_by s w a false many is = owner_by_session s w a (session_named s w) many r
 pub owner_declared : (s : Script) (w : Word) (a : Actor) → s.setup.sessions ≡ length s.sessions → owner_named s w ≡ Some a → may_own s.setup a ≡ true
 owner_declared s w a many is = owner_by s w a (bytes_eq w (codes "display")) many is
 
--- an actor is the display or a declared session
+-- an actor is the display, a declared session or a declared probe
 abbrev pub may_act : Setup → Actor → Bool
 may_act setup Display = true
 may_act setup (Session s) = is_declared setup s
-may_act setup (Probe p) = false
+may_act setup (Probe p) = nat_lt p setup.probes
 
 owner_acts : (setup : Setup) (a : Actor) → may_own setup a ≡ true → may_act setup a ≡ true
 owner_acts setup Display is = refl
 owner_acts setup (Session s) is = is
-owner_acts setup (Probe p) is = is
+owner_acts setup (Probe p) is = absurd (cc)
 
-actor_by : (s : Script) (w : Word) (a : Actor) (o : Option Actor) → s.setup.sessions ≡ length s.sessions → owner_named s w ≡ o → option_or o None ≡ Some a → may_act s.setup a ≡ true
-actor_by s w a None many at is = absurd (cc)
-actor_by s w a (Some v) many at is = let e : v ≡ a = cc in ap (may_act s.setup) (sym e) ∙ owner_acts s.setup v (owner_declared s w v many at)
+below_of : (i n : ℕ) → i < n → nat_lt i n ≡ true
+below_of i n less = grind (arith, nat_tests)
 
-pub actor_declared : (s : Script) (w : Word) (a : Actor) → s.setup.sessions ≡ length s.sessions → s.probes ≡ [] → actor_named s w ≡ Some a → may_act s.setup a ≡ true
-actor_declared s w a many none is = actor_by s w a (owner_named s w) many refl (ap (λ names. option_or (owner_named s w) (option_map Probe (place_of names w))) (sym none) ∙ is)
+probe_by : (s : Script) (w : Word) (a : Actor) (o : Option ℕ) → s.setup.probes ≡ length s.probes → place_of s.probes w ≡ o → option_map Probe o ≡ Some a → may_act s.setup a ≡ true
+probe_by s w a None probed at is = absurd (cc)
+probe_by s w a (Some i) probed at is =
+    let e : Probe i ≡ a = cc in
+    let found = position-Some (λ n. bytes_eq n w) s.probes i [] at in
+    let few : i < length s.probes = found.0 in
+    ap (may_act s.setup) (sym e) ∙ below_of i s.setup.probes (omega arith)
+
+actor_by : (s : Script) (w : Word) (a : Actor) (o : Option Actor) → s.setup.sessions ≡ length s.sessions → s.setup.probes ≡ length s.probes → owner_named s w ≡ o
+    → option_or o (option_map Probe (place_of s.probes w)) ≡ Some a → may_act s.setup a ≡ true
+actor_by s w a None many probed at is = probe_by s w a (place_of s.probes w) probed refl is
+actor_by s w a (Some v) many probed at is = let e : v ≡ a = cc in ap (may_act s.setup) (sym e) ∙ owner_acts s.setup v (owner_declared s w v many at)
+
+pub actor_declared : (s : Script) (w : Word) (a : Actor) → s.setup.sessions ≡ length s.sessions → s.setup.probes ≡ length s.probes → actor_named s w ≡ Some a → may_act s.setup a ≡ true
+actor_declared s w a many probed is = actor_by s w a (owner_named s w) many probed refl is
 
 -- calls
 
@@ -376,4 +388,6 @@ line_played s (Session a) words b many may is =
     let m = mapped_ok body.Session (session_line known_words s a words) b is in
     let shown = session_shown s a words m.a m.given in
     ap (is_played s.setup (Session a)) (sym m.value) ∙ ap (λ d. d && is_played_line s.setup a m.a) may ∙ session_played s a m.a shown.again
-line_played s (Probe p) words b many may is = absurd (cc)
+line_played s (Probe p) words b many may is =
+    let m = mapped_ok body.Probe (probe_line known_words words) b is in
+    ap (is_played s.setup (Probe p)) (sym m.value) ∙ may

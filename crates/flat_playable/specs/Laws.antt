@@ -1,5 +1,5 @@
 -- Every script that the reader accepts is one that is played: each part of the test, and the whole.
-use Rattle.std.specs.Prelude.{◌≡◌, ◌≤◌, ℕ, false, true, nat_le, ◌==◌, List, length}
+use Rattle.std.specs.Prelude.{◌≡◌, ◌≤◌, ℕ, false, true, nat_le, List, length}
 use Rattle.std.specs.List.{list_all}
 use Rattle.flat_base.specs.declared.limits.TheConstants.{SCRIPT_BYTES_MAX, SESSIONS_MAX}
 use Rattle.flat_scene.specs.Setups.{is_setup}
@@ -14,10 +14,6 @@ SetupsAreGiven = (bytes : List ℕ) (script : Script) → IsScript bytes script 
 -- it names no more sessions than a script may have
 abbrev pub SessionsAreFew : Type 0
 SessionsAreFew = (bytes : List ℕ) (script : Script) → IsScript bytes script → length script.sessions ≤ SESSIONS_MAX
-
--- it has no probes
-abbrev pub NoProbes : Type 0
-NoProbes = (bytes : List ℕ) (script : Script) → IsScript bytes script → (script.setup.probes == 0) ≡ true
 
 -- its count of lines is within the limit of bytes
 abbrev pub CountsAreWithin : Type 0

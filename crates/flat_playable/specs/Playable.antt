@@ -1,8 +1,8 @@
 -- Which scripts are played.
-use Rattle.std.specs.Prelude.{ℕ, Bool, true, false, not, ◌&&◌, ◌==◌, nat_le, nat_lt, List, [], ◌∷◌}
+use Rattle.std.specs.Prelude.{ℕ, Bool, true, false, not, ◌&&◌, nat_le, nat_lt, List, [], ◌∷◌}
 use Rattle.std.specs.List.{list_all}
 use Rattle.flat_base.specs.declared.ids.Actor.{Actor}
-use Rattle.flat_base.specs.declared.ids.Actor.TheVariants.{Display, Session}
+use Rattle.flat_base.specs.declared.ids.Actor.TheVariants.{Display, Session, Probe}
 use Rattle.flat_base.specs.declared.ids.SessionNo.{SessionNo}
 use Rattle.flat_base.specs.declared.limits.TheConstants.{SCRIPT_BYTES_MAX}
 use Rattle.flat_scene.specs.declared.script.Body.{Body}
@@ -34,10 +34,11 @@ frames_close is_open time (next ∷ later) = keeps_frames is_open time next.body
 abbrev pub is_played : Setup → Actor → Body → Bool
 is_played setup (Session s) (body.Session text) = is_declared setup s && is_played_line setup s text
 is_played setup Display (body.Display text) = is_played_display setup text
+is_played setup (Probe p) (body.Probe asked) = nat_lt p setup.probes
 is_played setup _ _ = false
 
--- Whether a script is one that is played: its setup is one that a head can give, without probes; its lines rise up to its count, frames close, and each line is known.
+-- Whether a script is one that is played: its setup is one that a head can give; its lines rise up to its count, frames close, and each line is known.
 abbrev pub is_playable : Script → Bool
 is_playable script =
-    is_setup script.setup && script.setup.probes == 0 && nat_le script.count SCRIPT_BYTES_MAX && rise_from 0 script.lines && list_all (λ next. nat_le next.number script.count) script.lines
+    is_setup script.setup && nat_le script.count SCRIPT_BYTES_MAX && rise_from 0 script.lines && list_all (λ next. nat_le next.number script.count) script.lines
     && frames_close false 0 script.lines && list_all (λ next. is_played script.setup next.actor next.body) script.lines

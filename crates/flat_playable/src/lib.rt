@@ -1,7 +1,7 @@
 //! Which scripts are played: every one that the reader accepts.
 #![tactic(auto)]
 
-ghost use Rattle.flat_playable.specs.Laws.{SetupsAreGiven, NoProbes, CountsAreWithin, LinesRise, LinesAreCounted, FramesClose, LinesArePlayed, SessionsAreFew, ScriptsArePlayable};
+ghost use Rattle.flat_playable.specs.Laws.{SetupsAreGiven, CountsAreWithin, LinesRise, LinesAreCounted, FramesClose, LinesArePlayed, SessionsAreFew, ScriptsArePlayable};
 
 /// Every script that the reader accepts is playable: each clause is one part of
 /// that test, and the last one the whole of it; and it names few sessions. The call
@@ -12,7 +12,6 @@ pub fn scripts_are_playable()
     ensures rise { LinesRise }
     ensures counted { LinesAreCounted }
     ensures count { CountsAreWithin }
-    ensures probes { NoProbes }
     ensures setup { SetupsAreGiven }
     ensures sessions { SessionsAreFew }
     ensures playable { ScriptsArePlayable }

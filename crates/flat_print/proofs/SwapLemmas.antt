@@ -15,10 +15,10 @@ use Rattle.flat_places.specs.declared.script.Script.{Script}
 use Rattle.flat_places.specs.Forms.{Word, each, one_or_more, both, or_kind}
 use Rattle.flat_places.specs.Names.{place_of, is_declared, session_named, owner_named}
 use Rattle.flat_places.specs.Places.{owner_word}
-use Rattle.flat_forms.specs.Head.{with_display, with_session, with_buffers, with_pair, with_fence}
+use Rattle.flat_forms.specs.Head.{with_display, with_session, with_probe, with_buffers, with_pair, with_fence}
 use Rattle.flat_forms.proofs.lemmas.FormLemmas.{both_ok, or_kind_ok}
 use Rattle.flat_forms.proofs.lemmas.IndexLemmas.{IsFresh, NoPlace, no_place, place_there, place_else, bytes_eq_sym}
-use Rattle.flat_forms.proofs.lemmas.StepLemmas.{SizeStep, SessionStep, BuffersStep, PairStep, FenceStep, Step, size_step, session_step, buffers_step, pair_step, fence_step, sort}
+use Rattle.flat_forms.proofs.lemmas.StepLemmas.{SizeStep, SessionStep, ProbeStep, BuffersStep, PairStep, FenceStep, Step, size_step, session_step, probe_step, buffers_step, pair_step, fence_step, sort}
 
 -- places in a list with one more name
 
@@ -72,6 +72,19 @@ after_session u m n fresh other =
 
 apart_session : (u : Script) (m n : Word) → IsFresh (with_session u m) n → bytes_eq n m ≡ false
 apart_session u m n fresh = bytes_eq_sym n m ∙ differs u.sessions m n (no_place (with_session u m) n fresh.fresh).sessions
+
+before_probe : (u : Script) (m n : Word) → IsFresh (with_probe u m) n → IsFresh u n
+before_probe u m n fresh =
+    let none = no_place (with_probe u m) n fresh.fresh in
+    record { name = fresh.name; fresh = undeclared u n (record { sessions = none.sessions; probes = place_before u.probes m n none.probes; buffers = none.buffers; pairs = none.pairs; fences = none.fences }) }
+
+after_probe : (u : Script) (m n : Word) → IsFresh u n → bytes_eq m n ≡ false → IsFresh (with_probe u m) n
+after_probe u m n fresh other =
+    let none = no_place u n fresh.fresh in
+    record { name = fresh.name; fresh = undeclared (with_probe u m) n (record { sessions = none.sessions; probes = place_else u.probes m n other ∙ none.probes; buffers = none.buffers; pairs = none.pairs; fences = none.fences }) }
+
+apart_probe : (u : Script) (m n : Word) → IsFresh (with_probe u m) n → bytes_eq n m ≡ false
+apart_probe u m n fresh = bytes_eq_sym n m ∙ differs u.probes m n (no_place (with_probe u m) n fresh.fresh).probes
 
 before_buffers : (u : Script) (m n : Word) (d : BufferDecl) → IsFresh (with_buffers u m d) n → IsFresh u n
 before_buffers u m n d fresh =
@@ -164,7 +177,31 @@ swap_session_size u m t b ws x moved =
       second_sort = refl;
     }
 
-swap_buffers_size : (u m t : Script) (b ws : List Word) → BuffersStep u b m → SizeStep m ws t → Swapped u b ws t 2 0
+swap_probe_size : (u m t : Script) (b ws : List Word) → ProbeStep u b m → SizeStep m ws t → Swapped u b ws t 2 0
+swap_probe_size u m t b ws x moved =
+    let P : Script → Type 0 = λ v. SizeStep v ws t in
+    let y = subst P x.made moved in
+    record {
+      mid = with_display u y.w y.h;
+      first = size_step (record { rest = y.rest; w = y.w; h = y.h; begins = y.begins; first = y.first; read = y.read; made = refl });
+      first_sort = refl;
+      second = probe_step (record { name = x.name; begins = x.begins; room = x.room; fresh = record { name = x.fresh.name; fresh = x.fresh.fresh }; made = y.made });
+      second_sort = refl;
+    }
+
+swap_probe_session : (u m t : Script) (b ws : List Word) → ProbeStep u b m → SessionStep m ws t → Swapped u b ws t 2 1
+swap_probe_session u m t b ws x moved =
+    let P : Script → Type 0 = λ v. SessionStep v ws t in
+    let y = subst P x.made moved in
+    record {
+      mid = with_session u y.name;
+      first = session_step (record { name = y.name; begins = y.begins; room = y.room; fresh = before_probe u x.name y.name y.fresh; made = refl });
+      first_sort = refl;
+      second = probe_step (record { name = x.name; begins = x.begins; room = x.room; fresh = after_session u y.name x.name x.fresh (apart_probe u x.name y.name y.fresh); made = y.made });
+      second_sort = refl;
+    }
+
+swap_buffers_size : (u m t : Script) (b ws : List Word) → BuffersStep u b m → SizeStep m ws t → Swapped u b ws t 3 0
 swap_buffers_size u m t b ws x moved =
     let P : Script → Type 0 = λ v. SizeStep v ws t in
     let y = subst P x.made moved in
@@ -176,7 +213,7 @@ swap_buffers_size u m t b ws x moved =
       second_sort = refl;
     }
 
-swap_buffers_session : (u m t : Script) (b ws : List Word) → BuffersStep u b m → SessionStep m ws t → Swapped u b ws t 2 1
+swap_buffers_session : (u m t : Script) (b ws : List Word) → BuffersStep u b m → SessionStep m ws t → Swapped u b ws t 3 1
 swap_buffers_session u m t b ws x moved =
     let P : Script → Type 0 = λ v. SessionStep v ws t in
     let y = subst P x.made moved in
@@ -188,7 +225,19 @@ swap_buffers_session u m t b ws x moved =
       second_sort = refl;
     }
 
-swap_pair_size : (u m t : Script) (b ws : List Word) → PairStep u b m → SizeStep m ws t → Swapped u b ws t 3 0
+swap_buffers_probe : (u m t : Script) (b ws : List Word) → BuffersStep u b m → ProbeStep m ws t → Swapped u b ws t 3 2
+swap_buffers_probe u m t b ws x moved =
+    let P : Script → Type 0 = λ v. ProbeStep v ws t in
+    let y = subst P x.made moved in
+    record {
+      mid = with_probe u y.name;
+      first = probe_step (record { name = y.name; begins = y.begins; room = y.room; fresh = before_buffers u x.name y.name x.decl y.fresh; made = refl });
+      first_sort = refl;
+      second = buffers_step (record { name = x.name; owner = x.owner; a = x.a; b = x.b; c = x.c; decl = x.decl; begins = x.begins; room = x.room; fresh = after_probe u y.name x.name x.fresh (apart_buffers u x.name y.name x.decl y.fresh); owned = x.owned; count = x.count; width = x.width; height = x.height; made = y.made });
+      second_sort = refl;
+    }
+
+swap_pair_size : (u m t : Script) (b ws : List Word) → PairStep u b m → SizeStep m ws t → Swapped u b ws t 4 0
 swap_pair_size u m t b ws x moved =
     let P : Script → Type 0 = λ v. SizeStep v ws t in
     let y = subst P x.made moved in
@@ -200,7 +249,7 @@ swap_pair_size u m t b ws x moved =
       second_sort = refl;
     }
 
-swap_pair_session : (u m t : Script) (b ws : List Word) → PairStep u b m → SessionStep m ws t → Swapped u b ws t 3 1
+swap_pair_session : (u m t : Script) (b ws : List Word) → PairStep u b m → SessionStep m ws t → Swapped u b ws t 4 1
 swap_pair_session u m t b ws x moved =
     let P : Script → Type 0 = λ v. SessionStep v ws t in
     let y = subst P x.made moved in
@@ -212,7 +261,19 @@ swap_pair_session u m t b ws x moved =
       second_sort = refl;
     }
 
-swap_pair_buffers : (u m t : Script) (b ws : List Word) → PairStep u b m → BuffersStep m ws t → Swapped u b ws t 3 2
+swap_pair_probe : (u m t : Script) (b ws : List Word) → PairStep u b m → ProbeStep m ws t → Swapped u b ws t 4 2
+swap_pair_probe u m t b ws x moved =
+    let P : Script → Type 0 = λ v. ProbeStep v ws t in
+    let y = subst P x.made moved in
+    record {
+      mid = with_probe u y.name;
+      first = probe_step (record { name = y.name; begins = y.begins; room = y.room; fresh = before_pair u x.name y.name x.decl y.fresh; made = refl });
+      first_sort = refl;
+      second = pair_step (record { name = x.name; x = x.x; y = x.y; decl = x.decl; begins = x.begins; room = x.room; fresh = after_probe u y.name x.name x.fresh (apart_pair u x.name y.name x.decl y.fresh); single = x.single; viewport = x.viewport; view = x.view; made = y.made });
+      second_sort = refl;
+    }
+
+swap_pair_buffers : (u m t : Script) (b ws : List Word) → PairStep u b m → BuffersStep m ws t → Swapped u b ws t 4 3
 swap_pair_buffers u m t b ws x moved =
     let P : Script → Type 0 = λ v. BuffersStep v ws t in
     let y = subst P x.made moved in
@@ -224,7 +285,7 @@ swap_pair_buffers u m t b ws x moved =
       second_sort = refl;
     }
 
-swap_fence_size : (u m t : Script) (b ws : List Word) → FenceStep u b m → SizeStep m ws t → Swapped u b ws t 4 0
+swap_fence_size : (u m t : Script) (b ws : List Word) → FenceStep u b m → SizeStep m ws t → Swapped u b ws t 5 0
 swap_fence_size u m t b ws x moved =
     let P : Script → Type 0 = λ v. SizeStep v ws t in
     let y = subst P x.made moved in
@@ -236,7 +297,7 @@ swap_fence_size u m t b ws x moved =
       second_sort = refl;
     }
 
-swap_fence_session : (u m t : Script) (b ws : List Word) → FenceStep u b m → SessionStep m ws t → Swapped u b ws t 4 1
+swap_fence_session : (u m t : Script) (b ws : List Word) → FenceStep u b m → SessionStep m ws t → Swapped u b ws t 5 1
 swap_fence_session u m t b ws x moved =
     let P : Script → Type 0 = λ v. SessionStep v ws t in
     let y = subst P x.made moved in
@@ -248,7 +309,19 @@ swap_fence_session u m t b ws x moved =
       second_sort = refl;
     }
 
-swap_fence_buffers : (u m t : Script) (b ws : List Word) → FenceStep u b m → BuffersStep m ws t → Swapped u b ws t 4 2
+swap_fence_probe : (u m t : Script) (b ws : List Word) → FenceStep u b m → ProbeStep m ws t → Swapped u b ws t 5 2
+swap_fence_probe u m t b ws x moved =
+    let P : Script → Type 0 = λ v. ProbeStep v ws t in
+    let y = subst P x.made moved in
+    record {
+      mid = with_probe u y.name;
+      first = probe_step (record { name = y.name; begins = y.begins; room = y.room; fresh = before_fence u x.name y.name x.decl y.fresh; made = refl });
+      first_sort = refl;
+      second = fence_step (record { name = x.name; rest = x.rest; decl = x.decl; begins = x.begins; room = x.room; fresh = after_probe u y.name x.name x.fresh (apart_fence u x.name y.name x.decl y.fresh); owners = x.owners; made = y.made });
+      second_sort = refl;
+    }
+
+swap_fence_buffers : (u m t : Script) (b ws : List Word) → FenceStep u b m → BuffersStep m ws t → Swapped u b ws t 5 3
 swap_fence_buffers u m t b ws x moved =
     let P : Script → Type 0 = λ v. BuffersStep v ws t in
     let y = subst P x.made moved in
@@ -260,7 +333,7 @@ swap_fence_buffers u m t b ws x moved =
       second_sort = refl;
     }
 
-swap_fence_pair : (u m t : Script) (b ws : List Word) → FenceStep u b m → PairStep m ws t → Swapped u b ws t 4 3
+swap_fence_pair : (u m t : Script) (b ws : List Word) → FenceStep u b m → PairStep m ws t → Swapped u b ws t 5 4
 swap_fence_pair u m t b ws x moved =
     let P : Script → Type 0 = λ v. PairStep v ws t in
     let y = subst P x.made moved in
@@ -275,26 +348,37 @@ swap_fence_pair u m t b ws x moved =
 pub swap : (u m t : Script) (b ws : List Word) (x : Step u b m) (y : Step m ws t) → sort y < sort x → Swapped u b ws t (sort x) (sort y)
 swap u m t b ws (size_step x) (size_step y) less = absurd (omega arith)
 swap u m t b ws (size_step x) (session_step y) less = absurd (omega arith)
+swap u m t b ws (size_step x) (probe_step y) less = absurd (omega arith)
 swap u m t b ws (size_step x) (buffers_step y) less = absurd (omega arith)
 swap u m t b ws (size_step x) (pair_step y) less = absurd (omega arith)
 swap u m t b ws (size_step x) (fence_step y) less = absurd (omega arith)
 swap u m t b ws (session_step x) (size_step y) less = swap_session_size u m t b ws x y
 swap u m t b ws (session_step x) (session_step y) less = absurd (omega arith)
+swap u m t b ws (session_step x) (probe_step y) less = absurd (omega arith)
 swap u m t b ws (session_step x) (buffers_step y) less = absurd (omega arith)
 swap u m t b ws (session_step x) (pair_step y) less = absurd (omega arith)
 swap u m t b ws (session_step x) (fence_step y) less = absurd (omega arith)
+swap u m t b ws (probe_step x) (size_step y) less = swap_probe_size u m t b ws x y
+swap u m t b ws (probe_step x) (session_step y) less = swap_probe_session u m t b ws x y
+swap u m t b ws (probe_step x) (probe_step y) less = absurd (omega arith)
+swap u m t b ws (probe_step x) (buffers_step y) less = absurd (omega arith)
+swap u m t b ws (probe_step x) (pair_step y) less = absurd (omega arith)
+swap u m t b ws (probe_step x) (fence_step y) less = absurd (omega arith)
 swap u m t b ws (buffers_step x) (size_step y) less = swap_buffers_size u m t b ws x y
 swap u m t b ws (buffers_step x) (session_step y) less = swap_buffers_session u m t b ws x y
+swap u m t b ws (buffers_step x) (probe_step y) less = swap_buffers_probe u m t b ws x y
 swap u m t b ws (buffers_step x) (buffers_step y) less = absurd (omega arith)
 swap u m t b ws (buffers_step x) (pair_step y) less = absurd (omega arith)
 swap u m t b ws (buffers_step x) (fence_step y) less = absurd (omega arith)
 swap u m t b ws (pair_step x) (size_step y) less = swap_pair_size u m t b ws x y
 swap u m t b ws (pair_step x) (session_step y) less = swap_pair_session u m t b ws x y
+swap u m t b ws (pair_step x) (probe_step y) less = swap_pair_probe u m t b ws x y
 swap u m t b ws (pair_step x) (buffers_step y) less = swap_pair_buffers u m t b ws x y
 swap u m t b ws (pair_step x) (pair_step y) less = absurd (omega arith)
 swap u m t b ws (pair_step x) (fence_step y) less = absurd (omega arith)
 swap u m t b ws (fence_step x) (size_step y) less = swap_fence_size u m t b ws x y
 swap u m t b ws (fence_step x) (session_step y) less = swap_fence_session u m t b ws x y
+swap u m t b ws (fence_step x) (probe_step y) less = swap_fence_probe u m t b ws x y
 swap u m t b ws (fence_step x) (buffers_step y) less = swap_fence_buffers u m t b ws x y
 swap u m t b ws (fence_step x) (pair_step y) less = swap_fence_pair u m t b ws x y
 swap u m t b ws (fence_step x) (fence_step y) less = absurd (omega arith)

@@ -15,5 +15,5 @@ mod seats;
 
 pub use frame::Frame;
 pub use probe::Probe;
-pub use published::Published;
+pub use published::{BookMark, Published};
 pub use seats::ProbeSeats;

@@ -126,6 +126,32 @@ fn seat_all(
     Ok(all)
 }
 
+/// Which book of frames it is: that in which a [`Published`] and its probes stand. It is
+/// for whoever has to say of a probe whose it is.
+#[derive(Drop)]
+pub struct BookMark {
+    seen: FramesSeen,
+}
+
+impl Model for BookMark {
+    ghost use Rattle.logbook.specs.Pages.{Book};
+
+    ghost Value = { Book };
+
+    ghost view = { λ m. m.seen.book };
+}
+
+impl BookMark {
+    /// One more of the same book.
+    pub fn again(&self) -> BookMark
+        ensures { result ≡ self.now }
+    {
+        BookMark {
+            seen: self.seen.again(),
+        }
+    }
+}
+
 /// Who publishes frames. Contracts see the book of all frames, which of them are
 /// published, those that were refused since then and that the next publish may add
 /// before its own, and the greatest number given.
@@ -189,6 +215,15 @@ impl Published {
                 writer.take(rt);
                 Err(e)
             }
+        }
+    }
+
+    /// The book in which it stands.
+    pub fn home(&self) -> BookMark
+        ensures { result ≡ self.now.home }
+    {
+        BookMark {
+            seen: self.newest.again(),
         }
     }
 

@@ -1,12 +1,9 @@
 -- What sessions enter changes nothing of what the display's entries tell.
-use Rattle.std.proofs.Common.{◌≡◌, ℕ, ℤ, suc, ◌+◌, Bool, true, false, cond, not, ◌&&◌, ◌||◌, ◌==◌, List, [], ◌∷◌, ◌++◌, filter, reverse, refl, sym, ap, ◌∙◌, subst, arith, append-nil}
-use Rattle.std.proofs.lemmas.Bool.Decides.{nat_tests}
+use Rattle.std.proofs.Common.{◌≡◌, ℕ, ℤ, suc, Bool, true, false, cond, ◌==◌, List, [], ◌∷◌, ◌++◌, filter, reverse, refl, sym, ap, ◌∙◌, subst, append-nil}
 use Rattle.std.proofs.lemmas.List.{append_cancel_left, append_cancel_right, reverse-append}
 use Rattle.std.proofs.lemmas.List.Elements.{filter-append}
 use Rattle.flat_base.specs.declared.ids.Actor.{Actor}
 use Rattle.flat_base.specs.declared.ids.Actor.TheVariants.{Display, Session, Probe}
-use Rattle.flat_base.specs.declared.ids.SessionNo.{SessionNo}
-use Rattle.flat_scene.specs.declared.frames.FrameOut.{FrameOut}
 use Rattle.flat_scene.specs.declared.frames.Hit as point
 use Rattle.flat_scene.specs.declared.journal.Entry.{Entry}
 use Rattle.flat_scene.specs.declared.journal.Kind.{Kind}
@@ -16,13 +13,14 @@ use Rattle.flat_scene.specs.History.{◌▹◌, history_of, is_display, seat_num
 use Rattle.flat_scene.specs.Interleave.{by_display}
 use Rattle.flat_scene.specs.Setups.{is_declared}
 use Rattle.flat_rules.specs.Ends.{to_begin, to_finished}
-use Rattle.flat_rules.specs.Legal.{Legal, is_frame_open, begin_time, frames, time_of, may_act, session_may}
+use Rattle.flat_rules.specs.Legal.{Legal, is_frame_open, begin_time, frames, may_act, session_may}
 use Rattle.flat_report.specs.declared.report.HitAnswer.{HitAnswer}
 use Rattle.flat_report.specs.Handed.{answer_to, answers_of}
 use Rattle.flat_report.specs.Report.{finished, frame_at, hits_at}
 use Rattle.flat_stage.specs.Seats.{MakesOne, entries_of_seat}
+use Rattle.flat_race.specs.Publishing.{published_frames, shown_frame}
 use Rattle.flat_rules.proofs.lemmas.FrameKinds.{not-begin, not-finish}
-use Rattle.flat_base.proofs.lemmas.Tests.{and-left, and-right}
+use Rattle.flat_base.proofs.lemmas.Tests.{and-left}
 
 -- all that is told of the display is the same in both histories
 pub record IsBeside (setup : Setup) (before after : List Entry) : Type 0 where
@@ -33,6 +31,7 @@ pub record IsBeside (setup : Setup) (before after : List Entry) : Type 0 where
   pub ended : to_finished after ≡ to_finished before
   pub number : frames after ≡ frames before
   pub finishing : finished setup after ≡ finished setup before
+  pub publishing : published_frames setup after ≡ published_frames setup before
   pub answering : answers_of setup after ≡ answers_of setup before
 
 not_hit : (entry : Entry) (n : ℕ) (hits : ℤ → ℤ → List point.Hit) (kind : Kind) → session_may kind ≡ true → answer_to entry n hits kind ≡ []
@@ -66,6 +65,7 @@ module _ (setup : Setup) where
         ended = rw finishes refl;
         number = rw finishes refl;
         finishing = ap (λ b. finished setup before ++ cond b (frame_at setup (suc (frames before)) (to_begin before) ∷ []) []) finishes ∙ append-nil (finished setup before);
+        publishing = ap (λ b. published_frames setup before ++ cond b (shown_frame setup (suc (frames before)) (to_begin before) ∷ []) []) finishes ∙ append-nil (published_frames setup before);
         answering = ap (λ (more : List HitAnswer). answers_of setup before ++ more) (not_hit entry (frames before) (hits_at setup (to_finished before)) entry.kind is.may) ∙ append-nil (answers_of setup before);
       }
 
@@ -78,11 +78,12 @@ module _ (setup : Setup) where
     ended = two.ended ∙ one.ended;
     number = two.number ∙ one.number;
     finishing = two.finishing ∙ one.finishing;
+    publishing = two.publishing ∙ one.publishing;
     answering = two.answering ∙ one.answering;
   }
 
   pub beside_none : (before : List Entry) → IsBeside setup before before
-  beside_none before = record { display = refl; is_open = refl; time = refl; begun = refl; ended = refl; number = refl; finishing = refl; answering = refl }
+  beside_none before = record { display = refl; is_open = refl; time = refl; begun = refl; ended = refl; number = refl; finishing = refl; publishing = refl; answering = refl }
 
   others : (entry : Entry) (later : List Entry) (b : Bool) → is_first entry ≡ b → filter is_first (entry ∷ later) ≡ [] → (is_first entry ≡ false) × (filter is_first later ≡ [])
   others entry later true is none = absurd (let both : entry ∷ filter is_first later ≡ [] = sym (ap (λ b. cond b (entry ∷ filter is_first later) (filter is_first later)) is) ∙ none in cc)

@@ -1,8 +1,8 @@
 -- From what each seat knows at the end to what the whole history is.
-use Rattle.std.proofs.Common.{◌≡◌, ℕ, suc, ◌+◌, ◌<◌, ◌≤◌, ◌&&◌, nat_lt, nat_le, Bool, true, List, [], ◌∷◌, ◌++◌, length, reverse, slice_get, Option, Some, refl, sym, ap, ◌∙◌, subst, arith}
+use Rattle.std.proofs.Common.{◌≡◌, ℕ, suc, ◌+◌, ◌<◌, ◌≤◌, true, List, [], ◌∷◌, ◌++◌, length, reverse, slice_get, Option, Some, refl, sym, ap, ◌∙◌, subst, arith}
 use Rattle.std.specs.List.{list_all}
 use Rattle.std.specs.Option.{is_some}
-use Rattle.std.proofs.lemmas.List.{reverse-reverse}
+use Rattle.std.proofs.lemmas.List.{reverse-append, reverse-reverse}
 use Rattle.flat_base.specs.declared.ids.SessionNo.{SessionNo}
 use Rattle.flat_base.specs.declared.limits.TheConstants.{SESSIONS_MAX}
 use Rattle.flat_scene.specs.declared.journal.Entry.{Entry}
@@ -16,17 +16,18 @@ use Rattle.flat_rules.specs.Seats.{JournalsKeepSeats, SeatsTellActors, of_seat}
 use Rattle.flat_places.specs.declared.script.Script.{Script}
 use Rattle.flat_stage.specs.Displays.{DisplayView}
 use Rattle.flat_stage.specs.Homes.{SeatsView}
-use Rattle.flat_stage.specs.Seats.{SessionView, StageView, entries_of_seat, setup_of}
+use Rattle.flat_stage.specs.Seats.{SessionView, StageView, entries_of_seat}
 use Rattle.flat_report.specs.Report.{finished}
 use Rattle.flat_play.specs.Playing.{HasPlayed}
 use Rattle.flat_play.proofs.lemmas.Places.{all_to, drop_all}
 use Rattle.flat_play.proofs.lemmas.Starting.{is_numbered}
 use Rattle.flat_race.specs.declared.director.Film.{Film}
 use Rattle.flat_race.specs.Ends.{HaveEnded}
-use Rattle.flat_race.specs.Sessions.{IsStageOf}
+use Rattle.flat_report.specs.Probes.{ProbesAnswered}
 use Rattle.flat_race.proofs.Beside.{IsBeside, seen_beside}
 use Rattle.flat_race.proofs.DirectSteps.{display_same}
 use Rattle.flat_race.proofs.HandSteps.{film_same}
+use Rattle.flat_race.proofs.Probed.{answered-on-all}
 use Rattle.flat_base.proofs.lemmas.Tests.{and-true}
 
 -- what is known of all seats once the stage is closed
@@ -87,3 +88,9 @@ module _ (script : Script) (view : StageView) (compositor : DisplayView) (seats 
 
     pub same_frames : finished script.setup board.history ≡ finished script.setup (history_of compositor.seen)
     same_frames = same_display.finishing
+
+    pub all_probed : ProbesAnswered script board.history film.probes.items
+    all_probed =
+        let rest : List Entry = closed.display.0.0 in
+        let whole : board.history ≡ reverse rest ++ history_of compositor.seen = sym (reverse-reverse board.history) ∙ ap history_of closed.display.0.1 ∙ reverse-append compositor.seen rest in
+        answered-on-all script (reverse rest) (history_of compositor.seen) board.history film.probes.items whole ended.probed

@@ -1,5 +1,5 @@
 -- The whole compositor after one more line of the script.
-use Rattle.std.proofs.Common.{◌≡◌, ℕ, ℤ, suc, ◌+◌, ◌<◌, ◌≤◌, Bool, true, false, cond, not, ◌&&◌, nat_le, ◌==◌, List, [], ◌∷◌, ◌++◌, length, drop, slice_get, slice_index, Option, Some, refl, sym, ap, ◌∙◌, subst, arith, append-nil, IsTrue}
+use Rattle.std.proofs.Common.{◌≡◌, ℕ, ℤ, suc, ◌+◌, ◌<◌, ◌≤◌, Bool, true, false, cond, not, nat_le, ◌==◌, List, [], ◌∷◌, ◌++◌, length, drop, slice_get, slice_index, Option, Some, refl, sym, ap, ◌∙◌, subst, arith, append-nil}
 use Rattle.std.proofs.lemmas.Bool.Decides.{nat_tests}
 use Rattle.std.proofs.lemmas.Grind.{common_steps}
 use Rattle.std.proofs.lemmas.List.{append_assoc, length-reverse}
@@ -7,6 +7,7 @@ use Rattle.std.proofs.lemmas.List.Sums.{length-filter}
 use Rattle.flat_base.specs.declared.ids.Actor.{Actor}
 use Rattle.flat_base.specs.declared.ids.Actor.TheVariants.{Display, Session, Probe}
 use Rattle.flat_base.specs.declared.ids.FenceNo.{FenceNo}
+use Rattle.flat_base.specs.declared.ids.FrameNo.{FrameNo}
 use Rattle.flat_base.specs.declared.limits.TheConstants.{SESSIONS_MAX}
 use Rattle.flat_scene.specs.declared.frames.FrameOut.{FrameOut}
 use Rattle.flat_scene.specs.declared.frames.Lost.{Lost}
@@ -18,7 +19,6 @@ use Rattle.flat_scene.specs.declared.journal.Reply.{Reply}
 use Rattle.flat_scene.specs.declared.journal.Reply.TheVariants.{Done}
 use Rattle.flat_scene.specs.declared.script.Body.{Body}
 use Rattle.flat_scene.specs.declared.script.Body.TheVariants as body
-use Rattle.flat_scene.specs.declared.script.ProbeLine.{ProbeLine}
 use Rattle.flat_scene.specs.declared.script.Cond.{Cond}
 use Rattle.flat_scene.specs.declared.script.Cond.TheVariants as asks
 use Rattle.flat_scene.specs.declared.script.DisplayLine.{DisplayLine}
@@ -29,7 +29,7 @@ use Rattle.flat_scene.specs.History.{◌▹◌, history_of, is_begin, is_finish,
 use Rattle.flat_scene.specs.Interleave.{entry_of_display}
 use Rattle.flat_core.specs.Machines.{MayLook, entry_of, made}
 use Rattle.flat_rules.specs.Ends.{to_begin, to_finished}
-use Rattle.flat_rules.specs.Legal.{Legal, is_frame_open, begin_time, display_may, frames, may_act, names_declared}
+use Rattle.flat_rules.specs.Legal.{Legal, is_frame_open, begin_time, display_may, frames, names_declared}
 use Rattle.flat_rules.specs.Owned.{is_played_display}
 use Rattle.flat_rules.specs.Seats.{DisplayKnowsFrames, JournalsKeepSeats, SeatsTellActors, of_seat}
 use Rattle.flat_rules.specs.Shown.{shown_states}
@@ -37,7 +37,7 @@ use Rattle.flat_topology.specs.Changes.{AreSame}
 use Rattle.flat_topology.specs.Hits.{hit_list}
 use Rattle.flat_topology.specs.Shown.{Shown}
 use Rattle.flat_report.specs.declared.report.HitAnswer.{HitAnswer}
-use Rattle.flat_report.specs.Handed.{answer_to, answers_of}
+use Rattle.flat_report.specs.Handed.{answer_to}
 use Rattle.flat_report.specs.Report.{finished, frame_at, hits_at}
 use Rattle.flat_places.specs.declared.script.Script.{Script}
 use Rattle.flat_playable.specs.Playable.{frames_close, is_playable, is_played, keeps_frames}
@@ -45,9 +45,9 @@ use Rattle.flat_stage.specs.Displays.{AreViewed, DisplayEnters, DisplaySees, Dis
 use Rattle.flat_stage.specs.Seats.{StageView, setup_of, entries_of_seat}
 use Rattle.flat_stage.specs.Seats as stage
 use Rattle.flat_play.specs.Last.{StaysLast}
-use Rattle.flat_play.specs.Playing.{AnswersStand, lines_by, rest_shares, shares_of}
+use Rattle.flat_play.specs.Playing.{AnswersStand, DisplayStands, lines_by}
 use Rattle.flat_play.proofs.lemmas.GameSteps.{keeps_same}
-use Rattle.flat_play.proofs.lemmas.DisplaySteps.{finished-beside, answers_beside, answers_done, answers_point, begin_time_ok, display_session, done_ok}
+use Rattle.flat_play.proofs.lemmas.DisplaySteps.{finished-beside, answers_beside, answers_done, answers_point, begin_time_ok, display_probe, display_session, done_ok}
 use Rattle.flat_play.proofs.lemmas.DisplaySteps as quiet
 use Rattle.flat_play.proofs.lemmas.FramesShown.{all-finished, few_frames}
 use Rattle.flat_display.specs.Lost.{Driven}
@@ -62,12 +62,9 @@ use Rattle.flat_race.specs.Directing.{FilmStands, HandStands, HasLooked, KeepsFr
 use Rattle.flat_race.specs.Sessions.{IsStageOf}
 use Rattle.flat_base.proofs.lemmas.Tests.{and-left, and-right}
 use Rattle.flat_race.proofs.Beside.{IsBeside, seen_beside}
-use Rattle.flat_race.proofs.DirectSteps.{Enters, answers_same, display_same, enters_as, seat_begins, seat_beside, seat_finishes}
-
-no_probe_body : (setup : Setup) (who : Actor) (text : ProbeLine) → is_played setup who (body.Probe text) ≡ true → ⊥
-no_probe_body setup Display text played = cc
-no_probe_body setup (Session s) text played = cc
-no_probe_body setup (Probe p) text played = cc
+use Rattle.flat_race.specs.Publishing.{FinishesOne}
+use Rattle.flat_race.proofs.Finishing.{finishes_one}
+use Rattle.flat_race.proofs.DirectSteps.{answers_same, display_same, enters_as, seat_begins, seat_beside, seat_finishes}
 
 closed_then : (b : Bool) → not b ≡ true → b ≡ false
 closed_then true closed = absurd (let wrong : false ≡ true = closed in cc)
@@ -168,7 +165,7 @@ changes_same last last' (Open old) (Idle new) same opened kept knows = absurd (l
 
 module _ (script : Script) (view : StageView) (place : ℕ) where
   -- the compositor looked
-  looked_beside : (hand hand' : Hand) (film : Film) → HasLooked script.setup hand hand' → HandStands script view place hand film → IsBeside script.setup (history_of (hand_seat hand).seen) (history_of (hand_seat hand').seen)
+  pub looked_beside : (hand hand' : Hand) (film : Film) → HasLooked script.setup hand hand' → HandStands script view place hand film → IsBeside script.setup (history_of (hand_seat hand).seen) (history_of (hand_seat hand').seen)
   looked_beside hand hand' film looks stands =
       let old : List Entry = (hand_seat hand).seen in
       let more : List Entry = looks.sees.longer.0 in
@@ -248,6 +245,17 @@ module _ (script : Script) (view : StageView) (place : ℕ) where
     finished_still kind reply seat seat' no_finish stands enters =
         let en = enters_as script view place x at of.setup seat seat' stands kind reply enters in
         ap (finished script.setup) en.grown ∙ finished-beside script.setup en.middle (entry_of Display x.number [] kind reply) no_finish ∙ en.beside.finishing
+
+    -- what is to be published after each
+    pub publishes_then : (seat seat' : DisplayView) → SeatStands script view place seat → DisplayEnters x.number Finish Done seat seat' → FinishesOne script.setup (history_of seat.seen) (history_of seat'.seen)
+    publishes_then seat seat' stands enters =
+        let en = enters_as script view place x at of.setup seat seat' stands Finish Done enters in
+        finishes_one script.setup (history_of seat.seen) en.middle (history_of seat'.seen) (entry_of Display x.number [] Finish Done) en.beside en.grown true refl
+
+    pub publishes_still : (kind : Kind) (reply : Reply) (seat seat' : DisplayView) → is_finish kind ≡ false → SeatStands script view place seat → DisplayEnters x.number kind reply seat seat' → FinishesOne script.setup (history_of seat.seen) (history_of seat'.seen)
+    publishes_still kind reply seat seat' no_finish stands enters =
+        let en = enters_as script view place x at of.setup seat seat' stands kind reply enters in
+        finishes_one script.setup (history_of seat.seen) en.middle (history_of seat'.seen) (entry_of Display x.number [] kind reply) en.beside en.grown false no_finish
 
     -- a frame is finished
     pub hand_finishes : x.body ≡ body.Display display.Done → (frame : FrameView) (seat : DisplayView) (film film' : Film) → HandStands script view place (Open frame) film → DisplayEnters x.number Finish Done frame.display seat
@@ -335,13 +343,16 @@ module _ (script : Script) (view : StageView) (place : ℕ) where
   pub hand_other : (x : ScriptLine) → At script place x → ((text : DisplayLine) → x.body ≡ body.Display text → ⊥) → (hand : Hand) (film : Film) → HandStands script view place hand film → HandStands script view (place + 1) hand film
   hand_other x at other hand film stands = by_body x.body refl
     where
+      spent : length (hand_seat hand).mine + lines_by 0 (drop (place + 1) script.lines) ≤ lines_by 0 script.lines
+      spent = let was = stands.seat.spent in let left = ap (lines_by 0) at.left in let more : lines_by 0 (x ∷ drop (place + 1) script.lines) ≡ lines_by 0 (drop (place + 1) script.lines) + cond (seat_number x.actor == 0) 1 0 = grind (arith, common_steps) in omega (arith, was, left, more)
+
+      with_display : DisplayStands script (place + 1) (history_of (hand_seat hand).seen) → HandStands script view (place + 1) hand film
+      with_display display = record { seat = record { own = stands.seat.own; mine = stands.seat.mine; legal = stands.seat.legal; display = display; spent = spent }; frame = stands.frame; shows = stands.shows; changes = stands.changes; kept = stands.kept }
+
       by_body : (b : Body) → x.body ≡ b → HandStands script view (place + 1) hand film
       by_body (body.Display text) is = absurd (other text is)
-      by_body (body.Session text) is = record { seat = record { own = stands.seat.own; mine = stands.seat.mine; legal = stands.seat.legal; display = display_session script place x at text is _ _ (quiet.same refl) stands.seat.display; spent = spent }; frame = stands.frame; shows = stands.shows; changes = stands.changes; kept = stands.kept }
-        where
-          spent : length (hand_seat hand).mine + lines_by 0 (drop (place + 1) script.lines) ≤ lines_by 0 script.lines
-          spent = let was = stands.seat.spent in let left = ap (lines_by 0) at.left in let more : lines_by 0 (x ∷ drop (place + 1) script.lines) ≡ lines_by 0 (drop (place + 1) script.lines) + cond (seat_number x.actor == 0) 1 0 = grind (arith, common_steps) in omega (arith, was, left, more)
-      by_body (body.Probe text) is = absurd (no_probe_body script.setup x.actor text (ap (is_played script.setup x.actor) (sym is) ∙ at.played))
+      by_body (body.Session text) is = with_display (display_session script place x at text is _ _ (quiet.same refl) stands.seat.display)
+      by_body (body.Probe text) is = with_display (display_probe script place x at text is _ stands.seat.display)
 
 -- what the display may wait for
 pub wait_fits : (setup : Setup) (c : Cond) → is_played_display setup (display.Wait c) ≡ true → (display_may (Wait c) ≡ true) × (names_declared setup (Wait c) ≡ true)
@@ -403,3 +414,22 @@ shown_as told count old old' new new' set set' olds news old_is new_is shown =
     let P : List FrameOut → Type 0 = λ fs. IsShown told count fs new set set' olds news in
     let Q : List FrameOut → Type 0 = λ fs. IsShown told count old' fs set set' olds news in
     subst Q (sym new_is) (subst P (sym old_is) shown)
+
+-- ---- once the last frame is published
+
+-- whatever was joined of the last frame
+pub hand_last : (script : Script) (view : StageView) (place : ℕ) (hand : Hand) (film film' : Film) → film' ≡ record film { last = film'.last } → StaysLast script.setup film.last film'.last → HandStands script view place hand film → HandStands script view place hand film'
+hand_last script view place hand film film' rest stays stands =
+    let F : Film → Type 0 = HandStands script view place hand in
+    let K : Shown → Type 0 = λ last. KnowsChanges last hand in
+    let was = stands.kept.answering in
+    subst F (sym rest) (record {
+      seat = stands.seat;
+      frame = stands.frame;
+      shows = stands.shows;
+      changes = subst K (sym stays.reuse) stands.changes;
+      kept = record {
+        keeps = stands.kept.keeps;
+        answering = record { number = ap (λ (f : FrameNo). f.0) stays.frame ∙ was.number; is_last = stays.is; showing = stays.reuse ∙ was.showing; answering = was.answering };
+      };
+    })

@@ -1,9 +1,13 @@
 pub mod Beside
 pub mod Closing
 pub mod DirectSteps
+pub mod Finishing
 pub mod HandSteps
-pub mod Points
 pub mod Outs
 pub mod OwnLines
+pub mod Points
+pub mod Probed
+pub mod Published
 pub mod RaceEnds
 pub mod SessionSteps
+pub mod Settled

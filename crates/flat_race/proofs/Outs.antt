@@ -1,5 +1,5 @@
 -- Seats that go out one after another, and come back the last first.
-use Rattle.std.proofs.Common.{◌≡◌, ◌⊎◌, inl, inr, ℕ, zero, suc, ◌+◌, ◌-◌, ◌<◌, ◌≤◌, Bool, true, false, cond, ◌==◌, List, [], ◌∷◌, ◌++◌, length, length-append, slice_get, slice_set, slice_index_or, Option, Some, None, refl, sym, ap, ◌∙◌, subst, arith, eq-or-lt_of_le}
+use Rattle.std.proofs.Common.{◌≡◌, ◌⊎◌, inl, inr, ℕ, zero, suc, ◌+◌, ◌-◌, ◌<◌, Bool, true, false, cond, ◌==◌, List, [], ◌∷◌, ◌++◌, length, length-append, slice_get, slice_set, slice_index_or, Option, Some, None, refl, sym, ap, ◌∙◌, subst, arith, eq-or-lt_of_le}
 use Rattle.std.proofs.lemmas.Bool.Decides.{nat_tests}
 use Rattle.flat_base.specs.declared.ids.SessionNo.{SessionNo}
 use Rattle.flat_scene.specs.History.{history_of}
@@ -12,7 +12,7 @@ use Rattle.flat_race.specs.declared.session.Back.{Back}
 use Rattle.flat_race.specs.Sessions.{AreBack, AreLeft, AreOut, HasRun, IsOut}
 
 module _ {X : Type 0} where
-  got-push : (xs : List X) (x : X) (i : ℕ) (o : X) → slice_get (xs ++ x ∷ []) i ≡ Some o → (slice_get xs i ≡ Some o) ⊎ ((i ≡ length xs) × (o ≡ x))
+  pub got-push : (xs : List X) (x : X) (i : ℕ) (o : X) → slice_get (xs ++ x ∷ []) i ≡ Some o → (slice_get xs i ≡ Some o) ⊎ ((i ≡ length xs) × (o ≡ x))
   got-push [] x zero o e = let f : x ≡ o = cc in inr (refl, sym f)
   got-push [] x (suc i) o e = absurd (let f : None ≡ Some o = e in cc)
   got-push (y ∷ ys) x zero o e = inl e

@@ -21,17 +21,19 @@ ghost use Rattle.flat_play.specs.Last.{IsLast, StaysLast};
 ghost use Rattle.flat_play.specs.Showing.{HaveSeen, IsShown};
 ghost use Rattle.flat_race.specs.declared.hand.Hand.TheVariants.{Open};
 ghost use Rattle.flat_race.specs.Directing.{hand_seat, is_open, KeepsFrame, HasLooked, KeepsNext, ShowsBegin, FilmStands, HandStands, SeatStands};
+ghost use Rattle.flat_race.specs.Publishing.{FinishesOne, PublishedStand, PublishesLast};
 ghost use Rattle.flat_race.specs.Sessions.{IsStageOf};
 
 use crate::gate::{ASKS, Gate, LOOKS, ask};
 use crate::hand::Hand;
 use crate::lent::Lent;
 use crate::session::asked_of;
-use flat_base::{Actor, NoMemory};
+use flat_base::{Actor, FrameNo, NoMemory};
 use flat_core::shown_states_fit;
 use flat_display::{Display, DisplaySet};
 use flat_play::{Kept, LastFrame, show_last};
-use flat_report::{HitAnswer, HitAnswers};
+use flat_publish::Published;
+use flat_report::{HitAnswer, HitAnswers, ProbeAnswers};
 use flat_rules::{display_knows_frames, journals_keep_seats, seats_tell_actors};
 use flat_scene::{Body, Cond, DisplayLine, Reply};
 use flat_stage::{CompositorSeat, OpenFrame};
@@ -48,6 +50,8 @@ pub(crate) struct Film {
     pub(crate) answers: HitAnswers,
     /// Which displays were lost.
     pub(crate) set: DisplaySet,
+    /// What each probe was answered, once all of them have come back.
+    pub(crate) probes: Vec<ProbeAnswers>,
 }
 
 /// The number of the display among the actors.
@@ -98,7 +102,8 @@ fn begin<R: Wait, G: Gate>(
 }
 
 /// Ends the open frame: it is composed of what it shows, kept, and shown to the
-/// displays that aren't lost, all while the sessions go on; then it is entered.
+/// displays that aren't lost, all while the sessions go on; then it is entered. The gate
+/// hears of it from [`end_line`].
 fn finish<R: Wait, G: Gate>(
     lent: &Lent<R, G>,
     frame: OpenFrame,
@@ -140,7 +145,6 @@ fn finish<R: Wait, G: Gate>(
     film.kept.keep(lent.script, composed)?;
     show_last(&mut film.set, displays, &film.kept);
     let (seat, finished) = frame.done(lent.rt, lent.stage, number);
-    lent.gate.passed(DISPLAY, number, &Reply::Done);
     film.last.frame = finished;
     Ok(seat)
 }
@@ -194,6 +198,7 @@ fn direct_line<R: Wait, G: Gate>(
     requires stands { HandStands lent.now.script.now lent.now.stage.now place hand film.old }
     requires number { length displays.old.items ≡ film.old.set.displays }
     ensures stands { IfOk result (λ hand. HandStands lent.now.script.now lent.now.stage.now (place + 1) hand film.new) }
+    ensures finishes { IfOk result (λ new. FinishesOne lent.now.script.now.setup (history_of (hand_seat hand).seen) (history_of (hand_seat new).seen)) }
     ensures shown { IfOk result (λ new. IsShown (λ d. shown d) (λ d. faults d)
         (finished lent.now.script.now.setup (history_of (hand_seat hand).seen))
         (finished lent.now.script.now.setup (history_of (hand_seat new).seen))
@@ -249,6 +254,7 @@ fn direct_next<R: Wait, G: Gate>(
     requires stands { HandStands lent.now.script.now lent.now.stage.now place hand film.old }
     requires number { length displays.old.items ≡ film.old.set.displays }
     ensures stands { IfOk result (λ hand. HandStands lent.now.script.now lent.now.stage.now (place + 1) hand film.new) }
+    ensures finishes { IfOk result (λ new. FinishesOne lent.now.script.now.setup (history_of (hand_seat hand).seen) (history_of (hand_seat new).seen)) }
     ensures shown { IfOk result (λ new. IsShown (λ d. shown d) (λ d. faults d)
         (finished lent.now.script.now.setup (history_of (hand_seat hand).seen))
         (finished lent.now.script.now.setup (history_of (hand_seat new).seen))
@@ -265,12 +271,68 @@ fn direct_next<R: Wait, G: Gate>(
     }
 }
 
-/// Goes through all lines of the display, beside the sessions.
+/// Publishes the last finished frame to the probes, where there are any and it is a later
+/// one than that of this number.
+fn publish_last<R: Wait, G: Gate>(
+    lent: &Lent<R, G>,
+    film: &mut Film,
+    before: FrameNo,
+    published: &mut Published,
+) -> Result<(), NoMemory>
+    requires setup { is_setup lent.now.script.now.setup ≡ true }
+    requires last { IsLast lent.now.script.now.setup film.old.last }
+    requires given { published.old.given ≤ before.0 }
+    ensures stays { OnOk result (StaysLast lent.now.script.now.setup film.old.last film.new.last) }
+    ensures others { film.new ≡ record film.old { last = film.new.last } }
+    ensures home { published.new.home ≡ published.old.home }
+    ensures publishes { OnOk result (PublishesLast lent.now.script.now.setup before.0 film.old.last published.old published.new) }
+{
+    if lent.script.setup.probes == 0 {
+        return Ok(());
+    }
+    if film.last.frame.0 <= before.0 {
+        return Ok(());
+    }
+    let joined = film.last.share_joined(lent.alloc, &lent.script.setup)?;
+    published.publish(lent.rt, film.last.frame, joined)?;
+    Ok(())
+}
+
+/// Ends a line: a frame that it finished is published, and then the gate hears of it, so
+/// that who is let in behind it sees the frame.
+fn end_line<R: Wait, G: Gate>(
+    lent: &Lent<R, G>,
+    film: &mut Film,
+    before: FrameNo,
+    place: usize,
+    published: &mut Published,
+) -> Result<(), NoMemory>
+    requires place { place < length lent.now.script.now.lines }
+    requires setup { is_setup lent.now.script.now.setup ≡ true }
+    requires last { IsLast lent.now.script.now.setup film.old.last }
+    requires given { published.old.given ≤ before.0 }
+    ensures stays { OnOk result (StaysLast lent.now.script.now.setup film.old.last film.new.last) }
+    ensures others { film.new ≡ record film.old { last = film.new.last } }
+    ensures home { published.new.home ≡ published.old.home }
+    ensures publishes { OnOk result (PublishesLast lent.now.script.now.setup before.0 film.old.last published.old published.new) }
+{
+    let is_later = before.0 < film.last.frame.0;
+    let sent = publish_last(lent, film, before, published);
+    if is_later {
+        lent.gate
+            .passed(DISPLAY, lent.script.lines.at(place).number, &Reply::Done);
+    }
+    sent
+}
+
+/// Goes through all lines of the display, beside the sessions. Each frame is published
+/// once its end is entered.
 pub(crate) fn direct<R: Wait, G: Gate>(
     lent: &Lent<R, G>,
     seat: CompositorSeat,
     film: &mut Film,
     displays: &mut Vec<Box<dyn Display>>,
+    published: &mut Published,
 ) -> Result<CompositorSeat, NoMemory>
     requires playable { is_playable lent.now.script.now ≡ true }
     requires of { IsStageOf lent.now.stage.now lent.now.script.now }
@@ -279,15 +341,20 @@ pub(crate) fn direct<R: Wait, G: Gate>(
     requires none { film.old.set.lost ≡ [] }
     requires number { length displays.old.items ≡ film.old.set.displays }
     requires few { film.old.set.displays < 2 ^ 32 }
+    requires unpublished { published.old ≡ record { home = published.old.home; frames = []; refused = []; given = 0 } }
     ensures stands { IfOk result (λ seat. SeatStands lent.now.script.now lent.now.stage.now (length lent.now.script.now.lines) seat) }
     ensures film { IfOk result (λ seat. FilmStands lent.now.script.now (history_of seat.seen) film.new) }
+    ensures published { IfOk result (λ seat. PublishedStand lent.now.script.now (history_of seat.seen) published.new) }
+    ensures home { published.new.home ≡ published.old.home }
     ensures seen { IfOk result (λ seat. HaveSeen (λ d. shown d) (λ d. faults d) (finished lent.now.script.now.setup (history_of seat.seen)) (history_of seat.seen) film.new.set.lost displays.old.items displays.new.items) }
     ensures keeping { OnOk result (keeping_of film.new.kept ≡ keeping_of film.old.kept) }
     ensures kept { AreKept (λ d. shown d) (λ d. faults d) displays.old.items displays.new.items (λ d. d.vtable) }
 {
     let mut hand = Hand::Idle(seat);
     for place in 0..lent.script.lines.len() {
+        let before = film.last.frame;
         hand = direct_next(lent, hand, film, displays, place)?;
+        end_line(lent, film, before, place, published)?;
     }
     Ok(hand.into_seat())
 }

@@ -3,18 +3,20 @@ ghost use Rattle.std.specs.Prelude.{◌≡◌, ◌≤◌, ◌-◌, true};
 use flat_scene::Reply;
 use std::thread;
 
-/// Says when an entry of a race may be made, and is told of each that was.
+/// Says when an entry of a race may be made or a probe may look, and is told of each
+/// that was and of each answer to a probe's line.
 ///
-/// Actors are numbered from 0: the display, and then the sessions in order of
-/// declaration. A line's number counts from 1, and a session's End has the number
-/// after the last line's.
+/// Actors are numbered from 0: the display, then the sessions and then the probes in
+/// order of declaration. A line's number counts from 1, and a session's End has the
+/// number after the last line's.
 pub trait Gate: Sync {
-    /// Whether the entry of a line may be made. It is asked again and again until it
-    /// says so, at most [`ASKS`] times for one line; after that the entry is made
-    /// anyway.
+    /// Whether the entry of a line may be made, or the look of a probe's. It is asked
+    /// again and again until it says so, at most [`ASKS`] times for one line; after that
+    /// it is made anyway.
     fn open(&self, actor: u32, line: u32) -> bool;
 
-    /// The entry of a line was made, and answered with this reply.
+    /// The entry of a line was made, and answered with this reply; Done where a probe's
+    /// line was answered.
     fn passed(&self, actor: u32, line: u32, reply: &Reply);
 }
 
@@ -35,7 +37,7 @@ impl Gate for OpenGate {
 /// How often the gate is asked for one line at most.
 pub const ASKS: u32 = 1_000_000;
 
-/// How often a Wait looks at its value at most.
+/// How often a Wait looks at its value at most, and an `await` at the frame.
 pub const LOOKS: u32 = 100_000;
 
 /// Asks until the gate is open, or until no ask is left, and answers how many are left.

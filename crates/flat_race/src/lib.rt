@@ -1,5 +1,5 @@
-//! A race: the sessions of a script on threads of their own, beside the compositor,
-//! with gates that say when entries may be made.
+//! A race: the sessions and probes of a script on threads of their own, beside the
+//! compositor, with gates that say when entries may be made.
 #![tactic(auto)]
 
 mod director;
@@ -7,8 +7,11 @@ mod gate;
 mod hand;
 mod lent;
 mod own_lines;
+mod probe;
+mod probe_threads;
 mod race;
 mod session;
+mod settling;
 mod threads;
 
 pub use gate::{ASKS, Gate, LOOKS, OpenGate};

@@ -1,4 +1,4 @@
-ghost use Rattle.std.specs.Prelude.{◌≡◌, ◌<◌, ◌^◌, [], true, length, IfOk, OnOk};
+ghost use Rattle.std.specs.Prelude.{◌≡◌, ◌<◌, ◌^◌, [], true, length, replicate, Some, IfOk, OnOk};
 ghost use Rattle.flat_playable.specs.Playable.{is_playable};
 ghost use Rattle.flat_display.specs.Had.{AreKept};
 ghost use Rattle.flat_scene.specs.History.{history_of};
@@ -6,22 +6,25 @@ ghost use Rattle.flat_rules.specs.Legal.{frames};
 ghost use Rattle.flat_stage.specs.Homes.{AreFresh};
 ghost use Rattle.flat_stage.specs.Seats.{setup_of};
 ghost use Rattle.flat_report.specs.Report.{finished};
+ghost use Rattle.flat_publish.specs.State.{newcomer};
 ghost use Rattle.flat_play.specs.Keeping.{keeping_of};
 ghost use Rattle.flat_play.specs.Playing.{HasPlayed};
 ghost use Rattle.flat_play.specs.Showing.{HaveSeen};
 ghost use Rattle.flat_race.specs.Directing.{FilmStands};
 ghost use Rattle.flat_race.specs.Ends.{HaveEnded};
+ghost use Rattle.flat_report.specs.Probes.{ProbesAnswered};
 ghost use Rattle.flat_race.specs.Sessions.{IsStageOf};
 
 use crate::director::{Film, direct};
 use crate::gate::Gate;
 use crate::lent::Lent;
+use crate::probe_threads::{meet_each, start_probes};
 use crate::threads::{put_back, start_each};
-use flat_base::{NoMemory, TryCopy};
-use flat_core::Board;
+use flat_base::NoMemory;
 use flat_display::{Display, DisplaySet};
 use flat_places::Script;
-use flat_play::{Keeping, Kept, LastFrame, Played, shares_of};
+use flat_play::{Keeping, Kept, LastFrame, Played, open_board};
+use flat_publish::{ProbeSeats, Published};
 use flat_report::HitAnswers;
 use flat_rules::{journals_keep_seats, seats_tell_actors};
 use flat_stage::{CompositorSeat, SessionSeats, Stage};
@@ -65,10 +68,51 @@ fn new_film(
         last,
         answers: HitAnswers::new(alloc),
         set,
+        probes: Vec::new(alloc),
     })
 }
 
-/// Runs the sessions beside the compositor, and puts all their seats back.
+/// Runs the sessions and the probes beside the compositor, and puts the seats of all
+/// sessions back.
+fn run_beside<'s, E, T: Threads + Wait + Sync, G: Gate>(
+    scope: &Scope<'s, E>,
+    lent: &Lent<'s, T, G>,
+    compositor: CompositorSeat,
+    seats: &mut SessionSeats,
+    film: &mut Film,
+    displays: &mut Vec<Box<dyn Display>>,
+    published: &mut Published,
+    probes: &mut ProbeSeats,
+) -> Result<CompositorSeat, NoMemory>
+    requires playable { is_playable lent.now.script.now ≡ true }
+    requires of { IsStageOf lent.now.stage.now lent.now.script.now }
+    requires compositor { compositor ≡ record { stage = lent.now.stage.now; seen = []; mine = [] } }
+    requires own { seats.old.stage ≡ lent.now.stage.now }
+    requires sessions { AreFresh lent.now.stage.now lent.now.script.now.setup.sessions seats.old.seats }
+    requires film { FilmStands lent.now.script.now [] film.old }
+    requires none { film.old.set.lost ≡ [] }
+    requires number { length displays.old.items ≡ film.old.set.displays }
+    requires few { film.old.set.displays < 2 ^ 32 }
+    requires unpublished { published.old ≡ record { home = published.old.home; frames = []; refused = []; given = 0 } }
+    requires probes { probes.old ≡ replicate lent.now.script.now.setup.probes (Some (newcomer published.old.home)) }
+    ensures ended { IfOk result (λ compositor. HaveEnded lent.now.stage.now lent.now.script.now compositor seats.new film.new) }
+    ensures seen { IfOk result (λ compositor. HaveSeen (λ d. shown d) (λ d. faults d) (finished lent.now.script.now.setup (history_of compositor.seen)) (history_of compositor.seen) film.new.set.lost displays.old.items displays.new.items) }
+    ensures keeping { OnOk result (keeping_of film.new.kept ≡ keeping_of film.old.kept) }
+    ensures kept { AreKept (λ d. shown d) (λ d. faults d) displays.old.items displays.new.items (λ d. d.vtable) }
+{
+    let out = start_each(scope, lent, seats)?;
+    let asked = start_probes(scope, lent, published, probes)?;
+    let directed = direct(lent, compositor, film, displays, published);
+    if !put_back(lent, seats, out) {
+        return Err(NoMemory);
+    }
+    let compositor = directed?;
+    film.probes = meet_each(lent, published, &mut film.last, asked)?;
+    Ok(compositor)
+}
+
+/// Runs all actors, and puts the seats of all sessions back. What is published to the
+/// probes is let go at the end.
 fn run_all<'s, E, T: Threads + Wait + Sync, G: Gate>(
     scope: &Scope<'s, E>,
     lent: &Lent<'s, T, G>,
@@ -91,13 +135,23 @@ fn run_all<'s, E, T: Threads + Wait + Sync, G: Gate>(
     ensures keeping { OnOk result (keeping_of film.new.kept ≡ keeping_of film.old.kept) }
     ensures kept { AreKept (λ d. shown d) (λ d. faults d) displays.old.items displays.new.items (λ d. d.vtable) }
 {
-    let out = start_each(scope, lent, seats)?;
-    let directed = direct(lent, compositor, film, displays);
-    if put_back(lent, seats, out) {
-        directed
-    } else {
-        Err(NoMemory)
-    }
+    let (mut published, mut probes) = Published::new(
+        lent.rt,
+        lent.alloc,
+        lent.script.setup.probes,
+    )?;
+    let run = run_beside(
+        scope,
+        lent,
+        compositor,
+        seats,
+        film,
+        displays,
+        &mut published,
+        &mut probes,
+    );
+    published.close(lent.rt);
+    run
 }
 
 /// Runs the sessions beside the compositor, and answers what all of them leave.
@@ -209,9 +263,7 @@ fn new_stage(
     ensures own { IfOk result (λ r. r.2.stage ≡ r.0) }
     ensures sessions { IfOk result (λ r. AreFresh r.0 script.now.setup.sessions r.2.seats) }
 {
-    let shares = shares_of(alloc, script)?;
-    let setup = script.setup.copy(alloc)?;
-    let board = Board::open(alloc, setup, shares)?;
+    let board = open_board(alloc, script)?;
     Stage::new(alloc, board)
 }
 
@@ -225,6 +277,7 @@ fn close(stage: Stage, script: &Script, ended: Ended) -> Played
     ensures kept { result.kept ≡ ended.film.kept }
     ensures set { result.set ≡ ended.film.set }
     ensures as_many { frames result.board.history ≡ frames (history_of ended.compositor.seen) }
+    ensures probes { ProbesAnswered script.now result.board.history result.probes.items }
 {
     seats_tell_actors();
     journals_keep_seats();
@@ -239,23 +292,28 @@ fn close(stage: Stage, script: &Script, ended: Ended) -> Played
         last: _,
         answers,
         set,
+        probes,
     } = film;
     Played {
         board,
         kept,
         answers,
+        probes,
         set,
     }
 }
 
 /// Runs a script with each session on a thread of its own beside the compositor, which
-/// composes each frame and shows it to the displays while the sessions go on.
+/// composes each frame and shows it to the displays while the sessions go on; and each
+/// probe on one, which is answered by the frame that it saw last among those that the
+/// compositor published.
 ///
-/// Where a thread can't be started, its session is run here before the display's
-/// lines. An entry is made once the gate is open for it, or was asked often enough.
-/// Want of memory in one actor ends that actor alone, and is answered once all have
-/// come back. Whatever the threads did, there is one legal history, which interleaves
-/// the script's actors; the frames are those that it finishes.
+/// Where a thread can't be started, its session or probe is run here before the
+/// display's lines. An entry is made once the gate is open for it, or was asked often
+/// enough, and so is the look of a probe. Want of memory in one actor ends that actor
+/// alone, and is answered once all have come back. Whatever the threads did, there is
+/// one legal history, which interleaves the script's actors; the frames are those that
+/// it finishes, and the probes were answered by them.
 pub fn race_script<T: Threads + Wait + Sync, G: Gate>(
     rt: &T,
     alloc: Global,
@@ -267,6 +325,7 @@ pub fn race_script<T: Threads + Wait + Sync, G: Gate>(
     requires playable { is_playable script.now ≡ true }
     requires few { length displays.old.items < 2 ^ 32 }
     ensures played { IfOk result (λ played. HasPlayed script.now played.board played.kept played.answers) }
+    ensures probes { IfOk result (λ played. ProbesAnswered script.now played.board.history played.probes.items) }
     ensures keeping { IfOk result (λ played. keeping_of played.kept ≡ keeping) }
     ensures seen { IfOk result (λ played. HaveSeen (λ d. shown d) (λ d. faults d) (finished script.now.setup played.board.history) played.board.history played.set.lost displays.old.items displays.new.items) }
     ensures kept { AreKept (λ d. shown d) (λ d. faults d) displays.old.items displays.new.items (λ d. d.vtable) }

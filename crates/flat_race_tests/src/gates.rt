@@ -1,8 +1,8 @@
 ghost use Rattle.std.specs.Prelude.{◌<◌, ◌^◌, length};
 
 use crate::texts::{
-    DISPLAY_WAIT, DISPLAY_WAIT_REPORTED, FILL, FILL_REPORTED, LOOKING_END, SHELL_ORDER, TWO,
-    TWO_REPORTED, WAIT, WAIT_REPORTED,
+    AWAIT, AWAIT_REPORTED, DISPLAY_WAIT, DISPLAY_WAIT_REPORTED, FILL, FILL_REPORTED, LOOKING_END,
+    PROBED, PROBED_ORDER, PROBED_REPORTED, SHELL_ORDER, TWO, TWO_REPORTED, WAIT, WAIT_REPORTED,
 };
 use flat_display::Display;
 use flat_io::{Failed, MemSink, MemSource};
@@ -51,10 +51,10 @@ pub fn race<T: Threads + Wait + Sync, G: Gate>(
     Ok((status, sink))
 }
 
-/// Opens entries in one order.
+/// Opens entries and probes' lines in one order.
 #[derive(Drop)]
 struct InOrder {
-    order: [(u32, u32); SHELL_ORDER.len()],
+    order: &'static [(u32, u32)],
     next: AtomicU32,
 }
 
@@ -76,7 +76,7 @@ impl Gate for InOrder {
 fn race_in_written_order(rt: HostRuntime) -> Result<(), Fail> {
     let alloc = rt.alloc();
     let gate = InOrder {
-        order: SHELL_ORDER,
+        order: &SHELL_ORDER,
         next: AtomicU32::new(0),
     };
     let (status, sink) = race(&rt, alloc, SHELL, &mut Vec::new(alloc), &gate)?;
@@ -263,22 +263,28 @@ struct Looking {
     held: u32,
     /// The line whose entry shows enough.
     shows: u32,
+    /// The line that is held until the one that waits has passed. Those behind it come
+    /// after it.
+    last: u32,
     asked: AtomicU32,
     opened: AtomicU32,
     shown: AtomicBool,
     waited: AtomicBool,
+    over: AtomicBool,
 }
 
 impl Looking {
-    fn new(waits: u32, held: u32, shows: u32) -> Looking {
+    fn new(waits: u32, held: u32, shows: u32, last: u32) -> Looking {
         Looking {
             waits,
             held,
             shows,
+            last,
             asked: AtomicU32::new(0),
             opened: AtomicU32::new(0),
             shown: AtomicBool::new(false),
             waited: AtomicBool::new(false),
+            over: AtomicBool::new(false),
         }
     }
 }
@@ -294,7 +300,10 @@ impl Gate for Looking {
         if line == self.held {
             return self.asked.load(Ordering::SeqCst) > 1;
         }
-        line != LOOKING_END || self.waited.load(Ordering::SeqCst)
+        if line == self.last {
+            return self.waited.load(Ordering::SeqCst);
+        }
+        line < self.last || self.over.load(Ordering::SeqCst)
     }
 
     fn passed(&self, _actor: u32, line: u32, _reply: &Reply) {
@@ -304,10 +313,13 @@ impl Gate for Looking {
         if line == self.shows {
             self.shown.store(true, Ordering::SeqCst);
         }
+        if line == self.last {
+            self.over.store(true, Ordering::SeqCst);
+        }
     }
 }
 
-/// Whether a script is reported so, and its Wait looked before the entry that shows enough
+/// Whether a script is reported so, and its line that waits looked before the entry that shows enough
 /// and once behind it.
 fn looks_twice<T: Threads + Wait + Sync>(
     rt: &T,
@@ -323,14 +335,34 @@ fn looks_twice<T: Threads + Wait + Sync>(
 
 #[test]
 fn a_wait_looks_again(rt: HostRuntime) -> Result<(), Fail> {
-    let gate = Looking::new(6, 7, 8);
+    let gate = Looking::new(6, 7, 8, LOOKING_END);
     assert!(rt; looks_twice(&rt, rt.alloc(), &gate, WAIT, WAIT_REPORTED)?);
     Ok(())
 }
 
 #[test]
 fn a_wait_of_the_display_looks_again(rt: HostRuntime) -> Result<(), Fail> {
-    let gate = Looking::new(7, 8, 8);
+    let gate = Looking::new(7, 8, 8, LOOKING_END);
     assert!(rt; looks_twice(&rt, rt.alloc(), &gate, DISPLAY_WAIT, DISPLAY_WAIT_REPORTED)?);
+    Ok(())
+}
+
+#[test]
+fn a_probe_sees_the_frame_of_its_time(rt: HostRuntime) -> Result<(), Fail> {
+    let alloc = rt.alloc();
+    let gate = InOrder {
+        order: &PROBED_ORDER,
+        next: AtomicU32::new(0),
+    };
+    let (status, sink) = race(&rt, alloc, PROBED, &mut Vec::new(alloc), &gate)?;
+    assert_eq!(rt; status, 0);
+    assert_eq!(rt; sink.bytes(), PROBED_REPORTED);
+    Ok(())
+}
+
+#[test]
+fn a_probe_awaits_a_frame(rt: HostRuntime) -> Result<(), Fail> {
+    let gate = Looking::new(16, 14, 17, 18);
+    assert!(rt; looks_twice(&rt, rt.alloc(), &gate, AWAIT, AWAIT_REPORTED)?);
     Ok(())
 }

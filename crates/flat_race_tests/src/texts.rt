@@ -173,3 +173,95 @@ A 16 closed BAD_OPERATION B1
 A end 1
 report ends entries 11 frames 1
 ";
+
+/// Two frames, and a probe that asks for a point behind the first.
+pub const PROBED: &[u8] = b"flatland 1
+display 100 100
+session A
+pair t0 display A
+probe P
+run
+A CreateView t0
+A CreateTransform 1
+A SetRootTransform 1
+A CreateFilledRect 2
+A SetSolidFill 2 255 0 0 255 10 10
+A SetContent 1 2
+A Present 0
+display begin 1000
+display done
+P hit 5 5
+display begin 2000
+display done
+";
+
+/// The order in which the probe asks inside the second frame: numbers of actor and line.
+pub const PROBED_ORDER: [(u32, u32); 8] = [
+    (1, 7),
+    (1, 13),
+    (0, 14),
+    (0, 15),
+    (0, 17),
+    (2, 16),
+    (0, 18),
+    (1, 19),
+];
+
+/// The report of it in this order: the probe sees the first frame.
+pub const PROBED_REPORTED: &[u8] = b"report flatland 1
+A 7 CreateView ok
+A 13 Present 1 credits 0
+display 14 begin 1000 frame 1
+> A credits 5
+display 15 done frame 1
+item A 1 fill 255 0 0 255 10 10 m 0 65536 65536 0 0 v 0 0 655360 655360 o 65536 src
+view A - 0 0 6553600 6553600
+> A framepresented 1
+display 17 begin 2000 frame 2
+display 18 done frame 2
+item A 1 fill 255 0 0 255 10 10 m 0 65536 65536 0 0 v 0 0 655360 655360 o 65536 src
+view A - 0 0 6553600 6553600
+A end 0
+P 16 hit 5 5 frame 1 A 0
+report ends entries 7 frames 2
+";
+
+/// The same frames, and a probe that awaits the first.
+pub const AWAIT: &[u8] = b"flatland 1
+display 100 100
+session A
+pair t0 display A
+probe P
+run
+A CreateView t0
+A CreateTransform 1
+A SetRootTransform 1
+A CreateFilledRect 2
+A SetSolidFill 2 255 0 0 255 10 10
+A SetContent 1 2
+A Present 0
+display begin 1000
+display done
+P await 1
+display begin 2000
+display done
+";
+
+/// The report of it where the await looks again inside the second frame.
+pub const AWAIT_REPORTED: &[u8] = b"report flatland 1
+A 7 CreateView ok
+A 13 Present 1 credits 0
+display 14 begin 1000 frame 1
+> A credits 5
+display 15 done frame 1
+item A 1 fill 255 0 0 255 10 10 m 0 65536 65536 0 0 v 0 0 655360 655360 o 65536 src
+view A - 0 0 6553600 6553600
+> A framepresented 1
+display 17 begin 2000 frame 2
+display 18 done frame 2
+item A 1 fill 255 0 0 255 10 10 m 0 65536 65536 0 0 v 0 0 655360 655360 o 65536 src
+view A - 0 0 6553600 6553600
+A end 0
+P 16 await frame 1
+report ends entries 7 frames 2
+";

@@ -1,3 +1,4 @@
+pub mod Answered
 pub mod Determined
 pub mod Examples
 pub mod FewFrames
@@ -11,8 +12,10 @@ pub mod Reading
 pub mod SeenTold
 pub mod Sheets
 mod SmallHanded
+mod SmallProbes
 pub mod Tails
 pub mod Texting
 pub mod Turns
 pub mod WholeReport
 pub mod Written
+pub mod lemmas

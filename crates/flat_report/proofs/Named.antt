@@ -1,5 +1,5 @@
 -- What is asked of the names of a script, and who is named by a word.
-use Rattle.std.proofs.Common.{◌≡◌, ℕ, ◌-◌, ◌<◌, ◌≤◌, ◌&&◌, not, nat_lt, nat_le, Bool, true, false, List, [], ◌∷◌, length, codes, Some, None, slice_index, refl, sym, ap, ◌∙◌, arith, tests, rules}
+use Rattle.std.proofs.Common.{◌≡◌, ℕ, ◌-◌, ◌<◌, ◌≤◌, ◌&&◌, not, nat_lt, nat_le, true, false, List, [], ◌∷◌, length, codes, Some, None, slice_index, refl, sym, ap, ◌∙◌, arith, tests, rules}
 use Rattle.std.specs.List.{list_all}
 use Rattle.std.specs.Char.{is_ascii_alphabetic}
 use Rattle.std.proofs.lemmas.Bool.Decides.{nat_tests}
@@ -7,8 +7,6 @@ use Rattle.flat_base.specs.declared.ids.Actor.{Actor}
 use Rattle.flat_base.specs.declared.ids.Actor.TheVariants.{Display, Session, Probe}
 use Rattle.flat_base.specs.declared.ids.SessionNo.{SessionNo}
 use Rattle.flat_scene.specs.declared.journal.Kind.{Kind}
-use Rattle.flat_scene.specs.declared.script.Body.{Body}
-use Rattle.flat_scene.specs.declared.script.Body.TheVariants as body
 use Rattle.flat_scene.specs.Setups.{is_declared}
 use Rattle.flat_rules.specs.Legal.{may_act, session_may}
 use Rattle.flat_places.specs.declared.script.Script.{Script}
@@ -32,12 +30,6 @@ pub record IsNamed (s : Script) : Type 0 where
   pub sessions : AreNames s.sessions
   pub probes : AreNames s.probes
   pub apart : (i : ℕ) → i < length s.probes → place_of s.sessions (name_at s.probes i) ≡ None
-
--- whether a line says what its actor may say, as far as probes go
-abbrev pub is_spoken : Actor → Body → Bool
-is_spoken (Probe p) (body.Probe text) = true
-is_spoken (Probe p) _ = false
-is_spoken _ _ = true
 
 -- ---- names are words
 

@@ -24,10 +24,11 @@ use Rattle.flat_print.proofs.lemmas.AgainLemmas.{with_lines, body_again}
 use Rattle.flat_forms.proofs.lemmas.FormLemmas.{mapped_ok}
 use Rattle.flat_forms.proofs.lemmas.FoundLemmas.{step_found}
 use Rattle.flat_forms.proofs.lemmas.IndexLemmas.{place_there, place_else, no_place}
-use Rattle.flat_forms.proofs.lemmas.StepLemmas.{SessionStep, Step, size_step, session_step, buffers_step, pair_step, fence_step}
+use Rattle.flat_forms.proofs.lemmas.StepLemmas.{SessionStep, ProbeStep, Step, size_step, session_step, probe_step, buffers_step, pair_step, fence_step}
 use Rattle.flat_print.proofs.lemmas.TextLemmas.{lines_room, lines_room-lines_of}
 use Rattle.flat_page.specs.Words.{name_at}
-use Rattle.flat_report.proofs.Named.{AreNames, IsNamed, is_spoken}
+use Rattle.flat_report.specs.Probes.{is_asking}
+use Rattle.flat_report.proofs.Named.{AreNames, IsNamed}
 use Rattle.flat_print.proofs.lemmas.OrderLemmas.{name_at_seam, lines_kept}
 
 -- ---- what every line keeps
@@ -35,7 +36,7 @@ use Rattle.flat_print.proofs.lemmas.OrderLemmas.{name_at_seam, lines_kept}
 -- What is kept of a script, where the next line would have this number.
 pub record Kept (n : ℕ) (s : Script) : Type 0 where
   pub named : IsNamed s
-  pub spoken : list_all (λ (line : ScriptLine). is_spoken line.actor line.body) s.lines ≡ true
+  pub spoken : list_all (λ (line : ScriptLine). is_asking line.actor line.body) s.lines ≡ true
   pub few : length s.lines < n
 
 -- ---- one name more
@@ -89,6 +90,33 @@ session-named u ws t x is =
       apart = λ i below. place_else u.sessions x.name (name_at u.probes i) (other-name u.probes x.name (name_at u.probes i) i none.probes (is.probes.placed i below)) ∙ is.apart i below;
     })
 
+apart-more : (sessions probes : List Word) (name : Word) → ((i : ℕ) → i < length probes → place_of sessions (name_at probes i) ≡ None) → place_of sessions name ≡ None
+    → (i : ℕ) → i < length (probes ++ name ∷ []) → place_of sessions (name_at (probes ++ name ∷ []) i) ≡ None
+apart-more sessions probes name apart none i below = by_place (nat_lt i (length probes)) refl
+  where
+    within : nat_lt i (length probes) ≡ true → i < length probes
+    within is = grind (arith, nat_tests)
+
+    last : nat_lt i (length probes) ≡ false → length probes ≡ i
+    last over = let upto : length probes ≤ i = grind (arith, nat_tests) in omega (arith, upto, below, length-append probes (name ∷ []))
+
+    by_place : (b : Bool) → nat_lt i (length probes) ≡ b → place_of sessions (name_at (probes ++ name ∷ []) i) ≡ None
+    by_place true is = ap (place_of sessions) (at-old probes (name ∷ []) i (within is)) ∙ apart i (within is)
+    by_place false is = subst (λ (k : ℕ). place_of sessions (name_at (probes ++ name ∷ []) k) ≡ None) (last is) (ap (place_of sessions) (name_at_seam probes [] name) ∙ none)
+
+probe-named : (u : Script) (ws : List Word) (t : Script) → ProbeStep u ws t → IsNamed u → IsNamed t
+probe-named u ws t x is =
+    let none = no_place u x.name x.fresh.fresh in
+    let count = is.probe_count in
+    let P : Script → Type 0 = IsNamed in
+    subst P (sym x.made) (record {
+      session_count = is.session_count;
+      probe_count = omega (arith, count, length-append u.probes (x.name ∷ []));
+      sessions = is.sessions;
+      probes = names-more u.probes x.name is.probes x.fresh.name none.probes;
+      apart = apart-more u.sessions u.probes x.name is.apart none.sessions;
+    })
+
 same-names : (u t : Script) → t.setup.sessions ≡ u.setup.sessions → t.setup.probes ≡ u.setup.probes → t.sessions ≡ u.sessions → t.probes ≡ u.probes → IsNamed u → IsNamed t
 same-names u t count count' sessions probes is = record {
   session_count = count ∙ is.session_count ∙ ap (λ (ws : List Word). length ws) (sym sessions);
@@ -103,6 +131,7 @@ same-names u t count count' sessions probes is = record {
 
 step-named : (u : Script) (ws : List Word) (t : Script) → Step u ws t → IsNamed u → IsNamed t
 step-named u ws t (session_step x) is = session-named u ws t x is
+step-named u ws t (probe_step x) is = probe-named u ws t x is
 step-named u ws t (size_step x) is = let m = x.made in same-names u t (ap (λ (s : Script). s.setup.sessions) m) (ap (λ (s : Script). s.setup.probes) m) (ap (λ (s : Script). s.sessions) m) (ap (λ (s : Script). s.probes) m) is
 step-named u ws t (buffers_step x) is = let m = x.made in same-names u t (ap (λ (s : Script). s.setup.sessions) m) (ap (λ (s : Script). s.setup.probes) m) (ap (λ (s : Script). s.sessions) m) (ap (λ (s : Script). s.probes) m) is
 step-named u ws t (pair_step x) is = let m = x.made in same-names u t (ap (λ (s : Script). s.setup.sessions) m) (ap (λ (s : Script). s.setup.probes) m) (ap (λ (s : Script). s.sessions) m) (ap (λ (s : Script). s.probes) m) is
@@ -122,12 +151,12 @@ head-kept n u ws t step kept =
     let few = kept.few in
     record {
       named = step-named u ws t step kept.named;
-      spoken = ap (λ (ls : List ScriptLine). list_all (λ (line : ScriptLine). is_spoken line.actor line.body) ls) lines ∙ kept.spoken;
+      spoken = ap (λ (ls : List ScriptLine). list_all (λ (line : ScriptLine). is_asking line.actor line.body) ls) lines ∙ kept.spoken;
       few = (let same : length t.lines ≡ length u.lines = ap (λ (ls : List ScriptLine). length ls) lines in omega (arith, few, same));
     }
 
-probe-spoken : (s : Script) (actor : Actor) (rest : List Word) (text : Body) → actor_line known_words s actor rest ≡ Ok text → is_spoken actor text ≡ true
-probe-spoken s (Probe p) rest text is = let m = mapped_ok body.Probe (probe_line known_words rest) text is in ap (is_spoken (Probe p)) (sym m.value)
+probe-spoken : (s : Script) (actor : Actor) (rest : List Word) (text : Body) → actor_line known_words s actor rest ≡ Ok text → is_asking actor text ≡ true
+probe-spoken s (Probe p) rest text is = let m = mapped_ok body.Probe (probe_line known_words rest) text is in ap (is_asking (Probe p)) (sym m.value)
 probe-spoken s Display rest text is = refl
 probe-spoken s (Session a) rest text is = refl
 
@@ -141,7 +170,7 @@ body-kept n u ws t is kept =
     let P : Script → Type 0 = Kept (n + 1) in
     subst P (sym a.read) (record {
       named = record { session_count = kept.named.session_count; probe_count = kept.named.probe_count; sessions = kept.named.sessions; probes = kept.named.probes; apart = kept.named.apart };
-      spoken = list_all-append (λ (line : ScriptLine). is_spoken line.actor line.body) u.lines (line ∷ []) ∙ rw (before, says) refl;
+      spoken = list_all-append (λ (line : ScriptLine). is_asking line.actor line.body) u.lines (line ∷ []) ∙ rw (before, says) refl;
       few = omega (arith, few, length-append u.lines (line ∷ []));
     })
 

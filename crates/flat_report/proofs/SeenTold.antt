@@ -18,7 +18,8 @@ use Rattle.flat_report.specs.EntryLines.{hit_words, said_words}
 use Rattle.flat_report.specs.Report.{begin_of, hits_at, is_probe, probe_lines_of, probe_lines, numbers_from, seen_words, seen_line}
 use Rattle.flat_page.specs.Words.{Word, number, name_at}
 use Rattle.flat_report.specs.Names.{actor_name}
-use Rattle.flat_report.proofs.Named.{IsNamed, is_spoken, name-word, not-display, no-probe-name, actor-word}
+use Rattle.flat_report.specs.Probes.{is_asking}
+use Rattle.flat_report.proofs.Named.{IsNamed, name-word, not-display, no-probe-name, actor-word}
 use Rattle.flat_report.proofs.Openings.{NoEntry, NoLoss, lost_words}
 use Rattle.flat_report.proofs.Sheets.{behind-words, laid, line_on, sheet, told, told-next, laid-same, number-word}
 use Rattle.std.proofs.lemmas.Bool.{and_parts}
@@ -27,41 +28,41 @@ use Rattle.std.proofs.lemmas.Bool.{and_parts}
 
 -- a line of a probe below a number, which says what a probe says
 abbrev pub is_of_probe : ℕ → ScriptLine → Bool
-is_of_probe most line = probe_below most line.actor && is_spoken line.actor line.body
+is_of_probe most line = probe_below most line.actor && is_asking line.actor line.body
   where
     probe_below : ℕ → Actor → Bool
     probe_below most (Probe p) = nat_lt p most
     probe_below most _ = false
 
-of-one : (most n : ℕ) (lines : List ScriptLine) → n < most → list_all (λ (line : ScriptLine). is_spoken line.actor line.body) lines ≡ true → list_all (is_of_probe most) (probe_lines_of n lines) ≡ true
+of-one : (most n : ℕ) (lines : List ScriptLine) → n < most → list_all (λ (line : ScriptLine). is_asking line.actor line.body) lines ≡ true → list_all (is_of_probe most) (probe_lines_of n lines) ≡ true
 of-one most n [] below spoken = refl
 of-one most n (line ∷ lines) below spoken =
-    let parts = and_parts (is_spoken line.actor line.body) (list_all (λ (line : ScriptLine). is_spoken line.actor line.body) lines) spoken in
+    let parts = and_parts (is_asking line.actor line.body) (list_all (λ (line : ScriptLine). is_asking line.actor line.body) lines) spoken in
     by_test (is_probe n line.actor) refl parts.0 (of-one most n lines below parts.1)
   where
-    of_it : (actor : Actor) (text : Body) (number : ℕ) → is_probe n actor ≡ true → is_spoken actor text ≡ true → is_of_probe most (record { number = number; actor = actor; body = text }) ≡ true
+    of_it : (actor : Actor) (text : Body) (number : ℕ) → is_probe n actor ≡ true → is_asking actor text ≡ true → is_of_probe most (record { number = number; actor = actor; body = text }) ≡ true
     of_it (Probe p) text number is says = let less : nat_lt p most ≡ true = grind (arith, nat_tests) in rw (less, says) refl
     of_it Display text number is says = absurd (cc)
     of_it (Session s) text number is says = absurd (cc)
 
-    by_test : (b : Bool) → is_probe n line.actor ≡ b → is_spoken line.actor line.body ≡ true → list_all (is_of_probe most) (probe_lines_of n lines) ≡ true
+    by_test : (b : Bool) → is_probe n line.actor ≡ b → is_asking line.actor line.body ≡ true → list_all (is_of_probe most) (probe_lines_of n lines) ≡ true
         → list_all (is_of_probe most) (cond b (line ∷ probe_lines_of n lines) (probe_lines_of n lines)) ≡ true
     by_test true is says later = let here : is_of_probe most line ≡ true = of_it line.actor line.body line.number is says in rw here later
     by_test false is says later = later
 
-of-all : (most n count : ℕ) (lines : List ScriptLine) → n + count ≤ most → list_all (λ (line : ScriptLine). is_spoken line.actor line.body) lines ≡ true
+of-all : (most n count : ℕ) (lines : List ScriptLine) → n + count ≤ most → list_all (λ (line : ScriptLine). is_asking line.actor line.body) lines ≡ true
     → list_all (is_of_probe most) (flat_map (λ n. probe_lines_of n lines) (numbers_from n count)) ≡ true
 of-all most n zero lines fits spoken = refl
 of-all most n (suc count) lines fits spoken =
     list_all-append (is_of_probe most) (probe_lines_of n lines) (flat_map (λ n. probe_lines_of n lines) (numbers_from (n + 1) count))
     ∙ (let here = of-one most n lines (omega arith) spoken in let later = of-all most (n + 1) count lines (omega arith) spoken in rw here later)
 
-pub probe-lines-are : (script : Script) → list_all (λ (line : ScriptLine). is_spoken line.actor line.body) script.lines ≡ true → list_all (is_of_probe script.setup.probes) (probe_lines script) ≡ true
+pub probe-lines-are : (script : Script) → list_all (λ (line : ScriptLine). is_asking line.actor line.body) script.lines ≡ true → list_all (is_of_probe script.setup.probes) (probe_lines script) ≡ true
 probe-lines-are script spoken = of-all script.setup.probes 0 script.setup.probes script.lines (omega arith) spoken
 
 -- ---- one line
 
-frame-said : (script : Script) (history : List Entry) (f f' : ℕ) (actor : Actor) (text : Body) (a a' : List ℕ) → f < 2 ^ 64 → f' < 2 ^ 64 → is_spoken actor text ≡ true → (p : ℕ) → actor ≡ Probe p
+frame-said : (script : Script) (history : List Entry) (f f' : ℕ) (actor : Actor) (text : Body) (a a' : List ℕ) → f < 2 ^ 64 → f' < 2 ^ 64 → is_asking actor text ≡ true → (p : ℕ) → actor ≡ Probe p
     → laid (seen_words script history f text) a ≡ laid (seen_words script history f' text) a' → f ≡ f'
 frame-said script history f f' actor (body.Probe (probe.Hit x y)) a a' low low' spoken p of_probe is =
     let before : List Word = codes "hit" ∷ signed_decimal x ∷ signed_decimal y ∷ codes "frame" ∷ [] in
@@ -74,25 +75,25 @@ frame-said script history f f' actor (body.Probe (probe.Await n)) a a' low low' 
     let rest = behind-words before (number f ∷ []) (number f' ∷ []) a a' is in
     decimal_injective f f' low low' (told-next (number f) (number f') [] [] a a' (number-word f) (number-word f') rest).0
 frame-said script history f f' actor (body.Session text) a a' low low' spoken p of_probe is =
-    let wrong : is_spoken (Probe p) (body.Session text) ≡ true = ap (λ (b : Actor). is_spoken b (body.Session text)) (sym of_probe) ∙ spoken in absurd (let e : false ≡ true = wrong in cc)
+    let wrong : is_asking (Probe p) (body.Session text) ≡ true = ap (λ (b : Actor). is_asking b (body.Session text)) (sym of_probe) ∙ spoken in absurd (let e : false ≡ true = wrong in cc)
 frame-said script history f f' actor (body.Display text) a a' low low' spoken p of_probe is =
-    let wrong : is_spoken (Probe p) (body.Display text) ≡ true = ap (λ (b : Actor). is_spoken b (body.Display text)) (sym of_probe) ∙ spoken in absurd (let e : false ≡ true = wrong in cc)
+    let wrong : is_asking (Probe p) (body.Display text) ≡ true = ap (λ (b : Actor). is_asking b (body.Display text)) (sym of_probe) ∙ spoken in absurd (let e : false ≡ true = wrong in cc)
 
 -- What a line of a probe is.
 record OfProbe (most : ℕ) (line : ScriptLine) : Type 0 where
   p : ℕ
   is : line.actor ≡ Probe p
   below : p < most
-  spoken : is_spoken line.actor line.body ≡ true
+  spoken : is_asking line.actor line.body ≡ true
 
 of-probe : (most : ℕ) (line : ScriptLine) → is_of_probe most line ≡ true → OfProbe most line
 of-probe most line fine = by_actor line.actor refl fine
   where
     by_actor : (actor : Actor) → line.actor ≡ actor → is_of_probe most (record { number = line.number; actor = actor; body = line.body }) ≡ true → OfProbe most line
     by_actor (Probe p) is fine =
-        let parts = and_parts (nat_lt p most) (is_spoken (Probe p) line.body) fine in
+        let parts = and_parts (nat_lt p most) (is_asking (Probe p) line.body) fine in
         let less = parts.0 in
-        record { p = p; is = is; below = grind (arith, nat_tests); spoken = ap (λ (a : Actor). is_spoken a line.body) is ∙ parts.1 }
+        record { p = p; is = is; below = grind (arith, nat_tests); spoken = ap (λ (a : Actor). is_asking a line.body) is ∙ parts.1 }
     by_actor Display is fine = absurd (let e : false ≡ true = fine in cc)
     by_actor (Session s) is fine = absurd (let e : false ≡ true = fine in cc)
 

@@ -9,10 +9,11 @@ use Rattle.flat_scene.specs.declared.journal.Post.{Post}
 use Rattle.flat_scene.specs.declared.journal.Reply.{Reply}
 use Rattle.flat_base.specs.declared.ids.Actor.{Actor}
 use Rattle.flat_places.specs.declared.script.Script.{Script}
+use Rattle.flat_report.specs.declared.probes.ProbeAnswer.{ProbeAnswer}
 use Rattle.flat_report.specs.declared.report.HitAnswer.{HitAnswer}
 use Rattle.flat_page.specs.Words.{text_of}
 use Rattle.flat_report.specs.EntryLines.{entry_line}
-use Rattle.flat_report.specs.Handed.{end_line, first_hits, first_posts, handed_text, handed_entries}
+use Rattle.flat_report.specs.Handed.{answers_text, end_line, first_hits, first_posts, handed_text, handed_entries}
 
 module _ (s : SessionNo) (event : Event) where
   abbrev post : ℕ → Post
@@ -22,16 +23,16 @@ module _ (s : SessionNo) (event : Event) where
   two-first : first_posts 0 (post 0 ∷ post 0 ∷ post 1 ∷ []) ≡ 2
   two-first = refl
 
-  module _ (script : Script) (lost : List Lost) (text : List ℕ) (answers : List HitAnswer) (actor : Actor) (reply : Reply) where
+  module _ (script : Script) (lost : List Lost) (text : List ℕ) (answers : List HitAnswer) (probes : List (List ProbeAnswer)) (actor : Actor) (reply : Reply) where
     abbrev done : Entry
     done = record { line = 5; actor = actor; calls = []; kind = Finish; reply = reply }
 
     abbrev poll : Entry
     poll = record { line = 6; actor = actor; calls = []; kind = Poll; reply = reply }
 
-    -- a done has the text of a frame and its two posts, and a poll after it has what is left
-    in-turn : handed_entries script lost 0 0 (text ∷ []) answers (post 0 ∷ post 0 ∷ post 1 ∷ []) (done ∷ poll ∷ [])
-        ≡ handed_text script lost 0 (text ∷ []) answers (post 0 ∷ post 0 ∷ []) done ++ (handed_text script lost 1 [] answers (post 1 ∷ []) poll ++ text_of (end_line 2 1 ∷ []))
+    -- a done has the text of a frame and its two posts, and a poll after it has what is left; behind it stand the answers to probes
+    in-turn : handed_entries script lost probes 0 0 (text ∷ []) answers (post 0 ∷ post 0 ∷ post 1 ∷ []) (done ∷ poll ∷ [])
+        ≡ handed_text script lost 0 (text ∷ []) answers (post 0 ∷ post 0 ∷ []) done ++ (handed_text script lost 1 [] answers (post 1 ∷ []) poll ++ (answers_text script probes ++ text_of (end_line 2 1 ∷ [])))
     in-turn = refl
 
     -- between the line of a done and its events stand the text of the frame and the displays that were lost at it

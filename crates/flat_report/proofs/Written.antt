@@ -1,6 +1,6 @@
 -- The report, entry by entry.
 use Rattle.std.proofs.Common.{◌≡◌, ◌≤◌, ◌<◌, ◌^◌, ℕ, zero, suc, ◌+◌, cond, Bool, true, false, ◌==◌, List, [], ◌∷◌, ◌++◌, filter, take, take_while, drop, length, reverse, get_or, refl, sym, ap, ◌∙◌, subst, arith, append-nil, append_assoc, add-one, map}
-use Rattle.std.specs.List.{flat_map, zip}
+use Rattle.std.specs.List.{zip}
 use Rattle.std.proofs.Math.Seq.{drop-cons, take-append_seam, drop-append_seam}
 use Rattle.flat_scene.specs.declared.frames.Lost.{Lost}
 use Rattle.flat_scene.specs.declared.journal.Entry.{Entry}
@@ -10,19 +10,22 @@ use Rattle.flat_scene.specs.History.{◌▹◌, history_of, is_finish}
 use Rattle.flat_rules.specs.Legal as legal
 use Rattle.flat_rules.specs.Posts.{posts}
 use Rattle.flat_places.specs.declared.script.Script.{Script}
+use Rattle.flat_report.specs.declared.probes.ProbeAnswer.{ProbeAnswer}
 use Rattle.flat_report.specs.declared.report.HitAnswer.{HitAnswer}
 use Rattle.flat_report.specs.FrameTexts.{frame_text}
-use Rattle.flat_report.specs.Handed.{answers_of, texts_after, answers_after, end_line, first_posts, handed_text, handed_entries, title_line}
+use Rattle.flat_report.specs.Handed.{answers_of, answers_text, texts_after, answers_after, end_line, first_posts, handed_text, handed_entries, title_line}
 use Rattle.flat_report.specs.Laws.{HandedIsReport}
-use Rattle.flat_report.specs.Report.{finished, history_lines, entry_lines, seen_line, probe_lines, probe_lines_of, numbers_from}
+use Rattle.flat_report.specs.Probes.{frames_seen}
+use Rattle.flat_report.specs.Report.{finished, history_lines, entry_lines, seen_line, probe_lines}
 use Rattle.flat_page.specs.Words.{Word, text_of}
+use Rattle.flat_report.proofs.Answered.{probes-text}
 use Rattle.flat_report.proofs.Tails.{onto, tail, post_step, frame_step, answer_step, onto-reverse, grows, next_posts, next_text, later_texts, later_answers, finished_one, text-append}
 
 -- How far the loop has come: so many entries were written, and with what is left they make up the whole text.
-pub record Written (script : Script) (lost : List Lost) (all : List Entry) (ps0 : List Post) (ts0 : List (List ℕ)) (hs0 : List HitAnswer) (old new : List ℕ) (place : ℕ) (posts : List Post) (texts : List (List ℕ)) (answers : List HitAnswer) (finished : ℕ) : Type 0 where
+pub record Written (script : Script) (lost : List Lost) (probes : List (List ProbeAnswer)) (all : List Entry) (ps0 : List Post) (ts0 : List (List ℕ)) (hs0 : List HitAnswer) (old new : List ℕ) (place : ℕ) (posts : List Post) (texts : List (List ℕ)) (answers : List HitAnswer) (finished : ℕ) : Type 0 where
   pub so_far : List ℕ
   pub text : new ≡ old ++ so_far
-  pub whole : so_far ++ handed_entries script lost place finished texts answers posts (drop place all) ≡ handed_entries script lost 0 0 ts0 hs0 ps0 all
+  pub whole : so_far ++ handed_entries script lost probes place finished texts answers posts (drop place all) ≡ handed_entries script lost probes 0 0 ts0 hs0 ps0 all
   pub few : finished ≤ place
   pub within : place ≤ length all
   pub small : length all < 2 ^ 63
@@ -37,52 +40,53 @@ none_left [] (suc place) end = refl
 none_left (x ∷ xs) zero end = absurd (omega arith)
 none_left (x ∷ xs) (suc place) end = none_left xs place (omega arith)
 
-module _ (script : Script) (lost : List Lost) (all : List Entry) (ps0 : List Post) (ts0 : List (List ℕ)) (hs0 : List HitAnswer) (old : List ℕ) where
+module _ (script : Script) (lost : List Lost) (probes : List (List ProbeAnswer)) (all : List Entry) (ps0 : List Post) (ts0 : List (List ℕ)) (hs0 : List HitAnswer) (old : List ℕ) where
   -- at first nothing is written
-  pub written_first : (ps : List Post) (ts : List (List ℕ)) (hs : List HitAnswer) → ps ≡ ps0 → ts ≡ ts0 → hs ≡ hs0 → length all < 2 ^ 63 → Written script lost all ps0 ts0 hs0 old old 0 ps ts hs 0
+  pub written_first : (ps : List Post) (ts : List (List ℕ)) (hs : List HitAnswer) → ps ≡ ps0 → ts ≡ ts0 → hs ≡ hs0 → length all < 2 ^ 63 → Written script lost probes all ps0 ts0 hs0 old old 0 ps ts hs 0
   written_first ps ts hs ps_are ts_are hs_are small =
-      record { so_far = []; text = sym (append-nil old); whole = (λ i. handed_entries script lost 0 0 (ts_are i) (hs_are i) (ps_are i) all); few = omega arith; within = omega arith; small = small }
+      record { so_far = []; text = sym (append-nil old); whole = (λ i. handed_entries script lost probes 0 0 (ts_are i) (hs_are i) (ps_are i) all); few = omega arith; within = omega arith; small = small }
 
-  -- at last all is, with the last line
-  pub written_all : {page : List ℕ} {place : ℕ} {ps : List Post} {ts : List (List ℕ)} {hs : List HitAnswer} {count entries : ℕ} {last : List ℕ} → length all ≤ place → entries ≡ length all → last ≡ page ++ text_of (end_line entries count ∷ [])
-      → Written script lost all ps0 ts0 hs0 old page place ps ts hs count → last ≡ old ++ handed_entries script lost 0 0 ts0 hs0 ps0 all
+  -- at last all is, with the probes' lines and the last line
+  pub written_all : {page : List ℕ} {place : ℕ} {ps : List Post} {ts : List (List ℕ)} {hs : List HitAnswer} {count entries : ℕ} {last : List ℕ} → length all ≤ place → entries ≡ length all → last ≡ page ++ (answers_text script probes ++ text_of (end_line entries count ∷ []))
+      → Written script lost probes all ps0 ts0 hs0 old page place ps ts hs count → last ≡ old ++ handed_entries script lost probes 0 0 ts0 hs0 ps0 all
   written_all {place = place} {ps = ps} {ts = ts} {hs = hs} {count = count} {entries = entries} end many last_is written =
       let at : entries ≡ place = let most = written.within in omega (arith, many, end, most) in
-      last_is ∙ ap (λ t. t ++ text_of (end_line entries count ∷ [])) written.text ∙ append_assoc old written.so_far (text_of (end_line entries count ∷ []))
-      ∙ ap (λ n. old ++ (written.so_far ++ text_of (end_line n count ∷ []))) at
-      ∙ ap (λ es. old ++ (written.so_far ++ handed_entries script lost place count ts hs ps es)) (sym (none_left all place end)) ∙ ap (λ t. old ++ t) written.whole
+      let rest : ℕ → List ℕ = λ n. answers_text script probes ++ text_of (end_line n count ∷ []) in
+      last_is ∙ ap (λ t. t ++ rest entries) written.text ∙ append_assoc old written.so_far (rest entries)
+      ∙ ap (λ n. old ++ (written.so_far ++ rest n)) at
+      ∙ ap (λ es. old ++ (written.so_far ++ handed_entries script lost probes place count ts hs ps es)) (sym (none_left all place end)) ∙ ap (λ t. old ++ t) written.whole
 
   -- one entry more
-  pub written_more : (page new : List ℕ) (place : ℕ) (ps : List Post) (ts : List (List ℕ)) (hs : List HitAnswer) (count : ℕ) (d : Entry) → place < length all → Written script lost all ps0 ts0 hs0 old page place ps ts hs count
+  pub written_more : (page new : List ℕ) (place : ℕ) (ps : List Post) (ts : List (List ℕ)) (hs : List HitAnswer) (count : ℕ) (d : Entry) → place < length all → Written script lost probes all ps0 ts0 hs0 old page place ps ts hs count
       → (many : ℕ) → many ≡ first_posts place ps
       → new ≡ page ++ handed_text script lost count ts hs (take many ps) (get_or all place d)
-      → Written script lost all ps0 ts0 hs0 old new (place + 1) (drop many ps) (texts_after (get_or all place d).kind ts) (answers_after (get_or all place d).kind hs) (count + cond (is_finish (get_or all place d).kind) 1 0)
+      → Written script lost probes all ps0 ts0 hs0 old new (place + 1) (drop many ps) (texts_after (get_or all place d).kind ts) (answers_after (get_or all place d).kind hs) (count + cond (is_finish (get_or all place d).kind) 1 0)
   written_more page new place ps ts hs count d within written many many_is writes =
       let entry : Entry = get_or all place d in
       let later : List Entry = drop (place + 1) all in
       let rest : drop place all ≡ entry ∷ later = drop-cons all place d within ∙ ap (λ n. entry ∷ drop n all) (sym (add-one place)) in
-      let after : ℕ → List ℕ = λ m. handed_entries script lost (place + 1) (count + cond (is_finish entry.kind) 1 0) (texts_after entry.kind ts) (answers_after entry.kind hs) (drop m ps) later in
+      let after : ℕ → List ℕ = λ m. handed_entries script lost probes (place + 1) (count + cond (is_finish entry.kind) 1 0) (texts_after entry.kind ts) (answers_after entry.kind hs) (drop m ps) later in
       record {
         so_far = written.so_far ++ handed_text script lost count ts hs (take many ps) entry;
         text = writes ∙ ap (λ t. t ++ handed_text script lost count ts hs (take many ps) entry) written.text ∙ append_assoc old written.so_far (handed_text script lost count ts hs (take many ps) entry);
         whole = append_assoc written.so_far (handed_text script lost count ts hs (take many ps) entry) (after many)
             ∙ ap (λ m. written.so_far ++ (handed_text script lost count ts hs (take m ps) entry ++ after m)) many_is
-            ∙ ap (λ es. written.so_far ++ handed_entries script lost place count ts hs ps es) (sym rest) ∙ written.whole;
+            ∙ ap (λ es. written.so_far ++ handed_entries script lost probes place count ts hs ps es) (sym rest) ∙ written.whole;
         few = few_more (is_finish entry.kind) count place written.few;
         within = omega arith;
         small = written.small;
       }
 
   -- the same, of values that are equal to those
-  pub written_next : (page new : List ℕ) (place : ℕ) (ps : List Post) (ts : List (List ℕ)) (hs : List HitAnswer) (count : ℕ) (entry : Entry) → place < length all → Written script lost all ps0 ts0 hs0 old page place ps ts hs count
+  pub written_next : (page new : List ℕ) (place : ℕ) (ps : List Post) (ts : List (List ℕ)) (hs : List HitAnswer) (count : ℕ) (entry : Entry) → place < length all → Written script lost probes all ps0 ts0 hs0 old page place ps ts hs count
       → entry ≡ get_or all place entry → (many : ℕ) → many ≡ first_posts place ps
       → (mine later : List Post) → mine ≡ take many ps → later ≡ drop many ps → new ≡ page ++ handed_text script lost count ts hs mine entry
       → (texts_left : List (List ℕ)) → texts_left ≡ texts_after entry.kind ts → (answers_left : List HitAnswer) → answers_left ≡ answers_after entry.kind hs
       → (next : ℕ) → next ≡ count + cond (is_finish entry.kind) 1 0
-      → Written script lost all ps0 ts0 hs0 old new (place + 1) later texts_left answers_left next
+      → Written script lost probes all ps0 ts0 hs0 old new (place + 1) later texts_left answers_left next
   written_next page new place ps ts hs count entry within written is many many_is mine later mine_is later_is writes texts_left texts_is answers_left answers_is next next_is =
       let P : Entry → Type 0 = λ e. new ≡ page ++ handed_text script lost count ts hs (take many ps) e in
-      let Q : Entry → Type 0 = λ e. Written script lost all ps0 ts0 hs0 old new (place + 1) (drop many ps) (texts_after e.kind ts) (answers_after e.kind hs) (count + cond (is_finish e.kind) 1 0) in
+      let Q : Entry → Type 0 = λ e. Written script lost probes all ps0 ts0 hs0 old new (place + 1) (drop many ps) (texts_after e.kind ts) (answers_after e.kind hs) (count + cond (is_finish e.kind) 1 0) in
       let R : List Post → Type 0 = λ ps. new ≡ page ++ handed_text script lost count ts hs ps entry in
       let writes_here : P (get_or all place entry) = subst P is (subst R mine_is writes) in
       let done : Q entry = subst Q (sym is) (written_more page new place ps ts hs count entry within written many many_is writes_here) in
@@ -104,15 +108,15 @@ counted false xs entry = refl
 finished_more : (before : List Entry) (entry : Entry) → legal.frames before + cond (is_finish entry.kind) 1 0 ≡ legal.frames (before ▹ entry)
 finished_more before entry = finished_one (is_finish entry.kind) (legal.frames before) ∙ counted (is_finish entry.kind) (filter (λ one. is_finish one.kind) before) entry
 
-module _ (script : Script) (lost : List Lost) where
+module _ (script : Script) (lost : List Lost) (probes : List (List ProbeAnswer)) where
   same_entries : (later : List Entry) {place place' count count' : ℕ} {ts ts' : List (List ℕ)} {hs hs' : List HitAnswer} {ps ps' : List Post} → place ≡ place' → count ≡ count' → ts ≡ ts' → hs ≡ hs' → ps ≡ ps'
-      → handed_entries script lost place count ts hs ps later ≡ handed_entries script lost place' count' ts' hs' ps' later
-  same_entries later a b c d e = λ i. handed_entries script lost (a i) (b i) (c i) (d i) (e i) later
+      → handed_entries script lost probes place count ts hs ps later ≡ handed_entries script lost probes place' count' ts' hs' ps' later
+  same_entries later a b c d e = λ i. handed_entries script lost probes (a i) (b i) (c i) (d i) (e i) later
 
-  -- the text of later entries by what they add is that of their lines, and the last line
+  -- the text of later entries by what they add is that of their lines, the probes' lines and the last line
   handed_tail : (before later : List Entry)
-      → handed_entries script lost (length before) (legal.frames before) (map (frame_text script) (tail (frame_step script.setup) before later)) (tail (answer_step script.setup) before later) (tail (post_step script.setup) before later) later
-      ≡ text_of (tail (entry_lines script lost) before later) ++ text_of (end_line (length (onto before later)) (legal.frames (onto before later)) ∷ [])
+      → handed_entries script lost probes (length before) (legal.frames before) (map (frame_text script) (tail (frame_step script.setup) before later)) (tail (answer_step script.setup) before later) (tail (post_step script.setup) before later) later
+      ≡ text_of (tail (entry_lines script lost) before later) ++ (answers_text script probes ++ text_of (end_line (length (onto before later)) (legal.frames (onto before later)) ∷ []))
   handed_tail before [] = refl
   handed_tail before (entry ∷ later) =
       let ts : List (List ℕ) = map (frame_text script) (tail (frame_step script.setup) before (entry ∷ later)) in
@@ -121,9 +125,9 @@ module _ (script : Script) (lost : List Lost) where
       let many : ℕ = first_posts (length before) ps in
       let split = split_posts script.setup before entry later ps many refl refl in
       let rest : List (List Word) = tail (entry_lines script lost) (before ▹ entry) later in
-      let end : List ℕ = text_of (end_line (length (onto (before ▹ entry) later)) (legal.frames (onto (before ▹ entry) later)) ∷ []) in
-      ap (λ qs. handed_text script lost (legal.frames before) ts hs qs entry ++ handed_entries script lost (length before + 1) (legal.frames before + cond (is_finish entry.kind) 1 0) (texts_after entry.kind ts) (answers_after entry.kind hs) (drop many ps) later) split.0
-      ∙ ap (λ t. t ++ handed_entries script lost (length before + 1) (legal.frames before + cond (is_finish entry.kind) 1 0) (texts_after entry.kind ts) (answers_after entry.kind hs) (drop many ps) later)
+      let end : List ℕ = answers_text script probes ++ text_of (end_line (length (onto (before ▹ entry) later)) (legal.frames (onto (before ▹ entry) later)) ∷ []) in
+      ap (λ qs. handed_text script lost (legal.frames before) ts hs qs entry ++ handed_entries script lost probes (length before + 1) (legal.frames before + cond (is_finish entry.kind) 1 0) (texts_after entry.kind ts) (answers_after entry.kind hs) (drop many ps) later) split.0
+      ∙ ap (λ t. t ++ handed_entries script lost probes (length before + 1) (legal.frames before + cond (is_finish entry.kind) 1 0) (texts_after entry.kind ts) (answers_after entry.kind hs) (drop many ps) later)
       (next_text script lost before entry (tail (frame_step script.setup) (before ▹ entry) later) (tail (answer_step script.setup) (before ▹ entry) later))
       ∙ ap (λ t. text_of (entry_lines script lost before entry) ++ t)
       (same_entries later (add-one (length before)) (finished_more before entry) (later_texts script before entry later) (later_answers script.setup before entry later) split.1 ∙ handed_tail (before ▹ entry) later)
@@ -131,7 +135,7 @@ module _ (script : Script) (lost : List Lost) where
       ∙ ap (λ t. t ++ end) (sym (text-append (entry_lines script lost before entry) rest))
 
 pub handed-is-report : HandedIsReport
-handed-is-report script all ps ts lost hs no_probes ps_are ts_are hs_are =
+handed-is-report script all ps ts lost hs probes answered ask ps_are ts_are hs_are =
     let history : List Entry = history_of all in
     let is : history ≡ onto [] all = sym (onto-reverse [] all ∙ append-nil (reverse all)) in
     let ps_tail : ps ≡ tail (post_step script.setup) [] all = ps_are ∙ ap (posts script.setup) is ∙ grows (posts script.setup) (post_step script.setup) (λ before entry. refl) [] all in
@@ -141,13 +145,17 @@ handed-is-report script all ps ts lost hs no_probes ps_are ts_are hs_are =
     let lines : tail (entry_lines script lost) [] all ≡ history_lines script lost history =
     sym (ap (history_lines script lost) is ∙ grows (history_lines script lost) (entry_lines script lost) (λ before entry. refl) [] all) in
     let end : List Entry → List (List Word) = λ h. end_line (length h) (legal.frames h) ∷ [] in
-    let seen : map (seen_line script history) (zip (probe_lines script) []) ≡ [] = ap (λ n. map (seen_line script history) (zip (flat_map (λ k. probe_lines_of k script.lines) (numbers_from 0 n)) [])) no_probes in
+    let seen : List (List Word) = map (seen_line script history) (zip (probe_lines script) (frames_seen probes)) in
     let title : List (List Word) = title_line ∷ [] in
     let body : List (List Word) = history_lines script lost history in
-    ap (λ t. text_of title ++ t) (same_entries script lost all refl refl ts_tail hs_tail ps_tail ∙ handed_tail script lost [] all)
-    ∙ ap (λ ls. text_of title ++ (text_of ls ++ text_of (end (onto [] all)))) lines
-    ∙ ap (λ h. text_of title ++ (text_of body ++ text_of (end h))) (sym is)
-    ∙ sym (append_assoc (text_of title) (text_of body) (text_of (end history)))
-    ∙ ap (λ t. t ++ text_of (end history)) (sym (text-append title body))
-    ∙ ap (λ ls. text_of ls ++ text_of (end history)) (sym (append-nil (title_line ∷ body)) ∙ ap (λ ls. (title_line ∷ body) ++ ls) (sym seen))
-    ∙ sym (text-append ((title_line ∷ body) ++ map (seen_line script history) (zip (probe_lines script) [])) (end history))
+    ap (λ t. text_of title ++ t) (same_entries script lost probes all refl refl ts_tail hs_tail ps_tail ∙ handed_tail script lost probes [] all)
+    ∙ ap (λ ls. text_of title ++ (text_of ls ++ (answers_text script probes ++ text_of (end (onto [] all))))) lines
+    ∙ ap (λ h. text_of title ++ (text_of body ++ (answers_text script probes ++ text_of (end h)))) (sym is)
+    ∙ ap (λ t. text_of title ++ (text_of body ++ (t ++ text_of (end history)))) (sym (probes-text script history probes answered ask))
+    ∙ whole title body seen (end history)
+  where
+    -- the text of four lists of lines
+    whole : (a b c d : List (List Word)) → text_of a ++ (text_of b ++ (text_of c ++ text_of d)) ≡ text_of ((a ++ b) ++ c ++ d)
+    whole a b c d =
+        ap (λ t. text_of a ++ (text_of b ++ t)) (sym (text-append c d)) ∙ sym (append_assoc (text_of a) (text_of b) (text_of (c ++ d)))
+        ∙ ap (λ t. t ++ text_of (c ++ d)) (sym (text-append a b)) ∙ sym (text-append (a ++ b) (c ++ d)) ∙ ap text_of (sym (append_assoc (a ++ b) c d))

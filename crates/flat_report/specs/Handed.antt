@@ -1,19 +1,25 @@
--- What is handed in beside the history: the answers to points asked, and the events as they are posted.
+-- What is handed in beside the history: the answers to points asked, the events as they are posted, and the answers to probes.
 use Rattle.std.specs.Prelude.{ℕ, ◌+◌, ◌==◌, ℤ, Bool, true, false, codes, cond, drop, length, map, take, take_while, List, [], ◌∷◌, ◌++◌}
+use Rattle.std.specs.List.{flat_map}
 use Rattle.flat_scene.specs.declared.frames.Hit.{Hit}
 use Rattle.flat_scene.specs.declared.frames.Lost.{Lost}
 use Rattle.flat_scene.specs.declared.journal.Entry.{Entry}
 use Rattle.flat_scene.specs.declared.journal.Kind.{Kind}
 use Rattle.flat_scene.specs.declared.journal.Kind.TheVariants as kind
 use Rattle.flat_scene.specs.declared.journal.Post.{Post}
+use Rattle.flat_scene.specs.declared.script.ProbeLine.{ProbeLine}
+use Rattle.flat_scene.specs.declared.script.ProbeLine.TheVariants as probe
 use Rattle.flat_scene.specs.declared.setup.Setup.{Setup}
 use Rattle.flat_scene.specs.History.{◌▹◌, is_finish}
 use Rattle.flat_rules.specs.Ends.{to_finished}
 use Rattle.flat_rules.specs.Legal.{frames}
 use Rattle.flat_places.specs.declared.script.Script.{Script}
+use Rattle.flat_report.specs.declared.probes.ProbeAnswer.{ProbeAnswer}
 use Rattle.flat_report.specs.declared.report.HitAnswer.{HitAnswer}
-use Rattle.flat_report.specs.EntryLines.{entry_line, event_line}
+use Rattle.flat_report.specs.EntryLines.{entry_line, event_line, point_words}
 use Rattle.flat_report.specs.FrameLines.{lost_line}
+use Rattle.flat_report.specs.Names.{actor_name}
+use Rattle.flat_report.specs.Probes.{frame_seen}
 use Rattle.flat_report.specs.Report.{hits_at, lost_at}
 use Rattle.flat_page.specs.Words.{Word, number, text_of}
 
@@ -75,13 +81,26 @@ title_line = codes "report" ∷ codes "flatland" ∷ codes "1" ∷ []
 abbrev pub end_line : ℕ → ℕ → List Word
 end_line entries finished = codes "report" ∷ codes "ends" ∷ codes "entries" ∷ number entries ∷ codes "frames" ∷ number finished ∷ []
 
--- the text of the entries from a place on, by what is left there of what is handed in: each entry takes its own posts from the front, a `done` the text of a frame, and a point an answer; and behind them the last line
-abbrev pub handed_entries : Script → List Lost → ℕ → ℕ → List (List ℕ) → List HitAnswer → List Post → List Entry → List ℕ
-handed_entries script lost place finished texts answers posts [] = text_of (end_line place finished ∷ [])
-handed_entries script lost place finished texts answers posts (entry ∷ later) =
-    handed_text script lost finished texts answers (take (first_posts place posts) posts) entry
-    ++ handed_entries script lost (place + 1) (finished + cond (is_finish entry.kind) 1 0) (texts_after entry.kind texts) (answers_after entry.kind answers) (drop (first_posts place posts) posts) later
+-- what is said of an answer behind the number of its line, by what the line asks
+abbrev pub probe_words : Script → ProbeLine → ℕ → List Hit → List Word
+probe_words script (probe.Hit x y) frame hits = point_words script x y frame hits
+probe_words script (probe.Await n) frame hits = codes "await" ∷ codes "frame" ∷ number frame ∷ []
 
--- the text of all that is handed in: the entries, the oldest first, their posts, the texts of frames, the displays that were lost, and the answers
-abbrev pub handed_report : Script → List Entry → List Post → List (List ℕ) → List Lost → List HitAnswer → List ℕ
-handed_report script entries posts texts lost answers = text_of (title_line ∷ []) ++ handed_entries script lost 0 0 texts answers posts entries
+-- the line of an answer
+abbrev pub answer_line : Script → ProbeAnswer → List Word
+answer_line script answer = actor_name script answer.actor ∷ number answer.line ∷ probe_words script answer.asked (frame_seen answer) answer.hits
+
+-- the text of all probes' answers, probe by probe
+abbrev pub answers_text : Script → List (List ProbeAnswer) → List ℕ
+answers_text script probes = flat_map (λ one. text_of (map (answer_line script) one)) probes
+
+-- the text of the entries from a place on, by what is left there of what is handed in: each entry takes its own posts from the front, a `done` the text of a frame, and a point an answer; behind them the probes' answers, and the last line
+abbrev pub handed_entries : Script → List Lost → List (List ProbeAnswer) → ℕ → ℕ → List (List ℕ) → List HitAnswer → List Post → List Entry → List ℕ
+handed_entries script lost probes place finished texts answers posts [] = answers_text script probes ++ text_of (end_line place finished ∷ [])
+handed_entries script lost probes place finished texts answers posts (entry ∷ later) =
+    handed_text script lost finished texts answers (take (first_posts place posts) posts) entry
+    ++ handed_entries script lost probes (place + 1) (finished + cond (is_finish entry.kind) 1 0) (texts_after entry.kind texts) (answers_after entry.kind answers) (drop (first_posts place posts) posts) later
+
+-- the text of all that is handed in: the entries, the oldest first, their posts, the texts of frames, the displays that were lost, the answers to points, and those to the probes
+abbrev pub handed_report : Script → List Entry → List Post → List (List ℕ) → List Lost → List HitAnswer → List (List ProbeAnswer) → List ℕ
+handed_report script entries posts texts lost answers probes = text_of (title_line ∷ []) ++ handed_entries script lost probes 0 0 texts answers posts entries

@@ -6,4 +6,5 @@ pub mod ItemLines
 pub mod Laws
 pub mod Names
 pub mod Pieces
+pub mod Probes
 pub mod Report

@@ -39,14 +39,15 @@ fn push_hits(page: &mut Page, script: &Script, hits: &[Hit]) -> Result<(), NoMem
 }
 
 /// A word, and a number that counts.
-fn push_long(page: &mut Page, word: &[u8], value: u64) -> Result<(), NoMemory>
+pub(crate) fn push_long(page: &mut Page, word: &[u8], value: u64) -> Result<(), NoMemory>
     ensures { OnOk result (Writes (word.now ∷ number value ∷ []) page.old page.new) }
 {
     page.word(word)?;
     page.count(value)
 }
 
-fn push_point(
+/// What is said of a point: it, the frame in which it was asked, and who is hit.
+pub(crate) fn push_point(
     page: &mut Page,
     script: &Script,
     x: i32,

@@ -1,4 +1,7 @@
 //! The report: what a run answers and shows, as text.
+//!
+//! Other crates may cite the lemmas of proofs/lemmas/: what answers to probes are after
+//! one answer more, and after more entries (ProbeSteps).
 #![tactic(auto)]
 
 mod ends;
@@ -11,9 +14,12 @@ mod laws;
 mod names;
 mod paged_text;
 mod pieces;
+mod probe_lines;
+mod probes;
 mod report;
 
 pub use frame_texts::FrameTexts;
-pub use laws::{handed_is_report, reports_determine_histories};
+pub use laws::{frames_are_seen, handed_is_report, reports_determine_histories};
 pub use pieces::Pieces;
+pub use probes::{ProbeAnswer, ProbeAnswers};
 pub use report::{HitAnswer, HitAnswers, print_report};

@@ -3,7 +3,7 @@ ghost use Rattle.flat_page.specs.Pages.{Puts, is_counting};
 ghost use Rattle.flat_page.specs.Words.{text_of};
 ghost use Rattle.flat_report.specs.EntryLines.{entry_line};
 ghost use Rattle.flat_report.specs.FrameLines.{lost_line};
-ghost use Rattle.flat_report.specs.Handed.{end_line, post_line, title_line};
+ghost use Rattle.flat_report.specs.Handed.{answer_line, end_line, post_line, title_line};
 ghost use Rattle.flat_report.specs.Pieces.{text_on};
 ghost use Rattle.flat_report.specs.Report.{lost_at};
 
@@ -11,6 +11,8 @@ use crate::ends::{push_end, push_title};
 use crate::entry_lines::{push_entry, push_posts};
 use crate::frame_words::push_losses;
 use crate::pieces::Pieces;
+use crate::probe_lines::push_probe_line;
+use crate::probes::ProbeAnswer;
 use flat_base::{Items, NoMemory};
 use flat_page::Page;
 use flat_places::Script;
@@ -144,6 +146,16 @@ impl PagedText {
     {
         let mut page = mem::replace(&mut self.page, Page::Text(Vec::new(self.alloc)));
         push_posts(&mut page, script, posts)?;
+        self.page = page;
+        Ok(())
+    }
+
+    /// Puts the line of a probe's answer.
+    pub(crate) fn answer(&mut self, script: &Script, answer: &ProbeAnswer) -> Result<(), NoMemory>
+        ensures { OnOk result (self.new ≡ self.old ++ text_of (answer_line script.now answer.now ∷ [])) }
+    {
+        let mut page = mem::replace(&mut self.page, Page::Text(Vec::new(self.alloc)));
+        push_probe_line(&mut page, script, answer)?;
         self.page = page;
         Ok(())
     }

@@ -1,10 +1,12 @@
-ghost use Rattle.std.specs.Prelude.{◌≡◌, ◌++◌, ◌+◌, ◌-◌, ◌<◌, ◌^◌, [], OnOk, IfOk, cond, drop};
+ghost use Rattle.std.specs.Prelude.{◌≡◌, ◌++◌, ◌∷◌, ◌+◌, ◌-◌, ◌<◌, ◌^◌, [], OnOk, IfOk, cond, drop, map};
 ghost use Rattle.flat_scene.specs.History.{is_finish};
-ghost use Rattle.flat_report.specs.Handed.{first_hits, answers_after, texts_after, first_posts, shown_text, handed_text, handed_entries, handed_report};
+ghost use Rattle.flat_page.specs.Words.{text_of};
+ghost use Rattle.flat_report.specs.Handed.{answer_line, answers_text, end_line, first_hits, answers_after, texts_after, first_posts, shown_text, handed_text, handed_entries, handed_report};
 
 use crate::frame_texts::FrameTexts;
 use crate::paged_text::PagedText;
 use crate::pieces::Pieces;
+use crate::probes::{ProbeAnswer, ProbeAnswers};
 use flat_base::{Actor, FrameNo, Items, NoMemory};
 use flat_places::Script;
 use flat_scene::{Entry, Hit, HitList, Journal, Kind, Lost, Post};
@@ -125,7 +127,60 @@ fn push_handed(
     Ok(())
 }
 
-/// The text of all entries, and the last line.
+/// The line of an answer of a probe, on a page that isn't full yet.
+fn push_answer(paged: &mut PagedText, script: &Script, answer: &ProbeAnswer) -> Result<(), NoMemory>
+    ensures { OnOk result (paged.new ≡ paged.old ++ text_of (answer_line script.now answer.now ∷ [])) }
+{
+    paged.answer(script, answer)?;
+    paged.turn_full()?;
+    Ok(())
+}
+
+/// The lines of the answers of one probe.
+fn push_answers(
+    paged: &mut PagedText,
+    script: &Script,
+    answers: &[ProbeAnswer],
+) -> Result<(), NoMemory>
+    ensures { OnOk result (paged.new ≡ paged.old ++ text_of (map (answer_line script.now) answers.now)) }
+{
+    for answer in answers {
+        push_answer(paged, script, answer)?;
+    }
+    Ok(())
+}
+
+/// The lines of all probes' answers.
+fn push_probes(
+    paged: &mut PagedText,
+    script: &Script,
+    probes: &[ProbeAnswers],
+) -> Result<(), NoMemory>
+    ensures { OnOk result (paged.new ≡ paged.old ++ answers_text script.now probes.now) }
+{
+    for answers in probes {
+        push_answers(paged, script, answers.as_slice())?;
+    }
+    Ok(())
+}
+
+/// What stands behind the text of the entries, of which there are so many, and so many
+/// finished frames: the probes' lines and the last line.
+fn push_rest(
+    paged: &mut PagedText,
+    script: &Script,
+    probes: &[ProbeAnswers],
+    entries: usize,
+    finished: u64,
+) -> Result<(), NoMemory>
+    ensures { OnOk result (paged.new ≡ paged.old ++ (answers_text script.now probes.now ++ text_of (end_line entries finished ∷ []))) }
+{
+    push_probes(paged, script, probes)?;
+    paged.end(entries, finished)?;
+    Ok(())
+}
+
+/// The text of all entries, and what stands behind it.
 fn push_history(
     paged: &mut PagedText,
     script: &Script,
@@ -133,8 +188,9 @@ fn push_history(
     texts: &mut VecDeque<Items<u8>>,
     lost: &[Lost],
     answers: &[HitAnswer],
+    probes: &[ProbeAnswers],
 ) -> Result<(), NoMemory>
-    ensures { OnOk result (paged.new ≡ paged.old ++ handed_entries script.now lost.now 0 0 texts.old.items answers.now
+    ensures { OnOk result (paged.new ≡ paged.old ++ handed_entries script.now lost.now probes.now 0 0 texts.old.items answers.now
         journal.now.posts.items journal.now.entries.items) }
 {
     let mut posts = journal.posts.as_slice();
@@ -148,7 +204,7 @@ fn push_history(
         finished = finished_after(finished, &entry.kind);
     }
     let entries = journal.entries.as_slice();
-    paged.end(entries.len(), finished)?;
+    push_rest(paged, script, probes, entries.len(), finished)?;
     Ok(())
 }
 
@@ -156,8 +212,10 @@ fn push_history(
 ///
 /// What is handed in is written as it is: with each entry of the journal its own
 /// posts, with each `done` the text of the next frame and the displays in `lost` that
-/// were lost at it, with each point the next answer. Where all that is what the rules
-/// say of the journal's history, the text is its report (`handed_is_report`).
+/// were lost at it, with each point the next answer; and behind the last entry the
+/// answers of `probes`, which has those of one probe after those of another. Where all
+/// that is what the rules say of the journal's history, the text is its report
+/// (`handed_is_report`).
 ///
 /// Texts of frames are moved into the report or let go, so that what it takes beside
 /// them is the room of the other lines.
@@ -168,9 +226,10 @@ pub fn print_report(
     frames: FrameTexts,
     lost: &[Lost],
     answers: &HitAnswers,
+    probes: &[ProbeAnswers],
 ) -> Result<Pieces, NoMemory>
     ensures { IfOk result (λ text. text ≡ handed_report script.now journal.now.entries.items
-        journal.now.posts.items frames.texts.items lost.now answers.now) }
+        journal.now.posts.items frames.texts.items lost.now answers.now probes.now) }
 {
     let mut texts = frames.texts;
     let mut paged = PagedText::new(alloc);
@@ -182,6 +241,7 @@ pub fn print_report(
         &mut texts,
         lost,
         answers.as_slice(),
+        probes,
     )?;
     paged.into_pieces()
 }

@@ -1,13 +1,15 @@
 -- What is said of a run that was played to its end.
-use Rattle.std.proofs.Common.{◌≡◌, ◌≢◌, ℕ, zero, suc, ◌==◌, ◌&&◌, true, false, List, [], length, Option, Result, Ok, Err, IfOk, refl, sym, ap, ◌∙◌, subst, arith, map}
-use Rattle.std.specs.List.{flat_map, zip}
-use Rattle.std.proofs.lemmas.Bool.{eqb-true}
-use Rattle.std.proofs.lemmas.Bool.Decides.{nat_tests}
+use Rattle.std.proofs.Common.{◌≡◌, ◌≢◌, ℕ, true, false, List, [], ◌∷◌, Option, Result, Ok, Err, IfOk, refl, sym, ap, ◌∙◌, subst, map}
+use Rattle.std.specs.List.{list_all}
+use Rattle.flat_base.specs.declared.ids.Actor.{Actor}
+use Rattle.flat_base.specs.declared.ids.Actor.TheVariants.{Display, Session, Probe}
 use Rattle.flat_scene.specs.declared.frames.FrameOut.{FrameOut}
 use Rattle.flat_scene.specs.declared.frames.Lost.{Lost}
 use Rattle.flat_scene.specs.declared.journal.Entry.{Entry}
 use Rattle.flat_scene.specs.declared.journal.Post.{Post}
 use Rattle.flat_scene.specs.History.{history_of}
+use Rattle.flat_scene.specs.declared.script.Body.{Body}
+use Rattle.flat_scene.specs.declared.script.Body.TheVariants as body
 use Rattle.flat_scene.specs.declared.script.ScriptLine.{ScriptLine}
 use Rattle.flat_scene.specs.declared.setup.Setup.{Setup}
 use Rattle.flat_scene.specs.Setups.{is_within_limits, owners_declared}
@@ -17,15 +19,18 @@ use Rattle.flat_rules.specs.Posts.{posts}
 use Rattle.flat_display.specs.Had.{AreDriven}
 use Rattle.flat_report.specs.Handed.{answers_of, handed_report}
 use Rattle.flat_report.specs.Laws.{HandedIsReport}
-use Rattle.flat_report.specs.Report.{report, finished, is_seeing, never_falls, numbers_from, probe_lines_of}
+use Rattle.flat_report.specs.Probes.{ProbesAnswered, frames_seen, is_asking}
+use Rattle.flat_report.specs.Report.{report, finished, is_seeing}
 use Rattle.flat_places.specs.declared.script.Script.{Script}
 use Rattle.flat_forms.specs.Body.{dones}
-use Rattle.flat_playable.specs.Playable.{is_playable}
+use Rattle.flat_playable.specs.Playable.{is_playable, is_played}
 use Rattle.flat_core.specs.Machines.{Machine}
+use Rattle.flat_report.specs.declared.probes.ProbeAnswer.{ProbeAnswer}
 use Rattle.flat_report.specs.declared.report.HitAnswer.{HitAnswer}
 use Rattle.flat_scene.specs.Interleave.{IsWritten}
 use Rattle.flat_report.specs.declared.frame_texts.FrameTexts.{FrameTexts}
 use Rattle.flat_report.specs.FrameTexts.{frame_text, AreTexts}
+use Rattle.flat_play.specs.Probing.{seen_in_turn}
 use Rattle.flat_play.specs.declared.kept.Kept.{Kept}
 use Rattle.flat_play.specs.declared.kept.Kept.TheVariants as kept
 use Rattle.flat_play.specs.Keeping.{Keeps}
@@ -39,7 +44,7 @@ use Rattle.flat_run.specs.Promise.{HasRun}
 use Rattle.flat_play.specs.Showing.{HaveSeen}
 use Rattle.flat_base.proofs.lemmas.Tests.{and-left, and-right}
 use Rattle.flat_run.proofs.FramesDone.{frames-done}
-use Rattle.flat_play.proofs.lemmas.Places.{setup_is, no_probes}
+use Rattle.flat_play.proofs.lemmas.Places.{setup_is, played_all}
 
 -- what follows of each value follows of a result
 pub if_ok : {A E : Type 0} (P Q : A → Type 0) (r : Result A E) → ((v : A) → P v → Q v) → IfOk r P → IfOk r Q
@@ -49,15 +54,20 @@ if_ok P Q (Err e) also holds = tt
 owners_are : (script : Script) → is_playable script ≡ true → owners_declared script.setup ≡ true
 owners_are script playable = and-right (is_within_limits script.setup) (owners_declared script.setup) (and-left _ _ (setup_is script playable))
 
-no_lines : (n : ℕ) (lines : List ScriptLine) → (n == 0) ≡ true → flat_map (λ n. probe_lines_of n lines) (numbers_from 0 n) ≡ []
-no_lines zero lines none = refl
-no_lines (suc n) lines none = let wrong : suc n ≡ 0 = grind (arith, nat_tests) in absurd (omega (arith, wrong))
+-- each line of a probe asks, where each line is played
+line_asks : (setup : Setup) (actor : Actor) (text : Body) → is_played setup actor text ≡ true → is_asking actor text ≡ true
+line_asks setup (Probe p) (body.Probe asked) played = refl
+line_asks setup (Probe p) (body.Session said) played = absurd (let wrong : false ≡ true = played in cc)
+line_asks setup (Probe p) (body.Display said) played = absurd (let wrong : false ≡ true = played in cc)
+line_asks setup Display text played = refl
+line_asks setup (Session s) text played = refl
 
--- where there are no probes, nothing is what they see
-none_seen : (script : Script) (history : List Entry) → (script.setup.probes == 0) ≡ true → is_seeing script history [] ≡ true
-none_seen script history none =
-    let nothing : List ℕ = [] in
-    ap (λ (ls : List ScriptLine). (0 == length ls) && true && never_falls (zip ls nothing)) (no_lines script.setup.probes script.lines none)
+lines_ask : (setup : Setup) (lines : List ScriptLine) → list_all (λ (next : ScriptLine). is_played setup next.actor next.body) lines ≡ true → list_all (λ (line : ScriptLine). is_asking line.actor line.body) lines ≡ true
+lines_ask setup [] played = refl
+lines_ask setup (line ∷ lines) played =
+    let here = line_asks setup line.actor line.body (and-left (is_played setup line.actor line.body) _ played) in
+    let later = lines_ask setup lines (and-right (is_played setup line.actor line.body) _ played) in
+    rw here later
 
 -- a form whose script is read asks for no number of frames
 pub none_asked : (form : Form) (n : ℕ) → is_read form ≡ true → AreAsked form n
@@ -77,11 +87,12 @@ module _ (reading : Reading) (board : Machine) (kept_frames : Kept) (answers : L
   legal_here legal = let L : Setup → Type 0 = λ st. Legal st board.history in subst L played.setup legal
 
   -- a run that came to its end, and what displays have had of it
-  pub has_run : {D : Type 0} (shown : D → Option (List FrameOut)) (faults : D → ℕ) (form : Form) (lost : List Lost) (olds news : List D) → (form ≢ Race → IsWritten script.setup board.history)
-      → HaveSeen shown faults (finished script.setup board.history) board.history lost olds news → FamiliesAreAlone → Legal board.setup board.history → AreAsked form (frames board.history) → Fits form script.setup → HasRun form (ran_of reading board.history lost)
-  has_run shown faults form lost olds news written seen alone legal asked fits = record {
-    run = record { legal = legal_here legal; interleaves = played.interleaves; loss = seen.loss; numbered = seen.numbered; seeing = none_seen script board.history (no_probes script playable) };
+  pub has_run : {D : Type 0} (shown : D → Option (List FrameOut)) (faults : D → ℕ) (form : Form) (lost : List Lost) (seen : List ℕ) (olds news : List D) → (form ≢ Race → IsWritten script.setup board.history) → (form ≢ Race → seen ≡ seen_in_turn script board.history)
+      → HaveSeen shown faults (finished script.setup board.history) board.history lost olds news → FamiliesAreAlone → Legal board.setup board.history → AreAsked form (frames board.history) → Fits form script.setup → is_seeing script board.history seen ≡ true → HasRun form (ran_of reading board.history lost seen)
+  has_run shown faults form lost seen olds news written in_turn had alone legal asked fits seeing = record {
+    run = record { legal = legal_here legal; interleaves = played.interleaves; loss = had.loss; numbered = had.numbered; seeing = seeing };
     written = written;
+    in_turn = in_turn;
     asked = asked;
     fits = fits;
     families = λ s. alone script.setup (owners_are script playable) board.history (legal_here legal) s;
@@ -96,11 +107,15 @@ module _ (reading : Reading) (board : Machine) (kept_frames : Kept) (answers : L
   load_asked asked legal many = frames-done script board.history playable (legal_here legal) played.interleaves ∙ many
 
   -- what a run hands to the report is written as its report
-  pub handed_whole : HandedIsReport → (texts : FrameTexts) → kept.Texts texts ≡ kept_frames → (lost handed : List Lost) (entries : List Entry) (sent : List Post) → history_of entries ≡ board.history → sent ≡ posts board.setup board.history
-      → handed ≡ lost → handed_report script entries sent texts.texts.items handed answers ≡ report script board.history lost []
-  handed_whole law texts texts_are lost handed entries sent entries_are sent_are lost_are =
+  pub handed_whole : HandedIsReport → (texts : FrameTexts) → kept.Texts texts ≡ kept_frames → (probes given : List (List ProbeAnswer)) → ProbesAnswered script board.history probes → given ≡ probes
+      → (lost handed : List Lost) (entries : List Entry) (sent : List Post) → history_of entries ≡ board.history → sent ≡ posts board.setup board.history
+      → handed ≡ lost → handed_report script entries sent texts.texts.items handed answers given ≡ report script board.history lost (frames_seen probes)
+  handed_whole law texts texts_are probes given answered given_is lost handed entries sent entries_are sent_are lost_are =
       let K : Kept → Type 0 = λ k. Keeps script k (finished script.setup board.history) in
+      let A : List Entry → Type 0 = λ h. ProbesAnswered script h probes in
       let written : AreTexts script (finished script.setup board.history) texts = subst K (sym texts_are) played.keeps in
-      law script entries sent texts.texts.items handed answers (eqb-true script.setup.probes 0 (no_probes script playable))
+      ap (λ (ps : List (List ProbeAnswer)). handed_report script entries sent texts.texts.items handed answers ps) given_is
+      ∙ law script entries sent texts.texts.items handed answers probes (subst A (sym entries_are) answered) (lines_ask script.setup script.lines (played_all script playable))
       (sent_are ∙ ap (λ (st : Setup). posts st board.history) played.setup ∙ ap (posts script.setup) (sym entries_are)) (written.texts ∙ ap (λ (h : List Entry). map (frame_text script) (finished script.setup h)) (sym entries_are))
-      (played.answering ∙ ap (answers_of script.setup) (sym entries_are)) ∙ ap (λ (h : List Entry). report script h handed []) entries_are ∙ ap (λ (ls : List Lost). report script board.history ls []) lost_are
+      (played.answering ∙ ap (answers_of script.setup) (sym entries_are))
+      ∙ ap (λ (h : List Entry). report script h handed (frames_seen probes)) entries_are ∙ ap (λ (ls : List Lost). report script board.history ls (frames_seen probes)) lost_are

@@ -1,5 +1,5 @@
 -- What is answered to bytes that are read whole.
-use Rattle.std.specs.Prelude.{◌≡◌, ℕ, true, nat_lt, List, [], Option}
+use Rattle.std.specs.Prelude.{◌≡◌, ℕ, true, nat_lt, List, Option}
 use Rattle.std.specs.List.{list_all}
 use Rattle.flat_scene.specs.declared.frames.FrameOut.{FrameOut}
 use Rattle.flat_words.specs.declared.form.Form.{Form}
@@ -19,9 +19,9 @@ pub record IsRunnable (reading : Reading) : Type 0 where
   pub rise : rise_after 0 reading.pointers ≡ true
   pub pointers : list_all (λ line. nat_lt line.pointer POINTERS) reading.pointers ≡ true
 
--- what ran of it, where there are no probes
-abbrev pub ran_of : Reading → List Entry → List Lost → Ran
-ran_of reading history lost = record { reading = reading; history = history; lost = lost; seen = [] }
+-- what ran of it, with the frames that its probes saw
+abbrev pub ran_of : Reading → List Entry → List Lost → List ℕ → Ran
+ran_of reading history lost seen = record { reading = reading; history = history; lost = lost; seen = seen }
 
 module _ {D : Type 0} (shown : D → Option (List FrameOut)) (faults : D → ℕ) (olds news : List D) where
   -- These bytes are a script, which ran for the form; or its display is too large for a picture; or they are none, and the text says so.

@@ -14,6 +14,7 @@ use Rattle.flat_rules.specs.Legal.{frames}
 use Rattle.flat_script.specs.declared.script.ScriptFault.{ScriptFault}
 use Rattle.flat_display.specs.Had.{AreDriven}
 use Rattle.flat_report.specs.Report.{finished}
+use Rattle.flat_play.specs.Probing.{seen_in_turn}
 use Rattle.flat_report.specs.Laws.{IsRun}
 use Rattle.flat_stress.specs.Load.{load_text}
 use Rattle.flat_words.specs.declared.form.Form.{Form}
@@ -87,10 +88,11 @@ pub record AreTooLarge (bytes : List ℕ) : Type 0 where
 
 -- ---- what ran
 
--- It ran for a form: the history is a legal one, which interleaves the script's actors, in written order but in a race, and a load's has as many frames as were asked for. The display isn't too large for the form. Of each session's family, its entries with the frames alone are legal too, with the same replies, and post it the same events at the same entries; no other entry posts it any.
+-- It ran for a form: the history is a legal one, which interleaves the script's actors, in written order but in a race, and a load's has as many frames as were asked for. But in a race each line of a probe saw the frame that was finished last before it. The display isn't too large for the form. Of each session's family, its entries with the frames alone are legal too, with the same replies, and post it the same events at the same entries; no other entry posts it any.
 pub record HasRun (form : Form) (ran : Ran) : Type 0 where
   pub run : IsRun ran.reading.script ran.history ran.lost ran.seen
   pub written : form ≢ Race → IsWritten ran.reading.script.setup ran.history
+  pub in_turn : form ≢ Race → ran.seen ≡ seen_in_turn ran.reading.script ran.history
   pub asked : AreAsked form (frames ran.history)
   pub fits : Fits form ran.reading.script.setup
   pub families : (s : SessionNo) → IsFamilyLaw ran.reading.script.setup (family ran.reading.script.setup s) ran.history

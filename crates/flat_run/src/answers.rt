@@ -4,6 +4,8 @@ ghost use Rattle.flat_scene.specs.Interleave.{IsWritten};
 ghost use Rattle.flat_words.specs.declared.form.Form.TheVariants.{Race, Render, Pointer};
 ghost use Rattle.flat_words.specs.Forms.{CallFor};
 ghost use Rattle.flat_display.specs.Had.{AreKept};
+ghost use Rattle.flat_play.specs.Probing.{seen_in_turn};
+ghost use Rattle.flat_report.specs.Probes.{ProbesAnswered, frames_seen};
 ghost use Rattle.flat_report.specs.Report.{finished};
 ghost use Rattle.flat_play.specs.Keeping.{keeping_of};
 ghost use Rattle.flat_play.specs.Playing.{HasPlayed};
@@ -25,7 +27,7 @@ use flat_playable::scripts_are_playable;
 use flat_pointer::Touch;
 use flat_race::{Gate, race_script};
 use flat_render::is_too_large;
-use flat_report::Pieces;
+use flat_report::{Pieces, frames_are_seen};
 use flat_rules::families_are_alone;
 use flat_script::{ScriptError, ScriptFault};
 use flat_words::Form;
@@ -113,9 +115,11 @@ fn run_reading<T: Threads + Wait + Sync, G: Gate>(
     requires runnable { IsRunnable reading.now }
     requires few { length displays.old.items < 2 ^ 32 }
     ensures played { IfOk result (λ ran. HasPlayed reading.now.script ran.0.board ran.0.kept ran.0.answers) }
+    ensures probes { IfOk result (λ ran. ProbesAnswered reading.now.script ran.0.board.history ran.0.probes.items) }
     ensures keeping { IfOk result (λ ran. keeping_of ran.0.kept ≡ keeping_for form) }
     ensures touches { form ≡ Pointer → IfOk result (λ ran. ran.1.items ≡ map (touch_of reading.now.script.setup ran.0.board.history) reading.now.pointers) }
     ensures written { form ≢ Race → IfOk result (λ ran. IsWritten reading.now.script.setup ran.0.board.history) }
+    ensures in_turn { form ≢ Race → IfOk result (λ ran. frames_seen ran.0.probes.items ≡ seen_in_turn reading.now.script ran.0.board.history) }
     ensures seen { IfOk result (λ ran. HaveSeen (λ d. shown d) (λ d. faults d) (finished reading.now.script.setup ran.0.board.history) ran.0.board.history ran.0.set.lost displays.old.items displays.new.items) }
     ensures kept { AreKept (λ d. shown d) (λ d. faults d) displays.old.items displays.new.items (λ d. d.vtable) }
 {
@@ -154,6 +158,7 @@ fn told<T: Threads + Wait + Sync, G: Gate>(
     ensures kept { AreKept (λ d. shown d) (λ d. faults d) displays.old.items displays.new.items (λ d. d.vtable) }
 {
     families_are_alone();
+    frames_are_seen();
     let (played, touches) = run_reading(rt, alloc, form, reading, displays, gate)?;
     let _journal = played.board.journal();
     text_of(rt, alloc, form, reading, played, touches.as_slice())

@@ -3,9 +3,8 @@ ghost use Rattle.flat_run.specs.Laws.{PlaysHaveOneHistory};
 
 use flat_report::reports_determine_histories;
 
-/// What is written of a script tells its history, with all replies, and the displays
-/// that were lost: no other run has the same report. So it is of a report with frames
-/// that probes saw, which it tells too.
+/// What is written of a script tells its history, with all replies, the displays that
+/// were lost, and the frames that its probes saw: no other run has the same report.
 ///
 /// The call does nothing. Its contract is a law about the definitions.
 pub fn plays_have_one_history()

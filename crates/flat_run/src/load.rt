@@ -16,7 +16,7 @@ use flat_display::Display;
 use flat_places::Script;
 use flat_play::{Keeping, play_script};
 use flat_playable::scripts_are_playable;
-use flat_report::Pieces;
+use flat_report::{Pieces, frames_are_seen};
 use flat_rules::families_are_alone;
 use flat_scene::{Entry, FrameOut, Journal, Kind, Setup};
 use flat_script::{ScriptError, parse};
@@ -101,6 +101,7 @@ fn summed(
     ensures kept { AreKept (λ d. shown d) (λ d. faults d) displays.old.items displays.new.items (λ d. d.vtable) }
 {
     families_are_alone();
+    frames_are_seen();
     scripts_are_playable();
     loads_have_their_frames();
     let played = play_script(alloc, script, Keeping::Last, displays)?;

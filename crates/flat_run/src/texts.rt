@@ -1,10 +1,11 @@
-ghost use Rattle.std.specs.Prelude.{◌≡◌, ◌≢◌, true, [], map, reverse, IfOk};
+ghost use Rattle.std.specs.Prelude.{◌≡◌, ◌≢◌, true, map, reverse, IfOk};
 ghost use Rattle.flat_play.specs.Playing.{HasPlayed};
 ghost use Rattle.flat_play.specs.Touches.{touch_of};
 ghost use Rattle.flat_page.specs.Happenings.{without_items};
 ghost use Rattle.flat_playable.specs.Playable.{is_playable};
 ghost use Rattle.flat_pointer.specs.Text.{pointer_text};
 ghost use Rattle.flat_focus.specs.Text.{focus_text};
+ghost use Rattle.flat_report.specs.Probes.{ProbesAnswered, frames_seen};
 ghost use Rattle.flat_report.specs.Report.{finished, report};
 ghost use Rattle.flat_rules.specs.Legal.{Legal};
 ghost use Rattle.flat_play.specs.declared.kept.Keeping.TheVariants as keeping;
@@ -48,19 +49,30 @@ pub(crate) fn keeping_for(form: Form) -> Keeping
 fn report_of(alloc: Global, script: &Script, played: Played) -> Result<Pieces, NoMemory>
     requires playable { is_playable script.now ≡ true }
     requires played { HasPlayed script.now played.board played.kept played.answers }
+    requires probes { ProbesAnswered script.now played.board.history played.probes.items }
     requires keeping { keeping_of played.kept ≡ keeping.Texts }
-    ensures { IfOk result (λ text. text ≡ report script.now played.board.history played.set.lost []) }
+    ensures { IfOk result (λ text. text ≡ report script.now played.board.history played.set.lost (frames_seen played.probes.items)) }
 {
     handed_is_report();
     let Played {
         board,
         kept,
         answers,
+        probes,
         set,
     } = played;
     let frames = kept.into_texts();
     let lost = set.lost();
-    print_report(alloc, script, board.journal(), frames, lost, &answers)
+    let answered = probes.as_slice();
+    print_report(
+        alloc,
+        script,
+        board.journal(),
+        frames,
+        lost,
+        &answers,
+        answered,
+    )
 }
 
 /// The picture of the last frame of a run.
@@ -168,7 +180,7 @@ fn picture_or_lines<T: Threads + Sync>(
     requires fits { Fits form reading.now.script.setup }
     requires played { HasPlayed reading.now.script played.board played.kept played.answers }
     requires touches { form ≡ Pointer → touches.now ≡ map (touch_of reading.now.script.setup played.board.history) reading.now.pointers }
-    ensures { IfOk result (λ text. IsTextOf form (ran_of reading.now played.board.history played.set.lost) text.items) }
+    ensures { IfOk result (λ text. IsTextOf form (ran_of reading.now played.board.history played.set.lost (frames_seen played.probes.items)) text.items) }
 {
     match form {
         Form::Play | Form::Race | Form::Stress(_) => unreachable!(),
@@ -193,8 +205,9 @@ pub(crate) fn text_of<T: Threads + Sync>(
     requires runnable { IsRunnable reading.now }
     requires fits { Fits form reading.now.script.setup }
     requires played { HasPlayed reading.now.script played.board played.kept played.answers }
+    requires probes { ProbesAnswered reading.now.script played.board.history played.probes.items }
     requires touches { form ≡ Pointer → touches.now ≡ map (touch_of reading.now.script.setup played.board.history) reading.now.pointers }
-    ensures { IfOk result (λ text. IsTextOf form (ran_of reading.now played.board.history played.set.lost) text) }
+    ensures { IfOk result (λ text. IsTextOf form (ran_of reading.now played.board.history played.set.lost (frames_seen played.probes.items)) text) }
 {
     match form {
         Form::Play | Form::Race => report_of(alloc, &reading.script, played),

@@ -1,37 +1,26 @@
 -- Scripts and faults, computed.
-use Rattle.std.proofs.Common.{◌≡◌, ℕ, List, [], ◌∷◌, ◌++◌, Some, None, Result, Ok, Err, refl, codes, pos, negsuc}
-use Rattle.flat_base.specs.declared.ids.Actor.TheVariants.{Display, Session}
+use Rattle.std.proofs.Common.{◌≡◌, ℕ, List, [], ◌∷◌, Some, None, Result, Ok, Err, refl, codes, pos, negsuc}
+use Rattle.flat_base.specs.declared.ids.Actor.TheVariants.{Display, Session, Probe}
 use Rattle.flat_scene.specs.declared.calls.Call.TheVariants as call
 use Rattle.flat_scene.specs.declared.calls.Watch.TheVariants as watch
 use Rattle.flat_scene.specs.declared.script.Cond.TheVariants as asks
 use Rattle.flat_scene.specs.declared.script.Line.TheVariants as line
 use Rattle.flat_scene.specs.declared.script.DisplayLine.TheVariants as display
+use Rattle.flat_scene.specs.declared.script.ProbeLine.TheVariants as probe
 use Rattle.flat_scene.specs.declared.script.Body.TheVariants as body
 use Rattle.flat_places.specs.declared.script.Script.{Script}
 use Rattle.flat_script.specs.declared.script.ScriptFault.{ScriptFault}
 use Rattle.flat_places.specs.Known.{known_words}
 use Rattle.flat_script.specs.Grammar.{read_with, IsScript, IsFault}
 
--- the words that become known later
-abbrev later_words : List (List ℕ)
-later_words =
-    codes "probe" ∷ codes "await" ∷ []
-
--- all words of the version
-abbrev all_words : List (List ℕ)
-all_words = known_words ++ later_words
-
 -- the line and the kind of a fault, or 0 and the number of lines
 abbrev outcome : Result Script ScriptFault → ℕ × ℕ
 outcome (Ok s) = (0, s.count)
 outcome (Err f) = (f.line, f.kind)
 
--- what the text gives with the words that are known so far, and with all words
-abbrev so_far : List ℕ → ℕ × ℕ
-so_far text = outcome (read_with known_words text)
-
-abbrev whole : List ℕ → ℕ × ℕ
-whole text = outcome (read_with all_words text)
+-- what the text gives
+abbrev gives : List ℕ → ℕ × ℕ
+gives text = outcome (read_with known_words text)
 
 -- whole scripts, value by value
 
@@ -67,6 +56,20 @@ signs_and_skipped_lines : IsScript (codes "# a comment\nflatland 1\ndisplay 100 
   count = 8;
 })
 signs_and_skipped_lines = refl
+
+a_probe_and_its_lines : IsScript (codes "flatland 1\ndisplay 100 90\nsession A\npair t0 display A\nprobe eye\nrun\neye hit -1 40\neye await 2\n") (record {
+  setup = record { width = 100; height = 90; sessions = 1; probes = 1; pairs = record { viewport = Display; view = record { 0 = 1 } } ∷ []; buffers = []; fences = [] };
+  sessions = codes "A" ∷ [];
+  probes = codes "eye" ∷ [];
+  buffers = [];
+  pairs = codes "t0" ∷ [];
+  fences = [];
+  lines =
+      record { number = 7; actor = Probe 0; body = body.Probe (probe.Hit (negsuc 0) (pos 40)) } ∷
+      record { number = 8; actor = Probe 0; body = body.Probe (probe.Await 2) } ∷ [];
+  count = 8;
+})
+a_probe_and_its_lines = refl
 
 viewports_gets_and_points : IsScript (codes "flatland 1\ndisplay 9 9\nsession A\npair t0 display A\npair t1 A A\nrun\nA CreateViewport 1 t1 5 6\nA CreateViewport 2 t1 5 6 0 1 2 65536\nA SetViewportProperties 1 7 8\nA SetViewportProperties 1 7 8 0 0 0 0\nA ReleaseViewport 1\nA GetLayout\nA GetStatus\nA GetChildStatus 2\nA Wait answers 3\ndisplay hit -1 4\n") (record {
   setup = record { width = 9; height = 9; sessions = 1; probes = 0; pairs = record { viewport = Display; view = record { 0 = 1 } } ∷ record { viewport = Session (record { 0 = 1 }); view = record { 0 = 1 } } ∷ []; buffers = []; fences = [] };
@@ -161,9 +164,6 @@ kind_8_missing_number = refl
 kind_8_space_at_the_end : IsFault (codes "flatland 1\ndisplay 100 100\nsession A\npair t0 display A\nrun\nA Clear \n") (record { line = 6; kind = 8 })
 kind_8_space_at_the_end = refl
 
-probe_before_it_is_known : IsFault (codes "flatland 1\ndisplay 100 100\nsession A\npair t0 display A\nprobe P\nrun\n") (record { line = 5; kind = 4 })
-probe_before_it_is_known = refl
-
 ratio_in_version_one_head : IsFault (codes "flatland 1\ndisplay 100 100 65536\nsession A\npair t0 display A\nrun\n") (record { line = 2; kind = 8 })
 ratio_in_version_one_head = refl
 
@@ -187,145 +187,177 @@ version_zero = refl
 
 -- the whole grammar of the version
 
-shell_with_two_apps : whole (codes "flatland 1\ndisplay 1280 800\nsession shell\nsession mail\nsession clock\nbuffers mb mail 2 640 760\npair root display shell\npair tm shell mail\npair tc shell clock\nfence g1 mail\nfence g2 mail\nfence d1 mail\nfence d2 mail\nrun\nmail CreateView tm\nmail GetLayout\nclock CreateView tc\nclock GetStatus\nshell CreateView root\nshell CreateTransform 1\nshell SetRootTransform 1\nshell CreateTransform 2\nshell SetTranslation 2 0 40\nshell CreateTransform 3\nshell AddChild 1 2\nshell AddChild 1 3\nshell CreateViewport 1 tm 640 760\nshell SetContent 2 1\nshell CreateViewport 2 tc 1280 40\nshell SetContent 3 2\nshell GetChildStatus 1\nshell Present 0\nmail Wait answers 1\nmail CreateTransform 1\nmail SetRootTransform 1\nmail CreateImage 1 mb 0 640 760\nmail CreateImage 2 mb 1 640 760\nmail SetContent 1 1\nmail Present 0 acquire g1 release d1\nclock CreateTransform 1\nclock SetRootTransform 1\nclock CreateFilledRect 1\nclock SetSolidFill 1 0 0 0 128 1280 40\nclock SetContent 1 1\nclock Present 0\nclock GetStatus\ndisplay begin 16\ndisplay done\nmail Signal g1\ndisplay begin 33\ndisplay done\nmail SetContent 1 2\nmail Present 0 acquire g2 release d2\nmail Wait fence d1\nmail Signal g2\ndisplay begin 50\ndisplay done\n") ≡ (0, 57)
+shell_with_two_apps : gives (codes "flatland 1\ndisplay 1280 800\nsession shell\nsession mail\nsession clock\nbuffers mb mail 2 640 760\npair root display shell\npair tm shell mail\npair tc shell clock\nfence g1 mail\nfence g2 mail\nfence d1 mail\nfence d2 mail\nrun\nmail CreateView tm\nmail GetLayout\nclock CreateView tc\nclock GetStatus\nshell CreateView root\nshell CreateTransform 1\nshell SetRootTransform 1\nshell CreateTransform 2\nshell SetTranslation 2 0 40\nshell CreateTransform 3\nshell AddChild 1 2\nshell AddChild 1 3\nshell CreateViewport 1 tm 640 760\nshell SetContent 2 1\nshell CreateViewport 2 tc 1280 40\nshell SetContent 3 2\nshell GetChildStatus 1\nshell Present 0\nmail Wait answers 1\nmail CreateTransform 1\nmail SetRootTransform 1\nmail CreateImage 1 mb 0 640 760\nmail CreateImage 2 mb 1 640 760\nmail SetContent 1 1\nmail Present 0 acquire g1 release d1\nclock CreateTransform 1\nclock SetRootTransform 1\nclock CreateFilledRect 1\nclock SetSolidFill 1 0 0 0 128 1280 40\nclock SetContent 1 1\nclock Present 0\nclock GetStatus\ndisplay begin 16\ndisplay done\nmail Signal g1\ndisplay begin 33\ndisplay done\nmail SetContent 1 2\nmail Present 0 acquire g2 release d2\nmail Wait fence d1\nmail Signal g2\ndisplay begin 50\ndisplay done\n") ≡ (0, 57)
 shell_with_two_apps = refl
 
-every_line_of_a_session : whole (codes "flatland 1\ndisplay 100 100\nsession A\nsession B\npair t0 display A\npair t1 A B\nfence f A display\nprobe P\nbuffers b B 2 8 8\nrun\nA SetOrientation 1 4\nA SetScale 1 0 4294967295\nA SetOpacity 1 65537\nA SetClipBoundary 1\nA SetClipBoundary 1 -1 0 5 5\nA CreateViewport 1 t1 9 9\nA CreateViewport 1 t1 9 9 0 0 0 65536\nA SetViewportProperties 1 9 9\nA ReleaseViewport 1\nB CreateImage 1 b 7 8 8\nB SetImageSampleRegion 1 0 0 8 8\nB SetImageDestinationSize 1 9 9\nB SetImageBlendingFunction 1 2\nB SetImageFlip 1 3\nB SetImageOpacity 1 0\nB ReleaseImage 1\nA GetLayout\nA GetStatus\nA GetChildStatus 1\nA Signal f\nA Poll\nA Wait frames 1\nA Wait credits 1\nA Wait taken 1\nA Wait answers 1\nA Wait fence f\nA Present 0 acquire f f release f\nA Present 1 release f\nA Disconnect\n") ≡ (0, 39)
+every_line_of_a_session : gives (codes "flatland 1\ndisplay 100 100\nsession A\nsession B\npair t0 display A\npair t1 A B\nfence f A display\nprobe P\nbuffers b B 2 8 8\nrun\nA SetOrientation 1 4\nA SetScale 1 0 4294967295\nA SetOpacity 1 65537\nA SetClipBoundary 1\nA SetClipBoundary 1 -1 0 5 5\nA CreateViewport 1 t1 9 9\nA CreateViewport 1 t1 9 9 0 0 0 65536\nA SetViewportProperties 1 9 9\nA ReleaseViewport 1\nB CreateImage 1 b 7 8 8\nB SetImageSampleRegion 1 0 0 8 8\nB SetImageDestinationSize 1 9 9\nB SetImageBlendingFunction 1 2\nB SetImageFlip 1 3\nB SetImageOpacity 1 0\nB ReleaseImage 1\nA GetLayout\nA GetStatus\nA GetChildStatus 1\nA Signal f\nA Poll\nA Wait frames 1\nA Wait credits 1\nA Wait taken 1\nA Wait answers 1\nA Wait fence f\nA Present 0 acquire f f release f\nA Present 1 release f\nA Disconnect\n") ≡ (0, 39)
 every_line_of_a_session = refl
 
-every_line_of_the_display_and_of_a_probe : whole (codes "flatland 1\ndisplay 100 100\nsession A\nsession B\npair t0 display A\npair t1 A B\nfence f A display\nprobe P\nbuffers b B 2 8 8\nrun\ndisplay Signal f\ndisplay Wait presents B 2\ndisplay Wait fence f\ndisplay hit -1 2147483647\nP hit 0 -2147483648\nP await 3\n") ≡ (0, 16)
+every_line_of_the_display_and_of_a_probe : gives (codes "flatland 1\ndisplay 100 100\nsession A\nsession B\npair t0 display A\npair t1 A B\nfence f A display\nprobe P\nbuffers b B 2 8 8\nrun\ndisplay Signal f\ndisplay Wait presents B 2\ndisplay Wait fence f\ndisplay hit -1 2147483647\nP hit 0 -2147483648\nP await 3\n") ≡ (0, 16)
 every_line_of_the_display_and_of_a_probe = refl
 
-viewport_of_another : whole (codes "flatland 1\ndisplay 100 100\nsession A\nsession B\npair t0 display A\npair t1 A B\nfence f A display\nprobe P\nbuffers b B 2 8 8\nrun\nB CreateViewport 1 t1 9 9\n") ≡ (11, 10)
+viewport_of_another : gives (codes "flatland 1\ndisplay 100 100\nsession A\nsession B\npair t0 display A\npair t1 A B\nfence f A display\nprobe P\nbuffers b B 2 8 8\nrun\nB CreateViewport 1 t1 9 9\n") ≡ (11, 10)
 viewport_of_another = refl
 
-viewport_of_the_display : whole (codes "flatland 1\ndisplay 100 100\nsession A\nsession B\npair t0 display A\npair t1 A B\nfence f A display\nprobe P\nbuffers b B 2 8 8\nrun\nA CreateViewport 1 t0 9 9\n") ≡ (11, 10)
+viewport_of_the_display : gives (codes "flatland 1\ndisplay 100 100\nsession A\nsession B\npair t0 display A\npair t1 A B\nfence f A display\nprobe P\nbuffers b B 2 8 8\nrun\nA CreateViewport 1 t0 9 9\n") ≡ (11, 10)
 viewport_of_the_display = refl
 
-fence_of_others : whole (codes "flatland 1\ndisplay 100 100\nsession A\nsession B\npair t0 display A\npair t1 A B\nfence f A display\nprobe P\nbuffers b B 2 8 8\nrun\nB Present 0 acquire f\n") ≡ (11, 10)
+fence_of_others : gives (codes "flatland 1\ndisplay 100 100\nsession A\nsession B\npair t0 display A\npair t1 A B\nfence f A display\nprobe P\nbuffers b B 2 8 8\nrun\nB Present 0 acquire f\n") ≡ (11, 10)
 fence_of_others = refl
 
-buffers_of_another : whole (codes "flatland 1\ndisplay 100 100\nsession A\nsession B\npair t0 display A\npair t1 A B\nfence f A display\nprobe P\nbuffers b B 2 8 8\nrun\nA CreateImage 1 b 0 8 8\n") ≡ (11, 10)
+buffers_of_another : gives (codes "flatland 1\ndisplay 100 100\nsession A\nsession B\npair t0 display A\npair t1 A B\nfence f A display\nprobe P\nbuffers b B 2 8 8\nrun\nA CreateImage 1 b 0 8 8\n") ≡ (11, 10)
 buffers_of_another = refl
 
-clip_number_then_missing_words : whole (codes "flatland 1\ndisplay 100 100\nsession A\nsession B\npair t0 display A\npair t1 A B\nfence f A display\nprobe P\nbuffers b B 2 8 8\nrun\nA SetClipBoundary 1 x\n") ≡ (11, 7)
+clip_number_then_missing_words : gives (codes "flatland 1\ndisplay 100 100\nsession A\nsession B\npair t0 display A\npair t1 A B\nfence f A display\nprobe P\nbuffers b B 2 8 8\nrun\nA SetClipBoundary 1 x\n") ≡ (11, 7)
 clip_number_then_missing_words = refl
 
-clip_with_missing_words : whole (codes "flatland 1\ndisplay 100 100\nsession A\nsession B\npair t0 display A\npair t1 A B\nfence f A display\nprobe P\nbuffers b B 2 8 8\nrun\nA SetClipBoundary 1 2 3\n") ≡ (11, 8)
+clip_with_missing_words : gives (codes "flatland 1\ndisplay 100 100\nsession A\nsession B\npair t0 display A\npair t1 A B\nfence f A display\nprobe P\nbuffers b B 2 8 8\nrun\nA SetClipBoundary 1 2 3\n") ≡ (11, 8)
 clip_with_missing_words = refl
 
-inset_too_great : whole (codes "flatland 1\ndisplay 100 100\nsession A\nsession B\npair t0 display A\npair t1 A B\nfence f A display\nprobe P\nbuffers b B 2 8 8\nrun\nA CreateViewport 1 t1 9 9 0 0 0 65537\n") ≡ (11, 7)
+inset_too_great : gives (codes "flatland 1\ndisplay 100 100\nsession A\nsession B\npair t0 display A\npair t1 A B\nfence f A display\nprobe P\nbuffers b B 2 8 8\nrun\nA CreateViewport 1 t1 9 9 0 0 0 65537\n") ≡ (11, 7)
 inset_too_great = refl
 
-acquire_for_the_time : whole (codes "flatland 1\ndisplay 100 100\nsession A\nsession B\npair t0 display A\npair t1 A B\nfence f A display\nprobe P\nbuffers b B 2 8 8\nrun\nA Present acquire f\n") ≡ (11, 7)
+acquire_for_the_time : gives (codes "flatland 1\ndisplay 100 100\nsession A\nsession B\npair t0 display A\npair t1 A B\nfence f A display\nprobe P\nbuffers b B 2 8 8\nrun\nA Present acquire f\n") ≡ (11, 7)
 acquire_for_the_time = refl
 
-release_before_acquire : whole (codes "flatland 1\ndisplay 100 100\nsession A\nsession B\npair t0 display A\npair t1 A B\nfence f A display\nprobe P\nbuffers b B 2 8 8\nrun\nA Present 0 release f acquire f\n") ≡ (11, 9)
+release_before_acquire : gives (codes "flatland 1\ndisplay 100 100\nsession A\nsession B\npair t0 display A\npair t1 A B\nfence f A display\nprobe P\nbuffers b B 2 8 8\nrun\nA Present 0 release f acquire f\n") ≡ (11, 9)
 release_before_acquire = refl
 
-acquire_twice : whole (codes "flatland 1\ndisplay 100 100\nsession A\nsession B\npair t0 display A\npair t1 A B\nfence f A display\nprobe P\nbuffers b B 2 8 8\nrun\nA Present 0 acquire f acquire f\n") ≡ (11, 9)
+acquire_twice : gives (codes "flatland 1\ndisplay 100 100\nsession A\nsession B\npair t0 display A\npair t1 A B\nfence f A display\nprobe P\nbuffers b B 2 8 8\nrun\nA Present 0 acquire f acquire f\n") ≡ (11, 9)
 acquire_twice = refl
 
-empty_acquire : whole (codes "flatland 1\ndisplay 100 100\nsession A\nsession B\npair t0 display A\npair t1 A B\nfence f A display\nprobe P\nbuffers b B 2 8 8\nrun\nA Present 0 acquire release f\n") ≡ (11, 8)
+empty_acquire : gives (codes "flatland 1\ndisplay 100 100\nsession A\nsession B\npair t0 display A\npair t1 A B\nfence f A display\nprobe P\nbuffers b B 2 8 8\nrun\nA Present 0 acquire release f\n") ≡ (11, 8)
 empty_acquire = refl
 
-other_word_behind_the_time : whole (codes "flatland 1\ndisplay 100 100\nsession A\nsession B\npair t0 display A\npair t1 A B\nfence f A display\nprobe P\nbuffers b B 2 8 8\nrun\nA Present 0 f\n") ≡ (11, 8)
+other_word_behind_the_time : gives (codes "flatland 1\ndisplay 100 100\nsession A\nsession B\npair t0 display A\npair t1 A B\nfence f A display\nprobe P\nbuffers b B 2 8 8\nrun\nA Present 0 f\n") ≡ (11, 8)
 other_word_behind_the_time = refl
 
-no_condition : whole (codes "flatland 1\ndisplay 100 100\nsession A\nsession B\npair t0 display A\npair t1 A B\nfence f A display\nprobe P\nbuffers b B 2 8 8\nrun\nA Wait\n") ≡ (11, 6)
+no_condition : gives (codes "flatland 1\ndisplay 100 100\nsession A\nsession B\npair t0 display A\npair t1 A B\nfence f A display\nprobe P\nbuffers b B 2 8 8\nrun\nA Wait\n") ≡ (11, 6)
 no_condition = refl
 
-condition_of_the_display : whole (codes "flatland 1\ndisplay 100 100\nsession A\nsession B\npair t0 display A\npair t1 A B\nfence f A display\nprobe P\nbuffers b B 2 8 8\nrun\nA Wait presents A 1\n") ≡ (11, 6)
+condition_of_the_display : gives (codes "flatland 1\ndisplay 100 100\nsession A\nsession B\npair t0 display A\npair t1 A B\nfence f A display\nprobe P\nbuffers b B 2 8 8\nrun\nA Wait presents A 1\n") ≡ (11, 6)
 condition_of_the_display = refl
 
-wait_for_a_fence_of_others : whole (codes "flatland 1\ndisplay 100 100\nsession A\nsession B\npair t0 display A\npair t1 A B\nfence f A display\nprobe P\nbuffers b B 2 8 8\nrun\nB Wait fence f\n") ≡ (11, 10)
+wait_for_a_fence_of_others : gives (codes "flatland 1\ndisplay 100 100\nsession A\nsession B\npair t0 display A\npair t1 A B\nfence f A display\nprobe P\nbuffers b B 2 8 8\nrun\nB Wait fence f\n") ≡ (11, 10)
 wait_for_a_fence_of_others = refl
 
-presents_of_no_session : whole (codes "flatland 1\ndisplay 100 100\nsession A\nsession B\npair t0 display A\npair t1 A B\nfence f A display\nprobe P\nbuffers b B 2 8 8\nrun\ndisplay Wait presents display 1\n") ≡ (11, 9)
+presents_of_no_session : gives (codes "flatland 1\ndisplay 100 100\nsession A\nsession B\npair t0 display A\npair t1 A B\nfence f A display\nprobe P\nbuffers b B 2 8 8\nrun\ndisplay Wait presents display 1\n") ≡ (11, 9)
 presents_of_no_session = refl
 
-orientation_of_five : whole (codes "flatland 1\ndisplay 100 100\nsession A\nsession B\npair t0 display A\npair t1 A B\nfence f A display\nprobe P\nbuffers b B 2 8 8\nrun\nA SetOrientation 1 5\n") ≡ (11, 7)
+orientation_of_five : gives (codes "flatland 1\ndisplay 100 100\nsession A\nsession B\npair t0 display A\npair t1 A B\nfence f A display\nprobe P\nbuffers b B 2 8 8\nrun\nA SetOrientation 1 5\n") ≡ (11, 7)
 orientation_of_five = refl
 
-flip_of_zero : whole (codes "flatland 1\ndisplay 100 100\nsession A\nsession B\npair t0 display A\npair t1 A B\nfence f A display\nprobe P\nbuffers b B 2 8 8\nrun\nB SetImageFlip 1 0\n") ≡ (11, 7)
+flip_of_zero : gives (codes "flatland 1\ndisplay 100 100\nsession A\nsession B\npair t0 display A\npair t1 A B\nfence f A display\nprobe P\nbuffers b B 2 8 8\nrun\nB SetImageFlip 1 0\n") ≡ (11, 7)
 flip_of_zero = refl
 
-call_of_a_probe : whole (codes "flatland 1\ndisplay 100 100\nsession A\nsession B\npair t0 display A\npair t1 A B\nfence f A display\nprobe P\nbuffers b B 2 8 8\nrun\nP Poll\n") ≡ (11, 6)
+call_of_a_probe : gives (codes "flatland 1\ndisplay 100 100\nsession A\nsession B\npair t0 display A\npair t1 A B\nfence f A display\nprobe P\nbuffers b B 2 8 8\nrun\nP Poll\n") ≡ (11, 6)
 call_of_a_probe = refl
 
-name_of_a_pair_as_actor : whole (codes "flatland 1\ndisplay 100 100\nsession A\nsession B\npair t0 display A\npair t1 A B\nfence f A display\nprobe P\nbuffers b B 2 8 8\nrun\nt0 Poll\n") ≡ (11, 5)
+name_of_a_pair_as_actor : gives (codes "flatland 1\ndisplay 100 100\nsession A\nsession B\npair t0 display A\npair t1 A B\nfence f A display\nprobe P\nbuffers b B 2 8 8\nrun\nt0 Poll\n") ≡ (11, 5)
 name_of_a_pair_as_actor = refl
 
--- settled points of the head and the body, with the words known so far
+-- probes
 
-version_no_number : so_far (codes "flatland x y\n") ≡ (1, 7)
+ninth_probe : gives (codes "flatland 1\nprobe a\nprobe b\nprobe c\nprobe d\nprobe e\nprobe f\nprobe g\nprobe h\nprobe i\n") ≡ (10, 11)
+ninth_probe = refl
+
+ninth_probe_of_a_name_in_use : gives (codes "flatland 1\nprobe a\nprobe b\nprobe c\nprobe d\nprobe e\nprobe f\nprobe g\nprobe h\nprobe a\n") ≡ (10, 4)
+ninth_probe_of_a_name_in_use = refl
+
+session_named_as_a_probe : gives (codes "flatland 1\nprobe P\nsession P\n") ≡ (3, 4)
+session_named_as_a_probe = refl
+
+probe_named_display : gives (codes "flatland 1\nprobe display\n") ≡ (2, 4)
+probe_named_display = refl
+
+probe_and_a_word : gives (codes "flatland 1\nprobe P 1\n") ≡ (2, 8)
+probe_and_a_word = refl
+
+fence_of_a_probe : gives (codes "flatland 1\nprobe P\nfence f P\n") ≡ (3, 9)
+fence_of_a_probe = refl
+
+pair_of_a_probe : gives (codes "flatland 1\nsession A\nprobe P\npair t P A\n") ≡ (4, 9)
+pair_of_a_probe = refl
+
+await_without_a_number : gives (codes "flatland 1\ndisplay 9 9\nsession A\npair t display A\nprobe P\nrun\nP await\n") ≡ (7, 8)
+await_without_a_number = refl
+
+await_beyond_32_bits : gives (codes "flatland 1\ndisplay 9 9\nsession A\npair t display A\nprobe P\nrun\nP await 4294967296\n") ≡ (7, 7)
+await_beyond_32_bits = refl
+
+await_of_a_session : gives (codes "flatland 1\ndisplay 9 9\nsession A\npair t display A\nprobe P\nrun\nA await 1\n") ≡ (7, 6)
+await_of_a_session = refl
+
+-- settled points of the head and the body
+
+version_no_number : gives (codes "flatland x y\n") ≡ (1, 7)
 version_no_number = refl
 
-version_beyond_32_bits : so_far (codes "flatland 4294967296\n") ≡ (1, 7)
+version_beyond_32_bits : gives (codes "flatland 4294967296\n") ≡ (1, 7)
 version_beyond_32_bits = refl
 
-version_and_a_word_too_many : so_far (codes "flatland 2 2\n") ≡ (1, 8)
+version_and_a_word_too_many : gives (codes "flatland 2 2\n") ≡ (1, 8)
 version_and_a_word_too_many = refl
 
-second_version_line : so_far (codes "flatland 1\nflatland 1\n") ≡ (2, 4)
+second_version_line : gives (codes "flatland 1\nflatland 1\n") ≡ (2, 4)
 second_version_line = refl
 
-side_of_zero : so_far (codes "flatland 1\ndisplay 0 5 7\n") ≡ (2, 7)
+side_of_zero : gives (codes "flatland 1\ndisplay 0 5 7\n") ≡ (2, 7)
 side_of_zero = refl
 
-third_word_of_a_size : so_far (codes "flatland 1\ndisplay 5 5 x\n") ≡ (2, 8)
+third_word_of_a_size : gives (codes "flatland 1\ndisplay 5 5 x\n") ≡ (2, 8)
 third_word_of_a_size = refl
 
-spaces_in_the_head : so_far (codes "flatland 1\n  \n") ≡ (2, 4)
+spaces_in_the_head : gives (codes "flatland 1\n  \n") ≡ (2, 4)
 spaces_in_the_head = refl
 
-spaces_in_the_body : so_far (codes "flatland 1\ndisplay 100 100\nsession A\npair t0 display A\nrun\n  \n") ≡ (6, 5)
+spaces_in_the_body : gives (codes "flatland 1\ndisplay 100 100\nsession A\npair t0 display A\nrun\n  \n") ≡ (6, 5)
 spaces_in_the_body = refl
 
-second_pair_of_the_display : so_far (codes "flatland 1\ndisplay 100 100\nsession A\npair t0 display A\npair t1 display\n") ≡ (5, 4)
+second_pair_of_the_display : gives (codes "flatland 1\ndisplay 100 100\nsession A\npair t0 display A\npair t1 display\n") ≡ (5, 4)
 second_pair_of_the_display = refl
 
-view_end_of_the_display : so_far (codes "flatland 1\ndisplay 100 100\nsession A\npair t0 display A\npair t1 A display\n") ≡ (5, 9)
+view_end_of_the_display : gives (codes "flatland 1\ndisplay 100 100\nsession A\npair t0 display A\npair t1 A display\n") ≡ (5, 9)
 view_end_of_the_display = refl
 
-name_declared_twice : so_far (codes "flatland 1\ndisplay 100 100\nsession A\npair t0 display A\nfence A A\n") ≡ (5, 4)
+name_declared_twice : gives (codes "flatland 1\ndisplay 100 100\nsession A\npair t0 display A\nfence A A\n") ≡ (5, 4)
 name_declared_twice = refl
 
-name_of_seventeen : so_far (codes "flatland 1\ndisplay 100 100\nsession A\npair t0 display A\nsession abcdefghijklmnopq\n") ≡ (5, 4)
+name_of_seventeen : gives (codes "flatland 1\ndisplay 100 100\nsession A\npair t0 display A\nsession abcdefghijklmnopq\n") ≡ (5, 4)
 name_of_seventeen = refl
 
-name_of_sixteen : so_far (codes "flatland 1\ndisplay 100 100\nsession A\npair t0 display A\nsession abcdefghijklmnop\nrun\n") ≡ (0, 6)
+name_of_sixteen : gives (codes "flatland 1\ndisplay 100 100\nsession A\npair t0 display A\nsession abcdefghijklmnop\nrun\n") ≡ (0, 6)
 name_of_sixteen = refl
 
-reserved_name : so_far (codes "flatland 1\ndisplay 100 100\nsession A\npair t0 display A\nsession release\n") ≡ (5, 4)
+reserved_name : gives (codes "flatland 1\ndisplay 100 100\nsession A\npair t0 display A\nsession release\n") ≡ (5, 4)
 reserved_name = refl
 
-owner_of_no_session : so_far (codes "flatland 1\ndisplay 100 100\nsession A\npair t0 display A\nfence f A t0\n") ≡ (5, 9)
+owner_of_no_session : gives (codes "flatland 1\ndisplay 100 100\nsession A\npair t0 display A\nfence f A t0\n") ≡ (5, 9)
 owner_of_no_session = refl
 
-owner_twice : so_far (codes "flatland 1\ndisplay 100 100\nsession A\npair t0 display A\nfence f A A display\nrun\n") ≡ (0, 6)
+owner_twice : gives (codes "flatland 1\ndisplay 100 100\nsession A\npair t0 display A\nfence f A A display\nrun\n") ≡ (0, 6)
 owner_twice = refl
 
-no_owner : so_far (codes "flatland 1\ndisplay 100 100\nsession A\npair t0 display A\nfence f\n") ≡ (5, 8)
+no_owner : gives (codes "flatland 1\ndisplay 100 100\nsession A\npair t0 display A\nfence f\n") ≡ (5, 8)
 no_owner = refl
 
-buffers_of_65 : so_far (codes "flatland 1\ndisplay 100 100\nsession A\npair t0 display A\nbuffers b A 65 1 1\n") ≡ (5, 7)
+buffers_of_65 : gives (codes "flatland 1\ndisplay 100 100\nsession A\npair t0 display A\nbuffers b A 65 1 1\n") ≡ (5, 7)
 buffers_of_65 = refl
 
-run_and_a_word : so_far (codes "flatland 1\ndisplay 100 100\nsession A\npair t0 display A\nrun 1\n") ≡ (5, 8)
+run_and_a_word : gives (codes "flatland 1\ndisplay 100 100\nsession A\npair t0 display A\nrun 1\n") ≡ (5, 8)
 run_and_a_word = refl
 
-run_too_early : so_far (codes "flatland 1\nrun 1\n") ≡ (2, 4)
+run_too_early : gives (codes "flatland 1\nrun 1\n") ≡ (2, 4)
 run_too_early = refl
 
-no_line_feed_at_the_end : so_far (codes "flatland 1\ndisplay 100 100\nsession A\npair t0 display A\nrun\nA SetHitRegions 1\nA SetHitRegions 1 0 0 1 1 0 -5 0 1 1 1") ≡ (0, 7)
+no_line_feed_at_the_end : gives (codes "flatland 1\ndisplay 100 100\nsession A\npair t0 display A\nrun\nA SetHitRegions 1\nA SetHitRegions 1 0 0 1 1 0 -5 0 1 1 1") ≡ (0, 7)
 no_line_feed_at_the_end = refl
 
-regions_of_four_words : so_far (codes "flatland 1\ndisplay 100 100\nsession A\npair t0 display A\nrun\nA SetHitRegions 1 0 0 1 1\n") ≡ (6, 8)
+regions_of_four_words : gives (codes "flatland 1\ndisplay 100 100\nsession A\npair t0 display A\nrun\nA SetHitRegions 1 0 0 1 1\n") ≡ (6, 8)
 regions_of_four_words = refl
 
-interaction_of_two : so_far (codes "flatland 1\ndisplay 100 100\nsession A\npair t0 display A\nrun\nA SetHitRegions 1 0 0 1 1 2\n") ≡ (6, 7)
+interaction_of_two : gives (codes "flatland 1\ndisplay 100 100\nsession A\npair t0 display A\nrun\nA SetHitRegions 1 0 0 1 1 2\n") ≡ (6, 7)
 interaction_of_two = refl
 
-begin_with_a_bad_time_inside_a_frame : so_far (codes "flatland 1\ndisplay 100 100\nsession A\npair t0 display A\nrun\ndisplay begin 5\ndisplay begin x\n") ≡ (7, 7)
+begin_with_a_bad_time_inside_a_frame : gives (codes "flatland 1\ndisplay 100 100\nsession A\npair t0 display A\nrun\ndisplay begin 5\ndisplay begin x\n") ≡ (7, 7)
 begin_with_a_bad_time_inside_a_frame = refl

@@ -118,7 +118,7 @@ const BODIES: [(&str, u32, u32); 42] = [
 ];
 
 // Whole texts.
-const TEXTS: [(&str, u32, u32); 46] = [
+const TEXTS: [(&str, u32, u32); 50] = [
     // lists and conditions of a session and of the display
     (
         "flatland 1\ndisplay 100 100\nsession A\nsession B\npair t0 display A\nfence f A display\nfence g B\nrun\nA Present 0 acquire f f release f\nA Present 1 release f\nA Signal f\nA Poll\nA Wait frames 1\nA Wait credits 1\nA Wait taken 1\nA Wait fence f\ndisplay Signal f\ndisplay Wait presents B 0\ndisplay Wait fence f\nA Disconnect\n",
@@ -195,12 +195,16 @@ const TEXTS: [(&str, u32, u32); 46] = [
         5,
         4,
     ),
-    // probe before it is known
-    (
-        "flatland 1\ndisplay 100 100\nsession A\npair t0 display A\nprobe P\nrun\n",
-        5,
-        4,
-    ),
+    // a probe without a name
+    ("flatland 1\nprobe\n", 2, 8),
+    // a probe of a name in use
+    ("flatland 1\nsession A\nprobe A\n", 3, 4),
+    // a session of a probe's name
+    ("flatland 1\nprobe A\nsession A\n", 3, 4),
+    // a fence of a probe
+    ("flatland 1\nprobe P\nfence f P\n", 3, 9),
+    // a pair of a probe
+    ("flatland 1\nsession A\nprobe P\npair p P A\n", 4, 9),
     // ratio in version one head
     (
         "flatland 1\ndisplay 100 100 65536\nsession A\npair t0 display A\nrun\n",
@@ -431,6 +435,43 @@ const VIEWPORTS: [(&str, u32, u32); 47] = [
     ("A hit 5 5\n", 8, 6),
 ];
 
+// The head of the texts of PROBES.
+const PROBED: &str = "flatland 1\ndisplay 100 100\nsession A\npair t0 display A\nprobe P\nrun\n";
+
+// What follows PROBED, and the line and the kind of its fault, or 0 and the number of lines.
+const PROBES: [(&str, u32, u32); 13] = [
+    // a line of each kind
+    (
+        "P hit -2147483648 2147483647\nP await 0\nP await 4294967295\n",
+        0,
+        9,
+    ),
+    // the actor alone
+    ("P\n", 7, 6),
+    // a word that is none
+    ("P Foo\n", 7, 6),
+    // a line of a session
+    ("P Poll\n", 7, 6),
+    // a line of the display
+    ("P begin 1\n", 7, 6),
+    // an await without a number
+    ("P await\n", 7, 8),
+    // an await of two numbers
+    ("P await 1 2\n", 7, 8),
+    // beyond 32 bits
+    ("P await 4294967296\n", 7, 7),
+    // a point of one number
+    ("P hit 5\n", 7, 8),
+    // a number before too many words
+    ("P hit x 5 5\n", 7, 7),
+    // an await of a session
+    ("A await 1\n", 7, 6),
+    // of the display
+    ("display await 1\n", 7, 6),
+    // a probe that isn't declared
+    ("Q await 1\n", 7, 5),
+];
+
 fn outcome(answer: Result<Script, ScriptError>) -> Option<(u32, u32)> {
     match answer {
         Ok(script) => Some((0, script.count)),
@@ -459,6 +500,16 @@ fn bodies(rt: HostRuntime) -> Result<(), Fail> {
 fn viewports(rt: HostRuntime) -> Result<(), Fail> {
     for (rest, line, kind) in VIEWPORTS.iter() {
         let text = joined(rt.alloc(), PAIRED, rest)?;
+        let answer = outcome(parse(rt.alloc(), text.as_slice()));
+        assert_eq!(rt; answer, Some((*line, *kind)), "{rest}");
+    }
+    Ok(())
+}
+
+#[test]
+fn probes(rt: HostRuntime) -> Result<(), Fail> {
+    for (rest, line, kind) in PROBES.iter() {
+        let text = joined(rt.alloc(), PROBED, rest)?;
         let answer = outcome(parse(rt.alloc(), text.as_slice()));
         assert_eq!(rt; answer, Some((*line, *kind)), "{rest}");
     }
@@ -594,9 +645,11 @@ fn declarations(
 }
 
 // The word, the name, what follows, how often, and the outcome. The pair of the display counts too.
-const DECLARED: [(&str, &str, &str, u32, u32, u32); 8] = [
+const DECLARED: [(&str, &str, &str, u32, u32, u32); 10] = [
     ("session", "S", "", 16, 0, 20),
     ("session", "S", "", 17, 19, 11),
+    ("probe", "P", "", 8, 0, 13),
+    ("probe", "P", "", 9, 12, 11),
     ("buffers", "b", " S0 1 1 1", 256, 0, 261),
     ("buffers", "b", " S0 1 1 1", 257, 260, 11),
     ("pair", "p", " S0 S0", 4095, 0, 4100),
@@ -666,6 +719,13 @@ const INSETS_PRINTED: &str =
 const CALLS: &str =
     "flatland 1\ndisplay 100 100\nsession A\nsession B\npair t0 display A\npair t1 A B\nfence f A display\nfence g display A\nrun\nA CreateViewport 1 t1 5 6\nA Present 3 release f\nA Present 4 acquire g release f\ndisplay Wait presents B 4";
 
+// Probes, declared between other lines.
+const ASKED: &str =
+    "flatland 1\nprobe P\nfence f display\nsession A\nprobe Q\npair t0 display A\ndisplay 9 9\nrun\nQ await 2\nP hit -1 5\nQ hit 0 0";
+
+const ASKED_PRINTED: &str =
+    "flatland 1\ndisplay 9 9\nsession A\nprobe P\nprobe Q\npair t0 display A\nfence f display\nrun\nQ await 2\nP hit -1 5\nQ hit 0 0";
+
 // What is printed of the script that a text has.
 fn reprinted(alloc: Global, text: &str) -> Result<Vec<u8>, Fail> {
     let script = parse(alloc, text.as_bytes())?;
@@ -673,7 +733,12 @@ fn reprinted(alloc: Global, text: &str) -> Result<Vec<u8>, Fail> {
 }
 
 // Texts, and what is printed of their scripts, which is printed of itself.
-const PRINTED: [(&str, &str); 3] = [(LOOSE, CANONICAL), (INSETS, INSETS_PRINTED), (CALLS, CALLS)];
+const PRINTED: [(&str, &str); 4] = [
+    (LOOSE, CANONICAL),
+    (INSETS, INSETS_PRINTED),
+    (CALLS, CALLS),
+    (ASKED, ASKED_PRINTED),
+];
 
 #[test]
 fn printed(rt: HostRuntime) -> Result<(), Fail> {

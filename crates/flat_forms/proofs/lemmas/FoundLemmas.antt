@@ -12,10 +12,10 @@ use Rattle.flat_places.specs.Known.{known_words}
 use Rattle.flat_places.specs.Forms.{Word, Reading, whole, ◌<$>◌, ◌<*>◌}
 use Rattle.flat_places.specs.Names.{is_name, is_declared}
 use Rattle.flat_places.specs.Places.{session, number_from, new_name, pair_owner, owners}
-use Rattle.flat_forms.specs.Head.{head_line, display_line, session_line, buffers_line, pair_line, fence_line, side, size, buffers, pair, fence, has_display, with_display, with_session, with_buffers, with_pair, with_fence}
+use Rattle.flat_forms.specs.Head.{head_line, display_line, session_line, probe_line, buffers_line, pair_line, fence_line, side, size, buffers, pair, fence, has_display, with_display, with_session, with_probe, with_buffers, with_pair, with_fence}
 use Rattle.flat_forms.proofs.lemmas.FormLemmas.{Gives, apply_ok, map_ok, place_ok, whole_ok, unless_ok, mapped_ok, or_kind_ok}
 use Rattle.flat_forms.proofs.lemmas.IndexLemmas.{new_name_ok}
-use Rattle.flat_forms.proofs.lemmas.StepLemmas.{SizeStep, SessionStep, BuffersStep, PairStep, FenceStep, Step, size_step, session_step, buffers_step, pair_step, fence_step}
+use Rattle.flat_forms.proofs.lemmas.StepLemmas.{SizeStep, SessionStep, ProbeStep, BuffersStep, PairStep, FenceStep, Step, size_step, session_step, probe_step, buffers_step, pair_step, fence_step}
 use Rattle.std.proofs.lemmas.Bool.{not-true}
 
 tested_word : (b : Bool) (w v : Word) → cond {A = Reading Word} b (Ok w) (Err 4) ≡ Ok v → w ≡ v
@@ -39,6 +39,13 @@ session_found u words t is =
     let tested = unless_ok 11 (nat_lt (length u.sessions) 16) (whole (new_name u) words) m.a m.given in
     let given = whole_ok (new_name u) words m.a tested.given in
     record { name = m.a; begins = ap (λ r. codes "session" ∷ r) (new_name_word u words m.a [] given); room = tested.passed; fresh = new_name_ok u words m.a [] given; made = sym m.value }
+
+probe_found : (u : Script) (words : List Word) (t : Script) → probe_line u words ≡ Ok t → ProbeStep u (codes "probe" ∷ words) t
+probe_found u words t is =
+    let m = mapped_ok (with_probe u) _ t is in
+    let tested = unless_ok 11 (nat_lt (length u.probes) 8) (whole (new_name u) words) m.a m.given in
+    let given = whole_ok (new_name u) words m.a tested.given in
+    record { name = m.a; begins = ap (λ r. codes "probe" ∷ r) (new_name_word u words m.a [] given); room = tested.passed; fresh = new_name_ok u words m.a [] given; made = sym m.value }
 
 fence_found : (u : Script) (words : List Word) (t : Script) → fence_line u words ≡ Ok t → FenceStep u (codes "fence" ∷ words) t
 fence_found u words t is =
@@ -133,11 +140,15 @@ by_buffers : (u : Script) (w : Word) (words : List Word) (t : Script) (b : Bool)
 by_buffers u w words t true at is = step_at u w (codes "buffers") words t at (buffers_step (buffers_found u words t is))
 by_buffers u w words t false at is = by_pair u w words t (bytes_eq w (codes "pair")) refl is
 
-by_session : (u : Script) (w : Word) (words : List Word) (t : Script) (b : Bool) → bytes_eq w (codes "session") ≡ b → cond b (session_line u words) (cond (bytes_eq w (codes "buffers")) (buffers_line u words) (cond (bytes_eq w (codes "pair")) (pair_line u words) (cond (bytes_eq w (codes "fence")) (fence_line u words) (Err 4)))) ≡ Ok t → Step u (w ∷ words) t
-by_session u w words t true at is = step_at u w (codes "session") words t at (session_step (session_found u words t is))
-by_session u w words t false at is = by_buffers u w words t (bytes_eq w (codes "buffers")) refl is
+by_probe : (u : Script) (w : Word) (words : List Word) (t : Script) (b : Bool) → bytes_eq w (codes "probe") ≡ b → cond b (probe_line u words) (cond (bytes_eq w (codes "buffers")) (buffers_line u words) (cond (bytes_eq w (codes "pair")) (pair_line u words) (cond (bytes_eq w (codes "fence")) (fence_line u words) (Err 4)))) ≡ Ok t → Step u (w ∷ words) t
+by_probe u w words t true at is = step_at u w (codes "probe") words t at (probe_step (probe_found u words t is))
+by_probe u w words t false at is = by_buffers u w words t (bytes_eq w (codes "buffers")) refl is
 
-by_display : (u : Script) (w : Word) (words : List Word) (t : Script) (b : Bool) → bytes_eq w (codes "display") ≡ b → cond b (display_line u words) (cond (bytes_eq w (codes "session")) (session_line u words) (cond (bytes_eq w (codes "buffers")) (buffers_line u words) (cond (bytes_eq w (codes "pair")) (pair_line u words) (cond (bytes_eq w (codes "fence")) (fence_line u words) (Err 4))))) ≡ Ok t → Step u (w ∷ words) t
+by_session : (u : Script) (w : Word) (words : List Word) (t : Script) (b : Bool) → bytes_eq w (codes "session") ≡ b → cond b (session_line u words) (cond (bytes_eq w (codes "probe")) (probe_line u words) (cond (bytes_eq w (codes "buffers")) (buffers_line u words) (cond (bytes_eq w (codes "pair")) (pair_line u words) (cond (bytes_eq w (codes "fence")) (fence_line u words) (Err 4))))) ≡ Ok t → Step u (w ∷ words) t
+by_session u w words t true at is = step_at u w (codes "session") words t at (session_step (session_found u words t is))
+by_session u w words t false at is = by_probe u w words t (bytes_eq w (codes "probe")) refl is
+
+by_display : (u : Script) (w : Word) (words : List Word) (t : Script) (b : Bool) → bytes_eq w (codes "display") ≡ b → cond b (display_line u words) (cond (bytes_eq w (codes "session")) (session_line u words) (cond (bytes_eq w (codes "probe")) (probe_line u words) (cond (bytes_eq w (codes "buffers")) (buffers_line u words) (cond (bytes_eq w (codes "pair")) (pair_line u words) (cond (bytes_eq w (codes "fence")) (fence_line u words) (Err 4)))))) ≡ Ok t → Step u (w ∷ words) t
 by_display u w words t true at is = step_at u w (codes "display") words t at (size_step (size_found u words t is))
 by_display u w words t false at is = by_session u w words t (bytes_eq w (codes "session")) refl is
 

@@ -8,14 +8,14 @@ use Rattle.std.specs.List.{position_or_len}
 use Rattle.std.proofs.lemmas.List.Folds.{position_or_len_push}
 use Rattle.flat_places.specs.declared.script.Script.{Script}
 use Rattle.flat_places.specs.declared.names.Meaning.{Meaning}
-use Rattle.flat_places.specs.declared.names.Meaning.TheVariants.{Session, Buffers, Pair, Fence}
+use Rattle.flat_places.specs.declared.names.Meaning.TheVariants.{Session, Probe, Buffers, Pair, Fence}
 use Rattle.flat_scene.specs.declared.setup.PairDecl.{PairDecl}
 use Rattle.flat_scene.specs.declared.setup.BufferDecl.{BufferDecl}
 use Rattle.flat_scene.specs.declared.setup.FenceDecl.{FenceDecl}
 use Rattle.flat_places.specs.Forms.{Word, Reading}
 use Rattle.flat_places.specs.Names.{place_of, is_name, is_declared}
 use Rattle.flat_places.specs.Places.{new_name}
-use Rattle.flat_forms.specs.Head.{with_session, with_buffers, with_pair, with_fence}
+use Rattle.flat_forms.specs.Head.{with_session, with_probe, with_buffers, with_pair, with_fence}
 use Rattle.flat_places.specs.Index.{Means, session_place, probe_place, buffers_place, pair_place, fence_place}
 use Rattle.flat_forms.proofs.lemmas.FormLemmas.{Gives, place_ok}
 use Rattle.std.proofs.lemmas.Bool.{or_parts}
@@ -126,6 +126,19 @@ finds_sessions s name w o o' fresh is m =
     record {
       sessions = added s.sessions name w (session_place o) (session_place o') none.sessions m.sessions (ap session_place is ∙ seen session_place (bytes_eq w name) m' o);
       probes = same s.probes name w (probe_place o) (probe_place o') none.probes m.probes (ap probe_place is ∙ seen probe_place (bytes_eq w name) m' o);
+      buffers = same s.buffers name w (buffers_place o) (buffers_place o') none.buffers m.buffers (ap buffers_place is ∙ seen buffers_place (bytes_eq w name) m' o);
+      pairs = same s.pairs name w (pair_place o) (pair_place o') none.pairs m.pairs (ap pair_place is ∙ seen pair_place (bytes_eq w name) m' o);
+      fences = same s.fences name w (fence_place o) (fence_place o') none.fences m.fences (ap fence_place is ∙ seen fence_place (bytes_eq w name) m' o);
+    }
+
+pub finds_probes : (s : Script) (name w : Word) (o o' : Option Meaning) → IsFresh s name → o' ≡ cond (bytes_eq w name) (Some (Probe (length s.probes))) o → Means o s w → Means o' (with_probe s name) w
+finds_probes s name w o o' fresh is m =
+    let none = no_place s name fresh.fresh in
+    let seen = choose {A = Option Meaning} {B = Option ℕ} in
+    let m' = Some (Probe (length s.probes)) in
+    record {
+      sessions = same s.sessions name w (session_place o) (session_place o') none.sessions m.sessions (ap session_place is ∙ seen session_place (bytes_eq w name) m' o);
+      probes = added s.probes name w (probe_place o) (probe_place o') none.probes m.probes (ap probe_place is ∙ seen probe_place (bytes_eq w name) m' o);
       buffers = same s.buffers name w (buffers_place o) (buffers_place o') none.buffers m.buffers (ap buffers_place is ∙ seen buffers_place (bytes_eq w name) m' o);
       pairs = same s.pairs name w (pair_place o) (pair_place o') none.pairs m.pairs (ap pair_place is ∙ seen pair_place (bytes_eq w name) m' o);
       fences = same s.fences name w (fence_place o) (fence_place o') none.fences m.fences (ap fence_place is ∙ seen fence_place (bytes_eq w name) m' o);

@@ -9,7 +9,7 @@ use Rattle.flat_places.specs.Known.{known_words}
 use Rattle.flat_places.specs.Forms.{Word, whole, one_or_more}
 use Rattle.flat_places.specs.Names.{session_named, owner_named}
 use Rattle.flat_places.specs.Places.{number_from, owner_word, has_display_pair}
-use Rattle.flat_forms.specs.Head.{head_line, side, size, has_display, with_display, with_session, with_buffers, with_pair, with_fence}
+use Rattle.flat_forms.specs.Head.{head_line, side, size, has_display, with_display, with_session, with_probe, with_buffers, with_pair, with_fence}
 use Rattle.flat_forms.proofs.lemmas.IndexLemmas.{IsFresh}
 
 pub record SizeStep (u : Script) (ws : List Word) (t : Script) : Type 0 where
@@ -27,6 +27,13 @@ pub record SessionStep (u : Script) (ws : List Word) (t : Script) : Type 0 where
   pub room : nat_lt (length u.sessions) 16 ≡ true
   pub fresh : IsFresh u name
   pub made : t ≡ with_session u name
+
+pub record ProbeStep (u : Script) (ws : List Word) (t : Script) : Type 0 where
+  pub name : Word
+  pub begins : ws ≡ codes "probe" ∷ name ∷ []
+  pub room : nat_lt (length u.probes) 8 ≡ true
+  pub fresh : IsFresh u name
+  pub made : t ≡ with_probe u name
 
 pub record BuffersStep (u : Script) (ws : List Word) (t : Script) : Type 0 where
   pub name : Word
@@ -75,6 +82,9 @@ size_read u ws t s = rw (s.begins, s.made) (let first = s.first in let read = s.
 session_read : (u : Script) (ws : List Word) (t : Script) → SessionStep u ws t → head_line known_words u ws ≡ Ok t
 session_read u ws t s = rw (s.begins, s.made) (let room = s.room in let name = s.fresh.name in let fresh = s.fresh.fresh in rw (room, name, fresh) refl)
 
+probe_read : (u : Script) (ws : List Word) (t : Script) → ProbeStep u ws t → head_line known_words u ws ≡ Ok t
+probe_read u ws t s = rw (s.begins, s.made) (let room = s.room in let name = s.fresh.name in let fresh = s.fresh.fresh in rw (room, name, fresh) refl)
+
 buffers_read : (u : Script) (ws : List Word) (t : Script) → BuffersStep u ws t → head_line known_words u ws ≡ Ok t
 buffers_read u ws t s = rw (s.begins, s.made) (rw (s.room, s.fresh.name, s.fresh.fresh, s.owned, s.count, s.width, s.height) refl)
 
@@ -87,6 +97,7 @@ fence_read u ws t s = rw (s.begins, s.made) (rw (s.room, s.fresh.name, s.fresh.f
 pub data Step (u : Script) (ws : List Word) (t : Script) : Type 0 where
   size_step : SizeStep u ws t → Step u ws t
   session_step : SessionStep u ws t → Step u ws t
+  probe_step : ProbeStep u ws t → Step u ws t
   buffers_step : BuffersStep u ws t → Step u ws t
   pair_step : PairStep u ws t → Step u ws t
   fence_step : FenceStep u ws t → Step u ws t
@@ -95,13 +106,15 @@ pub data Step (u : Script) (ws : List Word) (t : Script) : Type 0 where
 abbrev pub sort : {u : Script} {ws : List Word} {t : Script} → Step u ws t → ℕ
 sort (size_step s) = 0
 sort (session_step s) = 1
-sort (buffers_step s) = 2
-sort (pair_step s) = 3
-sort (fence_step s) = 4
+sort (probe_step s) = 2
+sort (buffers_step s) = 3
+sort (pair_step s) = 4
+sort (fence_step s) = 5
 
 pub step_read : (u : Script) (ws : List Word) (t : Script) → Step u ws t → head_line known_words u ws ≡ Ok t
 step_read u ws t (size_step s) = size_read u ws t s
 step_read u ws t (session_step s) = session_read u ws t s
+step_read u ws t (probe_step s) = probe_read u ws t s
 step_read u ws t (buffers_step s) = buffers_read u ws t s
 step_read u ws t (pair_step s) = pair_read u ws t s
 step_read u ws t (fence_step s) = fence_read u ws t s

@@ -20,6 +20,7 @@ use Rattle.flat_scene.specs.declared.script.Body.TheVariants as body
 use Rattle.flat_scene.specs.declared.script.DisplayLine.{DisplayLine}
 use Rattle.flat_scene.specs.declared.script.DisplayLine.TheVariants as display
 use Rattle.flat_scene.specs.declared.script.Line.{Line}
+use Rattle.flat_scene.specs.declared.script.ProbeLine.{ProbeLine}
 use Rattle.flat_scene.specs.declared.script.ScriptLine.{ScriptLine}
 use Rattle.flat_scene.specs.declared.setup.Setup.{Setup}
 use Rattle.flat_scene.specs.History.{◌▹◌, is_display, is_begin, is_finish, is_end}
@@ -78,6 +79,15 @@ display_numbered next = by_body next.body
     by_body _ = tt
 
 module _ (script : Script) (place : ℕ) (x : ScriptLine) (at : At script place x) where
+  -- a line of a probe, which makes no entry
+  pub display_probe : (asked : ProbeLine) → x.body ≡ body.Probe asked → (history : List Entry) → DisplayStands script place history → DisplayStands script (place + 1) history
+  display_probe asked is history stands = record {
+    follows = stands.follows;
+    left = stands.left ∙ ap display_lines at.left ∙ ap (λ b. display_line x.number b ++ display_lines (drop (place + 1) script.lines)) is;
+    closing = sym (ap (frames_close (is_frame_open history) (begin_time history)) at.left
+        ∙ ap (λ b. keeps_frames (is_frame_open history) (begin_time history) b (λ o t. frames_close o t (drop (place + 1) script.lines))) is) ∙ stands.closing;
+  }
+
   -- a line of a session
   pub display_session : (text : Line) → x.body ≡ body.Session text → (old new : List Entry) → QuietStep old new → DisplayStands script place old → DisplayStands script (place + 1) new
   display_session text is old new step stands = by_step step

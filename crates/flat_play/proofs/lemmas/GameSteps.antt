@@ -20,6 +20,7 @@ use Rattle.flat_scene.specs.declared.script.Body.TheVariants as body
 use Rattle.flat_scene.specs.declared.script.DisplayLine.{DisplayLine}
 use Rattle.flat_scene.specs.declared.script.DisplayLine.TheVariants as display
 use Rattle.flat_scene.specs.declared.script.Line.{Line}
+use Rattle.flat_scene.specs.declared.script.ProbeLine.{ProbeLine}
 use Rattle.flat_scene.specs.declared.script.ScriptLine.{ScriptLine}
 use Rattle.flat_scene.specs.declared.setup.Setup.{Setup}
 use Rattle.flat_scene.specs.Frames.{sessions_to}
@@ -45,7 +46,7 @@ use Rattle.flat_playable.specs.Playable.{is_played, keeps_frames}
 use Rattle.flat_play.specs.Playing.{IsSpent, lines_by, shares_of, ReaderStands, ReadersStand, DisplayStands, FramesStand, GameStands, BeginsFrame, FinishesFrame, EntersBeside, AsksPoint, AnswersStand, HasViews, session_text, display_text}
 use Rattle.flat_play.proofs.Growing.{Grows, grows, stays, is_quiet}
 use Rattle.flat_play.proofs.lemmas.FramesShown.{all-finished}
-use Rattle.flat_play.proofs.lemmas.DisplaySteps.{QuietStep, begin_time_ok, quiet_begin, quiet_finish, quiet_end, quiet_answers, answers_session, answers_beside, answers_done, answers_point, answers_stay, display_session, display_begin, display_done, display_beside, finished-beside, finished-session, frames_session, frames_beside, frames_begin, frames_done}
+use Rattle.flat_play.proofs.lemmas.DisplaySteps.{QuietStep, begin_time_ok, quiet_begin, quiet_finish, quiet_end, quiet_answers, answers_session, answers_beside, answers_done, answers_point, answers_stay, display_session, display_probe, display_begin, display_done, display_beside, finished-beside, finished-session, frames_session, frames_beside, frames_begin, frames_done}
 use Rattle.flat_play.proofs.lemmas.DisplaySteps as quiet
 use Rattle.flat_rules.proofs.lemmas.ShownList.{length-listed}
 use Rattle.flat_play.proofs.lemmas.Steps.{At, Step, same, more, order_more, spent_more, reader_other}
@@ -162,13 +163,35 @@ module _ (script : Script) (place : ℕ) (x : ScriptLine) (at : At script place 
           let apart : is_session (record { 0 = k + 1 }) x.actor ≡ false = ap (is_session (record { 0 = k + 1 })) actor ∙ not_same s.0 (k + 1) differ in
           rw get_or-set_other (reader_other script place x at (record { 0 = k + 1 }) apart old new (get_or readers k d) step (stand.each k d inside))
 
+  -- a line of no session
+  readers_beside : (readers : List Reader) (old new : List Entry) → ((s : SessionNo) → is_session s x.actor ≡ false) → Step x old new → ReadersStand script place old readers → ReadersStand script (place + 1) new readers
+  readers_beside readers old new other step stand = record {
+    count = stand.count;
+    each = λ k d inside. reader_other script place x at (record { 0 = k + 1 }) (other (record { 0 = k + 1 })) old new (get_or readers k d) step (stand.each k d inside);
+  }
+
   display_readers : (old_readers readers : List Reader) (old new : List Entry) → x.actor ≡ Display → Step x old new → readers ≡ old_readers → ReadersStand script place old old_readers → ReadersStand script (place + 1) new readers
   display_readers old_readers readers old new actor step is stand =
       let P : List Reader → Type 0 = ReadersStand script (place + 1) new in
-      subst P (sym is) (record {
-        count = stand.count;
-        each = λ k d inside. reader_other script place x at (record { 0 = k + 1 }) (ap (is_session (record { 0 = k + 1 })) actor) old new (get_or old_readers k d) step (stand.each k d inside);
-      })
+      subst P (sym is) (readers_beside old_readers old new (λ s. ap (is_session s) actor) step stand)
+
+  -- a line of a probe, which leaves the run as it is
+  pub probe_more : (game : Game) (p : ℕ) (asked : ProbeLine) → x.actor ≡ Probe p → x.body ≡ body.Probe asked → GameStands script place game → GameStands script (place + 1) game
+  probe_more game p asked actor is stands =
+      let h : List Entry = game.board.history in
+      record {
+        setup = stands.setup;
+        shares = stands.shares;
+        readers = readers_beside game.readers.items h h (λ s. ap (is_session s) actor) (same refl) stands.readers;
+        display = display_probe script place x at asked is h stands.display;
+        order = order_more script place x at h h (same refl) stands.order;
+        spent = spent_more script place x at h h (same refl) stands.spent;
+        views = stands.views;
+        shows = stands.shows;
+        keeps = stands.keeps;
+        same = stands.same;
+        answers = stands.answers;
+      }
 
   -- a line of a session, which its reader has played
   pub session_more : (old new : Game) (s : SessionNo) (text : Line) (reader : Reader) → x.actor ≡ Session s → x.body ≡ body.Session text → is_declared script.setup s ≡ true → GameStands script place old
@@ -329,7 +352,7 @@ own_reader script place history readers s declared stand reader is =
     let Q : Reader → Type 0 = λ p. ReaderStands script s place history p in
     subst Q (sym is) (subst P here (stand.each (s.0 - 1) reader inside))
 
--- a session plays lines of a session, the display its own, and a probe none
+-- a session plays lines of a session, the display its own, and a probe those of a probe
 pub no_session_text : (setup : Setup) (s : SessionNo) (text : Body) → is_played setup (Session s) text ≡ true → session_text text ≡ None → ⊥
 no_session_text setup s (body.Session text) played none = cc
 no_session_text setup s _ played none = cc
@@ -338,7 +361,13 @@ pub no_display_text : (setup : Setup) (text : Body) → is_played setup Display 
 no_display_text setup (body.Display text) played none = cc
 no_display_text setup _ played none = cc
 
-pub no_probe : (setup : Setup) (p : ℕ) (text : Body) → is_played setup (Probe p) text ≡ true → ⊥
-no_probe setup p (body.Session text) played = cc
-no_probe setup p (body.Display text) played = cc
-no_probe setup p (body.Probe text) played = cc
+-- What is known of a line of a probe.
+pub record IsAsked (setup : Setup) (p : ℕ) (text : Body) : Type 0 where
+  pub asked : ProbeLine
+  pub is : text ≡ body.Probe asked
+  pub below : p < setup.probes
+
+pub is_asked : (setup : Setup) (p : ℕ) (text : Body) → is_played setup (Probe p) text ≡ true → IsAsked setup p text
+is_asked setup p (body.Probe asked) played = record { asked = asked; is = refl; below = let less : nat_lt p setup.probes ≡ true = played in grind (arith, nat_tests) }
+is_asked setup p (body.Session text) played = absurd (let wrong : false ≡ true = played in cc)
+is_asked setup p (body.Display text) played = absurd (let wrong : false ≡ true = played in cc)

@@ -1,5 +1,5 @@
 -- A line of a script at its place.
-use Rattle.std.proofs.Common.{◌≡◌, ℕ, ◌+◌, ◌<◌, true, false, ◌==◌, nat_le, List, [], ◌∷◌, ◌++◌, length, take, drop, get_or, zero, suc, refl, sym, ap, ◌∙◌, subst, arith, add-one, Some, slice_get}
+use Rattle.std.proofs.Common.{◌≡◌, ℕ, ◌+◌, ◌<◌, true, false, nat_le, List, [], ◌∷◌, ◌++◌, length, take, drop, get_or, zero, suc, refl, sym, ap, ◌∙◌, subst, arith, add-one, Some, slice_get}
 use Rattle.std.specs.List.{list_all, AllByRecursion}
 use Rattle.std.proofs.Math.Seq.{drop-cons}
 use Rattle.std.proofs.lemmas.Bool.{eq-eqb}
@@ -60,10 +60,7 @@ last_below n (y ∷ xs) x later rise = last_below y.number xs x later (rise_late
 
 module _ (script : Script) (playable : is_playable script ≡ true) where
   pub setup_is : is_setup script.setup ≡ true
-  setup_is = and-left _ _ (and-left _ _ (and-left _ _ (and-left _ _ (and-left _ _ (and-left _ _ playable)))))
-
-  pub no_probes : (script.setup.probes == 0) ≡ true
-  no_probes = and-right (is_setup script.setup) _ (and-left _ _ (and-left _ _ (and-left _ _ (and-left _ _ (and-left _ _ playable)))))
+  setup_is = and-left _ _ (and-left _ _ (and-left _ _ (and-left _ _ (and-left _ _ playable))))
 
   pub few_lines : nat_le script.count SCRIPT_BYTES_MAX ≡ true
   few_lines = and-right _ _ (and-left _ _ (and-left _ _ (and-left _ _ (and-left _ _ playable))))

@@ -1,5 +1,5 @@
 -- What displays have had of a run, line by line.
-use Rattle.std.proofs.Common.{◌≡◌, ℕ, suc, ◌+◌, ◌-◌, ◌<◌, Some, slice_get, Bool, true, false, cond, List, [], ◌∷◌, ◌++◌, length, length-append, map, Option, refl, sym, ap, ◌∙◌, subst, arith, append-nil}
+use Rattle.std.proofs.Common.{◌≡◌, ℕ, suc, ◌+◌, ◌-◌, ◌<◌, ◌==◌, Some, slice_get, Bool, true, false, cond, List, [], ◌∷◌, ◌++◌, length, length-append, map, Option, refl, sym, ap, ◌∙◌, subst, arith, append-nil}
 use Rattle.std.proofs.Math.Seq.{get_or-append_seam}
 use Rattle.std.proofs.lemmas.List.{length-map}
 use Rattle.std.proofs.lemmas.List.Folds.{list_any-append}
@@ -11,13 +11,13 @@ use Rattle.flat_scene.specs.declared.frames.Lost.{Lost}
 use Rattle.flat_scene.specs.declared.journal.Entry.{Entry}
 use Rattle.flat_scene.specs.declared.setup.Setup.{Setup}
 use Rattle.flat_scene.specs.History.{◌▹◌, is_finish}
-use Rattle.flat_rules.specs.Ends.{to_begin}
+use Rattle.flat_rules.specs.Ends.{to_begin, to_finished}
 use Rattle.flat_rules.specs.Legal.{frames}
 use Rattle.flat_display.specs.Had.{AreKept, is_numbered, is_among}
 use Rattle.flat_display.specs.Lost.{Driven}
 use Rattle.flat_display.specs.Shows.{Shows}
 use Rattle.flat_display.proofs.lemmas.Driving.{driven_none, driven_more, driven_same}
-use Rattle.flat_report.specs.Report.{finished, frame_at}
+use Rattle.flat_report.specs.Report.{begin_of, finished, frame_at}
 use Rattle.flat_play.specs.Showing.{IsShown, shows_frame, shows_none, HaveSeen}
 use Rattle.flat_base.proofs.lemmas.Tests.{or-false}
 use Rattle.flat_play.proofs.Losses.{shows_rise, loss_more, loss_same, numbered_more}
@@ -26,6 +26,24 @@ use Rattle.flat_play.proofs.Losses.{shows_rise, loss_more, loss_same, numbered_m
 pub frames_more : (before : List Entry) (entry : Entry) (b : Bool) → is_finish entry.kind ≡ b → frames (before ▹ entry) ≡ frames before + cond b 1 0
 frames_more before entry true is = rw is (omega arith)
 frames_more before entry false is = rw is (omega arith)
+
+-- the begin of the last of all finished frames
+pub last-begin : (history : List Entry) → begin_of (frames history) history ≡ to_finished history
+last-begin [] = refl
+last-begin (before ▹ entry) = by (is_finish entry.kind) refl (last-begin before)
+  where
+    by : (b : Bool) → is_finish entry.kind ≡ b → begin_of (frames before) before ≡ to_finished before → begin_of (frames (before ▹ entry)) (before ▹ entry) ≡ to_finished (before ▹ entry)
+    by true is rest =
+        let many : frames (before ▹ entry) ≡ suc (frames before) = (let more = frames_more before entry true is in omega (arith, more)) in
+        let same : (suc (frames before) == suc (frames before)) ≡ true = grind (arith, nat_tests) in
+        let here : begin_of (suc (frames before)) (before ▹ entry) ≡ to_begin before = rw (is, same) refl in
+        let last : to_finished (before ▹ entry) ≡ to_begin before = rw is refl in
+        ap (λ n. begin_of n (before ▹ entry)) many ∙ here ∙ sym last
+    by false is rest =
+        let many : frames (before ▹ entry) ≡ frames before = (let more = frames_more before entry false is in omega (arith, more)) in
+        let here : begin_of (frames before) (before ▹ entry) ≡ begin_of (frames before) before = rw is refl in
+        let last : to_finished (before ▹ entry) ≡ to_finished before = rw is refl in
+        ap (λ n. begin_of n (before ▹ entry)) many ∙ here ∙ rest ∙ sym last
 
 finished_by : (setup : Setup) (before : List Entry) (entry : Entry) (b : Bool) → is_finish entry.kind ≡ b → finished setup (before ▹ entry) ≡ finished setup before ++ cond b (frame_at setup (suc (frames before)) (to_begin before) ∷ []) []
 finished_by setup before entry b is = ap (λ b. finished setup before ++ cond b (frame_at setup (suc (frames before)) (to_begin before) ∷ []) []) is

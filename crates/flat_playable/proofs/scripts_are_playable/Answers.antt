@@ -16,9 +16,6 @@ returns-clause-counted c = λ bytes script is. (accepted bytes script is).counte
 pub returns-clause-count : goal.returns-clause-count
 returns-clause-count c = λ bytes script is. (accepted bytes script is).count
 
-pub returns-clause-probes : goal.returns-clause-probes
-returns-clause-probes c = λ bytes script is. (accepted bytes script is).probes
-
 pub returns-clause-setup : goal.returns-clause-setup
 returns-clause-setup c = λ bytes script is. (accepted bytes script is).setup
 

@@ -243,12 +243,17 @@ session_shown s a (w ∷ words) l is = by_call s a w words l (call_named known_w
 -- probes
 
 probe_table : Table ProbeLine
-probe_table = (codes "hit", whole (point (λ x y. probe.Hit x y))) ∷ []
+probe_table = (codes "hit", whole (point (λ x y. probe.Hit x y))) ∷ (codes "await", whole (probe.Await <$> u32)) ∷ []
+
+await_spelt : (words : List Word) (l : ProbeLine) → whole (probe.Await <$> u32) words ≡ Ok l → probe_words l ≡ codes "await" ∷ words
+await_spelt words l is =
+    let m = map_ok probe.Await u32 words l [] (whole_ok (probe.Await <$> u32) words l is) in
+    ap probe_words (sym m.value) ∙ ap (λ t. codes "await" ∷ t) (sym ((number_words (2 ^ 32)).takes words m.a [] m.given))
 
 probe_spelt : (words : List Word) (l : ProbeLine) → probe_line known_words words ≡ Ok l → probe_words l ≡ words
 unfolding probe_table
 probe_spelt [] l is = absurd (cc)
-probe_spelt (w ∷ words) l is = table_spelt probe_words 6 probe_table (hit_spelt (λ x y. probe.Hit x y) probe_words (λ x y. refl), tt) w words l is
+probe_spelt (w ∷ words) l is = table_spelt probe_words 6 probe_table (hit_spelt (λ x y. probe.Hit x y) probe_words (λ x y. refl), (await_spelt, tt)) w words l is
 
 -- a line behind its actor
 pub body_shown : (s : Script) (a : Actor) (words : List Word) (b : Body) → actor_line known_words s a words ≡ Ok b → Shown (actor_line known_words s a) (body_words s b) words b

@@ -17,14 +17,14 @@ use Rattle.flat_places.specs.declared.script.Script.{Script}
 use Rattle.flat_places.specs.Forms.{Word, whole, each, one_or_more, ◌<$>◌}
 use Rattle.flat_places.specs.Names.{place_of, session_named, owner_named}
 use Rattle.flat_places.specs.Places.{number_from, owner_word}
-use Rattle.flat_forms.specs.Head.{empty, size, side, has_display, with_display, with_session, with_buffers, with_pair, with_fence}
+use Rattle.flat_forms.specs.Head.{empty, size, side, has_display, with_display, with_session, with_probe, with_buffers, with_pair, with_fence}
 use Rattle.flat_print.specs.Print.{name_at, actor_word, name_words, numbered, buffers_line_words, pair_line_words, fence_line_words, display_line_words}
 use Rattle.flat_forms.proofs.lemmas.FormLemmas.{both_ok, or_kind_ok, whole_ok, apply_ok, map_ok, place_ok}
 use Rattle.flat_print.proofs.CallLemmas.{name_at-place_of, test_ok}
 use Rattle.flat_print.proofs.lemmas.TextLemmas.{IsLine, AllLines, AllLines-append, room_of, room_of-append}
 use Rattle.flat_print.specs.Print.{spelled}
 use Rattle.flat_print.proofs.lemmas.WordLemmas.{numbered-append}
-use Rattle.flat_forms.proofs.lemmas.StepLemmas.{SizeStep, SessionStep, BuffersStep, PairStep, FenceStep, Step, size_step, session_step, buffers_step, pair_step, fence_step, sort}
+use Rattle.flat_forms.proofs.lemmas.StepLemmas.{SizeStep, SessionStep, ProbeStep, BuffersStep, PairStep, FenceStep, Step, size_step, session_step, probe_step, buffers_step, pair_step, fence_step, sort}
 use Rattle.flat_print.proofs.SwapLemmas.{swap}
 use Rattle.std.proofs.lemmas.Bool.{and_parts}
 
@@ -72,15 +72,16 @@ bubble k u m t (b ∷ wss) ws chain y less =
 abbrev pub buffers_with : Script → List Word → List Word → List (List Word)
 buffers_with u xs ys = numbered (buffers_line_words (record u { sessions = u.sessions ++ xs; buffers = u.buffers ++ ys })) 0 u.setup.buffers
 
-abbrev pub pairs_with : Script → List Word → List Word → List (List Word)
-pairs_with u xs ys = numbered (pair_line_words (record u { sessions = u.sessions ++ xs; pairs = u.pairs ++ ys })) 0 u.setup.pairs
+abbrev pub pairs_with : Script → List Word → List Word → List Word → List (List Word)
+pairs_with u xs zs ys = numbered (pair_line_words (record u { sessions = u.sessions ++ xs; probes = u.probes ++ zs; pairs = u.pairs ++ ys })) 0 u.setup.pairs
 
-abbrev pub fences_with : Script → List Word → List Word → List (List Word)
-fences_with u xs ys = numbered (fence_line_words (record u { sessions = u.sessions ++ xs; fences = u.fences ++ ys })) 0 u.setup.fences
+abbrev pub fences_with : Script → List Word → List Word → List Word → List (List Word)
+fences_with u xs zs ys = numbered (fence_line_words (record u { sessions = u.sessions ++ xs; probes = u.probes ++ zs; fences = u.fences ++ ys })) 0 u.setup.fences
 
 pub record Ordered (u : Script) (k : ℕ) : Type 0 where
   pub d : List (List Word)
   pub s : List (List Word)
+  pub q : List (List Word)
   pub b : List (List Word)
   pub p : List (List Word)
   pub f : List (List Word)
@@ -88,31 +89,35 @@ pub record Ordered (u : Script) (k : ℕ) : Type 0 where
   pub u1 : Script
   pub u2 : Script
   pub u3 : Script
+  pub u4 : Script
   pub sizes : Chain 0 empty d u0
   pub sessions : Chain 1 u0 s u1
-  pub buffers : Chain 2 u1 b u2
-  pub pairs : Chain 3 u2 p u3
-  pub fences : Chain 4 u3 f u
+  pub probes : Chain 2 u1 q u2
+  pub buffers : Chain 3 u2 b u3
+  pub pairs : Chain 4 u3 p u4
+  pub fences : Chain 5 u4 f u
   pub size_words : d ≡ cond (has_display u) (display_line_words u ∷ []) []
   pub session_words : s ≡ map (name_words (codes "session")) u.sessions
-  pub probes : u.probes ≡ []
+  pub probe_words : q ≡ map (name_words (codes "probe")) u.probes
   pub buffer_words : (xs ys : List Word) → buffers_with u xs ys ≡ b
-  pub pair_words : (xs ys : List Word) → pairs_with u xs ys ≡ p
-  pub fence_words : (xs ys : List Word) → fences_with u xs ys ≡ f
+  pub pair_words : (xs zs ys : List Word) → pairs_with u xs zs ys ≡ p
+  pub fence_words : (xs zs ys : List Word) → fences_with u xs zs ys ≡ f
   pub buffer_names : length u.setup.buffers ≡ length u.buffers
   pub pair_names : length u.setup.pairs ≡ length u.pairs
   pub fence_names : length u.setup.fences ≡ length u.fences
   pub all_d : AllLines d
   pub all_s : AllLines s
+  pub all_q : AllLines q
   pub all_b : AllLines b
   pub all_p : AllLines p
   pub all_f : AllLines f
-  pub fits : room_of d + (room_of s + (room_of b + (room_of p + room_of f))) ≤ k
+  pub fits : room_of d + (room_of s + (room_of q + (room_of b + (room_of p + room_of f)))) ≤ k
 
 pub ordered_empty : Ordered empty 0
 ordered_empty = record {
   d = [];
   s = [];
+  q = [];
   b = [];
   p = [];
   f = [];
@@ -120,22 +125,25 @@ ordered_empty = record {
   u1 = empty;
   u2 = empty;
   u3 = empty;
+  u4 = empty;
   sizes = refl;
   sessions = refl;
+  probes = refl;
   buffers = refl;
   pairs = refl;
   fences = refl;
   size_words = refl;
   session_words = refl;
-  probes = refl;
+  probe_words = refl;
   buffer_words = λ xs ys. refl;
-  pair_words = λ xs ys. refl;
-  fence_words = λ xs ys. refl;
+  pair_words = λ xs zs ys. refl;
+  fence_words = λ xs zs ys. refl;
   buffer_names = refl;
   pair_names = refl;
   fence_names = refl;
   all_d = tt;
   all_s = tt;
+  all_q = tt;
   all_b = tt;
   all_p = tt;
   all_f = tt;
@@ -175,30 +183,30 @@ session_by u xs w a (Some i) at is =
 session_word_of : (u : Script) (xs : List Word) (w : Word) (a : SessionNo) → session_named u w ≡ Some a → name_at (u.sessions ++ xs) (a.0 - 1) ≡ w
 session_word_of u xs w a is = session_by u xs w a (place_of u.sessions w) refl is
 
-abbrev more_sessions : Script → List Word → Script
-more_sessions u xs = record u { sessions = u.sessions ++ xs }
+abbrev more_actors : Script → List Word → List Word → Script
+more_actors u xs zs = record u { sessions = u.sessions ++ xs; probes = u.probes ++ zs }
 
-actor_by_name : (u : Script) (xs : List Word) (w : Word) (a : Actor) (o : Option SessionNo) → session_named u w ≡ o → option_map Session o ≡ Some a → actor_word (more_sessions u xs) a ≡ w
-actor_by_name u xs w a None at is = absurd (cc)
-actor_by_name u xs w a (Some s) at is = let e : Session s ≡ a = cc in ap (actor_word (more_sessions u xs)) (sym e) ∙ session_word_of u xs w s at
+actor_by_name : (u : Script) (xs zs : List Word) (w : Word) (a : Actor) (o : Option SessionNo) → session_named u w ≡ o → option_map Session o ≡ Some a → actor_word (more_actors u xs zs) a ≡ w
+actor_by_name u xs zs w a None at is = absurd (cc)
+actor_by_name u xs zs w a (Some s) at is = let e : Session s ≡ a = cc in ap (actor_word (more_actors u xs zs)) (sym e) ∙ session_word_of u xs w s at
 
-actor_by : (u : Script) (xs : List Word) (w : Word) (a : Actor) (b : Bool) → bytes_eq w (codes "display") ≡ b → cond b (Some Display) (option_map Session (session_named u w)) ≡ Some a → actor_word (more_sessions u xs) a ≡ w
-actor_by u xs w a true at is = let e : Display ≡ a = cc in ap (actor_word (more_sessions u xs)) (sym e) ∙ sym ((bytes_eq-Decides w (codes "display")).0 at)
-actor_by u xs w a false at is = actor_by_name u xs w a (session_named u w) refl is
+actor_by : (u : Script) (xs zs : List Word) (w : Word) (a : Actor) (b : Bool) → bytes_eq w (codes "display") ≡ b → cond b (Some Display) (option_map Session (session_named u w)) ≡ Some a → actor_word (more_actors u xs zs) a ≡ w
+actor_by u xs zs w a true at is = let e : Display ≡ a = cc in ap (actor_word (more_actors u xs zs)) (sym e) ∙ sym ((bytes_eq-Decides w (codes "display")).0 at)
+actor_by u xs zs w a false at is = actor_by_name u xs zs w a (session_named u w) refl is
 
-actor_word_of : (u : Script) (xs : List Word) (w : Word) (a : Actor) → owner_named u w ≡ Some a → actor_word (more_sessions u xs) a ≡ w
-actor_word_of u xs w a is = actor_by u xs w a (bytes_eq w (codes "display")) refl is
+actor_word_of : (u : Script) (xs zs : List Word) (w : Word) (a : Actor) → owner_named u w ≡ Some a → actor_word (more_actors u xs zs) a ≡ w
+actor_word_of u xs zs w a is = actor_by u xs zs w a (bytes_eq w (codes "display")) refl is
 
-each_words : (u : Script) (xs ws : List Word) (os : List Actor) → each (owner_word u) ws ≡ Ok os → map (actor_word (more_sessions u xs)) os ≡ ws
-each_words u xs [] os is = let e : [] ≡ os = cc in ap (map (actor_word (more_sessions u xs))) (sym e)
-each_words u xs (w ∷ ws) os is =
+each_words : (u : Script) (xs zs ws : List Word) (os : List Actor) → each (owner_word u) ws ≡ Ok os → map (actor_word (more_actors u xs zs)) os ≡ ws
+each_words u xs zs [] os is = let e : [] ≡ os = cc in ap (map (actor_word (more_actors u xs zs))) (sym e)
+each_words u xs zs (w ∷ ws) os is =
     let parts = both_ok (λ a rest. a ∷ rest) (owner_word u w) (each (owner_word u) ws) os is in
-    let g = actor_word (more_sessions u xs) in
-    ap (map g) (sym parts.value) ∙ ap (λ v. v ∷ map g parts.b) (actor_word_of u xs w parts.a (or_kind_ok 9 (owner_named u w) parts.a parts.first)) ∙ ap (λ vs. w ∷ vs) (each_words u xs ws parts.b parts.second)
+    let g = actor_word (more_actors u xs zs) in
+    ap (map g) (sym parts.value) ∙ ap (λ v. v ∷ map g parts.b) (actor_word_of u xs zs w parts.a (or_kind_ok 9 (owner_named u w) parts.a parts.first)) ∙ ap (λ vs. w ∷ vs) (each_words u xs zs ws parts.b parts.second)
 
-owners_words : (u : Script) (xs ws : List Word) (os : List Actor) → one_or_more (owner_word u) ws ≡ Ok os → map (actor_word (more_sessions u xs)) os ≡ ws
-owners_words u xs [] os is = absurd (cc)
-owners_words u xs (w ∷ ws) os is = each_words u xs (w ∷ ws) os is
+owners_words : (u : Script) (xs zs ws : List Word) (os : List Actor) → one_or_more (owner_word u) ws ≡ Ok os → map (actor_word (more_actors u xs zs)) os ≡ ws
+owners_words u xs zs [] os is = absurd (cc)
+owners_words u xs zs (w ∷ ws) os is = each_words u xs zs (w ∷ ws) os is
 
 -- the words of the size
 
@@ -228,19 +236,19 @@ buffers_line u xs ys x many =
     let c = (range_ok 1 65536 x.c x.decl.h x.height).0 in
     rw (name, owner, a, b, c) (sym x.begins)
 
-pair_line : {ws : List Word} {t : Script} (u : Script) (xs ys : List Word) (x : PairStep u ws t) → length u.setup.pairs ≡ length u.pairs
-    → pair_line_words (record u { sessions = u.sessions ++ xs; pairs = (u.pairs ++ x.name ∷ []) ++ ys }) (0 + length u.setup.pairs) x.decl ≡ ws
-pair_line u xs ys x many =
+pair_line : {ws : List Word} {t : Script} (u : Script) (xs zs ys : List Word) (x : PairStep u ws t) → length u.setup.pairs ≡ length u.pairs
+    → pair_line_words (record u { sessions = u.sessions ++ xs; probes = u.probes ++ zs; pairs = (u.pairs ++ x.name ∷ []) ++ ys }) (0 + length u.setup.pairs) x.decl ≡ ws
+pair_line u xs zs ys x many =
     let name = name_at_end u.pairs ys x.name (0 + length u.setup.pairs) (omega arith) in
-    let viewport = actor_word_of u xs x.x x.decl.viewport x.viewport in
+    let viewport = actor_word_of u xs zs x.x x.decl.viewport x.viewport in
     let view = session_word_of u xs x.y x.decl.view x.view in
     rw (name, viewport, view) (sym x.begins)
 
-fence_line : {ws : List Word} {t : Script} (u : Script) (xs ys : List Word) (x : FenceStep u ws t) → length u.setup.fences ≡ length u.fences
-    → fence_line_words (record u { sessions = u.sessions ++ xs; fences = (u.fences ++ x.name ∷ []) ++ ys }) (0 + length u.setup.fences) x.decl ≡ ws
-fence_line u xs ys x many =
+fence_line : {ws : List Word} {t : Script} (u : Script) (xs zs ys : List Word) (x : FenceStep u ws t) → length u.setup.fences ≡ length u.fences
+    → fence_line_words (record u { sessions = u.sessions ++ xs; probes = u.probes ++ zs; fences = (u.fences ++ x.name ∷ []) ++ ys }) (0 + length u.setup.fences) x.decl ≡ ws
+fence_line u xs zs ys x many =
     let name = name_at_end u.fences ys x.name (0 + length u.setup.fences) (omega arith) in
-    let owners = owners_words u xs x.rest x.decl.owners x.owners in
+    let owners = owners_words u xs zs x.rest x.decl.owners x.owners in
     rw (name, owners) (sym x.begins)
 
 pub insert_size : (u : Script) (ws : List Word) (t : Script) (k : ℕ) → IsLine ws → Ordered u k → SizeStep u ws t → Ordered t (k + 1 + length (spelled ws))
@@ -248,9 +256,10 @@ insert_size u ws t k good o x =
     let P : Script → Type 0 = λ v. Ordered v (k + 1 + length (spelled ws)) in
     let t1 = with_display u x.w x.h in
     let y : Step u ws t1 = size_step (record { rest = x.rest; w = x.w; h = x.h; begins = x.begins; first = x.first; read = x.read; made = refl }) in
-    let b4 = bubble 4 o.u3 u t1 o.f ws o.fences y (lit< tt) in
-    let b3 = bubble 3 o.u2 o.u3 b4.mid o.p ws o.pairs b4.first (let e = b4.first_sort in omega arith) in
-    let b2 = bubble 2 o.u1 o.u2 b3.mid o.b ws o.buffers b3.first (let e = b3.first_sort in omega arith) in
+    let b5 = bubble 5 o.u4 u t1 o.f ws o.fences y (lit< tt) in
+    let b4 = bubble 4 o.u3 o.u4 b5.mid o.p ws o.pairs b5.first (let e = b5.first_sort in omega arith) in
+    let b3 = bubble 3 o.u2 o.u3 b4.mid o.b ws o.buffers b4.first (let e = b4.first_sort in omega arith) in
+    let b2 = bubble 2 o.u1 o.u2 b3.mid o.q ws o.probes b3.first (let e = b3.first_sort in omega arith) in
     let b1 = bubble 1 o.u0 o.u1 b2.mid o.s ws o.sessions b2.first (let e = b2.first_sort in omega arith) in
     let chain = chain_more 0 empty o.u0 b1.mid o.d ws o.sizes b1.first (let e = b1.first_sort in omega arith) in
     let taken = size_taken x.rest x.w x.h x.read in
@@ -260,6 +269,7 @@ insert_size u ws t k good o x =
     subst P (sym x.made) (record {
       d = o.d ++ ws ∷ [];
       s = o.s;
+      q = o.q;
       b = o.b;
       p = o.p;
       f = o.f;
@@ -267,14 +277,16 @@ insert_size u ws t k good o x =
       u1 = b2.mid;
       u2 = b3.mid;
       u3 = b4.mid;
+      u4 = b5.mid;
       sizes = chain;
       sessions = b1.behind;
-      buffers = b2.behind;
-      pairs = b3.behind;
-      fences = b4.behind;
+      probes = b2.behind;
+      buffers = b3.behind;
+      pairs = b4.behind;
+      fences = b5.behind;
       size_words = shown;
       session_words = o.session_words;
-      probes = o.probes;
+      probe_words = o.probe_words;
       buffer_words = o.buffer_words;
       pair_words = o.pair_words;
       fence_words = o.fence_words;
@@ -283,6 +295,7 @@ insert_size u ws t k good o x =
       fence_names = o.fence_names;
       all_d = AllLines-append o.d (ws ∷ []) o.all_d (good, tt);
       all_s = o.all_s;
+      all_q = o.all_q;
       all_b = o.all_b;
       all_p = o.all_p;
       all_f = o.all_f;
@@ -294,13 +307,15 @@ insert_session u ws t k good o x =
     let P : Script → Type 0 = λ v. Ordered v (k + 1 + length (spelled ws)) in
     let t1 = with_session u x.name in
     let y : Step u ws t1 = session_step (record { name = x.name; begins = x.begins; room = x.room; fresh = x.fresh; made = refl }) in
-    let b4 = bubble 4 o.u3 u t1 o.f ws o.fences y (lit< tt) in
-    let b3 = bubble 3 o.u2 o.u3 b4.mid o.p ws o.pairs b4.first (let e = b4.first_sort in omega arith) in
-    let b2 = bubble 2 o.u1 o.u2 b3.mid o.b ws o.buffers b3.first (let e = b3.first_sort in omega arith) in
+    let b5 = bubble 5 o.u4 u t1 o.f ws o.fences y (lit< tt) in
+    let b4 = bubble 4 o.u3 o.u4 b5.mid o.p ws o.pairs b5.first (let e = b5.first_sort in omega arith) in
+    let b3 = bubble 3 o.u2 o.u3 b4.mid o.b ws o.buffers b4.first (let e = b4.first_sort in omega arith) in
+    let b2 = bubble 2 o.u1 o.u2 b3.mid o.q ws o.probes b3.first (let e = b3.first_sort in omega arith) in
     let chain = chain_more 1 o.u0 o.u1 b2.mid o.s ws o.sessions b2.first (let e = b2.first_sort in omega arith) in
     subst P (sym x.made) (record {
       d = o.d;
       s = o.s ++ ws ∷ [];
+      q = o.q;
       b = o.b;
       p = o.p;
       f = o.f;
@@ -308,26 +323,74 @@ insert_session u ws t k good o x =
       u1 = b2.mid;
       u2 = b3.mid;
       u3 = b4.mid;
+      u4 = b5.mid;
       sizes = o.sizes;
       sessions = chain;
-      buffers = b2.behind;
-      pairs = b3.behind;
-      fences = b4.behind;
+      probes = b2.behind;
+      buffers = b3.behind;
+      pairs = b4.behind;
+      fences = b5.behind;
       size_words = o.size_words;
       session_words = ap (λ l. l ++ ws ∷ []) o.session_words ∙ ap (λ v. map (name_words (codes "session")) u.sessions ++ v ∷ []) x.begins ∙ sym (map-append (name_words (codes "session")) u.sessions (x.name ∷ []));
-      probes = o.probes;
+      probe_words = o.probe_words;
       buffer_words = λ xs ys. ap (λ ss. numbered (buffers_line_words (record u { sessions = ss; buffers = u.buffers ++ ys })) 0 u.setup.buffers) (append_assoc u.sessions (x.name ∷ []) xs) ∙ o.buffer_words (x.name ∷ xs) ys;
-      pair_words = λ xs ys. ap (λ ss. numbered (pair_line_words (record u { sessions = ss; pairs = u.pairs ++ ys })) 0 u.setup.pairs) (append_assoc u.sessions (x.name ∷ []) xs) ∙ o.pair_words (x.name ∷ xs) ys;
-      fence_words = λ xs ys. ap (λ ss. numbered (fence_line_words (record u { sessions = ss; fences = u.fences ++ ys })) 0 u.setup.fences) (append_assoc u.sessions (x.name ∷ []) xs) ∙ o.fence_words (x.name ∷ xs) ys;
+      pair_words = λ xs zs ys. ap (λ ss. numbered (pair_line_words (record u { sessions = ss; probes = u.probes ++ zs; pairs = u.pairs ++ ys })) 0 u.setup.pairs) (append_assoc u.sessions (x.name ∷ []) xs) ∙ o.pair_words (x.name ∷ xs) zs ys;
+      fence_words = λ xs zs ys. ap (λ ss. numbered (fence_line_words (record u { sessions = ss; probes = u.probes ++ zs; fences = u.fences ++ ys })) 0 u.setup.fences) (append_assoc u.sessions (x.name ∷ []) xs) ∙ o.fence_words (x.name ∷ xs) zs ys;
       buffer_names = o.buffer_names;
       pair_names = o.pair_names;
       fence_names = o.fence_names;
       all_d = o.all_d;
       all_s = AllLines-append o.s (ws ∷ []) o.all_s (good, tt);
+      all_q = o.all_q;
       all_b = o.all_b;
       all_p = o.all_p;
       all_f = o.all_f;
       fits = (let e = room_of-append o.s (ws ∷ []) in let h = o.fits in omega arith);
+    })
+
+pub insert_probe : (u : Script) (ws : List Word) (t : Script) (k : ℕ) → IsLine ws → Ordered u k → ProbeStep u ws t → Ordered t (k + 1 + length (spelled ws))
+insert_probe u ws t k good o x =
+    let P : Script → Type 0 = λ v. Ordered v (k + 1 + length (spelled ws)) in
+    let t1 = with_probe u x.name in
+    let y : Step u ws t1 = probe_step (record { name = x.name; begins = x.begins; room = x.room; fresh = x.fresh; made = refl }) in
+    let b5 = bubble 5 o.u4 u t1 o.f ws o.fences y (lit< tt) in
+    let b4 = bubble 4 o.u3 o.u4 b5.mid o.p ws o.pairs b5.first (let e = b5.first_sort in omega arith) in
+    let b3 = bubble 3 o.u2 o.u3 b4.mid o.b ws o.buffers b4.first (let e = b4.first_sort in omega arith) in
+    let chain = chain_more 2 o.u1 o.u2 b3.mid o.q ws o.probes b3.first (let e = b3.first_sort in omega arith) in
+    subst P (sym x.made) (record {
+      d = o.d;
+      s = o.s;
+      q = o.q ++ ws ∷ [];
+      b = o.b;
+      p = o.p;
+      f = o.f;
+      u0 = o.u0;
+      u1 = o.u1;
+      u2 = b3.mid;
+      u3 = b4.mid;
+      u4 = b5.mid;
+      sizes = o.sizes;
+      sessions = o.sessions;
+      probes = chain;
+      buffers = b3.behind;
+      pairs = b4.behind;
+      fences = b5.behind;
+      size_words = o.size_words;
+      session_words = o.session_words;
+      probe_words = ap (λ l. l ++ ws ∷ []) o.probe_words ∙ ap (λ v. map (name_words (codes "probe")) u.probes ++ v ∷ []) x.begins ∙ sym (map-append (name_words (codes "probe")) u.probes (x.name ∷ []));
+      buffer_words = o.buffer_words;
+      pair_words = λ xs zs ys. ap (λ ps. numbered (pair_line_words (record u { sessions = u.sessions ++ xs; probes = ps; pairs = u.pairs ++ ys })) 0 u.setup.pairs) (append_assoc u.probes (x.name ∷ []) zs) ∙ o.pair_words xs (x.name ∷ zs) ys;
+      fence_words = λ xs zs ys. ap (λ ps. numbered (fence_line_words (record u { sessions = u.sessions ++ xs; probes = ps; fences = u.fences ++ ys })) 0 u.setup.fences) (append_assoc u.probes (x.name ∷ []) zs) ∙ o.fence_words xs (x.name ∷ zs) ys;
+      buffer_names = o.buffer_names;
+      pair_names = o.pair_names;
+      fence_names = o.fence_names;
+      all_d = o.all_d;
+      all_s = o.all_s;
+      all_q = AllLines-append o.q (ws ∷ []) o.all_q (good, tt);
+      all_b = o.all_b;
+      all_p = o.all_p;
+      all_f = o.all_f;
+      fits = (let e = room_of-append o.q (ws ∷ []) in let h = o.fits in omega arith);
     })
 
 pub insert_buffers : (u : Script) (ws : List Word) (t : Script) (k : ℕ) → IsLine ws → Ordered u k → BuffersStep u ws t → Ordered t (k + 1 + length (spelled ws))
@@ -335,28 +398,31 @@ insert_buffers u ws t k good o x =
     let P : Script → Type 0 = λ v. Ordered v (k + 1 + length (spelled ws)) in
     let t1 = with_buffers u x.name x.decl in
     let y : Step u ws t1 = buffers_step (record { name = x.name; owner = x.owner; a = x.a; b = x.b; c = x.c; decl = x.decl; begins = x.begins; room = x.room; fresh = x.fresh; owned = x.owned; count = x.count; width = x.width; height = x.height; made = refl }) in
-    let b4 = bubble 4 o.u3 u t1 o.f ws o.fences y (lit< tt) in
-    let b3 = bubble 3 o.u2 o.u3 b4.mid o.p ws o.pairs b4.first (let e = b4.first_sort in omega arith) in
-    let chain = chain_more 2 o.u1 o.u2 b3.mid o.b ws o.buffers b3.first (let e = b3.first_sort in omega arith) in
+    let b5 = bubble 5 o.u4 u t1 o.f ws o.fences y (lit< tt) in
+    let b4 = bubble 4 o.u3 o.u4 b5.mid o.p ws o.pairs b5.first (let e = b5.first_sort in omega arith) in
+    let chain = chain_more 3 o.u2 o.u3 b4.mid o.b ws o.buffers b4.first (let e = b4.first_sort in omega arith) in
     let line : (xs ys : List Word) → buffers_line_words (record t1 { sessions = u.sessions ++ xs; buffers = (u.buffers ++ x.name ∷ []) ++ ys }) (0 + length u.setup.buffers) x.decl ≡ ws = λ xs ys. buffers_line u xs ys x o.buffer_names in
     subst P (sym x.made) (record {
       d = o.d;
       s = o.s;
+      q = o.q;
       b = o.b ++ ws ∷ [];
       p = o.p;
       f = o.f;
       u0 = o.u0;
       u1 = o.u1;
-      u2 = b3.mid;
+      u2 = o.u2;
       u3 = b4.mid;
+      u4 = b5.mid;
       sizes = o.sizes;
       sessions = o.sessions;
+      probes = o.probes;
       buffers = chain;
-      pairs = b3.behind;
-      fences = b4.behind;
+      pairs = b4.behind;
+      fences = b5.behind;
       size_words = o.size_words;
       session_words = o.session_words;
-      probes = o.probes;
+      probe_words = o.probe_words;
       buffer_words = λ xs ys. numbered-append (buffers_line_words (record t1 { sessions = u.sessions ++ xs; buffers = (u.buffers ++ x.name ∷ []) ++ ys })) 0 u.setup.buffers (x.decl ∷ []) ∙ ap (λ l. l ++ buffers_line_words (record t1 { sessions = u.sessions ++ xs; buffers = (u.buffers ++ x.name ∷ []) ++ ys }) (0 + length u.setup.buffers) x.decl ∷ []) (ap (λ ns. numbered (buffers_line_words (record u { sessions = u.sessions ++ xs; buffers = ns })) 0 u.setup.buffers) (append_assoc u.buffers (x.name ∷ []) ys) ∙ o.buffer_words xs (x.name ∷ ys)) ∙ ap (λ v. o.b ++ v ∷ []) (line xs ys);
       pair_words = o.pair_words;
       fence_words = o.fence_words;
@@ -365,6 +431,7 @@ insert_buffers u ws t k good o x =
       fence_names = o.fence_names;
       all_d = o.all_d;
       all_s = o.all_s;
+      all_q = o.all_q;
       all_b = AllLines-append o.b (ws ∷ []) o.all_b (good, tt);
       all_p = o.all_p;
       all_f = o.all_f;
@@ -376,35 +443,39 @@ insert_pair u ws t k good o x =
     let P : Script → Type 0 = λ v. Ordered v (k + 1 + length (spelled ws)) in
     let t1 = with_pair u x.name x.decl in
     let y : Step u ws t1 = pair_step (record { name = x.name; x = x.x; y = x.y; decl = x.decl; begins = x.begins; room = x.room; fresh = x.fresh; single = x.single; viewport = x.viewport; view = x.view; made = refl }) in
-    let b4 = bubble 4 o.u3 u t1 o.f ws o.fences y (lit< tt) in
-    let chain = chain_more 3 o.u2 o.u3 b4.mid o.p ws o.pairs b4.first (let e = b4.first_sort in omega arith) in
-    let line : (xs ys : List Word) → pair_line_words (record t1 { sessions = u.sessions ++ xs; pairs = (u.pairs ++ x.name ∷ []) ++ ys }) (0 + length u.setup.pairs) x.decl ≡ ws = λ xs ys. pair_line u xs ys x o.pair_names in
+    let b5 = bubble 5 o.u4 u t1 o.f ws o.fences y (lit< tt) in
+    let chain = chain_more 4 o.u3 o.u4 b5.mid o.p ws o.pairs b5.first (let e = b5.first_sort in omega arith) in
+    let line : (xs zs ys : List Word) → pair_line_words (record t1 { sessions = u.sessions ++ xs; probes = u.probes ++ zs; pairs = (u.pairs ++ x.name ∷ []) ++ ys }) (0 + length u.setup.pairs) x.decl ≡ ws = λ xs zs ys. pair_line u xs zs ys x o.pair_names in
     subst P (sym x.made) (record {
       d = o.d;
       s = o.s;
+      q = o.q;
       b = o.b;
       p = o.p ++ ws ∷ [];
       f = o.f;
       u0 = o.u0;
       u1 = o.u1;
       u2 = o.u2;
-      u3 = b4.mid;
+      u3 = o.u3;
+      u4 = b5.mid;
       sizes = o.sizes;
       sessions = o.sessions;
+      probes = o.probes;
       buffers = o.buffers;
       pairs = chain;
-      fences = b4.behind;
+      fences = b5.behind;
       size_words = o.size_words;
       session_words = o.session_words;
-      probes = o.probes;
+      probe_words = o.probe_words;
       buffer_words = o.buffer_words;
-      pair_words = λ xs ys. numbered-append (pair_line_words (record t1 { sessions = u.sessions ++ xs; pairs = (u.pairs ++ x.name ∷ []) ++ ys })) 0 u.setup.pairs (x.decl ∷ []) ∙ ap (λ l. l ++ pair_line_words (record t1 { sessions = u.sessions ++ xs; pairs = (u.pairs ++ x.name ∷ []) ++ ys }) (0 + length u.setup.pairs) x.decl ∷ []) (ap (λ ns. numbered (pair_line_words (record u { sessions = u.sessions ++ xs; pairs = ns })) 0 u.setup.pairs) (append_assoc u.pairs (x.name ∷ []) ys) ∙ o.pair_words xs (x.name ∷ ys)) ∙ ap (λ v. o.p ++ v ∷ []) (line xs ys);
+      pair_words = λ xs zs ys. numbered-append (pair_line_words (record t1 { sessions = u.sessions ++ xs; probes = u.probes ++ zs; pairs = (u.pairs ++ x.name ∷ []) ++ ys })) 0 u.setup.pairs (x.decl ∷ []) ∙ ap (λ l. l ++ pair_line_words (record t1 { sessions = u.sessions ++ xs; probes = u.probes ++ zs; pairs = (u.pairs ++ x.name ∷ []) ++ ys }) (0 + length u.setup.pairs) x.decl ∷ []) (ap (λ ns. numbered (pair_line_words (record u { sessions = u.sessions ++ xs; probes = u.probes ++ zs; pairs = ns })) 0 u.setup.pairs) (append_assoc u.pairs (x.name ∷ []) ys) ∙ o.pair_words xs zs (x.name ∷ ys)) ∙ ap (λ v. o.p ++ v ∷ []) (line xs zs ys);
       fence_words = o.fence_words;
       buffer_names = o.buffer_names;
       pair_names = omega (arith, length-append u.setup.pairs (x.decl ∷ []), length-append u.pairs (x.name ∷ []), o.pair_names);
       fence_names = o.fence_names;
       all_d = o.all_d;
       all_s = o.all_s;
+      all_q = o.all_q;
       all_b = o.all_b;
       all_p = AllLines-append o.p (ws ∷ []) o.all_p (good, tt);
       all_f = o.all_f;
@@ -416,11 +487,12 @@ insert_fence u ws t k good o x =
     let P : Script → Type 0 = λ v. Ordered v (k + 1 + length (spelled ws)) in
     let t1 = with_fence u x.name x.decl in
     let y : Step u ws t1 = fence_step (record { name = x.name; rest = x.rest; decl = x.decl; begins = x.begins; room = x.room; fresh = x.fresh; owners = x.owners; made = refl }) in
-    let chain = chain_more 4 o.u3 u t1 o.f ws o.fences y (lit≤ tt) in
-    let line : (xs ys : List Word) → fence_line_words (record t1 { sessions = u.sessions ++ xs; fences = (u.fences ++ x.name ∷ []) ++ ys }) (0 + length u.setup.fences) x.decl ≡ ws = λ xs ys. fence_line u xs ys x o.fence_names in
+    let chain = chain_more 5 o.u4 u t1 o.f ws o.fences y (lit≤ tt) in
+    let line : (xs zs ys : List Word) → fence_line_words (record t1 { sessions = u.sessions ++ xs; probes = u.probes ++ zs; fences = (u.fences ++ x.name ∷ []) ++ ys }) (0 + length u.setup.fences) x.decl ≡ ws = λ xs zs ys. fence_line u xs zs ys x o.fence_names in
     subst P (sym x.made) (record {
       d = o.d;
       s = o.s;
+      q = o.q;
       b = o.b;
       p = o.p;
       f = o.f ++ ws ∷ [];
@@ -428,22 +500,25 @@ insert_fence u ws t k good o x =
       u1 = o.u1;
       u2 = o.u2;
       u3 = o.u3;
+      u4 = o.u4;
       sizes = o.sizes;
       sessions = o.sessions;
+      probes = o.probes;
       buffers = o.buffers;
       pairs = o.pairs;
       fences = chain;
       size_words = o.size_words;
       session_words = o.session_words;
-      probes = o.probes;
+      probe_words = o.probe_words;
       buffer_words = o.buffer_words;
       pair_words = o.pair_words;
-      fence_words = λ xs ys. numbered-append (fence_line_words (record t1 { sessions = u.sessions ++ xs; fences = (u.fences ++ x.name ∷ []) ++ ys })) 0 u.setup.fences (x.decl ∷ []) ∙ ap (λ l. l ++ fence_line_words (record t1 { sessions = u.sessions ++ xs; fences = (u.fences ++ x.name ∷ []) ++ ys }) (0 + length u.setup.fences) x.decl ∷ []) (ap (λ ns. numbered (fence_line_words (record u { sessions = u.sessions ++ xs; fences = ns })) 0 u.setup.fences) (append_assoc u.fences (x.name ∷ []) ys) ∙ o.fence_words xs (x.name ∷ ys)) ∙ ap (λ v. o.f ++ v ∷ []) (line xs ys);
+      fence_words = λ xs zs ys. numbered-append (fence_line_words (record t1 { sessions = u.sessions ++ xs; probes = u.probes ++ zs; fences = (u.fences ++ x.name ∷ []) ++ ys })) 0 u.setup.fences (x.decl ∷ []) ∙ ap (λ l. l ++ fence_line_words (record t1 { sessions = u.sessions ++ xs; probes = u.probes ++ zs; fences = (u.fences ++ x.name ∷ []) ++ ys }) (0 + length u.setup.fences) x.decl ∷ []) (ap (λ ns. numbered (fence_line_words (record u { sessions = u.sessions ++ xs; probes = u.probes ++ zs; fences = ns })) 0 u.setup.fences) (append_assoc u.fences (x.name ∷ []) ys) ∙ o.fence_words xs zs (x.name ∷ ys)) ∙ ap (λ v. o.f ++ v ∷ []) (line xs zs ys);
       buffer_names = o.buffer_names;
       pair_names = o.pair_names;
       fence_names = omega (arith, length-append u.setup.fences (x.decl ∷ []), length-append u.fences (x.name ∷ []), o.fence_names);
       all_d = o.all_d;
       all_s = o.all_s;
+      all_q = o.all_q;
       all_b = o.all_b;
       all_p = o.all_p;
       all_f = AllLines-append o.f (ws ∷ []) o.all_f (good, tt);
@@ -453,6 +528,7 @@ insert_fence u ws t k good o x =
 pub insert : (u : Script) (ws : List Word) (t : Script) (k : ℕ) → IsLine ws → Ordered u k → Step u ws t → Ordered t (k + 1 + length (spelled ws))
 insert u ws t k good o (size_step x) = insert_size u ws t k good o x
 insert u ws t k good o (session_step x) = insert_session u ws t k good o x
+insert u ws t k good o (probe_step x) = insert_probe u ws t k good o x
 insert u ws t k good o (buffers_step x) = insert_buffers u ws t k good o x
 insert u ws t k good o (pair_step x) = insert_pair u ws t k good o x
 insert u ws t k good o (fence_step x) = insert_fence u ws t k good o x
@@ -460,6 +536,7 @@ insert u ws t k good o (fence_step x) = insert_fence u ws t k good o x
 pub lines_kept : (u : Script) (ws : List Word) (t : Script) → Step u ws t → t.lines ≡ u.lines
 lines_kept u ws t (size_step x) = ap (λ v. v.lines) x.made
 lines_kept u ws t (session_step x) = ap (λ v. v.lines) x.made
+lines_kept u ws t (probe_step x) = ap (λ v. v.lines) x.made
 lines_kept u ws t (buffers_step x) = ap (λ v. v.lines) x.made
 lines_kept u ws t (pair_step x) = ap (λ v. v.lines) x.made
 lines_kept u ws t (fence_step x) = ap (λ v. v.lines) x.made

@@ -25,7 +25,7 @@ use Rattle.flat_forms.proofs.lemmas.FormLemmas.{mapped_ok, whole_ok, unless_ok, 
 use Rattle.flat_print.proofs.lemmas.TextLemmas.{IsLine, AllLines, line_words_of, line_front, front_fits, spelled-words_of, lines_of_fed, AllLines-append, room_of, length-fed, room_of-append, lines_room, lines_room-lines_of}
 use Rattle.flat_print.proofs.lemmas.AgainLemmas.{with_lines, SameLines, times_same, dones_same, Again, body_again}
 use Rattle.flat_print.proofs.lemmas.BodyWordLemmas.{actor_spelt, body_shown}
-use Rattle.flat_forms.proofs.lemmas.StepLemmas.{Step, step_read, size_step, session_step, buffers_step, pair_step, fence_step}
+use Rattle.flat_forms.proofs.lemmas.StepLemmas.{Step, step_read, size_step, session_step, probe_step, buffers_step, pair_step, fence_step}
 use Rattle.flat_forms.proofs.lemmas.FoundLemmas.{step_found}
 use Rattle.flat_print.proofs.lemmas.OrderLemmas.{Chain, Ordered, ordered_empty, insert, lines_kept}
 
@@ -303,6 +303,7 @@ again_at n u t ws vs e again = let P : List Word → Type 0 = Again_head n u t i
 head_again : (n : ℕ) (u t : Script) (ws : List Word) → Step u ws t → Again_head n u t ws
 head_again n u t ws (size_step x) = again_at n u t ws _ x.begins (λ r. ap (mapped (λ v. (part.Head, v))) r)
 head_again n u t ws (session_step x) = again_at n u t ws _ x.begins (λ r. ap (mapped (λ v. (part.Head, v))) r)
+head_again n u t ws (probe_step x) = again_at n u t ws _ x.begins (λ r. ap (mapped (λ v. (part.Head, v))) r)
 head_again n u t ws (buffers_step x) = again_at n u t ws _ x.begins (λ r. ap (mapped (λ v. (part.Head, v))) r)
 head_again n u t ws (pair_step x) = again_at n u t ws _ x.begins (λ r. ap (mapped (λ v. (part.Head, v))) r)
 head_again n u t ws (fence_step x) = again_at n u t ws _ x.begins (λ r. ap (mapped (λ v. (part.Head, v))) r)
@@ -316,31 +317,35 @@ chain_read k n u t (ws ∷ wss) tail good chain =
     one_step n u chain.mid ws (map spelled wss ++ tail) good.0 chain.step ∙ chain_read k (n + 1) chain.mid t wss tail good.1 chain.behind ∙ ap (λ i. lines_read known_words i (part.Head, t) tail) (omega arith)
 
 abbrev declared : {u : Script} {k : ℕ} → Ordered u k → List (List Word)
-declared o = o.d ++ (o.s ++ (o.b ++ (o.p ++ o.f)))
+declared o = o.d ++ (o.s ++ (o.q ++ (o.b ++ (o.p ++ o.f))))
 
 all_declared : (u : Script) (k : ℕ) (o : Ordered u k) → AllLines (declared o)
-all_declared u k o = AllLines-append o.d _ o.all_d (AllLines-append o.s _ o.all_s (AllLines-append o.b _ o.all_b (AllLines-append o.p o.f o.all_p o.all_f)))
+all_declared u k o = AllLines-append o.d _ o.all_d (AllLines-append o.s _ o.all_s (AllLines-append o.q _ o.all_q (AllLines-append o.b _ o.all_b (AllLines-append o.p o.f o.all_p o.all_f))))
 
 declared_room : (u : Script) (k : ℕ) (o : Ordered u k) → room_of (declared o) ≤ k
 declared_room u k o =
-    omega (arith, room_of-append o.d (o.s ++ (o.b ++ (o.p ++ o.f))), room_of-append o.s (o.b ++ (o.p ++ o.f)), room_of-append o.b (o.p ++ o.f), room_of-append o.p o.f, o.fits)
+    omega (arith, room_of-append o.d (o.s ++ (o.q ++ (o.b ++ (o.p ++ o.f)))), room_of-append o.s (o.q ++ (o.b ++ (o.p ++ o.f))), room_of-append o.q (o.b ++ (o.p ++ o.f)), room_of-append o.b (o.p ++ o.f), room_of-append o.p o.f, o.fits)
 
 map_more : (xs ys : List (List Word)) (tail : List (List ℕ)) → map spelled (xs ++ ys) ++ tail ≡ map spelled xs ++ (map spelled ys ++ tail)
 map_more xs ys tail = ap (λ t. t ++ tail) (map-append spelled xs ys) ∙ append_assoc (map spelled xs) (map spelled ys) tail
 
 abbrev behind_head : {u : Script} {k : ℕ} → ℕ → Ordered u k → ℕ
-behind_head n o = n + length o.d + length o.s + length o.b + length o.p + length o.f
+behind_head n o = n + length o.d + length o.s + length o.q + length o.b + length o.p + length o.f
+
+declared_cut : (u : Script) (k : ℕ) (o : Ordered u k) (tail : List (List ℕ)) → map spelled (declared o) ++ tail ≡ map spelled o.d ++ (map spelled o.s ++ (map spelled o.q ++ (map spelled o.b ++ (map spelled o.p ++ (map spelled o.f ++ tail)))))
+declared_cut u k o tail =
+    map_more o.d (o.s ++ (o.q ++ (o.b ++ (o.p ++ o.f)))) tail ∙ ap (λ t. map spelled o.d ++ t) (map_more o.s (o.q ++ (o.b ++ (o.p ++ o.f))) tail ∙ ap (λ t. map spelled o.s ++ t) (map_more o.q (o.b ++ (o.p ++ o.f)) tail
+    ∙ ap (λ t. map spelled o.q ++ t) (map_more o.b (o.p ++ o.f) tail ∙ ap (λ t. map spelled o.b ++ t) (map_more o.p o.f tail))))
 
 declared_read : (u : Script) (k n : ℕ) (o : Ordered u k) (tail : List (List ℕ)) → lines_read known_words n (part.Head, empty) (map spelled (declared o) ++ tail) ≡ lines_read known_words (behind_head n o) (part.Head, u) tail
 declared_read u k n o tail =
-    let t4 = map spelled o.f ++ tail in
-    let t3 = map spelled o.p ++ t4 in
-    let t2 = map spelled o.b ++ t3 in
+    let t5 = map spelled o.f ++ tail in
+    let t4 = map spelled o.p ++ t5 in
+    let t3 = map spelled o.b ++ t4 in
+    let t2 = map spelled o.q ++ t3 in
     let t1 = map spelled o.s ++ t2 in
-    let cut : map spelled (declared o) ++ tail ≡ map spelled o.d ++ t1 =
-    map_more o.d (o.s ++ (o.b ++ (o.p ++ o.f))) tail ∙ ap (λ t. map spelled o.d ++ t) (map_more o.s (o.b ++ (o.p ++ o.f)) tail ∙ ap (λ t. map spelled o.s ++ t) (map_more o.b (o.p ++ o.f) tail ∙ ap (λ t. map spelled o.b ++ t) (map_more o.p o.f tail))) in
-    ap (lines_read known_words n (part.Head, empty)) cut ∙ chain_read 0 n empty o.u0 o.d t1 o.all_d o.sizes ∙ chain_read 1 _ o.u0 o.u1 o.s t2 o.all_s o.sessions
-    ∙ chain_read 2 _ o.u1 o.u2 o.b t3 o.all_b o.buffers ∙ chain_read 3 _ o.u2 o.u3 o.p t4 o.all_p o.pairs ∙ chain_read 4 _ o.u3 u o.f tail o.all_f o.fences
+    ap (lines_read known_words n (part.Head, empty)) (declared_cut u k o tail) ∙ chain_read 0 n empty o.u0 o.d t1 o.all_d o.sizes ∙ chain_read 1 _ o.u0 o.u1 o.s t2 o.all_s o.sessions
+    ∙ chain_read 2 _ o.u1 o.u2 o.q t3 o.all_q o.probes ∙ chain_read 3 _ o.u2 o.u3 o.b t4 o.all_b o.buffers ∙ chain_read 4 _ o.u3 o.u4 o.p t5 o.all_p o.pairs ∙ chain_read 5 _ o.u4 u o.f tail o.all_f o.fences
 
 run_good : IsLine (codes "run" ∷ [])
 run_good = record { plain = refl; short = refl; kept = refl; words = refl }
@@ -362,17 +367,20 @@ buffers_is h k o us n =
 
 pairs_is : (h : Script) (k : ℕ) (o : Ordered h k) (us : List ScriptLine) (n : ℕ) → numbered (pair_line_words (last_lines h us n)) 0 h.setup.pairs ≡ o.p
 pairs_is h k o us n =
-    ap (λ ss. numbered (pair_line_words (record h { sessions = ss; pairs = h.pairs })) 0 h.setup.pairs) (sym (append-nil h.sessions))
-    ∙ ap (λ ns. numbered (pair_line_words (record h { sessions = h.sessions ++ []; pairs = ns })) 0 h.setup.pairs) (sym (append-nil h.pairs)) ∙ o.pair_words [] []
+    ap (λ ss. numbered (pair_line_words (record h { sessions = ss; probes = h.probes; pairs = h.pairs })) 0 h.setup.pairs) (sym (append-nil h.sessions))
+    ∙ ap (λ ps. numbered (pair_line_words (record h { sessions = h.sessions ++ []; probes = ps; pairs = h.pairs })) 0 h.setup.pairs) (sym (append-nil h.probes))
+    ∙ ap (λ ns. numbered (pair_line_words (record h { sessions = h.sessions ++ []; probes = h.probes ++ []; pairs = ns })) 0 h.setup.pairs) (sym (append-nil h.pairs)) ∙ o.pair_words [] [] []
 
 fences_is : (h : Script) (k : ℕ) (o : Ordered h k) (us : List ScriptLine) (n : ℕ) → numbered (fence_line_words (last_lines h us n)) 0 h.setup.fences ≡ o.f
 fences_is h k o us n =
-    ap (λ ss. numbered (fence_line_words (record h { sessions = ss; fences = h.fences })) 0 h.setup.fences) (sym (append-nil h.sessions))
-    ∙ ap (λ ns. numbered (fence_line_words (record h { sessions = h.sessions ++ []; fences = ns })) 0 h.setup.fences) (sym (append-nil h.fences)) ∙ o.fence_words [] []
+    ap (λ ss. numbered (fence_line_words (record h { sessions = ss; probes = h.probes; fences = h.fences })) 0 h.setup.fences) (sym (append-nil h.sessions))
+    ∙ ap (λ ps. numbered (fence_line_words (record h { sessions = h.sessions ++ []; probes = ps; fences = h.fences })) 0 h.setup.fences) (sym (append-nil h.probes))
+    ∙ ap (λ ns. numbered (fence_line_words (record h { sessions = h.sessions ++ []; probes = h.probes ++ []; fences = ns })) 0 h.setup.fences) (sym (append-nil h.fences)) ∙ o.fence_words [] [] []
 
-five_appends : (d s b p f r : List (List Word)) → (d ++ (s ++ (b ++ (p ++ f)))) ++ r ≡ d ++ (s ++ (b ++ (p ++ (f ++ r))))
-five_appends d s b p f r =
-    append_assoc d (s ++ (b ++ (p ++ f))) r ∙ ap (λ t. d ++ t) (append_assoc s (b ++ (p ++ f)) r ∙ ap (λ t. s ++ t) (append_assoc b (p ++ f) r ∙ ap (λ t. b ++ t) (append_assoc p f r)))
+six_appends : (d s q b p f r : List (List Word)) → (d ++ (s ++ (q ++ (b ++ (p ++ f))))) ++ r ≡ d ++ (s ++ (q ++ (b ++ (p ++ (f ++ r)))))
+six_appends d s q b p f r =
+    append_assoc d (s ++ (q ++ (b ++ (p ++ f)))) r ∙ ap (λ t. d ++ t) (append_assoc s (q ++ (b ++ (p ++ f))) r ∙ ap (λ t. s ++ t) (append_assoc q (b ++ (p ++ f)) r
+    ∙ ap (λ t. q ++ t) (append_assoc b (p ++ f) r ∙ ap (λ t. b ++ t) (append_assoc p f r))))
 
 head_is : (h : Script) (k : ℕ) (o : Ordered h k) (us : List ScriptLine) (n : ℕ) → is_ready h ≡ true → head_words (last_lines h us n) ≡ declared o ++ (codes "run" ∷ []) ∷ []
 head_is h k o us n ready =
@@ -380,16 +388,17 @@ head_is h k o us n ready =
     let r : List (List Word) = (codes "run" ∷ []) ∷ [] in
     let line = display_line_words h in
     let sessions = map (name_words (codes "session")) h.sessions in
+    let probes = map (name_words (codes "probe")) h.probes in
     let b = buffers_is h k o us n in
     let p = pairs_is h k o us n in
     let f = fences_is h k o us n in
-    ap (λ ps. line ∷ (sessions ++ (map (name_words (codes "probe")) ps ++ (numbered (buffers_line_words (last_lines h us n)) 0 h.setup.buffers ++ (numbered (pair_line_words (last_lines h us n)) 0 h.setup.pairs ++ (numbered (fence_line_words (last_lines h us n)) 0 h.setup.fences ++ r)))))) o.probes
-    ∙ ap (λ t. line ∷ (sessions ++ (t ++ (numbered (pair_line_words (last_lines h us n)) 0 h.setup.pairs ++ (numbered (fence_line_words (last_lines h us n)) 0 h.setup.fences ++ r))))) b
-    ∙ ap (λ t. line ∷ (sessions ++ (o.b ++ (t ++ (numbered (fence_line_words (last_lines h us n)) 0 h.setup.fences ++ r))))) p
-    ∙ ap (λ t. line ∷ (sessions ++ (o.b ++ (o.p ++ (t ++ r))))) f
-    ∙ ap (λ t. line ∷ (t ++ (o.b ++ (o.p ++ (o.f ++ r))))) (sym o.session_words)
-    ∙ ap (λ t. t ++ (o.s ++ (o.b ++ (o.p ++ (o.f ++ r))))) (sym shown)
-    ∙ sym (five_appends o.d o.s o.b o.p o.f r)
+    ap (λ t. line ∷ (sessions ++ (probes ++ (t ++ (numbered (pair_line_words (last_lines h us n)) 0 h.setup.pairs ++ (numbered (fence_line_words (last_lines h us n)) 0 h.setup.fences ++ r)))))) b
+    ∙ ap (λ t. line ∷ (sessions ++ (probes ++ (o.b ++ (t ++ (numbered (fence_line_words (last_lines h us n)) 0 h.setup.fences ++ r)))))) p
+    ∙ ap (λ t. line ∷ (sessions ++ (probes ++ (o.b ++ (o.p ++ (t ++ r)))))) f
+    ∙ ap (λ t. line ∷ (sessions ++ (t ++ (o.b ++ (o.p ++ (o.f ++ r)))))) (sym o.probe_words)
+    ∙ ap (λ t. line ∷ (t ++ (o.q ++ (o.b ++ (o.p ++ (o.f ++ r)))))) (sym o.session_words)
+    ∙ ap (λ t. t ++ (o.s ++ (o.q ++ (o.b ++ (o.p ++ (o.f ++ r)))))) (sym shown)
+    ∙ sym (six_appends o.d o.s o.q o.b o.p o.f r)
 
 text_long : (w : List (List Word)) → length (codes "flatland 1" ++ fed w) ≡ 10 + room_of w
 text_long w = omega (arith, length-append (codes "flatland 1") (fed w), length-fed w)

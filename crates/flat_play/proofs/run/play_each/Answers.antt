@@ -1,8 +1,13 @@
-use Rattle.std.proofs.Common.{◌≡◌, ℕ, List, length, refl, sym, ap, ◌∙◌, subst, arith}
+use Rattle.std.proofs.Common.{◌≡◌, ℕ, ◌+◌, List, length, take, refl, sym, ap, ◌∙◌, subst, arith}
 use Rattle.flat_scene.specs.declared.journal.Entry.{Entry}
 use Rattle.flat_report.specs.Report.{finished}
-use Rattle.flat_play.specs.Playing.{GameStands}
+use Rattle.flat_base.specs.declared.ids.FrameNo.{FrameNo}
+use Rattle.flat_rules.specs.Legal.{frames}
+use Rattle.flat_play.specs.Playing.{GameStands, last_number}
 use Rattle.flat_play.specs.Touches.{AreAnswered}
+use Rattle.flat_play.specs.Probing.{ProbesStand}
+use Rattle.flat_play.proofs.Probed.{asked-within, probes-unasked, probes-on, probes-more, probes-all}
+use Rattle.flat_play.proofs.InTurn.{turns-none, turns-on, turns-more, turns-all}
 use Rattle.flat_play.proofs.Touching.{answered-none, answered-more, answered-all}
 use Rattle.flat_play.proofs.lemmas.GameSteps.{game_stays}
 use Rattle.flat_play.proofs.lemmas.Places.{setup_is}
@@ -19,6 +24,8 @@ loop-place-init g c = record {
   kinds = refl;
   same = refl;
   answered = answered-none _ _ _ _ c.requires.no_entry c.requires.no_answer c.requires.rise;
+  asked = (let P : List Entry → Type 0 = λ h. ProbesStand c.args.script.now 0 h c.args.answers.now.items in subst P (sym c.requires.no_entry) (probes-unasked c.args.script.now c.args.answers.now.items c.requires.unasked));
+  turns = turns-none c.args.script.now.setup.probes c.args.game.now.board.history c.args.answers.now.items c.requires.unasked;
 }
 
 pub answer_upto-requires-clause-setup : goal.answer_upto-requires-clause-setup
@@ -34,25 +41,57 @@ pub answer_all-requires-clause-is : goal.answer_all-requires-clause-is
 answer_all-requires-clause-is g c = c.loop-place.invariant.stands.answers.is_last
 
 pub play_line-requires-clause-stands : goal.play_line-requires-clause-stands
-play_line-requires-clause-stands g c = game_stays c.args.script.now c.loop-place.place c.loop-place.game _ c.in_ok-left.ensures.stays c.loop-place.invariant.stands
+play_line-requires-clause-stands g c =
+    let script = c.args.script.now in
+    let place = c.loop-place.place in
+    game_stays script place (record c.loop-place.game { last = c.answer_upto.new.last }) c.answer_line.new.last c.in_ok-answer_line.ensures.stays
+    (game_stays script place c.loop-place.game c.answer_upto.new.last c.in_ok-left.ensures.stays c.loop-place.invariant.stands)
+
+pub answer_line-requires-clause-setup : goal.answer_line-requires-clause-setup
+answer_line-requires-clause-setup g c = setup_is c.args.script.now c.requires.playable
+
+pub answer_line-requires-clause-is : goal.answer_line-requires-clause-is
+answer_line-requires-clause-is g c = c.in_ok-left.ensures.stays.is
+
+pub answer_line-requires-clause-known : goal.answer_line-requires-clause-known
+answer_line-requires-clause-known g c =
+    let script = c.args.script.now in
+    let at = at_place script c.loop-place.place c.at-line.result.now c.requires.playable c.at-line.ensures in
+    asked-within script c.loop-place.place c.at-line.result.now at c.loop-place.game.board.history c.loop-place.answers.items c.loop-place.invariant.asked
 
 pub loop-place-preserved : goal.loop-place-preserved
 loop-place-preserved g c =
     let script = c.args.script.now in
+    let place = c.loop-place.place in
     let was = c.loop-place.invariant in
     let now = c.in_ok-play_line.ensures in
+    let x = c.at-line.result.now in
+    let at = at_place script place x c.requires.playable c.at-line.ensures in
+    let old = c.loop-place.game.board.history in
+    let new = c.play_line.new.self.board.history in
+    let last = c.answer_upto.new.last in
+    let stays = c.in_ok-left.ensures.stays in
+    let number : last.frame.0 ≡ frames old = ap (λ (n : FrameNo). n.0) stays.frame ∙ was.stands.answers.number in
+    let showing = stays.reuse ∙ was.stands.answers.showing in
+    let on = now.goes_on x c.at-line.ensures in
+    let asks = c.in_ok-answer_line.ensures.answers in
     record {
       stands = now.stands;
-      seen = seen_line _ _ script.setup _ _ _ _ refl refl _ _ _ _ _ (omega (arith, was.number, was.same, c.requires.few)) now.shows was.seen;
+      seen = seen_line _ _ script.setup _ _ old new refl refl _ _ _ _ _ (omega (arith, was.number, was.same, c.requires.few)) now.shows was.seen;
       number = as_long _ _ _ c.play_line.ensures.kinds ∙ was.number ∙ sym c.play_line.ensures.same;
       kinds = c.play_line.ensures.kinds ∙ was.kinds;
       keeping = now.keeping ∙ was.keeping;
       same = c.play_line.ensures.same ∙ was.same;
       answered =
-          let at = at_place script c.loop-place.place c.at-line.result.now c.requires.playable c.at-line.ensures in
-          let A : ℕ → Type 0 = λ n. AreAnswered script.setup c.play_line.new.self.board.history n c.args.lines.now c.in_ok-left.left.now c.answer_upto.new.found.items in
+          let A : ℕ → Type 0 = λ n. AreAnswered script.setup new n c.args.lines.now c.in_ok-left.left.now c.answer_upto.new.found.items in
           subst A (sym at.last)
-          (answered-more script.setup _ _ _ _ _ _ was.answered was.stands.answers.showing c.at-line.result.now.number _ _ _ at.above c.in_ok-left.ensures.answers (now.goes_on c.at-line.result.now c.at-line.ensures));
+          (answered-more script.setup _ _ _ _ _ _ was.answered was.stands.answers.showing x.number _ _ _ at.above c.in_ok-left.ensures.answers on);
+      asked =
+          probes-on script (place + 1) x.number old new c.answer_line.new.answers.items on
+          (probes-more script place x at old last.reuse last.frame.0 number showing c.loop-place.answers.items c.answer_line.new.answers.items asks was.asked);
+      turns =
+          turns-on script place x at old new c.answer_line.new.answers.items on
+          (turns-more script place x at old (last_number 0 (take place script.lines)) at.above was.answered.entries last.reuse last.frame.0 number c.loop-place.answers.items c.answer_line.new.answers.items was.asked.count asks was.turns);
     }
 
 pub returns-clause-stands : goal.returns-clause-stands
@@ -64,6 +103,10 @@ returns-clause-stands g c =
 pub returns-clause-touches : goal.returns-clause-touches
 returns-clause-touches g c = answered-all _ _ _ _ _ _ _ c.loop-place.invariant.answered c.loop-place.invariant.stands.answers.showing _ c.in_ok-answer_all.ensures.answers
 
+pub returns-clause-probes : goal.returns-clause-probes
+returns-clause-probes g c =
+    probes-all c.args.script.now c.loop-place.place c.loop-place.game.board.history c.loop-place.answers.items (omega (arith, c.loop-place.auto.place-end, c.loop-place-test.false)) c.loop-place.invariant.asked
+
 pub returns-clause-seen : goal.returns-clause-seen
 returns-clause-seen g c = c.loop-place.invariant.seen
 
@@ -72,3 +115,11 @@ returns-clause-kept g c = kept_seen _ _ _ _ _ _ _ _ c.loop-place.invariant.kinds
 
 pub returns-in_err-play_line-clause-kept : goal.returns-in_err-play_line-clause-kept
 returns-in_err-play_line-clause-kept g c = kept_same _ _ _ _ _ _ (ap (λ v. v.items) c.in_err-play_line.ensures.unshown.1) (kept_seen _ _ _ _ _ _ _ _ c.loop-place.invariant.kinds c.loop-place.invariant.seen)
+
+pub returns-in_err-answer_line-clause-kept : goal.returns-in_err-answer_line-clause-kept
+returns-in_err-answer_line-clause-kept g c = kept_seen _ _ _ _ _ _ _ _ c.loop-place.invariant.kinds c.loop-place.invariant.seen
+
+pub returns-clause-in_turn : goal.returns-clause-in_turn
+returns-clause-in_turn g c =
+    turns-all c.args.script.now c.loop-place.place c.loop-place.game.board.history c.loop-place.answers.items (omega (arith, c.loop-place.auto.place-end, c.loop-place-test.false))
+    c.loop-place.invariant.asked.count c.loop-place.invariant.turns

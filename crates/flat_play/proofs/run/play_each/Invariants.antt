@@ -2,6 +2,7 @@ use Rattle.std.proofs.Common.{◌≡◌, length, map, take}
 use Rattle.flat_report.specs.Report.{finished}
 use Rattle.flat_play.specs.Keeping.{keeping_of}
 use Rattle.flat_play.specs.Playing.{GameStands, last_number}
+use Rattle.flat_play.specs.Probing.{ProbesStand, SeeInTurn}
 use Rattle.flat_play.specs.Touches.{AreAnswered}
 use Rattle.flat_play.specs.Showing.{HaveSeen}
 use Rattle.flat_play.proofs.run.play_each.Given as goal
@@ -15,4 +16,6 @@ invariant-loop-place g l = record {
   keeping : keeping_of l.game.kept ≡ keeping_of l.initial.game.kept;
   same : l.set.displays ≡ l.initial.set.displays;
   answered : AreAnswered l.script.setup l.game.board.history (last_number 0 (take l.place l.script.lines)) l.lines l.left l.found.items;
+  asked : ProbesStand l.script l.place l.game.board.history l.answers.items;
+  turns : SeeInTurn (take l.place l.script.lines) l.game.board.history l.answers.items;
 }

@@ -1,10 +1,18 @@
 use Rattle.std.proofs.Common.{refl}
+use Rattle.flat_play.proofs.InTurn.{turns-ended}
+use Rattle.flat_play.proofs.Probed.{probes-ended}
 use Rattle.flat_play.proofs.Touching.{answered-ended}
 use Rattle.flat_play.proofs.lemmas.Seen.{kept_none, seen_same}
 use Rattle.flat_play.proofs.run.play_touched.Goals as goal
 
 pub returns-clause-touches : goal.returns-clause-touches
 returns-clause-touches g c = answered-ended c.args.script.now.setup _ _ _ _ c.end_all.ensures.ends c.in_ok-game.ensures.touches
+
+pub returns-clause-probes : goal.returns-clause-probes
+returns-clause-probes g c = probes-ended c.args.script.now _ _ _ c.end_all.ensures.ends c.in_ok-game.ensures.probes
+
+pub returns-clause-in_turn : goal.returns-clause-in_turn
+returns-clause-in_turn g c = turns-ended c.args.script.now _ _ c.in_ok-game.field-0.probes.items c.end_all.ensures.ends c.in_ok-game.ensures.in_turn
 
 pub returns-clause-seen : goal.returns-clause-seen
 returns-clause-seen g c =

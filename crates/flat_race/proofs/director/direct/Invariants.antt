@@ -4,6 +4,7 @@ use Rattle.flat_report.specs.Report.{finished}
 use Rattle.flat_play.specs.Keeping.{keeping_of}
 use Rattle.flat_play.specs.Showing.{HaveSeen}
 use Rattle.flat_race.specs.Directing.{HandStands, hand_seat}
+use Rattle.flat_race.specs.Publishing.{PublishedStand}
 use Rattle.flat_race.proofs.director.direct.Given as goal
 
 abbrev pub invariant-loop-place : goal.invariant-loop-place
@@ -15,4 +16,6 @@ invariant-loop-place g l = record {
   kinds : map (λ b. b.vtable) l.displays.items ≡ map (λ b. b.vtable) l.initial.displays.items;
   keeping : keeping_of l.film.kept ≡ keeping_of l.initial.film.kept;
   same : l.film.set.displays ≡ l.initial.film.set.displays;
+  published : PublishedStand l.lent.script.now (history_of (hand_seat l.hand).seen) l.published;
+  home : l.published.home ≡ l.initial.published.home;
 }

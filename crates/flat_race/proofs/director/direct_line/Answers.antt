@@ -1,8 +1,7 @@
-use Rattle.std.proofs.Common.{rules, ◌≡◌, ℕ, ◌≤◌, true, [], ◌∷◌, ◌++◌, length, refl, ap, sym, ◌∙◌, subst, arith}
+use Rattle.std.proofs.Common.{rules, ◌≡◌, true, [], ◌∷◌, ◌++◌, refl, ap, sym, ◌∙◌, subst}
 use Rattle.flat_base.specs.declared.ids.Actor.TheVariants.{Display}
-use Rattle.flat_base.specs.declared.limits.TheConstants.{SESSIONS_MAX}
 use Rattle.flat_core.specs.Machines.{MayLook}
-use Rattle.flat_rules.specs.Legal.{frames, is_fence, names_declared}
+use Rattle.flat_rules.specs.Legal.{is_fence, names_declared}
 use Rattle.flat_rules.specs.Owned.{is_played_display}
 use Rattle.flat_scene.specs.declared.journal.Kind.TheVariants.{Begin, Hit, Signal, Wait}
 use Rattle.flat_scene.specs.declared.journal.Reply.TheVariants.{Done}
@@ -15,7 +14,7 @@ use Rattle.flat_scene.specs.History.{history_of}
 use Rattle.flat_topology.specs.Hits.{hit_list}
 use Rattle.flat_play.specs.Last.{StaysLast}
 use Rattle.flat_stage.specs.Displays.{DisplayEnters}
-use Rattle.flat_stage.specs.Seats.{StageView, setup_of}
+use Rattle.flat_stage.specs.Seats.{setup_of}
 use Rattle.flat_play.proofs.lemmas.Places.{setup_is}
 use Rattle.flat_report.specs.Report.{finished}
 use Rattle.flat_play.specs.Showing.{IsShown}
@@ -25,7 +24,9 @@ use Rattle.flat_play.proofs.lemmas.Steps.{At, at_place}
 use Rattle.flat_race.specs.declared.hand.Hand.{Hand}
 use Rattle.flat_race.specs.declared.hand.Hand.TheVariants.{Idle, Open}
 use Rattle.flat_race.specs.Directing.{HandStands, hand_seat}
-use Rattle.flat_race.proofs.HandSteps.{begins_idle, finished_still, finished_then, finishes_open, frames_few, looked_finishes, shown_as, hand_begins, hand_finishes, hand_hits, hand_looks, hand_room, hand_signals, hand_waits, looked_there, time_fits, wait_fits}
+use Rattle.flat_race.specs.Publishing.{FinishesOne}
+use Rattle.flat_race.proofs.Finishing.{finishes_then}
+use Rattle.flat_race.proofs.HandSteps.{begins_idle, finished_still, finished_then, finishes_open, frames_few, looked_beside, looked_finishes, publishes_still, publishes_then, shown_as, hand_begins, hand_finishes, hand_hits, hand_looks, hand_room, hand_signals, hand_waits, looked_there, time_fits, wait_fits}
 use Rattle.flat_race.proofs.director.direct_line.Goals as goal
 
 pub into_seat-requires : goal.into_seat-requires
@@ -265,3 +266,52 @@ returns-in_ok-hit-in-Hit-clause-shown g c =
     let at : At script c.args.place x = at_place script c.args.place x c.requires.playable c.requires.line in
     let entered : DisplayEnters c.args.number (Hit c.in-Hit.x c.in-Hit.y) Done (hand_seat c.args.hand) (hand_seat c.hit.new.hand) = search rules in
     IsShown.shows_none (finished_still script view c.args.place x at refl c.requires.of (Hit c.in-Hit.x c.in-Hit.y) Done (hand_seat c.args.hand) (hand_seat c.hit.new.hand) refl c.requires.stands.seat entered) (ap (λ (f : Film). f.set) c.in_ok-hit-in-Hit.ensures.others) refl
+
+pub returns-in-Begin-clause-finishes : goal.returns-in-Begin-clause-finishes
+returns-in-Begin-clause-finishes g c =
+    let script = c.args.lent.now.script.now in
+    let view = c.args.lent.now.stage.now in
+    let x : ScriptLine = record { number = c.args.number; actor = Display; body = body.Display c.args.text } in
+    let at : At script c.args.place x = at_place script c.args.place x c.requires.playable c.requires.line in
+    let idle : HandStands script view c.args.place (Idle c.into_seat.result) c.args.film.now = subst (λ (h : Hand). HandStands script view c.args.place h c.args.film.now) (sym c.into_seat.ensures) c.requires.stands in
+    subst (λ (h : Hand). FinishesOne script.setup (history_of (hand_seat h).seen) (history_of c.begin-frame.result.display.seen)) c.into_seat.ensures
+    (publishes_still script view c.args.place x at refl c.requires.of (Begin c.in-Begin.time) Done c.into_seat.result c.begin-frame.result.display refl idle.seat c.begin-frame.ensures.enters)
+
+pub returns-in_ok-seat-in-Done-clause-finishes : goal.returns-in_ok-seat-in-Done-clause-finishes
+returns-in_ok-seat-in-Done-clause-finishes g c =
+    let script = c.args.lent.now.script.now in
+    let view = c.args.lent.now.stage.now in
+    let x : ScriptLine = record { number = c.args.number; actor = Display; body = body.Display c.args.text } in
+    let at : At script c.args.place x = at_place script c.args.place x c.requires.playable c.requires.line in
+    let held : HandStands script view c.args.place (Open c.into_frame-frame.result) c.args.film.now = subst (λ (h : Hand). HandStands script view c.args.place h c.args.film.now) (sym c.into_frame-frame.ensures) c.requires.stands in
+    subst (λ (h : Hand). FinishesOne script.setup (history_of (hand_seat h).seen) (history_of c.in_ok-seat-in-Done.seat.seen)) c.into_frame-frame.ensures
+    (publishes_then script view c.args.place x at refl c.requires.of c.into_frame-frame.result.display c.in_ok-seat-in-Done.seat held.seat c.in_ok-seat-in-Done.ensures.enters)
+
+pub returns-in-Signal-clause-finishes : goal.returns-in-Signal-clause-finishes
+returns-in-Signal-clause-finishes g c =
+    let script = c.args.lent.now.script.now in
+    let view = c.args.lent.now.stage.now in
+    let x : ScriptLine = record { number = c.args.number; actor = Display; body = body.Display c.args.text } in
+    let at : At script c.args.place x = at_place script c.args.place x c.requires.playable c.requires.line in
+    publishes_still script view c.args.place x at refl c.requires.of (Signal c.in-Signal.f) c.signal-reply.result (hand_seat c.args.hand) (hand_seat c.signal-reply.new.self) refl c.requires.stands.seat c.signal-reply.ensures.enters
+
+pub returns-in-Wait-clause-finishes : goal.returns-in-Wait-clause-finishes
+returns-in-Wait-clause-finishes g c =
+    let script = c.args.lent.now.script.now in
+    let view = c.args.lent.now.stage.now in
+    let x : ScriptLine = record { number = c.args.number; actor = Display; body = body.Display c.args.text } in
+    let at : At script c.args.place x = at_place script c.args.place x c.requires.playable c.requires.line in
+    let there = looked_there _ _ _ _ c.requires.of.setup c.look_again.ensures.looked in
+    let looked = hand_looks script view c.args.place c.args.hand c.look_again.new.hand c.args.film.now there c.requires.stands in
+    finishes_then script.setup (history_of (hand_seat c.args.hand).seen) (history_of (hand_seat c.look_again.new.hand).seen) (history_of (hand_seat c.wait-reply.new.self).seen)
+    (looked_beside script view c.args.place c.args.hand c.look_again.new.hand c.args.film.now there c.requires.stands)
+    (publishes_still script view c.args.place x at refl c.requires.of (Wait c.in-Wait.c) c.wait-reply.result (hand_seat c.look_again.new.hand) (hand_seat c.wait-reply.new.self) refl looked.seat c.wait-reply.ensures.enters)
+
+pub returns-in_ok-hit-in-Hit-clause-finishes : goal.returns-in_ok-hit-in-Hit-clause-finishes
+returns-in_ok-hit-in-Hit-clause-finishes g c =
+    let script = c.args.lent.now.script.now in
+    let view = c.args.lent.now.stage.now in
+    let x : ScriptLine = record { number = c.args.number; actor = Display; body = body.Display c.args.text } in
+    let at : At script c.args.place x = at_place script c.args.place x c.requires.playable c.requires.line in
+    let entered : DisplayEnters c.args.number (Hit c.in-Hit.x c.in-Hit.y) Done (hand_seat c.args.hand) (hand_seat c.hit.new.hand) = search rules in
+    publishes_still script view c.args.place x at refl c.requires.of (Hit c.in-Hit.x c.in-Hit.y) Done (hand_seat c.args.hand) (hand_seat c.hit.new.hand) refl c.requires.stands.seat entered

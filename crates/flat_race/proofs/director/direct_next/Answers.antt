@@ -1,6 +1,4 @@
-use Rattle.std.proofs.Common.{◌≡◌, refl, sym, ap, ◌∙◌, subst, Some, slice_get}
-use Rattle.flat_scene.specs.declared.script.Body.TheVariants as body
-use Rattle.flat_scene.specs.declared.script.ScriptLine.{ScriptLine}
+use Rattle.std.proofs.Common.{inl, refl}
 use Rattle.flat_play.specs.Showing.{IsShown}
 use Rattle.flat_play.proofs.lemmas.Steps.{At, at_place}
 use Rattle.flat_race.proofs.HandSteps.{display_line_at, hand_other}
@@ -18,6 +16,7 @@ returns-in_default g c =
     let at : At c.args.lent.now.script.now c.args.place x = at_place c.args.lent.now.script.now c.args.place x c.requires.playable c.at-line.ensures in
     record {
       stands = hand_other c.args.lent.now.script.now c.args.lent.now.stage.now c.args.place x at (λ text is. c.in_default.not-Display text is) c.args.hand c.args.film.now c.requires.stands;
+      finishes = inl (refl, refl);
       shown = IsShown.shows_none refl refl refl;
       keeping = refl;
       unshown = tt;

@@ -1,8 +1,7 @@
-use Rattle.std.proofs.Common.{◌≡◌, ◌∙◌}
-use Rattle.flat_core.specs.Machines.{Machine}
+use Rattle.std.proofs.Common.{◌∙◌}
 use Rattle.flat_play.proofs.lemmas.Places.{setup_is}
 use Rattle.flat_play.proofs.lemmas.Starting.{few_sessions}
-use Rattle.flat_race.proofs.Closing.{IsClosed, all_home, as_many, has_played, same_frames}
+use Rattle.flat_race.proofs.Closing.{IsClosed, all_home, all_probed, as_many, has_played, same_frames}
 use Rattle.flat_race.proofs.race.close.Goals as goal
 
 pub close-board-requires-clause-home : goal.close-board-requires-clause-home
@@ -29,3 +28,10 @@ returns-clause-frames c =
     let made = c.close-board.ensures in
     let closed : IsClosed c.args.ended.compositor c.args.ended.seats c.close-board.result = record { display = made.compositor; sessions = made.sessions; legal = made.legal } in
     same_frames script c.args.stage c.args.ended.compositor c.args.ended.seats c.args.ended.film c.requires.ended c.close-board.result closed (made.fixed.0 ∙ c.requires.of.setup) (few_sessions script.setup (setup_is script c.requires.playable))
+
+pub returns-clause-probes : goal.returns-clause-probes
+returns-clause-probes c =
+    let script = c.args.script.now in
+    let made = c.close-board.ensures in
+    let closed : IsClosed c.args.ended.compositor c.args.ended.seats c.close-board.result = record { display = made.compositor; sessions = made.sessions; legal = made.legal } in
+    all_probed script c.args.stage c.args.ended.compositor c.args.ended.seats c.args.ended.film c.requires.ended c.close-board.result closed (made.fixed.0 ∙ c.requires.of.setup) (few_sessions script.setup (setup_is script c.requires.playable))

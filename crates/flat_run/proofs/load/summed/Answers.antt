@@ -1,6 +1,7 @@
 use Rattle.std.proofs.Common.{◌≡◌, List, ap, sym, ◌∙◌}
 use Rattle.flat_base.specs.Last.{last_item}
 use Rattle.flat_scene.specs.declared.journal.Entry.{Entry}
+use Rattle.flat_report.specs.Probes.{frames_seen}
 use Rattle.flat_report.specs.Report.{finished}
 use Rattle.flat_stress.specs.Load.{load_text}
 use Rattle.flat_stress.specs.Summary.{summary_line}
@@ -23,12 +24,14 @@ returns-clause-told g c =
     let played = c.in_ok-played.ensures.played in
     let journal = c.journal-journal.ensures in
     let asked = load_asked (plain script) board _ _ playable played c.args.frames journal.legal (c.loads_have_their_frames.ensures c.args.frames script c.requires.first c.requires.last c.requires.read) in
-    let ran = has_run (plain script) board _ _ playable played _ _ (Stress c.args.frames) lost _ _ (λ no_race. c.in_ok-played.ensures.written) c.in_ok-played.ensures.seen c.families_are_alone.ensures journal.legal asked tt in
+    let probes = c.in_ok-played.played.probes.items in
+    let seeing = c.frames_are_seen.ensures script board.history probes c.in_ok-played.ensures.probes in
+    let ran = has_run (plain script) board _ _ playable played _ _ (Stress c.args.frames) lost (frames_seen probes) _ _ (λ no_race. c.in_ok-played.ensures.written) (λ no_race. c.in_ok-played.ensures.in_turn) c.in_ok-played.ensures.seen c.families_are_alone.ensures journal.legal asked tt seeing in
     let had = have_had (plain script) board _ _ playable played _ _ lost _ _ c.in_ok-played.ensures.seen in
     if_ok (λ text. text.items ≡ summary_line c.totals_of-totals.result) _ c.summary.result
     (λ text is. (
       record {
-        ran = ran_of (plain script) board.history lost;
+        ran = ran_of (plain script) board.history lost (frames_seen probes);
         read = ap (read_as plain) c.requires.read;
         has_run = ran;
         is = is ∙ ap summary_line c.totals_of-totals.ensures ∙ ap (λ (h : List Entry). summary_line (totals_of c.args.frames script.setup h)) journal.entries;

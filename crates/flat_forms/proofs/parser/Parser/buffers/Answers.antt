@@ -27,6 +27,7 @@ returns-clause-kept c =
         fences = had.fences;
       };
       sessions = c.requires.sessions;
+      probes = c.requires.probes;
       paired = c.requires.paired;
       begins = c.requires.begins;
       dones = c.requires.dones;

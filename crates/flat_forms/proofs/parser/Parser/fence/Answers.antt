@@ -27,6 +27,7 @@ returns-clause-kept c =
         fences = one_longer old.fences c.push-2.new.self c.new.result c.len-number.result 4096 c.in_ok-push-2.ensures.ok c.len-number.ensures read.allowed;
       };
       sessions = c.requires.sessions;
+      probes = c.requires.probes;
       paired = c.requires.paired;
       begins = c.requires.begins;
       dones = c.requires.dones;

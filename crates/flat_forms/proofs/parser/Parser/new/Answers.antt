@@ -17,6 +17,7 @@ returns-clause-kept c =
         fences = lit≤ tt;
       };
       sessions = refl;
+      probes = refl;
       paired = refl;
       begins = refl;
       dones = refl;

@@ -30,6 +30,7 @@ returns-clause-kept c =
         fences = had.fences;
       };
       sessions = c.requires.sessions;
+      probes = c.requires.probes;
       paired = any_more (λ p. is_actor Display p.viewport) old.setup.pairs c.push.new.self c.in_ok-name.decl _ _ c.in_ok-push.ensures.ok c.requires.paired c.or_display-self.ensures;
       begins = c.requires.begins;
       dones = c.requires.dones;

@@ -1,20 +1,20 @@
 use Rattle.std.proofs.Common.{◌+◌, ◌∷◌, [], nat_lt, length, refl, sym, ◌∙◌, ap, length-append}
 use Rattle.flat_text.specs.Pieces.{is_space, pieces_left}
 use Rattle.flat_places.proofs.lemmas.NameLemmas.{is_name-short}
-use Rattle.flat_forms.proofs.DeclareLemmas.{session_declares, one_longer, sessions_found}
+use Rattle.flat_forms.proofs.DeclareLemmas.{name_declares, one_longer, sessions_found}
 use Rattle.flat_forms.proofs.parser.Parser.session.Goals as goal
 
 pub new-requires : goal.new-requires
-new-requires c = let read = session_declares c.args.self.now.text.script (pieces_left is_space c.args.words) (nat_lt c.len-number.result 16) c.in_ok-name.name.now c.in_ok-name.ensures in is_name-short c.in_ok-name.name.now read.fresh.name
+new-requires c = let read = name_declares c.args.self.now.text.script (pieces_left is_space c.args.words) (nat_lt c.len-number.result 16) c.in_ok-name.name.now c.in_ok-name.ensures in is_name-short c.in_ok-name.name.now read.fresh.name
 
 pub declare-requires-clause-name : goal.declare-requires-clause-name
-declare-requires-clause-name c = let read = session_declares c.args.self.now.text.script (pieces_left is_space c.args.words) (nat_lt c.len-number.result 16) c.in_ok-name.name.now c.in_ok-name.ensures in read.fresh.name
+declare-requires-clause-name c = let read = name_declares c.args.self.now.text.script (pieces_left is_space c.args.words) (nat_lt c.len-number.result 16) c.in_ok-name.name.now c.in_ok-name.ensures in read.fresh.name
 
 pub returns-clause-kept : goal.returns-clause-kept
 returns-clause-kept c =
     let old = c.args.self.now.text.script in
     let had = c.requires.indexed in
-    let read = session_declares c.args.self.now.text.script (pieces_left is_space c.args.words) (nat_lt c.len-number.result 16) c.in_ok-name.name.now c.in_ok-name.ensures in
+    let read = name_declares c.args.self.now.text.script (pieces_left is_space c.args.words) (nat_lt c.len-number.result 16) c.in_ok-name.name.now c.in_ok-name.ensures in
     record {
       indexed = record {
         only = c.in_ok-declare.ensures.only;
@@ -27,6 +27,7 @@ returns-clause-kept c =
         fences = had.fences;
       };
       sessions = ap (λ n. n + 1) c.requires.sessions ∙ sym (ap length c.in_ok-push.ensures.ok ∙ length-append old.sessions (c.new.result ∷ []));
+      probes = c.requires.probes;
       paired = c.requires.paired;
       begins = c.requires.begins;
       dones = c.requires.dones;

@@ -21,6 +21,7 @@ returns-clause-kept c =
         fences = kept.indexed.fences;
       };
       sessions = kept.sessions;
+      probes = kept.probes;
       paired = kept.paired;
       begins = begins_more lines c.push.new.self _ old.begins c.one_if.result pushed kept.begins (c.one_if.ensures ∙ ap (λ b. cond b 1 0) c.is_some.ensures ∙ ap (λ o. cond (is_some o) 1 0) c.time_begun-begun.ensures);
       dones = dones_more lines c.push.new.self _ old.dones c.one_if-2.result pushed kept.dones (c.one_if-2.ensures ∙ ap (λ b. cond b 1 0) c.ends_frame.ensures);

@@ -1,6 +1,6 @@
 use Rattle.flat_places.specs.Places.{new_name}
 use Rattle.flat_places.proofs.lemmas.ReadsLemmas.{read_unless, mapped_finished}
-use Rattle.flat_forms.proofs.forms.new_session.Goals as goal
+use Rattle.flat_forms.proofs.forms.lone_name.Goals as goal
 
 pub returns : goal.returns
 returns c = read_unless (new_name c.args.script.now.script) 11 c.args.room c.new-places.result c.new-places.ensures.words c.new-places.ensures.sofar

@@ -1,0 +1,185 @@
+ghost use Rattle.std.specs.Prelude.{◌≡◌, ◌<◌, true, [], length, replicate, Some, List, IfOk, OnOk};
+ghost use Rattle.flat_playable.specs.Playable.{is_playable};
+ghost use Rattle.flat_scene.specs.declared.script.ScriptLine.{ScriptLine};
+ghost use Rattle.flat_scene.specs.Setups.{is_setup};
+ghost use Rattle.flat_play.specs.Last.{IsLast, StaysLast};
+ghost use Rattle.flat_publish.specs.Frames.{last_number};
+ghost use Rattle.flat_publish.specs.State.{newcomer};
+ghost use Rattle.flat_report.specs.Probes.{AreAnsweredBy};
+ghost use Rattle.flat_race.specs.Probing.{AreAnswered, AreProbesOut, HasAsked, IsProbeOut};
+ghost use Rattle.flat_race.specs.Publishing.{LastIsPublished, hits_of};
+
+use crate::gate::Gate;
+use crate::lent::Lent;
+use crate::probe::{Asking, ProbeBack, run};
+use crate::settling::settle;
+use flat_base::NoMemory;
+use flat_places::Script;
+use flat_play::LastFrame;
+use flat_publish::{BookMark, Probe, ProbeSeats, Published};
+use flat_report::ProbeAnswers;
+use std::alloc::Global;
+use std::collections::VecDeque;
+use std::thread::{Promise, PromisedHandle, Scope, Threads};
+
+/// What a probe's thread promises of what it hands back.
+#[derive(Drop)]
+pub(crate) struct Asked<'a> {
+    script: &'a Script,
+    home: BookMark,
+    probe: u32,
+}
+
+impl<'a> Promise<ProbeBack> for Asked<'a> {
+    ghost use Rattle.flat_race.specs.Probing.{HasAsked};
+
+    ghost kept_by = { λ p r. HasAsked p.script.now p.home p.probe r };
+}
+
+/// A probe that is out: a thread has it, or it was run here.
+#[derive(Drop)]
+pub(crate) enum ProbeOut<'a> {
+    Thread(PromisedHandle<ProbeBack, Asked<'a>>),
+    Here(ProbeBack),
+}
+
+impl<'a> ProbeOut<'a> {
+    /// Waits until the probe's run is over.
+    fn wait<R: Threads, G>(self, lent: &Lent<R, G>, published: &Published, probe: u32) -> ProbeBack
+        requires { IsProbeOut lent.now.script.now published.now.home probe self }
+        ensures { HasAsked lent.now.script.now published.now.home probe result }
+    {
+        match self {
+            ProbeOut::Thread(handle) => handle.join(lent.rt),
+            ProbeOut::Here(back) => back,
+        }
+    }
+}
+
+/// Runs a probe on a thread of its own, or here where none can be started.
+fn start<'s, E, G: Gate>(
+    scope: &Scope<'s, E>,
+    alloc: Global,
+    script: &'s Script,
+    gate: &'s G,
+    home: BookMark,
+    seat: Probe,
+    probe: u32,
+) -> ProbeOut<'s>
+    requires playable { is_playable script.now ≡ true }
+    requires home { seat.home ≡ home }
+    ensures { IsProbeOut script.now home probe result }
+{
+    match scope.spawn_with(
+        Asked {
+            script,
+            home,
+            probe,
+        },
+        move || -> ProbeBack
+            requires { is_playable script.now ≡ true }
+            ensures { HasAsked script.entry.now seat.home probe result }
+        {
+            let asking = Asking {
+                alloc,
+                script,
+                gate,
+                probe,
+            };
+            run(&asking, seat)
+        },
+    ) {
+        Ok(handle) => ProbeOut::Thread(handle),
+        Err(refused) => ProbeOut::Here((refused.value)()),
+    }
+}
+
+/// Starts each probe, the first one first.
+pub(crate) fn start_probes<'s, E, R: Threads, G: Gate>(
+    scope: &Scope<'s, E>,
+    lent: &Lent<'s, R, G>,
+    published: &Published,
+    probes: &mut ProbeSeats,
+) -> Result<VecDeque<ProbeOut<'s>>, NoMemory>
+    requires playable { is_playable lent.now.script.now ≡ true }
+    requires fresh { probes.old ≡ replicate lent.now.script.now.setup.probes (Some (newcomer published.now.home)) }
+    ensures out { IfOk result (λ out. AreProbesOut lent.now.script.now published.now.home 0 out.items) }
+    ensures many { IfOk result (λ out. length out.items ≡ lent.now.script.now.setup.probes) }
+{
+    let count = lent.script.setup.probes;
+    let mut out = VecDeque::with_capacity(lent.alloc, count as usize)?;
+    for probe in 0..count {
+        let Some(seat) = probes.take(probe) else {
+            unreachable!()
+        };
+        let started = start(
+            scope,
+            lent.alloc,
+            lent.script,
+            lent.gate,
+            published.home(),
+            seat,
+            probe,
+        );
+        out.push_back_reserved(started);
+    }
+    Ok(out)
+}
+
+/// A probe that came to its end meets what was published, whose last frame is the last
+/// finished one, and its answers are held against that.
+fn meet<R, G>(
+    lent: &Lent<R, G>,
+    published: &mut Published,
+    last: &mut LastFrame,
+    back: ProbeBack,
+) -> Result<ProbeAnswers, NoMemory>
+    requires setup { is_setup lent.now.script.now.setup ≡ true }
+    requires is { IsLast lent.now.script.now.setup last.old }
+    requires home { back.probe.home ≡ published.old.home }
+    requires last { LastIsPublished lent.now.script.now.setup last.old published.old }
+    ensures same { published.new ≡ published.old }
+    ensures stays { OnOk result (StaysLast lent.now.script.now.setup last.old last.new) }
+    ensures answered { (lines : List ScriptLine)
+        → (back.is_whole ≡ true → AreAnsweredBy (hits_of back.probe.frames) (last_number back.probe.frames) lines back.answers)
+        → IfOk result (λ answers. AreAnsweredBy (hits_of published.old.frames) (last_number published.old.frames) lines answers) }
+{
+    let ProbeBack {
+        mut probe,
+        mut answers,
+        is_whole,
+    } = back;
+    if !is_whole {
+        return Err(NoMemory);
+    }
+    published.meet(&mut probe)?;
+    probe.frame()?;
+    settle(lent.alloc, &lent.script.setup, last, &mut answers)?;
+    Ok(answers)
+}
+
+/// Waits for each probe, the first one first, and answers what each was answered.
+pub(crate) fn meet_each<'s, R: Threads, G>(
+    lent: &Lent<R, G>,
+    published: &mut Published,
+    last: &mut LastFrame,
+    mut out: VecDeque<ProbeOut<'s>>,
+) -> Result<Vec<ProbeAnswers>, NoMemory>
+    requires playable { is_playable lent.now.script.now ≡ true }
+    requires is { IsLast lent.now.script.now.setup last.old }
+    requires last { 0 < lent.now.script.now.setup.probes → LastIsPublished lent.now.script.now.setup last.old published.old }
+    requires out { AreProbesOut lent.now.script.now published.old.home 0 out.items }
+    requires many { length out.items ≡ lent.now.script.now.setup.probes }
+    ensures answered { IfOk result (λ answers. AreAnswered lent.now.script.now (record { home = published.old.home; frames = published.old.frames }) lent.now.script.now.setup.probes answers.items) }
+    ensures stays { OnOk result (StaysLast lent.now.script.now.setup last.old last.new) }
+    ensures same { published.new ≡ published.old }
+{
+    let mut answers = Vec::new(lent.alloc);
+    let mut probe = 0;
+    while let Some(next) = out.pop_front() {
+        let back = next.wait(lent, published, probe);
+        answers.push(meet(lent, published, last, back)?)?;
+        probe += 1;
+    }
+    Ok(answers)
+}
