@@ -141,17 +141,6 @@ impl Model for BookMark {
     ghost view = { λ m. m.seen.book };
 }
 
-impl BookMark {
-    /// One more of the same book.
-    pub fn again(&self) -> BookMark
-        ensures { result ≡ self.now }
-    {
-        BookMark {
-            seen: self.seen.again(),
-        }
-    }
-}
-
 /// Who publishes frames. Contracts see the book of all frames, which of them are
 /// published, those that were refused since then and that the next publish may add
 /// before its own, and the greatest number given.

@@ -1,8 +1,11 @@
 //! The rules of the scene service: which histories are legal, what is told to whom
 //! and when, and which events are posted; with the laws about them.
 //!
-//! Other crates may cite the lemmas of proofs/lemmas/: steps of histories and lists,
-//! what stays the same, and what is local to a family.
+//! Other crates may cite the lemmas of proofs/lemmas/: steps of histories and lists
+//! (AllOrSome, FrameKinds, ListLemmas, MoreRuns, Runs, ShownList, ShownSteps, Watchers),
+//! what stays the same (Quiet, SameWatchers, Still), what is local to a family (EventsLocal,
+//! Locality, RepliesLocal, WatchLocal), what a session owns (Owned, OwnedTree, ShownOwned),
+//! and small histories (Samples, ShellRun).
 #![tactic(auto)]
 
 mod answers;

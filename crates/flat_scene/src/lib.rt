@@ -1,8 +1,9 @@
 //! The plain data of the scene service: calls, script lines, trees, entries,
 //! events and frames, with the definitions of what they mean.
 //!
-//! Other crates may cite the lemmas of proofs/lemmas/: steps of a history, members of
-//! a family, what presents show and take.
+//! Other crates may cite the lemmas of proofs/lemmas/: steps of a history (Steps), members
+//! of a family (Members, FamilyLeast), what presents show (Presented) and take
+//! (TakingLemmas), ways that come back (CycleLemmas).
 #![tactic(auto)]
 
 mod calls;

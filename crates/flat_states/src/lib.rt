@@ -3,8 +3,13 @@
 //! live and the tokens that are out (viewports), and by what the ends of pairs are told
 //! (ties). Each part stands for a history by a record of its own (specs/).
 //!
-//! Other crates may cite the lemmas of proofs/lemmas/: what the board's other parts
-//! take of sessions, pairs and ties.
+//! Other crates may cite the lemmas of proofs/lemmas/:
+//! - of histories: Between, Earlier, Serials, ShownFits, TokenLaw, Uses, ViewHistory, ViewLaw;
+//! - of drafts: LiveCounts, Lives, ViewCalls;
+//! - of what is kept of one session: Changes, Counts, Ones, StampSteps, Stamped, ViewSteps;
+//! - of tokens: Backs, Marks, TokensBack;
+//! - of pairs and ties: HasView, PairIdle, PairSteps, TiesSteps, Unwatched, WithView;
+//! - of all that is kept: BeginLoop, Entered, Opened, Steps.
 #![tactic(auto)]
 
 mod clears;

@@ -1,3 +1,10 @@
+//! What is told of the ends of a pair, by stamps.
+//!
+//! Why stamps: a call works when a frame takes the present behind it, and many presents
+//! may wait. So what a call does isn't queued until then. It leaves a stamp, which is how
+//! many presents its session had made before; a frame has seen it exactly where it took
+//! more presents than that. So a frame counts what it takes, looks at no call again, and
+//! goes through no pair of which nobody asks.
 ghost use Rattle.std.specs.Prelude.{◌≡◌};
 ghost use Rattle.flat_rules.specs.Stamps.{is_seen, stamp_then};
 ghost use Rattle.flat_states.specs.Views.{layout_by, status_by, child_by};
