@@ -6,10 +6,13 @@
 //! Others).
 #![tactic(auto)]
 
+mod fills;
+mod images;
 mod laws;
 mod limits;
 mod stored;
 mod table;
+mod viewports;
 
 pub use laws::content_laws;
 pub use stored::{Stored, StoredFill, StoredImage};

@@ -11,9 +11,11 @@ mod graph;
 mod laws;
 mod names;
 mod nodes;
+mod setters;
 mod shapes;
 
 pub use graph::Graph;
 pub use laws::graph_laws;
 pub use names::{Named, add_name, key_of, put_name, remove_name};
 pub use nodes::{GraphNode, KeyList};
+pub use shapes::is_bad_rect;
