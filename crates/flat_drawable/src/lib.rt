@@ -1,5 +1,7 @@
 //! Which draw items can be drawn: what a renderer asks of each of them, and the
 //! test of it; and whether two are equal.
+//!
+//! `are_drawable` answers `IsDrawable` of each item (specs/Drawable), `is_same` equality.
 #![tactic(auto)]
 
 ghost use Rattle.std.specs.Prelude.{◌≡◌, ◌↔◌, IsTrue, All};

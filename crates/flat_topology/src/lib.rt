@@ -7,6 +7,9 @@
 //! `specs/`: which sessions are connected, where each node is placed, what is
 //! drawn, the view tree, and what a point hits.
 //!
+//! `join` (joining, walk, scope) answers `joined_lists` (specs/Connected), and
+//! `Shown::find_connected` (distances) `AreDistances` (specs/Distances).
+//!
 //! Other crates may cite the lemmas of proofs/lemmas/: lists without repeats,
 //! distances from the display, and the nodes of a state (Distances, Distinct,
 //! Rooted).

@@ -1,4 +1,7 @@
 //! The view tree: who is shown below whom, and who is apart.
+//!
+//! `tree_of` and `view_tree` answer what specs/Trees says; specs/Laws says that it is the
+//! view tree of the shown states.
 #![tactic(auto)]
 
 ghost use Rattle.std.specs.Prelude.{◌≡◌, ◌+◌, ◌<◌, ◌≤◌, ◌++◌, IfOk, map};
