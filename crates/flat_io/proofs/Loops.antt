@@ -5,11 +5,11 @@ use Rattle.std.proofs.lemmas.List.{length-drop}
 use Rattle.flat_io.specs.Told.{WhereTold, Takes, Appends}
 use Rattle.flat_io.specs.Whole.{Given}
 
--- a text is being read: the bytes so far are what was given, each by one read at most
+-- a text is being read: the bytes so far are what was given, each by one read at most, of which none failed
 pub record Reading (left left' : Option (List ℕ)) (text : List ℕ) (limit failed failed' made made' buffer : ℕ) : Type 0 where
   pub within : length text ≤ limit
   pub given : WhereTold left left' (λ before after. before ≡ text ++ after)
-  pub faults : failed ≤ failed'
+  pub faults : failed' ≡ failed
   pub reads : made' ≤ made + length text
   pub room : 0 < buffer
 

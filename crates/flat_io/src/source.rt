@@ -1,4 +1,4 @@
-ghost use Rattle.std.specs.Prelude.{◌≡◌, ℕ, ◌+◌, ◌<◌, ◌≤◌, [], length, List, Option, None, IsTrue, IfOk, OnErr};
+ghost use Rattle.std.specs.Prelude.{◌≡◌, ℕ, ◌+◌, ◌<◌, ◌≤◌, [], length, List, Option, None, IsTrue, IfOk, OnOk, OnErr};
 ghost use Rattle.flat_io.specs.Counts.{has_risen};
 ghost use Rattle.flat_io.specs.Told.{WhereTold, Takes};
 
@@ -23,7 +23,8 @@ pub trait Source {
     /// behind that number is not said.
     ///
     /// `Failed` comes only where the count of faults rose in this call (a count
-    /// that stands at its end counts as risen); then what is left is as before.
+    /// that stands at its end counts as risen); then what is left is as before. A
+    /// read that doesn't fail leaves that count as it was.
     fn read(&mut self, into: &mut [u8]) -> Result<usize, Failed>
         ensures within { IfOk result (λ count. count ≤ length into.old) }
         ensures taken { IfOk result (λ count. Takes count into.new (left self.old) (left self.new)) }
@@ -31,5 +32,6 @@ pub trait Source {
         ensures failed { OnErr result (IsTrue (has_risen (faults self.old) (faults self.new))) }
         ensures same { OnErr result (left self.new ≡ left self.old) }
         ensures faults { faults self.old ≤ faults self.new }
+        ensures steady { OnOk result (faults self.new ≡ faults self.old) }
         ensures reads { reads self.new ≤ reads self.old + 1 };
 }

@@ -1,4 +1,4 @@
-ghost use Rattle.std.specs.Prelude.{◌≡◌, ◌+◌, ◌≤◌, [], length, IfOk, IfErr, OnOk, OnErr, IsTrue, MatchResult, ◌||◌};
+ghost use Rattle.std.specs.Prelude.{◌≡◌, ◌≢◌, ◌+◌, ◌≤◌, [], length, IfOk, IfErr, OnOk, OnErr, IsTrue, MatchResult, ◌||◌};
 ghost use Rattle.flat_io.specs.Counts.{has_risen};
 ghost use Rattle.flat_io.specs.Told.{Appends};
 ghost use Rattle.flat_io.specs.Whole.{Given, AppendsPrefix, IsTooLong};
@@ -39,14 +39,16 @@ const CHUNK: usize = 65_536;
 /// `limit + 1` reads.
 ///
 /// `TooLong` comes exactly where more than `limit` bytes were given in this call,
-/// and `Fault` only where the count of faults rose. Whatever the answer, a prefix
-/// of what was left was taken: all of it and no more after an Ok.
+/// and `Fault` only where the count of faults rose; after any other answer that count
+/// is as it was. Whatever the answer, a prefix of what was left was taken: all of it
+/// and no more after an Ok.
 pub fn read_all<R: Source>(alloc: Global, source: &mut R, limit: usize) -> Result<Vec<u8>, ReadAll>
     ensures within { IfOk result (λ text. length text.items ≤ limit) }
     ensures whole { IfOk result (λ text. Given (R.left source.old) (R.left source.new) (λ given after. (given ≡ text.items) × (after ≡ []))) }
     ensures refused { IfErr result (λ why. Given (R.left source.old) (R.left source.new) (λ given _. IsTooLong limit (length given) why)) }
     ensures fault { result ≡ Err ReadAll.Fault → IsTrue (has_risen (R.faults source.old) (R.faults source.new)) }
     ensures faults { R.faults source.old ≤ R.faults source.new }
+    ensures steady { result ≢ Err ReadAll.Fault → R.faults source.new ≡ R.faults source.old }
     ensures reads { R.reads source.new ≤ R.reads source.old + (limit + 1) }
 {
     let mut chunk = match zeros(alloc, CHUNK) {
