@@ -28,7 +28,7 @@ pub struct NoCredit<T> {
 
 /// A present that waits.
 #[derive(Debug, Drop)]
-pub struct Kept<T> {
+pub struct WaitingPresent<T> {
     pub item: T,
     pub args: PresentArgs,
 }
@@ -40,7 +40,7 @@ pub struct Kept<T> {
 /// Nothing but `new` takes memory.
 #[derive(Debug, Drop)]
 pub struct Queue<T> {
-    waiting: Roomy<Kept<T>>,
+    waiting: Roomy<WaitingPresent<T>>,
     taken: u32,
 }
 
@@ -98,7 +98,7 @@ impl<T> Queue<T> {
             return Err(NoCredit { item, args });
         }
         let number = self.taken + self.waiting.len() as u32 + 1;
-        self.waiting.push(Kept { item, args });
+        self.waiting.push(WaitingPresent { item, args });
         Ok(number)
     }
 
@@ -111,7 +111,7 @@ impl<T> Queue<T> {
         if self.waiting.len() == 0 {
             return None;
         }
-        let Kept { item, args } = self.waiting.remove(0);
+        let WaitingPresent { item, args } = self.waiting.remove(0);
         self.taken += 1;
         Some(Queued {
             item,
