@@ -1,5 +1,9 @@
 //! The machine of the scene service: a `Board`, which takes entries one by one,
 //! answers them by the rules, and keeps the journal.
+//!
+//! It stands for one legal history (`Machine`, flat_states: specs/Machines). board.rt has
+//! the board and what it tells; what makes entries stands in board/, by what is entered;
+//! begins.rt and dones.rt go through all sessions at a frame, polls.rt through the events.
 #![tactic(auto)]
 
 mod begins;

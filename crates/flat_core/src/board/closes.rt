@@ -1,0 +1,76 @@
+//! How a session's entries come to their end.
+ghost use Rattle.std.specs.Prelude.{◌≡◌};
+ghost use Rattle.flat_states.specs.Machines.{MayCall, entered};
+ghost use Rattle.flat_rules.specs.Legal.{reply_to};
+ghost use Rattle.flat_states.specs.Presents.{reply_to_close};
+
+use crate::board::Board;
+use flat_base::{Actor, FlatlandError, Reason, SessionNo};
+use flat_scene::{CallList, Entry, Kind, Reply};
+use flat_states::state::note;
+use flat_states::views::note_in;
+
+impl Board {
+    ghost use Rattle.flat_base.specs.declared.ids.Actor.TheVariants.{Session};
+    ghost use Rattle.flat_scene.specs.declared.journal.Kind.TheVariants.{Close, End};
+    ghost use Rattle.flat_scene.specs.declared.journal.Reply.TheVariants.{Done};
+
+    /// Closes the session: for the reason of a misuse, or by its own wish. It takes
+    /// no memory.
+    pub fn close(&mut self, s: SessionNo, line: u32, calls: CallList, why: Option<Reason>) -> Reply
+        requires { MayCall self.old (Session s) calls (Close why) }
+        ensures reply { result ≡ reply_to self.old.setup self.old.history (Session s) calls (Close why) }
+        ensures entry { self.new ≡ entered self.old (Session s) line calls (Close why) result }
+    {
+        let reply = close_reply(why);
+        let place = s.0 as usize - 1;
+        let state = &mut self.sessions[place];
+        let live = self.ends[place].live.as_slice();
+        self.ties
+            .note(s, calls.as_slice(), state.account.presents, live);
+        state.closed = true;
+        note(&mut state.account, calls.as_slice());
+        self.log.enter(Entry {
+            actor: Actor::Session(s),
+            line,
+            calls,
+            kind: Kind::Close(why),
+            reply,
+        });
+        reply
+    }
+
+    /// Ends the session's entries; so many of its lines came after the one that
+    /// closed it. It takes no memory.
+    pub fn end(&mut self, s: SessionNo, line: u32, calls: CallList, refused: u32) -> Reply
+        requires { MayCall self.old (Session s) calls (End refused) }
+        ensures reply { result ≡ Done }
+        ensures entry { self.new ≡ entered self.old (Session s) line calls (End refused) result }
+    {
+        let who = Actor::Session(s);
+        note_in(
+            &mut self.sessions,
+            &mut self.ends,
+            &mut self.ties,
+            who,
+            calls.as_slice(),
+        );
+        self.log.enter(Entry {
+            actor: Actor::Session(s),
+            line,
+            calls,
+            kind: Kind::End(refused),
+            reply: Reply::Done,
+        });
+        Reply::Done
+    }
+}
+
+fn close_reply(why: Option<Reason>) -> Reply
+    ensures { result ≡ reply_to_close why }
+{
+    match why {
+        Some(reason) => Reply::Closed(Some(FlatlandError::BadOperation), Some(reason)),
+        None => Reply::Closed(None, None),
+    }
+}

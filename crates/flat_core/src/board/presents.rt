@@ -1,0 +1,155 @@
+//! Presents, and the polls that hand over what was posted for them.
+ghost use Rattle.std.specs.Prelude.{◌≡◌, ◌++◌, None, Some, length, IfOk, IfErr};
+ghost use Rattle.std.specs.Arc.{arc_value};
+ghost use Rattle.flat_states.specs.Machines.{MayCall, entered, present_of};
+ghost use Rattle.flat_rules.specs.Legal.{reply_to, unread_events};
+ghost use Rattle.flat_states.specs.Presents.{owed_for};
+ghost use Rattle.flat_rules.specs.Shown.{tree_of};
+
+use crate::board::{Back, Board};
+use crate::polls::{EventList, push_events_from};
+use flat_base::{Actor, NoMemory, SessionNo};
+use flat_scene::{CallList, Entry, Kind, PresentArgs, Reply};
+use flat_snap::Snapshot;
+use flat_states::state::{note, present_in};
+use flat_states::views::note_ends;
+use std::alloc::Global;
+use std::sync::Arc;
+
+impl Board {
+    ghost use Rattle.flat_base.specs.declared.ids.Actor.TheVariants.{Session};
+    ghost use Rattle.flat_scene.specs.declared.journal.Kind.TheVariants.{Poll, Present};
+    ghost use Rattle.flat_scene.specs.declared.journal.Reply.TheVariants.{Polled};
+
+    /// Presents the tree of all calls of the session: its number and the credits
+    /// left, or the session is closed where it has no credit.
+    pub fn present(
+        &mut self,
+        s: SessionNo,
+        line: u32,
+        calls: CallList,
+        args: PresentArgs,
+        snap: Arc<Snapshot>,
+    ) -> Result<Reply, Back>
+        requires may { MayCall self.old (Session s) calls (Present args) }
+        requires tree { Some (arc_value snap) ≡ tree_of self.old.setup (present_of self.old.history s calls args) }
+        ensures reply { IfOk result (λ reply. reply ≡ reply_to self.old.setup self.old.history (Session s) calls (Present args)) }
+        ensures entry { IfOk result (λ reply. self.new ≡ entered self.old (Session s) line calls (Present args) reply) }
+        ensures same { IfErr result (λ back. self.new ≡ self.old) }
+        ensures back { IfErr result (λ back. back ≡ record { calls = calls; args = Some args; snap = Some snap }) }
+    {
+        let copy = match copy_args(self.alloc, &args) {
+            Ok(copy) => copy,
+            Err(_) => {
+                return Err(Back {
+                    calls,
+                    args: Some(args),
+                    snap: Some(snap),
+                });
+            }
+        };
+        match self.log.reserve(self.owed + 2) {
+            Ok(()) => {}
+            Err(_) => {
+                return Err(Back {
+                    calls,
+                    args: Some(args),
+                    snap: Some(snap),
+                });
+            }
+        }
+        let place = s.0 as usize - 1;
+        let state = &mut self.sessions[place];
+        note_ends(
+            state,
+            &mut self.ends[place],
+            &mut self.ties,
+            s,
+            calls.as_slice(),
+        );
+        let reply = present_in(state, snap, copy);
+        note(&mut state.account, calls.as_slice());
+        self.owed += owes(reply);
+        self.log.enter(Entry {
+            actor: Actor::Session(s),
+            line,
+            calls,
+            kind: Kind::Present(args),
+            reply,
+        });
+        Ok(reply)
+    }
+
+    /// Hands over the events posted to the session since its last poll, behind
+    /// those of the list, and answers how many.
+    pub fn poll(
+        &mut self,
+        s: SessionNo,
+        line: u32,
+        calls: CallList,
+        into: &mut EventList,
+    ) -> Result<Reply, Back>
+        requires { MayCall self.old (Session s) calls Poll }
+        ensures reply { IfOk result (λ reply. reply ≡ reply_to self.old.setup self.old.history (Session s) calls Poll) }
+        ensures entry { IfOk result (λ reply. self.new ≡ entered self.old (Session s) line calls Poll reply) }
+        ensures events { IfOk result (λ reply. into.new ≡ into.old ++ unread_events self.old.setup s self.old.history) }
+        ensures count { IfOk result (λ reply. reply ≡ Polled (length (unread_events self.old.setup s self.old.history))) }
+        ensures same { IfErr result (λ back. (self.new ≡ self.old) × (into.new ≡ into.old)) }
+        ensures back { IfErr result (λ back. back ≡ record { calls = calls; args = None; snap = None }) }
+    {
+        let place = s.0 as usize - 1;
+        let state = &mut self.sessions[place];
+        let posts = self.log.posts();
+        let before = into.len();
+        match push_events_from(posts, state.account.polled, s, into) {
+            Ok(()) => {}
+            Err(_) => {
+                return Err(Back {
+                    calls,
+                    args: None,
+                    snap: None,
+                });
+            }
+        }
+        let count = (into.len() - before) as u32;
+        note_ends(
+            state,
+            &mut self.ends[place],
+            &mut self.ties,
+            s,
+            calls.as_slice(),
+        );
+        state.account.polled = posts.len();
+        note(&mut state.account, calls.as_slice());
+        self.log.enter(Entry {
+            actor: Actor::Session(s),
+            line,
+            calls,
+            kind: Kind::Poll,
+            reply: Reply::Polled(count),
+        });
+        Ok(Reply::Polled(count))
+    }
+}
+
+fn copy_args(alloc: Global, args: &PresentArgs) -> Result<PresentArgs, NoMemory>
+    ensures { IfOk result (λ copy. copy ≡ args.now) }
+{
+    let acquire = args.acquire.copy(alloc)?;
+    let release = args.release.copy(alloc)?;
+    Ok(PresentArgs {
+        time: args.time,
+        acquire,
+        release,
+    })
+}
+
+/// How many events may be posted for an accepted present.
+fn owes(reply: Reply) -> usize
+    ensures { result ≡ owed_for reply }
+{
+    match reply {
+        Reply::Presented { .. } => 2,
+        _ => 0,
+    }
+}

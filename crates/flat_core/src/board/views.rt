@@ -1,0 +1,179 @@
+//! The entries that use the ends of a pair, or watch it.
+ghost use Rattle.std.specs.Prelude.{◌≡◌, None, Some, IfOk, IfErr};
+ghost use Rattle.flat_states.specs.Machines.{MayCall, entered};
+ghost use Rattle.flat_rules.specs.Legal.{reply_to};
+ghost use Rattle.flat_rules.specs.Watch.{watcher_of};
+ghost use Rattle.flat_gets.specs.Watchers.{is_held, is_shut, watcher_meant};
+
+use crate::board::{Back, Board, number_if};
+use flat_base::{Actor, PairNo, SessionNo};
+use flat_gets::telling::Telling;
+use flat_scene::{CallList, Entry, Kind, Reply, ViewportProps, Watch};
+use flat_states::state::{SessionState, note};
+use flat_states::views::{get_in, note_ends, use_ends, view_in, viewport_in};
+
+impl Board {
+    ghost use Rattle.flat_base.specs.declared.ids.Actor.TheVariants.{Session};
+    ghost use Rattle.flat_scene.specs.declared.journal.Kind.TheVariants.{Get, View, Viewport};
+
+    /// Makes a view: done, or the session is closed where the token isn't held. It
+    /// takes no memory.
+    pub fn view(&mut self, s: SessionNo, line: u32, calls: CallList, p: PairNo) -> Reply
+        requires { MayCall self.old (Session s) calls (View p) }
+        ensures reply { result ≡ reply_to self.old.setup self.old.history (Session s) calls (View p) }
+        ensures entry { self.new ≡ entered self.old (Session s) line calls (View p) result }
+    {
+        let is_held = !self.views.is_used(p);
+        self.views.set(p);
+        let place = s.0 as usize - 1;
+        let state = &mut self.sessions[place];
+        note_ends(
+            state,
+            &mut self.ends[place],
+            &mut self.ties,
+            s,
+            calls.as_slice(),
+        );
+        let reply = view_in(state, is_held);
+        note(&mut state.account, calls.as_slice());
+        self.log.enter(Entry {
+            actor: Actor::Session(s),
+            line,
+            calls,
+            kind: Kind::View(p),
+            reply,
+        });
+        reply
+    }
+
+    /// Makes a viewport, by the last of the calls: done, or the session is closed
+    /// where the token isn't held.
+    pub fn viewport(
+        &mut self,
+        s: SessionNo,
+        line: u32,
+        calls: CallList,
+        p: PairNo,
+        props: ViewportProps,
+    ) -> Result<Reply, Back>
+        requires { MayCall self.old (Session s) calls (Viewport p props) }
+        ensures reply { IfOk result (λ reply. reply ≡ reply_to self.old.setup self.old.history (Session s) calls (Viewport p props)) }
+        ensures entry { IfOk result (λ reply. self.new ≡ entered self.old (Session s) line calls (Viewport p props) reply) }
+        ensures same { IfErr result (λ back. self.new ≡ self.old) }
+        ensures back { IfErr result (λ back. back ≡ record { calls = calls; args = None; snap = None }) }
+    {
+        let owner = self.setup.pairs.at(p.0 as usize).view;
+        let is_shut = is_shut(self.sessions.as_slice(), owner);
+        let place = s.0 as usize - 1;
+        match self.ends[place].reserve_with(&mut self.log, self.owed + 1) {
+            Ok(()) => {}
+            Err(_) => {
+                return Err(Back {
+                    calls,
+                    args: None,
+                    snap: None,
+                });
+            }
+        }
+        let state = &mut self.sessions[place];
+        let ends = &mut self.ends[place];
+        let is_held = use_ends(state, ends, &mut self.ties, s, calls.as_slice(), p, props);
+        let reply = viewport_in(state, is_held);
+        note(&mut state.account, calls.as_slice());
+        let telling = Telling {
+            setup: &self.setup,
+            ties: &self.ties,
+            views: &self.views,
+        };
+        let told = self
+            .watchers
+            .join(is_held, owner, is_shut, p, &telling, &mut self.log);
+        self.owed = self.owed + number_if(is_held) as usize - told;
+        self.log.enter(Entry {
+            actor: Actor::Session(s),
+            line,
+            calls,
+            kind: Kind::Viewport(p, props),
+            reply,
+        });
+        Ok(reply)
+    }
+
+    /// Asks for a value of this pair: what is told now if it is news, or else later
+    /// by an event; the session is closed where a get of that watcher waits.
+    pub fn get(
+        &mut self,
+        s: SessionNo,
+        line: u32,
+        calls: CallList,
+        get: Watch,
+        p: PairNo,
+    ) -> Result<Reply, Back>
+        requires may { MayCall self.old (Session s) calls (Get get) }
+        requires meant { watcher_of self.old.setup self.old.history (Session s) calls get ≡ Some (watcher_meant self.old.history get p) }
+        ensures reply { IfOk result (λ reply. reply ≡ reply_to self.old.setup self.old.history (Session s) calls (Get get)) }
+        ensures entry { IfOk result (λ reply. self.new ≡ entered self.old (Session s) line calls (Get get) reply) }
+        ensures same { IfErr result (λ back. self.new ≡ self.old) }
+        ensures back { IfErr result (λ back. back ≡ record { calls = calls; args = None; snap = None }) }
+    {
+        let telling = Telling {
+            setup: &self.setup,
+            ties: &self.ties,
+            views: &self.views,
+        };
+        let posts = self.owed + 1;
+        let reply = match self.watchers.ask(s, p, get, &telling, &mut self.log, posts) {
+            Ok(reply) => reply,
+            Err(_) => {
+                return Err(Back {
+                    calls,
+                    args: None,
+                    snap: None,
+                });
+            }
+        };
+        let place = s.0 as usize - 1;
+        let state = &mut self.sessions[place];
+        note_ends(
+            state,
+            &mut self.ends[place],
+            &mut self.ties,
+            s,
+            calls.as_slice(),
+        );
+        get_in(state, reply);
+        note(&mut state.account, calls.as_slice());
+        self.owed += number_if(is_held(reply)) as usize;
+        self.log.enter(Entry {
+            actor: Actor::Session(s),
+            line,
+            calls,
+            kind: Kind::Get(get),
+            reply,
+        });
+        Ok(reply)
+    }
+}
+
+/// Whether a get waits by its reply.
+fn is_held(reply: Reply) -> bool
+    ensures { result ≡ is_held reply }
+{
+    match reply {
+        Reply::Held => true,
+        _ => false,
+    }
+}
+
+/// Whether a session is closed, or isn't one of these.
+fn is_shut(sessions: &[SessionState], s: SessionNo) -> bool
+    ensures { result ≡ is_shut sessions.now s }
+{
+    if s.0 == 0 {
+        return true;
+    }
+    match sessions.get(s.0 as usize - 1) {
+        Some(state) => state.closed,
+        None => true,
+    }
+}

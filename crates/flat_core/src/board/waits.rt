@@ -1,0 +1,112 @@
+//! Fences and conditions, of sessions and of the display.
+ghost use Rattle.std.specs.Prelude.{◌≡◌};
+ghost use Rattle.flat_states.specs.Machines.{MayCall, MayLook, entered};
+ghost use Rattle.flat_rules.specs.Legal.{asked_of, reply_to, value_of, waited};
+
+use crate::board::{Board, number_if};
+use flat_base::{Actor, FenceNo};
+use flat_scene::{CallList, Cond, Entry, Kind, Reply};
+use flat_states::views::note_in;
+
+impl Board {
+    ghost use Rattle.flat_scene.specs.declared.journal.Kind.TheVariants.{Signal, Wait};
+    ghost use Rattle.flat_scene.specs.declared.journal.Reply.TheVariants.{Done};
+
+    /// Signals a fence. It takes no memory.
+    pub fn signal(&mut self, who: Actor, line: u32, calls: CallList, f: FenceNo) -> Reply
+        requires { MayCall self.old who calls (Signal f) }
+        ensures reply { result ≡ Done }
+        ensures entry { self.new ≡ entered self.old who line calls (Signal f) result }
+    {
+        self.fences.signal(f);
+        note_in(
+            &mut self.sessions,
+            &mut self.ends,
+            &mut self.ties,
+            who,
+            calls.as_slice(),
+        );
+        self.log.enter(Entry {
+            actor: who,
+            line,
+            calls,
+            kind: Kind::Signal(f),
+            reply: Reply::Done,
+        });
+        Reply::Done
+    }
+
+    /// Looks once whether a condition is met, and answers the value looked at. It
+    /// takes no memory.
+    pub fn wait(&mut self, who: Actor, line: u32, calls: CallList, c: Cond) -> Reply
+        requires { MayCall self.old who calls (Wait c) }
+        ensures reply { result ≡ reply_to self.old.setup self.old.history who calls (Wait c) }
+        ensures entry { self.new ≡ entered self.old who line calls (Wait c) result }
+    {
+        let value = self.value(who, c);
+        let reply = wait_reply(asked(c), value);
+        note_in(
+            &mut self.sessions,
+            &mut self.ends,
+            &mut self.ties,
+            who,
+            calls.as_slice(),
+        );
+        self.log.enter(Entry {
+            actor: who,
+            line,
+            calls,
+            kind: Kind::Wait(c),
+            reply,
+        });
+        reply
+    }
+
+    /// The value of a condition for an actor. It makes no entry.
+    pub fn value(&self, who: Actor, c: Cond) -> u32
+        requires { MayLook self.now.setup who c }
+        ensures { result ≡ value_of self.now.setup self.now.history who c }
+    {
+        match c {
+            Cond::Frames(_) => self.clock.frames,
+            Cond::Fence(f) => number_if(self.fences.is_signalled(f)),
+            Cond::Presents(s, _) => self.sessions[s.0 as usize - 1].account.presents,
+            Cond::Credits(_) => match who {
+                Actor::Session(s) => self.sessions[s.0 as usize - 1].credits(),
+                _ => 0,
+            },
+            Cond::Taken(_) => match who {
+                Actor::Session(s) => self.sessions[s.0 as usize - 1].taken(),
+                _ => 0,
+            },
+            Cond::Answers(_) => match who {
+                Actor::Session(s) => self.watchers.gets[s.0 as usize - 1].answers,
+                _ => 0,
+            },
+        }
+    }
+}
+
+/// The number that a condition asks for.
+fn asked(c: Cond) -> u32
+    ensures { result ≡ asked_of c }
+{
+    match c {
+        Cond::Frames(n) => n,
+        Cond::Credits(n) => n,
+        Cond::Taken(n) => n,
+        Cond::Answers(n) => n,
+        Cond::Fence(_) => 1,
+        Cond::Presents(_, n) => n,
+    }
+}
+
+fn wait_reply(wanted: u32, value: u32) -> Reply
+    ensures { result ≡ waited wanted value }
+{
+    if wanted <= value {
+        Reply::Met(value)
+    } else {
+        Reply::Unmet(value)
+    }
+}
