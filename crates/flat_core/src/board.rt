@@ -64,11 +64,11 @@ pub struct Board {
     clock: Clock,
     fences: FenceSet,
     /// The view ends that were used.
-    views: EndSet,
+    view_ends: EndSet,
     /// The sessions, the first of them session 1.
     sessions: Vec<SessionState>,
     /// The viewports of each session.
-    ends: Vec<Viewports>,
+    viewports: Vec<Viewports>,
     ties: Ties,
     watchers: Watchers,
 }
@@ -83,7 +83,7 @@ impl Model for Board {
 
     ghost view = { λ b. record { setup = b.setup; shares = b.shares; history = b.log.history } };
 
-    ghost invariant = { λ b. Stands b.setup b.log.history b.clock b.fences b.views b.sessions.items × HasRoom b.setup b.shares b.log b.owed (all_due b.sessions.items b.ends.items b.watchers.gets.items) × AreEnds b.setup b.log.history b.ends.items × AreTied b.setup b.log.history b.ties.followings.items b.ties.pairs.items × AreWatched b.setup b.log.history b.watchers.gets.items b.watchers.answered.items };
+    ghost invariant = { λ b. Stands b.setup b.log.history b.clock b.fences b.view_ends b.sessions.items × HasRoom b.setup b.shares b.log b.owed (all_due b.sessions.items b.viewports.items b.watchers.gets.items) × AreEnds b.setup b.log.history b.viewports.items × AreTied b.setup b.log.history b.ties.followings.items b.ties.pairs.items × AreWatched b.setup b.log.history b.watchers.gets.items b.watchers.answered.items };
 }
 
 impl Board {
@@ -115,9 +115,9 @@ impl Board {
                 time: 0,
             },
             fences,
-            views,
+            view_ends: views,
             sessions,
-            ends,
+            viewports: ends,
             ties,
             watchers,
         })

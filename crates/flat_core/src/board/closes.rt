@@ -25,7 +25,7 @@ impl Board {
         let reply = close_reply(why);
         let place = s.0 as usize - 1;
         let state = &mut self.sessions[place];
-        let live = self.ends[place].live.as_slice();
+        let live = self.viewports[place].live.as_slice();
         self.ties
             .note(s, calls.as_slice(), state.account.presents, live);
         state.closed = true;
@@ -50,7 +50,7 @@ impl Board {
         let who = Actor::Session(s);
         note_in(
             &mut self.sessions,
-            &mut self.ends,
+            &mut self.viewports,
             &mut self.ties,
             who,
             calls.as_slice(),

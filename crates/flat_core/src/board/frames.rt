@@ -79,14 +79,14 @@ impl Board {
         let telling = Telling {
             setup: &self.setup,
             ties: &self.ties,
-            views: &self.views,
+            views: &self.view_ends,
         };
         let count = done_all(
             &self.setup,
             line,
             &mut self.fences,
             &mut self.sessions,
-            &mut self.ends,
+            &mut self.viewports,
             &mut self.watchers,
             &telling,
             &mut self.log,

@@ -62,7 +62,7 @@ impl Board {
         let state = &mut self.sessions[place];
         note_ends(
             state,
-            &mut self.ends[place],
+            &mut self.viewports[place],
             &mut self.ties,
             s,
             calls.as_slice(),
@@ -114,7 +114,7 @@ impl Board {
         let count = (into.len() - before) as u32;
         note_ends(
             state,
-            &mut self.ends[place],
+            &mut self.viewports[place],
             &mut self.ties,
             s,
             calls.as_slice(),

@@ -23,13 +23,13 @@ impl Board {
         ensures reply { result ≡ reply_to self.old.setup self.old.history (Session s) calls (View p) }
         ensures entry { self.new ≡ entered self.old (Session s) line calls (View p) result }
     {
-        let is_held = !self.views.is_used(p);
-        self.views.set(p);
+        let is_held = !self.view_ends.is_used(p);
+        self.view_ends.set(p);
         let place = s.0 as usize - 1;
         let state = &mut self.sessions[place];
         note_ends(
             state,
-            &mut self.ends[place],
+            &mut self.viewports[place],
             &mut self.ties,
             s,
             calls.as_slice(),
@@ -65,7 +65,7 @@ impl Board {
         let owner = self.setup.pairs.at(p.0 as usize).view;
         let is_shut = is_shut(self.sessions.as_slice(), owner);
         let place = s.0 as usize - 1;
-        match self.ends[place].reserve_with(&mut self.log, self.owed + 1) {
+        match self.viewports[place].reserve_with(&mut self.log, self.owed + 1) {
             Ok(()) => {}
             Err(_) => {
                 return Err(Back {
@@ -76,14 +76,14 @@ impl Board {
             }
         }
         let state = &mut self.sessions[place];
-        let ends = &mut self.ends[place];
+        let ends = &mut self.viewports[place];
         let is_held = use_ends(state, ends, &mut self.ties, s, calls.as_slice(), p, props);
         let reply = viewport_in(state, is_held);
         note(&mut state.account, calls.as_slice());
         let telling = Telling {
             setup: &self.setup,
             ties: &self.ties,
-            views: &self.views,
+            views: &self.view_ends,
         };
         let told = self
             .watchers
@@ -119,7 +119,7 @@ impl Board {
         let telling = Telling {
             setup: &self.setup,
             ties: &self.ties,
-            views: &self.views,
+            views: &self.view_ends,
         };
         let posts = self.owed + 1;
         let reply = match self.watchers.ask(s, p, get, &telling, &mut self.log, posts) {
@@ -136,7 +136,7 @@ impl Board {
         let state = &mut self.sessions[place];
         note_ends(
             state,
-            &mut self.ends[place],
+            &mut self.viewports[place],
             &mut self.ties,
             s,
             calls.as_slice(),
