@@ -41,8 +41,10 @@ impl ContentTable {
         ensures named { IfOk result (λ serial. key_named self.now.names c.0 ≡ Some serial) }
         ensures made { IfOk result (λ serial. 1 ≤ serial) }
         ensures within { IfOk result (λ serial. serial ≤ length self.now.contents) }
-        ensures allowed { OnOk result (first_reason (sort_tests self.now misuse.is_fill c.0) ≡ None) }
-        ensures fault { IfErr result (λ reason. first_reason (sort_tests self.now misuse.is_fill c.0) ≡ Some reason) }
+        ensures allowed { OnOk result (first_reason (sort_tests self.now misuse.is_fill c.0)
+            ≡ None) }
+        ensures fault { IfErr result (λ reason. first_reason (sort_tests self.now misuse.is_fill
+            c.0) ≡ Some reason) }
     {
         let (serial, stored) = self.find(c)?;
         if !is_fill(stored) {
@@ -62,9 +64,12 @@ impl ContentTable {
         w: u32,
         h: u32,
     ) -> Result<(), Reason>
-        ensures set { OnOk result (self.new ≡ change_named self.old c.0 (λ _. Fill (Some (record { rgba = rgba; size = (w, h) })))) }
+        ensures set { OnOk result (self.new
+            ≡ change_named self.old c.0 (λ _. Fill
+            (Some (record { rgba = rgba; size = (w, h) })))) }
         ensures allowed { OnOk result (first_reason (solid_tests self.old c.0 w h) ≡ None) }
-        ensures fault { IfErr result (λ reason. first_reason (solid_tests self.old c.0 w h) ≡ Some reason) }
+        ensures fault { IfErr result (λ reason. first_reason (solid_tests self.old c.0 w h)
+            ≡ Some reason) }
         ensures kept { OnErr result (self.new ≡ self.old) }
     {
         let serial = self.fill(c)?;
@@ -81,8 +86,10 @@ impl ContentTable {
     /// The reason is ZeroId, UnknownContent or WrongContent. It takes no memory.
     pub fn release_filled_rect(&mut self, c: ContentId) -> Result<(), Reason>
         ensures released { OnOk result (self.new ≡ released self.old c.0) }
-        ensures allowed { OnOk result (first_reason (sort_tests self.old misuse.is_fill c.0) ≡ None) }
-        ensures fault { IfErr result (λ reason. first_reason (sort_tests self.old misuse.is_fill c.0) ≡ Some reason) }
+        ensures allowed { OnOk result (first_reason (sort_tests self.old misuse.is_fill c.0)
+            ≡ None) }
+        ensures fault { IfErr result (λ reason. first_reason (sort_tests self.old misuse.is_fill
+            c.0) ≡ Some reason) }
         ensures kept { OnErr result (self.new ≡ self.old) }
     {
         self.fill(c)?;

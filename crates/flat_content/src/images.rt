@@ -15,8 +15,10 @@ impl ContentTable {
     ghost use Rattle.flat_scene.specs.Misuse as misuse;
     ghost use Rattle.flat_graph.specs.Reasons.{IsFault};
     ghost use Rattle.flat_content.specs.declared.stored.Stored.TheVariants.{Image};
-    ghost use Rattle.flat_content.specs.Table.{change_named, new_image, on_image, released, with_stored};
-    ghost use Rattle.flat_content.specs.Reasons.{image_tests, sort_tests, sample_tests, size_tests, opacity_tests};
+    ghost use Rattle.flat_content.specs.Table.{change_named, new_image, on_image, released};
+    ghost use Rattle.flat_content.specs.Table.{with_stored};
+    ghost use Rattle.flat_content.specs.Reasons.{image_tests, sort_tests, sample_tests, size_tests};
+    ghost use Rattle.flat_content.specs.Reasons.{opacity_tests};
 
     /// Makes an image of the buffer of an index of a collection, and names it;
     /// answers its serial number.
@@ -32,8 +34,10 @@ impl ContentTable {
         h: u32,
     ) -> Result<u32, GraphFault>
         ensures serial { IfOk result (λ serial. serial ≡ length self.old.contents + 1) }
-        ensures created { OnOk result (self.new ≡ with_stored self.old c.0 (new_image buffers index w h)) }
-        ensures allowed { OnOk result (first_reason (image_tests self.old c.0 buffers index w h) ≡ None) }
+        ensures created { OnOk result (self.new
+            ≡ with_stored self.old c.0 (new_image buffers index w h)) }
+        ensures allowed { OnOk result (first_reason (image_tests self.old c.0 buffers index w h)
+            ≡ None) }
         ensures fault { IfErr result (IsFault (image_tests self.old c.0 buffers index w h)) }
         ensures kept { OnErr result (self.new ≡ self.old) }
     {
@@ -63,11 +67,14 @@ impl ContentTable {
     /// The serial of an image and the image, or why an id names none.
     fn image(&self, c: ContentId) -> Result<(usize, StoredImage), Reason>
         ensures named { IfOk result (λ found. key_named self.now.names c.0 ≡ Some found.0) }
-        ensures stored { IfOk result (λ found. of_serial self.now.contents found.0 ≡ Some (Image found.1)) }
+        ensures stored { IfOk result (λ found. of_serial self.now.contents found.0
+            ≡ Some (Image found.1)) }
         ensures made { IfOk result (λ found. 1 ≤ found.0) }
         ensures within { IfOk result (λ found. found.0 ≤ length self.now.contents) }
-        ensures allowed { OnOk result (first_reason (sort_tests self.now misuse.is_image c.0) ≡ None) }
-        ensures fault { IfErr result (λ reason. first_reason (sort_tests self.now misuse.is_image c.0) ≡ Some reason) }
+        ensures allowed { OnOk result (first_reason (sort_tests self.now misuse.is_image c.0)
+            ≡ None) }
+        ensures fault { IfErr result (λ reason. first_reason (sort_tests self.now misuse.is_image
+            c.0) ≡ Some reason) }
     {
         let (serial, stored) = self.find(c)?;
         match stored {
@@ -81,9 +88,11 @@ impl ContentTable {
     /// The reason is ZeroId, UnknownContent, WrongContent or BadRect. It takes no
     /// memory.
     pub fn set_image_sample_region(&mut self, c: ContentId, rect: IntRect) -> Result<(), Reason>
-        ensures set { OnOk result (self.new ≡ change_named self.old c.0 (on_image (λ image. record image { sample = rect }))) }
+        ensures set { OnOk result (self.new
+            ≡ change_named self.old c.0 (on_image (λ image. record image { sample = rect }))) }
         ensures allowed { OnOk result (first_reason (sample_tests self.old c.0 rect) ≡ None) }
-        ensures fault { IfErr result (λ reason. first_reason (sample_tests self.old c.0 rect) ≡ Some reason) }
+        ensures fault { IfErr result (λ reason. first_reason (sample_tests self.old c.0 rect)
+            ≡ Some reason) }
         ensures kept { OnErr result (self.new ≡ self.old) }
     {
         let (serial, image) = self.image(c)?;
@@ -103,9 +112,12 @@ impl ContentTable {
     /// The reason is ZeroId, UnknownContent, WrongContent or BadSize. It takes no
     /// memory.
     pub fn set_image_destination_size(&mut self, c: ContentId, w: u32, h: u32) -> Result<(), Reason>
-        ensures set { OnOk result (self.new ≡ change_named self.old c.0 (on_image (λ image. record image { destination = (w, h) }))) }
+        ensures set { OnOk result (self.new
+            ≡ change_named self.old c.0 (on_image (λ image. record image
+            { destination = (w, h) }))) }
         ensures allowed { OnOk result (first_reason (size_tests self.old c.0 w h) ≡ None) }
-        ensures fault { IfErr result (λ reason. first_reason (size_tests self.old c.0 w h) ≡ Some reason) }
+        ensures fault { IfErr result (λ reason. first_reason (size_tests self.old c.0 w h)
+            ≡ Some reason) }
         ensures kept { OnErr result (self.new ≡ self.old) }
     {
         let (serial, image) = self.image(c)?;
@@ -128,9 +140,12 @@ impl ContentTable {
         c: ContentId,
         blend: BlendMode,
     ) -> Result<(), Reason>
-        ensures set { OnOk result (self.new ≡ change_named self.old c.0 (on_image (λ image. record image { blend = blend }))) }
-        ensures allowed { OnOk result (first_reason (sort_tests self.old misuse.is_image c.0) ≡ None) }
-        ensures fault { IfErr result (λ reason. first_reason (sort_tests self.old misuse.is_image c.0) ≡ Some reason) }
+        ensures set { OnOk result (self.new
+            ≡ change_named self.old c.0 (on_image (λ image. record image { blend = blend }))) }
+        ensures allowed { OnOk result (first_reason (sort_tests self.old misuse.is_image c.0)
+            ≡ None) }
+        ensures fault { IfErr result (λ reason. first_reason (sort_tests self.old misuse.is_image
+            c.0) ≡ Some reason) }
         ensures kept { OnErr result (self.new ≡ self.old) }
     {
         let (serial, image) = self.image(c)?;
@@ -143,9 +158,12 @@ impl ContentTable {
     ///
     /// The reason is ZeroId, UnknownContent or WrongContent. It takes no memory.
     pub fn set_image_flip(&mut self, c: ContentId, flip: ImageFlip) -> Result<(), Reason>
-        ensures set { OnOk result (self.new ≡ change_named self.old c.0 (on_image (λ image. record image { flip = flip }))) }
-        ensures allowed { OnOk result (first_reason (sort_tests self.old misuse.is_image c.0) ≡ None) }
-        ensures fault { IfErr result (λ reason. first_reason (sort_tests self.old misuse.is_image c.0) ≡ Some reason) }
+        ensures set { OnOk result (self.new
+            ≡ change_named self.old c.0 (on_image (λ image. record image { flip = flip }))) }
+        ensures allowed { OnOk result (first_reason (sort_tests self.old misuse.is_image c.0)
+            ≡ None) }
+        ensures fault { IfErr result (λ reason. first_reason (sort_tests self.old misuse.is_image
+            c.0) ≡ Some reason) }
         ensures kept { OnErr result (self.new ≡ self.old) }
     {
         let (serial, image) = self.image(c)?;
@@ -160,9 +178,11 @@ impl ContentTable {
     /// The reason is ZeroId, UnknownContent, WrongContent or BadOpacity. It takes
     /// no memory.
     pub fn set_image_opacity(&mut self, c: ContentId, opacity: u32) -> Result<(), Reason>
-        ensures set { OnOk result (self.new ≡ change_named self.old c.0 (on_image (λ image. record image { opacity = opacity }))) }
+        ensures set { OnOk result (self.new
+            ≡ change_named self.old c.0 (on_image (λ image. record image { opacity = opacity }))) }
         ensures allowed { OnOk result (first_reason (opacity_tests self.old c.0 opacity) ≡ None) }
-        ensures fault { IfErr result (λ reason. first_reason (opacity_tests self.old c.0 opacity) ≡ Some reason) }
+        ensures fault { IfErr result (λ reason. first_reason (opacity_tests self.old c.0 opacity)
+            ≡ Some reason) }
         ensures kept { OnErr result (self.new ≡ self.old) }
     {
         let (serial, image) = self.image(c)?;
@@ -179,8 +199,10 @@ impl ContentTable {
     /// The reason is ZeroId, UnknownContent or WrongContent. It takes no memory.
     pub fn release_image(&mut self, c: ContentId) -> Result<(), Reason>
         ensures released { OnOk result (self.new ≡ released self.old c.0) }
-        ensures allowed { OnOk result (first_reason (sort_tests self.old misuse.is_image c.0) ≡ None) }
-        ensures fault { IfErr result (λ reason. first_reason (sort_tests self.old misuse.is_image c.0) ≡ Some reason) }
+        ensures allowed { OnOk result (first_reason (sort_tests self.old misuse.is_image c.0)
+            ≡ None) }
+        ensures fault { IfErr result (λ reason. first_reason (sort_tests self.old misuse.is_image
+            c.0) ≡ Some reason) }
         ensures kept { OnErr result (self.new ≡ self.old) }
     {
         self.image(c)?;

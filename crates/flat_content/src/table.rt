@@ -1,4 +1,6 @@
-ghost use Rattle.std.specs.Prelude.{◌≡◌, ◌==◌, ◌+◌, ◌<◌, ◌≤◌, ◌^◌, ◌++◌, true, false, not, filter, length, option_to_list, vec_capacity, Some, None, IfOk, IfErr, OnOk, OnErr};
+ghost use Rattle.std.specs.Prelude.{◌≡◌, ◌==◌, ◌+◌, ◌<◌, ◌≤◌, ◌^◌, ◌++◌, true, false, not, filter};
+ghost use Rattle.std.specs.Prelude.{length, option_to_list, vec_capacity, Some, None, IfOk, IfErr};
+ghost use Rattle.std.specs.Prelude.{OnOk, OnErr};
 ghost use Rattle.flat_scene.specs.Draft.{changed_at, of_serial};
 ghost use Rattle.flat_scene.specs.Misuse.{first_reason};
 ghost use Rattle.flat_graph.specs.Names.{key_named};
@@ -31,10 +33,25 @@ pub struct ContentTable {
 impl Model for ContentTable {
     ghost Value = { TableState };
 
-    ghost view = { λ t. record { buffers = t.buffers; contents = t.contents.items; names = t.names.items; viewports = t.viewports.items; has_room = t.has_room } };
+    ghost view = { λ t. record {
+      buffers = t.buffers;
+      contents = t.contents.items;
+      names = t.names.items;
+      viewports = t.viewports.items;
+      has_room = t.has_room;
+    } };
 
-    ghost invariant = { λ t. IsTable (record { buffers = t.buffers; contents = t.contents.items; names = t.names.items; viewports = t.viewports.items; has_room = false })
-        × (t.has_room ≡ true → HasRoom (length t.contents.items) (vec_capacity t.contents) (length t.names.items) (vec_capacity t.names) (length t.viewports.items) (vec_capacity t.viewports)) };
+    ghost invariant = { λ t. IsTable
+        (record {
+          buffers = t.buffers;
+          contents = t.contents.items;
+          names = t.names.items;
+          viewports = t.viewports.items;
+          has_room = false;
+        })
+        × (t.has_room ≡ true → HasRoom (length t.contents.items) (vec_capacity t.contents)
+        (length t.names.items) (vec_capacity t.names) (length t.viewports.items)
+        (vec_capacity t.viewports)) };
 }
 
 /// The content of a serial number, if there is that number.
@@ -72,7 +89,8 @@ fn note_use(viewports: &mut Vec<u32>, stored: Stored, serial: u32)
 pub(crate) fn drop_use(viewports: &mut Vec<u32>, serial: u32)
     ensures capacity { vec_capacity viewports.new ≡ vec_capacity viewports.old }
     ensures fewer { length viewports.new.items ≤ length viewports.old.items }
-    ensures items { viewports.new.items ≡ filter (λ other. not (other == serial)) viewports.old.items }
+    ensures items { viewports.new.items
+        ≡ filter (λ other. not (other == serial)) viewports.old.items }
 {
     viewports.retain(|other| *other != serial);
 }
@@ -117,7 +135,8 @@ impl ContentTable {
         ensures within { IfOk result (λ found. found.0 ≤ length self.now.contents) }
         ensures few { IfOk result (λ found. found.0 < 2 ^ 32) }
         ensures allowed { OnOk result (first_reason (name_tests self.now c.0) ≡ None) }
-        ensures fault { IfErr result (λ reason. first_reason (name_tests self.now c.0) ≡ Some reason) }
+        ensures fault { IfErr result (λ reason. first_reason (name_tests self.now c.0)
+            ≡ Some reason) }
     {
         if c.0 == 0 {
             return Err(Reason::ZeroId);
@@ -134,7 +153,8 @@ impl ContentTable {
     pub fn held(&self, c: ContentId) -> Result<Held, Reason>
         ensures held { IfOk result (λ held. held_of self.now c.0 ≡ Some held) }
         ensures allowed { OnOk result (first_reason (name_tests self.now c.0) ≡ None) }
-        ensures fault { IfErr result (λ reason. first_reason (name_tests self.now c.0) ≡ Some reason) }
+        ensures fault { IfErr result (λ reason. first_reason (name_tests self.now c.0)
+            ≡ Some reason) }
     {
         let (serial, stored) = self.find(c)?;
         Ok(Held {
@@ -149,7 +169,8 @@ impl ContentTable {
     pub fn given(&self, c: ContentId) -> Result<Option<Held>, Reason>
         ensures held { IfOk result (λ held. held ≡ held_of self.now c.0) }
         ensures allowed { OnOk result (first_reason (given_tests self.now c.0) ≡ None) }
-        ensures fault { IfErr result (λ reason. first_reason (given_tests self.now c.0) ≡ Some reason) }
+        ensures fault { IfErr result (λ reason. first_reason (given_tests self.now c.0)
+            ≡ Some reason) }
     {
         let _ = &self.names;
         if c.0 == 0 {
@@ -199,7 +220,8 @@ impl ContentTable {
         ensures some { OnOk result (c.0 ≢ 0) }
         ensures absent { OnOk result (key_named self.now.names c.0 ≡ None) }
         ensures allowed { OnOk result (first_reason (new_tests self.now c.0) ≡ None) }
-        ensures fault { IfErr result (λ reason. first_reason (new_tests self.now c.0) ≡ Some reason) }
+        ensures fault { IfErr result (λ reason. first_reason (new_tests self.now c.0)
+            ≡ Some reason) }
     {
         if c.0 == 0 {
             return Err(Reason::ZeroId);

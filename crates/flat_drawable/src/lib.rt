@@ -5,7 +5,8 @@
 #![tactic(auto)]
 
 ghost use Rattle.std.specs.Prelude.{◌≡◌, ◌↔◌, IsTrue, All};
-ghost use Rattle.flat_drawable.specs.Drawable.{matrix_of, full_rect as full_rect_of, IsDrawable, IsWithin, IsSample, HasSample};
+ghost use Rattle.flat_drawable.specs.Drawable.{matrix_of, full_rect as full_rect_of, IsDrawable};
+ghost use Rattle.flat_drawable.specs.Drawable.{IsWithin, IsSample, HasSample};
 
 mod equality;
 

@@ -1,4 +1,5 @@
-ghost use Rattle.std.specs.Prelude.{◌≡◌, ◌==◌, ℕ, ◌+◌, ◌<◌, Some, None, count_by, is_some, IfOk, IfErr, OnOk, OnErr};
+ghost use Rattle.std.specs.Prelude.{◌≡◌, ◌==◌, ℕ, ◌+◌, ◌<◌, Some, None, count_by, is_some, IfOk};
+ghost use Rattle.std.specs.Prelude.{IfErr, OnOk, OnErr};
 ghost use Rattle.std.specs.Option.{option_copied};
 ghost use Rattle.std.specs.List.{list_any};
 ghost use Rattle.flat_graph.specs.Names.{key_named};
@@ -31,9 +32,15 @@ pub struct Graph {
 impl Model for Graph {
     ghost Value = { GraphState };
 
-    ghost view = { λ g. record { nodes = g.nodes.slots; names = g.names.items; root = g.root; made = g.made } };
+    ghost view = { λ g. record {
+      nodes = g.nodes.slots;
+      names = g.names.items;
+      root = g.root;
+      made = g.made;
+    } };
 
-    ghost invariant = { λ g. IsGraph g.nodes.capacity (record { nodes = g.nodes.slots; names = g.names.items; root = g.root; made = g.made }) };
+    ghost invariant = { λ g. IsGraph g.nodes.capacity
+        (record { nodes = g.nodes.slots; names = g.names.items; root = g.root; made = g.made }) };
 }
 
 // Making a graph, and reading it.
@@ -119,8 +126,10 @@ impl Graph {
 // What names and links transforms.
 impl Graph {
     ghost use Rattle.flat_scene.specs.Misuse.{first_reason};
-    ghost use Rattle.flat_graph.specs.Reasons.{add_tests, create_tests, name_tests, pair_tests, remove_tests, root_tests, IsFault, IsMisuse};
-    ghost use Rattle.flat_graph.specs.State.{Creates, change_named, released, with_child, with_root, without_child};
+    ghost use Rattle.flat_graph.specs.Reasons.{add_tests, create_tests, name_tests, pair_tests};
+    ghost use Rattle.flat_graph.specs.Reasons.{remove_tests, root_tests, IsFault, IsMisuse};
+    ghost use Rattle.flat_graph.specs.State.{Creates, change_named, released, with_child};
+    ghost use Rattle.flat_graph.specs.State.{with_root, without_child};
 
     /// Makes a transform and names it; answers its serial number.
     ///
@@ -215,7 +224,8 @@ impl Graph {
     ///
     /// `Bad` is ZeroId, UnknownTransform, AlreadyChild or TooManyChildren.
     pub fn add_child(&mut self, parent: TransformId, child: TransformId) -> Result<(), GraphFault>
-        ensures added { OnOk result (self.new ≡ change_named self.old parent.0 (with_child (key_named self.old.names child.0))) }
+        ensures added { OnOk result (self.new
+            ≡ change_named self.old parent.0 (with_child (key_named self.old.names child.0))) }
         ensures allowed { OnOk result (first_reason (add_tests self.old parent.0 child.0) ≡ None) }
         ensures fault { IfErr result (IsFault (add_tests self.old parent.0 child.0)) }
         ensures kept { OnErr result (self.new ≡ self.old) }
@@ -244,8 +254,10 @@ impl Graph {
         parent: TransformId,
         child: TransformId,
     ) -> Result<(), GraphFault>
-        ensures removed { OnOk result (self.new ≡ change_named self.old parent.0 (without_child (key_named self.old.names child.0))) }
-        ensures allowed { OnOk result (first_reason (remove_tests self.old parent.0 child.0) ≡ None) }
+        ensures removed { OnOk result (self.new
+            ≡ change_named self.old parent.0 (without_child (key_named self.old.names child.0))) }
+        ensures allowed { OnOk result (first_reason (remove_tests self.old parent.0 child.0)
+            ≡ None) }
         ensures fault { IfErr result (IsMisuse (remove_tests self.old parent.0 child.0)) }
         ensures kept { OnErr result (self.new ≡ self.old) }
     {
@@ -271,7 +283,8 @@ impl Graph {
     pub fn keep(&mut self, marks: &[bool]) -> u32
         requires { MayKeep marks.now self.old }
         ensures kept { self.new ≡ only_marked marks.now self.old }
-        ensures dropped { result + count_by is_some self.new.nodes ≡ count_by is_some self.old.nodes }
+        ensures dropped { result + count_by is_some self.new.nodes
+            ≡ count_by is_some self.old.nodes }
     {
         keep_marked(&mut self.nodes, marks)
     }

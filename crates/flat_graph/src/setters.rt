@@ -11,14 +11,16 @@ use flat_scene::{GraphFault, Held, HitRegion, RegionList};
 
 impl Graph {
     ghost use Rattle.flat_scene.specs.Misuse.{first_reason};
-    ghost use Rattle.flat_graph.specs.Reasons.{name_tests, scale_tests, opacity_tests, clip_tests, hits_tests, IsMisuse};
+    ghost use Rattle.flat_graph.specs.Reasons.{name_tests, scale_tests, opacity_tests, clip_tests};
+    ghost use Rattle.flat_graph.specs.Reasons.{hits_tests, IsMisuse};
     ghost use Rattle.flat_graph.specs.State.{change_named, without_held};
 
     /// Puts a transform at a place of its parent.
     ///
     /// `Bad` is ZeroId or UnknownTransform. It takes no memory.
     pub fn set_translation(&mut self, t: TransformId, x: i32, y: i32) -> Result<(), GraphFault>
-        ensures set { OnOk result (self.new ≡ change_named self.old t.0 (λ node. record node { place = (x, y) })) }
+        ensures set { OnOk result (self.new
+            ≡ change_named self.old t.0 (λ node. record node { place = (x, y) })) }
         ensures allowed { OnOk result (first_reason (name_tests self.old t.0) ≡ None) }
         ensures fault { IfErr result (IsMisuse (name_tests self.old t.0)) }
         ensures kept { OnErr result (self.new ≡ self.old) }
@@ -34,7 +36,8 @@ impl Graph {
     ///
     /// `Bad` is ZeroId or UnknownTransform. It takes no memory.
     pub fn set_orientation(&mut self, t: TransformId, turn: Orientation) -> Result<(), GraphFault>
-        ensures set { OnOk result (self.new ≡ change_named self.old t.0 (λ node. record node { turn = turn })) }
+        ensures set { OnOk result (self.new
+            ≡ change_named self.old t.0 (λ node. record node { turn = turn })) }
         ensures allowed { OnOk result (first_reason (name_tests self.old t.0) ≡ None) }
         ensures fault { IfErr result (IsMisuse (name_tests self.old t.0)) }
         ensures kept { OnErr result (self.new ≡ self.old) }
@@ -51,7 +54,8 @@ impl Graph {
     ///
     /// `Bad` is ZeroId, UnknownTransform or BadScale. It takes no memory.
     pub fn set_scale(&mut self, t: TransformId, x: u32, y: u32) -> Result<(), GraphFault>
-        ensures set { OnOk result (self.new ≡ change_named self.old t.0 (λ node. record node { scale = (x, y) })) }
+        ensures set { OnOk result (self.new
+            ≡ change_named self.old t.0 (λ node. record node { scale = (x, y) })) }
         ensures allowed { OnOk result (first_reason (scale_tests self.old t.0 x y) ≡ None) }
         ensures fault { IfErr result (IsMisuse (scale_tests self.old t.0 x y)) }
         ensures kept { OnErr result (self.new ≡ self.old) }
@@ -71,7 +75,8 @@ impl Graph {
     ///
     /// `Bad` is ZeroId, UnknownTransform or BadOpacity. It takes no memory.
     pub fn set_opacity(&mut self, t: TransformId, opacity: u32) -> Result<(), GraphFault>
-        ensures set { OnOk result (self.new ≡ change_named self.old t.0 (λ node. record node { opacity = opacity })) }
+        ensures set { OnOk result (self.new
+            ≡ change_named self.old t.0 (λ node. record node { opacity = opacity })) }
         ensures allowed { OnOk result (first_reason (opacity_tests self.old t.0 opacity) ≡ None) }
         ensures fault { IfErr result (IsMisuse (opacity_tests self.old t.0 opacity)) }
         ensures kept { OnErr result (self.new ≡ self.old) }
@@ -91,7 +96,8 @@ impl Graph {
     ///
     /// `Bad` is ZeroId, UnknownTransform or BadRect. It takes no memory.
     pub fn set_clip(&mut self, t: TransformId, clip: Option<IntRect>) -> Result<(), GraphFault>
-        ensures set { OnOk result (self.new ≡ change_named self.old t.0 (λ node. record node { clip = clip })) }
+        ensures set { OnOk result (self.new
+            ≡ change_named self.old t.0 (λ node. record node { clip = clip })) }
         ensures allowed { OnOk result (first_reason (clip_tests self.old t.0 clip) ≡ None) }
         ensures fault { IfErr result (IsMisuse (clip_tests self.old t.0 clip)) }
         ensures kept { OnErr result (self.new ≡ self.old) }
@@ -129,7 +135,8 @@ impl Graph {
     ///
     /// `Bad` is ZeroId, UnknownTransform, BadRect or TooManyRegions. It takes no memory.
     pub fn set_hits(&mut self, t: TransformId, regions: RegionList) -> Result<(), GraphFault>
-        ensures set { OnOk result (self.new ≡ change_named self.old t.0 (λ node. record node { hits = Some regions })) }
+        ensures set { OnOk result (self.new
+            ≡ change_named self.old t.0 (λ node. record node { hits = Some regions })) }
         ensures allowed { OnOk result (first_reason (hits_tests self.old t.0 regions) ≡ None) }
         ensures fault { IfErr result (IsMisuse (hits_tests self.old t.0 regions)) }
         ensures kept { OnErr result (self.new ≡ self.old) }
@@ -146,7 +153,8 @@ impl Graph {
     ///
     /// `Bad` is ZeroId or UnknownTransform. It takes no memory.
     pub fn set_content(&mut self, t: TransformId, held: Option<Held>) -> Result<(), GraphFault>
-        ensures set { OnOk result (self.new ≡ change_named self.old t.0 (λ node. record node { content = held })) }
+        ensures set { OnOk result (self.new
+            ≡ change_named self.old t.0 (λ node. record node { content = held })) }
         ensures allowed { OnOk result (first_reason (name_tests self.old t.0) ≡ None) }
         ensures fault { IfErr result (IsMisuse (name_tests self.old t.0)) }
         ensures kept { OnErr result (self.new ≡ self.old) }

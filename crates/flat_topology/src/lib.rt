@@ -15,7 +15,11 @@
 //! Rooted).
 #![tactic(auto)]
 
-ghost use Rattle.flat_topology.specs.Laws.{JoinsTheConnected, JoinsEachOnce, ReachesNoCycle, JoinsAll, JoinsFewSessions, JoinsFew, PlacesLowOpacities, ParentsDecide, DrawsInPreorder, ViewsTheJoined, ViewsBelowParents, ViewsTheConnected, HitsEachOnce};
+ghost use Rattle.flat_topology.specs.Laws.{JoinsTheConnected, JoinsEachOnce, ReachesNoCycle};
+ghost use Rattle.flat_topology.specs.Laws.{JoinsAll, JoinsFewSessions, JoinsFew};
+ghost use Rattle.flat_topology.specs.Laws.{PlacesLowOpacities, ParentsDecide, DrawsInPreorder};
+ghost use Rattle.flat_topology.specs.Laws.{ViewsTheJoined, ViewsBelowParents, ViewsTheConnected};
+ghost use Rattle.flat_topology.specs.Laws.{HitsEachOnce};
 
 mod distances;
 mod joining;

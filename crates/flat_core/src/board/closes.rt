@@ -19,7 +19,8 @@ impl Board {
     /// no memory.
     pub fn close(&mut self, s: SessionNo, line: u32, calls: CallList, why: Option<Reason>) -> Reply
         requires { MayCall self.old (Session s) calls (Close why) }
-        ensures reply { result ≡ reply_to self.old.setup self.old.history (Session s) calls (Close why) }
+        ensures reply { result ≡ reply_to self.old.setup self.old.history (Session s) calls
+            (Close why) }
         ensures entry { self.new ≡ entered self.old (Session s) line calls (Close why) result }
     {
         let reply = close_reply(why);

@@ -20,7 +20,8 @@ impl Board {
     /// takes no memory.
     pub fn view(&mut self, s: SessionNo, line: u32, calls: CallList, p: PairNo) -> Reply
         requires { MayCall self.old (Session s) calls (View p) }
-        ensures reply { result ≡ reply_to self.old.setup self.old.history (Session s) calls (View p) }
+        ensures reply { result ≡ reply_to self.old.setup self.old.history (Session s) calls
+            (View p) }
         ensures entry { self.new ≡ entered self.old (Session s) line calls (View p) result }
     {
         let is_held = !self.view_ends.is_used(p);
@@ -57,10 +58,13 @@ impl Board {
         props: ViewportProps,
     ) -> Result<Reply, Back>
         requires { MayCall self.old (Session s) calls (Viewport p props) }
-        ensures reply { IfOk result (λ reply. reply ≡ reply_to self.old.setup self.old.history (Session s) calls (Viewport p props)) }
-        ensures entry { IfOk result (λ reply. self.new ≡ entered self.old (Session s) line calls (Viewport p props) reply) }
+        ensures reply { IfOk result (λ reply. reply
+            ≡ reply_to self.old.setup self.old.history (Session s) calls (Viewport p props)) }
+        ensures entry { IfOk result (λ reply. self.new
+            ≡ entered self.old (Session s) line calls (Viewport p props) reply) }
         ensures same { IfErr result (λ back. self.new ≡ self.old) }
-        ensures back { IfErr result (λ back. back ≡ record { calls = calls; args = None; snap = None }) }
+        ensures back { IfErr result (λ back. back
+            ≡ record { calls = calls; args = None; snap = None }) }
     {
         let owner = self.setup.pairs.at(p.0 as usize).view;
         let is_shut = is_shut(self.sessions.as_slice(), owner);
@@ -110,11 +114,15 @@ impl Board {
         p: PairNo,
     ) -> Result<Reply, Back>
         requires may { MayCall self.old (Session s) calls (Get get) }
-        requires meant { watcher_of self.old.setup self.old.history (Session s) calls get ≡ Some (watcher_meant self.old.history get p) }
-        ensures reply { IfOk result (λ reply. reply ≡ reply_to self.old.setup self.old.history (Session s) calls (Get get)) }
-        ensures entry { IfOk result (λ reply. self.new ≡ entered self.old (Session s) line calls (Get get) reply) }
+        requires meant { watcher_of self.old.setup self.old.history (Session s) calls get
+            ≡ Some (watcher_meant self.old.history get p) }
+        ensures reply { IfOk result (λ reply. reply
+            ≡ reply_to self.old.setup self.old.history (Session s) calls (Get get)) }
+        ensures entry { IfOk result (λ reply. self.new
+            ≡ entered self.old (Session s) line calls (Get get) reply) }
         ensures same { IfErr result (λ back. self.new ≡ self.old) }
-        ensures back { IfErr result (λ back. back ≡ record { calls = calls; args = None; snap = None }) }
+        ensures back { IfErr result (λ back. back
+            ≡ record { calls = calls; args = None; snap = None }) }
     {
         let telling = Telling {
             setup: &self.setup,
