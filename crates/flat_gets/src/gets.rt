@@ -6,9 +6,11 @@ ghost use Rattle.flat_scene.specs.declared.setup.Setup.{Setup};
 ghost use Rattle.flat_watch.specs.Told.{news};
 ghost use Rattle.flat_gets.specs.Gets.{watched_of, rank, use_of, comes_before, watcher_of_held};
 ghost use Rattle.flat_gets.specs.Gets.{watcher_for, is_held_in, with_held, place_in, news_of};
-ghost use Rattle.flat_gets.specs.Gets.{still_held, answers_to, answering, last_of, noted_one};
-ghost use Rattle.flat_gets.specs.Gets.{started, unanswered, Changes, Answers, Settles, Asks};
+ghost use Rattle.flat_gets.specs.Gets.{still_held, answers_to, noted_one};
+ghost use Rattle.flat_gets.specs.Gets.{unanswered, Changes, Answers, Settles, Asks};
 ghost use Rattle.flat_rules.specs.Watch.{layout_of, status_of, child_of, told, same_watcher};
+
+mod answered;
 
 use flat_base::{FlatlandError, NoMemory, PairNo, SessionNo};
 use flat_scene::{Event, Post, Reply, Told, Watch};
@@ -153,55 +155,6 @@ impl HeldGet {
             || (rank == own_rank
                 && (pair.0 < self.pair.0
                     || (pair.0 == self.pair.0 && watched.use_number() < self.watched.use_number())))
-    }
-}
-
-impl Answered {
-    /// Nothing was answered.
-    pub fn new() -> Answered
-        ensures { result ≡ unanswered }
-    {
-        Answered {
-            layout: None,
-            status: None,
-            child: None,
-            uses: 0,
-        }
-    }
-
-    /// What was answered last of this.
-    pub fn last(&self, watched: Watched) -> Option<Told>
-        ensures { result ≡ last_of watched self.now }
-    {
-        match watched {
-            Watched::Layout => self.layout,
-            Watched::Status => self.status,
-            Watched::Child(_) => self.child,
-        }
-    }
-
-    /// A value is answered.
-    fn note(&mut self, watched: Watched, value: Told)
-        ensures { self.new ≡ answering watched value self.old }
-    {
-        match watched {
-            Watched::Layout => self.layout = Some(value),
-            Watched::Status => self.status = Some(value),
-            Watched::Child(number) => {
-                if number == self.uses {
-                    self.child = Some(value);
-                }
-            }
-        }
-    }
-
-    /// The viewport end is used anew. Nothing was asked of its child yet.
-    pub fn start_use(&mut self)
-        requires { self.old.uses + 1 < 2 ^ 32 }
-        ensures { self.new ≡ started self.old }
-    {
-        self.child = None;
-        self.uses += 1;
     }
 }
 
