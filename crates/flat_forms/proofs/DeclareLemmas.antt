@@ -7,6 +7,7 @@ use Rattle.flat_base.specs.declared.ids.SessionNo.{SessionNo}
 use Rattle.flat_scene.specs.declared.setup.PairDecl.{PairDecl}
 use Rattle.flat_scene.specs.declared.setup.BufferDecl.{BufferDecl}
 use Rattle.flat_scene.specs.declared.setup.FenceDecl.{FenceDecl}
+use Rattle.flat_places.specs.declared.kinds.FaultKind.TheVariants.{Limit}
 use Rattle.flat_places.specs.declared.script.Script.{Script}
 use Rattle.flat_places.specs.declared.names.Meaning.{Meaning}
 use Rattle.flat_places.specs.declared.names.Meaning.TheVariants.{Session, Probe, Buffers, Pair, Fence}
@@ -23,37 +24,37 @@ pub record Declares (s : Script) (room : Bool) (name : Word) : Type 0 where
   pub allowed : room ≡ true
   pub fresh : IsFresh s name
 
-pub name_declares : (s : Script) (words : List Word) (room : Bool) (v : Word) → Ok v ≡ unless_kind 11 room (whole (new_name s) words) → Declares s room v
+pub name_declares : (s : Script) (words : List Word) (room : Bool) (v : Word) → Ok v ≡ unless_kind Limit room (whole (new_name s) words) → Declares s room v
 name_declares s words room v is =
-    let tested = unless_ok 11 room (whole (new_name s) words) v (sym is) in
+    let tested = unless_ok Limit room (whole (new_name s) words) v (sym is) in
     record { allowed = tested.passed; fresh = new_name_ok s words v [] (whole_ok (new_name s) words v tested.given) }
 
 fresh_at : (s : Script) (v w : Word) → v ≡ w → IsFresh s v → IsFresh s w
 fresh_at s v w e fresh = let P : Word → Type 0 = λ x. IsFresh s x in subst P e fresh
 
-pub fence_declares : (s : Script) (words : List Word) (room : Bool) (v : Word × FenceDecl) → unless_kind 11 room (whole (fence s) words) ≡ Ok v → Declares s room v.0
+pub fence_declares : (s : Script) (words : List Word) (room : Bool) (v : Word × FenceDecl) → unless_kind Limit room (whole (fence s) words) ≡ Ok v → Declares s room v.0
 fence_declares s words room v is =
     let h : Word → List Actor → Word × FenceDecl = λ name actors. (name, record { owners = actors }) in
-    let tested = unless_ok 11 room (whole (fence s) words) v is in
+    let tested = unless_ok Limit room (whole (fence s) words) v is in
     let last = apply_ok (h <$> new_name s) (owners s) words v [] (whole_ok (fence s) words v tested.given) in
     let first = map_ok h (new_name s) words last.g last.mid last.first in
     let same : first.a ≡ v.0 = ap (λ g. (g last.a).0) first.value ∙ ap (λ d. d.0) last.value in
     record { allowed = tested.passed; fresh = fresh_at s first.a v.0 same (new_name_ok s words first.a last.mid first.given) }
 
-pub pair_declares : (s : Script) (words : List Word) (room : Bool) (v : Word × PairDecl) → Ok v ≡ unless_kind 11 room (whole (pair s) words) → Declares s room v.0
+pub pair_declares : (s : Script) (words : List Word) (room : Bool) (v : Word × PairDecl) → Ok v ≡ unless_kind Limit room (whole (pair s) words) → Declares s room v.0
 pair_declares s words room v is =
     let h : Word → Actor → SessionNo → Word × PairDecl = λ name x y. (name, record { viewport = x; view = y }) in
-    let tested = unless_ok 11 room (whole (pair s) words) v (sym is) in
+    let tested = unless_ok Limit room (whole (pair s) words) v (sym is) in
     let last = apply_ok (h <$> new_name s <*> pair_owner s) (session s) words v [] (whole_ok (pair s) words v tested.given) in
     let next = apply_ok (h <$> new_name s) (pair_owner s) words last.g last.mid last.first in
     let first = map_ok h (new_name s) words next.g next.mid next.first in
     let same : first.a ≡ v.0 = ap (λ g. (g next.a last.a).0) first.value ∙ ap (λ g. (g last.a).0) next.value ∙ ap (λ d. d.0) last.value in
     record { allowed = tested.passed; fresh = fresh_at s first.a v.0 same (new_name_ok s words first.a next.mid first.given) }
 
-pub buffers_declares : (s : Script) (words : List Word) (room : Bool) (v : Word × BufferDecl) → Ok v ≡ unless_kind 11 room (whole (buffers s) words) → Declares s room v.0
+pub buffers_declares : (s : Script) (words : List Word) (room : Bool) (v : Word × BufferDecl) → Ok v ≡ unless_kind Limit room (whole (buffers s) words) → Declares s room v.0
 buffers_declares s words room v is =
     let h : Word → SessionNo → ℕ → ℕ → ℕ → Word × BufferDecl = λ name a n x y. (name, record { owner = a; count = n; w = x; h = y }) in
-    let tested = unless_ok 11 room (whole (buffers s) words) v (sym is) in
+    let tested = unless_ok Limit room (whole (buffers s) words) v (sym is) in
     let five = apply_ok (h <$> new_name s <*> session s <*> number_from 1 64 <*> side) side words v [] (whole_ok (buffers s) words v tested.given) in
     let four = apply_ok (h <$> new_name s <*> session s <*> number_from 1 64) side words five.g five.mid five.first in
     let three = apply_ok (h <$> new_name s <*> session s) (number_from 1 64) words four.g four.mid four.first in

@@ -1,2 +1,3 @@
 pub mod DeclareLemmas
+pub mod Naming
 pub mod lemmas

@@ -19,6 +19,8 @@ use Rattle.flat_scene.specs.declared.script.ProbeLine.{ProbeLine}
 use Rattle.flat_scene.specs.declared.script.ProbeLine.TheVariants as probe
 use Rattle.flat_scene.specs.declared.script.Body.{Body}
 use Rattle.flat_scene.specs.declared.script.Body.TheVariants as body
+use Rattle.flat_base.specs.declared.limits.TheConstants.{FRAMES_MAX, LINES_PER_ACTOR_MAX}
+use Rattle.flat_places.specs.declared.kinds.FaultKind.TheVariants.{UnknownActor, UnknownCall, WrongCount, Limit, BadOrder}
 use Rattle.flat_places.specs.declared.script.Script.{Script}
 use Rattle.flat_places.specs.Known.{knows}
 use Rattle.flat_places.specs.Forms.{Word, Reading, Form, both, unless_kind, give, place, whole, one_or_more, named, mapped, ◌<$>◌, ◌<*>◌}
@@ -40,7 +42,7 @@ fence_lists known test (w ∷ words) =
     let is_release = is_keyword known (codes "release") in
     if is_acquire w then both (λ a r. (a, r)) (one_or_more test (before_first is_release words))
     (if list_any is_release words then one_or_more test (after_first is_release words) else Ok [])
-    else (if is_release w then both (λ a r. (a, r)) (Ok []) (one_or_more test words) else Err 8)
+    else (if is_release w then both (λ a r. (a, r)) (Ok []) (one_or_more test words) else Err WrongCount)
 
 -- a time, and the lists
 abbrev pub present : List Word → Script → SessionNo → Form PresentArgs
@@ -51,7 +53,7 @@ present known s a =
 
 -- what a session may wait for
 abbrev pub session_condition : List Word → Script → SessionNo → List Word → Reading Cond
-session_condition known s a = named known 6 (
+session_condition known s a = named known UnknownCall (
     (codes "frames", whole (cond.Frames <$> u32)) ∷ (codes "credits", whole (cond.Credits <$> u32)) ∷
     (codes "taken", whole (cond.Taken <$> u32)) ∷ (codes "answers", whole (cond.Answers <$> u32)) ∷
     (codes "fence", whole (cond.Fence <$> fence s (Session a))) ∷ [])
@@ -62,7 +64,7 @@ presents_asked s = (λ x n. cond.Presents x n) <$> session s <*> u32
 
 -- what the display may wait for
 abbrev pub display_condition : List Word → Script → List Word → Reading Cond
-display_condition known s = named known 6 (
+display_condition known s = named known UnknownCall (
     (codes "presents", whole (presents_asked s)) ∷ (codes "fence", whole (cond.Fence <$> fence s Display)) ∷ [])
 
 -- sessions
@@ -73,7 +75,7 @@ child_asked = (λ c. line.Get (watch.Child c)) <$> content
 
 -- a line of a session that is no call
 abbrev pub other_line : List Word → Script → SessionNo → List Word → Reading Line
-other_line known s a = named known 6 (
+other_line known s a = named known UnknownCall (
     (codes "Present", whole (line.Present <$> present known s a)) ∷
     (codes "GetLayout", whole (give (line.Get watch.Layout))) ∷
     (codes "GetStatus", whole (give (line.Get watch.Status))) ∷
@@ -85,7 +87,7 @@ other_line known s a = named known 6 (
 
 -- a line of a session: a call, or one of the other lines
 abbrev pub session_line : List Word → Script → SessionNo → List Word → Reading Line
-session_line known s a [] = Err 6
+session_line known s a [] = Err UnknownCall
 session_line known s a (w ∷ words) = option_map_or (λ n. mapped line.Call (whole (call_form s a n) words)) (call_named known w) (other_line known s a (w ∷ words))
 
 -- the display
@@ -126,7 +128,7 @@ greatest ts = fold max 0 ts
 
 -- the time, where it isn't below the least one
 abbrev pub in_order : ℕ → Reading ℕ → Reading ℕ
-in_order least (Ok t) = if nat_le least t then Ok t else Err 12
+in_order least (Ok t) = if nat_le least t then Ok t else Err BadOrder
 in_order least (Err k) = Err k
 
 -- a time that no earlier begin exceeds
@@ -135,9 +137,9 @@ begin_place s = place (λ w. in_order (greatest (begin_times s)) (whole time (w 
 
 -- a line of the display
 abbrev pub display_line : List Word → Script → List Word → Reading DisplayLine
-display_line known s = named known 6 (
-    (codes "begin", (λ rest. mapped display.Begin (unless_kind 11 (nat_lt (length (begin_times s)) 512) (unless_kind 12 (not (is_open s)) (whole (begin_place s) rest))))) ∷
-    (codes "done", (λ rest. unless_kind 12 (is_open s) (whole (give display.Done) rest))) ∷
+display_line known s = named known UnknownCall (
+    (codes "begin", (λ rest. mapped display.Begin (unless_kind Limit (nat_lt (length (begin_times s)) FRAMES_MAX) (unless_kind BadOrder (not (is_open s)) (whole (begin_place s) rest))))) ∷
+    (codes "done", (λ rest. unless_kind BadOrder (is_open s) (whole (give display.Done) rest))) ∷
     (codes "Signal", whole (display.Signal <$> fence s Display)) ∷
     (codes "Wait", (λ rest. mapped display.Wait (display_condition known s rest))) ∷
     (codes "hit", whole (point (λ x y. display.Hit x y))) ∷ [])
@@ -146,7 +148,7 @@ display_line known s = named known 6 (
 
 -- a line of a probe
 abbrev pub probe_line : List Word → List Word → Reading ProbeLine
-probe_line known = named known 6 (
+probe_line known = named known UnknownCall (
     (codes "hit", whole (point (λ x y. probe.Hit x y))) ∷ (codes "await", whole (probe.Await <$> u32)) ∷ [])
 
 -- all actors
@@ -167,9 +169,9 @@ with_line s n a b = record s { lines = s.lines ++ record { number = n; actor = a
 
 -- an actor has at most so many lines
 abbrev pub counted_line : List Word → Script → ℕ → Actor → List Word → Reading Script
-counted_line known s n a words = unless_kind 11 (nat_lt (lines_of_actor s a) 65536) (mapped (with_line s n a) (actor_line known s a words))
+counted_line known s n a words = unless_kind Limit (nat_lt (lines_of_actor s a) LINES_PER_ACTOR_MAX) (mapped (with_line s n a) (actor_line known s a words))
 
 -- an actor and its line
 abbrev pub body_line : List Word → Script → ℕ → List Word → Reading Script
-body_line known s n [] = Err 5
-body_line known s n (w ∷ words) = option_map_or (λ a. counted_line known s n a words) (actor_named s w) (Err 5)
+body_line known s n [] = Err UnknownActor
+body_line known s n (w ∷ words) = option_map_or (λ a. counted_line known s n a words) (actor_named s w) (Err UnknownActor)

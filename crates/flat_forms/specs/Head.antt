@@ -4,6 +4,8 @@ use Rattle.std.specs.Str.{bytes_eq}
 use Rattle.flat_scene.specs.declared.setup.PairDecl.{PairDecl}
 use Rattle.flat_scene.specs.declared.setup.BufferDecl.{BufferDecl}
 use Rattle.flat_scene.specs.declared.setup.FenceDecl.{FenceDecl}
+use Rattle.flat_base.specs.declared.limits.TheConstants.{BUFFER_COLLECTIONS_MAX, BUFFERS_PER_COLLECTION_MAX, FENCES_MAX, PAIRS_MAX, PROBES_MAX, SESSIONS_MAX, SIDE_MAX}
+use Rattle.flat_places.specs.declared.kinds.FaultKind.TheVariants.{BadHead, Limit}
 use Rattle.flat_places.specs.declared.script.Script.{Script}
 use Rattle.flat_places.specs.Forms.{Word, Reading, Form, unless_kind, give, whole, named, mapped, ◌<$>◌, ◌<*>◌}
 use Rattle.flat_places.specs.Places.{number_from, session, version, has_display_pair, new_name, pair_owner, owners}
@@ -27,7 +29,7 @@ has_display s = nat_lt 0 s.setup.width
 
 -- a side of the display or of a buffer
 abbrev pub side : Form ℕ
-side = number_from 1 65536
+side = number_from 1 SIDE_MAX
 
 -- the script with what a line declares
 
@@ -57,7 +59,7 @@ size = (λ w h. (w, h)) <$> side <*> side
 
 -- a buffer collection: its name, its owner, how many buffers, and their size
 abbrev pub buffers : Script → Form (Word × BufferDecl)
-buffers s = (λ name a n x y. (name, record { owner = a; count = n; w = x; h = y })) <$> new_name s <*> session s <*> number_from 1 64 <*> side <*> side
+buffers s = (λ name a n x y. (name, record { owner = a; count = n; w = x; h = y })) <$> new_name s <*> session s <*> number_from 1 BUFFERS_PER_COLLECTION_MAX <*> side <*> side
 
 -- a pair: its name, and who owns the viewport end and the view end
 abbrev pub pair : Script → Form (Word × PairDecl)
@@ -69,29 +71,29 @@ fence s = (λ name actors. (name, record { owners = actors })) <$> new_name s <*
 
 -- a declaration, of which a script has at most so many
 abbrev pub declared : {A : Type 0} → ℕ → List Word → (A → Script) → Form A → List Word → Reading Script
-declared most names with form words = mapped with (unless_kind 11 (nat_lt (length names) most) (whole form words))
+declared most names with form words = mapped with (unless_kind Limit (nat_lt (length names) most) (whole form words))
 
 abbrev pub display_line : Script → List Word → Reading Script
-display_line s words = mapped (λ d. with_display s d.0 d.1) (unless_kind 4 (not (has_display s)) (whole size words))
+display_line s words = mapped (λ d. with_display s d.0 d.1) (unless_kind BadHead (not (has_display s)) (whole size words))
 
 abbrev pub session_line : Script → List Word → Reading Script
-session_line s = declared 16 s.sessions (with_session s) (new_name s)
+session_line s = declared SESSIONS_MAX s.sessions (with_session s) (new_name s)
 
 abbrev pub probe_line : Script → List Word → Reading Script
-probe_line s = declared 8 s.probes (with_probe s) (new_name s)
+probe_line s = declared PROBES_MAX s.probes (with_probe s) (new_name s)
 
 abbrev pub buffers_line : Script → List Word → Reading Script
-buffers_line s = declared 256 s.buffers (λ d. with_buffers s d.0 d.1) (buffers s)
+buffers_line s = declared BUFFER_COLLECTIONS_MAX s.buffers (λ d. with_buffers s d.0 d.1) (buffers s)
 
 abbrev pub pair_line : Script → List Word → Reading Script
-pair_line s = declared 4096 s.pairs (λ d. with_pair s d.0 d.1) (pair s)
+pair_line s = declared PAIRS_MAX s.pairs (λ d. with_pair s d.0 d.1) (pair s)
 
 abbrev pub fence_line : Script → List Word → Reading Script
-fence_line s = declared 4096 s.fences (λ d. with_fence s d.0 d.1) (fence s)
+fence_line s = declared FENCES_MAX s.fences (λ d. with_fence s d.0 d.1) (fence s)
 
 -- a line of the head, but for the first and the last
 abbrev pub head_line : List Word → Script → List Word → Reading Script
-head_line known s = named known 4 (
+head_line known s = named known BadHead (
     (codes "display", display_line s) ∷
     (codes "session", session_line s) ∷
     (codes "probe", probe_line s) ∷
@@ -105,9 +107,9 @@ is_ready s = has_display s && nat_lt 0 (length s.sessions) && has_display_pair s
 
 -- `run`, which ends the head
 abbrev pub run_line : Script → List Word → Reading (Unit {0})
-run_line s words = unless_kind 4 (is_ready s) (whole (give (tt {0})) words)
+run_line s words = unless_kind BadHead (is_ready s) (whole (give (tt {0})) words)
 
 -- `flatland` and the version, which begin the head
 abbrev pub first_line : List Word → Reading (Unit {0})
-first_line [] = Err 4
-first_line (w ∷ words) = if bytes_eq w (codes "flatland") then whole version words else Err 4
+first_line [] = Err BadHead
+first_line (w ∷ words) = if bytes_eq w (codes "flatland") then whole version words else Err BadHead

@@ -1,6 +1,7 @@
 -- A line of words, in the part of the text that it is in.
 use Rattle.std.specs.Prelude.{ℕ, List, [], ◌∷◌, Err, codes, if◌then◌else◌}
 use Rattle.std.specs.Str.{bytes_eq}
+use Rattle.flat_places.specs.declared.kinds.FaultKind.TheVariants.{BadHead}
 use Rattle.flat_places.specs.declared.script.Script.{Script}
 use Rattle.flat_places.specs.Forms.{Word, Reading, mapped}
 use Rattle.flat_forms.specs.declared.lines.Part.{Part}
@@ -15,7 +16,7 @@ Sofar = Part × Script
 -- what the words of line n make of it
 abbrev pub words_read : List Word → ℕ → Sofar → List Word → Reading Sofar
 words_read known n (Start, s) words = mapped (λ _. (Head, s)) (first_line words)
-words_read known n (Head, s) [] = Err 4
+words_read known n (Head, s) [] = Err BadHead
 words_read known n (Head, s) (w ∷ words) =
     if bytes_eq w (codes "run") then mapped (λ _. (Body, s)) (run_line s words) else mapped (λ t. (Head, t)) (head_line known s (w ∷ words))
 words_read known n (Body, s) words = mapped (λ t. (Body, t)) (body_line known s n words)

@@ -29,7 +29,10 @@ pub fn call(
 {
     let mut places = Places::new(words);
     let found = fields(&mut places, alloc, script, session, name)?;
-    Ok(places.finish(found)?)
+    match places.finish(found) {
+        Ok(call) => Ok(call),
+        Err(kind) => Err(LineError::Kind(kind)),
+    }
 }
 
 /// The fields of a call.

@@ -1,8 +1,12 @@
-ghost use Rattle.std.specs.Prelude.{◌≡◌};
+ghost use Rattle.std.specs.Prelude.{◌≡◌, ◌<◌, ◌≤◌, length, find};
+ghost use Rattle.std.specs.Str.{bytes_eq};
 ghost use Rattle.flat_forms.specs.Calls.{call_named, text};
 ghost use Rattle.flat_places.specs.Known.{known_words};
 
 use flat_places::is_word;
+
+// The names of calls are found in two parts, by their bytes.
+const LONG_NAME: usize = 14;
 
 /// The words that name a call of a session.
 #[derive(Clone, Copy, Debug, PartialEq, Eq)]
@@ -37,39 +41,6 @@ pub enum CallName {
     SetContent,
     Clear,
 }
-
-// All calls.
-const CALLS: [CallName; 29] = [
-    CallName::CreateView,
-    CallName::ReleaseView,
-    CallName::CreateTransform,
-    CallName::ReleaseTransform,
-    CallName::SetTranslation,
-    CallName::SetOrientation,
-    CallName::SetScale,
-    CallName::SetOpacity,
-    CallName::SetClipBoundary,
-    CallName::AddChild,
-    CallName::RemoveChild,
-    CallName::SetRootTransform,
-    CallName::CreateViewport,
-    CallName::SetViewportProperties,
-    CallName::ReleaseViewport,
-    CallName::CreateImage,
-    CallName::SetImageSampleRegion,
-    CallName::SetImageDestinationSize,
-    CallName::SetImageBlendingFunction,
-    CallName::SetImageFlip,
-    CallName::SetImageOpacity,
-    CallName::ReleaseImage,
-    CallName::CreateFilledRect,
-    CallName::SetSolidFill,
-    CallName::ReleaseFilledRect,
-    CallName::SetHitRegions,
-    CallName::SetInfiniteHitRegion,
-    CallName::SetContent,
-    CallName::Clear,
-];
 
 impl CallName {
     /// How the call is written.
@@ -110,11 +81,105 @@ impl CallName {
     }
 }
 
-/// The call that the word names.
+/// The call that the word names. Its length leaves few calls to compare it with.
 pub fn call_named(word: &[u8]) -> Option<CallName>
     ensures { result ≡ call_named known_words word.now }
 {
-    CALLS
+    if word.len() < LONG_NAME {
+        short_call_named(word)
+    } else {
+        long_call_named(word)
+    }
+}
+
+/// The same of a short word.
+fn short_call_named(word: &[u8]) -> Option<CallName>
+    requires { length word.now < LONG_NAME }
+    ensures { result ≡ call_named known_words word.now }
+{
+    match word.len() {
+        5 => one_of(word, &[CallName::Clear]),
+        8 => one_of(word, &[CallName::SetScale, CallName::AddChild]),
+        10 => one_of(
+            word,
+            &[
+                CallName::CreateView,
+                CallName::SetOpacity,
+                CallName::SetContent,
+            ],
+        ),
+        11 => one_of(
+            word,
+            &[
+                CallName::ReleaseView,
+                CallName::RemoveChild,
+                CallName::CreateImage,
+            ],
+        ),
+        12 => one_of(
+            word,
+            &[
+                CallName::SetImageFlip,
+                CallName::ReleaseImage,
+                CallName::SetSolidFill,
+            ],
+        ),
+        13 => one_of(word, &[CallName::SetHitRegions]),
+        _ => None,
+    }
+}
+
+/// The same of a long word.
+fn long_call_named(word: &[u8]) -> Option<CallName>
+    requires { LONG_NAME ≤ length word.now }
+    ensures { result ≡ call_named known_words word.now }
+{
+    match word.len() {
+        14 => one_of(
+            word,
+            &[
+                CallName::SetTranslation,
+                CallName::SetOrientation,
+                CallName::CreateViewport,
+            ],
+        ),
+        15 => one_of(
+            word,
+            &[
+                CallName::CreateTransform,
+                CallName::SetClipBoundary,
+                CallName::ReleaseViewport,
+                CallName::SetImageOpacity,
+            ],
+        ),
+        16 => one_of(
+            word,
+            &[
+                CallName::ReleaseTransform,
+                CallName::SetRootTransform,
+                CallName::CreateFilledRect,
+            ],
+        ),
+        17 => one_of(word, &[CallName::ReleaseFilledRect]),
+        20 => one_of(
+            word,
+            &[
+                CallName::SetImageSampleRegion,
+                CallName::SetInfiniteHitRegion,
+            ],
+        ),
+        21 => one_of(word, &[CallName::SetViewportProperties]),
+        23 => one_of(word, &[CallName::SetImageDestinationSize]),
+        24 => one_of(word, &[CallName::SetImageBlendingFunction]),
+        _ => None,
+    }
+}
+
+/// The one of these calls that the word names.
+fn one_of(word: &[u8], names: &[CallName]) -> Option<CallName>
+    ensures { result ≡ find (λ n. bytes_eq word.now (text n)) names.now }
+{
+    names
         .iter()
         .copied()
         .find(|name| is_word(word, name.text()))

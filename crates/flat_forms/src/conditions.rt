@@ -8,7 +8,7 @@ ghost use Rattle.flat_places.specs.Places.{u32};
 
 use crate::forms::owned_fence;
 use flat_base::{Actor, SessionNo};
-use flat_places::{Indexed, Places, is_word};
+use flat_places::{FaultKind, Indexed, Places, is_word};
 use flat_scene::Cond;
 use flat_text::next_piece;
 
@@ -17,12 +17,12 @@ pub fn session_condition(
     script: &Indexed,
     session: SessionNo,
     words: Option<&[u8]>,
-) -> Result<Cond, u32>
+) -> Result<Cond, FaultKind>
     requires { IsIndexed script.now }
     ensures { result ≡ session_condition known_words script.now.script session (pieces_left is_space words.entry) }
 {
     let Some(words) = words else {
-        return Err(6);
+        return Err(FaultKind::UnknownCall);
     };
     let (word, rest) = next_piece(words, b' ');
     if is_word(word, "frames") {
@@ -55,16 +55,16 @@ pub fn session_condition(
             Err(k) => Err(k),
         };
     }
-    Err(6)
+    Err(FaultKind::UnknownCall)
 }
 
 /// What the display waits for, behind `Wait`.
-pub fn display_condition(script: &Indexed, words: Option<&[u8]>) -> Result<Cond, u32>
+pub fn display_condition(script: &Indexed, words: Option<&[u8]>) -> Result<Cond, FaultKind>
     requires { IsIndexed script.now }
     ensures { result ≡ display_condition known_words script.now.script (pieces_left is_space words.entry) }
 {
     let Some(words) = words else {
-        return Err(6);
+        return Err(FaultKind::UnknownCall);
     };
     let (word, rest) = next_piece(words, b' ');
     if is_word(word, "presents") {
@@ -76,11 +76,11 @@ pub fn display_condition(script: &Indexed, words: Option<&[u8]>) -> Result<Cond,
             Err(k) => Err(k),
         };
     }
-    Err(6)
+    Err(FaultKind::UnknownCall)
 }
 
 /// The number that a condition or a probe's `await` asks for.
-pub fn count(words: Option<&[u8]>) -> Result<u32, u32>
+pub fn count(words: Option<&[u8]>) -> Result<u32, FaultKind>
     ensures { result ≡ whole u32 (pieces_left is_space words.entry) }
 {
     let mut places = Places::new(words);
@@ -88,7 +88,7 @@ pub fn count(words: Option<&[u8]>) -> Result<u32, u32>
     places.finish(n)
 }
 
-fn presents(script: &Indexed, words: Option<&[u8]>) -> Result<Cond, u32>
+fn presents(script: &Indexed, words: Option<&[u8]>) -> Result<Cond, FaultKind>
     requires { IsIndexed script.now }
     ensures { result ≡ whole (presents_asked script.now.script) (pieces_left is_space words.entry) }
 {

@@ -1,32 +1,45 @@
 ghost use Rattle.std.specs.Prelude.{◌≡◌, ◌<◌, Err, max, cond, ◌||◌};
 ghost use Rattle.std.specs.Option.{option_map_or};
 ghost use Rattle.flat_base.specs.declared.ids.Actor.TheVariants.{Display};
+ghost use Rattle.flat_places.specs.declared.kinds.FaultKind.TheVariants.{Limit};
 ghost use Rattle.flat_places.specs.Forms.{unless_kind};
 ghost use Rattle.flat_places.specs.Names.{is_actor};
 ghost use Rattle.flat_places.specs.Slots.{slot, IsCounted};
 ghost use Rattle.flat_forms.specs.Body.{time_begun, ends_frame};
 
-use flat_base::Actor;
+use flat_base::{Actor, PROBES_MAX, SESSIONS_MAX};
+use flat_places::FaultKind;
 use flat_scene::{Body, DisplayLine};
+
+// The display's count stands first, then those of the sessions, numbered from 1, and
+// those of the probes.
+const FIRST_PROBE: usize = SESSIONS_MAX as usize + 1;
+
+/// Actors of a script.
+pub const ACTORS_MAX: usize = FIRST_PROBE + PROBES_MAX as usize;
 
 /// The place of the actor's count.
 pub fn slot(actor: Actor) -> usize
     requires { IsCounted actor }
     ensures slot { result ≡ slot actor }
-    ensures within { result < 25 }
+    ensures within { result < ACTORS_MAX }
 {
     match actor {
         Actor::Display => 0,
         Actor::Session(s) => s.0 as usize,
-        Actor::Probe(p) => p as usize + 17,
+        Actor::Probe(p) => p as usize + FIRST_PROBE,
     }
 }
 
-/// The kind, or 11 where it is lower and there is no room.
-pub fn limited(room: bool, kind: u32) -> u32
-    ensures { unless_kind {A = Unit {0}} 11 room (Err kind) ≡ Err result }
+/// The kind, or Limit where that is lower and there is no room.
+pub fn limited(room: bool, kind: FaultKind) -> FaultKind
+    ensures { unless_kind {A = Unit {0}} Limit room (Err kind) ≡ Err result }
 {
-    if room { kind } else { kind.min(11) }
+    if room {
+        kind
+    } else {
+        kind.lower(FaultKind::Limit)
+    }
 }
 
 /// The time of a begin, where the line is one.

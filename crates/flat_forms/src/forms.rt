@@ -1,11 +1,12 @@
 ghost use Rattle.std.specs.Prelude.{◌≡◌, ◌≤◌, ◌∷◌, false, length, nat_lt, not, codes, IsTrue, IfOk};
 ghost use Rattle.std.specs.Str.{bytes_eq};
 ghost use Rattle.flat_text.specs.Pieces.{is_space, pieces_left, words_of};
+ghost use Rattle.flat_places.specs.declared.kinds.FaultKind.TheVariants.{BadHead, Limit, BadOrder};
 ghost use Rattle.flat_places.specs.Known.{known_words};
 ghost use Rattle.flat_places.specs.Forms.{whole, give, unless_kind, mapped};
 ghost use Rattle.flat_forms.specs.Head as head;
 ghost use Rattle.flat_forms.specs.Head.{size, buffers, pair, run_line, first_line};
-ghost use Rattle.flat_places.specs.Places.{new_name, has_display_pair, fence, point};
+ghost use Rattle.flat_places.specs.Places.{new_name, has_display_pair, fence, point, version};
 ghost use Rattle.flat_forms.specs.Body.{begin_place, begin_times, dones, greatest, display_line, probe_line};
 ghost use Rattle.flat_places.specs.Index.{IsIndexed};
 ghost use Rattle.flat_places.specs.Reads.{Reads};
@@ -16,45 +17,57 @@ ghost use Rattle.flat_scene.specs.declared.script.ProbeLine.TheVariants as probe
 
 use crate::conditions::{count, display_condition};
 use crate::lines::LineError;
-use flat_base::{Actor, FenceNo, SessionNo};
-use flat_places::{Indexed, Places, is_word};
+use flat_base::{
+    Actor, BUFFERS_PER_COLLECTION_MAX, FRAMES_MAX, FenceNo, SIDE_MAX, SessionNo, TIME_MAX,
+};
+use flat_places::{FaultKind, Indexed, Places, is_word};
 use flat_scene::{
     BufferDecl, DisplayLine, FenceDecl, Line, PairDecl, PresentArgs, ProbeLine, Watch,
 };
 use flat_text::{next_piece, read_natural};
 use std::alloc::Global;
 
-/// The version, behind `flatland`.
-pub fn first_line(words: &[u8]) -> Result<(), u32>
+/// `flatland`, and the version behind it.
+pub fn first_line(words: &[u8]) -> Result<(), FaultKind>
     ensures { result ≡ first_line (words_of words.now) }
 {
     let (word, rest) = next_piece(words, b' ');
     if is_word(word, "flatland") {
-        let mut places = Places::new(rest);
-        places.version();
-        return places.finish(());
+        return version(rest);
     }
-    Err(4)
+    Err(FaultKind::BadHead)
+}
+
+fn version(words: Option<&[u8]>) -> Result<(), FaultKind>
+    ensures { result ≡ whole version (pieces_left is_space words.entry) }
+{
+    let mut places = Places::new(words);
+    places.version();
+    places.finish(())
 }
 
 /// The size of the display, where `fresh` says whether it is the first.
-pub fn size(fresh: bool, words: Option<&[u8]>) -> Result<(u32, u32), u32>
-    ensures { result ≡ unless_kind 4 fresh (whole size (pieces_left is_space words.entry)) }
+pub fn size(fresh: bool, words: Option<&[u8]>) -> Result<(u32, u32), FaultKind>
+    ensures { result ≡ unless_kind BadHead fresh (whole size (pieces_left is_space words.entry)) }
 {
     let mut places = Places::new(words);
-    places.note_unless(4, fresh);
-    let w = places.number_from(1, 65536);
-    let h = places.number_from(1, 65536);
+    places.note_unless(FaultKind::BadHead, fresh);
+    let w = places.number_from(1, SIDE_MAX);
+    let h = places.number_from(1, SIDE_MAX);
     places.finish((w, h))
 }
 
 /// The name of a session or a probe, where `room` says whether there may be one more.
-pub fn lone_name<'a>(script: &Indexed, room: bool, words: Option<&'a [u8]>) -> Result<&'a [u8], u32>
+pub fn lone_name<'a>(
+    script: &Indexed,
+    room: bool,
+    words: Option<&'a [u8]>,
+) -> Result<&'a [u8], FaultKind>
     requires { IsIndexed script.now }
-    ensures { mapped (λ w. w.now) result ≡ unless_kind 11 room (whole (new_name script.now.script) (pieces_left is_space words.entry)) }
+    ensures { mapped (λ w. w.now) result ≡ unless_kind Limit room (whole (new_name script.now.script) (pieces_left is_space words.entry)) }
 {
     let mut places = Places::new(words);
-    places.note_unless(11, room);
+    places.note_unless(FaultKind::Limit, room);
     let name = places.new_name(script);
     places.finish(name)
 }
@@ -64,17 +77,17 @@ pub fn buffers<'a>(
     script: &Indexed,
     room: bool,
     words: Option<&'a [u8]>,
-) -> Result<(&'a [u8], BufferDecl), u32>
+) -> Result<(&'a [u8], BufferDecl), FaultKind>
     requires { IsIndexed script.now }
-    ensures { mapped (λ d. (d.0.now, d.1)) result ≡ unless_kind 11 room (whole (buffers script.now.script) (pieces_left is_space words.entry)) }
+    ensures { mapped (λ d. (d.0.now, d.1)) result ≡ unless_kind Limit room (whole (buffers script.now.script) (pieces_left is_space words.entry)) }
 {
     let mut places = Places::new(words);
-    places.note_unless(11, room);
+    places.note_unless(FaultKind::Limit, room);
     let name = places.new_name(script);
     let owner = places.session(script);
-    let count = places.number_from(1, 64);
-    let w = places.number_from(1, 65536);
-    let h = places.number_from(1, 65536);
+    let count = places.number_from(1, BUFFERS_PER_COLLECTION_MAX);
+    let w = places.number_from(1, SIDE_MAX);
+    let h = places.number_from(1, SIDE_MAX);
     places.finish((name, BufferDecl { owner, count, w, h }))
 }
 
@@ -85,13 +98,13 @@ pub fn pair<'a>(
     room: bool,
     paired: bool,
     words: Option<&'a [u8]>,
-) -> Result<(&'a [u8], PairDecl), u32>
+) -> Result<(&'a [u8], PairDecl), FaultKind>
     requires indexed { IsIndexed script.now }
     requires paired { paired ≡ has_display_pair script.now.script }
-    ensures { mapped (λ d. (d.0.now, d.1)) result ≡ unless_kind 11 room (whole (pair script.now.script) (pieces_left is_space words.entry)) }
+    ensures { mapped (λ d. (d.0.now, d.1)) result ≡ unless_kind Limit room (whole (pair script.now.script) (pieces_left is_space words.entry)) }
 {
     let mut places = Places::new(words);
-    places.note_unless(11, room);
+    places.note_unless(FaultKind::Limit, room);
     let name = places.new_name(script);
     let viewport = places.pair_owner(script, paired);
     let view = places.session(script);
@@ -106,10 +119,10 @@ pub fn fence<'a>(
     words: Option<&'a [u8]>,
 ) -> Result<(&'a [u8], FenceDecl), LineError>
     requires { IsIndexed script.now }
-    ensures { ReachesBy (λ d. (d.0.now, d.1)) result (unless_kind 11 room (whole (head.fence script.now.script) (pieces_left is_space words.entry))) }
+    ensures { ReachesBy (λ d. (d.0.now, d.1)) result (unless_kind Limit room (whole (head.fence script.now.script) (pieces_left is_space words.entry))) }
 {
     let mut places = Places::new(words);
-    places.note_unless(11, room);
+    places.note_unless(FaultKind::Limit, room);
     let name = places.new_name(script);
     let owners = places.owners(alloc, script)?;
     match places.finish((name, FenceDecl { owners })) {
@@ -119,16 +132,20 @@ pub fn fence<'a>(
 }
 
 /// The end of the head, where `ready` says whether all is there.
-pub fn run(ready: bool, words: Option<&[u8]>) -> Result<(), u32>
-    ensures { result ≡ unless_kind 4 ready (whole (give tt) (pieces_left is_space words.entry)) }
+pub fn run(ready: bool, words: Option<&[u8]>) -> Result<(), FaultKind>
+    ensures { result ≡ unless_kind BadHead ready (whole (give tt) (pieces_left is_space words.entry)) }
 {
     let mut places = Places::new(words);
-    places.note_unless(4, ready);
+    places.note_unless(FaultKind::BadHead, ready);
     places.finish(())
 }
 
 /// A fence of the actor, and nothing behind it.
-pub fn owned_fence(script: &Indexed, owner: Actor, words: Option<&[u8]>) -> Result<FenceNo, u32>
+pub fn owned_fence(
+    script: &Indexed,
+    owner: Actor,
+    words: Option<&[u8]>,
+) -> Result<FenceNo, FaultKind>
     requires { IsIndexed script.now }
     ensures { result ≡ whole (fence script.now.script owner) (pieces_left is_space words.entry) }
 {
@@ -145,13 +162,13 @@ fn begin(
     in_frame: bool,
     last: u64,
     words: Option<&[u8]>,
-) -> Result<u64, u32>
+) -> Result<u64, FaultKind>
     requires { last ≡ greatest (begin_times script.now.script) }
-    ensures { result ≡ unless_kind 11 (nat_lt begins 512) (unless_kind 12 (not in_frame) (whole (begin_place script.now.script) (pieces_left is_space words.entry))) }
+    ensures { result ≡ unless_kind Limit (nat_lt begins FRAMES_MAX) (unless_kind BadOrder (not in_frame) (whole (begin_place script.now.script) (pieces_left is_space words.entry))) }
 {
     let mut places = Places::new(words);
-    places.note_unless(11, begins < 512);
-    places.note_unless(12, !in_frame);
+    places.note_unless(FaultKind::Limit, begins < FRAMES_MAX);
+    places.note_unless(FaultKind::BadOrder, !in_frame);
     let time = begin_time(&mut places, script, last);
     places.finish(time)
 }
@@ -162,29 +179,29 @@ fn begin_time(places: &mut Places, script: &Indexed, last: u64) -> u64
     ensures { Reads (begin_place script.now.script) places.old places.new result }
 {
     let Some(word) = places.next() else {
-        places.note(8);
+        places.note(FaultKind::WrongCount);
         return 0;
     };
     match read_natural(word) {
-        Some(n) if n < 9223372036854775808 => {
+        Some(n) if n <= TIME_MAX as u128 => {
             if last as u128 <= n {
                 return n as u64;
             }
-            places.note(12);
+            places.note(FaultKind::BadOrder);
             0
         }
         _ => {
-            places.note(7);
+            places.note(FaultKind::BadNumber);
             0
         }
     }
 }
 
-fn done(in_frame: bool, words: Option<&[u8]>) -> Result<DisplayLine, u32>
-    ensures { result ≡ unless_kind 12 in_frame (whole (give Done) (pieces_left is_space words.entry)) }
+fn done(in_frame: bool, words: Option<&[u8]>) -> Result<DisplayLine, FaultKind>
+    ensures { result ≡ unless_kind BadOrder in_frame (whole (give Done) (pieces_left is_space words.entry)) }
 {
     let mut places = Places::new(words);
-    places.note_unless(12, in_frame);
+    places.note_unless(FaultKind::BadOrder, in_frame);
     places.finish(DisplayLine::Done)
 }
 
@@ -196,7 +213,7 @@ pub fn display_line(
     ended: u32,
     last: u64,
     words: Option<&[u8]>,
-) -> Result<DisplayLine, u32>
+) -> Result<DisplayLine, FaultKind>
     requires indexed { IsIndexed script.now }
     requires begun { begins ≡ length (begin_times script.now.script) }
     requires all_ended { ended ≡ dones script.now.script }
@@ -204,7 +221,7 @@ pub fn display_line(
     ensures { result ≡ display_line known_words script.now.script (pieces_left is_space words.entry) }
 {
     let Some(words) = words else {
-        return Err(6);
+        return Err(FaultKind::UnknownCall);
     };
     let (word, rest) = next_piece(words, b' ');
     if is_word(word, "begin") {
@@ -221,7 +238,11 @@ pub fn display_line(
 
 /// What a line of the display that is neither a begin nor a done writes, behind its
 /// first word.
-fn timeless_line(script: &Indexed, word: &[u8], words: Option<&[u8]>) -> Result<DisplayLine, u32>
+fn timeless_line(
+    script: &Indexed,
+    word: &[u8],
+    words: Option<&[u8]>,
+) -> Result<DisplayLine, FaultKind>
     requires { IsIndexed script.now }
     ensures { bytes_eq word.now (codes "begin") ≡ false → bytes_eq word.now (codes "done") ≡ false → result ≡ display_line known_words script.now.script (word.now ∷ pieces_left is_space words.entry) }
 {
@@ -240,15 +261,15 @@ fn timeless_line(script: &Indexed, word: &[u8], words: Option<&[u8]>) -> Result<
     if is_word(word, "hit") {
         return hit(words);
     }
-    Err(6)
+    Err(FaultKind::UnknownCall)
 }
 
 /// What a line of a probe writes.
-pub fn probe_line(words: Option<&[u8]>) -> Result<ProbeLine, u32>
+pub fn probe_line(words: Option<&[u8]>) -> Result<ProbeLine, FaultKind>
     ensures { result ≡ probe_line known_words (pieces_left is_space words.entry) }
 {
     let Some(words) = words else {
-        return Err(6);
+        return Err(FaultKind::UnknownCall);
     };
     let (word, rest) = next_piece(words, b' ');
     if is_word(word, "hit") {
@@ -260,11 +281,11 @@ pub fn probe_line(words: Option<&[u8]>) -> Result<ProbeLine, u32>
             Err(k) => Err(k),
         };
     }
-    Err(6)
+    Err(FaultKind::UnknownCall)
 }
 
 /// A question of the display, who is hit at a point.
-fn hit(words: Option<&[u8]>) -> Result<DisplayLine, u32>
+fn hit(words: Option<&[u8]>) -> Result<DisplayLine, FaultKind>
     ensures { result ≡ whole (point (λ x y. display.Hit x y)) (pieces_left is_space words.entry) }
 {
     let mut places = Places::new(words);
@@ -274,7 +295,7 @@ fn hit(words: Option<&[u8]>) -> Result<DisplayLine, u32>
 }
 
 /// The same question of a probe.
-fn probe_hit(words: Option<&[u8]>) -> Result<ProbeLine, u32>
+fn probe_hit(words: Option<&[u8]>) -> Result<ProbeLine, FaultKind>
     ensures { result ≡ whole (point (λ x y. probe.Hit x y)) (pieces_left is_space words.entry) }
 {
     let mut places = Places::new(words);

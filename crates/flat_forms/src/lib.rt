@@ -1,4 +1,8 @@
 //! The lines of a script: the form of each, and what it makes of the script so far.
+//! [`Parser::words`] keeps `words_read` (specs/Lines; src/parser.rt), by the forms of
+//! the head (specs/Head; src/forms.rt) and of the body (specs/Body; src/forms.rt,
+//! src/session_forms.rt), with its calls (specs/Calls; src/call_forms.rt) and lists
+//! (src/lists.rt).
 //!
 //! Other crates may cite the lemmas of proofs/lemmas/: forms and what they read
 //! (FormLemmas), what names mean (IndexLemmas), lists (ListLemmas), and a line's step

@@ -2,6 +2,7 @@ ghost use Rattle.std.specs.Prelude.{◌≡◌};
 ghost use Rattle.flat_forms.specs.declared.lines.LineError.TheVariants.{Kind, Memory};
 
 use flat_base::NoMemory;
+use flat_places::FaultKind;
 
 /// The part of a text that a line is in.
 #[derive(Clone, Copy, Debug, PartialEq, Eq)]
@@ -18,15 +19,15 @@ pub enum Part {
 #[derive(Clone, Copy, Debug, PartialEq, Eq)]
 pub enum LineError {
     /// It has a fault, whose lowest kind this is.
-    Kind(u32),
+    Kind(FaultKind),
     /// Memory ran out.
     Memory,
 }
 
-impl From<u32> for LineError {
+impl From<FaultKind> for LineError {
     ghost from_gives = { λ k e. e ≡ Kind k };
 
-    fn from(kind: u32) -> LineError {
+    fn from(kind: FaultKind) -> LineError {
         LineError::Kind(kind)
     }
 }

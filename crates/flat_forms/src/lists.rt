@@ -10,7 +10,7 @@ ghost use Rattle.flat_places.specs.Places.{fence_word};
 ghost use Rattle.flat_places.specs.Reads.{Reads, left};
 
 use flat_base::{Actor, FenceList, Items, NoMemory, SessionNo};
-use flat_places::{Indexed, Places, is_word};
+use flat_places::{FaultKind, Indexed, Places, is_word};
 use flat_text::next_piece;
 use std::alloc::Global;
 
@@ -59,7 +59,7 @@ fn some_fences(
     ensures { IfOk result (λ v. ReadsList (one_or_more (fence_word script.now.script owner)) follows places.old places.new v) }
 {
     let some = has_fence(places, follows);
-    places.note_unless(8, some);
+    places.note_unless(FaultKind::WrongCount, some);
     each_fence(places, alloc, script, owner, follows)
 }
 
@@ -116,7 +116,7 @@ pub fn fence_lists(
         let release = last_list(places, alloc, script, owner)?;
         return Ok((Items::new(alloc), release));
     }
-    places.note(8);
+    places.note(FaultKind::WrongCount);
     places.words = None;
     Ok((Items::new(alloc), Items::new(alloc)))
 }

@@ -11,14 +11,16 @@ ghost use Rattle.flat_places.specs.Slots.{IsCounted};
 ghost use Rattle.flat_forms.specs.Steps.{Steps, Reaches};
 ghost use Rattle.flat_forms.specs.Progress.{Kept, sofar_of, SameFrames};
 
-use crate::counts::{ends_frame, last_after, limited, one_if, or_display, slot, time_begun};
+use crate::counts::{
+    ACTORS_MAX, ends_frame, last_after, limited, one_if, or_display, slot, time_begun,
+};
 use crate::lines::{LineError, Part};
 use crate::{forms, session_forms};
 use flat_base::{
     Actor, BUFFER_COLLECTIONS_MAX, FENCES_MAX, Items, LINES_PER_ACTOR_MAX, PAIRS_MAX, PROBES_MAX,
     SESSIONS_MAX,
 };
-use flat_places::{Indexed, Meaning, Name, Names, Script, is_word};
+use flat_places::{FaultKind, Indexed, Meaning, Name, Names, Script, is_word};
 use flat_scene::{Body, ScriptLine, Setup};
 use flat_text::next_piece;
 use std::alloc::Global;
@@ -39,7 +41,7 @@ pub struct Parser {
     /// The greatest time of a begin.
     pub last: u64,
     /// The lines of each actor, at its place of `slot`.
-    pub counts: [u32; 25],
+    pub counts: [u32; ACTORS_MAX],
 }
 
 impl Parser {
@@ -59,7 +61,7 @@ impl Parser {
             begins: 0,
             dones: 0,
             last: 0,
-            counts: [0; 25],
+            counts: [0; ACTORS_MAX],
         }
     }
 
@@ -185,7 +187,7 @@ impl Parser {
         if is_word(word, "fence") {
             return self.fence(alloc, rest);
         }
-        Err(LineError::Kind(4))
+        Err(LineError::Kind(FaultKind::BadHead))
     }
 
     fn actor_line(
@@ -225,7 +227,7 @@ impl Parser {
     fn has_room(&self, actor: Actor) -> bool
         requires kept { Kept self.now }
         requires counted { IsCounted actor }
-        ensures { result ≡ nat_lt (lines_of_actor self.now.text.script actor) 65536 }
+        ensures { result ≡ nat_lt (lines_of_actor self.now.text.script actor) LINES_PER_ACTOR_MAX }
     {
         self.counts[slot(actor)] < LINES_PER_ACTOR_MAX
     }
@@ -234,7 +236,7 @@ impl Parser {
     fn take(&mut self, number: u32, actor: Actor, body: Body) -> Result<(), LineError>
         requires kept { Kept self.old }
         requires counted { IsCounted actor }
-        requires room { lines_of_actor self.old.text.script actor < 65536 }
+        requires room { lines_of_actor self.old.text.script actor < LINES_PER_ACTOR_MAX }
         requires begins { self.old.begins + 1 < 2 ^ 32 }
         requires dones { self.old.dones + 1 < 2 ^ 32 }
         ensures script { OnOk result (self.new.text.script ≡ with_line self.old.text.script number actor body) }
@@ -278,7 +280,7 @@ impl Parser {
                 if room {
                     self.take(number, actor, body)
                 } else {
-                    Err(LineError::Kind(11))
+                    Err(LineError::Kind(FaultKind::Limit))
                 }
             }
             Err(LineError::Kind(k)) => Err(LineError::Kind(limited(room, k))),
@@ -297,7 +299,7 @@ impl Parser {
     {
         let (word, rest) = next_piece(words, b' ');
         let Some(actor) = self.text.actor(word) else {
-            return Err(LineError::Kind(5));
+            return Err(LineError::Kind(FaultKind::UnknownActor));
         };
         self.counted(alloc, number, actor, rest)
     }

@@ -14,7 +14,7 @@ use crate::forms::owned_fence;
 use crate::lines::LineError;
 use crate::lists::fence_lists;
 use flat_base::{Actor, SessionNo};
-use flat_places::{Indexed, Places, is_word};
+use flat_places::{FaultKind, Indexed, Places, is_word};
 use flat_scene::{Line, PresentArgs, Watch};
 use flat_text::next_piece;
 use std::alloc::Global;
@@ -30,7 +30,7 @@ pub fn session_line(
     ensures { Reaches result (session_line known_words script.now.script session (pieces_left is_space words.entry)) }
 {
     let Some(words) = words else {
-        return Err(LineError::Kind(6));
+        return Err(LineError::Kind(FaultKind::UnknownCall));
     };
     let (word, rest) = next_piece(words, b' ');
     match call_named(word) {
@@ -59,7 +59,7 @@ fn other_line(
             Err(e) => Err(e),
         };
     }
-    match private_line(script, session, word, words) {
+    match timeless_line(script, session, word, words) {
         Ok(line) => Ok(line),
         Err(k) => Err(LineError::Kind(k)),
     }
@@ -67,12 +67,12 @@ fn other_line(
 
 /// What a line of a session that is neither a call nor a present writes, behind its
 /// first word.
-fn private_line(
+fn timeless_line(
     script: &Indexed,
     session: SessionNo,
     word: &[u8],
     words: Option<&[u8]>,
-) -> Result<Line, u32>
+) -> Result<Line, FaultKind>
     requires { IsIndexed script.now }
     ensures { bytes_eq word.now (codes "Present") ≡ false → result ≡ other_line known_words script.now.script session (word.now ∷ pieces_left is_space words.entry) }
 {
@@ -103,7 +103,7 @@ fn private_line(
     if is_word(word, "Disconnect") {
         return alone(Line::Disconnect, words);
     }
-    Err(6)
+    Err(FaultKind::UnknownCall)
 }
 
 /// A present: its time and its lists of fences.
@@ -127,7 +127,7 @@ fn present(
 }
 
 /// A line that is its first word alone.
-fn alone(line: Line, words: Option<&[u8]>) -> Result<Line, u32>
+fn alone(line: Line, words: Option<&[u8]>) -> Result<Line, FaultKind>
     ensures { result ≡ whole (give line) (pieces_left is_space words.entry) }
 {
     let places = Places::new(words);
@@ -135,7 +135,7 @@ fn alone(line: Line, words: Option<&[u8]>) -> Result<Line, u32>
 }
 
 /// A get of a viewport.
-fn get_child(words: Option<&[u8]>) -> Result<Line, u32>
+fn get_child(words: Option<&[u8]>) -> Result<Line, FaultKind>
     ensures { result ≡ whole child_asked (pieces_left is_space words.entry) }
 {
     let mut places = Places::new(words);

@@ -2,8 +2,11 @@
 --
 -- A reading is a value, or the lowest kind of fault. A form takes words from the front, as many as it has
 -- places; every place is tested, whatever the ones before it gave.
-use Rattle.std.specs.Prelude.{ℕ, Bool, List, [], ◌∷◌, Option, Some, None, Result, Ok, Err, min, filter, if◌then◌else◌}
+use Rattle.std.specs.Prelude.{ℕ, Bool, List, [], ◌∷◌, Option, Some, None, Result, Ok, Err, filter, if◌then◌else◌}
 use Rattle.std.specs.Str.{bytes_eq}
+use Rattle.flat_places.specs.declared.kinds.FaultKind.{FaultKind}
+use Rattle.flat_places.specs.declared.kinds.FaultKind.TheVariants.{WrongCount}
+use Rattle.flat_places.specs.Kinds.{lower_kind}
 use Rattle.flat_places.specs.Known.{knows}
 
 -- a word of a line, as its bytes
@@ -12,14 +15,14 @@ Word = List ℕ
 
 -- a value, or the lowest kind of fault
 abbrev pub Reading : Type 0 → Type 0
-Reading A = Result A ℕ
+Reading A = Result A FaultKind
 
 -- both values, or the lower kind
 abbrev pub both : {A B C : Type 0} → (A → B → C) → Reading A → Reading B → Reading C
 both f (Ok a) (Ok b) = Ok (f a b)
 both f (Ok a) (Err k) = Err k
 both f (Err j) (Ok b) = Err j
-both f (Err j) (Err k) = Err (min j k)
+both f (Err j) (Err k) = Err (lower_kind j k)
 
 -- the value changed by a function
 abbrev pub mapped : {A B : Type 0} → (A → B) → Reading A → Reading B
@@ -27,16 +30,16 @@ mapped f (Ok a) = Ok (f a)
 mapped f (Err k) = Err k
 
 -- the value, or else the kind
-abbrev pub or_kind : {A : Type 0} → ℕ → Option A → Reading A
+abbrev pub or_kind : {A : Type 0} → FaultKind → Option A → Reading A
 or_kind k (Some a) = Ok a
 or_kind k None = Err k
 
 -- a test with its kind of fault
-abbrev pub passes : ℕ → Bool → Reading (Unit {0})
+abbrev pub passes : FaultKind → Bool → Reading (Unit {0})
 passes k test = if test then Ok tt else Err k
 
 -- the reading, and the kind too unless the test passes
-abbrev pub unless_kind : {A : Type 0} → ℕ → Bool → Reading A → Reading A
+abbrev pub unless_kind : {A : Type 0} → FaultKind → Bool → Reading A → Reading A
 unless_kind k test r = both (λ _ a. a) (passes k test) r
 
 -- what the first of some words give, and the words behind them
@@ -49,7 +52,7 @@ give a words = (Ok a, words)
 
 -- one word, tested; a missing word is a fault of its own
 abbrev pub place : {A : Type 0} → (Word → Reading A) → Form A
-place test [] = (Err 8, [])
+place test [] = (Err WrongCount, [])
 place test (w ∷ words) = (test w, words)
 
 -- the places of one form, then those of the other
@@ -65,7 +68,7 @@ abbrev pub ◌<$>◌ : {A B : Type 0} → (A → B) → Form A → Form B
 -- no word is left
 abbrev pub nothing : List Word → Reading (Unit {0})
 nothing [] = Ok tt
-nothing (w ∷ words) = Err 8
+nothing (w ∷ words) = Err WrongCount
 
 -- a form that takes all of the words
 abbrev pub whole : {A : Type 0} → Form A → List Word → Reading A
@@ -83,7 +86,7 @@ each test (w ∷ words) = both (λ a rest. a ∷ rest) (test w) (each test words
 
 -- the same, and there has to be a word
 abbrev pub one_or_more : {A : Type 0} → (Word → Reading A) → List Word → Reading (List A)
-one_or_more test [] = Err 8
+one_or_more test [] = Err WrongCount
 one_or_more test (w ∷ words) = each test (w ∷ words)
 
 -- a table: words, and what each of them says of the words behind it
@@ -91,7 +94,7 @@ abbrev pub Table : Type 0 → Type 0
 Table A = List (Word × (List Word → Reading A))
 
 -- what the table says of a word and the words behind it; the kind where the table doesn't have the word
-abbrev pub at_word : {A : Type 0} → ℕ → Table A → Word → List Word → Reading A
+abbrev pub at_word : {A : Type 0} → FaultKind → Table A → Word → List Word → Reading A
 at_word k [] w words = Err k
 at_word k (row ∷ rows) w words = if bytes_eq w row.0 then row.1 words else at_word k rows w words
 
@@ -100,6 +103,6 @@ abbrev pub known_rows : {A : Type 0} → List Word → Table A → Table A
 known_rows known table = filter (λ row. knows known row.0) table
 
 -- what the known rows say of the first word and those behind it; a missing word is one that the table doesn't have
-abbrev pub named : {A : Type 0} → List Word → ℕ → Table A → List Word → Reading A
+abbrev pub named : {A : Type 0} → List Word → FaultKind → Table A → List Word → Reading A
 named known k table [] = Err k
 named known k table (w ∷ words) = at_word k (known_rows known table) w words

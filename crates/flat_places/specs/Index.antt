@@ -1,6 +1,7 @@
 -- The names of a script, found by a map.
 use Rattle.std.specs.Prelude.{◌≡◌, ◌≤◌, ℕ, false, length, Option, Some, None}
 use Rattle.std.specs.BTreeMap.{get_by_text}
+use Rattle.flat_base.specs.declared.limits.TheConstants.{BUFFER_COLLECTIONS_MAX, FENCES_MAX, PAIRS_MAX, PROBES_MAX, SESSIONS_MAX}
 use Rattle.flat_places.specs.declared.names.Meaning.{Meaning}
 use Rattle.flat_places.specs.declared.names.Meaning.TheVariants.{Session, Probe, Buffers, Pair, Fence}
 use Rattle.flat_places.specs.declared.names.Names.{Names}
@@ -54,8 +55,8 @@ pub record Means (o : Option Meaning) (s : Script) (w : Word) : Type 0 where
 pub record IsIndexed (x : Indexed) : Type 0 where
   pub only : OnlyNames x.names
   pub finds : (w : Word) → Means (meaning_at x.names w) x.script w
-  pub sessions : length x.script.sessions ≤ 16
-  pub probes : length x.script.probes ≤ 8
-  pub buffers : length x.script.buffers ≤ 256
-  pub pairs : length x.script.pairs ≤ 4096
-  pub fences : length x.script.fences ≤ 4096
+  pub sessions : length x.script.sessions ≤ SESSIONS_MAX
+  pub probes : length x.script.probes ≤ PROBES_MAX
+  pub buffers : length x.script.buffers ≤ BUFFER_COLLECTIONS_MAX
+  pub pairs : length x.script.pairs ≤ PAIRS_MAX
+  pub fences : length x.script.fences ≤ FENCES_MAX

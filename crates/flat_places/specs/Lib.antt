@@ -1,4 +1,5 @@
 pub mod Known
+pub mod Kinds
 pub mod Forms
 pub mod Names
 pub mod Places

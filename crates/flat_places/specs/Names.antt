@@ -7,6 +7,7 @@ use Rattle.std.specs.Char.{is_ascii_digit, is_ascii_alphabetic}
 use Rattle.flat_base.specs.declared.ids.Actor.{Actor}
 use Rattle.flat_base.specs.declared.ids.Actor.TheVariants.{Display, Session, Probe}
 use Rattle.flat_base.specs.declared.ids.SessionNo.{SessionNo}
+use Rattle.flat_base.specs.declared.limits.TheConstants.{NAME_BYTES_MAX}
 use Rattle.flat_places.specs.declared.script.Script.{Script}
 use Rattle.flat_places.specs.Forms.{Word}
 
@@ -18,9 +19,9 @@ is_name_byte b = is_ascii_alphabetic b || is_ascii_digit b || (b == 95)
 abbrev pub is_reserved : Word → Bool
 is_reserved w = list_any (bytes_eq w) (codes "display" ∷ codes "acquire" ∷ codes "release" ∷ [])
 
--- 1 to 16 letters, digits or `_`, a letter first, and not reserved
+-- at most 16 letters, digits or `_`, a letter first, and not reserved
 abbrev pub is_name : Word → Bool
-is_name w = is_ascii_alphabetic (slice_index w 0) && list_all is_name_byte w && nat_le (length w) 16 && not (is_reserved w)
+is_name w = is_ascii_alphabetic (slice_index w 0) && list_all is_name_byte w && nat_le (length w) NAME_BYTES_MAX && not (is_reserved w)
 
 -- the place of a name in the order of declaration, from 0
 abbrev pub place_of : List Word → Word → Option ℕ

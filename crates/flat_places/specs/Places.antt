@@ -1,5 +1,5 @@
 -- The places of a line: numbers of a range, and names of a sort.
-use Rattle.std.specs.Prelude.{ℕ, ◌-◌, ◌^◌, nat_le, nat_lt, ℤ, pos, negsuc, Bool, false, ◌&&◌, List, [], ◌∷◌, Some, None, Ok, Err, option_and_then, slice_get, if◌then◌else◌, ◌==◌, not, codes}
+use Rattle.std.specs.Prelude.{ℕ, ◌+◌, ◌-◌, ◌^◌, nat_le, nat_lt, ℤ, pos, negsuc, Bool, false, ◌&&◌, List, [], ◌∷◌, Some, None, Ok, Err, option_and_then, slice_get, if◌then◌else◌, ◌==◌, not, codes}
 use Rattle.std.specs.List.{list_any}
 use Rattle.std.specs.Option.{option_map_or}
 use Rattle.flat_base.specs.declared.ids.Actor.{Actor}
@@ -10,6 +10,7 @@ use Rattle.flat_base.specs.declared.ids.FenceNo.{FenceNo}
 use Rattle.flat_base.specs.declared.ids.BufferNo.{BufferNo}
 use Rattle.flat_base.specs.declared.ids.TransformId.{TransformId}
 use Rattle.flat_base.specs.declared.ids.ContentId.{ContentId}
+use Rattle.flat_base.specs.declared.limits.TheConstants.{COLOUR_MAX, INSET_MAX, TIME_MAX}
 use Rattle.flat_base.specs.declared.shapes.IntRect.{IntRect}
 use Rattle.flat_base.specs.declared.shapes.Orientation.{Orientation}
 use Rattle.flat_base.specs.declared.shapes.Orientation.TheVariants.{Ccw0, Ccw90, Ccw180, Ccw270}
@@ -23,19 +24,21 @@ use Rattle.flat_scene.specs.declared.calls.Interaction.TheVariants.{Default, Sem
 use Rattle.flat_scene.specs.declared.calls.HitRegion.{HitRegion}
 use Rattle.flat_text.specs.Number.{natural, signed}
 use Rattle.flat_places.specs.declared.script.Script.{Script}
+use Rattle.flat_places.specs.declared.kinds.FaultKind.TheVariants.{BadHead, BadNumber, UnknownName, NotOwner, UnknownVersion}
+use Rattle.flat_places.specs.declared.places.TheConstants.{VERSION}
 use Rattle.flat_places.specs.Forms.{Word, Reading, Form, both, mapped, or_kind, unless_kind, place, ◌<$>◌, ◌<*>◌, whole, one_or_more}
 use Rattle.flat_places.specs.Names.{place_of, session_named, is_actor, is_name, is_declared, owner_named}
 use Rattle.std.specs.Str.{bytes_eq}
 
--- numbers, whose kind of fault is 7
+-- numbers, whose kind of fault is BadNumber
 
 -- a number below that one
 abbrev pub number_below : ℕ → Form ℕ
-number_below most = place (λ w. or_kind 7 (option_and_then (λ n. if nat_lt n most then Some n else None) (natural w)))
+number_below most = place (λ w. or_kind BadNumber (option_and_then (λ n. if nat_lt n most then Some n else None) (natural w)))
 
 -- a number from one to another, both in the range
 abbrev pub number_from : ℕ → ℕ → Form ℕ
-number_from least most = place (λ w. or_kind 7 (option_and_then (λ n. if nat_le least n && nat_le n most then Some n else None) (natural w)))
+number_from least most = place (λ w. or_kind BadNumber (option_and_then (λ n. if nat_le least n && nat_le n most then Some n else None) (natural w)))
 
 -- a number of 32 bits with a sign
 abbrev pub fits_i32 : ℤ → Bool
@@ -44,7 +47,7 @@ fits_i32 (negsuc n) = nat_lt n (2 ^ 31)
 
 -- translations, the numbers of rectangles, and points
 abbrev pub i32 : Form ℤ
-i32 = place (λ w. or_kind 7 (option_and_then (λ n. if fits_i32 n then Some n else None) (signed w)))
+i32 = place (λ w. or_kind BadNumber (option_and_then (λ n. if fits_i32 n then Some n else None) (signed w)))
 
 -- sizes, scales, opacities, indices and counts
 abbrev pub u32 : Form ℕ
@@ -52,11 +55,11 @@ u32 = number_below (2 ^ 32)
 
 -- a channel of a colour
 abbrev pub colour : Form ℕ
-colour = number_below 256
+colour = number_below (COLOUR_MAX + 1)
 
 -- a time of a present or of a frame's begin
 abbrev pub time : Form ℕ
-time = number_below (2 ^ 63)
+time = number_below (TIME_MAX + 1)
 
 -- a transform's id
 abbrev pub transform : Form TransformId
@@ -79,11 +82,11 @@ abbrev pub inset : Form Inset
 inset = (λ t r b l. record { top = t; right = r; bottom = b; left = l }) <$> side <*> side <*> side <*> side
   where
     side : Form ℕ
-    side = number_below 65537
+    side = number_below (INSET_MAX + 1)
 
 -- one of the values, which are numbered from first on
 abbrev pub choice : {A : Type 0} → ℕ → List A → Form A
-choice first values = place (λ w. or_kind 7 (option_and_then (λ n. if nat_le first n then slice_get values (n - first) else None) (natural w)))
+choice first values = place (λ w. or_kind BadNumber (option_and_then (λ n. if nat_le first n then slice_get values (n - first) else None) (natural w)))
 
 -- 1 to 4
 abbrev pub orientation : Form Orientation
@@ -111,15 +114,15 @@ regions [] = Ok []
 regions (x ∷ y ∷ w ∷ h ∷ i ∷ words) = both (λ r rest. r ∷ rest) (region (x ∷ y ∷ w ∷ h ∷ i ∷ [])).0 (regions words)
 regions words = both (λ r rest. r ∷ rest) (region words).0 (Ok [])
 
--- names, whose kind of fault is 9, or 10 where the actor doesn't own what is named
+-- names, whose kind of fault is UnknownName, or NotOwner where the actor doesn't own what is named
 
 -- a session
 abbrev pub session : Script → Form SessionNo
-session s = place (λ w. or_kind 9 (session_named s w))
+session s = place (λ w. or_kind UnknownName (session_named s w))
 
 -- the place of the declared thing of that name, whose owners the test looks at
 abbrev pub owned : {D : Type 0} → List Word → List D → (D → Bool) → Word → Reading ℕ
-owned names declared owns w = option_map_or (λ i. unless_kind 10 (option_map_or owns (slice_get declared i) false) (Ok i)) (place_of names w) (Err 9)
+owned names declared owns w = option_map_or (λ i. unless_kind NotOwner (option_map_or owns (slice_get declared i) false) (Ok i)) (place_of names w) (Err UnknownName)
 
 -- a fence of the actor, as a word
 abbrev pub fence_word : Script → Actor → Word → Reading FenceNo
@@ -143,12 +146,12 @@ collection s a = place (λ w. mapped (λ i. record { 0 = i }) (owned s.buffers s
 
 -- the places of the head
 
--- the number of the version, which is 1
+-- the number of the version
 abbrev pub version : Form (Unit {0})
 version = place (λ w. known (whole (number_below (2 ^ 32)) (w ∷ [])))
   where
     known : Reading ℕ → Reading (Unit {0})
-    known (Ok n) = if n == 1 then Ok tt else Err 13
+    known (Ok n) = if n == VERSION then Ok tt else Err UnknownVersion
     known (Err k) = Err k
 
 -- a pair with the display was declared
@@ -157,15 +160,15 @@ has_display_pair s = list_any (λ p. is_actor Display p.viewport) s.setup.pairs
 
 -- a name that isn't declared yet
 abbrev pub new_name : Script → Form Word
-new_name s = place (λ w. if is_name w && not (is_declared s w) then Ok w else Err 4)
+new_name s = place (λ w. if is_name w && not (is_declared s w) then Ok w else Err BadHead)
 
 -- a session, or the display where no pair has it yet
 abbrev pub pair_owner : Script → Form Actor
-pair_owner s = place (λ w. unless_kind 4 (not (bytes_eq w (codes "display") && has_display_pair s)) (or_kind 9 (owner_named s w)))
+pair_owner s = place (λ w. unless_kind BadHead (not (bytes_eq w (codes "display") && has_display_pair s)) (or_kind UnknownName (owner_named s w)))
 
 -- an owner of a fence, as a word
 abbrev pub owner_word : Script → Word → Reading Actor
-owner_word s w = or_kind 9 (owner_named s w)
+owner_word s w = or_kind UnknownName (owner_named s w)
 
 -- an owner of a fence
 abbrev pub owner : Script → Form Actor

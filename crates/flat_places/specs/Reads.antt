@@ -2,11 +2,12 @@
 use Rattle.std.specs.Prelude.{◌≡◌, ℕ, List, [], ◌∷◌, Option, Some, None, Ok, Err}
 use Rattle.std.specs.Borrow.{Bor}
 use Rattle.flat_text.specs.Pieces.{is_space, pieces_left}
+use Rattle.flat_places.specs.declared.kinds.FaultKind.{FaultKind}
 use Rattle.flat_places.specs.declared.places.Places.{Places}
 use Rattle.flat_places.specs.Forms.{Word, Reading, Form, both, mapped, nothing}
 
 -- the kind, where there is one
-abbrev pub reading_of : Option ℕ → Reading (Unit {0})
+abbrev pub reading_of : Option FaultKind → Reading (Unit {0})
 reading_of None = Ok tt
 reading_of (Some k) = Err k
 

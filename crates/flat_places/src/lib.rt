@@ -1,15 +1,20 @@
-//! The words of a line, place by place: numbers of a range, and names of a script.
+//! The words of a line, place by place: numbers of a range (src/places.rt), and names
+//! of a script (src/named.rt, src/names.rt). Each method of [`Places`] reads the form of
+//! its name (specs/Places), as `Reads` says (specs/Reads), and notes the lowest kind of
+//! the faults (src/kinds.rt, specs/Kinds).
 //!
 //! Other crates may cite the lemmas of proofs/lemmas/: names (NameLemmas), and forms as
 //! the code reads them (ReadsLemmas).
 #![tactic(auto)]
 
+mod kinds;
 mod name;
 mod named;
 mod names;
 mod places;
 mod script;
 
+pub use kinds::FaultKind;
 pub use name::{Name, NameList};
 pub use names::{Indexed, Meaning, Names, is_word};
 pub use places::Places;

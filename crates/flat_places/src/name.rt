@@ -1,23 +1,24 @@
 ghost use Rattle.std.specs.Prelude.{◌≡◌, ◌≤◌, length};
 
-use flat_base::Items;
+use flat_base::{Items, NAME_BYTES_MAX};
 use std::marker::Model;
 
-/// A name, as its bytes: at most 16.
+/// A name, as its bytes.
 #[derive(Debug, Drop)]
 pub struct Name {
-    bytes: [u8; 16],
+    bytes: [u8; NAME_BYTES_MAX],
     len: u8,
 }
 
 impl Model for Name {
     ghost use Rattle.std.specs.Prelude.{List, ℕ, take, ◌≤◌};
+    ghost use Rattle.flat_base.specs.declared.limits.TheConstants.{NAME_BYTES_MAX};
 
     ghost Value = { List ℕ };
 
     ghost view = { λ n. take n.len n.bytes };
 
-    ghost invariant = { λ n. n.len ≤ 16 };
+    ghost invariant = { λ n. n.len ≤ NAME_BYTES_MAX };
 }
 
 /// Names in order of declaration.
@@ -26,10 +27,10 @@ pub type NameList = Items<Name>;
 impl Name {
     /// The name that the word is.
     pub fn new(word: &[u8]) -> Name
-        requires { length word.now ≤ 16 }
+        requires { length word.now ≤ NAME_BYTES_MAX }
         ensures { result ≡ word.now }
     {
-        let mut bytes = [0; 16];
+        let mut bytes = [0; NAME_BYTES_MAX];
         bytes[..word.len()].copy_from_slice(word);
         Name {
             bytes,

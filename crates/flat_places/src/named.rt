@@ -1,11 +1,13 @@
 ghost use Rattle.std.specs.Prelude.{◌≡◌, length, [], IfOk};
 ghost use Rattle.std.specs.List.{list_any};
+ghost use Rattle.flat_base.specs.declared.ids.Actor.TheVariants.{Session};
 ghost use Rattle.flat_places.specs.Forms.{each};
 ghost use Rattle.flat_places.specs.Index.{IsIndexed};
 ghost use Rattle.flat_places.specs.Names.{is_actor};
 ghost use Rattle.flat_places.specs.Places.{session, view_end, viewport_end, collection, fence, owner, owner_word, new_name, pair_owner, owners, has_display_pair};
 ghost use Rattle.flat_places.specs.Reads.{Reads};
 
+use crate::kinds::FaultKind;
 use crate::names::{Indexed, is_name, is_word};
 use crate::places::Places;
 use flat_base::{Actor, ActorList, BufferNo, FenceNo, Items, NoMemory, PairNo, SessionNo};
@@ -20,13 +22,13 @@ impl<'a> Places<'a> {
         ensures { Reads (session script.now.script) self.old self.new result }
     {
         let Some(word) = self.next() else {
-            self.note(8);
+            self.note(FaultKind::WrongCount);
             return SessionNo(0);
         };
         match script.session(word) {
             Some(found) => found,
             None => {
-                self.note(9);
+                self.note(FaultKind::UnknownName);
                 SessionNo(0)
             }
         }
@@ -37,13 +39,13 @@ impl<'a> Places<'a> {
         ensures { Reads (owner script.now.script) self.old self.new result }
     {
         let Some(word) = self.next() else {
-            self.note(8);
+            self.note(FaultKind::WrongCount);
             return Actor::Display;
         };
         match script.owner(word) {
             Some(found) => found,
             None => {
-                self.note(9);
+                self.note(FaultKind::UnknownName);
                 Actor::Display
             }
         }
@@ -55,7 +57,7 @@ impl<'a> Places<'a> {
         ensures { IfOk result (λ v. Reads (owners script.now.script) self.old self.new v) }
     {
         if self.words.is_none() {
-            self.note(8);
+            self.note(FaultKind::WrongCount);
             return Ok(Items::new(alloc));
         }
         self.each_owner(alloc, script)
@@ -79,17 +81,17 @@ impl<'a> Places<'a> {
         ensures { Reads (view_end script.now.script owner) self.old self.new result }
     {
         let Some(word) = self.next() else {
-            self.note(8);
+            self.note(FaultKind::WrongCount);
             return PairNo(0);
         };
         let Some(i) = script.pair_place(word) else {
-            self.note(9);
+            self.note(FaultKind::UnknownName);
             return PairNo(0);
         };
         match script.script.setup.pairs.as_slice().get(i as usize) {
-            Some(pair) if pair.view == owner => PairNo(i),
+            Some(pair) if is_session(owner, pair.view) => PairNo(i),
             _ => {
-                self.note(10);
+                self.note(FaultKind::NotOwner);
                 PairNo(0)
             }
         }
@@ -101,17 +103,17 @@ impl<'a> Places<'a> {
         ensures { Reads (viewport_end script.now.script owner) self.old self.new result }
     {
         let Some(word) = self.next() else {
-            self.note(8);
+            self.note(FaultKind::WrongCount);
             return PairNo(0);
         };
         let Some(i) = script.pair_place(word) else {
-            self.note(9);
+            self.note(FaultKind::UnknownName);
             return PairNo(0);
         };
         match script.script.setup.pairs.as_slice().get(i as usize) {
             Some(pair) if is_actor(Actor::Session(owner), pair.viewport) => PairNo(i),
             _ => {
-                self.note(10);
+                self.note(FaultKind::NotOwner);
                 PairNo(0)
             }
         }
@@ -123,17 +125,17 @@ impl<'a> Places<'a> {
         ensures { Reads (collection script.now.script owner) self.old self.new result }
     {
         let Some(word) = self.next() else {
-            self.note(8);
+            self.note(FaultKind::WrongCount);
             return BufferNo(0);
         };
         let Some(i) = script.buffers_place(word) else {
-            self.note(9);
+            self.note(FaultKind::UnknownName);
             return BufferNo(0);
         };
         match script.script.setup.buffers.as_slice().get(i as usize) {
-            Some(buffers) if buffers.owner == owner => BufferNo(i),
+            Some(buffers) if is_session(owner, buffers.owner) => BufferNo(i),
             _ => {
-                self.note(10);
+                self.note(FaultKind::NotOwner);
                 BufferNo(0)
             }
         }
@@ -145,17 +147,17 @@ impl<'a> Places<'a> {
         ensures { Reads (fence script.now.script owner) self.old self.new result }
     {
         let Some(word) = self.next() else {
-            self.note(8);
+            self.note(FaultKind::WrongCount);
             return FenceNo(0);
         };
         let Some(i) = script.fence_place(word) else {
-            self.note(9);
+            self.note(FaultKind::UnknownName);
             return FenceNo(0);
         };
         match script.script.setup.fences.as_slice().get(i as usize) {
             Some(fence) if has_owner(fence, owner) => FenceNo(i),
             _ => {
-                self.note(10);
+                self.note(FaultKind::NotOwner);
                 FenceNo(0)
             }
         }
@@ -167,7 +169,7 @@ impl<'a> Places<'a> {
         ensures { Reads (new_name script.now.script) self.old self.new result.now }
     {
         let Some(word) = self.next() else {
-            self.note(8);
+            self.note(FaultKind::WrongCount);
             return &[];
         };
         if is_name(word) {
@@ -175,7 +177,7 @@ impl<'a> Places<'a> {
                 return word;
             }
         }
-        self.note(4);
+        self.note(FaultKind::BadHead);
         &[]
     }
 
@@ -187,19 +189,19 @@ impl<'a> Places<'a> {
         ensures { Reads (pair_owner script.now.script) self.old self.new result }
     {
         let Some(word) = self.next() else {
-            self.note(8);
+            self.note(FaultKind::WrongCount);
             return Actor::Display;
         };
         if paired {
             if is_word(word, "display") {
-                self.note(4);
+                self.note(FaultKind::BadHead);
                 return Actor::Display;
             }
         }
         match script.owner(word) {
             Some(found) => found,
             None => {
-                self.note(9);
+                self.note(FaultKind::UnknownName);
                 Actor::Display
             }
         }
@@ -214,6 +216,12 @@ fn has_owner(fence: &FenceDecl, actor: Actor) -> bool
         .as_slice()
         .iter()
         .any(|owner| is_actor(actor, *owner))
+}
+
+fn is_session(a: SessionNo, b: SessionNo) -> bool
+    ensures { result ≡ is_actor (Session a) (Session b) }
+{
+    a == b
 }
 
 fn is_actor(a: Actor, b: Actor) -> bool

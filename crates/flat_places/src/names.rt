@@ -4,7 +4,7 @@ ghost use Rattle.std.specs.Str.{bytes_eq};
 ghost use Rattle.flat_places.specs.Names.{place_of, session_named, owner_named, actor_named, is_name, is_name_byte, is_reserved, is_declared};
 
 use crate::script::Script;
-use flat_base::{Actor, NoMemory, SessionNo};
+use flat_base::{Actor, NAME_BYTES_MAX, NoMemory, PROBES_MAX, SESSIONS_MAX, SessionNo};
 use std::alloc::Global;
 use std::collections::BTreeMap;
 
@@ -100,7 +100,7 @@ impl Indexed {
     fn session_place(&self, word: &[u8]) -> Option<u32>
         requires { IsIndexed self.now }
         ensures place { result ≡ place_of self.now.script.sessions word.now }
-        ensures few { IfSome result (λ i. i < 16) }
+        ensures few { IfSome result (λ i. i < SESSIONS_MAX) }
     {
         match self.names.find(word) {
             Some(Meaning::Session(i)) => Some(i),
@@ -111,7 +111,7 @@ impl Indexed {
     fn probe_place(&self, word: &[u8]) -> Option<u32>
         requires { IsIndexed self.now }
         ensures place { result ≡ place_of self.now.script.probes word.now }
-        ensures few { IfSome result (λ i. i < 8) }
+        ensures few { IfSome result (λ i. i < PROBES_MAX) }
     {
         match self.names.find(word) {
             Some(Meaning::Probe(i)) => Some(i),
@@ -152,7 +152,7 @@ impl Indexed {
     pub(crate) fn session(&self, word: &[u8]) -> Option<SessionNo>
         requires { IsIndexed self.now }
         ensures named { result ≡ session_named self.now.script word.now }
-        ensures counted { IfSome result (λ s. (0 < s.0) × (s.0 ≤ 16)) }
+        ensures counted { IfSome result (λ s. (0 < s.0) × (s.0 ≤ SESSIONS_MAX)) }
     {
         match self.session_place(word) {
             Some(i) => Some(SessionNo(i + 1)),
@@ -217,7 +217,7 @@ pub(crate) fn is_name(word: &[u8]) -> bool
     if !all_name_bytes(word) {
         return false;
     }
-    if word.len() > 16 {
+    if word.len() > NAME_BYTES_MAX {
         return false;
     }
     !is_reserved(word)

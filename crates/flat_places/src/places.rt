@@ -6,10 +6,16 @@ ghost use Rattle.flat_places.specs.Forms.{passes, optional};
 ghost use Rattle.flat_places.specs.Places.{number_below, number_from, transform, content, time, u32, colour, i32, int_rect, inset, orientation, blend, flip, interaction, region, regions, version};
 ghost use Rattle.flat_places.specs.Reads.{Reads, TakesWord, left, sofar, lower, finished, reading_of};
 
-use flat_base::{ContentId, IntRect, Items, NoMemory, Orientation, TransformId};
+use crate::kinds::FaultKind;
+use flat_base::{
+    COLOUR_MAX, ContentId, INSET_MAX, IntRect, Items, NoMemory, Orientation, TIME_MAX, TransformId,
+};
 use flat_scene::{BlendMode, HitRegion, ImageFlip, Inset, Interaction, RegionList};
 use flat_text::{next_piece, read_natural, read_number};
 use std::alloc::Global;
+
+/// The version of scripts that is read.
+const VERSION: u128 = 1;
 
 /// The words of a line that are left, and the lowest kind of fault so far.
 ///
@@ -21,7 +27,7 @@ pub struct Places<'a> {
     /// The words that are left, None where there is none.
     pub words: Option<&'a [u8]>,
     /// The lowest kind of fault so far.
-    pub fault: Option<u32>,
+    pub fault: Option<FaultKind>,
 }
 
 impl<'a> Places<'a> {
@@ -45,7 +51,7 @@ impl<'a> Places<'a> {
     }
 
     /// Keeps the kind, unless a lower one was noted.
-    pub fn note(&mut self, kind: u32)
+    pub fn note(&mut self, kind: FaultKind)
         ensures words { self.new.words ≡ self.old.words }
         ensures lower { sofar self.new ≡ lower (sofar self.old) (Err kind) }
     {
@@ -53,7 +59,7 @@ impl<'a> Places<'a> {
     }
 
     /// The same, unless the test passes.
-    pub fn note_unless(&mut self, kind: u32, test: bool)
+    pub fn note_unless(&mut self, kind: FaultKind, test: bool)
         ensures words { self.new.words ≡ self.old.words }
         ensures lower { sofar self.new ≡ lower (sofar self.old) (passes kind test) }
     {
@@ -62,20 +68,19 @@ impl<'a> Places<'a> {
         }
     }
 
-    /// A number below that one.
-    fn number_below(&mut self, most: u128) -> u128
-        requires { 0 < most }
-        ensures reads { Reads (number_below most) self.old self.new result }
-        ensures small { result < most }
+    /// A number from 0 to that one.
+    fn number_to(&mut self, most: u64) -> u64
+        ensures reads { Reads (number_below (most + 1)) self.old self.new result }
+        ensures small { result ≤ most }
     {
         let Some(word) = self.next() else {
-            self.note(8);
+            self.note(FaultKind::WrongCount);
             return 0;
         };
         match read_natural(word) {
-            Some(n) if n < most => n,
+            Some(n) if n <= most as u128 => n as u64,
             _ => {
-                self.note(7);
+                self.note(FaultKind::BadNumber);
                 0
             }
         }
@@ -85,35 +90,35 @@ impl<'a> Places<'a> {
     pub fn transform(&mut self) -> TransformId
         ensures { Reads transform self.old self.new result }
     {
-        TransformId(self.number_below(18446744073709551616) as u64)
+        TransformId(self.number_to(u64::MAX))
     }
 
     /// The id of a content.
     pub fn content(&mut self) -> ContentId
         ensures { Reads content self.old self.new result }
     {
-        ContentId(self.number_below(18446744073709551616) as u64)
+        ContentId(self.number_to(u64::MAX))
     }
 
-    /// A time, below 2^63.
+    /// A time.
     pub fn time(&mut self) -> u64
         ensures { Reads time self.old self.new result }
     {
-        self.number_below(9223372036854775808) as u64
+        self.number_to(TIME_MAX)
     }
 
     /// A number of 32 bits.
     pub fn u32(&mut self) -> u32
         ensures { Reads u32 self.old self.new result }
     {
-        self.number_below(4294967296) as u32
+        self.number_to(u32::MAX as u64) as u32
     }
 
-    /// A channel of a colour, from 0 to 255.
+    /// A channel of a colour.
     pub fn colour(&mut self) -> u8
         ensures { Reads colour self.old self.new result }
     {
-        self.number_below(256) as u8
+        self.number_to(COLOUR_MAX as u64) as u8
     }
 
     /// A number of the range, both ends in it.
@@ -121,13 +126,13 @@ impl<'a> Places<'a> {
         ensures { Reads (number_from least most) self.old self.new result }
     {
         let Some(word) = self.next() else {
-            self.note(8);
+            self.note(FaultKind::WrongCount);
             return 0;
         };
         match read_natural(word) {
             Some(n) if least as u128 <= n && n <= most as u128 => n as u32,
             _ => {
-                self.note(7);
+                self.note(FaultKind::BadNumber);
                 0
             }
         }
@@ -139,13 +144,13 @@ impl<'a> Places<'a> {
         ensures fits { FitsSigned w32 result }
     {
         let Some(word) = self.next() else {
-            self.note(8);
+            self.note(FaultKind::WrongCount);
             return 0;
         };
         match signed_in(word) {
-            Some(n) if -2147483648 <= n && n <= 2147483647 => n as i32,
+            Some(n) if i32::MIN as i128 <= n && n <= i32::MAX as i128 => n as i32,
             _ => {
-                self.note(7);
+                self.note(FaultKind::BadNumber);
                 0
             }
         }
@@ -175,10 +180,10 @@ impl<'a> Places<'a> {
     fn inset(&mut self) -> Inset
         ensures { Reads inset self.old self.new result }
     {
-        let top = self.number_below(65537) as u32;
-        let right = self.number_below(65537) as u32;
-        let bottom = self.number_below(65537) as u32;
-        let left = self.number_below(65537) as u32;
+        let top = self.number_to(INSET_MAX as u64) as u32;
+        let right = self.number_to(INSET_MAX as u64) as u32;
+        let bottom = self.number_to(INSET_MAX as u64) as u32;
+        let left = self.number_to(INSET_MAX as u64) as u32;
         Inset {
             top,
             right,
@@ -202,7 +207,7 @@ impl<'a> Places<'a> {
         ensures { Reads orientation self.old self.new result }
     {
         let Some(word) = self.next() else {
-            self.note(8);
+            self.note(FaultKind::WrongCount);
             return Orientation::Ccw0;
         };
         match read_natural(word) {
@@ -211,7 +216,7 @@ impl<'a> Places<'a> {
             Some(3) => Orientation::Ccw180,
             Some(4) => Orientation::Ccw270,
             _ => {
-                self.note(7);
+                self.note(FaultKind::BadNumber);
                 Orientation::Ccw0
             }
         }
@@ -222,14 +227,14 @@ impl<'a> Places<'a> {
         ensures { Reads blend self.old self.new result }
     {
         let Some(word) = self.next() else {
-            self.note(8);
+            self.note(FaultKind::WrongCount);
             return BlendMode::Src;
         };
         match read_natural(word) {
             Some(1) => BlendMode::Src,
             Some(2) => BlendMode::SrcOver,
             _ => {
-                self.note(7);
+                self.note(FaultKind::BadNumber);
                 BlendMode::Src
             }
         }
@@ -240,7 +245,7 @@ impl<'a> Places<'a> {
         ensures { Reads flip self.old self.new result }
     {
         let Some(word) = self.next() else {
-            self.note(8);
+            self.note(FaultKind::WrongCount);
             return ImageFlip::Plain;
         };
         match read_natural(word) {
@@ -248,7 +253,7 @@ impl<'a> Places<'a> {
             Some(2) => ImageFlip::LeftRight,
             Some(3) => ImageFlip::UpDown,
             _ => {
-                self.note(7);
+                self.note(FaultKind::BadNumber);
                 ImageFlip::Plain
             }
         }
@@ -259,14 +264,14 @@ impl<'a> Places<'a> {
         ensures { Reads interaction self.old self.new result }
     {
         let Some(word) = self.next() else {
-            self.note(8);
+            self.note(FaultKind::WrongCount);
             return Interaction::Default;
         };
         match read_natural(word) {
             Some(0) => Interaction::Default,
             Some(1) => Interaction::SemanticallyInvisible,
             _ => {
-                self.note(7);
+                self.note(FaultKind::BadNumber);
                 Interaction::Default
             }
         }
@@ -295,24 +300,24 @@ impl<'a> Places<'a> {
         Ok(found)
     }
 
-    /// The version of scripts, which is 1.
+    /// The version of scripts.
     pub fn version(&mut self)
         ensures { Reads version self.old self.new tt }
     {
         let Some(word) = self.next() else {
-            self.note(8);
+            self.note(FaultKind::WrongCount);
             return;
         };
         match read_natural(word) {
-            Some(1) => {}
-            Some(n) if n < 4294967296 => self.note(13),
-            _ => self.note(7),
+            Some(VERSION) => {}
+            Some(n) if n <= u32::MAX as u128 => self.note(FaultKind::UnknownVersion),
+            _ => self.note(FaultKind::BadNumber),
         }
     }
 
     /// The value, where all words are taken and none had a fault; else the lowest
     /// kind.
-    pub fn finish<T: Drop>(self, value: T) -> Result<T, u32>
+    pub fn finish<T: Drop>(self, value: T) -> Result<T, FaultKind>
         ensures reads { result ≡ finished value self.entry }
         ensures same { IfOk result (λ found. found ≡ value) }
     {
@@ -321,7 +326,7 @@ impl<'a> Places<'a> {
                 None => Ok(value),
                 Some(k) => Err(k),
             },
-            Some(_) => Err(lowest(self.fault, 8)),
+            Some(_) => Err(lowest(self.fault, FaultKind::WrongCount)),
         }
     }
 }
@@ -332,11 +337,11 @@ fn signed_in(word: &[u8]) -> Option<i128>
     read_number(word)
 }
 
-fn lowest(fault: Option<u32>, kind: u32) -> u32
+fn lowest(fault: Option<FaultKind>, kind: FaultKind) -> FaultKind
     ensures { lower {A = Unit {0}} (reading_of fault) (Err kind) ≡ Err result }
 {
     match fault {
-        Some(k) if k <= kind => k,
-        _ => kind,
+        Some(k) => k.lower(kind),
+        None => kind,
     }
 }

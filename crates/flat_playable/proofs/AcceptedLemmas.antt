@@ -7,6 +7,7 @@ use Rattle.flat_base.specs.declared.limits.TheConstants.{SCRIPT_BYTES_MAX}
 use Rattle.flat_scene.specs.declared.script.ScriptLine.{ScriptLine}
 use Rattle.flat_scene.specs.Setups.{is_setup}
 use Rattle.flat_text.specs.Pieces.{is_feed, words_of, lines_of, without_empty_end}
+use Rattle.flat_places.specs.declared.kinds.FaultKind.TheVariants.{TooLong, BadHead, BadOrder}
 use Rattle.flat_places.specs.declared.script.Script.{Script}
 use Rattle.flat_script.specs.declared.script.ScriptFault.{ScriptFault}
 use Rattle.flat_forms.specs.declared.lines.Part.TheVariants as part
@@ -36,7 +37,7 @@ record BodyEnd (h : Script) (end : ℕ) (s : Script) : Type 0 where
   pub made : s ≡ record (with_lines h us) { count = end - 1 }
 
 ended : (h : Script) (us : List ScriptLine) (n : ℕ) (s : Script) (b : Bool) → BodyKept h us n → is_open (with_lines h us) ≡ b
-    → cond {A = Result Script ScriptFault} b (Err (record { line = n; kind = 12 })) (Ok (record (with_lines h us) { count = n - 1 })) ≡ Ok s → BodyEnd h n s
+    → cond {A = Result Script ScriptFault} b (Err (record { line = n; kind = BadOrder })) (Ok (record (with_lines h us) { count = n - 1 })) ≡ Ok s → BodyEnd h n s
 ended h us n s true kept at is = absurd (cc)
 ended h us n s false kept at is = let e : record (with_lines h us) { count = n - 1 } ≡ s = cc in record { us = us; kept = kept; closed = at; made = sym e }
 
@@ -83,7 +84,7 @@ head_by : (u : Script) (n : ℕ) (s : Script) (ls : List (List ℕ)) (next : Sof
     → cond b (mapped (λ _. (part.Body, u)) (run_line u words)) (mapped (λ t. (part.Head, t)) (head_line known_words u (w ∷ words))) ≡ Ok next → HeadEnds ls s → HeadEnd (n + 1 + length ls) s
 head_by u n s ls next w words true kept rest read ends =
     let m = mapped_ok (λ _. (part.Body, u)) (run_line u words) next read in
-    let tested = unless_ok 4 (is_ready u) (whole (give (tt {0})) words) m.a m.given in
+    let tested = unless_ok BadHead (is_ready u) (whole (give (tt {0})) words) m.a m.given in
     let bare : with_lines u [] ≡ u = ap (with_lines u) (sym kept.lines) in
     let here : (part.Body, with_lines u []) ≡ next = ap (λ v. (part.Body, v)) bare ∙ m.value in
     record { h = u; kept = kept; ready = tested.passed; body = body_end u ls [] (n + 1) s kept.sessions kept.probes (body_empty u (n + 1) (omega arith)) (read_at (n + 1) (part.Body, with_lines u []) next ls s here rest) }
@@ -175,7 +176,7 @@ accepted_at n few s is less done =
     within m small = grind (arith, nat_tests)
 
 by_size : (bytes : List ℕ) (s : Script) (b : Bool) → nat_lt (16 * 1024 * 1024) (length bytes) ≡ b
-    → cond {A = Result Script ScriptFault} b (Err (record { line = 0; kind = 1 })) (lines_read known_words 1 (part.Start, empty) (lines_of bytes)) ≡ Ok s → Accepted s
+    → cond {A = Result Script ScriptFault} b (Err (record { line = 0; kind = TooLong })) (lines_read known_words 1 (part.Start, empty) (lines_of bytes)) ≡ Ok s → Accepted s
 by_size bytes s true at is = absurd (cc)
 by_size bytes s false at is =
     let few : length bytes ≤ 16777216 = grind (arith, nat_tests) in

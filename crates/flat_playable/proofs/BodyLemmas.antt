@@ -13,6 +13,7 @@ use Rattle.flat_scene.specs.declared.script.DisplayLine.{DisplayLine}
 use Rattle.flat_scene.specs.declared.script.DisplayLine.TheVariants as display
 use Rattle.flat_scene.specs.declared.script.Body.{Body}
 use Rattle.flat_scene.specs.declared.script.Body.TheVariants as body
+use Rattle.flat_places.specs.declared.kinds.FaultKind.TheVariants.{Limit, BadOrder}
 use Rattle.flat_places.specs.declared.script.Script.{Script}
 use Rattle.flat_places.specs.Known.{known_words}
 use Rattle.flat_places.specs.Forms.{Word, Reading, mapped, unless_kind, whole, give}
@@ -103,7 +104,7 @@ in_order_least : (least : ℕ) (r : Reading ℕ) (t : ℕ) → in_order least r 
 in_order_least least (Err k) t is = absurd (cc)
 in_order_least least (Ok n) t is = by_test (nat_le least n) refl is
   where
-    by_test : (b : Bool) → nat_le least n ≡ b → cond {A = Reading ℕ} b (Ok n) (Err 12) ≡ Ok t → nat_le least t ≡ true
+    by_test : (b : Bool) → nat_le least n ≡ b → cond {A = Reading ℕ} b (Ok n) (Err BadOrder) ≡ Ok t → nat_le least t ≡ true
     by_test true at same = let e : n ≡ t = cc in ap (nat_le least) (sym e) ∙ at
     by_test false at wrong = absurd (cc)
 
@@ -112,11 +113,11 @@ record BeginOk (s : Script) (t : ℕ) : Type 0 where
   pub closed : not (is_open s) ≡ true
   pub least : nat_le (greatest (begin_times s)) t ≡ true
 
-begin_ok : (s : Script) (words : List Word) (t : ℕ) (few : Bool) → mapped display.Begin (unless_kind 11 few (unless_kind 12 (not (is_open s)) (whole (begin_place s) words))) ≡ Ok (display.Begin t) → BeginOk s t
+begin_ok : (s : Script) (words : List Word) (t : ℕ) (few : Bool) → mapped display.Begin (unless_kind Limit few (unless_kind BadOrder (not (is_open s)) (whole (begin_place s) words))) ≡ Ok (display.Begin t) → BeginOk s t
 begin_ok s words t few is =
     let m = mapped_ok display.Begin _ (display.Begin t) is in
-    let first = unless_ok 11 few _ m.a m.given in
-    let second = unless_ok 12 (not (is_open s)) (whole (begin_place s) words) m.a first.given in
+    let first = unless_ok Limit few _ m.a m.given in
+    let second = unless_ok BadOrder (not (is_open s)) (whole (begin_place s) words) m.a first.given in
     let p = place_ok _ words m.a [] (whole_ok (begin_place s) words m.a second.given) in
     let same : display.Begin m.a ≡ display.Begin t = m.value in
     let e : m.a ≡ t = cc in
@@ -139,7 +140,7 @@ done_by s n a false time kept is = absurd (let o = open_is s false time kept in 
 
 display_frames : (s : Script) (n : ℕ) (a : Actor) (l : DisplayLine) (opened : Bool) (time : ℕ) → FramesKept s opened time → display_line known_words s (display_words s l) ≡ Ok l → FramesGoOn (with_line s n a (body.Display l))
 display_frames s n a (display.Begin t) opened time kept is = begun_by s n t a opened time kept (begin_ok s (decimal t ∷ []) t (nat_lt (length (begin_times s)) 512) is)
-display_frames s n a display.Done opened time kept is = done_by s n a opened time kept (unless_ok 12 (is_open s) (whole (give display.Done) []) display.Done is).passed
+display_frames s n a display.Done opened time kept is = done_by s n a opened time kept (unless_ok BadOrder (is_open s) (whole (give display.Done) []) display.Done is).passed
 display_frames s n a (display.Signal f) opened time kept is = record { opened = opened; time = time; kept = passed s n a (body.Display (display.Signal f)) opened time refl refl (λ o t k c later. refl) kept }
 display_frames s n a (display.Wait c) opened time kept is = record { opened = opened; time = time; kept = passed s n a (body.Display (display.Wait c)) opened time refl refl (λ o t k c later. refl) kept }
 display_frames s n a (display.Hit x y) opened time kept is = record { opened = opened; time = time; kept = passed s n a (body.Display (display.Hit x y)) opened time refl refl (λ o t k c later. refl) kept }

@@ -17,6 +17,7 @@ use Rattle.flat_scene.specs.declared.setup.FenceDecl.{FenceDecl}
 use Rattle.flat_scene.specs.History.{is_display}
 use Rattle.flat_scene.specs.Setups.{is_within, is_declared, may_own, is_pair_declared, is_buffer_declared, is_fence_declared, owners_declared, is_within_limits, has_one_display_pair, is_setup}
 use Rattle.flat_text.specs.Number.{natural}
+use Rattle.flat_places.specs.declared.kinds.FaultKind.TheVariants.{BadNumber, UnknownName}
 use Rattle.flat_places.specs.declared.script.Script.{Script}
 use Rattle.flat_places.specs.Forms.{Word, whole, each, one_or_more, ◌<$>◌}
 use Rattle.flat_places.specs.Names.{session_named, owner_named, is_actor}
@@ -37,7 +38,7 @@ is_within_of most n is = let b = and_parts (nat_le 1 n) (nat_le n most) is in ra
     ranged p q = let some : 0 < n = grind (arith, nat_tests) in let few : n ≤ most = grind (arith, nat_tests) in within_of most n some few
 
 from_one : (most : ℕ) (w : Word) (n : ℕ) → (number_from 1 most (w ∷ [])).0 ≡ Ok n → is_within most n ≡ true
-from_one most w n is = is_within_of most n (test_passes (λ k. nat_le 1 k && nat_le k most) (natural w) n (or_kind_ok 7 _ n is))
+from_one most w n is = is_within_of most n (test_passes (λ k. nat_le 1 k && nat_le k most) (natural w) n (or_kind_ok BadNumber _ n is))
 
 size_taken : (words : List Word) (w h : ℕ) → whole size words ≡ Ok (w, h) → (is_within 65536 w ≡ true) × (is_within 65536 h ≡ true)
 size_taken words w h is =
@@ -298,7 +299,7 @@ owners_each : (u : Script) (ws : List Word) (actors : List Actor) → u.setup.se
 owners_each u [] actors many is = let e : [] ≡ actors = cc in ap (list_all (may_own u.setup)) (sym e)
 owners_each u (w ∷ ws) actors many is =
     let parts = both_ok (λ a rest. a ∷ rest) (owner_word u w) (each (owner_word u) ws) actors is in
-    ap (list_all (may_own u.setup)) (sym parts.value) ∙ and_from (may_own u.setup parts.a) (list_all (may_own u.setup) parts.b) (owner_declared u w parts.a many (or_kind_ok 9 (owner_named u w) parts.a parts.first)) (owners_each u ws parts.b many parts.second)
+    ap (list_all (may_own u.setup)) (sym parts.value) ∙ and_from (may_own u.setup parts.a) (list_all (may_own u.setup) parts.b) (owner_declared u w parts.a many (or_kind_ok UnknownName (owner_named u w) parts.a parts.first)) (owners_each u ws parts.b many parts.second)
 
 owners_some : (u : Script) (ws : List Word) (d : FenceDecl) → u.setup.sessions ≡ length u.sessions → one_or_more (owner_word u) ws ≡ Ok d.owners → is_fence_declared u.setup d ≡ true
 owners_some u [] d many is = absurd (cc)

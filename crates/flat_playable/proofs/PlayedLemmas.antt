@@ -34,6 +34,7 @@ use Rattle.flat_scene.specs.declared.script.Cond.TheVariants as asks
 use Rattle.flat_scene.specs.History.{is_session}
 use Rattle.flat_scene.specs.Setups.{is_within, is_declared, may_own}
 use Rattle.flat_rules.specs.Legal.{owns_view, owns_viewport, owns_fence, owns_buffers, is_fence}
+use Rattle.flat_places.specs.declared.kinds.FaultKind.TheVariants.{UnknownName, NotOwner}
 use Rattle.flat_places.specs.declared.script.Script.{Script}
 use Rattle.flat_places.specs.Known.{known_words}
 use Rattle.flat_places.specs.Forms.{Word, Form, Reading, both, mapped, unless_kind, each, one_or_more, whole, optional, ◌<$>◌, ◌<*>◌}
@@ -114,10 +115,10 @@ actor_declared s w a many probed is = actor_by s w a (owner_named s w) many prob
 -- calls
 
 owned_by : {D : Type 0} (names : List Word) (decls : List D) (owns : D → Bool) (w : Word) (i : ℕ) (o : Option ℕ)
-    → option_map_or (λ j. unless_kind 10 (option_map_or owns (slice_get decls j) false) (Ok j)) o (Err 9) ≡ Ok i → option_map_or owns (slice_get decls i) false ≡ true
+    → option_map_or (λ j. unless_kind NotOwner (option_map_or owns (slice_get decls j) false) (Ok j)) o (Err UnknownName) ≡ Ok i → option_map_or owns (slice_get decls i) false ≡ true
 owned_by names decls owns w i None is = absurd (cc)
 owned_by names decls owns w i (Some j) is =
-    let t = unless_ok 10 (option_map_or owns (slice_get decls j) false) (Ok j) i is in
+    let t = unless_ok NotOwner (option_map_or owns (slice_get decls j) false) (Ok j) i is in
     let e : j ≡ i = let g = t.given in cc in
     ap (λ k. option_map_or owns (slice_get decls k) false) (sym e) ∙ t.passed
 
@@ -365,7 +366,7 @@ presents_declared s t n words many is =
     let c : h first.a second.a ≡ m.a = ap (λ g. g second.a) first.value ∙ second.value in
     let l : display.Wait m.a ≡ display.Wait (asks.Presents t n) = m.value in
     let e : first.a ≡ t = cc in
-    ap (is_declared s.setup) (sym e) ∙ session_declared s q.word first.a many (or_kind_ok 9 _ first.a q.passes)
+    ap (is_declared s.setup) (sym e) ∙ session_declared s q.word first.a many (or_kind_ok UnknownName _ first.a q.passes)
 
 display_played : (s : Script) (l : DisplayLine) → s.setup.sessions ≡ length s.sessions → display_line known_words s (display_words s l) ≡ Ok l → is_played_display s.setup l ≡ true
 display_played s (display.Begin t) many is = refl

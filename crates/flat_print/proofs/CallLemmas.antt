@@ -34,6 +34,7 @@ use Rattle.flat_text.specs.Number.{natural, signed}
 use Rattle.flat_text.proofs.lemmas.NumberLemmas.{decimal-natural, signed_decimal-signed}
 use Rattle.flat_forms.specs.declared.calls.CallName.{CallName}
 use Rattle.flat_forms.specs.declared.calls.CallName.TheVariants.{CreateView, ReleaseView, CreateTransform, ReleaseTransform, SetTranslation, SetOrientation, SetScale, SetOpacity, SetClipBoundary, AddChild, RemoveChild, SetRootTransform, CreateViewport, SetViewportProperties, ReleaseViewport, CreateImage, SetImageSampleRegion, SetImageDestinationSize, SetImageBlendingFunction, SetImageFlip, SetImageOpacity, ReleaseImage, CreateFilledRect, SetSolidFill, ReleaseFilledRect, SetHitRegions, SetInfiniteHitRegion, SetContent, Clear}
+use Rattle.flat_places.specs.declared.kinds.FaultKind.TheVariants.{BadNumber, UnknownName, NotOwner}
 use Rattle.flat_places.specs.declared.script.Script.{Script}
 use Rattle.flat_places.specs.Forms.{Word, Form, Reading, unless_kind, both, mapped, whole, place, optional, ◌<$>◌, ◌<*>◌}
 use Rattle.flat_places.specs.Names.{place_of, is_actor}
@@ -60,7 +61,7 @@ pub number_words : (most : ℕ) → Spells (number_below most) (λ n. decimal n 
 number_words most = record {
   takes = λ words v rest given.
       let p = place_ok _ words v rest given in
-      let number = test_ok (λ n. nat_lt n most) (natural p.word) v (or_kind_ok 7 _ v p.passes) in
+      let number = test_ok (λ n. nat_lt n most) (natural p.word) v (or_kind_ok BadNumber _ v p.passes) in
       p.begins ∙ ap (λ w. w ∷ rest) (sym (decimal-natural p.word v number).0);
 }
 
@@ -68,7 +69,7 @@ pub i32_words : Spells i32 (λ z. signed_decimal z ∷ [])
 i32_words = record {
   takes = λ words v rest given.
       let p = place_ok _ words v rest given in
-      let number = test_ok fits_i32 (signed p.word) v (or_kind_ok 7 _ v p.passes) in
+      let number = test_ok fits_i32 (signed p.word) v (or_kind_ok BadNumber _ v p.passes) in
       p.begins ∙ ap (λ w. w ∷ rest) (sym (signed_decimal-signed p.word v number).0);
 }
 
@@ -102,7 +103,7 @@ choice_words : {A : Type 0} (first : ℕ) (values : List A) (number : A → ℕ)
 choice_words first values number numbers = record {
   takes = λ words v rest given.
       let p = place_ok _ words v rest given in
-      let found = found_ok _ (natural p.word) v (or_kind_ok 7 _ v p.passes) in
+      let found = found_ok _ (natural p.word) v (or_kind_ok BadNumber _ v p.passes) in
       p.begins ∙ ap (λ w. w ∷ rest) (sym (decimal-natural p.word found.0 found.1).0 ∙ ap decimal (sym (choice_at first values number found.0 v (nat_le first found.0) refl numbers found.2)));
 }
 
@@ -190,9 +191,9 @@ split f x spell words v rest spells given =
 owned_ok : {D : Type 0} (names : List Word) (decls : List D) (owns : D → Bool) (w : Word) (i : ℕ) → owned names decls owns w ≡ Ok i → place_of names w ≡ Some i
 owned_ok {D = D} names decls owns w i is = by_place (place_of names w) is
   where
-    by_place : (o : Option ℕ) → option_map_or (λ j. unless_kind 10 (option_map_or owns (slice_get decls j) false) (Ok j)) o (Err 9) ≡ Ok i → o ≡ Some i
+    by_place : (o : Option ℕ) → option_map_or (λ j. unless_kind NotOwner (option_map_or owns (slice_get decls j) false) (Ok j)) o (Err UnknownName) ≡ Ok i → o ≡ Some i
     by_place None wrong = absurd (cc)
-    by_place (Some j) found = let tested = unless_ok 10 _ (Ok j) i found in let same = tested.given in ap Some (cc)
+    by_place (Some j) found = let tested = unless_ok NotOwner _ (Ok j) i found in let same = tested.given in ap Some (cc)
 
 pub fence_spelt : (s : Script) (a : Actor) (w : Word) (f : FenceNo) → tested_fence s a w ≡ Ok f → w ≡ fence_word s f
 fence_spelt s a w f is =

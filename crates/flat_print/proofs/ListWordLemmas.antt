@@ -5,6 +5,7 @@ use Rattle.std.specs.Str.{bytes_eq}
 use Rattle.std.proofs.lemmas.Slice.Eq.{bytes_eq-Decides}
 use Rattle.flat_base.specs.declared.ids.Actor.{Actor}
 use Rattle.flat_base.specs.declared.ids.FenceNo.{FenceNo}
+use Rattle.flat_places.specs.declared.kinds.FaultKind.{FaultKind}
 use Rattle.flat_places.specs.declared.script.Script.{Script}
 use Rattle.flat_places.specs.Known.{known_words}
 use Rattle.flat_places.specs.Forms.{Word, Table, both, each, one_or_more, at_word}
@@ -23,7 +24,7 @@ abbrev pub RowsSpelt : {A : Type 0} → (A → List Word) → Table A → Type 0
 RowsSpelt spell [] = Unit {0}
 RowsSpelt {A = A} spell (row ∷ rows) = ((words : List Word) (v : A) → row.1 words ≡ Ok v → spell v ≡ row.0 ∷ words) × RowsSpelt spell rows
 
-pub table_spelt : {A : Type 0} (spell : A → List Word) (k : ℕ) (rows : Table A) → RowsSpelt spell rows → (w : Word) (words : List Word) (v : A) → at_word k rows w words ≡ Ok v → spell v ≡ w ∷ words
+pub table_spelt : {A : Type 0} (spell : A → List Word) (k : FaultKind) (rows : Table A) → RowsSpelt spell rows → (w : Word) (words : List Word) (v : A) → at_word k rows w words ≡ Ok v → spell v ≡ w ∷ words
 table_spelt spell k [] all w words v is = absurd (cc)
 table_spelt {A = A} spell k (row ∷ rows) all w words v is = by_test (bytes_eq w row.0) refl is (table_spelt spell k rows all.1 w words v)
   where

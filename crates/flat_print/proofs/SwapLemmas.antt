@@ -11,6 +11,7 @@ use Rattle.flat_base.specs.declared.ids.SessionNo.{SessionNo}
 use Rattle.flat_scene.specs.declared.setup.PairDecl.{PairDecl}
 use Rattle.flat_scene.specs.declared.setup.BufferDecl.{BufferDecl}
 use Rattle.flat_scene.specs.declared.setup.FenceDecl.{FenceDecl}
+use Rattle.flat_places.specs.declared.kinds.FaultKind.TheVariants.{UnknownName}
 use Rattle.flat_places.specs.declared.script.Script.{Script}
 use Rattle.flat_places.specs.Forms.{Word, each, one_or_more, both, or_kind}
 use Rattle.flat_places.specs.Names.{place_of, is_declared, session_named, owner_named}
@@ -149,9 +150,9 @@ each_stays : (u : Script) (n : Word) (ws : List Word) (os : List Actor) → each
 each_stays u n [] os is = is
 each_stays u n (w ∷ ws) os is =
     let parts = both_ok (λ a rest. a ∷ rest) (owner_word u w) (each (owner_word u) ws) os is in
-    let first = owner_stays u n w parts.a (or_kind_ok 9 (owner_named u w) parts.a parts.first) in
+    let first = owner_stays u n w parts.a (or_kind_ok UnknownName (owner_named u w) parts.a parts.first) in
     let rest = each_stays u n ws parts.b parts.second in
-    ap (λ o. both (λ a r. a ∷ r) (or_kind 9 o) (each (owner_word (with_session u n)) ws)) first ∙ ap (λ r. both (λ a q. a ∷ q) (Ok parts.a) r) rest ∙ ap Ok parts.value
+    ap (λ o. both (λ a r. a ∷ r) (or_kind UnknownName o) (each (owner_word (with_session u n)) ws)) first ∙ ap (λ r. both (λ a q. a ∷ q) (Ok parts.a) r) rest ∙ ap Ok parts.value
 
 owners_stay : (u : Script) (n : Word) (ws : List Word) (os : List Actor) → one_or_more (owner_word u) ws ≡ Ok os → one_or_more (owner_word (with_session u n)) ws ≡ Ok os
 owners_stay u n [] os is = absurd (cc)

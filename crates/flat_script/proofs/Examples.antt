@@ -8,15 +8,17 @@ use Rattle.flat_scene.specs.declared.script.Line.TheVariants as line
 use Rattle.flat_scene.specs.declared.script.DisplayLine.TheVariants as display
 use Rattle.flat_scene.specs.declared.script.ProbeLine.TheVariants as probe
 use Rattle.flat_scene.specs.declared.script.Body.TheVariants as body
+use Rattle.flat_places.specs.Kinds.{number}
+use Rattle.flat_places.specs.declared.kinds.FaultKind.TheVariants.{NotAscii, BadHead, UnknownActor, UnknownCall, BadNumber, WrongCount, NotOwner, BadOrder, UnknownVersion}
 use Rattle.flat_places.specs.declared.script.Script.{Script}
 use Rattle.flat_script.specs.declared.script.ScriptFault.{ScriptFault}
 use Rattle.flat_places.specs.Known.{known_words}
 use Rattle.flat_script.specs.Grammar.{read_with, IsScript, IsFault}
 
--- the line and the kind of a fault, or 0 and the number of lines
+-- the line and the number of a fault's kind, or 0 and the number of lines
 abbrev outcome : Result Script ScriptFault → ℕ × ℕ
 outcome (Ok s) = (0, s.count)
-outcome (Err f) = (f.line, f.kind)
+outcome (Err f) = (f.line, number f.kind)
 
 -- what the text gives
 abbrev gives : List ℕ → ℕ × ℕ
@@ -95,94 +97,94 @@ viewports_gets_and_points = refl
 
 -- faults
 
-dpr_in_version_one : IsFault (codes "flatland 1\ndisplay 100 100\nsession A\npair t0 display A\nrun\ndisplay dpr 65536\n") (record { line = 6; kind = 6 })
+dpr_in_version_one : IsFault (codes "flatland 1\ndisplay 100 100\nsession A\npair t0 display A\nrun\ndisplay dpr 65536\n") (record { line = 6; kind = UnknownCall })
 dpr_in_version_one = refl
 
-first_bad_line_decides : IsFault (codes "flatland 1\ndisplay 100 100\nsession A\npair t0 display A\nrun\nA Fly\nZ Fly\n") (record { line = 6; kind = 6 })
+first_bad_line_decides : IsFault (codes "flatland 1\ndisplay 100 100\nsession A\npair t0 display A\nrun\nA Fly\nZ Fly\n") (record { line = 6; kind = UnknownCall })
 first_bad_line_decides = refl
 
-kind_10_view_of_another : IsFault (codes "flatland 1\ndisplay 100 100\nsession A\nsession B\npair t0 display A\npair t1 A B\nrun\nA CreateView t1\n") (record { line = 8; kind = 10 })
+kind_10_view_of_another : IsFault (codes "flatland 1\ndisplay 100 100\nsession A\nsession B\npair t0 display A\npair t1 A B\nrun\nA CreateView t1\n") (record { line = 8; kind = NotOwner })
 kind_10_view_of_another = refl
 
-kind_12_begin_inside_a_frame : IsFault (codes "flatland 1\ndisplay 100 100\nsession A\npair t0 display A\nrun\ndisplay begin 1\ndisplay begin 1\ndisplay done\n") (record { line = 7; kind = 12 })
+kind_12_begin_inside_a_frame : IsFault (codes "flatland 1\ndisplay 100 100\nsession A\npair t0 display A\nrun\ndisplay begin 1\ndisplay begin 1\ndisplay done\n") (record { line = 7; kind = BadOrder })
 kind_12_begin_inside_a_frame = refl
 
-kind_12_done_without_begin : IsFault (codes "flatland 1\ndisplay 100 100\nsession A\npair t0 display A\nrun\ndisplay done\n") (record { line = 6; kind = 12 })
+kind_12_done_without_begin : IsFault (codes "flatland 1\ndisplay 100 100\nsession A\npair t0 display A\nrun\ndisplay done\n") (record { line = 6; kind = BadOrder })
 kind_12_done_without_begin = refl
 
-kind_12_text_ends_in_a_frame : IsFault (codes "flatland 1\ndisplay 100 100\nsession A\npair t0 display A\nrun\ndisplay begin 2\n") (record { line = 7; kind = 12 })
+kind_12_text_ends_in_a_frame : IsFault (codes "flatland 1\ndisplay 100 100\nsession A\npair t0 display A\nrun\ndisplay begin 2\n") (record { line = 7; kind = BadOrder })
 kind_12_text_ends_in_a_frame = refl
 
-kind_12_time_falls : IsFault (codes "flatland 1\ndisplay 100 100\nsession A\npair t0 display A\nrun\ndisplay begin 2\ndisplay done\ndisplay begin 1\ndisplay done\n") (record { line = 8; kind = 12 })
+kind_12_time_falls : IsFault (codes "flatland 1\ndisplay 100 100\nsession A\npair t0 display A\nrun\ndisplay begin 2\ndisplay done\ndisplay begin 1\ndisplay done\n") (record { line = 8; kind = BadOrder })
 kind_12_time_falls = refl
 
-kind_2_carriage_return : IsFault (codes "flatland 1\r\ndisplay 100 100\r\nsession A\r\npair t0 display A\r\nrun\r\n") (record { line = 1; kind = 2 })
+kind_2_carriage_return : IsFault (codes "flatland 1\r\ndisplay 100 100\r\nsession A\r\npair t0 display A\r\nrun\r\n") (record { line = 1; kind = NotAscii })
 kind_2_carriage_return = refl
 
-kind_4_before_7 : IsFault (codes "flatland 1\ndisplay 100 100\ndisplay 0 100\nsession A\npair t0 display A\nrun\n") (record { line = 3; kind = 4 })
+kind_4_before_7 : IsFault (codes "flatland 1\ndisplay 100 100\ndisplay 0 100\nsession A\npair t0 display A\nrun\n") (record { line = 3; kind = BadHead })
 kind_4_before_7 = refl
 
-kind_4_empty_text : IsFault (codes "") (record { line = 1; kind = 4 })
+kind_4_empty_text : IsFault (codes "") (record { line = 1; kind = BadHead })
 kind_4_empty_text = refl
 
-kind_4_first_word : IsFault (codes "display 100 100\nflatland 1\nsession A\npair t0 display A\nrun\n") (record { line = 1; kind = 4 })
+kind_4_first_word : IsFault (codes "display 100 100\nflatland 1\nsession A\npair t0 display A\nrun\n") (record { line = 1; kind = BadHead })
 kind_4_first_word = refl
 
-kind_4_no_session : IsFault (codes "flatland 1\ndisplay 100 100\nrun\n") (record { line = 3; kind = 4 })
+kind_4_no_session : IsFault (codes "flatland 1\ndisplay 100 100\nrun\n") (record { line = 3; kind = BadHead })
 kind_4_no_session = refl
 
-kind_4_text_ends_in_the_head : IsFault (codes "flatland 1\ndisplay 100 100\nsession A\npair t0 display A\n") (record { line = 5; kind = 4 })
+kind_4_text_ends_in_the_head : IsFault (codes "flatland 1\ndisplay 100 100\nsession A\npair t0 display A\n") (record { line = 5; kind = BadHead })
 kind_4_text_ends_in_the_head = refl
 
-kind_5_before_6 : IsFault (codes "flatland 1\ndisplay 100 100\nsession A\npair t0 display A\nrun\nZ Fly\n") (record { line = 6; kind = 5 })
+kind_5_before_6 : IsFault (codes "flatland 1\ndisplay 100 100\nsession A\npair t0 display A\nrun\nZ Fly\n") (record { line = 6; kind = UnknownActor })
 kind_5_before_6 = refl
 
-kind_6_actor_alone : IsFault (codes "flatland 1\ndisplay 100 100\nsession A\npair t0 display A\nrun\nA\n") (record { line = 6; kind = 6 })
+kind_6_actor_alone : IsFault (codes "flatland 1\ndisplay 100 100\nsession A\npair t0 display A\nrun\nA\n") (record { line = 6; kind = UnknownCall })
 kind_6_actor_alone = refl
 
-kind_6_before_7 : IsFault (codes "flatland 1\ndisplay 100 100\nsession A\npair t0 display A\nrun\nA Wait colours x\n") (record { line = 6; kind = 6 })
+kind_6_before_7 : IsFault (codes "flatland 1\ndisplay 100 100\nsession A\npair t0 display A\nrun\nA Wait colours x\n") (record { line = 6; kind = UnknownCall })
 kind_6_before_7 = refl
 
-kind_6_two_spaces : IsFault (codes "flatland 1\ndisplay 100 100\nsession A\npair t0 display A\nrun\nA  Clear\n") (record { line = 6; kind = 6 })
+kind_6_two_spaces : IsFault (codes "flatland 1\ndisplay 100 100\nsession A\npair t0 display A\nrun\nA  Clear\n") (record { line = 6; kind = UnknownCall })
 kind_6_two_spaces = refl
 
-kind_7_before_8 : IsFault (codes "flatland 1\ndisplay 100 100\nsession A\npair t0 display A\nrun\nA CreateTransform 01 2\n") (record { line = 6; kind = 7 })
+kind_7_before_8 : IsFault (codes "flatland 1\ndisplay 100 100\nsession A\npair t0 display A\nrun\nA CreateTransform 01 2\n") (record { line = 6; kind = BadNumber })
 kind_7_before_8 = refl
 
-kind_7_minus_zero : IsFault (codes "flatland 1\ndisplay 100 100\nsession A\npair t0 display A\nrun\nA SetTranslation 1 -0 0\n") (record { line = 6; kind = 7 })
+kind_7_minus_zero : IsFault (codes "flatland 1\ndisplay 100 100\nsession A\npair t0 display A\nrun\nA SetTranslation 1 -0 0\n") (record { line = 6; kind = BadNumber })
 kind_7_minus_zero = refl
 
-kind_7_time_too_great : IsFault (codes "flatland 1\ndisplay 100 100\nsession A\npair t0 display A\nrun\nA Present 9223372036854775808\n") (record { line = 6; kind = 7 })
+kind_7_time_too_great : IsFault (codes "flatland 1\ndisplay 100 100\nsession A\npair t0 display A\nrun\nA Present 9223372036854775808\n") (record { line = 6; kind = BadNumber })
 kind_7_time_too_great = refl
 
-kind_8_before_9 : IsFault (codes "flatland 1\ndisplay 100 100\nsession A\npair t0 display A\nrun\nA CreateView t9 t0\n") (record { line = 6; kind = 8 })
+kind_8_before_9 : IsFault (codes "flatland 1\ndisplay 100 100\nsession A\npair t0 display A\nrun\nA CreateView t9 t0\n") (record { line = 6; kind = WrongCount })
 kind_8_before_9 = refl
 
-kind_8_missing_number : IsFault (codes "flatland 1\ndisplay 100 100\nsession A\npair t0 display A\nrun\nA CreateTransform\n") (record { line = 6; kind = 8 })
+kind_8_missing_number : IsFault (codes "flatland 1\ndisplay 100 100\nsession A\npair t0 display A\nrun\nA CreateTransform\n") (record { line = 6; kind = WrongCount })
 kind_8_missing_number = refl
 
-kind_8_space_at_the_end : IsFault (codes "flatland 1\ndisplay 100 100\nsession A\npair t0 display A\nrun\nA Clear \n") (record { line = 6; kind = 8 })
+kind_8_space_at_the_end : IsFault (codes "flatland 1\ndisplay 100 100\nsession A\npair t0 display A\nrun\nA Clear \n") (record { line = 6; kind = WrongCount })
 kind_8_space_at_the_end = refl
 
-ratio_in_version_one_head : IsFault (codes "flatland 1\ndisplay 100 100 65536\nsession A\npair t0 display A\nrun\n") (record { line = 2; kind = 8 })
+ratio_in_version_one_head : IsFault (codes "flatland 1\ndisplay 100 100 65536\nsession A\npair t0 display A\nrun\n") (record { line = 2; kind = WrongCount })
 ratio_in_version_one_head = refl
 
-replace_children_in_version_one : IsFault (codes "flatland 1\ndisplay 100 100\nsession A\npair t0 display A\nrun\nA CreateTransform 1\nA ReplaceChildren 1\n") (record { line = 7; kind = 6 })
+replace_children_in_version_one : IsFault (codes "flatland 1\ndisplay 100 100\nsession A\npair t0 display A\nrun\nA CreateTransform 1\nA ReplaceChildren 1\n") (record { line = 7; kind = UnknownCall })
 replace_children_in_version_one = refl
 
-unsquashable_in_version_one : IsFault (codes "flatland 1\ndisplay 100 100\nsession A\npair t0 display A\nrun\nA Present 0 unsquashable\n") (record { line = 6; kind = 8 })
+unsquashable_in_version_one : IsFault (codes "flatland 1\ndisplay 100 100\nsession A\npair t0 display A\nrun\nA Present 0 unsquashable\n") (record { line = 6; kind = WrongCount })
 unsquashable_in_version_one = refl
 
-version_four : IsFault (codes "flatland 4\ndisplay 100 100\nsession A\npair t0 display A\nrun\n") (record { line = 1; kind = 13 })
+version_four : IsFault (codes "flatland 4\ndisplay 100 100\nsession A\npair t0 display A\nrun\n") (record { line = 1; kind = UnknownVersion })
 version_four = refl
 
-version_three_before_it_is_known : IsFault (codes "flatland 3\ndisplay 100 100\nsession A\npair t0 display A\nrun\n") (record { line = 1; kind = 13 })
+version_three_before_it_is_known : IsFault (codes "flatland 3\ndisplay 100 100\nsession A\npair t0 display A\nrun\n") (record { line = 1; kind = UnknownVersion })
 version_three_before_it_is_known = refl
 
-version_two_before_it_is_known : IsFault (codes "flatland 2\ndisplay 100 100\nsession A\npair t0 display A\nrun\n") (record { line = 1; kind = 13 })
+version_two_before_it_is_known : IsFault (codes "flatland 2\ndisplay 100 100\nsession A\npair t0 display A\nrun\n") (record { line = 1; kind = UnknownVersion })
 version_two_before_it_is_known = refl
 
-version_zero : IsFault (codes "flatland 0\ndisplay 100 100\nsession A\npair t0 display A\nrun\n") (record { line = 1; kind = 13 })
+version_zero : IsFault (codes "flatland 0\ndisplay 100 100\nsession A\npair t0 display A\nrun\n") (record { line = 1; kind = UnknownVersion })
 version_zero = refl
 
 -- the whole grammar of the version

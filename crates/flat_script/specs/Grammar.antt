@@ -1,7 +1,9 @@
 -- Scripts of version 1: the script that a text has, or the first line with a fault and its lowest kind.
-use Rattle.std.specs.Prelude.{◌≡◌, ℕ, ◌+◌, ◌-◌, ◌*◌, ◌==◌, ◌||◌, slice_index, nat_le, nat_lt, Bool, not, ◌&&◌, List, [], ◌∷◌, length, Result, Ok, Err, if◌then◌else◌}
+use Rattle.std.specs.Prelude.{◌≡◌, ℕ, ◌+◌, ◌-◌, ◌==◌, ◌||◌, slice_index, nat_le, nat_lt, Bool, not, ◌&&◌, List, [], ◌∷◌, length, Result, Ok, Err, if◌then◌else◌}
 use Rattle.std.specs.List.{list_all}
 use Rattle.flat_text.specs.Pieces.{lines_of, words_of}
+use Rattle.flat_base.specs.declared.limits.TheConstants.{LINE_BYTES_MAX, SCRIPT_BYTES_MAX}
+use Rattle.flat_places.specs.declared.kinds.FaultKind.TheVariants.{TooLong, NotAscii, LongLine, BadHead, BadOrder}
 use Rattle.flat_places.specs.declared.script.Script.{Script}
 use Rattle.flat_script.specs.declared.script.ScriptFault.{ScriptFault}
 use Rattle.flat_forms.specs.declared.lines.Part.TheVariants.{Start, Body}
@@ -22,14 +24,14 @@ is_skipped line = length line == 0 || slice_index line 0 == 35
 -- what line n makes of it
 abbrev pub line_read : List Word → ℕ → Sofar → List ℕ → Reading Sofar
 line_read known n sofar line =
-    if not (list_all is_plain line) then Err 2
-    else (if nat_lt 1024 (length line) then Err 3
+    if not (list_all is_plain line) then Err NotAscii
+    else (if nat_lt LINE_BYTES_MAX (length line) then Err LongLine
     else (if is_skipped line then Ok sofar else words_read known n sofar (words_of line)))
 
 -- what the end of the text makes of it, where n is one more than the number of lines
 abbrev pub end_read : ℕ → Sofar → Result Script ScriptFault
-end_read n (Body, s) = if is_open s then Err (record { line = n; kind = 12 }) else Ok (record s { count = n - 1 })
-end_read n (_, s) = Err (record { line = n; kind = 4 })
+end_read n (Body, s) = if is_open s then Err (record { line = n; kind = BadOrder }) else Ok (record s { count = n - 1 })
+end_read n (_, s) = Err (record { line = n; kind = BadHead })
 
 -- what the lines from number n on make of it: the first fault decides
 abbrev pub lines_read : List Word → ℕ → Sofar → List (List ℕ) → Result Script ScriptFault
@@ -40,10 +42,10 @@ lines_read known n sofar (line ∷ lines) = go_on (line_read known n sofar line)
     go_on (Ok next) n rest = rest next
     go_on (Err k) n rest = Err (record { line = n; kind = k })
 
--- the script of a text, or its fault, where these words are known; a text of more than 16 MiB is at fault as a whole
+-- the script of a text, or its fault, where these words are known; a text that is too long is at fault as a whole
 abbrev pub read_with : List Word → List ℕ → Result Script ScriptFault
 read_with known bytes =
-    if nat_lt (16 * 1024 * 1024) (length bytes) then Err (record { line = 0; kind = 1 }) else lines_read known 1 (Start, empty) (lines_of bytes)
+    if nat_lt SCRIPT_BYTES_MAX (length bytes) then Err (record { line = 0; kind = TooLong }) else lines_read known 1 (Start, empty) (lines_of bytes)
 
 -- the same with the words that are known so far. It is the one or the other: so each text has a script or a fault, and
 -- none has both

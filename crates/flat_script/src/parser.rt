@@ -9,7 +9,7 @@ ghost use Rattle.flat_script.specs.Answers.{Answers};
 use crate::script::{ScriptError, ScriptFault};
 use flat_base::{LINE_BYTES_MAX, SCRIPT_BYTES_MAX};
 use flat_forms::{LineError, Parser, Part};
-use flat_places::Script;
+use flat_places::{FaultKind, Script};
 use flat_text::line;
 use std::alloc::Global;
 
@@ -22,7 +22,10 @@ pub fn parse(alloc: Global, bytes: &[u8]) -> Result<Script, ScriptError>
     ensures { Answers result (text_read bytes.now) }
 {
     if bytes.len() > SCRIPT_BYTES_MAX {
-        return Err(ScriptError::Fault(ScriptFault { line: 0, kind: 1 }));
+        return Err(ScriptError::Fault(ScriptFault {
+            line: 0,
+            kind: FaultKind::TooLong,
+        }));
     }
     let mut parser = Parser::new(alloc);
     let mut number = 1u32;
@@ -51,10 +54,10 @@ fn read_line(parser: &mut Parser, alloc: Global, number: u32, line: &[u8]) -> Re
     ensures few { (parser.new.begins ≤ parser.old.begins + 1) × (parser.new.dones ≤ parser.old.dones + 1) }
 {
     if !all_plain(line) {
-        return Err(LineError::Kind(2));
+        return Err(LineError::Kind(FaultKind::NotAscii));
     }
     if line.len() > LINE_BYTES_MAX {
-        return Err(LineError::Kind(3));
+        return Err(LineError::Kind(FaultKind::LongLine));
     }
     if is_skipped(line) {
         return Ok(());
@@ -73,7 +76,7 @@ fn end(mut parser: Parser, number: u32) -> Result<Script, ScriptError>
             if parser.dones < parser.begins {
                 return Err(ScriptError::Fault(ScriptFault {
                     line: number,
-                    kind: 12,
+                    kind: FaultKind::BadOrder,
                 }));
             }
             parser.text.script.count = number - 1;
@@ -81,18 +84,20 @@ fn end(mut parser: Parser, number: u32) -> Result<Script, ScriptError>
         }
         _ => Err(ScriptError::Fault(ScriptFault {
             line: number,
-            kind: 4,
+            kind: FaultKind::BadHead,
         })),
     }
 }
 
-fn all_plain(line: &[u8]) -> bool
+/// Whether a line has printable ASCII alone.
+pub fn all_plain(line: &[u8]) -> bool
     ensures { result ≡ list_all is_plain line.now }
 {
     line.iter().all(|b| 32 <= *b && *b <= 126)
 }
 
-fn is_skipped(line: &[u8]) -> bool
+/// Whether a line is empty, or a remark.
+pub fn is_skipped(line: &[u8]) -> bool
     ensures { result ≡ is_skipped line.now }
 {
     if line.is_empty() {

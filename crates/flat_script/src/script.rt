@@ -1,3 +1,4 @@
+use flat_places::FaultKind;
 use thiserror::Error;
 
 /// Where a text isn't a script.
@@ -6,15 +7,15 @@ pub struct ScriptFault {
     /// The first line with a fault, from 1; 0 for the text as a whole, and one
     /// more than the text has lines for its end.
     pub line: u32,
-    /// The lowest kind of fault of that line, from 1 to 13.
-    pub kind: u32,
+    /// The lowest kind of fault of that line.
+    pub kind: FaultKind,
 }
 
 /// Why a text gives no script.
 #[derive(Clone, Copy, Debug, PartialEq, Eq, Error)]
 pub enum ScriptError {
     /// It isn't one.
-    #[error("line {}: fault of kind {}", .0.line, .0.kind)]
+    #[error("line {}: fault of kind {}", .0.line, .0.kind.number())]
     Fault(ScriptFault),
     /// Memory ran out.
     #[error("out of memory")]

@@ -1,5 +1,9 @@
 -- What a form gave says what its places gave.
 use Rattle.std.proofs.Common.{◌≡◌, ℕ, Bool, true, false, List, [], ◌∷◌, ◌++◌, Option, Some, None, Ok, Err, refl, sym, ◌∙◌, ap, append-nil}
+use Rattle.flat_forms.specs.declared.lines.LineError.{LineError}
+use Rattle.flat_forms.specs.declared.lines.LineError.TheVariants.{Kind, Memory}
+use Rattle.flat_forms.specs.Steps.{Refused}
+use Rattle.flat_places.specs.declared.kinds.FaultKind.{FaultKind}
 use Rattle.flat_places.specs.Forms.{Word, Reading, Form, both, mapped, nothing, whole, place, unless_kind, or_kind, ◌<$>◌, ◌<*>◌}
 
 -- the form gives that value, and leaves those words
@@ -80,18 +84,33 @@ whole_mapped h form words v is =
     let given = whole_ok form words v is in
     ap (λ r. both (λ w _. w) (mapped h r) (nothing (form words).1)) given.value ∙ ap (λ ws. both (λ w _. w) (Ok (h v)) (nothing ws)) given.left
 
+-- what isn't read makes nothing
+
+failed_both : {A B : Type 0} (h : A → B) (x : Reading A) (n : Reading (Unit {0})) (k : FaultKind) → both (λ w _. w) x n ≡ Err k → both (λ w _. w) (mapped h x) n ≡ Err k
+failed_both h (Ok a) (Ok u) k is = absurd (cc)
+failed_both h (Ok a) (Err j) k is = ap Err (cc)
+failed_both h (Err j) (Ok u) k is = ap Err (cc)
+failed_both h (Err i) (Err j) k is = ap Err (cc)
+
+pub whole_failed : {A B : Type 0} (h : A → B) (form : Form A) (words : List Word) (k : FaultKind) → whole form words ≡ Err k → whole (h <$> form) words ≡ Err k
+whole_failed h form words k is = failed_both h (form words).0 (nothing (form words).1) k is
+
+pub refused_whole : {A B : Type 0} (h : A → B) (form : Form A) (words : List Word) (e : LineError) → Refused e (whole form words) → Refused e (whole (h <$> form) words)
+refused_whole h form words (Kind k) is = whole_failed h form words k is
+refused_whole h form words Memory is = tt
+
 pub record Tested {A : Type 0} (test : Bool) (r : Reading A) (v : A) : Type 0 where
   pub passed : test ≡ true
   pub given : r ≡ Ok v
 
 -- a test before a reading
-pub unless_ok : {A : Type 0} (k : ℕ) (test : Bool) (r : Reading A) (v : A) → unless_kind k test r ≡ Ok v → Tested test r v
+pub unless_ok : {A : Type 0} (k : FaultKind) (test : Bool) (r : Reading A) (v : A) → unless_kind k test r ≡ Ok v → Tested test r v
 unless_ok k true (Ok a) v is = record { passed = refl; given = is }
 unless_ok k true (Err j) v is = absurd (cc)
 unless_ok k false (Ok a) v is = absurd (cc)
 unless_ok k false (Err j) v is = absurd (cc)
 
-pub or_kind_ok : {A : Type 0} (k : ℕ) (o : Option A) (v : A) → or_kind k o ≡ Ok v → o ≡ Some v
+pub or_kind_ok : {A : Type 0} (k : FaultKind) (o : Option A) (v : A) → or_kind k o ≡ Ok v → o ≡ Some v
 or_kind_ok k (Some a) v is = ap Some (cc)
 or_kind_ok k None v is = absurd (cc)
 

@@ -6,6 +6,7 @@ use Rattle.std.proofs.lemmas.Slice.Eq.{bytes_eq-Decides}
 use Rattle.std.specs.Str.{bytes_eq}
 use Rattle.std.specs.List.{position_or_len}
 use Rattle.std.proofs.lemmas.List.Folds.{position_or_len_push}
+use Rattle.flat_places.specs.declared.kinds.FaultKind.TheVariants.{BadHead}
 use Rattle.flat_places.specs.declared.script.Script.{Script}
 use Rattle.flat_places.specs.declared.names.Meaning.{Meaning}
 use Rattle.flat_places.specs.declared.names.Meaning.TheVariants.{Session, Probe, Buffers, Pair, Fence}
@@ -26,7 +27,7 @@ pub record IsFresh (s : Script) (w : Word) : Type 0 where
   pub fresh : is_declared s w ≡ false
 
 fresh_name : Bool → Bool → Word → Reading Word
-fresh_name a b w = if a && not b then Ok w else Err 4
+fresh_name a b w = if a && not b then Ok w else Err BadHead
 
 tested : (a b : Bool) (w v : Word) → fresh_name a b w ≡ Ok v → (a ≡ true) × (b ≡ false) × (w ≡ v)
 unfolding fresh_name

@@ -5,6 +5,7 @@ use Rattle.std.proofs.lemmas.Bool.Decides.{nat_tests}
 use Rattle.std.proofs.lemmas.Slice.Eq.{bytes_eq-Decides}
 use Rattle.flat_base.specs.declared.ids.FenceNo.{FenceNo}
 use Rattle.flat_text.specs.Pieces.{is_space, pieces_left}
+use Rattle.flat_places.specs.declared.kinds.FaultKind.TheVariants.{WrongCount}
 use Rattle.flat_places.specs.declared.places.Places.{Places}
 use Rattle.flat_places.specs.Forms.{Word, Reading, Form, both, mapped, place, each, one_or_more, passes}
 use Rattle.flat_places.specs.Reads.{Reads, reading_of, sofar, lower, giving, left}
@@ -100,14 +101,14 @@ list_ends test follows old new found so_far none =
 
 -- a fence at least
 
-one_at_least : {A : Type 0} (test : Word → Reading A) (s : Reading (Unit {0})) (xs : List Word) → lower s (one_or_more test xs) ≡ lower (lower s (passes 8 (nat_lt 0 (length xs)))) (each test xs)
+one_at_least : {A : Type 0} (test : Word → Reading A) (s : Reading (Unit {0})) (xs : List Word) → lower s (one_or_more test xs) ≡ lower (lower s (passes WrongCount (nat_lt 0 (length xs)))) (each test xs)
 one_at_least test (Ok u) [] = refl
 one_at_least test (Err k) [] = refl
-one_at_least test (Ok u) (x ∷ xs) = ap (λ b. lower (lower {A = Unit {0}} (Ok u) (passes 8 b)) (each test (x ∷ xs))) (sym (is_some_word x xs))
-one_at_least test (Err k) (x ∷ xs) = ap (λ b. lower (lower {A = Unit {0}} (Err k) (passes 8 b)) (each test (x ∷ xs))) (sym (is_some_word x xs))
+one_at_least test (Ok u) (x ∷ xs) = ap (λ b. lower (lower {A = Unit {0}} (Ok u) (passes WrongCount b)) (each test (x ∷ xs))) (sym (is_some_word x xs))
+one_at_least test (Err k) (x ∷ xs) = ap (λ b. lower (lower {A = Unit {0}} (Err k) (passes WrongCount b)) (each test (x ∷ xs))) (sym (is_some_word x xs))
 
 pub some_list : (test : Word → Reading FenceNo) (follows : Bool) (old mid new : Places) (found : List FenceNo)
-    → mid.words ≡ old.words → sofar mid ≡ lower (sofar old) (passes 8 (nat_lt 0 (length (before_first (ends_list follows) (left old))))) → ReadsList (each test) follows mid new found
+    → mid.words ≡ old.words → sofar mid ≡ lower (sofar old) (passes WrongCount (nat_lt 0 (length (before_first (ends_list follows) (left old))))) → ReadsList (each test) follows mid new found
     → ReadsList (one_or_more test) follows old new found
 some_list test follows old mid new found words kinds list =
     let p = ends_list follows in
@@ -166,23 +167,23 @@ abbrev pub pair_of : List FenceNo → List FenceNo → List FenceNo × List Fenc
 pair_of a r = (a, r)
 
 by_other : (test : Word → Reading FenceNo) (w : Word) (ws : List Word) → bytes_eq w (codes "acquire") ≡ false
-    → fence_lists known_words test (w ∷ ws) ≡ (if bytes_eq w (codes "release") then both pair_of (Ok []) (one_or_more test ws) else Err 8)
+    → fence_lists known_words test (w ∷ ws) ≡ (if bytes_eq w (codes "release") then both pair_of (Ok []) (one_or_more test ws) else Err WrongCount)
 by_other test w ws other =
     ap (λ b. if b then both pair_of (one_or_more test (before_first (ends_list true) ws)) (behind_end (one_or_more test) ws).0
-    else (if bytes_eq w (codes "release") then both pair_of (Ok []) (one_or_more test ws) else Err 8)) other
+    else (if bytes_eq w (codes "release") then both pair_of (Ok []) (one_or_more test ws) else Err WrongCount)) other
 
 pub by_acquire : (test : Word → Reading FenceNo) (w : Word) (ws : List Word) → bytes_eq w (codes "acquire") ≡ true
     → fence_lists known_words test (w ∷ ws) ≡ both pair_of (one_or_more test (before_first (ends_list true) ws)) (behind_end (one_or_more test) ws).0
 by_acquire test w ws is =
     ap (λ b. if b then both pair_of (one_or_more test (before_first (ends_list true) ws)) (behind_end (one_or_more test) ws).0
-    else (if bytes_eq w (codes "release") then both pair_of (Ok []) (one_or_more test ws) else Err 8)) is
+    else (if bytes_eq w (codes "release") then both pair_of (Ok []) (one_or_more test ws) else Err WrongCount)) is
 
 pub by_release : (test : Word → Reading FenceNo) (w : Word) (ws : List Word) → bytes_eq w (codes "acquire") ≡ false → bytes_eq w (codes "release") ≡ true
     → fence_lists known_words test (w ∷ ws) ≡ both pair_of (Ok []) (one_or_more test ws)
-by_release test w ws other is = by_other test w ws other ∙ ap (λ b. if b then both pair_of (Ok []) (one_or_more test ws) else Err 8) is
+by_release test w ws other is = by_other test w ws other ∙ ap (λ b. if b then both pair_of (Ok []) (one_or_more test ws) else Err WrongCount) is
 
-pub by_neither : (test : Word → Reading FenceNo) (w : Word) (ws : List Word) → bytes_eq w (codes "acquire") ≡ false → bytes_eq w (codes "release") ≡ false → fence_lists known_words test (w ∷ ws) ≡ Err 8
-by_neither test w ws other is = by_other test w ws other ∙ ap (λ b. if b then both pair_of (Ok []) (one_or_more test ws) else Err 8) is
+pub by_neither : (test : Word → Reading FenceNo) (w : Word) (ws : List Word) → bytes_eq w (codes "acquire") ≡ false → bytes_eq w (codes "release") ≡ false → fence_lists known_words test (w ∷ ws) ≡ Err WrongCount
+by_neither test w ws other is = by_other test w ws other ∙ ap (λ b. if b then both pair_of (Ok []) (one_or_more test ws) else Err WrongCount) is
 
 -- lists that were read begin with one of the keywords
 abbrev pub ListsOk : (Word → Reading FenceNo) → Word → List Word → List FenceNo × List FenceNo → Type 0
@@ -195,7 +196,7 @@ lists_ok test w ws lists is = by_keyword (bytes_eq w (codes "acquire")) (bytes_e
     by_keyword : (b c : Bool) → bytes_eq w (codes "acquire") ≡ b → bytes_eq w (codes "release") ≡ c → ListsOk test w ws lists
     by_keyword true c at other = inl ((bytes_eq-Decides w (codes "acquire")).0 at, sym (by_acquire test w ws at) ∙ is)
     by_keyword false true at other = inr ((bytes_eq-Decides w (codes "release")).0 other, sym (by_release test w ws at other) ∙ is)
-    by_keyword false false at other = absurd (let wrong : Err 8 ≡ Ok lists = sym (by_neither test w ws at other) ∙ is in cc)
+    by_keyword false false at other = absurd (let wrong : Err WrongCount ≡ Ok lists = sym (by_neither test w ws at other) ∙ is in cc)
 
 pub acquire_read : (test : Word → Reading FenceNo) (old mid past new : Places) (w : Word) (a r : List FenceNo) → left old ≡ w ∷ left mid → mid.fault ≡ old.fault → bytes_eq w (codes "acquire") ≡ true
     → ReadsList (one_or_more test) true mid past a → Reads (behind_end (one_or_more test)) past new r → Reads (all_lists test) old new (a, r)

@@ -1,26 +1,49 @@
 -- Forms, as the code reads them place by place.
 use Rattle.std.proofs.lemmas.List.Splits.{length-slice_split}
-use Rattle.std.proofs.Common.{is_some, IfOk, ◌++◌, ◌<◌, length, append_assoc, append-nil, ◌≡◌, ℕ, Bool, true, false, List, [], ◌∷◌, Option, Some, None, Result, Ok, Err, refl, sym, ◌∙◌, ap, arith, cond}
+use Rattle.std.proofs.Common.{is_some, IfOk, ◌++◌, ◌<◌, length, append_assoc, append-nil, ◌≡◌, ℕ, Bool, true, false, List, [], ◌∷◌, Option, Some, None, Result, Ok, Err, refl, sym, ◌∙◌, ap, arith, cond, nat_le}
+use Rattle.std.proofs.lemmas.Bool.Decides.{nat_tests}
 use Rattle.std.specs.List.{slice_split, onto_first}
 use Rattle.std.specs.Borrow.{Bor}
 use Rattle.flat_text.specs.Pieces.{is_space, pieces_left}
+use Rattle.flat_places.specs.declared.kinds.FaultKind.{FaultKind}
+use Rattle.flat_places.specs.declared.kinds.FaultKind.TheVariants.{WrongCount}
 use Rattle.flat_places.specs.declared.places.Places.{Places}
+use Rattle.flat_places.specs.Kinds.{number, lower_kind}
 use Rattle.flat_places.specs.Forms.{place, each, optional, one_or_more, Word, Reading, Form, both, mapped, nothing, whole, give, passes, unless_kind, ◌<$>◌, ◌<*>◌}
 use Rattle.flat_places.specs.Places.{region, regions}
 use Rattle.flat_places.specs.Reads.{Reads, sofar, left, lower, giving, finished}
 
 -- a text has a piece at least
-nothing_onto : (x : ℕ) (parts : List (List ℕ)) → nothing (onto_first x parts) ≡ Err 8
+nothing_onto : (x : ℕ) (parts : List (List ℕ)) → nothing (onto_first x parts) ≡ Err WrongCount
 nothing_onto x [] = refl
 nothing_onto x (part ∷ parts) = refl
 
-nothing_split : (p : ℕ → Bool) (xs : List ℕ) → nothing (slice_split p xs) ≡ Err 8
+nothing_split : (p : ℕ → Bool) (xs : List ℕ) → nothing (slice_split p xs) ≡ Err WrongCount
 nothing_split p [] = refl
 nothing_split p (x ∷ xs) = by_test (p x)
   where
-    by_test : (b : Bool) → nothing (cond b ([] ∷ slice_split p xs) (onto_first x (slice_split p xs))) ≡ Err 8
+    by_test : (b : Bool) → nothing (cond b ([] ∷ slice_split p xs) (onto_first x (slice_split p xs))) ≡ Err WrongCount
     by_test true = refl
     by_test false = nothing_onto x (slice_split p xs)
+
+-- kinds
+
+lower_left : (j k : FaultKind) → nat_le (number j) (number k) ≡ true → lower_kind j k ≡ j
+lower_left j k test = ap (λ b. cond b j k) test
+
+lower_right : (j k : FaultKind) → nat_le (number j) (number k) ≡ false → lower_kind j k ≡ k
+lower_right j k test = ap (λ b. cond b j k) test
+
+lowest : (i j k : FaultKind) → lower_kind (lower_kind i j) k ≡ lower_kind i (lower_kind j k)
+lowest i j k = by_tests (nat_le (number i) (number j)) (nat_le (number j) (number k)) (nat_le (number i) (number k)) refl refl refl
+  where
+    by_tests : (a b c : Bool) → nat_le (number i) (number j) ≡ a → nat_le (number j) (number k) ≡ b → nat_le (number i) (number k) ≡ c → lower_kind (lower_kind i j) k ≡ lower_kind i (lower_kind j k)
+    by_tests true true true p q r = ap (λ m. lower_kind m k) (lower_left i j p) ∙ lower_left i k r ∙ sym (ap (lower_kind i) (lower_left j k q) ∙ lower_left i j p)
+    by_tests true true false p q r = absurd (grind (arith, nat_tests))
+    by_tests true false c p q r = ap (λ m. lower_kind m k) (lower_left i j p) ∙ sym (ap (lower_kind i) (lower_right j k q))
+    by_tests false true c p q r = ap (λ m. lower_kind m k) (lower_right i j p) ∙ lower_left j k q ∙ sym (ap (lower_kind i) (lower_left j k q) ∙ lower_right i j p)
+    by_tests false false true p q r = absurd (grind (arith, nat_tests))
+    by_tests false false false p q r = ap (λ m. lower_kind m k) (lower_right i j p) ∙ lower_right j k q ∙ sym (ap (lower_kind i) (lower_right j k q) ∙ lower_right i k r)
 
 -- readings
 
@@ -28,11 +51,11 @@ ends : {A : Type 0} (v : A) (s : Reading (Unit {0})) → giving v s ≡ both (λ
 ends v (Ok u) = refl
 ends v (Err k) = refl
 
-goes_on : {A : Type 0} (v : A) (s : Reading (Unit {0})) (k : ℕ) (n : Reading (Unit {0})) → n ≡ Err 8 → lower {A = Unit {0}} s (Err 8) ≡ Err k → both (λ w _. w) (giving v s) n ≡ Err k
+goes_on : {A : Type 0} (v : A) (s : Reading (Unit {0})) (k : FaultKind) (n : Reading (Unit {0})) → n ≡ Err WrongCount → lower {A = Unit {0}} s (Err WrongCount) ≡ Err k → both (λ w _. w) (giving v s) n ≡ Err k
 goes_on v (Ok u) k n e low = rw e (ap (mapped (λ _. v)) low)
 goes_on v (Err j) k n e low = rw e (ap (mapped (λ _. v)) low)
 
-pub goes_on_at : {A : Type 0} (v : A) (p : Places) (text : Bor (List ℕ)) (k : ℕ) → p.words ≡ Some text → lower {A = Unit {0}} (sofar p) (Err 8) ≡ Err k → finished v p ≡ Err k
+pub goes_on_at : {A : Type 0} (v : A) (p : Places) (text : Bor (List ℕ)) (k : FaultKind) → p.words ≡ Some text → lower {A = Unit {0}} (sofar p) (Err WrongCount) ≡ Err k → finished v p ≡ Err k
 goes_on_at v p text k is low = goes_on v (sofar p) k (nothing (left p)) (ap (λ w. nothing (pieces_left is_space w)) is ∙ nothing_split is_space text.now) low
 
 pub ends_at : {A : Type 0} (v : A) (p : Places) → left p ≡ [] → giving v (sofar p) ≡ finished v p
@@ -46,7 +69,7 @@ lower_both h (Ok u) (Err j) (Err k) = refl
 lower_both h (Err i) (Ok a) (Ok b) = refl
 lower_both h (Err i) (Ok a) (Err k) = refl
 lower_both h (Err i) (Err j) (Ok b) = refl
-lower_both h (Err i) (Err j) (Err k) = ap Err (omega arith)
+lower_both h (Err i) (Err j) (Err k) = ap Err (sym (lowest i j k))
 
 lower_mapped : {A B : Type 0} (h : A → B) (s : Reading (Unit {0})) (x : Reading A) → lower s (mapped h x) ≡ mapped h (lower s x)
 lower_mapped h (Ok u) (Ok a) = refl
@@ -114,14 +137,14 @@ read_after form {p = p} {q = q} {v = v} {words = words} {r = r} at read is =
     sym (lower_both (λ w _. w) (sofar p) (form (left p)).0 (nothing (left q))) in
     first ∙ second ∙ third ∙ ap (λ w. lower (sofar p) (both (λ a _. a) (form (left p)).0 (nothing w))) read.words ∙ ap (λ w. lower (sofar p) (whole form w)) at
 
-pub read_unless : {A : Type 0} (form : Form A) (k : ℕ) (test : Bool) (o : Places) {p q : Places} {v : A} {words : List Word} {r : Reading A}
+pub read_unless : {A : Type 0} (form : Form A) (k : FaultKind) (test : Bool) (o : Places) {p q : Places} {v : A} {words : List Word} {r : Reading A}
     → left o ≡ words → sofar o ≡ Ok (tt {0}) → p.words ≡ o.words → sofar p ≡ lower (sofar o) (passes k test) → Reads form p q v → r ≡ finished v q → r ≡ unless_kind k test (whole form words)
 read_unless form k test o {p = p} {words = words} at fresh same low read is =
     let here : left p ≡ words = ap (pieces_left is_space) same ∙ at in
     let kinds : sofar p ≡ passes k test = low ∙ ap (λ s. lower s (passes k test)) fresh ∙ lower_ok (passes k test) in
     read_after form here read is ∙ ap (λ s. lower s (whole form words)) kinds
 
-pub read_unless_2 : {A : Type 0} (form : Form A) (j k : ℕ) (first second : Bool) (n o : Places) {p q : Places} {v : A} {words : List Word} {r : Reading A}
+pub read_unless_2 : {A : Type 0} (form : Form A) (j k : FaultKind) (first second : Bool) (n o : Places) {p q : Places} {v : A} {words : List Word} {r : Reading A}
     → left n ≡ words → sofar n ≡ Ok (tt {0}) → o.words ≡ n.words → sofar o ≡ lower (sofar n) (passes j first) → p.words ≡ o.words → sofar p ≡ lower (sofar o) (passes k second)
     → Reads form p q v → r ≡ finished v q → r ≡ unless_kind j first (unless_kind k second (whole form words))
 read_unless_2 form j k first second n o {p = p} {words = words} at fresh same low same2 low2 read is =

@@ -8,6 +8,7 @@ use Rattle.flat_base.specs.declared.ids.SessionNo.{SessionNo}
 use Rattle.flat_scene.specs.declared.script.ScriptLine.{ScriptLine}
 use Rattle.flat_scene.specs.declared.script.Body.{Body}
 use Rattle.flat_forms.specs.declared.calls.CallName.{CallName}
+use Rattle.flat_places.specs.declared.kinds.FaultKind.TheVariants.{UnknownActor, Limit}
 use Rattle.flat_places.specs.declared.script.Script.{Script}
 use Rattle.flat_places.specs.Known.{known_words}
 use Rattle.flat_places.specs.Forms.{Word, mapped}
@@ -73,7 +74,7 @@ pub record Again (s : Script) (ls ms : List ScriptLine) (n m : ℕ) (words : Lis
 counted_again : (s : Script) (ls ms : List ScriptLine) (n m : ℕ) (w : Word) (words : List Word) (u : Script) (a : Actor) → SameLines ls ms → actor_named s w ≡ Some a
     → counted_line known_words (with_lines s ls) n a words ≡ Ok u → Again s ls ms n m (w ∷ words) u
 counted_again s ls ms n m w words u a same named is =
-    let tested = unless_ok 11 (nat_lt (lines_of_actor (with_lines s ls) a) 65536) _ u is in
+    let tested = unless_ok Limit (nat_lt (lines_of_actor (with_lines s ls) a) 65536) _ u is in
     let parts = mapped_ok (with_line (with_lines s ls) n a) (actor_line known_words (with_lines s ls) a words) u tested.given in
     let count : nat_lt (lines_of_actor (with_lines s ms) a) 65536 ≡ true = ap (λ k. nat_lt k 65536) (actors_same a ls ms same) ∙ tested.passed in
     let again : (spelt : List Word) → actor_line known_words (with_lines s ls) a spelt ≡ Ok parts.a → body_line known_words (with_lines s ms) m (w ∷ spelt) ≡ Ok (with_line (with_lines s ms) m a parts.a) =
@@ -81,7 +82,7 @@ counted_again s ls ms n m w words u a same named is =
     record { actor = a; first = w; rest = words; body = parts.a; begins = refl; named = named; line = parts.given; read = sym parts.value; again = again }
 
 by_actor : (s : Script) (ls ms : List ScriptLine) (n m : ℕ) (w : Word) (words : List Word) (u : Script) (o : Option Actor) → SameLines ls ms → actor_named s w ≡ o
-    → option_map_or (λ a. counted_line known_words (with_lines s ls) n a words) o (Err 5) ≡ Ok u → Again s ls ms n m (w ∷ words) u
+    → option_map_or (λ a. counted_line known_words (with_lines s ls) n a words) o (Err UnknownActor) ≡ Ok u → Again s ls ms n m (w ∷ words) u
 by_actor s ls ms n m w words u None same named is = absurd (cc)
 by_actor s ls ms n m w words u (Some a) same named is = counted_again s ls ms n m w words u a same named is
 

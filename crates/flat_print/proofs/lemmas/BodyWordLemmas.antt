@@ -23,6 +23,7 @@ use Rattle.flat_scene.specs.declared.script.ProbeLine.TheVariants as probe
 use Rattle.flat_scene.specs.declared.script.Body.{Body}
 use Rattle.flat_scene.specs.declared.script.Body.TheVariants as body
 use Rattle.flat_forms.specs.declared.calls.CallName.{CallName}
+use Rattle.flat_places.specs.declared.kinds.FaultKind.TheVariants.{UnknownCall, UnknownName, Limit, BadOrder}
 use Rattle.flat_places.specs.declared.script.Script.{Script}
 use Rattle.flat_places.specs.Known.{known_words}
 use Rattle.flat_places.specs.Forms.{Word, Reading, Form, Table, mapped, unless_kind, whole, give, ◌<$>◌}
@@ -66,22 +67,22 @@ in_order_ok : (least : ℕ) (r : Reading ℕ) (t : ℕ) → in_order least r ≡
 in_order_ok least (Err k) t is = absurd (cc)
 in_order_ok least (Ok n) t is = by_test (nat_le least n) is
   where
-    by_test : (b : Bool) → cond {A = Reading ℕ} b (Ok n) (Err 12) ≡ Ok t → ok n ≡ ok t
+    by_test : (b : Bool) → cond {A = Reading ℕ} b (Ok n) (Err BadOrder) ≡ Ok t → ok n ≡ ok t
     by_test true same = same
     by_test false wrong = absurd (cc)
 
-begin_spelt : (s : Script) (words : List Word) (l : DisplayLine) (b c : Bool) → mapped display.Begin (unless_kind 11 b (unless_kind 12 c (whole (begin_place s) words))) ≡ Ok l → display_words s l ≡ codes "begin" ∷ words
+begin_spelt : (s : Script) (words : List Word) (l : DisplayLine) (b c : Bool) → mapped display.Begin (unless_kind Limit b (unless_kind BadOrder c (whole (begin_place s) words))) ≡ Ok l → display_words s l ≡ codes "begin" ∷ words
 begin_spelt s words l b c is =
     let m = mapped_ok display.Begin _ l is in
-    let first = unless_ok 11 b _ m.a m.given in
-    let second = unless_ok 12 c (whole (begin_place s) words) m.a first.given in
+    let first = unless_ok Limit b _ m.a m.given in
+    let second = unless_ok BadOrder c (whole (begin_place s) words) m.a first.given in
     let p = place_ok _ words m.a [] (whole_ok (begin_place s) words m.a second.given) in
     let number = (number_words (2 ^ 63)).takes (p.word ∷ []) m.a [] (whole_ok time (p.word ∷ []) m.a (in_order_ok (greatest (begin_times s)) _ m.a p.passes)) in
     ap (display_words s) (sym m.value) ∙ ap (λ t. codes "begin" ∷ t) (sym (p.begins ∙ number))
 
-done_spelt : (s : Script) (words : List Word) (l : DisplayLine) (b : Bool) → unless_kind 12 b (whole (give display.Done) words) ≡ Ok l → display_words s l ≡ codes "done" ∷ words
+done_spelt : (s : Script) (words : List Word) (l : DisplayLine) (b : Bool) → unless_kind BadOrder b (whole (give display.Done) words) ≡ Ok l → display_words s l ≡ codes "done" ∷ words
 done_spelt s words l b is =
-    let t = unless_ok 12 b (whole (give display.Done) words) l is in
+    let t = unless_ok BadOrder b (whole (give display.Done) words) l is in
     let given = whole_ok (give display.Done) words l t.given in
     let same = given.value in
     let e : display.Done ≡ l = cc in
@@ -115,7 +116,7 @@ presents_spelt s words c is =
     let first = map_ok h (session s) words second.g second.mid second.first in
     let value : h first.a second.a ≡ c = ap (λ g. g second.a) first.value ∙ second.value in
     let p = place_ok _ words first.a second.mid first.given in
-    let name : session_word s first.a ≡ p.word = named_by s p.word first.a (place_of s.sessions p.word) refl (or_kind_ok 9 _ first.a p.passes) in
+    let name : session_word s first.a ≡ p.word = named_by s p.word first.a (place_of s.sessions p.word) refl (or_kind_ok UnknownName _ first.a p.passes) in
     ap (condition_words s) (sym value) ∙ ap (λ t. codes "presents" ∷ t) (ap (λ n. n ∷ decimal second.a ∷ []) name ∙ sym (p.begins ∙ ap (λ t. p.word ∷ t) second.behind))
 
 session_conditions : Script → SessionNo → Table Cond
@@ -125,7 +126,7 @@ session_condition_spelt : (s : Script) (a : SessionNo) (words : List Word) (c : 
 unfolding session_conditions
 session_condition_spelt s a [] c is = absurd (cc)
 session_condition_spelt s a (w ∷ words) c is =
-    table_spelt (condition_words s) 6 (session_conditions s a)
+    table_spelt (condition_words s) UnknownCall (session_conditions s a)
     (counted_spelt asks.Frames s (codes "frames") (λ n. refl), (counted_spelt asks.Credits s (codes "credits") (λ n. refl), (counted_spelt asks.Taken s (codes "taken") (λ n. refl), (counted_spelt asks.Answers s (codes "answers") (λ n. refl), (waited_spelt s (Session a), tt))))) w words c is
 
 display_conditions : Script → Table Cond
@@ -134,7 +135,7 @@ display_conditions s = (codes "presents", whole (presents_asked s)) ∷ (codes "
 display_condition_spelt : (s : Script) (words : List Word) (c : Cond) → display_condition known_words s words ≡ Ok c → condition_words s c ≡ words
 unfolding display_conditions
 display_condition_spelt s [] c is = absurd (cc)
-display_condition_spelt s (w ∷ words) c is = table_spelt (condition_words s) 6 (display_conditions s) (presents_spelt s, (waited_spelt s Display, tt)) w words c is
+display_condition_spelt s (w ∷ words) c is = table_spelt (condition_words s) UnknownCall (display_conditions s) (presents_spelt s, (waited_spelt s Display, tt)) w words c is
 
 display_wait_spelt : (s : Script) (words : List Word) (l : DisplayLine) → mapped display.Wait (display_condition known_words s words) ≡ Ok l → display_words s l ≡ codes "Wait" ∷ words
 display_wait_spelt s words l is =
@@ -151,8 +152,8 @@ hit_spelt h spell spells words l is =
 
 display_table : Script → Table DisplayLine
 display_table s =
-    (codes "begin", (λ rest. mapped display.Begin (unless_kind 11 (nat_lt (length (begin_times s)) 512) (unless_kind 12 (not (is_open s)) (whole (begin_place s) rest))))) ∷
-    (codes "done", (λ rest. unless_kind 12 (is_open s) (whole (give display.Done) rest))) ∷
+    (codes "begin", (λ rest. mapped display.Begin (unless_kind Limit (nat_lt (length (begin_times s)) 512) (unless_kind BadOrder (not (is_open s)) (whole (begin_place s) rest))))) ∷
+    (codes "done", (λ rest. unless_kind BadOrder (is_open s) (whole (give display.Done) rest))) ∷
     (codes "Signal", whole (display.Signal <$> fence s Display)) ∷
     (codes "Wait", (λ rest. mapped display.Wait (display_condition known_words s rest))) ∷
     (codes "hit", whole (point (λ x y. display.Hit x y))) ∷ []
@@ -161,7 +162,7 @@ pub display_spelt : (s : Script) (words : List Word) (l : DisplayLine) → displ
 unfolding display_table
 display_spelt s [] l is = absurd (cc)
 display_spelt s (w ∷ words) l is =
-    table_spelt (display_words s) 6 (display_table s)
+    table_spelt (display_words s) UnknownCall (display_table s)
     ((λ rest v given. begin_spelt s rest v _ _ given), ((λ rest v given. done_spelt s rest v (is_open s) given), (display_signal_spelt s, (display_wait_spelt s, (hit_spelt (λ x y. display.Hit x y) (display_words s) (λ x y. refl), tt))))) w words l is
 
 -- sessions
@@ -214,7 +215,7 @@ other_table s a =
 other_spelt : (s : Script) (a : SessionNo) (w : Word) (words : List Word) (l : Line) → other_line known_words s a (w ∷ words) ≡ Ok l → session_words s l ≡ w ∷ words
 unfolding other_table
 other_spelt s a w words l is =
-    table_spelt (session_words s) 6 (other_table s a)
+    table_spelt (session_words s) UnknownCall (other_table s a)
     (present_spelt s a, (alone_spelt s (line.Get watch.Layout), (alone_spelt s (line.Get watch.Status), (child_spelt s, (signal_spelt s a, (alone_spelt s line.Poll, (wait_spelt s a, (alone_spelt s line.Disconnect, tt)))))))) w words l is
 
 -- a call; one with an inset of zeros is spelt without it
@@ -253,7 +254,7 @@ await_spelt words l is =
 probe_spelt : (words : List Word) (l : ProbeLine) → probe_line known_words words ≡ Ok l → probe_words l ≡ words
 unfolding probe_table
 probe_spelt [] l is = absurd (cc)
-probe_spelt (w ∷ words) l is = table_spelt probe_words 6 probe_table (hit_spelt (λ x y. probe.Hit x y) probe_words (λ x y. refl), (await_spelt, tt)) w words l is
+probe_spelt (w ∷ words) l is = table_spelt probe_words UnknownCall probe_table (hit_spelt (λ x y. probe.Hit x y) probe_words (λ x y. refl), (await_spelt, tt)) w words l is
 
 -- a line behind its actor
 pub body_shown : (s : Script) (a : Actor) (words : List Word) (b : Body) → actor_line known_words s a words ≡ Ok b → Shown (actor_line known_words s a) (body_words s b) words b

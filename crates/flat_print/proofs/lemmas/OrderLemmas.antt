@@ -13,6 +13,7 @@ use Rattle.flat_base.specs.declared.ids.Actor.TheVariants.{Display, Session}
 use Rattle.flat_base.specs.declared.ids.SessionNo.{SessionNo}
 use Rattle.flat_text.specs.Number.{natural}
 use Rattle.flat_text.proofs.lemmas.NumberLemmas.{decimal-natural}
+use Rattle.flat_places.specs.declared.kinds.FaultKind.TheVariants.{BadNumber, UnknownName}
 use Rattle.flat_places.specs.declared.script.Script.{Script}
 use Rattle.flat_places.specs.Forms.{Word, whole, each, one_or_more, ◌<$>◌}
 use Rattle.flat_places.specs.Names.{place_of, session_named, owner_named}
@@ -162,7 +163,7 @@ test_passes p (Some n) v is = passes_by p n v (p n) refl is
 
 range_ok : (least most : ℕ) (w : Word) (n : ℕ) → (number_from least most (w ∷ [])).0 ≡ Ok n → (decimal n ≡ w) × (nat_le least n ≡ true)
 range_ok least most w n is =
-    let found = or_kind_ok 7 _ n is in
+    let found = or_kind_ok BadNumber _ n is in
     let test = λ (k : ℕ). nat_le least k && nat_le k most in
     ((decimal-natural w n (test_ok test (natural w) n found)).0, (and_parts (nat_le least n) (nat_le n most) (test_passes test (natural w) n found)).0)
 
@@ -202,7 +203,7 @@ each_words u xs zs [] os is = let e : [] ≡ os = cc in ap (map (actor_word (mor
 each_words u xs zs (w ∷ ws) os is =
     let parts = both_ok (λ a rest. a ∷ rest) (owner_word u w) (each (owner_word u) ws) os is in
     let g = actor_word (more_actors u xs zs) in
-    ap (map g) (sym parts.value) ∙ ap (λ v. v ∷ map g parts.b) (actor_word_of u xs zs w parts.a (or_kind_ok 9 (owner_named u w) parts.a parts.first)) ∙ ap (λ vs. w ∷ vs) (each_words u xs zs ws parts.b parts.second)
+    ap (map g) (sym parts.value) ∙ ap (λ v. v ∷ map g parts.b) (actor_word_of u xs zs w parts.a (or_kind_ok UnknownName (owner_named u w) parts.a parts.first)) ∙ ap (λ vs. w ∷ vs) (each_words u xs zs ws parts.b parts.second)
 
 owners_words : (u : Script) (xs zs ws : List Word) (os : List Actor) → one_or_more (owner_word u) ws ≡ Ok os → map (actor_word (more_actors u xs zs)) os ≡ ws
 owners_words u xs zs [] os is = absurd (cc)

@@ -10,6 +10,7 @@ use Rattle.flat_base.specs.declared.ids.Actor.TheVariants.{Display, Session, Pro
 use Rattle.flat_scene.specs.declared.script.Body.{Body}
 use Rattle.flat_scene.specs.declared.script.ScriptLine.{ScriptLine}
 use Rattle.flat_text.specs.Pieces.{words_of, lines_of}
+use Rattle.flat_places.specs.declared.kinds.FaultKind.TheVariants.{TooLong, NotAscii, LongLine, BadHead, BadOrder}
 use Rattle.flat_places.specs.declared.script.Script.{Script}
 use Rattle.flat_script.specs.declared.script.ScriptFault.{ScriptFault}
 use Rattle.flat_forms.specs.declared.lines.Part.TheVariants as part
@@ -51,7 +52,7 @@ pub record Read (n : ℕ) (sofar next : Sofar) (l : List ℕ) : Type 0 where
   pub words : words_read known_words n sofar (words_of l) ≡ Ok next
 
 line_by : (n : ℕ) (sofar next : Sofar) (l : List ℕ) (p q r : Bool) → list_all is_plain l ≡ p → nat_lt 1024 (length l) ≡ q → is_skipped l ≡ r
-    → cond {A = Reading Sofar} (not p) (Err 2) (cond {A = Reading Sofar} q (Err 3) (cond {A = Reading Sofar} r (Ok sofar) (words_read known_words n sofar (words_of l)))) ≡ Ok next → (sofar ≡ next) ⊎ Read n sofar next l
+    → cond {A = Reading Sofar} (not p) (Err NotAscii) (cond {A = Reading Sofar} q (Err LongLine) (cond {A = Reading Sofar} r (Ok sofar) (words_read known_words n sofar (words_of l)))) ≡ Ok next → (sofar ≡ next) ⊎ Read n sofar next l
 line_by n sofar next l false q r a b c is = absurd (cc)
 line_by n sofar next l true true r a b c is = absurd (cc)
 line_by n sofar next l true false true a b c is = inl (cc)
@@ -82,7 +83,7 @@ open_same : (h : Script) (us ms : List ScriptLine) → SameLines us ms → is_op
 open_same h us ms same = let times = times_same us ms same in let ended = dones_same us ms same in rw (times, ended) refl
 
 ended : (h : Script) (us ms : List ScriptLine) (n m : ℕ) (s : Script) (b : Bool) → SameLines us ms → is_open (with_lines h us) ≡ b
-    → cond {A = Result Script ScriptFault} b (Err (record { line = n; kind = 12 })) (Ok (record (with_lines h us) { count = n - 1 })) ≡ Ok s → BodyRun h us ms m [] s
+    → cond {A = Result Script ScriptFault} b (Err (record { line = n; kind = BadOrder })) (Ok (record (with_lines h us) { count = n - 1 })) ≡ Ok s → BodyRun h us ms m [] s
 ended h us ms n m s true same at is = absurd (cc)
 ended h us ms n m s false same at is =
     let e : record (with_lines h us) { count = n - 1 } ≡ s = cc in
@@ -219,7 +220,7 @@ head_by : (u : Script) (k n most : ℕ) (s : Script) (l : List ℕ) (ls : List (
     → cond b (mapped (λ _. (part.Body, u)) (run_line u words)) (mapped (λ t. (part.Head, t)) (head_line known_words u (w ∷ words))) ≡ Ok next → HeadRuns ls s most → HeadRun s most
 head_by u k n most s l ls next w words true is good at o none fits rest read runs =
     let m = mapped_ok (λ _. (part.Body, u)) (run_line u words) next read in
-    let tested = unless_ok 4 (is_ready u) (whole (give (tt {0})) words) m.a m.given in
+    let tested = unless_ok BadHead (is_ready u) (whole (give (tt {0})) words) m.a m.given in
     let over = whole_ok (give (tt {0})) words m.a tested.given in
     let long = run_length l w words is at over.left in
     record { h = u; k = k; o = o; none = none; ready = tested.passed; n = n + 1; rest = ls; read = read_at (n + 1) (part.Body, u) next ls s m.value rest; fits = omega arith }
@@ -270,7 +271,7 @@ start_length l w words is same read =
 abbrev StartRuns : List (List ℕ) → Script → ℕ → Type 0
 StartRuns ls s most = (n : ℕ) → lines_room ls ≤ most → lines_read known_words n (part.Start, empty) ls ≡ Ok s → StartRun s most
 
-start_flat : (l : List ℕ) (w : Word) (words : List Word) (b : Bool) → words_of l ≡ w ∷ words → bytes_eq w (codes "flatland") ≡ b → cond {A = Reading (Unit {0})} b (whole version words) (Err 4) ≡ Ok (tt {0}) → 10 ≤ length l
+start_flat : (l : List ℕ) (w : Word) (words : List Word) (b : Bool) → words_of l ≡ w ∷ words → bytes_eq w (codes "flatland") ≡ b → cond {A = Reading (Unit {0})} b (whole version words) (Err BadHead) ≡ Ok (tt {0}) → 10 ≤ length l
 start_flat l w words true is at read = start_length l w words is at read
 start_flat l w words false is at read = absurd (cc)
 
@@ -403,7 +404,7 @@ head_is h k o us n ready =
 text_long : (w : List (List Word)) → length (codes "flatland 1" ++ fed w) ≡ 10 + room_of w
 text_long w = omega (arith, length-append (codes "flatland 1") (fed w), length-fed w)
 
-small : (text : List ℕ) (r : Result Script ScriptFault) → length text ≤ 16777216 → cond {A = Result Script ScriptFault} (nat_lt (16 * 1024 * 1024) (length text)) (Err (record { line = 0; kind = 1 })) r ≡ r
+small : (text : List ℕ) (r : Result Script ScriptFault) → length text ≤ 16777216 → cond {A = Result Script ScriptFault} (nat_lt (16 * 1024 * 1024) (length text)) (Err (record { line = 0; kind = TooLong })) r ≡ r
 small text r few = let test : nat_lt 16777216 (length text) ≡ false = grind (arith, nat_tests) in rw test refl
 
 printed_by : (bytes : List ℕ) (s : Script) → length bytes ≤ 16777216 → lines_read known_words 1 (part.Start, empty) (lines_of bytes) ≡ Ok s → IsReadBack (text_of s) s
@@ -440,7 +441,7 @@ printed_by bytes s few is =
     }
 
 by_size : (bytes : List ℕ) (s : Script) (b : Bool) → nat_lt (16 * 1024 * 1024) (length bytes) ≡ b
-    → cond {A = Result Script ScriptFault} b (Err (record { line = 0; kind = 1 })) (lines_read known_words 1 (part.Start, empty) (lines_of bytes)) ≡ Ok s → IsReadBack (text_of s) s
+    → cond {A = Result Script ScriptFault} b (Err (record { line = 0; kind = TooLong })) (lines_read known_words 1 (part.Start, empty) (lines_of bytes)) ≡ Ok s → IsReadBack (text_of s) s
 by_size bytes s true at is = absurd (cc)
 by_size bytes s false at is = printed_by bytes s (let few : length bytes ≤ 16777216 = grind (arith, nat_tests) in few) is
 

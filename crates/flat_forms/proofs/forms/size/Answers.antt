@@ -1,7 +1,8 @@
 use Rattle.flat_forms.specs.Head.{size}
+use Rattle.flat_places.specs.declared.kinds.FaultKind.TheVariants.{BadHead}
 use Rattle.flat_places.proofs.lemmas.ReadsLemmas.{read_unless, then, begin}
 use Rattle.flat_forms.proofs.forms.size.Goals as goal
 
 pub returns : goal.returns
-returns c = read_unless size 4 c.args.fresh c.new-places.result c.new-places.ensures.words c.new-places.ensures.sofar c.note_unless.ensures.words c.note_unless.ensures.lower
+returns c = read_unless size BadHead c.args.fresh c.new-places.result c.new-places.ensures.words c.new-places.ensures.sofar c.note_unless.ensures.words c.note_unless.ensures.lower
     (then (begin (λ w h. (w, h)) c.number_from-w.ensures) c.number_from-h.ensures) c.finish.ensures.reads
