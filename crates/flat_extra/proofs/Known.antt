@@ -7,6 +7,8 @@ use Rattle.flat_base.proofs.lemmas.Tests.{and-true}
 use Rattle.flat_base.specs.declared.limits.TheConstants.{SCRIPT_BYTES_MAX}
 use Rattle.flat_text.specs.Number.{natural}
 use Rattle.flat_text.specs.Pieces.{words_of}
+use Rattle.flat_places.specs.declared.kinds.FaultKind.{FaultKind}
+use Rattle.flat_places.specs.declared.kinds.FaultKind.TheVariants.{TooLong}
 use Rattle.flat_places.specs.declared.script.Script.{Script}
 use Rattle.flat_script.specs.declared.script.ScriptFault.{ScriptFault}
 use Rattle.flat_script.specs.Grammar.{text_read}
@@ -43,8 +45,8 @@ known-line before line found is =
 -- ---- all lines
 
 -- a test that each value passes
-module _ {A : Type 0} (test : A → Bool) (read : ℕ → ExtraLine → Result A ℕ) (each : (before : ℕ) (line : ExtraLine) (found : A) → read before line ≡ Ok found → test found ≡ true) where
-  one-read : (n : ℕ) (one : Result A ℕ) (later : Result (List A) ScriptFault) (values : List A) → ((found : A) → one ≡ Ok found → test found ≡ true)
+module _ {A : Type 0} (test : A → Bool) (read : ℕ → ExtraLine → Result A FaultKind) (each : (before : ℕ) (line : ExtraLine) (found : A) → read before line ≡ Ok found → test found ≡ true) where
+  one-read : (n : ℕ) (one : Result A FaultKind) (later : Result (List A) ScriptFault) (values : List A) → ((found : A) → one ≡ Ok found → test found ≡ true)
       → ((rest : List A) → later ≡ Ok rest → list_all test rest ≡ true) → then_read n one later ≡ Ok values → list_all test values ≡ true
   one-read n (Ok value) (Ok rest) values first others is =
       let same : value ∷ rest ≡ values = cc in
@@ -64,7 +66,7 @@ pointers-known bytes read is =
     let found : Result (List PointerLine) ScriptFault = all_read pointer_line 0 (extra_of Pointer bytes) in
     let whole : Script → Result WithPointers ScriptFault = λ script. and_then found (λ lines. Ok (record { script = script; lines = lines })) in
     let parts = both-read (text_read (rest_of Pointer bytes)) whole read
-    (not-refused (nat_lt SCRIPT_BYTES_MAX (length bytes)) (record { line = 0; kind = 1 }) (and_then (text_read (rest_of Pointer bytes)) whole) read is) in
+    (not-refused (nat_lt SCRIPT_BYTES_MAX (length bytes)) (record { line = 0; kind = TooLong }) (and_then (text_read (rest_of Pointer bytes)) whole) read is) in
     let second : List PointerLine → Result WithPointers ScriptFault = λ ls. Ok (record { script = parts.0; lines = ls }) in
     let lines = both-read found second read parts.2 in
     let same : ◌≡◌ {A = WithPointers} (record { script = parts.0; lines = lines.0 }) read = let ok = lines.2 in cc in

@@ -7,6 +7,8 @@ use Rattle.flat_base.proofs.lemmas.Tests.{and-true}
 use Rattle.flat_base.specs.declared.limits.TheConstants.{SCRIPT_BYTES_MAX}
 use Rattle.std.specs.List.{slice_split}
 use Rattle.flat_text.specs.Pieces.{is_feed, words_of}
+use Rattle.flat_places.specs.declared.kinds.FaultKind.{FaultKind}
+use Rattle.flat_places.specs.declared.kinds.FaultKind.TheVariants.{TooLong}
 use Rattle.flat_places.specs.declared.script.Script.{Script}
 use Rattle.flat_script.specs.declared.script.ScriptFault.{ScriptFault}
 use Rattle.flat_script.specs.Grammar.{text_read}
@@ -24,7 +26,7 @@ use Rattle.flat_extra.specs.Whole.{and_then, focus_read, pointers_read}
 
 -- ---- one line
 
-pub passed : {A : Type 0} (fault : Option ℕ) (value found : A) → ◌≡◌ {A = Result A ℕ} (option_map_or (λ kind. Err kind) fault (Ok value)) (Ok found) → value ≡ found
+pub passed : {A : Type 0} (fault : Option FaultKind) (value found : A) → ◌≡◌ {A = Result A FaultKind} (option_map_or (λ kind. Err kind) fault (Ok value)) (Ok found) → value ≡ found
 passed None value found is = cc
 passed (Some kind) value found is = absurd (cc)
 
@@ -36,7 +38,7 @@ number-of before line found is =
 -- ---- all lines
 
 -- a line that is read comes after all that stand before it
-one-more : (from n : ℕ) (one : Result PointerLine ℕ) (later : Result (List PointerLine) ScriptFault) (values : List PointerLine) → from < n
+one-more : (from n : ℕ) (one : Result PointerLine FaultKind) (later : Result (List PointerLine) ScriptFault) (values : List PointerLine) → from < n
     → ((found : PointerLine) → one ≡ Ok found → found.number ≡ n) → ((rest : List PointerLine) → later ≡ Ok rest → rise_after n rest ≡ true) → then_read n one later ≡ Ok values → rise_after from values ≡ true
 one-more from n (Ok value) (Ok rest) values less first others is =
     let same : value ∷ rest ≡ values = cc in
@@ -77,7 +79,7 @@ pointers-rise bytes read is =
     let found : Result (List PointerLine) ScriptFault = all_read pointer_line 0 (extra_of Pointer bytes) in
     let whole : Script → Result WithPointers ScriptFault = λ script. and_then found (λ lines. Ok (record { script = script; lines = lines })) in
     let parts = both-read (text_read (rest_of Pointer bytes)) whole read
-    (not-refused (nat_lt SCRIPT_BYTES_MAX (length bytes)) (record { line = 0; kind = 1 }) (and_then (text_read (rest_of Pointer bytes)) whole) read is) in
+    (not-refused (nat_lt SCRIPT_BYTES_MAX (length bytes)) (record { line = 0; kind = TooLong }) (and_then (text_read (rest_of Pointer bytes)) whole) read is) in
     let second : List PointerLine → Result WithPointers ScriptFault = λ ls. Ok (record { script = parts.0; lines = ls }) in
     let lines = both-read found second read parts.2 in
     let same : ◌≡◌ {A = WithPointers} (record { script = parts.0; lines = lines.0 }) read = let ok = lines.2 in cc in
@@ -89,7 +91,7 @@ pub focus-rest : (bytes : List ℕ) (read : WithFocus) → focus_read bytes ≡ 
 focus-rest bytes read is =
     let whole : Script → Result WithFocus ScriptFault = λ script. and_then (all_read (focus_line script) 0 (extra_of Focus bytes)) (λ lines. Ok (record { script = script; lines = lines })) in
     let parts = both-read (text_read (rest_of Focus bytes)) whole read
-    (not-refused (nat_lt SCRIPT_BYTES_MAX (length bytes)) (record { line = 0; kind = 1 }) (and_then (text_read (rest_of Focus bytes)) whole) read is) in
+    (not-refused (nat_lt SCRIPT_BYTES_MAX (length bytes)) (record { line = 0; kind = TooLong }) (and_then (text_read (rest_of Focus bytes)) whole) read is) in
     let second : List FocusLine → Result WithFocus ScriptFault = λ ls. Ok (record { script = parts.0; lines = ls }) in
     let lines = both-read (all_read (focus_line parts.0) 0 (extra_of Focus bytes)) second read parts.2 in
     let same : ◌≡◌ {A = WithFocus} (record { script = parts.0; lines = lines.0 }) read = let ok = lines.2 in cc in
@@ -100,7 +102,7 @@ pointer-rest bytes read is =
     let found : Result (List PointerLine) ScriptFault = all_read pointer_line 0 (extra_of Pointer bytes) in
     let whole : Script → Result WithPointers ScriptFault = λ script. and_then found (λ lines. Ok (record { script = script; lines = lines })) in
     let parts = both-read (text_read (rest_of Pointer bytes)) whole read
-    (not-refused (nat_lt SCRIPT_BYTES_MAX (length bytes)) (record { line = 0; kind = 1 }) (and_then (text_read (rest_of Pointer bytes)) whole) read is) in
+    (not-refused (nat_lt SCRIPT_BYTES_MAX (length bytes)) (record { line = 0; kind = TooLong }) (and_then (text_read (rest_of Pointer bytes)) whole) read is) in
     let second : List PointerLine → Result WithPointers ScriptFault = λ ls. Ok (record { script = parts.0; lines = ls }) in
     let lines = both-read found second read parts.2 in
     let same : ◌≡◌ {A = WithPointers} (record { script = parts.0; lines = lines.0 }) read = let ok = lines.2 in cc in

@@ -5,6 +5,8 @@ use Rattle.std.specs.Str.{bytes_eq}
 use Rattle.flat_base.specs.declared.ids.SessionNo.{SessionNo}
 use Rattle.flat_text.specs.Number.{natural, signed}
 use Rattle.flat_text.specs.Pieces.{words_of}
+use Rattle.flat_places.specs.declared.kinds.FaultKind.{FaultKind}
+use Rattle.flat_places.specs.declared.kinds.FaultKind.TheVariants.{UnknownActor, BadNumber, WrongCount, UnknownName, Limit}
 use Rattle.flat_places.specs.declared.script.Script.{Script}
 use Rattle.flat_script.specs.declared.script.ScriptFault.{ScriptFault}
 use Rattle.flat_script.specs.declared.script.ScriptError.{ScriptError}
@@ -22,12 +24,12 @@ use Rattle.flat_extra.specs.declared.split.ExtraLine.{ExtraLine}
 -- ---- tests and their kinds
 
 -- the first kind whose test fails
-abbrev pub failed : List (ℕ × Bool) → Option ℕ
+abbrev pub failed : List (FaultKind × Bool) → Option FaultKind
 failed [] = None
 failed ((kind, passes) ∷ later) = if passes then failed later else Some kind
 
 -- a value, or the first kind whose test fails
-abbrev pub tested : {A : Type 0} → List (ℕ × Bool) → A → Result A ℕ
+abbrev pub tested : {A : Type 0} → List (FaultKind × Bool) → A → Result A FaultKind
 tested tests value = option_map_or (λ kind. Err kind) (failed tests) (Ok value)
 
 -- fewer than 65,536 extra lines stand before
@@ -44,14 +46,14 @@ abbrev pub nobody : SessionNo
 nobody = record { 0 = 0 }
 
 -- the tests of a line that so many stand before: the first word is a session, there are three, the third is a session
-abbrev pub focus_tests : Script → ℕ → List (List ℕ) → List (ℕ × Bool)
+abbrev pub focus_tests : Script → ℕ → List (List ℕ) → List (FaultKind × Bool)
 focus_tests script before words =
-    (5, is_some (session_at script words 0)) ∷ (8, length words == 3) ∷ (9, is_some (session_at script words 2)) ∷ (11, has_room before) ∷ []
+    (UnknownActor, is_some (session_at script words 0)) ∷ (WrongCount, length words == 3) ∷ (UnknownName, is_some (session_at script words 2)) ∷ (Limit, has_room before) ∷ []
 
 abbrev pub focus_value : Script → ℕ → List (List ℕ) → FocusLine
 focus_value script number words = record { number = number; by = unwrap_or (session_at script words 0) nobody; of = unwrap_or (session_at script words 2) nobody }
 
-abbrev pub focus_line : Script → ℕ → ExtraLine → Result FocusLine ℕ
+abbrev pub focus_line : Script → ℕ → ExtraLine → Result FocusLine FaultKind
 focus_line script before line = tested (focus_tests script before (words_of line.text)) (focus_value script line.number (words_of line.text))
 
 -- ---- pointers: `display Down P X Y`, `display Move P X Y`, `display Up P`
@@ -89,9 +91,9 @@ has_numbers words = may_be (pointer_at words) words 2 && (is_second (codes "Up")
 abbrev pub word_count : List (List ℕ) → ℕ
 word_count words = if is_second (codes "Up") words then 3 else 5
 
-abbrev pub pointer_tests : ℕ → List (List ℕ) → List (ℕ × Bool)
+abbrev pub pointer_tests : ℕ → List (List ℕ) → List (FaultKind × Bool)
 pointer_tests before words =
-    (5, is_word_at (codes "display") words 0) ∷ (7, has_numbers words) ∷ (8, length words == word_count words) ∷ (11, has_room before) ∷ []
+    (UnknownActor, is_word_at (codes "display") words 0) ∷ (BadNumber, has_numbers words) ∷ (WrongCount, length words == word_count words) ∷ (Limit, has_room before) ∷ []
 
 abbrev pub pointer_call : List (List ℕ) → PointerCall
 pointer_call words =
@@ -101,19 +103,19 @@ pointer_call words =
 abbrev pub pointer_value : ℕ → List (List ℕ) → PointerLine
 pointer_value number words = record { number = number; pointer = unwrap_or (pointer_at words) 0; call = pointer_call words }
 
-abbrev pub pointer_line : ℕ → ExtraLine → Result PointerLine ℕ
+abbrev pub pointer_line : ℕ → ExtraLine → Result PointerLine FaultKind
 pointer_line before line = tested (pointer_tests before (words_of line.text)) (pointer_value line.number (words_of line.text))
 
 -- ---- all lines
 
 -- the values of lines, where this is the first one's and those are the later ones'
-abbrev pub then_read : {A : Type 0} → ℕ → Result A ℕ → Result (List A) ScriptFault → Result (List A) ScriptFault
+abbrev pub then_read : {A : Type 0} → ℕ → Result A FaultKind → Result (List A) ScriptFault → Result (List A) ScriptFault
 then_read n (Err kind) later = Err (record { line = n; kind = kind })
 then_read n (Ok value) (Ok values) = Ok (value ∷ values)
 then_read n (Ok value) (Err fault) = Err fault
 
 -- the values of the lines that so many stand before
-abbrev pub all_read : {A : Type 0} → (ℕ → ExtraLine → Result A ℕ) → ℕ → List ExtraLine → Result (List A) ScriptFault
+abbrev pub all_read : {A : Type 0} → (ℕ → ExtraLine → Result A FaultKind) → ℕ → List ExtraLine → Result (List A) ScriptFault
 all_read read before [] = Ok []
 all_read read before (line ∷ lines) = then_read line.number (read before line) (all_read read (before + 1) lines)
 
@@ -124,7 +126,7 @@ Reads (Err (Fault fault)) read = read ≡ Err fault
 Reads (Err Memory) read = Unit {0}
 
 -- one line was read: its value stands behind the others, or its kind was answered
-abbrev pub Takes : {A : Type 0} → Result (Unit {0}) ScriptError → Result A ℕ → ℕ → List A → List A → Type 0
+abbrev pub Takes : {A : Type 0} → Result (Unit {0}) ScriptError → Result A FaultKind → ℕ → List A → List A → Type 0
 Takes (Ok done) (Ok value) n old new = new ≡ old ++ value ∷ []
 Takes (Ok done) (Err kind) n old new = ⊥
 Takes (Err (Fault fault)) (Ok value) n old new = ⊥

@@ -1,6 +1,7 @@
 -- A text with extra lines: its script and the values of those lines, or its fault.
 use Rattle.std.specs.Prelude.{ℕ, nat_lt, if◌then◌else◌, List, length, Result, Ok, Err}
 use Rattle.flat_base.specs.declared.limits.TheConstants.{SCRIPT_BYTES_MAX}
+use Rattle.flat_places.specs.declared.kinds.FaultKind.TheVariants.{TooLong}
 use Rattle.flat_places.specs.declared.script.Script.{Script}
 use Rattle.flat_script.specs.declared.script.ScriptFault.{ScriptFault}
 use Rattle.flat_script.specs.Grammar.{text_read}
@@ -18,9 +19,9 @@ abbrev pub and_then : {A B : Type 0} → Result A ScriptFault → (A → Result 
 and_then (Ok value) next = next value
 and_then (Err fault) next = Err fault
 
--- a text of more than 16 MiB is at fault as a whole
+-- a text that is too long is at fault as a whole
 abbrev pub unless_long : {A : Type 0} → List ℕ → Result A ScriptFault → Result A ScriptFault
-unless_long bytes read = if nat_lt SCRIPT_BYTES_MAX (length bytes) then Err (record { line = 0; kind = 1 }) else read
+unless_long bytes read = if nat_lt SCRIPT_BYTES_MAX (length bytes) then Err (record { line = 0; kind = TooLong }) else read
 
 -- the script of a text without its extra lines, and then what is read of these
 abbrev pub read_with_extra : {A : Type 0} → ExtraSet → (Script → List ExtraLine → Result A ScriptFault) → List ℕ → Result A ScriptFault

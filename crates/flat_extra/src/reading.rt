@@ -8,7 +8,7 @@ ghost use Rattle.flat_extra.specs.Reading.{has_room, session_at, focus_line, all
 use crate::split::{ExtraLine, ExtraList, is_word};
 use flat_base::{Items, SESSIONS_MAX, SessionNo};
 use flat_focus::{FocusLine, FocusLines};
-use flat_places::{NameList, Script};
+use flat_places::{FaultKind, NameList, Script};
 use flat_pointer::{POINTERS, PointerCall, PointerLine, PointerLines};
 use flat_script::{ScriptError, ScriptFault};
 use flat_text::{read_natural, read_number, word};
@@ -60,22 +60,22 @@ fn has_words(line: &[u8], count: usize) -> bool
 
 /// The value of a focus line that so many extra lines stand before, or the lowest
 /// kind of its faults.
-fn focus_line(script: &Script, before: usize, line: &ExtraLine) -> Result<FocusLine, u32>
+fn focus_line(script: &Script, before: usize, line: &ExtraLine) -> Result<FocusLine, FaultKind>
     requires { length script.now.sessions ≤ SESSIONS_MAX }
     ensures { result ≡ focus_line script.now before line.now }
 {
     let text = line.text.as_slice();
     let Some(by) = session_at(script, text, 0) else {
-        return Err(5);
+        return Err(FaultKind::UnknownActor);
     };
     if !has_words(text, 3) {
-        return Err(8);
+        return Err(FaultKind::WrongCount);
     }
     let Some(of) = session_at(script, text, 2) else {
-        return Err(9);
+        return Err(FaultKind::UnknownName);
     };
     if !has_room(before) {
-        return Err(11);
+        return Err(FaultKind::Limit);
     }
     Ok(FocusLine {
         number: line.number,
@@ -245,21 +245,21 @@ fn pointer_call(line: &[u8]) -> PointerCall
 
 /// The value of a pointer's line that so many extra lines stand before, or the
 /// lowest kind of its faults.
-fn pointer_line(before: usize, line: &ExtraLine) -> Result<PointerLine, u32>
+fn pointer_line(before: usize, line: &ExtraLine) -> Result<PointerLine, FaultKind>
     ensures { result ≡ pointer_line before line.now }
 {
     let text = line.text.as_slice();
     if !is_at(text, 0, b"display") {
-        return Err(5);
+        return Err(FaultKind::UnknownActor);
     }
     if !has_numbers(text) {
-        return Err(7);
+        return Err(FaultKind::BadNumber);
     }
     if !has_words(text, word_count(text)) {
-        return Err(8);
+        return Err(FaultKind::WrongCount);
     }
     if !has_room(before) {
-        return Err(11);
+        return Err(FaultKind::Limit);
     }
     Ok(PointerLine {
         number: line.number,

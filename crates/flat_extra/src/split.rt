@@ -6,6 +6,7 @@ ghost use Rattle.flat_script.specs.Grammar.{is_plain, is_skipped};
 ghost use Rattle.flat_extra.specs.Extra.{is_call, has_call, is_extra, is_run, rest_line, rest_of, if_extra, extra_of};
 
 use flat_base::{Items, LINE_BYTES_MAX, NoMemory, SCRIPT_BYTES_MAX};
+use flat_script::{all_plain, is_skipped};
 use flat_text::{next_piece, word};
 use std::alloc::Global;
 
@@ -80,21 +81,6 @@ fn has_call(set: ExtraSet, line: &[u8]) -> bool
         Some(call) => is_call(set, call),
         None => false,
     }
-}
-
-fn all_plain(line: &[u8]) -> bool
-    ensures { result ≡ list_all is_plain line.now }
-{
-    line.iter().all(|b| 32 <= *b && *b <= 126)
-}
-
-fn is_skipped(line: &[u8]) -> bool
-    ensures { result ≡ is_skipped line.now }
-{
-    if line.is_empty() {
-        return true;
-    }
-    line[0] == b'#'
 }
 
 /// Whether a line behind `run` is extra.

@@ -6,7 +6,7 @@ use crate::reading::{read_focus, read_pointers};
 use crate::split::{ExtraSet, split_text};
 use flat_base::SCRIPT_BYTES_MAX;
 use flat_focus::FocusLines;
-use flat_places::Script;
+use flat_places::{FaultKind, Script};
 use flat_playable::scripts_are_playable;
 use flat_pointer::PointerLines;
 use flat_script::{ScriptError, ScriptFault, parse};
@@ -33,7 +33,10 @@ pub fn parse_focus(alloc: Global, bytes: &[u8]) -> Result<WithFocus, ScriptError
     ensures { Reads result (focus_read bytes.now) }
 {
     if bytes.len() > SCRIPT_BYTES_MAX {
-        return Err(ScriptError::Fault(ScriptFault { line: 0, kind: 1 }));
+        return Err(ScriptError::Fault(ScriptFault {
+            line: 0,
+            kind: FaultKind::TooLong,
+        }));
     }
     let split = match split_text(alloc, bytes, ExtraSet::Focus) {
         Ok(split) => split,
@@ -55,7 +58,10 @@ pub fn parse_pointers(alloc: Global, bytes: &[u8]) -> Result<WithPointers, Scrip
     ensures { Reads result (pointers_read bytes.now) }
 {
     if bytes.len() > SCRIPT_BYTES_MAX {
-        return Err(ScriptError::Fault(ScriptFault { line: 0, kind: 1 }));
+        return Err(ScriptError::Fault(ScriptFault {
+            line: 0,
+            kind: FaultKind::TooLong,
+        }));
     }
     let split = match split_text(alloc, bytes, ExtraSet::Pointer) {
         Ok(split) => split,
