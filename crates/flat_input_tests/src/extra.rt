@@ -59,7 +59,10 @@ fn joined(alloc: Global, rest: &str) -> Result<Vec<u8>, AllocError> {
 fn outcome(lines: Result<usize, ScriptError>) -> Option<(usize, usize)> {
     match lines {
         Ok(count) => Some((0, count)),
-        Err(ScriptError::Fault(ScriptFault { line, kind })) => Some((line as usize, kind as usize)),
+        Err(ScriptError::Fault(ScriptFault { line, kind })) => Some((
+            line as usize,
+            kind.number() as usize,
+        )),
         Err(ScriptError::Memory) => None,
     }
 }
@@ -77,7 +80,11 @@ fn focus_lines(rt: HostRuntime) -> Result<(), Fail> {
     for (rest, line, kind) in FOCUS.iter() {
         let text = joined(rt.alloc(), rest)?;
         let answer = focus_outcome(rt.alloc(), text.as_slice());
-        assert_eq!(rt; answer, Some((*line as usize, *kind as usize)), "{rest}");
+        assert_eq!(rt;
+            answer,
+            Some((*line as usize, *kind.number() as usize)),
+            "{rest}"
+        );
     }
     Ok(())
 }
@@ -87,7 +94,11 @@ fn pointer_lines(rt: HostRuntime) -> Result<(), Fail> {
     for (rest, line, kind) in POINTER.iter() {
         let text = joined(rt.alloc(), rest)?;
         let answer = pointer_outcome(rt.alloc(), text.as_slice());
-        assert_eq!(rt; answer, Some((*line as usize, *kind as usize)), "{rest}");
+        assert_eq!(rt;
+            answer,
+            Some((*line as usize, *kind.number() as usize)),
+            "{rest}"
+        );
     }
     Ok(())
 }
@@ -114,7 +125,7 @@ fn many_lines_and_long_ones(rt: HostRuntime) -> Result<(), Fail> {
         let answer = focus_outcome(rt.alloc(), text.as_slice());
         assert_eq!(rt;
             answer,
-            Some((*line as usize, *kind as usize)),
+            Some((*line as usize, *kind.number() as usize)),
             "{times} of {rest}"
         );
     }
