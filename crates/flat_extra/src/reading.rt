@@ -1,9 +1,13 @@
-ghost use Rattle.std.specs.Prelude.{◌≡◌, ◌≤◌, ◌==◌, ◌<◌, ◌∷◌, [], ◌++◌, length, pos, is_some, unwrap_or, slice_get, Err, OnOk, OnErr, IfSome};
+ghost use Rattle.std.specs.Prelude.{◌≡◌, ◌≤◌, ◌==◌, ◌<◌, ◌∷◌, [], ◌++◌, length, pos, is_some};
+ghost use Rattle.std.specs.Prelude.{unwrap_or, slice_get, Err, OnOk, OnErr, IfSome};
 ghost use Rattle.flat_text.specs.Pieces.{words_of};
 ghost use Rattle.flat_places.specs.Names.{place_of, session_named};
 ghost use Rattle.flat_text.specs.Number.{natural, signed};
 ghost use Rattle.flat_script.specs.declared.script.ScriptError.TheVariants.{Memory};
-ghost use Rattle.flat_extra.specs.Reading.{has_room, session_at, focus_line, all_read, Reads, Takes, is_word_at, pointer_in, pointer_at, units_in, units_at, may_be, has_numbers, word_count, pointer_call, pointer_line};
+ghost use Rattle.flat_extra.specs.Reading.{has_room, session_at, focus_line, all_read, Reads};
+ghost use Rattle.flat_extra.specs.Reading.{Takes, is_word_at, pointer_in, pointer_at, units_in};
+ghost use Rattle.flat_extra.specs.Reading.{units_at, may_be, has_numbers, word_count, pointer_call};
+ghost use Rattle.flat_extra.specs.Reading.{pointer_line};
 
 use crate::split::{ExtraLine, ExtraList, is_word};
 use flat_base::{Items, SESSIONS_MAX, SessionNo};
@@ -102,7 +106,8 @@ fn take_focus(
     line: &ExtraLine,
 ) -> Result<(), ScriptError>
     requires { length script.now.sessions ≤ SESSIONS_MAX }
-    ensures { Takes result (focus_line script.now before line.now) line.now.number found.old found.new }
+    ensures { Takes result (focus_line script.now before line.now) line.now.number found.old
+        found.new }
 {
     match focus_line(script, before, line) {
         Ok(value) => keep(found, value),

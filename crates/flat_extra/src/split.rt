@@ -3,7 +3,8 @@ ghost use Rattle.std.specs.List.{list_all};
 ghost use Rattle.std.specs.Str.{bytes_eq};
 ghost use Rattle.flat_text.specs.Pieces.{words_of};
 ghost use Rattle.flat_script.specs.Grammar.{is_plain, is_skipped};
-ghost use Rattle.flat_extra.specs.Extra.{is_call, has_call, is_extra, is_run, rest_line, rest_of, if_extra, extra_of};
+ghost use Rattle.flat_extra.specs.Extra.{is_call, has_call, is_extra, is_run, rest_line, rest_of};
+ghost use Rattle.flat_extra.specs.Extra.{if_extra, extra_of};
 
 use flat_base::{Items, LINE_BYTES_MAX, NoMemory, SCRIPT_BYTES_MAX};
 use flat_script::{all_plain, is_skipped};

@@ -2,7 +2,12 @@ ghost use Rattle.std.specs.Prelude.{◌≡◌, IfOk};
 ghost use Rattle.flat_base.specs.declared.ids.SessionNo.{SessionNo};
 ghost use Rattle.flat_text.specs.Pieces.{is_space, pieces_left};
 ghost use Rattle.flat_places.specs.declared.script.Script.{Script};
-ghost use Rattle.flat_forms.specs.declared.calls.CallName.TheVariants.{SetTranslation, SetScale, CreateViewport, SetViewportProperties, CreateImage, SetImageDestinationSize, SetSolidFill};
+ghost use Rattle.flat_forms.specs.declared.calls.CallName.TheVariants.{SetTranslation, SetScale};
+ghost use Rattle.flat_forms.specs.declared.calls.CallName.TheVariants.{CreateViewport};
+ghost use Rattle.flat_forms.specs.declared.calls.CallName.TheVariants.{SetViewportProperties};
+ghost use Rattle.flat_forms.specs.declared.calls.CallName.TheVariants.{CreateImage};
+ghost use Rattle.flat_forms.specs.declared.calls.CallName.TheVariants.{SetImageDestinationSize};
+ghost use Rattle.flat_forms.specs.declared.calls.CallName.TheVariants.{SetSolidFill};
 ghost use Rattle.flat_places.specs.Forms.{whole};
 ghost use Rattle.flat_forms.specs.Calls.{call_form, inset_or_none};
 ghost use Rattle.flat_places.specs.Index.{IsIndexed};
@@ -25,7 +30,8 @@ pub fn call(
     words: Option<&[u8]>,
 ) -> Result<Call, LineError>
     requires { IsIndexed script.now }
-    ensures { Reaches result (whole (call_form script.now.script session name) (pieces_left is_space words.entry)) }
+    ensures { Reaches result (whole (call_form script.now.script session name)
+        (pieces_left is_space words.entry)) }
 {
     let mut places = Places::new(words);
     let found = fields(&mut places, alloc, script, session, name)?;
@@ -44,7 +50,8 @@ fn fields(
     name: CallName,
 ) -> Result<Call, NoMemory>
     requires { IsIndexed script.now }
-    ensures { IfOk result (λ v. Reads (call_form script.now.script session name) places.old places.new v) }
+    ensures { IfOk result (λ v. Reads (call_form script.now.script session name) places.old
+        places.new v) }
 {
     match name {
         CallName::CreateView => Ok(Call::CreateView {
@@ -132,7 +139,8 @@ fn fields(
 }
 
 fn set_translation(places: &mut Places) -> Call
-    ensures { (s : Script) (a : SessionNo) → Reads (call_form s a SetTranslation) places.old places.new result }
+    ensures { (s : Script) (a : SessionNo) → Reads (call_form s a SetTranslation) places.old
+        places.new result }
 {
     let t = places.transform();
     let x = places.i32();
@@ -141,7 +149,8 @@ fn set_translation(places: &mut Places) -> Call
 }
 
 fn set_scale(places: &mut Places) -> Call
-    ensures { (s : Script) (a : SessionNo) → Reads (call_form s a SetScale) places.old places.new result }
+    ensures { (s : Script) (a : SessionNo) → Reads (call_form s a SetScale) places.old places.new
+        result }
 {
     let t = places.transform();
     let sx = places.u32();
@@ -151,7 +160,8 @@ fn set_scale(places: &mut Places) -> Call
 
 fn create_viewport(places: &mut Places, script: &Indexed, session: SessionNo) -> Call
     requires { IsIndexed script.now }
-    ensures { Reads (call_form script.now.script session CreateViewport) places.old places.new result }
+    ensures { Reads (call_form script.now.script session CreateViewport) places.old places.new
+        result }
 {
     let c = places.content();
     let pair = places.viewport_end(script, session);
@@ -168,7 +178,8 @@ fn create_viewport(places: &mut Places, script: &Indexed, session: SessionNo) ->
 }
 
 fn set_viewport_properties(places: &mut Places) -> Call
-    ensures { (s : Script) (a : SessionNo) → Reads (call_form s a SetViewportProperties) places.old places.new result }
+    ensures { (s : Script) (a : SessionNo) → Reads (call_form s a SetViewportProperties) places.old
+        places.new result }
 {
     let c = places.content();
     let w = places.u32();
@@ -196,7 +207,8 @@ fn create_image(places: &mut Places, script: &Indexed, session: SessionNo) -> Ca
 }
 
 fn set_image_destination_size(places: &mut Places) -> Call
-    ensures { (s : Script) (a : SessionNo) → Reads (call_form s a SetImageDestinationSize) places.old places.new result }
+    ensures { (s : Script) (a : SessionNo) → Reads (call_form s a SetImageDestinationSize)
+        places.old places.new result }
 {
     let c = places.content();
     let w = places.u32();
@@ -205,7 +217,8 @@ fn set_image_destination_size(places: &mut Places) -> Call
 }
 
 fn set_solid_fill(places: &mut Places) -> Call
-    ensures { (s : Script) (a : SessionNo) → Reads (call_form s a SetSolidFill) places.old places.new result }
+    ensures { (s : Script) (a : SessionNo) → Reads (call_form s a SetSolidFill) places.old
+        places.new result }
 {
     let c = places.content();
     let r = places.colour();

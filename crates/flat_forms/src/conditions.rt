@@ -19,7 +19,8 @@ pub fn session_condition(
     words: Option<&[u8]>,
 ) -> Result<Cond, FaultKind>
     requires { IsIndexed script.now }
-    ensures { result ≡ session_condition known_words script.now.script session (pieces_left is_space words.entry) }
+    ensures { result ≡ session_condition known_words script.now.script session
+        (pieces_left is_space words.entry) }
 {
     let Some(words) = words else {
         return Err(FaultKind::UnknownCall);
@@ -61,7 +62,8 @@ pub fn session_condition(
 /// What the display waits for, behind `Wait`.
 pub fn display_condition(script: &Indexed, words: Option<&[u8]>) -> Result<Cond, FaultKind>
     requires { IsIndexed script.now }
-    ensures { result ≡ display_condition known_words script.now.script (pieces_left is_space words.entry) }
+    ensures { result ≡ display_condition known_words script.now.script
+        (pieces_left is_space words.entry) }
 {
     let Some(words) = words else {
         return Err(FaultKind::UnknownCall);

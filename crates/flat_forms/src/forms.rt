@@ -7,7 +7,8 @@ ghost use Rattle.flat_places.specs.Forms.{whole, give, unless_kind, mapped};
 ghost use Rattle.flat_forms.specs.Head as head;
 ghost use Rattle.flat_forms.specs.Head.{size, buffers, pair, run_line, first_line};
 ghost use Rattle.flat_places.specs.Places.{new_name, has_display_pair, fence, point, version};
-ghost use Rattle.flat_forms.specs.Body.{begin_place, begin_times, dones, greatest, display_line, probe_line};
+ghost use Rattle.flat_forms.specs.Body.{begin_place, begin_times, dones, greatest, display_line};
+ghost use Rattle.flat_forms.specs.Body.{probe_line};
 ghost use Rattle.flat_places.specs.Index.{IsIndexed};
 ghost use Rattle.flat_places.specs.Reads.{Reads};
 ghost use Rattle.flat_forms.specs.Steps.{ReachesBy};
@@ -64,7 +65,9 @@ pub fn lone_name<'a>(
     words: Option<&'a [u8]>,
 ) -> Result<&'a [u8], FaultKind>
     requires { IsIndexed script.now }
-    ensures { mapped (λ w. w.now) result ≡ unless_kind Limit room (whole (new_name script.now.script) (pieces_left is_space words.entry)) }
+    ensures { mapped (λ w. w.now) result
+        ≡ unless_kind Limit room (whole (new_name script.now.script)
+        (pieces_left is_space words.entry)) }
 {
     let mut places = Places::new(words);
     places.note_unless(FaultKind::Limit, room);
@@ -79,7 +82,9 @@ pub fn buffers<'a>(
     words: Option<&'a [u8]>,
 ) -> Result<(&'a [u8], BufferDecl), FaultKind>
     requires { IsIndexed script.now }
-    ensures { mapped (λ d. (d.0.now, d.1)) result ≡ unless_kind Limit room (whole (buffers script.now.script) (pieces_left is_space words.entry)) }
+    ensures { mapped (λ d. (d.0.now, d.1)) result
+        ≡ unless_kind Limit room (whole (buffers script.now.script)
+        (pieces_left is_space words.entry)) }
 {
     let mut places = Places::new(words);
     places.note_unless(FaultKind::Limit, room);
@@ -101,7 +106,9 @@ pub fn pair<'a>(
 ) -> Result<(&'a [u8], PairDecl), FaultKind>
     requires indexed { IsIndexed script.now }
     requires paired { paired ≡ has_display_pair script.now.script }
-    ensures { mapped (λ d. (d.0.now, d.1)) result ≡ unless_kind Limit room (whole (pair script.now.script) (pieces_left is_space words.entry)) }
+    ensures { mapped (λ d. (d.0.now, d.1)) result
+        ≡ unless_kind Limit room (whole (pair script.now.script)
+        (pieces_left is_space words.entry)) }
 {
     let mut places = Places::new(words);
     places.note_unless(FaultKind::Limit, room);
@@ -119,7 +126,9 @@ pub fn fence<'a>(
     words: Option<&'a [u8]>,
 ) -> Result<(&'a [u8], FenceDecl), LineError>
     requires { IsIndexed script.now }
-    ensures { ReachesBy (λ d. (d.0.now, d.1)) result (unless_kind Limit room (whole (head.fence script.now.script) (pieces_left is_space words.entry))) }
+    ensures { ReachesBy (λ d. (d.0.now, d.1)) result
+        (unless_kind Limit room (whole (head.fence script.now.script)
+        (pieces_left is_space words.entry))) }
 {
     let mut places = Places::new(words);
     places.note_unless(FaultKind::Limit, room);
@@ -133,7 +142,8 @@ pub fn fence<'a>(
 
 /// The end of the head, where `ready` says whether all is there.
 pub fn run(ready: bool, words: Option<&[u8]>) -> Result<(), FaultKind>
-    ensures { result ≡ unless_kind BadHead ready (whole (give tt) (pieces_left is_space words.entry)) }
+    ensures { result ≡ unless_kind BadHead ready
+        (whole (give tt) (pieces_left is_space words.entry)) }
 {
     let mut places = Places::new(words);
     places.note_unless(FaultKind::BadHead, ready);
@@ -164,7 +174,9 @@ fn begin(
     words: Option<&[u8]>,
 ) -> Result<u64, FaultKind>
     requires { last ≡ greatest (begin_times script.now.script) }
-    ensures { result ≡ unless_kind Limit (nat_lt begins FRAMES_MAX) (unless_kind BadOrder (not in_frame) (whole (begin_place script.now.script) (pieces_left is_space words.entry))) }
+    ensures { result ≡ unless_kind Limit (nat_lt begins FRAMES_MAX)
+        (unless_kind BadOrder (not in_frame) (whole (begin_place script.now.script)
+        (pieces_left is_space words.entry))) }
 {
     let mut places = Places::new(words);
     places.note_unless(FaultKind::Limit, begins < FRAMES_MAX);
@@ -198,7 +210,8 @@ fn begin_time(places: &mut Places, script: &Indexed, last: u64) -> u64
 }
 
 fn done(in_frame: bool, words: Option<&[u8]>) -> Result<DisplayLine, FaultKind>
-    ensures { result ≡ unless_kind BadOrder in_frame (whole (give Done) (pieces_left is_space words.entry)) }
+    ensures { result ≡ unless_kind BadOrder in_frame
+        (whole (give Done) (pieces_left is_space words.entry)) }
 {
     let mut places = Places::new(words);
     places.note_unless(FaultKind::BadOrder, in_frame);
@@ -218,7 +231,8 @@ pub fn display_line(
     requires begun { begins ≡ length (begin_times script.now.script) }
     requires all_ended { ended ≡ dones script.now.script }
     requires latest { last ≡ greatest (begin_times script.now.script) }
-    ensures { result ≡ display_line known_words script.now.script (pieces_left is_space words.entry) }
+    ensures { result ≡ display_line known_words script.now.script
+        (pieces_left is_space words.entry) }
 {
     let Some(words) = words else {
         return Err(FaultKind::UnknownCall);
@@ -244,7 +258,9 @@ fn timeless_line(
     words: Option<&[u8]>,
 ) -> Result<DisplayLine, FaultKind>
     requires { IsIndexed script.now }
-    ensures { bytes_eq word.now (codes "begin") ≡ false → bytes_eq word.now (codes "done") ≡ false → result ≡ display_line known_words script.now.script (word.now ∷ pieces_left is_space words.entry) }
+    ensures { bytes_eq word.now (codes "begin") ≡ false → bytes_eq word.now (codes "done") ≡ false →
+        result ≡ display_line known_words script.now.script (word.now ∷ pieces_left is_space
+        words.entry) }
 {
     if is_word(word, "Signal") {
         return match owned_fence(script, Actor::Display, words) {

@@ -37,7 +37,8 @@ fn each_fence(
     follows: bool,
 ) -> Result<FenceList, NoMemory>
     requires { IsIndexed script.now }
-    ensures { IfOk result (λ v. ReadsList (each (fence_word script.now.script owner)) follows places.old places.new v) }
+    ensures { IfOk result (λ v. ReadsList (each (fence_word script.now.script owner)) follows
+        places.old places.new v) }
 {
     let mut found = Items::new(alloc);
     while has_fence(places, follows) {
@@ -56,7 +57,8 @@ fn some_fences(
     follows: bool,
 ) -> Result<FenceList, NoMemory>
     requires { IsIndexed script.now }
-    ensures { IfOk result (λ v. ReadsList (one_or_more (fence_word script.now.script owner)) follows places.old places.new v) }
+    ensures { IfOk result (λ v. ReadsList (one_or_more (fence_word script.now.script owner)) follows
+        places.old places.new v) }
 {
     let some = has_fence(places, follows);
     places.note_unless(FaultKind::WrongCount, some);
@@ -71,7 +73,9 @@ fn last_list(
     owner: Actor,
 ) -> Result<FenceList, NoMemory>
     requires { IsIndexed script.now }
-    ensures { IfOk result (λ v. Reads (λ words. (one_or_more (fence_word script.now.script owner) words, [])) places.old places.new v) }
+    ensures { IfOk result (λ v. Reads
+        (λ words. (one_or_more (fence_word script.now.script owner) words, [])) places.old
+        places.new v) }
 {
     some_fences(places, alloc, script, owner, false)
 }
@@ -85,7 +89,8 @@ fn list_if_any(
 ) -> Result<FenceList, NoMemory>
     requires indexed { IsIndexed script.now }
     requires stops { before_first (ends_list true) (left places.old) ≡ [] }
-    ensures { IfOk result (λ v. Reads (behind_end (one_or_more (fence_word script.now.script owner))) places.old places.new v) }
+    ensures { IfOk result (λ v. Reads
+        (behind_end (one_or_more (fence_word script.now.script owner))) places.old places.new v) }
 {
     match places.next() {
         Some(_) => last_list(places, alloc, script, owner),
@@ -101,7 +106,11 @@ pub fn fence_lists(
     session: SessionNo,
 ) -> Result<(FenceList, FenceList), NoMemory>
     requires { IsIndexed script.now }
-    ensures { IfOk result (λ v. Reads (λ words. (fence_lists known_words (fence_word script.now.script (Session session)) words, [])) places.old places.new v) }
+    ensures { IfOk result (λ v. Reads
+        (λ words. (
+          fence_lists known_words (fence_word script.now.script (Session session)) words,
+          [],
+        )) places.old places.new v) }
 {
     let owner = Actor::Session(session);
     let Some(word) = places.next() else {

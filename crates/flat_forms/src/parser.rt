@@ -4,8 +4,11 @@ ghost use Rattle.flat_forms.specs.declared.lines.LineError.TheVariants.{Memory};
 ghost use Rattle.flat_forms.specs.declared.lines.Part.TheVariants.{Start};
 ghost use Rattle.flat_places.specs.Known.{known_words};
 ghost use Rattle.flat_places.specs.Forms.{Reading, mapped};
-ghost use Rattle.flat_forms.specs.Head.{has_display, display_line, session_line, probe_line, buffers_line, pair_line, fence_line, head_line, is_ready, empty};
-ghost use Rattle.flat_forms.specs.Body.{with_line, counted_line, body_line, actor_line, lines_of_actor};
+ghost use Rattle.flat_forms.specs.Head.{has_display, display_line, session_line, probe_line};
+ghost use Rattle.flat_forms.specs.Head.{buffers_line, pair_line, fence_line, head_line, is_ready};
+ghost use Rattle.flat_forms.specs.Head.{empty};
+ghost use Rattle.flat_forms.specs.Body.{with_line, counted_line, body_line, actor_line};
+ghost use Rattle.flat_forms.specs.Body.{lines_of_actor};
 ghost use Rattle.flat_forms.specs.Lines.{words_read};
 ghost use Rattle.flat_places.specs.Slots.{IsCounted};
 ghost use Rattle.flat_forms.specs.Steps.{Steps, Reaches};
@@ -73,7 +76,8 @@ impl Parser {
 
     fn display(&mut self, words: Option<&[u8]>) -> Result<(), LineError>
         requires { Kept self.old }
-        ensures steps { Steps result (display_line self.old.text.script (pieces_left is_space words.entry)) self.new.text.script }
+        ensures steps { Steps result (display_line self.old.text.script
+            (pieces_left is_space words.entry)) self.new.text.script }
         ensures kept { OnOk result (Kept self.new) }
         ensures same { SameFrames self.old self.new }
     {
@@ -85,7 +89,8 @@ impl Parser {
 
     fn session(&mut self, alloc: Global, words: Option<&[u8]>) -> Result<(), LineError>
         requires { Kept self.old }
-        ensures steps { Steps result (session_line self.old.text.script (pieces_left is_space words.entry)) self.new.text.script }
+        ensures steps { Steps result (session_line self.old.text.script
+            (pieces_left is_space words.entry)) self.new.text.script }
         ensures kept { OnOk result (Kept self.new) }
         ensures same { SameFrames self.old self.new }
     {
@@ -101,7 +106,8 @@ impl Parser {
 
     fn probe(&mut self, alloc: Global, words: Option<&[u8]>) -> Result<(), LineError>
         requires { Kept self.old }
-        ensures steps { Steps result (probe_line self.old.text.script (pieces_left is_space words.entry)) self.new.text.script }
+        ensures steps { Steps result (probe_line self.old.text.script
+            (pieces_left is_space words.entry)) self.new.text.script }
         ensures kept { OnOk result (Kept self.new) }
         ensures same { SameFrames self.old self.new }
     {
@@ -117,7 +123,8 @@ impl Parser {
 
     fn buffers(&mut self, alloc: Global, words: Option<&[u8]>) -> Result<(), LineError>
         requires { Kept self.old }
-        ensures steps { Steps result (buffers_line self.old.text.script (pieces_left is_space words.entry)) self.new.text.script }
+        ensures steps { Steps result (buffers_line self.old.text.script
+            (pieces_left is_space words.entry)) self.new.text.script }
         ensures kept { OnOk result (Kept self.new) }
         ensures same { SameFrames self.old self.new }
     {
@@ -133,7 +140,8 @@ impl Parser {
 
     fn pair(&mut self, alloc: Global, words: Option<&[u8]>) -> Result<(), LineError>
         requires { Kept self.old }
-        ensures steps { Steps result (pair_line self.old.text.script (pieces_left is_space words.entry)) self.new.text.script }
+        ensures steps { Steps result (pair_line self.old.text.script
+            (pieces_left is_space words.entry)) self.new.text.script }
         ensures kept { OnOk result (Kept self.new) }
         ensures same { SameFrames self.old self.new }
     {
@@ -148,7 +156,8 @@ impl Parser {
 
     fn fence(&mut self, alloc: Global, words: Option<&[u8]>) -> Result<(), LineError>
         requires { Kept self.old }
-        ensures steps { Steps result (fence_line self.old.text.script (pieces_left is_space words.entry)) self.new.text.script }
+        ensures steps { Steps result (fence_line self.old.text.script
+            (pieces_left is_space words.entry)) self.new.text.script }
         ensures kept { OnOk result (Kept self.new) }
         ensures same { SameFrames self.old self.new }
     {
@@ -164,7 +173,8 @@ impl Parser {
 
     fn head(&mut self, alloc: Global, words: &[u8]) -> Result<(), LineError>
         requires { Kept self.old }
-        ensures steps { Steps result (head_line known_words self.old.text.script (words_of words.now)) self.new.text.script }
+        ensures steps { Steps result (head_line known_words self.old.text.script
+            (words_of words.now)) self.new.text.script }
         ensures kept { OnOk result (Kept self.new) }
         ensures same { SameFrames self.old self.new }
     {
@@ -197,7 +207,8 @@ impl Parser {
         words: Option<&[u8]>,
     ) -> Result<Body, LineError>
         requires { Kept self.now }
-        ensures { Reaches result (actor_line known_words self.now.text.script actor (pieces_left is_space words.entry)) }
+        ensures { Reaches result (actor_line known_words self.now.text.script actor
+            (pieces_left is_space words.entry)) }
     {
         match actor {
             Actor::Display => match forms::display_line(
@@ -239,11 +250,13 @@ impl Parser {
         requires room { lines_of_actor self.old.text.script actor < LINES_PER_ACTOR_MAX }
         requires begins { self.old.begins + 1 < 2 ^ 32 }
         requires dones { self.old.dones + 1 < 2 ^ 32 }
-        ensures script { OnOk result (self.new.text.script ≡ with_line self.old.text.script number actor body) }
+        ensures script { OnOk result (self.new.text.script
+            ≡ with_line self.old.text.script number actor body) }
         ensures kept { OnOk result (Kept self.new) }
         ensures part { self.new.part ≡ self.old.part }
         ensures memory { OnErr result (result ≡ Err Memory) }
-        ensures few { (self.new.begins ≤ self.old.begins + 1) × (self.new.dones ≤ self.old.dones + 1) }
+        ensures few { (self.new.begins ≤ self.old.begins + 1)
+            × (self.new.dones ≤ self.old.dones + 1) }
     {
         let begun = time_begun(&body);
         self.begins += one_if(begun.is_some());
@@ -269,10 +282,12 @@ impl Parser {
         requires counted { IsCounted actor }
         requires begins { self.old.begins + 1 < 2 ^ 32 }
         requires dones { self.old.dones + 1 < 2 ^ 32 }
-        ensures steps { Steps result (counted_line known_words self.old.text.script number actor (pieces_left is_space words.entry)) self.new.text.script }
+        ensures steps { Steps result (counted_line known_words self.old.text.script number actor
+            (pieces_left is_space words.entry)) self.new.text.script }
         ensures kept { OnOk result (Kept self.new) }
         ensures part { self.new.part ≡ self.old.part }
-        ensures few { (self.new.begins ≤ self.old.begins + 1) × (self.new.dones ≤ self.old.dones + 1) }
+        ensures few { (self.new.begins ≤ self.old.begins + 1)
+            × (self.new.dones ≤ self.old.dones + 1) }
     {
         let room = self.has_room(actor);
         match self.actor_line(alloc, actor, words) {
@@ -292,10 +307,12 @@ impl Parser {
         requires kept { Kept self.old }
         requires begins { self.old.begins + 1 < 2 ^ 32 }
         requires dones { self.old.dones + 1 < 2 ^ 32 }
-        ensures steps { Steps result (body_line known_words self.old.text.script number (words_of words.now)) self.new.text.script }
+        ensures steps { Steps result (body_line known_words self.old.text.script number
+            (words_of words.now)) self.new.text.script }
         ensures kept { OnOk result (Kept self.new) }
         ensures part { self.new.part ≡ self.old.part }
-        ensures few { (self.new.begins ≤ self.old.begins + 1) × (self.new.dones ≤ self.old.dones + 1) }
+        ensures few { (self.new.begins ≤ self.old.begins + 1)
+            × (self.new.dones ≤ self.old.dones + 1) }
     {
         let (word, rest) = next_piece(words, b' ');
         let Some(actor) = self.text.actor(word) else {
@@ -323,9 +340,11 @@ impl Parser {
         requires kept { Kept self.old }
         requires begins { self.old.begins + 1 < 2 ^ 32 }
         requires dones { self.old.dones + 1 < 2 ^ 32 }
-        ensures steps { Steps result (words_read known_words number (sofar_of self.old) (words_of words.now)) (sofar_of self.new) }
+        ensures steps { Steps result (words_read known_words number (sofar_of self.old)
+            (words_of words.now)) (sofar_of self.new) }
         ensures kept { OnOk result (Kept self.new) }
-        ensures few { (self.new.begins ≤ self.old.begins + 1) × (self.new.dones ≤ self.old.dones + 1) }
+        ensures few { (self.new.begins ≤ self.old.begins + 1)
+            × (self.new.dones ≤ self.old.dones + 1) }
     {
         match self.part {
             Part::Start => {

@@ -27,7 +27,8 @@ pub fn session_line(
     words: Option<&[u8]>,
 ) -> Result<Line, LineError>
     requires { IsIndexed script.now }
-    ensures { Reaches result (session_line known_words script.now.script session (pieces_left is_space words.entry)) }
+    ensures { Reaches result (session_line known_words script.now.script session
+        (pieces_left is_space words.entry)) }
 {
     let Some(words) = words else {
         return Err(LineError::Kind(FaultKind::UnknownCall));
@@ -51,7 +52,8 @@ fn other_line(
     words: Option<&[u8]>,
 ) -> Result<Line, LineError>
     requires { IsIndexed script.now }
-    ensures { Reaches result (other_line known_words script.now.script session (word.now ∷ pieces_left is_space words.entry)) }
+    ensures { Reaches result (other_line known_words script.now.script session
+        (word.now ∷ pieces_left is_space words.entry)) }
 {
     if is_word(word, "Present") {
         return match present(alloc, script, session, words) {
@@ -74,7 +76,9 @@ fn timeless_line(
     words: Option<&[u8]>,
 ) -> Result<Line, FaultKind>
     requires { IsIndexed script.now }
-    ensures { bytes_eq word.now (codes "Present") ≡ false → result ≡ other_line known_words script.now.script session (word.now ∷ pieces_left is_space words.entry) }
+    ensures { bytes_eq word.now (codes "Present") ≡ false → result
+        ≡ other_line known_words script.now.script session (word.now ∷ pieces_left is_space
+        words.entry) }
 {
     if is_word(word, "GetLayout") {
         return alone(Line::Get(Watch::Layout), words);
@@ -114,7 +118,8 @@ fn present(
     words: Option<&[u8]>,
 ) -> Result<PresentArgs, LineError>
     requires { IsIndexed script.now }
-    ensures { Reaches result (whole (present known_words script.now.script session) (pieces_left is_space words.entry)) }
+    ensures { Reaches result (whole (present known_words script.now.script session)
+        (pieces_left is_space words.entry)) }
 {
     let mut places = Places::new(words);
     let time = places.time();

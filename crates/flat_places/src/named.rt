@@ -4,7 +4,9 @@ ghost use Rattle.flat_base.specs.declared.ids.Actor.TheVariants.{Session};
 ghost use Rattle.flat_places.specs.Forms.{each};
 ghost use Rattle.flat_places.specs.Index.{IsIndexed};
 ghost use Rattle.flat_places.specs.Names.{is_actor};
-ghost use Rattle.flat_places.specs.Places.{session, view_end, viewport_end, collection, fence, owner, owner_word, new_name, pair_owner, owners, has_display_pair};
+ghost use Rattle.flat_places.specs.Places.{session, view_end, viewport_end, collection, fence};
+ghost use Rattle.flat_places.specs.Places.{owner, owner_word, new_name, pair_owner, owners};
+ghost use Rattle.flat_places.specs.Places.{has_display_pair};
 ghost use Rattle.flat_places.specs.Reads.{Reads};
 
 use crate::kinds::FaultKind;
@@ -65,7 +67,8 @@ impl<'a> Places<'a> {
 
     fn each_owner(&mut self, alloc: Global, script: &Indexed) -> Result<ActorList, NoMemory>
         requires { IsIndexed script.now }
-        ensures { IfOk result (λ v. Reads (λ words. (each (owner_word script.now.script) words, [])) self.old self.new v) }
+        ensures { IfOk result (λ v. Reads (λ words. (each (owner_word script.now.script) words, []))
+            self.old self.new v) }
     {
         let mut found = Items::new(alloc);
         while self.words.is_some() {

@@ -1,7 +1,9 @@
-ghost use Rattle.std.specs.Prelude.{◌≡◌, ◌<◌, ◌≤◌, ℕ, List, true, Some, None, cond, length, OnOk, IfSome, IsTrue};
+ghost use Rattle.std.specs.Prelude.{◌≡◌, ◌<◌, ◌≤◌, ℕ, List, true, Some, None, cond, length, OnOk};
+ghost use Rattle.std.specs.Prelude.{IfSome, IsTrue};
 ghost use Rattle.std.specs.List.{list_all};
 ghost use Rattle.std.specs.Str.{bytes_eq};
-ghost use Rattle.flat_places.specs.Names.{place_of, session_named, owner_named, actor_named, is_name, is_name_byte, is_reserved, is_declared};
+ghost use Rattle.flat_places.specs.Names.{place_of, session_named, owner_named, actor_named};
+ghost use Rattle.flat_places.specs.Names.{is_name, is_name_byte, is_reserved, is_declared};
 
 use crate::script::Script;
 use flat_base::{Actor, NAME_BYTES_MAX, NoMemory, PROBES_MAX, SESSIONS_MAX, SessionNo};
@@ -60,7 +62,8 @@ impl Names {
 
     #[tactic(auto, using(std::proofs::lemmas::Map::Text::text_keys))]
     fn insert(&mut self, alloc: Global, name: &str, meaning: Meaning) -> Result<(), NoMemory>
-        ensures { OnOk result ((w : List ℕ) → meaning_at self.new w ≡ cond (bytes_eq w name.now) (Some meaning) (meaning_at self.old w)) }
+        ensures { OnOk result ((w : List ℕ) → meaning_at self.new w
+            ≡ cond (bytes_eq w name.now) (Some meaning) (meaning_at self.old w)) }
     {
         let key = String::from_str(alloc, name)?;
         self.map.insert(key, meaning)?;
@@ -72,7 +75,8 @@ impl Names {
     pub fn declare(&mut self, alloc: Global, name: &[u8], meaning: Meaning) -> Result<(), NoMemory>
         requires only { OnlyNames self.old }
         requires name { is_name name.now ≡ true }
-        ensures found { OnOk result ((w : List ℕ) → meaning_at self.new w ≡ cond (bytes_eq w name.now) (Some meaning) (meaning_at self.old w)) }
+        ensures found { OnOk result ((w : List ℕ) → meaning_at self.new w
+            ≡ cond (bytes_eq w name.now) (Some meaning) (meaning_at self.old w)) }
         ensures only { OnOk result (OnlyNames self.new) }
     {
         match std::str::from_utf8(name) {

@@ -1,10 +1,14 @@
-ghost use Rattle.std.specs.Prelude.{◌≡◌, ◌<◌, ◌≤◌, ◌^◌, ℕ, length, [], Ok, Err, IfSome, IfOk, IfErr, OnErr, FitsSigned, ◌+◌};
+ghost use Rattle.std.specs.Prelude.{◌≡◌, ◌<◌, ◌≤◌, ◌^◌, ℕ, length, [], Ok, Err, IfSome, IfOk};
+ghost use Rattle.std.specs.Prelude.{IfErr, OnErr, FitsSigned, ◌+◌};
 ghost use Rattle.std.specs.Int.{w32};
 ghost use Rattle.flat_text.specs.Number.{signed};
 ghost use Rattle.flat_text.specs.Pieces.{is_space, pieces_left};
 ghost use Rattle.flat_places.specs.Forms.{passes, optional};
-ghost use Rattle.flat_places.specs.Places.{number_below, number_from, transform, content, time, u32, colour, i32, int_rect, inset, orientation, blend, flip, interaction, region, regions, version};
-ghost use Rattle.flat_places.specs.Reads.{Reads, TakesWord, left, sofar, lower, finished, reading_of};
+ghost use Rattle.flat_places.specs.Places.{number_below, number_from, transform, content, time};
+ghost use Rattle.flat_places.specs.Places.{u32, colour, i32, int_rect, inset, orientation, blend};
+ghost use Rattle.flat_places.specs.Places.{flip, interaction, region, regions, version};
+ghost use Rattle.flat_places.specs.Reads.{Reads, TakesWord, left, sofar, lower, finished};
+ghost use Rattle.flat_places.specs.Reads.{reading_of};
 
 use crate::kinds::FaultKind;
 use flat_base::{

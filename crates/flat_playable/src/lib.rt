@@ -1,7 +1,9 @@
 //! Which scripts are played: every one that the reader accepts.
 #![tactic(auto)]
 
-ghost use Rattle.flat_playable.specs.Laws.{SetupsAreGiven, CountsAreWithin, LinesRise, LinesAreCounted, FramesClose, LinesArePlayed, SessionsAreFew, ScriptsArePlayable};
+ghost use Rattle.flat_playable.specs.Laws.{SetupsAreGiven, CountsAreWithin, LinesRise};
+ghost use Rattle.flat_playable.specs.Laws.{LinesAreCounted, FramesClose, LinesArePlayed};
+ghost use Rattle.flat_playable.specs.Laws.{SessionsAreFew, ScriptsArePlayable};
 
 /// Every script that the reader accepts is playable: each clause is one part of
 /// that test, and the last one the whole of it; and it names few sessions. The call

@@ -3,7 +3,11 @@ ghost use Rattle.flat_forms.specs.Calls.{text};
 ghost use Rattle.std.specs.Fmt.{decimal, signed_decimal};
 ghost use Rattle.std.specs.List.{flat_map};
 ghost use Rattle.std.specs.Option.{option_map_or};
-ghost use Rattle.flat_print.specs.Print.{numbers, pair_word, buffers_word, session_word, rect_words, inset_words, inset_unless_none, region_words, Writes, call_name, call_fields, call_words, lists_words, present_words, condition_words, get_words, session_words, display_words, probe_words, body_words};
+ghost use Rattle.flat_print.specs.Print.{numbers, pair_word, buffers_word, session_word};
+ghost use Rattle.flat_print.specs.Print.{rect_words, inset_words, inset_unless_none, region_words};
+ghost use Rattle.flat_print.specs.Print.{Writes, call_name, call_fields, call_words, lists_words};
+ghost use Rattle.flat_print.specs.Print.{present_words, condition_words, get_words, session_words};
+ghost use Rattle.flat_print.specs.Print.{display_words, probe_words, body_words};
 
 use crate::print_words::{
     blend_number, fence_word, flip_number, interaction_number, name_at, orientation_number,
@@ -121,7 +125,8 @@ fn push_fields(out: &mut Vec<u8>, script: &Script, call: &Call) -> Result<(), No
 }
 
 fn push_translation(out: &mut Vec<u8>, t: u64, x: i32, y: i32) -> Result<(), NoMemory>
-    ensures { OnOk result (Writes (decimal t ∷ signed_decimal x ∷ signed_decimal y ∷ []) out.old.items out.new.items) }
+    ensures { OnOk result (Writes (decimal t ∷ signed_decimal x ∷ signed_decimal y
+        ∷ []) out.old.items out.new.items) }
 {
     push_u64(out, t)?;
     push_point(out, x, y)?;
@@ -129,7 +134,8 @@ fn push_translation(out: &mut Vec<u8>, t: u64, x: i32, y: i32) -> Result<(), NoM
 }
 
 fn push_point(out: &mut Vec<u8>, x: i32, y: i32) -> Result<(), NoMemory>
-    ensures { OnOk result (Writes (signed_decimal x ∷ signed_decimal y ∷ []) out.old.items out.new.items) }
+    ensures { OnOk result (Writes (signed_decimal x ∷ signed_decimal y ∷ []) out.old.items
+        out.new.items) }
 {
     push_i32(out, x)?;
     push_i32(out, y)?;
@@ -137,7 +143,8 @@ fn push_point(out: &mut Vec<u8>, x: i32, y: i32) -> Result<(), NoMemory>
 }
 
 fn push_clip(out: &mut Vec<u8>, t: u64, rect: Option<IntRect>) -> Result<(), NoMemory>
-    ensures { OnOk result (Writes (decimal t ∷ option_map_or rect_words rect []) out.old.items out.new.items) }
+    ensures { OnOk result (Writes (decimal t ∷ option_map_or rect_words rect []) out.old.items
+        out.new.items) }
 {
     push_u64(out, t)?;
     push_rect_if_any(out, rect)?;
@@ -153,7 +160,8 @@ fn push_viewport(
     h: u32,
     inset: Inset,
 ) -> Result<(), NoMemory>
-    ensures { OnOk result (Writes (decimal c ∷ pair_word script.now pair ∷ numbers (w ∷ h ∷ []) ++ inset_unless_none inset) out.old.items out.new.items) }
+    ensures { OnOk result (Writes (decimal c ∷ pair_word script.now pair ∷ numbers (w ∷ h ∷ [])
+        ++ inset_unless_none inset) out.old.items out.new.items) }
 {
     push_u64(out, c)?;
     push_word(out, name_at(&script.pairs, pair.0 as usize))?;
@@ -169,7 +177,8 @@ fn push_properties(
     h: u32,
     inset: Option<Inset>,
 ) -> Result<(), NoMemory>
-    ensures { OnOk result (Writes (numbers (c ∷ w ∷ h ∷ []) ++ option_map_or inset_words inset []) out.old.items out.new.items) }
+    ensures { OnOk result (Writes (numbers (c ∷ w ∷ h ∷ []) ++ option_map_or inset_words inset [])
+        out.old.items out.new.items) }
 {
     push_numbers(out, &[c, w as u64, h as u64])?;
     push_inset_if_any(out, inset)?;
@@ -185,7 +194,8 @@ fn push_image(
     w: u32,
     h: u32,
 ) -> Result<(), NoMemory>
-    ensures { OnOk result (Writes (decimal c ∷ buffers_word script.now buffers ∷ numbers (i ∷ w ∷ h ∷ [])) out.old.items out.new.items) }
+    ensures { OnOk result (Writes (decimal c ∷ buffers_word script.now buffers
+        ∷ numbers (i ∷ w ∷ h ∷ [])) out.old.items out.new.items) }
 {
     push_u64(out, c)?;
     push_word(out, name_at(&script.buffers, buffers.0 as usize))?;
@@ -211,7 +221,8 @@ fn push_fill(
     w: u32,
     h: u32,
 ) -> Result<(), NoMemory>
-    ensures { OnOk result (Writes (numbers (c ∷ r ∷ g ∷ b ∷ a ∷ w ∷ h ∷ [])) out.old.items out.new.items) }
+    ensures { OnOk result (Writes (numbers (c ∷ r ∷ g ∷ b ∷ a ∷ w ∷ h ∷ [])) out.old.items
+        out.new.items) }
 {
     push_numbers(
         out,
@@ -222,7 +233,8 @@ fn push_fill(
 }
 
 fn push_hit_regions(out: &mut Vec<u8>, t: u64, regions: &[HitRegion]) -> Result<(), NoMemory>
-    ensures { OnOk result (Writes (decimal t ∷ flat_map region_words regions.now) out.old.items out.new.items) }
+    ensures { OnOk result (Writes (decimal t ∷ flat_map region_words regions.now) out.old.items
+        out.new.items) }
 {
     push_u64(out, t)?;
     push_regions(out, regions)?;
@@ -230,7 +242,8 @@ fn push_hit_regions(out: &mut Vec<u8>, t: u64, regions: &[HitRegion]) -> Result<
 }
 
 fn push_present(out: &mut Vec<u8>, script: &Script, present: &PresentArgs) -> Result<(), NoMemory>
-    ensures { OnOk result (Writes (present_words script.now present.now) out.old.items out.new.items) }
+    ensures { OnOk result (Writes (present_words script.now present.now) out.old.items
+        out.new.items) }
 {
     push_word(out, b"Present")?;
     push_u64(out, present.time)?;
@@ -239,7 +252,8 @@ fn push_present(out: &mut Vec<u8>, script: &Script, present: &PresentArgs) -> Re
 }
 
 fn push_lists(out: &mut Vec<u8>, script: &Script, present: &PresentArgs) -> Result<(), NoMemory>
-    ensures { OnOk result (Writes (lists_words script.now present.now) out.old.items out.new.items) }
+    ensures { OnOk result (Writes (lists_words script.now present.now) out.old.items
+        out.new.items) }
 {
     push_list(out, script, "acquire", present.acquire.as_slice())?;
     push_list(out, script, "release", present.release.as_slice())?;
@@ -247,7 +261,8 @@ fn push_lists(out: &mut Vec<u8>, script: &Script, present: &PresentArgs) -> Resu
 }
 
 fn push_condition(out: &mut Vec<u8>, script: &Script, condition: Cond) -> Result<(), NoMemory>
-    ensures { OnOk result (Writes (condition_words script.now condition) out.old.items out.new.items) }
+    ensures { OnOk result (Writes (condition_words script.now condition) out.old.items
+        out.new.items) }
 {
     match condition {
         Cond::Frames(n) => push_count(out, "frames", n),
@@ -281,7 +296,8 @@ fn push_presents(
     session: SessionNo,
     n: u32,
 ) -> Result<(), NoMemory>
-    ensures { OnOk result (Writes (codes "presents" ∷ session_word script.now session ∷ decimal n ∷ []) out.old.items out.new.items) }
+    ensures { OnOk result (Writes (codes "presents" ∷ session_word script.now session ∷ decimal n
+        ∷ []) out.old.items out.new.items) }
 {
     push_named(out, "presents", session_word(script, session))?;
     push_u64(out, n as u64)?;
@@ -299,7 +315,8 @@ fn push_get(out: &mut Vec<u8>, watch: Watch) -> Result<(), NoMemory>
 }
 
 fn push_child(out: &mut Vec<u8>, c: ContentId) -> Result<(), NoMemory>
-    ensures { OnOk result (Writes (codes "GetChildStatus" ∷ decimal c.0 ∷ []) out.old.items out.new.items) }
+    ensures { OnOk result (Writes (codes "GetChildStatus" ∷ decimal c.0 ∷ []) out.old.items
+        out.new.items) }
 {
     push_word(out, b"GetChildStatus")?;
     push_u64(out, c.0)?;
@@ -307,7 +324,8 @@ fn push_child(out: &mut Vec<u8>, c: ContentId) -> Result<(), NoMemory>
 }
 
 fn push_wait(out: &mut Vec<u8>, script: &Script, condition: Cond) -> Result<(), NoMemory>
-    ensures { OnOk result (Writes (codes "Wait" ∷ condition_words script.now condition) out.old.items out.new.items) }
+    ensures { OnOk result (Writes (codes "Wait" ∷ condition_words script.now condition)
+        out.old.items out.new.items) }
 {
     push_word(out, b"Wait")?;
     push_condition(out, script, condition)?;
@@ -315,7 +333,8 @@ fn push_wait(out: &mut Vec<u8>, script: &Script, condition: Cond) -> Result<(), 
 }
 
 fn push_hit(out: &mut Vec<u8>, x: i32, y: i32) -> Result<(), NoMemory>
-    ensures { OnOk result (Writes (codes "hit" ∷ signed_decimal x ∷ signed_decimal y ∷ []) out.old.items out.new.items) }
+    ensures { OnOk result (Writes (codes "hit" ∷ signed_decimal x ∷ signed_decimal y
+        ∷ []) out.old.items out.new.items) }
 {
     push_word(out, b"hit")?;
     push_point(out, x, y)?;

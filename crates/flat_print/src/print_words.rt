@@ -2,7 +2,10 @@ ghost use Rattle.std.specs.Prelude.{◌≡◌, ◌++◌, ◌∷◌, [], OnOk, ma
 ghost use Rattle.std.specs.Fmt.{decimal, signed_decimal};
 ghost use Rattle.std.specs.Option.{option_map_or};
 ghost use Rattle.std.specs.List.{flat_map};
-ghost use Rattle.flat_print.specs.Print.{Writes, numbers, name_at, session_word, fence_word, actor_word, rect_words, inset_words, inset_unless_none, region_words, list_words, orientation_number, blend_number, flip_number, interaction_number};
+ghost use Rattle.flat_print.specs.Print.{Writes, numbers, name_at, session_word, fence_word};
+ghost use Rattle.flat_print.specs.Print.{actor_word, rect_words, inset_words, inset_unless_none};
+ghost use Rattle.flat_print.specs.Print.{region_words, list_words, orientation_number};
+ghost use Rattle.flat_print.specs.Print.{blend_number, flip_number, interaction_number};
 
 use flat_base::{Actor, FenceNo, IntRect, NoMemory, Orientation, SessionNo};
 use flat_places::{NameList, Script};
@@ -88,7 +91,8 @@ pub fn push_numbers(out: &mut Vec<u8>, values: &[u64]) -> Result<(), NoMemory>
 }
 
 fn push_two(out: &mut Vec<u8>, a: i32, b: i32) -> Result<(), NoMemory>
-    ensures { OnOk result (Writes (signed_decimal a ∷ signed_decimal b ∷ []) out.old.items out.new.items) }
+    ensures { OnOk result (Writes (signed_decimal a ∷ signed_decimal b ∷ []) out.old.items
+        out.new.items) }
 {
     push_i32(out, a)?;
     push_i32(out, b)?;
@@ -96,7 +100,8 @@ fn push_two(out: &mut Vec<u8>, a: i32, b: i32) -> Result<(), NoMemory>
 }
 
 fn push_four(out: &mut Vec<u8>, a: i32, b: i32, c: i32, d: i32) -> Result<(), NoMemory>
-    ensures { OnOk result (Writes (signed_decimal a ∷ signed_decimal b ∷ signed_decimal c ∷ signed_decimal d ∷ []) out.old.items out.new.items) }
+    ensures { OnOk result (Writes (signed_decimal a ∷ signed_decimal b ∷ signed_decimal c
+        ∷ signed_decimal d ∷ []) out.old.items out.new.items) }
 {
     push_two(out, a, b)?;
     push_two(out, c, d)?;
@@ -133,7 +138,8 @@ fn push_inset(out: &mut Vec<u8>, inset: Inset) -> Result<(), NoMemory>
 }
 
 pub fn push_inset_if_any(out: &mut Vec<u8>, inset: Option<Inset>) -> Result<(), NoMemory>
-    ensures { OnOk result (Writes (option_map_or inset_words inset []) out.old.items out.new.items) }
+    ensures { OnOk result (Writes (option_map_or inset_words inset []) out.old.items
+        out.new.items) }
 {
     match inset {
         Some(inset) => push_inset(out, inset),
@@ -208,7 +214,8 @@ pub fn push_regions(out: &mut Vec<u8>, regions: &[HitRegion]) -> Result<(), NoMe
 }
 
 fn push_fences(out: &mut Vec<u8>, script: &Script, fences: &[FenceNo]) -> Result<(), NoMemory>
-    ensures { OnOk result (Writes (map (fence_word script.now) fences.now) out.old.items out.new.items) }
+    ensures { OnOk result (Writes (map (fence_word script.now) fences.now) out.old.items
+        out.new.items) }
 {
     for fence in fences {
         push_word(out, fence_word(script, *fence))?;
@@ -223,7 +230,8 @@ pub fn push_list(
     keyword: &str,
     fences: &[FenceNo],
 ) -> Result<(), NoMemory>
-    ensures { OnOk result (Writes (list_words script.now keyword.now fences.now) out.old.items out.new.items) }
+    ensures { OnOk result (Writes (list_words script.now keyword.now fences.now) out.old.items
+        out.new.items) }
 {
     if fences.is_empty() {
         return Ok(());
@@ -234,7 +242,8 @@ pub fn push_list(
 }
 
 pub fn push_owners(out: &mut Vec<u8>, script: &Script, owners: &[Actor]) -> Result<(), NoMemory>
-    ensures { OnOk result (Writes (map (actor_word script.now) owners.now) out.old.items out.new.items) }
+    ensures { OnOk result (Writes (map (actor_word script.now) owners.now) out.old.items
+        out.new.items) }
 {
     for owner in owners {
         push_word(out, actor_word(script, *owner))?;

@@ -1,5 +1,9 @@
 ghost use Rattle.std.specs.Prelude.{◌≡◌, ◌++◌, ◌∷◌, [], ℕ, List, OnOk, IfOk, map, codes};
-ghost use Rattle.flat_print.specs.Print.{Writes, WritesLines, Starts, name_words, buffers_line_words, pair_line_words, fence_line_words, numbered, display_line_words, head_words, line_words, actor_word, session_word, name_at, numbers, text_of, IsReadBack};
+ghost use Rattle.flat_print.specs.Print.{Writes, WritesLines, Starts, name_words};
+ghost use Rattle.flat_print.specs.Print.{buffers_line_words, pair_line_words, fence_line_words};
+ghost use Rattle.flat_print.specs.Print.{numbered, display_line_words, head_words, line_words};
+ghost use Rattle.flat_print.specs.Print.{actor_word, session_word, name_at, numbers, text_of};
+ghost use Rattle.flat_print.specs.Print.{IsReadBack};
 ghost use Rattle.flat_script.specs.Grammar.{IsScript};
 
 use crate::print_lines::push_body;
@@ -22,7 +26,8 @@ use std::alloc::Global;
 pub fn print(alloc: Global, script: &Script) -> Result<Vec<u8>, NoMemory>
     ensures text { IfOk result (λ text. text.items ≡ text_of script.now) }
     // What is printed of a script that some text has is read as that script.
-    ensures back { (bytes : List ℕ) → IsScript bytes script.now → IfOk result (λ text. IsReadBack text.items script.now) }
+    ensures back { (bytes : List ℕ) → IsScript bytes script.now →
+        IfOk result (λ text. IsReadBack text.items script.now) }
 {
     let mut out = Vec::new(alloc);
     push_bytes(&mut out, b"flatland 1")?;
@@ -40,7 +45,8 @@ fn start(out: &mut Vec<u8>, word: &[u8]) -> Result<(), NoMemory>
 }
 
 fn push_line(out: &mut Vec<u8>, script: &Script, line: &ScriptLine) -> Result<(), NoMemory>
-    ensures { OnOk result (WritesLines (line_words script.now line.now ∷ []) out.old.items out.new.items) }
+    ensures { OnOk result (WritesLines (line_words script.now line.now ∷ []) out.old.items
+        out.new.items) }
 {
     start(out, actor_word(script, line.actor))?;
     push_body(out, script, &line.body)?;
@@ -48,7 +54,8 @@ fn push_line(out: &mut Vec<u8>, script: &Script, line: &ScriptLine) -> Result<()
 }
 
 fn push_lines(out: &mut Vec<u8>, script: &Script, lines: &[ScriptLine]) -> Result<(), NoMemory>
-    ensures { OnOk result (WritesLines (map (line_words script.now) lines.now) out.old.items out.new.items) }
+    ensures { OnOk result (WritesLines (map (line_words script.now) lines.now) out.old.items
+        out.new.items) }
 {
     for line in lines {
         push_line(out, script, line)?;
@@ -57,7 +64,8 @@ fn push_lines(out: &mut Vec<u8>, script: &Script, lines: &[ScriptLine]) -> Resul
 }
 
 fn push_display(out: &mut Vec<u8>, script: &Script) -> Result<(), NoMemory>
-    ensures { OnOk result (WritesLines (display_line_words script.now ∷ []) out.old.items out.new.items) }
+    ensures { OnOk result (WritesLines (display_line_words script.now ∷ []) out.old.items
+        out.new.items) }
 {
     start(out, b"display")?;
     push_numbers(
@@ -68,7 +76,8 @@ fn push_display(out: &mut Vec<u8>, script: &Script) -> Result<(), NoMemory>
 }
 
 fn push_name(out: &mut Vec<u8>, keyword: &str, name: &[u8]) -> Result<(), NoMemory>
-    ensures { OnOk result (WritesLines (name_words keyword.now name.now ∷ []) out.old.items out.new.items) }
+    ensures { OnOk result (WritesLines (name_words keyword.now name.now ∷ []) out.old.items
+        out.new.items) }
 {
     start(out, keyword.as_bytes())?;
     push_word(out, name)?;
@@ -76,7 +85,8 @@ fn push_name(out: &mut Vec<u8>, keyword: &str, name: &[u8]) -> Result<(), NoMemo
 }
 
 fn push_names(out: &mut Vec<u8>, keyword: &str, names: &[Name]) -> Result<(), NoMemory>
-    ensures { OnOk result (WritesLines (map (name_words keyword.now) names.now) out.old.items out.new.items) }
+    ensures { OnOk result (WritesLines (map (name_words keyword.now) names.now) out.old.items
+        out.new.items) }
 {
     for name in names {
         push_name(out, keyword, name.as_slice())?;
@@ -90,7 +100,8 @@ fn push_buffer(
     number: usize,
     decl: &BufferDecl,
 ) -> Result<(), NoMemory>
-    ensures { OnOk result (WritesLines (buffers_line_words script.now number decl.now ∷ []) out.old.items out.new.items) }
+    ensures { OnOk result (WritesLines (buffers_line_words script.now number decl.now
+        ∷ []) out.old.items out.new.items) }
 {
     start(out, b"buffers")?;
     push_word(out, name_at(&script.buffers, number))?;
@@ -100,7 +111,8 @@ fn push_buffer(
 }
 
 fn push_buffers(out: &mut Vec<u8>, script: &Script, decls: &[BufferDecl]) -> Result<(), NoMemory>
-    ensures { OnOk result (WritesLines (numbered (buffers_line_words script.now) 0 decls.now) out.old.items out.new.items) }
+    ensures { OnOk result (WritesLines (numbered (buffers_line_words script.now) 0 decls.now)
+        out.old.items out.new.items) }
 {
     for (number, decl) in decls.iter().enumerate() {
         push_buffer(out, script, number, decl)?;
@@ -114,7 +126,8 @@ fn push_pair(
     number: usize,
     decl: &PairDecl,
 ) -> Result<(), NoMemory>
-    ensures { OnOk result (WritesLines (pair_line_words script.now number decl.now ∷ []) out.old.items out.new.items) }
+    ensures { OnOk result (WritesLines (pair_line_words script.now number decl.now
+        ∷ []) out.old.items out.new.items) }
 {
     start(out, b"pair")?;
     push_word(out, name_at(&script.pairs, number))?;
@@ -124,7 +137,8 @@ fn push_pair(
 }
 
 fn push_pairs(out: &mut Vec<u8>, script: &Script, decls: &[PairDecl]) -> Result<(), NoMemory>
-    ensures { OnOk result (WritesLines (numbered (pair_line_words script.now) 0 decls.now) out.old.items out.new.items) }
+    ensures { OnOk result (WritesLines (numbered (pair_line_words script.now) 0 decls.now)
+        out.old.items out.new.items) }
 {
     for (number, decl) in decls.iter().enumerate() {
         push_pair(out, script, number, decl)?;
@@ -138,7 +152,8 @@ fn push_fence(
     number: usize,
     decl: &FenceDecl,
 ) -> Result<(), NoMemory>
-    ensures { OnOk result (WritesLines (fence_line_words script.now number decl.now ∷ []) out.old.items out.new.items) }
+    ensures { OnOk result (WritesLines (fence_line_words script.now number decl.now
+        ∷ []) out.old.items out.new.items) }
 {
     start(out, b"fence")?;
     push_word(out, name_at(&script.fences, number))?;
@@ -147,7 +162,8 @@ fn push_fence(
 }
 
 fn push_fences(out: &mut Vec<u8>, script: &Script, decls: &[FenceDecl]) -> Result<(), NoMemory>
-    ensures { OnOk result (WritesLines (numbered (fence_line_words script.now) 0 decls.now) out.old.items out.new.items) }
+    ensures { OnOk result (WritesLines (numbered (fence_line_words script.now) 0 decls.now)
+        out.old.items out.new.items) }
 {
     for (number, decl) in decls.iter().enumerate() {
         push_fence(out, script, number, decl)?;

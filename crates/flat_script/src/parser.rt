@@ -49,9 +49,11 @@ fn read_line(parser: &mut Parser, alloc: Global, number: u32, line: &[u8]) -> Re
     requires kept { Kept parser.old }
     requires begins { parser.old.begins + 1 < 2 ^ 32 }
     requires dones { parser.old.dones + 1 < 2 ^ 32 }
-    ensures steps { Steps result (line_read known_words number (sofar_of parser.old) line.now) (sofar_of parser.new) }
+    ensures steps { Steps result (line_read known_words number (sofar_of parser.old) line.now)
+        (sofar_of parser.new) }
     ensures kept { OnOk result (Kept parser.new) }
-    ensures few { (parser.new.begins ≤ parser.old.begins + 1) × (parser.new.dones ≤ parser.old.dones + 1) }
+    ensures few { (parser.new.begins ≤ parser.old.begins + 1)
+        × (parser.new.dones ≤ parser.old.dones + 1) }
 {
     if !all_plain(line) {
         return Err(LineError::Kind(FaultKind::NotAscii));
