@@ -1,4 +1,5 @@
-ghost use Rattle.std.specs.Prelude.{◌≡◌, ◌<◌, ◌-◌, [], ◌∷◌, ◌++◌, length, take, remove, IfOk, IsTrue, OnOk, OnErr, Some, ◌↔◌, slice_get, slice_set};
+ghost use Rattle.std.specs.Prelude.{◌≡◌, ◌<◌, ◌-◌, [], ◌∷◌, ◌++◌, length, take, remove, IfOk};
+ghost use Rattle.std.specs.Prelude.{IsTrue, OnOk, OnErr, Some, ◌↔◌, slice_get, slice_set};
 ghost use Rattle.std.specs.Option.{option_copied};
 ghost use Rattle.flat_base.specs.Last.{last_item};
 

@@ -2,6 +2,9 @@
 //! things, errors and reasons, rectangles, fixed point, limits, and the two
 //! containers that contracts see as their content.
 //!
+//! `fixed` rounds and saturates by specs/Fixed, `limits` has each limit of a script, and
+//! `ids` and `errors` the numbers that reports write (specs/Number).
+//!
 //! Other crates may cite the lemmas of proofs/lemmas/: tests that hold together
 //! (Tests).
 #![tactic(auto)]

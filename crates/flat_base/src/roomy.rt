@@ -1,4 +1,5 @@
-ghost use Rattle.std.specs.Prelude.{◌≡◌, ◌+◌, ◌-◌, ◌<◌, ◌≤◌, [], ◌∷◌, ◌++◌, length, take, remove, slice_get, Some, IfOk, OnOk, OnErr};
+ghost use Rattle.std.specs.Prelude.{◌≡◌, ◌+◌, ◌-◌, ◌<◌, ◌≤◌, [], ◌∷◌, ◌++◌, length, take, remove};
+ghost use Rattle.std.specs.Prelude.{slice_get, Some, IfOk, OnOk, OnErr};
 ghost use Rattle.flat_base.specs.Room.{ItemsAndRoom};
 ghost use Rattle.flat_base.specs.Last.{last_item};
 
@@ -20,7 +21,11 @@ impl<T> Model for Roomy<T> {
 
     ghost Value = { ItemsAndRoom T };
 
-    ghost view = { λ r. record { items = r.inner.items; room = vec_capacity r.inner - length r.inner.items } };
+    ghost view = { λ r. record {
+      items = r.inner.items;
+      room = vec_capacity r.inner
+          - length r.inner.items;
+    } };
 }
 
 impl<T> Roomy<T> {
@@ -85,7 +90,8 @@ impl<T> Roomy<T> {
     pub fn pop(&mut self) -> Option<T>
         ensures last { result ≡ last_item self.old.items }
         ensures rest { self.new.items ≡ take (length self.old.items - 1) self.old.items }
-        ensures room { self.new.room + length self.new.items ≡ self.old.room + length self.old.items }
+        ensures room { self.new.room + length self.new.items
+            ≡ self.old.room + length self.old.items }
     {
         self.inner.pop()
     }
@@ -113,7 +119,8 @@ impl<T: Drop> Roomy<T> {
     /// Drops all items from a length on, which makes room.
     pub fn truncate(&mut self, len: usize)
         ensures items { self.new.items ≡ take len self.old.items }
-        ensures room { self.new.room + length self.new.items ≡ self.old.room + length self.old.items }
+        ensures room { self.new.room + length self.new.items
+            ≡ self.old.room + length self.old.items }
     {
         self.inner.truncate(len);
     }

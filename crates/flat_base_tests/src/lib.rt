@@ -1,5 +1,5 @@
-//! Tests of the numbers, rectangles, sources and sinks below all others: what no contract says, and what no
-//! worked case on the program reaches.
+//! Tests of the numbers, rectangles, sources and sinks below all others: what no contract
+//! says, and what no worked case on the program reaches.
 #![tactic(auto)]
 
 #[cfg(test)]

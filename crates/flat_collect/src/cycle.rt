@@ -1,4 +1,5 @@
-ghost use Rattle.std.specs.Prelude.{◌≡◌, ◌+◌, ◌^◌, ◌<◌, ◌≤◌, length, OnSome, slice_get, IfOk, IsTrue, ◌↔◌, Some};
+ghost use Rattle.std.specs.Prelude.{◌≡◌, ◌+◌, ◌^◌, ◌<◌, ◌≤◌, length, OnSome, slice_get, IfOk};
+ghost use Rattle.std.specs.Prelude.{IsTrue, ◌↔◌, Some};
 ghost use Rattle.flat_scene.specs.Cycles.{HasCycle};
 ghost use Rattle.flat_graph.specs.Reasons.{links_in};
 ghost use Rattle.flat_collect.specs.Search.{IsSearch, Tells, trail};
@@ -52,7 +53,8 @@ fn advance(
     path: &mut Vec<usize>,
 ) -> Result<Step, NoMemory>
     requires { IsSearch (links_in graph.now) root marks.old.items (trail key.old path.old.items) }
-    ensures { IfOk result (Tells (links_in graph.now) root marks.old.items path.old.items key.old marks.new.items key.new path.new.items) }
+    ensures { IfOk result (Tells (links_in graph.now) root marks.old.items path.old.items key.old
+        marks.new.items key.new path.new.items) }
 {
     let Mark::Open(i) = marks[*key] else {
         return match path.pop() {

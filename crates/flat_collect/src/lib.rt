@@ -1,6 +1,9 @@
 //! Whether a graph of transforms unfolds to a tree that can be presented, and which
 //! of its nodes are still reached.
 //!
+//! `judge` (here; walk, cycle, repeats) answers the verdict of specs/Judge, and `sweep`
+//! (sweeping, reached) leaves what specs/Sweep says.
+//!
 //! Other crates may cite the lemmas of proofs/lemmas/: that the graph stands for the
 //! draft (Stands), how the judge walks (Walking), its verdicts (Verdicts), and what a
 //! swept graph stands for (Swept).

@@ -72,7 +72,8 @@ impl Reached {
     /// Adds a key, if there is one.
     fn add_some(&mut self, key: Option<usize>) -> Result<(), NoMemory>
         requires listed { IsListed self.old }
-        requires within { (k : ℕ) → Contains (option_to_list key) k → k < length self.old.marks.items }
+        requires within { (k : ℕ) → Contains (option_to_list key) k →
+            k < length self.old.marks.items }
         ensures { OnOk result (Adds (option_to_list key) self.old self.new) }
     {
         match key {
@@ -96,7 +97,8 @@ impl Reached {
     /// Adds the keys that have a name.
     fn add_names(&mut self, names: &[Named]) -> Result<(), NoMemory>
         requires listed { IsListed self.old }
-        requires within { (k : ℕ) → Contains (map (λ name. name.key) names.now) k → k < length self.old.marks.items }
+        requires within { (k : ℕ) → Contains (map (λ name. name.key) names.now) k →
+            k < length self.old.marks.items }
         ensures { OnOk result (Adds (map (λ name. name.key) names.now) self.old self.new) }
     {
         for name in names {

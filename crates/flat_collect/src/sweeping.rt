@@ -15,7 +15,8 @@ use std::alloc::Global;
 /// was.
 pub fn sweep(alloc: Global, graph: &mut Graph) -> Result<u32, NoMemory>
     ensures swept { OnOk result (IsSwept graph.old graph.new) }
-    ensures dropped { IfOk result (λ dropped. dropped + count_by is_some graph.new.nodes ≡ count_by is_some graph.old.nodes) }
+    ensures dropped { IfOk result (λ dropped. dropped + count_by is_some graph.new.nodes
+        ≡ count_by is_some graph.old.nodes) }
     ensures kept { OnErr result (graph.new ≡ graph.old) }
 {
     // Tells the proof that no two names lead to one node.

@@ -30,7 +30,8 @@ fn viewport(graph: &Graph, key: usize) -> Option<u32>
 
 /// Appends that viewport to a list.
 fn list_viewport(graph: &Graph, key: usize, viewports: &mut Vec<u32>) -> Result<(), NoMemory>
-    ensures { OnOk result (viewports.new.items ≡ viewports.old.items ++ option_to_list (viewport_in graph.now key)) }
+    ensures { OnOk result (viewports.new.items
+        ≡ viewports.old.items ++ option_to_list (viewport_in graph.now key)) }
 {
     if let Some(serial) = viewport(graph, key) {
         viewports.push(serial)?;
@@ -38,8 +39,9 @@ fn list_viewport(graph: &Graph, key: usize, viewports: &mut Vec<u32>) -> Result<
     Ok(())
 }
 
-/// Counts the nodes of the trees of the keys, and lists their viewports in preorder. The answer is false where a path
-/// has more nodes than the levels, or the count goes above 1,024.
+/// Counts the nodes of the trees of the keys, and lists their viewports in preorder. The
+/// answer is false where a path has more nodes than the levels, or the count goes above
+/// 1,024.
 pub fn walk(
     graph: &Graph,
     keys: &[usize],
@@ -48,7 +50,8 @@ pub fn walk(
     viewports: &mut Vec<u32>,
 ) -> Result<bool, NoMemory>
     requires { nodes.old ≤ TREE_NODES_MAX }
-    ensures { IfOk result (Says (below (links_in graph.now) levels keys.now) (viewport_in graph.now) levels nodes.old viewports.old.items nodes.new viewports.new.items) }
+    ensures { IfOk result (Says (below (links_in graph.now) levels keys.now) (viewport_in graph.now)
+        levels nodes.old viewports.old.items nodes.new viewports.new.items) }
 {
     for &key in keys {
         if levels == 0 || *nodes == TREE_NODES_MAX {

@@ -1,4 +1,6 @@
 //! The draw list: what the nodes of the joined tree paint, in order.
+//!
+//! `compose` answers `items_of` (flat_topology: specs/Draw), item by item.
 #![tactic(auto)]
 
 mod brush;

@@ -2,14 +2,20 @@
 //! that name some of them. A content stays when its name ends, since a transform
 //! may hold it still.
 //!
+//! Each call of `ContentTable` (table, fills, images, viewports) is one equation on
+//! `TableState` (specs/Table), or its first reason (specs/Reasons).
+//!
 //! Other crates may cite the lemmas of proofs/lemmas/: contents and drafts (Standing,
 //! Others).
 #![tactic(auto)]
 
+mod fills;
+mod images;
 mod laws;
 mod limits;
 mod stored;
 mod table;
+mod viewports;
 
 pub use laws::content_laws;
 pub use stored::{Stored, StoredFill, StoredImage};

@@ -18,14 +18,6 @@ fn is_beyond(start: i32, side: i32, limit: u32) -> bool
     i64::from(start) + i64::from(side) > i64::from(limit)
 }
 
-/// A side is less than 1, or an end is above the largest i32.
-pub fn is_bad_rect(rect: IntRect) -> bool
-    ensures { result ≡ misuse.is_bad_rect rect }
-{
-    let limit = i32::MAX as u32;
-    rect.w < 1 || rect.h < 1 || is_beyond(rect.x, rect.w, limit) || is_beyond(rect.y, rect.h, limit)
-}
-
 /// The rectangle leaves an image of that size.
 pub fn leaves(rect: IntRect, w: u32, h: u32) -> bool
     ensures { result ≡ misuse.leaves rect (w, h) }

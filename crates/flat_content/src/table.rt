@@ -1,19 +1,15 @@
-ghost use Rattle.std.specs.Prelude.{◌≡◌, ◌==◌, ◌+◌, ◌<◌, ◌≤◌, ◌^◌, ◌++◌, true, false, not, filter, length, option_to_list, vec_capacity, Some, None, IfOk, IfErr, OnOk, OnErr};
+ghost use Rattle.std.specs.Prelude.{◌≡◌, ◌==◌, ◌+◌, ◌<◌, ◌≤◌, ◌^◌, ◌++◌, true, false, not, filter};
+ghost use Rattle.std.specs.Prelude.{length, option_to_list, vec_capacity, Some, None, IfOk, IfErr};
+ghost use Rattle.std.specs.Prelude.{OnOk, OnErr};
 ghost use Rattle.flat_scene.specs.Draft.{changed_at, of_serial};
 ghost use Rattle.flat_scene.specs.Misuse.{first_reason};
 ghost use Rattle.flat_graph.specs.Names.{key_named};
 ghost use Rattle.flat_content.specs.Table.{TableState, IsTable, HasRoom, in_use};
 
-use crate::limits::{is_bad_image, is_bad_index, is_bad_rect, is_bad_side, leaves, whole};
-use crate::stored::{Stored, StoredFill, StoredImage, is_fill, is_viewport, shown, use_in};
-use flat_base::{
-    BufferNo, ContentId, IntRect, Items, NAMED_MAX, NoMemory, OPACITY_MAX, PairNo, Reason,
-};
-use flat_graph::{Named, key_of, put_name, remove_name};
-use flat_scene::{
-    BlendMode, BufferList, Content, GraphFault, Held, ImageFlip, Inset, UseList, ViewportProps,
-    ViewportUse,
-};
+use crate::stored::{Stored, is_viewport, shown, use_in};
+use flat_base::{ContentId, Items, NAMED_MAX, NoMemory, Reason};
+use flat_graph::{Named, key_of, put_name};
+use flat_scene::{BufferList, Content, GraphFault, Held, UseList, ViewportUse};
 use std::alloc::Global;
 use std::marker::Model;
 
@@ -24,12 +20,12 @@ use std::marker::Model;
 #[derive(Drop)]
 pub struct ContentTable {
     // The collections of which images may be made.
-    buffers: BufferList,
-    contents: Vec<Stored>,
+    pub(crate) buffers: BufferList,
+    pub(crate) contents: Vec<Stored>,
     // By rising id. The key of a name is the serial of its content.
-    names: Vec<Named>,
+    pub(crate) names: Vec<Named>,
     // The serials of the viewports neither released nor cleared, the oldest first.
-    viewports: Vec<u32>,
+    pub(crate) viewports: Vec<u32>,
     // There is room for one content more, and a serial.
     has_room: bool,
 }
@@ -37,10 +33,25 @@ pub struct ContentTable {
 impl Model for ContentTable {
     ghost Value = { TableState };
 
-    ghost view = { λ t. record { buffers = t.buffers; contents = t.contents.items; names = t.names.items; viewports = t.viewports.items; has_room = t.has_room } };
+    ghost view = { λ t. record {
+      buffers = t.buffers;
+      contents = t.contents.items;
+      names = t.names.items;
+      viewports = t.viewports.items;
+      has_room = t.has_room;
+    } };
 
-    ghost invariant = { λ t. IsTable (record { buffers = t.buffers; contents = t.contents.items; names = t.names.items; viewports = t.viewports.items; has_room = false })
-        × (t.has_room ≡ true → HasRoom (length t.contents.items) (vec_capacity t.contents) (length t.names.items) (vec_capacity t.names) (length t.viewports.items) (vec_capacity t.viewports)) };
+    ghost invariant = { λ t. IsTable
+        (record {
+          buffers = t.buffers;
+          contents = t.contents.items;
+          names = t.names.items;
+          viewports = t.viewports.items;
+          has_room = false;
+        })
+        × (t.has_room ≡ true → HasRoom (length t.contents.items) (vec_capacity t.contents)
+        (length t.names.items) (vec_capacity t.names) (length t.viewports.items)
+        (vec_capacity t.viewports)) };
 }
 
 /// The content of a serial number, if there is that number.
@@ -54,7 +65,7 @@ fn stored_at(contents: &[Stored], serial: usize) -> Option<Stored>
 }
 
 /// Puts a content in the place of another.
-fn put(contents: &mut Vec<Stored>, serial: usize, stored: Stored)
+pub(crate) fn put(contents: &mut Vec<Stored>, serial: usize, stored: Stored)
     requires made { 1 ≤ serial }
     requires within { serial ≤ length contents.old.items }
     ensures capacity { vec_capacity contents.new ≡ vec_capacity contents.old }
@@ -75,10 +86,11 @@ fn note_use(viewports: &mut Vec<u32>, stored: Stored, serial: u32)
 }
 
 /// Takes a serial away from those in use.
-fn drop_use(viewports: &mut Vec<u32>, serial: u32)
+pub(crate) fn drop_use(viewports: &mut Vec<u32>, serial: u32)
     ensures capacity { vec_capacity viewports.new ≡ vec_capacity viewports.old }
     ensures fewer { length viewports.new.items ≤ length viewports.old.items }
-    ensures items { viewports.new.items ≡ filter (λ other. not (other == serial)) viewports.old.items }
+    ensures items { viewports.new.items
+        ≡ filter (λ other. not (other == serial)) viewports.old.items }
 {
     viewports.retain(|other| *other != serial);
 }
@@ -116,14 +128,15 @@ impl ContentTable {
     }
 
     /// The serial that an id names and its content, or why it names none.
-    fn find(&self, c: ContentId) -> Result<(usize, Stored), Reason>
+    pub(crate) fn find(&self, c: ContentId) -> Result<(usize, Stored), Reason>
         ensures named { IfOk result (λ found. key_named self.now.names c.0 ≡ Some found.0) }
         ensures stored { IfOk result (λ found. of_serial self.now.contents found.0 ≡ Some found.1) }
         ensures made { IfOk result (λ found. 1 ≤ found.0) }
         ensures within { IfOk result (λ found. found.0 ≤ length self.now.contents) }
         ensures few { IfOk result (λ found. found.0 < 2 ^ 32) }
         ensures allowed { OnOk result (first_reason (name_tests self.now c.0) ≡ None) }
-        ensures fault { IfErr result (λ reason. first_reason (name_tests self.now c.0) ≡ Some reason) }
+        ensures fault { IfErr result (λ reason. first_reason (name_tests self.now c.0)
+            ≡ Some reason) }
     {
         if c.0 == 0 {
             return Err(Reason::ZeroId);
@@ -140,7 +153,8 @@ impl ContentTable {
     pub fn held(&self, c: ContentId) -> Result<Held, Reason>
         ensures held { IfOk result (λ held. held_of self.now c.0 ≡ Some held) }
         ensures allowed { OnOk result (first_reason (name_tests self.now c.0) ≡ None) }
-        ensures fault { IfErr result (λ reason. first_reason (name_tests self.now c.0) ≡ Some reason) }
+        ensures fault { IfErr result (λ reason. first_reason (name_tests self.now c.0)
+            ≡ Some reason) }
     {
         let (serial, stored) = self.find(c)?;
         Ok(Held {
@@ -155,7 +169,8 @@ impl ContentTable {
     pub fn given(&self, c: ContentId) -> Result<Option<Held>, Reason>
         ensures held { IfOk result (λ held. held ≡ held_of self.now c.0) }
         ensures allowed { OnOk result (first_reason (given_tests self.now c.0) ≡ None) }
-        ensures fault { IfErr result (λ reason. first_reason (given_tests self.now c.0) ≡ Some reason) }
+        ensures fault { IfErr result (λ reason. first_reason (given_tests self.now c.0)
+            ≡ Some reason) }
     {
         let _ = &self.names;
         if c.0 == 0 {
@@ -201,11 +216,12 @@ impl ContentTable {
     ghost use Rattle.flat_content.specs.Reasons.{new_tests, room_tests};
 
     /// Whether an id may name something new, or why it may not.
-    fn unused(&self, c: ContentId) -> Result<(), Reason>
+    pub(crate) fn unused(&self, c: ContentId) -> Result<(), Reason>
         ensures some { OnOk result (c.0 ≢ 0) }
         ensures absent { OnOk result (key_named self.now.names c.0 ≡ None) }
         ensures allowed { OnOk result (first_reason (new_tests self.now c.0) ≡ None) }
-        ensures fault { IfErr result (λ reason. first_reason (new_tests self.now c.0) ≡ Some reason) }
+        ensures fault { IfErr result (λ reason. first_reason (new_tests self.now c.0)
+            ≡ Some reason) }
     {
         if c.0 == 0 {
             return Err(Reason::ZeroId);
@@ -239,7 +255,7 @@ impl ContentTable {
     }
 
     /// Tests that one name more is allowed, and takes the room.
-    fn make_room(&mut self) -> Result<(), GraphFault>
+    pub(crate) fn make_room(&mut self) -> Result<(), GraphFault>
         ensures ok { OnOk result (self.new ≡ record self.old { has_room = true }) }
         ensures allowed { OnOk result (first_reason (room_tests self.old) ≡ None) }
         ensures fault { IfErr result (IsFault (room_tests self.old)) }
@@ -276,7 +292,7 @@ impl ContentTable {
     }
 
     /// Makes a content, and names it.
-    fn add(&mut self, c: ContentId, stored: Stored) -> Result<u32, GraphFault>
+    pub(crate) fn add(&mut self, c: ContentId, stored: Stored) -> Result<u32, GraphFault>
         requires some { c.0 ≢ 0 }
         requires absent { key_named self.old.names c.0 ≡ None }
         ensures serial { IfOk result (λ serial. serial ≡ length self.old.contents + 1) }
@@ -288,392 +304,6 @@ impl ContentTable {
     {
         self.make_room()?;
         Ok(self.put_content(c, stored))
-    }
-}
-
-// Filled rectangles.
-impl ContentTable {
-    ghost use Rattle.flat_scene.specs.Misuse as misuse;
-    ghost use Rattle.flat_scene.specs.declared.trees.GraphFault.{GraphFault};
-    ghost use Rattle.flat_graph.specs.Reasons.{IsFault};
-    ghost use Rattle.flat_content.specs.declared.stored.Stored.TheVariants.{Fill};
-    ghost use Rattle.flat_content.specs.Table.{change_named, released, with_stored};
-    ghost use Rattle.flat_content.specs.Reasons.{create_tests, sort_tests, solid_tests};
-
-    /// Makes a filled rectangle, without colour and size, and names it; answers its
-    /// serial number.
-    ///
-    /// `Bad` is ZeroId, IdInUse or TooManyNamed. It answers `Memory` also where
-    /// 2^32 - 1 contents were made.
-    pub fn create_fill(&mut self, c: ContentId) -> Result<u32, GraphFault>
-        ensures serial { IfOk result (λ serial. serial ≡ length self.old.contents + 1) }
-        ensures created { OnOk result (self.new ≡ with_stored self.old c.0 (Fill None)) }
-        ensures allowed { OnOk result (first_reason (create_tests self.old c.0) ≡ None) }
-        ensures fault { IfErr result (IsFault (create_tests self.old c.0)) }
-        ensures kept { OnErr result (self.new ≡ self.old) }
-    {
-        if let Err(reason) = self.unused(c) {
-            return Err(GraphFault::Bad(reason));
-        }
-        self.add(c, Stored::Fill(None))
-    }
-
-    /// The serial of a filled rectangle, or why an id names none.
-    fn fill(&self, c: ContentId) -> Result<usize, Reason>
-        ensures named { IfOk result (λ serial. key_named self.now.names c.0 ≡ Some serial) }
-        ensures made { IfOk result (λ serial. 1 ≤ serial) }
-        ensures within { IfOk result (λ serial. serial ≤ length self.now.contents) }
-        ensures allowed { OnOk result (first_reason (sort_tests self.now misuse.is_fill c.0) ≡ None) }
-        ensures fault { IfErr result (λ reason. first_reason (sort_tests self.now misuse.is_fill c.0) ≡ Some reason) }
-    {
-        let (serial, stored) = self.find(c)?;
-        if !is_fill(stored) {
-            return Err(Reason::WrongContent);
-        }
-        Ok(serial)
-    }
-
-    /// Gives a filled rectangle its colour (red, green, blue, alpha) and its size.
-    ///
-    /// The reason is ZeroId, UnknownContent, WrongContent or BadSize. It takes no
-    /// memory.
-    pub fn set_solid_fill(
-        &mut self,
-        c: ContentId,
-        rgba: [u8; 4],
-        w: u32,
-        h: u32,
-    ) -> Result<(), Reason>
-        ensures set { OnOk result (self.new ≡ change_named self.old c.0 (λ _. Fill (Some (record { rgba = rgba; size = (w, h) })))) }
-        ensures allowed { OnOk result (first_reason (solid_tests self.old c.0 w h) ≡ None) }
-        ensures fault { IfErr result (λ reason. first_reason (solid_tests self.old c.0 w h) ≡ Some reason) }
-        ensures kept { OnErr result (self.new ≡ self.old) }
-    {
-        let serial = self.fill(c)?;
-        if is_bad_side(w) || is_bad_side(h) {
-            return Err(Reason::BadSize);
-        }
-        let solid = StoredFill { rgba, size: (w, h) };
-        put(&mut self.contents, serial, Stored::Fill(Some(solid)));
-        Ok(())
-    }
-
-    /// Ends a filled rectangle's name. The content stays.
-    ///
-    /// The reason is ZeroId, UnknownContent or WrongContent. It takes no memory.
-    pub fn release_filled_rect(&mut self, c: ContentId) -> Result<(), Reason>
-        ensures released { OnOk result (self.new ≡ released self.old c.0) }
-        ensures allowed { OnOk result (first_reason (sort_tests self.old misuse.is_fill c.0) ≡ None) }
-        ensures fault { IfErr result (λ reason. first_reason (sort_tests self.old misuse.is_fill c.0) ≡ Some reason) }
-        ensures kept { OnErr result (self.new ≡ self.old) }
-    {
-        self.fill(c)?;
-        remove_name(&mut self.names, c.0);
-        Ok(())
-    }
-}
-
-// Viewports.
-impl ContentTable {
-    ghost use Rattle.std.specs.Prelude.{unwrap_or};
-    ghost use Rattle.flat_scene.specs.Misuse as misuse;
-    ghost use Rattle.flat_scene.specs.declared.trees.GraphFault.{GraphFault};
-    ghost use Rattle.flat_graph.specs.Reasons.{IsFault};
-    ghost use Rattle.flat_content.specs.declared.stored.Stored.TheVariants.{Viewport};
-    ghost use Rattle.flat_content.specs.Table.{change_named, on_viewport, pair_named, viewport_released, with_stored};
-    ghost use Rattle.flat_content.specs.Reasons.{sort_tests, viewport_tests, properties_tests};
-
-    /// Tests what `create_viewport` tests, and takes the room for it: after `Ok` a
-    /// `create_viewport` of that id and that size is done. It makes nothing.
-    pub fn ready_viewport(&mut self, c: ContentId, w: u32, h: u32) -> Result<(), GraphFault>
-        ensures ok { OnOk result (self.new ≡ record self.old { has_room = true }) }
-        ensures allowed { OnOk result (first_reason (viewport_tests self.old c.0 w h) ≡ None) }
-        ensures fault { IfErr result (IsFault (viewport_tests self.old c.0 w h)) }
-        ensures kept { OnErr result (self.new ≡ self.old) }
-    {
-        if let Err(reason) = self.unused(c) {
-            return Err(GraphFault::Bad(reason));
-        }
-        if is_bad_side(w) || is_bad_side(h) {
-            return Err(GraphFault::Bad(Reason::BadSize));
-        }
-        self.make_room()
-    }
-
-    /// Makes a viewport at the viewport end of a pair, and names it; answers its
-    /// serial number.
-    ///
-    /// `Bad` is ZeroId, IdInUse, BadSize or TooManyNamed. It answers `Memory` also
-    /// where 2^32 - 1 contents were made, but never where there is room.
-    pub fn create_viewport(
-        &mut self,
-        c: ContentId,
-        pair: PairNo,
-        props: ViewportProps,
-    ) -> Result<u32, GraphFault>
-        ensures serial { IfOk result (λ serial. serial ≡ length self.old.contents + 1) }
-        ensures created { OnOk result (self.new ≡ with_stored self.old c.0 (Viewport pair props)) }
-        ensures allowed { OnOk result (first_reason (viewport_tests self.old c.0 props.w props.h) ≡ None) }
-        ensures fault { IfErr result (IsFault (viewport_tests self.old c.0 props.w props.h)) }
-        ensures kept { OnErr result (self.new ≡ self.old) }
-        ensures room { result ≡ Err GraphFault.Memory → self.old.has_room ≡ false }
-    {
-        if let Err(reason) = self.unused(c) {
-            return Err(GraphFault::Bad(reason));
-        }
-        if is_bad_side(props.w) || is_bad_side(props.h) {
-            return Err(GraphFault::Bad(Reason::BadSize));
-        }
-        self.add(c, Stored::Viewport(pair, props))
-    }
-
-    /// The serial of a viewport, its pair and its properties, or why an id names none.
-    fn viewport(&self, c: ContentId) -> Result<(usize, PairNo, ViewportProps), Reason>
-        ensures named { IfOk result (λ found. key_named self.now.names c.0 ≡ Some found.0) }
-        ensures stored { IfOk result (λ found. of_serial self.now.contents found.0 ≡ Some (Viewport found.1 found.2)) }
-        ensures made { IfOk result (λ found. 1 ≤ found.0) }
-        ensures within { IfOk result (λ found. found.0 ≤ length self.now.contents) }
-        ensures few { IfOk result (λ found. found.0 < 2 ^ 32) }
-        ensures allowed { OnOk result (first_reason (sort_tests self.now misuse.is_viewport c.0) ≡ None) }
-        ensures fault { IfErr result (λ reason. first_reason (sort_tests self.now misuse.is_viewport c.0) ≡ Some reason) }
-    {
-        let (serial, stored) = self.find(c)?;
-        match stored {
-            Stored::Viewport(pair, props) => Ok((serial, pair, props)),
-            _ => Err(Reason::WrongContent),
-        }
-    }
-
-    /// The pair of a viewport.
-    ///
-    /// The reason is ZeroId, UnknownContent or WrongContent. It takes no memory.
-    pub fn pair(&self, c: ContentId) -> Result<PairNo, Reason>
-        ensures pair { IfOk result (λ pair. pair_named self.now c.0 ≡ Some pair) }
-        ensures allowed { OnOk result (first_reason (sort_tests self.now misuse.is_viewport c.0) ≡ None) }
-        ensures fault { IfErr result (λ reason. first_reason (sort_tests self.now misuse.is_viewport c.0) ≡ Some reason) }
-    {
-        Ok(self.viewport(c)?.1)
-    }
-
-    /// Sets a viewport's logical size, and its inset where one is given.
-    ///
-    /// The reason is ZeroId, UnknownContent, WrongContent or BadSize. It takes no
-    /// memory.
-    pub fn set_viewport_properties(
-        &mut self,
-        c: ContentId,
-        w: u32,
-        h: u32,
-        inset: Option<Inset>,
-    ) -> Result<(), Reason>
-        ensures set { OnOk result (self.new ≡ change_named self.old c.0 (on_viewport (λ props. record { w = w; h = h; inset = unwrap_or inset props.inset }))) }
-        ensures allowed { OnOk result (first_reason (properties_tests self.old c.0 w h) ≡ None) }
-        ensures fault { IfErr result (λ reason. first_reason (properties_tests self.old c.0 w h) ≡ Some reason) }
-        ensures kept { OnErr result (self.new ≡ self.old) }
-    {
-        let (serial, pair, props) = self.viewport(c)?;
-        if is_bad_side(w) || is_bad_side(h) {
-            return Err(Reason::BadSize);
-        }
-        let inset = inset.unwrap_or(props.inset);
-        let changed = ViewportProps { w, h, inset };
-        put(&mut self.contents, serial, Stored::Viewport(pair, changed));
-        Ok(())
-    }
-
-    /// Ends a viewport's name and its use; answers its serial number.
-    ///
-    /// The reason is ZeroId, UnknownContent or WrongContent. It takes no memory.
-    pub fn release_viewport(&mut self, c: ContentId) -> Result<u32, Reason>
-        ensures serial { IfOk result (λ serial. key_named self.old.names c.0 ≡ Some serial) }
-        ensures released { OnOk result (self.new ≡ viewport_released self.old c.0) }
-        ensures allowed { OnOk result (first_reason (sort_tests self.old misuse.is_viewport c.0) ≡ None) }
-        ensures fault { IfErr result (λ reason. first_reason (sort_tests self.old misuse.is_viewport c.0) ≡ Some reason) }
-        ensures kept { OnErr result (self.new ≡ self.old) }
-    {
-        let serial = self.viewport(c)?.0 as u32;
-        remove_name(&mut self.names, c.0);
-        drop_use(&mut self.viewports, serial);
-        Ok(serial)
-    }
-}
-
-// Images.
-impl ContentTable {
-    ghost use Rattle.flat_scene.specs.Misuse as misuse;
-    ghost use Rattle.flat_graph.specs.Reasons.{IsFault};
-    ghost use Rattle.flat_content.specs.declared.stored.Stored.TheVariants.{Image};
-    ghost use Rattle.flat_content.specs.Table.{change_named, new_image, on_image, released, with_stored};
-    ghost use Rattle.flat_content.specs.Reasons.{image_tests, sort_tests, sample_tests, size_tests, opacity_tests};
-
-    /// Makes an image of the buffer of an index of a collection, and names it;
-    /// answers its serial number.
-    ///
-    /// `Bad` is ZeroId, IdInUse, BadSize, BadBuffer or TooManyNamed. It answers
-    /// `Memory` also where 2^32 - 1 contents were made.
-    pub fn create_image(
-        &mut self,
-        c: ContentId,
-        buffers: BufferNo,
-        index: u32,
-        w: u32,
-        h: u32,
-    ) -> Result<u32, GraphFault>
-        ensures serial { IfOk result (λ serial. serial ≡ length self.old.contents + 1) }
-        ensures created { OnOk result (self.new ≡ with_stored self.old c.0 (new_image buffers index w h)) }
-        ensures allowed { OnOk result (first_reason (image_tests self.old c.0 buffers index w h) ≡ None) }
-        ensures fault { IfErr result (IsFault (image_tests self.old c.0 buffers index w h)) }
-        ensures kept { OnErr result (self.new ≡ self.old) }
-    {
-        if let Err(reason) = self.unused(c) {
-            return Err(GraphFault::Bad(reason));
-        }
-        let decl = self.buffers.get(buffers.0 as usize).copied();
-        if is_bad_image(decl, w, h) {
-            return Err(GraphFault::Bad(Reason::BadSize));
-        }
-        if is_bad_index(decl, index) {
-            return Err(GraphFault::Bad(Reason::BadBuffer));
-        }
-        let image = StoredImage {
-            buffers,
-            index,
-            size: (w, h),
-            sample: whole(w, h),
-            destination: (w, h),
-            blend: BlendMode::Src,
-            flip: ImageFlip::Plain,
-            opacity: OPACITY_MAX,
-        };
-        self.add(c, Stored::Image(image))
-    }
-
-    /// The serial of an image and the image, or why an id names none.
-    fn image(&self, c: ContentId) -> Result<(usize, StoredImage), Reason>
-        ensures named { IfOk result (λ found. key_named self.now.names c.0 ≡ Some found.0) }
-        ensures stored { IfOk result (λ found. of_serial self.now.contents found.0 ≡ Some (Image found.1)) }
-        ensures made { IfOk result (λ found. 1 ≤ found.0) }
-        ensures within { IfOk result (λ found. found.0 ≤ length self.now.contents) }
-        ensures allowed { OnOk result (first_reason (sort_tests self.now misuse.is_image c.0) ≡ None) }
-        ensures fault { IfErr result (λ reason. first_reason (sort_tests self.now misuse.is_image c.0) ≡ Some reason) }
-    {
-        let (serial, stored) = self.find(c)?;
-        match stored {
-            Stored::Image(image) => Ok((serial, image)),
-            _ => Err(Reason::WrongContent),
-        }
-    }
-
-    /// Sets the part of an image that is shown.
-    ///
-    /// The reason is ZeroId, UnknownContent, WrongContent or BadRect. It takes no
-    /// memory.
-    pub fn set_image_sample_region(&mut self, c: ContentId, rect: IntRect) -> Result<(), Reason>
-        ensures set { OnOk result (self.new ≡ change_named self.old c.0 (on_image (λ image. record image { sample = rect }))) }
-        ensures allowed { OnOk result (first_reason (sample_tests self.old c.0 rect) ≡ None) }
-        ensures fault { IfErr result (λ reason. first_reason (sample_tests self.old c.0 rect) ≡ Some reason) }
-        ensures kept { OnErr result (self.new ≡ self.old) }
-    {
-        let (serial, image) = self.image(c)?;
-        if is_bad_rect(rect) || leaves(rect, image.size.0, image.size.1) {
-            return Err(Reason::BadRect);
-        }
-        let changed = StoredImage {
-            sample: rect,
-            ..image
-        };
-        put(&mut self.contents, serial, Stored::Image(changed));
-        Ok(())
-    }
-
-    /// Sets the size to which an image is drawn.
-    ///
-    /// The reason is ZeroId, UnknownContent, WrongContent or BadSize. It takes no
-    /// memory.
-    pub fn set_image_destination_size(&mut self, c: ContentId, w: u32, h: u32) -> Result<(), Reason>
-        ensures set { OnOk result (self.new ≡ change_named self.old c.0 (on_image (λ image. record image { destination = (w, h) }))) }
-        ensures allowed { OnOk result (first_reason (size_tests self.old c.0 w h) ≡ None) }
-        ensures fault { IfErr result (λ reason. first_reason (size_tests self.old c.0 w h) ≡ Some reason) }
-        ensures kept { OnErr result (self.new ≡ self.old) }
-    {
-        let (serial, image) = self.image(c)?;
-        if is_bad_side(w) || is_bad_side(h) {
-            return Err(Reason::BadSize);
-        }
-        let changed = StoredImage {
-            destination: (w, h),
-            ..image
-        };
-        put(&mut self.contents, serial, Stored::Image(changed));
-        Ok(())
-    }
-
-    /// Sets how an image is put over what lies below it.
-    ///
-    /// The reason is ZeroId, UnknownContent or WrongContent. It takes no memory.
-    pub fn set_image_blending_function(
-        &mut self,
-        c: ContentId,
-        blend: BlendMode,
-    ) -> Result<(), Reason>
-        ensures set { OnOk result (self.new ≡ change_named self.old c.0 (on_image (λ image. record image { blend = blend }))) }
-        ensures allowed { OnOk result (first_reason (sort_tests self.old misuse.is_image c.0) ≡ None) }
-        ensures fault { IfErr result (λ reason. first_reason (sort_tests self.old misuse.is_image c.0) ≡ Some reason) }
-        ensures kept { OnErr result (self.new ≡ self.old) }
-    {
-        let (serial, image) = self.image(c)?;
-        let changed = StoredImage { blend, ..image };
-        put(&mut self.contents, serial, Stored::Image(changed));
-        Ok(())
-    }
-
-    /// Mirrors an image.
-    ///
-    /// The reason is ZeroId, UnknownContent or WrongContent. It takes no memory.
-    pub fn set_image_flip(&mut self, c: ContentId, flip: ImageFlip) -> Result<(), Reason>
-        ensures set { OnOk result (self.new ≡ change_named self.old c.0 (on_image (λ image. record image { flip = flip }))) }
-        ensures allowed { OnOk result (first_reason (sort_tests self.old misuse.is_image c.0) ≡ None) }
-        ensures fault { IfErr result (λ reason. first_reason (sort_tests self.old misuse.is_image c.0) ≡ Some reason) }
-        ensures kept { OnErr result (self.new ≡ self.old) }
-    {
-        let (serial, image) = self.image(c)?;
-        let changed = StoredImage { flip, ..image };
-        put(&mut self.contents, serial, Stored::Image(changed));
-        Ok(())
-    }
-
-    /// Sets an image's own opacity, at most
-    /// [`OPACITY_MAX`](flat_base::OPACITY_MAX).
-    ///
-    /// The reason is ZeroId, UnknownContent, WrongContent or BadOpacity. It takes
-    /// no memory.
-    pub fn set_image_opacity(&mut self, c: ContentId, opacity: u32) -> Result<(), Reason>
-        ensures set { OnOk result (self.new ≡ change_named self.old c.0 (on_image (λ image. record image { opacity = opacity }))) }
-        ensures allowed { OnOk result (first_reason (opacity_tests self.old c.0 opacity) ≡ None) }
-        ensures fault { IfErr result (λ reason. first_reason (opacity_tests self.old c.0 opacity) ≡ Some reason) }
-        ensures kept { OnErr result (self.new ≡ self.old) }
-    {
-        let (serial, image) = self.image(c)?;
-        if opacity > OPACITY_MAX {
-            return Err(Reason::BadOpacity);
-        }
-        let changed = StoredImage { opacity, ..image };
-        put(&mut self.contents, serial, Stored::Image(changed));
-        Ok(())
-    }
-
-    /// Ends an image's name. The content stays.
-    ///
-    /// The reason is ZeroId, UnknownContent or WrongContent. It takes no memory.
-    pub fn release_image(&mut self, c: ContentId) -> Result<(), Reason>
-        ensures released { OnOk result (self.new ≡ released self.old c.0) }
-        ensures allowed { OnOk result (first_reason (sort_tests self.old misuse.is_image c.0) ≡ None) }
-        ensures fault { IfErr result (λ reason. first_reason (sort_tests self.old misuse.is_image c.0) ≡ Some reason) }
-        ensures kept { OnErr result (self.new ≡ self.old) }
-    {
-        self.image(c)?;
-        remove_name(&mut self.names, c.0);
-        Ok(())
     }
 }
 

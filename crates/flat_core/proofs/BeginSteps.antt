@@ -21,7 +21,7 @@ use Rattle.flat_rules.specs.Ends.{to_begin}
 use Rattle.flat_scene.specs.Frames.{is_signalled, taken, waiting, ready_prefix, credits}
 use Rattle.flat_rules.specs.Posts.{events_to}
 use Rattle.flat_rules.specs.Shown.{shown, tree_of}
-use Rattle.flat_queue.specs.declared.queue.Kept.{Kept}
+use Rattle.flat_queue.specs.declared.queue.WaitingPresent.{WaitingPresent}
 use Rattle.flat_scene.specs.Frames.{is_ready}
 use Rattle.flat_queue.specs.Line.{ready_of, credits_of}
 use Rattle.flat_snap.specs.declared.snapshot.Snapshot.{Snapshot}
@@ -69,15 +69,15 @@ shown-begun setup h line time s opened =
     let long : length (ready_prefix time (is_signalled setup h) (waiting setup h s)) ≡ ready_count setup h time s = length-prefix_len (λ present. is_ready time (is_signalled setup h) present.args) (waiting setup h s) in
     rw (opened, long) refl
 
-same-tree : (setup : Setup) (snap : Arc Snapshot Global) (kept : Option (Kept (Arc Snapshot Global))) (present : Option Published) → option_map (λ k. k.item) kept ≡ Some snap
+same-tree : (setup : Setup) (snap : Arc Snapshot Global) (kept : Option (WaitingPresent (Arc Snapshot Global))) (present : Option Published) → option_map (λ k. k.item) kept ≡ Some snap
     → option_map (λ k. let t : Option Tree = Some (arc_value k.item) in t) kept ≡ option_map (tree_of setup) present → option_and_then (tree_of setup) present ≡ Some (arc_value snap)
 same-tree setup snap None present is same = cc
 same-tree setup snap (Some k) None is same = cc
 same-tree setup snap (Some k) (Some p) is same = let item : k.item ≡ snap = cc in let tree : tree_of setup p ≡ Some (arc_value k.item) = cc in rw (tree, item) refl
 
-items-last : (n : ℕ) (waits : List (Kept (Arc Snapshot Global))) → suc n ≤ length waits → last_from None (map (λ k. k.item) (take (suc n) waits)) ≡ option_map (λ k. k.item) (slice_get waits n)
+items-last : (n : ℕ) (waits : List (WaitingPresent (Arc Snapshot Global))) → suc n ≤ length waits → last_from None (map (λ k. k.item) (take (suc n) waits)) ≡ option_map (λ k. k.item) (slice_get waits n)
 items-last n waits fits =
-    let item : Kept (Arc Snapshot Global) → Arc Snapshot Global = λ k. k.item in
+    let item : WaitingPresent (Arc Snapshot Global) → Arc Snapshot Global = λ k. k.item in
     let long : n < length (map item waits) = rw length-map fits in
     ap (last_from None) (sym (take-map item (suc n) waits)) ∙ last-get None (map item waits) n long ∙ get-map item waits n
 
@@ -104,7 +104,7 @@ shown-some setup h line time s has_it state snap kept opened fences last =
     ∙ some-at setup h line time s state snap (ready_count setup h time s) kept opened refl (rw (← count) (prefix_len-le-length (λ kept. is_ready time has_it kept.args) state.queue.waiting))
     (ap (λ (n : ℕ). last_from None (map (λ k. k.item) (take n state.queue.waiting))) (sym count) ∙ sym last)
 
-none-ready : (n : ℕ) (waits : List (Kept (Arc Snapshot Global))) → n ≤ length waits → None ≡ last_from None (map (λ k. k.item) (take n waits)) → n ≡ 0
+none-ready : (n : ℕ) (waits : List (WaitingPresent (Arc Snapshot Global))) → n ≤ length waits → None ≡ last_from None (map (λ k. k.item) (take n waits)) → n ≡ 0
 none-ready zero waits fits last = refl
 none-ready (suc n) [] fits last = absurd (omega (arith, fits))
 none-ready (suc n) (k ∷ waits) fits last = let none = last-none (map (λ k. k.item) (take (suc n) (k ∷ waits))) (sym last) in cc
@@ -134,7 +134,7 @@ more-than m n some = grind (arith, nat_tests)
 not-more : (m : ℕ) → nat_lt m (m + 0) ≡ false
 not-more m = grind (arith, nat_tests)
 
-some-ready : (n : ℕ) (waits : List (Kept (Arc Snapshot Global))) (snap : Arc Snapshot Global) → Some snap ≡ last_from None (map (λ k. k.item) (take n waits)) → 0 < n
+some-ready : (n : ℕ) (waits : List (WaitingPresent (Arc Snapshot Global))) (snap : Arc Snapshot Global) → Some snap ≡ last_from None (map (λ k. k.item) (take n waits)) → 0 < n
 some-ready zero waits snap last = cc
 some-ready (suc n) waits snap last = omega arith
 

@@ -24,7 +24,7 @@ use Rattle.flat_scene.specs.History.{◌▹◌, is_closed, is_session}
 use Rattle.flat_scene.specs.Frames.{waiting}
 use Rattle.flat_scene.specs.Setups.{is_declared}
 use Rattle.flat_base.proofs.lemmas.Tests.{and-left, and-right}
-use Rattle.flat_queue.specs.declared.queue.Kept.{Kept}
+use Rattle.flat_queue.specs.declared.queue.WaitingPresent.{WaitingPresent}
 use Rattle.flat_queue.specs.Line.{credits_of}
 use Rattle.flat_snap.specs.declared.snapshot.Snapshot.{Snapshot}
 use Rattle.flat_states.specs.declared.clock.Clock.{Clock}
@@ -103,7 +103,7 @@ present-kept setup h s line carries args snap state k false has opened owned tre
 
 present-due : (state : SessionState) (snap : Arc Snapshot Global) (args : PresentArgs) (n k : ℕ) (accepted : Bool)
     → due (cond accepted (with_present state snap args) (record state { closed = true })) ≡ due state + owed_for (cond accepted (Presented n k) (Closed (Some NoPresentsRemaining) None))
-present-due state snap args n k true = omega (arith, length-append {A = Kept (Arc Snapshot Global)})
+present-due state snap args n k true = omega (arith, length-append {A = WaitingPresent (Arc Snapshot Global)})
 present-due state snap args n k false = omega arith
 
 owed-two : (accepted : Bool) (n k : ℕ) → owed_for (cond accepted (Presented n k) (Closed (Some NoPresentsRemaining) None)) ≤ 2

@@ -18,7 +18,7 @@ use Rattle.flat_scene.specs.declared.setup.Setup.{Setup}
 use Rattle.flat_scene.specs.History.{◌▹◌, own, is_session, presents, published, published_all, carried, Published}
 use Rattle.flat_scene.specs.Frames.{taken, waiting}
 use Rattle.flat_rules.specs.Shown.{tree_of}
-use Rattle.flat_queue.specs.declared.queue.Kept.{Kept}
+use Rattle.flat_queue.specs.declared.queue.WaitingPresent.{WaitingPresent}
 use Rattle.flat_snap.specs.declared.snapshot.Snapshot.{Snapshot}
 use Rattle.flat_states.specs.declared.state.SessionState.{SessionState}
 use Rattle.flat_states.specs.Machines.{entry_of, present_of}
@@ -61,8 +61,8 @@ pub kept-presented : (setup : Setup) (seen : Seen) (state : SessionState) (snap 
 kept-presented setup seen state snap args present kept stays few same tree acquire release = record {
   closed = kept.closed;
   account = rw (kept.account, ap (λ (n : ℕ). n + 1) kept.count) refl;
-  count = omega (arith, kept.count, length-append {A = Kept (Arc Snapshot Global)});
-  few = omega (arith, few, length-append {A = Kept (Arc Snapshot Global)});
+  count = omega (arith, kept.count, length-append {A = WaitingPresent (Arc Snapshot Global)});
+  few = omega (arith, few, length-append {A = WaitingPresent (Arc Snapshot Global)});
   taken = kept.taken;
   waiting = λ gone. joined kept_of (meant setup) state.queue.waiting seen.waiting (record { item = snap; args = args }) present (kept.waiting gone) (rw (same, ← tree) refl);
   let_go = λ gone. let no : true ≡ false = sym gone ∙ stays in cc;

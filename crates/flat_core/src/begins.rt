@@ -1,4 +1,5 @@
-ghost use Rattle.std.specs.Prelude.{◌≡◌, true, ◌+◌, ◌-◌, ◌^◌, ◌<◌, ◌≤◌, ◌++◌, length, map, slice_get, slice_set, Some, option_map, sum_by};
+ghost use Rattle.std.specs.Prelude.{◌≡◌, true, ◌+◌, ◌-◌, ◌^◌, ◌<◌, ◌≤◌, ◌++◌, length, map};
+ghost use Rattle.std.specs.Prelude.{slice_get, slice_set, Some, option_map, sum_by};
 ghost use Rattle.std.specs.Arc.{arc_value};
 ghost use Rattle.flat_base.specs.declared.ids.FenceNo.{FenceNo};
 ghost use Rattle.flat_fence.specs.Fences.{has};
@@ -59,12 +60,16 @@ pub fn begin_one(
     requires fences { (f : FenceNo) → has fences.now f ≡ is_signalled setup.now log.old.history f }
     requires count { length fences.now ≡ length setup.now.fences }
     requires kept { IsKept setup.now (seen_of setup.now log.old.history s) state.old }
-    requires shown { slice_get into.old (s.0 - 1) ≡ Some (shown setup.now (to_begin log.old.history) s) }
+    requires shown { slice_get into.old (s.0 - 1)
+        ≡ Some (shown setup.now (to_begin log.old.history) s) }
     requires room { due state.old ≤ log.old.post_room }
-    ensures kept { IsKept setup.now (seen_of setup.now (begun log.old.history line time) s) state.new }
-    ensures shown { into.new ≡ slice_set into.old (s.0 - 1) (shown setup.now (begun log.old.history line time) s) }
+    ensures kept { IsKept setup.now (seen_of setup.now (begun log.old.history line time) s)
+        state.new }
+    ensures shown { into.new ≡ slice_set into.old
+        (s.0 - 1) (shown setup.now (begun log.old.history line time) s) }
     ensures changes { NotesChanges changed.old changed.new into.old into.new }
-    ensures posts { log.new.posts ≡ log.old.posts ++ map (post_of (length log.old.history) s) (events_to setup.now log.old.history (begin_entry line time) s) }
+    ensures posts { log.new.posts ≡ log.old.posts ++ map (post_of (length log.old.history) s)
+        (events_to setup.now log.old.history (begin_entry line time) s) }
     ensures count { length log.new.posts ≡ length log.old.posts + result }
     ensures history { log.new.history ≡ log.old.history }
     ensures room { log.new.room ≡ log.old.room }
@@ -113,15 +118,18 @@ pub fn begin_all(
     requires fences { (f : FenceNo) → has fences.now f ≡ is_signalled setup.now log.old.history f }
     requires count { length fences.now ≡ length setup.now.fences }
     requires all { length sessions.old.items ≡ setup.now.sessions }
-    requires kept { AllNumbered (λ i. IsKept setup.now (seen_of setup.now log.old.history (number i))) sessions.old.items }
+    requires kept { AllNumbered (λ i. IsKept setup.now (seen_of setup.now log.old.history
+        (number i))) sessions.old.items }
     requires shown { into.old ≡ shown_states setup.now (to_begin log.old.history) }
     requires room { sum_by due sessions.old.items ≤ log.old.post_room }
     requires small { sum_by due sessions.old.items < 2 ^ 64 }
     ensures all { length sessions.new.items ≡ setup.now.sessions }
-    ensures kept { AllNumbered (λ i. IsKept setup.now (seen_of setup.now (begun log.old.history line time) (number i))) sessions.new.items }
+    ensures kept { AllNumbered (λ i. IsKept setup.now
+        (seen_of setup.now (begun log.old.history line time) (number i))) sessions.new.items }
     ensures shown { into.new ≡ shown_states setup.now (begun log.old.history line time) }
     ensures changes { NotesChanges changed.old changed.new into.old into.new }
-    ensures posts { log.new.posts ≡ log.old.posts ++ posts_to setup.now log.old.history (begin_entry line time) setup.now.sessions }
+    ensures posts { log.new.posts ≡ log.old.posts ++ posts_to setup.now log.old.history
+        (begin_entry line time) setup.now.sessions }
     ensures count { length log.new.posts ≡ length log.old.posts + result }
     ensures history { log.new.history ≡ log.old.history }
     ensures room { log.new.room ≡ log.old.room }

@@ -1,4 +1,5 @@
-ghost use Rattle.std.specs.Prelude.{◌≡◌, IsTrue, true, ◌+◌, ◌<◌, ◌^◌, false, [], length, sum, IfOk, ℕ};
+ghost use Rattle.std.specs.Prelude.{◌≡◌, IsTrue, true, ◌+◌, ◌<◌, ◌^◌, false, [], length, sum, IfOk};
+ghost use Rattle.std.specs.Prelude.{ℕ};
 ghost use Rattle.flat_base.specs.declared.ids.SessionNo.{SessionNo};
 ghost use Rattle.flat_scene.specs.History.{history_of};
 ghost use Rattle.flat_scene.specs.Setups.{is_declared, is_within_limits};
@@ -64,11 +65,11 @@ pub struct Board {
     clock: Clock,
     fences: FenceSet,
     /// The view ends that were used.
-    views: EndSet,
+    view_ends: EndSet,
     /// The sessions, the first of them session 1.
     sessions: Vec<SessionState>,
     /// The viewports of each session.
-    ends: Vec<Viewports>,
+    viewports: Vec<Viewports>,
     ties: Ties,
     watchers: Watchers,
 }
@@ -83,7 +84,12 @@ impl Model for Board {
 
     ghost view = { λ b. record { setup = b.setup; shares = b.shares; history = b.log.history } };
 
-    ghost invariant = { λ b. Stands b.setup b.log.history b.clock b.fences b.views b.sessions.items × HasRoom b.setup b.shares b.log b.owed (all_due b.sessions.items b.ends.items b.watchers.gets.items) × AreEnds b.setup b.log.history b.ends.items × AreTied b.setup b.log.history b.ties.followings.items b.ties.pairs.items × AreWatched b.setup b.log.history b.watchers.gets.items b.watchers.answered.items };
+    ghost invariant = { λ b. Stands b.setup b.log.history b.clock b.fences b.view_ends
+        b.sessions.items × HasRoom b.setup b.shares b.log b.owed
+        (all_due b.sessions.items b.viewports.items b.watchers.gets.items)
+        × AreEnds b.setup b.log.history b.viewports.items
+        × AreTied b.setup b.log.history b.ties.followings.items b.ties.pairs.items
+        × AreWatched b.setup b.log.history b.watchers.gets.items b.watchers.answered.items };
 }
 
 impl Board {
@@ -93,7 +99,8 @@ impl Board {
         requires limits { IsTrue (is_within_limits setup) }
         requires actors { length shares ≡ setup.sessions + 1 }
         requires total { sum shares < 2 ^ 32 }
-        ensures { IfOk result (λ board. board ≡ record { setup = setup; shares = shares; history = [] }) }
+        ensures { IfOk result (λ board. board
+            ≡ record { setup = setup; shares = shares; history = [] }) }
     {
         let total = total_of(shares.as_slice());
         let log = Log::new(alloc, total)?;
@@ -115,9 +122,9 @@ impl Board {
                 time: 0,
             },
             fences,
-            views,
+            view_ends: views,
             sessions,
-            ends,
+            viewports: ends,
             ties,
             watchers,
         })
@@ -126,7 +133,8 @@ impl Board {
     /// The sessions that are open and have a view whose end isn't lost. It takes no
     /// memory.
     pub fn with_view(&self) -> SessionSet
-        ensures members { (s : SessionNo) → is_declared self.now.setup s ≡ true → is_member result s.0 ≡ has_view self.now.setup self.now.history s }
+        ensures members { (s : SessionNo) → is_declared self.now.setup s ≡ true →
+            is_member result s.0 ≡ has_view self.now.setup self.now.history s }
         ensures others { (s : ℕ) → self.now.setup.sessions < s → is_member result s ≡ false }
     {
         with_view(self.sessions.as_slice())
@@ -143,7 +151,8 @@ impl Board {
         ensures posts { result.now.posts.items ≡ posts self.now.setup self.now.history }
         ensures legal { Legal self.now.setup self.now.history }
         ensures families { FamiliesStandAlone self.now.setup self.now.history }
-        ensures neighbours { (s : SessionNo) → IsDecidedByGlimpses self.now.setup s self.now.history }
+        ensures neighbours { (s : SessionNo) →
+            IsDecidedByGlimpses self.now.setup s self.now.history }
         ensures others { (s : SessionNo) → IsQuietBeside self.now.setup s self.now.history }
     {
         families_are_alone();

@@ -1,4 +1,5 @@
-ghost use Rattle.std.specs.Prelude.{◌≡◌, true, ◌+◌, ◌-◌, ◌^◌, ◌<◌, ◌≤◌, ◌||◌, ◌++◌, [], cond, nat_lt, length, map, sum_by, All};
+ghost use Rattle.std.specs.Prelude.{◌≡◌, true, ◌+◌, ◌-◌, ◌^◌, ◌<◌, ◌≤◌, ◌||◌, ◌++◌, [], cond};
+ghost use Rattle.std.specs.Prelude.{nat_lt, length, map, sum_by, All};
 ghost use Rattle.std.specs.List.{list_any};
 ghost use Rattle.flat_base.specs.declared.ids.Actor.TheVariants.{Display};
 ghost use Rattle.flat_base.specs.declared.ids.FenceNo.{FenceNo};
@@ -40,7 +41,8 @@ fn signal_list(list: &[FenceNo], fences: &mut FenceSet)
 fn signal_lists(lists: &[FenceList], fences: &mut FenceSet)
     requires { All (Below (length fences.old)) lists.now }
     ensures size { length fences.new ≡ length fences.old }
-    ensures members { (g : FenceNo) → has fences.new g ≡ (has fences.old g || list_any (λ list. is_among list g) lists.now) }
+    ensures members { (g : FenceNo) → has fences.new g
+        ≡ (has fences.old g || list_any (λ list. is_among list g) lists.now) }
 {
     for list in lists {
         signal_list(list.as_slice(), fences);
@@ -52,7 +54,8 @@ fn signal_lists(lists: &[FenceList], fences: &mut FenceSet)
 fn post_took(took: u32, s: SessionNo, log: &mut Log) -> usize
     requires place { length log.old.history < 2 ^ 32 }
     requires room { cond (nat_lt 0 took) 1 0 ≤ log.old.post_room }
-    ensures posts { log.new.posts ≡ log.old.posts ++ map (post_of (length log.old.history) s) (took_event took) }
+    ensures posts { log.new.posts ≡ log.old.posts ++ map (post_of (length log.old.history) s)
+        (took_event took) }
     ensures count { result ≡ cond (nat_lt 0 took) 1 0 }
     ensures history { log.new.history ≡ log.old.history }
     ensures room { log.new.room ≡ log.old.room }
@@ -87,13 +90,19 @@ fn done_one(
     requires opened { is_frame_open log.old.history ≡ true }
     requires count { length fences.old ≡ length setup.now.fences }
     requires kept { IsKept setup.now (seen_of setup.now log.old.history s) state.old }
-    requires ends { AreViewports setup.now log.old.history s ends.old.live.items ends.old.out.items }
+    requires ends { AreViewports setup.now log.old.history s ends.old.live.items
+        ends.old.out.items }
     requires room { due state.old + due_back ends.old ≤ log.old.post_room }
-    ensures kept { IsKept setup.now (seen_of setup.now (finished log.old.history line) s) state.new }
-    ensures ends { AreViewports setup.now (finished log.old.history line) s ends.new.live.items ends.new.out.items }
+    ensures kept { IsKept setup.now (seen_of setup.now (finished log.old.history line) s)
+        state.new }
+    ensures ends { AreViewports setup.now (finished log.old.history line) s ends.new.live.items
+        ends.new.out.items }
     ensures size { length fences.new ≡ length fences.old }
-    ensures members { (g : FenceNo) → has fences.new g ≡ (has fences.old g || is_released_by (going setup.now log.old.history s) g) }
-    ensures posts { log.new.posts ≡ log.old.posts ++ map (post_of (length log.old.history) s) (cond (is_closed s log.old.history) [] (took_event (frame_took setup.now log.old.history s) ++ back_events (taken setup.now log.old.history s) ends.old.out.items)) }
+    ensures members { (g : FenceNo) → has fences.new g
+        ≡ (has fences.old g || is_released_by (going setup.now log.old.history s) g) }
+    ensures posts { log.new.posts ≡ log.old.posts ++ map (post_of (length log.old.history) s)
+        (cond (is_closed s log.old.history) [] (took_event (frame_took setup.now log.old.history s)
+        ++ back_events (taken setup.now log.old.history s) ends.old.out.items)) }
     ensures count { length log.new.posts ≡ length log.old.posts + result }
     ensures history { log.new.history ≡ log.old.history }
     ensures room { log.new.room ≡ log.old.room }
@@ -133,21 +142,31 @@ fn finish_one<T: Tells>(
     requires opened { is_frame_open log.old.history ≡ true }
     requires count { length fences.old ≡ length setup.now.fences }
     requires kept { IsKept setup.now (seen_of setup.now log.old.history s) state.old }
-    requires ends { AreViewports setup.now log.old.history s ends.old.live.items ends.old.out.items }
-    requires watched { WatchedUpTo setup.now (s.0 - 1) (finished log.old.history line) log.old.history watchers.old.gets.items watchers.old.answered.items }
-    requires room { due state.old + due_back ends.old + sum_by due_told watchers.old.gets.items ≤ log.old.post_room }
-    requires small { due state.old + due_back ends.old + sum_by due_told watchers.old.gets.items < 2 ^ 64 }
-    ensures kept { IsKept setup.now (seen_of setup.now (finished log.old.history line) s) state.new }
-    ensures ends { AreViewports setup.now (finished log.old.history line) s ends.new.live.items ends.new.out.items }
-    ensures watched { WatchedUpTo setup.now s.0 (finished log.old.history line) log.old.history watchers.new.gets.items watchers.new.answered.items }
+    requires ends { AreViewports setup.now log.old.history s ends.old.live.items
+        ends.old.out.items }
+    requires watched { WatchedUpTo setup.now (s.0 - 1) (finished log.old.history line)
+        log.old.history watchers.old.gets.items watchers.old.answered.items }
+    requires room { due state.old + due_back ends.old + sum_by due_told watchers.old.gets.items
+        ≤ log.old.post_room }
+    requires small { due state.old + due_back ends.old + sum_by due_told watchers.old.gets.items < 2
+        ^ 64 }
+    ensures kept { IsKept setup.now (seen_of setup.now (finished log.old.history line) s)
+        state.new }
+    ensures ends { AreViewports setup.now (finished log.old.history line) s ends.new.live.items
+        ends.new.out.items }
+    ensures watched { WatchedUpTo setup.now s.0 (finished log.old.history line) log.old.history
+        watchers.new.gets.items watchers.new.answered.items }
     ensures size { length fences.new ≡ length fences.old }
-    ensures members { (g : FenceNo) → has fences.new g ≡ (has fences.old g || is_released_by (going setup.now log.old.history s) g) }
-    ensures posts { log.new.posts ≡ log.old.posts ++ map (post_of (length log.old.history) s) (events_to setup.now log.old.history (finish_entry line) s) }
+    ensures members { (g : FenceNo) → has fences.new g
+        ≡ (has fences.old g || is_released_by (going setup.now log.old.history s) g) }
+    ensures posts { log.new.posts ≡ log.old.posts ++ map (post_of (length log.old.history) s)
+        (events_to setup.now log.old.history (finish_entry line) s) }
     ensures count { length log.new.posts ≡ length log.old.posts + result }
     ensures history { log.new.history ≡ log.old.history }
     ensures room { log.new.room ≡ log.old.room }
     ensures post_room { log.new.post_room + result ≡ log.old.post_room }
-    ensures due { due state.new + due_back ends.new + sum_by due_told watchers.new.gets.items + result ≤ due state.old + due_back ends.old + sum_by due_told watchers.old.gets.items }
+    ensures due { due state.new + due_back ends.new + sum_by due_told watchers.new.gets.items
+        + result ≤ due state.old + due_back ends.old + sum_by due_told watchers.old.gets.items }
 {
     let told = watchers.settle(s, state.closed, tells, log);
     told + done_one(setup, line, s, state, ends, fences, log)
@@ -165,29 +184,38 @@ pub fn done_all<T: Tells>(
     log: &mut Log,
 ) -> usize
     requires tells { T.stands tells.now setup.now (finished log.old.history line) }
-    requires watched { AreWatched setup.now log.old.history watchers.old.gets.items watchers.old.answered.items }
+    requires watched { AreWatched setup.now log.old.history watchers.old.gets.items
+        watchers.old.answered.items }
     requires legal { Legal setup.now log.old.history }
     requires may { MayEnter setup.now log.old.history Display [] Finish }
     requires place { length log.old.history < 2 ^ 32 - 1 }
     requires opened { is_frame_open log.old.history ≡ true }
     requires count { length fences.old ≡ length setup.now.fences }
     requires all { length sessions.old.items ≡ setup.now.sessions }
-    requires kept { AllNumbered (λ i. IsKept setup.now (seen_of setup.now log.old.history (number i))) sessions.old.items }
+    requires kept { AllNumbered (λ i. IsKept setup.now (seen_of setup.now log.old.history
+        (number i))) sessions.old.items }
     requires ends { AreEnds setup.now log.old.history ends.old.items }
-    requires room { all_due sessions.old.items ends.old.items watchers.old.gets.items ≤ log.old.post_room }
+    requires room { all_due sessions.old.items ends.old.items watchers.old.gets.items
+        ≤ log.old.post_room }
     requires small { all_due sessions.old.items ends.old.items watchers.old.gets.items < 2 ^ 64 }
     ensures all { length sessions.new.items ≡ setup.now.sessions }
-    ensures kept { AllNumbered (λ i. IsKept setup.now (seen_of setup.now (finished log.old.history line) (number i))) sessions.new.items }
+    ensures kept { AllNumbered (λ i. IsKept setup.now
+        (seen_of setup.now (finished log.old.history line) (number i))) sessions.new.items }
     ensures ends { AreEnds setup.now (finished log.old.history line) ends.new.items }
-    ensures watched { AreWatched setup.now (finished log.old.history line) watchers.new.gets.items watchers.new.answered.items }
+    ensures watched { AreWatched setup.now (finished log.old.history line) watchers.new.gets.items
+        watchers.new.answered.items }
     ensures size { length fences.new ≡ length fences.old }
-    ensures members { (g : FenceNo) → has fences.new g ≡ (has fences.old g || list_any (λ s. is_released_by (going setup.now log.old.history s) g) (sessions_to setup.now.sessions)) }
-    ensures posts { log.new.posts ≡ log.old.posts ++ posts_to setup.now log.old.history (finish_entry line) setup.now.sessions }
+    ensures members { (g : FenceNo) → has fences.new g
+        ≡ (has fences.old g || list_any (λ s. is_released_by (going setup.now log.old.history s) g)
+        (sessions_to setup.now.sessions)) }
+    ensures posts { log.new.posts ≡ log.old.posts ++ posts_to setup.now log.old.history
+        (finish_entry line) setup.now.sessions }
     ensures count { length log.new.posts ≡ length log.old.posts + result }
     ensures history { log.new.history ≡ log.old.history }
     ensures room { log.new.room ≡ log.old.room }
     ensures post_room { log.new.post_room + result ≡ log.old.post_room }
-    ensures due { all_due sessions.new.items ends.new.items watchers.new.gets.items + result ≤ all_due sessions.old.items ends.old.items watchers.old.gets.items }
+    ensures due { all_due sessions.new.items ends.new.items watchers.new.gets.items + result
+        ≤ all_due sessions.old.items ends.old.items watchers.old.gets.items }
 {
     let mut count = 0usize;
     for i in 0..setup.sessions {

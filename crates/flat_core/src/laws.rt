@@ -1,4 +1,5 @@
-ghost use Rattle.flat_rules.specs.Laws.{ShownStatesFit, BegunStatesFit, EachSessionHasOneState, NothingIsShownAtFirst, SessionsAreCounted};
+ghost use Rattle.flat_rules.specs.Laws.{ShownStatesFit, BegunStatesFit, EachSessionHasOneState};
+ghost use Rattle.flat_rules.specs.Laws.{NothingIsShownAtFirst, SessionsAreCounted};
 
 /// What the sessions of a legal history show fits the setup, and so does what the
 /// last frame that began shows of them: a view or a viewport that is shown is of an

@@ -60,7 +60,8 @@ fn push_rects(rects: &mut RectList, items: &[DrawItem]) -> Result<(), NoMemory>
 /// The rectangles of what is left of two lists, or where they are too many the
 /// one that has them all.
 pub fn rects_of(alloc: Global, was: &[DrawItem], now: &[DrawItem]) -> Result<RectList, NoMemory>
-    ensures { IfOk result (λ rects. rects ≡ bounded (visible_rects was.now ++ visible_rects now.now)) }
+    ensures { IfOk result (λ rects. rects
+        ≡ bounded (visible_rects was.now ++ visible_rects now.now)) }
 {
     let mut rects = Items::new(alloc);
     if was.len() + now.len() > RECTS_MAX {

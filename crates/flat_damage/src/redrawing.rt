@@ -18,8 +18,10 @@ pub fn redraw(
     new: &ItemList,
 ) -> Result<(), NoMemory>
     requires items { All IsDrawable new.now }
-    requires shows { Shows picture.old (width_of picture.old) (height_of picture.old) (pixel old.now) }
-    ensures ok { OnOk result (Shows picture.new (width_of picture.old) (height_of picture.old) (pixel new.now)) }
+    requires shows { Shows picture.old (width_of picture.old) (height_of picture.old)
+        (pixel old.now) }
+    ensures ok { OnOk result (Shows picture.new (width_of picture.old) (height_of picture.old)
+        (pixel new.now)) }
     ensures err { OnErr result (picture.new ≡ picture.old) }
 {
     damage_laws();

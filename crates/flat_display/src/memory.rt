@@ -1,7 +1,9 @@
-ghost use Rattle.std.specs.Prelude.{◌≡◌, ◌⊎◌, ◌==◌, [], ◌∷◌, ◌++◌, true, false, OnOk, OnErr, IsTrue, is_err};
+ghost use Rattle.std.specs.Prelude.{◌≡◌, ◌⊎◌, ◌==◌, [], ◌∷◌, ◌++◌, true, false, OnOk, OnErr};
+ghost use Rattle.std.specs.Prelude.{IsTrue, is_err};
 ghost use Rattle.flat_io.specs.Counts.{counted};
 ghost use Rattle.flat_io.specs.Kept.{is_next_among};
-ghost use Rattle.flat_display.specs.Kept.{FailingDisplay, told_frames, after_fault, after_keeping, after_silence};
+ghost use Rattle.flat_display.specs.Kept.{FailingDisplay, told_frames, after_fault, after_keeping};
+ghost use Rattle.flat_display.specs.Kept.{after_silence};
 
 use crate::display::Display;
 use flat_base::{Items, NoMemory, TryCopy};
@@ -27,14 +29,26 @@ impl Model for MemDisplay {
 
     ghost Value = { FailingDisplay };
 
-    ghost view = { λ d. record { frames = d.frames; is_told = d.is_told; fail = d.fail.items; calls = d.calls; faults = d.faults } };
+    ghost view = { λ d. record {
+      frames = d.frames;
+      is_told = d.is_told;
+      fail = d.fail.items;
+      calls = d.calls;
+      faults = d.faults;
+    } };
 }
 
 impl MemDisplay {
     /// A display that fails exactly at the calls of `show` whose numbers, from 1,
     /// are in `fail`. It takes no memory.
     pub fn new(alloc: Global, fail: Vec<u32>) -> MemDisplay
-        ensures { result ≡ record { frames = []; is_told = true; fail = fail.items; calls = 0; faults = 0 } }
+        ensures { result ≡ record {
+          frames = [];
+          is_told = true;
+          fail = fail.items;
+          calls = 0;
+          faults = 0;
+        } }
     {
         MemDisplay {
             alloc,
@@ -56,7 +70,8 @@ impl MemDisplay {
 
     // Keeps a copy of the frame, or tells nothing from now on.
     fn keep(&mut self, frame: &FrameOut)
-        ensures { (self.new ≡ record self.old { frames = self.old.frames ++ frame.now ∷ [] }) ⊎ (self.new ≡ record self.old { is_told = false }) }
+        ensures { (self.new ≡ record self.old { frames = self.old.frames ++ frame.now ∷ [] })
+            ⊎ (self.new ≡ record self.old { is_told = false }) }
     {
         if self.push_copy(frame).is_err() {
             self.is_told = false;
@@ -64,7 +79,10 @@ impl MemDisplay {
     }
 
     fn push_copy(&mut self, frame: &FrameOut) -> Result<(), NoMemory>
-        ensures ok { OnOk result (self.new ≡ record self.old { frames = self.old.frames ++ frame.now ∷ [] }) }
+        ensures ok { OnOk result (self.new ≡ record self.old {
+          frames = self.old.frames ++ frame.now
+              ∷ [];
+        }) }
         ensures err { OnErr result (self.new ≡ self.old) }
     {
         self.frames.push(frame.copy(self.alloc)?)
@@ -82,8 +100,10 @@ impl Display for MemDisplay {
     fn show(&mut self, frame: &FrameOut) -> Result<(), Failed>
         ensures fails { is_err result ≡ is_next_among self.old.fail self.old.calls }
         ensures err { OnErr result (self.new ≡ after_fault self.old) }
-        ensures ok { OnOk result ((self.new ≡ after_keeping self.old frame.now) ⊎ (self.new ≡ after_silence self.old)) }
-        ensures silent { OnOk result (self.old.is_told ≡ false → self.new ≡ after_silence self.old) }
+        ensures ok { OnOk result ((self.new ≡ after_keeping self.old frame.now) ⊎ (self.new
+            ≡ after_silence self.old)) }
+        ensures silent { OnOk result (self.old.is_told ≡ false → self.new
+            ≡ after_silence self.old) }
     {
         let fails = is_next_among(&self.fail, self.calls);
         self.calls = counted(self.calls);

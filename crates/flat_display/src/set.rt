@@ -1,4 +1,6 @@
-ghost use Rattle.std.specs.Prelude.{◌≡◌, ℕ, suc, ◌+◌, ◌^◌, ◌<◌, ◌≤◌, ◌++◌, ◌∷◌, [], List, IfOk, OnOk, OnErr, IsTrue, Some, false, length, map, slice_get, slice_set};
+ghost use Rattle.std.specs.Prelude.{◌≡◌, ℕ, suc, ◌+◌, ◌^◌, ◌<◌, ◌≤◌, ◌++◌, ◌∷◌, [], List, IfOk};
+ghost use Rattle.std.specs.Prelude.{OnOk, OnErr, IsTrue, Some, false, length, map, slice_get};
+ghost use Rattle.std.specs.Prelude.{slice_set};
 ghost use Rattle.flat_scene.specs.declared.frames.Lost.{Lost};
 ghost use Rattle.flat_io.specs.Counts.{has_risen};
 ghost use Rattle.flat_display.specs.Told.{Gains};
@@ -28,7 +30,8 @@ impl Model for DisplaySet {
 
     ghost view = { λ s. record { displays = s.displays; lost = s.lost.items } };
 
-    ghost invariant = { λ s. (s.displays ≤ s.lost.room + length s.lost.items) × IsOnce s.lost.items × AreWithin s.displays s.lost.items };
+    ghost invariant = { λ s. (s.displays ≤ s.lost.room + length s.lost.items) × IsOnce s.lost.items
+        × AreWithin s.displays s.lost.items };
 }
 
 impl DisplaySet {
@@ -53,12 +56,16 @@ impl DisplaySet {
     /// stays in the vector, and is lost. It takes no memory.
     pub fn show(&mut self, displays: &mut Vec<Box<dyn Display>>, frame: &FrameOut)
         requires { length displays.old.items ≡ self.old.displays }
-        ensures shows { (more : List Lost) × (self.new ≡ record self.old { lost = self.old.lost ++ more }) × Shows (λ d. shown d) (λ d. faults d) frame.now self.old.lost 1 displays.old.items displays.new.items more }
+        ensures shows { (more : List Lost)
+            × (self.new ≡ record self.old { lost = self.old.lost ++ more })
+            × Shows (λ d. shown d) (λ d. faults d) frame.now self.old.lost 1 displays.old.items
+            displays.new.items more }
         // So the vector still has as many displays as the set.
         ensures same { self.new.displays ≡ self.old.displays }
         ensures length { length displays.new.items ≡ length displays.old.items }
         // Each display stays at its place: its methods are those that it had.
-        ensures kinds { map (λ d. d.vtable) displays.new.items ≡ map (λ d. d.vtable) displays.old.items }
+        ensures kinds { map (λ d. d.vtable) displays.new.items
+            ≡ map (λ d. d.vtable) displays.old.items }
     {
         for place in 0..self.displays {
             self.show_to(displays, place, frame);
@@ -70,8 +77,14 @@ impl DisplaySet {
         requires within { place < length displays.old.items }
         requires number { place < self.old.displays }
         requires fits { place + 1 < 2 ^ 32 }
-        ensures shows { (old : _) × (new : _) × (more : List Lost) × (slice_get displays.old.items place ≡ Some old) × (displays.new.items ≡ slice_set displays.old.items place new) × (self.new ≡ record self.old { lost = self.old.lost ++ more }) × Shows (λ d. shown d) (λ d. faults d) frame.now self.old.lost (place + 1) (old ∷ []) (new ∷ []) more }
-        ensures kinds { map (λ d. d.vtable) displays.new.items ≡ map (λ d. d.vtable) displays.old.items }
+        ensures shows { (old : _) × (new : _) × (more : List Lost)
+            × (slice_get displays.old.items place ≡ Some old)
+            × (displays.new.items ≡ slice_set displays.old.items place new)
+            × (self.new ≡ record self.old { lost = self.old.lost ++ more })
+            × Shows (λ d. shown d) (λ d. faults d) frame.now self.old.lost
+            (place + 1) (old ∷ []) (new ∷ []) more }
+        ensures kinds { map (λ d. d.vtable) displays.new.items
+            ≡ map (λ d. d.vtable) displays.old.items }
     {
         let number = place + 1;
         if self.is_lost(number) {
@@ -92,7 +105,10 @@ impl DisplaySet {
         requires first { 1 ≤ number }
         requires last { number ≤ self.old.displays }
         requires new { is_lost self.old.lost number ≡ false }
-        ensures { self.new ≡ record self.old { lost = self.old.lost ++ record { display = number; frame = frame } ∷ [] } }
+        ensures { self.new ≡ record self.old {
+          lost = self.old.lost
+              ++ record { display = number; frame = frame } ∷ [];
+        } }
     {
         self.lost.push(Lost {
             display: number,
@@ -104,8 +120,11 @@ impl DisplaySet {
 /// Shows the frame to the display at a place, and answers whether it took it.
 fn show_at(displays: &mut Vec<Box<dyn Display>>, place: usize, frame: &FrameOut) -> bool
     requires { place < length displays.old.items }
-    ensures shows { (old : _) × (new : _) × (slice_get displays.old.items place ≡ Some old) × (displays.new.items ≡ slice_set displays.old.items place new) × IsShown (λ d. shown d) (λ d. faults d) frame.now result old new }
-    ensures kinds { map (λ d. d.vtable) displays.new.items ≡ map (λ d. d.vtable) displays.old.items }
+    ensures shows { (old : _) × (new : _) × (slice_get displays.old.items place ≡ Some old)
+        × (displays.new.items ≡ slice_set displays.old.items place new)
+        × IsShown (λ d. shown d) (λ d. faults d) frame.now result old new }
+    ensures kinds { map (λ d. d.vtable) displays.new.items
+        ≡ map (λ d. d.vtable) displays.old.items }
 {
     show_one(&mut displays[place], frame).is_ok()
 }

@@ -2,7 +2,8 @@ ghost use Rattle.std.specs.Prelude.{◌≡◌, ◌≢◌, ◌||◌, IsTrue, true
 ghost use Rattle.std.specs.Arc.{arc_value};
 ghost use Rattle.flat_scene.specs.declared.setup.Setup.{Setup};
 ghost use Rattle.flat_scene.specs.Draft as scene;
-ghost use Rattle.flat_draft.specs.Answers.{IsAnswer, IsApplied, IsReadied, IsTested, uses_an_end, has_room_for, IsRefused, IsWatched, Presents};
+ghost use Rattle.flat_draft.specs.Answers.{IsAnswer, IsApplied, IsReadied, IsTested, uses_an_end};
+ghost use Rattle.flat_draft.specs.Answers.{has_room_for, IsRefused, IsWatched, Presents};
 ghost use Rattle.flat_draft.specs.Kinds.{is_of_contents_alone, is_of_images, is_of_one_part};
 ghost use Rattle.flat_draft.specs.Stands.{StandsFor};
 ghost use Rattle.flat_draft.specs.State.{DraftState, closed, empty_state, emptied};
@@ -39,12 +40,18 @@ pub struct Draft {
 impl Model for Draft {
     ghost Value = { DraftState };
 
-    ghost view = { λ d. record { graph = d.graph; contents = d.contents; view = d.view; closed = d.closed } };
+    ghost view = { λ d. record {
+      graph = d.graph;
+      contents = d.contents;
+      view = d.view;
+      closed = d.closed;
+    } };
 }
 
 /// One of the two lists has more fences than it may have.
 fn has_too_many(args: &PresentArgs) -> bool
-    ensures { result ≡ (nat_lt FENCES_PER_LIST_MAX (length args.now.acquire) || nat_lt FENCES_PER_LIST_MAX (length args.now.release)) }
+    ensures { result ≡ (nat_lt FENCES_PER_LIST_MAX (length args.now.acquire) || nat_lt
+        FENCES_PER_LIST_MAX (length args.now.release)) }
 {
     let most = FENCES_PER_LIST_MAX as usize;
     args.acquire.len() > most || args.release.len() > most
@@ -98,7 +105,8 @@ impl Draft {
     /// It makes nothing, and a misuse doesn't close the draft.
     pub fn ready(&mut self, c: &Call) -> Result<(), DraftFault>
         requires { IsTrue (uses_an_end c.now) }
-        ensures answered { (setup : Setup) (draft : scene.Draft) → StandsFor setup self.old draft → IsReadied setup draft c.now self.old self.new result }
+        ensures answered { (setup : Setup) (draft : scene.Draft) → StandsFor setup self.old draft →
+            IsReadied setup draft c.now self.old self.new result }
         ensures ended { self.old.closed ≡ true → IsErrOf result Closed × (self.new ≡ self.old) }
     {
         if self.closed {
@@ -118,7 +126,8 @@ impl Draft {
     /// child or sets hit regions takes memory; a CreateViewport finds it where
     /// `ready` took it.
     pub fn call(&mut self, c: &Call) -> Result<(), DraftFault>
-        ensures answered { (setup : Setup) (draft : scene.Draft) → StandsFor setup self.old draft → IsAnswer setup draft c.now self.old self.new result }
+        ensures answered { (setup : Setup) (draft : scene.Draft) → StandsFor setup self.old draft →
+            IsAnswer setup draft c.now self.old self.new result }
         ensures ended { self.old.closed ≡ true → IsErrOf result Closed × (self.new ≡ self.old) }
         ensures room { has_room_for c.now self.old ≡ true → result ≢ Err DraftFault.Memory }
     {
@@ -137,7 +146,8 @@ impl Draft {
     /// A misuse closes the draft: NoView, or at a child ZeroId, UnknownContent or
     /// WrongContent. It takes no memory.
     pub fn get(&mut self, w: Watch) -> Result<PairNo, DraftFault>
-        ensures answered { (setup : Setup) (draft : scene.Draft) → StandsFor setup self.old draft → IsWatched draft w self.old self.new result }
+        ensures answered { (setup : Setup) (draft : scene.Draft) → StandsFor setup self.old draft →
+            IsWatched draft w self.old self.new result }
         ensures ended { self.old.closed ≡ true → IsErrOf result Closed × (self.new ≡ self.old) }
     {
         if self.closed {
@@ -156,8 +166,9 @@ impl Draft {
     /// transforms that nothing reaches any more, and changes nothing else; one that is
     /// refused drops none.
     pub fn present(&mut self, args: &PresentArgs) -> Result<Arc<Snapshot>, DraftFault>
-        ensures answered { (setup : Setup) (draft : scene.Draft) → StandsFor setup self.old draft
-            → MatchResult result (λ snapshot. Presents draft args.now self.old self.new (arc_value snapshot)) (IsRefused draft args.now self.old self.new) }
+        ensures answered { (setup : Setup) (draft : scene.Draft) → StandsFor setup self.old draft →
+            MatchResult result (λ snapshot. Presents draft args.now self.old self.new
+            (arc_value snapshot)) (IsRefused draft args.now self.old self.new) }
         ensures ended { self.old.closed ≡ true → IsErrOf result Closed × (self.new ≡ self.old) }
     {
         if self.closed {
@@ -182,7 +193,8 @@ impl Draft {
     fn snapshot(&mut self, nodes: u32) -> Result<Arc<Snapshot>, NoMemory>
         requires tree { HasTree self.old.graph }
         requires counted { nodes ≡ size (graph_tree self.old.graph) }
-        ensures shown { IfOk result (λ snapshot. arc_value snapshot ≡ shown_tree self.old.view self.old.graph self.old.contents) }
+        ensures shown { IfOk result (λ snapshot. arc_value snapshot
+            ≡ shown_tree self.old.view self.old.graph self.old.contents) }
         ensures swept { OnOk result (IsSwept self.old.graph self.new.graph) }
         ensures rest { OnOk result (self.new ≡ record self.old { graph = self.new.graph }) }
         ensures kept { OnErr result (self.new ≡ self.old) }
@@ -205,7 +217,8 @@ impl Draft {
     /// Tests a call that uses an end, and takes the room for it.
     fn test_end(&mut self, c: &Call) -> Result<(), GraphFault>
         requires { IsTrue (uses_an_end c.now) }
-        ensures { (setup : Setup) (draft : scene.Draft) → StandsFor setup self.old draft → IsTested setup draft c.now self.old self.new result }
+        ensures { (setup : Setup) (draft : scene.Draft) → StandsFor setup self.old draft →
+            IsTested setup draft c.now self.old self.new result }
     {
         match c {
             Call::CreateView { .. } => may_create_view(self.view),
@@ -216,7 +229,8 @@ impl Draft {
 
     /// Does what a call does to an open draft.
     fn apply(&mut self, c: &Call) -> Result<(), GraphFault>
-        ensures applied { (setup : Setup) (draft : scene.Draft) → StandsFor setup self.old draft → IsApplied setup draft c.now self.old self.new result }
+        ensures applied { (setup : Setup) (draft : scene.Draft) → StandsFor setup self.old draft →
+            IsApplied setup draft c.now self.old self.new result }
         ensures room { has_room_for c.now self.old ≡ true → result ≢ Err GraphFault.Memory }
     {
         match c {
@@ -239,7 +253,8 @@ impl Draft {
     /// The same for a call on transforms alone or on contents alone.
     fn apply_to_part(&mut self, c: &Call) -> Result<(), GraphFault>
         requires { is_of_one_part c.now ≡ true }
-        ensures applied { (setup : Setup) (draft : scene.Draft) → StandsFor setup self.old draft → IsApplied setup draft c.now self.old self.new result }
+        ensures applied { (setup : Setup) (draft : scene.Draft) → StandsFor setup self.old draft →
+            IsApplied setup draft c.now self.old self.new result }
         ensures room { has_room_for c.now self.old ≡ true → result ≢ Err GraphFault.Memory }
     {
         match c {
@@ -270,7 +285,8 @@ impl Draft {
     /// The same for a call on contents alone.
     fn apply_to_contents(&mut self, c: &Call) -> Result<(), GraphFault>
         requires { is_of_contents_alone c.now ≡ true }
-        ensures applied { (setup : Setup) (draft : scene.Draft) → StandsFor setup self.old draft → IsApplied setup draft c.now self.old self.new result }
+        ensures applied { (setup : Setup) (draft : scene.Draft) → StandsFor setup self.old draft →
+            IsApplied setup draft c.now self.old self.new result }
         ensures room { has_room_for c.now self.old ≡ true → result ≢ Err GraphFault.Memory }
     {
         match c {
@@ -309,7 +325,8 @@ impl Draft {
     /// The same for a call on an image.
     fn apply_to_images(&mut self, c: &Call) -> Result<(), GraphFault>
         requires { is_of_images c.now ≡ true }
-        ensures applied { (setup : Setup) (draft : scene.Draft) → StandsFor setup self.old draft → IsApplied setup draft c.now self.old self.new result }
+        ensures applied { (setup : Setup) (draft : scene.Draft) → StandsFor setup self.old draft →
+            IsApplied setup draft c.now self.old self.new result }
         ensures room { has_room_for c.now self.old ≡ true → result ≢ Err GraphFault.Memory }
     {
         match c {

@@ -9,7 +9,8 @@ ghost use Rattle.flat_snap.specs.Building.{adds};
 ghost use Rattle.flat_snap.specs.Flat.{lent};
 ghost use Rattle.flat_snap.specs.Forest.{as_node};
 ghost use Rattle.flat_draft.specs.Shown as shown;
-ghost use Rattle.flat_draft.specs.Shown.{HasRoom, all_shown, content_shown, shown_nodes, shown_tree};
+ghost use Rattle.flat_draft.specs.Shown.{HasRoom, all_shown, content_shown, shown_nodes};
+ghost use Rattle.flat_draft.specs.Shown.{shown_tree};
 
 use flat_base::{NoMemory, PATH_NODES_MAX, PairNo};
 use flat_content::ContentTable;
@@ -69,7 +70,8 @@ fn lay(
     builder: &mut SnapshotBuilder,
 ) -> Result<(), NoMemory>
     requires { HasRoom (below (links_in graph.now) levels keys.now) levels builder.old.room }
-    ensures { OnOk result (builder.new ≡ adds builder.old (shown_nodes graph.now contents.now levels is_root keys.now)) }
+    ensures { OnOk result (builder.new
+        ≡ adds builder.old (shown_nodes graph.now contents.now levels is_root keys.now)) }
 {
     for &key in keys {
         let Some(node) = graph.node(key) else {

@@ -1,4 +1,5 @@
-ghost use Rattle.std.specs.Prelude.{◌≡◌, ◌+◌, Some, None, is_some, is_none, OnOk, OnErr, IfOk, IfErr};
+ghost use Rattle.std.specs.Prelude.{◌≡◌, ◌+◌, Some, None, is_some, is_none, OnOk, OnErr, IfOk};
+ghost use Rattle.std.specs.Prelude.{IfErr};
 ghost use Rattle.flat_scene.specs.Misuse.{first_reason};
 ghost use Rattle.flat_graph.specs.Reasons.{IsFault, IsMisuse, create_tests, hits_tests};
 ghost use Rattle.flat_graph.specs.State.{Creates, change_named};
@@ -7,7 +8,8 @@ ghost use Rattle.flat_content.specs.Table.{held_of, viewport_released};
 ghost use Rattle.flat_scene.specs.Misuse.{is_viewport};
 ghost use Rattle.flat_graph.specs.Names.{key_named};
 ghost use Rattle.flat_draft.specs.Parts as parts;
-ghost use Rattle.flat_draft.specs.Parts.{content_tests, no_view_tests, view_tests, watch_tests, without_named};
+ghost use Rattle.flat_draft.specs.Parts.{content_tests, no_view_tests, view_tests, watch_tests};
+ghost use Rattle.flat_draft.specs.Parts.{without_named};
 
 use flat_base::{ContentId, Items, PairNo, Reason, TransformId};
 use flat_content::ContentTable;
@@ -56,7 +58,8 @@ pub fn release_view(view: &mut Option<PairNo>) -> Result<(), GraphFault>
 pub fn watched(view: Option<PairNo>, contents: &ContentTable, w: Watch) -> Result<PairNo, Reason>
     ensures pair { IfOk result (λ pair. parts.watched view contents.now w ≡ Some pair) }
     ensures allowed { OnOk result (first_reason (watch_tests view contents.now w) ≡ None) }
-    ensures fault { IfErr result (λ reason. first_reason (watch_tests view contents.now w) ≡ Some reason) }
+    ensures fault { IfErr result (λ reason. first_reason (watch_tests view contents.now w)
+        ≡ Some reason) }
 {
     match w {
         Watch::Child(c) => contents.pair(c),
@@ -82,7 +85,8 @@ pub fn set_hits(
     t: TransformId,
     regions: &[HitRegion],
 ) -> Result<(), GraphFault>
-    ensures set { OnOk result (graph.new ≡ change_named graph.old t.0 (λ node. record node { hits = Some regions.now })) }
+    ensures set { OnOk result (graph.new
+        ≡ change_named graph.old t.0 (λ node. record node { hits = Some regions.now })) }
     ensures allowed { OnOk result (first_reason (hits_tests graph.old t.0 regions.now) ≡ None) }
     ensures fault { IfErr result (IsFault (hits_tests graph.old t.0 regions.now)) }
     ensures kept { OnErr result (graph.new ≡ graph.old) }
@@ -101,8 +105,10 @@ pub fn set_content(
     t: TransformId,
     c: ContentId,
 ) -> Result<(), GraphFault>
-    ensures set { OnOk result (graph.new ≡ change_named graph.old t.0 (λ node. record node { content = held_of contents.now c.0 })) }
-    ensures allowed { OnOk result (first_reason (content_tests graph.old contents.now t.0 c.0) ≡ None) }
+    ensures set { OnOk result (graph.new
+        ≡ change_named graph.old t.0 (λ node. record node { content = held_of contents.now c.0 })) }
+    ensures allowed { OnOk result (first_reason (content_tests graph.old contents.now t.0 c.0)
+        ≡ None) }
     ensures fault { IfErr result (IsMisuse (content_tests graph.old contents.now t.0 c.0)) }
     ensures kept { OnErr result (graph.new ≡ graph.old) }
 {
@@ -119,7 +125,8 @@ pub fn release_viewport(
     contents: &mut ContentTable,
     c: ContentId,
 ) -> Result<(), GraphFault>
-    ensures dropped { OnOk result (graph.new ≡ without_named graph.old (key_named contents.old.names c.0)) }
+    ensures dropped { OnOk result (graph.new
+        ≡ without_named graph.old (key_named contents.old.names c.0)) }
     ensures released { OnOk result (contents.new ≡ viewport_released contents.old c.0) }
     ensures allowed { OnOk result (first_reason (sort_tests contents.old is_viewport c.0) ≡ None) }
     ensures fault { IfErr result (IsMisuse (sort_tests contents.old is_viewport c.0)) }

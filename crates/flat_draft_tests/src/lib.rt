@@ -1,5 +1,5 @@
-//! Tests of a session's draft and what it is made of, and of links and watchers: what no contract says, and what no
-//! worked case on the program reaches.
+//! Tests of a session's draft and what it is made of, and of links and watchers: what no
+//! contract says, and what no worked case on the program reaches.
 #![tactic(auto)]
 
 #[cfg(test)]

@@ -1,9 +1,12 @@
 //! Which draw items can be drawn: what a renderer asks of each of them, and the
 //! test of it; and whether two are equal.
+//!
+//! `are_drawable` answers `IsDrawable` of each item (specs/Drawable), `is_same` equality.
 #![tactic(auto)]
 
 ghost use Rattle.std.specs.Prelude.{◌≡◌, ◌↔◌, IsTrue, All};
-ghost use Rattle.flat_drawable.specs.Drawable.{matrix_of, full_rect as full_rect_of, IsDrawable, IsWithin, IsSample, HasSample};
+ghost use Rattle.flat_drawable.specs.Drawable.{matrix_of, full_rect as full_rect_of, IsDrawable};
+ghost use Rattle.flat_drawable.specs.Drawable.{IsWithin, IsSample, HasSample};
 
 mod equality;
 

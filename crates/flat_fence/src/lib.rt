@@ -1,4 +1,6 @@
 //! Which fences are signalled.
+//!
+//! A `FenceSet` (set) is seen as a flag for each fence (specs/Fences).
 #![tactic(auto)]
 
 mod set;

@@ -1,6 +1,8 @@
-ghost use Rattle.std.specs.Prelude.{◌≡◌, ◌+◌, ◌-◌, ◌<◌, ◌≤◌, [], ◌++◌, length, reverse, find, IfOk, slice_get, Some};
+ghost use Rattle.std.specs.Prelude.{◌≡◌, ◌+◌, ◌-◌, ◌<◌, ◌≤◌, [], ◌++◌, length, reverse, find, IfOk};
+ghost use Rattle.std.specs.Prelude.{slice_get, Some};
 ghost use Rattle.flat_scene.specs.ViewTrees.{is_node};
-ghost use Rattle.flat_focus.specs.Chains.{root_of, path_to, focus_in, stands_on, is_granted, unfocused, framed, answer_to, asked, on_the_way, way_on};
+ghost use Rattle.flat_focus.specs.Chains.{root_of, path_to, focus_in, stands_on, is_granted};
+ghost use Rattle.flat_focus.specs.Chains.{unfocused, framed, answer_to, asked, on_the_way, way_on};
 
 use flat_base::{NoMemory, Roomy, SessionNo};
 use flat_scene::{ViewNode, ViewTree, is_node};
@@ -36,9 +38,16 @@ impl Model for Focus {
 
     ghost Value = { Focusing };
 
-    ghost view = { λ f. record { sessions = f.sessions; nodes = f.nodes.items; chain = f.chain.items } };
+    ghost view = { λ f. record {
+      sessions = f.sessions;
+      nodes = f.nodes.items;
+      chain = f.chain.items;
+    } };
 
-    ghost invariant = { λ f. (length f.nodes.items ≤ f.sessions) × (f.sessions ≤ f.nodes.room + length f.nodes.items) × (f.sessions ≤ f.chain.room + length f.chain.items) × (f.sessions ≤ f.path.room + length f.path.items) };
+    ghost invariant = { λ f. (length f.nodes.items ≤ f.sessions)
+        × (f.sessions ≤ f.nodes.room + length f.nodes.items)
+        × (f.sessions ≤ f.chain.room + length f.chain.items)
+        × (f.sessions ≤ f.path.room + length f.path.items) };
 }
 
 fn root_of(nodes: &[ViewNode]) -> Option<SessionNo>

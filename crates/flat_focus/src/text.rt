@@ -1,10 +1,13 @@
-ghost use Rattle.std.specs.Prelude.{◌≡◌, ◌≤◌, ◌<◌, [], ◌∷◌, ◌++◌, length, map, nat_lt, take_while, codes, OnOk, IfOk};
+ghost use Rattle.std.specs.Prelude.{◌≡◌, ◌≤◌, ◌<◌, [], ◌∷◌, ◌++◌, length, map, nat_lt, take_while};
+ghost use Rattle.std.specs.Prelude.{codes, OnOk, IfOk};
 ghost use Rattle.std.specs.List.{list_all};
-ghost use Rattle.flat_page.specs.Happenings.{finished, said, count_before, merged, after_all, all_lines};
+ghost use Rattle.flat_page.specs.Happenings.{finished, said, count_before, merged, after_all};
+ghost use Rattle.flat_page.specs.Happenings.{all_lines};
 ghost use Rattle.flat_page.specs.Pages.{Writes, WritesLines};
 ghost use Rattle.flat_page.specs.Words.{number, session_name};
 ghost use Rattle.flat_focus.specs.Chains.{unfocused, framed, answer_to, asked};
-ghost use Rattle.flat_focus.specs.Text.{chain_words, frame_line, answer_word, ask_line, end_line, lines_with, after, focus_text};
+ghost use Rattle.flat_focus.specs.Text.{chain_words, frame_line, answer_word, ask_line, end_line};
+ghost use Rattle.flat_focus.specs.Text.{lines_with, after, focus_text};
 ghost use Rattle.flat_focus.specs.Room.{AreFew};
 
 use crate::focus::{Focus, FocusAnswer};
@@ -49,7 +52,8 @@ fn push_framed(
     frame: FrameNo,
     chain: &[SessionNo],
 ) -> Result<(), NoMemory>
-    ensures { OnOk result (Writes (number frame.0 ∷ chain_words names.now chain.now) page.old page.new) }
+    ensures { OnOk result (Writes (number frame.0 ∷ chain_words names.now chain.now) page.old
+        page.new) }
 {
     page.count(frame.0 as u64)?;
     push_chain(page, names, chain)?;
@@ -63,7 +67,8 @@ fn push_frame_line(
     frame: FrameNo,
     chain: &[SessionNo],
 ) -> Result<(), NoMemory>
-    ensures { OnOk result (WritesLines (frame_line names.now frame.0 chain.now ∷ []) page.old page.new) }
+    ensures { OnOk result (WritesLines (frame_line names.now frame.0 chain.now ∷ []) page.old
+        page.new) }
 {
     page.put(b"frame")?;
     push_framed(page, names, frame, chain)?;
@@ -81,7 +86,8 @@ fn answer_word(answer: FocusAnswer) -> &'static [u8]
 }
 
 fn push_asked(page: &mut Page, names: &NameList, line: FocusLine) -> Result<(), NoMemory>
-    ensures { OnOk result (Writes (number line.number ∷ session_name names.now line.by ∷ session_name names.now line.of ∷ []) page.old page.new) }
+    ensures { OnOk result (Writes (number line.number ∷ session_name names.now line.by
+        ∷ session_name names.now line.of ∷ []) page.old page.new) }
 {
     page.count(line.number as u64)?;
     page.word(session_name(names, line.by))?;
@@ -95,7 +101,8 @@ fn push_answered(
     answer: FocusAnswer,
     chain: &[SessionNo],
 ) -> Result<(), NoMemory>
-    ensures { OnOk result (Writes (answer_word answer ∷ chain_words names.now chain.now) page.old page.new) }
+    ensures { OnOk result (Writes (answer_word answer ∷ chain_words names.now chain.now) page.old
+        page.new) }
 {
     page.word(answer_word(answer))?;
     push_chain(page, names, chain)?;
@@ -109,7 +116,9 @@ fn push_ask_words(
     answer: FocusAnswer,
     chain: &[SessionNo],
 ) -> Result<(), NoMemory>
-    ensures { OnOk result (Writes (number line.number ∷ session_name names.now line.by ∷ session_name names.now line.of ∷ answer_word answer ∷ chain_words names.now chain.now) page.old page.new) }
+    ensures { OnOk result (Writes (number line.number ∷ session_name names.now line.by
+        ∷ session_name names.now line.of ∷ answer_word answer ∷ chain_words names.now chain.now)
+        page.old page.new) }
 {
     push_asked(page, names, line)?;
     push_answered(page, names, answer, chain)?;
@@ -125,7 +134,8 @@ fn push_ask_line(
     answer: FocusAnswer,
     chain: &[SessionNo],
 ) -> Result<(), NoMemory>
-    ensures { OnOk result (WritesLines (ask_line names.now line answer chain.now ∷ []) page.old page.new) }
+    ensures { OnOk result (WritesLines (ask_line names.now line answer chain.now ∷ []) page.old
+        page.new) }
 {
     page.put(b"focus")?;
     push_ask_words(page, names, line, answer, chain)?;
@@ -134,7 +144,8 @@ fn push_ask_line(
 }
 
 fn push_total(page: &mut Page, requests: usize) -> Result<(), NoMemory>
-    ensures { OnOk result (Writes (codes "ends" ∷ codes "requests" ∷ number requests ∷ []) page.old page.new) }
+    ensures { OnOk result (Writes (codes "ends" ∷ codes "requests" ∷ number requests ∷ []) page.old
+        page.new) }
 {
     page.word(b"ends")?;
     page.word(b"requests")?;
@@ -160,7 +171,8 @@ fn push_frame(
     frame: &FrameOut,
 ) -> Result<(), NoMemory>
     requires { length frame.now.tree.nodes ≤ focus.old.sessions }
-    ensures text { OnOk result (WritesLines (frame_line names.now frame.now.frame.0 (framed frame.now.tree.nodes focus.old).chain ∷ []) page.old page.new) }
+    ensures text { OnOk result (WritesLines (frame_line names.now frame.now.frame.0
+        (framed frame.now.tree.nodes focus.old).chain ∷ []) page.old page.new) }
     ensures after { focus.new ≡ framed frame.now.tree.nodes focus.old }
 {
     focus.frame(&frame.tree);
@@ -174,7 +186,9 @@ fn push_ask(
     focus: &mut Focus,
     line: FocusLine,
 ) -> Result<(), NoMemory>
-    ensures text { OnOk result (WritesLines (ask_line names.now line (answer_to focus.old.nodes line.by line.of) (asked line.by line.of focus.old).chain ∷ []) page.old page.new) }
+    ensures text { OnOk result (WritesLines (ask_line names.now line
+        (answer_to focus.old.nodes line.by line.of) (asked line.by line.of focus.old).chain
+        ∷ []) page.old page.new) }
     ensures after { focus.new ≡ asked line.by line.of focus.old }
 {
     let answer = focus.request(line.by, line.of);
@@ -188,7 +202,8 @@ fn push_asks(
     focus: &mut Focus,
     lines: &[FocusLine],
 ) -> Result<(), NoMemory>
-    ensures text { OnOk result (WritesLines (all_lines (lines_with names.now) after focus.old (map said lines.now)) page.old page.new) }
+    ensures text { OnOk result (WritesLines (all_lines (lines_with names.now) after focus.old
+        (map said lines.now)) page.old page.new) }
     ensures after { OnOk result (focus.new ≡ after_all after (map said lines.now) focus.old) }
 {
     for line in lines {
@@ -206,8 +221,10 @@ fn push_done(
     frame: &FrameOut,
 ) -> Result<(), NoMemory>
     requires { length frame.now.tree.nodes ≤ focus.old.sessions }
-    ensures text { OnOk result (WritesLines (all_lines (lines_with names.now) after focus.old (map said early.now ++ finished frame.now ∷ [])) page.old page.new) }
-    ensures after { OnOk result (focus.new ≡ after_all after (map said early.now ++ finished frame.now ∷ []) focus.old) }
+    ensures text { OnOk result (WritesLines (all_lines (lines_with names.now) after focus.old
+        (map said early.now ++ finished frame.now ∷ [])) page.old page.new) }
+    ensures after { OnOk result (focus.new
+        ≡ after_all after (map said early.now ++ finished frame.now ∷ []) focus.old) }
 {
     push_asks(page, names, focus, early)?;
     push_frame(page, names, focus, frame)?;
@@ -231,7 +248,8 @@ fn push_happenings(
     lines: &[FocusLine],
 ) -> Result<(), NoMemory>
     requires { AreFew focus.old.sessions frames.now }
-    ensures { OnOk result (WritesLines (all_lines (lines_with names.now) after focus.old (merged (λ line. line.number) dones.now frames.now lines.now)) page.old page.new) }
+    ensures { OnOk result (WritesLines (all_lines (lines_with names.now) after focus.old
+        (merged (λ line. line.number) dones.now frames.now lines.now)) page.old page.new) }
 {
     match dones {
         [done, dones @ ..] => match frames {
@@ -257,7 +275,9 @@ fn push_text(
     lines: &[FocusLine],
 ) -> Result<(), NoMemory>
     requires { AreFew sessions frames.now }
-    ensures { OnOk result (WritesLines (all_lines (lines_with names.now) after (unfocused sessions) (merged (λ line. line.number) dones.now frames.now lines.now) ++ end_line (length lines.now) ∷ []) page.old page.new) }
+    ensures { OnOk result (WritesLines (all_lines (lines_with names.now) after (unfocused sessions)
+        (merged (λ line. line.number) dones.now frames.now lines.now) ++ end_line (length lines.now)
+        ∷ []) page.old page.new) }
 {
     let mut focus = Focus::new(alloc, sessions)?;
     push_happenings(page, names, &mut focus, dones, frames, lines)?;
@@ -277,7 +297,8 @@ pub fn print_focus(
     lines: &[FocusLine],
 ) -> Result<Vec<u8>, NoMemory>
     requires { AreFew sessions frames.now }
-    ensures { IfOk result (λ text. text.items ≡ focus_text names.now dones.now frames.now lines.now) }
+    ensures { IfOk result (λ text. text.items
+        ≡ focus_text names.now dones.now frames.now lines.now) }
 {
     let mut count = Page::Count(0);
     push_text(&mut count, alloc, sessions, names, dones, frames, lines)?;

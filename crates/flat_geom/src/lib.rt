@@ -5,6 +5,8 @@
 //! 16 bits below the point too. Every product is rounded towards 0. Matrix
 //! entries saturate at -2^31 and 2^31, and places where a matrix maps them at
 //! -2^46 and 2^46. Every call is total and takes no memory.
+//!
+//! `matrix` answers specs/Matrices, `rect` specs/Rectangles.
 #![tactic(auto)]
 
 mod matrix;

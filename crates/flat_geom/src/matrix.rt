@@ -1,5 +1,7 @@
 ghost use Rattle.std.specs.Prelude.{◌≡◌};
-ghost use Rattle.flat_geom.specs.Matrices.{identity_matrix, scaled_and_moved, mapped_point, scaled_entry, composed, place_of_units, moving_matrix, local_matrix};
+ghost use Rattle.flat_geom.specs.Matrices.{identity_matrix, scaled_and_moved, mapped_point};
+ghost use Rattle.flat_geom.specs.Matrices.{scaled_entry, composed, place_of_units, moving_matrix};
+ghost use Rattle.flat_geom.specs.Matrices.{local_matrix};
 
 use flat_base::{ONE, Orientation, clamp_entry, clamp_place, mul};
 

@@ -1,5 +1,6 @@
 ghost use Rattle.std.specs.Prelude.{◌≡◌};
-ghost use Rattle.flat_geom.specs.Rectangles.{mapped_rect, shared_part, has_no_point, is_between, has_point, in_places, sized_rect};
+ghost use Rattle.flat_geom.specs.Rectangles.{mapped_rect, shared_part, has_no_point, is_between};
+ghost use Rattle.flat_geom.specs.Rectangles.{has_point, in_places, sized_rect};
 
 use crate::matrix::{Matrix, map_point};
 use flat_base::{IntRect, ONE, Rect};

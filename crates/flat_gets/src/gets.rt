@@ -1,9 +1,16 @@
-ghost use Rattle.std.specs.Prelude.{◌≡◌, ℕ, ◌+◌, ◌<◌, ◌≤◌, ◌^◌, ◌==◌, Some, None, true, false, [], ◌∷◌, ◌++◌, length, slice_index_or, vec_capacity, replicate, IfOk, OnOk, List};
+ghost use Rattle.std.specs.Prelude.{◌≡◌, ℕ, ◌+◌, ◌<◌, ◌≤◌, ◌^◌, ◌==◌, Some, None, true, false, []};
+ghost use Rattle.std.specs.Prelude.{◌∷◌, ◌++◌, length, slice_index_or, vec_capacity, replicate};
+ghost use Rattle.std.specs.Prelude.{IfOk, OnOk, List};
 ghost use Rattle.flat_scene.specs.declared.journal.Entry.{Entry};
 ghost use Rattle.flat_scene.specs.declared.setup.Setup.{Setup};
 ghost use Rattle.flat_watch.specs.Told.{news};
-ghost use Rattle.flat_gets.specs.Gets.{watched_of, rank, use_of, comes_before, watcher_of_held, watcher_for, is_held_in, with_held, place_in, news_of, still_held, answers_to, answering, last_of, noted_one, started, unanswered, Changes, Answers, Settles, Asks};
+ghost use Rattle.flat_gets.specs.Gets.{watched_of, rank, use_of, comes_before, watcher_of_held};
+ghost use Rattle.flat_gets.specs.Gets.{watcher_for, is_held_in, with_held, place_in, news_of};
+ghost use Rattle.flat_gets.specs.Gets.{still_held, answers_to, noted_one};
+ghost use Rattle.flat_gets.specs.Gets.{unanswered, Changes, Answers, Settles, Asks};
 ghost use Rattle.flat_rules.specs.Watch.{layout_of, status_of, child_of, told, same_watcher};
+
+mod answered;
 
 use flat_base::{FlatlandError, NoMemory, PairNo, SessionNo};
 use flat_scene::{Event, Post, Reply, Told, Watch};
@@ -47,15 +54,18 @@ pub trait Tells {
 
     /// The layout of a pair's view.
     fn layout(&self, p: PairNo) -> Option<Told>
-        ensures { (setup : Setup) (history : List Entry) → stands self.now setup history → result ≡ told setup history (layout_of p) };
+        ensures { (setup : Setup) (history : List Entry) → stands self.now setup history → result
+            ≡ told setup history (layout_of p) };
 
     /// The status of a pair's view.
     fn status(&self, p: PairNo) -> Option<Told>
-        ensures { (setup : Setup) (history : List Entry) → stands self.now setup history → result ≡ told setup history (status_of p) };
+        ensures { (setup : Setup) (history : List Entry) → stands self.now setup history → result
+            ≡ told setup history (status_of p) };
 
     /// Whether the child of a pair has presented.
     fn child(&self, p: PairNo) -> Option<Told>
-        ensures { (setup : Setup) (history : List Entry) (n : ℕ) → stands self.now setup history → result ≡ told setup history (child_of p n) };
+        ensures { (setup : Setup) (history : List Entry) (n : ℕ) → stands self.now setup history →
+            result ≡ told setup history (child_of p n) };
 }
 
 /// The value to answer where another was answered last.
@@ -71,7 +81,8 @@ fn news(now: Option<Told>, last: Option<Told>) -> Option<Told>
 
 /// What is told of this.
 pub fn told_of<T: Tells>(tells: &T, pair: PairNo, watched: Watched) -> Option<Told>
-    ensures { (setup : Setup) (history : List Entry) → T.stands tells.now setup history → result ≡ told setup history (watcher_for pair watched) }
+    ensures { (setup : Setup) (history : List Entry) → T.stands tells.now setup history → result
+        ≡ told setup history (watcher_for pair watched) }
 {
     match watched {
         Watched::Layout => tells.layout(pair),
@@ -82,7 +93,8 @@ pub fn told_of<T: Tells>(tells: &T, pair: PairNo, watched: Watched) -> Option<To
 
 /// The news for a held get.
 fn news_of<T: Tells>(tells: &T, one: &HeldGet) -> Option<Told>
-    ensures { (setup : Setup) (history : List Entry) → T.stands tells.now setup history → result ≡ news_of (told setup history) one.now }
+    ensures { (setup : Setup) (history : List Entry) → T.stands tells.now setup history → result
+        ≡ news_of (told setup history) one.now }
 {
     news(told_of(tells, one.pair, one.watched), one.last)
 }
@@ -146,55 +158,6 @@ impl HeldGet {
     }
 }
 
-impl Answered {
-    /// Nothing was answered.
-    pub fn new() -> Answered
-        ensures { result ≡ unanswered }
-    {
-        Answered {
-            layout: None,
-            status: None,
-            child: None,
-            uses: 0,
-        }
-    }
-
-    /// What was answered last of this.
-    pub fn last(&self, watched: Watched) -> Option<Told>
-        ensures { result ≡ last_of watched self.now }
-    {
-        match watched {
-            Watched::Layout => self.layout,
-            Watched::Status => self.status,
-            Watched::Child(_) => self.child,
-        }
-    }
-
-    /// A value is answered.
-    fn note(&mut self, watched: Watched, value: Told)
-        ensures { self.new ≡ answering watched value self.old }
-    {
-        match watched {
-            Watched::Layout => self.layout = Some(value),
-            Watched::Status => self.status = Some(value),
-            Watched::Child(number) => {
-                if number == self.uses {
-                    self.child = Some(value);
-                }
-            }
-        }
-    }
-
-    /// The viewport end is used anew. Nothing was asked of its child yet.
-    pub fn start_use(&mut self)
-        requires { self.old.uses + 1 < 2 ^ 32 }
-        ensures { self.new ≡ started self.old }
-    {
-        self.child = None;
-        self.uses += 1;
-    }
-}
-
 /// For so many pairs, of which nothing was answered.
 pub fn new_answers(alloc: Global, pairs: usize) -> Result<Vec<Answered>, NoMemory>
     ensures { IfOk result (λ answered. answered.items ≡ replicate pairs unanswered) }
@@ -253,7 +216,9 @@ fn answer_one<T: Tells>(
 ) -> usize
     requires place { length log.old.history < 2 ^ 32 }
     requires room { 0 < log.old.post_room }
-    ensures answers { (setup : Setup) (history : List Entry) → T.stands tells.now setup history → Answers (told setup history) (length log.old.history) s (one.now ∷ []) answered.old answered.new log.old.posts log.new.posts result }
+    ensures answers { (setup : Setup) (history : List Entry) → T.stands tells.now setup history →
+        Answers (told setup history) (length log.old.history) s (one.now ∷ []) answered.old
+        answered.new log.old.posts log.new.posts result }
     ensures history { log.new.history ≡ log.old.history }
     ensures room { log.new.room ≡ log.old.room }
     ensures post_room { log.new.post_room + result ≡ log.old.post_room }
@@ -283,7 +248,9 @@ fn answer_all<T: Tells>(
 ) -> usize
     requires place { length log.old.history < 2 ^ 32 }
     requires room { length held.now ≤ log.old.post_room }
-    ensures answers { (setup : Setup) (history : List Entry) → T.stands tells.now setup history → Answers (told setup history) (length log.old.history) s held.now answered.old answered.new log.old.posts log.new.posts result }
+    ensures answers { (setup : Setup) (history : List Entry) → T.stands tells.now setup history →
+        Answers (told setup history) (length log.old.history) s held.now answered.old answered.new
+        log.old.posts log.new.posts result }
     ensures history { log.new.history ≡ log.old.history }
     ensures room { log.new.room ≡ log.old.room }
     ensures post_room { log.new.post_room + result ≡ log.old.post_room }
@@ -337,7 +304,8 @@ impl Gets {
     ) -> Reply
         requires room { length self.old.held.items < vec_capacity self.old.held }
         requires few { self.old.answers + 1 < 2 ^ 32 }
-        ensures { Asks pair get now answered.old answered.new self.old.held.items self.new.held.items self.old.answers self.new.answers result }
+        ensures { Asks pair get now answered.old answered.new self.old.held.items
+            self.new.held.items self.old.answers self.new.answers result }
     {
         let watched = Watched::of(get, answered.uses);
         if is_held(self.held.as_slice(), pair, watched) {
@@ -376,7 +344,10 @@ impl Gets {
         requires place { length log.old.history < 2 ^ 32 }
         requires room { length self.old.held.items ≤ log.old.post_room }
         requires few { self.old.answers + length self.old.held.items < 2 ^ 32 }
-        ensures settles { (setup : Setup) (history : List Entry) → T.stands tells.now setup history → Settles (told setup history) (length log.old.history) s self.old.held.items self.new.held.items answered.old answered.new log.old.posts log.new.posts result }
+        ensures settles { (setup : Setup) (history : List Entry) →
+            T.stands tells.now setup history → Settles (told setup history) (length log.old.history)
+            s self.old.held.items self.new.held.items answered.old answered.new log.old.posts
+            log.new.posts result }
         ensures answers { self.new.answers ≡ self.old.answers + result }
         ensures history { log.new.history ≡ log.old.history }
         ensures room { log.new.room ≡ log.old.room }

@@ -19,7 +19,8 @@ pub struct Telling<'a> {
 impl Telling<'_> {
     /// Whether a pair is one of those that are declared.
     fn knows(&self, p: PairNo) -> bool
-        ensures { result ≡ (nat_lt p.0 (length self.now.setup.now.pairs) && nat_lt p.0 (length self.now.ties.now.pairs.items)) }
+        ensures { result ≡ (nat_lt p.0 (length self.now.setup.now.pairs) && nat_lt p.0
+            (length self.now.ties.now.pairs.items)) }
     {
         let place = p.0 as usize;
         place < self.setup.pairs.len() && place < self.ties.pairs.len()
@@ -27,7 +28,8 @@ impl Telling<'_> {
 }
 
 impl Tells for Telling<'_> {
-    ghost stands = { λ telling setup history. IsTelling telling.setup.now telling.ties.now telling.views.now setup history };
+    ghost stands = { λ telling setup history. IsTelling telling.setup.now telling.ties.now
+        telling.views.now setup history };
 
     fn layout(&self, p: PairNo) -> Option<Told> {
         if self.knows(p) {

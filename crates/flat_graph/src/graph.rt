@@ -1,17 +1,14 @@
-ghost use Rattle.std.specs.Prelude.{◌≡◌, ◌==◌, ℕ, ◌+◌, ◌<◌, Some, None, count_by, is_some, IsSome, IfOk, IfErr, OnOk, OnErr};
+ghost use Rattle.std.specs.Prelude.{◌≡◌, ◌==◌, ℕ, ◌+◌, ◌<◌, Some, None, count_by, is_some, IfOk};
+ghost use Rattle.std.specs.Prelude.{IfErr, OnOk, OnErr};
 ghost use Rattle.std.specs.Option.{option_copied};
 ghost use Rattle.std.specs.List.{list_any};
 ghost use Rattle.flat_graph.specs.Names.{key_named};
 ghost use Rattle.flat_graph.specs.State.{GraphState, IsGraph, IsKept, node_at};
 
 use crate::names::{Named, add_name, key_of, remove_name};
-use crate::nodes::{GraphNode, drop_held, fresh, has_key, keep_marked, take_key};
-use crate::shapes::{has_bad_area, is_bad_area, is_bad_scale};
-use flat_base::{
-    CHILDREN_MAX, HIT_REGIONS_MAX, IntRect, NAMED_MAX, OPACITY_MAX, Orientation, Reason,
-    TransformId,
-};
-use flat_scene::{GraphFault, Held, HitRegion, RegionList};
+use crate::nodes::{GraphNode, fresh, has_key, keep_marked, take_key};
+use flat_base::{CHILDREN_MAX, NAMED_MAX, Reason, TransformId};
+use flat_scene::GraphFault;
 use slab::Slab;
 use std::alloc::Global;
 use std::marker::Model;
@@ -25,7 +22,7 @@ use std::marker::Model;
 /// A call that is refused leaves the graph as it was.
 #[derive(Drop)]
 pub struct Graph {
-    nodes: Slab<GraphNode>,
+    pub(crate) nodes: Slab<GraphNode>,
     // By rising id.
     names: Vec<Named>,
     root: Option<usize>,
@@ -35,9 +32,15 @@ pub struct Graph {
 impl Model for Graph {
     ghost Value = { GraphState };
 
-    ghost view = { λ g. record { nodes = g.nodes.slots; names = g.names.items; root = g.root; made = g.made } };
+    ghost view = { λ g. record {
+      nodes = g.nodes.slots;
+      names = g.names.items;
+      root = g.root;
+      made = g.made;
+    } };
 
-    ghost invariant = { λ g. IsGraph g.nodes.capacity (record { nodes = g.nodes.slots; names = g.names.items; root = g.root; made = g.made }) };
+    ghost invariant = { λ g. IsGraph g.nodes.capacity
+        (record { nodes = g.nodes.slots; names = g.names.items; root = g.root; made = g.made }) };
 }
 
 // Making a graph, and reading it.
@@ -123,8 +126,10 @@ impl Graph {
 // What names and links transforms.
 impl Graph {
     ghost use Rattle.flat_scene.specs.Misuse.{first_reason};
-    ghost use Rattle.flat_graph.specs.Reasons.{add_tests, create_tests, name_tests, pair_tests, remove_tests, root_tests, IsFault, IsMisuse};
-    ghost use Rattle.flat_graph.specs.State.{Creates, change_named, released, with_child, with_root, without_child};
+    ghost use Rattle.flat_graph.specs.Reasons.{add_tests, create_tests, name_tests, pair_tests};
+    ghost use Rattle.flat_graph.specs.Reasons.{remove_tests, root_tests, IsFault, IsMisuse};
+    ghost use Rattle.flat_graph.specs.State.{Creates, change_named, released, with_child};
+    ghost use Rattle.flat_graph.specs.State.{with_root, without_child};
 
     /// Makes a transform and names it; answers its serial number.
     ///
@@ -219,7 +224,8 @@ impl Graph {
     ///
     /// `Bad` is ZeroId, UnknownTransform, AlreadyChild or TooManyChildren.
     pub fn add_child(&mut self, parent: TransformId, child: TransformId) -> Result<(), GraphFault>
-        ensures added { OnOk result (self.new ≡ change_named self.old parent.0 (with_child (key_named self.old.names child.0))) }
+        ensures added { OnOk result (self.new
+            ≡ change_named self.old parent.0 (with_child (key_named self.old.names child.0))) }
         ensures allowed { OnOk result (first_reason (add_tests self.old parent.0 child.0) ≡ None) }
         ensures fault { IfErr result (IsFault (add_tests self.old parent.0 child.0)) }
         ensures kept { OnErr result (self.new ≡ self.old) }
@@ -248,8 +254,10 @@ impl Graph {
         parent: TransformId,
         child: TransformId,
     ) -> Result<(), GraphFault>
-        ensures removed { OnOk result (self.new ≡ change_named self.old parent.0 (without_child (key_named self.old.names child.0))) }
-        ensures allowed { OnOk result (first_reason (remove_tests self.old parent.0 child.0) ≡ None) }
+        ensures removed { OnOk result (self.new
+            ≡ change_named self.old parent.0 (without_child (key_named self.old.names child.0))) }
+        ensures allowed { OnOk result (first_reason (remove_tests self.old parent.0 child.0)
+            ≡ None) }
         ensures fault { IfErr result (IsMisuse (remove_tests self.old parent.0 child.0)) }
         ensures kept { OnErr result (self.new ≡ self.old) }
     {
@@ -266,165 +274,6 @@ impl Graph {
     }
 }
 
-// What a transform is.
-impl Graph {
-    ghost use Rattle.flat_scene.specs.Misuse.{first_reason};
-    ghost use Rattle.flat_graph.specs.Reasons.{name_tests, scale_tests, opacity_tests, clip_tests, hits_tests, IsMisuse};
-    ghost use Rattle.flat_graph.specs.State.{change_named, without_held};
-
-    /// Puts a transform at a place of its parent.
-    ///
-    /// `Bad` is ZeroId or UnknownTransform. It takes no memory.
-    pub fn set_translation(&mut self, t: TransformId, x: i32, y: i32) -> Result<(), GraphFault>
-        ensures set { OnOk result (self.new ≡ change_named self.old t.0 (λ node. record node { place = (x, y) })) }
-        ensures allowed { OnOk result (first_reason (name_tests self.old t.0) ≡ None) }
-        ensures fault { IfErr result (IsMisuse (name_tests self.old t.0)) }
-        ensures kept { OnErr result (self.new ≡ self.old) }
-    {
-        let key = self.key(t)?;
-        if let Some(node) = self.nodes.get_mut(key) {
-            node.place = (x, y);
-        }
-        Ok(())
-    }
-
-    /// Turns a transform.
-    ///
-    /// `Bad` is ZeroId or UnknownTransform. It takes no memory.
-    pub fn set_orientation(&mut self, t: TransformId, turn: Orientation) -> Result<(), GraphFault>
-        ensures set { OnOk result (self.new ≡ change_named self.old t.0 (λ node. record node { turn = turn })) }
-        ensures allowed { OnOk result (first_reason (name_tests self.old t.0) ≡ None) }
-        ensures fault { IfErr result (IsMisuse (name_tests self.old t.0)) }
-        ensures kept { OnErr result (self.new ≡ self.old) }
-    {
-        let key = self.key(t)?;
-        if let Some(node) = self.nodes.get_mut(key) {
-            node.turn = turn;
-        }
-        Ok(())
-    }
-
-    /// Scales a transform along its own axes, each 1 to
-    /// [`SCALE_MAX`](flat_base::SCALE_MAX).
-    ///
-    /// `Bad` is ZeroId, UnknownTransform or BadScale. It takes no memory.
-    pub fn set_scale(&mut self, t: TransformId, x: u32, y: u32) -> Result<(), GraphFault>
-        ensures set { OnOk result (self.new ≡ change_named self.old t.0 (λ node. record node { scale = (x, y) })) }
-        ensures allowed { OnOk result (first_reason (scale_tests self.old t.0 x y) ≡ None) }
-        ensures fault { IfErr result (IsMisuse (scale_tests self.old t.0 x y)) }
-        ensures kept { OnErr result (self.new ≡ self.old) }
-    {
-        let key = self.key(t)?;
-        if is_bad_scale(x) || is_bad_scale(y) {
-            return Err(GraphFault::Bad(Reason::BadScale));
-        }
-        if let Some(node) = self.nodes.get_mut(key) {
-            node.scale = (x, y);
-        }
-        Ok(())
-    }
-
-    /// Sets a transform's opacity, at most
-    /// [`OPACITY_MAX`](flat_base::OPACITY_MAX).
-    ///
-    /// `Bad` is ZeroId, UnknownTransform or BadOpacity. It takes no memory.
-    pub fn set_opacity(&mut self, t: TransformId, opacity: u32) -> Result<(), GraphFault>
-        ensures set { OnOk result (self.new ≡ change_named self.old t.0 (λ node. record node { opacity = opacity })) }
-        ensures allowed { OnOk result (first_reason (opacity_tests self.old t.0 opacity) ≡ None) }
-        ensures fault { IfErr result (IsMisuse (opacity_tests self.old t.0 opacity)) }
-        ensures kept { OnErr result (self.new ≡ self.old) }
-    {
-        let key = self.key(t)?;
-        if opacity > OPACITY_MAX {
-            return Err(GraphFault::Bad(Reason::BadOpacity));
-        }
-        if let Some(node) = self.nodes.get_mut(key) {
-            node.opacity = opacity;
-        }
-        Ok(())
-    }
-
-    /// Cuts a transform and all below it to a rectangle of its own space, or
-    /// takes that boundary away.
-    ///
-    /// `Bad` is ZeroId, UnknownTransform or BadRect. It takes no memory.
-    pub fn set_clip(&mut self, t: TransformId, clip: Option<IntRect>) -> Result<(), GraphFault>
-        ensures set { OnOk result (self.new ≡ change_named self.old t.0 (λ node. record node { clip = clip })) }
-        ensures allowed { OnOk result (first_reason (clip_tests self.old t.0 clip) ≡ None) }
-        ensures fault { IfErr result (IsMisuse (clip_tests self.old t.0 clip)) }
-        ensures kept { OnErr result (self.new ≡ self.old) }
-    {
-        let key = self.key(t)?;
-        if is_bad_area(clip) {
-            return Err(GraphFault::Bad(Reason::BadRect));
-        }
-        if let Some(node) = self.nodes.get_mut(key) {
-            node.clip = clip;
-        }
-        Ok(())
-    }
-
-    /// The key of a transform that may have these hit regions, or why there is none.
-    ///
-    /// `Bad` is ZeroId, UnknownTransform, BadRect or TooManyRegions. It takes no memory.
-    pub fn hits_key(&self, t: TransformId, regions: &[HitRegion]) -> Result<usize, GraphFault>
-        ensures named { IfOk result (λ key. key_named self.now.names t.0 ≡ Some key) }
-        ensures kept { IfOk result (λ key. IsKept self.now.nodes key) }
-        ensures allowed { OnOk result (first_reason (hits_tests self.now t.0 regions.now) ≡ None) }
-        ensures fault { IfErr result (IsMisuse (hits_tests self.now t.0 regions.now)) }
-    {
-        let key = self.key(t)?;
-        if has_bad_area(regions) {
-            return Err(GraphFault::Bad(Reason::BadRect));
-        }
-        if regions.len() > HIT_REGIONS_MAX as usize {
-            return Err(GraphFault::Bad(Reason::TooManyRegions));
-        }
-        Ok(key)
-    }
-
-    /// Replaces a transform's hit regions.
-    ///
-    /// `Bad` is ZeroId, UnknownTransform, BadRect or TooManyRegions. It takes no memory.
-    pub fn set_hits(&mut self, t: TransformId, regions: RegionList) -> Result<(), GraphFault>
-        ensures set { OnOk result (self.new ≡ change_named self.old t.0 (λ node. record node { hits = Some regions })) }
-        ensures allowed { OnOk result (first_reason (hits_tests self.old t.0 regions) ≡ None) }
-        ensures fault { IfErr result (IsMisuse (hits_tests self.old t.0 regions)) }
-        ensures kept { OnErr result (self.new ≡ self.old) }
-    {
-        let key = self.hits_key(t, regions.as_slice())?;
-        if let Some(node) = self.nodes.get_mut(key) {
-            node.hits = Some(regions);
-        }
-        Ok(())
-    }
-
-    /// Gives a transform its content, or takes it away. The graph knows contents
-    /// by these numbers alone.
-    ///
-    /// `Bad` is ZeroId or UnknownTransform. It takes no memory.
-    pub fn set_content(&mut self, t: TransformId, held: Option<Held>) -> Result<(), GraphFault>
-        ensures set { OnOk result (self.new ≡ change_named self.old t.0 (λ node. record node { content = held })) }
-        ensures allowed { OnOk result (first_reason (name_tests self.old t.0) ≡ None) }
-        ensures fault { IfErr result (IsMisuse (name_tests self.old t.0)) }
-        ensures kept { OnErr result (self.new ≡ self.old) }
-    {
-        let key = self.key(t)?;
-        if let Some(node) = self.nodes.get_mut(key) {
-            node.content = held;
-        }
-        Ok(())
-    }
-
-    /// Takes the content of that number from each transform that holds it. It
-    /// takes no memory.
-    pub fn drop_content(&mut self, serial: u32)
-        ensures { self.new ≡ without_held self.old serial }
-    {
-        drop_held(&mut self.nodes, serial);
-    }
-}
-
 // What drops transforms.
 impl Graph {
     ghost use Rattle.flat_graph.specs.State.{emptied, only_marked, MayKeep};
@@ -434,7 +283,8 @@ impl Graph {
     pub fn keep(&mut self, marks: &[bool]) -> u32
         requires { MayKeep marks.now self.old }
         ensures kept { self.new ≡ only_marked marks.now self.old }
-        ensures dropped { result + count_by is_some self.new.nodes ≡ count_by is_some self.old.nodes }
+        ensures dropped { result + count_by is_some self.new.nodes
+            ≡ count_by is_some self.old.nodes }
     {
         keep_marked(&mut self.nodes, marks)
     }

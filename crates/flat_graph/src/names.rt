@@ -1,6 +1,7 @@
 ghost use Rattle.std.specs.Prelude.{◌≡◌, ◌<◌, length, vec_capacity, IsSome, None, OnOk, OnErr};
 ghost use Rattle.std.specs.List.{slice_get};
-ghost use Rattle.flat_graph.specs.Names.{key_if, key_named, names_but, names_with, IsPlace, IsRising};
+ghost use Rattle.flat_graph.specs.Names.{key_if, key_named, names_but, names_with, IsPlace};
+ghost use Rattle.flat_graph.specs.Names.{IsRising};
 
 use flat_base::NoMemory;
 

@@ -1,4 +1,5 @@
-ghost use Rattle.std.specs.Prelude.{ℕ, ◌≡◌, ◌==◌, ◌+◌, ◌<◌, ◌^◌, cond, not, filter, is_some, length, map, slice_set, None};
+ghost use Rattle.std.specs.Prelude.{ℕ, ◌≡◌, ◌==◌, ◌+◌, ◌<◌, ◌^◌, cond, not, filter, is_some};
+ghost use Rattle.std.specs.Prelude.{length, map, slice_set, None};
 ghost use Rattle.std.specs.List.{list_any};
 ghost use Rattle.std.specs.Option.{option_map};
 ghost use Rattle.slab.specs.Slab.{get, slab_len, ContainsKey};
@@ -76,7 +77,10 @@ fn held_without(serial: u32, held: Option<Held>) -> Option<Held>
 
 /// Takes the content of that number from each node that holds it.
 pub fn drop_held(nodes: &mut Slab<GraphNode>, serial: u32)
-    ensures { nodes.new ≡ record nodes.old { slots = map (option_map (without_content serial)) nodes.old.slots } }
+    ensures { nodes.new ≡ record nodes.old {
+      slots = map (option_map (without_content serial))
+          nodes.old.slots;
+    } }
 {
     for key in 0..nodes.capacity() {
         if let Some(node) = nodes.get_mut(key) {
@@ -87,7 +91,8 @@ pub fn drop_held(nodes: &mut Slab<GraphNode>, serial: u32)
 
 /// Drops the node of a key, and answers how many nodes that were.
 fn drop_node(nodes: &mut Slab<GraphNode>, key: usize) -> u32
-    ensures slots { nodes.new.slots ≡ cond (is_some (get nodes.old key)) (slice_set nodes.old.slots key None) nodes.old.slots }
+    ensures slots { nodes.new.slots
+        ≡ cond (is_some (get nodes.old key)) (slice_set nodes.old.slots key None) nodes.old.slots }
     ensures places { nodes.new.capacity ≡ nodes.old.capacity }
     ensures dropped { result + slab_len nodes.new ≡ slab_len nodes.old }
 {

@@ -1,8 +1,11 @@
--- A hit is new where its session has none.
+-- A hit is new where its session has none, and a point looks at nodes with regions alone.
 use Rattle.std.proofs.Common.{ℕ, ◌≡◌, refl, true, false, [], ◌∷◌, None, Some}
 use Rattle.flat_scene.specs.declared.calls.Interaction.TheVariants.{Default, SemanticallyInvisible}
 use Rattle.flat_scene.specs.declared.frames.Hit.{Hit}
+use Rattle.flat_scene.specs.declared.calls.HitRegion.{HitRegion}
+use Rattle.flat_topology.specs.declared.Placed.{Placed}
 use Rattle.flat_hit.specs.Firsts.{is_hit, if_new}
+use Rattle.flat_hit.specs.Touchable.{region_places}
 
 abbrev hit : ℕ → Hit
 hit s = record { session = record { 0 = s }; interaction = Default }
@@ -21,3 +24,14 @@ second_hit = refl
 
 no_hit : if_new (hit 1 ∷ []) None ≡ []
 no_hit = refl
+
+-- the second and the fourth of five nodes have regions
+module _ (bare : Placed) (region : HitRegion) where
+  abbrev with_region : Placed
+  with_region = record bare { hits = region ∷ [] }
+
+  abbrev without_region : Placed
+  without_region = record bare { hits = [] }
+
+  places : region_places (without_region ∷ with_region ∷ without_region ∷ with_region ∷ without_region ∷ []) ≡ 1 ∷ 3 ∷ []
+  places = refl

@@ -1,3 +1,4 @@
 mod Firsts
 mod Examples
 mod Clips
+pub mod Regions

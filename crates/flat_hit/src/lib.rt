@@ -1,17 +1,21 @@
-//! The hit test: which sessions a point of the display hits.
+//! The hit test: which sessions a point of the display hits (`hits_among` of
+//! flat_topology: specs/Hits). A node has a hit here; all nodes of a joined tree have
+//! theirs by [`Touchable`].
 #![tactic(auto)]
 
-ghost use Rattle.std.specs.Prelude.{◌≡◌, ◌++◌, ◌*ℤ◌, find, filter_map, reverse, IfOk, OnOk};
+ghost use Rattle.std.specs.Prelude.{◌≡◌, ◌++◌, ◌*ℤ◌, find, OnOk};
 ghost use Rattle.flat_geom.specs.Matrices.{unit};
 ghost use Rattle.flat_geom.specs.Rectangles.{has_point};
-ghost use Rattle.flat_topology.specs.Hits.{region_rect, hit_on, first_of_each, hits_among};
+ghost use Rattle.flat_topology.specs.Hits.{region_rect, hit_on};
 ghost use Rattle.flat_hit.specs.Firsts.{is_hit, if_new};
 
-use flat_base::{IntRect, Items, NoMemory, ONE, Rect, SessionNo};
+mod touchable;
+
+pub use crate::touchable::Touchable;
+use flat_base::{IntRect, NoMemory, ONE, Rect, SessionNo};
 use flat_geom::{contains, intersect, map_rect, units};
 use flat_scene::{Hit, HitList, HitRegion};
-use flat_topology::{Joined, Placed};
-use std::alloc::Global;
+use flat_topology::Placed;
 
 /// The part of the display that a region of a node covers.
 fn covered(at: &Placed, area: Option<IntRect>) -> Rect
@@ -71,24 +75,4 @@ fn place_of(units: i32) -> i64
     ensures { result ≡ units *ℤ unit }
 {
     units as i64 * ONE as i64
-}
-
-/// The first hit of each session, the last of the nodes first.
-fn first_hits(alloc: Global, nodes: &[Placed], x: i64, y: i64) -> Result<HitList, NoMemory>
-    ensures { IfOk result (λ hits. hits ≡ first_of_each (filter_map (hit_on x y) (reverse nodes.now))) }
-{
-    let mut hits = Items::new(alloc);
-    for before in 0..nodes.len() {
-        let at = &nodes[nodes.len() - 1 - before];
-        add(&mut hits, at, x, y)?;
-    }
-    Ok(hits)
-}
-
-/// The sessions that a point of the display hits, in units: last drawn first,
-/// each once, by its first hit.
-pub fn hits(alloc: Global, joined: &Joined, x: i32, y: i32) -> Result<HitList, NoMemory>
-    ensures { IfOk result (λ hits. hits ≡ hits_among joined.now.nodes x y) }
-{
-    first_hits(alloc, joined.nodes.as_slice(), place_of(x), place_of(y))
 }

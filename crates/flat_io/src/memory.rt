@@ -1,6 +1,9 @@
-ghost use Rattle.std.specs.Prelude.{◌≡◌, ◌+◌, ◌<◌, ◌≤◌, ◌++◌, ◌==◌, ◌||◌, [], length, take, drop, min, cond, true, nat_lt, Some, Ok, Err, IfOk, IfErr, IsTrue, is_err};
+ghost use Rattle.std.specs.Prelude.{◌≡◌, ◌+◌, ◌<◌, ◌≤◌, ◌++◌, ◌==◌, ◌||◌, [], length, take, drop};
+ghost use Rattle.std.specs.Prelude.{min, cond, true, nat_lt, Some, Ok, Err, IfOk, IfErr, IsTrue};
+ghost use Rattle.std.specs.Prelude.{is_err};
 ghost use Rattle.flat_io.specs.Counts.{counted};
-ghost use Rattle.flat_io.specs.Kept.{FailingSource, FailingSink, told_bytes, is_next_among, stalls_after, after_write};
+ghost use Rattle.flat_io.specs.Kept.{FailingSource, FailingSink, told_bytes, is_next_among};
+ghost use Rattle.flat_io.specs.Kept.{stalls_after, after_write};
 
 use crate::counts::{counted, is_next_among};
 use crate::sink::Sink;
@@ -25,7 +28,12 @@ impl Model for MemSource {
 
     ghost Value = { FailingSource };
 
-    ghost view = { λ s. record { left = s.inner; fail = s.fail.items; calls = s.calls; faults = s.faults } };
+    ghost view = { λ s. record {
+      left = s.inner;
+      fail = s.fail.items;
+      calls = s.calls;
+      faults = s.faults;
+    } };
 }
 
 impl MemSource {
@@ -53,8 +61,17 @@ impl Source for MemSource {
     /// Fills the buffer as far as the bytes last, or fails and leaves the buffer.
     fn read(&mut self, into: &mut [u8]) -> Result<usize, Failed>
         ensures fails { is_err result ≡ is_next_among self.old.fail self.old.calls }
-        ensures ok { IfOk result (λ count. (count ≡ min (length into.old) (length self.old.left)) × (into.new ≡ take (length into.old) self.old.left ++ drop (length self.old.left) into.old) × (self.new ≡ record self.old { left = drop (length into.old) self.old.left; calls = counted self.old.calls })) }
-        ensures err { IfErr result (λ _. (into.new ≡ into.old) × (self.new ≡ record self.old { calls = counted self.old.calls; faults = counted self.old.faults })) }
+        ensures ok { IfOk result (λ count. (count ≡ min (length into.old) (length self.old.left))
+            × (into.new ≡ take (length into.old) self.old.left ++ drop (length self.old.left)
+            into.old) × (self.new ≡ record self.old {
+              left = drop (length into.old) self.old.left;
+              calls = counted self.old.calls;
+            })) }
+        ensures err { IfErr result (λ _. (into.new ≡ into.old)
+            × (self.new ≡ record self.old {
+              calls = counted self.old.calls;
+              faults = counted self.old.faults;
+            })) }
     {
         let fails = is_next_among(&self.fail, self.calls);
         self.calls = counted(self.calls);
@@ -83,7 +100,14 @@ impl Model for MemSink {
 
     ghost Value = { FailingSink };
 
-    ghost view = { λ s. record { kept = s.inner; fail = s.fail.items; zero = s.zero.items; calls = s.calls; faults = s.faults; stalls = s.stalls } };
+    ghost view = { λ s. record {
+      kept = s.inner;
+      fail = s.fail.items;
+      zero = s.zero.items;
+      calls = s.calls;
+      faults = s.faults;
+      stalls = s.stalls;
+    } };
 }
 
 impl MemSink {
@@ -96,7 +120,15 @@ impl MemSink {
         fail: Vec<u32>,
         zero: Vec<u32>,
     ) -> Result<MemSink, NoMemory>
-        ensures { IfOk result (λ sink. sink ≡ record { kept = record { bytes = []; room = room; is_told = true }; fail = fail.items; zero = zero.items; calls = 0; faults = 0; stalls = 0 }) }
+        ensures { IfOk result (λ sink. sink
+            ≡ record {
+              kept = record { bytes = []; room = room; is_told = true };
+              fail = fail.items;
+              zero = zero.items;
+              calls = 0;
+              faults = 0;
+              stalls = 0;
+            }) }
     {
         let inner = SteadySink::new(alloc, room)?;
         Ok(MemSink {
@@ -130,8 +162,14 @@ impl Sink for MemSink {
     /// Takes the piece whole, or nothing of it, or fails.
     fn write(&mut self, piece: &[u8]) -> Result<usize, Failed>
         ensures fails { is_err result ≡ is_next_among self.old.fail self.old.calls }
-        ensures err { IfErr result (λ _. self.new ≡ record self.old { calls = counted self.old.calls; faults = counted self.old.faults }) }
-        ensures ok { IfOk result (λ count. (count ≡ cond (is_next_among self.old.zero self.old.calls) 0 (length piece.now)) × (self.new ≡ after_write self.old piece.now)) }
+        ensures err { IfErr result (λ _. self.new
+            ≡ record self.old {
+              calls = counted self.old.calls;
+              faults = counted self.old.faults;
+            }) }
+        ensures ok { IfOk result (λ count. (count
+            ≡ cond (is_next_among self.old.zero self.old.calls) 0 (length piece.now))
+            × (self.new ≡ after_write self.old piece.now)) }
     {
         let fails = is_next_among(&self.fail, self.calls);
         let stalls = is_next_among(&self.zero, self.calls);

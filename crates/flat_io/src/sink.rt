@@ -1,4 +1,5 @@
-ghost use Rattle.std.specs.Prelude.{◌≡◌, ℕ, ◌+◌, ◌<◌, ◌≤◌, length, take, List, Option, None, IsTrue, IfOk, OnErr};
+ghost use Rattle.std.specs.Prelude.{◌≡◌, ℕ, ◌+◌, ◌<◌, ◌≤◌, length, take, List, Option, None};
+ghost use Rattle.std.specs.Prelude.{IsTrue, IfOk, OnErr};
 ghost use Rattle.flat_io.specs.Counts.{has_risen};
 ghost use Rattle.flat_io.specs.Told.{Appends};
 
@@ -26,8 +27,10 @@ pub trait Sink {
     /// is held is as before. A count that stands at its end counts as risen.
     fn write(&mut self, piece: &[u8]) -> Result<usize, Failed>
         ensures within { IfOk result (λ count. count ≤ length piece.now) }
-        ensures taken { IfOk result (λ count. Appends (take count piece.now) (held self.old) (held self.new)) }
-        ensures stalled { IfOk result (λ count. count ≡ 0 → 0 < length piece.now → IsTrue (has_risen (stalls self.old) (stalls self.new))) }
+        ensures taken { IfOk result (λ count. Appends (take count piece.now) (held self.old)
+            (held self.new)) }
+        ensures stalled { IfOk result (λ count. count ≡ 0 → 0 < length piece.now →
+            IsTrue (has_risen (stalls self.old) (stalls self.new))) }
         ensures failed { OnErr result (IsTrue (has_risen (faults self.old) (faults self.new))) }
         ensures same { OnErr result (held self.new ≡ held self.old) }
         ensures faults { faults self.old ≤ faults self.new }

@@ -1,4 +1,5 @@
-ghost use Rattle.std.specs.Prelude.{◌≡◌, ℕ, ◌+◌, ◌<◌, ◌≤◌, [], length, List, Option, None, IsTrue, IfOk, OnOk, OnErr};
+ghost use Rattle.std.specs.Prelude.{◌≡◌, ℕ, ◌+◌, ◌<◌, ◌≤◌, [], length, List, Option, None, IsTrue};
+ghost use Rattle.std.specs.Prelude.{IfOk, OnOk, OnErr};
 ghost use Rattle.flat_io.specs.Counts.{has_risen};
 ghost use Rattle.flat_io.specs.Told.{WhereTold, Takes};
 
@@ -27,8 +28,10 @@ pub trait Source {
     /// read that doesn't fail leaves that count as it was.
     fn read(&mut self, into: &mut [u8]) -> Result<usize, Failed>
         ensures within { IfOk result (λ count. count ≤ length into.old) }
-        ensures taken { IfOk result (λ count. Takes count into.new (left self.old) (left self.new)) }
-        ensures end { IfOk result (λ count. count ≡ 0 → 0 < length into.old → WhereTold (left self.old) (left self.new) (λ _ after. after ≡ [])) }
+        ensures taken { IfOk result (λ count. Takes count into.new (left self.old)
+            (left self.new)) }
+        ensures end { IfOk result (λ count. count ≡ 0 → 0 < length into.old →
+            WhereTold (left self.old) (left self.new) (λ _ after. after ≡ [])) }
         ensures failed { OnErr result (IsTrue (has_risen (faults self.old) (faults self.new))) }
         ensures same { OnErr result (left self.new ≡ left self.old) }
         ensures faults { faults self.old ≤ faults self.new }

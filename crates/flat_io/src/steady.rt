@@ -1,4 +1,5 @@
-ghost use Rattle.std.specs.Prelude.{◌≡◌, ◌+◌, ◌<◌, ◌≤◌, ◌++◌, [], length, take, drop, min, true, Some, Ok, IfOk, vec_capacity};
+ghost use Rattle.std.specs.Prelude.{◌≡◌, ◌+◌, ◌<◌, ◌≤◌, ◌++◌, [], length, take, drop, min, true};
+ghost use Rattle.std.specs.Prelude.{Some, Ok, IfOk, vec_capacity};
 ghost use Rattle.flat_io.specs.Kept.{with_piece, told_bytes};
 
 use crate::sink::Sink;
@@ -41,7 +42,9 @@ impl Source for SteadySource {
 
     /// Fills the buffer as far as the bytes last.
     fn read(&mut self, into: &mut [u8]) -> Result<usize, Failed>
-        ensures { (result ≡ Ok (min (length into.old) (length self.old))) × (into.new ≡ take (length into.old) self.old ++ drop (length self.old) into.old) × (self.new ≡ drop (length into.old) self.old) }
+        ensures { (result ≡ Ok (min (length into.old) (length self.old)))
+            × (into.new ≡ take (length into.old) self.old ++ drop (length self.old) into.old)
+            × (self.new ≡ drop (length into.old) self.old) }
     {
         let left = &self.bytes[self.taken..];
         let count = left.len().min(into.len());
@@ -65,7 +68,12 @@ impl Model for SteadySink {
 
     ghost Value = { KeptBytes };
 
-    ghost view = { λ s. record { bytes = s.bytes.items; room = vec_capacity s.bytes - length s.bytes.items; is_told = s.is_told } };
+    ghost view = { λ s. record {
+      bytes = s.bytes.items;
+      room = vec_capacity s.bytes
+          - length s.bytes.items;
+      is_told = s.is_told;
+    } };
 }
 
 impl SteadySink {

@@ -1,4 +1,5 @@
-ghost use Rattle.std.specs.Prelude.{◌≡◌, ◌≢◌, ◌+◌, ◌≤◌, [], length, IfOk, IfErr, OnOk, OnErr, IsTrue, MatchResult, ◌||◌};
+ghost use Rattle.std.specs.Prelude.{◌≡◌, ◌≢◌, ◌+◌, ◌≤◌, [], length, IfOk, IfErr, OnOk, OnErr};
+ghost use Rattle.std.specs.Prelude.{IsTrue, MatchResult, ◌||◌};
 ghost use Rattle.flat_io.specs.Counts.{has_risen};
 ghost use Rattle.flat_io.specs.Told.{Appends};
 ghost use Rattle.flat_io.specs.Whole.{Given, AppendsPrefix, IsTooLong};
@@ -44,9 +45,12 @@ const CHUNK: usize = 65_536;
 /// and no more after an Ok.
 pub fn read_all<R: Source>(alloc: Global, source: &mut R, limit: usize) -> Result<Vec<u8>, ReadAll>
     ensures within { IfOk result (λ text. length text.items ≤ limit) }
-    ensures whole { IfOk result (λ text. Given (R.left source.old) (R.left source.new) (λ given after. (given ≡ text.items) × (after ≡ []))) }
-    ensures refused { IfErr result (λ why. Given (R.left source.old) (R.left source.new) (λ given _. IsTooLong limit (length given) why)) }
-    ensures fault { result ≡ Err ReadAll.Fault → IsTrue (has_risen (R.faults source.old) (R.faults source.new)) }
+    ensures whole { IfOk result (λ text. Given (R.left source.old) (R.left source.new)
+        (λ given after. (given ≡ text.items) × (after ≡ []))) }
+    ensures refused { IfErr result (λ why. Given (R.left source.old) (R.left source.new)
+        (λ given _. IsTooLong limit (length given) why)) }
+    ensures fault { result ≡ Err ReadAll.Fault →
+        IsTrue (has_risen (R.faults source.old) (R.faults source.new)) }
     ensures faults { R.faults source.old ≤ R.faults source.new }
     ensures steady { result ≢ Err ReadAll.Fault → R.faults source.new ≡ R.faults source.old }
     ensures reads { R.reads source.new ≤ R.reads source.old + (limit + 1) }
@@ -90,7 +94,8 @@ fn zeros(alloc: Global, count: usize) -> Result<Vec<u8>, NoMemory>
 pub fn write_all<W: Sink>(sink: &mut W, text: &[u8]) -> Result<(), WriteAll>
     ensures whole { OnOk result (Appends text.now (W.held sink.old) (W.held sink.new)) }
     ensures part { OnErr result (AppendsPrefix text.now (W.held sink.old) (W.held sink.new)) }
-    ensures fault { OnErr result (IsTrue (has_risen (W.faults sink.old) (W.faults sink.new) || has_risen (W.stalls sink.old) (W.stalls sink.new))) }
+    ensures fault { OnErr result (IsTrue (has_risen (W.faults sink.old) (W.faults sink.new) ||
+        has_risen (W.stalls sink.old) (W.stalls sink.new))) }
     ensures faults { W.faults sink.old ≤ W.faults sink.new }
     ensures stalls { W.stalls sink.old ≤ W.stalls sink.new }
     ensures writes { W.writes sink.new ≤ W.writes sink.old + length text.now }

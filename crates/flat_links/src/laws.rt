@@ -1,4 +1,5 @@
-ghost use Rattle.flat_links.specs.Laws.{ViewIsUsedOnce, TokenComesBack, EndsStayThere, LossIsForGood, LastUseIsTold, OwnersStay, OthersStay};
+ghost use Rattle.flat_links.specs.Laws.{ViewIsUsedOnce, TokenComesBack, EndsStayThere};
+ghost use Rattle.flat_links.specs.Laws.{LossIsForGood, LastUseIsTold, OwnersStay, OthersStay};
 
 /// What holds of every pair after any list of calls on it: its clauses are laws of
 /// the definitions. The call does nothing.

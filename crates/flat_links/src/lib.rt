@@ -1,5 +1,8 @@
 //! The ends of the pairs that link a parent to a child, and the tokens by which
 //! they are used.
+//!
+//! Each call of `Links` (links) is one equation on the pairs (specs/Calls); what holds of
+//! them after any calls is specs/Laws.
 #![tactic(auto)]
 
 mod laws;

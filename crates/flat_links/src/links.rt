@@ -1,6 +1,9 @@
-ghost use Rattle.std.specs.Prelude.{◌≡◌, ◌↔◌, ◌<◌, length, map, slice_get, Some, IfOk, IfErr, OnErr, IsTrue, is_ok, option_and_then, option_map};
-ghost use Rattle.flat_links.specs.Pairs.{new_pair, has_view_token, has_token, is_joined, child_of, at_pair, changed};
-ghost use Rattle.flat_links.specs.Calls.{join_view, join_viewport, release_viewport, token_back, lose_viewport, lose_view, after};
+ghost use Rattle.std.specs.Prelude.{◌≡◌, ◌↔◌, ◌<◌, length, map, slice_get, Some, IfOk, IfErr};
+ghost use Rattle.std.specs.Prelude.{OnErr, IsTrue, is_ok, option_and_then, option_map};
+ghost use Rattle.flat_links.specs.Pairs.{new_pair, has_view_token, has_token, is_joined, child_of};
+ghost use Rattle.flat_links.specs.Pairs.{at_pair, changed};
+ghost use Rattle.flat_links.specs.Calls.{join_view, join_viewport, release_viewport, token_back};
+ghost use Rattle.flat_links.specs.Calls.{lose_viewport, lose_view, after};
 
 use crate::pairs::{Pair, Token};
 use flat_base::{NoMemory, PairNo, Reason, SessionNo};

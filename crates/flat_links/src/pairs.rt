@@ -1,5 +1,6 @@
 ghost use Rattle.std.specs.Prelude.{◌≡◌};
-ghost use Rattle.flat_links.specs.Pairs.{new_pair, has_token, is_viewport_there, is_joined, child_of};
+ghost use Rattle.flat_links.specs.Pairs.{new_pair, has_token, is_viewport_there, is_joined};
+ghost use Rattle.flat_links.specs.Pairs.{child_of};
 ghost use Rattle.flat_links.specs.Calls.{join_viewport, done};
 
 use flat_base::{Actor, SessionNo};

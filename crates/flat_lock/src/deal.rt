@@ -51,7 +51,8 @@ pub(crate) fn gather<T: Storied>(
     requires resting { IsResting keeper.old.me }
     requires first { keeper.old.me.0.ended ≡ [] }
     ensures same { IsSameSeat keeper.old keeper.new }
-    ensures joined { keeper.new.me ≡ (record keeper.old.me.0 { ended = map left_by (drop 1 others.seats) }, []) }
+    ensures joined { keeper.new.me
+        ≡ (record keeper.old.me.0 { ended = map left_by (drop 1 others.seats) }, []) }
 {
     let table = &lock.table;
     let LockSeats { mut seats, of: _ } = others;

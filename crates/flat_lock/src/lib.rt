@@ -2,6 +2,9 @@
 //! entries. Threads step with seats, and each seat's entries are its own: what
 //! every seat saw and made is part of one history, which the lock hands out
 //! when it ends.
+//!
+//! What a seat is told by `turn`, `give`, `tell` and `close` (lock) is said of `SeatView`
+//! (specs/Seats); the rule of the table that makes it true is specs/Rule.
 #![tactic(auto)]
 
 mod deal;

@@ -1,4 +1,5 @@
-ghost use Rattle.std.specs.Prelude.{◌≡◌, ℕ, ◌<◌, List, [], ◌++◌, true, false, drop, length, Some, IsTrue, IsFalse, IfOk, All, slice_get};
+ghost use Rattle.std.specs.Prelude.{◌≡◌, ℕ, ◌<◌, List, [], ◌++◌, true, false, drop, length, Some};
+ghost use Rattle.std.specs.Prelude.{IsTrue, IsFalse, IfOk, All, slice_get};
 ghost use Rattle.flat_lock.specs.History.{StartsWith, GoesOn, entries_of};
 ghost use Rattle.flat_lock.specs.Seats.{SeatView, AreNew, all_home};
 
@@ -30,7 +31,8 @@ impl<T: Storied> Model for TicketLock<T> {
 
     ghost Value = { LockView T.Fixed };
 
-    ghost view = { λ l. lock_view T.fixed l.table.shared.table_id l.table.shared.key.0.value l.table.shared.key.1 };
+    ghost view = { λ l. lock_view T.fixed l.table.shared.table_id l.table.shared.key.0.value
+        l.table.shared.key.1 };
 
     ghost invariant = { λ l. IsShaped l.table.shared.table_id };
 }
@@ -87,8 +89,13 @@ impl<T: Storied> TicketLock<T> {
         requires turn { IsTrue seat.old.has_turn }
         requires longer { GoesOn T.actor seat.old.actor seat.old.seen (T.history value) }
         requires fixed { Some (T.fixed value) ≡ self.now.fixed }
-        ensures seat { let new = drop (length seat.old.seen) (T.history value) in
-            seat.new ≡ record seat.old { seen = T.history value; mine = seat.old.mine ++ new; has_turn = false } }
+        ensures seat { let new = drop (length seat.old.seen) (T.history value) in seat.new
+            ≡ record seat.old {
+              seen = T.history value;
+              mine = seat.old.mine
+                  ++ new;
+              has_turn = false;
+            } }
         ensures mine { seat.new.mine ≡ entries_of T.actor seat.new.actor (T.history value) }
     {
         steps::leave(&self.table, &mut seat.seat, value);
@@ -123,8 +130,9 @@ impl<T: Storied> TicketLock<T> {
     pub fn close(self, seats: LockSeats<T>) -> T
         requires own { seats.lock ≡ self }
         requires home { IsTrue (all_home seats.seats) }
-        ensures seats { (i : ℕ) (s : SeatView T.Entry T.Fixed) → slice_get seats.seats i ≡ Some (Some s)
-            → StartsWith (T.history result) s.seen × (s.mine ≡ entries_of T.actor i (T.history result)) }
+        ensures seats { (i : ℕ) (s : SeatView T.Entry T.Fixed) → slice_get seats.seats i
+            ≡ Some (Some s) → StartsWith (T.history result) s.seen
+            × (s.mine ≡ entries_of T.actor i (T.history result)) }
         ensures others { All (λ e. T.actor e < self.seats) (T.history result) }
         ensures fixed { Some (T.fixed result) ≡ self.fixed }
     {

@@ -1,4 +1,5 @@
-ghost use Rattle.std.specs.Prelude.{◌≡◌, true, false, Some, None, IsTrue, IsFalse, IfSome, IfNone, slice_get, slice_set};
+ghost use Rattle.std.specs.Prelude.{◌≡◌, true, false, Some, None, IsTrue, IsFalse, IfSome, IfNone};
+ghost use Rattle.std.specs.Prelude.{slice_get, slice_set};
 ghost use Rattle.flat_lock.specs.Seats.{all_home, seat_at, AreInOrder, BelongsAt};
 
 use crate::lock::TicketLock;
@@ -43,7 +44,10 @@ impl<T: Storied> LockSeats<T> {
     pub fn put(&mut self, seat: LockSeat<T>)
         requires own { seat.lock ≡ self.old.lock }
         requires resting { IsFalse seat.has_turn }
-        ensures { self.new ≡ record self.old { seats = slice_set self.old.seats seat.actor (Some seat) } }
+        ensures { self.new ≡ record self.old {
+          seats = slice_set self.old.seats seat.actor
+              (Some seat);
+        } }
     {
         let place = seat.actor() as usize;
         self.seats[place] = Some(seat);

@@ -1,7 +1,8 @@
 //! The steps of a turn, and of a note.
 ghost use Rattle.std.specs.Prelude.{◌≡◌, ◌≢◌, Some, IsTrue, IsFalse};
 ghost use Rattle.flat_lock.specs.History.{GoesOn};
-ghost use Rattle.flat_lock.specs.Steps.{IsShaped, IsSameSeat, IsResting, IsWaiting, HasTurn, HasDrawn, HasEntered, HasTaken, HasLeft, HasBeenTold};
+ghost use Rattle.flat_lock.specs.Steps.{IsShaped, IsSameSeat, IsResting, IsWaiting, HasTurn};
+ghost use Rattle.flat_lock.specs.Steps.{HasDrawn, HasEntered, HasTaken, HasLeft, HasBeenTold};
 
 use crate::rule::{
     HistorySeen, NextServed, NoteMade, NoteTold, ServingRead, SharedTable, TableSeat, TicketDrawn,
@@ -72,7 +73,8 @@ fn read_serving<T: Storied>(table: &SharedTable<T>, seat: &mut TableSeat<T>, tic
     requires own { seat.old.table_id ≡ table.now.shared.table_id }
     requires waiting { IsWaiting ticket seat.old.me }
     ensures same { IsSameSeat seat.old seat.new }
-    ensures served { result ≡ ticket → HasEntered T.history T.actor T.fixed seat.old.me seat.new.me }
+    ensures served { result ≡ ticket → HasEntered T.history T.actor T.fixed seat.old.me
+        seat.new.me }
     ensures waiting { result ≢ ticket → seat.new.me ≡ seat.old.me }
 {
     table.shared.load::<ServingRead<T>>(seat, SERVING)

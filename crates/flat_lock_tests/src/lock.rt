@@ -57,7 +57,8 @@ fn write(
 ) -> Result<(), NoMemory>
     requires own { seat.old.lock ≡ lock.now }
     requires resting { IsFalse seat.old.has_turn }
-    ensures { (seat.new.lock ≡ seat.old.lock) × (seat.new.actor ≡ seat.old.actor) × IsFalse seat.new.has_turn }
+    ensures { (seat.new.lock ≡ seat.old.lock) × (seat.new.actor ≡ seat.old.actor)
+        × IsFalse seat.new.has_turn }
 {
     let actor = seat.actor();
     let mut journal = lock.turn(rt, seat);
@@ -119,20 +120,28 @@ fn write_four<R: Threads + Wait + Sync>(
     (LockSeat<Journal>, LockSeat<Journal>),
     (LockSeat<Journal>, LockSeat<Journal>),
 )
-    requires front { (front.0.lock ≡ lock.now) × IsFalse front.0.has_turn × (front.1.lock ≡ lock.now) × IsFalse front.1.has_turn }
-    requires back { (back.0.lock ≡ lock.now) × IsFalse back.0.has_turn × (back.1.lock ≡ lock.now) × IsFalse back.1.has_turn }
-    ensures front { (result.0.0.lock ≡ lock.now) × IsFalse result.0.0.has_turn × (result.0.1.lock ≡ lock.now) × IsFalse result.0.1.has_turn }
-    ensures back { (result.1.0.lock ≡ lock.now) × IsFalse result.1.0.has_turn × (result.1.1.lock ≡ lock.now) × IsFalse result.1.1.has_turn }
+    requires front { (front.0.lock ≡ lock.now) × IsFalse front.0.has_turn
+        × (front.1.lock ≡ lock.now) × IsFalse front.1.has_turn }
+    requires back { (back.0.lock ≡ lock.now) × IsFalse back.0.has_turn × (back.1.lock ≡ lock.now)
+        × IsFalse back.1.has_turn }
+    ensures front { (result.0.0.lock ≡ lock.now) × IsFalse result.0.0.has_turn
+        × (result.0.1.lock ≡ lock.now) × IsFalse result.0.1.has_turn }
+    ensures back { (result.1.0.lock ≡ lock.now) × IsFalse result.1.0.has_turn
+        × (result.1.1.lock ≡ lock.now) × IsFalse result.1.1.has_turn }
 {
     thread::join(
         rt,
         move || -> (LockSeat<Journal>, LockSeat<Journal>)
-            requires { (front.0.lock ≡ lock.now) × IsFalse front.0.has_turn × (front.1.lock ≡ lock.now) × IsFalse front.1.has_turn }
-            ensures { (result.0.lock ≡ lock.entry.now) × IsFalse result.0.has_turn × (result.1.lock ≡ lock.entry.now) × IsFalse result.1.has_turn }
+            requires { (front.0.lock ≡ lock.now) × IsFalse front.0.has_turn
+                × (front.1.lock ≡ lock.now) × IsFalse front.1.has_turn }
+            ensures { (result.0.lock ≡ lock.entry.now) × IsFalse result.0.has_turn
+                × (result.1.lock ≡ lock.entry.now) × IsFalse result.1.has_turn }
         { write_both(rt, lock, front.0, front.1) },
         move || -> (LockSeat<Journal>, LockSeat<Journal>)
-            requires { (back.0.lock ≡ lock.now) × IsFalse back.0.has_turn × (back.1.lock ≡ lock.now) × IsFalse back.1.has_turn }
-            ensures { (result.0.lock ≡ lock.entry.now) × IsFalse result.0.has_turn × (result.1.lock ≡ lock.entry.now) × IsFalse result.1.has_turn }
+            requires { (back.0.lock ≡ lock.now) × IsFalse back.0.has_turn × (back.1.lock ≡ lock.now)
+                × IsFalse back.1.has_turn }
+            ensures { (result.0.lock ≡ lock.entry.now) × IsFalse result.0.has_turn
+                × (result.1.lock ≡ lock.entry.now) × IsFalse result.1.has_turn }
         { write_both(rt, lock, back.0, back.1) },
     )
 }
@@ -198,7 +207,8 @@ fn after(
     requires longer { GoesOn (λ line. line.actor) giver.old.actor giver.old.seen given.lines.items }
     requires name { Some given.name ≡ lock.now.fixed }
     ensures begins { StartsWith result.lines.items given.lines.items }
-    ensures giver { (giver.new.lock ≡ giver.old.lock) × (giver.new.actor ≡ giver.old.actor) × IsFalse giver.new.has_turn }
+    ensures giver { (giver.new.lock ≡ giver.old.lock) × (giver.new.actor ≡ giver.old.actor)
+        × IsFalse giver.new.has_turn }
     ensures taker { taker.new ≡ record taker.old { seen = result.lines.items; has_turn = true } }
     ensures name { Some result.name ≡ lock.now.fixed }
 {
@@ -217,8 +227,10 @@ fn write_and_tell(
 ) -> Result<(), NoMemory>
     requires writer { (writer.old.lock ≡ lock.now) × IsFalse writer.old.has_turn }
     requires reader { (reader.old.lock ≡ lock.now) × IsFalse reader.old.has_turn }
-    ensures writer { (writer.new.lock ≡ writer.old.lock) × (writer.new.actor ≡ writer.old.actor) × IsFalse writer.new.has_turn }
-    ensures reader { (reader.new.lock ≡ reader.old.lock) × (reader.new.actor ≡ reader.old.actor) × IsFalse reader.new.has_turn }
+    ensures writer { (writer.new.lock ≡ writer.old.lock) × (writer.new.actor ≡ writer.old.actor)
+        × IsFalse writer.new.has_turn }
+    ensures reader { (reader.new.lock ≡ reader.old.lock) × (reader.new.actor ≡ reader.old.actor)
+        × IsFalse reader.new.has_turn }
 {
     let actor = writer.actor();
     let mut journal = lock.turn(rt, writer);

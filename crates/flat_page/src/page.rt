@@ -1,7 +1,9 @@
-ghost use Rattle.std.specs.Prelude.{◌≡◌, ◌≤◌, ◌+◌, [], ◌∷◌, ◌++◌, ℕ, List, length, false, OnOk, IfOk};
+ghost use Rattle.std.specs.Prelude.{◌≡◌, ◌≤◌, ◌+◌, [], ◌∷◌, ◌++◌, ℕ, List, length, false, OnOk};
+ghost use Rattle.std.specs.Prelude.{IfOk};
 ghost use Rattle.std.specs.Fmt.{decimal, signed_decimal};
 ghost use Rattle.flat_page.specs.Words.{number, numbers};
-ghost use Rattle.flat_page.specs.Pages.{HasRoom, IsText, StandsAt, bytes_of, is_counting, Puts, Writes};
+ghost use Rattle.flat_page.specs.Pages.{HasRoom, IsText, StandsAt, bytes_of, is_counting, Puts};
+ghost use Rattle.flat_page.specs.Pages.{Writes};
 
 use crate::digits::{NUMBER_BYTES, count_length, place_length, write_count, write_place};
 use flat_base::NoMemory;
@@ -59,7 +61,8 @@ impl Page {
         requires sort { is_counting other.now ≡ is_counting self.old }
         requires order { start ≤ end }
         requires within { end ≤ bytes_of other.now }
-        ensures { (bytes : List ℕ) → StandsAt start bytes other.now → end ≡ start + length bytes → OnOk result (Puts bytes self.old self.new) }
+        ensures { (bytes : List ℕ) → StandsAt start bytes other.now → end ≡ start + length bytes →
+            OnOk result (Puts bytes self.old self.new) }
     {
         match (self, other) {
             (Page::Count(count), Page::Count(_)) => {

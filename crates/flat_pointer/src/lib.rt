@@ -1,4 +1,7 @@
 //! Pointer streams: to which session the lines of a pointer go.
+//!
+//! `Pointers` (pointers) keep the streams of specs/Streams, and `print_pointers` (text)
+//! writes the text of specs/Text; specs/Laws says on what a stream hangs.
 #![tactic(auto)]
 
 mod laws;

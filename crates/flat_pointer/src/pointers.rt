@@ -1,7 +1,9 @@
 ghost use Rattle.std.specs.Prelude.{◌≡◌, ◌<◌, List, None};
 ghost use Rattle.flat_scene.specs.declared.frames.Hit.{Hit};
 ghost use Rattle.flat_scene.specs.ViewTrees.{is_node};
-ghost use Rattle.flat_pointer.specs.Streams.{no_streams, stream_of, first_hit, down_answer, after_down, move_answer, up_answer, kept_in, cancelled_in, with_stream};
+ghost use Rattle.flat_pointer.specs.Streams.{no_streams, stream_of, first_hit, down_answer};
+ghost use Rattle.flat_pointer.specs.Streams.{after_down, move_answer, up_answer, kept_in};
+ghost use Rattle.flat_pointer.specs.Streams.{cancelled_in, with_stream};
 
 use flat_base::SessionNo;
 use flat_scene::{HitList, ViewNode, ViewTree, is_node};
@@ -77,7 +79,8 @@ impl Pointers {
     pub fn down(&mut self, p: u8, hits: &HitList) -> PointerAnswer
         requires { p < POINTERS }
         ensures answer { result ≡ down_answer (stream_of self.old p) hits.now }
-        ensures after { self.new ≡ with_stream self.old p (after_down (stream_of self.old p) hits.now) }
+        ensures after { self.new ≡ with_stream self.old p (after_down (stream_of self.old p)
+            hits.now) }
     {
         let stream = self.streams[p as usize];
         let hit = first_hit(hits);
@@ -116,7 +119,8 @@ impl Pointers {
     pub fn cancel(&mut self, p: u8, tree: &ViewTree) -> Option<SessionNo>
         requires { p < POINTERS }
         ensures answer { result ≡ cancelled_in tree.now.nodes (stream_of self.old p) }
-        ensures after { self.new ≡ with_stream self.old p (kept_in tree.now.nodes (stream_of self.old p)) }
+        ensures after { self.new ≡ with_stream self.old p
+            (kept_in tree.now.nodes (stream_of self.old p)) }
     {
         let stream = self.streams[p as usize];
         let cancelled = cancelled_in(tree.nodes.as_slice(), stream);

@@ -1,9 +1,12 @@
 ghost use Rattle.std.specs.Prelude.{◌≡◌, ◌<◌, [], ◌∷◌, ◌++◌, length, take, map, codes, OnOk, IfOk};
-ghost use Rattle.flat_page.specs.Happenings.{finished, said, count_before, merged, after_all, all_lines};
+ghost use Rattle.flat_page.specs.Happenings.{finished, said, count_before, merged, after_all};
+ghost use Rattle.flat_page.specs.Happenings.{all_lines};
 ghost use Rattle.flat_page.specs.Pages.{Writes, WritesLines};
 ghost use Rattle.flat_page.specs.Words.{number, numbers, session_name};
 ghost use Rattle.flat_pointer.specs.Streams.{no_streams, stream_of, cancelled_in, framed};
-ghost use Rattle.flat_pointer.specs.Text.{point_words, answer_words, touch_line, cancel_line, cancel_lines, frame_lines, end_line, call_answer, after_call, lines_with, after, pointer_text, ArePointers};
+ghost use Rattle.flat_pointer.specs.Text.{point_words, answer_words, touch_line, cancel_line};
+ghost use Rattle.flat_pointer.specs.Text.{cancel_lines, frame_lines, end_line, call_answer};
+ghost use Rattle.flat_pointer.specs.Text.{after_call, lines_with, after, pointer_text, ArePointers};
 
 use crate::pointers::{POINTERS, PointerAnswer, Pointers};
 use flat_base::{FrameNo, Items, NoMemory, SessionNo};
@@ -46,7 +49,8 @@ fn push_named(
     word: &[u8],
     session: SessionNo,
 ) -> Result<(), NoMemory>
-    ensures { OnOk result (Writes (word.now ∷ session_name names.now session ∷ []) page.old page.new) }
+    ensures { OnOk result (Writes (word.now ∷ session_name names.now session ∷ []) page.old
+        page.new) }
 {
     page.word(word)?;
     page.word(session_name(names, session))
@@ -67,7 +71,8 @@ fn push_moved(
     call: PointerCall,
     session: SessionNo,
 ) -> Result<(), NoMemory>
-    ensures { OnOk result (Writes (codes "move" ∷ session_name names.now session ∷ point_words call) page.old page.new) }
+    ensures { OnOk result (Writes (codes "move" ∷ session_name names.now session ∷ point_words call)
+        page.old page.new) }
 {
     push_named(page, names, b"move", session)?;
     push_point(page, call)?;
@@ -97,7 +102,8 @@ fn push_touch_words(
     line: PointerLine,
     answer: PointerAnswer,
 ) -> Result<(), NoMemory>
-    ensures { OnOk result (Writes (number line.number ∷ number line.pointer ∷ answer_words names.now line.call answer) page.old page.new) }
+    ensures { OnOk result (Writes (number line.number ∷ number line.pointer ∷ answer_words names.now
+        line.call answer) page.old page.new) }
 {
     page.count(line.number as u64)?;
     page.count(line.pointer as u64)?;
@@ -127,7 +133,8 @@ fn push_cancelled(
     p: u8,
     session: SessionNo,
 ) -> Result<(), NoMemory>
-    ensures { OnOk result (Writes (number frame ∷ number p ∷ session_name names.now session ∷ []) page.old page.new) }
+    ensures { OnOk result (Writes (number frame ∷ number p ∷ session_name names.now session
+        ∷ []) page.old page.new) }
 {
     page.count(frame as u64)?;
     page.count(p as u64)?;
@@ -142,7 +149,8 @@ fn push_cancel_line(
     p: u8,
     session: SessionNo,
 ) -> Result<(), NoMemory>
-    ensures { OnOk result (WritesLines ((codes "cancel" ∷ number frame ∷ number p ∷ session_name names.now session ∷ []) ∷ []) page.old page.new) }
+    ensures { OnOk result (WritesLines ((codes "cancel" ∷ number frame ∷ number p
+        ∷ session_name names.now session ∷ []) ∷ []) page.old page.new) }
 {
     page.put(b"cancel")?;
     push_cancelled(page, names, frame, p, session)?;
@@ -158,7 +166,8 @@ fn push_cancel(
     p: u8,
     cancelled: Option<SessionNo>,
 ) -> Result<(), NoMemory>
-    ensures { OnOk result (WritesLines (cancel_line names.now frame p cancelled) page.old page.new) }
+    ensures { OnOk result (WritesLines (cancel_line names.now frame p cancelled) page.old
+        page.new) }
 {
     match cancelled {
         Some(session) => push_cancel_line(page, names, frame, p, session),
@@ -174,7 +183,8 @@ fn push_cancels(
     frame: u32,
     tree: &ViewTree,
 ) -> Result<(), NoMemory>
-    ensures text { OnOk result (WritesLines (cancel_lines names.now frame (λ p. cancelled_in tree.now.nodes (stream_of pointers.old p))) page.old page.new) }
+    ensures text { OnOk result (WritesLines (cancel_lines names.now frame
+        (λ p. cancelled_in tree.now.nodes (stream_of pointers.old p))) page.old page.new) }
     ensures after { OnOk result (pointers.new ≡ framed tree.now.nodes pointers.old) }
 {
     for p in 0..POINTERS {
@@ -185,7 +195,8 @@ fn push_cancels(
 }
 
 fn push_title(page: &mut Page, frame: u32) -> Result<(), NoMemory>
-    ensures { OnOk result (WritesLines ((codes "frame" ∷ number frame ∷ []) ∷ []) page.old page.new) }
+    ensures { OnOk result (WritesLines ((codes "frame" ∷ number frame ∷ []) ∷ []) page.old
+        page.new) }
 {
     page.put(b"frame")?;
     page.count(frame as u64)?;
@@ -194,7 +205,8 @@ fn push_title(page: &mut Page, frame: u32) -> Result<(), NoMemory>
 }
 
 fn push_total(page: &mut Page, lines: usize) -> Result<(), NoMemory>
-    ensures { OnOk result (Writes (codes "ends" ∷ codes "lines" ∷ number lines ∷ []) page.old page.new) }
+    ensures { OnOk result (Writes (codes "ends" ∷ codes "lines" ∷ number lines ∷ []) page.old
+        page.new) }
 {
     page.word(b"ends")?;
     page.word(b"lines")?;
@@ -215,8 +227,10 @@ fn push_end(page: &mut Page, lines: usize) -> Result<(), NoMemory>
 /// What a pointer's line is answered.
 fn answer(pointers: &mut Pointers, touch: &Touch) -> PointerAnswer
     requires { touch.now.line.pointer < POINTERS }
-    ensures answer { result ≡ call_answer (stream_of pointers.old touch.now.line.pointer) touch.now.hits touch.now.line.call }
-    ensures after { pointers.new ≡ after_call pointers.old touch.now.line.pointer touch.now.hits touch.now.line.call }
+    ensures answer { result ≡ call_answer (stream_of pointers.old touch.now.line.pointer)
+        touch.now.hits touch.now.line.call }
+    ensures after { pointers.new ≡ after_call pointers.old touch.now.line.pointer touch.now.hits
+        touch.now.line.call }
 {
     match touch.line.call {
         PointerCall::Down { .. } => pointers.down(touch.line.pointer, &touch.hits),
@@ -233,8 +247,11 @@ fn push_touch(
     one: &Touch,
 ) -> Result<(), NoMemory>
     requires { one.now.line.pointer < POINTERS }
-    ensures text { OnOk result (WritesLines (touch_line names.now one.now.line (call_answer (stream_of pointers.old one.now.line.pointer) one.now.hits one.now.line.call) ∷ []) page.old page.new) }
-    ensures after { pointers.new ≡ after_call pointers.old one.now.line.pointer one.now.hits one.now.line.call }
+    ensures text { OnOk result (WritesLines (touch_line names.now one.now.line
+        (call_answer (stream_of pointers.old one.now.line.pointer) one.now.hits one.now.line.call)
+        ∷ []) page.old page.new) }
+    ensures after { pointers.new ≡ after_call pointers.old one.now.line.pointer one.now.hits
+        one.now.line.call }
 {
     let answer = answer(pointers, one);
     push_touch_line(page, names, one.line, answer)
@@ -248,8 +265,10 @@ fn push_touches(
     touches: &[Touch],
 ) -> Result<(), NoMemory>
     requires { ArePointers touches.now }
-    ensures text { OnOk result (WritesLines (all_lines (lines_with names.now) after pointers.old (map said touches.now)) page.old page.new) }
-    ensures after { OnOk result (pointers.new ≡ after_all after (map said touches.now) pointers.old) }
+    ensures text { OnOk result (WritesLines (all_lines (lines_with names.now) after pointers.old
+        (map said touches.now)) page.old page.new) }
+    ensures after { OnOk result (pointers.new
+        ≡ after_all after (map said touches.now) pointers.old) }
 {
     for one in touches {
         push_touch(page, names, pointers, one)?;
@@ -264,7 +283,8 @@ fn push_frame(
     pointers: &mut Pointers,
     frame: &FrameOut,
 ) -> Result<(), NoMemory>
-    ensures text { OnOk result (WritesLines (frame_lines names.now frame.now.frame.0 (λ p. cancelled_in frame.now.tree.nodes (stream_of pointers.old p))) page.old page.new) }
+    ensures text { OnOk result (WritesLines (frame_lines names.now frame.now.frame.0
+        (λ p. cancelled_in frame.now.tree.nodes (stream_of pointers.old p))) page.old page.new) }
     ensures after { OnOk result (pointers.new ≡ framed frame.now.tree.nodes pointers.old) }
 {
     push_title(page, frame.frame.0)?;
@@ -281,8 +301,10 @@ fn push_done(
     frame: &FrameOut,
 ) -> Result<(), NoMemory>
     requires { ArePointers early.now }
-    ensures text { OnOk result (WritesLines (all_lines (lines_with names.now) after pointers.old (map said early.now ++ finished frame.now ∷ [])) page.old page.new) }
-    ensures after { OnOk result (pointers.new ≡ after_all after (map said early.now ++ finished frame.now ∷ []) pointers.old) }
+    ensures text { OnOk result (WritesLines (all_lines (lines_with names.now) after pointers.old
+        (map said early.now ++ finished frame.now ∷ [])) page.old page.new) }
+    ensures after { OnOk result (pointers.new
+        ≡ after_all after (map said early.now ++ finished frame.now ∷ []) pointers.old) }
 {
     push_touches(page, names, pointers, early)?;
     push_frame(page, names, pointers, frame)?;
@@ -309,7 +331,8 @@ fn push_happenings(
     touches: &[Touch],
 ) -> Result<(), NoMemory>
     requires { ArePointers touches.now }
-    ensures { OnOk result (WritesLines (all_lines (lines_with names.now) after pointers.old (merged (λ touch. touch.line.number) dones.now frames.now touches.now)) page.old page.new) }
+    ensures { OnOk result (WritesLines (all_lines (lines_with names.now) after pointers.old
+        (merged (λ touch. touch.line.number) dones.now frames.now touches.now)) page.old page.new) }
 {
     match dones {
         [done, dones @ ..] => match frames {
@@ -333,7 +356,9 @@ fn push_text(
     touches: &[Touch],
 ) -> Result<(), NoMemory>
     requires { ArePointers touches.now }
-    ensures { OnOk result (WritesLines (all_lines (lines_with names.now) after no_streams (merged (λ touch. touch.line.number) dones.now frames.now touches.now) ++ end_line (length touches.now) ∷ []) page.old page.new) }
+    ensures { OnOk result (WritesLines (all_lines (lines_with names.now) after no_streams
+        (merged (λ touch. touch.line.number) dones.now frames.now touches.now)
+        ++ end_line (length touches.now) ∷ []) page.old page.new) }
 {
     let mut pointers = Pointers::new();
     push_happenings(page, names, &mut pointers, dones, frames, touches)?;
@@ -352,7 +377,8 @@ pub fn print_pointers(
     touches: &[Touch],
 ) -> Result<Vec<u8>, NoMemory>
     requires { ArePointers touches.now }
-    ensures { IfOk result (λ text. text.items ≡ pointer_text names.now dones.now frames.now touches.now) }
+    ensures { IfOk result (λ text. text.items ≡ pointer_text names.now dones.now frames.now
+        touches.now) }
 {
     let mut count = Page::Count(0);
     push_text(&mut count, names, dones, frames, touches)?;

@@ -47,8 +47,10 @@ fn status<T: Threads + Wait + Sync>(
     threads: &T,
     words: &[String],
 ) -> Result<u8, AllocError>
-    ensures statuses { IfOk result (λ s. IsTrue (s == 0 || s == 2 || s == 3 || s == 4 || s == 5 || s == 6 || s == 7)) }
-    ensures usage { CallForNothing (map string_bytes words.now) → IfOk result (λ s. IsTrue (s == 2 || s == 5 || s == 6)) }
+    ensures statuses { IfOk result (λ s. IsTrue (s == 0 || s == 2 || s == 3 || s == 4 || s == 5 || s
+        == 6 || s == 7)) }
+    ensures usage { CallForNothing (map string_bytes words.now) →
+        IfOk result (λ s. IsTrue (s == 2 || s == 5 || s == 6)) }
 {
     let alloc = rt.alloc();
     let mut source = StdSource::new(rt.reader());

@@ -1,6 +1,7 @@
 //! What a frame is, and the book that only grows: the list of all frames, which exists in
 //! proofs alone. Its one word holds the number of the last frame.
 use flat_base::FrameNo;
+use flat_hit::Touchable;
 use flat_topology::Joined;
 use logbook::{Gain, Plain, Play, Rule, Seen, Word};
 use std::sync::Arc;
@@ -15,7 +16,7 @@ pub struct Frame {
 #[derive(Drop)]
 pub struct Numbered {
     pub number: FrameNo,
-    pub joined: Arc<Joined>,
+    pub joined: Arc<Touchable>,
 }
 
 /// The rule of the book: its word is the number of the last frame, and the numbers rise.

@@ -7,7 +7,6 @@ ghost use Rattle.flat_publish.specs.Kept.{frame_of};
 
 use crate::frame::{FramesSeen, Numbered};
 use flat_base::{FrameNo, Items, NoMemory};
-use flat_hit::hits;
 use flat_scene::HitList;
 use left_right::Absorb;
 use std::alloc::{AllocError, Global};
@@ -71,7 +70,7 @@ impl Latest {
         ensures { IfOk result (λ h. h ≡ frame_hits (last_of self.now.frames) x y) }
     {
         match &self.last {
-            Some(numbered) => hits(alloc, &numbered.joined, x, y),
+            Some(numbered) => numbered.joined.hits(alloc, x, y),
             None => Ok(Items::new(alloc)),
         }
     }

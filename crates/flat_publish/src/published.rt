@@ -17,7 +17,7 @@ use crate::rule::{HomeTold, LatestWriter, NextShown};
 use crate::seats::ProbeSeats;
 use core::mem::replace_with;
 use flat_base::{FrameNo, NoMemory};
-use flat_topology::Joined;
+use flat_hit::Touchable;
 use left_right::writer::Writer;
 use logbook::{Offer, Seen, Start, Word};
 use std::alloc::Global;
@@ -224,7 +224,7 @@ impl Published {
         &mut self,
         rt: &R,
         number: FrameNo,
-        joined: Arc<Joined>,
+        joined: Arc<Touchable>,
     ) -> Result<(), NoMemory>
         requires above { self.old.given < number.0 }
         ensures home { (self.new.home ≡ self.old.home) × (self.new.given ≡ number.0) }

@@ -2,6 +2,7 @@ ghost use Rattle.std.specs.Prelude.{◌≡◌, ◌<◌, ◌≤◌, IfOk};
 
 use flat_base::{FrameNo, IntRect, Items, NoMemory, Rect, SessionNo};
 use flat_geom::identity;
+use flat_hit::Touchable;
 use flat_publish::{Probe, Published};
 use flat_scene::{HitRegion, Interaction};
 use flat_topology::{Joined, Placed};
@@ -26,17 +27,17 @@ const DISPLAY: Rect = Rect {
 };
 
 /// A frame in which nothing is joined.
-fn empty(alloc: Global) -> Result<Arc<Joined>, NoMemory> {
+fn empty(alloc: Global) -> Result<Arc<Touchable>, NoMemory> {
     let joined = Joined {
         display: DISPLAY,
         nodes: Items::new(alloc),
         connected: Items::new(alloc),
     };
-    Ok(Arc::new(alloc, joined)?)
+    Ok(Arc::new(alloc, Touchable::new(alloc, joined)?)?)
 }
 
 /// A frame with one node, of a session that takes hits in a square of 10 by 10.
-fn square(alloc: Global, session: SessionNo) -> Result<Arc<Joined>, NoMemory> {
+fn square(alloc: Global, session: SessionNo) -> Result<Arc<Touchable>, NoMemory> {
     let mut hits = Items::new(alloc);
     hits.push(HitRegion {
         area: Some(IntRect {
@@ -62,7 +63,7 @@ fn square(alloc: Global, session: SessionNo) -> Result<Arc<Joined>, NoMemory> {
         nodes,
         connected: Items::new(alloc),
     };
-    Ok(Arc::new(alloc, joined)?)
+    Ok(Arc::new(alloc, Touchable::new(alloc, joined)?)?)
 }
 
 /// How often the frames of a probe went back while it looked, and the last one.

@@ -4,13 +4,13 @@ use Rattle.flat_base.specs.declared.ids.FenceNo.{FenceNo}
 use Rattle.flat_base.specs.declared.limits.TheConstants.{FIRST_CREDITS, FULL_CREDITS}
 use Rattle.flat_scene.specs.declared.calls.PresentArgs.{PresentArgs}
 use Rattle.flat_scene.specs.Frames.{is_ready}
-use Rattle.flat_queue.specs.declared.queue.Kept.{Kept}
+use Rattle.flat_queue.specs.declared.queue.WaitingPresent.{WaitingPresent}
 use Rattle.flat_queue.specs.declared.queue.Queued.{Queued}
 
 -- how many presents were taken, and those that wait, the oldest first
 pub record Line (T : Type 0) : Type 0 where
   pub taken : ℕ
-  pub waiting : List (Kept T)
+  pub waiting : List (WaitingPresent T)
 
 -- how many may wait, where so many were taken
 abbrev pub most_of : ℕ → ℕ
@@ -21,7 +21,7 @@ abbrev pub credits_of : {T : Type 0} → Line T → ℕ
 credits_of line = most_of line.taken - length line.waiting
 
 -- of the presents that wait, the longest prefix in which each is ready
-abbrev pub ready_of : {T : Type 0} → ℕ → (FenceNo → Bool) → List (Kept T) → List (Kept T)
+abbrev pub ready_of : {T : Type 0} → ℕ → (FenceNo → Bool) → List (WaitingPresent T) → List (WaitingPresent T)
 ready_of time is_signalled = take_while (λ kept. is_ready time is_signalled kept.args)
 
 -- one more waits

@@ -1,4 +1,5 @@
-ghost use Rattle.std.specs.Prelude.{◌≡◌, ◌↔◌, ◌+◌, ◌-◌, ◌^◌, ◌<◌, [], ◌∷◌, length, IfOk, IfErr, IfSome, IfNone, IsTrue, is_ok};
+ghost use Rattle.std.specs.Prelude.{◌≡◌, ◌↔◌, ◌+◌, ◌-◌, ◌^◌, ◌<◌, [], ◌∷◌, length, IfOk, IfErr};
+ghost use Rattle.std.specs.Prelude.{IfSome, IfNone, IsTrue, is_ok};
 ghost use Rattle.std.specs.List.{list_all};
 ghost use Rattle.flat_scene.specs.Frames.{is_ready};
 ghost use Rattle.flat_fence.specs.Fences.{has};
@@ -28,7 +29,7 @@ pub struct NoCredit<T> {
 
 /// A present that waits.
 #[derive(Debug, Drop)]
-pub struct Kept<T> {
+pub struct WaitingPresent<T> {
     pub item: T,
     pub args: PresentArgs,
 }
@@ -40,7 +41,7 @@ pub struct Kept<T> {
 /// Nothing but `new` takes memory.
 #[derive(Debug, Drop)]
 pub struct Queue<T> {
-    waiting: Roomy<Kept<T>>,
+    waiting: Roomy<WaitingPresent<T>>,
     taken: u32,
 }
 
@@ -52,7 +53,9 @@ impl<T> Model for Queue<T> {
 
     ghost view = { λ q. record { taken = q.taken; waiting = q.waiting.items } };
 
-    ghost invariant = { λ q. (5 ≤ q.waiting.room + length q.waiting.items) × (length q.waiting.items ≤ most_of q.taken) × (q.taken + length q.waiting.items < 2 ^ 32) };
+    ghost invariant = { λ q. (5 ≤ q.waiting.room + length q.waiting.items)
+        × (length q.waiting.items ≤ most_of q.taken)
+        × (q.taken + length q.waiting.items < 2 ^ 32) };
 }
 
 impl<T> Queue<T> {
@@ -89,7 +92,8 @@ impl<T> Queue<T> {
     pub fn push(&mut self, item: T, args: PresentArgs) -> Result<u32, NoCredit<T>>
         requires { self.old.taken + length self.old.waiting < 2 ^ 32 - 1 }
         ensures ok { IsTrue (is_ok result) ↔ (0 < credits_of self.old) }
-        ensures number { IfOk result (λ number. number ≡ self.old.taken + length self.old.waiting + 1) }
+        ensures number { IfOk result (λ number. number ≡ self.old.taken + length self.old.waiting
+            + 1) }
         ensures after { IfOk result (λ _. self.new ≡ pushed self.old item args) }
         ensures same { IfErr result (λ _. self.new ≡ self.old) }
         ensures back { IfErr result (λ back. (back.item ≡ item) × (back.args ≡ args)) }
@@ -98,7 +102,7 @@ impl<T> Queue<T> {
             return Err(NoCredit { item, args });
         }
         let number = self.taken + self.waiting.len() as u32 + 1;
-        self.waiting.push(Kept { item, args });
+        self.waiting.push(WaitingPresent { item, args });
         Ok(number)
     }
 
@@ -111,7 +115,7 @@ impl<T> Queue<T> {
         if self.waiting.len() == 0 {
             return None;
         }
-        let Kept { item, args } = self.waiting.remove(0);
+        let WaitingPresent { item, args } = self.waiting.remove(0);
         self.taken += 1;
         Some(Queued {
             item,
@@ -124,9 +128,12 @@ impl<T> Queue<T> {
     /// signalled; None exactly where nothing waits or the first isn't ready. So
     /// taking until None takes the ready prefix.
     pub fn take(&mut self, now: u64, fences: &FenceSet) -> Option<Queued<T>>
-        ensures none { IfNone result ((self.new ≡ self.old) × (ready_of now (has fences.now) self.old.waiting ≡ [])) }
+        ensures none { IfNone result ((self.new ≡ self.old)
+            × (ready_of now (has fences.now) self.old.waiting ≡ [])) }
         ensures first { IfSome result (λ queued. Gave queued self.old self.new) }
-        ensures ready { IfSome result (λ queued. ready_of now (has fences.now) self.old.waiting ≡ record { item = queued.item; args = queued.args } ∷ ready_of now (has fences.now) self.new.waiting) }
+        ensures ready { IfSome result (λ queued. ready_of now (has fences.now) self.old.waiting
+            ≡ record { item = queued.item; args = queued.args } ∷ ready_of now (has fences.now)
+            self.new.waiting) }
     {
         let first = self.waiting.as_slice().first()?;
         if is_ready(&first.args, now, fences) {

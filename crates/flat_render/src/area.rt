@@ -1,4 +1,5 @@
-ghost use Rattle.std.specs.Prelude.{◌≡◌, ◌<◌, ◌≤◌, ◌^◌, ℕ, nat_lt, int_lt, int_le, ◌&&◌, IsTrue, true, false};
+ghost use Rattle.std.specs.Prelude.{◌≡◌, ◌<◌, ◌≤◌, ◌^◌, ℕ, nat_lt, int_lt, int_le, ◌&&◌, IsTrue};
+ghost use Rattle.std.specs.Prelude.{true, false};
 ghost use Rattle.flat_geom.specs.Rectangles.{has_point, is_between};
 ghost use Rattle.flat_render.specs.Pixels.{centre};
 ghost use Rattle.flat_render.specs.Areas.{has_pixel, IsInArea, IsWindow};
@@ -27,7 +28,8 @@ fn centres_below(place: i64) -> usize
 
 /// The pixels whose centre is in a rectangle.
 pub fn area_of(r: Rect) -> Area
-    ensures { (px py : ℕ) → px < 2 ^ 29 → py < 2 ^ 29 → has_pixel result px py ≡ has_point r (centre px) (centre py) }
+    ensures { (px py : ℕ) → px < 2 ^ 29 → py < 2 ^ 29 → has_pixel result px py
+        ≡ has_point r (centre px) (centre py) }
 {
     Area {
         x0: centres_below(r.x0),
@@ -40,7 +42,8 @@ pub fn area_of(r: Rect) -> Area
 /// What two areas share.
 pub fn common(a: Area, b: Area) -> Area
     ensures within { IsInArea b result }
-    ensures pixels { (px py : ℕ) → has_pixel result px py ≡ (has_pixel a px py && has_pixel b px py) }
+    ensures pixels { (px py : ℕ) → has_pixel result px py
+        ≡ (has_pixel a px py && has_pixel b px py) }
 {
     Area {
         x0: a.x0.max(b.x0),
@@ -63,7 +66,8 @@ fn is_by(place: i64, p: usize) -> bool
 pub fn is_beside(low: i64, high: i64, from: usize, upto: usize) -> bool
     requires some { from < upto }
     requires near { upto < 2 ^ 29 }
-    ensures { IsTrue result → (p : ℕ) → from ≤ p → p < upto → is_between low high (centre p) ≡ false }
+    ensures { IsTrue result → (p : ℕ) → from ≤ p → p < upto → is_between low high (centre p)
+        ≡ false }
 {
     if is_by(high, from) {
         return true;
@@ -75,7 +79,8 @@ pub fn is_beside(low: i64, high: i64, from: usize, upto: usize) -> bool
 fn is_across(low: i64, high: i64, from: usize, upto: usize) -> bool
     requires some { from < upto }
     requires near { upto < 2 ^ 29 }
-    ensures { IsTrue result → (p : ℕ) → from ≤ p → p < upto → is_between low high (centre p) ≡ true }
+    ensures { IsTrue result → (p : ℕ) → from ≤ p → p < upto → is_between low high (centre p)
+        ≡ true }
 {
     if !is_by(low, from) {
         return false;
@@ -87,7 +92,8 @@ fn is_across(low: i64, high: i64, from: usize, upto: usize) -> bool
 /// one of the axes tell.
 pub fn is_missed(area: Area, r: Rect) -> bool
     requires { IsWindow area }
-    ensures { IsTrue result → (px py : ℕ) → has_pixel area px py ≡ true → has_point r (centre px) (centre py) ≡ false }
+    ensures { IsTrue result → (px py : ℕ) → has_pixel area px py ≡ true →
+        has_point r (centre px) (centre py) ≡ false }
 {
     if is_beside(r.x0, r.x1, area.x0, area.x1) {
         return true;
@@ -98,7 +104,8 @@ pub fn is_missed(area: Area, r: Rect) -> bool
 /// Whether a rectangle has the centres of all pixels of an area.
 pub fn is_covered(area: Area, r: Rect) -> bool
     requires { IsWindow area }
-    ensures { IsTrue result → (px py : ℕ) → has_pixel area px py ≡ true → has_point r (centre px) (centre py) ≡ true }
+    ensures { IsTrue result → (px py : ℕ) → has_pixel area px py ≡ true →
+        has_point r (centre px) (centre py) ≡ true }
 {
     if !is_across(r.x0, r.x1, area.x0, area.x1) {
         return false;

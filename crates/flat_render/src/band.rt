@@ -50,7 +50,8 @@ fn draw_each(items: &[DrawItem], grid: &Grid, row: usize, bytes: &mut [u8])
     requires row { row < grid.now.down }
     requires size { length bytes.old ≡ band_bytes grid.now }
     requires black { (m : ℕ) → m < length bytes.old → slice_index bytes.old m ≡ 0 }
-    ensures { (m : ℕ) → m < length bytes.old → slice_index bytes.new m ≡ drawn_at grid.now items.now (row * band_bytes grid.now + m) }
+    ensures { (m : ℕ) → m < length bytes.old → slice_index bytes.new m
+        ≡ drawn_at grid.now items.now (row * band_bytes grid.now + m) }
 {
     let size = bytes_of_tiles(grid);
     for n in 0..grid.across {
@@ -74,7 +75,8 @@ fn draw_picked(
     requires row { row < grid.now.down }
     requires size { length bytes.old ≡ band_bytes grid.now }
     requires black { (m : ℕ) → m < length bytes.old → slice_index bytes.old m ≡ 0 }
-    ensures { (m : ℕ) → m < length bytes.old → slice_index bytes.new m ≡ drawn_at grid.now items.now (row * band_bytes grid.now + m) }
+    ensures { (m : ℕ) → m < length bytes.old → slice_index bytes.new m
+        ≡ drawn_at grid.now items.now (row * band_bytes grid.now + m) }
 {
     let size = bytes_of_tiles(grid);
     for n in 0..grid.across {
@@ -100,7 +102,8 @@ pub fn draw_band(
     requires row { row < grid.now.down }
     requires size { length bytes.old ≡ band_bytes grid.now }
     requires black { (m : ℕ) → m < length bytes.old → slice_index bytes.old m ≡ 0 }
-    ensures { (m : ℕ) → m < length bytes.old → slice_index bytes.new m ≡ drawn_at grid.now items.now (row * band_bytes grid.now + m) }
+    ensures { (m : ℕ) → m < length bytes.old → slice_index bytes.new m
+        ≡ drawn_at grid.now items.now (row * band_bytes grid.now + m) }
 {
     if items.len() <= FEW {
         return draw_each(items, grid, row, bytes);

@@ -22,7 +22,10 @@ pub struct Brush {
 /// One channel of a fill.
 fn even(item: &DrawItem, s: u8, mix: Mix) -> Ink
     requires { IsDrawable item.now }
-    ensures { result ≡ record { shade = Shade.Even (tone item.now.blend item.now.opacity s); mix = mix } }
+    ensures { result ≡ record {
+      shade = Shade.Even (tone item.now.blend item.now.opacity s);
+      mix = mix;
+    } }
 {
     Ink {
         shade: Shade::Even(tone_of(item.blend, item.opacity, s)),

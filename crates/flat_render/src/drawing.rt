@@ -1,4 +1,5 @@
-ghost use Rattle.std.specs.Prelude.{◌≡◌, ◌+◌, ◌*◌, ◌/◌, ◌<◌, ℕ, All, if◌then◌else◌, length, slice_index};
+ghost use Rattle.std.specs.Prelude.{◌≡◌, ◌+◌, ◌*◌, ◌/◌, ◌<◌, ℕ, All, if◌then◌else◌, length};
+ghost use Rattle.std.specs.Prelude.{slice_index};
 ghost use Rattle.flat_drawable.specs.Drawable.{IsDrawable};
 ghost use Rattle.flat_render.specs.Areas.{has_pixel};
 ghost use Rattle.flat_render.specs.Bands.{rects_of};
@@ -30,7 +31,8 @@ pub fn draw_tiles(
     requires grid { IsGrid grid.now }
     requires size { length bytes.old ≡ grid_bytes grid.now }
     requires black { (i : ℕ) → i < length bytes.old → slice_index bytes.old i ≡ 0 }
-    ensures { (i : ℕ) → i < length bytes.old → slice_index bytes.new i ≡ drawn_at grid.now items.now i }
+    ensures { (i : ℕ) → i < length bytes.old → slice_index bytes.new i
+        ≡ drawn_at grid.now items.now i }
 {
     let size = bytes_of_bands(grid);
     par_chunks_mut_for_each(
@@ -38,8 +40,13 @@ pub fn draw_tiles(
         bytes,
         size,
         |start: usize, band: &mut [u8]|
-            requires { All IsDrawable items.now × (rects.now ≡ rects_of items.now) × IsGrid grid.now × (0 < size) × (start / size < grid.now.down) × (length band.old ≡ band_bytes grid.now) × ((m : ℕ) → m < length band.old → slice_index band.old m ≡ 0) }
-            ensures { (m : ℕ) → m < length band.old → slice_index band.new m ≡ drawn_at grid.entry.now items.entry.now (start / size * band_bytes grid.entry.now + m) }
+            requires { All IsDrawable items.now × (rects.now ≡ rects_of items.now) × IsGrid grid.now
+                × (0 < size) × (start / size < grid.now.down)
+                × (length band.old ≡ band_bytes grid.now)
+                × ((m : ℕ) → m < length band.old → slice_index band.old m ≡ 0) }
+            ensures { (m : ℕ) → m < length band.old → slice_index band.new m
+                ≡ drawn_at grid.entry.now items.entry.now (start / size * band_bytes grid.entry.now
+                + m) }
         { draw_band(alloc, items, rects, grid, start / size, band) },
     );
 }
@@ -49,7 +56,9 @@ fn redraw_tiles(items: &[DrawItem], grid: &Grid, window: Area, bytes: &mut [u8])
     requires items { All IsDrawable items.now }
     requires grid { IsGrid grid.now }
     requires size { length bytes.old ≡ grid_bytes grid.now }
-    ensures { (i : ℕ) → i < length bytes.old → slice_index bytes.new i ≡ (if has_pixel window (stored_x grid.now i) (stored_y grid.now i) then drawn_at grid.now items.now i else slice_index bytes.old i) }
+    ensures { (i : ℕ) → i < length bytes.old → slice_index bytes.new i
+        ≡ (if has_pixel window (stored_x grid.now i) (stored_y grid.now i) then drawn_at grid.now
+        items.now i else slice_index bytes.old i) }
 {
     let size = bytes_of_tiles(grid);
     for n in 0..count_of_tiles(grid) {
@@ -63,7 +72,9 @@ pub fn redraw_rects(items: &[DrawItem], grid: &Grid, rects: &[Rect], bytes: &mut
     requires items { All IsDrawable items.now }
     requires grid { IsGrid grid.now }
     requires size { length bytes.old ≡ grid_bytes grid.now }
-    ensures { (i : ℕ) → i < length bytes.old → slice_index bytes.new i ≡ (if is_in_any rects.now (stored_x grid.now i) (stored_y grid.now i) then drawn_at grid.now items.now i else slice_index bytes.old i) }
+    ensures { (i : ℕ) → i < length bytes.old → slice_index bytes.new i
+        ≡ (if is_in_any rects.now (stored_x grid.now i) (stored_y grid.now i) then drawn_at grid.now
+        items.now i else slice_index bytes.old i) }
 {
     for rect in rects {
         redraw_tiles(items, grid, area_of(*rect), bytes);

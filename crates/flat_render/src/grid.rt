@@ -1,5 +1,6 @@
 ghost use Rattle.std.specs.Prelude.{◌≡◌, ◌+◌, ◌*◌, ◌<◌, ◌≤◌};
-ghost use Rattle.flat_render.specs.Grids.{tile_of, tile_count, tile_size, tile_bytes, band_bytes, grid_bytes, place_of, run_of, IsGrid};
+ghost use Rattle.flat_render.specs.Grids.{tile_of, tile_count, tile_size, tile_bytes, band_bytes};
+ghost use Rattle.flat_render.specs.Grids.{grid_bytes, place_of, run_of, IsGrid};
 ghost use Rattle.flat_render.specs.Tiles.{IsTile};
 
 use crate::tile::{CHANNELS, TILE_SIDE, Tile};

@@ -110,7 +110,8 @@ pub fn wash(s: u8, line: &mut [u8])
 
 /// Mixes one value with a line of pixels, weighted so.
 pub fn veil(weight: u8, s: u8, line: &mut [u8])
-    ensures { (i : ℕ) → i < length line.old → slice_index line.new i ≡ covered weight s (slice_index line.old i) }
+    ensures { (i : ℕ) → i < length line.old → slice_index line.new i
+        ≡ covered weight s (slice_index line.old i) }
 {
     for i in 0..line.len() {
         line[i] = cover(weight, s, line[i]);
@@ -120,7 +121,8 @@ pub fn veil(weight: u8, s: u8, line: &mut [u8])
 /// Mixes a value for each pixel with a line of them, weighted so.
 fn weave(weight: u8, values: &[u8], line: &mut [u8])
     requires { length line.old ≤ length values.now }
-    ensures { (i : ℕ) → i < length line.old → slice_index line.new i ≡ covered weight (slice_index values.now i) (slice_index line.old i) }
+    ensures { (i : ℕ) → i < length line.old → slice_index line.new i
+        ≡ covered weight (slice_index values.now i) (slice_index line.old i) }
 {
     for i in 0..line.len() {
         line[i] = cover(weight, values[i], line[i]);
@@ -130,7 +132,8 @@ fn weave(weight: u8, values: &[u8], line: &mut [u8])
 /// Mixes one value with a line of pixels.
 #[inline(always)]
 pub fn mix_one(mix: Mix, s: u8, line: &mut [u8])
-    ensures { (i : ℕ) → i < length line.old → slice_index line.new i ≡ mixed mix s (slice_index line.old i) }
+    ensures { (i : ℕ) → i < length line.old → slice_index line.new i
+        ≡ mixed mix s (slice_index line.old i) }
 {
     match mix {
         Mix::Replace => wash(s, line),
@@ -181,7 +184,8 @@ fn copy(values: &[u8], line: &mut [u8])
 #[inline(always)]
 pub fn mix_each(mix: Mix, values: &[u8], line: &mut [u8])
     requires { length line.old ≤ length values.now }
-    ensures { (i : ℕ) → i < length line.old → slice_index line.new i ≡ mixed mix (slice_index values.now i) (slice_index line.old i) }
+    ensures { (i : ℕ) → i < length line.old → slice_index line.new i
+        ≡ mixed mix (slice_index values.now i) (slice_index line.old i) }
 {
     match mix {
         Mix::Replace => copy(values, line),

@@ -1,4 +1,7 @@
 //! The software renderer: the picture of a draw list, computed in tiles.
+//!
+//! `render` (rendering) gives each pixel the colour of specs/Pixels; tiles (tile, grid,
+//! drawing) and what is left out (sorting) are in no answer.
 #![tactic(auto)]
 
 mod area;

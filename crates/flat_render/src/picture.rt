@@ -65,7 +65,9 @@ impl Picture {
         requires { All IsDrawable items.now }
         ensures width { width_of self.new ≡ width_of self.old }
         ensures height { height_of self.new ≡ height_of self.old }
-        ensures pixels { (x y : ℕ) → x < width_of self.old → y < height_of self.old → pixel_of self.new x y ≡ (if is_in_any rects.now x y then pixel items.now x y else pixel_of self.old x y) }
+        ensures pixels { (x y : ℕ) → x < width_of self.old → y < height_of self.old →
+            pixel_of self.new x y ≡ (if is_in_any rects.now x y then pixel items.now x y else
+            pixel_of self.old x y) }
     {
         redraw_rects(
             items.as_slice(),

@@ -1,4 +1,5 @@
-ghost use Rattle.std.specs.Prelude.{◌≡◌, ◌+◌, ◌*◌, ◌<◌, ◌≤◌, ◌++◌, ℕ, List, [], ◌∷◌, IfOk, OnOk, length, slice_index};
+ghost use Rattle.std.specs.Prelude.{◌≡◌, ◌+◌, ◌*◌, ◌<◌, ◌≤◌, ◌++◌, ℕ, List, [], ◌∷◌, IfOk, OnOk};
+ghost use Rattle.std.specs.Prelude.{length, slice_index};
 ghost use Rattle.std.specs.List.{flat_map, range_with_len};
 ghost use Rattle.flat_render.specs.Pictures.{Shows, width_of, height_of, pixel_of};
 ghost use Rattle.flat_render.specs.Ppm.{header, row_bytes, ppm_bytes};
@@ -25,7 +26,10 @@ fn push_run(
     count: usize,
 ) -> Result<(), NoMemory>
     requires { first + 2 * size + count ≤ length bytes.now }
-    ensures { OnOk result (out.new.items ≡ out.old.items ++ flat_map (λ i. slice_index bytes.now (first + i) ∷ slice_index bytes.now (first + size + i) ∷ slice_index bytes.now (first + 2 * size + i) ∷ []) (range_with_len 0 count)) }
+    ensures { OnOk result (out.new.items
+        ≡ out.old.items ++ flat_map (λ i. slice_index bytes.now (first + i) ∷ slice_index bytes.now
+        (first + size + i) ∷ slice_index bytes.now (first + 2 * size + i) ∷ []) (range_with_len 0
+        count)) }
 {
     for i in 0..count {
         let colour = [
@@ -41,7 +45,8 @@ fn push_run(
 /// Appends the colours of a row, tile by tile.
 fn push_row(out: &mut Vec<u8>, picture: &Picture, y: u32) -> Result<(), NoMemory>
     requires { y < height_of picture.now }
-    ensures { OnOk result (out.new.items ≡ out.old.items ++ row_bytes (pixel_of picture.now) (width_of picture.now) y) }
+    ensures { OnOk result (out.new.items ≡ out.old.items ++ row_bytes (pixel_of picture.now)
+        (width_of picture.now) y) }
 {
     let grid = &picture.grid;
     let size = size_of_tiles(grid);
@@ -56,8 +61,10 @@ fn push_row(out: &mut Vec<u8>, picture: &Picture, y: u32) -> Result<(), NoMemory
 /// The bytes of a picture in the form `P6`: a header with the sides, and three
 /// bytes for each pixel, by rows from the top.
 pub fn ppm_of(alloc: Global, picture: &Picture) -> Result<Vec<u8>, NoMemory>
-    ensures bytes { IfOk result (λ out. out.items ≡ ppm_bytes (width_of picture.now) (height_of picture.now) (pixel_of picture.now)) }
-    ensures shown { (w h : ℕ) (colour : ℕ → ℕ → List ℕ) → Shows picture.now w h colour → IfOk result (λ out. out.items ≡ ppm_bytes w h colour) }
+    ensures bytes { IfOk result (λ out. out.items
+        ≡ ppm_bytes (width_of picture.now) (height_of picture.now) (pixel_of picture.now)) }
+    ensures shown { (w h : ℕ) (colour : ℕ → ℕ → List ℕ) → Shows picture.now w h colour →
+        IfOk result (λ out. out.items ≡ ppm_bytes w h colour) }
 {
     let mut out = start(alloc, picture.width(), picture.height())?;
     for y in 0..picture.height() {

@@ -1,4 +1,5 @@
-ghost use Rattle.std.specs.Prelude.{◌≡◌, ◌+◌, ◌*◌, ◌<◌, ◌≤◌, ◌++◌, ◌∷◌, [], ℕ, false, All, IfOk, OnOk, length, if◌then◌else◌, slice_index_or};
+ghost use Rattle.std.specs.Prelude.{◌≡◌, ◌+◌, ◌*◌, ◌<◌, ◌≤◌, ◌++◌, ◌∷◌, [], ℕ, false, All, IfOk};
+ghost use Rattle.std.specs.Prelude.{OnOk, length, if◌then◌else◌, slice_index_or};
 ghost use Rattle.flat_drawable.specs.Drawable.{IsDrawable};
 ghost use Rattle.flat_geom.specs.Rectangles.{has_point};
 ghost use Rattle.flat_render.specs.Areas.{is_among};
@@ -25,7 +26,10 @@ fn columns_of(grid: &Grid, row: usize, r: Rect) -> Columns
     requires grid { IsGrid grid.now }
     requires row { row < grid.now.down }
     ensures within { result.upto ≤ grid.now.across }
-    ensures others { (c px py : ℕ) → c < grid.now.across → c * grid.now.tile_w ≤ px → px < c * grid.now.tile_w + grid.now.tile_w → row * grid.now.tile_h ≤ py → py < row * grid.now.tile_h + grid.now.tile_h → is_among result.from result.upto c ≡ false → has_point r (centre px) (centre py) ≡ false }
+    ensures others { (c px py : ℕ) → c < grid.now.across → c * grid.now.tile_w ≤ px →
+        px < c * grid.now.tile_w + grid.now.tile_w → row * grid.now.tile_h ≤ py →
+        py < row * grid.now.tile_h + grid.now.tile_h → is_among result.from result.upto c ≡ false →
+        has_point r (centre px) (centre py) ≡ false }
 {
     let top = row * grid.tile_h;
     if is_beside(r.y0, r.y1, top, top + grid.tile_h) {
@@ -76,7 +80,8 @@ pub fn sorted(
     requires rects { rects.now ≡ rects_of items.now }
     requires grid { IsGrid grid.now }
     requires row { row < grid.now.down }
-    ensures { IfOk result (λ lists. AreChoices grid.now row items.now lists.items (length items.now)) }
+    ensures { IfOk result (λ lists. AreChoices grid.now row items.now lists.items
+        (length items.now)) }
 {
     let mut lists = empties(alloc, grid.across)?;
     for n in 0..items.len() {

@@ -1,12 +1,16 @@
-ghost use Rattle.std.specs.Prelude.{◌≡◌, ◌+◌, ◌*◌, ◌%◌, ◌-◌, ◌<◌, ◌≤◌, ◌≤ℤ◌, ℕ, pos, true, if◌then◌else◌, length, slice_index};
+ghost use Rattle.std.specs.Prelude.{◌≡◌, ◌+◌, ◌*◌, ◌%◌, ◌-◌, ◌<◌, ◌≤◌, ◌≤ℤ◌, ℕ, pos, true};
+ghost use Rattle.std.specs.Prelude.{if◌then◌else◌, length, slice_index};
 ghost use Rattle.flat_drawable.specs.Drawable.{full_rect as full_rect_of, IsSample};
 ghost use Rattle.flat_geom.specs.Rectangles.{is_between};
 ghost use Rattle.flat_render.specs.Areas.{has_pixel};
 ghost use Rattle.flat_scene.specs.declared.frames.Paint.TheVariants.{Image};
 ghost use Rattle.flat_render.specs.Colours.{replaced};
 ghost use Rattle.flat_render.specs.Inks.{shade_at, tone, IsShade};
-ghost use Rattle.flat_render.specs.Pixels.{centre, flipped_column, flipped_row, buffer_column, buffer_row, along_x, along_y, column_axis, row_axis};
-ghost use Rattle.flat_render.specs.Textures.{texture_red, texture_green, texture_blue, rises_across, rises_down, stride_of, IsBelow, IsTable, IsTextureOf};
+ghost use Rattle.flat_render.specs.Pixels.{centre, flipped_column, flipped_row, buffer_column};
+ghost use Rattle.flat_render.specs.Pixels.{buffer_row, along_x, along_y, column_axis, row_axis};
+ghost use Rattle.flat_render.specs.Textures.{texture_red, texture_green, texture_blue};
+ghost use Rattle.flat_render.specs.Textures.{rises_across, rises_down, stride_of, IsBelow, IsTable};
+ghost use Rattle.flat_render.specs.Textures.{IsTextureOf};
 
 use crate::area::Area;
 use crate::axis::{Axis, is_by_units, part};
@@ -149,7 +153,8 @@ fn row(axis: Axis, sample: IntRect, flip: ImageFlip, p: usize) -> u32
 fn red_of(texture: &Texture, p: usize) -> u8
     requires sample { IsSample texture.now.sample }
     requires opacity { texture.now.opacity ≤ OPACITY_MAX }
-    requires within { is_between texture.now.columns.low texture.now.columns.high (centre p) ≡ true }
+    requires within { is_between texture.now.columns.low texture.now.columns.high (centre p)
+        ≡ true }
     ensures { result ≡ texture_red texture.now p }
 {
     let column = column(texture.columns, texture.sample, texture.flip, p);
@@ -220,7 +225,8 @@ fn strides(first: u8, stride: u32) -> [u8; TILE_SIDE]
 fn replace_all(opacity: u32, values: [u8; TILE_SIDE]) -> [u8; TILE_SIDE]
     requires { opacity ≤ OPACITY_MAX }
     ensures size { length result ≡ 64 }
-    ensures values { (i : ℕ) → i < 64 → slice_index result i ≡ replaced opacity (slice_index values i) }
+    ensures values { (i : ℕ) → i < 64 → slice_index result i
+        ≡ replaced opacity (slice_index values i) }
 {
     let mut table = values;
     for i in 0..TILE_SIDE {
@@ -233,7 +239,8 @@ fn replace_all(opacity: u32, values: [u8; TILE_SIDE]) -> [u8; TILE_SIDE]
 fn tones_of(blend: BlendMode, opacity: u32, values: [u8; TILE_SIDE]) -> [u8; TILE_SIDE]
     requires { opacity ≤ OPACITY_MAX }
     ensures size { length result ≡ 64 }
-    ensures values { (i : ℕ) → i < 64 → slice_index result i ≡ tone blend opacity (slice_index values i) }
+    ensures values { (i : ℕ) → i < 64 → slice_index result i
+        ≡ tone blend opacity (slice_index values i) }
 {
     match blend {
         BlendMode::SrcOver => values,
@@ -247,7 +254,8 @@ fn each_red(texture: &Texture, from: usize, upto: usize) -> [u8; TILE_SIDE]
     requires sample { IsSample texture.now.sample }
     requires opacity { texture.now.opacity ≤ OPACITY_MAX }
     requires room { upto ≤ from + 64 }
-    requires within { (p : ℕ) → from ≤ p → p < upto → is_between texture.now.columns.low texture.now.columns.high (centre p) ≡ true }
+    requires within { (p : ℕ) → from ≤ p → p < upto →
+        is_between texture.now.columns.low texture.now.columns.high (centre p) ≡ true }
     ensures { IsTable (texture_red texture.now) from upto result }
 {
     let mut table = [0; TILE_SIDE];
@@ -262,7 +270,8 @@ fn each_green(texture: &Texture, from: usize, upto: usize) -> [u8; TILE_SIDE]
     requires sample { IsSample texture.now.sample }
     requires opacity { texture.now.opacity ≤ OPACITY_MAX }
     requires room { upto ≤ from + 64 }
-    requires within { (p : ℕ) → from ≤ p → p < upto → is_between texture.now.rows.low texture.now.rows.high (centre p) ≡ true }
+    requires within { (p : ℕ) → from ≤ p → p < upto →
+        is_between texture.now.rows.low texture.now.rows.high (centre p) ≡ true }
     ensures { IsTable (texture_green texture.now) from upto result }
 {
     let mut table = [0; TILE_SIDE];
@@ -278,7 +287,8 @@ fn reds(texture: &Texture, from: usize, upto: usize) -> [u8; TILE_SIDE]
     requires sample { IsSample texture.now.sample }
     requires opacity { texture.now.opacity ≤ OPACITY_MAX }
     requires room { upto ≤ from + 64 }
-    requires within { (p : ℕ) → from ≤ p → p < upto → is_between texture.now.columns.low texture.now.columns.high (centre p) ≡ true }
+    requires within { (p : ℕ) → from ≤ p → p < upto →
+        is_between texture.now.columns.low texture.now.columns.high (centre p) ≡ true }
     ensures { IsTable (texture_red texture.now) from upto result }
 {
     if from >= upto {
@@ -299,7 +309,8 @@ fn greens(texture: &Texture, from: usize, upto: usize) -> [u8; TILE_SIDE]
     requires sample { IsSample texture.now.sample }
     requires opacity { texture.now.opacity ≤ OPACITY_MAX }
     requires room { upto ≤ from + 64 }
-    requires within { (p : ℕ) → from ≤ p → p < upto → is_between texture.now.rows.low texture.now.rows.high (centre p) ≡ true }
+    requires within { (p : ℕ) → from ≤ p → p < upto →
+        is_between texture.now.rows.low texture.now.rows.high (centre p) ≡ true }
     ensures { IsTable (texture_green texture.now) from upto result }
 {
     if from >= upto {
@@ -322,7 +333,9 @@ pub fn red_shade(texture: &Texture, cut: Area) -> Shade
     requires rows { cut.y1 ≤ cut.y0 + 64 }
     requires below { IsBelow texture.now cut }
     ensures shade { IsShade result }
-    ensures values { (px py : ℕ) → has_pixel cut px py ≡ true → shade_at result (px - cut.x0) (py - cut.y0) ≡ texture_red texture.now (if texture.now.swap then py else px) }
+    ensures values { (px py : ℕ) → has_pixel cut px py ≡ true →
+        shade_at result (px - cut.x0) (py - cut.y0)
+        ≡ texture_red texture.now (if texture.now.swap then py else px) }
 {
     if texture.swap {
         Shade::Down(reds(texture, cut.y0, cut.y1))
@@ -339,7 +352,9 @@ pub fn green_shade(texture: &Texture, cut: Area) -> Shade
     requires rows { cut.y1 ≤ cut.y0 + 64 }
     requires below { IsBelow texture.now cut }
     ensures shade { IsShade result }
-    ensures values { (px py : ℕ) → has_pixel cut px py ≡ true → shade_at result (px - cut.x0) (py - cut.y0) ≡ texture_green texture.now (if texture.now.swap then px else py) }
+    ensures values { (px py : ℕ) → has_pixel cut px py ≡ true →
+        shade_at result (px - cut.x0) (py - cut.y0)
+        ≡ texture_green texture.now (if texture.now.swap then px else py) }
 {
     if texture.swap {
         Shade::Across(greens(texture, cut.x0, cut.x1))

@@ -1,4 +1,5 @@
-ghost use Rattle.std.specs.Prelude.{◌≡◌, ◌*◌, ◌<◌, ◌≤◌, ◌-◌, ℕ, length, slice_index, if◌then◌else◌, All, IsTrue, true, false, drop};
+ghost use Rattle.std.specs.Prelude.{◌≡◌, ◌*◌, ◌<◌, ◌≤◌, ◌-◌, ℕ, length, slice_index, if◌then◌else◌};
+ghost use Rattle.std.specs.Prelude.{All, IsTrue, true, false, drop};
 ghost use Rattle.flat_drawable.specs.Drawable.{IsDrawable};
 ghost use Rattle.flat_render.specs.Areas.{has_pixel, IsInArea, IsWindow};
 ghost use Rattle.flat_render.specs.Channels.{channel_step, channel_after};
@@ -6,7 +7,8 @@ ghost use Rattle.flat_render.specs.Colours.{covered};
 ghost use Rattle.flat_render.specs.Hiding.{HidesIn};
 ghost use Rattle.flat_render.specs.Inks.{inked, mixed, IsShade};
 ghost use Rattle.flat_render.specs.Pixels.{covers};
-ghost use Rattle.flat_render.specs.Tiles.{x_of, y_of, x_at, y_at, channel_at, pixels_of, tile_area, IsTile};
+ghost use Rattle.flat_render.specs.Tiles.{x_of, y_of, x_at, y_at, channel_at, pixels_of, tile_area};
+ghost use Rattle.flat_render.specs.Tiles.{IsTile};
 
 use crate::area::{Area, area_of, common, is_covered, is_missed};
 use crate::brush::brush_for;
@@ -50,7 +52,8 @@ fn wash_rows(s: u8, tile: Tile, cut: Area, plane: &mut [u8])
     requires size { length plane.old ≡ pixels_of tile }
     requires cut { IsInArea (tile_area tile) cut }
     requires some { IsWindow cut }
-    ensures { (k : ℕ) → k < length plane.old → slice_index plane.new k ≡ (if has_pixel cut (x_of tile k) (y_of tile k) then s else slice_index plane.old k) }
+    ensures { (k : ℕ) → k < length plane.old → slice_index plane.new k
+        ≡ (if has_pixel cut (x_of tile k) (y_of tile k) then s else slice_index plane.old k) }
 {
     for py in cut.y0..cut.y1 {
         let row = (py - tile.top) * tile.width;
@@ -65,7 +68,9 @@ fn veil_rows(weight: u8, s: u8, tile: Tile, cut: Area, plane: &mut [u8])
     requires size { length plane.old ≡ pixels_of tile }
     requires cut { IsInArea (tile_area tile) cut }
     requires some { IsWindow cut }
-    ensures { (k : ℕ) → k < length plane.old → slice_index plane.new k ≡ (if has_pixel cut (x_of tile k) (y_of tile k) then covered weight s (slice_index plane.old k) else slice_index plane.old k) }
+    ensures { (k : ℕ) → k < length plane.old → slice_index plane.new k
+        ≡ (if has_pixel cut (x_of tile k) (y_of tile k) then covered weight s
+        (slice_index plane.old k) else slice_index plane.old k) }
 {
     for py in cut.y0..cut.y1 {
         let row = (py - tile.top) * tile.width;
@@ -81,7 +86,9 @@ fn mix_plane(mix: Mix, s: u8, tile: Tile, cut: Area, plane: &mut [u8])
     requires size { length plane.old ≡ pixels_of tile }
     requires cut { IsInArea (tile_area tile) cut }
     requires some { IsWindow cut }
-    ensures { (k : ℕ) → k < length plane.old → slice_index plane.new k ≡ (if has_pixel cut (x_of tile k) (y_of tile k) then mixed mix s (slice_index plane.old k) else slice_index plane.old k) }
+    ensures { (k : ℕ) → k < length plane.old → slice_index plane.new k
+        ≡ (if has_pixel cut (x_of tile k) (y_of tile k) then mixed mix s (slice_index plane.old k)
+        else slice_index plane.old k) }
 {
     if cut.x1 - cut.x0 < tile.width {
         return match mix {
@@ -102,7 +109,10 @@ fn mix_across(mix: Mix, values: &[u8], tile: Tile, cut: Area, plane: &mut [u8])
     requires size { length plane.old ≡ pixels_of tile }
     requires cut { IsInArea (tile_area tile) cut }
     requires some { IsWindow cut }
-    ensures { (k : ℕ) → k < length plane.old → slice_index plane.new k ≡ (if has_pixel cut (x_of tile k) (y_of tile k) then mixed mix (slice_index values.now (x_of tile k - cut.x0)) (slice_index plane.old k) else slice_index plane.old k) }
+    ensures { (k : ℕ) → k < length plane.old → slice_index plane.new k
+        ≡ (if has_pixel cut (x_of tile k) (y_of tile k) then mixed mix
+        (slice_index values.now (x_of tile k - cut.x0)) (slice_index plane.old k) else slice_index
+        plane.old k) }
 {
     for py in cut.y0..cut.y1 {
         let row = (py - tile.top) * tile.width;
@@ -118,7 +128,10 @@ fn mix_down(mix: Mix, values: &[u8], tile: Tile, cut: Area, plane: &mut [u8])
     requires size { length plane.old ≡ pixels_of tile }
     requires cut { IsInArea (tile_area tile) cut }
     requires some { IsWindow cut }
-    ensures { (k : ℕ) → k < length plane.old → slice_index plane.new k ≡ (if has_pixel cut (x_of tile k) (y_of tile k) then mixed mix (slice_index values.now (y_of tile k - cut.y0)) (slice_index plane.old k) else slice_index plane.old k) }
+    ensures { (k : ℕ) → k < length plane.old → slice_index plane.new k
+        ≡ (if has_pixel cut (x_of tile k) (y_of tile k) then mixed mix
+        (slice_index values.now (y_of tile k - cut.y0)) (slice_index plane.old k) else slice_index
+        plane.old k) }
 {
     for py in cut.y0..cut.y1 {
         let row = (py - tile.top) * tile.width;
@@ -134,7 +147,10 @@ fn lay_plane(ink: &Ink, tile: Tile, cut: Area, plane: &mut [u8])
     requires size { length plane.old ≡ pixels_of tile }
     requires cut { IsInArea (tile_area tile) cut }
     requires some { IsWindow cut }
-    ensures { (k : ℕ) → k < length plane.old → slice_index plane.new k ≡ (if has_pixel cut (x_of tile k) (y_of tile k) then inked ink.now (x_of tile k - cut.x0) (y_of tile k - cut.y0) (slice_index plane.old k) else slice_index plane.old k) }
+    ensures { (k : ℕ) → k < length plane.old → slice_index plane.new k
+        ≡ (if has_pixel cut (x_of tile k) (y_of tile k) then inked ink.now
+        (x_of tile k - cut.x0) (y_of tile k - cut.y0) (slice_index plane.old k) else slice_index
+        plane.old k) }
 {
     match &ink.shade {
         Shade::Even(value) => mix_plane(ink.mix, *value, tile, cut, plane),
@@ -151,8 +167,12 @@ fn ink_channel(c: usize, ink: &Ink, tile: Tile, cut: Area, bytes: &mut [u8])
     requires size { length bytes.old ≡ 3 * pixels_of tile }
     requires cut { IsInArea (tile_area tile) cut }
     requires some { IsWindow cut }
-    ensures there { (m : ℕ) → m < length bytes.old → channel_at tile m ≡ c → slice_index bytes.new m ≡ (if has_pixel cut (x_at tile m) (y_at tile m) then inked ink.now (x_at tile m - cut.x0) (y_at tile m - cut.y0) (slice_index bytes.old m) else slice_index bytes.old m) }
-    ensures others { (m : ℕ) → m < length bytes.old → (channel_at tile m ≡ c → ⊥) → slice_index bytes.new m ≡ slice_index bytes.old m }
+    ensures there { (m : ℕ) → m < length bytes.old → channel_at tile m ≡ c → slice_index bytes.new m
+        ≡ (if has_pixel cut (x_at tile m) (y_at tile m) then inked ink.now
+        (x_at tile m - cut.x0) (y_at tile m - cut.y0) (slice_index bytes.old m) else slice_index
+        bytes.old m) }
+    ensures others { (m : ℕ) → m < length bytes.old → (channel_at tile m ≡ c → ⊥) →
+        slice_index bytes.new m ≡ slice_index bytes.old m }
 {
     let size = tile.width * tile.height;
     let plane = &mut bytes[c * size..c * size + size];
@@ -167,7 +187,10 @@ fn paint_cut(item: &DrawItem, tile: Tile, cut: Area, bytes: &mut [u8])
     requires cut { IsInArea (tile_area tile) cut }
     requires some { IsWindow cut }
     requires covered { (px py : ℕ) → has_pixel cut px py ≡ true → covers item.now px py ≡ true }
-    ensures { (m : ℕ) → m < length bytes.old → slice_index bytes.new m ≡ (if has_pixel cut (x_at tile m) (y_at tile m) then channel_step (channel_at tile m) item.now (x_at tile m) (y_at tile m) (slice_index bytes.old m) else slice_index bytes.old m) }
+    ensures { (m : ℕ) → m < length bytes.old → slice_index bytes.new m
+        ≡ (if has_pixel cut (x_at tile m) (y_at tile m) then channel_step (channel_at tile m)
+        item.now (x_at tile m) (y_at tile m) (slice_index bytes.old m) else slice_index bytes.old
+        m) }
 {
     let brush = brush_for(item, cut);
     ink_channel(0, &brush.red, tile, cut, bytes);
@@ -182,7 +205,10 @@ fn paint_item(item: &DrawItem, tile: Tile, window: Area, bytes: &mut [u8])
     requires size { length bytes.old ≡ 3 * pixels_of tile }
     requires window { IsInArea (tile_area tile) window }
     requires some { IsWindow window }
-    ensures { (m : ℕ) → m < length bytes.old → slice_index bytes.new m ≡ (if has_pixel window (x_at tile m) (y_at tile m) then channel_step (channel_at tile m) item.now (x_at tile m) (y_at tile m) (slice_index bytes.old m) else slice_index bytes.old m) }
+    ensures { (m : ℕ) → m < length bytes.old → slice_index bytes.new m
+        ≡ (if has_pixel window (x_at tile m) (y_at tile m) then channel_step (channel_at tile m)
+        item.now (x_at tile m) (y_at tile m) (slice_index bytes.old m) else slice_index bytes.old
+        m) }
 {
     if is_missed(window, item.visible) {
         return;
@@ -204,7 +230,10 @@ fn paint_all(items: &[DrawItem], tile: Tile, window: Area, bytes: &mut [u8])
     requires size { length bytes.old ≡ 3 * pixels_of tile }
     requires window { IsInArea (tile_area tile) window }
     requires some { IsWindow window }
-    ensures { (m : ℕ) → m < length bytes.old → slice_index bytes.new m ≡ (if has_pixel window (x_at tile m) (y_at tile m) then channel_after (channel_at tile m) items.now (x_at tile m) (y_at tile m) (slice_index bytes.old m) else slice_index bytes.old m) }
+    ensures { (m : ℕ) → m < length bytes.old → slice_index bytes.new m
+        ≡ (if has_pixel window (x_at tile m) (y_at tile m) then channel_after (channel_at tile m)
+        items.now (x_at tile m) (y_at tile m) (slice_index bytes.old m) else slice_index bytes.old
+        m) }
 {
     for n in 0..items.len() {
         paint_item(&items[n], tile, window, bytes);
@@ -217,7 +246,8 @@ fn blacken(tile: Tile, window: Area, bytes: &mut [u8])
     requires size { length bytes.old ≡ 3 * pixels_of tile }
     requires window { IsInArea (tile_area tile) window }
     requires some { IsWindow window }
-    ensures { (m : ℕ) → m < length bytes.old → slice_index bytes.new m ≡ (if has_pixel window (x_at tile m) (y_at tile m) then 0 else slice_index bytes.old m) }
+    ensures { (m : ℕ) → m < length bytes.old → slice_index bytes.new m
+        ≡ (if has_pixel window (x_at tile m) (y_at tile m) then 0 else slice_index bytes.old m) }
 {
     let black = Ink {
         shade: Shade::Even(0),
@@ -244,7 +274,8 @@ fn hides(item: &DrawItem, window: Area) -> bool
 fn first_seen(items: &[DrawItem], window: Area) -> usize
     requires { IsWindow window }
     ensures there { result ≤ length items.now }
-    ensures same { (c px py : ℕ) → has_pixel window px py ≡ true → channel_after c items.now px py 0 ≡ channel_after c (drop result items.now) px py 0 }
+    ensures same { (c px py : ℕ) → has_pixel window px py ≡ true → channel_after c items.now px py 0
+        ≡ channel_after c (drop result items.now) px py 0 }
 {
     for n in 0..items.len() {
         let place = items.len() - 1 - n;
@@ -261,7 +292,8 @@ pub fn draw(items: &[DrawItem], tile: Tile, bytes: &mut [u8])
     requires tile { IsTile tile }
     requires size { length bytes.old ≡ 3 * pixels_of tile }
     requires black { (m : ℕ) → m < length bytes.old → slice_index bytes.old m ≡ 0 }
-    ensures { (m : ℕ) → m < length bytes.old → slice_index bytes.new m ≡ channel_after (channel_at tile m) items.now (x_at tile m) (y_at tile m) 0 }
+    ensures { (m : ℕ) → m < length bytes.old → slice_index bytes.new m
+        ≡ channel_after (channel_at tile m) items.now (x_at tile m) (y_at tile m) 0 }
 {
     let window = area(tile);
     let first = first_seen(items, window);
@@ -273,7 +305,9 @@ pub fn draw_anew(items: &[DrawItem], tile: Tile, window: Area, bytes: &mut [u8])
     requires items { All IsDrawable items.now }
     requires tile { IsTile tile }
     requires size { length bytes.old ≡ 3 * pixels_of tile }
-    ensures { (m : ℕ) → m < length bytes.old → slice_index bytes.new m ≡ (if has_pixel window (x_at tile m) (y_at tile m) then channel_after (channel_at tile m) items.now (x_at tile m) (y_at tile m) 0 else slice_index bytes.old m) }
+    ensures { (m : ℕ) → m < length bytes.old → slice_index bytes.new m
+        ≡ (if has_pixel window (x_at tile m) (y_at tile m) then channel_after (channel_at tile m)
+        items.now (x_at tile m) (y_at tile m) 0 else slice_index bytes.old m) }
 {
     let cut = common(window, area(tile));
     if cut.x0 >= cut.x1 {

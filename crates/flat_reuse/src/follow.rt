@@ -1,4 +1,5 @@
-ghost use Rattle.std.specs.Prelude.{◌≡◌, ◌↔◌, ◌<◌, ◌≤◌, length, IfOk, IsTrue, OnOk, Some, None, option_map, slice_index_or, ℕ};
+ghost use Rattle.std.specs.Prelude.{◌≡◌, ◌↔◌, ◌<◌, ◌≤◌, length, IfOk, IsTrue, OnOk, Some, None};
+ghost use Rattle.std.specs.Prelude.{option_map, slice_index_or, ℕ};
 ghost use Rattle.std.specs.Arc.{arc_value};
 ghost use Rattle.flat_topology.specs.Changes.{AreSame};
 ghost use Rattle.flat_reuse.specs.Keeping.{AreFitted};
@@ -13,7 +14,8 @@ use std::sync::Arc;
 
 /// Whether two states are of one tree.
 fn is_same(one: Option<&Arc<Snapshot>>, other: Option<&Arc<Snapshot>>) -> bool
-    ensures { IsTrue result ↔ (option_map (λ state. arc_value state.now) one.entry ≡ option_map (λ state. arc_value state.now) other.entry) }
+    ensures { IsTrue result ↔ (option_map (λ state. arc_value state.now) one.entry
+        ≡ option_map (λ state. arc_value state.now) other.entry) }
 {
     match one {
         Some(one) => match other {
@@ -40,7 +42,8 @@ pub fn differing(old: &Shown, new: &Shown) -> SessionSet
 }
 
 fn shared(state: Option<&Arc<Snapshot>>) -> Result<Option<Arc<Snapshot>>, NoMemory>
-    ensures { IfOk result (λ shared. option_map arc_value shared ≡ option_map (λ state. arc_value state.now) state.entry) }
+    ensures { IfOk result (λ shared. option_map arc_value shared
+        ≡ option_map (λ state. arc_value state.now) state.entry) }
 {
     match state {
         Some(state) => Ok(Some(Arc::try_clone(state)?)),

@@ -4,6 +4,9 @@
 //! where the child views of its viewports come between them. What it gives depends
 //! on what it shows and on the scope in which it is shown, and on nothing else, so
 //! the pieces of a session are kept until one of the two changes.
+//!
+//! `draw_next` and `draw_changed` (reuse) answer `draw_list` and `view_nodes` of
+//! flat_topology; `pieces` is specs/Pieces, and what is kept is specs/Keeping (slots).
 #![tactic(auto)]
 
 mod follow;

@@ -67,7 +67,8 @@ fn item_in(
     node: &FlatNode<'_>,
 ) -> Option<DrawItem>
     requires { scope.now.opacity ≤ OPACITY_MAX }
-    ensures { result ≡ node_item (placed_node session.0 (space_of scope.now) (as_node (lent node.now) Empty)) }
+    ensures { result ≡ node_item (placed_node session.0 (space_of scope.now)
+        (as_node (lent node.now) Empty)) }
 {
     item(&Placed {
         session,
@@ -82,7 +83,8 @@ fn item_in(
 
 /// Appends an item, if there is one.
 fn add_item(pieces: &mut PieceList, item: Option<DrawItem>) -> Result<(), NoMemory>
-    ensures { OnOk result (pieces.new ≡ pieces.old ++ map (λ item. Drawn item) (option_to_list item)) }
+    ensures { OnOk result (pieces.new
+        ≡ pieces.old ++ map (λ item. Drawn item) (option_to_list item)) }
 {
     if let Some(item) = item {
         pieces.push(Piece::Drawn(item))?;
@@ -92,7 +94,8 @@ fn add_item(pieces: &mut PieceList, item: Option<DrawItem>) -> Result<(), NoMemo
 
 /// Appends a link, if there is one.
 fn add_link(pieces: &mut PieceList, link: Option<Link>) -> Result<(), NoMemory>
-    ensures { OnOk result (pieces.new ≡ pieces.old ++ map (λ link. Linked link) (option_to_list link)) }
+    ensures { OnOk result (pieces.new
+        ≡ pieces.old ++ map (λ link. Linked link) (option_to_list link)) }
 {
     if let Some(link) = link {
         pieces.push(Piece::Linked(link))?;
@@ -109,7 +112,8 @@ pub fn add_node(
     node: &FlatNode<'_>,
 ) -> Result<(), NoMemory>
     requires { scope.now.opacity ≤ OPACITY_MAX }
-    ensures { OnOk result (pieces.new ≡ pieces.old ++ node_pieces session.0 (space_of scope.now) (as_node (lent node.now) Empty)) }
+    ensures { OnOk result (pieces.new ≡ pieces.old ++ node_pieces session.0 (space_of scope.now)
+        (as_node (lent node.now) Empty)) }
 {
     add_item(pieces, item_in(alloc, session, scope, node))?;
     add_link(pieces, viewport_link(scope, node.content))?;

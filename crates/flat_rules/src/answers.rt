@@ -1,4 +1,5 @@
-ghost use Rattle.flat_rules.specs.FirstNews.{FirstNewsAnswers, SecondGetIsRefused, UnaskedStays, NothingIsAnsweredAtFirst, AnswersArePosted};
+ghost use Rattle.flat_rules.specs.FirstNews.{FirstNewsAnswers, SecondGetIsRefused, UnaskedStays};
+ghost use Rattle.flat_rules.specs.FirstNews.{NothingIsAnsweredAtFirst, AnswersArePosted};
 
 // The call here does nothing. Its contract is laws about the definitions: when a
 // get is answered.

@@ -1,4 +1,8 @@
-ghost use Rattle.flat_rules.specs.Local.{PresentsAreLocal, SignalledIsLocal, TakenIsLocal, CreditsAreLocal, GoingIsLocal, ReleasedIsLocal, ShownIsLocal, ConnectedIsLocal, ToldIsLocal, WatchingIsLocal, AnswersAreLocal, FamiliesAreAlone, GlimpsesDecideOutcomes, OthersPostNone};
+ghost use Rattle.flat_rules.specs.Local.{PresentsAreLocal, SignalledIsLocal, TakenIsLocal};
+ghost use Rattle.flat_rules.specs.Local.{CreditsAreLocal, GoingIsLocal, ReleasedIsLocal};
+ghost use Rattle.flat_rules.specs.Local.{ShownIsLocal, ConnectedIsLocal, ToldIsLocal};
+ghost use Rattle.flat_rules.specs.Local.{WatchingIsLocal, AnswersAreLocal, FamiliesAreAlone};
+ghost use Rattle.flat_rules.specs.Local.{GlimpsesDecideOutcomes, OthersPostNone};
 
 // The calls here do nothing. Their contracts are laws about the definitions. Those
 // on families hold of every legal history, so also at each entry of one, where the

@@ -1,6 +1,9 @@
 //! The rules of the scene service: which histories are legal, what is told to whom
 //! and when, and which events are posted; with the laws about them.
 //!
+//! Legal histories are `Legal` (specs/Legal), what watchers tell is specs/Watch, what an
+//! entry posts specs/Posts, what frames show specs/Shown; src/ has laws alone.
+//!
 //! Other crates may cite the lemmas of proofs/lemmas/: steps of histories and lists
 //! (AllOrSome, FrameKinds, ListLemmas, MoreRuns, Runs, ShownList, ShownSteps, Watchers),
 //! what stays the same (Quiet, SameWatchers, Still), what is local to a family (EventsLocal,

@@ -1,5 +1,7 @@
 ghost use Rattle.flat_rules.specs.Closing.{RefusalCloses, CloseCloses, OtherRepliesCloseNone};
-ghost use Rattle.flat_rules.specs.Seats.{SeatsTellActors, SessionsKnowThemselves, DisplayKnowsFrames, BeginStays, JournalsKeepSeats, BeginIsSeen};
+ghost use Rattle.flat_rules.specs.Seats.{SeatsTellActors, SessionsKnowThemselves};
+ghost use Rattle.flat_rules.specs.Seats.{DisplayKnowsFrames, BeginStays, JournalsKeepSeats};
+ghost use Rattle.flat_rules.specs.Seats.{BeginIsSeen};
 
 // The calls here do nothing. Their contracts are laws about the definitions: how a
 // session closes, and what an actor knows that sees its own entries alone.

@@ -1,4 +1,5 @@
-ghost use Rattle.flat_scene.specs.Laws.{SignalledStays, TakenStays, ReadyPrefixIsLongest, ClosesItsOwn, CycleIsReached, OneNodeAPath, FamilyIsLeast};
+ghost use Rattle.flat_scene.specs.Laws.{SignalledStays, TakenStays, ReadyPrefixIsLongest};
+ghost use Rattle.flat_scene.specs.Laws.{ClosesItsOwn, CycleIsReached, OneNodeAPath, FamilyIsLeast};
 
 /// What holds of every history: its clauses are laws of the definitions. The call
 /// does nothing.

@@ -1,6 +1,9 @@
 //! The plain data of the scene service: calls, script lines, trees, entries,
 //! events and frames, with the definitions of what they mean.
 //!
+//! The types stand in the files of src/ by what they are of; what they mean in specs/:
+//! History, Draft (with Effect and Misuse), Tree, Frames, Family, Interleave.
+//!
 //! Other crates may cite the lemmas of proofs/lemmas/: steps of a history (Steps), members
 //! of a family (Members, FamilyLeast), what presents show (Presented) and take
 //! (TakingLemmas), ways that come back (CycleLemmas).

@@ -708,7 +708,8 @@ const LOOSE: &str =
 const CANONICAL: &str =
     "flatland 1\ndisplay 100 90\nsession A\nsession B\nbuffers b A 2 8 9\npair t0 display A\npair t1 A B\nfence f A display A\nrun\nB CreateView t1\nA SetTranslation 7 -5 40\nA SetHitRegions 1 0 0 1 1 0 -5 0 1 1 1\nA SetHitRegions 1\nA SetSolidFill 2 1 2 3 4 5 6\nA SetInfiniteHitRegion 1 1\nA Present 9\ndisplay begin 16\ndisplay done\nA Clear";
 
-// An inset of zeros goes without saying for a viewport that is made, but not for one that is changed.
+// An inset of zeros goes without saying for a viewport that is made, but not for one
+    // that is changed.
 const INSETS: &str =
     "flatland 1\ndisplay 100 100\nsession A\nsession B\npair t0 display A\npair t1 A B\nrun\nA CreateViewport 1 t1 5 6 0 0 0 0\nA CreateViewport 2 t1 5 6 0 0 0 1\nA SetViewportProperties 1 7 8\nA SetViewportProperties 1 7 8 0 0 0 0\nA ReleaseViewport 1\nB GetLayout\nB GetStatus\nA GetChildStatus 2\nB Wait answers 3\ndisplay hit -1 2147483647";
 

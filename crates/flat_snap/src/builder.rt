@@ -27,7 +27,8 @@ pub struct SnapshotBuilder {
 }
 
 impl Model for SnapshotBuilder {
-    ghost use Rattle.std.specs.Prelude.{◌+◌, ◌-◌, ◌≡◌, ◌<◌, ◌≤◌, ◌^◌, length, map, reverse, vec_capacity, All};
+    ghost use Rattle.std.specs.Prelude.{◌+◌, ◌-◌, ◌≡◌, ◌<◌, ◌≤◌, ◌^◌, length, map, reverse};
+    ghost use Rattle.std.specs.Prelude.{vec_capacity, All};
     ghost use Rattle.flat_snap.specs.Building.{Building};
     ghost use Rattle.flat_scene.specs.contracts.trees.Node as node;
     ghost use Rattle.flat_scene.specs.contracts.trees.Children as children;
@@ -41,20 +42,27 @@ impl Model for SnapshotBuilder {
     ghost use Rattle.flat_snap.specs.Inside.{whole_part, IsWhole};
     ghost use Rattle.flat_snap.specs.Packed.{unpacked_all, IsWithin};
 
-    ghost view = { λ b. let parts = whole_part (unpacked_all b.regions.items b.flat.items) b.places.items in
-        record { room = vec_capacity b.flat - length b.flat.items; path = parts.path; done = parts.done } };
+    ghost view = { λ b. let parts = whole_part (unpacked_all b.regions.items b.flat.items)
+        b.places.items in
+        record {
+          room = vec_capacity b.flat - length b.flat.items;
+          path = parts.path;
+          done = parts.done;
+        } };
 
     ghost invariant = { λ b.
         IsWhole (unpacked_all b.regions.items b.flat.items) b.places.items
         × (vec_capacity b.flat < 2 ^ 32)
-        × ((vec_capacity b.flat - length b.flat.items) + length b.places.items ≤ vec_capacity b.places)
+        × ((vec_capacity b.flat - length b.flat.items) + length b.places.items
+        ≤ vec_capacity b.places)
         × All (IsWithin (length b.regions.items)) b.flat.items
         × (b.viewports.items ≡ viewport_places 0 (map (λ n. n.content) b.flat.items)) };
 }
 
 /// Notes the number of a node, if it shows a viewport.
 fn note(viewports: &mut Vec<u32>, place: u32, content: Option<Content>) -> Result<(), NoMemory>
-    ensures ok { OnOk result (viewports.new.items ≡ viewports.old.items ++ viewport_places place (content ∷ [])) }
+    ensures ok { OnOk result (viewports.new.items ≡ viewports.old.items ++ viewport_places place
+        (content ∷ [])) }
     ensures err { OnErr result (viewports.new.items ≡ viewports.old.items) }
 {
     match content {

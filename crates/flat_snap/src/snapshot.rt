@@ -32,10 +32,16 @@ impl Model for Snapshot {
 
     ghost coded = { Prim.hlevel (codes, contract.the_row.coded) };
 
-    ghost view = { λ s. record { view = s.pair; root = head_of (forest (unpacked_all s.regions s.flat)); viewports = s.uses } };
+    ghost view = { λ s. record {
+      view = s.pair;
+      root = head_of (forest (unpacked_all s.regions
+          s.flat));
+      viewports = s.uses;
+    } };
 
     ghost invariant = { λ s.
-        (unpacked_all s.regions s.flat ≡ flat_from 0 (rooted (head_of (forest (unpacked_all s.regions s.flat)))))
+        (unpacked_all s.regions s.flat
+        ≡ flat_from 0 (rooted (head_of (forest (unpacked_all s.regions s.flat)))))
         × (length s.flat < 2 ^ 32)
         × All (IsWithin (length s.regions)) s.flat
         × (s.places ≡ viewport_places 0 (map (λ n. n.content) s.flat)) };

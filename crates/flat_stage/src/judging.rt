@@ -18,7 +18,9 @@ use flat_scene::{Call, PresentArgs, ViewportProps, Watch};
 pub fn called(draft: &mut Draft, call: &Call) -> Result<Option<Made>, NoMemory>
     requires stands { HasDraft draft.old }
     requires opened { draft.old.closed ≡ false }
-    ensures tells { (setup : Setup) (s : SessionNo) (before : scene.Draft) → StandsFor setup draft.old before → is_played_line setup s (line.Call call.now) ≡ true → IfOk result (Tells setup s before (line.Call call.now) draft.new) }
+    ensures tells { (setup : Setup) (s : SessionNo) (before : scene.Draft) →
+        StandsFor setup draft.old before → is_played_line setup s (line.Call call.now) ≡ true →
+        IfOk result (Tells setup s before (line.Call call.now) draft.new) }
     ensures same { OnErr result (draft.new ≡ draft.old) }
 {
     match call {
@@ -55,7 +57,9 @@ fn done(draft: &mut Draft, call: &Call) -> Result<Option<Made>, NoMemory>
     requires stands { HasDraft draft.old }
     requires opened { draft.old.closed ≡ false }
     requires other { makes_viewport call.now ≡ false }
-    ensures tells { (setup : Setup) (s : SessionNo) (before : scene.Draft) → StandsFor setup draft.old before → is_played_line setup s (line.Call call.now) ≡ true → IfOk result (Tells setup s before (line.Call call.now) draft.new) }
+    ensures tells { (setup : Setup) (s : SessionNo) (before : scene.Draft) →
+        StandsFor setup draft.old before → is_played_line setup s (line.Call call.now) ≡ true →
+        IfOk result (Tells setup s before (line.Call call.now) draft.new) }
     ensures same { OnErr result (draft.new ≡ draft.old) }
 {
     match draft.call(call) {
@@ -80,7 +84,9 @@ fn tested(
     requires stands { HasDraft draft.old }
     requires opened { draft.old.closed ≡ false }
     requires own { call.now ≡ calls.CreateViewport c pair props.w props.h props.inset }
-    ensures tells { (setup : Setup) (s : SessionNo) (before : scene.Draft) → StandsFor setup draft.old before → is_played_line setup s (line.Call call.now) ≡ true → IfOk result (Tells setup s before (line.Call call.now) draft.new) }
+    ensures tells { (setup : Setup) (s : SessionNo) (before : scene.Draft) →
+        StandsFor setup draft.old before → is_played_line setup s (line.Call call.now) ≡ true →
+        IfOk result (Tells setup s before (line.Call call.now) draft.new) }
     ensures same { OnErr result (draft.new ≡ draft.old) }
 {
     match draft.ready(call) {
@@ -95,7 +101,9 @@ fn tested(
 pub fn presented(draft: &mut Draft, args: PresentArgs) -> Result<Option<Made>, NoMemory>
     requires stands { HasDraft draft.old }
     requires opened { draft.old.closed ≡ false }
-    ensures tells { (setup : Setup) (s : SessionNo) (before : scene.Draft) → StandsFor setup draft.old before → is_played_line setup s (line.Present args) ≡ true → IfOk result (Tells setup s before (line.Present args) draft.new) }
+    ensures tells { (setup : Setup) (s : SessionNo) (before : scene.Draft) →
+        StandsFor setup draft.old before → is_played_line setup s (line.Present args) ≡ true →
+        IfOk result (Tells setup s before (line.Present args) draft.new) }
     ensures same { OnErr result (draft.new ≡ draft.old) }
 {
     match draft.present(&args) {
@@ -110,7 +118,9 @@ pub fn presented(draft: &mut Draft, args: PresentArgs) -> Result<Option<Made>, N
 pub fn asked(draft: &mut Draft, get: Watch) -> Made
     requires stands { HasDraft draft.old }
     requires opened { draft.old.closed ≡ false }
-    ensures { (setup : Setup) (s : SessionNo) (before : scene.Draft) → StandsFor setup draft.old before → Tells setup s before (line.Get get) draft.new (Some result) }
+    ensures { (setup : Setup) (s : SessionNo) (before : scene.Draft) →
+        StandsFor setup draft.old before → Tells setup s before (line.Get get) draft.new
+        (Some result) }
 {
     match draft.get(get) {
         Ok(pair) => Made::Get(get, pair),

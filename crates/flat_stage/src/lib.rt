@@ -1,4 +1,7 @@
 //! The stage: seats by which sessions and the compositor step on one board.
+//!
+//! A `Reader` (reader) reads lines by specs/Reads and specs/Readings, what a line makes is
+//! `Made` (made; specs/Made), and seats (seats, session, compositor) by specs/Seats.
 #![tactic(auto)]
 
 mod compositor;

@@ -1,4 +1,6 @@
-ghost use Rattle.std.specs.Prelude.{◌≡◌, ◌+◌, ◌-◌, ◌<◌, ◌≢◌, ◌^◌, [], ◌∷◌, ◌++◌, true, false, length, slice_get, Some, None, IfOk, IfErr, OnErr, IsTrue, IfSome};
+ghost use Rattle.std.specs.Prelude.{◌≡◌, ◌+◌, ◌-◌, ◌<◌, ◌≢◌, ◌^◌, [], ◌∷◌, ◌++◌, true, false};
+ghost use Rattle.std.specs.Prelude.{length, slice_get, Some, None, IfOk, IfErr, OnErr, IsTrue};
+ghost use Rattle.std.specs.Prelude.{IfSome};
 ghost use Rattle.flat_base.specs.declared.ids.Actor.TheVariants.{Session};
 ghost use Rattle.flat_scene.specs.declared.script.Line.TheVariants as line;
 ghost use Rattle.flat_scene.specs.declared.setup.Setup.{Setup};
@@ -14,7 +16,8 @@ ghost use Rattle.flat_draft.specs.Stands.{StandsFor};
 ghost use Rattle.flat_scene.specs.Setups.{is_declared, is_setup};
 ghost use Rattle.flat_rules.specs.Owned.{is_played_line};
 ghost use Rattle.flat_stage.specs.Made.{kind_of, takes_memory};
-ghost use Rattle.flat_stage.specs.Reads.{HasDraft, IsNew, Stands, IsReady, Tells, Enters, Reads, kept_calls, with_line, viewport_call, CanMake, IsMade};
+ghost use Rattle.flat_stage.specs.Reads.{HasDraft, IsNew, Stands, IsReady, Tells, Enters, Reads};
+ghost use Rattle.flat_stage.specs.Reads.{kept_calls, with_line, viewport_call, CanMake, IsMade};
 
 use crate::judging::{asked, called, presented};
 use crate::made::Made;
@@ -46,7 +49,8 @@ impl Reader {
     /// A session of a setup with these buffers, which has read no line.
     pub fn new(alloc: Global, session: SessionNo, buffers: &BufferList) -> Result<Reader, NoMemory>
         requires { (setup : Setup) × (is_setup setup ≡ true) × (buffers.now ≡ setup.buffers) }
-        ensures { (setup : Setup) → buffers.now ≡ setup.buffers → is_declared setup session ≡ true → IfOk result (IsNew setup session) }
+        ensures { (setup : Setup) → buffers.now ≡ setup.buffers → is_declared setup session ≡ true →
+            IfOk result (IsNew setup session) }
     {
         draft_laws();
         content_laws();
@@ -71,7 +75,8 @@ impl Reader {
         requires share { HasShare board.old (Session self.old.session) }
         requires few { self.old.refused + 1 < 2 ^ 32 }
         requires stands { Stands board.old.setup (own self.old.session board.old.history) self.old }
-        ensures reads { IfOk result (λ reply. Reads number text reply board.old board.new self.old self.new self.old.closed) }
+        ensures reads { IfOk result (λ reply. Reads number text reply board.old board.new self.old
+            self.new self.old.closed) }
         ensures stands { Stands board.new.setup (own self.old.session board.new.history) self.new }
         ensures same { OnErr result (board.new ≡ board.old) }
         ensures kept { OnErr result (self.new ≡ record self.old { draft = self.new.draft }) }
@@ -91,7 +96,8 @@ impl Reader {
         requires share { HasShare board.old (Session self.old.session) }
         requires stands { Stands board.old.setup (own self.old.session board.old.history) self.old }
         ensures reply { result ≡ Done }
-        ensures entry { board.new ≡ entered board.old (Session self.old.session) number self.old.pending (End self.old.refused) Done }
+        ensures entry { board.new ≡ entered board.old (Session self.old.session) number
+            self.old.pending (End self.old.refused) Done }
         ensures rest { self.new ≡ record self.old { pending = [] } }
     {
         let calls = mem::replace(&mut self.pending, CallList::new(self.alloc));
@@ -112,7 +118,9 @@ impl Reader {
         requires stands { HasDraft self.old.draft }
         requires opened { self.old.draft.closed ≡ false }
         ensures rest { IfOk result (λ _. self.new ≡ with_line text self.old self.new.draft) }
-        ensures tells { (setup : Setup) (draft : scene.Draft) → StandsFor setup self.old.draft draft → is_played_line setup self.old.session text ≡ true → IfOk result (Tells setup self.old.session draft text self.new.draft) }
+        ensures tells { (setup : Setup) (draft : scene.Draft) →
+            StandsFor setup self.old.draft draft → is_played_line setup self.old.session text
+            ≡ true → IfOk result (Tells setup self.old.session draft text self.new.draft) }
         ensures same { OnErr result (self.new ≡ self.old) }
     {
         match text {
@@ -129,8 +137,12 @@ impl Reader {
     fn judge_call(&mut self, call: Call) -> Result<Option<Made>, NoMemory>
         requires stands { HasDraft self.old.draft }
         requires opened { self.old.draft.closed ≡ false }
-        ensures rest { IfOk result (λ _. self.new ≡ with_line (line.Call call) self.old self.new.draft) }
-        ensures tells { (setup : Setup) (draft : scene.Draft) → StandsFor setup self.old.draft draft → is_played_line setup self.old.session (line.Call call) ≡ true → IfOk result (Tells setup self.old.session draft (line.Call call) self.new.draft) }
+        ensures rest { IfOk result (λ _. self.new
+            ≡ with_line (line.Call call) self.old self.new.draft) }
+        ensures tells { (setup : Setup) (draft : scene.Draft) →
+            StandsFor setup self.old.draft draft →
+            is_played_line setup self.old.session (line.Call call) ≡ true →
+            IfOk result (Tells setup self.old.session draft (line.Call call) self.new.draft) }
         ensures same { OnErr result (self.new ≡ self.old) }
     {
         self.pending.push(call)?;
@@ -147,13 +159,16 @@ impl Reader {
     /// Makes the entry that the session is about to make. On want of memory it can
     /// still be made, but for the call of a viewport, which doesn't wait any more.
     pub fn enter(&mut self, board: &mut Board, number: u32, made: Made) -> Result<Reply, NoMemory>
-        requires ready { IsReady board.old.setup (own self.old.session board.old.history) self.old made }
+        requires ready { IsReady board.old.setup (own self.old.session board.old.history) self.old
+            made }
         requires share { HasShare board.old (Session self.old.session) }
-        ensures enters { IfOk result (λ reply. Enters number (kind_of made) reply board.old board.new self.old self.new) }
+        ensures enters { IfOk result (λ reply. Enters number (kind_of made) reply board.old
+            board.new self.old self.new) }
         ensures stands { Stands board.new.setup (own self.old.session board.new.history) self.new }
         ensures same { OnErr result (board.new ≡ board.old) }
         ensures only { OnErr result (takes_memory made ≡ true) }
-        ensures kept { OnErr result (self.new ≡ record self.old { pending = kept_calls (viewport_call made) self.old.pending }) }
+        ensures kept { OnErr result (self.new
+            ≡ record self.old { pending = kept_calls (viewport_call made) self.old.pending }) }
     {
         let calls = mem::replace(&mut self.pending, CallList::new(self.alloc));
         let link = viewport_call(&made);
@@ -191,7 +206,8 @@ fn viewport_call(made: &Made) -> Option<Call>
 /// Makes a viewport's call of a draft that has the room for it.
 fn make(draft: &mut Draft, link: Option<Call>)
     requires { CanMake draft.old link }
-    ensures { (setup : Setup) (before : scene.Draft) → StandsFor setup draft.old before → IsMade setup before draft.old draft.new link }
+    ensures { (setup : Setup) (before : scene.Draft) → StandsFor setup draft.old before →
+        IsMade setup before draft.old draft.new link }
 {
     if let Some(call) = link {
         match draft.call(&call) {

@@ -1,4 +1,5 @@
-ghost use Rattle.std.specs.Prelude.{◌≡◌, ◌+◌, ◌<◌, ◌^◌, [], true, false, IfOk, OnErr, ℕ, List, ◌∷◌, ◌++◌};
+ghost use Rattle.std.specs.Prelude.{◌≡◌, ◌+◌, ◌<◌, ◌^◌, [], true, false, IfOk, OnErr, ℕ, List, ◌∷◌};
+ghost use Rattle.std.specs.Prelude.{◌++◌};
 ghost use Rattle.flat_scene.specs.declared.journal.Reply.TheVariants.{Done};
 ghost use Rattle.flat_base.specs.declared.ids.Actor.TheVariants.{Session};
 ghost use Rattle.flat_core.specs.Machines.{MayLook};
@@ -12,7 +13,9 @@ ghost use Rattle.flat_stage.specs.Reads.{kept_calls, viewport_call, IsReady};
 ghost use Rattle.flat_scene.specs.History.{history_of};
 ghost use Rattle.flat_scene.specs.Interleave.{IsReading};
 ghost use Rattle.flat_scene.specs.Setups.{is_declared};
-ghost use Rattle.flat_stage.specs.Seats.{is_ended, entries_of_seat, session_view, setup_of, AreAtOne, AreOne, GoesOn, HasRoom, SeatSeesMore, SessionEnds, SessionEnters, SessionReads, SeesMore};
+ghost use Rattle.flat_stage.specs.Seats.{is_ended, entries_of_seat, session_view, setup_of};
+ghost use Rattle.flat_stage.specs.Seats.{AreAtOne, AreOne, GoesOn, HasRoom, SeatSeesMore};
+ghost use Rattle.flat_stage.specs.Seats.{SessionEnds, SessionEnters, SessionReads, SeesMore};
 
 use crate::made::Made;
 use crate::reader::Reader;
@@ -89,10 +92,12 @@ impl SessionSeat {
         requires owned { is_played_line (setup_of self.old.stage) self.old.session text ≡ true }
         requires room { HasRoom self.old }
         requires few { self.old.refused + 1 < 2 ^ 32 }
-        ensures reads { IfOk result (λ reply. SessionReads number text reply self.old self.new self.old.closed) }
+        ensures reads { IfOk result (λ reply. SessionReads number text reply self.old self.new
+            self.old.closed) }
         ensures kept { OnErr result (SeesMore self.old self.new) }
         ensures goes_on { GoesOn self.old self.new }
-        ensures follows { (given : List (ℕ × Line)) → SeatHasRead given self.old → IfOk result (λ _. SeatHasRead (given ++ (number, text) ∷ []) self.new) }
+        ensures follows { (given : List (ℕ × Line)) → SeatHasRead given self.old →
+            IfOk result (λ _. SeatHasRead (given ++ (number, text) ∷ []) self.new) }
     {
         if self.reader.closed {
             self.reader.refused += 1;
@@ -112,7 +117,9 @@ impl SessionSeat {
         requires room { HasRoom self.old }
         ensures reply { result ≡ Done }
         ensures ends { SessionEnds number self.old self.new }
-        ensures reading { (given : List (ℕ × Line)) (count : ℕ) → number ≡ count + 1 → Rise 0 given → SeatHasRead given self.old → IsReading (setup_of self.old.stage) count given (history_of self.new.mine) }
+        ensures reading { (given : List (ℕ × Line)) (count : ℕ) → number ≡ count + 1 →
+            Rise 0 given → SeatHasRead given self.old → IsReading (setup_of self.old.stage) count
+            given (history_of self.new.mine) }
     {
         end(rt, stage, &mut self.seat, &mut self.reader, number)
     }
@@ -131,7 +138,8 @@ impl SessionSeat {
     pub fn look<R: Wait>(&mut self, rt: &R, stage: &Stage, c: Cond) -> u32
         requires own { self.old.stage ≡ stage.now }
         requires may { MayLook (setup_of self.old.stage) (Session self.old.session) c }
-        ensures value { result ≡ value_of (setup_of self.old.stage) (history_of self.new.seen) (Session self.old.session) c }
+        ensures value { result ≡ value_of (setup_of self.old.stage) (history_of self.new.seen)
+            (Session self.old.session) c }
         ensures legal { Legal (setup_of self.old.stage) (history_of self.new.seen) }
         ensures sees { SeesMore self.old self.new }
     {
@@ -176,11 +184,13 @@ fn enter<R: Wait>(
     requires one { AreAtOne seat.old reader.old }
     requires room { HasRoom (session_view seat.old reader.old) }
     requires ready { IsReady (setup_of seat.old.lock) (history_of seat.old.mine) reader.old made }
-    ensures enters { IfOk result (λ reply. SessionEnters number reader.old.pending (kind_of made) reply (session_view seat.old reader.old) (session_view seat.new reader.new)) }
+    ensures enters { IfOk result (λ reply. SessionEnters number reader.old.pending (kind_of made)
+        reply (session_view seat.old reader.old) (session_view seat.new reader.new)) }
     ensures one { AreOne seat.new reader.new }
     ensures sees { OnErr result (SeatSeesMore seat.old seat.new) }
     ensures only { OnErr result (takes_memory made ≡ true) }
-    ensures kept { OnErr result (reader.new ≡ record reader.old { pending = kept_calls (viewport_call made) reader.old.pending }) }
+    ensures kept { OnErr result (reader.new
+        ≡ record reader.old { pending = kept_calls (viewport_call made) reader.old.pending }) }
 {
     let mut shared = stage.lock.turn(rt, seat);
     match reader.enter(&mut shared.board, number, made) {
@@ -209,7 +219,8 @@ fn end<R: Wait>(
     requires unended { is_ended seat.old.mine ≡ false }
     requires room { HasRoom (session_view seat.old reader.old) }
     ensures reply { result ≡ Done }
-    ensures ends { SessionEnds number (session_view seat.old reader.old) (session_view seat.new reader.new) }
+    ensures ends { SessionEnds number (session_view seat.old reader.old)
+        (session_view seat.new reader.new) }
     ensures one { AreOne seat.new reader.new }
 {
     let mut shared = stage.lock.turn(rt, seat);

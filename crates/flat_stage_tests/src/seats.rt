@@ -18,15 +18,17 @@ const FRAMES: u32 = 10;
 
 /// A display that shows session 1, beside session 2.
 fn two_sessions(alloc: Global) -> Result<Setup, NoMemory>
-    ensures { IfOk result (λ setup. setup ≡ record {
-      width = 100;
-      height = 50;
-      sessions = 2;
-      probes = 0;
-      pairs = record { viewport = Display; view = record { 0 = 1 } } ∷ [];
-      buffers = [];
-      fences = [];
-    }) }
+    ensures { IfOk result (λ setup. setup
+        ≡ record {
+          width = 100;
+          height = 50;
+          sessions = 2;
+          probes = 0;
+          pairs = record
+              { viewport = Display; view = record { 0 = 1 } } ∷ [];
+          buffers = [];
+          fences = [];
+        }) }
 {
     let mut pairs = Items::new(alloc);
     pairs.push(PairDecl {
@@ -45,19 +47,21 @@ fn two_sessions(alloc: Global) -> Result<Setup, NoMemory>
 }
 
 fn opened(alloc: Global) -> Result<Board, NoMemory>
-    ensures { IfOk result (λ board. board ≡ record {
-      setup = record {
-        width = 100;
-        height = 50;
-        sessions = 2;
-        probes = 0;
-        pairs = record { viewport = Display; view = record { 0 = 1 } } ∷ [];
-        buffers = [];
-        fences = [];
-      };
-      shares = 20 ∷ 101 ∷ 101 ∷ [];
-      history = [];
-    }) }
+    ensures { IfOk result (λ board. board
+        ≡ record {
+          setup = record {
+            width = 100;
+            height = 50;
+            sessions = 2;
+            probes = 0;
+            pairs = record { viewport = Display; view = record { 0 = 1 } }
+                ∷ [];
+            buffers = [];
+            fences = [];
+          };
+          shares = 20 ∷ 101 ∷ 101 ∷ [];
+          history = [];
+        }) }
 {
     let mut shares = ShareList::new(alloc);
     shares.push(20)?;
@@ -208,8 +212,10 @@ fn run_all<R: Threads + Wait + Sync>(
             ensures { result.stage ≡ stage.entry.now }
         { make_frames(rt, stage, compositor) },
         move || -> Both
-            requires { (first.stage ≡ stage.now) × MayRead 101 first × (second.stage ≡ stage.now) × MayRead 101 second }
-            ensures { IfOk result.0 (λ seat. seat.stage ≡ stage.entry.now) × IfOk result.1 (λ seat. seat.stage ≡ stage.entry.now) }
+            requires { (first.stage ≡ stage.now) × MayRead 101 first × (second.stage ≡ stage.now)
+                × MayRead 101 second }
+            ensures { IfOk result.0 (λ seat. seat.stage ≡ stage.entry.now)
+                × IfOk result.1 (λ seat. seat.stage ≡ stage.entry.now) }
         { read_both(rt, alloc, stage, first, second) },
     )
 }
@@ -263,7 +269,8 @@ struct Cast {
 /// A stage, and its seats handed out.
 fn new_cast(alloc: Global) -> Result<Cast, Fail>
     ensures seats { IfOk result (λ c. c.seats.stage ≡ c.stage) }
-    ensures compositor { IfOk result (λ c. (c.compositor.stage ≡ c.stage) × MayBegin 10 0 c.compositor) }
+    ensures compositor { IfOk result (λ c. (c.compositor.stage ≡ c.stage)
+        × MayBegin 10 0 c.compositor) }
     ensures first { IfOk result (λ c. (c.first.stage ≡ c.stage) × MayRead 101 c.first) }
     ensures second { IfOk result (λ c. (c.second.stage ≡ c.stage) × MayRead 101 c.second) }
 {

@@ -9,14 +9,14 @@ use Rattle.flat_scene.specs.declared.calls.PresentArgs.{PresentArgs}
 use Rattle.flat_scene.specs.declared.setup.Setup.{Setup}
 use Rattle.flat_scene.specs.declared.trees.Tree.{Tree}
 use Rattle.flat_scene.specs.History.{Published}
-use Rattle.flat_queue.specs.declared.queue.Kept.{Kept}
+use Rattle.flat_queue.specs.declared.queue.WaitingPresent.{WaitingPresent}
 use Rattle.flat_snap.specs.declared.snapshot.Snapshot.{Snapshot}
 use Rattle.flat_states.specs.declared.state.SessionState.{SessionState}
 use Rattle.flat_states.specs.Seen.{Seen}
 use Rattle.flat_rules.specs.Shown.{tree_of}
 
 -- what a present that waits in a queue stands for: what it carries, and its tree
-abbrev pub kept_of : Kept (Arc Snapshot Global) → PresentArgs × Option Tree
+abbrev pub kept_of : WaitingPresent (Arc Snapshot Global) → PresentArgs × Option Tree
 kept_of kept = (kept.args, Some (arc_value kept.item))
 
 -- the same of a present of the history

@@ -1,4 +1,5 @@
-ghost use Rattle.std.specs.Prelude.{◌≡◌, ◌+◌, ◌<◌, ℕ, IfOk, None, is_some, length, replicate, slice_index_or, slice_set};
+ghost use Rattle.std.specs.Prelude.{◌≡◌, ◌+◌, ◌<◌, ℕ, IfOk, None, is_some, length, replicate};
+ghost use Rattle.std.specs.Prelude.{slice_index_or, slice_set};
 ghost use Rattle.flat_topology.specs.Fit.{FitsSetup};
 ghost use Rattle.flat_topology.specs.Join.{is_joined};
 ghost use Rattle.flat_states.specs.Following.{KeptFollowings, new_following};
@@ -87,7 +88,8 @@ impl Followings {
         requires all { length self.old.items ≡ length shown.now }
         requires fit { FitsSetup setup.now shown.now }
         ensures items { self.new.items ≡ self.old.items }
-        ensures connected { (i : ℕ) → is_some (slice_index_or self.new.distances i None) ≡ is_joined setup.now shown.now (i + 1) }
+        ensures connected { (i : ℕ) → is_some (slice_index_or self.new.distances i None)
+            ≡ is_joined setup.now shown.now (i + 1) }
     {
         let display = pair_of_display(setup);
         shown.find_connected(setup, display, self.distances.as_mut_slice());

@@ -1,4 +1,5 @@
-ghost use Rattle.std.specs.Prelude.{◌≡◌, ◌+◌, ◌<◌, ◌≤◌, ◌^◌, [], ◌∷◌, ◌++◌, length, IfOk, OnOk, OnErr};
+ghost use Rattle.std.specs.Prelude.{◌≡◌, ◌+◌, ◌<◌, ◌≤◌, ◌^◌, [], ◌∷◌, ◌++◌, length, IfOk, OnOk};
+ghost use Rattle.std.specs.Prelude.{OnErr};
 ghost use Rattle.flat_scene.specs.History.{◌▹◌, history_of};
 
 use flat_base::NoMemory;
@@ -20,7 +21,14 @@ impl Model for Log {
 
     ghost Value = { Logged };
 
-    ghost view = { λ log. record { history = history_of log.journal.entries.items; posts = log.journal.posts.items; room = vec_capacity log.journal.entries - length log.journal.entries.items; post_room = vec_capacity log.journal.posts - length log.journal.posts.items } };
+    ghost view = { λ log. record {
+      history = history_of log.journal.entries.items;
+      posts = log.journal.posts.items;
+      room = vec_capacity log.journal.entries
+          - length log.journal.entries.items;
+      post_room = vec_capacity log.journal.posts
+          - length log.journal.posts.items;
+    } };
 }
 
 impl Log {

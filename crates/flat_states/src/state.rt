@@ -1,4 +1,5 @@
-ghost use Rattle.std.specs.Prelude.{◌≡◌, ℕ, ◌+◌, ◌-◌, ◌^◌, ◌<◌, ◌≤◌, [], length, All, IfOk, cond, vec_capacity};
+ghost use Rattle.std.specs.Prelude.{◌≡◌, ℕ, ◌+◌, ◌-◌, ◌^◌, ◌<◌, ◌≤◌, [], length, All, IfOk, cond};
+ghost use Rattle.std.specs.Prelude.{vec_capacity};
 ghost use Rattle.flat_fence.specs.Fences.{has};
 ghost use Rattle.flat_states.specs.Presents.{present_reply, after_present, IsNew, TookReady, LetGo};
 ghost use Rattle.flat_states.specs.Seen.{holds_then, holds_after, noted};
@@ -88,7 +89,8 @@ impl SessionState {
 pub fn take_ready(state: &mut SessionState, time: u64, fences: &FenceSet) -> Option<Arc<Snapshot>>
     requires room { 5 ≤ vec_capacity state.old.going }
     requires few { length state.old.queue.waiting ≤ 5 }
-    requires within { All (λ kept. All (λ f. f.0 < length fences.now) kept.args.acquire) state.old.queue.waiting }
+    requires within { All (λ kept. All (λ f. f.0 < length fences.now) kept.args.acquire)
+        state.old.queue.waiting }
     ensures { TookReady time (has fences.now) result state.old state.new }
 {
     state.going.clear();

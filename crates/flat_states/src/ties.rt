@@ -6,7 +6,8 @@ ghost use Rattle.flat_topology.specs.Fit.{FitsSetup};
 ghost use Rattle.flat_topology.specs.Join.{is_joined};
 ghost use Rattle.flat_topology.specs.Shown.{state_of};
 ghost use Rattle.flat_states.specs.Begins.{begun, finished};
-ghost use Rattle.flat_states.specs.Following.{AreTied, IsBegun, IsOwnEntry, UsesNone, sight_of_state};
+ghost use Rattle.flat_states.specs.Following.{AreTied, IsBegun, IsOwnEntry, UsesNone};
+ghost use Rattle.flat_states.specs.Following.{sight_of_state};
 ghost use Rattle.flat_rules.specs.Legal.{Legal};
 ghost use Rattle.flat_states.specs.Usage.{IsUse, NotesCalls, SeesUses, uses_if};
 
@@ -27,7 +28,8 @@ fn see_session(shown: &Shown, connected: bool, state: &SessionState, s: SessionN
     requires some { 0 < s.0 }
     requires few { s.0 ≤ length shown.now }
     requires goes { length state.now.going.items ≤ 5 }
-    ensures { (setup : Setup) → connected ≡ is_joined setup shown.now s.0 → result ≡ sight_of_state setup shown.now state.now s }
+    ensures { (setup : Setup) → connected ≡ is_joined setup shown.now s.0 → result
+        ≡ sight_of_state setup shown.now state.now s }
 {
     let view = match shown.state(s) {
         Some(state) => state.view(),
@@ -92,7 +94,8 @@ pub struct Ties {
 impl Ties {
     /// Before any entry.
     pub fn new(alloc: Global, setup: &Setup) -> Result<Ties, NoMemory>
-        ensures { IfOk result (λ ties. AreTied setup.now [] ties.followings.items ties.pairs.items) }
+        ensures { IfOk result (λ ties. AreTied setup.now [] ties.followings.items
+            ties.pairs.items) }
     {
         let followings = Followings::new(alloc, setup.sessions)?;
         let pairs = PairStates::new(alloc, setup.pairs.len())?;
@@ -107,7 +110,10 @@ impl Ties {
         requires few { s.0 ≤ length self.old.followings.items }
         ensures sessions { length self.new.followings.items ≡ length self.old.followings.items }
         ensures count { length self.new.pairs.items ≡ length self.old.pairs.items }
-        ensures tied { (setup : Setup) (h : List Entry) (e : Entry) → IsOwnEntry setup h e s calls.now presents live.now → UsesNone e → AreTied setup h self.old.followings.items self.old.pairs.items → AreTied setup (h ▹ e) self.new.followings.items self.new.pairs.items }
+        ensures tied { (setup : Setup) (h : List Entry) (e : Entry) →
+            IsOwnEntry setup h e s calls.now presents live.now → UsesNone e →
+            AreTied setup h self.old.followings.items self.old.pairs.items →
+            AreTied setup (h ▹ e) self.new.followings.items self.new.pairs.items }
     {
         self.note_calls(s, calls, presents, live);
     }
@@ -126,7 +132,10 @@ impl Ties {
         requires few { s.0 ≤ length self.old.followings.items }
         ensures sessions { length self.new.followings.items ≡ length self.old.followings.items }
         ensures count { length self.new.pairs.items ≡ length self.old.pairs.items }
-        ensures tied { (setup : Setup) (h : List Entry) (e : Entry) → IsOwnEntry setup h e s calls.now presents live.now → IsUse e p props → length h < 2 ^ 32 - 1 → AreTied setup h self.old.followings.items self.old.pairs.items → AreTied setup (h ▹ e) self.new.followings.items self.new.pairs.items }
+        ensures tied { (setup : Setup) (h : List Entry) (e : Entry) →
+            IsOwnEntry setup h e s calls.now presents live.now → IsUse e p props →
+            length h < 2 ^ 32 - 1 → AreTied setup h self.old.followings.items self.old.pairs.items →
+            AreTied setup (h ▹ e) self.new.followings.items self.new.pairs.items }
     {
         let serial = self.note_calls(s, calls, presents, live);
         self.pairs.use_pair(p, serial, props);
@@ -143,7 +152,9 @@ impl Ties {
         requires fit { FitsSetup setup.now shown.now }
         ensures sessions { length self.new.followings.items ≡ length self.old.followings.items }
         ensures count { length self.new.pairs.items ≡ length self.old.pairs.items }
-        ensures tied { (h : List Entry) (line time : ℕ) → IsBegun setup.now h line time sessions.now shown.now → AreTied setup.now h self.old.followings.items self.old.pairs.items → AreTied setup.now (begun h line time) self.new.followings.items self.new.pairs.items }
+        ensures tied { (h : List Entry) (line time : ℕ) → IsBegun setup.now h line time sessions.now
+            shown.now → AreTied setup.now h self.old.followings.items self.old.pairs.items →
+            AreTied setup.now (begun h line time) self.new.followings.items self.new.pairs.items }
     {
         self.followings.find_connected(setup, shown);
         for i in 0..setup.sessions {
@@ -164,7 +175,9 @@ impl Ties {
         requires { length self.old.followings.items ≡ setup.now.sessions }
         ensures sessions { length self.new.followings.items ≡ length self.old.followings.items }
         ensures count { length self.new.pairs.items ≡ length self.old.pairs.items }
-        ensures tied { (h : List Entry) (line : ℕ) → Legal setup.now (finished h line) → AreTied setup.now h self.old.followings.items self.old.pairs.items → AreTied setup.now (finished h line) self.new.followings.items self.new.pairs.items }
+        ensures tied { (h : List Entry) (line : ℕ) → Legal setup.now (finished h line) →
+            AreTied setup.now h self.old.followings.items self.old.pairs.items →
+            AreTied setup.now (finished h line) self.new.followings.items self.new.pairs.items }
     {
         for i in 0..setup.sessions {
             let one = self.followings.at(i as usize);
@@ -177,7 +190,8 @@ impl Ties {
     fn note_calls(&mut self, s: SessionNo, calls: &[Call], presents: u32, live: &[Live]) -> u64
         requires some { 0 < s.0 }
         requires few { s.0 ≤ length self.old.followings.items }
-        ensures { NotesCalls s calls.now presents live.now result self.old.followings.items self.new.followings.items self.old.pairs.items self.new.pairs.items }
+        ensures { NotesCalls s calls.now presents live.now result self.old.followings.items
+            self.new.followings.items self.old.pairs.items self.new.pairs.items }
     {
         let place = s.0 as usize - 1;
         let old = self.followings.at(place);

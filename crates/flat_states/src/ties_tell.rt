@@ -9,7 +9,8 @@ ghost use Rattle.flat_rules.specs.Legal.{Legal};
 ghost use Rattle.flat_rules.specs.Stamps.{is_seen};
 ghost use Rattle.flat_rules.specs.Shown.{is_pair};
 ghost use Rattle.flat_watch.specs.Told.{or_else};
-ghost use Rattle.flat_rules.specs.Watch.{are_joined, props_told, told, layout_of, status_of, child_of};
+ghost use Rattle.flat_rules.specs.Watch.{are_joined, props_told, told, layout_of, status_of};
+ghost use Rattle.flat_rules.specs.Watch.{child_of};
 
 use crate::following::Sight;
 use crate::followings::NOTHING;
@@ -47,7 +48,8 @@ fn latest(seen: Option<ViewportProps>, given: Option<ViewportProps>) -> Option<V
 impl Ties {
     /// What the begin of the last finished frame saw of a session.
     fn last_sight(&self, s: SessionNo) -> Sight
-        ensures { (setup : Setup) (h : List Entry) → AreTied setup h self.now.followings.items self.now.pairs.items → Legal setup h → IsLastSight setup h s result }
+        ensures { (setup : Setup) (h : List Entry) → AreTied setup h self.now.followings.items
+            self.now.pairs.items → Legal setup h → IsLastSight setup h s result }
     {
         if s.0 == 0 {
             return NOTHING;
@@ -63,7 +65,9 @@ impl Ties {
     fn is_viewport_lost(&self, setup: &Setup, p: PairNo) -> bool
         requires known { p.0 < length setup.now.pairs }
         requires kept { p.0 < length self.now.pairs.items }
-        ensures { (h : List Entry) → AreTied setup.now h self.now.followings.items self.now.pairs.items → Legal setup.now h → result ≡ is_viewport_lost setup.now (to_finished h) p }
+        ensures { (h : List Entry) → AreTied setup.now h self.now.followings.items
+            self.now.pairs.items → Legal setup.now h → result
+            ≡ is_viewport_lost setup.now (to_finished h) p }
     {
         match setup.pairs.at(p.0 as usize).viewport {
             Actor::Session(v) => is_lost(self.last_sight(v), self.pairs.state(p).cleared),
@@ -75,7 +79,9 @@ impl Ties {
     fn are_joined(&self, setup: &Setup, p: PairNo, is_viewed: bool) -> bool
         requires known { p.0 < length setup.now.pairs }
         requires kept { p.0 < length self.now.pairs.items }
-        ensures { (h : List Entry) → AreTied setup.now h self.now.followings.items self.now.pairs.items → is_viewed ≡ nat_lt 0 (length (view_uses p h)) → result ≡ are_joined setup.now h p }
+        ensures { (h : List Entry) → AreTied setup.now h self.now.followings.items
+            self.now.pairs.items → is_viewed ≡ nat_lt 0 (length (view_uses p h)) → result
+            ≡ are_joined setup.now h p }
     {
         is_viewed
             && match setup.pairs.at(p.0 as usize).viewport {
@@ -88,7 +94,8 @@ impl Ties {
     fn props(&self, setup: &Setup, p: PairNo) -> Option<ViewportProps>
         requires known { p.0 < length setup.now.pairs }
         requires kept { p.0 < length self.now.pairs.items }
-        ensures { (h : List Entry) → AreTied setup.now h self.now.followings.items self.now.pairs.items → result ≡ props_told setup.now (viewport_owner setup.now p) h p }
+        ensures { (h : List Entry) → AreTied setup.now h self.now.followings.items
+            self.now.pairs.items → result ≡ props_told setup.now (viewport_owner setup.now p) h p }
     {
         match setup.pairs.at(p.0 as usize).viewport {
             Actor::Display => Some(ViewportProps {
@@ -113,7 +120,9 @@ impl Ties {
     pub fn layout(&self, setup: &Setup, p: PairNo, is_viewed: bool) -> Option<Told>
         requires known { p.0 < length setup.now.pairs }
         requires kept { p.0 < length self.now.pairs.items }
-        ensures { (h : List Entry) → AreTied setup.now h self.now.followings.items self.now.pairs.items → Legal setup.now h → is_viewed ≡ nat_lt 0 (length (view_uses p h)) → result ≡ told setup.now h (layout_of p) }
+        ensures { (h : List Entry) → AreTied setup.now h self.now.followings.items
+            self.now.pairs.items → Legal setup.now h → is_viewed
+            ≡ nat_lt 0 (length (view_uses p h)) → result ≡ told setup.now h (layout_of p) }
     {
         layout_by(
             self.is_viewport_lost(setup, p),
@@ -126,7 +135,9 @@ impl Ties {
     pub fn status(&self, setup: &Setup, p: PairNo, is_viewed: bool) -> Option<Told>
         requires known { p.0 < length setup.now.pairs }
         requires kept { p.0 < length self.now.pairs.items }
-        ensures { (h : List Entry) → AreTied setup.now h self.now.followings.items self.now.pairs.items → Legal setup.now h → is_viewed ≡ nat_lt 0 (length (view_uses p h)) → result ≡ told setup.now h (status_of p) }
+        ensures { (h : List Entry) → AreTied setup.now h self.now.followings.items
+            self.now.pairs.items → Legal setup.now h → is_viewed
+            ≡ nat_lt 0 (length (view_uses p h)) → result ≡ told setup.now h (status_of p) }
     {
         let owner = self.last_sight(setup.pairs.at(p.0 as usize).view);
         status_by(
@@ -140,7 +151,8 @@ impl Ties {
     pub fn child(&self, setup: &Setup, p: PairNo) -> Option<Told>
         requires known { p.0 < length setup.now.pairs }
         requires kept { p.0 < length self.now.pairs.items }
-        ensures { (h : List Entry) (n : ℕ) → AreTied setup.now h self.now.followings.items self.now.pairs.items → Legal setup.now h → result ≡ told setup.now h (child_of p n) }
+        ensures { (h : List Entry) (n : ℕ) → AreTied setup.now h self.now.followings.items
+            self.now.pairs.items → Legal setup.now h → result ≡ told setup.now h (child_of p n) }
     {
         let owner = self.last_sight(setup.pairs.at(p.0 as usize).view);
         child_by(

@@ -1,10 +1,13 @@
-ghost use Rattle.std.specs.Prelude.{◌≡◌, ◌+◌, ◌<◌, ◌≤◌, ◌==◌, ◌^◌, Some, None, [], ◌∷◌, ◌++◌, not, true, false, filter, length, map, OnOk, OnErr, cond, vec_capacity};
+ghost use Rattle.std.specs.Prelude.{◌≡◌, ◌+◌, ◌<◌, ◌≤◌, ◌==◌, ◌^◌, Some, None, [], ◌∷◌, ◌++◌, not};
+ghost use Rattle.std.specs.Prelude.{true, false, filter, length, map, OnOk, OnErr, cond};
+ghost use Rattle.std.specs.Prelude.{vec_capacity};
 ghost use Rattle.std.specs.List.{list_any};
 ghost use Rattle.flat_rules.specs.Legal.{all_but_last};
 ghost use Rattle.flat_states.specs.Lives.{lives_then, lives_after, pair_named, uses_last};
 ghost use Rattle.flat_states.specs.Seen.{is_new_viewport};
 ghost use Rattle.flat_states.specs.Begins.{post_of};
-ghost use Rattle.flat_states.specs.Viewports.{marked, marked_by, with_out, place_of, is_back, back_events, still_out};
+ghost use Rattle.flat_states.specs.Viewports.{marked, marked_by, with_out, place_of, is_back};
+ghost use Rattle.flat_states.specs.Viewports.{back_events, still_out};
 
 use crate::live::{Live, OutToken};
 use crate::log::Log;
@@ -90,7 +93,8 @@ fn place_of(out: &[OutToken], p: PairNo) -> usize
 fn post_back(out: &[OutToken], taken: u32, s: SessionNo, log: &mut Log) -> usize
     requires place { length log.old.history < 2 ^ 32 }
     requires room { length out.now ≤ log.old.post_room }
-    ensures posts { log.new.posts ≡ log.old.posts ++ map (post_of (length log.old.history) s) (back_events taken out.now) }
+    ensures posts { log.new.posts ≡ log.old.posts ++ map (post_of (length log.old.history) s)
+        (back_events taken out.now) }
     ensures count { result ≡ length (back_events taken out.now) }
     ensures history { log.new.history ≡ log.old.history }
     ensures room { log.new.room ≡ log.old.room }
@@ -160,8 +164,10 @@ impl Viewports {
 
     /// A viewport is released, if that is what the id names.
     fn release(&mut self, name: ContentId, presents: u32)
-        ensures live { self.new.live.items ≡ filter (λ one. not (one.name.0 == name.0)) self.old.live.items }
-        ensures out { self.new.out.items ≡ map (marked_by (pair_named self.old.live.items name.0) presents) self.old.out.items }
+        ensures live { self.new.live.items
+            ≡ filter (λ one. not (one.name.0 == name.0)) self.old.live.items }
+        ensures out { self.new.out.items
+            ≡ map (marked_by (pair_named self.old.live.items name.0) presents) self.old.out.items }
         ensures room_live { vec_capacity self.new.live ≡ vec_capacity self.old.live }
         ensures room_out { vec_capacity self.new.out ≡ vec_capacity self.old.out }
     {
@@ -174,7 +180,8 @@ impl Viewports {
     fn note_one(&mut self, call: &Call, presents: u32)
         requires { is_new_viewport call.now ≡ false }
         ensures live { self.new.live.items ≡ lives_then self.old.live.items call.now }
-        ensures out { self.new.out.items ≡ map (marked self.old.live.items (call.now ∷ []) presents) self.old.out.items }
+        ensures out { self.new.out.items ≡ map (marked self.old.live.items (call.now ∷ []) presents)
+            self.old.out.items }
         ensures room_live { vec_capacity self.new.live ≡ vec_capacity self.old.live }
         ensures room_out { vec_capacity self.new.out ≡ vec_capacity self.old.out }
     {
@@ -189,7 +196,8 @@ impl Viewports {
     pub fn note_calls(&mut self, calls: &[Call], presents: u32)
         requires { list_any is_new_viewport calls.now ≡ false }
         ensures live { self.new.live.items ≡ lives_after self.old.live.items calls.now }
-        ensures out { self.new.out.items ≡ map (marked self.old.live.items calls.now presents) self.old.out.items }
+        ensures out { self.new.out.items ≡ map (marked self.old.live.items calls.now presents)
+            self.old.out.items }
         ensures room_live { vec_capacity self.new.live ≡ vec_capacity self.old.live }
         ensures room_out { vec_capacity self.new.out ≡ vec_capacity self.old.out }
     {
@@ -202,8 +210,10 @@ impl Viewports {
     pub fn join(&mut self, name: ContentId, pair: PairNo)
         requires room_live { length self.old.live.items < vec_capacity self.old.live }
         requires room_out { length self.old.out.items < vec_capacity self.old.out }
-        ensures live { self.new.live.items ≡ self.old.live.items ++ (record { name = name; pair = pair }) ∷ [] }
-        ensures out { self.new.out.items ≡ with_out (record { pair = pair; released = None }) self.old.out.items }
+        ensures live { self.new.live.items
+            ≡ self.old.live.items ++ (record { name = name; pair = pair }) ∷ [] }
+        ensures out { self.new.out.items ≡ with_out (record { pair = pair; released = None })
+            self.old.out.items }
         ensures count { length self.new.out.items ≡ length self.old.out.items + 1 }
     {
         self.live.push_reserved(Live { name, pair });
@@ -223,7 +233,8 @@ impl Viewports {
         requires room_live { length self.old.live.items < vec_capacity self.old.live }
         requires room_out { length self.old.out.items < vec_capacity self.old.out }
         ensures live { self.new.live.items ≡ lives_after self.old.live.items calls.now }
-        ensures out { self.new.out.items ≡ with_out (record { pair = p; released = None }) (map (marked self.old.live.items calls.now presents) self.old.out.items) }
+        ensures out { self.new.out.items ≡ with_out (record { pair = p; released = None })
+            (map (marked self.old.live.items calls.now presents) self.old.out.items) }
         ensures count { length self.new.out.items ≡ length self.old.out.items + 1 }
     {
         let place = calls.len() - 1;
@@ -240,7 +251,8 @@ impl Viewports {
         requires room { length self.old.out.items ≤ log.old.post_room }
         ensures live { self.new.live.items ≡ self.old.live.items }
         ensures out { self.new.out.items ≡ still_out taken self.old.out.items }
-        ensures posts { log.new.posts ≡ log.old.posts ++ map (post_of (length log.old.history) s) (back_events taken self.old.out.items) }
+        ensures posts { log.new.posts ≡ log.old.posts ++ map (post_of (length log.old.history) s)
+            (back_events taken self.old.out.items) }
         ensures count { result ≡ length (back_events taken self.old.out.items) }
         ensures history { log.new.history ≡ log.old.history }
         ensures room { log.new.room ≡ log.old.room }

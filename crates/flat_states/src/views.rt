@@ -1,11 +1,14 @@
-ghost use Rattle.std.specs.Prelude.{◌≡◌, ℕ, ◌<◌, ◌≤◌, ◌==◌, not, All, false, length, slice_index_or, true, vec_capacity, IfOk};
+ghost use Rattle.std.specs.Prelude.{◌≡◌, ℕ, ◌<◌, ◌≤◌, ◌==◌, not, All, false, length};
+ghost use Rattle.std.specs.Prelude.{slice_index_or, true, vec_capacity, IfOk};
 ghost use Rattle.std.specs.List.{list_any};
 ghost use Rattle.flat_base.specs.declared.limits.TheConstants.{SESSIONS_MAX};
 ghost use Rattle.flat_states.specs.declared.state.SessionState.{SessionState};
 ghost use Rattle.flat_states.specs.Kept.{has_view_in};
 ghost use Rattle.flat_rules.specs.Legal.{all_but_last, refused_token};
 ghost use Rattle.flat_states.specs.Lives.{uses_last};
-ghost use Rattle.flat_states.specs.Presents.{use_reply, after_get, after_view, after_viewport, noted_in, IsPlaced, IsNoted, IsUsed, EndsNoted, TiesNoted, TiesUsed, HasNone};
+ghost use Rattle.flat_states.specs.Presents.{use_reply, after_get, after_view, after_viewport};
+ghost use Rattle.flat_states.specs.Presents.{noted_in, IsPlaced, IsNoted, IsUsed, EndsNoted};
+ghost use Rattle.flat_states.specs.Presents.{TiesNoted, TiesUsed, HasNone};
 ghost use Rattle.flat_states.specs.Seen.{is_new_viewport};
 
 use crate::state::{SessionState, note};
@@ -138,7 +141,8 @@ pub fn note_in(
     requires tied { length ties.old.followings.items ≡ length sessions.old.items }
     requires none { list_any is_new_viewport calls.now ≡ false }
     ensures sessions { sessions.new.items ≡ noted_in who calls.now sessions.old.items }
-    ensures ends { EndsNoted who calls.now sessions.old.items ends.old.items ends.new.items ties.old ties.new }
+    ensures ends { EndsNoted who calls.now sessions.old.items ends.old.items ends.new.items ties.old
+        ties.new }
 {
     match who {
         Actor::Session(s) => {
@@ -155,7 +159,8 @@ pub fn note_in(
 pub fn with_view(states: &[SessionState]) -> SessionSet
     requires few { length states.now ≤ SESSIONS_MAX }
     requires goes { All (λ state. length state.going.items ≤ 5) states.now }
-    ensures each { (i : ℕ) (d : SessionState) → i < length states.now → slice_index_or result.has i false ≡ has_view_in (slice_index_or states.now i d) }
+    ensures each { (i : ℕ) (d : SessionState) → i < length states.now →
+        slice_index_or result.has i false ≡ has_view_in (slice_index_or states.now i d) }
     ensures others { (i : ℕ) → length states.now ≤ i → slice_index_or result.has i false ≡ false }
 {
     let mut has = [false; 16];

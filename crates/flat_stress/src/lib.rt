@@ -2,6 +2,9 @@
 //!
 //! A host session shows seven guests in viewports of its own, each guest shows 32
 //! small fills, and in each later frame everything moves a little.
+//!
+//! `script` (load) writes the text of specs/Load, `summary` (totals) the line of
+//! specs/Summary; specs/Laws says that each load is a script.
 #![tactic(auto)]
 
 mod laws;

@@ -1,7 +1,9 @@
-ghost use Rattle.std.specs.Prelude.{◌≡◌, ℕ, ◌+◌, ◌*◌, ◌%◌, ◌≤◌, ◌++◌, ◌∷◌, [], map, OnOk, IfOk, codes};
+ghost use Rattle.std.specs.Prelude.{◌≡◌, ℕ, ◌+◌, ◌*◌, ◌%◌, ◌≤◌, ◌++◌, ◌∷◌, [], map, OnOk, IfOk};
+ghost use Rattle.std.specs.Prelude.{codes};
 ghost use Rattle.std.specs.List.{flat_map};
 ghost use Rattle.flat_stress.specs.Words.{text_of, session, pair, from_to};
-ghost use Rattle.flat_stress.specs.Load.{head, opening, node, move, fill, viewport, present, host, guest, frame, later, load, load_text};
+ghost use Rattle.flat_stress.specs.Load.{head, opening, node, move, fill, viewport, present, host};
+ghost use Rattle.flat_stress.specs.Load.{guest, frame, later, load, load_text};
 
 use crate::page::{Word, push_lines};
 use Word::{Number, Pair, Session, Text};
@@ -53,7 +55,8 @@ fn push_head(out: &mut Vec<u8>) -> Result<(), NoMemory>
 }
 
 fn push_sessions(out: &mut Vec<u8>) -> Result<(), NoMemory>
-    ensures { OnOk result (out.new.items ≡ out.old.items ++ text_of (map (λ i. codes "session" ∷ session i ∷ []) (from_to 1 8))) }
+    ensures { OnOk result (out.new.items
+        ≡ out.old.items ++ text_of (map (λ i. codes "session" ∷ session i ∷ []) (from_to 1 8))) }
 {
     for i in 1..9 {
         push_lines(out, &[&[Text("session"), Session(i)]])?;
@@ -62,7 +65,9 @@ fn push_sessions(out: &mut Vec<u8>) -> Result<(), NoMemory>
 }
 
 fn push_pairs(out: &mut Vec<u8>) -> Result<(), NoMemory>
-    ensures { OnOk result (out.new.items ≡ out.old.items ++ text_of (map (λ i. codes "pair" ∷ pair i ∷ session 1 ∷ session i ∷ []) (from_to 2 8))) }
+    ensures { OnOk result (out.new.items
+        ≡ out.old.items ++ text_of (map (λ i. codes "pair" ∷ pair i ∷ session 1 ∷ session i
+        ∷ []) (from_to 2 8))) }
 {
     for i in 2..9 {
         push_lines(out, &[&[Text("pair"), Pair(i), Session(1), Session(i)]])?;
@@ -155,7 +160,8 @@ fn push_host(out: &mut Vec<u8>) -> Result<(), NoMemory>
 }
 
 fn push_viewports(out: &mut Vec<u8>) -> Result<(), NoMemory>
-    ensures { OnOk result (out.new.items ≡ out.old.items ++ text_of (flat_map (λ i. node 1 i ++ viewport i) (from_to 2 8))) }
+    ensures { OnOk result (out.new.items
+        ≡ out.old.items ++ text_of (flat_map (λ i. node 1 i ++ viewport i) (from_to 2 8))) }
 {
     for i in 2..9 {
         push_node(out, 1, i)?;
@@ -165,7 +171,8 @@ fn push_viewports(out: &mut Vec<u8>) -> Result<(), NoMemory>
 }
 
 fn push_guests(out: &mut Vec<u8>) -> Result<(), NoMemory>
-    ensures { OnOk result (out.new.items ≡ out.old.items ++ text_of (flat_map guest (from_to 2 8))) }
+    ensures { OnOk result (out.new.items
+        ≡ out.old.items ++ text_of (flat_map guest (from_to 2 8))) }
 {
     for i in 2..9 {
         push_guest(out, i)?;
@@ -183,7 +190,9 @@ fn push_guest(out: &mut Vec<u8>, i: u32) -> Result<(), NoMemory>
 }
 
 fn push_fills(out: &mut Vec<u8>, i: u32) -> Result<(), NoMemory>
-    ensures { OnOk result (out.new.items ≡ out.old.items ++ text_of (flat_map (λ j. node i j ++ move i j (3 * j) (2 * j) ∷ fill i j) (from_to 2 33))) }
+    ensures { OnOk result (out.new.items
+        ≡ out.old.items ++ text_of (flat_map (λ j. node i j ++ move i j (3 * j) (2 * j) ∷ fill i j)
+        (from_to 2 33))) }
 {
     for j in 2..34 {
         push_node(out, i, j)?;
@@ -205,7 +214,8 @@ fn push_frame(out: &mut Vec<u8>, k: u32) -> Result<(), NoMemory>
 fn push_later_frames(out: &mut Vec<u8>, n: u32) -> Result<(), NoMemory>
     requires first { 1 ≤ n }
     requires last { n ≤ 500 }
-    ensures { OnOk result (out.new.items ≡ out.old.items ++ text_of (flat_map later (from_to 2 n))) }
+    ensures { OnOk result (out.new.items
+        ≡ out.old.items ++ text_of (flat_map later (from_to 2 n))) }
 {
     for k in 2..n + 1 {
         push_later(out, k)?;
@@ -226,7 +236,9 @@ fn push_later(out: &mut Vec<u8>, k: u32) -> Result<(), NoMemory>
 
 fn push_host_moves(out: &mut Vec<u8>, k: u32) -> Result<(), NoMemory>
     requires { k ≤ 500 }
-    ensures { OnOk result (out.new.items ≡ out.old.items ++ text_of (map (λ i. move 1 i ((100 * i + k) % 900) ((50 * i + k) % 900)) (from_to 2 8))) }
+    ensures { OnOk result (out.new.items
+        ≡ out.old.items ++ text_of (map (λ i. move 1 i ((100 * i + k) % 900) ((50 * i + k) % 900))
+        (from_to 2 8))) }
 {
     for i in 2..9 {
         push_move(out, 1, i, (100 * i + k) % 900, (50 * i + k) % 900)?;
@@ -235,7 +247,9 @@ fn push_host_moves(out: &mut Vec<u8>, k: u32) -> Result<(), NoMemory>
 }
 
 fn push_guest_moves(out: &mut Vec<u8>, k: u32) -> Result<(), NoMemory>
-    ensures { OnOk result (out.new.items ≡ out.old.items ++ text_of (flat_map (λ i. move i 2 (k % 90) 0 ∷ present i k ∷ []) (from_to 2 8))) }
+    ensures { OnOk result (out.new.items
+        ≡ out.old.items ++ text_of (flat_map (λ i. move i 2 (k % 90) 0 ∷ present i k
+        ∷ []) (from_to 2 8))) }
 {
     for i in 2..9 {
         push_move(out, i, 2, k % 90, 0)?;

@@ -23,7 +23,8 @@ pub enum Word {
 
 /// Appends lines.
 pub fn push_lines(out: &mut Vec<u8>, lines: &[&[Word]]) -> Result<(), NoMemory>
-    ensures { OnOk result (out.new.items ≡ out.old.items ++ text_of (map (λ line. map spelling line.now) lines.now)) }
+    ensures { OnOk result (out.new.items
+        ≡ out.old.items ++ text_of (map (λ line. map spelling line.now) lines.now)) }
 {
     for line in lines {
         push_line(out, line)?;

@@ -4,6 +4,8 @@
 //! spaces. A number has one spelling only: `0`, or digits without a leading zero,
 //! or `-` and digits without a leading zero; it has at most 20 digits.
 //!
+//! `number` reads and writes by specs/Number, `pieces` cuts by specs/Pieces.
+//!
 //! Other crates may cite the lemmas of proofs/lemmas/: numbers and their spellings
 //! (NumberLemmas).
 #![tactic(auto)]

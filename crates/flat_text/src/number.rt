@@ -1,4 +1,5 @@
-ghost use Rattle.std.specs.Prelude.{◌≡◌, ◌≢◌, ◌++◌, ◌<◌, ◌≤◌, ◌^◌, ◌↔◌, ℕ, ℤ, length, Some, OnOk, OnErr, IfSome, IsNone, unsigned_abs};
+ghost use Rattle.std.specs.Prelude.{◌≡◌, ◌≢◌, ◌++◌, ◌<◌, ◌≤◌, ◌^◌, ◌↔◌, ℕ, ℤ, length, Some, OnOk};
+ghost use Rattle.std.specs.Prelude.{OnErr, IfSome, IsNone, unsigned_abs};
 ghost use Rattle.std.specs.Fmt.{decimal, signed_decimal};
 ghost use Rattle.flat_text.specs.Number.{digits_after, positive, natural, signed};
 
@@ -23,8 +24,10 @@ pub fn read_number(word: &[u8]) -> Option<i128>
     ensures text { IfSome result (λ v. signed_decimal v ≡ word.now) }
     ensures digits { IfSome result (λ v. unsigned_abs v < 10 ^ 20) }
     // The text of each such number is read as that number.
-    ensures back { (v : ℤ) → unsigned_abs v < 10 ^ 20 → signed_decimal v ≡ word.now → result ≡ Some v }
-    ensures none { IsNone result ↔ ((v : ℤ) → unsigned_abs v < 10 ^ 20 → signed_decimal v ≢ word.now) }
+    ensures back { (v : ℤ) → unsigned_abs v < 10 ^ 20 → signed_decimal v ≡ word.now → result
+        ≡ Some v }
+    ensures none { IsNone result ↔ ((v : ℤ) → unsigned_abs v < 10 ^ 20 →
+        signed_decimal v ≢ word.now) }
 {
     number_in(word)
 }

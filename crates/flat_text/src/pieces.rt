@@ -1,4 +1,5 @@
-ghost use Rattle.std.specs.Prelude.{◌≡◌, ◌==◌, ◌<◌, ◌≤◌, ◌↔◌, ◌∷◌, [], MatchOption, length, slice_get, option_map, IfSome, IsNone};
+ghost use Rattle.std.specs.Prelude.{◌≡◌, ◌==◌, ◌<◌, ◌≤◌, ◌↔◌, ◌∷◌, [], MatchOption, length};
+ghost use Rattle.std.specs.Prelude.{slice_get, option_map, IfSome, IsNone};
 ghost use Rattle.std.specs.List.{position_or_len, before_first, after_first, slice_split};
 ghost use Rattle.flat_text.specs.Pieces.{is_feed, lines_of, words_of, pieces_left};
 
@@ -14,7 +15,8 @@ pub fn line(text: &[u8]) -> Option<(&[u8], &[u8])>
     ensures rest { IfSome result (λ p. p.1.now ≡ after_first is_feed text.now) }
     ensures shorter { IfSome result (λ p. length p.1.now < length text.now) }
     // So the calls, each on the rest that the one before it left, give the lines of the text.
-    ensures lines { MatchOption result (lines_of text.now ≡ []) (λ p. lines_of text.now ≡ p.0.now ∷ lines_of p.1.now) }
+    ensures lines { MatchOption result (lines_of text.now ≡ []) (λ p. lines_of text.now
+        ≡ p.0.now ∷ lines_of p.1.now) }
 {
     if text.is_empty() {
         return None;
@@ -67,7 +69,8 @@ fn place_of(text: &[u8], separator: u8) -> usize
 /// So a text is never without a piece, and calls of it give all its pieces one by
 /// one, each on what the one before left.
 pub fn next_piece(text: &[u8], separator: u8) -> (&[u8], Option<&[u8]>)
-    ensures { slice_split (λ b. b == separator) text.now ≡ result.0.now ∷ pieces_left (λ b. b == separator) result.1 }
+    ensures { slice_split (λ b. b == separator) text.now
+        ≡ result.0.now ∷ pieces_left (λ b. b == separator) result.1 }
 {
     let end = place_of(text, separator);
     if end < text.len() {

@@ -6,7 +6,8 @@ ghost use Rattle.flat_damage.specs.Damage.{IsDamage};
 ghost use Rattle.flat_scene.specs.declared.frames.FrameOut.{FrameOut};
 ghost use Rattle.flat_page.specs.Pages.{Writes, WritesLines};
 ghost use Rattle.flat_page.specs.Words.{number};
-ghost use Rattle.flat_texts.specs.Damages.{IsDamageText, IsFound, damaged_lines, damaged_text, end_line, rect_line};
+ghost use Rattle.flat_texts.specs.Damages.{IsDamageText, IsFound, damaged_lines, damaged_text};
+ghost use Rattle.flat_texts.specs.Damages.{end_line, rect_line};
 ghost use Rattle.flat_texts.specs.Pictures.{list_of};
 
 use flat_base::{FrameNo, NoMemory, Rect};
@@ -38,7 +39,8 @@ fn damage_since(
     before: Option<&FrameOut>,
     frame: &FrameOut,
 ) -> Result<RectList, NoMemory>
-    ensures { IfOk result (λ rects. IsDamage (list_of (option_copied before.entry)) frame.now.items rects) }
+    ensures { IfOk result (λ rects. IsDamage (list_of (option_copied before.entry)) frame.now.items
+        rects) }
 {
     match before {
         Some(before) => damage(alloc, &before.items, &frame.items),
@@ -63,7 +65,8 @@ impl FrameDamages {
 
     /// Finds what changes with the next frame, which is kept until the one after it.
     pub fn push(&mut self, frame: FrameOut) -> Result<(), NoMemory>
-        ensures { (frames : List FrameOut) → IsFound frames self.old → OnOk result (IsFound (frames ++ frame ∷ []) self.new) }
+        ensures { (frames : List FrameOut) → IsFound frames self.old →
+            OnOk result (IsFound (frames ++ frame ∷ []) self.new) }
     {
         let rects = damage_since(self.alloc, self.last.as_ref(), &frame)?;
         let frame_no = frame.frame;
@@ -77,7 +80,8 @@ impl FrameDamages {
 
     /// The last frame, if there is one.
     pub fn last(&self) -> Option<&FrameOut>
-        ensures { (frames : List FrameOut) → IsFound frames self.now → option_copied result ≡ last_item frames }
+        ensures { (frames : List FrameOut) → IsFound frames self.now → option_copied result
+            ≡ last_item frames }
     {
         self.last.as_ref()
     }
@@ -85,7 +89,8 @@ impl FrameDamages {
     /// The text of what changed from frame to frame: for each finished frame the damage
     /// between the draw list before it and its own. Before the first one nothing is drawn.
     pub fn text(&self) -> Result<Vec<u8>, NoMemory>
-        ensures { (frames : List FrameOut) → IsFound frames self.now → IfOk result (λ text. IsDamageText frames text.items) }
+        ensures { (frames : List FrameOut) → IsFound frames self.now →
+            IfOk result (λ text. IsDamageText frames text.items) }
     {
         print_damages(self.alloc, self.damaged.as_slice())
     }
@@ -110,7 +115,8 @@ fn push_rects(page: &mut Page, rects: &[Rect]) -> Result<(), NoMemory>
 }
 
 fn push_counts(page: &mut Page, frame: FrameNo, rects: usize) -> Result<(), NoMemory>
-    ensures { OnOk result (Writes (codes "frame" ∷ number frame.0 ∷ codes "rects" ∷ number rects ∷ []) page.old page.new) }
+    ensures { OnOk result (Writes (codes "frame" ∷ number frame.0 ∷ codes "rects" ∷ number rects
+        ∷ []) page.old page.new) }
 {
     page.counted(b"frame", frame.0)?;
     page.word(b"rects")?;
@@ -119,7 +125,8 @@ fn push_counts(page: &mut Page, frame: FrameNo, rects: usize) -> Result<(), NoMe
 }
 
 fn push_head(page: &mut Page, frame: FrameNo, rects: usize) -> Result<(), NoMemory>
-    ensures { OnOk result (WritesLines ((codes "damage" ∷ codes "frame" ∷ number frame.0 ∷ codes "rects" ∷ number rects ∷ []) ∷ []) page.old page.new) }
+    ensures { OnOk result (WritesLines ((codes "damage" ∷ codes "frame" ∷ number frame.0
+        ∷ codes "rects" ∷ number rects ∷ []) ∷ []) page.old page.new) }
 {
     page.put(b"damage")?;
     push_counts(page, frame, rects)?;
@@ -145,7 +152,8 @@ fn push_all(page: &mut Page, damaged: &[Damaged]) -> Result<(), NoMemory>
 }
 
 fn push_total(page: &mut Page, frames: usize) -> Result<(), NoMemory>
-    ensures { OnOk result (Writes (codes "ends" ∷ codes "frames" ∷ number frames ∷ []) page.old page.new) }
+    ensures { OnOk result (Writes (codes "ends" ∷ codes "frames" ∷ number frames ∷ []) page.old
+        page.new) }
 {
     page.word(b"ends")?;
     page.word(b"frames")?;
@@ -164,7 +172,8 @@ fn push_end(page: &mut Page, frames: usize) -> Result<(), NoMemory>
 }
 
 fn push_text(page: &mut Page, damaged: &[Damaged]) -> Result<(), NoMemory>
-    ensures { OnOk result (WritesLines (flat_map damaged_lines damaged.now ++ end_line (length damaged.now) ∷ []) page.old page.new) }
+    ensures { OnOk result (WritesLines (flat_map damaged_lines damaged.now
+        ++ end_line (length damaged.now) ∷ []) page.old page.new) }
 {
     push_all(page, damaged)?;
     push_end(page, damaged.len())?;

@@ -23,7 +23,8 @@ fn picture_of_list(
     requires width { 0 < setup.now.width }
     requires height { 0 < setup.now.height }
     requires size { setup.now.width * setup.now.height ≤ PIXELS_MAX }
-    ensures { IfOk result (λ picture. Shows picture setup.now.width setup.now.height (pixel items.now)) }
+    ensures { IfOk result (λ picture. Shows picture setup.now.width setup.now.height
+        (pixel items.now)) }
 {
     render(rt, alloc, items, setup.width, setup.height)
 }
@@ -39,7 +40,8 @@ fn picture_after(
     requires width { 0 < setup.now.width }
     requires height { 0 < setup.now.height }
     requires size { setup.now.width * setup.now.height ≤ PIXELS_MAX }
-    ensures { IfOk result (λ picture. Shows picture setup.now.width setup.now.height (pixel (list_of (option_copied last.entry)))) }
+    ensures { IfOk result (λ picture. Shows picture setup.now.width setup.now.height
+        (pixel (list_of (option_copied last.entry)))) }
 {
     match last {
         Some(frame) => picture_of_list(rt, alloc, &frame.items, setup),

@@ -1,10 +1,12 @@
-ghost use Rattle.std.specs.Prelude.{◌≡◌, ◌==◌, ◌+◌, ◌-◌, ◌^◌, ◌<◌, ◌≤◌, ◌↔◌, ℕ, Some, None, IsTrue, length, is_some, slice_index_or};
+ghost use Rattle.std.specs.Prelude.{◌≡◌, ◌==◌, ◌+◌, ◌-◌, ◌^◌, ◌<◌, ◌≤◌, ◌↔◌, ℕ, Some, None, IsTrue};
+ghost use Rattle.std.specs.Prelude.{length, is_some, slice_index_or};
 ghost use Rattle.std.specs.List.{list_any};
 ghost use Rattle.flat_snap.specs.Flat.{flat_nodes};
 ghost use Rattle.flat_topology.specs.Fit.{FitsSetup};
 ghost use Rattle.flat_topology.specs.Pairs.{display_pair};
 ghost use Rattle.flat_topology.specs.Join.{is_joined};
-ghost use Rattle.flat_topology.specs.Distances.{AreDistances, IsFinding, NotesViews, leads_to, is_shown_by};
+ghost use Rattle.flat_topology.specs.Distances.{AreDistances, IsFinding, NotesViews, leads_to};
+ghost use Rattle.flat_topology.specs.Distances.{is_shown_by};
 
 use crate::links_make_a_tree;
 use crate::shown::Shown;
@@ -66,7 +68,8 @@ fn note_viewports(
 )
     requires all { length distances.old ≡ length shown.now }
     requires fit { FitsSetup setup.now shown.now }
-    ensures { NotesViews shown.now (λ p. list_any (λ n. leads_to p n.content) (flat_nodes state.now)) distance distances.old distances.new }
+    ensures { NotesViews shown.now (λ p. list_any (λ n. leads_to p n.content)
+        (flat_nodes state.now)) distance distances.old distances.new }
 {
     let places = state.viewport_nodes();
     for &i in places {
@@ -86,7 +89,8 @@ fn note_below(
     requires few { session.0 ≤ length shown.now }
     requires all { length distances.old ≡ length shown.now }
     requires fit { FitsSetup setup.now shown.now }
-    ensures { NotesViews shown.now (λ p. is_shown_by shown.now p session.0) distance distances.old distances.new }
+    ensures { NotesViews shown.now (λ p. is_shown_by shown.now p session.0) distance distances.old
+        distances.new }
 {
     match shown.state(session) {
         Some(state) => note_viewports(shown, setup, state, distance, distances),
@@ -167,7 +171,8 @@ impl Shown {
         requires fit { FitsSetup setup.now self.now }
         ensures all { length distances.new ≡ length distances.old }
         ensures distances { AreDistances setup.now self.now distances.new }
-        ensures connected { (s : ℕ) → is_some (slice_index_or distances.new s None) ≡ is_joined setup.now self.now (s + 1) }
+        ensures connected { (s : ℕ) → is_some (slice_index_or distances.new s None)
+            ≡ is_joined setup.now self.now (s + 1) }
     {
         links_make_a_tree();
         note_top(self, setup, display, distances);

@@ -26,7 +26,8 @@ fn nodes_in_all(shown: &Shown) -> usize
 /// A walk that has placed nothing yet, with room for all nodes.
 fn start(alloc: Global, shown: &Shown, setup: &Setup) -> Result<Walk, NoMemory>
     requires { length shown.now < 2 ^ 31 }
-    ensures { IfOk result (IsOnTheWay shown.now (placed_nodes setup.now shown.now) (connected_sessions setup.now shown.now)) }
+    ensures { IfOk result (IsOnTheWay shown.now (placed_nodes setup.now shown.now)
+        (connected_sessions setup.now shown.now)) }
 {
     let mut walk = Walk {
         nodes: Items::from_vec(Vec::with_capacity(alloc, nodes_in_all(shown))?),

@@ -7,12 +7,19 @@
 //! `specs/`: which sessions are connected, where each node is placed, what is
 //! drawn, the view tree, and what a point hits.
 //!
+//! `join` (joining, walk, scope) answers `joined_lists` (specs/Connected), and
+//! `Shown::find_connected` (distances) `AreDistances` (specs/Distances).
+//!
 //! Other crates may cite the lemmas of proofs/lemmas/: lists without repeats,
 //! distances from the display, and the nodes of a state (Distances, Distinct,
 //! Rooted).
 #![tactic(auto)]
 
-ghost use Rattle.flat_topology.specs.Laws.{JoinsTheConnected, JoinsEachOnce, ReachesNoCycle, JoinsAll, JoinsFewSessions, JoinsFew, PlacesLowOpacities, ParentsDecide, DrawsInPreorder, ViewsTheJoined, ViewsBelowParents, ViewsTheConnected, HitsEachOnce};
+ghost use Rattle.flat_topology.specs.Laws.{JoinsTheConnected, JoinsEachOnce, ReachesNoCycle};
+ghost use Rattle.flat_topology.specs.Laws.{JoinsAll, JoinsFewSessions, JoinsFew};
+ghost use Rattle.flat_topology.specs.Laws.{PlacesLowOpacities, ParentsDecide, DrawsInPreorder};
+ghost use Rattle.flat_topology.specs.Laws.{ViewsTheJoined, ViewsBelowParents, ViewsTheConnected};
+ghost use Rattle.flat_topology.specs.Laws.{HitsEachOnce};
 
 mod distances;
 mod joining;

@@ -3,7 +3,8 @@ ghost use Rattle.flat_scene.specs.declared.trees.Content.TheVariants as content;
 ghost use Rattle.flat_scene.specs.declared.trees.Children.TheVariants.{Empty};
 ghost use Rattle.flat_snap.specs.Flat.{lent};
 ghost use Rattle.flat_snap.specs.Forest.{as_node};
-ghost use Rattle.flat_topology.specs.Place.{seen_through, cut_clip, display_rect, display_space, node_matrix, node_space, viewport_rect, placed_node};
+ghost use Rattle.flat_topology.specs.Place.{seen_through, cut_clip, display_rect, display_space};
+ghost use Rattle.flat_topology.specs.Place.{node_matrix, node_space, viewport_rect, placed_node};
 ghost use Rattle.flat_geom.specs.Rectangles.{shared_part};
 ghost use Rattle.flat_topology.specs.Walking.{space_of};
 
@@ -77,7 +78,8 @@ impl Scope {
     /// What a viewport that hands on this scope hands on to the child view below it.
     pub fn linked(&self, props: ViewportProps) -> Scope
         ensures matrix { result.matrix ≡ self.now.matrix }
-        ensures clip { result.clip ≡ shared_part self.now.clip (viewport_rect self.now.matrix props) }
+        ensures clip { result.clip ≡ shared_part self.now.clip (viewport_rect self.now.matrix
+            props) }
         ensures opacity { result.opacity ≡ self.now.opacity }
     {
         Scope {
@@ -93,7 +95,8 @@ impl Scope {
         session: SessionNo,
         node: &FlatNode<'_>,
     ) -> Result<Placed, NoMemory>
-        ensures { IfOk result (λ placed. placed ≡ placed_node session.0 (space_of self.now) (as_node (lent node.now) Empty)) }
+        ensures { IfOk result (λ placed. placed
+            ≡ placed_node session.0 (space_of self.now) (as_node (lent node.now) Empty)) }
     {
         Ok(Placed {
             session,

@@ -1,4 +1,5 @@
-ghost use Rattle.std.specs.Prelude.{◌≡◌, ◌<◌, ◌≤◌, ◌-◌, [], length, IfOk, All, None, slice_index_or, slice_set, option_map};
+ghost use Rattle.std.specs.Prelude.{◌≡◌, ◌<◌, ◌≤◌, ◌-◌, [], length, IfOk, All, None};
+ghost use Rattle.std.specs.Prelude.{slice_index_or, slice_set, option_map};
 ghost use Rattle.std.specs.Arc.{arc_value};
 ghost use Rattle.flat_topology.specs.Shown.{state_of};
 

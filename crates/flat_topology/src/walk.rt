@@ -1,12 +1,15 @@
-ghost use Rattle.std.specs.Prelude.{◌≡◌, ◌+◌, ◌-◌, ◌<◌, ◌≤◌, ◌^◌, length, IfOk, IfSome, OnOk, All, Some, None, option_map, slice_get};
+ghost use Rattle.std.specs.Prelude.{◌≡◌, ◌+◌, ◌-◌, ◌<◌, ◌≤◌, ◌^◌, length, IfOk, IfSome, OnOk, All};
+ghost use Rattle.std.specs.Prelude.{Some, None, option_map, slice_get};
 ghost use Rattle.flat_snap.specs.Flat.{lent};
 ghost use Rattle.flat_topology.specs.Shown.{state_of, view_of};
 ghost use Rattle.flat_topology.specs.Pairs.{display_pair};
 ghost use Rattle.flat_topology.specs.Join.{viewer_from, is_view_of, linked_to, led_to};
-ghost use Rattle.flat_topology.specs.Place.{linked_space, display_space, seen_through, placed_nodes, placed_in};
+ghost use Rattle.flat_topology.specs.Place.{linked_space, display_space, seen_through};
+ghost use Rattle.flat_topology.specs.Place.{placed_nodes, placed_in};
 ghost use Rattle.flat_topology.specs.Connected.{joined_count, connected_sessions};
 ghost use Rattle.flat_topology.specs.Fit.{FitsSetup};
-ghost use Rattle.flat_topology.specs.Walking.{viewer_at, flat_of, space_of, tree_of, work, work_in, pushed, HasPut, IsOf, Continues, IsOnTheWay};
+ghost use Rattle.flat_topology.specs.Walking.{viewer_at, flat_of, space_of, tree_of, work, work_in};
+ghost use Rattle.flat_topology.specs.Walking.{pushed, HasPut, IsOf, Continues, IsOnTheWay};
 
 use crate::scope::{Scope, outermost};
 use crate::shown::Shown;
@@ -109,8 +112,10 @@ impl Walk {
     ) -> Result<(), NoMemory>
         requires few { length shown.now < 2 ^ 31 }
         requires whole { All (IsOf shown.now) self.old.left.items }
-        ensures walk { OnOk result (Continues shown.now self.old (space_of scope) at (led_to shown.now views pair) self.new) }
-        ensures work { OnOk result (work shown.now self.new.left.items ≤ work shown.now self.old.left.items + work_in (led_to shown.now views pair)) }
+        ensures walk { OnOk result (Continues shown.now self.old (space_of scope) at
+            (led_to shown.now views pair) self.new) }
+        ensures work { OnOk result (work shown.now self.new.left.items ≤ work shown.now
+            self.old.left.items + work_in (led_to shown.now views pair)) }
     {
         if views == 0 {
             return Ok(());
@@ -140,8 +145,10 @@ impl Walk {
     ) -> Result<(), NoMemory>
         requires few { length shown.now < 2 ^ 31 }
         requires whole { All (IsOf shown.now) self.old.left.items }
-        ensures walk { OnOk result (Continues shown.now self.old (linked_space (space_of scope) content) (Some at) (linked_to (led_to shown.now views) content) self.new) }
-        ensures work { OnOk result (work shown.now self.new.left.items ≤ work shown.now self.old.left.items + work_in (linked_to (led_to shown.now views) content)) }
+        ensures walk { OnOk result (Continues shown.now self.old (linked_space (space_of scope)
+            content) (Some at) (linked_to (led_to shown.now views) content) self.new) }
+        ensures work { OnOk result (work shown.now self.new.left.items ≤ work shown.now
+            self.old.left.items + work_in (linked_to (led_to shown.now views) content)) }
     {
         match content {
             Some(Content::Viewport { pair, props, .. }) => self.show(
@@ -200,10 +207,13 @@ impl Walk {
         requires whole { All (IsOf shown.now) self.old.left.items }
         requires is { IsOf shown.now s }
         requires some { s.next < s.end }
-        requires low { All (λ at. at.opacity < 2 ^ 32) (placed_in (space_of s.scope) (tree_of shown.now s)) }
+        requires low { All (λ at. at.opacity < 2 ^ 32) (placed_in (space_of s.scope)
+            (tree_of shown.now s)) }
         requires room { length self.old.nodes < 2 ^ 32 }
-        ensures walk { OnOk result (Continues shown.now self.old (space_of s.scope) None (tree_of shown.now s) self.new) }
-        ensures work { OnOk result (work shown.now self.new.left.items < work shown.now self.old.left.items + work_in (tree_of shown.now s)) }
+        ensures walk { OnOk result (Continues shown.now self.old (space_of s.scope) None
+            (tree_of shown.now s) self.new) }
+        ensures work { OnOk result (work shown.now self.new.left.items < work shown.now
+            self.old.left.items + work_in (tree_of shown.now s)) }
     {
         let Some(state) = shown.state(s.session) else {
             return Ok(());
@@ -221,10 +231,13 @@ impl Walk {
         requires few { length shown.now < 2 ^ 31 }
         requires whole { All (IsOf shown.now) self.old.left.items }
         requires is { IsOf shown.now s }
-        requires low { All (λ at. at.opacity < 2 ^ 32) (placed_in (space_of s.scope) (tree_of shown.now s)) }
+        requires low { All (λ at. at.opacity < 2 ^ 32) (placed_in (space_of s.scope)
+            (tree_of shown.now s)) }
         requires room { length self.old.nodes < 2 ^ 32 }
-        ensures walk { OnOk result (Continues shown.now self.old (space_of s.scope) None (tree_of shown.now s) self.new) }
-        ensures work { OnOk result (work shown.now self.new.left.items < work shown.now self.old.left.items + work_in (tree_of shown.now s)) }
+        ensures walk { OnOk result (Continues shown.now self.old (space_of s.scope) None
+            (tree_of shown.now s) self.new) }
+        ensures work { OnOk result (work shown.now self.new.left.items < work shown.now
+            self.old.left.items + work_in (tree_of shown.now s)) }
     {
         if s.next < s.end {
             self.place_first(alloc, shown, s)?;

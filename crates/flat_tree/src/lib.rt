@@ -1,10 +1,14 @@
 //! The view tree: who is shown below whom, and who is apart.
+//!
+//! `tree_of` and `view_tree` answer what specs/Trees says; specs/Laws says that it is the
+//! view tree of the shown states.
 #![tactic(auto)]
 
 ghost use Rattle.std.specs.Prelude.{◌≡◌, ◌+◌, ◌<◌, ◌≤◌, ◌++◌, IfOk, map};
 ghost use Rattle.flat_topology.specs.Views.{viewport_bounds};
 ghost use Rattle.flat_topology.specs.Connected.{connected_view};
-ghost use Rattle.flat_tree.specs.Trees.{is_among, is_apart, if_apart, apart_below, tree_of, tree_from};
+ghost use Rattle.flat_tree.specs.Trees.{is_among, is_apart, if_apart, apart_below, tree_of};
+ghost use Rattle.flat_tree.specs.Trees.{tree_from};
 ghost use Rattle.flat_tree.specs.Laws.{ViewsGiveTrees, TreesFollow, ViewsAreATree, ViewsAreFew};
 
 use flat_base::{NoMemory, Rect, Roomy, SESSIONS_MAX, SessionList, SessionNo};
@@ -49,7 +53,8 @@ fn view(joined: &Joined, connected: &Connected) -> ViewNode
 
 /// The views of the connected sessions, in order.
 fn views(alloc: Global, joined: &Joined) -> Result<NodeList, NoMemory>
-    ensures { IfOk result (λ views. views ≡ map (connected_view joined.now.display joined.now.nodes) joined.now.connected) }
+    ensures { IfOk result (λ views. views ≡ map (connected_view joined.now.display joined.now.nodes)
+        joined.now.connected) }
 {
     let connected = joined.connected.as_slice();
     let mut views = Roomy::with_capacity(alloc, connected.len())?;
@@ -71,7 +76,8 @@ fn is_among(views: &NodeList, number: u32) -> bool
 fn add_apart(apart: &mut Roomy<SessionNo>, views: &NodeList, with_view: &SessionSet, before: u32)
     requires known { before < SESSIONS_MAX }
     requires room { 0 < apart.old.room }
-    ensures items { apart.new.items ≡ apart.old.items ++ if_apart (is_apart views.now with_view.now (before + 1)) (before + 1) }
+    ensures items { apart.new.items
+        ≡ apart.old.items ++ if_apart (is_apart views.now with_view.now (before + 1)) (before + 1) }
     ensures room { apart.old.room ≤ apart.new.room + 1 }
 {
     let number = before + 1;

@@ -1,7 +1,8 @@
 ghost use Rattle.std.specs.Prelude.{◌≡◌, ◌≢◌, ◌↔◌, ◌⊎◌, true, false, IsTrue, IfSome, None, Some};
 ghost use Rattle.flat_scene.specs.declared.journal.Told.{Told};
 ghost use Rattle.flat_watch.specs.Told.{same_told, news};
-ghost use Rattle.flat_watch.specs.Cells.{new_cell, got, waiting_news, after_get, after_set, after_unset};
+ghost use Rattle.flat_watch.specs.Cells.{new_cell, got, waiting_news, after_get, after_set};
+ghost use Rattle.flat_watch.specs.Cells.{after_unset};
 
 use flat_scene::Told;
 use std::marker::Model;
@@ -55,8 +56,10 @@ impl Cell {
     /// is held, another is refused and changes nothing.
     pub fn get(&mut self) -> GetAnswer
         ensures refused { (result ≡ GetAnswer.BadHangingGet) ↔ IsTrue self.old.held }
-        ensures held { (result ≡ GetAnswer.Held) ↔ ((self.old.held ≡ false) × ((self.old.value ≡ None) ⊎ (self.old.value ≡ self.old.last))) }
-        ensures now { (v : Told) → (result ≡ GetAnswer.Now v) ↔ ((self.old.held ≡ false) × (self.old.value ≡ Some v) × (self.old.last ≢ Some v)) }
+        ensures held { (result ≡ GetAnswer.Held) ↔ ((self.old.held ≡ false)
+            × ((self.old.value ≡ None) ⊎ (self.old.value ≡ self.old.last))) }
+        ensures now { (v : Told) → (result ≡ GetAnswer.Now v) ↔ ((self.old.held ≡ false)
+            × (self.old.value ≡ Some v) × (self.old.last ≢ Some v)) }
         ensures answer { result ≡ got self.old.held (news self.old.value self.old.last) }
         ensures after { self.new ≡ after_get self.old }
     {

@@ -1,4 +1,6 @@
-ghost use Rattle.flat_watch.specs.Laws.{SameIsEqual, FirstNewsIsAnswered, AnswersOnce, SilenceKeepsTheLast, SilentUnasked, CellKeepsWatching, NewCellKeeps};
+ghost use Rattle.flat_watch.specs.Laws.{SameIsEqual, FirstNewsIsAnswered, AnswersOnce};
+ghost use Rattle.flat_watch.specs.Laws.{SilenceKeepsTheLast, SilentUnasked, CellKeepsWatching};
+ghost use Rattle.flat_watch.specs.Laws.{NewCellKeeps};
 
 /// What holds of every cell, whatever calls are made on it: its clauses are laws of
 /// the definitions. The call does nothing.

@@ -1,10 +1,12 @@
 ghost use Rattle.flat_words.specs.declared.form.Form.{Form};
-ghost use Rattle.std.specs.Prelude.{◌≡◌, ℕ, ◌≤◌, [], codes, map, Some, IfOk, IfSome, IsSomeAnd, IsTrue, is_some};
+ghost use Rattle.std.specs.Prelude.{◌≡◌, ℕ, ◌≤◌, [], codes, map, Some, IfOk, IfSome, IsSomeAnd};
+ghost use Rattle.std.specs.Prelude.{IsTrue, is_some};
 ghost use Rattle.std.specs.List.{list_any};
 ghost use Rattle.std.specs.String.{string_bytes};
 ghost use Rattle.std.specs.Fmt.{decimal};
 ghost use Rattle.clap.specs.Simple.{on_top};
-ghost use Rattle.clap.specs.Words.{app_of, fault_of, new_app, subcommand_of, subcommand_rows_of, with_rule, with_subcommand};
+ghost use Rattle.clap.specs.Words.{app_of, fault_of, new_app, subcommand_of, subcommand_rows_of};
+ghost use Rattle.clap.specs.Words.{with_rule, with_subcommand};
 ghost use Rattle.flat_words.specs.Forms.{CallFor, is_option};
 ghost use Rattle.flat_words.specs.Command.{IsNamed, asking, frames, service};
 
@@ -36,8 +38,10 @@ pub enum Form {
 /// The form for which the words call: None exactly where they call for none. The
 /// only refusal is want of memory.
 pub fn read(alloc: Global, words: &[String]) -> Result<Option<Form>, NoMemory>
-    ensures form { IfOk result (λ found. IfSome found (λ form. CallFor (map string_bytes words.now) form)) }
-    ensures only { (form : Form) → CallFor (map string_bytes words.now) form → IfOk result (λ found. found ≡ Some form) }
+    ensures form { IfOk result (λ found. IfSome found (λ form. CallFor (map string_bytes words.now)
+        form)) }
+    ensures only { (form : Form) → CallFor (map string_bytes words.now) form →
+        IfOk result (λ found. found ≡ Some form) }
 {
     if has_option(words) {
         return Ok(None);
@@ -62,7 +66,8 @@ fn with_form<'a>(
     command: Command<'a>,
     name: &'a str,
 ) -> Result<Command<'a>, NoMemory>
-    ensures { IfOk result (λ more. app_of more ≡ with_subcommand (app_of command.entry) (new_app name.entry.now).top) }
+    ensures { IfOk result (λ more. app_of more
+        ≡ with_subcommand (app_of command.entry) (new_app name.entry.now).top) }
 {
     Ok(command.subcommand(Command::new(alloc, name))?)
 }
@@ -70,7 +75,9 @@ fn with_form<'a>(
 // The command with the form of a load, which has the number of its frames behind its
 // word.
 fn with_load<'a>(alloc: Global, command: Command<'a>) -> Result<Command<'a>, NoMemory>
-    ensures { IfOk result (λ more. app_of more ≡ with_subcommand (app_of command.entry) (with_rule (new_app (codes "stress")) frames).top) }
+    ensures { IfOk result (λ more. app_of more
+        ≡ with_subcommand (app_of command.entry) (with_rule (new_app (codes "stress"))
+        frames).top) }
 {
     let frames = Arg::new(alloc, "frames").required(true);
     let stress = Command::new(alloc, "stress").arg(frames)?;
@@ -105,9 +112,12 @@ fn service<'a>(alloc: Global) -> Result<Command<'a>, NoMemory>
 
 // What the words give the command, or None where it refuses them.
 fn parse<'a>(alloc: Global, words: &'a [String]) -> Result<Option<ArgMatches<'a>>, NoMemory>
-    ensures matches { IfOk result (λ found. IfSome found (λ matches. subcommand_rows_of matches ≡ subcommand_of service (map string_bytes words.entry.now))) }
-    ensures taken { IfOk result (λ found. IfSome found (λ matches. fault_of service (map string_bytes words.entry.now) ≡ [])) }
-    ensures none { fault_of service (map string_bytes words.entry.now) ≡ [] → IfOk result (λ found. IsTrue (is_some found)) }
+    ensures matches { IfOk result (λ found. IfSome found (λ matches. subcommand_rows_of matches
+        ≡ subcommand_of service (map string_bytes words.entry.now))) }
+    ensures taken { IfOk result (λ found. IfSome found
+        (λ matches. fault_of service (map string_bytes words.entry.now) ≡ [])) }
+    ensures none { fault_of service (map string_bytes words.entry.now) ≡ [] →
+        IfOk result (λ found. IsTrue (is_some found)) }
 {
     match service(alloc)?.try_get_matches_from(words) {
         Ok(matches) => Ok(Some(matches)),
@@ -123,8 +133,10 @@ fn parse<'a>(alloc: Global, words: &'a [String]) -> Result<Option<ArgMatches<'a>
 
 // The form that the matches name.
 fn named_form(matches: &ArgMatches) -> Option<Form>
-    ensures form { IfSome result (λ form. IsSomeAnd (subcommand_rows_of matches.now) (λ call. IsNamed call form)) }
-    ensures only { (form : Form) → IsSomeAnd (subcommand_rows_of matches.now) (λ call. IsNamed call form) → result ≡ Some form }
+    ensures form { IfSome result (λ form. IsSomeAnd (subcommand_rows_of matches.now)
+        (λ call. IsNamed call form)) }
+    ensures only { (form : Form) → IsSomeAnd (subcommand_rows_of matches.now)
+        (λ call. IsNamed call form) → result ≡ Some form }
 {
     let (name, given) = matches.subcommand()?;
     match name {

@@ -19,13 +19,14 @@ impl Board {
     /// no memory.
     pub fn close(&mut self, s: SessionNo, line: u32, calls: CallList, why: Option<Reason>) -> Reply
         requires { MayCall self.old (Session s) calls (Close why) }
-        ensures reply { result ≡ reply_to self.old.setup self.old.history (Session s) calls (Close why) }
+        ensures reply { result ≡ reply_to self.old.setup self.old.history (Session s) calls
+            (Close why) }
         ensures entry { self.new ≡ entered self.old (Session s) line calls (Close why) result }
     {
         let reply = close_reply(why);
         let place = s.0 as usize - 1;
         let state = &mut self.sessions[place];
-        let live = self.ends[place].live.as_slice();
+        let live = self.viewports[place].live.as_slice();
         self.ties
             .note(s, calls.as_slice(), state.account.presents, live);
         state.closed = true;
@@ -50,7 +51,7 @@ impl Board {
         let who = Actor::Session(s);
         note_in(
             &mut self.sessions,
-            &mut self.ends,
+            &mut self.viewports,
             &mut self.ties,
             who,
             calls.as_slice(),

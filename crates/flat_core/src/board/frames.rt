@@ -34,7 +34,9 @@ impl Board {
         ensures frame { result.frame.0 ≡ frames self.new.history + 1 }
         ensures shown { into.new ≡ shown_states self.new.setup self.new.history }
         ensures changed { AreSame result.changed into.old into.new }
-        ensures next { (s : SessionNo) (present : Published) → is_closed s self.old.history ≡ false → slice_get (waiting self.new.setup self.new.history s) 0 ≡ Some present → is_ready time (is_signalled self.old.setup self.old.history) present.args ≡ false }
+        ensures next { (s : SessionNo) (present : Published) → is_closed s self.old.history
+            ≡ false → slice_get (waiting self.new.setup self.new.history s) 0 ≡ Some present →
+            is_ready time (is_signalled self.old.setup self.old.history) present.args ≡ false }
     {
         let mut changed = SessionSet { has: [false; 16] };
         let count = begin_all(
@@ -79,14 +81,14 @@ impl Board {
         let telling = Telling {
             setup: &self.setup,
             ties: &self.ties,
-            views: &self.views,
+            views: &self.view_ends,
         };
         let count = done_all(
             &self.setup,
             line,
             &mut self.fences,
             &mut self.sessions,
-            &mut self.ends,
+            &mut self.viewports,
             &mut self.watchers,
             &telling,
             &mut self.log,

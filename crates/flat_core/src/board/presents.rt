@@ -32,11 +32,15 @@ impl Board {
         snap: Arc<Snapshot>,
     ) -> Result<Reply, Back>
         requires may { MayCall self.old (Session s) calls (Present args) }
-        requires tree { Some (arc_value snap) ≡ tree_of self.old.setup (present_of self.old.history s calls args) }
-        ensures reply { IfOk result (λ reply. reply ≡ reply_to self.old.setup self.old.history (Session s) calls (Present args)) }
-        ensures entry { IfOk result (λ reply. self.new ≡ entered self.old (Session s) line calls (Present args) reply) }
+        requires tree { Some (arc_value snap)
+            ≡ tree_of self.old.setup (present_of self.old.history s calls args) }
+        ensures reply { IfOk result (λ reply. reply
+            ≡ reply_to self.old.setup self.old.history (Session s) calls (Present args)) }
+        ensures entry { IfOk result (λ reply. self.new
+            ≡ entered self.old (Session s) line calls (Present args) reply) }
         ensures same { IfErr result (λ back. self.new ≡ self.old) }
-        ensures back { IfErr result (λ back. back ≡ record { calls = calls; args = Some args; snap = Some snap }) }
+        ensures back { IfErr result (λ back. back
+            ≡ record { calls = calls; args = Some args; snap = Some snap }) }
     {
         let copy = match copy_args(self.alloc, &args) {
             Ok(copy) => copy,
@@ -62,7 +66,7 @@ impl Board {
         let state = &mut self.sessions[place];
         note_ends(
             state,
-            &mut self.ends[place],
+            &mut self.viewports[place],
             &mut self.ties,
             s,
             calls.as_slice(),
@@ -90,12 +94,17 @@ impl Board {
         into: &mut EventList,
     ) -> Result<Reply, Back>
         requires { MayCall self.old (Session s) calls Poll }
-        ensures reply { IfOk result (λ reply. reply ≡ reply_to self.old.setup self.old.history (Session s) calls Poll) }
-        ensures entry { IfOk result (λ reply. self.new ≡ entered self.old (Session s) line calls Poll reply) }
-        ensures events { IfOk result (λ reply. into.new ≡ into.old ++ unread_events self.old.setup s self.old.history) }
-        ensures count { IfOk result (λ reply. reply ≡ Polled (length (unread_events self.old.setup s self.old.history))) }
+        ensures reply { IfOk result (λ reply. reply
+            ≡ reply_to self.old.setup self.old.history (Session s) calls Poll) }
+        ensures entry { IfOk result (λ reply. self.new
+            ≡ entered self.old (Session s) line calls Poll reply) }
+        ensures events { IfOk result (λ reply. into.new
+            ≡ into.old ++ unread_events self.old.setup s self.old.history) }
+        ensures count { IfOk result (λ reply. reply
+            ≡ Polled (length (unread_events self.old.setup s self.old.history))) }
         ensures same { IfErr result (λ back. (self.new ≡ self.old) × (into.new ≡ into.old)) }
-        ensures back { IfErr result (λ back. back ≡ record { calls = calls; args = None; snap = None }) }
+        ensures back { IfErr result (λ back. back
+            ≡ record { calls = calls; args = None; snap = None }) }
     {
         let place = s.0 as usize - 1;
         let state = &mut self.sessions[place];
@@ -114,7 +123,7 @@ impl Board {
         let count = (into.len() - before) as u32;
         note_ends(
             state,
-            &mut self.ends[place],
+            &mut self.viewports[place],
             &mut self.ties,
             s,
             calls.as_slice(),

@@ -20,16 +20,17 @@ impl Board {
     /// takes no memory.
     pub fn view(&mut self, s: SessionNo, line: u32, calls: CallList, p: PairNo) -> Reply
         requires { MayCall self.old (Session s) calls (View p) }
-        ensures reply { result ≡ reply_to self.old.setup self.old.history (Session s) calls (View p) }
+        ensures reply { result ≡ reply_to self.old.setup self.old.history (Session s) calls
+            (View p) }
         ensures entry { self.new ≡ entered self.old (Session s) line calls (View p) result }
     {
-        let is_held = !self.views.is_used(p);
-        self.views.set(p);
+        let is_held = !self.view_ends.is_used(p);
+        self.view_ends.set(p);
         let place = s.0 as usize - 1;
         let state = &mut self.sessions[place];
         note_ends(
             state,
-            &mut self.ends[place],
+            &mut self.viewports[place],
             &mut self.ties,
             s,
             calls.as_slice(),
@@ -57,15 +58,18 @@ impl Board {
         props: ViewportProps,
     ) -> Result<Reply, Back>
         requires { MayCall self.old (Session s) calls (Viewport p props) }
-        ensures reply { IfOk result (λ reply. reply ≡ reply_to self.old.setup self.old.history (Session s) calls (Viewport p props)) }
-        ensures entry { IfOk result (λ reply. self.new ≡ entered self.old (Session s) line calls (Viewport p props) reply) }
+        ensures reply { IfOk result (λ reply. reply
+            ≡ reply_to self.old.setup self.old.history (Session s) calls (Viewport p props)) }
+        ensures entry { IfOk result (λ reply. self.new
+            ≡ entered self.old (Session s) line calls (Viewport p props) reply) }
         ensures same { IfErr result (λ back. self.new ≡ self.old) }
-        ensures back { IfErr result (λ back. back ≡ record { calls = calls; args = None; snap = None }) }
+        ensures back { IfErr result (λ back. back
+            ≡ record { calls = calls; args = None; snap = None }) }
     {
         let owner = self.setup.pairs.at(p.0 as usize).view;
         let is_shut = is_shut(self.sessions.as_slice(), owner);
         let place = s.0 as usize - 1;
-        match self.ends[place].reserve_with(&mut self.log, self.owed + 1) {
+        match self.viewports[place].reserve_with(&mut self.log, self.owed + 1) {
             Ok(()) => {}
             Err(_) => {
                 return Err(Back {
@@ -76,14 +80,14 @@ impl Board {
             }
         }
         let state = &mut self.sessions[place];
-        let ends = &mut self.ends[place];
+        let ends = &mut self.viewports[place];
         let is_held = use_ends(state, ends, &mut self.ties, s, calls.as_slice(), p, props);
         let reply = viewport_in(state, is_held);
         note(&mut state.account, calls.as_slice());
         let telling = Telling {
             setup: &self.setup,
             ties: &self.ties,
-            views: &self.views,
+            views: &self.view_ends,
         };
         let told = self
             .watchers
@@ -110,16 +114,20 @@ impl Board {
         p: PairNo,
     ) -> Result<Reply, Back>
         requires may { MayCall self.old (Session s) calls (Get get) }
-        requires meant { watcher_of self.old.setup self.old.history (Session s) calls get ≡ Some (watcher_meant self.old.history get p) }
-        ensures reply { IfOk result (λ reply. reply ≡ reply_to self.old.setup self.old.history (Session s) calls (Get get)) }
-        ensures entry { IfOk result (λ reply. self.new ≡ entered self.old (Session s) line calls (Get get) reply) }
+        requires meant { watcher_of self.old.setup self.old.history (Session s) calls get
+            ≡ Some (watcher_meant self.old.history get p) }
+        ensures reply { IfOk result (λ reply. reply
+            ≡ reply_to self.old.setup self.old.history (Session s) calls (Get get)) }
+        ensures entry { IfOk result (λ reply. self.new
+            ≡ entered self.old (Session s) line calls (Get get) reply) }
         ensures same { IfErr result (λ back. self.new ≡ self.old) }
-        ensures back { IfErr result (λ back. back ≡ record { calls = calls; args = None; snap = None }) }
+        ensures back { IfErr result (λ back. back
+            ≡ record { calls = calls; args = None; snap = None }) }
     {
         let telling = Telling {
             setup: &self.setup,
             ties: &self.ties,
-            views: &self.views,
+            views: &self.view_ends,
         };
         let posts = self.owed + 1;
         let reply = match self.watchers.ask(s, p, get, &telling, &mut self.log, posts) {
@@ -136,7 +144,7 @@ impl Board {
         let state = &mut self.sessions[place];
         note_ends(
             state,
-            &mut self.ends[place],
+            &mut self.viewports[place],
             &mut self.ties,
             s,
             calls.as_slice(),

@@ -21,7 +21,7 @@ impl Board {
         self.fences.signal(f);
         note_in(
             &mut self.sessions,
-            &mut self.ends,
+            &mut self.viewports,
             &mut self.ties,
             who,
             calls.as_slice(),
@@ -47,7 +47,7 @@ impl Board {
         let reply = wait_reply(asked(c), value);
         note_in(
             &mut self.sessions,
-            &mut self.ends,
+            &mut self.viewports,
             &mut self.ties,
             who,
             calls.as_slice(),

@@ -13,7 +13,7 @@ use Rattle.flat_scene.specs.declared.journal.Entry.{Entry}
 use Rattle.flat_scene.specs.declared.setup.Setup.{Setup}
 use Rattle.flat_scene.specs.History.{is_closed, presents, Published}
 use Rattle.flat_scene.specs.Frames.{is_signalled, taken, waiting, ready_prefix}
-use Rattle.flat_queue.specs.declared.queue.Kept.{Kept}
+use Rattle.flat_queue.specs.declared.queue.WaitingPresent.{WaitingPresent}
 use Rattle.flat_scene.specs.Frames.{is_ready}
 use Rattle.flat_snap.specs.declared.snapshot.Snapshot.{Snapshot}
 use Rattle.flat_states.specs.declared.state.SessionState.{SessionState}
@@ -77,7 +77,7 @@ prefix-tests p q [] same = refl
 prefix-tests p q (x ∷ xs) same = rw (same x, prefix-tests p q xs same) refl
 
 -- the ready prefixes are equally long
-pub ready-same : (setup : Setup) (time : ℕ) (has_it signalled : FenceNo → Bool) (waits : List (Kept (Arc Snapshot Global))) (stands : List Published) → ((f : FenceNo) → has_it f ≡ signalled f)
+pub ready-same : (setup : Setup) (time : ℕ) (has_it signalled : FenceNo → Bool) (waits : List (WaitingPresent (Arc Snapshot Global))) (stands : List Published) → ((f : FenceNo) → has_it f ≡ signalled f)
     → map kept_of waits ≡ map (meant setup) stands
     → prefix_len (λ kept. is_ready time has_it kept.args) waits ≡ prefix_len (λ present. is_ready time signalled present.args) stands
 ready-same setup time has_it signalled waits stands fences same =

@@ -74,7 +74,7 @@ invariant_of-self c =
     let e : Entry = begin_entry c.args.line c.args.time in
     let m : Machine = record { setup = inside.setup; shares = inside.shares; history = inside.log.history } in
     let legal : Legal inside.setup (inside.log.history ▹ e) = (c.self.invariant.0.legal, legal-entered m Display c.args.line [] (Begin c.args.time) Done may refl) in
-    let ends : AreEnds inside.setup (inside.log.history ▹ e) inside.ends.items = ends-other inside.setup inside.log.history e legal refl inside.ends.items (λ j. refl) c.self.invariant.2 in
+    let ends : AreEnds inside.setup (inside.log.history ▹ e) inside.viewports.items = ends-other inside.setup inside.log.history e legal refl inside.viewports.items (λ j. refl) c.self.invariant.2 in
     let now : c.enter.new.self.history ≡ (inside.log.history ▹ e) = history ∙ ap (λ (h : List Entry). h ▹ e) all.history in
     let states = c.as_slice.ensures.value in
     let tied = c.begin.ensures.tied inside.log.history c.args.line c.args.time (record {
@@ -82,7 +82,7 @@ invariant_of-self c =
       kept = subst (λ (xs : List SessionState). AllNumbered (λ i. IsKept inside.setup (seen_of inside.setup (begun inside.log.history c.args.line c.args.time) (number i))) xs) (sym states) all.kept;
       shown = all.shown;
     }) c.self.invariant.3 in
-    let kept = kept-begun m c.args.line c.args.time may _ _ _ _ _ _ _ _ _ _ {dues = all_due inside.sessions.items inside.ends.items inside.watchers.gets.items} {dues_now = all_due c.begin_all-count.new.sessions.items inside.ends.items inside.watchers.gets.items} refl c.self.invariant.0 c.self.invariant.1 all.all all.kept
+    let kept = kept-begun m c.args.line c.args.time may _ _ _ _ _ _ _ _ _ _ {dues = all_due inside.sessions.items inside.viewports.items inside.watchers.gets.items} {dues_now = all_due c.begin_all-count.new.sessions.items inside.viewports.items inside.watchers.gets.items} refl c.self.invariant.0 c.self.invariant.1 all.all all.kept
     (record {
       posts = all.posts;
       posted = all.count;

@@ -38,12 +38,12 @@ invariant_of-self c =
     let e : Entry = entry_of (Session c.args.s) c.args.line c.args.calls (Close c.args.why) c.close_reply-reply.result in
     let legal : Legal setup (h ▹ e) = (c.self.invariant.0.legal, legal-entered m (Session c.args.s) c.args.line c.args.calls (Close c.args.why) c.close_reply-reply.result call is) in
     let closed : is_closed c.args.s (h ▹ e) ≡ true = rw (is-session c.args.s, reply, closes-close c.args.why) refl in
-    let ends : AreEnds setup (h ▹ e) c.self.inside.ends.items = ends-closed setup h e legal refl c.self.inside.ends.items c.args.s refl (declared-of setup (Close c.args.why) c.args.s call.may.acts) closed c.self.invariant.2 in
+    let ends : AreEnds setup (h ▹ e) c.self.inside.viewports.items = ends-closed setup h e legal refl c.self.inside.viewports.items c.args.s refl (declared-of setup (Close c.args.why) c.args.s call.may.acts) closed c.self.invariant.2 in
     let who = declared-some c.args.s.0 setup.sessions (declared-of setup (Close c.args.why) c.args.s call.may.acts) in
-    let all : length c.self.inside.ends.items ≡ setup.sessions = c.self.invariant.2.count in
+    let all : length c.self.inside.viewports.items ≡ setup.sessions = c.self.invariant.2.count in
     let state = c.index_mut-state.result.now in
     let own : AreViewports setup h c.args.s c.index.result.now.live.items c.index.result.now.out.items =
-    at-session (λ t one. AreViewports setup h t one.live.items one.out.items) c.self.inside.ends.items c.args.s c.index.result.now c.self.invariant.2.each who.0 (omega (arith, who.1, all)) c.index.ensures in
+    at-session (λ t one. AreViewports setup h t one.live.items one.out.items) c.self.inside.viewports.items c.args.s c.index.result.now c.self.invariant.2.each who.0 (omega (arith, who.1, all)) c.index.ensures in
     let before : IsKept setup (seen_of setup h c.args.s) state = kept-session setup h _ _ _ c.self.inside.sessions.items c.args.s state c.self.invariant.0 (declared-of setup (Close c.args.why) c.args.s call.may.acts) c.index_mut-state.ensures.value in
     let open_now : is_closed c.args.s h ≡ false = opened-close h c.args.s c.args.why call.may.lasts in
     let tied = c.note.ensures.tied setup h e (record {

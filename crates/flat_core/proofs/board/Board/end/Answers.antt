@@ -36,8 +36,8 @@ invariant_of-self c =
     let inside = c.self.inside in
     let m : Machine = record { setup = inside.setup; shares = inside.shares; history = inside.log.history } in
     let who : Actor = Session c.args.s in
-    let ends = ends-after m who c.args.line c.args.calls (End c.args.refused) Done call refl refl refl refl inside.clock inside.fences inside.views inside.sessions.items inside.ends.items c.note_in.new.ends.items inside.ties c.note_in.new.ties c.self.invariant.0
-    (subst (λ (calls : List Call). EndsNoted who calls inside.sessions.items inside.ends.items c.note_in.new.ends.items inside.ties c.note_in.new.ties) c.as_slice.ensures c.note_in.ensures.ends) c.self.invariant.2 c.self.invariant.3 in
+    let ends = ends-after m who c.args.line c.args.calls (End c.args.refused) Done call refl refl refl refl inside.clock inside.fences inside.view_ends inside.sessions.items inside.viewports.items c.note_in.new.ends.items inside.ties c.note_in.new.ties c.self.invariant.0
+    (subst (λ (calls : List Call). EndsNoted who calls inside.sessions.items inside.viewports.items c.note_in.new.ends.items inside.ties c.note_in.new.ties) c.as_slice.ensures c.note_in.ensures.ends) c.self.invariant.2 c.self.invariant.3 in
     let kept = kept-quiet m who c.args.line c.args.calls (End c.args.refused) Done call refl (plain-end _ _ _ _) refl refl _ _ _ _ _ _ _ _ _ _ refl c.self.invariant.0 c.self.invariant.1
     (unchanged _ _ _ _ (λ sessions g f. refl) (λ p. refl)) (c.note_in.ensures.sessions ∙ ap (λ (calls : List Call). noted_in who calls inside.sessions.items) c.as_slice.ensures) (told-too inside.watchers.gets.items ends.1)
     (record { history = log.history; posts = log.posts; room = log.room; post_room = log.post_room }) in

@@ -74,13 +74,13 @@ invariant_of-self-2 c =
     let state = c.index_mut-state.result.now in
     let reply = c.in-Ok.reply in
     let log = c.enter.ensures in
-    let telling : IsTelling inside.setup inside.ties inside.views inside.setup h = record { same = refl; legal = c.self.invariant.0.legal; tied = c.self.invariant.3; viewed = c.self.invariant.0.viewed } in
+    let telling : IsTelling inside.setup inside.ties inside.view_ends inside.setup h = record { same = refl; legal = c.self.invariant.0.legal; tied = c.self.invariant.3; viewed = c.self.invariant.0.viewed } in
     let asked = c.in-Ok.ensures.asked inside.setup h telling in
     let declared = declared-of inside.setup (Get c.args.get) c.args.s call.may.acts in
     let known = asked-known inside.setup h c.self.invariant.0.legal c.args.s c.args.calls c.args.get call.may c.args.p means in
     let replied : reply ≡ reply_to inside.setup h (Session c.args.s) c.args.calls (Get c.args.get) =
     asked-replied inside.setup h c.self.invariant.0.legal c.args.s declared c.args.calls c.args.get call.may c.args.p known means _ _ _ _ reply asked c.self.invariant.4 in
-    let ends = ends-after m (Session c.args.s) c.args.line c.args.calls (Get c.args.get) reply call replied refl refl refl inside.clock inside.fences inside.views inside.sessions.items inside.ends.items _ inside.ties c.note_ends.new.ties c.self.invariant.0
+    let ends = ends-after m (Session c.args.s) c.args.line c.args.calls (Get c.args.get) reply call replied refl refl refl inside.clock inside.fences inside.view_ends inside.sessions.items inside.viewports.items _ inside.ties c.note_ends.new.ties c.self.invariant.0
     (record {
       state = state;
       before = c.index_mut.result.now;
@@ -96,10 +96,10 @@ invariant_of-self-2 c =
     let watched = watched-asked inside.setup h e legal c.args.s refl declared c.args.get refl c.args.p known means _ _ _ _ asked c.self.invariant.4 in
     let history : c.enter.new.self.history ≡ (h ▹ e) = log.history ∙ rw c.ask.ensures.history refl in
     let account : c.note.new.account ≡ noted c.args.calls c.get_in.new.state.account = c.note.ensures ∙ ap (λ (calls : List Call). noted calls c.get_in.new.state.account) c.as_slice-2.ensures in
-    let kept = kept-got m c.args.s c.args.line c.args.calls c.args.get call reply replied inside.clock inside.fences inside.views inside.sessions.items state c.index_mut-state.ensures.value c.self.invariant.0 in
+    let kept = kept-got m c.args.s c.args.line c.args.calls c.args.get call reply replied inside.clock inside.fences inside.view_ends inside.sessions.items state c.index_mut-state.ensures.value c.self.invariant.0 in
     rw (account, c.get_in.ensures, c.number_if.ensures, c.is_held.ensures) (
       rw history kept.0,
-      room-got m c.args.s c.args.line c.args.calls c.args.get call reply replied inside.clock inside.fences inside.views inside.sessions.items c.self.invariant.0 inside.log c.ask.new.log c.enter.new.self inside.owed _ _ refl c.self.invariant.1
+      room-got m c.args.s c.args.line c.args.calls c.args.get call reply replied inside.clock inside.fences inside.view_ends inside.sessions.items c.self.invariant.0 inside.log c.ask.new.log c.enter.new.self inside.owed _ _ refl c.self.invariant.1
           c.ask.ensures.history c.ask.ensures.posts c.ask.ensures.room c.in-Ok.ensures.reserved log.history log.posts log.room log.post_room (omega (arith, kept.1, ends.1, c.in-Ok.ensures.due)),
       rw history ends.0,
       rw history ends.2,
@@ -112,7 +112,7 @@ returns-clause-reply c =
     let means = rw (← c.self.view_is) at c.requires.meant in
     let inside = c.self.inside in
     let h = inside.log.history in
-    let telling : IsTelling inside.setup inside.ties inside.views inside.setup h = record { same = refl; legal = c.self.invariant.0.legal; tied = c.self.invariant.3; viewed = c.self.invariant.0.viewed } in
+    let telling : IsTelling inside.setup inside.ties inside.view_ends inside.setup h = record { same = refl; legal = c.self.invariant.0.legal; tied = c.self.invariant.3; viewed = c.self.invariant.0.viewed } in
     let asked = c.in-Ok.ensures.asked inside.setup h telling in
     let declared = declared-of inside.setup (Get c.args.get) c.args.s call.may.acts in
     let known = asked-known inside.setup h c.self.invariant.0.legal c.args.s c.args.calls c.args.get call.may c.args.p means in

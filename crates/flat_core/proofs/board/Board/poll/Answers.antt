@@ -53,7 +53,7 @@ invariant_of-self-2 c =
     c.note.ensures ∙ ap (λ (calls : List Call). let a : Account = record state.account { polled = length c.posts-posts.result.now } in noted calls a) c.as_slice-2.ensures in
     let inside = c.self.inside in
     let m : Machine = record { setup = setup; shares = inside.shares; history = h } in
-    let ends = ends-after m (Session c.args.s) c.args.line c.args.calls Poll (Polled (c.len.result - c.len-before.result)) call (ap Polled over.as_many) refl refl refl inside.clock inside.fences inside.views inside.sessions.items inside.ends.items _ inside.ties c.note_ends.new.ties c.self.invariant.0
+    let ends = ends-after m (Session c.args.s) c.args.line c.args.calls Poll (Polled (c.len.result - c.len-before.result)) call (ap Polled over.as_many) refl refl refl inside.clock inside.fences inside.view_ends inside.sessions.items inside.viewports.items _ inside.ties c.note_ends.new.ties c.self.invariant.0
     (record {
       state = state;
       before = c.index_mut.result.now;

@@ -59,7 +59,7 @@ invariant_of-self-2 c =
     let account : c.note.new.account ≡ noted c.args.calls c.present_in-reply.new.state.account = c.note.ensures ∙ ap (λ (calls : List Call). noted calls c.present_in-reply.new.state.account) c.as_slice-2.ensures in
     let m : Machine = record { setup = inside.setup; shares = inside.shares; history = inside.log.history } in
     let is = present-reply m c.args.s c.args.calls c.args.args may _ _ _ _ _ c.index_mut-state.ensures.value c.self.invariant.0 in
-    let ends = ends-after m (Session c.args.s) c.args.line c.args.calls (Present c.args.args) (present_reply state) may is refl refl refl inside.clock inside.fences inside.views inside.sessions.items inside.ends.items _ inside.ties c.note_ends.new.ties c.self.invariant.0
+    let ends = ends-after m (Session c.args.s) c.args.line c.args.calls (Present c.args.args) (present_reply state) may is refl refl refl inside.clock inside.fences inside.view_ends inside.sessions.items inside.viewports.items _ inside.ties c.note_ends.new.ties c.self.invariant.0
     (record {
       state = state;
       before = c.index_mut.result.now;

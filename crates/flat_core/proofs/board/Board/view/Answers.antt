@@ -43,7 +43,7 @@ invariant_of-self c =
     let m : Machine = record { setup = inside.setup; shares = inside.shares; history = inside.log.history } in
     let state = c.index_mut-state.result.now in
     let is = view-replied inside.setup inside.log.history c.args.s c.args.calls c.args.p used (c.is_used-is_held.ensures ∙ c.self.invariant.0.viewed c.args.p) in
-    let ends = ends-after m (Session c.args.s) c.args.line c.args.calls (View c.args.p) (use_reply (not used)) call is refl refl refl inside.clock inside.fences inside.views inside.sessions.items inside.ends.items _ inside.ties c.note_ends.new.ties c.self.invariant.0
+    let ends = ends-after m (Session c.args.s) c.args.line c.args.calls (View c.args.p) (use_reply (not used)) call is refl refl refl inside.clock inside.fences inside.view_ends inside.sessions.items inside.viewports.items _ inside.ties c.note_ends.new.ties c.self.invariant.0
     (record {
       state = state;
       before = c.index_mut.result.now;

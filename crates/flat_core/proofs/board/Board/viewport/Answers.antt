@@ -33,7 +33,7 @@ pub invariant_of-self : goal.invariant_of-self
 invariant_of-self c =
     let call = rw (← c.self.view_is) at c.requires in
     let inside = c.self.inside in
-    let ends = inside.ends.items in
+    let ends = inside.viewports.items in
     let here = declared-some c.args.s.0 inside.setup.sessions (declared-of inside.setup (Viewport c.args.p c.args.props) c.args.s call.may.acts) in
     let count : length ends ≡ inside.setup.sessions = c.self.invariant.2.count in
     let below : c.args.s.0 - 1 < length ends = omega (arith, here.0, here.1, count) in
@@ -61,7 +61,7 @@ join-told-requires-clause-stands c =
     let call = rw (← c.self.view_is) at c.requires in
     let inside = c.self.inside in
     let h = inside.log.history in
-    let ends = inside.ends.items in
+    let ends = inside.viewports.items in
     let place = c.args.s.0 - 1 in
     let here = declared-some c.args.s.0 inside.setup.sessions (declared-of inside.setup (Viewport c.args.p c.args.props) c.args.s call.may.acts) in
     let count : length ends ≡ inside.setup.sessions = c.self.invariant.2.count in
@@ -78,21 +78,21 @@ join-told-requires-clause-stands c =
     let ties = subst (λ (calls : List Call). TiesUsed c.args.s calls c.args.p c.args.props held state c.index_mut-ends.result.now inside.ties c.use_ends-is_held.new.ties) c.as_slice-2.ensures did.ties in
     let short = (short-history m _ _ _ call c.self.invariant.0.legal _ _ _ refl c.self.invariant.1) in
     let e : Entry = entry_of (Session c.args.s) c.args.line c.args.calls (Viewport c.args.p c.args.props) (use_reply held) in
-    let used = kept-used m c.args.s c.args.line c.args.calls c.args.p c.args.props call held is inside.clock inside.fences inside.views inside.sessions.items roomy state c.index_mut-ends.result.now c.use_ends-is_held.new.ends
+    let used = kept-used m c.args.s c.args.line c.args.calls c.args.p c.args.props call held is inside.clock inside.fences inside.view_ends inside.sessions.items roomy state c.index_mut-ends.result.now c.use_ends-is_held.new.ends
     c.index_mut-state.ensures.value c.index_mut-ends.ensures.value c.self.invariant.0 same.0 used_by inside.ties c.use_ends-is_held.new.ties c.self.invariant.3 ties short in
-    let telling = telling-used m c.args.s c.args.line c.args.calls c.args.p c.args.props call held inside.clock inside.fences inside.views inside.sessions.items c.use_ends-is_held.new.ties c.self.invariant.0 used.0 used.3 in
+    let telling = telling-used m c.args.s c.args.line c.args.calls c.args.p c.args.props call held inside.clock inside.fences inside.view_ends inside.sessions.items c.use_ends-is_held.new.ties c.self.invariant.0 used.0 used.3 in
     (inside.setup, (h ▹ e, telling))
 
 pub join-told-requires-clause-some : goal.join-told-requires-clause-some
 join-told-requires-clause-some c opened =
     let inside = c.self.inside in
-    let known = shut-known inside.setup inside.log.history inside.clock inside.fences inside.views inside.sessions.items c.at.result.now.view c.self.invariant.0 in
+    let known = shut-known inside.setup inside.log.history inside.clock inside.fences inside.view_ends inside.sessions.items c.at.result.now.view c.self.invariant.0 in
     (declared-some c.at.result.now.view.0 inside.setup.sessions (known.0 (ap (λ (xs : List SessionState). is_shut xs c.at.result.now.view) (sym c.as_slice.ensures.value) ∙ sym c.is_shut-is_shut.ensures ∙ opened)).0).0
 
 pub join-told-requires-clause-within : goal.join-told-requires-clause-within
 join-told-requires-clause-within c opened =
     let inside = c.self.inside in
-    let known = shut-known inside.setup inside.log.history inside.clock inside.fences inside.views inside.sessions.items c.at.result.now.view c.self.invariant.0 in
+    let known = shut-known inside.setup inside.log.history inside.clock inside.fences inside.view_ends inside.sessions.items c.at.result.now.view c.self.invariant.0 in
     let here = declared-some c.at.result.now.view.0 inside.setup.sessions (known.0 (ap (λ (xs : List SessionState). is_shut xs c.at.result.now.view) (sym c.as_slice.ensures.value) ∙ sym c.is_shut-is_shut.ensures ∙ opened)).0 in
     omega (arith, here.1, c.self.invariant.4.count)
 
@@ -133,7 +133,7 @@ invariant_of-self-2 c =
     let call = rw (← c.self.view_is) at c.requires in
     let inside = c.self.inside in
     let h = inside.log.history in
-    let ends = inside.ends.items in
+    let ends = inside.viewports.items in
     let place = c.args.s.0 - 1 in
     let here = declared-some c.args.s.0 inside.setup.sessions (declared-of inside.setup (Viewport c.args.p c.args.props) c.args.s call.may.acts) in
     let count : length ends ≡ inside.setup.sessions = c.self.invariant.2.count in
@@ -150,12 +150,12 @@ invariant_of-self-2 c =
     let ties = subst (λ (calls : List Call). TiesUsed c.args.s calls c.args.p c.args.props held state c.index_mut-ends.result.now inside.ties c.use_ends-is_held.new.ties) c.as_slice-2.ensures did.ties in
     let short = (short-history m _ _ _ call c.self.invariant.0.legal _ _ _ refl c.self.invariant.1) in
     let e : Entry = entry_of (Session c.args.s) c.args.line c.args.calls (Viewport c.args.p c.args.props) (use_reply held) in
-    let used = kept-used m c.args.s c.args.line c.args.calls c.args.p c.args.props call held is inside.clock inside.fences inside.views inside.sessions.items roomy state c.index_mut-ends.result.now c.use_ends-is_held.new.ends
+    let used = kept-used m c.args.s c.args.line c.args.calls c.args.p c.args.props call held is inside.clock inside.fences inside.view_ends inside.sessions.items roomy state c.index_mut-ends.result.now c.use_ends-is_held.new.ends
     c.index_mut-state.ensures.value c.index_mut-ends.ensures.value c.self.invariant.0 same.0 used_by inside.ties c.use_ends-is_held.new.ties c.self.invariant.3 ties short in
-    let telling = telling-used m c.args.s c.args.line c.args.calls c.args.p c.args.props call held inside.clock inside.fences inside.views inside.sessions.items c.use_ends-is_held.new.ties c.self.invariant.0 used.0 used.3 in
+    let telling = telling-used m c.args.s c.args.line c.args.calls c.args.p c.args.props call held inside.clock inside.fences inside.view_ends inside.sessions.items c.use_ends-is_held.new.ties c.self.invariant.0 used.0 used.3 in
     let room : HasRoom inside.setup inside.shares c.reserve_with.new.log inside.owed (all_due inside.sessions.items roomy inside.watchers.gets.items) =
     room-more inside.setup inside.shares inside.log c.reserve_with.new.log inside.owed _ (all_due inside.sessions.items roomy inside.watchers.gets.items) c.self.invariant.1 took.history took.posts took.room took.post_room (omega (arith, same.1)) in
-    let asks = join-used m c.args.s c.args.line c.args.calls c.args.p c.args.props call held inside.clock inside.fences inside.views inside.sessions.items c.at.result.now c.self.invariant.0 used.0 c.at.ensures in
+    let asks = join-used m c.args.s c.args.line c.args.calls c.args.p c.args.props call held inside.clock inside.fences inside.view_ends inside.sessions.items c.at.result.now c.self.invariant.0 used.0 c.at.ensures in
     let shut : c.is_shut-is_shut.result ≡ is_shut inside.sessions.items c.at.result.now.view = c.is_shut-is_shut.ensures ∙ ap (λ (xs : List SessionState). is_shut xs c.at.result.now.view) c.as_slice.ensures.value in
     let join : IsJoin inside.setup h e held c.at.result.now.view c.is_shut-is_shut.result c.args.p = rw shut asks in
     let told = c.join-told.ensures.watched inside.setup h e join telling took.history (took.posts ∙ c.self.invariant.1.posts) c.self.invariant.4 in
@@ -178,7 +178,7 @@ returns-clause-reply c =
     let call = rw (← c.self.view_is) at c.requires in
     let inside = c.self.inside in
     let h = inside.log.history in
-    let ends = inside.ends.items in
+    let ends = inside.viewports.items in
     let place = c.args.s.0 - 1 in
     let here = declared-some c.args.s.0 inside.setup.sessions (declared-of inside.setup (Viewport c.args.p c.args.props) c.args.s call.may.acts) in
     let count : length ends ≡ inside.setup.sessions = c.self.invariant.2.count in

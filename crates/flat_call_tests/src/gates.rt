@@ -1,15 +1,14 @@
 ghost use Rattle.std.specs.Prelude.{◌<◌, ◌^◌, length};
 
+use crate::shell::{SHELL, SHELL_REPORTED};
 use crate::texts::{
-    AWAIT, AWAIT_REPORTED, DISPLAY_WAIT, DISPLAY_WAIT_REPORTED, FILL, FILL_REPORTED, LOOKING_END,
-    PROBED, PROBED_ORDER, PROBED_REPORTED, SHELL_ORDER, TWO, TWO_REPORTED, WAIT, WAIT_REPORTED,
+    FILL, FILL_REPORTED, PROBED, PROBED_ORDER, PROBED_REPORTED, SHELL_ORDER, TWO, TWO_REPORTED,
 };
 use flat_display::Display;
 use flat_io::{Failed, MemSink, MemSource};
 use flat_race::Gate;
 use flat_run::flatland;
 use flat_scene::{FrameOut, Reply};
-use flat_worked::{SHELL, SHELL_REPORTED};
 use std::alloc::Global;
 use std::sync::atomic::{AtomicBool, AtomicU32, Ordering};
 use std::sync::{Arc, Wait};
@@ -53,9 +52,19 @@ pub fn race<T: Threads + Wait + Sync, G: Gate>(
 
 /// Opens entries and probes' lines in one order.
 #[derive(Drop)]
-struct InOrder {
+pub struct InOrder {
     order: &'static [(u32, u32)],
     next: AtomicU32,
+}
+
+impl InOrder {
+    /// None of them was made yet.
+    pub fn new(order: &'static [(u32, u32)]) -> InOrder {
+        InOrder {
+            order,
+            next: AtomicU32::new(0),
+        }
+    }
 }
 
 impl Gate for InOrder {
@@ -75,10 +84,7 @@ impl Gate for InOrder {
 #[test]
 fn race_in_written_order(rt: HostRuntime) -> Result<(), Fail> {
     let alloc = rt.alloc();
-    let gate = InOrder {
-        order: &SHELL_ORDER,
-        next: AtomicU32::new(0),
-    };
+    let gate = InOrder::new(&SHELL_ORDER);
     let (status, sink) = race(&rt, alloc, SHELL, &mut Vec::new(alloc), &gate)?;
     assert_eq!(rt; status, 0);
     assert_eq!(rt; sink.bytes(), SHELL_REPORTED);
@@ -254,115 +260,12 @@ fn present_while_a_display_shows(rt: HostRuntime) -> Result<(), Fail> {
     Ok(())
 }
 
-/// Lets an actor look once, and again only after the entry that it waits for.
-#[derive(Drop)]
-struct Looking {
-    /// The line that waits.
-    waits: u32,
-    /// The line that is held until the one that waits has looked.
-    held: u32,
-    /// The line whose entry shows enough.
-    shows: u32,
-    /// The line that is held until the one that waits has passed. Those behind it come
-    /// after it.
-    last: u32,
-    asked: AtomicU32,
-    opened: AtomicU32,
-    shown: AtomicBool,
-    waited: AtomicBool,
-    over: AtomicBool,
-}
-
-impl Looking {
-    fn new(waits: u32, held: u32, shows: u32, last: u32) -> Looking {
-        Looking {
-            waits,
-            held,
-            shows,
-            last,
-            asked: AtomicU32::new(0),
-            opened: AtomicU32::new(0),
-            shown: AtomicBool::new(false),
-            waited: AtomicBool::new(false),
-            over: AtomicBool::new(false),
-        }
-    }
-}
-
-impl Gate for Looking {
-    fn open(&self, _actor: u32, line: u32) -> bool {
-        if line == self.waits {
-            let before = self.asked.fetch_add(1, Ordering::SeqCst);
-            let is_open = before == 0 || self.shown.load(Ordering::SeqCst);
-            self.opened.fetch_add(u32::from(is_open), Ordering::SeqCst);
-            return is_open;
-        }
-        if line == self.held {
-            return self.asked.load(Ordering::SeqCst) > 1;
-        }
-        if line == self.last {
-            return self.waited.load(Ordering::SeqCst);
-        }
-        line < self.last || self.over.load(Ordering::SeqCst)
-    }
-
-    fn passed(&self, _actor: u32, line: u32, _reply: &Reply) {
-        if line == self.waits {
-            self.waited.store(true, Ordering::SeqCst);
-        }
-        if line == self.shows {
-            self.shown.store(true, Ordering::SeqCst);
-        }
-        if line == self.last {
-            self.over.store(true, Ordering::SeqCst);
-        }
-    }
-}
-
-/// Whether a script is reported so, and its line that waits looked before the entry that shows enough
-/// and once behind it.
-fn looks_twice<T: Threads + Wait + Sync>(
-    rt: &T,
-    alloc: Global,
-    gate: &Looking,
-    text: &[u8],
-    reported: &[u8],
-) -> Result<bool, Fail> {
-    let (status, sink) = race(rt, alloc, text, &mut Vec::new(alloc), gate)?;
-    let looks = gate.opened.load(Ordering::SeqCst);
-    Ok(status == 0 && looks == 2 && sink.bytes() == reported)
-}
-
-#[test]
-fn a_wait_looks_again(rt: HostRuntime) -> Result<(), Fail> {
-    let gate = Looking::new(6, 7, 8, LOOKING_END);
-    assert!(rt; looks_twice(&rt, rt.alloc(), &gate, WAIT, WAIT_REPORTED)?);
-    Ok(())
-}
-
-#[test]
-fn a_wait_of_the_display_looks_again(rt: HostRuntime) -> Result<(), Fail> {
-    let gate = Looking::new(7, 8, 8, LOOKING_END);
-    assert!(rt; looks_twice(&rt, rt.alloc(), &gate, DISPLAY_WAIT, DISPLAY_WAIT_REPORTED)?);
-    Ok(())
-}
-
 #[test]
 fn a_probe_sees_the_frame_of_its_time(rt: HostRuntime) -> Result<(), Fail> {
     let alloc = rt.alloc();
-    let gate = InOrder {
-        order: &PROBED_ORDER,
-        next: AtomicU32::new(0),
-    };
+    let gate = InOrder::new(&PROBED_ORDER);
     let (status, sink) = race(&rt, alloc, PROBED, &mut Vec::new(alloc), &gate)?;
     assert_eq!(rt; status, 0);
     assert_eq!(rt; sink.bytes(), PROBED_REPORTED);
-    Ok(())
-}
-
-#[test]
-fn a_probe_awaits_a_frame(rt: HostRuntime) -> Result<(), Fail> {
-    let gate = Looking::new(16, 14, 17, 18);
-    assert!(rt; looks_twice(&rt, rt.alloc(), &gate, AWAIT, AWAIT_REPORTED)?);
     Ok(())
 }

@@ -1,5 +1,5 @@
 use crate::call::{Faults, NONE, play};
-use flat_worked::{SHELL, SHELL_REPORTED};
+use crate::shell::{SHELL, SHELL_REPORTED};
 use std::test::Fail;
 
 /// More than the reads and writes of a run of the shell.

@@ -1,5 +1,5 @@
 use crate::call::{NONE, play};
-use flat_worked::SHELL;
+use crate::shell::SHELL;
 use std::test::Fail;
 
 /// How many bytes are before the end of the line `run`: a text that ends before has no

@@ -102,8 +102,8 @@ A end 0
 report ends entries 4 frames 1
 ";
 
-/// The number of the End in the scripts that wait.
-pub const LOOKING_END: u32 = 9;
+/// The order in which the session looks again behind the frame: numbers of actor and line.
+pub const WAIT_ORDER: [(u32, u32); 4] = [(0, 7), (0, 8), (1, 6), (1, 9)];
 
 /// A display that waits for the present behind it.
 pub const DISPLAY_WAIT: &[u8] = b"flatland 1
@@ -115,6 +115,9 @@ A CreateView t0
 display Wait presents A 1
 A Present 0
 ";
+
+/// The order in which the display looks again behind the present.
+pub const DISPLAY_WAIT_ORDER: [(u32, u32); 4] = [(1, 6), (1, 8), (0, 7), (1, 9)];
 
 /// The report of it where the display looks again.
 pub const DISPLAY_WAIT_REPORTED: &[u8] = b"report flatland 1
@@ -195,7 +198,7 @@ display begin 2000
 display done
 ";
 
-/// The order in which the probe asks inside the second frame: numbers of actor and line.
+/// The order in which the probe is answered inside the second frame.
 pub const PROBED_ORDER: [(u32, u32); 8] = [
     (1, 7),
     (1, 13),
@@ -247,7 +250,7 @@ display begin 2000
 display done
 ";
 
-/// The report of it where the await looks again inside the second frame.
+/// The report of it in the same order: the await looks again inside the second frame.
 pub const AWAIT_REPORTED: &[u8] = b"report flatland 1
 A 7 CreateView ok
 A 13 Present 1 credits 0

@@ -1,5 +1,5 @@
 use crate::call::{NONE, play};
-use flat_worked::SHELL;
+use crate::shell::SHELL;
 use std::alloc::Global;
 use std::test::Fail;
 

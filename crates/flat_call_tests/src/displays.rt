@@ -1,11 +1,11 @@
 ghost use Rattle.flat_io.specs.Counts.{count_end};
 
 use crate::call::{Called, NONE, play};
+use crate::six::{SIX_FRAMES, SIX_REPORTED};
 use flat_base::NoMemory;
 use flat_display::{Display, MemDisplay};
 use flat_io::Failed;
 use flat_scene::FrameOut;
-use flat_worked::{SIX_FRAMES, SIX_REPORTED};
 use std::alloc::Global;
 use std::cell::RefCell;
 use std::rc::Rc;
