@@ -19,7 +19,8 @@ pub(crate) fn push_title(page: &mut Page) -> Result<(), NoMemory>
 }
 
 fn push_totals(page: &mut Page, entries: usize, finished: u64) -> Result<(), NoMemory>
-    ensures { OnOk result (Writes (codes "ends" ∷ codes "entries" ∷ number entries ∷ codes "frames" ∷ number finished ∷ []) page.old page.new) }
+    ensures { OnOk result (Writes (codes "ends" ∷ codes "entries" ∷ number entries ∷ codes "frames"
+        ∷ number finished ∷ []) page.old page.new) }
 {
     page.word(b"ends")?;
     page.word(b"entries")?;

@@ -1,7 +1,10 @@
-ghost use Rattle.std.specs.Prelude.{◌≡◌, ◌++◌, ◌∷◌, [], ℤ, pos, suc, List, OnOk, codes, map, ◌<◌, ◌-◌, ◌^◌};
+//! The lines of entries and of events (specs/EntryLines).
+ghost use Rattle.std.specs.Prelude.{◌≡◌, ◌++◌, ◌∷◌, [], ℤ, pos, suc, List, OnOk, codes, map, ◌<◌};
+ghost use Rattle.std.specs.Prelude.{◌-◌, ◌^◌};
 ghost use Rattle.flat_page.specs.Words.{number, numbers, session_name};
 ghost use Rattle.flat_page.specs.Pages.{Writes, WritesLines};
-ghost use Rattle.flat_report.specs.EntryLines.{interaction_number, hit_words, point_words, answer_words, said_words, entry_line, event_words};
+ghost use Rattle.flat_report.specs.EntryLines.{interaction_number, hit_words, point_words};
+ghost use Rattle.flat_report.specs.EntryLines.{answer_words, said_words, entry_line, event_words};
 ghost use Rattle.flat_report.specs.Handed.{post_line};
 
 use crate::entry_words::{push_event, push_reply};
@@ -21,7 +24,8 @@ fn interaction_number(interaction: Interaction) -> u32
 }
 
 fn push_hit(page: &mut Page, script: &Script, hit: Hit) -> Result<(), NoMemory>
-    ensures { OnOk result (Writes (session_name script.now.sessions hit.session ∷ number (interaction_number hit.interaction) ∷ []) page.old page.new) }
+    ensures { OnOk result (Writes (session_name script.now.sessions hit.session
+        ∷ number (interaction_number hit.interaction) ∷ []) page.old page.new) }
 {
     page.counted(
         session_name(&script.sessions, hit.session),
@@ -65,14 +69,16 @@ pub(crate) fn push_point(
 }
 
 fn push_begin(page: &mut Page, time: u64, frame: u64) -> Result<(), NoMemory>
-    ensures { OnOk result (Writes (codes "begin" ∷ number time ∷ codes "frame" ∷ number frame ∷ []) page.old page.new) }
+    ensures { OnOk result (Writes
+        (codes "begin" ∷ number time ∷ codes "frame" ∷ number frame ∷ []) page.old page.new) }
 {
     push_long(page, b"begin", time)?;
     push_long(page, b"frame", frame)
 }
 
 fn push_finish(page: &mut Page, frame: u64) -> Result<(), NoMemory>
-    ensures { OnOk result (Writes (codes "done" ∷ codes "frame" ∷ number frame ∷ []) page.old page.new) }
+    ensures { OnOk result
+        (Writes (codes "done" ∷ codes "frame" ∷ number frame ∷ []) page.old page.new) }
 {
     page.word(b"done")?;
     push_long(page, b"frame", frame)
@@ -87,7 +93,8 @@ fn push_answer(
     entry: &Entry,
 ) -> Result<(), NoMemory>
     requires { finished < 2 ^ 64 - 1 }
-    ensures { OnOk result (Writes (answer_words script.now finished (λ x y. hits.now) entry.now.kind entry.now.reply) page.old page.new) }
+    ensures { OnOk result (Writes (answer_words script.now finished
+        (λ x y. hits.now) entry.now.kind entry.now.reply) page.old page.new) }
 {
     match &entry.kind {
         Kind::Begin(time) => push_begin(page, *time, finished + 1),
@@ -107,7 +114,8 @@ fn push_said(
     entry: &Entry,
 ) -> Result<(), NoMemory>
     requires { finished < 2 ^ 64 - 1 }
-    ensures { OnOk result (Writes (said_words script.now finished (λ x y. hits.now) entry.now.line entry.now.kind entry.now.reply) page.old page.new) }
+    ensures { OnOk result (Writes (said_words script.now finished
+        (λ x y. hits.now) entry.now.line entry.now.kind entry.now.reply) page.old page.new) }
 {
     if let Kind::End(refused) = &entry.kind {
         return page.counted(b"end", *refused);
@@ -126,7 +134,8 @@ pub fn push_entry(
     entry: &Entry,
 ) -> Result<(), NoMemory>
     requires { finished < 2 ^ 64 - 1 }
-    ensures { OnOk result (WritesLines (entry_line script.now finished (λ x y. hits.now) entry.now ∷ []) page.old page.new) }
+    ensures { OnOk result (WritesLines
+        (entry_line script.now finished (λ x y. hits.now) entry.now ∷ []) page.old page.new) }
 {
     page.put(actor_name(script, entry.actor))?;
     push_said(page, script, finished, hits, entry)?;
@@ -135,7 +144,8 @@ pub fn push_entry(
 }
 
 fn push_posted(page: &mut Page, script: &Script, post: &Post) -> Result<(), NoMemory>
-    ensures { OnOk result (Writes (session_name script.now.sessions post.now.session ∷ event_words script.now post.now.event) page.old page.new) }
+    ensures { OnOk result (Writes (session_name script.now.sessions post.now.session
+        ∷ event_words script.now post.now.event) page.old page.new) }
 {
     page.word(session_name(&script.sessions, post.session))?;
     push_event(page, script, &post.event)?;

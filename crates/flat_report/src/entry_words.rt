@@ -1,7 +1,11 @@
+//! The words of an entry's line behind its number, and of an event, by their kinds
+//! (specs/EntryLines).
 ghost use Rattle.std.specs.Prelude.{◌≡◌, ◌++◌, ◌∷◌, [], OnOk, Some, codes};
 ghost use Rattle.flat_page.specs.Words.{number, numbers};
 ghost use Rattle.flat_page.specs.Pages.{Writes};
-ghost use Rattle.flat_report.specs.EntryLines.{layout_words, value_words, watched_word, event_words, get_word, reason_words, closing_words, done_words, asked_words, reply_words};
+ghost use Rattle.flat_report.specs.EntryLines.{layout_words, value_words, watched_word};
+ghost use Rattle.flat_report.specs.EntryLines.{event_words, get_word, reason_words, closing_words};
+ghost use Rattle.flat_report.specs.EntryLines.{done_words, asked_words, reply_words};
 
 use crate::names::pair_name;
 use flat_base::{FlatlandError, NoMemory, Reason};
@@ -10,7 +14,8 @@ use flat_places::Script;
 use flat_scene::{Event, Inset, Kind, Layout, Reply, Told, Watch};
 
 fn push_inset(page: &mut Page, inset: &Inset) -> Result<(), NoMemory>
-    ensures { OnOk result (Writes (number inset.now.top ∷ number inset.now.right ∷ number inset.now.bottom ∷ number inset.now.left ∷ []) page.old page.new) }
+    ensures { OnOk result (Writes (number inset.now.top ∷ number inset.now.right
+        ∷ number inset.now.bottom ∷ number inset.now.left ∷ []) page.old page.new) }
 {
     page.counts(inset.top, inset.right)?;
     page.counts(inset.bottom, inset.left)
@@ -146,7 +151,8 @@ fn push_closing(
 }
 
 fn push_presented(page: &mut Page, count: u32, credits: u32) -> Result<(), NoMemory>
-    ensures { OnOk result (Writes (codes "Present" ∷ number count ∷ codes "credits" ∷ number credits ∷ []) page.old page.new) }
+    ensures { OnOk result (Writes (codes "Present" ∷ number count ∷ codes "credits" ∷ number credits
+        ∷ []) page.old page.new) }
 {
     page.counted(b"Present", count)?;
     page.counted(b"credits", credits)
@@ -168,7 +174,8 @@ fn push_held(page: &mut Page, kind: &Kind) -> Result<(), NoMemory>
 }
 
 fn push_now(page: &mut Page, kind: &Kind, value: &Told) -> Result<(), NoMemory>
-    ensures { OnOk result (Writes (asked_words kind.now ++ codes "now" ∷ value_words value.now) page.old page.new) }
+    ensures { OnOk result
+        (Writes (asked_words kind.now ++ codes "now" ∷ value_words value.now) page.old page.new) }
 {
     push_asked(page, kind)?;
     page.word(b"now")?;

@@ -1,3 +1,6 @@
+//! The text of each finished frame, written when it is finished: of a frame its lines are
+//! kept and not its items, which are let go once the frame after it is written. The texts
+//! carry no number: the n-th `done` has the n-th.
 ghost use Rattle.std.specs.Prelude.{◌≡◌, ◌∷◌, ◌++◌, [], List, OnOk};
 ghost use Rattle.std.specs.Option.{option_copied};
 ghost use Rattle.flat_base.specs.Last.{last_item};
@@ -40,7 +43,8 @@ impl FrameTexts {
 
     /// Writes the next frame. It is kept until the one after it is written.
     pub fn push(&mut self, script: &Script, frame: FrameOut) -> Result<(), NoMemory>
-        ensures { (frames : List FrameOut) → AreTexts script.now frames self.old → OnOk result (AreTexts script.now (frames ++ frame ∷ []) self.new) }
+        ensures { (frames : List FrameOut) → AreTexts script.now frames self.old →
+            OnOk result (AreTexts script.now (frames ++ frame ∷ []) self.new) }
     {
         let mut room = mem::replace(&mut self.room, Vec::new(self.alloc));
         room.clear();
@@ -62,7 +66,8 @@ impl FrameTexts {
 
     /// The last frame, if there is one.
     pub fn last(&self) -> Option<&FrameOut>
-        ensures { (script : Script) (frames : List FrameOut) → AreTexts script frames self.now → option_copied result ≡ last_item frames }
+        ensures { (script : Script) (frames : List FrameOut) → AreTexts script frames self.now →
+            option_copied result ≡ last_item frames }
     {
         self.last.frame.as_ref()
     }

@@ -1,8 +1,12 @@
+//! The lines of a frame: its draw items, its view tree and the sessions apart; and those of
+//! the displays that were lost at it (specs/FrameLines).
 ghost use Rattle.std.specs.Prelude.{◌≡◌, ◌++◌, ◌∷◌, [], OnOk, codes, cond, map, slice_index};
 ghost use Rattle.flat_page.specs.Words.{number, numbers, session_name};
 ghost use Rattle.flat_report.specs.Names.{buffers_name};
 ghost use Rattle.flat_page.specs.Pages.{Writes, WritesLines};
-ghost use Rattle.flat_report.specs.FrameLines.{rect_words, flip_number, blend_word, paint_words, matrix_words, item_line, parent_word, view_line, apart_line, lost_line};
+ghost use Rattle.flat_report.specs.FrameLines.{rect_words, flip_number, blend_word, paint_words};
+ghost use Rattle.flat_report.specs.FrameLines.{matrix_words, item_line, parent_word, view_line};
+ghost use Rattle.flat_report.specs.FrameLines.{apart_line, lost_line};
 ghost use Rattle.flat_report.specs.Report.{lost_at};
 
 use crate::names::buffers_name;
@@ -38,7 +42,8 @@ fn blend_word(blend: BlendMode) -> &'static [u8]
 
 /// The bytes of a colour.
 fn push_colour(page: &mut Page, rgba: [u8; 4]) -> Result<(), NoMemory>
-    ensures { OnOk result (Writes (number (slice_index rgba 0) ∷ number (slice_index rgba 1) ∷ number (slice_index rgba 2) ∷ number (slice_index rgba 3) ∷ []) page.old page.new) }
+    ensures { OnOk result (Writes (number (slice_index rgba 0) ∷ number (slice_index rgba 1)
+        ∷ number (slice_index rgba 2) ∷ number (slice_index rgba 3) ∷ []) page.old page.new) }
 {
     let [r, g, b, a] = rgba;
     page.counts(r as u32, g as u32)?;
@@ -46,7 +51,10 @@ fn push_colour(page: &mut Page, rgba: [u8; 4]) -> Result<(), NoMemory>
 }
 
 fn push_fill(page: &mut Page, w: u32, h: u32, rgba: [u8; 4]) -> Result<(), NoMemory>
-    ensures { OnOk result (Writes (codes "fill" ∷ number (slice_index rgba 0) ∷ number (slice_index rgba 1) ∷ number (slice_index rgba 2) ∷ number (slice_index rgba 3) ∷ number w ∷ number h ∷ []) page.old page.new) }
+    ensures { OnOk result (Writes (codes "fill"
+        ∷ number (slice_index rgba 0) ∷ number (slice_index rgba 1)
+        ∷ number (slice_index rgba 2) ∷ number (slice_index rgba 3)
+        ∷ number w ∷ number h ∷ []) page.old page.new) }
 {
     page.word(b"fill")?;
     push_colour(page, rgba)?;
@@ -54,13 +62,15 @@ fn push_fill(page: &mut Page, w: u32, h: u32, rgba: [u8; 4]) -> Result<(), NoMem
 }
 
 fn push_units(page: &mut Page, rect: IntRect) -> Result<(), NoMemory>
-    ensures { OnOk result (Writes (numbers (rect.x ∷ rect.y ∷ rect.w ∷ rect.h ∷ [])) page.old page.new) }
+    ensures { OnOk result
+        (Writes (numbers (rect.x ∷ rect.y ∷ rect.w ∷ rect.h ∷ [])) page.old page.new) }
 {
     page.units(rect.x, rect.y, rect.w, rect.h)
 }
 
 fn push_sample(page: &mut Page, sample: IntRect) -> Result<(), NoMemory>
-    ensures { OnOk result (Writes (codes "sample" ∷ numbers (sample.x ∷ sample.y ∷ sample.w ∷ sample.h ∷ [])) page.old page.new) }
+    ensures { OnOk result (Writes (codes "sample"
+        ∷ numbers (sample.x ∷ sample.y ∷ sample.w ∷ sample.h ∷ [])) page.old page.new) }
 {
     page.word(b"sample")?;
     push_units(page, sample)?;
@@ -80,7 +90,8 @@ fn push_buffer(
     buffers: BufferNo,
     index: u32,
 ) -> Result<(), NoMemory>
-    ensures { OnOk result (Writes (codes "image" ∷ buffers_name script.now buffers ∷ number index ∷ []) page.old page.new) }
+    ensures { OnOk result (Writes
+        (codes "image" ∷ buffers_name script.now buffers ∷ number index ∷ []) page.old page.new) }
 {
     page.word(b"image")?;
     page.counted(buffers_name(script, buffers), index)
@@ -113,7 +124,8 @@ fn push_paint(
 }
 
 fn push_entries(page: &mut Page, matrix: SceneMatrix) -> Result<(), NoMemory>
-    ensures { OnOk result (Writes (numbers (matrix.a ∷ matrix.b ∷ matrix.x ∷ matrix.y ∷ [])) page.old page.new) }
+    ensures { OnOk result
+        (Writes (numbers (matrix.a ∷ matrix.b ∷ matrix.x ∷ matrix.y ∷ [])) page.old page.new) }
 {
     page.places(matrix.a, matrix.b, matrix.x, matrix.y)
 }
@@ -140,7 +152,8 @@ fn push_visible(page: &mut Page, visible: Rect) -> Result<(), NoMemory>
 }
 
 fn push_look(page: &mut Page, opacity: u32, blend: BlendMode) -> Result<(), NoMemory>
-    ensures { OnOk result (Writes (codes "o" ∷ number opacity ∷ blend_word blend ∷ []) page.old page.new) }
+    ensures { OnOk result
+        (Writes (codes "o" ∷ number opacity ∷ blend_word blend ∷ []) page.old page.new) }
 {
     page.counted(b"o", opacity)?;
     page.word(blend_word(blend))
@@ -148,7 +161,11 @@ fn push_look(page: &mut Page, opacity: u32, blend: BlendMode) -> Result<(), NoMe
 
 /// The line of a draw item, without what ends it.
 fn push_item_words(page: &mut Page, script: &Script, item: &DrawItem) -> Result<(), NoMemory>
-    ensures { OnOk result (Writes (session_name script.now.sessions item.now.session ∷ number item.now.serial ∷ paint_words script.now item.now.w item.now.h item.now.paint ++ matrix_words item.now.matrix ++ (codes "v" ∷ rect_words item.now.visible) ++ (codes "o" ∷ number item.now.opacity ∷ blend_word item.now.blend ∷ [])) page.old page.new) }
+    ensures { OnOk result (Writes (session_name script.now.sessions item.now.session
+        ∷ number item.now.serial ∷ paint_words script.now item.now.w item.now.h item.now.paint
+        ++ matrix_words item.now.matrix ++ (codes "v" ∷ rect_words item.now.visible)
+        ++ (codes "o" ∷ number item.now.opacity ∷ blend_word item.now.blend ∷ []))
+        page.old page.new) }
 {
     page.counted(session_name(&script.sessions, item.session), item.serial)?;
     push_paint(page, script, item.w, item.h, &item.paint)?;
@@ -159,7 +176,8 @@ fn push_item_words(page: &mut Page, script: &Script, item: &DrawItem) -> Result<
 }
 
 fn push_view_words(page: &mut Page, script: &Script, view: &ViewNode) -> Result<(), NoMemory>
-    ensures { OnOk result (Writes (session_name script.now.sessions view.now.session ∷ parent_word script.now view.now.parent ∷ rect_words view.now.bounds) page.old page.new) }
+    ensures { OnOk result (Writes (session_name script.now.sessions view.now.session
+        ∷ parent_word script.now view.now.parent ∷ rect_words view.now.bounds) page.old page.new) }
 {
     page.word(session_name(&script.sessions, view.session))?;
     page.word(parent_word(script, view.parent))?;
@@ -208,7 +226,8 @@ pub fn push_apart(page: &mut Page, script: &Script, session: SessionNo) -> Resul
 }
 
 fn push_lost_words(page: &mut Page, lost: &Lost) -> Result<(), NoMemory>
-    ensures { OnOk result (Writes (number lost.now.display ∷ codes "lost" ∷ codes "at" ∷ codes "frame" ∷ number lost.now.frame.0 ∷ []) page.old page.new) }
+    ensures { OnOk result (Writes (number lost.now.display ∷ codes "lost" ∷ codes "at"
+        ∷ codes "frame" ∷ number lost.now.frame.0 ∷ []) page.old page.new) }
 {
     page.count(lost.display as u64)?;
     page.word(b"lost")?;
@@ -237,7 +256,8 @@ fn push_views(page: &mut Page, script: &Script, views: &[ViewNode]) -> Result<()
 }
 
 fn push_aparts(page: &mut Page, script: &Script, sessions: &[SessionNo]) -> Result<(), NoMemory>
-    ensures { OnOk result (WritesLines (map (apart_line script.now) sessions.now) page.old page.new) }
+    ensures { OnOk result
+        (WritesLines (map (apart_line script.now) sessions.now) page.old page.new) }
 {
     for session in sessions {
         push_apart(page, script, *session)?;
@@ -247,7 +267,8 @@ fn push_aparts(page: &mut Page, script: &Script, sessions: &[SessionNo]) -> Resu
 
 /// The lines of a view tree: its views, the sessions apart.
 pub(crate) fn push_tree(page: &mut Page, script: &Script, tree: &ViewTree) -> Result<(), NoMemory>
-    ensures { OnOk result (WritesLines (map (view_line script.now) tree.now.nodes ++ map (apart_line script.now) tree.now.apart) page.old page.new) }
+    ensures { OnOk result (WritesLines (map (view_line script.now) tree.now.nodes
+        ++ map (apart_line script.now) tree.now.apart) page.old page.new) }
 {
     push_views(page, script, tree.nodes.as_slice())?;
     push_aparts(page, script, tree.apart.as_slice())?;
@@ -256,7 +277,8 @@ pub(crate) fn push_tree(page: &mut Page, script: &Script, tree: &ViewTree) -> Re
 
 /// The line of a display, if it was lost at the frame of that number.
 fn push_lost_at(page: &mut Page, number: u64, lost: &Lost) -> Result<(), NoMemory>
-    ensures { OnOk result (WritesLines (map lost_line (lost_at number (lost.now ∷ []))) page.old page.new) }
+    ensures { OnOk result
+        (WritesLines (map lost_line (lost_at number (lost.now ∷ []))) page.old page.new) }
 {
     if u64::from(lost.frame.0) == number {
         push_lost(page, lost)
@@ -267,7 +289,8 @@ fn push_lost_at(page: &mut Page, number: u64, lost: &Lost) -> Result<(), NoMemor
 
 /// The lines of the displays that were lost at the frame of a number.
 pub(crate) fn push_losses(page: &mut Page, number: u64, lost: &[Lost]) -> Result<(), NoMemory>
-    ensures { OnOk result (WritesLines (map lost_line (lost_at number lost.now)) page.old page.new) }
+    ensures { OnOk result
+        (WritesLines (map lost_line (lost_at number lost.now)) page.old page.new) }
 {
     for one in lost {
         push_lost_at(page, number, one)?;

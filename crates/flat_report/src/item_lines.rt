@@ -1,6 +1,7 @@
 //! The lines of a frame's draw items, which are copied where the frame before has
 //! the same item at the same place.
-ghost use Rattle.std.specs.Prelude.{◌≡◌, ◌+◌, [], ◌∷◌, List, ℕ, length, map, false, None, IfOk, IfSome, OnOk};
+ghost use Rattle.std.specs.Prelude.{◌≡◌, ◌+◌, [], ◌∷◌, List, ℕ, length, map, false, None, IfOk};
+ghost use Rattle.std.specs.Prelude.{IfSome, OnOk};
 ghost use Rattle.flat_page.specs.Pages.{is_counting, WritesLines};
 ghost use Rattle.flat_report.specs.FrameLines.{item_line};
 ghost use Rattle.flat_report.specs.ItemLines.{AreLines, HaveLines, StandsIn, items_of, line_text};
@@ -24,7 +25,8 @@ pub(crate) struct Part {
 impl Part {
     /// The bytes of a text on this part, where it has one.
     fn of(self, text: &[u8]) -> Option<&[u8]>
-        ensures { (bytes : List ℕ) → StandsIn self.start bytes text.now → self.end ≡ self.start + length bytes → IfSome result (λ part. part.now ≡ bytes) }
+        ensures { (bytes : List ℕ) → StandsIn self.start bytes text.now →
+            self.end ≡ self.start + length bytes → IfSome result (λ part. part.now ≡ bytes) }
     {
         if self.start > self.end {
             return None;
@@ -70,7 +72,8 @@ impl ItemLines {
 
     /// The line of the item at a place, where it is this item.
     fn line_of(&self, place: usize, item: &DrawItem) -> Option<&[u8]>
-        ensures { (script : Script) → AreLines script self.now → IfSome result (λ line. line.now ≡ line_text script item.now) }
+        ensures { (script : Script) → AreLines script self.now →
+            IfSome result (λ line. line.now ≡ line_text script item.now) }
     {
         let old = self.items().get(place)?;
         let part = self.parts.get(place)?;
@@ -89,7 +92,8 @@ impl ItemLines {
         place: usize,
         item: &DrawItem,
     ) -> Result<(), NoMemory>
-        ensures line { AreLines script.now self.now → OnOk result (WritesLines (item_line script.now item.now ∷ []) page.old page.new) }
+        ensures line { AreLines script.now self.now →
+            OnOk result (WritesLines (item_line script.now item.now ∷ []) page.old page.new) }
         ensures sort { OnOk result (is_counting page.new ≡ is_counting page.old) }
     {
         match self.line_of(place, item) {
@@ -107,7 +111,8 @@ impl ItemLines {
         script: &Script,
         items: &[DrawItem],
     ) -> Result<Vec<Part>, NoMemory>
-        ensures lines { AreLines script.now self.now → OnOk result (WritesLines (map (item_line script.now) items.now) page.old page.new) }
+        ensures lines { AreLines script.now self.now →
+            OnOk result (WritesLines (map (item_line script.now) items.now) page.old page.new) }
         ensures sort { OnOk result (is_counting page.new ≡ is_counting page.old) }
         ensures parts { AreLines script.now self.now → is_counting page.old ≡ false →
             IfOk result (λ parts. HaveLines script.now (text_on page.new) items.now parts.items) }

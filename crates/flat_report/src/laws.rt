@@ -1,3 +1,4 @@
+//! What the report says of a run (specs/Laws).
 ghost use Rattle.flat_report.specs.Laws.{FramesAreSeen, HandedIsReport, ReportsDetermineHistories};
 
 /// Of a script that is read from a text, the report says which history it is of,

@@ -1,3 +1,4 @@
+//! The names of a script by their numbers (specs/Names).
 ghost use Rattle.std.specs.Prelude.{◌≡◌};
 ghost use Rattle.flat_report.specs.Names.{pair_name, buffers_name, actor_name};
 

@@ -1,3 +1,6 @@
+//! The text of a report while it is written, once and not twice as other texts are: what
+//! stands between long texts of frames fills pages of one size, so that the number of
+//! writes is small where frames are small, and no room for the whole is taken.
 ghost use Rattle.std.specs.Prelude.{◌≡◌, ◌<◌, ◌^◌, ◌-◌, ◌∷◌, ◌++◌, [], map, false, IfOk, OnOk};
 ghost use Rattle.flat_page.specs.Pages.{Puts, is_counting};
 ghost use Rattle.flat_page.specs.Words.{text_of};
@@ -122,7 +125,8 @@ impl PagedText {
         entry: &Entry,
     ) -> Result<(), NoMemory>
         requires { finished < 2 ^ 64 - 1 }
-        ensures { OnOk result (self.new ≡ self.old ++ text_of (entry_line script.now finished (λ x y. hits.now) entry.now ∷ [])) }
+        ensures { OnOk result (self.new ≡ self.old
+            ++ text_of (entry_line script.now finished (λ x y. hits.now) entry.now ∷ [])) }
     {
         let mut page = mem::replace(&mut self.page, Page::Text(Vec::new(self.alloc)));
         push_entry(&mut page, script, finished, hits, entry)?;
@@ -132,7 +136,8 @@ impl PagedText {
 
     /// Puts the lines of the displays that were lost at the frame of a number.
     pub(crate) fn losses(&mut self, number: u64, lost: &[Lost]) -> Result<(), NoMemory>
-        ensures { OnOk result (self.new ≡ self.old ++ text_of (map lost_line (lost_at number lost.now))) }
+        ensures { OnOk result
+            (self.new ≡ self.old ++ text_of (map lost_line (lost_at number lost.now))) }
     {
         let mut page = mem::replace(&mut self.page, Page::Text(Vec::new(self.alloc)));
         push_losses(&mut page, number, lost)?;
@@ -142,7 +147,8 @@ impl PagedText {
 
     /// Puts the lines of events.
     pub(crate) fn posts(&mut self, script: &Script, posts: &[Post]) -> Result<(), NoMemory>
-        ensures { OnOk result (self.new ≡ self.old ++ text_of (map (post_line script.now) posts.now)) }
+        ensures { OnOk result
+            (self.new ≡ self.old ++ text_of (map (post_line script.now) posts.now)) }
     {
         let mut page = mem::replace(&mut self.page, Page::Text(Vec::new(self.alloc)));
         push_posts(&mut page, script, posts)?;
@@ -152,7 +158,8 @@ impl PagedText {
 
     /// Puts the line of a probe's answer.
     pub(crate) fn answer(&mut self, script: &Script, answer: &ProbeAnswer) -> Result<(), NoMemory>
-        ensures { OnOk result (self.new ≡ self.old ++ text_of (answer_line script.now answer.now ∷ [])) }
+        ensures { OnOk result
+            (self.new ≡ self.old ++ text_of (answer_line script.now answer.now ∷ [])) }
     {
         let mut page = mem::replace(&mut self.page, Page::Text(Vec::new(self.alloc)));
         push_probe_line(&mut page, script, answer)?;

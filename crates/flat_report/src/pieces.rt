@@ -1,3 +1,5 @@
+//! A text in pieces, so that a long text of a frame is moved into the report and not copied:
+//! a room for the whole report beside the texts would double the memory.
 ghost use Rattle.std.specs.Prelude.{◌≡◌, ◌++◌, [], IfOk, OnOk};
 ghost use Rattle.std.specs.List.{concat};
 

@@ -14,7 +14,8 @@ use flat_places::Script;
 use flat_scene::ProbeLine;
 
 fn push_await(page: &mut Page, frame: u64) -> Result<(), NoMemory>
-    ensures { OnOk result (Writes (codes "await" ∷ codes "frame" ∷ number frame ∷ []) page.old page.new) }
+    ensures { OnOk result
+        (Writes (codes "await" ∷ codes "frame" ∷ number frame ∷ []) page.old page.new) }
 {
     page.word(b"await")?;
     push_long(page, b"frame", frame)
@@ -22,7 +23,8 @@ fn push_await(page: &mut Page, frame: u64) -> Result<(), NoMemory>
 
 /// What is said of an answer behind the number of its line, by what the line asks.
 fn push_probe_words(page: &mut Page, script: &Script, answer: &ProbeAnswer) -> Result<(), NoMemory>
-    ensures { OnOk result (Writes (probe_words script.now answer.now.asked (frame_seen answer.now) answer.now.hits) page.old page.new) }
+    ensures { OnOk result (Writes (probe_words script.now answer.now.asked
+        (frame_seen answer.now) answer.now.hits) page.old page.new) }
 {
     let frame = answer.frame.0 as u64;
     match answer.asked {
@@ -32,7 +34,8 @@ fn push_probe_words(page: &mut Page, script: &Script, answer: &ProbeAnswer) -> R
 }
 
 fn push_probe_said(page: &mut Page, script: &Script, answer: &ProbeAnswer) -> Result<(), NoMemory>
-    ensures { OnOk result (Writes (number answer.now.line ∷ probe_words script.now answer.now.asked (frame_seen answer.now) answer.now.hits) page.old page.new) }
+    ensures { OnOk result (Writes (number answer.now.line ∷ probe_words script.now answer.now.asked
+        (frame_seen answer.now) answer.now.hits) page.old page.new) }
 {
     page.count(answer.line as u64)?;
     push_probe_words(page, script, answer)?;

@@ -1,7 +1,12 @@
-ghost use Rattle.std.specs.Prelude.{◌≡◌, ◌++◌, ◌∷◌, ◌+◌, ◌-◌, ◌<◌, ◌^◌, [], OnOk, IfOk, cond, drop, map};
+//! The report, which composes nothing: it writes what it is handed, without a condition
+//! (specs/Handed), and a law says when that is the report of a history.
+ghost use Rattle.std.specs.Prelude.{◌≡◌, ◌++◌, ◌∷◌, ◌+◌, ◌-◌, ◌<◌, ◌^◌, [], OnOk, IfOk, cond, drop};
+ghost use Rattle.std.specs.Prelude.{map};
 ghost use Rattle.flat_scene.specs.History.{is_finish};
 ghost use Rattle.flat_page.specs.Words.{text_of};
-ghost use Rattle.flat_report.specs.Handed.{answer_line, answers_text, end_line, first_hits, answers_after, texts_after, first_posts, shown_text, handed_text, handed_entries, handed_report};
+ghost use Rattle.flat_report.specs.Handed.{answer_line, answers_text, end_line, first_hits};
+ghost use Rattle.flat_report.specs.Handed.{answers_after, texts_after, first_posts, shown_text};
+ghost use Rattle.flat_report.specs.Handed.{handed_text, handed_entries, handed_report};
 
 use crate::frame_texts::FrameTexts;
 use crate::paged_text::PagedText;
@@ -77,7 +82,8 @@ fn push_shown(
     number: u64,
     texts: &mut VecDeque<Items<u8>>,
 ) -> Result<(), NoMemory>
-    ensures text { OnOk result (paged.new ≡ paged.old ++ shown_text lost.now number texts.old.items) }
+    ensures text { OnOk result
+        (paged.new ≡ paged.old ++ shown_text lost.now number texts.old.items) }
     ensures left { OnOk result (texts.new.items ≡ drop 1 texts.old.items) }
 {
     if let Some(text) = texts.pop_front() {
@@ -95,7 +101,8 @@ fn push_finished(
     texts: &mut VecDeque<Items<u8>>,
     kind: &Kind,
 ) -> Result<(), NoMemory>
-    ensures text { OnOk result (paged.new ≡ paged.old ++ cond (is_finish kind.now) (shown_text lost.now number texts.old.items) []) }
+    ensures text { OnOk result (paged.new ≡ paged.old
+        ++ cond (is_finish kind.now) (shown_text lost.now number texts.old.items) []) }
     ensures left { OnOk result (texts.new.items ≡ texts_after kind.now texts.old.items) }
 {
     match kind {
@@ -104,32 +111,41 @@ fn push_finished(
     }
 }
 
-/// The text of an entry, by what is handed in from it on: the texts of frames and the
-/// answers, and its own events.
+/// What is handed in of an entry: its own events, and the answers from it on.
+#[derive(Clone, Copy)]
+struct Handed<'a> {
+    entry: &'a Entry,
+    posts: &'a [Post],
+    answers: &'a [HitAnswer],
+}
+
+/// The text of an entry, by what is handed in of it, and by the texts of frames from it
+/// on.
 fn push_handed(
     paged: &mut PagedText,
     script: &Script,
     lost: &[Lost],
     finished: u64,
     texts: &mut VecDeque<Items<u8>>,
-    answers: &[HitAnswer],
-    posts: &[Post],
-    entry: &Entry,
+    handed: &Handed<'_>,
 ) -> Result<(), NoMemory>
     requires few { finished < 2 ^ 64 - 1 }
-    ensures text { OnOk result (paged.new ≡ paged.old ++ handed_text script.now lost.now finished texts.old.items answers.now posts.now entry.now) }
-    ensures left { OnOk result (texts.new.items ≡ texts_after entry.now.kind texts.old.items) }
+    ensures text { OnOk result (paged.new ≡ paged.old ++ handed_text script.now lost.now finished
+        texts.old.items handed.now.answers.now handed.now.posts.now handed.now.entry.now) }
+    ensures left { OnOk result
+        (texts.new.items ≡ texts_after handed.now.entry.now.kind texts.old.items) }
 {
-    paged.entry(script, finished, first_hits(answers), entry)?;
-    push_finished(paged, lost, finished + 1, texts, &entry.kind)?;
-    paged.posts(script, posts)?;
+    paged.entry(script, finished, first_hits(handed.answers), handed.entry)?;
+    push_finished(paged, lost, finished + 1, texts, &handed.entry.kind)?;
+    paged.posts(script, handed.posts)?;
     paged.turn_full()?;
     Ok(())
 }
 
 /// The line of an answer of a probe, on a page that isn't full yet.
 fn push_answer(paged: &mut PagedText, script: &Script, answer: &ProbeAnswer) -> Result<(), NoMemory>
-    ensures { OnOk result (paged.new ≡ paged.old ++ text_of (answer_line script.now answer.now ∷ [])) }
+    ensures { OnOk result
+        (paged.new ≡ paged.old ++ text_of (answer_line script.now answer.now ∷ [])) }
 {
     paged.answer(script, answer)?;
     paged.turn_full()?;
@@ -142,7 +158,8 @@ fn push_answers(
     script: &Script,
     answers: &[ProbeAnswer],
 ) -> Result<(), NoMemory>
-    ensures { OnOk result (paged.new ≡ paged.old ++ text_of (map (answer_line script.now) answers.now)) }
+    ensures { OnOk result
+        (paged.new ≡ paged.old ++ text_of (map (answer_line script.now) answers.now)) }
 {
     for answer in answers {
         push_answer(paged, script, answer)?;
@@ -173,7 +190,8 @@ fn push_rest(
     entries: usize,
     finished: u64,
 ) -> Result<(), NoMemory>
-    ensures { OnOk result (paged.new ≡ paged.old ++ (answers_text script.now probes.now ++ text_of (end_line entries finished ∷ []))) }
+    ensures { OnOk result (paged.new ≡ paged.old
+        ++ (answers_text script.now probes.now ++ text_of (end_line entries finished ∷ []))) }
 {
     push_probes(paged, script, probes)?;
     paged.end(entries, finished)?;
@@ -190,7 +208,8 @@ fn push_history(
     answers: &[HitAnswer],
     probes: &[ProbeAnswers],
 ) -> Result<(), NoMemory>
-    ensures { OnOk result (paged.new ≡ paged.old ++ handed_entries script.now lost.now probes.now 0 0 texts.old.items answers.now
+    ensures { OnOk result (paged.new ≡ paged.old
+        ++ handed_entries script.now lost.now probes.now 0 0 texts.old.items answers.now
         journal.now.posts.items journal.now.entries.items) }
 {
     let mut posts = journal.posts.as_slice();
@@ -198,7 +217,12 @@ fn push_history(
     let mut finished = 0;
     for (place, entry) in journal.entries.iter().enumerate() {
         let (mine, later) = posts.split_at(posts_of(posts, place));
-        push_handed(paged, script, lost, finished, texts, answers, mine, entry)?;
+        let handed = Handed {
+            entry,
+            posts: mine,
+            answers,
+        };
+        push_handed(paged, script, lost, finished, texts, &handed)?;
         posts = later;
         answers = answers_after(answers, &entry.kind);
         finished = finished_after(finished, &entry.kind);

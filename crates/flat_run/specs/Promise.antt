@@ -1,5 +1,5 @@
 -- What a call of the service answers, writes and shows.
-use Rattle.std.specs.Prelude.{◌≡◌, ◌≢◌, ◌⊎◌, ⊤, ℕ, ◌*◌, ◌<◌, true, false, List, [], ◌∷◌, ◌++◌, length, map, Option, Some, Ok, Err, codes}
+use Rattle.std.specs.Prelude.{◌≡◌, ◌≢◌, ◌⊎◌, ⊤, ℕ, ◌*◌, ◌<◌, Bool, ◌||◌, true, false, List, [], ◌∷◌, ◌++◌, length, map, Option, Some, Ok, Err, codes}
 use Rattle.std.specs.Fmt.{decimal}
 use Rattle.flat_io.specs.Counts.{has_risen}
 use Rattle.flat_io.specs.Told.{WhereTold, Appends}
@@ -132,6 +132,10 @@ module _ {D : Type 0} (shown : D → Option (List FrameOut)) (faults : D → ℕ
     pub text : List ℕ
     pub is : IsAnswer words left left' status text
     pub part : AppendsPrefix text held held'
+
+-- whether a sink's count of faults rose, or its count of stalls
+abbrev pub either_rose : ℕ → ℕ → ℕ → ℕ → Bool
+either_rose failed failed' stalled stalled' = has_risen failed failed' || has_risen stalled stalled'
 
 -- ---- where a script is given
 

@@ -1,4 +1,8 @@
-ghost use Rattle.std.specs.Prelude.{◌≡◌, ◌≢◌, ◌<◌, ◌≤◌, ◌^◌, ◌||◌, ◌==◌, ℕ, List, true, map, length, IfOk, IsTrue, IsFalse, Ok, Err};
+//! The answer to a script: read, run, and written as its form asks. The whole text is made
+//! before its first byte is written, so that want of memory is never met halfway through a
+//! report; a play and a race end in one record, so that what is written is said once.
+ghost use Rattle.std.specs.Prelude.{◌≡◌, ◌≢◌, ◌<◌, ◌≤◌, ◌^◌, ◌||◌, ◌==◌, ℕ, List, true, map};
+ghost use Rattle.std.specs.Prelude.{length, IfOk, IsTrue, IsFalse, Ok, Err};
 ghost use Rattle.flat_io.specs.Counts.{has_risen};
 ghost use Rattle.flat_scene.specs.Interleave.{IsWritten};
 ghost use Rattle.flat_words.specs.declared.form.Form.TheVariants.{Race, Render, Pointer};
@@ -13,7 +17,8 @@ ghost use Rattle.flat_play.specs.Showing.{HaveSeen};
 ghost use Rattle.flat_play.specs.Touches.{touch_of};
 ghost use Rattle.flat_run.specs.Answering.{IsReply, IsRunnable};
 ghost use Rattle.flat_run.specs.Forms.{is_read, form_read, keeping_for, Fits};
-ghost use Rattle.flat_run.specs.Promise.{fault_line, large_line, AreGiven, IsTold, IsAnswer, IsTooLarge};
+ghost use Rattle.flat_run.specs.Promise.{fault_line, large_line, AreGiven, IsTold, IsAnswer};
+ghost use Rattle.flat_run.specs.Promise.{IsTooLarge};
 
 use crate::reading::{Reading, read_text};
 use crate::texts::{keeping_for, text_of};
@@ -114,14 +119,22 @@ fn run_reading<T: Threads + Wait + Sync, G: Gate>(
 ) -> Result<(Played, Vec<Touch>), NoMemory>
     requires runnable { IsRunnable reading.now }
     requires few { length displays.old.items < 2 ^ 32 }
-    ensures played { IfOk result (λ ran. HasPlayed reading.now.script ran.0.board ran.0.kept ran.0.answers) }
-    ensures probes { IfOk result (λ ran. ProbesAnswered reading.now.script ran.0.board.history ran.0.probes.items) }
+    ensures played { IfOk result
+        (λ ran. HasPlayed reading.now.script ran.0.board ran.0.kept ran.0.answers) }
+    ensures probes { IfOk result
+        (λ ran. ProbesAnswered reading.now.script ran.0.board.history ran.0.probes.items) }
     ensures keeping { IfOk result (λ ran. keeping_of ran.0.kept ≡ keeping_for form) }
-    ensures touches { form ≡ Pointer → IfOk result (λ ran. ran.1.items ≡ map (touch_of reading.now.script.setup ran.0.board.history) reading.now.pointers) }
-    ensures written { form ≢ Race → IfOk result (λ ran. IsWritten reading.now.script.setup ran.0.board.history) }
-    ensures in_turn { form ≢ Race → IfOk result (λ ran. frames_seen ran.0.probes.items ≡ seen_in_turn reading.now.script ran.0.board.history) }
-    ensures seen { IfOk result (λ ran. HaveSeen (λ d. shown d) (λ d. faults d) (finished reading.now.script.setup ran.0.board.history) ran.0.board.history ran.0.set.lost displays.old.items displays.new.items) }
-    ensures kept { AreKept (λ d. shown d) (λ d. faults d) displays.old.items displays.new.items (λ d. d.vtable) }
+    ensures touches { form ≡ Pointer → IfOk result (λ ran. ran.1.items ≡
+        map (touch_of reading.now.script.setup ran.0.board.history) reading.now.pointers) }
+    ensures written { form ≢ Race →
+        IfOk result (λ ran. IsWritten reading.now.script.setup ran.0.board.history) }
+    ensures in_turn { form ≢ Race → IfOk result (λ ran. frames_seen ran.0.probes.items ≡
+        seen_in_turn reading.now.script ran.0.board.history) }
+    ensures seen { IfOk result (λ ran. HaveSeen (λ d. shown d) (λ d. faults d)
+        (finished reading.now.script.setup ran.0.board.history) ran.0.board.history ran.0.set.lost
+        displays.old.items displays.new.items) }
+    ensures kept { AreKept (λ d. shown d) (λ d. faults d) displays.old.items displays.new.items
+        (λ d. d.vtable) }
 {
     let keeping = keeping_for(form);
     match form {
@@ -154,8 +167,10 @@ fn told<T: Threads + Wait + Sync, G: Gate>(
     requires fits { Fits form reading.now.script.setup }
     requires few { length displays.old.items < 2 ^ 32 }
     ensures told { (bytes : List ℕ) → form_read form bytes ≡ Ok reading.now →
-        IfOk result (λ text. IsTold (λ d. shown d) (λ d. faults d) displays.old.items displays.new.items form bytes text) }
-    ensures kept { AreKept (λ d. shown d) (λ d. faults d) displays.old.items displays.new.items (λ d. d.vtable) }
+        IfOk result (λ text. IsTold (λ d. shown d) (λ d. faults d)
+        displays.old.items displays.new.items form bytes text) }
+    ensures kept { AreKept (λ d. shown d) (λ d. faults d) displays.old.items displays.new.items
+        (λ d. d.vtable) }
 {
     families_are_alone();
     frames_are_seen();
@@ -200,10 +215,13 @@ fn answer_reading<T: Threads + Wait + Sync, G: Gate>(
     requires runnable { IsRunnable reading.now }
     requires few { length displays.old.items < 2 ^ 32 }
     ensures reply { (bytes : List ℕ) → form_read form bytes ≡ Ok reading.now →
-        IfOk result (λ answer. IsReply (λ d. shown d) (λ d. faults d) displays.old.items displays.new.items form bytes answer.status answer.text) }
+        IfOk result (λ answer. IsReply (λ d. shown d) (λ d. faults d)
+        displays.old.items displays.new.items form bytes answer.status answer.text) }
     ensures refused { IfOk result (λ answer. answer.status ≢ DONE → displays.new ≡ displays.old) }
-    ensures statuses { IfOk result (λ answer. IsTrue (answer.status == DONE || answer.status == TOO_LARGE)) }
-    ensures kept { AreKept (λ d. shown d) (λ d. faults d) displays.old.items displays.new.items (λ d. d.vtable) }
+    ensures statuses { IfOk result
+        (λ answer. IsTrue (answer.status == DONE || answer.status == TOO_LARGE)) }
+    ensures kept { AreKept (λ d. shown d) (λ d. faults d) displays.old.items displays.new.items
+        (λ d. d.vtable) }
 {
     if is_too_large_for(form, &reading.script) {
         return large(alloc);
@@ -215,7 +233,7 @@ fn answer_reading<T: Threads + Wait + Sync, G: Gate>(
 }
 
 /// The answer to a text that was read whole.
-fn answer_to<T: Threads + Wait + Sync, G: Gate>(
+fn answer_text<T: Threads + Wait + Sync, G: Gate>(
     rt: &T,
     alloc: Global,
     form: Form,
@@ -225,10 +243,13 @@ fn answer_to<T: Threads + Wait + Sync, G: Gate>(
 ) -> Result<Answer, NoMemory>
     requires read { is_read form ≡ true }
     requires few { length displays.old.items < 2 ^ 32 }
-    ensures reply { IfOk result (λ answer. IsReply (λ d. shown d) (λ d. faults d) displays.old.items displays.new.items form bytes.now answer.status answer.text) }
+    ensures reply { IfOk result (λ answer. IsReply (λ d. shown d) (λ d. faults d)
+        displays.old.items displays.new.items form bytes.now answer.status answer.text) }
     ensures refused { IfOk result (λ answer. answer.status ≢ DONE → displays.new ≡ displays.old) }
-    ensures statuses { IfOk result (λ answer. IsTrue (answer.status == DONE || answer.status == REFUSED || answer.status == TOO_LARGE)) }
-    ensures kept { AreKept (λ d. shown d) (λ d. faults d) displays.old.items displays.new.items (λ d. d.vtable) }
+    ensures statuses { IfOk result (λ answer.
+        IsTrue (answer.status == DONE || answer.status == REFUSED || answer.status == TOO_LARGE)) }
+    ensures kept { AreKept (λ d. shown d) (λ d. faults d) displays.old.items displays.new.items
+        (λ d. d.vtable) }
 {
     scripts_are_playable();
     rests_are_read();
@@ -253,22 +274,23 @@ pub fn run_source<T: Threads + Wait + Sync, R: Source, G: Gate>(
     requires read { is_read form ≡ true }
     requires few { length displays.old.items < 2 ^ 32 }
     ensures answer { (words : List (List ℕ)) → CallFor words form →
-        IfOk result (λ answer. IsAnswer (λ d. shown d)
-        (λ d. (⟦<dyn Display as Display>⟧ d.vtable).faults d.value)
+        IfOk result (λ answer. IsAnswer (λ d. shown d) (λ d. (Display-box d).faults d.value)
         displays.old.items displays.new.items words (R.left source.old) (R.left source.new)
         answer.status answer.text) }
     ensures refused { IfOk result (λ answer. answer.status ≢ DONE → displays.new ≡ displays.old) }
-    ensures statuses { IfOk result (λ answer. IsTrue (answer.status == DONE || answer.status == REFUSED || answer.status == TOO_LARGE)) }
-    ensures fault { result ≡ Err Unanswered.Fault → IsTrue (has_risen (R.faults source.old) (R.faults source.new)) }
+    ensures statuses { IfOk result (λ answer.
+        IsTrue (answer.status == DONE || answer.status == REFUSED || answer.status == TOO_LARGE)) }
+    ensures fault { result ≡ Err Unanswered.Fault →
+        IsTrue (has_risen (R.faults source.old) (R.faults source.new)) }
     ensures failed { result ≡ Err Unanswered.Fault → displays.new ≡ displays.old }
     ensures given { (given : List ℕ) × AreGiven given (R.left source.old) (R.left source.new) }
     ensures counts { R.faults source.old ≤ R.faults source.new }
-    ensures kept { AreKept (λ d. shown d)
-        (λ d. (⟦<dyn Display as Display>⟧ d.vtable).faults d.value)
+    ensures steady { result ≢ Err Unanswered.Fault → R.faults source.new ≡ R.faults source.old }
+    ensures kept { AreKept (λ d. shown d) (λ d. (Display-box d).faults d.value)
         displays.old.items displays.new.items (λ d. d.vtable) }
 {
     match read_all(alloc, source, SCRIPT_BYTES_MAX) {
-        Ok(bytes) => Ok(answer_to(rt, alloc, form, bytes.as_slice(), displays, gate)?),
+        Ok(bytes) => Ok(answer_text(rt, alloc, form, bytes.as_slice(), displays, gate)?),
         Err(ReadAll::TooLong) => Ok(refusal(
             alloc,
             ScriptFault {

@@ -1,3 +1,4 @@
+//! What is written of a script says what was done (specs/Laws).
 ghost use Rattle.flat_report.specs.Laws.{ReportsDetermineHistories};
 ghost use Rattle.flat_run.specs.Laws.{PlaysHaveOneHistory};
 

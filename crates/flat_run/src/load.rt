@@ -1,3 +1,6 @@
+//! The load: its script is written as text and read like any other, since the text is what
+//! anyone can repeat and there is one way into a run. All numbers of its summary but the
+//! first are counted from the run.
 ghost use Rattle.std.specs.Prelude.{◌≡◌, ◌<◌, ◌≤◌, ◌^◌, length, count_by, IfOk, Ok, Some, None};
 ghost use Rattle.flat_report.specs.Report.{finished};
 ghost use Rattle.flat_scene.specs.History.{history_of, is_finish};
@@ -23,15 +26,24 @@ use flat_script::{ScriptError, parse};
 use flat_stress::{Totals, loads_are_scripts, loads_have_their_frames, summary};
 use std::alloc::Global;
 
-/// How many of some entries are presents.
-fn presents(entries: &[Entry]) -> usize
-    ensures { result ≡ count_by (λ entry. is_present entry.kind) entries.now }
+/// How many of some entries end a frame, and how many are presents.
+fn finishes_and_presents(entries: &[Entry]) -> (usize, usize)
+    ensures finishes { result.0 ≡ count_by (λ entry. is_finish entry.kind) entries.now }
+    ensures presents { result.1 ≡ count_by (λ entry. is_present entry.kind) entries.now }
 {
-    let mut found = 0;
+    let mut finishes = 0;
+    let mut presents = 0;
     for entry in entries {
-        found += usize::from(is_present(&entry.kind));
+        finishes += usize::from(is_finish(&entry.kind));
+        presents += usize::from(is_present(&entry.kind));
     }
-    found
+    (finishes, presents)
+}
+
+fn is_finish(kind: &Kind) -> bool
+    ensures { result ≡ is_finish kind.now }
+{
+    matches!(kind, Kind::Finish)
 }
 
 #[tactic(auto, unfolding(crate::specs::Totals::is_present))]
@@ -39,23 +51,6 @@ fn is_present(kind: &Kind) -> bool
     ensures { result ≡ is_present kind.now }
 {
     matches!(kind, Kind::Present(_))
-}
-
-/// How many of some entries end a frame.
-fn finishes(entries: &[Entry]) -> usize
-    ensures { result ≡ count_by (λ entry. is_finish entry.kind) entries.now }
-{
-    let mut found = 0;
-    for entry in entries {
-        found += usize::from(is_finish(&entry.kind));
-    }
-    found
-}
-
-fn is_finish(kind: &Kind) -> bool
-    ensures { result ≡ is_finish kind.now }
-{
-    matches!(kind, Kind::Finish)
 }
 
 /// How many items the last frame has.
@@ -71,16 +66,18 @@ fn items_of(last: Option<&FrameOut>) -> usize
 /// What a run of the load of so many frames comes to, by its setup, its journal and the
 /// last of the frames that it finished.
 fn totals_of(frames: u32, setup: &Setup, journal: &Journal, last: Option<&FrameOut>) -> Totals
-    requires { option_copied last ≡ last_item (finished setup.now (history_of journal.now.entries.items)) }
+    requires { option_copied last ≡
+        last_item (finished setup.now (history_of journal.now.entries.items)) }
     ensures { result ≡ totals_of frames setup.now (history_of journal.now.entries.items) }
 {
     let entries = journal.entries.as_slice();
+    let (finishes, presents) = finishes_and_presents(entries);
     Totals {
         load: frames,
         sessions: setup.sessions,
         entries: entries.len(),
-        frames: finishes(entries),
-        presents: presents(entries),
+        frames: finishes,
+        presents,
         items: items_of(last),
     }
 }
@@ -98,7 +95,8 @@ fn summed(
     requires few { length displays.old.items < 2 ^ 32 }
     ensures told { IfOk result (λ text. IsTold (λ d. shown d) (λ d. faults d)
         displays.old.items displays.new.items (Stress frames) (load_text frames) text.items) }
-    ensures kept { AreKept (λ d. shown d) (λ d. faults d) displays.old.items displays.new.items (λ d. d.vtable) }
+    ensures kept { AreKept (λ d. shown d) (λ d. faults d) displays.old.items displays.new.items
+        (λ d. d.vtable) }
 {
     families_are_alone();
     frames_are_seen();
@@ -137,7 +135,8 @@ pub fn stress(
     ensures status { IfOk result (λ answer. answer.status ≡ DONE) }
     ensures told { IfOk result (λ answer. IsTold (λ d. shown d) (λ d. faults d)
         displays.old.items displays.new.items (Stress frames) (load_text frames) answer.text) }
-    ensures kept { AreKept (λ d. shown d) (λ d. faults d) displays.old.items displays.new.items (λ d. d.vtable) }
+    ensures kept { AreKept (λ d. shown d) (λ d. faults d) displays.old.items displays.new.items
+        (λ d. d.vtable) }
 {
     let script = load_script(alloc, frames)?;
     let text = summed(alloc, frames, &script, displays)?;

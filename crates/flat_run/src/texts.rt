@@ -1,3 +1,6 @@
+//! What each form writes of a run: a function by the rows of `IsTextOf` (specs/Forms), of
+//! what `keeping_for` keeps of its frames. No draw item of a frame before the last is kept,
+//! since all texts but a picture hang on lines, rectangles or view trees alone.
 ghost use Rattle.std.specs.Prelude.{◌≡◌, ◌≢◌, true, map, reverse, IfOk};
 ghost use Rattle.flat_play.specs.Playing.{HasPlayed};
 ghost use Rattle.flat_play.specs.Touches.{touch_of};
@@ -51,7 +54,8 @@ fn report_of(alloc: Global, script: &Script, played: Played) -> Result<Pieces, N
     requires played { HasPlayed script.now played.board played.kept played.answers }
     requires probes { ProbesAnswered script.now played.board.history played.probes.items }
     requires keeping { keeping_of played.kept ≡ keeping.Texts }
-    ensures { IfOk result (λ text. text ≡ report script.now played.board.history played.set.lost (frames_seen played.probes.items)) }
+    ensures { IfOk result (λ text. text ≡
+        report script.now played.board.history played.set.lost (frames_seen played.probes.items)) }
 {
     handed_is_report();
     let Played {
@@ -85,7 +89,8 @@ fn last_picture<T: Threads + Sync>(
     requires playable { is_playable script.now ≡ true }
     requires played { HasPlayed script.now played.now.board played.now.kept played.now.answers }
     requires fits { Fits Render script.now.setup }
-    ensures { IfOk result (λ text. text.items ≡ picture_text script.now.setup (finished script.now.setup played.now.board.history)) }
+    ensures { IfOk result (λ text. text.items ≡
+        picture_text script.now.setup (finished script.now.setup played.now.board.history)) }
 {
     items_are_drawable();
     picture_of(rt, alloc, &script.setup, played.kept.last())
@@ -101,7 +106,8 @@ fn finished_of(
     requires played { HasPlayed script.now played.board played.kept played.answers }
     requires keeping { keeping_of played.kept ≡ keeping.Trees }
     ensures lines { IfOk result (λ r. r.0.items ≡ finish_lines (reverse played.board.history)) }
-    ensures frames { IfOk result (λ r. r.1 ≡ map without_items (finished script.now.setup played.board.history)) }
+    ensures frames { IfOk result
+        (λ r. r.1 ≡ map without_items (finished script.now.setup played.board.history)) }
     ensures legal { Legal played.board.setup played.board.history }
 {
     let dones = finish_lines(alloc, played.board.journal().entries.as_slice())?;
@@ -113,7 +119,9 @@ fn finished_of(
 fn focus_of(alloc: Global, reading: &Reading, played: Played) -> Result<Vec<u8>, NoMemory>
     requires played { HasPlayed reading.now.script played.board played.kept played.answers }
     requires keeping { keeping_of played.kept ≡ keeping.Trees }
-    ensures { IfOk result (λ text. text.items ≡ focus_text reading.now.script.sessions (finish_lines (reverse played.board.history)) (finished reading.now.script.setup played.board.history) reading.now.focus) }
+    ensures { IfOk result (λ text. text.items ≡
+        focus_text reading.now.script.sessions (finish_lines (reverse played.board.history))
+        (finished reading.now.script.setup played.board.history) reading.now.focus) }
 {
     views_are_a_tree();
     shown_states_fit();
@@ -140,8 +148,11 @@ fn pointers_of(
     requires runnable { IsRunnable reading.now }
     requires played { HasPlayed reading.now.script played.board played.kept played.answers }
     requires keeping { keeping_of played.kept ≡ keeping.Trees }
-    requires touches { touches.now ≡ map (touch_of reading.now.script.setup played.board.history) reading.now.pointers }
-    ensures { IfOk result (λ text. text.items ≡ pointer_text reading.now.script.sessions (finish_lines (reverse played.board.history)) (finished reading.now.script.setup played.board.history) touches.now) }
+    requires touches { touches.now ≡
+        map (touch_of reading.now.script.setup played.board.history) reading.now.pointers }
+    ensures { IfOk result (λ text. text.items ≡ pointer_text reading.now.script.sessions
+        (finish_lines (reverse played.board.history))
+        (finished reading.now.script.setup played.board.history) touches.now) }
 {
     pointer_laws();
     let script = &reading.script;
@@ -159,7 +170,8 @@ fn pointers_of(
 fn damages_of(script: &Script, played: Played) -> Result<Vec<u8>, NoMemory>
     requires played { HasPlayed script.now played.board played.kept played.answers }
     requires keeping { keeping_of played.kept ≡ keeping.Damages }
-    ensures { IfOk result (λ text. IsDamageText (finished script.now.setup played.board.history) text.items) }
+    ensures { IfOk result
+        (λ text. IsDamageText (finished script.now.setup played.board.history) text.items) }
 {
     played.kept.into_damages().text()
 }
@@ -179,8 +191,10 @@ fn picture_or_lines<T: Threads + Sync>(
     requires runnable { IsRunnable reading.now }
     requires fits { Fits form reading.now.script.setup }
     requires played { HasPlayed reading.now.script played.board played.kept played.answers }
-    requires touches { form ≡ Pointer → touches.now ≡ map (touch_of reading.now.script.setup played.board.history) reading.now.pointers }
-    ensures { IfOk result (λ text. IsTextOf form (ran_of reading.now played.board.history played.set.lost (frames_seen played.probes.items)) text.items) }
+    requires touches { form ≡ Pointer → touches.now ≡
+        map (touch_of reading.now.script.setup played.board.history) reading.now.pointers }
+    ensures { IfOk result (λ text. IsTextOf form (ran_of reading.now played.board.history
+        played.set.lost (frames_seen played.probes.items)) text.items) }
 {
     match form {
         Form::Play | Form::Race | Form::Stress(_) => unreachable!(),
@@ -206,8 +220,10 @@ pub(crate) fn text_of<T: Threads + Sync>(
     requires fits { Fits form reading.now.script.setup }
     requires played { HasPlayed reading.now.script played.board played.kept played.answers }
     requires probes { ProbesAnswered reading.now.script played.board.history played.probes.items }
-    requires touches { form ≡ Pointer → touches.now ≡ map (touch_of reading.now.script.setup played.board.history) reading.now.pointers }
-    ensures { IfOk result (λ text. IsTextOf form (ran_of reading.now played.board.history played.set.lost (frames_seen played.probes.items)) text) }
+    requires touches { form ≡ Pointer → touches.now ≡
+        map (touch_of reading.now.script.setup played.board.history) reading.now.pointers }
+    ensures { IfOk result (λ text. IsTextOf form (ran_of reading.now played.board.history
+        played.set.lost (frames_seen played.probes.items)) text) }
 {
     match form {
         Form::Play | Form::Race => report_of(alloc, &reading.script, played),

@@ -6,11 +6,11 @@ use Rattle.flat_run.proofs.Answering.{reply_same, read_text, long_text}
 use Rattle.flat_play.proofs.lemmas.Seen.{kept_none}
 use Rattle.flat_run.proofs.answers.run_source.Goals as goal
 
-pub returns-in_ok-answer_to-in-Ok-clause-answer : goal.returns-in_ok-answer_to-in-Ok-clause-answer
-returns-in_ok-answer_to-in-Ok-clause-answer g c = λ words calls.
-    let x = c.in_ok-answer_to-in-Ok.field-0 in
+pub returns-in_ok-answer_text-in-Ok-clause-answer : goal.returns-in_ok-answer_text-in-Ok-clause-answer
+returns-in_ok-answer_text-in-Ok-clause-answer g c = λ words calls.
+    let x = c.in_ok-answer_text-in-Ok.field-0 in
     read_text _ _ _ _ words (g.R.Source.left c.args.source.now) (g.R.Source.left c.read_all.new.source) c.args.form c.requires.read calls c.in-Ok.bytes.items c.in-Ok.ensures.whole x.status x.text
-    (reply_same _ _ _ _ c.args.form _ _ x.status x.text c.as_slice.ensures.value c.in_ok-answer_to-in-Ok.ensures.reply)
+    (reply_same _ _ _ _ c.args.form _ _ x.status x.text c.as_slice.ensures.value c.in_ok-answer_text-in-Ok.ensures.reply)
 
 pub returns-in_ok-refusal-in-Err-TooLong-clause-answer : goal.returns-in_ok-refusal-in-Err-TooLong-clause-answer
 returns-in_ok-refusal-in-Err-TooLong-clause-answer g c = λ words calls.

@@ -11,5 +11,5 @@ returns c =
     let journal = c.args.journal.now.entries.items in
     let entries = c.as_slice-entries.ensures.value in
     totals c.args.frames _ _ _ _ _ c.args.setup.now (history_of journal) journal _ refl c.requires refl
-    (ap length entries) (c.finishes.ensures ∙ ap (λ (es : List Entry). count_by (λ (e : Entry). is_finish e.kind) es) entries)
-    (c.presents.ensures ∙ ap (λ (es : List Entry). count_by (λ (e : Entry). is_present e.kind) es) entries) c.items_of.ensures
+    (ap length entries) (c.finishes_and_presents-finishes.ensures.finishes ∙ ap (λ (es : List Entry). count_by (λ (e : Entry). is_finish e.kind) es) entries)
+    (c.finishes_and_presents-finishes.ensures.presents ∙ ap (λ (es : List Entry). count_by (λ (e : Entry). is_present e.kind) es) entries) c.items_of.ensures

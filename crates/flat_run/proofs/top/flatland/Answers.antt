@@ -68,4 +68,4 @@ returns-in-Err-clause-kept g c = kept_none _ _ _ _
 pub returns-in-Ok-clause-unread : goal.returns-in-Ok-clause-unread
 returns-in-Ok-clause-unread g c = λ unread.
     let calls = called_for _ c.in-Ok-Some.field-0 c.in-Ok-Some.form c.in-Ok-Some.field-0-is c.in-Ok-Some.ensures.form in
-    c.answer_to.ensures.unread (unread c.in-Ok-Some.form calls)
+    c.answer_form.ensures.unread (unread c.in-Ok-Some.form calls)

@@ -2,7 +2,7 @@ use Rattle.std.proofs.Common.{subst}
 use Rattle.flat_words.specs.declared.form.Form.{Form}
 use Rattle.flat_words.specs.Forms.{CallFor}
 use Rattle.flat_run.proofs.Answering.{load_told}
-use Rattle.flat_run.proofs.top.answer_to.Goals as goal
+use Rattle.flat_run.proofs.top.answer_form.Goals as goal
 
 pub returns-in_ok-stress-in-Stress-clause-answer : goal.returns-in_ok-stress-in-Stress-clause-answer
 returns-in_ok-stress-in-Stress-clause-answer g c = λ words calls.

@@ -15,7 +15,7 @@ use Rattle.flat_run.specs.Promise.{fault_line}
 use Rattle.flat_run.proofs.Answering.{refused}
 use Rattle.flat_run.proofs.Runnable.{runnable}
 use Rattle.flat_play.proofs.lemmas.Seen.{kept_none}
-use Rattle.flat_run.proofs.answers.answer_to.Goals as goal
+use Rattle.flat_run.proofs.answers.answer_text.Goals as goal
 
 refused_result : {D E : Type 0} (shown : D → Option (List FrameOut)) (faults : D → ℕ) (ds : List D) (form : Form) (bytes : List ℕ) (fault : ScriptFault) → form_read form bytes ≡ Err fault → (r : Result Answer E) → IfOk r (λ a. a.status ≡ 3) → IfOk r (λ a. a.text ≡ fault_line fault)
     → IfOk r (λ a. IsReply shown faults ds ds form bytes a.status a.text)
