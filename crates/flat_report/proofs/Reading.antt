@@ -10,6 +10,7 @@ use Rattle.flat_base.specs.declared.ids.Actor.TheVariants.{Display, Session, Pro
 use Rattle.flat_scene.specs.declared.script.Body.{Body}
 use Rattle.flat_scene.specs.declared.script.Body.TheVariants as body
 use Rattle.flat_scene.specs.declared.script.ScriptLine.{ScriptLine}
+use Rattle.flat_places.specs.declared.kinds.FaultKind.TheVariants.{TooLong, NotAscii, LongLine, BadOrder}
 use Rattle.flat_places.specs.declared.script.Script.{Script}
 use Rattle.flat_script.specs.declared.script.ScriptFault.{ScriptFault}
 use Rattle.flat_forms.specs.declared.lines.Part.TheVariants as part
@@ -189,7 +190,7 @@ words-kept n (part.Body, u) next ws is kept =
     kept-at (n + 1) m.a next.1 (ap (λ (v : Sofar). v.1) m.value) (body-kept n u ws m.a m.given kept)
 
 line-by : (n : ℕ) (sofar next : Sofar) (ws : List Word) (p q r : Bool) → Kept n sofar.1
-    → cond {A = Reading Sofar} (not p) (Err 2) (cond {A = Reading Sofar} q (Err 3) (cond {A = Reading Sofar} r (Ok sofar) (words_read known_words n sofar ws))) ≡ Ok next → Kept (n + 1) next.1
+    → cond {A = Reading Sofar} (not p) (Err NotAscii) (cond {A = Reading Sofar} q (Err LongLine) (cond {A = Reading Sofar} r (Ok sofar) (words_read known_words n sofar ws))) ≡ Ok next → Kept (n + 1) next.1
 line-by n sofar next ws false q r kept is = absurd (cc)
 line-by n sofar next ws true true r kept is = absurd (cc)
 line-by n sofar next ws true false true kept is = let same : sofar ≡ next = cc in kept-at (n + 1) sofar.1 next.1 (ap (λ (v : Sofar). v.1) same) (kept-on n sofar.1 kept)
@@ -202,7 +203,7 @@ end-kept n (part.Start, u) s is kept = absurd (cc)
 end-kept n (part.Head, u) s is kept = absurd (cc)
 end-kept n (part.Body, u) s is kept = by_test (is_open u) is
   where
-    by_test : (b : Bool) → cond {A = Result Script ScriptFault} b (Err (record { line = n; kind = 12 })) (Ok (record u { count = n - 1 })) ≡ Ok s → Kept n s
+    by_test : (b : Bool) → cond {A = Result Script ScriptFault} b (Err (record { line = n; kind = BadOrder })) (Ok (record u { count = n - 1 })) ≡ Ok s → Kept n s
     by_test true is = absurd (cc)
     by_test false is =
         let same : record u { count = n - 1 } ≡ s = cc in
@@ -252,7 +253,7 @@ pub read-kept : (bytes : List ℕ) (s : Script) → IsScript bytes s → Kept (2
 read-kept bytes s is = by_size (nat_lt (16 * 1024 * 1024) (length bytes)) _ refl (lines_room-lines_of bytes) is
   where
     by_size : (b : Bool) (ls : List (List ℕ)) → nat_lt (16 * 1024 * 1024) (length bytes) ≡ b → lines_room ls ≤ length bytes + 1
-        → cond {A = Result Script ScriptFault} b (Err (record { line = 0; kind = 1 })) (lines_read known_words 1 (part.Start, empty) ls) ≡ Ok s → Kept (2 ^ 32) s
+        → cond {A = Result Script ScriptFault} b (Err (record { line = 0; kind = TooLong })) (lines_read known_words 1 (part.Start, empty) ls) ≡ Ok s → Kept (2 ^ 32) s
     by_size true ls at room is = absurd (cc)
     by_size false ls at room is =
         let small : length bytes ≤ 16777216 = grind (arith, nat_tests) in
