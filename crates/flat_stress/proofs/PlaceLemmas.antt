@@ -8,6 +8,7 @@ use Rattle.flat_scene.specs.declared.calls.Call.TheVariants as call
 use Rattle.flat_scene.specs.declared.script.Line.TheVariants as line
 use Rattle.flat_text.specs.Number.{natural, signed}
 use Rattle.flat_text.proofs.lemmas.NumberLemmas.{natural-decimal, signed-signed_decimal}
+use Rattle.flat_places.specs.declared.kinds.FaultKind.TheVariants.{BadNumber}
 use Rattle.flat_places.specs.declared.script.Script.{Script}
 use Rattle.flat_places.specs.Known.{known_words}
 use Rattle.flat_places.specs.Forms.{or_kind}
@@ -67,13 +68,13 @@ viewport_read i low high = by_session Shows (λ wrong. absurd (omega arith)) (λ
 
 -- the numbers
 
-number_read : (most n : ℕ) → n < most → most ≤ 10 ^ 20 → or_kind 7 (option_and_then (λ k. if nat_lt k most then Some k else None) (natural (decimal n))) ≡ Ok n
+number_read : (most n : ℕ) → n < most → most ≤ 10 ^ 20 → or_kind BadNumber (option_and_then (λ k. if nat_lt k most then Some k else None) (natural (decimal n))) ≡ Ok n
 number_read most n small fits =
     let is = natural-decimal n (omega arith) in
     let within : nat_lt n most ≡ true = grind (arith, nat_tests) in
     rw (is, within) refl
 
-signed_read : (n : ℕ) → n < 2 ^ 31 → or_kind 7 (option_and_then (λ k. if fits_i32 k then Some k else None) (signed (decimal n))) ≡ Ok (pos n)
+signed_read : (n : ℕ) → n < 2 ^ 31 → or_kind BadNumber (option_and_then (λ k. if fits_i32 k then Some k else None) (signed (decimal n))) ≡ Ok (pos n)
 signed_read n small =
     let is = signed-signed_decimal (pos n) (omega arith) in
     let within : nat_lt n (2 ^ 31) ≡ true = grind (arith, nat_tests) in
