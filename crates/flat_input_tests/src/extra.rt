@@ -59,7 +59,10 @@ fn joined(alloc: Global, rest: &str) -> Result<Vec<u8>, AllocError> {
 fn outcome(lines: Result<usize, ScriptError>) -> Option<(usize, usize)> {
     match lines {
         Ok(count) => Some((0, count)),
-        Err(ScriptError::Fault(ScriptFault { line, kind })) => Some((line as usize, kind as usize)),
+        Err(ScriptError::Fault(ScriptFault { line, kind })) => Some((
+            line as usize,
+            kind.number() as usize,
+        )),
         Err(ScriptError::Memory) => None,
     }
 }

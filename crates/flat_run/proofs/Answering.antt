@@ -18,6 +18,7 @@ use Rattle.flat_run.specs.declared.reading.Reading.{Reading}
 use Rattle.flat_run.specs.Answering.{IsReply}
 use Rattle.flat_run.specs.Forms.{is_read, form_read, Fits}
 use Rattle.flat_run.specs.Promise.{fault_line, CallForNothing, AreTextOf, AreGiven, AreAll, AreTooMany, Refuses, IsRefused, IsTooLarge, Tells, IsTold, IsAnswer, IsWhole, IsCutOff, Gives, IsThere, IsThereTooLarge}
+use Rattle.flat_places.specs.declared.kinds.FaultKind.TheVariants.{TooLong}
 
 -- the form that was found is that of the words
 pub called_for : (words : List (List ℕ)) (found : Option Form) (form : Form) → found ≡ Some form → IfSome found (λ f. CallFor words f) → CallFor words form
@@ -34,7 +35,7 @@ none_called words answer is only form calls =
 is_long : (bytes : List ℕ) → SCRIPT_BYTES_MAX < length bytes → nat_lt SCRIPT_BYTES_MAX (length bytes) ≡ true
 is_long bytes long = lt-ltb SCRIPT_BYTES_MAX (length bytes) long
 
-too_long : (form : Form) (bytes : List ℕ) → SCRIPT_BYTES_MAX < length bytes → form_read form bytes ≡ Err (record { line = 0; kind = 1 })
+too_long : (form : Form) (bytes : List ℕ) → SCRIPT_BYTES_MAX < length bytes → form_read form bytes ≡ Err (record { line = 0; kind = TooLong })
 too_long Play bytes long = rw (is_long bytes long) refl
 too_long Race bytes long = rw (is_long bytes long) refl
 too_long (Stress asked) bytes long = rw (is_long bytes long) refl
@@ -202,12 +203,12 @@ module _ {D : Type 0} (shown : D → Option (List FrameOut)) (faults : D → ℕ
     read_text form read calls bytes it status text (IsReply.refusal refuses same) = IsAnswer.refusal form calls read (record { bytes = bytes; given = inl (all_read left left' bytes it); refuses = refuses }) same
 
     -- more bytes than a script may have
-    pub long_text : (form : Form) → is_read form ≡ true → CallFor words form → Given left left' (λ given after. SCRIPT_BYTES_MAX < length given) → (status : ℕ) (text : List ℕ) → status ≡ 3 → text ≡ fault_line (record { line = 0; kind = 1 }) → news ≡ olds
+    pub long_text : (form : Form) → is_read form ≡ true → CallFor words form → Given left left' (λ given after. SCRIPT_BYTES_MAX < length given) → (status : ℕ) (text : List ℕ) → status ≡ 3 → text ≡ fault_line (record { line = 0; kind = TooLong }) → news ≡ olds
         → IsAnswer shown faults olds news words left left' status text
     long_text form read calls it status text is_3 is same =
         let many = too_many left left' it in
         subst (λ n. IsAnswer shown faults olds news words left left' n text) (sym is_3)
-        (IsAnswer.refusal form calls read (record { bytes = many.0; given = inr many.1; refuses = record { fault = record { line = 0; kind = 1 }; read = too_long form many.0 many.1.0; is = is } }) same)
+        (IsAnswer.refusal form calls read (record { bytes = many.0; given = inr many.1; refuses = record { fault = record { line = 0; kind = TooLong }; read = too_long form many.0 many.1.0; is = is } }) same)
 
     -- a load
     pub load_told : (asked status : ℕ) (text : List ℕ) → CallFor words (Stress asked) → status ≡ 0 → IsTold shown faults olds news (Stress asked) (load_text asked) text → IsAnswer shown faults olds news words left left' status text

@@ -24,6 +24,7 @@ use Rattle.flat_render.specs.declared.grid.TheConstants.{PIXELS_MAX}
 use Rattle.flat_scene.specs.declared.setup.Setup.{Setup}
 use Rattle.flat_run.specs.declared.reading.Reading.{Reading}
 use Rattle.flat_run.specs.Forms.{is_read, form_read, Fits, Ran, AreAsked, IsTextOf}
+use Rattle.flat_places.specs.Kinds.{number}
 
 -- ---- the words
 
@@ -56,7 +57,7 @@ AreTextOf _ left left' bytes = AreAll bytes left left'
 
 -- what is written of a script with a fault
 abbrev pub fault_line : ScriptFault → List ℕ
-fault_line fault = codes "script line " ++ decimal fault.line ++ codes " kind " ++ decimal fault.kind ++ 10 ∷ []
+fault_line fault = codes "script line " ++ decimal fault.line ++ codes " kind " ++ decimal (number fault.kind) ++ 10 ∷ []
 
 -- A form can't read these bytes, and the text says where and why.
 pub record Refuses (form : Form) (bytes text : List ℕ) : Type 0 where

@@ -21,7 +21,7 @@ use flat_base::{NoMemory, SCRIPT_BYTES_MAX};
 use flat_display::Display;
 use flat_extra::{extra_laws, pointers_rise, rests_are_read};
 use flat_io::{ReadAll, Source, read_all};
-use flat_places::Script;
+use flat_places::{FaultKind, Script};
 use flat_play::{Played, play_script, play_touched};
 use flat_playable::scripts_are_playable;
 use flat_pointer::Touch;
@@ -85,7 +85,7 @@ fn fault_text(alloc: Global, fault: ScriptFault) -> Result<Vec<u8>, NoMemory>
     text.extend_from_slice(b"script line ")?;
     text.extend_from_slice(line.format(fault.line).as_bytes())?;
     text.extend_from_slice(b" kind ")?;
-    text.extend_from_slice(kind.format(fault.kind).as_bytes())?;
+    text.extend_from_slice(kind.format(fault.kind.number()).as_bytes())?;
     text.extend_from_slice(b"\n")?;
     Ok(text)
 }
@@ -269,7 +269,13 @@ pub fn run_source<T: Threads + Wait + Sync, R: Source, G: Gate>(
 {
     match read_all(alloc, source, SCRIPT_BYTES_MAX) {
         Ok(bytes) => Ok(answer_to(rt, alloc, form, bytes.as_slice(), displays, gate)?),
-        Err(ReadAll::TooLong) => Ok(refusal(alloc, ScriptFault { line: 0, kind: 1 })?),
+        Err(ReadAll::TooLong) => Ok(refusal(
+            alloc,
+            ScriptFault {
+                line: 0,
+                kind: FaultKind::TooLong,
+            },
+        )?),
         Err(ReadAll::Fault) => Err(Unanswered::Fault),
         Err(ReadAll::Memory) => Err(Unanswered::Memory),
     }

@@ -475,7 +475,7 @@ const PROBES: [(&str, u32, u32); 13] = [
 fn outcome(answer: Result<Script, ScriptError>) -> Option<(u32, u32)> {
     match answer {
         Ok(script) => Some((0, script.count)),
-        Err(ScriptError::Fault(fault)) => Some((fault.line, fault.kind)),
+        Err(ScriptError::Fault(fault)) => Some((fault.line, fault.kind.number())),
         Err(ScriptError::Memory) => None,
     }
 }
