@@ -1,6 +1,7 @@
 use Rattle.std.proofs.Common.{Result, Ok, Err, IfOk, List, ℕ, ◌≡◌, Option, refl, subst}
 use Rattle.flat_scene.specs.declared.frames.FrameOut.{FrameOut}
 use Rattle.flat_script.specs.declared.script.ScriptFault.{ScriptFault}
+use Rattle.flat_places.specs.declared.kinds.FaultKind.TheVariants.{TooLong}
 use borrow.Enum.Total.{values_d}
 use Rattle.flat_script.specs.contracts.script.ScriptError as the_error
 use Rattle.flat_script.specs.declared.script.ScriptError.{ScriptError}
@@ -35,7 +36,7 @@ returns-in-Err-Fault-clause-reply g c =
     let whole = c.in-Err-Fault.is in
     let why = c.in-Err-Fault.field-0-is in
     let is : c.in-Err-Fault.field-0 ≡ error.Fault c.in-Err-Fault.fault = cc in
-    let V : ScriptError → Type 0 = λ e. IfOk c.refusal.result (λ a. a.text ≡ fault_line (values_d the_error.enum 0 (record { line = 0; kind = 0 }, tt {0}) e).0) in
+    let V : ScriptError → Type 0 = λ e. IfOk c.refusal.result (λ a. a.text ≡ fault_line (values_d the_error.enum 0 (record { line = 0; kind = TooLong }, tt {0}) e).0) in
     refused_result _ _ _ c.args.form c.args.bytes.now c.in-Err-Fault.fault (subst (λ e. Reads {A = Reading} (Err e) (form_read c.args.form c.args.bytes.now)) is c.in-Err-Fault.ensures) c.refusal.result c.refusal.ensures.status (subst V is c.refusal.ensures.text)
 
 pub returns-in-Err-Fault-clause-kept : goal.returns-in-Err-Fault-clause-kept
