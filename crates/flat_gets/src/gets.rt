@@ -10,7 +10,7 @@ ghost use Rattle.flat_gets.specs.Gets.{still_held, answers_to, noted_one};
 ghost use Rattle.flat_gets.specs.Gets.{unanswered, Changes, Answers, Settles, Asks};
 ghost use Rattle.flat_rules.specs.Watch.{layout_of, status_of, child_of, told, same_watcher};
 
-mod answered;
+mod last_answers;
 
 use flat_base::{FlatlandError, NoMemory, PairNo, SessionNo};
 use flat_scene::{Event, Post, Reply, Told, Watch};
