@@ -62,7 +62,8 @@ fn first_hits(
     y: i64,
 ) -> Result<HitList, NoMemory>
     requires { places.now ≡ region_places nodes.now }
-    ensures { IfOk result (λ hits. hits ≡ first_of_each (filter_map (hit_on x y) (reverse nodes.now))) }
+    ensures { IfOk result (λ hits. hits
+        ≡ first_of_each (filter_map (hit_on x y) (reverse nodes.now))) }
 {
     let mut hits = Items::new(alloc);
     for before in 0..places.len() {

@@ -17,24 +17,24 @@ use Rattle.flat_core.specs.Machines.{Machine, HasShare, entered, entry_of, made}
 use Rattle.flat_report.specs.Handed.{answers_of}
 use Rattle.flat_report.specs.Report.{finished}
 use Rattle.flat_places.specs.declared.script.Script.{Script}
-use Rattle.flat_play.specs.declared.game.Game.{Game}
+use Rattle.flat_play.specs.declared.play.Play.{Play}
 use Rattle.flat_stage.specs.declared.reader.Reader.{Reader}
 use Rattle.flat_stage.specs.Readings.{EndsAreRead, HasRead, Rise}
 use Rattle.flat_stage.specs.Reads.{Stands}
 use Rattle.flat_playable.specs.Playable.{is_playable}
 use Rattle.flat_play.specs.Keeping.{Keeps}
-use Rattle.flat_play.proofs.lemmas.GameSteps.{keeps_same}
-use Rattle.flat_play.specs.Playing.{lines_by, ReaderStands, DisplayStands, GameStands, HasEnds, EndsStand, HasPlayed}
+use Rattle.flat_play.proofs.lemmas.PlaySteps.{keeps_same}
+use Rattle.flat_play.specs.Playing.{lines_by, ReaderStands, DisplayStands, PlayStands, HasEnds, EndsStand, HasPlayed}
 use Rattle.flat_play.proofs.lemmas.Places.{all_to, drop_all, rises}
 use Rattle.flat_play.proofs.lemmas.Readers.{on_board, session_rise}
-use Rattle.flat_play.proofs.lemmas.GameSteps.{has_room, not_same}
+use Rattle.flat_play.proofs.lemmas.PlaySteps.{has_room, not_same}
 use Rattle.flat_play.proofs.lemmas.Starting.{sessions_more}
 
 -- ---- behind the last line
 
 -- all lines are played, and no session has ended
-pub ends_first : (script : Script) (game : Game) → GameStands script (length script.lines) game → EndsStand script 0 game
-ends_first script game stands = record {
+pub ends_first : (script : Script) (play : Play) → PlayStands script (length script.lines) play → EndsStand script 0 play
+ends_first script play stands = record {
   setup = stands.setup;
   shares = stands.shares;
   count = stands.readers.count;
@@ -42,9 +42,9 @@ ends_first script game stands = record {
   waiting = λ k d from within. stands.readers.each k d within;
   display = stands.display;
   has_ends = record {
-    rising = reverse game.board.history;
+    rising = reverse play.board.history;
     ends = [];
-    parts = sym (append-nil (reverse game.board.history));
+    parts = sym (append-nil (reverse play.board.history));
     rise = stands.order.rise;
     no_end = stands.order.no_ends;
     in_order = refl;
@@ -67,7 +67,7 @@ module _ (ends_are_read : EndsAreRead) (script : Script) (playable : is_playable
   abbrev s : SessionNo
   s = record { 0 = before + 1 }
 
-  module _ (old : Game) (stands : EndsStand script before old) (reader : Reader) (mine : ReaderStands script s (length script.lines) old.board.history reader) where
+  module _ (old : Play) (stands : EndsStand script before old) (reader : Reader) (mine : ReaderStands script s (length script.lines) old.board.history reader) where
     share : HasShare old.board (Session s)
     share = has_room script old.board (before + 1) (omega arith) (omega arith) stands.shares (stands.unspent before (omega arith))
 
@@ -129,7 +129,7 @@ module _ (ends_are_read : EndsAreRead) (script : Script) (playable : is_playable
         let was : made (k + 1) old.board.history ≤ lines_by (k + 1) script.lines = stands.unspent k (omega arith) in
         omega (arith, more, none, was)
 
-    pub ends_more : (new : Game) (changed : Reader) → new.board ≡ entered old.board (Session reader.session) (script.count + 1) reader.pending (End reader.refused) Done
+    pub ends_more : (new : Play) (changed : Reader) → new.board ≡ entered old.board (Session reader.session) (script.count + 1) reader.pending (End reader.refused) Done
         → new.readers.items ≡ set old.readers.items before changed → new.kept ≡ old.kept → new.answers ≡ old.answers → EndsStand script (before + 1) new
     ends_more new changed board readers same_kept same_answers =
         let h : List Entry = old.board.history in
@@ -164,9 +164,9 @@ module _ (ends_are_read : EndsAreRead) (script : Script) (playable : is_playable
 
 -- ---- all sessions have ended
 
-pub has_played : (script : Script) (game : Game) → EndsStand script script.setup.sessions game → HasPlayed script game.board game.kept game.answers
-has_played script game stands =
-    let h : List Entry = game.board.history in
+pub has_played : (script : Script) (play : Play) → EndsStand script script.setup.sessions play → HasPlayed script play.board play.kept play.answers
+has_played script play stands =
+    let h : List Entry = play.board.history in
     record {
       setup = stands.setup;
       interleaves = record {
@@ -178,7 +178,7 @@ has_played script game stands =
       answering = stands.answering;
     }
 
-pub is_written : (script : Script) (game : Game) → EndsStand script script.setup.sessions game → IsWritten script.setup game.board.history
-is_written script game stands =
+pub is_written : (script : Script) (play : Play) → EndsStand script script.setup.sessions play → IsWritten script.setup play.board.history
+is_written script play stands =
     let ends = stands.has_ends in
     record { rising = ends.rising; ends = ends.ends; parts = ends.parts; rise = ends.rise; no_end = ends.no_end; in_order = ends.in_order }

@@ -24,9 +24,10 @@ use Rattle.flat_report.specs.Probes.{frame_seen, frames_seen}
 use Rattle.flat_report.specs.Report.{is_probe, numbers_from, probe_lines_of}
 use Rattle.flat_play.specs.Probing.{SeeInTurn, answer_of, answers_after, asked_of, frames_then, seen_in_turn, with_answer}
 use Rattle.flat_play.specs.Touches.{GoesOnAt, GoesOnByEnds, enters, frames_before, stays}
-use Rattle.flat_play.proofs.Probed.{got-other, got-same, no-answer, own-one, own-same}
+use Rattle.flat_play.proofs.lemmas.Slots.{got-other, got-same}
+use Rattle.flat_play.proofs.Probed.{no-answer, own-one, own-same}
 use Rattle.flat_play.proofs.Touching.{all-before, no-finish}
-use Rattle.flat_play.proofs.lemmas.GameSteps.{IsAsked, is_asked}
+use Rattle.flat_play.proofs.lemmas.PlaySteps.{IsAsked, is_asked}
 use Rattle.flat_play.proofs.lemmas.Steps.{At}
 
 -- ---- lines before others
@@ -99,11 +100,11 @@ module _ (script : Script) (place : ℕ) (x : ScriptLine) (at : At script place 
     frame-then = number_is ∙ sym (all-before last x.number below history early)
 
     asked-turn : (p : ℕ) (asked : ProbeLine) (answers : List (List ProbeAnswer)) → x.actor ≡ Probe p → p < length answers → SeeInTurn (take place script.lines) history answers
-        → SeeInTurn (take (place + 1) script.lines) history (with_answer p (answer_of script.setup shown frame x.number p asked) answers)
+        → SeeInTurn (take (place + 1) script.lines) history (with_answer p (answer_of script.setup shown frame (Probe p) x.number asked) answers)
     asked-turn p asked answers who within was = λ n one got. by n one got (p == n) refl
       where
         new : ProbeAnswer
-        new = answer_of script.setup shown frame x.number p asked
+        new = answer_of script.setup shown frame (Probe p) x.number asked
 
         by : (n : ℕ) (one : List ProbeAnswer) → slice_get (with_answer p new answers) n ≡ Some one → (b : Bool) → (p == n) ≡ b → map frame_seen one ≡ frames_then history (probe_lines_of n (take (place + 1) script.lines))
         by n one got true is =

@@ -25,29 +25,10 @@ use Rattle.flat_report.proofs.lemmas.ProbeSteps.{none-answered, last-answer-more
 use Rattle.flat_report.specs.Report.{begin_of, hits_at, is_probe, probe_lines_of}
 use Rattle.flat_play.specs.Probing.{ProbesStand, script_to, asked_of, answer_of, answers_after, with_answer}
 use Rattle.flat_play.specs.Touches.{GoesOnAt, stays, enters, GoesOnByEnds}
-use Rattle.flat_play.proofs.lemmas.GameSteps.{IsAsked, is_asked}
+use Rattle.flat_play.proofs.lemmas.PlaySteps.{IsAsked, is_asked}
 use Rattle.flat_play.proofs.lemmas.Seen.{last-begin}
+use Rattle.flat_play.proofs.lemmas.Slots.{got-other, got-same, set-length}
 use Rattle.flat_play.proofs.lemmas.Steps.{At}
-
--- ---- lists
-
-module _ {X : Type 0} where
-  pub got-same : (xs : List X) (n : ℕ) (x : X) → n < length xs → slice_get (slice_set xs n x) n ≡ Some x
-  got-same [] n x less = absurd (omega arith)
-  got-same (y ∷ ys) zero x less = refl
-  got-same (y ∷ ys) (suc n) x less = got-same ys n x (omega arith)
-
-  pub got-other : (xs : List X) (n m : ℕ) (x : X) → (m ≡ n → ⊥) → slice_get (slice_set xs n x) m ≡ slice_get xs m
-  got-other [] n m x other = refl
-  got-other (y ∷ ys) zero zero x other = absurd (other refl)
-  got-other (y ∷ ys) zero (suc m) x other = refl
-  got-other (y ∷ ys) (suc n) zero x other = refl
-  got-other (y ∷ ys) (suc n) (suc m) x other = got-other ys n m x (λ e. other (ap suc e))
-
-  set-length : (xs : List X) (n : ℕ) (x : X) → length (slice_set xs n x) ≡ length xs
-  set-length [] n x = refl
-  set-length (y ∷ ys) zero x = refl
-  set-length (y ∷ ys) (suc n) x = ap suc (set-length ys n x)
 
 -- ---- the answers of one probe
 
@@ -122,20 +103,20 @@ module _ (script : Script) (place : ℕ) (x : ScriptLine) (at : At script place 
     hits-last : hits_in_frame script.setup history frame ≡ hit_list script.setup shown
     hits-last = ap (hits_in_frame script.setup history) number_is ∙ ap (hits_at script.setup) (last-begin history) ∙ ap (hit_list script.setup) (sym shows)
 
-    answer-is : (p : ℕ) (asked : ProbeLine) → x.actor ≡ Probe p → x.body ≡ body.Probe asked → answer_of script.setup shown frame x.number p asked ≡ answer_by (hits_in_frame script.setup history) (x, frame)
+    answer-is : (p : ℕ) (asked : ProbeLine) → x.actor ≡ Probe p → x.body ≡ body.Probe asked → answer_of script.setup shown frame (Probe p) x.number asked ≡ answer_by (hits_in_frame script.setup history) (x, frame)
     answer-is p asked who what =
         λ i. record { actor = sym who i; line = x.number; asked = asked_by (sym what i); frame = record { 0 = frame }; hits = asked_hits (sym hits-last i) (asked_by (sym what i)) }
 
     -- a probe's line
     asked-more : (p : ℕ) (asked : ProbeLine) (answers : List (List ProbeAnswer)) → x.actor ≡ Probe p → x.body ≡ body.Probe asked → p < length answers → ProbesStand script place history answers
-        → ProbesStand script (place + 1) history (with_answer p (answer_of script.setup shown frame x.number p asked) answers)
+        → ProbesStand script (place + 1) history (with_answer p (answer_of script.setup shown frame (Probe p) x.number asked) answers)
     asked-more p asked answers who what within was = record {
       count = set-length answers p (slice_index_or answers p [] ++ new ∷ []) ∙ was.count;
       each = λ n one got. by n one got (p == n) refl;
     }
       where
         new : ProbeAnswer
-        new = answer_of script.setup shown frame x.number p asked
+        new = answer_of script.setup shown frame (Probe p) x.number asked
 
         Own : ℕ → List ScriptLine → List ProbeAnswer → Type 0
         Own n lines one = AreAnsweredBy (hits_in_frame script.setup history) (frames history) lines one

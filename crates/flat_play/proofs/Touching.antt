@@ -17,6 +17,7 @@ use Rattle.flat_scene.specs.History.{◌▹◌, is_end, is_finish}
 use Rattle.flat_rules.specs.Ends.{to_begin, to_finished}
 use Rattle.flat_rules.specs.Legal.{frames}
 use Rattle.flat_rules.specs.Shown.{shown_states}
+use Rattle.flat_report.proofs.lemmas.ProbeSteps.{begin-stays}
 use Rattle.flat_report.specs.Report.{begin_of, hits_at}
 use Rattle.flat_topology.specs.Hits.{hit_list}
 use Rattle.flat_topology.specs.Shown.{Shown}
@@ -79,16 +80,6 @@ all-before last n less (before ▹ entry) early =
     by true finish less_is same = rw (finish, less_is) (omega (arith, same))
     by false finish less_is same = rw finish (omega (arith, same))
 
--- an earlier frame has the begin that it had
-same-begin : (n : ℕ) (before : List Entry) (entry : Entry) → n ≤ frames before → begin_of n (before ▹ entry) ≡ begin_of n before
-same-begin n before entry few =
-    let other : (suc (frames before) == n) ≡ false = grind (arith, nat_tests) in
-    by (is_finish entry.kind) refl other
-  where
-    by : (b : Bool) → is_finish entry.kind ≡ b → (suc (frames before) == n) ≡ false → begin_of n (before ▹ entry) ≡ begin_of n before
-    by true is other = rw (is, other) refl
-    by false is other = rw is refl
-
 -- ---- whom a line hits
 
 module _ (setup : Setup) where
@@ -111,7 +102,7 @@ module _ (setup : Setup) where
   touched-entry before entry line late =
       let same : frames_before line.number (before ▹ entry) ≡ frames_before line.number before = ap (λ b. cond b 1 0 + frames_before line.number before) late ∙ zero-add (frames_before line.number before) in
       let begun : begin_of (frames_before line.number (before ▹ entry)) (before ▹ entry) ≡ begin_of (frames_before line.number before) before =
-      ap (λ n. begin_of n (before ▹ entry)) same ∙ same-begin (frames_before line.number before) before entry (few-before line.number before) in
+      ap (λ n. begin_of n (before ▹ entry)) same ∙ begin-stays (frames_before line.number before) before entry (few-before line.number before) in
       λ i. record { line = line; hits = call_hits setup (begun i) line.call }
 
   touched-on : (number : ℕ) (old new : List Entry) → GoesOnAt number old new → (line : PointerLine) → nat_le line.number number ≡ true → touch_of setup old line ≡ touch_of setup new line

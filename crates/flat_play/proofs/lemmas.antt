@@ -2,10 +2,12 @@
 pub mod DisplaySteps
 pub mod FewViews
 pub mod FramesShown
-pub mod GameSteps
+pub mod Joining
 pub mod Places
+pub mod PlaySteps
 pub mod Readers
 pub mod Seen
+pub mod Slots
 pub mod Starting
 pub mod Steps
 pub mod Unread

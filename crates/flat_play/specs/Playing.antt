@@ -35,7 +35,7 @@ use Rattle.flat_places.specs.declared.script.Script.{Script}
 use Rattle.flat_stage.specs.declared.reader.Reader.{Reader}
 use Rattle.flat_stage.specs.Readings.{HasRead}
 use Rattle.flat_stage.specs.Reads.{IsNew, Stands}
-use Rattle.flat_play.specs.declared.game.Game.{Game}
+use Rattle.flat_play.specs.declared.play.Play.{Play}
 use Rattle.flat_play.specs.declared.frame.LastFrame.{LastFrame}
 use Rattle.flat_play.specs.declared.kept.Kept.{Kept}
 use Rattle.flat_play.specs.Keeping.{Keeps, KeepsMore}
@@ -111,23 +111,23 @@ pub record ReadersStand (script : Script) (place : ℕ) (history : List Entry) (
   pub each : (k : ℕ) (d : Reader) → k < length readers → ReaderStands script (record { 0 = k + 1 }) place history (slice_index_or readers k d)
 
 -- The whole run stands at a place.
-pub record GameStands (script : Script) (place : ℕ) (game : Game) : Type 0 where
-  pub setup : game.board.setup ≡ script.setup
-  pub shares : game.board.shares ≡ shares_of script
-  pub readers : ReadersStand script place game.board.history game.readers.items
-  pub display : DisplayStands script place game.board.history
-  pub order : IsInOrder script place game.board.history
-  pub spent : IsSpent script place game.board.history
-  pub views : HasViews script.setup game.with_view
-  pub shows : FramesStand script.setup game.board.history game.shown game.with_view
-  pub keeps : Keeps script game.kept (finished script.setup game.board.history)
-  pub same : AreSame game.changed game.last.reuse game.shown
-  pub answers : AnswersStand script.setup game.board.history game.last game.answers
+pub record PlayStands (script : Script) (place : ℕ) (play : Play) : Type 0 where
+  pub setup : play.board.setup ≡ script.setup
+  pub shares : play.board.shares ≡ shares_of script
+  pub readers : ReadersStand script place play.board.history play.readers.items
+  pub display : DisplayStands script place play.board.history
+  pub order : IsInOrder script place play.board.history
+  pub spent : IsSpent script place play.board.history
+  pub views : HasViews script.setup play.with_view
+  pub shows : FramesStand script.setup play.board.history play.shown play.with_view
+  pub keeps : Keeps script play.kept (finished script.setup play.board.history)
+  pub same : AreSame play.changed play.last.reuse play.shown
+  pub answers : AnswersStand script.setup play.board.history play.last play.answers
 
 -- ---- what the display does to a run
 
 -- A frame begins: it shows what the sessions show from then on.
-pub record BeginsFrame (old new : Game) (number time : ℕ) : Type 0 where
+pub record BeginsFrame (old new : Play) (number time : ℕ) : Type 0 where
   pub board : new.board ≡ entered old.board Display number [] (Begin time) Done
   pub shown : new.shown ≡ shown_states new.board.setup new.board.history
   pub changed : AreSame new.changed old.shown new.shown
@@ -139,7 +139,7 @@ pub record BeginsFrame (old new : Game) (number time : ℕ) : Type 0 where
   pub answers : new.answers ≡ old.answers
 
 -- A frame is finished, and kept.
-pub record FinishesFrame (script : Script) (old new : Game) (number : ℕ) : Type 0 where
+pub record FinishesFrame (script : Script) (old new : Play) (number : ℕ) : Type 0 where
   pub board : new.board ≡ entered old.board Display number [] Finish Done
   pub shown : new.shown ≡ old.shown
   pub with_view : new.with_view ≡ old.with_view
@@ -151,7 +151,7 @@ pub record FinishesFrame (script : Script) (old new : Game) (number : ℕ) : Typ
   pub answers : new.answers ≡ old.answers
 
 -- The display makes an entry that begins no frame and ends none.
-pub record EntersBeside (old new : Game) (number : ℕ) (kind : Kind) (reply : Reply) : Type 0 where
+pub record EntersBeside (old new : Play) (number : ℕ) (kind : Kind) (reply : Reply) : Type 0 where
   pub board : new.board ≡ entered old.board Display number [] kind reply
   pub shown : new.shown ≡ old.shown
   pub changed : new.changed ≡ old.changed
@@ -161,8 +161,12 @@ pub record EntersBeside (old new : Game) (number : ℕ) (kind : Kind) (reply : R
   pub last : new.last ≡ old.last
   pub answers : new.answers ≡ old.answers
 
+-- the answer to a point that the display asks for, by the last finished frame
+abbrev pub point_answer : Setup → LastFrame → ℕ → ℤ → ℤ → HitAnswer
+point_answer setup last number x y = record { actor = Display; line = number; frame = last.frame; hits = hit_list setup last.reuse x y }
+
 -- The display asks for a point, and is answered by the last finished frame.
-pub record AsksPoint (old new : Game) (number : ℕ) (x y : ℤ) : Type 0 where
+pub record AsksPoint (old new : Play) (number : ℕ) (x y : ℤ) : Type 0 where
   pub board : new.board ≡ entered old.board Display number [] (Hit x y) Done
   pub shown : new.shown ≡ old.shown
   pub changed : new.changed ≡ old.changed
@@ -170,7 +174,7 @@ pub record AsksPoint (old new : Game) (number : ℕ) (x y : ℤ) : Type 0 where
   pub readers : new.readers ≡ old.readers
   pub kept : new.kept ≡ old.kept
   pub last : StaysLast old.board.setup old.last new.last
-  pub answers : new.answers ≡ old.answers ++ (record { actor = Display; line = number; frame = old.last.frame; hits = hit_list old.board.setup old.last.reuse x y }) ∷ []
+  pub answers : new.answers ≡ old.answers ++ point_answer old.board.setup old.last number x y ∷ []
 
 -- the line of a session that a body is, and the line of the display
 abbrev pub session_text : Body → Option Line
@@ -200,17 +204,17 @@ pub record HasEnds (ended : ℕ) (history : List Entry) : Type 0 where
   pub in_order : map (λ entry. entry.actor) ends ≡ map Session (sessions_to ended)
 
 -- The first sessions have ended, and the others stand behind all lines.
-pub record EndsStand (script : Script) (ended : ℕ) (game : Game) : Type 0 where
-  pub setup : game.board.setup ≡ script.setup
-  pub shares : game.board.shares ≡ shares_of script
-  pub count : length game.readers.items ≡ script.setup.sessions
-  pub readings : (k : ℕ) → k < ended → IsReading script.setup script.count (session_lines (record { 0 = k + 1 }) script.lines) (own (record { 0 = k + 1 }) game.board.history)
-  pub waiting : (k : ℕ) (d : Reader) → ended ≤ k → k < length game.readers.items → ReaderStands script (record { 0 = k + 1 }) (length script.lines) game.board.history (slice_index_or game.readers.items k d)
-  pub display : DisplayStands script (length script.lines) game.board.history
-  pub has_ends : HasEnds ended game.board.history
-  pub unspent : (k : ℕ) → ended ≤ k → made (k + 1) game.board.history ≤ lines_by (k + 1) script.lines
-  pub keeps : Keeps script game.kept (finished script.setup game.board.history)
-  pub answering : game.answers ≡ answers_of script.setup game.board.history
+pub record EndsStand (script : Script) (ended : ℕ) (play : Play) : Type 0 where
+  pub setup : play.board.setup ≡ script.setup
+  pub shares : play.board.shares ≡ shares_of script
+  pub count : length play.readers.items ≡ script.setup.sessions
+  pub readings : (k : ℕ) → k < ended → IsReading script.setup script.count (session_lines (record { 0 = k + 1 }) script.lines) (own (record { 0 = k + 1 }) play.board.history)
+  pub waiting : (k : ℕ) (d : Reader) → ended ≤ k → k < length play.readers.items → ReaderStands script (record { 0 = k + 1 }) (length script.lines) play.board.history (slice_index_or play.readers.items k d)
+  pub display : DisplayStands script (length script.lines) play.board.history
+  pub has_ends : HasEnds ended play.board.history
+  pub unspent : (k : ℕ) → ended ≤ k → made (k + 1) play.board.history ≤ lines_by (k + 1) script.lines
+  pub keeps : Keeps script play.kept (finished script.setup play.board.history)
+  pub answering : play.answers ≡ answers_of script.setup play.board.history
 
 -- A script was run to its end: the history interleaves the script's actors, what is kept of frames is that of those that it finishes, and the answers are those to the points that it asks for.
 pub record HasPlayed (script : Script) (board : Machine) (kept : Kept) (answers : List HitAnswer) : Type 0 where

@@ -29,9 +29,9 @@ abbrev pub asked_of : Actor → Body → Option (ℕ × ProbeLine)
 asked_of (Probe p) (body.Probe asked) = Some (p, asked)
 asked_of _ _ = None
 
--- the answer to a line of a probe by a frame that shows these states
-abbrev pub answer_of : Setup → Shown → ℕ → ℕ → ℕ → ProbeLine → ProbeAnswer
-answer_of setup shown frame number p asked = record { actor = Probe p; line = number; asked = asked; frame = record { 0 = frame }; hits = asked_hits (hit_list setup shown) asked }
+-- the answer to an actor's line by a frame that shows these states
+abbrev pub answer_of : Setup → Shown → ℕ → Actor → ℕ → ProbeLine → ProbeAnswer
+answer_of setup shown frame actor number asked = record { actor = actor; line = number; asked = asked; frame = record { 0 = frame }; hits = asked_hits (hit_list setup shown) asked }
 
 -- the answers of all probes, with one more of a probe
 abbrev pub with_answer : ℕ → ProbeAnswer → List (List ProbeAnswer) → List (List ProbeAnswer)
@@ -40,7 +40,7 @@ with_answer p answer answers = slice_set answers p (slice_index_or answers p [] 
 -- the answers after a line of a number, by what it asks and of whom
 abbrev pub answers_after : Setup → Shown → ℕ → ℕ → Option (ℕ × ProbeLine) → List (List ProbeAnswer) → List (List ProbeAnswer)
 answers_after setup shown frame number None answers = answers
-answers_after setup shown frame number (Some (p, asked)) answers = with_answer p (answer_of setup shown frame number p asked) answers
+answers_after setup shown frame number (Some (p, asked)) answers = with_answer p (answer_of setup shown frame (Probe p) number asked) answers
 
 -- ---- when they are asked
 

@@ -1,7 +1,13 @@
-ghost use Rattle.std.specs.Prelude.{◌≡◌, ◌+◌, ◌<◌, ◌^◌, ◌++◌, List, [], ◌∷◌, true, length, map, IfOk, OnOk};
+//! The last finished frame. A frame is composed without a joined tree, which points and
+//! probes want: what is shown is joined at the first of them, and stays for the next ones
+//! and for later frames before which no session changed.
+ghost use Rattle.std.specs.Prelude.{◌≡◌, ◌+◌, ◌<◌, ◌^◌, ◌++◌, List, [], ◌∷◌, true, length, map};
+ghost use Rattle.std.specs.Prelude.{IfOk, OnOk};
+ghost use Rattle.std.specs.List.{list_any};
 ghost use Rattle.std.specs.Arc.{arc_value};
 ghost use Rattle.flat_scene.specs.declared.frames.FrameOut.{FrameOut};
 ghost use Rattle.flat_scene.specs.declared.frames.Lost.{Lost};
+ghost use Rattle.flat_scene.specs.declared.setup.Setup.{Setup};
 ghost use Rattle.flat_scene.specs.declared.journal.Entry.{Entry};
 ghost use Rattle.flat_display.specs.Shows.{Shows};
 ghost use Rattle.flat_scene.specs.Setups.{is_setup};
@@ -9,21 +15,24 @@ ghost use Rattle.flat_topology.specs.Changes.{AreSame};
 ghost use Rattle.flat_topology.specs.Connected.{joined_lists};
 ghost use Rattle.flat_topology.specs.Fit.{FitsSetup};
 ghost use Rattle.flat_topology.specs.Hits.{hit_list};
+ghost use Rattle.flat_topology.specs.Shown.{Shown};
 ghost use Rattle.flat_rules.specs.Shown.{shown_states};
 ghost use Rattle.flat_report.specs.Report.{frame_at};
 ghost use Rattle.flat_stage.specs.Displays.{AreViewed};
 ghost use Rattle.flat_places.specs.declared.script.Script.{Script};
 ghost use Rattle.flat_play.specs.Keeping.{Keeps};
 ghost use Rattle.flat_play.specs.Last.{IsJoined};
+ghost use Rattle.flat_play.specs.Probing.{answer_of};
 
 use crate::kept::Kept;
-use flat_base::{FrameNo, NoMemory};
+use flat_base::{Actor, FrameNo, NoMemory};
 use flat_core::shown_states_fit;
 use flat_display::{Display, DisplaySet};
-use flat_hit::hits;
+use flat_hit::Touchable;
+use flat_report::ProbeAnswer;
 use flat_reuse::{Drawing, Reuse};
-use flat_scene::{FrameOut, HitList, SessionSet, Setup};
-use flat_topology::{Joined, Shown, join};
+use flat_scene::{FrameOut, HitList, ProbeLine, SessionSet, Setup};
+use flat_topology::{Shown, join};
 use flat_tree::{tree_of, trees_follow};
 use std::alloc::Global;
 use std::sync::Arc;
@@ -36,7 +45,7 @@ pub struct LastFrame {
     /// What it was composed of. Contracts see what its sessions show.
     pub reuse: Reuse,
     /// What they show, joined, once that was asked for.
-    pub joined: Option<Arc<Joined>>,
+    pub joined: Option<Arc<Touchable>>,
 }
 
 /// What shown states are, joined, if that isn't done yet.
@@ -44,8 +53,8 @@ fn joined_once(
     alloc: Global,
     setup: &Setup,
     shown: &Shown,
-    joined: Option<Arc<Joined>>,
-) -> Result<Arc<Joined>, NoMemory>
+    joined: Option<Arc<Touchable>>,
+) -> Result<Arc<Touchable>, NoMemory>
     requires setup { is_setup setup.now ≡ true }
     requires count { length shown.now ≡ setup.now.sessions }
     requires fit { FitsSetup setup.now shown.now }
@@ -54,8 +63,18 @@ fn joined_once(
 {
     match joined {
         Some(joined) => Ok(joined),
-        None => Ok(Arc::new(alloc, join(alloc, shown, setup)?)?),
+        None => {
+            let joined = Touchable::new(alloc, join(alloc, shown, setup)?)?;
+            Ok(Arc::new(alloc, joined)?)
+        }
     }
+}
+
+/// Whether a set has a session.
+fn has_any(set: &SessionSet) -> bool
+    ensures { result ≡ list_any (λ has. has) set.now.has }
+{
+    set.has.iter().any(|has| *has)
 }
 
 impl LastFrame {
@@ -97,7 +116,9 @@ impl LastFrame {
         requires fit { FitsSetup setup.now shown.now }
         requires same { AreSame changed self.old.reuse shown.now }
         requires few { self.old.frame.0 + 1 < 2 ^ 32 }
-        ensures frame { (begun : List Entry) → shown.now ≡ shown_states setup.now begun → AreViewed setup.now begun with_view → IfOk result (λ frame. frame ≡ frame_at setup.now (self.old.frame.0 + 1) begun) }
+        ensures frame { (begun : List Entry) → shown.now ≡ shown_states setup.now begun →
+            AreViewed setup.now begun with_view → IfOk result (λ frame. frame
+            ≡ frame_at setup.now (self.old.frame.0 + 1) begun) }
         ensures is { OnOk result (IsLast setup.now self.new) }
         ensures shows { OnOk result (self.new.reuse ≡ shown.now) }
         ensures number { self.new.frame ≡ self.old.frame }
@@ -111,6 +132,21 @@ impl LastFrame {
             items,
             tree,
         })
+    }
+
+    /// What is joined of it, taken out; nothing where a session is one of these. Where
+    /// the others go on to show what they show, it is what is joined of the next frame.
+    pub fn take_joined(&mut self, changed: SessionSet) -> Option<Arc<Touchable>>
+        ensures joined { (setup : Setup) (shown : Shown) → IsLast setup self.old → length shown
+            ≡ setup.sessions → AreSame changed self.old.reuse shown → IsJoined setup shown result }
+        ensures stays { (setup : Setup) → IsLast setup self.old →
+            StaysLast setup self.old self.new }
+    {
+        let joined = self.joined.take();
+        if has_any(&changed) {
+            return None;
+        }
+        joined
     }
 
     /// Who is hit at a point. What the sessions show is joined at the first one.
@@ -127,16 +163,46 @@ impl LastFrame {
         ensures stays { OnOk result (StaysLast setup.now self.old self.new) }
     {
         let joined = joined_once(alloc, setup, self.reuse.shown(), self.joined.take())?;
-        let found = hits(alloc, &joined, x, y)?;
+        let found = joined.hits(alloc, x, y)?;
         self.joined = Some(joined);
         Ok(found)
     }
 
-    /// One more handle of what the sessions show, joined, as points are answered by it.
-    pub fn share_joined(&mut self, alloc: Global, setup: &Setup) -> Result<Arc<Joined>, NoMemory>
+    /// The answer to a line of a probe: the number, and who is hit where a point is asked
+    /// for.
+    pub fn answer(
+        &mut self,
+        alloc: Global,
+        setup: &Setup,
+        actor: Actor,
+        line: u32,
+        asked: ProbeLine,
+    ) -> Result<ProbeAnswer, NoMemory>
         requires setup { is_setup setup.now ≡ true }
         requires is { IsLast setup.now self.old }
-        ensures joined { IfOk result (λ all. arc_value all ≡ joined_lists setup.now self.old.reuse) }
+        ensures answer { IfOk result (λ answer. answer
+            ≡ answer_of setup.now self.old.reuse self.old.frame.0 actor line asked) }
+        ensures stays { OnOk result (StaysLast setup.now self.old self.new) }
+    {
+        let hits = match asked {
+            ProbeLine::Hit(x, y) => self.hits(alloc, setup, x, y)?,
+            ProbeLine::Await(_) => HitList::new(alloc),
+        };
+        Ok(ProbeAnswer {
+            actor,
+            line,
+            asked,
+            frame: self.frame,
+            hits,
+        })
+    }
+
+    /// One more handle of what the sessions show, joined, as points are answered by it.
+    pub fn share_joined(&mut self, alloc: Global, setup: &Setup) -> Result<Arc<Touchable>, NoMemory>
+        requires setup { is_setup setup.now ≡ true }
+        requires is { IsLast setup.now self.old }
+        ensures joined { IfOk result (λ all. arc_value all
+            ≡ joined_lists setup.now self.old.reuse) }
         ensures stays { OnOk result (StaysLast setup.now self.old self.new) }
     {
         let joined = joined_once(alloc, setup, self.reuse.shown(), self.joined.take())?;
@@ -149,12 +215,15 @@ impl LastFrame {
 /// Shows the last frame that is kept to the displays that aren't lost.
 pub fn show_last(set: &mut DisplaySet, displays: &mut Vec<Box<dyn Display>>, kept: &Kept)
     requires { length displays.old.items ≡ set.old.displays }
-    ensures shows { (script : Script) (before : List FrameOut) (frame : FrameOut) → Keeps script kept.now (before ++ frame ∷ []) →
-        (more : List Lost) × (set.new ≡ record set.old { lost = set.old.lost ++ more })
-        × Shows (λ d. shown d) (λ d. faults d) frame set.old.lost 1 displays.old.items displays.new.items more }
+    ensures shows { (script : Script) (before : List FrameOut) (frame : FrameOut) →
+        Keeps script kept.now (before ++ frame ∷ []) → (more : List Lost)
+        × (set.new ≡ record set.old { lost = set.old.lost ++ more })
+        × Shows (λ d. shown d) (λ d. faults d) frame set.old.lost 1 displays.old.items
+        displays.new.items more }
     ensures same { set.new.displays ≡ set.old.displays }
     ensures length { length displays.new.items ≡ length displays.old.items }
-    ensures kinds { map (λ d. d.vtable) displays.new.items ≡ map (λ d. d.vtable) displays.old.items }
+    ensures kinds { map (λ d. d.vtable) displays.new.items
+        ≡ map (λ d. d.vtable) displays.old.items }
 {
     if let Some(frame) = kept.last() {
         set.show(displays, frame);

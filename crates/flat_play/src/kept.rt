@@ -1,3 +1,6 @@
+//! What a run keeps of its frames: what its word writes of them, and no more. The last one
+//! is kept whole, since displays are shown it, and the next one's lines and damage are told
+//! by it.
 ghost use Rattle.std.specs.Prelude.{◌≡◌, ◌∷◌, ◌++◌, [], List, OnOk};
 ghost use Rattle.std.specs.Option.{option_copied};
 ghost use Rattle.flat_base.specs.Last.{last_item};
@@ -68,7 +71,8 @@ impl Kept {
 
     /// The last frame; none exactly where there is none.
     pub fn last(&self) -> Option<&FrameOut>
-        ensures { (script : Script) (frames : List FrameOut) → Keeps script self.now frames → option_copied result ≡ last_item frames }
+        ensures { (script : Script) (frames : List FrameOut) → Keeps script self.now frames →
+            option_copied result ≡ last_item frames }
     {
         match self {
             Kept::Texts(texts) => texts.last(),

@@ -1,21 +1,24 @@
 //! The play of a script in written order: its lines are read over one board, its frames
-//! composed and shown to displays, and pointers' lines answered beside it.
+//! composed and shown to displays, and lines of pointers and probes answered in between.
+//! It keeps `HasPlayed` (specs/Playing): run.rt goes through the lines, play.rt plays each,
+//! frame.rt composes and answers points, and kept.rt has what stays of the frames.
 //!
 //! Other crates may cite the lemmas of proofs/lemmas/: lines at their places (Places,
-//! Steps, Unread), what a line leaves (GameSteps, Readers, DisplaySteps), what is shown
-//! (FramesShown) and to how many sessions (FewViews), what displays have had (Seen), and
-//! what a run begins with (Starting).
+//! Steps, Unread), what a line leaves (PlaySteps, Readers, DisplaySteps), what is shown
+//! (FramesShown) and to how many sessions (FewViews), what of it is joined (Joining), what
+//! displays have had (Seen), what a play begins with (Starting), and lists of which an
+//! item is set (Slots).
 #![tactic(auto)]
 
 mod frame;
-mod game;
 mod kept;
+mod play;
 mod probes;
 mod run;
 mod touches;
 mod trees;
 
 pub use frame::{LastFrame, show_last};
-pub use game::Game;
 pub use kept::{Keeping, Kept};
+pub use play::Play;
 pub use run::{Played, open_board, play_script, play_touched};

@@ -4,12 +4,12 @@ ghost use Rattle.std.specs.Prelude.{◌≡◌, ◌<◌, ℕ, [], true, length, r
 ghost use Rattle.flat_scene.specs.declared.script.ProbeLine.{ProbeLine};
 ghost use Rattle.flat_scene.specs.Setups.{is_setup};
 ghost use Rattle.flat_play.specs.Last.{IsLast, StaysLast};
-ghost use Rattle.flat_play.specs.Probing.{asked_of, answer_of, answers_after};
+ghost use Rattle.flat_play.specs.Probing.{asked_of, answers_after};
 
 use crate::frame::LastFrame;
 use flat_base::{Actor, NoMemory};
-use flat_report::{ProbeAnswer, ProbeAnswers};
-use flat_scene::{Body, HitList, ProbeLine, ScriptLine, Setup};
+use flat_report::ProbeAnswers;
+use flat_scene::{Body, ProbeLine, ScriptLine, Setup};
 use std::alloc::Global;
 
 /// So many probes, none of which was asked anything.
@@ -33,33 +33,6 @@ fn asked_of(line: &ScriptLine) -> Option<(u32, ProbeLine)>
     }
 }
 
-/// The answer of the last finished frame to a line of a probe.
-fn answer_of(
-    alloc: Global,
-    setup: &Setup,
-    last: &mut LastFrame,
-    number: u32,
-    p: u32,
-    asked: ProbeLine,
-) -> Result<ProbeAnswer, NoMemory>
-    requires setup { is_setup setup.now ≡ true }
-    requires is { IsLast setup.now last.old }
-    ensures answer { IfOk result (λ answer. answer ≡ answer_of setup.now last.old.reuse last.old.frame.0 number p asked) }
-    ensures stays { OnOk result (StaysLast setup.now last.old last.new) }
-{
-    let hits = match asked {
-        ProbeLine::Hit(x, y) => last.hits(alloc, setup, x, y)?,
-        ProbeLine::Await(_) => HitList::new(alloc),
-    };
-    Ok(ProbeAnswer {
-        actor: Actor::Probe(p),
-        line: number,
-        asked,
-        frame: last.frame,
-        hits,
-    })
-}
-
 /// Answers a line where it asks a probe.
 pub(crate) fn answer_line(
     alloc: Global,
@@ -70,13 +43,16 @@ pub(crate) fn answer_line(
 ) -> Result<(), NoMemory>
     requires setup { is_setup setup.now ≡ true }
     requires is { IsLast setup.now last.old }
-    requires known { (p : ℕ) (asked : ProbeLine) → asked_of line.now.actor line.now.body ≡ Some (p, asked) → p < length answers.old.items }
-    ensures answers { OnOk result (answers.new.items ≡ answers_after setup.now last.old.reuse last.old.frame.0 line.now.number (asked_of line.now.actor line.now.body) answers.old.items) }
+    requires known { (p : ℕ) (asked : ProbeLine) → asked_of line.now.actor line.now.body
+        ≡ Some (p, asked) → p < length answers.old.items }
+    ensures answers { OnOk result (answers.new.items
+        ≡ answers_after setup.now last.old.reuse last.old.frame.0 line.now.number
+        (asked_of line.now.actor line.now.body) answers.old.items) }
     ensures stays { OnOk result (StaysLast setup.now last.old last.new) }
 {
     let Some((p, asked)) = asked_of(line) else {
         return Ok(());
     };
-    let answer = answer_of(alloc, setup, last, line.number, p, asked)?;
+    let answer = last.answer(alloc, setup, Actor::Probe(p), line.number, asked)?;
     answers[p as usize].push(answer)
 }

@@ -1,11 +1,15 @@
-ghost use Rattle.std.specs.Prelude.{map, ◌≡◌, ◌+◌, ◌<◌, ◌^◌, slice_index, [], ◌∷◌, ◌++◌, List, true, length, replicate, All, IfOk, OnOk};
+//! A script is played in written order. What may fail has the play by `&mut`: each exit
+//! behind which it were held would drop all of it, which is most of what a check has to
+//! look at.
+ghost use Rattle.std.specs.Prelude.{map, ◌≡◌, ◌+◌, ◌<◌, ◌^◌, slice_index, [], ◌∷◌, ◌++◌, List};
+ghost use Rattle.std.specs.Prelude.{true, length, replicate, All, IfOk, OnOk};
 ghost use Rattle.flat_scene.specs.History.{seat_number};
 ghost use Rattle.flat_scene.specs.Interleave.{IsWritten};
 ghost use Rattle.flat_scene.specs.Setups.{is_setup};
 ghost use Rattle.flat_playable.specs.Playable.{is_playable};
 ghost use Rattle.flat_report.specs.Probes.{ProbesAnswered, frames_seen};
 ghost use Rattle.flat_play.specs.Probing.{seen_in_turn};
-ghost use Rattle.flat_play.specs.Playing.{with_one_more, shares_of, AreNew, GameStands, HasPlayed};
+ghost use Rattle.flat_play.specs.Playing.{with_one_more, shares_of, AreNew, PlayStands, HasPlayed};
 ghost use Rattle.flat_report.specs.Report.{finished};
 ghost use Rattle.flat_play.specs.Keeping.{keeping_of};
 ghost use Rattle.flat_display.specs.Had.{AreKept};
@@ -14,8 +18,8 @@ ghost use Rattle.flat_pointer.specs.Lines.{rise_after};
 ghost use Rattle.flat_play.specs.Showing.{HaveSeen};
 
 use crate::frame::LastFrame;
-use crate::game::Game;
 use crate::kept::{Keeping, Kept};
+use crate::play::Play;
 use crate::probes::{answer_line, no_answers};
 use crate::touches::{answer_all, answer_upto};
 use flat_base::{Actor, NoMemory, SessionNo, ShareList, TryCopy};
@@ -85,7 +89,8 @@ fn new_readers(alloc: Global, setup: &Setup) -> Result<Vec<Reader>, NoMemory>
 /// A board of a script's setup before any entry, with room for its lines.
 pub fn open_board(alloc: Global, script: &Script) -> Result<Board, NoMemory>
     requires { is_playable script.now ≡ true }
-    ensures { IfOk result (λ board. board ≡ record { setup = script.now.setup; shares = shares_of script.now; history = [] }) }
+    ensures { IfOk result (λ board. board
+        ≡ record { setup = script.now.setup; shares = shares_of script.now; history = [] }) }
 {
     let shares = shares_of(alloc, script)?;
     let setup = script.setup.copy(alloc)?;
@@ -93,11 +98,11 @@ pub fn open_board(alloc: Global, script: &Script) -> Result<Board, NoMemory>
 }
 
 /// A run of which no line is played.
-fn start(alloc: Global, script: &Script, keeping: Keeping) -> Result<Game, NoMemory>
+fn start(alloc: Global, script: &Script, keeping: Keeping) -> Result<Play, NoMemory>
     requires { is_playable script.now ≡ true }
-    ensures stands { IfOk result (λ game. GameStands script.now 0 game) }
-    ensures keeping { IfOk result (λ game. keeping_of game.kept ≡ keeping) }
-    ensures no_entry { IfOk result (λ game. game.board.history ≡ []) }
+    ensures stands { IfOk result (λ play. PlayStands script.now 0 play) }
+    ensures keeping { IfOk result (λ play. keeping_of play.kept ≡ keeping) }
+    ensures no_entry { IfOk result (λ play. play.board.history ≡ []) }
 {
     lines_are_read();
     shown_states_fit();
@@ -105,7 +110,7 @@ fn start(alloc: Global, script: &Script, keeping: Keeping) -> Result<Game, NoMem
     let shown = Shown::new(alloc, script.setup.sessions)?;
     let last = LastFrame::none(alloc, &script.setup)?;
     let board = open_board(alloc, script)?;
-    Ok(Game {
+    Ok(Play {
         board,
         readers,
         shown,
@@ -123,7 +128,7 @@ fn start(alloc: Global, script: &Script, keeping: Keeping) -> Result<Game, NoMem
 fn play_each(
     alloc: Global,
     script: &Script,
-    game: &mut Game,
+    play: &mut Play,
     lines: &[PointerLine],
     found: &mut Vec<Touch>,
     answers: &mut Vec<ProbeAnswers>,
@@ -131,31 +136,37 @@ fn play_each(
     displays: &mut Vec<Box<dyn Display>>,
 ) -> Result<(), NoMemory>
     requires playable { is_playable script.now ≡ true }
-    requires begins { GameStands script.now 0 game.old }
-    requires no_entry { game.old.board.history ≡ [] }
+    requires begins { PlayStands script.now 0 play.old }
+    requires no_entry { play.old.board.history ≡ [] }
     requires no_answer { found.old.items ≡ [] }
     requires unasked { answers.old.items ≡ replicate script.now.setup.probes [] }
     requires rise { rise_after 0 lines.now ≡ true }
     requires number { length displays.old.items ≡ set.old.displays }
     requires few { set.old.displays < 2 ^ 32 }
     requires none { set.old.lost ≡ [] }
-    ensures stands { OnOk result (GameStands script.now (length script.now.lines) game.new) }
-    ensures touches { OnOk result (found.new.items ≡ map (touch_of script.now.setup game.new.board.history) lines.now) }
-    ensures probes { OnOk result (ProbesAnswered script.now game.new.board.history answers.new.items) }
-    ensures in_turn { OnOk result (frames_seen answers.new.items ≡ seen_in_turn script.now game.new.board.history) }
-    ensures keeping { OnOk result (keeping_of game.new.kept ≡ keeping_of game.old.kept) }
-    ensures seen { OnOk result (HaveSeen (λ d. shown d) (λ d. faults d) (finished script.now.setup game.new.board.history) game.new.board.history set.new.lost displays.old.items displays.new.items) }
-    ensures kept { AreKept (λ d. shown d) (λ d. faults d) displays.old.items displays.new.items (λ d. d.vtable) }
+    ensures stands { OnOk result (PlayStands script.now (length script.now.lines) play.new) }
+    ensures touches { OnOk result (found.new.items
+        ≡ map (touch_of script.now.setup play.new.board.history) lines.now) }
+    ensures probes { OnOk result (ProbesAnswered script.now play.new.board.history
+        answers.new.items) }
+    ensures in_turn { OnOk result (frames_seen answers.new.items
+        ≡ seen_in_turn script.now play.new.board.history) }
+    ensures keeping { OnOk result (keeping_of play.new.kept ≡ keeping_of play.old.kept) }
+    ensures seen { OnOk result (HaveSeen (λ d. shown d) (λ d. faults d)
+        (finished script.now.setup play.new.board.history) play.new.board.history set.new.lost
+        displays.old.items displays.new.items) }
+    ensures kept { AreKept (λ d. shown d) (λ d. faults d) displays.old.items displays.new.items
+        (λ d. d.vtable) }
 {
     let setup = &script.setup;
     let mut left = lines;
     for place in 0..script.lines.len() {
         let line = script.lines.at(place);
-        left = answer_upto(alloc, setup, &mut game.last, left, line.number, found)?;
-        answer_line(alloc, setup, &mut game.last, line, answers)?;
-        game.play_line(alloc, script, place, set, displays)?;
+        left = answer_upto(alloc, setup, &mut play.last, left, line.number, found)?;
+        answer_line(alloc, setup, &mut play.last, line, answers)?;
+        play.play_line(alloc, script, place, set, displays)?;
     }
-    answer_all(alloc, setup, &mut game.last, left, found)?;
+    answer_all(alloc, setup, &mut play.last, left, found)?;
     Ok(())
 }
 
@@ -163,7 +174,7 @@ fn play_each(
 /// to those of probes.
 #[derive(Drop)]
 struct LinesPlayed {
-    game: Game,
+    play: Play,
     touches: Vec<Touch>,
     probes: Vec<ProbeAnswers>,
 }
@@ -182,21 +193,27 @@ fn play_lines(
     requires number { length displays.old.items ≡ set.old.displays }
     requires few { set.old.displays < 2 ^ 32 }
     requires none { set.old.lost ≡ [] }
-    ensures stands { IfOk result (λ ran. GameStands script.now (length script.now.lines) ran.game) }
-    ensures touches { IfOk result (λ ran. ran.touches.items ≡ map (touch_of script.now.setup ran.game.board.history) lines.now) }
-    ensures probes { IfOk result (λ ran. ProbesAnswered script.now ran.game.board.history ran.probes.items) }
-    ensures in_turn { IfOk result (λ ran. frames_seen ran.probes.items ≡ seen_in_turn script.now ran.game.board.history) }
-    ensures keeping { IfOk result (λ ran. keeping_of ran.game.kept ≡ keeping) }
-    ensures seen { IfOk result (λ ran. HaveSeen (λ d. shown d) (λ d. faults d) (finished script.now.setup ran.game.board.history) ran.game.board.history set.new.lost displays.old.items displays.new.items) }
-    ensures kept { AreKept (λ d. shown d) (λ d. faults d) displays.old.items displays.new.items (λ d. d.vtable) }
+    ensures stands { IfOk result (λ ran. PlayStands script.now (length script.now.lines) ran.play) }
+    ensures touches { IfOk result (λ ran. ran.touches.items
+        ≡ map (touch_of script.now.setup ran.play.board.history) lines.now) }
+    ensures probes { IfOk result (λ ran. ProbesAnswered script.now ran.play.board.history
+        ran.probes.items) }
+    ensures in_turn { IfOk result (λ ran. frames_seen ran.probes.items
+        ≡ seen_in_turn script.now ran.play.board.history) }
+    ensures keeping { IfOk result (λ ran. keeping_of ran.play.kept ≡ keeping) }
+    ensures seen { IfOk result (λ ran. HaveSeen (λ d. shown d) (λ d. faults d)
+        (finished script.now.setup ran.play.board.history) ran.play.board.history set.new.lost
+        displays.old.items displays.new.items) }
+    ensures kept { AreKept (λ d. shown d) (λ d. faults d) displays.old.items displays.new.items
+        (λ d. d.vtable) }
 {
     let mut probes = no_answers(alloc, script.setup.probes)?;
     let mut touches = Vec::new(alloc);
-    let mut game = start(alloc, script, keeping)?;
+    let mut play = start(alloc, script, keeping)?;
     play_each(
         alloc,
         script,
-        &mut game,
+        &mut play,
         lines,
         &mut touches,
         &mut probes,
@@ -204,7 +221,7 @@ fn play_lines(
         displays,
     )?;
     Ok(LinesPlayed {
-        game,
+        play,
         touches,
         probes,
     })
@@ -238,23 +255,30 @@ pub fn play_touched(
     requires playable { is_playable script.now ≡ true }
     requires rise { rise_after 0 lines.now ≡ true }
     requires few { length displays.old.items < 2 ^ 32 }
-    ensures played { IfOk result (λ ran. HasPlayed script.now ran.0.board ran.0.kept ran.0.answers) }
-    ensures touches { IfOk result (λ ran. ran.1.items ≡ map (touch_of script.now.setup ran.0.board.history) lines.now) }
-    ensures probes { IfOk result (λ ran. ProbesAnswered script.now ran.0.board.history ran.0.probes.items) }
-    ensures in_turn { IfOk result (λ ran. frames_seen ran.0.probes.items ≡ seen_in_turn script.now ran.0.board.history) }
+    ensures played { IfOk result (λ ran. HasPlayed script.now ran.0.board ran.0.kept
+        ran.0.answers) }
+    ensures touches { IfOk result (λ ran. ran.1.items
+        ≡ map (touch_of script.now.setup ran.0.board.history) lines.now) }
+    ensures probes { IfOk result (λ ran. ProbesAnswered script.now ran.0.board.history
+        ran.0.probes.items) }
+    ensures in_turn { IfOk result (λ ran. frames_seen ran.0.probes.items
+        ≡ seen_in_turn script.now ran.0.board.history) }
     ensures written { IfOk result (λ ran. IsWritten script.now.setup ran.0.board.history) }
     ensures keeping { IfOk result (λ ran. keeping_of ran.0.kept ≡ keeping) }
-    ensures seen { IfOk result (λ ran. HaveSeen (λ d. shown d) (λ d. faults d) (finished script.now.setup ran.0.board.history) ran.0.board.history ran.0.set.lost displays.old.items displays.new.items) }
-    ensures kept { AreKept (λ d. shown d) (λ d. faults d) displays.old.items displays.new.items (λ d. d.vtable) }
+    ensures seen { IfOk result (λ ran. HaveSeen (λ d. shown d) (λ d. faults d)
+        (finished script.now.setup ran.0.board.history) ran.0.board.history ran.0.set.lost
+        displays.old.items displays.new.items) }
+    ensures kept { AreKept (λ d. shown d) (λ d. faults d) displays.old.items displays.new.items
+        (λ d. d.vtable) }
 {
     let mut set = DisplaySet::new(alloc, displays.len() as u32)?;
     let LinesPlayed {
-        mut game,
+        mut play,
         touches,
         probes,
     } = play_lines(alloc, script, keeping, lines, &mut set, displays)?;
-    game.end_all(script);
-    let Game {
+    play.end_all(script);
+    let Play {
         board,
         readers: _,
         shown: _,
@@ -263,7 +287,7 @@ pub fn play_touched(
         kept,
         last: _,
         answers,
-    } = game;
+    } = play;
     let played = Played {
         board,
         kept,
@@ -284,13 +308,19 @@ pub fn play_script(
 ) -> Result<Played, NoMemory>
     requires playable { is_playable script.now ≡ true }
     requires few { length displays.old.items < 2 ^ 32 }
-    ensures played { IfOk result (λ played. HasPlayed script.now played.board played.kept played.answers) }
-    ensures probes { IfOk result (λ played. ProbesAnswered script.now played.board.history played.probes.items) }
-    ensures in_turn { IfOk result (λ played. frames_seen played.probes.items ≡ seen_in_turn script.now played.board.history) }
+    ensures played { IfOk result (λ played. HasPlayed script.now played.board played.kept
+        played.answers) }
+    ensures probes { IfOk result (λ played. ProbesAnswered script.now played.board.history
+        played.probes.items) }
+    ensures in_turn { IfOk result (λ played. frames_seen played.probes.items
+        ≡ seen_in_turn script.now played.board.history) }
     ensures written { IfOk result (λ played. IsWritten script.now.setup played.board.history) }
     ensures keeping { IfOk result (λ played. keeping_of played.kept ≡ keeping) }
-    ensures seen { IfOk result (λ played. HaveSeen (λ d. shown d) (λ d. faults d) (finished script.now.setup played.board.history) played.board.history played.set.lost displays.old.items displays.new.items) }
-    ensures kept { AreKept (λ d. shown d) (λ d. faults d) displays.old.items displays.new.items (λ d. d.vtable) }
+    ensures seen { IfOk result (λ played. HaveSeen (λ d. shown d) (λ d. faults d)
+        (finished script.now.setup played.board.history) played.board.history played.set.lost
+        displays.old.items displays.new.items) }
+    ensures kept { AreKept (λ d. shown d) (λ d. faults d) displays.old.items displays.new.items
+        (λ d. d.vtable) }
 {
     let (played, _touches) = play_touched(alloc, script, keeping, &[], displays)?;
     Ok(played)

@@ -1,3 +1,5 @@
+//! The view trees of frames, on which alone the texts of focus and of pointers hang: so the
+//! items of a frame are dropped when the next one comes.
 ghost use Rattle.std.specs.Prelude.{◌≡◌, ◌∷◌, ◌++◌, [], List, map, IfOk, OnOk};
 ghost use Rattle.std.specs.Option.{option_copied};
 ghost use Rattle.flat_base.specs.Last.{last_item};
@@ -45,7 +47,8 @@ impl FrameTrees {
 
     /// Keeps the next frame. The items of the one before it are dropped.
     pub fn push(&mut self, frame: FrameOut) -> Result<(), NoMemory>
-        ensures { (frames : List FrameOut) → AreTrees frames self.old → OnOk result (AreTrees (frames ++ frame ∷ []) self.new) }
+        ensures { (frames : List FrameOut) → AreTrees frames self.old →
+            OnOk result (AreTrees (frames ++ frame ∷ []) self.new) }
     {
         if let Some(last) = self.last.take() {
             let tree = without_items(self.alloc, last);
@@ -57,14 +60,16 @@ impl FrameTrees {
 
     /// The last frame, if there is one.
     pub fn last(&self) -> Option<&FrameOut>
-        ensures { (frames : List FrameOut) → AreTrees frames self.now → option_copied result ≡ last_item frames }
+        ensures { (frames : List FrameOut) → AreTrees frames self.now → option_copied result
+            ≡ last_item frames }
     {
         self.last.as_ref()
     }
 
     /// The frames without their items, in order.
     pub fn into_frames(self) -> Result<Items<FrameOut>, NoMemory>
-        ensures { (frames : List FrameOut) → AreTrees frames self → IfOk result (λ trees. trees ≡ map without_items frames) }
+        ensures { (frames : List FrameOut) → AreTrees frames self → IfOk result (λ trees. trees
+            ≡ map without_items frames) }
     {
         let FrameTrees {
             alloc,

@@ -1,5 +1,6 @@
 //! What a frame is, and the book that only grows: the list of all frames, which exists in
-//! proofs alone. Its one word holds the number of the last frame.
+//! proofs alone. Its one word holds the number of the last frame. The contracts of
+//! `left_right` can't say that two readers see one list; the book does, and costs no byte.
 use flat_base::FrameNo;
 use flat_hit::Touchable;
 use flat_topology::Joined;

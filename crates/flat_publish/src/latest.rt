@@ -1,4 +1,6 @@
-//! The frame published last, as each of the two copies and each probe keeps it.
+//! The frame published last, as each of the two copies and each probe keeps it. A probe has
+//! one of its own and compares numbers, so that it never goes back, whatever the copies hand
+//! out.
 ghost use Rattle.std.specs.Prelude.{◌≡◌, ◌⊎◌, [], ◌∷◌, ◌++◌, IfOk, OnOk};
 ghost use mathlib.Core.List.{IsPrefix};
 ghost use Rattle.flat_publish.specs.State.{newcomer};

@@ -1,4 +1,5 @@
-//! A probe: the frames that it saw, and what it answers by the last one.
+//! A probe: the frames that it saw, and what it answers by the last one. It keeps that one
+//! beside its reader, so that it answers also where no copy can be read.
 ghost use Rattle.std.specs.Prelude.{◌≡◌, IfOk, OnOk, Some};
 ghost use mathlib.Core.List.{IsPrefix};
 ghost use Rattle.left_right.specs.Sides.{view};

@@ -1,5 +1,7 @@
-//! Who publishes.
-ghost use Rattle.std.specs.Prelude.{◌≡◌, ◌<◌, [], ◌∷◌, ◌++◌, IfOk, OnOk, OnErr, Some, drop, replicate};
+//! Who publishes. A frame may be refused after its step in the book was made: so the frames
+//! that are published and those that stand in the book are told apart.
+ghost use Rattle.std.specs.Prelude.{◌≡◌, ◌<◌, [], ◌∷◌, ◌++◌, IfOk, OnOk, OnErr, Some, drop};
+ghost use Rattle.std.specs.Prelude.{replicate};
 ghost use mathlib.Core.List.{IsPrefix};
 ghost use Rattle.left_right.specs.Sides.{view};
 ghost use Rattle.flat_publish.specs.Frames.{last_number, IsRising, frame};
@@ -61,10 +63,13 @@ fn add_frame(
 // Shows what is pending. It waits for probes that still read the copy from before the
 // last call.
 fn show<R: Wait>(writer: LatestWriter, rt: &R) -> (LatestWriter, Result<(), NoMemory>)
-    requires { (upcoming writer.desk.shown.value (drop writer.behind writer.log.items)).home ≡ writer.desk.shown.value.home }
-    ensures shown { OnOk result.1 (result.0.desk.shown.value ≡ upcoming writer.desk.shown.value (drop writer.behind writer.log.items)) }
+    requires { (upcoming writer.desk.shown.value (drop writer.behind writer.log.items)).home
+        ≡ writer.desk.shown.value.home }
+    ensures shown { OnOk result.1 (result.0.desk.shown.value
+        ≡ upcoming writer.desk.shown.value (drop writer.behind writer.log.items)) }
     ensures known { OnOk result.1 (view result.0.desk.place ≡ Some result.0.desk.shown.value.home) }
-    ensures kept { OnErr result.1 ((result.0.desk.shown.value ≡ writer.desk.shown.value) × (view result.0.desk.place ≡ view writer.desk.place)) }
+    ensures kept { OnErr result.1 ((result.0.desk.shown.value ≡ writer.desk.shown.value)
+        × (view result.0.desk.place ≡ view writer.desk.place)) }
 {
     let (writer, shown) = writer.publish_as::<NextShown, R>(rt);
     match shown {
@@ -82,7 +87,8 @@ fn send<R: Wait>(
     requires { latest.home ≡ writer.desk.shown.value.home }
     ensures shown { OnOk result.1 (result.0.desk.shown.value ≡ latest) }
     ensures known { OnOk result.1 (view result.0.desk.place ≡ Some latest.home) }
-    ensures kept { OnErr result.1 ((result.0.desk.shown.value ≡ writer.desk.shown.value) × (view result.0.desk.place ≡ view writer.desk.place)) }
+    ensures kept { OnErr result.1 ((result.0.desk.shown.value ≡ writer.desk.shown.value)
+        × (view result.0.desk.place ≡ view writer.desk.place)) }
 {
     match writer.append(latest) {
         Ok(()) => show(writer, rt),
@@ -94,7 +100,8 @@ fn send<R: Wait>(
 fn seat(writer: &mut LatestWriter, seen: &FramesSeen) -> Result<Probe, NoMemory>
     requires home { view writer.old.desk.place ≡ Some seen.now.book }
     requires none { seen.now.log ≡ [] }
-    ensures kept { (writer.new.desk.shown ≡ writer.old.desk.shown) × (view writer.new.desk.place ≡ view writer.old.desk.place) }
+    ensures kept { (writer.new.desk.shown ≡ writer.old.desk.shown)
+        × (view writer.new.desk.place ≡ view writer.old.desk.place) }
     ensures probe { IfOk result (λ p. p ≡ newcomer seen.now.book) }
 {
     let Ok(mut reader) = writer.factory().reader() else {
@@ -113,7 +120,8 @@ fn seat_all(
 ) -> Result<Vec<Option<Probe>>, NoMemory>
     requires home { view writer.old.desk.place ≡ Some seen.now.book }
     requires none { seen.now.log ≡ [] }
-    ensures kept { (writer.new.desk.shown ≡ writer.old.desk.shown) × (view writer.new.desk.place ≡ view writer.old.desk.place) }
+    ensures kept { (writer.new.desk.shown ≡ writer.old.desk.shown)
+        × (view writer.new.desk.place ≡ view writer.old.desk.place) }
     ensures probes { IfOk result (λ v. v.items ≡ replicate probes (Some (newcomer seen.now.book))) }
 {
     let mut all = Vec::new(alloc);
@@ -174,7 +182,8 @@ impl Published {
         alloc: Global,
         probes: u32,
     ) -> Result<(Published, ProbeSeats), NoMemory>
-        ensures published { IfOk result (λ t. t.0 ≡ record { home = t.0.home; frames = []; refused = []; given = 0 }) }
+        ensures published { IfOk result (λ t. t.0
+            ≡ record { home = t.0.home; frames = []; refused = []; given = 0 }) }
         ensures probes { IfOk result (λ t. t.1 ≡ replicate probes (Some (newcomer t.0.home))) }
     {
         let (newest, mut first, _second) = Seen::open(Start::alone(), 0, 0);
@@ -242,7 +251,8 @@ impl Published {
                 requires { latest.home ≡ writer.desk.shown.value.home }
                 ensures shown { OnOk result.1 (result.0.desk.shown.value ≡ latest) }
                 ensures known { OnOk result.1 (view result.0.desk.place ≡ Some latest.home) }
-                ensures kept { OnErr result.1 ((result.0.desk.shown.value ≡ writer.desk.shown.value) × (view result.0.desk.place ≡ view writer.desk.place)) }
+                ensures kept { OnErr result.1 ((result.0.desk.shown.value ≡ writer.desk.shown.value)
+                    × (view result.0.desk.place ≡ view writer.desk.place)) }
             { send(writer, rt, latest) },
         )
     }

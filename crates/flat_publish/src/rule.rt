@@ -1,4 +1,5 @@
-//! The rule over the two copies: what each seat knows of their home.
+//! The rule over the two copies: what each seat knows of their home. Nothing else says of a
+//! reader that has read that it is of its writer's table.
 use crate::latest::Latest;
 use atomic_table::{Join, Split};
 use crossbeam_utils::rule::{Outcome, Protocol};

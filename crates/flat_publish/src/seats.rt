@@ -1,4 +1,5 @@
-//! The probes that weren't taken yet.
+//! The probes that weren't taken yet. All are made with who publishes, so that taking one
+//! takes no memory.
 ghost use Rattle.std.specs.Prelude.{◌≡◌, slice_index_or, slice_set, None};
 
 use crate::probe::Probe;

@@ -30,14 +30,14 @@ use Rattle.flat_stage.specs.Readings.{NoneIsRead}
 use Rattle.flat_stage.specs.Reads.{IsNew}
 use Rattle.flat_places.specs.declared.script.Script.{Script}
 use Rattle.flat_playable.specs.Playable.{rise_from, is_playable}
-use Rattle.flat_play.specs.declared.game.Game.{Game}
+use Rattle.flat_play.specs.declared.play.Play.{Play}
 use Rattle.flat_topology.specs.Fit.{FitsSetup}
 use Rattle.flat_play.specs.declared.frame.LastFrame.{LastFrame}
 use Rattle.flat_play.specs.Last.{IsLast}
 use Rattle.flat_rules.specs.Shown.{shown_states}
 use Rattle.flat_report.specs.Report.{finished}
 use Rattle.flat_play.specs.Keeping.{Keeps}
-use Rattle.flat_play.specs.Playing.{AnswersStand, lines_by, rest_shares, shares_of, AreNew, ReadersStand, DisplayStands, IsInOrder, IsSpent, FramesStand, GameStands}
+use Rattle.flat_play.specs.Playing.{AnswersStand, lines_by, rest_shares, shares_of, AreNew, ReadersStand, DisplayStands, IsInOrder, IsSpent, FramesStand, PlayStands}
 use Rattle.flat_play.proofs.lemmas.Places.{few_lines, rises, counted, frames_are, setup_is}
 use Rattle.flat_play.proofs.lemmas.DisplaySteps.{display_numbered}
 use Rattle.flat_base.proofs.lemmas.Tests.{and-left, and-right, and-true}
@@ -210,25 +210,25 @@ nothing_fits begun at_first setup shown count none = subst (FitsSetup setup) (sy
 pub first_answers : (setup : Setup) (last : LastFrame) (answers : List HitAnswer) → last.frame.0 ≡ 0 → IsLast setup last → last.reuse ≡ shown_states setup [] → answers ≡ [] → AnswersStand setup [] last answers
 first_answers setup last answers number is showing nothing = record { number = number; is_last = is; showing = showing; answering = nothing }
 
-pub starts : (script : Script) (game : Game) → is_playable script ≡ true → NoneIsRead → game.board ≡ record { setup = script.setup; shares = shares_of script; history = [] } → AreNew script.setup script.setup.sessions game.readers.items
-    → FramesStand script.setup [] game.shown game.with_view → Keeps script game.kept [] → list_all not game.with_view.has ≡ true → AnswersStand script.setup [] game.last game.answers → GameStands script 0 game
-starts script game playable none_is_read board new shows keeps none answers =
-    let history : [] ≡ game.board.history = sym (ap (λ (m : Machine). m.history) board) in
-    let P : List Entry → Type 0 = λ es. ReadersStand script 0 es game.readers.items in
+pub starts : (script : Script) (play : Play) → is_playable script ≡ true → NoneIsRead → play.board ≡ record { setup = script.setup; shares = shares_of script; history = [] } → AreNew script.setup script.setup.sessions play.readers.items
+    → FramesStand script.setup [] play.shown play.with_view → Keeps script play.kept [] → list_all not play.with_view.has ≡ true → AnswersStand script.setup [] play.last play.answers → PlayStands script 0 play
+starts script play playable none_is_read board new shows keeps none answers =
+    let history : [] ≡ play.board.history = sym (ap (λ (m : Machine). m.history) board) in
+    let P : List Entry → Type 0 = λ es. ReadersStand script 0 es play.readers.items in
     let D : List Entry → Type 0 = DisplayStands script 0 in
     let O : List Entry → Type 0 = IsInOrder script 0 in
     let S : List Entry → Type 0 = IsSpent script 0 in
-    let F : List Entry → Type 0 = λ es. FramesStand script.setup es game.shown game.with_view in
-    let K : List Entry → Type 0 = λ es. Keeps script game.kept (finished script.setup es) in
-    let A : List Entry → Type 0 = λ es. AnswersStand script.setup es game.last game.answers in
+    let F : List Entry → Type 0 = λ es. FramesStand script.setup es play.shown play.with_view in
+    let K : List Entry → Type 0 = λ es. Keeps script play.kept (finished script.setup es) in
+    let A : List Entry → Type 0 = λ es. AnswersStand script.setup es play.last play.answers in
     record {
       setup = ap (λ (m : Machine). m.setup) board;
       shares = ap (λ (m : Machine). m.shares) board;
-      readers = subst P history (first_readers none_is_read script game.readers.items new);
+      readers = subst P history (first_readers none_is_read script play.readers.items new);
       display = subst D history (first_display script playable);
       order = subst O history (first_order script playable);
       spent = subst S history (first_spent script playable);
-      views = λ s beyond. no_members game.with_view none s;
+      views = λ s beyond. no_members play.with_view none s;
       shows = subst F history shows;
       keeps = subst K history keeps;
       same = λ s within none. ap (λ (states : Shown). state_of states s) (answers.showing ∙ sym shows.showing);

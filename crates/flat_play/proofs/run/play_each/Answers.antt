@@ -3,13 +3,13 @@ use Rattle.flat_scene.specs.declared.journal.Entry.{Entry}
 use Rattle.flat_report.specs.Report.{finished}
 use Rattle.flat_base.specs.declared.ids.FrameNo.{FrameNo}
 use Rattle.flat_rules.specs.Legal.{frames}
-use Rattle.flat_play.specs.Playing.{GameStands, last_number}
+use Rattle.flat_play.specs.Playing.{PlayStands, last_number}
 use Rattle.flat_play.specs.Touches.{AreAnswered}
 use Rattle.flat_play.specs.Probing.{ProbesStand}
 use Rattle.flat_play.proofs.Probed.{asked-within, probes-unasked, probes-on, probes-more, probes-all}
 use Rattle.flat_play.proofs.InTurn.{turns-none, turns-on, turns-more, turns-all}
 use Rattle.flat_play.proofs.Touching.{answered-none, answered-more, answered-all}
-use Rattle.flat_play.proofs.lemmas.GameSteps.{game_stays}
+use Rattle.flat_play.proofs.lemmas.PlaySteps.{play_stays}
 use Rattle.flat_play.proofs.lemmas.Places.{setup_is}
 use Rattle.flat_play.proofs.lemmas.Steps.{at_place}
 use Rattle.flat_play.proofs.lemmas.Seen.{as_long, kept_same, kept_seen, seen_none, seen_line}
@@ -25,7 +25,7 @@ loop-place-init g c = record {
   same = refl;
   answered = answered-none _ _ _ _ c.requires.no_entry c.requires.no_answer c.requires.rise;
   asked = (let P : List Entry → Type 0 = λ h. ProbesStand c.args.script.now 0 h c.args.answers.now.items in subst P (sym c.requires.no_entry) (probes-unasked c.args.script.now c.args.answers.now.items c.requires.unasked));
-  turns = turns-none c.args.script.now.setup.probes c.args.game.now.board.history c.args.answers.now.items c.requires.unasked;
+  turns = turns-none c.args.script.now.setup.probes c.args.play.now.board.history c.args.answers.now.items c.requires.unasked;
 }
 
 pub answer_upto-requires-clause-setup : goal.answer_upto-requires-clause-setup
@@ -44,8 +44,8 @@ pub play_line-requires-clause-stands : goal.play_line-requires-clause-stands
 play_line-requires-clause-stands g c =
     let script = c.args.script.now in
     let place = c.loop-place.place in
-    game_stays script place (record c.loop-place.game { last = c.answer_upto.new.last }) c.answer_line.new.last c.in_ok-answer_line.ensures.stays
-    (game_stays script place c.loop-place.game c.answer_upto.new.last c.in_ok-left.ensures.stays c.loop-place.invariant.stands)
+    play_stays script place (record c.loop-place.play { last = c.answer_upto.new.last }) c.answer_line.new.last c.in_ok-answer_line.ensures.stays
+    (play_stays script place c.loop-place.play c.answer_upto.new.last c.in_ok-left.ensures.stays c.loop-place.invariant.stands)
 
 pub answer_line-requires-clause-setup : goal.answer_line-requires-clause-setup
 answer_line-requires-clause-setup g c = setup_is c.args.script.now c.requires.playable
@@ -57,7 +57,7 @@ pub answer_line-requires-clause-known : goal.answer_line-requires-clause-known
 answer_line-requires-clause-known g c =
     let script = c.args.script.now in
     let at = at_place script c.loop-place.place c.at-line.result.now c.requires.playable c.at-line.ensures in
-    asked-within script c.loop-place.place c.at-line.result.now at c.loop-place.game.board.history c.loop-place.answers.items c.loop-place.invariant.asked
+    asked-within script c.loop-place.place c.at-line.result.now at c.loop-place.play.board.history c.loop-place.answers.items c.loop-place.invariant.asked
 
 pub loop-place-preserved : goal.loop-place-preserved
 loop-place-preserved g c =
@@ -67,7 +67,7 @@ loop-place-preserved g c =
     let now = c.in_ok-play_line.ensures in
     let x = c.at-line.result.now in
     let at = at_place script place x c.requires.playable c.at-line.ensures in
-    let old = c.loop-place.game.board.history in
+    let old = c.loop-place.play.board.history in
     let new = c.play_line.new.self.board.history in
     let last = c.answer_upto.new.last in
     let stays = c.in_ok-left.ensures.stays in
@@ -97,15 +97,15 @@ loop-place-preserved g c =
 pub returns-clause-stands : goal.returns-clause-stands
 returns-clause-stands g c =
     let last : c.loop-place.place ≡ length c.args.script.now.lines = omega (arith, c.loop-place.auto.place-end, c.loop-place-test.false) in
-    let P : ℕ → Type 0 = λ n. GameStands c.args.script.now n c.loop-place.game in
-    game_stays c.args.script.now _ c.loop-place.game _ c.in_ok-answer_all.ensures.stays (subst P last c.loop-place.invariant.stands)
+    let P : ℕ → Type 0 = λ n. PlayStands c.args.script.now n c.loop-place.play in
+    play_stays c.args.script.now _ c.loop-place.play _ c.in_ok-answer_all.ensures.stays (subst P last c.loop-place.invariant.stands)
 
 pub returns-clause-touches : goal.returns-clause-touches
 returns-clause-touches g c = answered-all _ _ _ _ _ _ _ c.loop-place.invariant.answered c.loop-place.invariant.stands.answers.showing _ c.in_ok-answer_all.ensures.answers
 
 pub returns-clause-probes : goal.returns-clause-probes
 returns-clause-probes g c =
-    probes-all c.args.script.now c.loop-place.place c.loop-place.game.board.history c.loop-place.answers.items (omega (arith, c.loop-place.auto.place-end, c.loop-place-test.false)) c.loop-place.invariant.asked
+    probes-all c.args.script.now c.loop-place.place c.loop-place.play.board.history c.loop-place.answers.items (omega (arith, c.loop-place.auto.place-end, c.loop-place-test.false)) c.loop-place.invariant.asked
 
 pub returns-clause-seen : goal.returns-clause-seen
 returns-clause-seen g c = c.loop-place.invariant.seen
@@ -121,5 +121,5 @@ returns-in_err-answer_line-clause-kept g c = kept_seen _ _ _ _ _ _ _ _ c.loop-pl
 
 pub returns-clause-in_turn : goal.returns-clause-in_turn
 returns-clause-in_turn g c =
-    turns-all c.args.script.now c.loop-place.place c.loop-place.game.board.history c.loop-place.answers.items (omega (arith, c.loop-place.auto.place-end, c.loop-place-test.false))
+    turns-all c.args.script.now c.loop-place.place c.loop-place.play.board.history c.loop-place.answers.items (omega (arith, c.loop-place.auto.place-end, c.loop-place-test.false))
     c.loop-place.invariant.asked.count c.loop-place.invariant.turns

@@ -1,7 +1,7 @@
 use Rattle.std.proofs.Common.{◌≡◌, length, map, take}
 use Rattle.flat_report.specs.Report.{finished}
 use Rattle.flat_play.specs.Keeping.{keeping_of}
-use Rattle.flat_play.specs.Playing.{GameStands, last_number}
+use Rattle.flat_play.specs.Playing.{PlayStands, last_number}
 use Rattle.flat_play.specs.Probing.{ProbesStand, SeeInTurn}
 use Rattle.flat_play.specs.Touches.{AreAnswered}
 use Rattle.flat_play.specs.Showing.{HaveSeen}
@@ -9,13 +9,13 @@ use Rattle.flat_play.proofs.run.play_each.Given as goal
 
 abbrev pub invariant-loop-place : goal.invariant-loop-place
 invariant-loop-place g l = record {
-  stands : GameStands l.script l.place l.game;
-  seen : HaveSeen (λ b. (goal.Display-dyn g (b.vtable, b.value)).shown b.value) (λ b. (goal.Display-dyn g (b.vtable, b.value)).faults b.value) (finished l.script.setup l.game.board.history) l.game.board.history l.set.lost l.initial.displays.items l.displays.items;
+  stands : PlayStands l.script l.place l.play;
+  seen : HaveSeen (λ b. (goal.Display-dyn g (b.vtable, b.value)).shown b.value) (λ b. (goal.Display-dyn g (b.vtable, b.value)).faults b.value) (finished l.script.setup l.play.board.history) l.play.board.history l.set.lost l.initial.displays.items l.displays.items;
   number : length l.displays.items ≡ l.set.displays;
   kinds : map (λ b. b.vtable) l.displays.items ≡ map (λ b. b.vtable) l.initial.displays.items;
-  keeping : keeping_of l.game.kept ≡ keeping_of l.initial.game.kept;
+  keeping : keeping_of l.play.kept ≡ keeping_of l.initial.play.kept;
   same : l.set.displays ≡ l.initial.set.displays;
-  answered : AreAnswered l.script.setup l.game.board.history (last_number 0 (take l.place l.script.lines)) l.lines l.left l.found.items;
-  asked : ProbesStand l.script l.place l.game.board.history l.answers.items;
-  turns : SeeInTurn (take l.place l.script.lines) l.game.board.history l.answers.items;
+  answered : AreAnswered l.script.setup l.play.board.history (last_number 0 (take l.place l.script.lines)) l.lines l.left l.found.items;
+  asked : ProbesStand l.script l.place l.play.board.history l.answers.items;
+  turns : SeeInTurn (take l.place l.script.lines) l.play.board.history l.answers.items;
 }

@@ -6,17 +6,17 @@ use Rattle.flat_play.proofs.lemmas.Seen.{kept_none, seen_same}
 use Rattle.flat_play.proofs.run.play_touched.Goals as goal
 
 pub returns-clause-touches : goal.returns-clause-touches
-returns-clause-touches g c = answered-ended c.args.script.now.setup _ _ _ _ c.end_all.ensures.ends c.in_ok-game.ensures.touches
+returns-clause-touches g c = answered-ended c.args.script.now.setup _ _ _ _ c.end_all.ensures.ends c.in_ok-play.ensures.touches
 
 pub returns-clause-probes : goal.returns-clause-probes
-returns-clause-probes g c = probes-ended c.args.script.now _ _ _ c.end_all.ensures.ends c.in_ok-game.ensures.probes
+returns-clause-probes g c = probes-ended c.args.script.now _ _ _ c.end_all.ensures.ends c.in_ok-play.ensures.probes
 
 pub returns-clause-in_turn : goal.returns-clause-in_turn
-returns-clause-in_turn g c = turns-ended c.args.script.now _ _ c.in_ok-game.field-0.probes.items c.end_all.ensures.ends c.in_ok-game.ensures.in_turn
+returns-clause-in_turn g c = turns-ended c.args.script.now _ _ c.in_ok-play.field-0.probes.items c.end_all.ensures.ends c.in_ok-play.ensures.in_turn
 
 pub returns-clause-seen : goal.returns-clause-seen
 returns-clause-seen g c =
-    seen_same _ _ c.args.script.now.setup _ _ _ _ refl refl _ _ _ c.end_all.ensures.frames c.in_ok-game.ensures.seen
+    seen_same _ _ c.args.script.now.setup _ _ _ _ refl refl _ _ _ c.end_all.ensures.frames c.in_ok-play.ensures.seen
 
 pub returns-in_err-set-clause-kept : goal.returns-in_err-set-clause-kept
 returns-in_err-set-clause-kept g c = kept_none _ _ _ _

@@ -6,7 +6,7 @@ use Rattle.flat_rules.specs.Shown.{shown_states}
 use Rattle.flat_stage.specs.Displays.{AreViewed}
 use Rattle.flat_report.specs.Report.{frame_at}
 use Rattle.flat_play.proofs.lemmas.FramesShown.{shown_count, shown_fits, viewed}
-use Rattle.flat_play.proofs.game.Game.compose_next.Goals as goal
+use Rattle.flat_play.proofs.play.Play.compose_next.Goals as goal
 
 pub compose_next-requires-clause-count : goal.compose_next-requires-clause-count
 compose_next-requires-clause-count c =

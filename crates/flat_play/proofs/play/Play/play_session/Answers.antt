@@ -3,7 +3,7 @@ use Rattle.flat_base.specs.declared.ids.SessionNo.{SessionNo}
 use Rattle.flat_base.specs.declared.ids.Actor.TheVariants.{Session}
 use Rattle.flat_scene.specs.declared.script.Body.TheVariants as body
 use Rattle.flat_scene.specs.declared.script.ScriptLine.{ScriptLine}
-use Rattle.flat_play.proofs.lemmas.GameSteps.{below_declared, session_finishes, session_share, session_more, own_reader}
+use Rattle.flat_play.proofs.lemmas.PlaySteps.{below_declared, session_finishes, session_share, session_more, own_reader}
 use Rattle.flat_scene.specs.declared.script.Line.{Line}
 use Rattle.flat_core.specs.Machines.{HasShare}
 use Rattle.flat_rules.specs.Owned.{is_played_line}
@@ -12,7 +12,7 @@ use Rattle.flat_play.proofs.lemmas.Places.{here}
 use Rattle.flat_play.proofs.lemmas.Readers.{on_board, reader_grows, reader_more, reader_owns}
 use Rattle.flat_play.proofs.lemmas.Steps.{at_place}
 use Rattle.flat_play.proofs.Touching.{grown-on}
-use Rattle.flat_play.proofs.game.Game.play_session.Goals as goal
+use Rattle.flat_play.proofs.play.Play.play_session.Goals as goal
 
 pub overflow_sub-s : goal.overflow_sub-s
 overflow_sub-s c =

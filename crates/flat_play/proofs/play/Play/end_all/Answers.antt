@@ -2,7 +2,7 @@ use Rattle.std.proofs.Common.{◌≡◌, ◌∙◌, ℕ, subst, arith, refl}
 use Rattle.flat_play.specs.Playing.{EndsStand}
 use Rattle.flat_play.proofs.Ending.{ends_first, has_played, is_written}
 use Rattle.flat_play.proofs.Touching.{no-ends, ends-then}
-use Rattle.flat_play.proofs.game.Game.end_all.Goals as goal
+use Rattle.flat_play.proofs.play.Play.end_all.Goals as goal
 
 pub loop-before-init : goal.loop-before-init
 loop-before-init c = (refl, refl, ends_first c.args.script.now c.args.self.now c.requires.stands, no-ends c.args.self.now.board.history)

@@ -1,9 +1,9 @@
 use Rattle.std.proofs.Common.{◌≡◌, true, sym, subst}
 use Rattle.flat_base.specs.declared.ids.Actor.{Actor}
 use Rattle.flat_playable.specs.Playable.{is_played}
-use Rattle.flat_play.proofs.lemmas.GameSteps.{no_session_text, no_display_text, IsAsked, is_asked, probe_more}
+use Rattle.flat_play.proofs.lemmas.PlaySteps.{no_session_text, no_display_text, IsAsked, is_asked, probe_more}
 use Rattle.flat_play.proofs.lemmas.Steps.{At, at_place}
-use Rattle.flat_play.proofs.game.Game.play_line.Goals as goal
+use Rattle.flat_play.proofs.play.Play.play_line.Goals as goal
 
 pub unreachable-requires : goal.unreachable-requires
 unreachable-requires g c =

@@ -2,13 +2,13 @@ use Rattle.std.proofs.Common.{◌≡◌, ◌+◌, ◌<◌, ℕ, length, get_or, 
 use Rattle.flat_places.specs.declared.script.Script.{Script}
 use Rattle.flat_report.specs.Report.{finished}
 use Rattle.flat_stage.specs.declared.reader.Reader.{Reader}
-use Rattle.flat_play.specs.declared.game.Game.{Game}
+use Rattle.flat_play.specs.declared.play.Play.{Play}
 use Rattle.flat_play.specs.Playing.{ReaderStands, EndsStand}
 use Rattle.flat_play.proofs.Ending.{end_share, end_stands, ends_more}
 use Rattle.flat_play.proofs.Touching.{no-ends, one-end-more}
-use Rattle.flat_play.proofs.game.Game.end_next.Goals as goal
+use Rattle.flat_play.proofs.play.Play.end_next.Goals as goal
 
-waiting_is : (script : Script) (before : ℕ) (old : Game) (reader : Reader) → before < script.setup.sessions → EndsStand script before old → reader ≡ get_or old.readers.items before reader
+waiting_is : (script : Script) (before : ℕ) (old : Play) (reader : Reader) → before < script.setup.sessions → EndsStand script before old → reader ≡ get_or old.readers.items before reader
     → ReaderStands script (record { 0 = before + 1 }) (length script.lines) old.board.history reader
 waiting_is script before old reader within stands is =
     let P : Reader → Type 0 = λ r. ReaderStands script (record { 0 = before + 1 }) (length script.lines) old.board.history r in

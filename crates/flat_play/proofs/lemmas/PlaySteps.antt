@@ -36,14 +36,14 @@ use Rattle.flat_rules.specs.Shown.{shown_states}
 use Rattle.flat_report.specs.Report.{finished, frame_at, hits_at}
 use Rattle.flat_places.specs.declared.script.Script.{Script}
 use Rattle.flat_play.specs.declared.frame.LastFrame.{LastFrame}
-use Rattle.flat_play.specs.declared.game.Game.{Game}
+use Rattle.flat_play.specs.declared.play.Play.{Play}
 use Rattle.flat_play.specs.declared.kept.Kept.{Kept}
 use Rattle.flat_play.specs.Keeping.{Keeps}
 use Rattle.flat_play.specs.Last.{IsLast, StaysLast}
 use Rattle.flat_report.specs.declared.report.HitAnswer.{HitAnswer}
 use Rattle.flat_stage.specs.declared.reader.Reader.{Reader}
 use Rattle.flat_playable.specs.Playable.{is_played, keeps_frames}
-use Rattle.flat_play.specs.Playing.{IsSpent, lines_by, shares_of, ReaderStands, ReadersStand, DisplayStands, FramesStand, GameStands, BeginsFrame, FinishesFrame, EntersBeside, AsksPoint, AnswersStand, HasViews, session_text, display_text}
+use Rattle.flat_play.specs.Playing.{IsSpent, lines_by, shares_of, ReaderStands, ReadersStand, DisplayStands, FramesStand, PlayStands, BeginsFrame, FinishesFrame, EntersBeside, AsksPoint, AnswersStand, HasViews, session_text, display_text}
 use Rattle.flat_play.proofs.Growing.{Grows, grows, stays, is_quiet}
 use Rattle.flat_play.proofs.lemmas.FramesShown.{all-finished}
 use Rattle.flat_play.proofs.lemmas.DisplaySteps.{QuietStep, begin_time_ok, quiet_begin, quiet_finish, quiet_end, quiet_answers, answers_session, answers_beside, answers_done, answers_point, answers_stay, display_session, display_probe, display_begin, display_done, display_beside, finished-beside, finished-session, frames_session, frames_beside, frames_begin, frames_done}
@@ -176,13 +176,13 @@ module _ (script : Script) (place : ℕ) (x : ScriptLine) (at : At script place 
       subst P (sym is) (readers_beside old_readers old new (λ s. ap (is_session s) actor) step stand)
 
   -- a line of a probe, which leaves the run as it is
-  pub probe_more : (game : Game) (p : ℕ) (asked : ProbeLine) → x.actor ≡ Probe p → x.body ≡ body.Probe asked → GameStands script place game → GameStands script (place + 1) game
-  probe_more game p asked actor is stands =
-      let h : List Entry = game.board.history in
+  pub probe_more : (play : Play) (p : ℕ) (asked : ProbeLine) → x.actor ≡ Probe p → x.body ≡ body.Probe asked → PlayStands script place play → PlayStands script (place + 1) play
+  probe_more play p asked actor is stands =
+      let h : List Entry = play.board.history in
       record {
         setup = stands.setup;
         shares = stands.shares;
-        readers = readers_beside game.readers.items h h (λ s. ap (is_session s) actor) (same refl) stands.readers;
+        readers = readers_beside play.readers.items h h (λ s. ap (is_session s) actor) (same refl) stands.readers;
         display = display_probe script place x at asked is h stands.display;
         order = order_more script place x at h h (same refl) stands.order;
         spent = spent_more script place x at h h (same refl) stands.spent;
@@ -194,9 +194,9 @@ module _ (script : Script) (place : ℕ) (x : ScriptLine) (at : At script place 
       }
 
   -- a line of a session, which its reader has played
-  pub session_more : (old new : Game) (s : SessionNo) (text : Line) (reader : Reader) → x.actor ≡ Session s → x.body ≡ body.Session text → is_declared script.setup s ≡ true → GameStands script place old
+  pub session_more : (old new : Play) (s : SessionNo) (text : Line) (reader : Reader) → x.actor ≡ Session s → x.body ≡ body.Session text → is_declared script.setup s ≡ true → PlayStands script place old
       → new.readers.items ≡ set old.readers.items (s.0 - 1) reader → ReaderStands script s (place + 1) new.board.history reader → Grows old.board new.board (Session s) x.number
-      → new.shown ≡ old.shown → new.with_view ≡ old.with_view → new.kept ≡ old.kept → new.last ≡ old.last → new.answers ≡ old.answers → new.changed ≡ old.changed → GameStands script (place + 1) new
+      → new.shown ≡ old.shown → new.with_view ≡ old.with_view → new.kept ≡ old.kept → new.last ≡ old.last → new.answers ≡ old.answers → new.changed ≡ old.changed → PlayStands script (place + 1) new
   session_more old new s text reader actor is declared stands readers_is mine grown shown_is views_is kept_is last_is answers_are changed_is =
       let g : Grown x old.board new.board = grown_is x s old.board new.board actor grown in
       let within = below_declared script.setup s declared in
@@ -218,7 +218,7 @@ module _ (script : Script) (place : ℕ) (x : ScriptLine) (at : At script place 
       }
 
   -- a line that begins a frame
-  pub begin_more : (old new : Game) (time : ℕ) → x.actor ≡ Display → x.body ≡ body.Display (display.Begin time) → GameStands script place old → BeginsFrame old new x.number time → GameStands script (place + 1) new
+  pub begin_more : (old new : Play) (time : ℕ) → x.actor ≡ Display → x.body ≡ body.Display (display.Begin time) → PlayStands script place old → BeginsFrame old new x.number time → PlayStands script (place + 1) new
   begin_more old new time actor is stands begins =
       let e : Entry = entry_of Display x.number [] (Begin time) Done in
       let h : List Entry = old.board.history in
@@ -250,7 +250,7 @@ module _ (script : Script) (place : ℕ) (x : ScriptLine) (at : At script place 
       }
 
   -- a line that ends one
-  pub finish_more : (old new : Game) → x.actor ≡ Display → x.body ≡ body.Display display.Done → GameStands script place old → FinishesFrame script old new x.number → GameStands script (place + 1) new
+  pub finish_more : (old new : Play) → x.actor ≡ Display → x.body ≡ body.Display display.Done → PlayStands script place old → FinishesFrame script old new x.number → PlayStands script (place + 1) new
   finish_more old new actor is stands finishes =
       let e : Entry = entry_of Display x.number [] Finish Done in
       let h : List Entry = old.board.history in
@@ -280,10 +280,10 @@ module _ (script : Script) (place : ℕ) (x : ScriptLine) (at : At script place 
       }
 
   -- any of these, by what becomes of the answers
-  entered_more : (old new : Game) (text : DisplayLine) (kind : Kind) (reply : Reply) → x.actor ≡ Display → x.body ≡ body.Display text → entry_of_display text ≡ kind → is_begin kind ≡ false → is_finish kind ≡ false → is_end kind ≡ false
+  entered_more : (old new : Play) (text : DisplayLine) (kind : Kind) (reply : Reply) → x.actor ≡ Display → x.body ≡ body.Display text → entry_of_display text ≡ kind → is_begin kind ≡ false → is_finish kind ≡ false → is_end kind ≡ false
       → ((o : Bool) (t : ℕ) (follows : Bool → ℕ → Bool) → keeps_frames o t (body.Display text) follows ≡ follows o t)
-      → GameStands script place old → new.board ≡ entered old.board Display x.number [] kind reply → new.shown ≡ old.shown → new.changed ≡ old.changed → new.with_view ≡ old.with_view → new.readers ≡ old.readers → new.kept ≡ old.kept → new.last.reuse ≡ old.last.reuse
-      → AnswersStand script.setup (old.board.history ▹ entry_of Display x.number [] kind reply) new.last new.answers → GameStands script (place + 1) new
+      → PlayStands script place old → new.board ≡ entered old.board Display x.number [] kind reply → new.shown ≡ old.shown → new.changed ≡ old.changed → new.with_view ≡ old.with_view → new.readers ≡ old.readers → new.kept ≡ old.kept → new.last.reuse ≡ old.last.reuse
+      → AnswersStand script.setup (old.board.history ▹ entry_of Display x.number [] kind reply) new.last new.answers → PlayStands script (place + 1) new
   entered_more old new text kind reply actor is makes no_begin no_finish no_end keeps stands board shown_is changed_is views_is readers_are kept_is reuse_is answers =
       let e : Entry = entry_of Display x.number [] kind reply in
       let h : List Entry = old.board.history in
@@ -307,9 +307,9 @@ module _ (script : Script) (place : ℕ) (x : ScriptLine) (at : At script place 
       }
 
   -- a line of the display that begins no frame and ends none
-  pub beside_more : (old new : Game) (text : DisplayLine) (kind : Kind) (reply : Reply) → x.actor ≡ Display → x.body ≡ body.Display text → entry_of_display text ≡ kind → is_quiet kind ≡ true
+  pub beside_more : (old new : Play) (text : DisplayLine) (kind : Kind) (reply : Reply) → x.actor ≡ Display → x.body ≡ body.Display text → entry_of_display text ≡ kind → is_quiet kind ≡ true
       → ((o : Bool) (t : ℕ) (follows : Bool → ℕ → Bool) → keeps_frames o t (body.Display text) follows ≡ follows o t)
-      → GameStands script place old → EntersBeside old new x.number kind reply → GameStands script (place + 1) new
+      → PlayStands script place old → EntersBeside old new x.number kind reply → PlayStands script (place + 1) new
   beside_more old new text kind reply actor is makes calm keeps stands enters =
       let e : Entry = entry_of Display x.number [] kind reply in
       let h : List Entry = old.board.history in
@@ -317,7 +317,7 @@ module _ (script : Script) (place : ℕ) (x : ScriptLine) (at : At script place 
       (rw (enters.last, enters.answers) (answers_beside script.setup h old.last old.answers stands.answers e (quiet_finish kind calm) (quiet_answers e (frames h) (hits_at script.setup (to_finished h)) kind calm)))
 
   -- a line that asks for a point
-  pub point_more : (old new : Game) (px py : ℤ) → x.actor ≡ Display → x.body ≡ body.Display (display.Hit px py) → GameStands script place old → AsksPoint old new x.number px py → GameStands script (place + 1) new
+  pub point_more : (old new : Play) (px py : ℤ) → x.actor ≡ Display → x.body ≡ body.Display (display.Hit px py) → PlayStands script place old → AsksPoint old new x.number px py → PlayStands script (place + 1) new
   point_more old new px py actor is stands asks =
       let L : Setup → Type 0 = λ st. StaysLast st old.last new.last in
       let given : Setup → List HitAnswer = λ st. (record { actor = Display; line = x.number; frame = old.last.frame; hits = hit_list st old.last.reuse px py }) ∷ [] in
@@ -326,8 +326,8 @@ module _ (script : Script) (place : ℕ) (x : ScriptLine) (at : At script place 
       (subst L stands.setup asks.last) (asks.answers ∙ ap (λ st. old.answers ++ given st) stands.setup))
 
 -- what is joined of the last frame plays no part
-pub game_stays : (script : Script) (place : ℕ) (game : Game) (last : LastFrame) → StaysLast script.setup game.last last → GameStands script place game → GameStands script place (record game { last = last })
-game_stays script place game last kept stands = record {
+pub play_stays : (script : Script) (place : ℕ) (play : Play) (last : LastFrame) → StaysLast script.setup play.last last → PlayStands script place play → PlayStands script place (record play { last = last })
+play_stays script place play last kept stands = record {
   setup = stands.setup;
   shares = stands.shares;
   readers = stands.readers;
@@ -337,8 +337,8 @@ game_stays script place game last kept stands = record {
   views = stands.views;
   shows = stands.shows;
   keeps = stands.keeps;
-  same = subst (λ (was : Shown). AreSame game.changed was game.shown) (sym kept.reuse) stands.same;
-  answers = answers_stay script.setup game.board.history game.last game.answers stands.answers last kept;
+  same = subst (λ (was : Shown). AreSame play.changed was play.shown) (sym kept.reuse) stands.same;
+  answers = answers_stay script.setup play.board.history play.last play.answers stands.answers last kept;
 }
 
 -- the reader of a session

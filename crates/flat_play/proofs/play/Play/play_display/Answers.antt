@@ -1,7 +1,7 @@
 use Rattle.flat_play.specs.Last.{IsLast}
 use Rattle.flat_play.specs.Playing.{AsksPoint}
 use Rattle.flat_play.specs.Showing.{IsShown}
-use Rattle.std.proofs.Common.{rules, ◌≡◌, ◌≤◌, true, length, refl, sym, ap, subst, arith}
+use Rattle.std.proofs.Common.{rules, ◌≡◌, ◌≤◌, ◌+◌, true, length, refl, sym, ap, ◌∙◌, subst, arith}
 use Rattle.flat_base.specs.declared.ids.Actor.TheVariants.{Display}
 use Rattle.flat_scene.specs.declared.script.Body.TheVariants as body
 use Rattle.flat_scene.specs.declared.script.DisplayLine.{DisplayLine}
@@ -9,15 +9,20 @@ use Rattle.flat_scene.specs.declared.script.DisplayLine.TheVariants as display
 use Rattle.flat_scene.specs.declared.script.ScriptLine.{ScriptLine}
 use Rattle.flat_scene.specs.declared.journal.Kind.TheVariants.{Signal, Wait}
 use Rattle.flat_scene.specs.declared.setup.Setup.{Setup}
+use Rattle.flat_base.specs.declared.ids.FrameNo.{FrameNo}
 use Rattle.flat_rules.specs.Legal.{is_fence}
 use Rattle.flat_rules.specs.Owned.{is_played_display}
 use Rattle.flat_play.proofs.lemmas.DisplaySteps.{display_share, begin_time_ok, done_ok, may_begin, may_finish, may_hit, may_signal_fence, may_wait_for}
-use Rattle.flat_play.proofs.lemmas.GameSteps.{begin_more, display_finishes, finish_more, beside_more, point_more}
+use Rattle.flat_play.proofs.lemmas.PlaySteps.{begin_more, display_finishes, finish_more, beside_more, play_stays, point_more}
+use Rattle.flat_topology.specs.Changes.{AreSame}
+use Rattle.flat_topology.specs.Shown.{Shown}
+use Rattle.flat_play.specs.declared.frame.LastFrame.{LastFrame}
 use Rattle.flat_play.proofs.lemmas.FramesShown.{few_frames}
+use Rattle.flat_play.proofs.lemmas.Joining.{joined-again}
 use Rattle.flat_play.proofs.lemmas.Starting.{few, by_at_most}
 use Rattle.flat_play.proofs.lemmas.Steps.{At, at_place}
 use Rattle.flat_play.proofs.Touching.{entered-on}
-use Rattle.flat_play.proofs.game.Game.play_display.Goals as goal
+use Rattle.flat_play.proofs.play.Play.play_display.Goals as goal
 
 pub begin-requires-clause-may : goal.begin-requires-clause-may
 begin-requires-clause-may g c =
@@ -36,6 +41,15 @@ finish-requires-clause-may g c =
     may_finish c.args.self.now.board
     (display_share c.args.script.now c.args.place x at c.args.self.now.board c.requires.stands.shares refl c.requires.stands.spent)
     (done_ok c.args.script.now c.args.place x at is c.args.self.now.board.history c.requires.stands.display)
+
+pub finish-requires-clause-last : goal.finish-requires-clause-last
+finish-requires-clause-last g c =
+    ap (λ (f : FrameNo). f.0) (c.take_joined-joined.ensures.stays c.args.script.now.setup c.requires.stands.answers.is_last).frame ∙ c.requires.stands.answers.number
+
+pub finish-requires-clause-same : goal.finish-requires-clause-same
+finish-requires-clause-same g c =
+    let S : Shown → Type 0 = λ last. AreSame c.args.self.now.changed last c.args.self.now.shown in
+    subst S (sym (c.take_joined-joined.ensures.stays c.args.script.now.setup c.requires.stands.answers.is_last).reuse) c.requires.stands.same
 
 pub signal-requires : goal.signal-requires
 signal-requires g c =
@@ -78,7 +92,16 @@ returns-in_ok-finish-in-Done-clause-stands g c =
     let x : ScriptLine = record { number = c.args.number; actor = Display; body = body.Display c.args.text } in
     let at : At c.args.script.now c.args.place x = at_place c.args.script.now c.args.place x c.requires.playable c.requires.line in
     let is : x.body ≡ body.Display display.Done = ap (λ t. body.Display t) c.in-Done.is in
-    finish_more c.args.script.now c.args.place x at c.args.self.now c.finish.new.self refl is c.requires.stands c.in_ok-finish-in-Done.ensures.finishes
+    let script = c.args.script.now in
+    let self = c.args.self.now in
+    let taken = c.take_joined-joined.ensures.stays script.setup c.requires.stands.answers.is_last in
+    let finishes = c.in_ok-finish-in-Done.ensures.finishes in
+    let done = finish_more script c.args.place x at (record self { last = c.take_joined-joined.new.self }) c.finish.new.self refl is (play_stays script c.args.place self c.take_joined-joined.new.self taken c.requires.stands) finishes in
+    let last = c.finish.new.self.last in
+    let then : LastFrame = record last { joined = c.take_joined-joined.result } in
+    let S : Shown → Type 0 = λ next. AreSame self.changed self.last.reuse next in
+    let joined = c.take_joined-joined.ensures.joined script.setup last.reuse c.requires.stands.answers.is_last done.answers.is_last.count (subst S (sym finishes.showing) c.requires.stands.same) in
+    play_stays script (c.args.place + 1) c.finish.new.self then (joined-again script.setup last then done.answers.is_last refl refl joined) done
 
 pub returns-in-Signal-clause-stands : goal.returns-in-Signal-clause-stands
 returns-in-Signal-clause-stands g c =

@@ -1,7 +1,12 @@
-ghost use Rattle.std.specs.Prelude.{◌≡◌, ◌+◌, ◌<◌, ◌^◌, [], true, length, map, Some, OnOk, OnErr, IfOk, slice_get};
+//! A play on its way. Lines run on the board itself, with no lock, since nobody enters
+//! beside them. What a begin shows stays until the next one, as the frame is composed at
+//! its done.
+ghost use Rattle.std.specs.Prelude.{◌≡◌, ◌+◌, ◌<◌, ◌^◌, [], true, length, map, Some, OnOk, OnErr};
+ghost use Rattle.std.specs.Prelude.{IfOk, slice_get};
 ghost use Rattle.std.specs.Option.{option_copied};
 ghost use Rattle.flat_base.specs.declared.ids.Actor.TheVariants.{Display, Session};
-ghost use Rattle.flat_scene.specs.declared.journal.Kind.TheVariants.{Begin, Finish, Hit, Signal, Wait};
+ghost use Rattle.flat_scene.specs.declared.journal.Kind.TheVariants.{Begin, Finish, Hit, Signal};
+ghost use Rattle.flat_scene.specs.declared.journal.Kind.TheVariants.{Wait};
 ghost use Rattle.flat_scene.specs.declared.journal.Reply.TheVariants.{Done};
 ghost use Rattle.flat_scene.specs.declared.script.Body.TheVariants as body;
 ghost use Rattle.flat_scene.specs.Interleave.{IsWritten};
@@ -33,7 +38,7 @@ use std::alloc::Global;
 
 /// A run: the board, the sessions, and what is shown.
 #[derive(Drop)]
-pub struct Game {
+pub struct Play {
     pub board: Board,
     /// The sessions as they read their lines, session 1 first.
     pub readers: Vec<Reader>,
@@ -50,19 +55,24 @@ pub struct Game {
     pub answers: HitAnswers,
 }
 
-impl Game {
+impl Play {
     ghost use Rattle.flat_play.specs.Last.{IsLast};
-    ghost use Rattle.flat_play.specs.Playing.{GameStands, FramesStand, HasViews, BeginsFrame, FinishesFrame, EntersBeside, AsksPoint, EndsStand, HasPlayed};
+    ghost use Rattle.flat_play.specs.Playing.{PlayStands, FramesStand, HasViews, BeginsFrame};
+    ghost use Rattle.flat_play.specs.Playing.{FinishesFrame, EntersBeside, AsksPoint, EndsStand};
+    ghost use Rattle.flat_play.specs.Playing.{HasPlayed};
 
     /// The next frame, as it is composed of what the sessions show.
     fn compose_next(&mut self, alloc: Global) -> Result<FrameOut, NoMemory>
         requires setup { is_setup self.old.board.setup ≡ true }
-        requires stands { FramesStand self.old.board.setup self.old.board.history self.old.shown self.old.with_view }
+        requires stands { FramesStand self.old.board.setup self.old.board.history self.old.shown
+            self.old.with_view }
         requires views { HasViews self.old.board.setup self.old.with_view }
         requires last { self.old.last.frame.0 ≡ frames self.old.board.history }
         requires same { AreSame self.old.changed self.old.last.reuse self.old.shown }
         requires few { frames self.old.board.history + 1 < 2 ^ 32 }
-        ensures frame { IfOk result (λ frame. frame ≡ frame_at self.old.board.setup (frames self.old.board.history + 1) (to_begin self.old.board.history)) }
+        ensures frame { IfOk result (λ frame. frame
+            ≡ frame_at self.old.board.setup (frames self.old.board.history + 1)
+            (to_begin self.old.board.history)) }
         ensures is { OnOk result (IsLast self.old.board.setup self.new.last) }
         ensures shows { OnOk result (self.new.last.reuse ≡ self.old.shown) }
         ensures others { self.new ≡ record self.old { last = self.new.last } }
@@ -81,7 +91,8 @@ impl Game {
     /// Begins a frame.
     fn begin(&mut self, number: u32, time: u64)
         requires may { MayCall self.old.board Display [] (Begin time) }
-        requires shown { self.old.shown ≡ shown_states self.old.board.setup (to_begin self.old.board.history) }
+        requires shown { self.old.shown
+            ≡ shown_states self.old.board.setup (to_begin self.old.board.history) }
         ensures { BeginsFrame self.old self.new number time }
     {
         let begun = self.board.begin(number, time, &mut self.shown);
@@ -101,19 +112,25 @@ impl Game {
     ) -> Result<(), NoMemory>
         requires may { MayCall self.old.board Display [] Finish }
         requires setup { is_setup self.old.board.setup ≡ true }
-        requires stands { FramesStand self.old.board.setup self.old.board.history self.old.shown self.old.with_view }
+        requires stands { FramesStand self.old.board.setup self.old.board.history self.old.shown
+            self.old.with_view }
         requires views { HasViews self.old.board.setup self.old.with_view }
         requires last { self.old.last.frame.0 ≡ frames self.old.board.history }
         requires same { AreSame self.old.changed self.old.last.reuse self.old.shown }
         requires few { frames self.old.board.history + 1 < 2 ^ 32 }
         requires of { self.old.board.setup ≡ script.now.setup }
-        requires keeps { Keeps script.now self.old.kept (finished script.now.setup self.old.board.history) }
+        requires keeps { Keeps script.now self.old.kept
+            (finished script.now.setup self.old.board.history) }
         requires number { length displays.old.items ≡ set.old.displays }
         ensures finishes { OnOk result (FinishesFrame script.now self.old self.new number) }
-        ensures shows { OnOk result (IsShown (λ d. shown d) (λ d. faults d) (finished script.now.setup self.old.board.history) (finished script.now.setup self.new.board.history) set.old set.new displays.old.items displays.new.items) }
+        ensures shows { OnOk result (IsShown (λ d. shown d) (λ d. faults d)
+            (finished script.now.setup self.old.board.history)
+            (finished script.now.setup self.new.board.history) set.old set.new displays.old.items
+            displays.new.items) }
         ensures unshown { OnErr result ((set.new ≡ set.old) × (displays.new ≡ displays.old)) }
         ensures same { set.new.displays ≡ set.old.displays }
-        ensures kinds { map (λ d. d.vtable) displays.new.items ≡ map (λ d. d.vtable) displays.old.items }
+        ensures kinds { map (λ d. d.vtable) displays.new.items
+            ≡ map (λ d. d.vtable) displays.old.items }
     {
         let frame = self.compose_next(alloc)?;
         self.kept.keep(script, frame)?;
@@ -134,7 +151,8 @@ impl Game {
     /// Looks once whether a condition of the display is met.
     fn wait(&mut self, alloc: Global, number: u32, c: Cond)
         requires { MayCall self.old.board Display [] (Wait c) }
-        ensures { EntersBeside self.old self.new number (Wait c) (reply_to self.old.board.setup self.old.board.history Display [] (Wait c)) }
+        ensures { EntersBeside self.old self.new number (Wait c) (reply_to self.old.board.setup
+            self.old.board.history Display [] (Wait c)) }
     {
         let calls = CallList::new(alloc);
         let _reply = self.board.wait(Actor::Display, number, calls, c);
@@ -168,12 +186,15 @@ impl Game {
         number: u32,
         text: &Line,
     ) -> Result<(), NoMemory>
-        requires line { slice_get script.now.lines place ≡ Some (record { number = number; actor = Session s; body = body.Session text.now }) }
+        requires line { slice_get script.now.lines place
+            ≡ Some (record { number = number; actor = Session s; body = body.Session text.now }) }
         requires playable { is_playable script.now ≡ true }
-        requires stands { GameStands script.now place self.old }
-        ensures stands { OnOk result (GameStands script.now (place + 1) self.new) }
-        ensures goes_on { OnOk result (GoesOnAt number self.old.board.history self.new.board.history) }
-        ensures frames { OnOk result (finished script.now.setup self.new.board.history ≡ finished script.now.setup self.old.board.history) }
+        requires stands { PlayStands script.now place self.old }
+        ensures stands { OnOk result (PlayStands script.now (place + 1) self.new) }
+        ensures goes_on { OnOk result (GoesOnAt number self.old.board.history
+            self.new.board.history) }
+        ensures frames { OnOk result (finished script.now.setup self.new.board.history
+            ≡ finished script.now.setup self.old.board.history) }
         ensures kept { OnOk result (self.new.kept ≡ self.old.kept) }
     {
         lines_are_read();
@@ -194,17 +215,23 @@ impl Game {
         set: &mut DisplaySet,
         displays: &mut Vec<Box<dyn Display>>,
     ) -> Result<(), NoMemory>
-        requires line { slice_get script.now.lines place ≡ Some (record { number = number; actor = Display; body = body.Display text }) }
+        requires line { slice_get script.now.lines place
+            ≡ Some (record { number = number; actor = Display; body = body.Display text }) }
         requires playable { is_playable script.now ≡ true }
-        requires stands { GameStands script.now place self.old }
+        requires stands { PlayStands script.now place self.old }
         requires number { length displays.old.items ≡ set.old.displays }
-        ensures stands { OnOk result (GameStands script.now (place + 1) self.new) }
-        ensures goes_on { OnOk result (GoesOnAt number self.old.board.history self.new.board.history) }
+        ensures stands { OnOk result (PlayStands script.now (place + 1) self.new) }
+        ensures goes_on { OnOk result (GoesOnAt number self.old.board.history
+            self.new.board.history) }
         ensures keeping { OnOk result (keeping_of self.new.kept ≡ keeping_of self.old.kept) }
-        ensures shows { OnOk result (IsShown (λ d. shown d) (λ d. faults d) (finished script.now.setup self.old.board.history) (finished script.now.setup self.new.board.history) set.old set.new displays.old.items displays.new.items) }
+        ensures shows { OnOk result (IsShown (λ d. shown d) (λ d. faults d)
+            (finished script.now.setup self.old.board.history)
+            (finished script.now.setup self.new.board.history) set.old set.new displays.old.items
+            displays.new.items) }
         ensures unshown { OnErr result ((set.new ≡ set.old) × (displays.new ≡ displays.old)) }
         ensures same { set.new.displays ≡ set.old.displays }
-        ensures kinds { map (λ d. d.vtable) displays.new.items ≡ map (λ d. d.vtable) displays.old.items }
+        ensures kinds { map (λ d. d.vtable) displays.new.items
+            ≡ map (λ d. d.vtable) displays.old.items }
     {
         let _journal = self.board.journal();
         match text {
@@ -213,7 +240,9 @@ impl Game {
                 Ok(())
             }
             DisplayLine::Done => {
+                let joined = self.last.take_joined(self.changed);
                 self.finish(alloc, script, number, set, displays)?;
+                self.last.joined = joined;
                 Ok(())
             }
             DisplayLine::Signal(f) => {
@@ -244,15 +273,20 @@ impl Game {
     ) -> Result<(), NoMemory>
         requires place { place < length script.now.lines }
         requires playable { is_playable script.now ≡ true }
-        requires stands { GameStands script.now place self.old }
+        requires stands { PlayStands script.now place self.old }
         requires number { length displays.old.items ≡ set.old.displays }
-        ensures stands { OnOk result (GameStands script.now (place + 1) self.new) }
-        ensures goes_on { (line : ScriptLine) → slice_get script.now.lines place ≡ Some line → OnOk result (GoesOnAt line.number self.old.board.history self.new.board.history) }
+        ensures stands { OnOk result (PlayStands script.now (place + 1) self.new) }
+        ensures goes_on { (line : ScriptLine) → slice_get script.now.lines place ≡ Some line →
+            OnOk result (GoesOnAt line.number self.old.board.history self.new.board.history) }
         ensures keeping { OnOk result (keeping_of self.new.kept ≡ keeping_of self.old.kept) }
-        ensures shows { OnOk result (IsShown (λ d. shown d) (λ d. faults d) (finished script.now.setup self.old.board.history) (finished script.now.setup self.new.board.history) set.old set.new displays.old.items displays.new.items) }
+        ensures shows { OnOk result (IsShown (λ d. shown d) (λ d. faults d)
+            (finished script.now.setup self.old.board.history)
+            (finished script.now.setup self.new.board.history) set.old set.new displays.old.items
+            displays.new.items) }
         ensures unshown { OnErr result ((set.new ≡ set.old) × (displays.new ≡ displays.old)) }
         ensures same { set.new.displays ≡ set.old.displays }
-        ensures kinds { map (λ d. d.vtable) displays.new.items ≡ map (λ d. d.vtable) displays.old.items }
+        ensures kinds { map (λ d. d.vtable) displays.new.items
+            ≡ map (λ d. d.vtable) displays.old.items }
     {
         let line = script.lines.at(place);
         match line.actor {
@@ -277,7 +311,8 @@ impl Game {
         requires stands { EndsStand script.now before self.old }
         ensures stands { EndsStand script.now (before + 1) self.new }
         ensures ends { GoesOnByEnds self.old.board.history self.new.board.history }
-        ensures frames { finished script.now.setup self.new.board.history ≡ finished script.now.setup self.old.board.history }
+        ensures frames { finished script.now.setup self.new.board.history
+            ≡ finished script.now.setup self.old.board.history }
         ensures kept { self.new.kept ≡ self.old.kept }
     {
         lines_are_read();
@@ -288,11 +323,12 @@ impl Game {
     /// Ends all sessions in their order.
     pub fn end_all(&mut self, script: &Script)
         requires playable { is_playable script.now ≡ true }
-        requires stands { GameStands script.now (length script.now.lines) self.old }
+        requires stands { PlayStands script.now (length script.now.lines) self.old }
         ensures played { HasPlayed script.now self.new.board self.new.kept self.new.answers }
         ensures written { IsWritten script.now.setup self.new.board.history }
         ensures ends { GoesOnByEnds self.old.board.history self.new.board.history }
-        ensures frames { finished script.now.setup self.new.board.history ≡ finished script.now.setup self.old.board.history }
+        ensures frames { finished script.now.setup self.new.board.history
+            ≡ finished script.now.setup self.old.board.history }
         ensures kept { self.new.kept ≡ self.old.kept }
     {
         for before in 0..script.setup.sessions {
