@@ -13,5 +13,5 @@ mod digits;
 mod names;
 mod page;
 
-pub use names::{name_at, session_name};
+pub use names::{actor_name, name_at, session_name};
 pub use page::Page;

@@ -1,4 +1,5 @@
 -- The words of a call are those that it was read from.
+use Rattle.flat_page.specs.Words.{name_at}
 use Rattle.std.proofs.Common.{◌≡◌, ℕ, ◌+◌, ◌<◌, ◌≤◌, ◌^◌, ◌-◌, ◌==◌, ◌&&◌, zero, suc, nat_le, ℤ, Bool, true, false, cond, nat_lt, List, [], ◌∷◌, ◌++◌, length, Option, Some, None, Ok, Err, refl, sym, ◌∙◌, ap, option_and_then, if◌then◌else◌, slice_get, unwrap_or, arith, get_or, append-nil, length-append, subst}
 use Rattle.std.specs.List.{flat_map, find}
 use Rattle.std.specs.Option.{option_map_or}
@@ -41,7 +42,7 @@ use Rattle.flat_places.specs.Names.{place_of, is_actor}
 use Rattle.flat_places.specs.Places.{owned, number_below, i32, u32, colour, transform, content, choice, orientation, blend, flip, interaction, view_end, viewport_end, collection, fence, region, regions, int_rect, inset, fits_i32, fence_word as tested_fence}
 use Rattle.flat_forms.specs.Calls.{call_form, call_named, call_names, text, no_inset, inset_or_none}
 use Rattle.flat_places.specs.Known.{known_words}
-use Rattle.flat_print.specs.Print.{name_at, pair_word, buffers_word, fence_word, call_fields, call_name, rect_words, inset_words, region_words, orientation_number, blend_number, flip_number, interaction_number}
+use Rattle.flat_print.specs.Print.{pair_word, buffers_word, fence_word, call_fields, call_name, rect_words, inset_words, region_words, orientation_number, blend_number, flip_number, interaction_number}
 use Rattle.flat_forms.proofs.lemmas.FormLemmas.{mapped_ok, unless_ok, Gives, apply_ok, map_ok, place_ok, whole_ok, or_kind_ok, both_ok, Shown, shown_whole}
 use Rattle.flat_forms.proofs.lemmas.ParserLemmas.{is_zero}
 

@@ -1,9 +1,8 @@
 -- The canonical text of a script: the words of each of its lines.
-use Rattle.std.specs.Prelude.{◌≡◌, ℕ, ◌+◌, ◌-◌, ◌==◌, ◌&&◌, List, [], ◌∷◌, ◌++◌, unwrap_or, slice_get, map, codes, if◌then◌else◌}
+use Rattle.std.specs.Prelude.{◌≡◌, ℕ, ◌+◌, ◌-◌, ◌==◌, ◌&&◌, List, [], ◌∷◌, ◌++◌, map, codes, if◌then◌else◌}
 use Rattle.std.specs.List.{flat_map}
 use Rattle.std.specs.Option.{option_map_or}
 use Rattle.std.specs.Fmt.{decimal, signed_decimal}
-use Rattle.flat_base.specs.declared.ids.Actor.{Actor}
 use Rattle.flat_base.specs.declared.ids.Actor.TheVariants.{Display, Session, Probe}
 use Rattle.flat_base.specs.declared.ids.SessionNo.{SessionNo}
 use Rattle.flat_base.specs.declared.ids.PairNo.{PairNo}
@@ -45,12 +44,9 @@ use Rattle.flat_places.specs.declared.script.Script.{Script}
 use Rattle.flat_places.specs.Forms.{Word}
 use Rattle.flat_forms.specs.Calls.{text}
 use Rattle.flat_script.specs.Grammar.{IsScript}
+use Rattle.flat_page.specs.Words.{name_at, actor_name}
 
 -- names
-
--- the name at a place in the order of declaration
-abbrev pub name_at : List Word → ℕ → Word
-name_at names i = unwrap_or (slice_get names i) []
 
 -- a session's name
 abbrev pub session_word : Script → SessionNo → Word
@@ -67,12 +63,6 @@ fence_word s f = name_at s.fences f.0
 -- a buffer collection's name
 abbrev pub buffers_word : Script → BufferNo → Word
 buffers_word s b = name_at s.buffers b.0
-
--- an actor's name
-abbrev pub actor_word : Script → Actor → Word
-actor_word s Display = codes "display"
-actor_word s (Session a) = session_word s a
-actor_word s (Probe p) = name_at s.probes p
 
 -- numbers
 
@@ -246,7 +236,7 @@ body_words s (body.Probe l) = probe_words l
 
 -- a line of the body
 abbrev pub line_words : Script → ScriptLine → List Word
-line_words s l = actor_word s l.actor ∷ body_words s l.body
+line_words s l = actor_name s l.actor ∷ body_words s l.body
 
 -- the head
 
@@ -260,11 +250,11 @@ buffers_line_words s i d = codes "buffers" ∷ name_at s.buffers i ∷ session_w
 
 -- the pair of that number
 abbrev pub pair_line_words : Script → ℕ → PairDecl → List Word
-pair_line_words s i d = codes "pair" ∷ name_at s.pairs i ∷ actor_word s d.viewport ∷ session_word s d.view ∷ []
+pair_line_words s i d = codes "pair" ∷ name_at s.pairs i ∷ actor_name s d.viewport ∷ session_word s d.view ∷ []
 
 -- the fence of that number
 abbrev pub fence_line_words : Script → ℕ → FenceDecl → List Word
-fence_line_words s i d = codes "fence" ∷ name_at s.fences i ∷ map (actor_word s) d.owners
+fence_line_words s i d = codes "fence" ∷ name_at s.fences i ∷ map (actor_name s) d.owners
 
 -- a line for each item, by its number
 abbrev pub numbered : {A : Type 0} → (ℕ → A → List Word) → ℕ → List A → List (List Word)

@@ -10,12 +10,13 @@ ghost use Rattle.flat_print.specs.Print.{present_words, condition_words, get_wor
 ghost use Rattle.flat_print.specs.Print.{display_words, probe_words, body_words};
 
 use crate::print_words::{
-    blend_number, fence_word, flip_number, interaction_number, name_at, orientation_number,
-    push_i32, push_inset_if_any, push_inset_unless_none, push_list, push_numbers, push_rect,
+    blend_number, fence_word, flip_number, interaction_number, orientation_number, push_i32,
+    push_inset_if_any, push_inset_unless_none, push_list, push_numbers, push_rect,
     push_rect_if_any, push_regions, push_u64, push_word, session_word,
 };
 use flat_base::{BufferNo, ContentId, IntRect, NoMemory, PairNo, SessionNo};
 use flat_forms::CallName;
+use flat_page::name_at;
 use flat_places::Script;
 use flat_scene::{
     Body, Call, Cond, DisplayLine, HitRegion, Inset, Line, PresentArgs, ProbeLine, Watch,

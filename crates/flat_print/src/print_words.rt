@@ -1,47 +1,29 @@
+ghost use Rattle.flat_page.specs.Words.{actor_name};
 ghost use Rattle.std.specs.Prelude.{◌≡◌, ◌++◌, ◌∷◌, [], OnOk, map, cond};
 ghost use Rattle.std.specs.Fmt.{decimal, signed_decimal};
 ghost use Rattle.std.specs.Option.{option_map_or};
 ghost use Rattle.std.specs.List.{flat_map};
-ghost use Rattle.flat_print.specs.Print.{Writes, numbers, name_at, session_word, fence_word};
-ghost use Rattle.flat_print.specs.Print.{actor_word, rect_words, inset_words, inset_unless_none};
+ghost use Rattle.flat_print.specs.Print.{Writes, numbers, session_word, fence_word};
+ghost use Rattle.flat_print.specs.Print.{rect_words, inset_words, inset_unless_none};
 ghost use Rattle.flat_print.specs.Print.{region_words, list_words, orientation_number};
 ghost use Rattle.flat_print.specs.Print.{blend_number, flip_number, interaction_number};
 
 use flat_base::{Actor, FenceNo, IntRect, NoMemory, Orientation, SessionNo};
-use flat_places::{NameList, Script};
+use flat_page::{actor_name, name_at, session_name};
+use flat_places::Script;
 use flat_scene::{BlendMode, HitRegion, ImageFlip, Inset, Interaction};
 use flat_text::push_number;
-
-/// The name at a place, or nothing where there is none.
-pub fn name_at(names: &NameList, place: usize) -> &[u8]
-    ensures { result.now ≡ name_at names.now place }
-{
-    match names.as_slice().get(place) {
-        Some(name) => name.as_slice(),
-        None => &[],
-    }
-}
 
 pub fn session_word(script: &Script, session: SessionNo) -> &[u8]
     ensures { result.now ≡ session_word script.now session }
 {
-    name_at(&script.sessions, session.0.saturating_sub(1) as usize)
+    session_name(&script.sessions, session)
 }
 
 pub fn fence_word(script: &Script, fence: FenceNo) -> &[u8]
     ensures { result.now ≡ fence_word script.now fence }
 {
     name_at(&script.fences, fence.0 as usize)
-}
-
-pub fn actor_word(script: &Script, actor: Actor) -> &[u8]
-    ensures { result.now ≡ actor_word script.now actor }
-{
-    match actor {
-        Actor::Display => b"display",
-        Actor::Session(session) => session_word(script, session),
-        Actor::Probe(probe) => name_at(&script.probes, probe as usize),
-    }
 }
 
 pub fn push_bytes(out: &mut Vec<u8>, bytes: &[u8]) -> Result<(), NoMemory>
@@ -242,11 +224,11 @@ pub fn push_list(
 }
 
 pub fn push_owners(out: &mut Vec<u8>, script: &Script, owners: &[Actor]) -> Result<(), NoMemory>
-    ensures { OnOk result (Writes (map (actor_word script.now) owners.now) out.old.items
+    ensures { OnOk result (Writes (map (actor_name script.now) owners.now) out.old.items
         out.new.items) }
 {
     for owner in owners {
-        push_word(out, actor_word(script, *owner))?;
+        push_word(out, actor_name(script, *owner))?;
     }
     Ok(())
 }

@@ -1,16 +1,16 @@
+ghost use Rattle.flat_page.specs.Words.{actor_name, name_at};
 ghost use Rattle.std.specs.Prelude.{◌≡◌, ◌++◌, ◌∷◌, [], ℕ, List, OnOk, IfOk, map, codes};
 ghost use Rattle.flat_print.specs.Print.{Writes, WritesLines, Starts, name_words};
 ghost use Rattle.flat_print.specs.Print.{buffers_line_words, pair_line_words, fence_line_words};
 ghost use Rattle.flat_print.specs.Print.{numbered, display_line_words, head_words, line_words};
-ghost use Rattle.flat_print.specs.Print.{actor_word, session_word, name_at, numbers, text_of};
+ghost use Rattle.flat_print.specs.Print.{session_word, numbers, text_of};
 ghost use Rattle.flat_print.specs.Print.{IsReadBack};
 ghost use Rattle.flat_script.specs.Grammar.{IsScript};
 
 use crate::print_lines::push_body;
-use crate::print_words::{
-    actor_word, name_at, push_bytes, push_numbers, push_owners, push_word, session_word,
-};
+use crate::print_words::{push_bytes, push_numbers, push_owners, push_word, session_word};
 use flat_base::NoMemory;
+use flat_page::{actor_name, name_at};
 use flat_places::{Name, Script};
 use flat_scene::{BufferDecl, FenceDecl, PairDecl, ScriptLine};
 use std::alloc::Global;
@@ -48,7 +48,7 @@ fn push_line(out: &mut Vec<u8>, script: &Script, line: &ScriptLine) -> Result<()
     ensures { OnOk result (WritesLines (line_words script.now line.now ∷ []) out.old.items
         out.new.items) }
 {
-    start(out, actor_word(script, line.actor))?;
+    start(out, actor_name(script, line.actor))?;
     push_body(out, script, &line.body)?;
     Ok(())
 }
@@ -131,7 +131,7 @@ fn push_pair(
 {
     start(out, b"pair")?;
     push_word(out, name_at(&script.pairs, number))?;
-    push_word(out, actor_word(script, decl.viewport))?;
+    push_word(out, actor_name(script, decl.viewport))?;
     push_word(out, session_word(script, decl.view))?;
     Ok(())
 }

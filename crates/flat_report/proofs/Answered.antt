@@ -14,11 +14,10 @@ use Rattle.flat_scene.specs.declared.script.ProbeLine.TheVariants as probe
 use Rattle.flat_scene.specs.declared.script.ScriptLine.{ScriptLine}
 use Rattle.flat_rules.specs.Legal.{frames}
 use Rattle.flat_places.specs.declared.script.Script.{Script}
-use Rattle.flat_page.specs.Words.{number, text_of}
+use Rattle.flat_page.specs.Words.{number, text_of, actor_name}
 use Rattle.flat_report.specs.declared.probes.ProbeAnswer.{ProbeAnswer}
 use Rattle.flat_report.specs.Handed.{answer_line, answers_text, probe_words}
 use Rattle.flat_report.specs.Laws.{FramesAreSeen}
-use Rattle.flat_report.specs.Names.{actor_name}
 use Rattle.flat_report.specs.Probes.{AreAnsweredBy, ProbesAnswered, ProbesAsk, answer_by, asked_by, asked_hits, frame_seen, frames_seen, hits_in_frame, is_asking, never_fall_from}
 use Rattle.flat_report.specs.Report.{is_probe, never_falls, numbers_from, probe_lines, probe_lines_of, same_probe, seen_line, seen_words}
 use Rattle.flat_report.proofs.Tails.{text-append}

@@ -16,8 +16,7 @@ use Rattle.flat_scene.specs.declared.script.ScriptLine.{ScriptLine}
 use Rattle.flat_places.specs.declared.script.Script.{Script}
 use Rattle.flat_report.specs.EntryLines.{hit_words, said_words}
 use Rattle.flat_report.specs.Report.{begin_of, hits_at, is_probe, probe_lines_of, probe_lines, numbers_from, seen_words, seen_line}
-use Rattle.flat_page.specs.Words.{Word, number, name_at}
-use Rattle.flat_report.specs.Names.{actor_name}
+use Rattle.flat_page.specs.Words.{Word, number, name_at, actor_name}
 use Rattle.flat_report.specs.Probes.{is_asking}
 use Rattle.flat_report.proofs.Named.{IsNamed, name-word, not-display, no-probe-name, actor-word}
 use Rattle.flat_report.proofs.Openings.{NoEntry, NoLoss, lost_words}

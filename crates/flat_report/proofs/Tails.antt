@@ -24,8 +24,7 @@ use Rattle.flat_report.specs.FrameLines.{frame_lines, lost_line}
 use Rattle.flat_report.specs.FrameTexts.{frame_text}
 use Rattle.flat_report.specs.Handed.{answer_to, post_line, first_hits, texts_after, answers_after, shown_text, handed_text}
 use Rattle.flat_report.specs.Report.{frame_at, hits_at, lost_at, shown_lines, entry_lines}
-use Rattle.flat_page.specs.Words.{Word, line_of, number, text_of}
-use Rattle.flat_report.specs.Names.{actor_name}
+use Rattle.flat_page.specs.Words.{Word, line_of, number, text_of, actor_name}
 
 -- ---- histories, from the oldest entry on
 

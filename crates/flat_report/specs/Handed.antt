@@ -18,10 +18,9 @@ use Rattle.flat_report.specs.declared.probes.ProbeAnswer.{ProbeAnswer}
 use Rattle.flat_report.specs.declared.report.HitAnswer.{HitAnswer}
 use Rattle.flat_report.specs.EntryLines.{entry_line, event_line, point_words}
 use Rattle.flat_report.specs.FrameLines.{lost_line}
-use Rattle.flat_report.specs.Names.{actor_name}
 use Rattle.flat_report.specs.Probes.{frame_seen}
 use Rattle.flat_report.specs.Report.{hits_at, lost_at}
-use Rattle.flat_page.specs.Words.{Word, number, text_of}
+use Rattle.flat_page.specs.Words.{Word, number, text_of, actor_name}
 
 -- the answer to an entry that asks for a point, where the last finished frame has this number and these hits
 abbrev pub answer_to : Entry → ℕ → (ℤ → ℤ → List Hit) → Kind → List HitAnswer

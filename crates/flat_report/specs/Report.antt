@@ -23,8 +23,7 @@ use Rattle.flat_topology.specs.Hits.{hit_list}
 use Rattle.flat_topology.specs.Views.{view_tree}
 use Rattle.flat_report.specs.EntryLines.{event_line, entry_line, point_words}
 use Rattle.flat_report.specs.FrameLines.{frame_lines, lost_line}
-use Rattle.flat_page.specs.Words.{Word, number, text_of}
-use Rattle.flat_report.specs.Names.{actor_name}
+use Rattle.flat_page.specs.Words.{Word, number, text_of, actor_name}
 
 -- ---- frames
 

@@ -8,9 +8,8 @@ ghost use Rattle.flat_report.specs.EntryLines.{answer_words, said_words, entry_l
 ghost use Rattle.flat_report.specs.Handed.{post_line};
 
 use crate::entry_words::{push_event, push_reply};
-use crate::names::actor_name;
 use flat_base::NoMemory;
-use flat_page::{Page, session_name};
+use flat_page::{Page, actor_name, session_name};
 use flat_places::Script;
 use flat_scene::{Entry, Hit, Interaction, Kind, Post};
 

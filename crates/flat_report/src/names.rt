@@ -1,9 +1,9 @@
 //! The names of a script by their numbers (specs/Names).
 ghost use Rattle.std.specs.Prelude.{◌≡◌};
-ghost use Rattle.flat_report.specs.Names.{pair_name, buffers_name, actor_name};
+ghost use Rattle.flat_report.specs.Names.{pair_name, buffers_name};
 
-use flat_base::{Actor, BufferNo, PairNo};
-use flat_page::{name_at, session_name};
+use flat_base::{BufferNo, PairNo};
+use flat_page::name_at;
 use flat_places::Script;
 
 pub fn pair_name(script: &Script, pair: PairNo) -> &[u8]
@@ -16,14 +16,4 @@ pub fn buffers_name(script: &Script, buffers: BufferNo) -> &[u8]
     ensures { result.now ≡ buffers_name script.now buffers }
 {
     name_at(&script.buffers, buffers.0 as usize)
-}
-
-pub fn actor_name(script: &Script, actor: Actor) -> &[u8]
-    ensures { result.now ≡ actor_name script.now actor }
-{
-    match actor {
-        Actor::Display => b"display",
-        Actor::Session(session) => session_name(&script.sessions, session),
-        Actor::Probe(probe) => name_at(&script.probes, probe as usize),
-    }
 }

@@ -1,4 +1,5 @@
 -- The words of a line of the body are those that it was read from.
+use Rattle.flat_page.specs.Words.{name_at, actor_name}
 use Rattle.std.proofs.Common.{◌≡◌, ℕ, ◌+◌, ◌^◌, Bool, true, false, cond, not, nat_lt, nat_le, ℤ, List, [], ◌∷◌, ◌++◌, length, Option, Some, None, Ok, Err, refl, sym, ◌∙◌, ap, codes, option_map, append-nil, arith, subst}
 use Rattle.std.specs.Option.{option_map_or, option_or}
 use Rattle.std.specs.Str.{bytes_eq}
@@ -31,7 +32,7 @@ use Rattle.flat_places.specs.Names.{place_of, session_named, actor_named}
 use Rattle.flat_places.specs.Places.{time, u32, i32, content, point, session, fence, fence_word as tested_fence}
 use Rattle.flat_forms.specs.Calls.{call_form, call_named, text}
 use Rattle.flat_forms.specs.Body.{fence_lists, present, other_line, session_line, display_line, session_condition, display_condition, presents_asked, child_asked, probe_line, actor_line, begin_place, begin_times, is_open, in_order, greatest}
-use Rattle.flat_print.specs.Print.{name_at, session_word, actor_word, condition_words, session_words, display_words, probe_words, body_words, present_words, call_name, call_fields}
+use Rattle.flat_print.specs.Print.{session_word, condition_words, session_words, display_words, probe_words, body_words, present_words, call_name, call_fields}
 use Rattle.flat_forms.proofs.lemmas.FormLemmas.{apply_ok, map_ok, place_ok, whole_ok, unless_ok, or_kind_ok, mapped_ok, Shown, shown_whole, shown_mapped}
 use Rattle.flat_print.proofs.CallLemmas.{number_words, i32_words, content_words, fence_words, split, name_at-place_of, NamedCall, call_shown}
 use Rattle.flat_print.proofs.ListWordLemmas.{table_spelt, both_words, lists_spelt}
@@ -41,21 +42,21 @@ use Rattle.flat_print.proofs.ListWordLemmas.{table_spelt, both_words, lists_spel
 number_of : (s : Script) (w : Word) (i : ℕ) → place_of s.sessions w ≡ Some i → session_word s (record { 0 = i + 1 }) ≡ w
 number_of s w i is = ap (λ k. name_at s.sessions k) (omega arith) ∙ ap (λ names. name_at names i) (sym (append-nil s.sessions)) ∙ name_at-place_of s.sessions [] w i is
 
-by_probe : (s : Script) (w : Word) (o : Option ℕ) (a : Actor) → place_of s.probes w ≡ o → option_map Probe o ≡ Some a → actor_word s a ≡ w
+by_probe : (s : Script) (w : Word) (o : Option ℕ) (a : Actor) → place_of s.probes w ≡ o → option_map Probe o ≡ Some a → actor_name s a ≡ w
 by_probe s w None a at is = absurd (cc)
-by_probe s w (Some i) a at is = let e : Probe i ≡ a = cc in ap (actor_word s) (sym e) ∙ ap (λ names. name_at names i) (sym (append-nil s.probes)) ∙ name_at-place_of s.probes [] w i at
+by_probe s w (Some i) a at is = let e : Probe i ≡ a = cc in ap (actor_name s) (sym e) ∙ ap (λ names. name_at names i) (sym (append-nil s.probes)) ∙ name_at-place_of s.probes [] w i at
 
 by_session : (s : Script) (w : Word) (o : Option ℕ) (a : Actor) → place_of s.sessions w ≡ o
-    → option_or (option_map Session (option_map (λ i. record { 0 = i + 1 }) o)) (option_map Probe (place_of s.probes w)) ≡ Some a → actor_word s a ≡ w
+    → option_or (option_map Session (option_map (λ i. record { 0 = i + 1 }) o)) (option_map Probe (place_of s.probes w)) ≡ Some a → actor_name s a ≡ w
 by_session s w None a at is = by_probe s w (place_of s.probes w) a refl is
-by_session s w (Some i) a at is = let e : Session (record { 0 = i + 1 }) ≡ a = cc in ap (actor_word s) (sym e) ∙ number_of s w i at
+by_session s w (Some i) a at is = let e : Session (record { 0 = i + 1 }) ≡ a = cc in ap (actor_name s) (sym e) ∙ number_of s w i at
 
 by_display : (s : Script) (w : Word) (b : Bool) (a : Actor) → bytes_eq w (codes "display") ≡ b
-    → option_or (cond b (Some Display) (option_map Session (session_named s w))) (option_map Probe (place_of s.probes w)) ≡ Some a → actor_word s a ≡ w
-by_display s w true a at is = let e : Display ≡ a = cc in ap (actor_word s) (sym e) ∙ sym ((bytes_eq-Decides w (codes "display")).0 at)
+    → option_or (cond b (Some Display) (option_map Session (session_named s w))) (option_map Probe (place_of s.probes w)) ≡ Some a → actor_name s a ≡ w
+by_display s w true a at is = let e : Display ≡ a = cc in ap (actor_name s) (sym e) ∙ sym ((bytes_eq-Decides w (codes "display")).0 at)
 by_display s w false a at is = by_session s w (place_of s.sessions w) a refl is
 
-pub actor_spelt : (s : Script) (w : Word) (a : Actor) → actor_named s w ≡ Some a → actor_word s a ≡ w
+pub actor_spelt : (s : Script) (w : Word) (a : Actor) → actor_named s w ≡ Some a → actor_name s a ≡ w
 actor_spelt s w a is = by_display s w (bytes_eq w (codes "display")) a refl is
 
 -- the display

@@ -1,4 +1,5 @@
 -- The lines of a head in the canonical order.
+use Rattle.flat_page.specs.Words.{name_at, actor_name}
 use Rattle.std.proofs.Common.{◌≡◌, ℕ, ◌+◌, ◌-◌, ◌<◌, ◌≤◌, Bool, true, false, cond, ◌&&◌, nat_lt, nat_le, List, [], ◌∷◌, ◌++◌, length, map, Option, Some, None, unwrap_or, option_and_then, if◌then◌else◌, Ok, refl, sym, ◌∙◌, ap, codes, arith, lit<, lit≤, subst, append_assoc, length-append, option_map}
 use Rattle.std.proofs.lemmas.List.{map-append}
 use Rattle.std.proofs.Math.Seq.{get_or-append_seam}
@@ -19,7 +20,7 @@ use Rattle.flat_places.specs.Forms.{Word, whole, each, one_or_more, ◌<$>◌}
 use Rattle.flat_places.specs.Names.{place_of, session_named, owner_named}
 use Rattle.flat_places.specs.Places.{number_from, owner_word}
 use Rattle.flat_forms.specs.Head.{empty, size, side, has_display, with_display, with_session, with_probe, with_buffers, with_pair, with_fence}
-use Rattle.flat_print.specs.Print.{name_at, actor_word, name_words, numbered, buffers_line_words, pair_line_words, fence_line_words, display_line_words}
+use Rattle.flat_print.specs.Print.{name_words, numbered, buffers_line_words, pair_line_words, fence_line_words, display_line_words}
 use Rattle.flat_forms.proofs.lemmas.FormLemmas.{both_ok, or_kind_ok, whole_ok, apply_ok, map_ok, place_ok}
 use Rattle.flat_print.proofs.CallLemmas.{name_at-place_of, test_ok}
 use Rattle.flat_print.proofs.lemmas.TextLemmas.{IsLine, AllLines, AllLines-append, room_of, room_of-append}
@@ -187,25 +188,25 @@ session_word_of u xs w a is = session_by u xs w a (place_of u.sessions w) refl i
 abbrev more_actors : Script → List Word → List Word → Script
 more_actors u xs zs = record u { sessions = u.sessions ++ xs; probes = u.probes ++ zs }
 
-actor_by_name : (u : Script) (xs zs : List Word) (w : Word) (a : Actor) (o : Option SessionNo) → session_named u w ≡ o → option_map Session o ≡ Some a → actor_word (more_actors u xs zs) a ≡ w
+actor_by_name : (u : Script) (xs zs : List Word) (w : Word) (a : Actor) (o : Option SessionNo) → session_named u w ≡ o → option_map Session o ≡ Some a → actor_name (more_actors u xs zs) a ≡ w
 actor_by_name u xs zs w a None at is = absurd (cc)
-actor_by_name u xs zs w a (Some s) at is = let e : Session s ≡ a = cc in ap (actor_word (more_actors u xs zs)) (sym e) ∙ session_word_of u xs w s at
+actor_by_name u xs zs w a (Some s) at is = let e : Session s ≡ a = cc in ap (actor_name (more_actors u xs zs)) (sym e) ∙ session_word_of u xs w s at
 
-actor_by : (u : Script) (xs zs : List Word) (w : Word) (a : Actor) (b : Bool) → bytes_eq w (codes "display") ≡ b → cond b (Some Display) (option_map Session (session_named u w)) ≡ Some a → actor_word (more_actors u xs zs) a ≡ w
-actor_by u xs zs w a true at is = let e : Display ≡ a = cc in ap (actor_word (more_actors u xs zs)) (sym e) ∙ sym ((bytes_eq-Decides w (codes "display")).0 at)
+actor_by : (u : Script) (xs zs : List Word) (w : Word) (a : Actor) (b : Bool) → bytes_eq w (codes "display") ≡ b → cond b (Some Display) (option_map Session (session_named u w)) ≡ Some a → actor_name (more_actors u xs zs) a ≡ w
+actor_by u xs zs w a true at is = let e : Display ≡ a = cc in ap (actor_name (more_actors u xs zs)) (sym e) ∙ sym ((bytes_eq-Decides w (codes "display")).0 at)
 actor_by u xs zs w a false at is = actor_by_name u xs zs w a (session_named u w) refl is
 
-actor_word_of : (u : Script) (xs zs : List Word) (w : Word) (a : Actor) → owner_named u w ≡ Some a → actor_word (more_actors u xs zs) a ≡ w
-actor_word_of u xs zs w a is = actor_by u xs zs w a (bytes_eq w (codes "display")) refl is
+actor_name_of : (u : Script) (xs zs : List Word) (w : Word) (a : Actor) → owner_named u w ≡ Some a → actor_name (more_actors u xs zs) a ≡ w
+actor_name_of u xs zs w a is = actor_by u xs zs w a (bytes_eq w (codes "display")) refl is
 
-each_words : (u : Script) (xs zs ws : List Word) (os : List Actor) → each (owner_word u) ws ≡ Ok os → map (actor_word (more_actors u xs zs)) os ≡ ws
-each_words u xs zs [] os is = let e : [] ≡ os = cc in ap (map (actor_word (more_actors u xs zs))) (sym e)
+each_words : (u : Script) (xs zs ws : List Word) (os : List Actor) → each (owner_word u) ws ≡ Ok os → map (actor_name (more_actors u xs zs)) os ≡ ws
+each_words u xs zs [] os is = let e : [] ≡ os = cc in ap (map (actor_name (more_actors u xs zs))) (sym e)
 each_words u xs zs (w ∷ ws) os is =
     let parts = both_ok (λ a rest. a ∷ rest) (owner_word u w) (each (owner_word u) ws) os is in
-    let g = actor_word (more_actors u xs zs) in
-    ap (map g) (sym parts.value) ∙ ap (λ v. v ∷ map g parts.b) (actor_word_of u xs zs w parts.a (or_kind_ok UnknownName (owner_named u w) parts.a parts.first)) ∙ ap (λ vs. w ∷ vs) (each_words u xs zs ws parts.b parts.second)
+    let g = actor_name (more_actors u xs zs) in
+    ap (map g) (sym parts.value) ∙ ap (λ v. v ∷ map g parts.b) (actor_name_of u xs zs w parts.a (or_kind_ok UnknownName (owner_named u w) parts.a parts.first)) ∙ ap (λ vs. w ∷ vs) (each_words u xs zs ws parts.b parts.second)
 
-owners_words : (u : Script) (xs zs ws : List Word) (os : List Actor) → one_or_more (owner_word u) ws ≡ Ok os → map (actor_word (more_actors u xs zs)) os ≡ ws
+owners_words : (u : Script) (xs zs ws : List Word) (os : List Actor) → one_or_more (owner_word u) ws ≡ Ok os → map (actor_name (more_actors u xs zs)) os ≡ ws
 owners_words u xs zs [] os is = absurd (cc)
 owners_words u xs zs (w ∷ ws) os is = each_words u xs zs (w ∷ ws) os is
 
@@ -241,7 +242,7 @@ pair_line : {ws : List Word} {t : Script} (u : Script) (xs zs ys : List Word) (x
     → pair_line_words (record u { sessions = u.sessions ++ xs; probes = u.probes ++ zs; pairs = (u.pairs ++ x.name ∷ []) ++ ys }) (0 + length u.setup.pairs) x.decl ≡ ws
 pair_line u xs zs ys x many =
     let name = name_at_end u.pairs ys x.name (0 + length u.setup.pairs) (omega arith) in
-    let viewport = actor_word_of u xs zs x.x x.decl.viewport x.viewport in
+    let viewport = actor_name_of u xs zs x.x x.decl.viewport x.viewport in
     let view = session_word_of u xs x.y x.decl.view x.view in
     rw (name, viewport, view) (sym x.begins)
 

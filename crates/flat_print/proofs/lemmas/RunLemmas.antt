@@ -1,4 +1,5 @@
 -- The text that is printed of a script is read as that script, up to the numbers of its lines.
+use Rattle.flat_page.specs.Words.{actor_name}
 use Rattle.std.proofs.Common.{◌≡◌, ℕ, ◌+◌, ◌*◌, ◌-◌, ◌≤◌, ◌⊎◌, inl, inr, Bool, true, false, cond, not, ◌&&◌, nat_lt, List, [], ◌∷◌, ◌++◌, length, map, Result, Ok, Err, refl, sym, ◌∙◌, ap, codes, arith, subst, append_assoc, append-nil, length-append}
 use Rattle.std.proofs.lemmas.List.{map-append}
 use Rattle.std.proofs.lemmas.Bool.Decides.{nat_tests}
@@ -21,7 +22,7 @@ use Rattle.flat_places.specs.Places.{version}
 use Rattle.flat_forms.specs.Body.{actor_line, body_line, is_open, with_line}
 use Rattle.flat_forms.specs.Lines.{Sofar, words_read}
 use Rattle.flat_script.specs.Grammar.{is_plain, is_skipped, line_read, lines_read, IsScript}
-use Rattle.flat_print.specs.Print.{numbered, name_words, display_line_words, buffers_line_words, pair_line_words, fence_line_words, spelled, fed, actor_word, line_words, body_words, without_number, text_of, script_words, head_words, unnumbered, IsReadBack}
+use Rattle.flat_print.specs.Print.{numbered, name_words, display_line_words, buffers_line_words, pair_line_words, fence_line_words, spelled, fed, line_words, body_words, without_number, text_of, script_words, head_words, unnumbered, IsReadBack}
 use Rattle.flat_forms.proofs.lemmas.FormLemmas.{mapped_ok, whole_ok, unless_ok, place_ok}
 use Rattle.flat_print.proofs.lemmas.TextLemmas.{IsLine, AllLines, line_words_of, line_front, front_fits, spelled-words_of, lines_of_fed, AllLines-append, room_of, length-fed, room_of-append, lines_room, lines_room-lines_of}
 use Rattle.flat_print.proofs.lemmas.AgainLemmas.{with_lines, SameLines, times_same, dones_same, Again, body_again}
@@ -122,10 +123,10 @@ canonical : (h : Script) (us ms : List ScriptLine) (n m : ℕ) (ws : List Word) 
 canonical h us ms n m ws u good a =
     let shown = body_shown (with_lines h us) a.actor a.rest a.body a.line in
     let spelt : List Word = body_words h a.body in
-    let name : actor_word h a.actor ≡ a.first = actor_spelt h a.first a.actor a.named in
+    let name : actor_name h a.actor ≡ a.first = actor_spelt h a.first a.actor a.named in
     let some = some_words (with_lines h us) a.actor spelt a.body shown.again in
     let line : ws ≡ a.first ∷ (some.0 ∷ some.1 ++ shown.behind) = a.begins ∙ ap (λ t. a.first ∷ t) (shown.begins ∙ ap (λ t. t ++ shown.behind) some.2) in
-    let same : actor_word h a.actor ∷ spelt ≡ a.first ∷ some.0 ∷ some.1 = ap (λ w. w ∷ spelt) name ∙ ap (λ t. a.first ∷ t) some.2 in
+    let same : actor_name h a.actor ∷ spelt ≡ a.first ∷ some.0 ∷ some.1 = ap (λ w. w ∷ spelt) name ∙ ap (λ t. a.first ∷ t) some.2 in
     let P : List Word → Type 0 = IsLine in
     record {
       good = subst P (sym same) (line_front a.first some.0 some.1 shown.behind (subst P line good));
