@@ -46,7 +46,7 @@ use Rattle.flat_stage.specs.Seats.{StageView, setup_of, entries_of_seat}
 use Rattle.flat_stage.specs.Seats as stage
 use Rattle.flat_play.specs.Last.{StaysLast}
 use Rattle.flat_play.specs.Playing.{AnswersStand, DisplayStands, lines_by}
-use Rattle.flat_play.proofs.lemmas.GameSteps.{keeps_same}
+use Rattle.flat_play.proofs.lemmas.PlaySteps.{keeps_same}
 use Rattle.flat_play.proofs.lemmas.DisplaySteps.{finished-beside, answers_beside, answers_done, answers_point, begin_time_ok, display_probe, display_session, done_ok}
 use Rattle.flat_play.proofs.lemmas.DisplaySteps as quiet
 use Rattle.flat_play.proofs.lemmas.FramesShown.{all-finished, few_frames}

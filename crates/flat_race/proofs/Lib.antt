@@ -3,6 +3,7 @@ pub mod Closing
 pub mod DirectSteps
 pub mod Finishing
 pub mod HandSteps
+pub mod Joined
 pub mod Outs
 pub mod OwnLines
 pub mod Points

@@ -5,6 +5,7 @@ use Rattle.flat_base.specs.declared.ids.SessionNo.{SessionNo}
 use Rattle.flat_scene.specs.History.{history_of}
 use Rattle.flat_scene.specs.Interleave.{IsReading, session_lines}
 use Rattle.flat_places.specs.declared.script.Script.{Script}
+use Rattle.flat_play.proofs.lemmas.Slots.{got-other, got-same, set-length}
 use Rattle.flat_stage.specs.Homes.{AreFresh, fresh_view, seats_without, session_at}
 use Rattle.flat_stage.specs.Seats.{SessionView, StageView}
 use Rattle.flat_race.specs.declared.threads.Out.{Out}
@@ -26,23 +27,6 @@ module _ {X : Type 0} where
   got-last : (xs : List X) (x : X) → slice_get (xs ++ x ∷ []) (length xs) ≡ Some x
   got-last [] x = refl
   got-last (y ∷ ys) x = got-last ys x
-
-  pub got-same : (xs : List X) (n : ℕ) (x : X) → n < length xs → slice_get (slice_set xs n x) n ≡ Some x
-  got-same [] n x less = absurd (omega arith)
-  got-same (y ∷ ys) zero x less = refl
-  got-same (y ∷ ys) (suc n) x less = got-same ys n x (omega arith)
-
-  pub got-other : (xs : List X) (n m : ℕ) (x : X) → (m ≡ n → ⊥) → slice_get (slice_set xs n x) m ≡ slice_get xs m
-  got-other [] n m x other = refl
-  got-other (y ∷ ys) zero zero x other = absurd (other refl)
-  got-other (y ∷ ys) zero (suc m) x other = refl
-  got-other (y ∷ ys) (suc n) zero x other = refl
-  got-other (y ∷ ys) (suc n) (suc m) x other = got-other ys n m x (λ e. other (ap suc e))
-
-  pub set-length : (xs : List X) (n : ℕ) (x : X) → length (slice_set xs n x) ≡ length xs
-  set-length [] n x = refl
-  set-length (y ∷ ys) zero x = refl
-  set-length (y ∷ ys) (suc n) x = ap suc (set-length ys n x)
 
 module _ (view : StageView) (script : Script) where
   -- one more is out

@@ -15,13 +15,13 @@ use Rattle.flat_scene.specs.declared.setup.Setup.{Setup}
 use Rattle.flat_scene.specs.Setups.{is_declared}
 use Rattle.flat_playable.specs.Playable.{is_playable, is_played}
 use Rattle.flat_base.proofs.lemmas.Tests.{and-left}
-use Rattle.flat_play.proofs.lemmas.GameSteps.{below_declared}
+use Rattle.flat_play.proofs.lemmas.PlaySteps.{below_declared}
 use Rattle.flat_stage.specs.Seats.{SessionView, StageView}
 use Rattle.flat_play.proofs.lemmas.Places.{drop_at}
+use Rattle.flat_play.proofs.lemmas.Slots.{got-other, got-same, set-length}
 use Rattle.flat_play.proofs.lemmas.Steps.{At, at_place}
 use Rattle.flat_race.specs.OwnLines.{ArePlaces, StandsBefore, noted, own_places, places_from}
 use Rattle.flat_race.specs.Sessions.{SessionStands}
-use Rattle.flat_race.proofs.Outs.{got-other, got-same, set-length}
 use Rattle.flat_race.proofs.SessionSteps.{no_line, skips}
 
 -- ---- one line more

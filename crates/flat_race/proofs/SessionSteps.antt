@@ -26,7 +26,7 @@ use Rattle.flat_stage.specs.Readings.{NewSeatsHaveRead, Rise, SeatHasRead}
 use Rattle.flat_stage.specs.Seats as stage
 use Rattle.flat_stage.specs.Seats.{SessionView, StageView, GoesOn, HasRoom, setup_of}
 use Rattle.flat_play.specs.Playing.{last_number, lines_by, shares_of}
-use Rattle.flat_play.proofs.lemmas.GameSteps.{share_is, below_declared}
+use Rattle.flat_play.proofs.lemmas.PlaySteps.{share_is, below_declared}
 use Rattle.flat_play.proofs.lemmas.Steps.{At, at_place}
 use Rattle.flat_play.proofs.lemmas.Places.{counted, few_lines, rises, split_at}
 use Rattle.flat_play.proofs.lemmas.Readers.{session_rise}

@@ -1,6 +1,10 @@
 -- The probes of a race: how one stands at a place of the script, and what a thread promises.
 use Rattle.std.specs.Prelude.{◌≡◌, ℕ, ◌+◌, true, List, [], ◌∷◌, length, take, Some, slice_get}
 use Rattle.logbook.specs.Pages.{Book}
+use Rattle.flat_base.specs.declared.ids.Actor.{Actor}
+use Rattle.flat_scene.specs.declared.script.Body.TheVariants as body
+use Rattle.flat_scene.specs.declared.script.ProbeLine.{ProbeLine}
+use Rattle.flat_scene.specs.declared.script.ScriptLine.{ScriptLine}
 use Rattle.flat_places.specs.declared.script.Script.{Script}
 use Rattle.flat_publish.specs.Frames.{last_number}
 use Rattle.flat_publish.specs.State.{Seen}
@@ -13,6 +17,10 @@ use Rattle.flat_report.specs.Probes.{AreAnsweredBy}
 use Rattle.flat_race.specs.Publishing.{hits_of}
 
 -- ---- one probe
+
+-- a line of an actor that asks a probe
+abbrev pub asked_line : ℕ → Actor → ProbeLine → ScriptLine
+asked_line number actor asked = record { number = number; actor = actor; body = body.Probe asked }
 
 -- A probe's lines before a place of the script are answered by the frames that it saw.
 abbrev pub ProbeStands : Script → ℕ → ℕ → Seen → List ProbeAnswer → Type 0

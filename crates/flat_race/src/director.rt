@@ -1,4 +1,8 @@
-ghost use Rattle.std.specs.Prelude.{◌≡◌, ◌≤◌, ◌<◌, ◌+◌, ◌^◌, [], ◌∷◌, ◌++◌, true, length, map, slice_get, Some, IfOk, IsTrue, OnErr, OnOk};
+//! The compositor. It composes, keeps and shows a frame outside the lock, while the sessions
+//! go on: nothing that they enter changes what an open frame shows. A frame is published
+//! behind its entry, so that probes see finished frames alone.
+ghost use Rattle.std.specs.Prelude.{◌≡◌, ◌≤◌, ◌<◌, ◌+◌, ◌^◌, [], ◌∷◌, ◌++◌, true, length, map};
+ghost use Rattle.std.specs.Prelude.{slice_get, Some, IfOk, IsTrue, OnErr, OnOk};
 ghost use Rattle.flat_base.specs.declared.ids.Actor.TheVariants.{Display};
 ghost use Rattle.flat_scene.specs.declared.journal.Kind.TheVariants.{Begin, Finish, Hit};
 ghost use Rattle.flat_scene.specs.declared.journal.Reply.TheVariants.{Done};
@@ -18,9 +22,11 @@ ghost use Rattle.flat_stage.specs.Seats.{entries_of_seat, setup_of};
 ghost use Rattle.flat_report.specs.Report.{finished, frame_at};
 ghost use Rattle.flat_play.specs.Keeping.{Keeps, keeping_of};
 ghost use Rattle.flat_play.specs.Last.{IsLast, StaysLast};
+ghost use Rattle.flat_play.specs.Playing.{point_answer};
 ghost use Rattle.flat_play.specs.Showing.{HaveSeen, IsShown};
 ghost use Rattle.flat_race.specs.declared.hand.Hand.TheVariants.{Open};
-ghost use Rattle.flat_race.specs.Directing.{hand_seat, is_open, KeepsFrame, HasLooked, KeepsNext, ShowsBegin, FilmStands, HandStands, SeatStands};
+ghost use Rattle.flat_race.specs.Directing.{hand_seat, is_open, KeepsFrame, HasLooked, KeepsNext};
+ghost use Rattle.flat_race.specs.Directing.{ShowsBegin, FilmStands, HandStands, SeatStands};
 ghost use Rattle.flat_race.specs.Publishing.{FinishesOne, PublishedStand, PublishesLast};
 ghost use Rattle.flat_race.specs.Sessions.{IsStageOf};
 
@@ -66,7 +72,8 @@ fn look_again<R: Wait, G: Gate>(lent: &Lent<R, G>, hand: &mut Hand, number: u32,
     requires legal { Legal (setup_of lent.now.stage.now) (history_of (hand_seat hand.old).seen) }
     requires whole { (hand_seat hand.old).mine ≡ entries_of_seat 0 (hand_seat hand.old).seen }
     ensures looked { HasLooked (setup_of lent.now.stage.now) hand.old hand.new }
-    ensures met { IsTrue result → asked_of c ≤ value_of (setup_of lent.now.stage.now) (history_of (hand_seat hand.new).seen) Display c }
+    ensures met { IsTrue result → asked_of c ≤ value_of (setup_of lent.now.stage.now)
+        (history_of (hand_seat hand.new).seen) Display c }
 {
     let wanted = asked_of(c);
     let mut left = ASKS;
@@ -91,9 +98,12 @@ fn begin<R: Wait, G: Gate>(
     requires room { HasDisplayRoom seat }
     requires time { begin_time (history_of seat.mine) ≤ time }
     ensures enters { DisplayEnters number (Begin time) Done seat result.display }
-    ensures shown { result.shown ≡ shown_states (setup_of seat.stage) (history_of result.display.seen) }
-    ensures changed { AreSame result.changed (shown_states (setup_of seat.stage) (to_begin (history_of seat.seen))) result.shown }
-    ensures views { AreViewed (setup_of seat.stage) (history_of result.display.seen) result.with_view }
+    ensures shown { result.shown ≡ shown_states (setup_of seat.stage)
+        (history_of result.display.seen) }
+    ensures changed { AreSame result.changed (shown_states (setup_of seat.stage)
+        (to_begin (history_of seat.seen))) result.shown }
+    ensures views { AreViewed (setup_of seat.stage) (history_of result.display.seen)
+        result.with_view }
 {
     ask(lent.gate, DISPLAY, number, ASKS);
     let frame = seat.begin(lent.rt, lent.stage, number, time);
@@ -116,22 +126,27 @@ fn finish<R: Wait, G: Gate>(
     requires of { setup_of lent.now.stage.now ≡ lent.now.script.now.setup }
     requires room { HasDisplayRoom frame.display }
     requires legal { Legal lent.now.script.now.setup (history_of frame.display.seen) }
-    requires shows { ShowsBegin lent.now.script.now.setup (history_of frame.display.seen) (Open frame) }
+    requires shows { ShowsBegin lent.now.script.now.setup (history_of frame.display.seen)
+        (Open frame) }
     requires same { AreSame frame.changed film.old.last.reuse frame.shown }
     requires last { film.old.last.frame.0 ≡ frames (history_of frame.display.seen) }
-    requires kept { Keeps lent.now.script.now film.old.kept (finished lent.now.script.now.setup (history_of frame.display.seen)) }
+    requires kept { Keeps lent.now.script.now film.old.kept (finished lent.now.script.now.setup
+        (history_of frame.display.seen)) }
     requires few { frames (history_of frame.display.seen) + 1 < 2 ^ 32 }
     requires number { length displays.old.items ≡ film.old.set.displays }
     ensures enters { IfOk result (λ seat. DisplayEnters number Finish Done frame.display seat) }
-    ensures keeps { IfOk result (λ seat. KeepsNext lent.now.script.now (history_of frame.display.seen) (frames (history_of seat.seen)) film.old film.new) }
+    ensures keeps { IfOk result (λ seat. KeepsNext lent.now.script.now
+        (history_of frame.display.seen) (frames (history_of seat.seen)) film.old film.new) }
     ensures shown { OnOk result (IsShown (λ d. shown d) (λ d. faults d)
         (finished lent.now.script.now.setup (history_of frame.display.seen))
         (finished lent.now.script.now.setup (history_of frame.display.seen)
-        ++ frame_at lent.now.script.now.setup (frames (history_of frame.display.seen) + 1) (to_begin (history_of frame.display.seen)) ∷ [])
+        ++ frame_at lent.now.script.now.setup (frames (history_of frame.display.seen) + 1)
+        (to_begin (history_of frame.display.seen)) ∷ [])
         film.old.set film.new.set displays.old.items displays.new.items) }
     ensures unshown { OnErr result (displays.new ≡ displays.old) }
     ensures same { film.new.set.displays ≡ film.old.set.displays }
-    ensures kinds { map (λ d. d.vtable) displays.new.items ≡ map (λ d. d.vtable) displays.old.items }
+    ensures kinds { map (λ d. d.vtable) displays.new.items
+        ≡ map (λ d. d.vtable) displays.old.items }
 {
     shown_states_fit();
     ask(lent.gate, DISPLAY, number, ASKS);
@@ -162,12 +177,15 @@ fn hit<R: Wait, G: Gate>(
     requires room { HasDisplayRoom (hand_seat hand.old) }
     requires setup { is_setup lent.now.script.now.setup ≡ true }
     requires last { IsLast lent.now.script.now.setup film.old.last }
-    ensures enters { OnOk result (DisplayEnters number (Hit x y) Done (hand_seat hand.old) (hand_seat hand.new)) }
+    ensures enters { OnOk result (DisplayEnters number (Hit x y) Done (hand_seat hand.old)
+        (hand_seat hand.new)) }
     ensures open { is_open hand.new ≡ is_open hand.old }
     ensures kept { KeepsFrame hand.old hand.new }
-    ensures answers { OnOk result (film.new.answers ≡ film.old.answers ++ (record { actor = Display; line = number; frame = film.old.last.frame; hits = hit_list lent.now.script.now.setup film.old.last.reuse x y }) ∷ []) }
+    ensures answers { OnOk result (film.new.answers ≡ film.old.answers
+        ++ point_answer lent.now.script.now.setup film.old.last number x y ∷ []) }
     ensures stays { OnOk result (StaysLast lent.now.script.now.setup film.old.last film.new.last) }
-    ensures others { film.new ≡ record film.old { last = film.new.last; answers = film.new.answers } }
+    ensures others { film.new
+        ≡ record film.old { last = film.new.last; answers = film.new.answers } }
 {
     let hits = film.last.hits(lent.alloc, &lent.script.setup, x, y)?;
     film.answers.push(HitAnswer {
@@ -192,21 +210,25 @@ fn direct_line<R: Wait, G: Gate>(
     number: u32,
     text: DisplayLine,
 ) -> Result<Hand, NoMemory>
-    requires line { slice_get lent.now.script.now.lines place ≡ Some (record { number = number; actor = Display; body = body.Display text }) }
+    requires line { slice_get lent.now.script.now.lines place
+        ≡ Some (record { number = number; actor = Display; body = body.Display text }) }
     requires playable { is_playable lent.now.script.now ≡ true }
     requires of { IsStageOf lent.now.stage.now lent.now.script.now }
     requires stands { HandStands lent.now.script.now lent.now.stage.now place hand film.old }
     requires number { length displays.old.items ≡ film.old.set.displays }
-    ensures stands { IfOk result (λ hand. HandStands lent.now.script.now lent.now.stage.now (place + 1) hand film.new) }
-    ensures finishes { IfOk result (λ new. FinishesOne lent.now.script.now.setup (history_of (hand_seat hand).seen) (history_of (hand_seat new).seen)) }
+    ensures stands { IfOk result (λ hand. HandStands lent.now.script.now lent.now.stage.now
+        (place + 1) hand film.new) }
+    ensures finishes { IfOk result (λ new. FinishesOne lent.now.script.now.setup
+        (history_of (hand_seat hand).seen) (history_of (hand_seat new).seen)) }
     ensures shown { IfOk result (λ new. IsShown (λ d. shown d) (λ d. faults d)
         (finished lent.now.script.now.setup (history_of (hand_seat hand).seen))
-        (finished lent.now.script.now.setup (history_of (hand_seat new).seen))
-        film.old.set film.new.set displays.old.items displays.new.items) }
+        (finished lent.now.script.now.setup (history_of (hand_seat new).seen)) film.old.set
+        film.new.set displays.old.items displays.new.items) }
     ensures keeping { OnOk result (keeping_of film.new.kept ≡ keeping_of film.old.kept) }
     ensures unshown { OnErr result (displays.new ≡ displays.old) }
     ensures same { film.new.set.displays ≡ film.old.set.displays }
-    ensures kinds { map (λ d. d.vtable) displays.new.items ≡ map (λ d. d.vtable) displays.old.items }
+    ensures kinds { map (λ d. d.vtable) displays.new.items
+        ≡ map (λ d. d.vtable) displays.old.items }
 {
     display_knows_frames();
     seats_tell_actors();
@@ -218,7 +240,9 @@ fn direct_line<R: Wait, G: Gate>(
         }
         DisplayLine::Done => {
             let frame = hand.into_frame();
+            let joined = film.last.take_joined(frame.changed());
             let seat = finish(lent, frame, film, displays, number)?;
+            film.last.joined = joined;
             Ok(Hand::Idle(seat))
         }
         DisplayLine::Signal(f) => {
@@ -253,16 +277,19 @@ fn direct_next<R: Wait, G: Gate>(
     requires of { IsStageOf lent.now.stage.now lent.now.script.now }
     requires stands { HandStands lent.now.script.now lent.now.stage.now place hand film.old }
     requires number { length displays.old.items ≡ film.old.set.displays }
-    ensures stands { IfOk result (λ hand. HandStands lent.now.script.now lent.now.stage.now (place + 1) hand film.new) }
-    ensures finishes { IfOk result (λ new. FinishesOne lent.now.script.now.setup (history_of (hand_seat hand).seen) (history_of (hand_seat new).seen)) }
+    ensures stands { IfOk result (λ hand. HandStands lent.now.script.now lent.now.stage.now
+        (place + 1) hand film.new) }
+    ensures finishes { IfOk result (λ new. FinishesOne lent.now.script.now.setup
+        (history_of (hand_seat hand).seen) (history_of (hand_seat new).seen)) }
     ensures shown { IfOk result (λ new. IsShown (λ d. shown d) (λ d. faults d)
         (finished lent.now.script.now.setup (history_of (hand_seat hand).seen))
-        (finished lent.now.script.now.setup (history_of (hand_seat new).seen))
-        film.old.set film.new.set displays.old.items displays.new.items) }
+        (finished lent.now.script.now.setup (history_of (hand_seat new).seen)) film.old.set
+        film.new.set displays.old.items displays.new.items) }
     ensures keeping { OnOk result (keeping_of film.new.kept ≡ keeping_of film.old.kept) }
     ensures unshown { OnErr result (displays.new ≡ displays.old) }
     ensures same { film.new.set.displays ≡ film.old.set.displays }
-    ensures kinds { map (λ d. d.vtable) displays.new.items ≡ map (λ d. d.vtable) displays.old.items }
+    ensures kinds { map (λ d. d.vtable) displays.new.items
+        ≡ map (λ d. d.vtable) displays.old.items }
 {
     let line = lent.script.lines.at(place);
     match line.body {
@@ -285,7 +312,8 @@ fn publish_last<R: Wait, G: Gate>(
     ensures stays { OnOk result (StaysLast lent.now.script.now.setup film.old.last film.new.last) }
     ensures others { film.new ≡ record film.old { last = film.new.last } }
     ensures home { published.new.home ≡ published.old.home }
-    ensures publishes { OnOk result (PublishesLast lent.now.script.now.setup before.0 film.old.last published.old published.new) }
+    ensures publishes { OnOk result (PublishesLast lent.now.script.now.setup before.0 film.old.last
+        published.old published.new) }
 {
     if lent.script.setup.probes == 0 {
         return Ok(());
@@ -314,7 +342,8 @@ fn end_line<R: Wait, G: Gate>(
     ensures stays { OnOk result (StaysLast lent.now.script.now.setup film.old.last film.new.last) }
     ensures others { film.new ≡ record film.old { last = film.new.last } }
     ensures home { published.new.home ≡ published.old.home }
-    ensures publishes { OnOk result (PublishesLast lent.now.script.now.setup before.0 film.old.last published.old published.new) }
+    ensures publishes { OnOk result (PublishesLast lent.now.script.now.setup before.0 film.old.last
+        published.old published.new) }
 {
     let is_later = before.0 < film.last.frame.0;
     let sent = publish_last(lent, film, before, published);
@@ -341,14 +370,21 @@ pub(crate) fn direct<R: Wait, G: Gate>(
     requires none { film.old.set.lost ≡ [] }
     requires number { length displays.old.items ≡ film.old.set.displays }
     requires few { film.old.set.displays < 2 ^ 32 }
-    requires unpublished { published.old ≡ record { home = published.old.home; frames = []; refused = []; given = 0 } }
-    ensures stands { IfOk result (λ seat. SeatStands lent.now.script.now lent.now.stage.now (length lent.now.script.now.lines) seat) }
-    ensures film { IfOk result (λ seat. FilmStands lent.now.script.now (history_of seat.seen) film.new) }
-    ensures published { IfOk result (λ seat. PublishedStand lent.now.script.now (history_of seat.seen) published.new) }
+    requires unpublished { published.old
+        ≡ record { home = published.old.home; frames = []; refused = []; given = 0 } }
+    ensures stands { IfOk result (λ seat. SeatStands lent.now.script.now lent.now.stage.now
+        (length lent.now.script.now.lines) seat) }
+    ensures film { IfOk result (λ seat. FilmStands lent.now.script.now (history_of seat.seen)
+        film.new) }
+    ensures published { IfOk result (λ seat. PublishedStand lent.now.script.now
+        (history_of seat.seen) published.new) }
     ensures home { published.new.home ≡ published.old.home }
-    ensures seen { IfOk result (λ seat. HaveSeen (λ d. shown d) (λ d. faults d) (finished lent.now.script.now.setup (history_of seat.seen)) (history_of seat.seen) film.new.set.lost displays.old.items displays.new.items) }
+    ensures seen { IfOk result (λ seat. HaveSeen (λ d. shown d) (λ d. faults d)
+        (finished lent.now.script.now.setup (history_of seat.seen)) (history_of seat.seen)
+        film.new.set.lost displays.old.items displays.new.items) }
     ensures keeping { OnOk result (keeping_of film.new.kept ≡ keeping_of film.old.kept) }
-    ensures kept { AreKept (λ d. shown d) (λ d. faults d) displays.old.items displays.new.items (λ d. d.vtable) }
+    ensures kept { AreKept (λ d. shown d) (λ d. faults d) displays.old.items displays.new.items
+        (λ d. d.vtable) }
 {
     let mut hand = Hand::Idle(seat);
     for place in 0..lent.script.lines.len() {

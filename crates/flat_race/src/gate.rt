@@ -1,3 +1,5 @@
+//! Gates, which say when an entry may be made or a probe may look. One is asked a bounded
+//! number of times for a line, so that one that stays shut stops no run.
 ghost use Rattle.std.specs.Prelude.{◌≡◌, ◌≤◌, ◌-◌, true};
 
 use flat_scene::Reply;

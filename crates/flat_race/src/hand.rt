@@ -1,3 +1,5 @@
+//! What the compositor holds. An open frame is a value of its own, which shows its begin
+//! until its done; most lines are the same with it and with the seat alone.
 ghost use Rattle.std.specs.Prelude.{◌≡◌, false, true};
 ghost use Rattle.flat_base.specs.declared.ids.Actor.TheVariants.{Display};
 ghost use Rattle.flat_scene.specs.declared.journal.Kind.TheVariants.{Hit, Signal, Wait};
@@ -48,8 +50,10 @@ impl Hand {
     pub(crate) fn look<R: Wait>(&mut self, rt: &R, stage: &Stage, c: Cond) -> u32
         requires own { (hand_seat self.old).stage ≡ stage.now }
         requires may { MayLook (setup_of (hand_seat self.old).stage) Display c }
-        ensures value { result ≡ value_of (setup_of (hand_seat self.old).stage) (history_of (hand_seat self.new).seen) Display c }
-        ensures legal { Legal (setup_of (hand_seat self.old).stage) (history_of (hand_seat self.new).seen) }
+        ensures value { result ≡ value_of (setup_of (hand_seat self.old).stage)
+            (history_of (hand_seat self.new).seen) Display c }
+        ensures legal { Legal (setup_of (hand_seat self.old).stage)
+            (history_of (hand_seat self.new).seen) }
         ensures whole { (hand_seat self.new).mine ≡ entries_of_seat 0 (hand_seat self.new).seen }
         ensures sees { DisplaySees (hand_seat self.old) (hand_seat self.new) }
         ensures open { is_open self.new ≡ is_open self.old }
@@ -72,7 +76,8 @@ impl Hand {
         requires own { (hand_seat self.old).stage ≡ stage.now }
         requires room { HasDisplayRoom (hand_seat self.old) }
         requires named { names_declared (setup_of (hand_seat self.old).stage) (Signal f) ≡ true }
-        ensures enters { DisplayEnters number (Signal f) result (hand_seat self.old) (hand_seat self.new) }
+        ensures enters { DisplayEnters number (Signal f) result (hand_seat self.old)
+            (hand_seat self.new) }
         ensures open { is_open self.new ≡ is_open self.old }
         ensures kept { KeepsFrame self.old self.new }
     {
@@ -88,7 +93,8 @@ impl Hand {
         requires room { HasDisplayRoom (hand_seat self.old) }
         requires acts { display_may (Wait c) ≡ true }
         requires named { names_declared (setup_of (hand_seat self.old).stage) (Wait c) ≡ true }
-        ensures enters { DisplayEnters number (Wait c) result (hand_seat self.old) (hand_seat self.new) }
+        ensures enters { DisplayEnters number (Wait c) result (hand_seat self.old)
+            (hand_seat self.new) }
         ensures open { is_open self.new ≡ is_open self.old }
         ensures kept { KeepsFrame self.old self.new }
     {
@@ -109,7 +115,8 @@ impl Hand {
     ) -> Reply
         requires own { (hand_seat self.old).stage ≡ stage.now }
         requires room { HasDisplayRoom (hand_seat self.old) }
-        ensures enters { DisplayEnters number (Hit x y) result (hand_seat self.old) (hand_seat self.new) }
+        ensures enters { DisplayEnters number (Hit x y) result (hand_seat self.old)
+            (hand_seat self.new) }
         ensures open { is_open self.new ≡ is_open self.old }
         ensures kept { KeepsFrame self.old self.new }
     {

@@ -1,3 +1,5 @@
+//! What the actors of a race are lent, as one argument. A thread is handed the parts and
+//! makes its own, since the struct would be moved into it whole.
 use flat_places::Script;
 use flat_stage::Stage;
 use std::alloc::Global;

@@ -1,5 +1,7 @@
 //! A race: the sessions and probes of a script on threads of their own, beside the
-//! compositor, with gates that say when entries may be made.
+//! compositor, with gates that say when entries may be made. It keeps `HasPlayed` of
+//! flat_play, whatever the threads do: race.rt begins and ends it, director.rt is the
+//! compositor, session.rt a session and probe.rt a probe.
 #![tactic(auto)]
 
 mod director;

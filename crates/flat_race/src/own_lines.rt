@@ -1,3 +1,5 @@
+//! The places of each session's lines, listed in one pass before any thread is started: so
+//! a session's thread goes through its own lines alone.
 ghost use Rattle.std.specs.Prelude.{◌≡◌, ◌<◌, ◌≤◌, true, length, IfOk, OnOk};
 ghost use Rattle.flat_base.specs.declared.ids.Actor.TheVariants.{Session};
 ghost use Rattle.flat_base.specs.declared.ids.SessionNo.{SessionNo};

@@ -1,12 +1,14 @@
-ghost use Rattle.std.specs.Prelude.{◌≡◌, ◌+◌, ◌<◌, [], ◌∷◌, ◌++◌, true, length, Some, slice_get, IfOk, OnOk};
+//! A probe. It is lent memory, the script and the gate, and neither the stage nor leave to
+//! wait: it can't hold an entry up. All that it knows of frames is a list that grows.
+ghost use Rattle.std.specs.Prelude.{◌≡◌, ◌+◌, ◌<◌, [], ◌∷◌, ◌++◌, true, length, Some, slice_get};
+ghost use Rattle.std.specs.Prelude.{IfOk, OnOk};
 ghost use mathlib.Core.List.{IsPrefix};
 ghost use Rattle.flat_base.specs.declared.ids.Actor.TheVariants.{Probe};
-ghost use Rattle.flat_scene.specs.declared.script.Body.TheVariants as body;
 ghost use Rattle.flat_playable.specs.Playable.{is_playable};
 ghost use Rattle.flat_report.specs.Report.{is_probe, probe_lines_of};
 ghost use Rattle.flat_publish.specs.Frames.{last_number, IsRising};
 ghost use Rattle.flat_report.specs.Probes.{answer_by, asked_hits, AreAnsweredBy};
-ghost use Rattle.flat_race.specs.Probing.{HasAsked, ProbeStands};
+ghost use Rattle.flat_race.specs.Probing.{HasAsked, ProbeStands, asked_line};
 ghost use Rattle.flat_race.specs.Publishing.{hits_of};
 
 use crate::gate::{ASKS, Gate, LOOKS, ask};
@@ -86,7 +88,8 @@ fn look<G: Gate>(
     ensures grows { IsPrefix probe.old.frames probe.new.frames }
     ensures rising { OnOk result (IsRising probe.new.frames) }
     ensures frame { IfOk result (λ r. r.0.0 ≡ last_number probe.new.frames) }
-    ensures hits { IfOk result (λ r. r.1 ≡ asked_hits (hits_of probe.new.frames (last_number probe.new.frames)) asked) }
+    ensures hits { IfOk result (λ r. r.1
+        ≡ asked_hits (hits_of probe.new.frames (last_number probe.new.frames)) asked) }
 {
     match asked {
         ProbeLine::Hit(x, y) => {
@@ -113,7 +116,8 @@ fn answer_line<G: Gate>(
     ensures home { probe.new.home ≡ probe.old.home }
     ensures grows { IsPrefix probe.old.frames probe.new.frames }
     ensures rising { OnOk result (IsRising probe.new.frames) }
-    ensures more { OnOk result (answers.new ≡ answers.old ++ answer_by (hits_of probe.new.frames) (record { number = number; actor = actor; body = body.Probe asked }, last_number probe.new.frames) ∷ []) }
+    ensures more { OnOk result (answers.new ≡ answers.old ++ answer_by (hits_of probe.new.frames)
+        (asked_line number actor asked, last_number probe.new.frames) ∷ []) }
 {
     let (frame, hits) = look(asking, probe, number, asked)?;
     answers.push(ProbeAnswer {
@@ -146,9 +150,11 @@ fn answer_next<G: Gate>(
 ) -> Result<(), NoMemory>
     requires place { place < length asking.now.script.now.lines }
     requires playable { is_playable asking.now.script.now ≡ true }
-    requires stands { ProbeStands asking.now.script.now asking.now.probe place probe.old answers.old }
+    requires stands { ProbeStands asking.now.script.now asking.now.probe place probe.old
+        answers.old }
     ensures home { probe.new.home ≡ probe.old.home }
-    ensures stands { OnOk result (ProbeStands asking.now.script.now asking.now.probe (place + 1) probe.new answers.new) }
+    ensures stands { OnOk result (ProbeStands asking.now.script.now asking.now.probe
+        (place + 1) probe.new answers.new) }
 {
     let line = asking.script.lines.at(place);
     if !is_probe(asking.probe, line.actor) {
@@ -172,7 +178,9 @@ fn answer_all<G: Gate>(
     requires playable { is_playable asking.now.script.now ≡ true }
     requires none { answers.old ≡ [] }
     ensures home { probe.new.home ≡ probe.old.home }
-    ensures answered { OnOk result (AreAnsweredBy (hits_of probe.new.frames) (last_number probe.new.frames) (probe_lines_of asking.now.probe asking.now.script.now.lines) answers.new) }
+    ensures answered { OnOk result (AreAnsweredBy (hits_of probe.new.frames)
+        (last_number probe.new.frames) (probe_lines_of asking.now.probe asking.now.script.now.lines)
+        answers.new) }
 {
     for place in 0..asking.script.lines.len() {
         answer_next(asking, probe, answers, place)?;

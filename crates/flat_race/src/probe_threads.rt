@@ -1,3 +1,6 @@
+//! The probes' threads. A thread can't hand back that the frames which it saw are those of
+//! the history: so its promise, which is plain data, has the mark of the book in which they
+//! stand, and the probe is met once all have ended.
 ghost use Rattle.std.specs.Prelude.{◌≡◌, ◌<◌, true, [], length, replicate, Some, List, IfOk, OnOk};
 ghost use Rattle.flat_playable.specs.Playable.{is_playable};
 ghost use Rattle.flat_scene.specs.declared.script.ScriptLine.{ScriptLine};
@@ -102,8 +105,10 @@ pub(crate) fn start_probes<'s, E, R: Threads, G: Gate>(
     probes: &mut ProbeSeats,
 ) -> Result<VecDeque<ProbeOut<'s>>, NoMemory>
     requires playable { is_playable lent.now.script.now ≡ true }
-    requires fresh { probes.old ≡ replicate lent.now.script.now.setup.probes (Some (newcomer published.now.home)) }
-    ensures out { IfOk result (λ out. AreProbesOut lent.now.script.now published.now.home 0 out.items) }
+    requires fresh { probes.old ≡ replicate lent.now.script.now.setup.probes
+        (Some (newcomer published.now.home)) }
+    ensures out { IfOk result (λ out. AreProbesOut lent.now.script.now published.now.home 0
+        out.items) }
     ensures many { IfOk result (λ out. length out.items ≡ lent.now.script.now.setup.probes) }
 {
     let count = lent.script.setup.probes;
@@ -140,9 +145,11 @@ fn meet<R, G>(
     requires last { LastIsPublished lent.now.script.now.setup last.old published.old }
     ensures same { published.new ≡ published.old }
     ensures stays { OnOk result (StaysLast lent.now.script.now.setup last.old last.new) }
-    ensures answered { (lines : List ScriptLine)
-        → (back.is_whole ≡ true → AreAnsweredBy (hits_of back.probe.frames) (last_number back.probe.frames) lines back.answers)
-        → IfOk result (λ answers. AreAnsweredBy (hits_of published.old.frames) (last_number published.old.frames) lines answers) }
+    ensures answered { (lines : List ScriptLine) →
+        (back.is_whole ≡ true → AreAnsweredBy (hits_of back.probe.frames)
+        (last_number back.probe.frames) lines back.answers) →
+        IfOk result (λ answers. AreAnsweredBy (hits_of published.old.frames)
+        (last_number published.old.frames) lines answers) }
 {
     let ProbeBack {
         mut probe,
@@ -167,10 +174,13 @@ pub(crate) fn meet_each<'s, R: Threads, G>(
 ) -> Result<Vec<ProbeAnswers>, NoMemory>
     requires playable { is_playable lent.now.script.now ≡ true }
     requires is { IsLast lent.now.script.now.setup last.old }
-    requires last { 0 < lent.now.script.now.setup.probes → LastIsPublished lent.now.script.now.setup last.old published.old }
+    requires last { 0 < lent.now.script.now.setup.probes → LastIsPublished lent.now.script.now.setup
+        last.old published.old }
     requires out { AreProbesOut lent.now.script.now published.old.home 0 out.items }
     requires many { length out.items ≡ lent.now.script.now.setup.probes }
-    ensures answered { IfOk result (λ answers. AreAnswered lent.now.script.now (record { home = published.old.home; frames = published.old.frames }) lent.now.script.now.setup.probes answers.items) }
+    ensures answered { IfOk result (λ answers. AreAnswered lent.now.script.now
+        (record { home = published.old.home; frames = published.old.frames })
+        lent.now.script.now.setup.probes answers.items) }
     ensures stays { OnOk result (StaysLast lent.now.script.now.setup last.old last.new) }
     ensures same { published.new ≡ published.old }
 {

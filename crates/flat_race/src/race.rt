@@ -1,3 +1,5 @@
+//! A race. Each seat knows its own part of the history, and what others did only to the
+//! point that it has seen; the whole is known when all seats are home (`close`).
 ghost use Rattle.std.specs.Prelude.{◌≡◌, ◌<◌, ◌^◌, [], true, length, replicate, Some, IfOk, OnOk};
 ghost use Rattle.flat_playable.specs.Playable.{is_playable};
 ghost use Rattle.flat_display.specs.Had.{AreKept};
@@ -88,17 +90,24 @@ fn run_beside<'s, E, T: Threads + Wait + Sync, G: Gate>(
     requires of { IsStageOf lent.now.stage.now lent.now.script.now }
     requires compositor { compositor ≡ record { stage = lent.now.stage.now; seen = []; mine = [] } }
     requires own { seats.old.stage ≡ lent.now.stage.now }
-    requires sessions { AreFresh lent.now.stage.now lent.now.script.now.setup.sessions seats.old.seats }
+    requires sessions { AreFresh lent.now.stage.now lent.now.script.now.setup.sessions
+        seats.old.seats }
     requires film { FilmStands lent.now.script.now [] film.old }
     requires none { film.old.set.lost ≡ [] }
     requires number { length displays.old.items ≡ film.old.set.displays }
     requires few { film.old.set.displays < 2 ^ 32 }
-    requires unpublished { published.old ≡ record { home = published.old.home; frames = []; refused = []; given = 0 } }
-    requires probes { probes.old ≡ replicate lent.now.script.now.setup.probes (Some (newcomer published.old.home)) }
-    ensures ended { IfOk result (λ compositor. HaveEnded lent.now.stage.now lent.now.script.now compositor seats.new film.new) }
-    ensures seen { IfOk result (λ compositor. HaveSeen (λ d. shown d) (λ d. faults d) (finished lent.now.script.now.setup (history_of compositor.seen)) (history_of compositor.seen) film.new.set.lost displays.old.items displays.new.items) }
+    requires unpublished { published.old
+        ≡ record { home = published.old.home; frames = []; refused = []; given = 0 } }
+    requires probes { probes.old ≡ replicate lent.now.script.now.setup.probes
+        (Some (newcomer published.old.home)) }
+    ensures ended { IfOk result (λ compositor. HaveEnded lent.now.stage.now lent.now.script.now
+        compositor seats.new film.new) }
+    ensures seen { IfOk result (λ compositor. HaveSeen (λ d. shown d) (λ d. faults d)
+        (finished lent.now.script.now.setup (history_of compositor.seen))
+        (history_of compositor.seen) film.new.set.lost displays.old.items displays.new.items) }
     ensures keeping { OnOk result (keeping_of film.new.kept ≡ keeping_of film.old.kept) }
-    ensures kept { AreKept (λ d. shown d) (λ d. faults d) displays.old.items displays.new.items (λ d. d.vtable) }
+    ensures kept { AreKept (λ d. shown d) (λ d. faults d) displays.old.items displays.new.items
+        (λ d. d.vtable) }
 {
     let out = start_each(scope, lent, seats)?;
     let asked = start_probes(scope, lent, published, probes)?;
@@ -125,15 +134,20 @@ fn run_all<'s, E, T: Threads + Wait + Sync, G: Gate>(
     requires of { IsStageOf lent.now.stage.now lent.now.script.now }
     requires compositor { compositor ≡ record { stage = lent.now.stage.now; seen = []; mine = [] } }
     requires own { seats.old.stage ≡ lent.now.stage.now }
-    requires sessions { AreFresh lent.now.stage.now lent.now.script.now.setup.sessions seats.old.seats }
+    requires sessions { AreFresh lent.now.stage.now lent.now.script.now.setup.sessions
+        seats.old.seats }
     requires film { FilmStands lent.now.script.now [] film.old }
     requires none { film.old.set.lost ≡ [] }
     requires number { length displays.old.items ≡ film.old.set.displays }
     requires few { film.old.set.displays < 2 ^ 32 }
-    ensures ended { IfOk result (λ compositor. HaveEnded lent.now.stage.now lent.now.script.now compositor seats.new film.new) }
-    ensures seen { IfOk result (λ compositor. HaveSeen (λ d. shown d) (λ d. faults d) (finished lent.now.script.now.setup (history_of compositor.seen)) (history_of compositor.seen) film.new.set.lost displays.old.items displays.new.items) }
+    ensures ended { IfOk result (λ compositor. HaveEnded lent.now.stage.now lent.now.script.now
+        compositor seats.new film.new) }
+    ensures seen { IfOk result (λ compositor. HaveSeen (λ d. shown d) (λ d. faults d)
+        (finished lent.now.script.now.setup (history_of compositor.seen))
+        (history_of compositor.seen) film.new.set.lost displays.old.items displays.new.items) }
     ensures keeping { OnOk result (keeping_of film.new.kept ≡ keeping_of film.old.kept) }
-    ensures kept { AreKept (λ d. shown d) (λ d. faults d) displays.old.items displays.new.items (λ d. d.vtable) }
+    ensures kept { AreKept (λ d. shown d) (λ d. faults d) displays.old.items displays.new.items
+        (λ d. d.vtable) }
 {
     let (mut published, mut probes) = Published::new(
         lent.rt,
@@ -172,10 +186,14 @@ fn run_in<'s, E, T: Threads + Wait + Sync, G: Gate>(
     requires none { film.set.lost ≡ [] }
     requires number { length displays.items ≡ film.set.displays }
     requires few { film.set.displays < 2 ^ 32 }
-    ensures ended { IfOk result.ended (λ e. HaveEnded lent.now.stage.now lent.now.script.now e.compositor e.seats e.film) }
-    ensures seen { IfOk result.ended (λ e. HaveSeen (λ d. shown d) (λ d. faults d) (finished lent.now.script.now.setup (history_of e.compositor.seen)) (history_of e.compositor.seen) e.film.set.lost displays.items result.displays.items) }
+    ensures ended { IfOk result.ended (λ e. HaveEnded lent.now.stage.now lent.now.script.now
+        e.compositor e.seats e.film) }
+    ensures seen { IfOk result.ended (λ e. HaveSeen (λ d. shown d) (λ d. faults d)
+        (finished lent.now.script.now.setup (history_of e.compositor.seen))
+        (history_of e.compositor.seen) e.film.set.lost displays.items result.displays.items) }
     ensures keeping { IfOk result.ended (λ e. keeping_of e.film.kept ≡ keeping_of film.kept) }
-    ensures kept { AreKept (λ d. shown d) (λ d. faults d) displays.items result.displays.items (λ d. d.vtable) }
+    ensures kept { AreKept (λ d. shown d) (λ d. faults d) displays.items result.displays.items
+        (λ d. d.vtable) }
 {
     match run_all(
         scope,
@@ -221,10 +239,14 @@ fn on_threads<T: Threads + Wait + Sync, G: Gate>(
     requires none { film.set.lost ≡ [] }
     requires number { length displays.items ≡ film.set.displays }
     requires few { film.set.displays < 2 ^ 32 }
-    ensures ended { IfOk result.ended (λ e. HaveEnded stage.now script.now e.compositor e.seats e.film) }
-    ensures seen { IfOk result.ended (λ e. HaveSeen (λ d. shown d) (λ d. faults d) (finished script.now.setup (history_of e.compositor.seen)) (history_of e.compositor.seen) e.film.set.lost displays.items result.displays.items) }
+    ensures ended { IfOk result.ended (λ e. HaveEnded stage.now script.now e.compositor e.seats
+        e.film) }
+    ensures seen { IfOk result.ended (λ e. HaveSeen (λ d. shown d) (λ d. faults d)
+        (finished script.now.setup (history_of e.compositor.seen)) (history_of e.compositor.seen)
+        e.film.set.lost displays.items result.displays.items) }
     ensures keeping { IfOk result.ended (λ e. keeping_of e.film.kept ≡ keeping_of film.kept) }
-    ensures kept { AreKept (λ d. shown d) (λ d. faults d) displays.items result.displays.items (λ d. d.vtable) }
+    ensures kept { AreKept (λ d. shown d) (λ d. faults d) displays.items result.displays.items
+        (λ d. d.vtable) }
 {
     thread::scope(
         thread::scope_env(),
@@ -232,13 +254,19 @@ fn on_threads<T: Threads + Wait + Sync, G: Gate>(
         move |scope| -> Raced
             requires { (is_playable script.now ≡ true) × IsStageOf stage.now script.now
                 × (compositor ≡ record { stage = stage.now; seen = []; mine = [] })
-                × (seats.stage ≡ stage.now) × AreFresh stage.now script.now.setup.sessions seats.seats
+                × (seats.stage ≡ stage.now)
+                × AreFresh stage.now script.now.setup.sessions seats.seats
                 × FilmStands script.now [] film × (film.set.lost ≡ [])
                 × (length displays.items ≡ film.set.displays) × (film.set.displays < 2 ^ 32) }
-            ensures { IfOk result.ended (λ e. HaveEnded stage.entry.now script.entry.now e.compositor e.seats e.film)
-                × IfOk result.ended (λ e. HaveSeen (λ d. shown d) (λ d. faults d) (finished script.entry.now.setup (history_of e.compositor.seen)) (history_of e.compositor.seen) e.film.set.lost displays.items result.displays.items)
+            ensures { IfOk result.ended (λ e. HaveEnded stage.entry.now script.entry.now
+                e.compositor e.seats e.film)
+                × IfOk result.ended (λ e. HaveSeen (λ d. shown d) (λ d. faults d)
+                (finished script.entry.now.setup (history_of e.compositor.seen))
+                (history_of e.compositor.seen) e.film.set.lost displays.items
+                result.displays.items)
                 × IfOk result.ended (λ e. keeping_of e.film.kept ≡ keeping_of film.kept)
-                × AreKept (λ d. shown d) (λ d. faults d) displays.items result.displays.items (λ d. d.vtable) }
+                × AreKept (λ d. shown d) (λ d. faults d) displays.items result.displays.items
+                (λ d. d.vtable) }
         {
             let lent = Lent {
                 rt,
@@ -273,7 +301,8 @@ fn close(stage: Stage, script: &Script, ended: Ended) -> Played
     requires of { IsStageOf stage script.now }
     requires ended { HaveEnded stage script.now ended.compositor ended.seats ended.film }
     ensures played { HasPlayed script.now result.board result.kept result.answers }
-    ensures frames { finished script.now.setup result.board.history ≡ finished script.now.setup (history_of ended.compositor.seen) }
+    ensures frames { finished script.now.setup result.board.history
+        ≡ finished script.now.setup (history_of ended.compositor.seen) }
     ensures kept { result.kept ≡ ended.film.kept }
     ensures set { result.set ≡ ended.film.set }
     ensures as_many { frames result.board.history ≡ frames (history_of ended.compositor.seen) }
@@ -324,11 +353,16 @@ pub fn race_script<T: Threads + Wait + Sync, G: Gate>(
 ) -> Result<Played, NoMemory>
     requires playable { is_playable script.now ≡ true }
     requires few { length displays.old.items < 2 ^ 32 }
-    ensures played { IfOk result (λ played. HasPlayed script.now played.board played.kept played.answers) }
-    ensures probes { IfOk result (λ played. ProbesAnswered script.now played.board.history played.probes.items) }
+    ensures played { IfOk result (λ played. HasPlayed script.now played.board played.kept
+        played.answers) }
+    ensures probes { IfOk result (λ played. ProbesAnswered script.now played.board.history
+        played.probes.items) }
     ensures keeping { IfOk result (λ played. keeping_of played.kept ≡ keeping) }
-    ensures seen { IfOk result (λ played. HaveSeen (λ d. shown d) (λ d. faults d) (finished script.now.setup played.board.history) played.board.history played.set.lost displays.old.items displays.new.items) }
-    ensures kept { AreKept (λ d. shown d) (λ d. faults d) displays.old.items displays.new.items (λ d. d.vtable) }
+    ensures seen { IfOk result (λ played. HaveSeen (λ d. shown d) (λ d. faults d)
+        (finished script.now.setup played.board.history) played.board.history played.set.lost
+        displays.old.items displays.new.items) }
+    ensures kept { AreKept (λ d. shown d) (λ d. faults d) displays.old.items displays.new.items
+        (λ d. d.vtable) }
 {
     let film = new_film(alloc, script, keeping, displays.len() as u32)?;
     let (stage, compositor, seats) = new_stage(alloc, script)?;

@@ -1,4 +1,7 @@
-ghost use Rattle.std.specs.Prelude.{◌≡◌, ◌+◌, ◌<◌, ◌≤◌, ◌^◌, ℕ, List, [], ◌∷◌, ◌++◌, Bool, true, false, length, Some, slice_get, IsTrue, OnOk};
+//! A session. All that its lines ask for follows from its own entries, which its seat knows
+//! whatever the others do.
+ghost use Rattle.std.specs.Prelude.{◌≡◌, ◌+◌, ◌<◌, ◌≤◌, ◌^◌, ℕ, List, [], ◌∷◌, ◌++◌, Bool, true};
+ghost use Rattle.std.specs.Prelude.{false, length, Some, slice_get, IsTrue, OnOk};
 ghost use Rattle.flat_base.specs.declared.ids.Actor.TheVariants.{Session};
 ghost use Rattle.flat_scene.specs.declared.script.Line.{Line};
 ghost use Rattle.flat_scene.specs.declared.script.ScriptLine.{ScriptLine};
@@ -66,7 +69,8 @@ fn look_again<R: Wait, G: Gate>(
     requires own { seat.old.stage ≡ lent.now.stage.now }
     requires owned { is_played_condition (setup_of seat.old.stage) seat.old.session c ≡ true }
     ensures same { IsSame seat.old seat.new }
-    ensures met { IsTrue result → asked_of c ≤ value_of (setup_of seat.old.stage) (history_of seat.new.seen) (Session seat.old.session) c }
+    ensures met { IsTrue result → asked_of c ≤ value_of (setup_of seat.old.stage)
+        (history_of seat.new.seen) (Session seat.old.session) c }
 {
     let SessionNo(actor) = seat.session();
     let wanted = asked_of(c);
@@ -112,7 +116,8 @@ fn read_line<R: Wait, G: Gate>(
     requires room { HasRoom seat.old }
     requires few { seat.old.refused + 1 < 2 ^ 32 }
     ensures goes_on { GoesOn seat.old seat.new }
-    ensures follows { (given : List (ℕ × Line)) → SeatHasRead given seat.old → OnOk result (SeatHasRead (given ++ (number, text.now) ∷ []) seat.new) }
+    ensures follows { (given : List (ℕ × Line)) → SeatHasRead given seat.old →
+        OnOk result (SeatHasRead (given ++ (number, text.now) ∷ []) seat.new) }
 {
     let line = text.copy(lent.alloc)?;
     if seat.is_closed() {
@@ -134,11 +139,14 @@ fn read_next<R: Wait, G: Gate>(
     place: usize,
 ) -> Result<(), NoMemory>
     requires place { place < length lent.now.script.now.lines }
-    requires mine { (next : ScriptLine) → slice_get lent.now.script.now.lines place ≡ Some next → is_session seat.old.session next.actor ≡ true }
+    requires mine { (next : ScriptLine) → slice_get lent.now.script.now.lines place ≡ Some next →
+        is_session seat.old.session next.actor ≡ true }
     requires playable { is_playable lent.now.script.now ≡ true }
     requires of { IsStageOf lent.now.stage.now lent.now.script.now }
-    requires stands { SessionStands lent.now.script.now lent.now.stage.now seat.old.session place seat.old }
-    ensures stands { OnOk result (SessionStands lent.now.script.now lent.now.stage.now seat.old.session (place + 1) seat.new) }
+    requires stands { SessionStands lent.now.script.now lent.now.stage.now seat.old.session place
+        seat.old }
+    ensures stands { OnOk result (SessionStands lent.now.script.now lent.now.stage.now
+        seat.old.session (place + 1) seat.new) }
     ensures same { (seat.new.stage ≡ seat.old.stage) × (seat.new.session ≡ seat.old.session) }
 {
     let line = lent.script.lines.at(place);
@@ -155,9 +163,11 @@ fn read_next<R: Wait, G: Gate>(
 fn finish<R: Wait, G: Gate>(lent: &Lent<R, G>, seat: &mut SessionSeat)
     requires playable { is_playable lent.now.script.now ≡ true }
     requires of { IsStageOf lent.now.stage.now lent.now.script.now }
-    requires stands { SessionStands lent.now.script.now lent.now.stage.now seat.old.session (length lent.now.script.now.lines) seat.old }
+    requires stands { SessionStands lent.now.script.now lent.now.stage.now seat.old.session
+        (length lent.now.script.now.lines) seat.old }
     ensures same { (seat.new.stage ≡ seat.old.stage) × (seat.new.session ≡ seat.old.session) }
-    ensures read { IsReading lent.now.script.now.setup lent.now.script.now.count (session_lines seat.old.session lent.now.script.now.lines) (history_of seat.new.mine) }
+    ensures read { IsReading lent.now.script.now.setup lent.now.script.now.count
+        (session_lines seat.old.session lent.now.script.now.lines) (history_of seat.new.mine) }
 {
     let SessionNo(actor) = seat.session();
     let number = lent.script.count + 1;
@@ -177,7 +187,8 @@ fn read_all<R: Wait, G: Gate>(
     requires of { IsStageOf lent.now.stage.now lent.now.script.now }
     requires fresh { seat.old ≡ fresh_view lent.now.stage.now seat.old.session }
     ensures same { (seat.new.stage ≡ seat.old.stage) × (seat.new.session ≡ seat.old.session) }
-    ensures read { OnOk result (IsReading lent.now.script.now.setup lent.now.script.now.count (session_lines seat.old.session lent.now.script.now.lines) (history_of seat.new.mine)) }
+    ensures read { OnOk result (IsReading lent.now.script.now.setup lent.now.script.now.count
+        (session_lines seat.old.session lent.now.script.now.lines) (history_of seat.new.mine)) }
 {
     lines_are_read();
     for i in 0..places.len() {

@@ -1,41 +1,16 @@
 //! Answers of a probe that has come back, held against what was published.
-ghost use Rattle.std.specs.Prelude.{◌≡◌, ◌<◌, true, length, map, OnOk, IfOk, slice_get, slice_set, Some};
+ghost use Rattle.std.specs.Prelude.{◌≡◌, ◌<◌, true, length, map, OnOk, slice_get, slice_set, Some};
 ghost use Rattle.flat_scene.specs.Setups.{is_setup};
 ghost use Rattle.flat_topology.specs.Hits.{hit_list};
 ghost use Rattle.flat_play.specs.Last.{IsLast, StaysLast};
 ghost use Rattle.flat_report.specs.declared.probes.ProbeAnswer.{ProbeAnswer};
-ghost use Rattle.flat_race.specs.Settling.{by_last, settled};
+ghost use Rattle.flat_race.specs.Settling.{settled};
 
 use flat_base::NoMemory;
 use flat_play::LastFrame;
-use flat_report::{ProbeAnswer, ProbeAnswers};
-use flat_scene::{HitList, ProbeLine, Setup};
+use flat_report::ProbeAnswers;
+use flat_scene::Setup;
 use std::alloc::Global;
-
-/// The answer of the last finished frame to what was asked.
-fn by_last(
-    alloc: Global,
-    setup: &Setup,
-    last: &mut LastFrame,
-    answer: &ProbeAnswer,
-) -> Result<ProbeAnswer, NoMemory>
-    requires setup { is_setup setup.now ≡ true }
-    requires is { IsLast setup.now last.old }
-    ensures answer { IfOk result (λ new. new ≡ by_last last.old.frame.0 (hit_list setup.now last.old.reuse) answer.now) }
-    ensures stays { OnOk result (StaysLast setup.now last.old last.new) }
-{
-    let hits = match answer.asked {
-        ProbeLine::Hit(x, y) => last.hits(alloc, setup, x, y)?,
-        ProbeLine::Await(_) => HitList::new(alloc),
-    };
-    Ok(ProbeAnswer {
-        actor: answer.actor,
-        line: answer.line,
-        asked: answer.asked,
-        frame: last.frame,
-        hits,
-    })
-}
 
 /// Settles the answer at a place.
 fn settle_at(
@@ -48,14 +23,16 @@ fn settle_at(
     requires setup { is_setup setup.now ≡ true }
     requires is { IsLast setup.now last.old }
     requires place { place < length answers.old }
-    ensures answers { (answer : ProbeAnswer) → slice_get answers.old place ≡ Some answer → OnOk result (answers.new ≡ slice_set answers.old place (settled last.old.frame.0 (hit_list setup.now last.old.reuse) answer)) }
+    ensures answers { (answer : ProbeAnswer) → slice_get answers.old place ≡ Some answer →
+        OnOk result (answers.new ≡ slice_set answers.old place
+        (settled last.old.frame.0 (hit_list setup.now last.old.reuse) answer)) }
     ensures stays { OnOk result (StaysLast setup.now last.old last.new) }
 {
     let answer = answers.at(place);
     if answer.frame.0 <= last.frame.0 {
         return Ok(());
     }
-    let answer = by_last(alloc, setup, last, answer)?;
+    let answer = last.answer(alloc, setup, answer.actor, answer.line, answer.asked)?;
     answers.set(place, answer);
     Ok(())
 }
@@ -71,7 +48,8 @@ pub(crate) fn settle(
 ) -> Result<(), NoMemory>
     requires setup { is_setup setup.now ≡ true }
     requires is { IsLast setup.now last.old }
-    ensures answers { OnOk result (answers.new ≡ map (settled last.old.frame.0 (hit_list setup.now last.old.reuse)) answers.old) }
+    ensures answers { OnOk result (answers.new
+        ≡ map (settled last.old.frame.0 (hit_list setup.now last.old.reuse)) answers.old) }
     ensures stays { OnOk result (StaysLast setup.now last.old last.new) }
 {
     for place in 0..answers.len() {

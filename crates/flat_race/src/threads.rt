@@ -1,3 +1,6 @@
+//! The sessions' threads. A promise is plain data, the stage, the script and the session,
+//! and is kept by the seat that comes back. Where no thread can be started, the session is
+//! run here with the same promise.
 ghost use Rattle.std.specs.Prelude.{◌≡◌, ◌&&◌, true, length, IfOk};
 ghost use Rattle.flat_playable.specs.Playable.{is_playable};
 ghost use Rattle.flat_stage.specs.Homes.{AreFresh, fresh_view};
@@ -18,13 +21,13 @@ use std::thread::{Promise, PromisedHandle, Scope, Threads};
 
 /// What a session's thread promises of the seat that it hands back.
 #[derive(Drop)]
-pub(crate) struct Kept<'a> {
+pub(crate) struct Promised<'a> {
     stage: &'a Stage,
     script: &'a Script,
     session: SessionNo,
 }
 
-impl<'a> Promise<Back> for Kept<'a> {
+impl<'a> Promise<Back> for Promised<'a> {
     ghost use Rattle.flat_race.specs.Sessions.{HasRun};
 
     ghost kept_by = { λ p r. HasRun p.stage.now p.script.now p.session r };
@@ -33,7 +36,7 @@ impl<'a> Promise<Back> for Kept<'a> {
 /// A seat that is out: a thread has it, or its session was run here.
 #[derive(Drop)]
 pub(crate) enum Out<'a> {
-    Thread(PromisedHandle<Back, Kept<'a>>),
+    Thread(PromisedHandle<Back, Promised<'a>>),
     Here(Back),
 }
 
@@ -70,13 +73,14 @@ fn start<'s, E, R: Threads + Wait + Sync, G: Gate>(
 {
     let session = seat.session();
     match scope.spawn_with(
-        Kept {
+        Promised {
             stage,
             script,
             session,
         },
         move || -> Back
-            requires { (is_playable script.now ≡ true) × IsStageOf stage.now script.now × (seat ≡ fresh_view stage.now seat.session)
+            requires { (is_playable script.now ≡ true) × IsStageOf stage.now script.now
+                × (seat ≡ fresh_view stage.now seat.session)
                 × (places ≡ own_places seat.session script.now.lines) }
             ensures { HasRun stage.entry.now script.entry.now seat.session result }
         {
@@ -104,8 +108,10 @@ pub(crate) fn start_each<'s, E, R: Threads + Wait + Sync, G: Gate>(
     requires playable { is_playable lent.now.script.now ≡ true }
     requires of { IsStageOf lent.now.stage.now lent.now.script.now }
     requires own { seats.old.stage ≡ lent.now.stage.now }
-    requires fresh { AreFresh lent.now.stage.now lent.now.script.now.setup.sessions seats.old.seats }
-    ensures out { IfOk result (λ out. AreOut lent.now.stage.now lent.now.script.now lent.now.script.now.setup.sessions out.items) }
+    requires fresh { AreFresh lent.now.stage.now lent.now.script.now.setup.sessions
+        seats.old.seats }
+    ensures out { IfOk result (λ out. AreOut lent.now.stage.now lent.now.script.now
+        lent.now.script.now.setup.sessions out.items) }
     ensures own { seats.new.stage ≡ seats.old.stage }
     ensures count { length seats.new.seats ≡ length seats.old.seats }
 {
@@ -147,7 +153,8 @@ pub(crate) fn put_back<'s, R: Threads, G>(
     mut out: Vec<Out<'s>>,
 ) -> bool
     requires playable { is_playable lent.now.script.now ≡ true }
-    requires out { AreOut lent.now.stage.now lent.now.script.now lent.now.script.now.setup.sessions out.items }
+    requires out { AreOut lent.now.stage.now lent.now.script.now lent.now.script.now.setup.sessions
+        out.items }
     requires own { seats.old.stage ≡ lent.now.stage.now }
     requires count { length seats.old.seats ≡ lent.now.script.now.setup.sessions }
     ensures own { seats.new.stage ≡ seats.old.stage }

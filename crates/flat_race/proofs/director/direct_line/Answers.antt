@@ -12,7 +12,13 @@ use Rattle.flat_scene.specs.declared.script.ScriptLine.{ScriptLine}
 use Rattle.flat_scene.specs.declared.setup.Setup.{Setup}
 use Rattle.flat_scene.specs.History.{history_of}
 use Rattle.flat_topology.specs.Hits.{hit_list}
+use Rattle.flat_base.specs.declared.ids.FrameNo.{FrameNo}
+use Rattle.flat_scene.specs.declared.frames.SessionSet.{SessionSet}
+use Rattle.flat_topology.specs.Changes.{AreSame}
+use Rattle.flat_topology.specs.Shown.{Shown}
+use Rattle.flat_play.specs.declared.frame.LastFrame.{LastFrame}
 use Rattle.flat_play.specs.Last.{StaysLast}
+use Rattle.flat_play.proofs.lemmas.Joining.{joined-again}
 use Rattle.flat_stage.specs.Displays.{DisplayEnters}
 use Rattle.flat_stage.specs.Seats.{setup_of}
 use Rattle.flat_play.proofs.lemmas.Places.{setup_is}
@@ -26,6 +32,7 @@ use Rattle.flat_race.specs.declared.hand.Hand.TheVariants.{Idle, Open}
 use Rattle.flat_race.specs.Directing.{HandStands, hand_seat}
 use Rattle.flat_race.specs.Publishing.{FinishesOne}
 use Rattle.flat_race.proofs.Finishing.{finishes_then}
+use Rattle.flat_race.proofs.Joined.{keeps-joined}
 use Rattle.flat_race.proofs.HandSteps.{begins_idle, finished_still, finished_then, finishes_open, frames_few, looked_beside, looked_finishes, publishes_still, publishes_then, shown_as, hand_begins, hand_finishes, hand_hits, hand_looks, hand_room, hand_signals, hand_waits, looked_there, time_fits, wait_fits}
 use Rattle.flat_race.proofs.director.direct_line.Goals as goal
 
@@ -80,7 +87,15 @@ finish-requires-clause-same g c κs within =
     let script = c.args.lent.now.script.now in
     let view = c.args.lent.now.stage.now in
     let held : HandStands script view c.args.place (Open c.into_frame-frame.result) c.args.film.now = subst (λ (h : Hand). HandStands script view c.args.place h c.args.film.now) (sym c.into_frame-frame.ensures) c.requires.stands in
-    held.changes
+    let K : Shown → Type 0 = λ last. AreSame c.into_frame-frame.result.changed last c.into_frame-frame.result.shown in
+    subst K (sym (c.take_joined-joined.ensures.stays script.setup held.kept.answering.is_last).reuse) held.changes
+
+pub finish-requires-clause-last : goal.finish-requires-clause-last
+finish-requires-clause-last g c κs within =
+    let script = c.args.lent.now.script.now in
+    let view = c.args.lent.now.stage.now in
+    let held : HandStands script view c.args.place (Open c.into_frame-frame.result) c.args.film.now = subst (λ (h : Hand). HandStands script view c.args.place h c.args.film.now) (sym c.into_frame-frame.ensures) c.requires.stands in
+    ap (λ (f : FrameNo). f.0) (c.take_joined-joined.ensures.stays script.setup held.kept.answering.is_last).frame ∙ held.kept.answering.number
 
 pub finish-requires-clause-kept : goal.finish-requires-clause-kept
 finish-requires-clause-kept g c κs within =
@@ -184,7 +199,17 @@ returns-in_ok-seat-in-Done-clause-stands g c =
     let at : At script c.args.place x = at_place script c.args.place x c.requires.playable c.requires.line in
     let is : x.body ≡ body.Display (display.Done) = ap (λ t. body.Display t) c.in-Done.is in
     let held : HandStands script view c.args.place (Open c.into_frame-frame.result) c.args.film.now = subst (λ (h : Hand). HandStands script view c.args.place h c.args.film.now) (sym c.into_frame-frame.ensures) c.requires.stands in
-    hand_finishes script view c.args.place x at refl c.requires.of is c.into_frame-frame.result c.in_ok-seat-in-Done.seat c.args.film.now c.finish.new.film held c.in_ok-seat-in-Done.ensures.enters c.in_ok-seat-in-Done.ensures.keeps
+    let was = held.kept.answering in
+    let keeps = c.in_ok-seat-in-Done.ensures.keeps in
+    let done = c.finish.new.film.last in
+    let then : LastFrame = record done { joined = c.take_joined-joined.result } in
+    let S : SessionSet → Type 0 = λ changed. AreSame changed c.args.film.now.last.reuse done.reuse in
+    let K : Shown → Type 0 = λ next. AreSame c.into_frame-frame.result.changed c.args.film.now.last.reuse next in
+    let same : S c.changed.result = subst S (sym c.changed.ensures) (subst K (held.shows.0 ∙ sym keeps.showing) held.changes) in
+    let joined = c.take_joined-joined.ensures.joined script.setup done.reuse was.is_last keeps.is_last.count same in
+    let stays : StaysLast script.setup done then = joined-again script.setup done then keeps.is_last refl refl joined in
+    hand_finishes script view c.args.place x at refl c.requires.of is c.into_frame-frame.result c.in_ok-seat-in-Done.seat c.args.film.now (record c.finish.new.film { last = then }) held c.in_ok-seat-in-Done.ensures.enters
+    (keeps-joined script _ _ c.args.film.now c.take_joined-joined.new.self c.finish.new.film then keeps stays)
 
 pub returns-in-Signal-clause-stands : goal.returns-in-Signal-clause-stands
 returns-in-Signal-clause-stands g c =
