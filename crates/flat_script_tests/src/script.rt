@@ -1,5 +1,6 @@
 use crate::outcome::{HEAD, joined, outcome};
 use flat_base::TransformId;
+use flat_places::Script;
 use flat_scene::{Body, Call, DisplayLine, Line};
 use flat_script::parse;
 use std::test::Fail;

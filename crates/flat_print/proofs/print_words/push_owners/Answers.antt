@@ -3,4 +3,4 @@ use Rattle.flat_print.proofs.lemmas.WordLemmas.{more_mapped}
 use Rattle.flat_print.proofs.print_words.push_owners.Goals as goal
 
 pub loop-owner-preserved : goal.loop-owner-preserved
-loop-owner-preserved c = more_mapped (actor_name c.args.script.now) c.args.owners.now c.loop-owner.owner-index _ c.actor_word.result.now c.loop-owner-test.true c.actor_word.ensures c.loop-owner.invariant c.in_ok-push_word.ensures
+loop-owner-preserved c = more_mapped (actor_name c.args.script.now) c.args.owners.now c.loop-owner.owner-index _ c.actor_name.result.now c.loop-owner-test.true c.actor_name.ensures c.loop-owner.invariant c.in_ok-push_word.ensures
