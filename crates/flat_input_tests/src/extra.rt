@@ -80,11 +80,7 @@ fn focus_lines(rt: HostRuntime) -> Result<(), Fail> {
     for (rest, line, kind) in FOCUS.iter() {
         let text = joined(rt.alloc(), rest)?;
         let answer = focus_outcome(rt.alloc(), text.as_slice());
-        assert_eq!(rt;
-            answer,
-            Some((*line as usize, *kind.number() as usize)),
-            "{rest}"
-        );
+        assert_eq!(rt; answer, Some((*line as usize, *kind as usize)), "{rest}");
     }
     Ok(())
 }
@@ -94,11 +90,7 @@ fn pointer_lines(rt: HostRuntime) -> Result<(), Fail> {
     for (rest, line, kind) in POINTER.iter() {
         let text = joined(rt.alloc(), rest)?;
         let answer = pointer_outcome(rt.alloc(), text.as_slice());
-        assert_eq!(rt;
-            answer,
-            Some((*line as usize, *kind.number() as usize)),
-            "{rest}"
-        );
+        assert_eq!(rt; answer, Some((*line as usize, *kind as usize)), "{rest}");
     }
     Ok(())
 }
@@ -125,7 +117,7 @@ fn many_lines_and_long_ones(rt: HostRuntime) -> Result<(), Fail> {
         let answer = focus_outcome(rt.alloc(), text.as_slice());
         assert_eq!(rt;
             answer,
-            Some((*line as usize, *kind.number() as usize)),
+            Some((*line as usize, *kind as usize)),
             "{times} of {rest}"
         );
     }
