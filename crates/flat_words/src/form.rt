@@ -151,16 +151,13 @@ fn named_form(matches: &ArgMatches) -> Option<Form>
     }
 }
 
-/// The most frames that a load may have.
-const LOAD_FRAMES_MAX: u128 = 500;
-
 // The number of frames of a load.
 fn read_frames(word: &str) -> Option<u32>
     ensures text { IfSome result (λ n. (decimal n ≡ word.now) × (1 ≤ n) × (n ≤ 500)) }
     ensures only { (n : ℕ) → decimal n ≡ word.now → 1 ≤ n → n ≤ 500 → result ≡ Some n }
 {
     let n = read_natural(word.as_bytes())?;
-    if 1 <= n && n <= LOAD_FRAMES_MAX {
+    if 1 <= n && n <= 500 {
         Some(n as u32)
     } else {
         None
