@@ -4,6 +4,12 @@
 /// Bytes of a script, 16 MiB. Beyond it: script fault 1.
 pub const SCRIPT_BYTES_MAX: usize = 16_777_216;
 
+/// The latest version of scripts; the first is 1. Beyond it: script fault 13.
+pub const VERSION_MAX: u32 = 2;
+
+/// The first version that has unsquashable presents and `ReplaceChildren`.
+pub const UNSQUASHABLE_SINCE: u32 = 2;
+
 /// Bytes of one line of a script. Beyond it: script fault 3.
 pub const LINE_BYTES_MAX: usize = 1_024;
 
@@ -21,6 +27,9 @@ pub const LINES_PER_ACTOR_MAX: u32 = 65_536;
 
 /// Frames of a script. Beyond it: script fault 11.
 pub const FRAMES_MAX: u32 = 512;
+
+/// Frames of the built-in load, from 1 on. Beyond it the command words are faulty.
+pub const LOAD_FRAMES_MAX: u32 = 500;
 
 /// Pairs of a script. Beyond it: script fault 11.
 pub const PAIRS_MAX: u32 = 4_096;

@@ -27,6 +27,8 @@ setup = record {
   pairs = (record { viewport = Display; view = s 1 } ∷ record { viewport = Session (s 1); view = s 2 } ∷ []);
   buffers = [];
   fences = [];
+  version = 1;
+  ratio = 65536;
 }
 
 -- both values of a view are asked for, the status first

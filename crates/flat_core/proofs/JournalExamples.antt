@@ -34,6 +34,8 @@ setup = record {
   pairs = (record { viewport = Display; view = session 1 } ∷ record { viewport = Session (session 1); view = session 2 } ∷ []);
   buffers = [];
   fences = [];
+  version = 1;
+  ratio = 65536;
 }
 
 abbrev joined : List Entry

@@ -47,7 +47,7 @@ fence_lists known test (w ∷ words) =
 -- a time, and the lists
 abbrev pub present : List Word → Script → SessionNo → Form PresentArgs
 present known s a =
-    (λ t lists. record { time = t; acquire = lists.0; release = lists.1 }) <$> time <*> (λ words. (fence_lists known (fence_word s (Session a)) words, []))
+    (λ t lists. record { time = t; acquire = lists.0; release = lists.1; unsquashable = false }) <$> time <*> (λ words. (fence_lists known (fence_word s (Session a)) words, []))
 
 -- Wait
 

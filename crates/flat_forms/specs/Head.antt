@@ -13,7 +13,7 @@ use Rattle.flat_places.specs.Places.{number_from, session, version, has_display_
 -- nothing declared yet; a width of 0 says that no display line was read
 abbrev pub empty : Script
 empty = record {
-  setup = record { width = 0; height = 0; sessions = 0; probes = 0; pairs = []; buffers = []; fences = [] };
+  setup = record { width = 0; height = 0; sessions = 0; probes = 0; pairs = []; buffers = []; fences = []; version = 0; ratio = 65536 };
   sessions = [];
   probes = [];
   buffers = [];

@@ -297,7 +297,7 @@ fence_given s who h words v is =
 present_by : (s : Script) (a : SessionNo) (p : PresentArgs) (words : List Word) → whole (line.Present <$> present known_words s a) words ≡ Ok (line.Present p) → is_played_line s.setup a (line.Present p) ≡ true
 present_by s a p words is =
     let lists : Form (List FenceNo × List FenceNo) = λ ws. (fence_lists known_words (fence_word s (Session a)) ws, []) in
-    let h : ℕ → List FenceNo × List FenceNo → PresentArgs = λ t both. record { time = t; acquire = both.0; release = both.1 } in
+    let h : ℕ → List FenceNo × List FenceNo → PresentArgs = λ t both. record { time = t; acquire = both.0; release = both.1; unsquashable = false } in
     let whole_line = map_ok line.Present (present known_words s a) words (line.Present p) [] (whole_ok (line.Present <$> present known_words s a) words (line.Present p) is) in
     let second = apply_ok (h <$> time) lists words whole_line.a [] whole_line.given in
     let first = map_ok h time words second.g second.mid second.first in

@@ -1,6 +1,6 @@
 -- Small drafts and their trees, computed.
 use Rattle.std.proofs.Common.{◌≡◌, ℕ, pos, List, [], ◌∷◌, refl, ◌++◌}
-use Rattle.std.specs.Prelude.{Option, Some, None, Ok, Err, Result, zero, suc}
+use Rattle.std.specs.Prelude.{false, Option, Some, None, Ok, Err, Result, zero, suc}
 use Rattle.std.specs.Option.{option_map}
 use Rattle.flat_base.specs.declared.ids.TransformId.{TransformId}
 use Rattle.flat_base.specs.declared.ids.ContentId.{ContentId}
@@ -15,7 +15,7 @@ use Rattle.flat_scene.specs.declared.trees.Content.TheVariants as content
 use Rattle.flat_scene.specs.declared.trees.Children.TheVariants.{Empty}
 use Rattle.flat_scene.specs.Draft.{Draft}
 use Rattle.flat_scene.specs.Effect.{draft_of}
-use Rattle.flat_scene.specs.Misuse.{first_reason}
+use Rattle.flat_scene.specs.Misuse.{first_reason, children_of}
 use Rattle.flat_scene.specs.Tree.{tree, present_tests, all_nodes}
 use Rattle.flat_scene.specs.Trees.{node_count}
 use Rattle.flat_scene.proofs.SmallHistories.{setup, t0}
@@ -36,7 +36,7 @@ tree_after calls = tried (draft_of setup calls)
   where
     tried : Result Draft Reason → Result (Option Tree) Reason
     tried (Err r) = Err r
-    tried (Ok d) = why (first_reason (present_tests d (record { time = 0; acquire = []; release = [] })))
+    tried (Ok d) = why (first_reason (present_tests d (record { time = 0; acquire = []; release = []; unsquashable = false })))
       where
         why : Option Reason → Result (Option Tree) Reason
         why (Some r) = Err r
@@ -101,3 +101,25 @@ renamed = call.CreateTransform (t 1) ∷ call.SetRootTransform (t 1) ∷ call.Cr
 
 renamed_nodes : nodes_after (draft_of setup renamed) ≡ Some 3
 renamed_nodes = refl
+
+-- the children of a transform, by their serials
+abbrev child_serials : Result Draft Reason → List ℕ
+child_serials (Ok d) = children_of d (t 1)
+child_serials (Err r) = []
+
+-- children that are replaced by two of them in another order, and by none
+replaced : child_serials (draft_of setup (diamond ++ call.ReplaceChildren (t 1) (t 4 ∷ t 2 ∷ []) ∷ [])) ≡ 4 ∷ 2 ∷ []
+replaced = refl
+
+replaced_by_none : nodes_after (draft_of setup (diamond ++ call.ReplaceChildren (t 1) [] ∷ [])) ≡ Some 1
+replaced_by_none = refl
+
+-- the lowest reason decides: an id of 0, one that names nothing, one that stands twice
+zero_child : draft_of setup (diamond ++ call.ReplaceChildren (t 1) (t 9 ∷ t 0 ∷ []) ∷ []) ≡ Err reason.ZeroId
+zero_child = refl
+
+unknown_child : draft_of setup (diamond ++ call.ReplaceChildren (t 1) (t 2 ∷ t 2 ∷ t 9 ∷ []) ∷ []) ≡ Err reason.UnknownTransform
+unknown_child = refl
+
+child_twice : draft_of setup (diamond ++ call.ReplaceChildren (t 1) (t 2 ∷ t 3 ∷ t 2 ∷ []) ∷ []) ≡ Err reason.AlreadyChild
+child_twice = refl

@@ -1,5 +1,5 @@
 -- What a call that is no misuse does to the draft.
-use Rattle.std.specs.Prelude.{Bool, false, option_to_list, ℕ, pos, ◌+◌, cond, not, ◌==◌, List, [], ◌∷◌, ◌++◌, length, filter, map, Option, Some, None, Result, Ok, Err, unwrap_or}
+use Rattle.std.specs.Prelude.{Bool, false, option_to_list, ℕ, pos, ◌+◌, cond, not, ◌==◌, List, [], ◌∷◌, ◌++◌, length, filter, filter_map, map, Option, Some, None, Result, Ok, Err, unwrap_or}
 use Rattle.flat_base.specs.declared.ids.TransformId.{TransformId}
 use Rattle.flat_base.specs.declared.ids.ContentId.{ContentId}
 use Rattle.flat_base.specs.declared.errors.Reason.{Reason}
@@ -9,7 +9,7 @@ use Rattle.flat_scene.specs.declared.calls.ImageFlip.TheVariants.{Plain}
 use Rattle.flat_scene.specs.declared.calls.ViewportProps.{ViewportProps}
 use Rattle.flat_base.specs.declared.ids.BufferNo.{BufferNo}
 use Rattle.flat_scene.specs.declared.calls.Call.{Call}
-use Rattle.flat_scene.specs.declared.calls.Call.TheVariants.{CreateView, ReleaseView, CreateTransform, ReleaseTransform, SetTranslation, SetOrientation, SetScale, SetOpacity, SetClipBoundary, AddChild, RemoveChild, SetRootTransform, CreateViewport, SetViewportProperties, ReleaseViewport, CreateImage, SetImageSampleRegion, SetImageDestinationSize, SetImageBlendingFunction, SetImageFlip, SetImageOpacity, ReleaseImage, CreateFilledRect, SetSolidFill, ReleaseFilledRect, SetHitRegions, SetInfiniteHitRegion, SetContent, Clear}
+use Rattle.flat_scene.specs.declared.calls.Call.TheVariants.{CreateView, ReleaseView, CreateTransform, ReleaseTransform, SetTranslation, SetOrientation, SetScale, SetOpacity, SetClipBoundary, AddChild, RemoveChild, ReplaceChildren, SetRootTransform, CreateViewport, SetViewportProperties, ReleaseViewport, CreateImage, SetImageSampleRegion, SetImageDestinationSize, SetImageBlendingFunction, SetImageFlip, SetImageOpacity, ReleaseImage, CreateFilledRect, SetSolidFill, ReleaseFilledRect, SetHitRegions, SetInfiniteHitRegion, SetContent, Clear}
 use Rattle.flat_scene.specs.declared.setup.Setup.{Setup}
 use Rattle.flat_scene.specs.Draft.{Draft, Transform, Image, Solid, Made, an_image, a_fill, a_viewport, new_transform, empty_draft, changed_at, without_name, transform_of, content_of}
 use Rattle.flat_scene.specs.Misuse.{misuse}
@@ -61,6 +61,14 @@ with_child child transform = record transform { children = transform.children ++
 abbrev pub without_child : Option ℕ → Transform → Transform
 without_child child transform = record transform { children = filter (λ other. not (is_serial child other)) transform.children }
 
+-- a transform with these children in place of its own
+abbrev pub with_children : List ℕ → Transform → Transform
+with_children children transform = record transform { children = children }
+
+-- the serials that ids name, in their order
+abbrev pub serials_of : Draft → List TransformId → List ℕ
+serials_of draft = filter_map (transform_of draft)
+
 -- a change of what is an image, a viewport or a fill, and of nothing else
 abbrev pub on_image : (Image → Image) → Made → Made
 on_image f (an_image image) = an_image (f image)
@@ -103,6 +111,7 @@ effect draft (SetOpacity t v) = with_transform draft t (λ transform. record tra
 effect draft (SetClipBoundary t rect) = with_transform draft t (λ transform. record transform { clip = rect })
 effect draft (AddChild p k) = with_transform draft p (with_child (transform_of draft k))
 effect draft (RemoveChild p k) = with_transform draft p (without_child (transform_of draft k))
+effect draft (ReplaceChildren p ks) = with_transform draft p (with_children (serials_of draft ks))
 effect draft (SetRootTransform t) = record draft { root = transform_of draft t }
 effect draft (CreateViewport c pair w h inset) =
     record (with_made draft c (a_viewport pair (record { w = w; h = h; inset = inset }))) { viewports = draft.viewports ++ (length draft.contents + 1) ∷ [] }

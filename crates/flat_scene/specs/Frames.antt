@@ -24,10 +24,22 @@ is_among fences fence = list_any (λ other. other.0 == fence.0) fences
 abbrev pub is_ready : ℕ → (FenceNo → Bool) → PresentArgs → Bool
 is_ready time is_signalled args = nat_le args.time time && list_all is_signalled args.acquire
 
--- of the presents that wait, the longest prefix in which each is ready
+-- of the presents that wait, all before the first one that isn't ready
+abbrev pub ready_run : ℕ → (FenceNo → Bool) → List Published → List Published
+ready_run time is_signalled waiting = take_while (λ present. is_ready time is_signalled present.args) waiting
+
+-- the items up to the first one that passes a test, and with it
+abbrev pub up_to_first : {A : Type 0} → (A → Bool) → List A → List A
+up_to_first test [] = []
+up_to_first test (x ∷ xs) = x ∷ cond (test x) [] (up_to_first test xs)
+
+-- whether a present has to be shown by the frame that takes it
+abbrev pub is_unsquashable : Published → Bool
+is_unsquashable present = present.args.unsquashable
+
+-- What a frame takes of the presents that wait: all before the first one that isn't ready, and none after the first unsquashable one.
 abbrev pub ready_prefix : ℕ → (FenceNo → Bool) → List Published → List Published
-ready_prefix time is_signalled waiting =
-    take_while (λ present. is_ready time is_signalled present.args) waiting
+ready_prefix time is_signalled waiting = up_to_first is_unsquashable (ready_run time is_signalled waiting)
 
 -- what an entry of this kind takes of what waits; nothing of a closed session
 abbrev pub takes : Kind → (FenceNo → Bool) → Bool → List Published → List Published

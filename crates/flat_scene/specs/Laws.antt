@@ -1,6 +1,6 @@
 -- what holds of every history and of every draft, in the words of the rules
-use Rattle.std.specs.Prelude.{◌≡◌, ◌↔◌, ℕ, ◌≤◌, Bool, true, false, IfSome, List, [], ◌∷◌, ◌++◌, length, drop, slice_get, Option, Some}
-use Rattle.std.specs.List.{list_all}
+use Rattle.std.specs.Prelude.{◌≡◌, ◌↔◌, ℕ, ◌≤◌, Bool, true, false, not, ◌&&◌, IfSome, List, [], ◌∷◌, ◌++◌, length, drop, slice_get, Option, Some}
+use Rattle.std.specs.List.{list_all, list_any}
 use Rattle.std.specs.Option.{option_map}
 use Rattle.flat_base.specs.declared.ids.FenceNo.{FenceNo}
 use Rattle.flat_base.specs.declared.ids.SessionNo.{SessionNo}
@@ -10,10 +10,11 @@ use Rattle.flat_scene.specs.declared.trees.Node.{Node}
 use Rattle.flat_scene.specs.Cycles.{HasCycle}
 use Rattle.flat_scene.specs.Draft.{Draft}
 use Rattle.flat_scene.specs.Family.{family, IsClosedFamily}
-use Rattle.flat_scene.specs.Frames.{is_signalled, is_ready, ready_prefix, taken}
+use Rattle.flat_scene.specs.Frames.{is_signalled, is_ready, is_unsquashable, ready_prefix, taken}
 use Rattle.flat_scene.specs.History.{◌▹◌, is_session, is_closed, presents, Published}
 use Rattle.flat_scene.specs.Paths.{led_to, node_at}
 use Rattle.flat_scene.specs.Setups.{owners_declared}
+use Rattle.flat_scene.specs.Squashed as squashed
 use Rattle.flat_scene.specs.Tree.{is_cyclic, children_at, node_within}
 
 -- a fence that is signalled stays so
@@ -30,17 +31,24 @@ pub record TakesInOrder (setup : Setup) (before : List Entry) (entry : Entry) (s
 abbrev pub TakenStays : Type 0
 TakenStays = (setup : Setup) (before : List Entry) (entry : Entry) (s : SessionNo) → TakesInOrder setup before entry s
 
--- a list of presents begins with these, each of them is ready, and the next one isn't
+-- A list of presents begins with these, each of them is ready, and none but the last is unsquashable. The next one isn't ready, or follows an unsquashable one.
 pub record IsLongestReady (time : ℕ) (is_signalled : FenceNo → Bool) (waiting prefix : List Published) : Type 0 where
   pub begins : waiting ≡ prefix ++ drop (length prefix) waiting
   pub ready : list_all (λ present. is_ready time is_signalled present.args) prefix ≡ true
-  pub longest : IfSome (slice_get waiting (length prefix)) (λ (present : Published). is_ready time is_signalled present.args ≡ false)
+  pub last : (earlier : List Published) (present : Published) → prefix ≡ earlier ++ present ∷ [] → list_any is_unsquashable earlier ≡ false
+  pub longest : IfSome (slice_get waiting (length prefix)) (λ (present : Published). (not (list_any is_unsquashable prefix) && is_ready time is_signalled present.args) ≡ false)
 
 -- the ready prefix is the longest one
 abbrev pub ReadyPrefixIsLongest : Type 0
 ReadyPrefixIsLongest =
     (time : ℕ) (is_signalled : FenceNo → Bool) (waiting : List Published) →
     IsLongestReady time is_signalled waiting (ready_prefix time is_signalled waiting)
+
+-- where no present of a history is unsquashable, its frames take all before the first one that isn't ready
+abbrev pub OthersAreSquashed : Type 0
+OthersAreSquashed =
+    (setup : Setup) (history : List Entry) → ((s : SessionNo) → list_any is_unsquashable (presents s history) ≡ false) →
+    (s : SessionNo) → taken setup history s ≡ squashed.taken setup history s
 
 -- an entry closes its own session alone
 abbrev pub ClosesItsOwn : Type 0

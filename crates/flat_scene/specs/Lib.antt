@@ -10,6 +10,7 @@ pub mod Misuse
 pub mod Paths
 pub mod Reach
 pub mod Setups
+pub mod Squashed
 pub mod Tree
 pub mod Trees
 pub mod ViewTrees

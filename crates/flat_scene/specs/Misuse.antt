@@ -1,5 +1,5 @@
 -- When a call is a misuse, and by which reason. That a token isn't held is decided elsewhere.
-use Rattle.std.specs.Prelude.{ℕ, ℤ, pos, ◌+ℤ◌, ◌-◌, ◌^◌, int_lt, Bool, true, false, cond, not, ◌&&◌, ◌||◌, ◌==◌, nat_lt, nat_le, List, [], ◌∷◌, ◌++◌, length, Option, Some, None, is_some, is_none, slice_get}
+use Rattle.std.specs.Prelude.{ℕ, ℤ, pos, ◌+ℤ◌, ◌-◌, ◌^◌, int_lt, Bool, true, false, cond, not, ◌&&◌, ◌||◌, ◌==◌, nat_lt, nat_le, List, [], ◌∷◌, ◌++◌, length, map, Option, Some, None, is_some, is_none, slice_get}
 use Rattle.std.specs.Option.{option_and_then, option_map, unwrap_or}
 use Rattle.std.specs.List.{list_any}
 use Rattle.std.specs.Int.{is_negative}
@@ -10,7 +10,7 @@ use Rattle.flat_base.specs.declared.errors.Reason.{Reason}
 use Rattle.flat_base.specs.declared.errors.Reason.TheVariants.{ZeroId, IdInUse, UnknownTransform, UnknownContent, WrongContent, AlreadyChild, NotChild, BadScale, BadOpacity, BadRect, BadSize, BadBuffer, TooManyRegions, HasView, NoView, TooManyNamed, TooManyChildren}
 use Rattle.flat_base.specs.declared.limits.TheConstants.{SIDE_MAX, SCALE_MAX, OPACITY_MAX, NAMED_MAX, CHILDREN_MAX, HIT_REGIONS_MAX}
 use Rattle.flat_scene.specs.declared.calls.Call.{Call}
-use Rattle.flat_scene.specs.declared.calls.Call.TheVariants.{CreateView, ReleaseView, CreateTransform, ReleaseTransform, SetTranslation, SetOrientation, SetScale, SetOpacity, SetClipBoundary, AddChild, RemoveChild, SetRootTransform, CreateViewport, SetViewportProperties, ReleaseViewport, CreateImage, SetImageSampleRegion, SetImageDestinationSize, SetImageBlendingFunction, SetImageFlip, SetImageOpacity, ReleaseImage, CreateFilledRect, SetSolidFill, ReleaseFilledRect, SetHitRegions, SetInfiniteHitRegion, SetContent, Clear}
+use Rattle.flat_scene.specs.declared.calls.Call.TheVariants.{CreateView, ReleaseView, CreateTransform, ReleaseTransform, SetTranslation, SetOrientation, SetScale, SetOpacity, SetClipBoundary, AddChild, RemoveChild, ReplaceChildren, SetRootTransform, CreateViewport, SetViewportProperties, ReleaseViewport, CreateImage, SetImageSampleRegion, SetImageDestinationSize, SetImageBlendingFunction, SetImageFlip, SetImageOpacity, ReleaseImage, CreateFilledRect, SetSolidFill, ReleaseFilledRect, SetHitRegions, SetInfiniteHitRegion, SetContent, Clear}
 use Rattle.flat_scene.specs.declared.setup.Setup.{Setup}
 use Rattle.flat_scene.specs.declared.setup.BufferDecl.{BufferDecl}
 use Rattle.flat_scene.specs.Draft.{Draft, Made, an_image, a_fill, a_viewport, of_serial, transform_of, content_of, made_of}
@@ -76,6 +76,11 @@ abbrev pub is_bad_image : Option BufferDecl → ℕ → ℕ → Bool
 is_bad_image (Some buffers) w h = w == 0 || h == 0 || nat_lt buffers.w w || nat_lt buffers.h h
 is_bad_image None w h = false
 
+-- a number stands twice in a list
+abbrev pub has_twice : List ℕ → Bool
+has_twice [] = false
+has_twice (x ∷ xs) = list_any (λ y. x == y) xs || has_twice xs
+
 -- the serials of the children of the transform that an id names
 abbrev pub children_of : Draft → TransformId → List ℕ
 children_of draft t = unwrap_or (option_map (λ transform. transform.children) (option_and_then (of_serial draft.transforms) (transform_of draft t))) []
@@ -120,6 +125,10 @@ tests setup draft (AddChild p k) =
 tests setup draft (RemoveChild p k) =
     (p.0 == 0 || k.0 == 0, ZeroId) ∷ (is_none (transform_of draft p) || is_none (transform_of draft k), UnknownTransform)
     ∷ (not (is_child draft p k), NotChild) ∷ []
+tests setup draft (ReplaceChildren p ks) =
+    (p.0 == 0 || list_any (λ k. k.0 == 0) ks, ZeroId)
+    ∷ (is_none (transform_of draft p) || list_any (λ k. is_none (transform_of draft k)) ks, UnknownTransform)
+    ∷ (has_twice (map (λ (k : TransformId). k.0) ks), AlreadyChild) ∷ (nat_lt CHILDREN_MAX (length ks), TooManyChildren) ∷ []
 tests setup draft (SetRootTransform t) = (not (t.0 == 0) && is_none (transform_of draft t), UnknownTransform) ∷ []
 tests setup draft (CreateViewport c pair w h inset) =
     is_new_content draft c ++ (is_bad_side w || is_bad_side h, BadSize) ∷ (is_full NAMED_MAX draft.content_names, TooManyNamed) ∷ []

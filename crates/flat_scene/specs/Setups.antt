@@ -4,7 +4,7 @@ use Rattle.std.specs.List.{list_all}
 use Rattle.flat_base.specs.declared.ids.Actor.{Actor}
 use Rattle.flat_base.specs.declared.ids.Actor.TheVariants.{Display, Session, Probe}
 use Rattle.flat_base.specs.declared.ids.SessionNo.{SessionNo}
-use Rattle.flat_base.specs.declared.limits.TheConstants.{SIDE_MAX, SESSIONS_MAX, PROBES_MAX, PAIRS_MAX, BUFFER_COLLECTIONS_MAX, BUFFERS_PER_COLLECTION_MAX, FENCES_MAX}
+use Rattle.flat_base.specs.declared.limits.TheConstants.{ONE, VERSION_MAX, SIDE_MAX, SESSIONS_MAX, PROBES_MAX, PAIRS_MAX, BUFFER_COLLECTIONS_MAX, BUFFERS_PER_COLLECTION_MAX, FENCES_MAX}
 use Rattle.flat_scene.specs.declared.setup.BufferDecl.{BufferDecl}
 use Rattle.flat_scene.specs.declared.setup.FenceDecl.{FenceDecl}
 use Rattle.flat_scene.specs.declared.setup.PairDecl.{PairDecl}
@@ -40,10 +40,10 @@ abbrev pub owners_declared : Setup → Bool
 owners_declared setup =
     list_all (is_pair_declared setup) setup.pairs && list_all (is_buffer_declared setup) setup.buffers && list_all (is_fence_declared setup) setup.fences
 
--- the counts and the display's size are within their limits
+-- the version, the display's ratio and size, and the counts are within their limits; no script gives a ratio yet
 abbrev pub is_within_limits : Setup → Bool
 is_within_limits setup =
-    is_within SIDE_MAX setup.width && is_within SIDE_MAX setup.height && is_within SESSIONS_MAX setup.sessions && nat_le setup.probes PROBES_MAX
+    is_within VERSION_MAX setup.version && setup.ratio == ONE && is_within SIDE_MAX setup.width && is_within SIDE_MAX setup.height && is_within SESSIONS_MAX setup.sessions && nat_le setup.probes PROBES_MAX
     && nat_le (length setup.pairs) PAIRS_MAX && nat_le (length setup.buffers) BUFFER_COLLECTIONS_MAX && nat_le (length setup.fences) FENCES_MAX
 
 -- exactly one viewport end is the display's

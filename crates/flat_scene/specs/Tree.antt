@@ -15,7 +15,7 @@ use Rattle.flat_scene.specs.declared.trees.Children.TheVariants.{Empty}
 use Rattle.flat_scene.specs.declared.trees.Tree.{Tree}
 use Rattle.flat_scene.specs.declared.trees.ViewportUse.{ViewportUse}
 use Rattle.flat_scene.specs.Draft.{Draft, Transform, Made, an_image, a_fill, a_viewport, of_serial}
-use Rattle.flat_scene.specs.Misuse.{Test, first_reason}
+use Rattle.flat_scene.specs.Misuse.{Test, first_reason, has_twice}
 use Rattle.flat_scene.specs.Trees.{more, nodes, node_count, viewports_in}
 
 -- a content as the tree shows it: a filled rectangle without a size isn't shown
@@ -80,11 +80,6 @@ all_nodes draft = each (node_within PATH_NODES_MAX draft true) (option_to_list d
 abbrev pub is_too_large : Option Children → Bool
 is_too_large (Some all) = nat_lt TREE_NODES_MAX (node_count all)
 is_too_large None = true
-
--- a number stands twice in a list
-abbrev pub has_twice : List ℕ → Bool
-has_twice [] = false
-has_twice (x ∷ xs) = list_any (λ y. x == y) xs || has_twice xs
 
 -- one viewport is the content of two nodes
 abbrev pub shows_twice : Option Children → Bool

@@ -58,6 +58,9 @@ pub struct HitRegion {
 /// Hit regions of one transform. The first that is hit decides.
 pub type RegionList = Items<HitRegion>;
 
+/// Transforms, by their ids.
+pub type TransformList = Items<TransformId>;
+
 /// What a present carries beside the session's state.
 #[derive(Debug, Drop)]
 pub struct PresentArgs {
@@ -68,6 +71,9 @@ pub struct PresentArgs {
     pub acquire: FenceList,
     /// Fences that the end of the frame that took it signals.
     pub release: FenceList,
+    /// Whether the frame that takes it has to show it: none takes it together with a
+    /// later one. Only scripts of version 2 and above can say so.
+    pub unsquashable: bool,
 }
 
 /// What a hanging get watches.
@@ -141,6 +147,12 @@ pub enum Call {
     RemoveChild {
         p: TransformId,
         k: TransformId,
+    },
+    /// Gives a transform these children, in this order, in place of those that it has.
+    /// Only scripts of version 2 and above can say so.
+    ReplaceChildren {
+        p: TransformId,
+        children: TransformList,
     },
     /// Makes a transform the root of the scene; 0 unsets the root.
     SetRootTransform {

@@ -13,6 +13,7 @@ impl TryCopy for PresentArgs {
             time: self.time,
             acquire: self.acquire.copy(alloc)?,
             release: self.release.copy(alloc)?,
+            unsquashable: self.unsquashable,
         })
     }
 }
@@ -108,6 +109,8 @@ impl TryCopy for Setup {
             pairs: self.pairs.copy(alloc)?,
             buffers: self.buffers.copy(alloc)?,
             fences: self.fences.copy_each(alloc)?,
+            version: self.version,
+            ratio: self.ratio,
         })
     }
 }
@@ -191,6 +194,10 @@ impl TryCopy for Call {
             Call::SetClipBoundary { t, rect } => Call::SetClipBoundary { t, rect },
             Call::AddChild { p, k } => Call::AddChild { p, k },
             Call::RemoveChild { p, k } => Call::RemoveChild { p, k },
+            Call::ReplaceChildren { p, ref children } => Call::ReplaceChildren {
+                p,
+                children: children.copy(alloc)?,
+            },
             Call::SetRootTransform { t } => Call::SetRootTransform { t },
             Call::CreateViewport {
                 c,

@@ -19,7 +19,7 @@ mod setup;
 mod trees;
 
 pub use calls::{
-    BlendMode, Call, HitRegion, ImageFlip, Inset, Interaction, PresentArgs, RegionList,
+    BlendMode, Call, HitRegion, ImageFlip, Inset, Interaction, PresentArgs, RegionList, TransformList,
     ViewportProps, Watch,
 };
 pub use frames::{

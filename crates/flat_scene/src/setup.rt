@@ -47,4 +47,9 @@ pub struct Setup {
     pub pairs: PairList,
     pub buffers: BufferList,
     pub fences: FenceDeclList,
+    /// Of the script's grammar, 1 to [`VERSION_MAX`](flat_base::VERSION_MAX).
+    pub version: u32,
+    /// The display's pixel ratio at the start, in fixed point. No script gives one yet:
+    /// it is [`ONE`](flat_base::ONE).
+    pub ratio: u32,
 }

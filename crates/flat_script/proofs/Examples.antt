@@ -27,7 +27,7 @@ gives text = outcome (read_with known_words text)
 -- whole scripts, value by value
 
 one_fill_one_frame : IsScript (codes "flatland 1\ndisplay 100 100\nsession A\npair t0 display A\nrun\nA CreateView t0\nA CreateTransform 1\nA SetRootTransform 1\nA CreateFilledRect 2\nA SetSolidFill 2 255 0 0 255 10 10\nA SetContent 1 2\nA Present 0\ndisplay begin 1000\ndisplay done\n") (record {
-  setup = record { width = 100; height = 100; sessions = 1; probes = 0; pairs = record { viewport = Display; view = record { 0 = 1 } } ∷ []; buffers = []; fences = [] };
+  setup = record { width = 100; height = 100; sessions = 1; probes = 0; pairs = record { viewport = Display; view = record { 0 = 1 } } ∷ []; buffers = []; fences = []; version = 1; ratio = 65536 };
   sessions = codes "A" ∷ [];
   probes = [];
   buffers = [];
@@ -40,7 +40,7 @@ one_fill_one_frame : IsScript (codes "flatland 1\ndisplay 100 100\nsession A\npa
       record { number = 9; actor = Session (record { 0 = 1 }); body = body.Session (line.Call (call.CreateFilledRect (record { 0 = 2 }))) } ∷
       record { number = 10; actor = Session (record { 0 = 1 }); body = body.Session (line.Call (call.SetSolidFill (record { 0 = 2 }) 255 0 0 255 10 10)) } ∷
       record { number = 11; actor = Session (record { 0 = 1 }); body = body.Session (line.Call (call.SetContent (record { 0 = 1 }) (record { 0 = 2 }))) } ∷
-      record { number = 12; actor = Session (record { 0 = 1 }); body = body.Session (line.Present (record { time = 0; acquire = []; release = [] })) } ∷
+      record { number = 12; actor = Session (record { 0 = 1 }); body = body.Session (line.Present (record { time = 0; acquire = []; release = []; unsquashable = false })) } ∷
       record { number = 13; actor = Display; body = body.Display (display.Begin 1000) } ∷
       record { number = 14; actor = Display; body = body.Display display.Done } ∷ [];
   count = 14;
@@ -48,7 +48,7 @@ one_fill_one_frame : IsScript (codes "flatland 1\ndisplay 100 100\nsession A\npa
 one_fill_one_frame = refl
 
 signs_and_skipped_lines : IsScript (codes "# a comment\nflatland 1\ndisplay 100 90\nsession A\n\npair t0 display A\nrun\nA SetTranslation 7 -5 40\n") (record {
-  setup = record { width = 100; height = 90; sessions = 1; probes = 0; pairs = record { viewport = Display; view = record { 0 = 1 } } ∷ []; buffers = []; fences = [] };
+  setup = record { width = 100; height = 90; sessions = 1; probes = 0; pairs = record { viewport = Display; view = record { 0 = 1 } } ∷ []; buffers = []; fences = []; version = 1; ratio = 65536 };
   sessions = codes "A" ∷ [];
   probes = [];
   buffers = [];
@@ -60,7 +60,7 @@ signs_and_skipped_lines : IsScript (codes "# a comment\nflatland 1\ndisplay 100 
 signs_and_skipped_lines = refl
 
 a_probe_and_its_lines : IsScript (codes "flatland 1\ndisplay 100 90\nsession A\npair t0 display A\nprobe eye\nrun\neye hit -1 40\neye await 2\n") (record {
-  setup = record { width = 100; height = 90; sessions = 1; probes = 1; pairs = record { viewport = Display; view = record { 0 = 1 } } ∷ []; buffers = []; fences = [] };
+  setup = record { width = 100; height = 90; sessions = 1; probes = 1; pairs = record { viewport = Display; view = record { 0 = 1 } } ∷ []; buffers = []; fences = []; version = 1; ratio = 65536 };
   sessions = codes "A" ∷ [];
   probes = codes "eye" ∷ [];
   buffers = [];
@@ -74,7 +74,7 @@ a_probe_and_its_lines : IsScript (codes "flatland 1\ndisplay 100 90\nsession A\n
 a_probe_and_its_lines = refl
 
 viewports_gets_and_points : IsScript (codes "flatland 1\ndisplay 9 9\nsession A\npair t0 display A\npair t1 A A\nrun\nA CreateViewport 1 t1 5 6\nA CreateViewport 2 t1 5 6 0 1 2 65536\nA SetViewportProperties 1 7 8\nA SetViewportProperties 1 7 8 0 0 0 0\nA ReleaseViewport 1\nA GetLayout\nA GetStatus\nA GetChildStatus 2\nA Wait answers 3\ndisplay hit -1 4\n") (record {
-  setup = record { width = 9; height = 9; sessions = 1; probes = 0; pairs = record { viewport = Display; view = record { 0 = 1 } } ∷ record { viewport = Session (record { 0 = 1 }); view = record { 0 = 1 } } ∷ []; buffers = []; fences = [] };
+  setup = record { width = 9; height = 9; sessions = 1; probes = 0; pairs = record { viewport = Display; view = record { 0 = 1 } } ∷ record { viewport = Session (record { 0 = 1 }); view = record { 0 = 1 } } ∷ []; buffers = []; fences = []; version = 1; ratio = 65536 };
   sessions = codes "A" ∷ [];
   probes = [];
   buffers = [];

@@ -2,7 +2,7 @@ ghost use Rattle.std.specs.Prelude.{◌≡◌, ◌+◌, ◌<◌, ◌^◌, [], �
 ghost use Rattle.flat_base.specs.declared.ids.Actor.TheVariants.{Display, Session};
 ghost use Rattle.flat_stage_tests.specs.Room.{MayRead, MayBegin};
 
-use flat_base::{Actor, Items, NoMemory, SessionNo, ShareList};
+use flat_base::{Actor, Items, NoMemory, ONE, SessionNo, ShareList};
 use flat_core::Board;
 use flat_scene::{Entry, Kind, Line, PairDecl, PresentArgs, Reply, Setup};
 use flat_stage::{CompositorSeat, SessionSeat, SessionSeats, Stage};
@@ -28,6 +28,8 @@ fn two_sessions(alloc: Global) -> Result<Setup, NoMemory>
               { viewport = Display; view = record { 0 = 1 } } ∷ [];
           buffers = [];
           fences = [];
+          version = 1;
+          ratio = 65536;
         }) }
 {
     let mut pairs = Items::new(alloc);
@@ -43,6 +45,8 @@ fn two_sessions(alloc: Global) -> Result<Setup, NoMemory>
         pairs,
         buffers: Items::new(alloc),
         fences: Items::new(alloc),
+        version: 1,
+        ratio: ONE,
     })
 }
 
@@ -58,6 +62,8 @@ fn opened(alloc: Global) -> Result<Board, NoMemory>
                 ∷ [];
             buffers = [];
             fences = [];
+            version = 1;
+            ratio = 65536;
           };
           shares = 20 ∷ 101 ∷ 101 ∷ [];
           history = [];
@@ -71,12 +77,13 @@ fn opened(alloc: Global) -> Result<Board, NoMemory>
 }
 
 fn no_fences(alloc: Global) -> PresentArgs
-    ensures { result ≡ record { time = 0; acquire = []; release = [] } }
+    ensures { result ≡ record { time = 0; acquire = []; release = []; unsquashable = false } }
 {
     PresentArgs {
         time: 0,
         acquire: Items::new(alloc),
         release: Items::new(alloc),
+        unsquashable: false,
     }
 }
 

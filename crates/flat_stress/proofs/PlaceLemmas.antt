@@ -21,7 +21,7 @@ use Rattle.flat_stress.specs.Words.{number, session, pair, from_to}
 -- the script after the load's head
 unfoldable pub start : Script
 start = record {
-  setup = record { width = 1000; height = 1000; sessions = 8; probes = 0; pairs = record { viewport = Display; view = record { 0 = 1 } } ∷ map (λ i. record { viewport = Session (record { 0 = 1 }); view = record { 0 = i } }) (from_to 2 8); buffers = []; fences = [] };
+  setup = record { width = 1000; height = 1000; sessions = 8; probes = 0; pairs = record { viewport = Display; view = record { 0 = 1 } } ∷ map (λ i. record { viewport = Session (record { 0 = 1 }); view = record { 0 = i } }) (from_to 2 8); buffers = []; fences = []; version = 1; ratio = 65536 };
   sessions = map session (from_to 1 8);
   probes = [];
   buffers = [];
@@ -105,5 +105,5 @@ pub fill_read : (a : SessionNo) (c r g b o w h : ℕ) → c < 2 ^ 64 → r < 256
 fill_read a c r g b o w h of_c of_r of_g of_b of_o of_w of_h =
     rw (number_read (2 ^ 64) c of_c (omega arith), number_read 256 r of_r (omega arith), number_read 256 g of_g (omega arith), number_read 256 b of_b (omega arith), number_read 256 o of_o (omega arith), number_read (2 ^ 32) w of_w (omega arith), number_read (2 ^ 32) h of_h (omega arith)) refl
 
-pub present_read : (a : SessionNo) (t : ℕ) → t < 2 ^ 63 → session_line known_words start a (codes "Present" ∷ number t ∷ []) ≡ Ok (line.Present (record { time = t; acquire = []; release = [] }))
+pub present_read : (a : SessionNo) (t : ℕ) → t < 2 ^ 63 → session_line known_words start a (codes "Present" ∷ number t ∷ []) ≡ Ok (line.Present (record { time = t; acquire = []; release = []; unsquashable = false }))
 present_read a t small = rw (number_read (2 ^ 63) t small (omega arith)) refl

@@ -3,6 +3,7 @@ use Rattle.std.specs.Prelude.{◌≡◌, ◌≤◌, List, Some, true, codes}
 use Rattle.std.specs.Fmt.{decimal}
 use Rattle.clap.specs.Words.{App, Row, Rule, Text, first_of, new_app, new_rule, with_rule, with_subcommand}
 use Rattle.clap.specs.Simple.{Shape, on_top}
+use Rattle.flat_base.specs.declared.limits.TheConstants.{LOAD_FRAMES_MAX}
 use Rattle.flat_words.specs.declared.form.Form.{Form}
 use Rattle.flat_words.specs.declared.form.Form.TheVariants.{Play, Race, Stress, Render, Damage, Focus, Pointer}
 
@@ -43,7 +44,7 @@ IsNamed call Play = call.0 ≡ codes "play"
 IsNamed call Race = call.0 ≡ codes "race"
 IsNamed call (Stress number) = (call.0 ≡ codes "stress")
     × (first_of (codes "frames") call.1 ≡ Some (decimal number))
-    × (1 ≤ number) × (number ≤ 500)
+    × (1 ≤ number) × (number ≤ LOAD_FRAMES_MAX)
 IsNamed call Render = call.0 ≡ codes "render"
 IsNamed call Damage = call.0 ≡ codes "damage"
 IsNamed call Focus = call.0 ≡ codes "focus"

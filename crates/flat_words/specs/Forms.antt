@@ -1,6 +1,7 @@
 -- the words that call the service
 use Rattle.std.specs.Prelude.{◌≡◌, ◌==◌, ⊤, ℕ, ◌≤◌, Bool, false, List, [], ◌∷◌, codes}
 use Rattle.std.specs.Fmt.{decimal}
+use Rattle.flat_base.specs.declared.limits.TheConstants.{LOAD_FRAMES_MAX}
 use Rattle.flat_words.specs.declared.form.Form.{Form}
 use Rattle.flat_words.specs.declared.form.Form.TheVariants.{Play, Race, Stress, Render, Damage, Focus, Pointer}
 
@@ -16,7 +17,7 @@ words_of Pointer = codes "pointer" ∷ []
 
 -- A load has at least one frame, and no more than are allowed.
 abbrev pub IsAllowed : Form → Type 0
-IsAllowed (Stress frames) = (1 ≤ frames) × (frames ≤ 500)
+IsAllowed (Stress frames) = (1 ≤ frames) × (frames ≤ LOAD_FRAMES_MAX)
 IsAllowed _ = ⊤
 
 -- The words call for a form.

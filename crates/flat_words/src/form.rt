@@ -1,4 +1,5 @@
 ghost use Rattle.flat_words.specs.declared.form.Form.{Form};
+ghost use Rattle.flat_base.specs.declared.limits.TheConstants.{LOAD_FRAMES_MAX};
 ghost use Rattle.std.specs.Prelude.{◌≡◌, ℕ, ◌≤◌, [], codes, map, Some, IfOk, IfSome, IsSomeAnd};
 ghost use Rattle.std.specs.Prelude.{IsTrue, is_some};
 ghost use Rattle.std.specs.List.{list_any};
@@ -12,7 +13,7 @@ ghost use Rattle.flat_words.specs.Command.{IsNamed, asking, frames, service};
 
 use clap::error::ErrorKind;
 use clap::{Arg, ArgMatches, Command};
-use flat_base::NoMemory;
+use flat_base::{LOAD_FRAMES_MAX, NoMemory};
 use flat_text::read_natural;
 use std::alloc::Global;
 
@@ -153,11 +154,11 @@ fn named_form(matches: &ArgMatches) -> Option<Form>
 
 // The number of frames of a load.
 fn read_frames(word: &str) -> Option<u32>
-    ensures text { IfSome result (λ n. (decimal n ≡ word.now) × (1 ≤ n) × (n ≤ 500)) }
-    ensures only { (n : ℕ) → decimal n ≡ word.now → 1 ≤ n → n ≤ 500 → result ≡ Some n }
+    ensures text { IfSome result (λ n. (decimal n ≡ word.now) × (1 ≤ n) × (n ≤ LOAD_FRAMES_MAX)) }
+    ensures only { (n : ℕ) → decimal n ≡ word.now → 1 ≤ n → n ≤ LOAD_FRAMES_MAX → result ≡ Some n }
 {
     let n = read_natural(word.as_bytes())?;
-    if 1 <= n && n <= 500 {
+    if 1 <= n && n <= LOAD_FRAMES_MAX as u128 {
         Some(n as u32)
     } else {
         None

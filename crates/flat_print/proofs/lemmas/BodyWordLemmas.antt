@@ -171,7 +171,7 @@ display_spelt s (w ∷ words) l is =
 present_spelt : (s : Script) (a : SessionNo) (words : List Word) (l : Line) → whole (line.Present <$> present known_words s a) words ≡ Ok l → session_words s l ≡ codes "Present" ∷ words
 present_spelt s a words l is =
     let lists : Form (List FenceNo × List FenceNo) = λ ws. (fence_lists known_words (tested_fence s (Session a)) ws, []) in
-    let h : ℕ → List FenceNo × List FenceNo → PresentArgs = λ t both. record { time = t; acquire = both.0; release = both.1 } in
+    let h : ℕ → List FenceNo × List FenceNo → PresentArgs = λ t both. record { time = t; acquire = both.0; release = both.1; unsquashable = false } in
     let whole_line = map_ok line.Present (present known_words s a) words l [] (whole_ok (line.Present <$> present known_words s a) words l is) in
     let second = apply_ok (h <$> time) lists words whole_line.a [] whole_line.given in
     let first = map_ok h time words second.g second.mid second.first in

@@ -35,6 +35,8 @@ b16_token_not_back_yet-setup = record {
   pairs = (record { viewport = Display; view = s 1 } ∷ record { viewport = Session (s 1); view = s 2 } ∷ []);
   buffers = [];
   fences = [];
+  version = 1;
+  ratio = 65536;
 }
 
 abbrev pub b16_token_not_back_yet-history : List Entry
@@ -86,6 +88,8 @@ layout_before_first_present-setup = record {
   pairs = (record { viewport = Display; view = s 1 } ∷ record { viewport = Session (s 1); view = s 2 } ∷ []);
   buffers = [];
   fences = [];
+  version = 1;
+  ratio = 65536;
 }
 
 abbrev pub layout_before_first_present-history : List Entry
@@ -129,6 +133,8 @@ layout_changes_between_gets-setup = record {
   pairs = (record { viewport = Display; view = s 1 } ∷ record { viewport = Session (s 1); view = s 2 } ∷ []);
   buffers = [];
   fences = [];
+  version = 1;
+  ratio = 65536;
 }
 
 abbrev pub layout_changes_between_gets-history : List Entry
@@ -200,6 +206,8 @@ cycle_of_links_is_never_reached-setup = record {
   pairs = (record { viewport = Display; view = s 1 } ∷ record { viewport = Session (s 1); view = s 2 } ∷ record { viewport = Session (s 2); view = s 1 } ∷ []);
   buffers = [];
   fences = [];
+  version = 1;
+  ratio = 65536;
 }
 
 abbrev pub cycle_of_links_is_never_reached-history : List Entry
@@ -253,6 +261,8 @@ closed_inside_a_frame-setup = record {
   pairs = (record { viewport = Display; view = s 1 } ∷ []);
   buffers = [];
   fences = [];
+  version = 1;
+  ratio = 65536;
 }
 
 abbrev pub closed_inside_a_frame-history : List Entry
@@ -302,6 +312,8 @@ token_comes_back-setup = record {
   pairs = (record { viewport = Display; view = s 1 } ∷ record { viewport = Session (s 1); view = s 2 } ∷ []);
   buffers = [];
   fences = [];
+  version = 1;
+  ratio = 65536;
 }
 
 abbrev pub token_comes_back-history : List Entry
@@ -352,6 +364,8 @@ app_gone_before_all-setup = record {
   pairs = (record { viewport = Display; view = s 1 } ∷ record { viewport = Session (s 1); view = s 2 } ∷ record { viewport = Session (s 1); view = s 3 } ∷ []);
   buffers = (record { owner = s 2; count = 2; w = 640; h = 760 } ∷ []);
   fences = (record { owners = (Session (s 2) ∷ []) } ∷ record { owners = (Session (s 2) ∷ []) } ∷ record { owners = (Session (s 2) ∷ []) } ∷ record { owners = (Session (s 2) ∷ []) } ∷ []);
+  version = 1;
+  ratio = 65536;
 }
 
 abbrev pub app_gone_before_all-history : List Entry
@@ -444,6 +458,8 @@ parent_gone-setup = record {
   pairs = (record { viewport = Display; view = s 1 } ∷ record { viewport = Session (s 1); view = s 2 } ∷ []);
   buffers = [];
   fences = [];
+  version = 1;
+  ratio = 65536;
 }
 
 abbrev pub parent_gone-history : List Entry
@@ -485,6 +501,8 @@ release_fence_signalled_at_done-setup = record {
   pairs = (record { viewport = Display; view = s 1 } ∷ []);
   buffers = [];
   fences = (record { owners = (Session (s 1) ∷ []) } ∷ []);
+  version = 1;
+  ratio = 65536;
 }
 
 abbrev pub release_fence_signalled_at_done-history : List Entry

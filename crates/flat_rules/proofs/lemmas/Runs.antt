@@ -32,6 +32,8 @@ one_fill_one_frame-setup = record {
   pairs = (record { viewport = Display; view = s 1 } ∷ []);
   buffers = [];
   fences = [];
+  version = 1;
+  ratio = 65536;
 }
 
 abbrev pub one_fill_one_frame-history : List Entry
@@ -75,6 +77,8 @@ no_lines_no_frames-setup = record {
   pairs = (record { viewport = Display; view = s 1 } ∷ []);
   buffers = [];
   fences = [];
+  version = 1;
+  ratio = 65536;
 }
 
 abbrev pub no_lines_no_frames-history : List Entry
@@ -104,6 +108,8 @@ view_without_root_then_poll-setup = record {
   pairs = (record { viewport = Display; view = s 1 } ∷ []);
   buffers = [];
   fences = [];
+  version = 1;
+  ratio = 65536;
 }
 
 abbrev pub view_without_root_then_poll-history : List Entry
@@ -151,6 +157,8 @@ fence_signalled_between_frames-setup = record {
   pairs = (record { viewport = Display; view = s 1 } ∷ []);
   buffers = [];
   fences = (record { owners = (Display ∷ Session (s 1) ∷ []) } ∷ []);
+  version = 1;
+  ratio = 65536;
 }
 
 abbrev pub fence_signalled_between_frames-history : List Entry
@@ -200,6 +208,8 @@ unready_present_holds_back_later_ones-setup = record {
   pairs = (record { viewport = Display; view = s 1 } ∷ []);
   buffers = [];
   fences = (record { owners = (Display ∷ Session (s 1) ∷ []) } ∷ []);
+  version = 1;
+  ratio = 65536;
 }
 
 abbrev pub unready_present_holds_back_later_ones-history : List Entry
@@ -254,6 +264,8 @@ present_waits_for_its_time-setup = record {
   pairs = (record { viewport = Display; view = s 1 } ∷ []);
   buffers = [];
   fences = [];
+  version = 1;
+  ratio = 65536;
 }
 
 abbrev pub present_waits_for_its_time-history : List Entry
@@ -298,6 +310,8 @@ second_present_before_a_frame_closes-setup = record {
   pairs = (record { viewport = Display; view = s 1 } ∷ []);
   buffers = [];
   fences = [];
+  version = 1;
+  ratio = 65536;
 }
 
 abbrev pub second_present_before_a_frame_closes-history : List Entry
@@ -335,6 +349,8 @@ b01_zero_id-setup = record {
   pairs = (record { viewport = Display; view = s 1 } ∷ []);
   buffers = [];
   fences = [];
+  version = 1;
+  ratio = 65536;
 }
 
 abbrev pub b01_zero_id-history : List Entry

@@ -40,7 +40,7 @@ abbrev pub by : Actor → ℕ → List Call → Kind → Reply → Entry
 by actor line calls kind reply = record { actor = actor; line = line; calls = calls; kind = kind; reply = reply }
 
 abbrev pub present : ℕ → List FenceNo → List FenceNo → PresentArgs
-present time acquire release = record { time = time; acquire = acquire; release = release }
+present time acquire release = record { time = time; acquire = acquire; release = release; unsquashable = false }
 
 abbrev pub layout : ℕ → ℕ → ℕ → ℕ → ℕ → ℕ → Layout
 layout w h top right bottom left = record { w = w; h = h; inset = record { top = top; right = right; bottom = bottom; left = left }; ratio = ONE }

@@ -32,6 +32,8 @@ shell_with_two_apps-setup = record {
   pairs = (record { viewport = Display; view = s 1 } ∷ record { viewport = Session (s 1); view = s 2 } ∷ record { viewport = Session (s 1); view = s 3 } ∷ []);
   buffers = (record { owner = s 2; count = 2; w = 640; h = 760 } ∷ []);
   fences = (record { owners = (Session (s 2) ∷ []) } ∷ record { owners = (Session (s 2) ∷ []) } ∷ record { owners = (Session (s 2) ∷ []) } ∷ record { owners = (Session (s 2) ∷ []) } ∷ []);
+  version = 1;
+  ratio = 65536;
 }
 
 abbrev pub shell_with_two_apps-history : List Entry
