@@ -3,15 +3,15 @@
 
 fuzz.py PROGRAM [--count N] [--seed S] [--jobs J] [--keep FOLDER]
 
-Scripts are made at random: sessions that link, present, get, poll, wait and leave, some of
+Scripts of both versions are made at random: sessions that link, present, get, poll, wait and leave, some of
 them with misuses, frames beside them, and probes that ask. Every third is spoilt, in a line or a byte. No
 second service is asked; it is checked that
 
   status 0 comes with a report and status 3 with the line of a fault, and nothing else comes;
   each report is consistent: each line that makes an entry has one, in written order, and no
     line behind its session's close; the counts at its end and in each End are right; a
-    closed session hears nothing; credits add up, and what a frame took is what its begin
-    gave back; a Poll counts the events before it; a view stands below one that was told, no
+    closed session hears nothing; credits add up, what a frame took is what its begin gave
+    back, and of what it took none but the last present is unsquashable; a Poll counts the events before it; a view stands below one that was told, no
     view is apart, and items and hits are those of sessions in view; a probe's line stands
     behind all entries and was answered by the frame finished last before it;
   a script played twice gives the same bytes;
@@ -79,6 +79,7 @@ class Maker:
     def __init__(self, rng):
         self.rng = rng
         self.misuse = rng.choice([0, 0, 0.01, 0.05])
+        self.version = rng.choice([1, 2])
         self.time = 0
         self.open = False
         self.frames = 0
@@ -130,7 +131,7 @@ class Maker:
         self.probes = rng.sample(["eye", "Q", "await"], rng.choice([0, 0, 1, 2, 3]))
         tail += ["probe " + name for name in self.probes]
         rng.shuffle(tail)
-        return ["flatland 1"] + lines + tail + ["run"]
+        return ["flatland %d" % self.version] + lines + tail + ["run"]
 
     def transform_call(self, c):
         rng, t = self.rng, self.pick(c.transforms)
@@ -155,6 +156,8 @@ class Maker:
             if edge[0] in c.transforms and edge[1] in c.transforms:
                 c.children.remove(edge)
                 return "RemoveChild %d %d" % edge
+        if kind == 6 and self.version > 1 and self.chance(0.5):
+            return self.replaced(c, t)
         if kind == 7:
             return "SetScale %d %d %d" % (t, rng.choice([1, 32768, 65536, 16777216]), rng.choice([65536, 131072]))
         if kind == 8:
@@ -169,6 +172,15 @@ class Maker:
         if kind == 12:
             return "SetInfiniteHitRegion %d %d" % (t, rng.randrange(2))
         return "SetTranslation %d %d %d" % (t, self.place(), self.place())
+
+    def replaced(self, c, t):
+        """Other children of a transform, mostly of those that were made after it."""
+        rng = self.rng
+        below = [k for k in c.transforms if k > t]
+        children = rng.sample(below, rng.randint(0, min(4, len(below))))
+        children += [self.pick(c.transforms)] * self.chance(self.misuse)
+        c.children = {edge for edge in c.children if edge[0] != t} | {(t, k) for k in children}
+        return " ".join(["ReplaceChildren %d" % t] + [str(k) for k in children])
 
     def content_call(self, c):
         rng = self.rng
@@ -226,7 +238,7 @@ class Maker:
             return "Disconnect"
         if kind > 11:
             return self.transform_call(c)
-        lists = ""
+        lists = " unsquashable" if self.version > 1 and self.chance(0.4) else ""
         if c.fences and self.chance(0.3):
             lists += " acquire " + " ".join(rng.choice(c.fences) for _ in range(rng.randint(1, 2)))
         if c.fences and self.chance(0.3):
@@ -324,6 +336,7 @@ def with_stranger(rng, lines):
     line in it."""
     run = lines.index("run")
     stranger = Maker(rng)
+    stranger.version = int(lines[0].split(" ")[1])
     client = Client("stranger")
     client.viewports_of, client.views_of, client.fences, client.buffers = ["own"], ["own"], ["alone"], ["pixels"]
     stranger.clients, stranger.display_fences = [client], []
@@ -353,7 +366,7 @@ class Entry:
 def read(report):
     """The entries of a report, and the numbers of its last line."""
     lines = report.decode("ascii").split("\n")
-    ensure(lines[0] == "report flatland 1" and lines[-1] == "", "no whole report")
+    ensure(lines[0] in ("report flatland 1", "report flatland 2") and lines[-1] == "", "no whole report")
     last = lines[-2].split(" ")
     ensure(last[:3] == ["report", "ends", "entries"] and last[4] == "frames" and len(last) == 6, "no last line")
     entries = []
@@ -377,6 +390,7 @@ class Told:
     def __init__(self):
         self.closed, self.ignored, self.ended = False, 0, False
         self.presents, self.taken, self.taking, self.credits, self.events = 0, 0, 0, FIRST_CREDITS, 0
+        self.unsquashable = set()
 
 
 def check_entry(told, entry, line, frames):
@@ -398,6 +412,8 @@ def check_entry(told, entry, line, frames):
         told.presents += 1
         ensure(told.credits > 0, "a present without a credit")
         told.credits -= 1
+        if line[3:4] == ["unsquashable"]:
+            told.unsquashable.add(told.presents)
         ensure(said == ["Present", str(told.presents), "credits", str(told.credits)], "presents or credits", said)
     elif said[0] == "Poll":
         ensure(said == ["Poll", str(told.events)], "events", said, told.events)
@@ -419,6 +435,8 @@ def check_events(all_told, entry):
             more = 0 if told.taken else LATER_CREDITS - FIRST_CREDITS
             told.taking = int(event[2]) - more
             ensure(told.taking > 0, "credits for nothing", event)
+            shown = told.taken + told.taking
+            ensure(not told.unsquashable & set(range(told.taken + 1, shown)), "an unsquashable present isn't shown", event)
             told.credits += int(event[2])
             most = LATER_CREDITS if told.taken or told.taking else FIRST_CREDITS
             ensure(told.credits + told.presents - told.taken - told.taking == most, "credits don't add up", event)
@@ -453,6 +471,7 @@ def check_parts(parts, size):
 
 def check_report(lines, report):
     """The consistency of the report of a play."""
+    ensure(report.startswith(b"report " + lines[0].encode() + b"\n"), "another version")
     entries, (count, finished) = read(report)
     run = lines.index("run")
     size = [int(w) for w in next(l for l in lines if l.startswith("display ")).split(" ")[1:]]
