@@ -89,13 +89,13 @@ module _ (setup : Setup) (is : is_setup setup ≡ true) where
 
   pub wide : 0 < setup.width
   wide =
-      let here : is_within SIDE_MAX setup.width ≡ true = and-left _ _ (and-left _ _ (and-left _ _ (and-left _ _ (and-left _ _ (and-left _ _ limits))))) in
+      let here : is_within SIDE_MAX setup.width ≡ true = and-right _ _ (and-left _ _ (and-left _ _ (and-left _ _ (and-left _ _ (and-left _ _ (and-left _ _ limits)))))) in
       let low : nat_lt 0 setup.width ≡ true = and-left _ _ here in
       grind (arith, nat_tests)
 
   pub high : 0 < setup.height
   high =
-      let here : is_within SIDE_MAX setup.height ≡ true = and-right (is_within SIDE_MAX setup.width) _ (and-left _ _ (and-left _ _ (and-left _ _ (and-left _ _ (and-left _ _ limits))))) in
+      let here : is_within SIDE_MAX setup.height ≡ true = and-right _ _ (and-left _ _ (and-left _ _ (and-left _ _ (and-left _ _ (and-left _ _ limits))))) in
       let low : nat_lt 0 setup.height ≡ true = and-left _ _ here in
       grind (arith, nat_tests)
 
