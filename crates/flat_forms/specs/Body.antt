@@ -1,5 +1,5 @@
 -- The lines of the body.
-use Rattle.std.specs.Prelude.{ℕ, nat_le, nat_lt, Bool, true, false, not, ◌&&◌, List, [], ◌∷◌, ◌++◌, length, Option, Some, None, Ok, Err, codes, count_by, fold, max, if◌then◌else◌}
+use Rattle.std.specs.Prelude.{ℕ, nat_le, nat_lt, Bool, true, false, not, List, [], ◌∷◌, ◌++◌, length, Option, Some, None, Ok, Err, codes, count_by, fold, max, if◌then◌else◌}
 use Rattle.std.specs.List.{list_any, filter_map, before_first, after_first}
 use Rattle.std.specs.Option.{option_map_or}
 use Rattle.std.specs.Str.{bytes_eq}
@@ -22,38 +22,33 @@ use Rattle.flat_scene.specs.declared.script.Body.TheVariants as body
 use Rattle.flat_base.specs.declared.limits.TheConstants.{FRAMES_MAX, LINES_PER_ACTOR_MAX}
 use Rattle.flat_places.specs.declared.kinds.FaultKind.TheVariants.{UnknownActor, UnknownCall, WrongCount, Limit, BadOrder}
 use Rattle.flat_places.specs.declared.script.Script.{Script}
-use Rattle.flat_places.specs.Known.{knows}
 use Rattle.flat_places.specs.Forms.{Word, Reading, Form, both, unless_kind, give, place, whole, one_or_more, named, mapped, ◌<$>◌, ◌<*>◌}
 use Rattle.flat_places.specs.Names.{actor_named, is_actor}
-use Rattle.flat_places.specs.Places.{u32, time, content, point, session, fence, fence_word}
+use Rattle.flat_places.specs.Places.{u32, time, content, point, unsquashable, session, fence, fence_word}
 use Rattle.flat_forms.specs.Calls.{call_named, call_form}
 
 -- Present
 
--- a word that begins a list, where it is known
-abbrev pub is_keyword : List Word → Word → Word → Bool
-is_keyword known keyword w = knows known keyword && bytes_eq w keyword
-
 -- `acquire` and its fences, then `release` and its fences, each list with one or more
-abbrev pub fence_lists : List Word → (Word → Reading FenceNo) → List Word → Reading (List FenceNo × List FenceNo)
-fence_lists known test [] = Ok ([], [])
-fence_lists known test (w ∷ words) =
-    let is_acquire = is_keyword known (codes "acquire") in
-    let is_release = is_keyword known (codes "release") in
-    if is_acquire w then both (λ a r. (a, r)) (one_or_more test (before_first is_release words))
+abbrev pub fence_lists : (Word → Reading FenceNo) → List Word → Reading (List FenceNo × List FenceNo)
+fence_lists test [] = Ok ([], [])
+fence_lists test (w ∷ words) =
+    let is_release : Word → Bool = λ x. bytes_eq x (codes "release") in
+    if bytes_eq w (codes "acquire") then both (λ a r. (a, r)) (one_or_more test (before_first is_release words))
     (if list_any is_release words then one_or_more test (after_first is_release words) else Ok [])
     else (if is_release w then both (λ a r. (a, r)) (Ok []) (one_or_more test words) else Err WrongCount)
 
--- a time, and the lists
-abbrev pub present : List Word → Script → SessionNo → Form PresentArgs
-present known s a =
-    (λ t lists. record { time = t; acquire = lists.0; release = lists.1; unsquashable = false }) <$> time <*> (λ words. (fence_lists known (fence_word s (Session a)) words, []))
+-- a time, `unsquashable` or not, and the lists
+abbrev pub present : Script → SessionNo → Form PresentArgs
+present s a =
+    (λ t alone lists. record { time = t; acquire = lists.0; release = lists.1; unsquashable = alone })
+    <$> time <*> unsquashable s.setup.version <*> (λ words. (fence_lists (fence_word s (Session a)) words, []))
 
 -- Wait
 
 -- what a session may wait for
-abbrev pub session_condition : List Word → Script → SessionNo → List Word → Reading Cond
-session_condition known s a = named known UnknownCall (
+abbrev pub session_condition : Script → SessionNo → List Word → Reading Cond
+session_condition s a = named s.setup.version UnknownCall (
     (codes "frames", whole (cond.Frames <$> u32)) ∷ (codes "credits", whole (cond.Credits <$> u32)) ∷
     (codes "taken", whole (cond.Taken <$> u32)) ∷ (codes "answers", whole (cond.Answers <$> u32)) ∷
     (codes "fence", whole (cond.Fence <$> fence s (Session a))) ∷ [])
@@ -63,8 +58,8 @@ abbrev pub presents_asked : Script → Form Cond
 presents_asked s = (λ x n. cond.Presents x n) <$> session s <*> u32
 
 -- what the display may wait for
-abbrev pub display_condition : List Word → Script → List Word → Reading Cond
-display_condition known s = named known UnknownCall (
+abbrev pub display_condition : Script → List Word → Reading Cond
+display_condition s = named s.setup.version UnknownCall (
     (codes "presents", whole (presents_asked s)) ∷ (codes "fence", whole (cond.Fence <$> fence s Display)) ∷ [])
 
 -- sessions
@@ -74,21 +69,21 @@ abbrev pub child_asked : Form Line
 child_asked = (λ c. line.Get (watch.Child c)) <$> content
 
 -- a line of a session that is no call
-abbrev pub other_line : List Word → Script → SessionNo → List Word → Reading Line
-other_line known s a = named known UnknownCall (
-    (codes "Present", whole (line.Present <$> present known s a)) ∷
+abbrev pub other_line : Script → SessionNo → List Word → Reading Line
+other_line s a = named s.setup.version UnknownCall (
+    (codes "Present", whole (line.Present <$> present s a)) ∷
     (codes "GetLayout", whole (give (line.Get watch.Layout))) ∷
     (codes "GetStatus", whole (give (line.Get watch.Status))) ∷
     (codes "GetChildStatus", whole child_asked) ∷
     (codes "Signal", whole (line.Signal <$> fence s (Session a))) ∷
     (codes "Poll", whole (give line.Poll)) ∷
-    (codes "Wait", (λ rest. mapped line.Wait (session_condition known s a rest))) ∷
+    (codes "Wait", (λ rest. mapped line.Wait (session_condition s a rest))) ∷
     (codes "Disconnect", whole (give line.Disconnect)) ∷ [])
 
 -- a line of a session: a call, or one of the other lines
-abbrev pub session_line : List Word → Script → SessionNo → List Word → Reading Line
-session_line known s a [] = Err UnknownCall
-session_line known s a (w ∷ words) = option_map_or (λ n. mapped line.Call (whole (call_form s a n) words)) (call_named known w) (other_line known s a (w ∷ words))
+abbrev pub session_line : Script → SessionNo → List Word → Reading Line
+session_line s a [] = Err UnknownCall
+session_line s a (w ∷ words) = option_map_or (λ n. mapped line.Call (whole (call_form s a n) words)) (call_named s.setup.version w) (other_line s a (w ∷ words))
 
 -- the display
 
@@ -136,28 +131,28 @@ abbrev pub begin_place : Script → Form ℕ
 begin_place s = place (λ w. in_order (greatest (begin_times s)) (whole time (w ∷ [])))
 
 -- a line of the display
-abbrev pub display_line : List Word → Script → List Word → Reading DisplayLine
-display_line known s = named known UnknownCall (
+abbrev pub display_line : Script → List Word → Reading DisplayLine
+display_line s = named s.setup.version UnknownCall (
     (codes "begin", (λ rest. mapped display.Begin (unless_kind Limit (nat_lt (length (begin_times s)) FRAMES_MAX) (unless_kind BadOrder (not (is_open s)) (whole (begin_place s) rest))))) ∷
     (codes "done", (λ rest. unless_kind BadOrder (is_open s) (whole (give display.Done) rest))) ∷
     (codes "Signal", whole (display.Signal <$> fence s Display)) ∷
-    (codes "Wait", (λ rest. mapped display.Wait (display_condition known s rest))) ∷
+    (codes "Wait", (λ rest. mapped display.Wait (display_condition s rest))) ∷
     (codes "hit", whole (point (λ x y. display.Hit x y))) ∷ [])
 
 -- probes
 
--- a line of a probe
-abbrev pub probe_line : List Word → List Word → Reading ProbeLine
-probe_line known = named known UnknownCall (
+-- a line of a probe, in scripts of that version
+abbrev pub probe_line : ℕ → List Word → Reading ProbeLine
+probe_line version = named version UnknownCall (
     (codes "hit", whole (point (λ x y. probe.Hit x y))) ∷ (codes "await", whole (probe.Await <$> u32)) ∷ [])
 
 -- all actors
 
 -- what stands behind an actor
-abbrev pub actor_line : List Word → Script → Actor → List Word → Reading Body
-actor_line known s Display words = mapped body.Display (display_line known s words)
-actor_line known s (Session a) words = mapped body.Session (session_line known s a words)
-actor_line known s (Probe p) words = mapped body.Probe (probe_line known words)
+abbrev pub actor_line : Script → Actor → List Word → Reading Body
+actor_line s Display words = mapped body.Display (display_line s words)
+actor_line s (Session a) words = mapped body.Session (session_line s a words)
+actor_line s (Probe p) words = mapped body.Probe (probe_line s.setup.version words)
 
 -- how many lines of the actor there are
 abbrev pub lines_of_actor : Script → Actor → ℕ
@@ -168,10 +163,10 @@ abbrev pub with_line : Script → ℕ → Actor → Body → Script
 with_line s n a b = record s { lines = s.lines ++ record { number = n; actor = a; body = b } ∷ [] }
 
 -- an actor has at most so many lines
-abbrev pub counted_line : List Word → Script → ℕ → Actor → List Word → Reading Script
-counted_line known s n a words = unless_kind Limit (nat_lt (lines_of_actor s a) LINES_PER_ACTOR_MAX) (mapped (with_line s n a) (actor_line known s a words))
+abbrev pub counted_line : Script → ℕ → Actor → List Word → Reading Script
+counted_line s n a words = unless_kind Limit (nat_lt (lines_of_actor s a) LINES_PER_ACTOR_MAX) (mapped (with_line s n a) (actor_line s a words))
 
 -- an actor and its line
-abbrev pub body_line : List Word → Script → ℕ → List Word → Reading Script
-body_line known s n [] = Err UnknownActor
-body_line known s n (w ∷ words) = option_map_or (λ a. counted_line known s n a words) (actor_named s w) (Err UnknownActor)
+abbrev pub body_line : Script → ℕ → List Word → Reading Script
+body_line s n [] = Err UnknownActor
+body_line s n (w ∷ words) = option_map_or (λ a. counted_line s n a words) (actor_named s w) (Err UnknownActor)

@@ -1,5 +1,5 @@
 -- The calls of a session: how each is written, and the form of what follows.
-use Rattle.std.specs.Prelude.{ℕ, List, [], ◌∷◌, Option, codes, filter, find}
+use Rattle.std.specs.Prelude.{ℕ, List, [], ◌∷◌, Option, None, codes, find, if◌then◌else◌}
 use Rattle.std.specs.Option.{option_map_or}
 use Rattle.std.specs.Str.{bytes_eq}
 use Rattle.flat_base.specs.declared.ids.SessionNo.{SessionNo}
@@ -7,11 +7,11 @@ use Rattle.flat_scene.specs.declared.calls.Call.{Call}
 use Rattle.flat_scene.specs.declared.calls.Call.TheVariants as call
 use Rattle.flat_scene.specs.declared.calls.Inset.{Inset}
 use Rattle.flat_forms.specs.declared.calls.CallName.{CallName}
-use Rattle.flat_forms.specs.declared.calls.CallName.TheVariants.{CreateView, ReleaseView, CreateTransform, ReleaseTransform, SetTranslation, SetOrientation, SetScale, SetOpacity, SetClipBoundary, AddChild, RemoveChild, SetRootTransform, CreateViewport, SetViewportProperties, ReleaseViewport, CreateImage, SetImageSampleRegion, SetImageDestinationSize, SetImageBlendingFunction, SetImageFlip, SetImageOpacity, ReleaseImage, CreateFilledRect, SetSolidFill, ReleaseFilledRect, SetHitRegions, SetInfiniteHitRegion, SetContent, Clear}
+use Rattle.flat_forms.specs.declared.calls.CallName.TheVariants.{CreateView, ReleaseView, CreateTransform, ReleaseTransform, SetTranslation, SetOrientation, SetScale, SetOpacity, SetClipBoundary, AddChild, RemoveChild, ReplaceChildren, SetRootTransform, CreateViewport, SetViewportProperties, ReleaseViewport, CreateImage, SetImageSampleRegion, SetImageDestinationSize, SetImageBlendingFunction, SetImageFlip, SetImageOpacity, ReleaseImage, CreateFilledRect, SetSolidFill, ReleaseFilledRect, SetHitRegions, SetInfiniteHitRegion, SetContent, Clear}
 use Rattle.flat_places.specs.declared.script.Script.{Script}
 use Rattle.flat_places.specs.Known.{knows}
 use Rattle.flat_places.specs.Forms.{Word, Form, give, optional, ◌<$>◌, ◌<*>◌}
-use Rattle.flat_places.specs.Places.{transform, content, view_end, viewport_end, collection, i32, u32, colour, orientation, blend, flip, interaction, int_rect, inset, regions}
+use Rattle.flat_places.specs.Places.{transform, transforms, content, view_end, viewport_end, collection, i32, u32, colour, orientation, blend, flip, interaction, int_rect, inset, regions}
 
 -- how a call's name is written
 abbrev pub text : CallName → List ℕ
@@ -26,6 +26,7 @@ text SetOpacity = codes "SetOpacity"
 text SetClipBoundary = codes "SetClipBoundary"
 text AddChild = codes "AddChild"
 text RemoveChild = codes "RemoveChild"
+text ReplaceChildren = codes "ReplaceChildren"
 text SetRootTransform = codes "SetRootTransform"
 text CreateViewport = codes "CreateViewport"
 text SetViewportProperties = codes "SetViewportProperties"
@@ -48,13 +49,17 @@ text Clear = codes "Clear"
 -- all calls
 abbrev pub call_names : List CallName
 call_names = CreateView ∷ ReleaseView ∷ CreateTransform ∷ ReleaseTransform ∷ SetTranslation ∷ SetOrientation ∷ SetScale ∷ SetOpacity ∷ SetClipBoundary
-    ∷ AddChild ∷ RemoveChild ∷ SetRootTransform ∷ CreateViewport ∷ SetViewportProperties ∷ ReleaseViewport ∷ CreateImage ∷ SetImageSampleRegion
+    ∷ AddChild ∷ RemoveChild ∷ ReplaceChildren ∷ SetRootTransform ∷ CreateViewport ∷ SetViewportProperties ∷ ReleaseViewport ∷ CreateImage ∷ SetImageSampleRegion
     ∷ SetImageDestinationSize ∷ SetImageBlendingFunction ∷ SetImageFlip ∷ SetImageOpacity ∷ ReleaseImage ∷ CreateFilledRect ∷ SetSolidFill
     ∷ ReleaseFilledRect ∷ SetHitRegions ∷ SetInfiniteHitRegion ∷ SetContent ∷ Clear ∷ []
 
--- the call that the word names, where it is known
-abbrev pub call_named : List Word → Word → Option CallName
-call_named known w = find (λ n. bytes_eq w (text n)) (filter (λ n. knows known (text n)) call_names)
+-- the call that the word names
+abbrev pub call_written : Word → Option CallName
+call_written w = find (λ n. bytes_eq w (text n)) call_names
+
+-- the same, where scripts of that version may use the word
+abbrev pub call_named : ℕ → Word → Option CallName
+call_named version w = if knows version w then call_written w else None
 
 -- the inset of a viewport where none is given
 abbrev pub no_inset : Inset
@@ -77,6 +82,7 @@ call_form s a SetOpacity = (λ t v. call.SetOpacity t v) <$> transform <*> u32
 call_form s a SetClipBoundary = (λ t r. call.SetClipBoundary t r) <$> transform <*> optional int_rect
 call_form s a AddChild = (λ p k. call.AddChild p k) <$> transform <*> transform
 call_form s a RemoveChild = (λ p k. call.RemoveChild p k) <$> transform <*> transform
+call_form s a ReplaceChildren = (λ p ks. call.ReplaceChildren p ks) <$> transform <*> (λ words. (transforms words, []))
 call_form s a SetRootTransform = call.SetRootTransform <$> transform
 call_form s a CreateViewport = (λ c p w h i. call.CreateViewport c p w h (inset_or_none i)) <$> content <*> viewport_end s a <*> u32 <*> u32 <*> optional inset
 call_form s a SetViewportProperties = (λ c w h i. call.SetViewportProperties c w h i) <$> content <*> u32 <*> u32 <*> optional inset

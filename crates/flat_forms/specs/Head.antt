@@ -4,16 +4,16 @@ use Rattle.std.specs.Str.{bytes_eq}
 use Rattle.flat_scene.specs.declared.setup.PairDecl.{PairDecl}
 use Rattle.flat_scene.specs.declared.setup.BufferDecl.{BufferDecl}
 use Rattle.flat_scene.specs.declared.setup.FenceDecl.{FenceDecl}
-use Rattle.flat_base.specs.declared.limits.TheConstants.{BUFFER_COLLECTIONS_MAX, BUFFERS_PER_COLLECTION_MAX, FENCES_MAX, PAIRS_MAX, PROBES_MAX, SESSIONS_MAX, SIDE_MAX}
+use Rattle.flat_base.specs.declared.limits.TheConstants.{ONE, BUFFER_COLLECTIONS_MAX, BUFFERS_PER_COLLECTION_MAX, FENCES_MAX, PAIRS_MAX, PROBES_MAX, SESSIONS_MAX, SIDE_MAX}
 use Rattle.flat_places.specs.declared.kinds.FaultKind.TheVariants.{BadHead, Limit}
 use Rattle.flat_places.specs.declared.script.Script.{Script}
 use Rattle.flat_places.specs.Forms.{Word, Reading, Form, unless_kind, give, whole, named, mapped, ◌<$>◌, ◌<*>◌}
 use Rattle.flat_places.specs.Places.{number_from, session, version, has_display_pair, new_name, pair_owner, owners}
 
--- nothing declared yet; a width of 0 says that no display line was read
+-- nothing declared yet; a width of 0 says that no display line was read, and no line gives another ratio
 abbrev pub empty : Script
 empty = record {
-  setup = record { width = 0; height = 0; sessions = 0; probes = 0; pairs = []; buffers = []; fences = []; version = 0; ratio = 65536 };
+  setup = record { width = 0; height = 0; sessions = 0; probes = 0; pairs = []; buffers = []; fences = []; version = 0; ratio = ONE };
   sessions = [];
   probes = [];
   buffers = [];
@@ -32,6 +32,9 @@ abbrev pub side : Form ℕ
 side = number_from 1 SIDE_MAX
 
 -- the script with what a line declares
+
+abbrev pub with_version : Script → ℕ → Script
+with_version s v = record s { setup = record s.setup { version = v } }
 
 abbrev pub with_display : Script → ℕ → ℕ → Script
 with_display s w h = record s { setup = record s.setup { width = w; height = h } }
@@ -92,8 +95,8 @@ abbrev pub fence_line : Script → List Word → Reading Script
 fence_line s = declared FENCES_MAX s.fences (λ d. with_fence s d.0 d.1) (fence s)
 
 -- a line of the head, but for the first and the last
-abbrev pub head_line : List Word → Script → List Word → Reading Script
-head_line known s = named known BadHead (
+abbrev pub head_line : Script → List Word → Reading Script
+head_line s = named s.setup.version BadHead (
     (codes "display", display_line s) ∷
     (codes "session", session_line s) ∷
     (codes "probe", probe_line s) ∷
@@ -110,6 +113,6 @@ abbrev pub run_line : Script → List Word → Reading (Unit {0})
 run_line s words = unless_kind BadHead (is_ready s) (whole (give (tt {0})) words)
 
 -- `flatland` and the version, which begin the head
-abbrev pub first_line : List Word → Reading (Unit {0})
+abbrev pub first_line : List Word → Reading ℕ
 first_line [] = Err BadHead
 first_line (w ∷ words) = if bytes_eq w (codes "flatland") then whole version words else Err BadHead

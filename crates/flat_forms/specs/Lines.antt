@@ -6,7 +6,7 @@ use Rattle.flat_places.specs.declared.script.Script.{Script}
 use Rattle.flat_places.specs.Forms.{Word, Reading, mapped}
 use Rattle.flat_forms.specs.declared.lines.Part.{Part}
 use Rattle.flat_forms.specs.declared.lines.Part.TheVariants.{Start, Head, Body}
-use Rattle.flat_forms.specs.Head.{first_line, head_line, run_line}
+use Rattle.flat_forms.specs.Head.{first_line, head_line, run_line, with_version}
 use Rattle.flat_forms.specs.Body.{body_line}
 
 -- the part of the text that the next line is in, and the script so far
@@ -14,9 +14,9 @@ abbrev pub Sofar : Type 0
 Sofar = Part × Script
 
 -- what the words of line n make of it
-abbrev pub words_read : List Word → ℕ → Sofar → List Word → Reading Sofar
-words_read known n (Start, s) words = mapped (λ _. (Head, s)) (first_line words)
-words_read known n (Head, s) [] = Err BadHead
-words_read known n (Head, s) (w ∷ words) =
-    if bytes_eq w (codes "run") then mapped (λ _. (Body, s)) (run_line s words) else mapped (λ t. (Head, t)) (head_line known s (w ∷ words))
-words_read known n (Body, s) words = mapped (λ t. (Body, t)) (body_line known s n words)
+abbrev pub words_read : ℕ → Sofar → List Word → Reading Sofar
+words_read n (Start, s) words = mapped (λ version. (Head, with_version s version)) (first_line words)
+words_read n (Head, s) [] = Err BadHead
+words_read n (Head, s) (w ∷ words) =
+    if bytes_eq w (codes "run") then mapped (λ _. (Body, s)) (run_line s words) else mapped (λ t. (Head, t)) (head_line s (w ∷ words))
+words_read n (Body, s) words = mapped (λ t. (Body, t)) (body_line s n words)

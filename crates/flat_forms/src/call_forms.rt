@@ -86,6 +86,10 @@ fn fields(
             p: places.transform(),
             k: places.transform(),
         }),
+        CallName::ReplaceChildren => Ok(Call::ReplaceChildren {
+            p: places.transform(),
+            children: places.transforms(alloc)?,
+        }),
         CallName::SetRootTransform => Ok(Call::SetRootTransform {
             t: places.transform(),
         }),

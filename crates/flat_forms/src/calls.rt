@@ -1,9 +1,8 @@
 ghost use Rattle.std.specs.Prelude.{◌≡◌, ◌<◌, ◌≤◌, length, find};
 ghost use Rattle.std.specs.Str.{bytes_eq};
-ghost use Rattle.flat_forms.specs.Calls.{call_named, text};
-ghost use Rattle.flat_places.specs.Known.{known_words};
+ghost use Rattle.flat_forms.specs.Calls.{call_named, call_written, text};
 
-use flat_places::is_word;
+use flat_places::{is_word, knows};
 
 // The names of calls are found in two parts, by their bytes.
 const LONG_NAME: usize = 14;
@@ -22,6 +21,7 @@ pub enum CallName {
     SetClipBoundary,
     AddChild,
     RemoveChild,
+    ReplaceChildren,
     SetRootTransform,
     CreateViewport,
     SetViewportProperties,
@@ -59,6 +59,7 @@ impl CallName {
             CallName::SetClipBoundary => "SetClipBoundary",
             CallName::AddChild => "AddChild",
             CallName::RemoveChild => "RemoveChild",
+            CallName::ReplaceChildren => "ReplaceChildren",
             CallName::SetRootTransform => "SetRootTransform",
             CallName::CreateViewport => "CreateViewport",
             CallName::SetViewportProperties => "SetViewportProperties",
@@ -81,10 +82,14 @@ impl CallName {
     }
 }
 
-/// The call that the word names. Its length leaves few calls to compare it with.
-pub fn call_named(word: &[u8]) -> Option<CallName>
-    ensures { result ≡ call_named known_words word.now }
+/// The call that the word names, where scripts of that version may use the word. Its
+/// length leaves few calls to compare it with.
+pub fn call_named(version: u32, word: &[u8]) -> Option<CallName>
+    ensures { result ≡ call_named version word.now }
 {
+    if !knows(version, word) {
+        return None;
+    }
     if word.len() < LONG_NAME {
         short_call_named(word)
     } else {
@@ -92,10 +97,10 @@ pub fn call_named(word: &[u8]) -> Option<CallName>
     }
 }
 
-/// The same of a short word.
+/// The call that a short word names.
 fn short_call_named(word: &[u8]) -> Option<CallName>
     requires { length word.now < LONG_NAME }
-    ensures { result ≡ call_named known_words word.now }
+    ensures { result ≡ call_written word.now }
 {
     match word.len() {
         5 => one_of(word, &[CallName::Clear]),
@@ -129,10 +134,10 @@ fn short_call_named(word: &[u8]) -> Option<CallName>
     }
 }
 
-/// The same of a long word.
+/// The call that a long word names.
 fn long_call_named(word: &[u8]) -> Option<CallName>
     requires { LONG_NAME ≤ length word.now }
-    ensures { result ≡ call_named known_words word.now }
+    ensures { result ≡ call_written word.now }
 {
     match word.len() {
         14 => one_of(
@@ -148,6 +153,7 @@ fn long_call_named(word: &[u8]) -> Option<CallName>
             &[
                 CallName::CreateTransform,
                 CallName::SetClipBoundary,
+                CallName::ReplaceChildren,
                 CallName::ReleaseViewport,
                 CallName::SetImageOpacity,
             ],

@@ -3,7 +3,6 @@ ghost use Rattle.flat_text.specs.Pieces.{is_space, pieces_left};
 ghost use Rattle.flat_forms.specs.Body.{session_condition, display_condition, presents_asked};
 ghost use Rattle.flat_places.specs.Forms.{whole};
 ghost use Rattle.flat_places.specs.Index.{IsIndexed};
-ghost use Rattle.flat_places.specs.Known.{known_words};
 ghost use Rattle.flat_places.specs.Places.{u32};
 
 use crate::forms::owned_fence;
@@ -19,7 +18,7 @@ pub fn session_condition(
     words: Option<&[u8]>,
 ) -> Result<Cond, FaultKind>
     requires { IsIndexed script.now }
-    ensures { result ≡ session_condition known_words script.now.script session
+    ensures { result ≡ session_condition script.now.script session
         (pieces_left is_space words.entry) }
 {
     let Some(words) = words else {
@@ -62,7 +61,7 @@ pub fn session_condition(
 /// What the display waits for, behind `Wait`.
 pub fn display_condition(script: &Indexed, words: Option<&[u8]>) -> Result<Cond, FaultKind>
     requires { IsIndexed script.now }
-    ensures { result ≡ display_condition known_words script.now.script
+    ensures { result ≡ display_condition script.now.script
         (pieces_left is_space words.entry) }
 {
     let Some(words) = words else {

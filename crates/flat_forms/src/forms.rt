@@ -1,8 +1,7 @@
-ghost use Rattle.std.specs.Prelude.{◌≡◌, ◌≤◌, ◌∷◌, false, length, nat_lt, not, codes, IsTrue, IfOk};
+ghost use Rattle.std.specs.Prelude.{◌≡◌, ◌≤◌, ◌∷◌, ℕ, false, length, nat_lt, not, codes, IsTrue, IfOk};
 ghost use Rattle.std.specs.Str.{bytes_eq};
 ghost use Rattle.flat_text.specs.Pieces.{is_space, pieces_left, words_of};
 ghost use Rattle.flat_places.specs.declared.kinds.FaultKind.TheVariants.{BadHead, Limit, BadOrder};
-ghost use Rattle.flat_places.specs.Known.{known_words};
 ghost use Rattle.flat_places.specs.Forms.{whole, give, unless_kind, mapped};
 ghost use Rattle.flat_forms.specs.Head as head;
 ghost use Rattle.flat_forms.specs.Head.{size, buffers, pair, run_line, first_line};
@@ -29,7 +28,7 @@ use flat_text::{next_piece, read_natural};
 use std::alloc::Global;
 
 /// `flatland`, and the version behind it.
-pub fn first_line(words: &[u8]) -> Result<(), FaultKind>
+pub fn first_line(words: &[u8]) -> Result<u32, FaultKind>
     ensures { result ≡ first_line (words_of words.now) }
 {
     let (word, rest) = next_piece(words, b' ');
@@ -39,12 +38,12 @@ pub fn first_line(words: &[u8]) -> Result<(), FaultKind>
     Err(FaultKind::BadHead)
 }
 
-fn version(words: Option<&[u8]>) -> Result<(), FaultKind>
+fn version(words: Option<&[u8]>) -> Result<u32, FaultKind>
     ensures { result ≡ whole version (pieces_left is_space words.entry) }
 {
     let mut places = Places::new(words);
-    places.version();
-    places.finish(())
+    let version = places.version();
+    places.finish(version)
 }
 
 /// The size of the display, where `fresh` says whether it is the first.
@@ -231,7 +230,7 @@ pub fn display_line(
     requires begun { begins ≡ length (begin_times script.now.script) }
     requires all_ended { ended ≡ dones script.now.script }
     requires latest { last ≡ greatest (begin_times script.now.script) }
-    ensures { result ≡ display_line known_words script.now.script
+    ensures { result ≡ display_line script.now.script
         (pieces_left is_space words.entry) }
 {
     let Some(words) = words else {
@@ -259,7 +258,7 @@ fn timeless_line(
 ) -> Result<DisplayLine, FaultKind>
     requires { IsIndexed script.now }
     ensures { bytes_eq word.now (codes "begin") ≡ false → bytes_eq word.now (codes "done") ≡ false →
-        result ≡ display_line known_words script.now.script (word.now ∷ pieces_left is_space
+        result ≡ display_line script.now.script (word.now ∷ pieces_left is_space
         words.entry) }
 {
     if is_word(word, "Signal") {
@@ -280,9 +279,9 @@ fn timeless_line(
     Err(FaultKind::UnknownCall)
 }
 
-/// What a line of a probe writes.
+/// What a line of a probe writes, whatever the script's version.
 pub fn probe_line(words: Option<&[u8]>) -> Result<ProbeLine, FaultKind>
-    ensures { result ≡ probe_line known_words (pieces_left is_space words.entry) }
+    ensures { (version : ℕ) → result ≡ probe_line version (pieces_left is_space words.entry) }
 {
     let Some(words) = words else {
         return Err(FaultKind::UnknownCall);

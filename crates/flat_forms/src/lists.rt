@@ -4,7 +4,6 @@ ghost use Rattle.flat_base.specs.declared.ids.Actor.TheVariants.{Session};
 ghost use Rattle.flat_forms.specs.Body.{fence_lists};
 ghost use Rattle.flat_places.specs.Forms.{each, one_or_more};
 ghost use Rattle.flat_places.specs.Index.{IsIndexed};
-ghost use Rattle.flat_places.specs.Known.{known_words};
 ghost use Rattle.flat_forms.specs.Lists.{ends_list, behind_end, ReadsList};
 ghost use Rattle.flat_places.specs.Places.{fence_word};
 ghost use Rattle.flat_places.specs.Reads.{Reads, left};
@@ -108,7 +107,7 @@ pub fn fence_lists(
     requires { IsIndexed script.now }
     ensures { IfOk result (λ v. Reads
         (λ words. (
-          fence_lists known_words (fence_word script.now.script (Session session)) words,
+          fence_lists (fence_word script.now.script (Session session)) words,
           [],
         )) places.old places.new v) }
 {

@@ -2,7 +2,6 @@ ghost use Rattle.std.specs.Prelude.{◌≡◌, ◌<◌, ◌≤◌, ◌+◌, ◌^
 ghost use Rattle.flat_text.specs.Pieces.{is_space, pieces_left, words_of};
 ghost use Rattle.flat_forms.specs.declared.lines.LineError.TheVariants.{Memory};
 ghost use Rattle.flat_forms.specs.declared.lines.Part.TheVariants.{Start};
-ghost use Rattle.flat_places.specs.Known.{known_words};
 ghost use Rattle.flat_places.specs.Forms.{Reading, mapped};
 ghost use Rattle.flat_forms.specs.Head.{has_display, display_line, session_line, probe_line};
 ghost use Rattle.flat_forms.specs.Head.{buffers_line, pair_line, fence_line, head_line, is_ready};
@@ -20,8 +19,8 @@ use crate::counts::{
 use crate::lines::{LineError, Part};
 use crate::{forms, session_forms};
 use flat_base::{
-    Actor, BUFFER_COLLECTIONS_MAX, FENCES_MAX, Items, LINES_PER_ACTOR_MAX, PAIRS_MAX, PROBES_MAX,
-    SESSIONS_MAX,
+    Actor, BUFFER_COLLECTIONS_MAX, FENCES_MAX, Items, LINES_PER_ACTOR_MAX, ONE, PAIRS_MAX,
+    PROBES_MAX, SESSIONS_MAX,
 };
 use flat_places::{FaultKind, Indexed, Meaning, Name, Names, Script, is_word};
 use flat_scene::{Body, ScriptLine, Setup};
@@ -173,7 +172,7 @@ impl Parser {
 
     fn head(&mut self, alloc: Global, words: &[u8]) -> Result<(), LineError>
         requires { Kept self.old }
-        ensures steps { Steps result (head_line known_words self.old.text.script
+        ensures steps { Steps result (head_line self.old.text.script
             (words_of words.now)) self.new.text.script }
         ensures kept { OnOk result (Kept self.new) }
         ensures same { SameFrames self.old self.new }
@@ -207,7 +206,7 @@ impl Parser {
         words: Option<&[u8]>,
     ) -> Result<Body, LineError>
         requires { Kept self.now }
-        ensures { Reaches result (actor_line known_words self.now.text.script actor
+        ensures { Reaches result (actor_line self.now.text.script actor
             (pieces_left is_space words.entry)) }
     {
         match actor {
@@ -282,7 +281,7 @@ impl Parser {
         requires counted { IsCounted actor }
         requires begins { self.old.begins + 1 < 2 ^ 32 }
         requires dones { self.old.dones + 1 < 2 ^ 32 }
-        ensures steps { Steps result (counted_line known_words self.old.text.script number actor
+        ensures steps { Steps result (counted_line self.old.text.script number actor
             (pieces_left is_space words.entry)) self.new.text.script }
         ensures kept { OnOk result (Kept self.new) }
         ensures part { self.new.part ≡ self.old.part }
@@ -307,7 +306,7 @@ impl Parser {
         requires kept { Kept self.old }
         requires begins { self.old.begins + 1 < 2 ^ 32 }
         requires dones { self.old.dones + 1 < 2 ^ 32 }
-        ensures steps { Steps result (body_line known_words self.old.text.script number
+        ensures steps { Steps result (body_line self.old.text.script number
             (words_of words.now)) self.new.text.script }
         ensures kept { OnOk result (Kept self.new) }
         ensures part { self.new.part ≡ self.old.part }
@@ -340,7 +339,7 @@ impl Parser {
         requires kept { Kept self.old }
         requires begins { self.old.begins + 1 < 2 ^ 32 }
         requires dones { self.old.dones + 1 < 2 ^ 32 }
-        ensures steps { Steps result (words_read known_words number (sofar_of self.old)
+        ensures steps { Steps result (words_read number (sofar_of self.old)
             (words_of words.now)) (sofar_of self.new) }
         ensures kept { OnOk result (Kept self.new) }
         ensures few { (self.new.begins ≤ self.old.begins + 1)
@@ -348,7 +347,7 @@ impl Parser {
     {
         match self.part {
             Part::Start => {
-                forms::first_line(words)?;
+                self.text.script.setup.version = forms::first_line(words)?;
                 self.part = Part::Head;
                 Ok(())
             }
@@ -378,6 +377,8 @@ fn empty(alloc: Global) -> Script
             pairs: Items::new(alloc),
             buffers: Items::new(alloc),
             fences: Items::new(alloc),
+            version: 0,
+            ratio: ONE,
         },
         sessions: Items::new(alloc),
         probes: Items::new(alloc),

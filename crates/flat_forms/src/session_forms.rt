@@ -3,7 +3,6 @@ ghost use Rattle.std.specs.Str.{bytes_eq};
 ghost use Rattle.flat_text.specs.Pieces.{is_space, pieces_left};
 ghost use Rattle.flat_places.specs.Forms.{whole, give};
 ghost use Rattle.flat_places.specs.Index.{IsIndexed};
-ghost use Rattle.flat_places.specs.Known.{known_words};
 ghost use Rattle.flat_forms.specs.Body.{session_line, other_line, child_asked, present};
 ghost use Rattle.flat_forms.specs.Steps.{Reaches};
 
@@ -27,14 +26,14 @@ pub fn session_line(
     words: Option<&[u8]>,
 ) -> Result<Line, LineError>
     requires { IsIndexed script.now }
-    ensures { Reaches result (session_line known_words script.now.script session
+    ensures { Reaches result (session_line script.now.script session
         (pieces_left is_space words.entry)) }
 {
     let Some(words) = words else {
         return Err(LineError::Kind(FaultKind::UnknownCall));
     };
     let (word, rest) = next_piece(words, b' ');
-    match call_named(word) {
+    match call_named(script.script.setup.version, word) {
         Some(name) => match call(alloc, script, session, name, rest) {
             Ok(found) => Ok(Line::Call(found)),
             Err(e) => Err(e),
@@ -52,7 +51,7 @@ fn other_line(
     words: Option<&[u8]>,
 ) -> Result<Line, LineError>
     requires { IsIndexed script.now }
-    ensures { Reaches result (other_line known_words script.now.script session
+    ensures { Reaches result (other_line script.now.script session
         (word.now ∷ pieces_left is_space words.entry)) }
 {
     if is_word(word, "Present") {
@@ -77,7 +76,7 @@ fn timeless_line(
 ) -> Result<Line, FaultKind>
     requires { IsIndexed script.now }
     ensures { bytes_eq word.now (codes "Present") ≡ false → result
-        ≡ other_line known_words script.now.script session (word.now ∷ pieces_left is_space
+        ≡ other_line script.now.script session (word.now ∷ pieces_left is_space
         words.entry) }
 {
     if is_word(word, "GetLayout") {
@@ -110,7 +109,7 @@ fn timeless_line(
     Err(FaultKind::UnknownCall)
 }
 
-/// A present: its time and its lists of fences.
+/// A present: its time, whether it is unsquashable, and its lists of fences.
 fn present(
     alloc: Global,
     script: &Indexed,
@@ -118,17 +117,22 @@ fn present(
     words: Option<&[u8]>,
 ) -> Result<PresentArgs, LineError>
     requires { IsIndexed script.now }
-    ensures { Reaches result (whole (present known_words script.now.script session)
+    ensures { Reaches result (whole (present script.now.script session)
         (pieces_left is_space words.entry)) }
 {
     let mut places = Places::new(words);
     let time = places.time();
+    let unsquashable = places.unsquashable(script.script.setup.version);
     let (acquire, release) = fence_lists(&mut places, alloc, script, session)?;
-    Ok(places.finish(PresentArgs {
+    match places.finish(PresentArgs {
         time,
         acquire,
         release,
-    })?)
+        unsquashable,
+    }) {
+        Ok(args) => Ok(args),
+        Err(k) => Err(LineError::Kind(k)),
+    }
 }
 
 /// A line that is its first word alone.

@@ -98,11 +98,11 @@ abbrev pub at_word : {A : Type 0} → FaultKind → Table A → Word → List Wo
 at_word k [] w words = Err k
 at_word k (row ∷ rows) w words = if bytes_eq w row.0 then row.1 words else at_word k rows w words
 
--- the rows whose words are known
-abbrev pub known_rows : {A : Type 0} → List Word → Table A → Table A
-known_rows known table = filter (λ row. knows known row.0) table
+-- the rows whose words that version knows
+abbrev pub known_rows : {A : Type 0} → ℕ → Table A → Table A
+known_rows version table = filter (λ row. knows version row.0) table
 
 -- what the known rows say of the first word and those behind it; a missing word is one that the table doesn't have
-abbrev pub named : {A : Type 0} → List Word → FaultKind → Table A → List Word → Reading A
-named known k table [] = Err k
-named known k table (w ∷ words) = at_word k (known_rows known table) w words
+abbrev pub named : {A : Type 0} → ℕ → FaultKind → Table A → List Word → Reading A
+named version k table [] = Err k
+named version k table (w ∷ words) = at_word k (known_rows version table) w words

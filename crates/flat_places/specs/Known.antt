@@ -1,68 +1,14 @@
--- The words that a script may use: all those of the version. The grammar takes them as an argument, and a word that isn't
--- among them is as if the grammar didn't have it.
-use Rattle.std.specs.Prelude.{ℕ, Bool, List, [], ◌∷◌, codes}
+-- The words that a script of a version may use: all of the grammar's but those that the version lacks. A word that it lacks is
+-- as if the grammar didn't have it.
+use Rattle.std.specs.Prelude.{ℕ, nat_lt, Bool, not, ◌&&◌, List, [], ◌∷◌, codes}
 use Rattle.std.specs.List.{list_any}
 use Rattle.std.specs.Str.{bytes_eq}
+use Rattle.flat_base.specs.declared.limits.TheConstants.{UNSQUASHABLE_SINCE}
 
--- the words of head lines, of calls, of the lines of sessions, of the display and of probes, and of conditions; a fence is
--- a head line and a condition, and `hit` a line of the display and of a probe
-abbrev pub known_words : List (List ℕ)
-known_words =
-    codes "display" ∷
-    codes "session" ∷
-    codes "probe" ∷
-    codes "buffers" ∷
-    codes "pair" ∷
-    codes "fence" ∷
-    codes "CreateView" ∷
-    codes "ReleaseView" ∷
-    codes "CreateTransform" ∷
-    codes "ReleaseTransform" ∷
-    codes "SetTranslation" ∷
-    codes "SetOrientation" ∷
-    codes "SetScale" ∷
-    codes "SetOpacity" ∷
-    codes "SetClipBoundary" ∷
-    codes "AddChild" ∷
-    codes "RemoveChild" ∷
-    codes "SetRootTransform" ∷
-    codes "CreateViewport" ∷
-    codes "SetViewportProperties" ∷
-    codes "ReleaseViewport" ∷
-    codes "CreateImage" ∷
-    codes "SetImageSampleRegion" ∷
-    codes "SetImageDestinationSize" ∷
-    codes "SetImageBlendingFunction" ∷
-    codes "SetImageFlip" ∷
-    codes "SetImageOpacity" ∷
-    codes "ReleaseImage" ∷
-    codes "CreateFilledRect" ∷
-    codes "SetSolidFill" ∷
-    codes "ReleaseFilledRect" ∷
-    codes "SetHitRegions" ∷
-    codes "SetInfiniteHitRegion" ∷
-    codes "SetContent" ∷
-    codes "Clear" ∷
-    codes "Present" ∷
-    codes "acquire" ∷
-    codes "release" ∷
-    codes "GetLayout" ∷
-    codes "GetStatus" ∷
-    codes "GetChildStatus" ∷
-    codes "Signal" ∷
-    codes "Poll" ∷
-    codes "Wait" ∷
-    codes "frames" ∷
-    codes "credits" ∷
-    codes "taken" ∷
-    codes "answers" ∷
-    codes "presents" ∷
-    codes "Disconnect" ∷
-    codes "begin" ∷
-    codes "done" ∷
-    codes "hit" ∷
-    codes "await" ∷ []
+-- the words that came with the second version
+abbrev pub words_since_second : List (List ℕ)
+words_since_second = codes "ReplaceChildren" ∷ codes "unsquashable" ∷ []
 
--- the word is one of them
-abbrev pub knows : List (List ℕ) → List ℕ → Bool
-knows known w = list_any (bytes_eq w) known
+-- scripts of that version may use the word
+abbrev pub knows : ℕ → List ℕ → Bool
+knows version w = not (list_any (bytes_eq w) words_since_second && nat_lt version UNSQUASHABLE_SINCE)

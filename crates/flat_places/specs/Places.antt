@@ -1,5 +1,5 @@
 -- The places of a line: numbers of a range, and names of a sort.
-use Rattle.std.specs.Prelude.{ℕ, ◌+◌, ◌-◌, ◌^◌, nat_le, nat_lt, ℤ, pos, negsuc, Bool, false, ◌&&◌, List, [], ◌∷◌, Some, None, Ok, Err, option_and_then, slice_get, if◌then◌else◌, ◌==◌, not, codes}
+use Rattle.std.specs.Prelude.{ℕ, ◌+◌, ◌-◌, ◌^◌, nat_le, nat_lt, ℤ, pos, negsuc, Bool, true, false, ◌&&◌, List, [], ◌∷◌, Some, None, Ok, Err, option_and_then, slice_get, if◌then◌else◌, not, codes}
 use Rattle.std.specs.List.{list_any}
 use Rattle.std.specs.Option.{option_map_or}
 use Rattle.flat_base.specs.declared.ids.Actor.{Actor}
@@ -10,7 +10,7 @@ use Rattle.flat_base.specs.declared.ids.FenceNo.{FenceNo}
 use Rattle.flat_base.specs.declared.ids.BufferNo.{BufferNo}
 use Rattle.flat_base.specs.declared.ids.TransformId.{TransformId}
 use Rattle.flat_base.specs.declared.ids.ContentId.{ContentId}
-use Rattle.flat_base.specs.declared.limits.TheConstants.{COLOUR_MAX, INSET_MAX, TIME_MAX}
+use Rattle.flat_base.specs.declared.limits.TheConstants.{COLOUR_MAX, INSET_MAX, TIME_MAX, VERSION_MAX}
 use Rattle.flat_base.specs.declared.shapes.IntRect.{IntRect}
 use Rattle.flat_base.specs.declared.shapes.Orientation.{Orientation}
 use Rattle.flat_base.specs.declared.shapes.Orientation.TheVariants.{Ccw0, Ccw90, Ccw180, Ccw270}
@@ -22,11 +22,12 @@ use Rattle.flat_scene.specs.declared.calls.ImageFlip.TheVariants.{Plain, LeftRig
 use Rattle.flat_scene.specs.declared.calls.Interaction.{Interaction}
 use Rattle.flat_scene.specs.declared.calls.Interaction.TheVariants.{Default, SemanticallyInvisible}
 use Rattle.flat_scene.specs.declared.calls.HitRegion.{HitRegion}
+use Rattle.flat_scene.specs.Setups.{is_within}
 use Rattle.flat_text.specs.Number.{natural, signed}
 use Rattle.flat_places.specs.declared.script.Script.{Script}
 use Rattle.flat_places.specs.declared.kinds.FaultKind.TheVariants.{BadHead, BadNumber, UnknownName, NotOwner, UnknownVersion}
-use Rattle.flat_places.specs.declared.places.TheConstants.{VERSION}
-use Rattle.flat_places.specs.Forms.{Word, Reading, Form, both, mapped, or_kind, unless_kind, place, ◌<$>◌, ◌<*>◌, whole, one_or_more}
+use Rattle.flat_places.specs.Forms.{Word, Reading, Form, both, mapped, or_kind, unless_kind, place, ◌<$>◌, ◌<*>◌, whole, each, one_or_more}
+use Rattle.flat_places.specs.Known.{knows}
 use Rattle.flat_places.specs.Names.{place_of, session_named, is_actor, is_name, is_declared, owner_named}
 use Rattle.std.specs.Str.{bytes_eq}
 
@@ -64,6 +65,10 @@ time = number_below (TIME_MAX + 1)
 -- a transform's id
 abbrev pub transform : Form TransformId
 transform = (λ n. record { 0 = n }) <$> number_below (2 ^ 64)
+
+-- ids of transforms, to the end of the line
+abbrev pub transforms : List Word → Reading (List TransformId)
+transforms = each (λ w. (transform (w ∷ [])).0)
 
 -- a content's id
 abbrev pub content : Form ContentId
@@ -114,6 +119,11 @@ regions [] = Ok []
 regions (x ∷ y ∷ w ∷ h ∷ i ∷ words) = both (λ r rest. r ∷ rest) (region (x ∷ y ∷ w ∷ h ∷ i ∷ [])).0 (regions words)
 regions words = both (λ r rest. r ∷ rest) (region words).0 (Ok [])
 
+-- `unsquashable`, where it stands here and that version knows it
+abbrev pub unsquashable : ℕ → Form Bool
+unsquashable version [] = (Ok false, [])
+unsquashable version (w ∷ words) = if bytes_eq w (codes "unsquashable") && knows version w then (Ok true, words) else (Ok false, w ∷ words)
+
 -- names, whose kind of fault is UnknownName, or NotOwner where the actor doesn't own what is named
 
 -- a session
@@ -147,11 +157,11 @@ collection s a = place (λ w. mapped (λ i. record { 0 = i }) (owned s.buffers s
 -- the places of the head
 
 -- the number of the version
-abbrev pub version : Form (Unit {0})
+abbrev pub version : Form ℕ
 version = place (λ w. known (whole (number_below (2 ^ 32)) (w ∷ [])))
   where
-    known : Reading ℕ → Reading (Unit {0})
-    known (Ok n) = if n == VERSION then Ok tt else Err UnknownVersion
+    known : Reading ℕ → Reading ℕ
+    known (Ok n) = if is_within VERSION_MAX n then Ok n else Err UnknownVersion
     known (Err k) = Err k
 
 -- a pair with the display was declared

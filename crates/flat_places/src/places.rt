@@ -6,20 +6,21 @@ ghost use Rattle.flat_text.specs.Pieces.{is_space, pieces_left};
 ghost use Rattle.flat_places.specs.Forms.{passes, optional};
 ghost use Rattle.flat_places.specs.Places.{number_below, number_from, transform, content, time};
 ghost use Rattle.flat_places.specs.Places.{u32, colour, i32, int_rect, inset, orientation, blend};
-ghost use Rattle.flat_places.specs.Places.{flip, interaction, region, regions, version};
+ghost use Rattle.flat_places.specs.Places.{flip, interaction, region, regions, transforms};
+ghost use Rattle.flat_places.specs.Places.{unsquashable, version};
 ghost use Rattle.flat_places.specs.Reads.{Reads, TakesWord, left, sofar, lower, finished};
 ghost use Rattle.flat_places.specs.Reads.{reading_of};
 
 use crate::kinds::FaultKind;
+use crate::known::knows;
+use crate::names::is_word;
 use flat_base::{
     COLOUR_MAX, ContentId, INSET_MAX, IntRect, Items, NoMemory, Orientation, TIME_MAX, TransformId,
+    VERSION_MAX,
 };
-use flat_scene::{BlendMode, HitRegion, ImageFlip, Inset, Interaction, RegionList};
+use flat_scene::{BlendMode, HitRegion, ImageFlip, Inset, Interaction, RegionList, TransformList};
 use flat_text::{next_piece, read_natural, read_number};
 use std::alloc::Global;
-
-/// The version of scripts that is read.
-const VERSION: u128 = 1;
 
 /// The words of a line that are left, and the lowest kind of fault so far.
 ///
@@ -95,6 +96,18 @@ impl<'a> Places<'a> {
         ensures { Reads transform self.old self.new result }
     {
         TransformId(self.number_to(u64::MAX))
+    }
+
+    /// Ids of transforms to the end of the line. Its only refusal is want of memory.
+    pub fn transforms(&mut self, alloc: Global) -> Result<TransformList, NoMemory>
+        ensures { IfOk result (λ v. Reads (λ words. (transforms words, [])) self.old self.new v) }
+    {
+        let mut found = Items::new(alloc);
+        while self.words.is_some() {
+            let one = self.transform();
+            found.push(one)?;
+        }
+        Ok(found)
     }
 
     /// The id of a content.
@@ -304,18 +317,40 @@ impl<'a> Places<'a> {
         Ok(found)
     }
 
+    /// Whether `unsquashable` comes next, where scripts of that version may use it; it
+    /// is taken then.
+    pub fn unsquashable(&mut self, version: u32) -> bool
+        ensures { Reads (unsquashable version) self.old self.new result }
+    {
+        let Some(words) = self.words else {
+            return false;
+        };
+        let (word, rest) = next_piece(words, b' ');
+        if is_word(word, "unsquashable") && knows(version, word) {
+            self.words = rest;
+            return true;
+        }
+        false
+    }
+
     /// The version of scripts.
-    pub fn version(&mut self)
-        ensures { Reads version self.old self.new tt }
+    pub fn version(&mut self) -> u32
+        ensures { Reads version self.old self.new result }
     {
         let Some(word) = self.next() else {
             self.note(FaultKind::WrongCount);
-            return;
+            return 0;
         };
         match read_natural(word) {
-            Some(VERSION) => {}
-            Some(n) if n <= u32::MAX as u128 => self.note(FaultKind::UnknownVersion),
-            _ => self.note(FaultKind::BadNumber),
+            Some(n) if 1 <= n && n <= VERSION_MAX as u128 => n as u32,
+            Some(n) if n <= u32::MAX as u128 => {
+                self.note(FaultKind::UnknownVersion);
+                0
+            }
+            _ => {
+                self.note(FaultKind::BadNumber);
+                0
+            }
         }
     }
 

@@ -1,5 +1,5 @@
 -- What a form gave says what its places gave.
-use Rattle.std.proofs.Common.{◌≡◌, ℕ, Bool, true, false, List, [], ◌∷◌, ◌++◌, Option, Some, None, Ok, Err, refl, sym, ◌∙◌, ap, append-nil}
+use Rattle.std.proofs.Common.{◌≡◌, Bool, true, false, List, [], ◌∷◌, ◌++◌, Option, Some, None, Ok, Err, refl, sym, ◌∙◌, ap, append-nil}
 use Rattle.flat_forms.specs.declared.lines.LineError.{LineError}
 use Rattle.flat_forms.specs.declared.lines.LineError.TheVariants.{Kind, Memory}
 use Rattle.flat_forms.specs.Steps.{Refused}

@@ -9,7 +9,6 @@ use Rattle.flat_scene.specs.declared.setup.BufferDecl.{BufferDecl}
 use Rattle.flat_scene.specs.declared.setup.FenceDecl.{FenceDecl}
 use Rattle.flat_places.specs.declared.kinds.FaultKind.TheVariants.{BadHead, UnknownName, Limit}
 use Rattle.flat_places.specs.declared.script.Script.{Script}
-use Rattle.flat_places.specs.Known.{known_words}
 use Rattle.flat_places.specs.Forms.{Word, Reading, whole, ◌<$>◌, ◌<*>◌}
 use Rattle.flat_places.specs.Names.{is_name, is_declared}
 use Rattle.flat_places.specs.Places.{session, number_from, new_name, pair_owner, owners}
@@ -153,6 +152,6 @@ by_display : (u : Script) (w : Word) (words : List Word) (t : Script) (b : Bool)
 by_display u w words t true at is = step_at u w (codes "display") words t at (size_step (size_found u words t is))
 by_display u w words t false at is = by_session u w words t (bytes_eq w (codes "session")) refl is
 
-pub step_found : (u : Script) (ws : List Word) (t : Script) → head_line known_words u ws ≡ Ok t → Step u ws t
+pub step_found : (u : Script) (ws : List Word) (t : Script) → head_line u ws ≡ Ok t → Step u ws t
 step_found u [] t is = absurd (cc)
 step_found u (w ∷ words) t is = by_display u w words t (bytes_eq w (codes "display")) refl is

@@ -10,7 +10,6 @@ use Rattle.flat_places.specs.declared.places.Places.{Places}
 use Rattle.flat_places.specs.Forms.{Word, Reading, Form, both, mapped, place, each, one_or_more, passes}
 use Rattle.flat_places.specs.Reads.{Reads, reading_of, sofar, lower, giving, left}
 use Rattle.std.specs.Str.{bytes_eq}
-use Rattle.flat_places.specs.Known.{known_words}
 use Rattle.flat_forms.specs.Body.{fence_lists}
 use Rattle.flat_forms.specs.Lists.{ends_list, behind_end, ReadsList}
 use Rattle.flat_places.proofs.lemmas.ReadsLemmas.{one_more, no_more, after, lower_given}
@@ -161,28 +160,28 @@ goes_on_behind reading old mid new w found stops at same read =
 -- both lists of a present
 
 abbrev pub all_lists : (Word → Reading FenceNo) → Form (List FenceNo × List FenceNo)
-all_lists test words = (fence_lists known_words test words, [])
+all_lists test words = (fence_lists test words, [])
 
 abbrev pub pair_of : List FenceNo → List FenceNo → List FenceNo × List FenceNo
 pair_of a r = (a, r)
 
 by_other : (test : Word → Reading FenceNo) (w : Word) (ws : List Word) → bytes_eq w (codes "acquire") ≡ false
-    → fence_lists known_words test (w ∷ ws) ≡ (if bytes_eq w (codes "release") then both pair_of (Ok []) (one_or_more test ws) else Err WrongCount)
+    → fence_lists test (w ∷ ws) ≡ (if bytes_eq w (codes "release") then both pair_of (Ok []) (one_or_more test ws) else Err WrongCount)
 by_other test w ws other =
     ap (λ b. if b then both pair_of (one_or_more test (before_first (ends_list true) ws)) (behind_end (one_or_more test) ws).0
     else (if bytes_eq w (codes "release") then both pair_of (Ok []) (one_or_more test ws) else Err WrongCount)) other
 
 pub by_acquire : (test : Word → Reading FenceNo) (w : Word) (ws : List Word) → bytes_eq w (codes "acquire") ≡ true
-    → fence_lists known_words test (w ∷ ws) ≡ both pair_of (one_or_more test (before_first (ends_list true) ws)) (behind_end (one_or_more test) ws).0
+    → fence_lists test (w ∷ ws) ≡ both pair_of (one_or_more test (before_first (ends_list true) ws)) (behind_end (one_or_more test) ws).0
 by_acquire test w ws is =
     ap (λ b. if b then both pair_of (one_or_more test (before_first (ends_list true) ws)) (behind_end (one_or_more test) ws).0
     else (if bytes_eq w (codes "release") then both pair_of (Ok []) (one_or_more test ws) else Err WrongCount)) is
 
 pub by_release : (test : Word → Reading FenceNo) (w : Word) (ws : List Word) → bytes_eq w (codes "acquire") ≡ false → bytes_eq w (codes "release") ≡ true
-    → fence_lists known_words test (w ∷ ws) ≡ both pair_of (Ok []) (one_or_more test ws)
+    → fence_lists test (w ∷ ws) ≡ both pair_of (Ok []) (one_or_more test ws)
 by_release test w ws other is = by_other test w ws other ∙ ap (λ b. if b then both pair_of (Ok []) (one_or_more test ws) else Err WrongCount) is
 
-pub by_neither : (test : Word → Reading FenceNo) (w : Word) (ws : List Word) → bytes_eq w (codes "acquire") ≡ false → bytes_eq w (codes "release") ≡ false → fence_lists known_words test (w ∷ ws) ≡ Err WrongCount
+pub by_neither : (test : Word → Reading FenceNo) (w : Word) (ws : List Word) → bytes_eq w (codes "acquire") ≡ false → bytes_eq w (codes "release") ≡ false → fence_lists test (w ∷ ws) ≡ Err WrongCount
 by_neither test w ws other is = by_other test w ws other ∙ ap (λ b. if b then both pair_of (Ok []) (one_or_more test ws) else Err WrongCount) is
 
 -- lists that were read begin with one of the keywords
@@ -190,7 +189,7 @@ abbrev pub ListsOk : (Word → Reading FenceNo) → Word → List Word → List 
 ListsOk test w ws lists =
     ((w ≡ codes "acquire") × (both pair_of (one_or_more test (before_first (ends_list true) ws)) (behind_end (one_or_more test) ws).0 ≡ Ok lists)) ⊎ ((w ≡ codes "release") × (both pair_of (Ok []) (one_or_more test ws) ≡ Ok lists))
 
-pub lists_ok : (test : Word → Reading FenceNo) (w : Word) (ws : List Word) (lists : List FenceNo × List FenceNo) → fence_lists known_words test (w ∷ ws) ≡ Ok lists → ListsOk test w ws lists
+pub lists_ok : (test : Word → Reading FenceNo) (w : Word) (ws : List Word) (lists : List FenceNo × List FenceNo) → fence_lists test (w ∷ ws) ≡ Ok lists → ListsOk test w ws lists
 lists_ok test w ws lists is = by_keyword (bytes_eq w (codes "acquire")) (bytes_eq w (codes "release")) refl refl
   where
     by_keyword : (b c : Bool) → bytes_eq w (codes "acquire") ≡ b → bytes_eq w (codes "release") ≡ c → ListsOk test w ws lists
@@ -207,6 +206,6 @@ acquire_read test old mid past new w a r at same is list read =
     ap (λ b. if b then one_or_more test (after_first p (left mid)) else Ok []) (sym list.more) ∙ ap (λ xs. if list_any p (left past) then one_or_more test xs else Ok []) (sym list.behind) in
     record {
       words = read.words;
-      outcome = ap (λ xs. lower (sofar old) (fence_lists known_words test xs)) at ∙ ap (lower (sofar old)) (by_acquire test w (left mid) is)
+      outcome = ap (λ xs. lower (sofar old) (fence_lists test xs)) at ∙ ap (lower (sofar old)) (by_acquire test w (left mid) is)
           ∙ after pair_of (sofar old) (sofar past) (sofar new) (one_or_more test (before_first p (left mid))) (behind_end (one_or_more test) (left mid)).0 a r first (ap (lower (sofar past)) behind ∙ read.outcome);
     }

@@ -5,7 +5,6 @@ use Rattle.flat_scene.specs.declared.setup.PairDecl.{PairDecl}
 use Rattle.flat_scene.specs.declared.setup.BufferDecl.{BufferDecl}
 use Rattle.flat_scene.specs.declared.setup.FenceDecl.{FenceDecl}
 use Rattle.flat_places.specs.declared.script.Script.{Script}
-use Rattle.flat_places.specs.Known.{known_words}
 use Rattle.flat_places.specs.Forms.{Word, whole, one_or_more}
 use Rattle.flat_places.specs.Names.{session_named, owner_named}
 use Rattle.flat_places.specs.Places.{number_from, owner_word, has_display_pair}
@@ -76,22 +75,22 @@ pub record FenceStep (u : Script) (ws : List Word) (t : Script) : Type 0 where
 
 -- what a step says is read
 
-size_read : (u : Script) (ws : List Word) (t : Script) → SizeStep u ws t → head_line known_words u ws ≡ Ok t
+size_read : (u : Script) (ws : List Word) (t : Script) → SizeStep u ws t → head_line u ws ≡ Ok t
 size_read u ws t s = rw (s.begins, s.made) (let first = s.first in let read = s.read in rw (first, read) refl)
 
-session_read : (u : Script) (ws : List Word) (t : Script) → SessionStep u ws t → head_line known_words u ws ≡ Ok t
+session_read : (u : Script) (ws : List Word) (t : Script) → SessionStep u ws t → head_line u ws ≡ Ok t
 session_read u ws t s = rw (s.begins, s.made) (let room = s.room in let name = s.fresh.name in let fresh = s.fresh.fresh in rw (room, name, fresh) refl)
 
-probe_read : (u : Script) (ws : List Word) (t : Script) → ProbeStep u ws t → head_line known_words u ws ≡ Ok t
+probe_read : (u : Script) (ws : List Word) (t : Script) → ProbeStep u ws t → head_line u ws ≡ Ok t
 probe_read u ws t s = rw (s.begins, s.made) (let room = s.room in let name = s.fresh.name in let fresh = s.fresh.fresh in rw (room, name, fresh) refl)
 
-buffers_read : (u : Script) (ws : List Word) (t : Script) → BuffersStep u ws t → head_line known_words u ws ≡ Ok t
+buffers_read : (u : Script) (ws : List Word) (t : Script) → BuffersStep u ws t → head_line u ws ≡ Ok t
 buffers_read u ws t s = rw (s.begins, s.made) (rw (s.room, s.fresh.name, s.fresh.fresh, s.owned, s.count, s.width, s.height) refl)
 
-pair_read : (u : Script) (ws : List Word) (t : Script) → PairStep u ws t → head_line known_words u ws ≡ Ok t
+pair_read : (u : Script) (ws : List Word) (t : Script) → PairStep u ws t → head_line u ws ≡ Ok t
 pair_read u ws t s = rw (s.begins, s.made) (rw (s.room, s.fresh.name, s.fresh.fresh, s.single, s.viewport, s.view) refl)
 
-fence_read : (u : Script) (ws : List Word) (t : Script) → FenceStep u ws t → head_line known_words u ws ≡ Ok t
+fence_read : (u : Script) (ws : List Word) (t : Script) → FenceStep u ws t → head_line u ws ≡ Ok t
 fence_read u ws t s = rw (s.begins, s.made) (rw (s.room, s.fresh.name, s.fresh.fresh, s.owners) refl)
 
 pub data Step (u : Script) (ws : List Word) (t : Script) : Type 0 where
@@ -111,7 +110,7 @@ sort (buffers_step s) = 3
 sort (pair_step s) = 4
 sort (fence_step s) = 5
 
-pub step_read : (u : Script) (ws : List Word) (t : Script) → Step u ws t → head_line known_words u ws ≡ Ok t
+pub step_read : (u : Script) (ws : List Word) (t : Script) → Step u ws t → head_line u ws ≡ Ok t
 step_read u ws t (size_step s) = size_read u ws t s
 step_read u ws t (session_step s) = session_read u ws t s
 step_read u ws t (probe_step s) = probe_read u ws t s

@@ -10,7 +10,7 @@ use Rattle.flat_places.specs.declared.kinds.FaultKind.TheVariants.{WrongCount}
 use Rattle.flat_places.specs.declared.places.Places.{Places}
 use Rattle.flat_places.specs.Kinds.{number, lower_kind}
 use Rattle.flat_places.specs.Forms.{place, each, optional, one_or_more, Word, Reading, Form, both, mapped, nothing, whole, give, passes, unless_kind, ◌<$>◌, ◌<*>◌}
-use Rattle.flat_places.specs.Places.{region, regions}
+use Rattle.flat_places.specs.Places.{region, regions, transform, transforms}
 use Rattle.flat_places.specs.Reads.{Reads, sofar, left, lower, giving, finished}
 
 -- a text has a piece at least
@@ -214,6 +214,14 @@ region_shorter (x ∷ y ∷ []) ys some rest = rw rest (omega arith)
 region_shorter (x ∷ y ∷ w ∷ []) ys some rest = rw rest (omega arith)
 region_shorter (x ∷ y ∷ w ∷ h ∷ []) ys some rest = rw rest (omega arith)
 region_shorter (x ∷ y ∷ w ∷ h ∷ i ∷ ws) ys some rest = rw rest (omega arith)
+
+pub transforms_step : (xs : List Word) → 0 < length xs → transforms xs ≡ both (λ a r. a ∷ r) (transform xs).0 (transforms (transform xs).1)
+transforms_step [] some = absurd (omega arith)
+transforms_step (w ∷ ws) some = refl
+
+pub transform_shorter : (xs ys : List Word) → 0 < length xs → ys ≡ (transform xs).1 → length ys < length xs
+transform_shorter [] ys some rest = absurd (omega arith)
+transform_shorter (w ∷ ws) ys some rest = rw rest (omega arith)
 
 pub shorter : {A : Type 0} (test : Word → Reading A) (xs ys : List Word) → 0 < length xs → ys ≡ (place test xs).1 → length ys < length xs
 shorter test [] ys some rest = absurd (omega arith)

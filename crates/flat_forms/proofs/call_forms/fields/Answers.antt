@@ -53,3 +53,7 @@ returns-in-SetSolidFill c = rw c.in-SetSolidFill.is (c.set_solid_fill.ensures c.
 pub returns-in_ok-regions-in-SetHitRegions : goal.returns-in_ok-regions-in-SetHitRegions
 returns-in_ok-regions-in-SetHitRegions c =
     rw c.in-SetHitRegions.is (then (begin (λ t r. call.SetHitRegions t r) c.transform-in-SetHitRegions.ensures) c.in_ok-regions-in-SetHitRegions.ensures)
+
+pub returns-in_ok-transforms-in-ReplaceChildren : goal.returns-in_ok-transforms-in-ReplaceChildren
+returns-in_ok-transforms-in-ReplaceChildren c =
+    rw c.in-ReplaceChildren.is (then (begin (λ p ks. call.ReplaceChildren p ks) c.transform-in-ReplaceChildren.ensures) c.in_ok-transforms-in-ReplaceChildren.ensures)

@@ -6,7 +6,7 @@ use Rattle.flat_forms.proofs.lemmas.FormLemmas.{whole_failed}
 use Rattle.flat_forms.proofs.forms.probe_line.Goals as goal
 
 pub returns-in-Err : goal.returns-in-Err
-returns-in-Err c =
+returns-in-Err c = λ version.
     let hit = sym c.is_word.ensures ∙ c.if-is_word.false in
     let await = sym c.is_word-2.ensures ∙ c.if-is_word-2.true in
     rw (c.in-Some.is, c.next_piece.ensures, hit, await)

@@ -1,0 +1,17 @@
+use Rattle.std.proofs.Common.{◌++◌, sym, ◌∙◌, ap}
+use Rattle.flat_places.specs.Forms.{mapped}
+use Rattle.flat_places.specs.Places.{transform, transforms}
+use Rattle.flat_places.specs.Reads.{lower, sofar, left}
+use Rattle.flat_places.proofs.lemmas.ReadsLemmas.{one_more, transforms_step, transform_shorter, some_left}
+use Rattle.flat_places.proofs.places.Places.transforms.Goals as goal
+
+pub loop-self-smaller : goal.loop-self-smaller
+loop-self-smaller c = transform_shorter (left c.loop-self.self) (left c.transform-one.new.self) (some_left c.loop-self.self.words (sym c.is_some.ensures ∙ c.loop-self-test.true)) c.transform-one.ensures.words
+
+pub loop-self-preserved : goal.loop-self-preserved
+loop-self-preserved c =
+    let some = some_left c.loop-self.self.words (sym c.is_some.ensures ∙ c.loop-self-test.true) in
+    ap (λ items. lower (sofar c.transform-one.new.self) (mapped (λ r. items ++ r) (transforms (left c.transform-one.new.self)))) c.in_ok-push.ensures.ok
+    ∙ one_more transforms transform c.loop-self.found c.transform-one.result (sofar c.loop-self.self) (sofar c.transform-one.new.self) (left c.loop-self.self) (left c.transform-one.new.self)
+    (transforms_step (left c.loop-self.self) some) c.transform-one.ensures.words c.transform-one.ensures.outcome
+    ∙ c.loop-self.invariant
