@@ -6,7 +6,7 @@ use Rattle.std.specs.List.Sorted.{IsSorted, IsNonDecreasing}
 use Rattle.std.specs.Ordering.{nat_cmp}
 use Rattle.std.proofs.lemmas.List.Sorted.{IsPermutation-sym, IsNonDecreasingBy-from_sort}
 use Rattle.std.proofs.lemmas.Map.Keys.{IsDistinct-IsPermutation, IsDistinct-from_apart, IsDistinct-cons, IsDistinct-head, IsDistinct-tail, IsStrictlyIncreasing-from_distinct}
-use Rattle.flat_scene.specs.Tree.{has_twice}
+use Rattle.flat_scene.specs.Misuse.{has_twice}
 
 absent : (x : ℕ) (xs : List ℕ) → AllByRecursion (λ y. eqb x y ≡ false) xs → list_any (λ y. x == y) xs ≡ false
 absent x [] all = refl

@@ -5,7 +5,7 @@ use Rattle.flat_base.specs.declared.errors.Reason.TheVariants.{Cycle, TreeTooLar
 use Rattle.flat_base.specs.declared.limits.TheConstants.{TREE_NODES_MAX, PATH_NODES_MAX}
 use Rattle.flat_scene.specs.declared.trees.Held.{Held}
 use Rattle.flat_scene.specs.Cycles.{HasCycle}
-use Rattle.flat_scene.specs.Tree.{has_twice}
+use Rattle.flat_scene.specs.Misuse.{has_twice}
 use Rattle.flat_graph.specs.declared.nodes.GraphNode.{GraphNode}
 use Rattle.flat_graph.specs.Reasons.{links_in}
 use Rattle.flat_graph.specs.State.{GraphState, node_at}

@@ -1,10 +1,10 @@
 ghost use Rattle.std.specs.Prelude.{◌≡◌};
-ghost use Rattle.flat_scene.specs.Tree as tree;
+ghost use Rattle.flat_scene.specs.Misuse as misuse;
 
 /// Whether a number stands twice in a list. Those that do are neighbours once the
 /// numbers are sorted.
 pub fn has_twice(numbers: Vec<u32>) -> bool
-    ensures { result ≡ tree.has_twice numbers.items }
+    ensures { result ≡ misuse.has_twice numbers.items }
 {
     let mut sorted = numbers;
     sorted.sort_unstable();

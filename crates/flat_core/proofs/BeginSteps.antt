@@ -1,13 +1,10 @@
 -- A begin, for one session.
-use Rattle.std.proofs.Common.{◌≡◌, ℕ, zero, suc, ◌+◌, ◌-◌, ◌<◌, ◌≤◌, Bool, true, false, List, [], ◌∷◌, length, refl, arith, sym, ◌∙◌, ap, map, take, Some, None, add-zero, add-suc, slice_get}
+use Rattle.std.proofs.Common.{◌≡◌, ℕ, zero, suc, ◌+◌, ◌-◌, ◌<◌, ◌≤◌, Bool, true, false, List, [], ◌∷◌, length, refl, arith, sym, ◌∙◌, ap, subst, map, take, drop, Some, None, add-zero, add-suc, slice_get}
 use Rattle.std.specs.Prelude.{cond, ◌==◌, nat_lt, Option, option_map, option_and_then}
-use Rattle.std.specs.List.{prefix_len}
 use Rattle.std.specs.Arc.{arc_value}
 use Rattle.std.specs.declared.sync.Arc.{Arc}
 use Rattle.std.specs.declared.alloc.Global.{Global}
 use Rattle.std.proofs.lemmas.Bool.Decides.{nat_tests}
-use Rattle.std.proofs.lemmas.List.Folds.{length-prefix_len}
-use Rattle.std.proofs.lemmas.List.Sums.{prefix_len-le-length}
 use Rattle.std.proofs.lemmas.List.{take-map, length-map}
 use Rattle.flat_base.specs.declared.ids.FenceNo.{FenceNo}
 use Rattle.flat_base.specs.declared.ids.SessionNo.{SessionNo}
@@ -18,34 +15,42 @@ use Rattle.flat_scene.specs.declared.trees.Tree.{Tree}
 use Rattle.flat_scene.specs.History.{is_closed, presents, Published}
 use Rattle.flat_scene.specs.Draft.{of_serial}
 use Rattle.flat_rules.specs.Ends.{to_begin}
-use Rattle.flat_scene.specs.Frames.{is_signalled, taken, waiting, ready_prefix, credits}
+use Rattle.flat_scene.specs.Frames.{is_signalled, is_unsquashable, taken, waiting, ready_prefix, credits}
 use Rattle.flat_rules.specs.Posts.{events_to}
 use Rattle.flat_rules.specs.Shown.{shown, tree_of}
 use Rattle.flat_queue.specs.declared.queue.WaitingPresent.{WaitingPresent}
 use Rattle.flat_scene.specs.Frames.{is_ready}
-use Rattle.flat_queue.specs.Line.{ready_of, credits_of}
+use Rattle.flat_queue.specs.Line.{credits_of}
 use Rattle.flat_snap.specs.declared.snapshot.Snapshot.{Snapshot}
 use Rattle.flat_states.specs.declared.state.SessionState.{SessionState}
 use Rattle.flat_states.specs.Begins.{begun, begin_entry}
 use Rattle.flat_states.specs.Kept.{IsKept, kept_of, meant}
 use Rattle.flat_rules.specs.Legal.{Legal}
 use Rattle.flat_rules.specs.Lasts.{last_from}
-use Rattle.flat_states.specs.Presents.{TookReady}
+use Rattle.flat_states.specs.Presents.{TookReady, frame_takes}
 use Rattle.flat_states.specs.Seen.{Seen, seen_of}
-use Rattle.flat_gets.proofs.lemmas.Begun.{seen-begun-open, ready-same, kept-ready, then-same}
+use Rattle.flat_gets.proofs.lemmas.Begun.{seen-begun-open, takes-same, front, kept-ready, then-same}
+use Rattle.flat_scene.proofs.lemmas.TakingLemmas.{taken-up-to}
 use Rattle.flat_states.proofs.lemmas.Counts.{kept-waiting}
 use Rattle.flat_states.proofs.lemmas.Between.{events-between}
 use Rattle.flat_core.proofs.PresentSteps.{stays}
 use Rattle.flat_rules.proofs.lemmas.ShownSteps.{serial-get, get-drop, get-map, last-get, last-none, shown-kept}
 
--- how many presents are ready
-abbrev pub ready_count : Setup → List Entry → ℕ → SessionNo → ℕ
-ready_count setup h time s = prefix_len (λ present. is_ready time (is_signalled setup h) present.args) (waiting setup h s)
+-- how many presents a begin takes
+abbrev pub take_count : Setup → List Entry → ℕ → SessionNo → ℕ
+take_count setup h time s = length (ready_prefix time (is_signalled setup h) (waiting setup h s))
 
-pub ready-count : (setup : Setup) (h : List Entry) (time : ℕ) (s : SessionNo) (has_it : FenceNo → Bool) (state : SessionState) → IsKept setup (seen_of setup h s) state → state.closed ≡ false → ((f : FenceNo) → has_it f ≡ is_signalled setup h f)
-    → prefix_len (λ kept. is_ready time has_it kept.args) state.queue.waiting ≡ ready_count setup h time s
-ready-count setup h time s has_it state kept opened fences =
-    ready-same setup time has_it (is_signalled setup h) state.queue.waiting (waiting setup h s) fences (kept.waiting (stays setup (seen_of setup h s) state kept (sym kept.closed ∙ opened)))
+pub take-count : (setup : Setup) (h : List Entry) (time : ℕ) (s : SessionNo) (has_it : FenceNo → Bool) (state : SessionState) → IsKept setup (seen_of setup h s) state → state.closed ≡ false → ((f : FenceNo) → has_it f ≡ is_signalled setup h f)
+    → length (frame_takes time has_it state.queue.waiting) ≡ take_count setup h time s
+take-count setup h time s has_it state kept opened fences =
+    takes-same setup time has_it (is_signalled setup h) state.queue.waiting (waiting setup h s) fences (kept.waiting (stays setup (seen_of setup h s) state kept (sym kept.closed ∙ opened)))
+
+-- they are the first so many
+kept-front : (time : ℕ) (has_it : FenceNo → Bool) (waits : List (WaitingPresent (Arc Snapshot Global))) (n : ℕ) → length (frame_takes time has_it waits) ≡ n → (frame_takes time has_it waits ≡ take n waits) × (n ≤ length waits)
+kept-front time has_it waits n count =
+    let ends : WaitingPresent (Arc Snapshot Global) → Bool = λ k. k.args.unsquashable in
+    let ready : WaitingPresent (Arc Snapshot Global) → Bool = λ k. is_ready time has_it k.args in
+    (sym (front ends ready waits) ∙ ap (λ (m : ℕ). take m waits) count, rw (← count) (taken-up-to ends ready waits).short)
 
 pub kept-begun-open : (setup : Setup) (h : List Entry) (line time : ℕ) (s : SessionNo) (has_it : FenceNo → Bool) (result : Option (Arc Snapshot Global)) (state new : SessionState) → IsKept setup (seen_of setup h s) state → state.closed ≡ false
     → ((f : FenceNo) → has_it f ≡ is_signalled setup h f)
@@ -53,21 +58,23 @@ pub kept-begun-open : (setup : Setup) (h : List Entry) (line time : ℕ) (s : Se
     → IsKept setup (seen_of setup (begun h line time) s) new
 kept-begun-open setup h line time s has_it result state new kept opened fences took =
     let was : is_closed s h ≡ false = sym kept.closed ∙ opened in
-    let count : prefix_len (λ kept. is_ready time has_it kept.args) state.queue.waiting ≡ ready_count setup h time s = ready-count setup h time s has_it state kept opened fences in
-    let few : ready_count setup h time s ≤ length state.queue.waiting = rw (← count) (prefix_len-le-length (λ kept. is_ready time has_it kept.args) state.queue.waiting) in
-    let many : new.took ≡ ready_count setup h time s = took.took ∙ length-prefix_len (λ kept. is_ready time has_it kept.args) state.queue.waiting ∙ count in
-    let goes : new.going.items ≡ map (λ kept. kept.args.release) (take (ready_count setup h time s) state.queue.waiting) = took.going ∙ ap (λ (n : ℕ). map (λ kept. kept.args.release) (take n state.queue.waiting)) count in
-    let long : length (ready_prefix time (is_signalled setup h) (waiting setup h s)) ≡ ready_count setup h time s = length-prefix_len (λ present. is_ready time (is_signalled setup h) present.args) (waiting setup h s) in
-    rw (seen-begun-open setup h line time s (ready_prefix time (is_signalled setup h) (waiting setup h s)) was refl)
-    (rw long (kept-ready setup (seen_of setup h s) state new (ready_count setup h time s) kept (stays setup (seen_of setup h s) state kept was) few many took.taken took.waiting goes took.room took.closed took.let_go took.account))
+    let n : ℕ = take_count setup h time s in
+    let waits : List Published = waiting setup h s in
+    let count : length (frame_takes time has_it state.queue.waiting) ≡ n = take-count setup h time s has_it state kept opened fences in
+    let first = kept-front time has_it state.queue.waiting n count in
+    let goes : new.going.items ≡ map (λ kept. kept.args.release) (take n state.queue.waiting) = took.going ∙ ap (map (λ kept. kept.args.release)) first.0 in
+    let all : IsKept setup (record (seen_of setup h s) { taken = taken setup h s + n; waiting = drop n waits; going = take n waits; took = n }) new =
+    kept-ready setup (seen_of setup h s) state new n kept (stays setup (seen_of setup h s) state kept was) first.1 (took.took ∙ count) took.taken took.waiting goes took.room took.closed took.let_go took.account in
+    rw (seen-begun-open setup h line time s (ready_prefix time (is_signalled setup h) waits) was refl)
+    (subst (λ (going : List Published). IsKept setup (record (seen_of setup h s) { taken = taken setup h s + n; waiting = drop n waits; going = going; took = n }) new)
+    (front is_unsquashable (λ (p : Published). is_ready time (is_signalled setup h) p.args) waits) all)
 
 -- ---- what is shown
 
 shown-begun : (setup : Setup) (h : List Entry) (line time : ℕ) (s : SessionNo) → is_closed s h ≡ false
-    → shown setup (begun h line time) s ≡ option_and_then (tree_of setup) (of_serial (presents s h) (taken setup h s + ready_count setup h time s))
+    → shown setup (begun h line time) s ≡ option_and_then (tree_of setup) (of_serial (presents s h) (taken setup h s + take_count setup h time s))
 shown-begun setup h line time s opened =
-    let long : length (ready_prefix time (is_signalled setup h) (waiting setup h s)) ≡ ready_count setup h time s = length-prefix_len (λ present. is_ready time (is_signalled setup h) present.args) (waiting setup h s) in
-    rw (opened, long) refl
+    rw opened refl
 
 same-tree : (setup : Setup) (snap : Arc Snapshot Global) (kept : Option (WaitingPresent (Arc Snapshot Global))) (present : Option Published) → option_map (λ k. k.item) kept ≡ Some snap
     → option_map (λ k. let t : Option Tree = Some (arc_value k.item) in t) kept ≡ option_map (tree_of setup) present → option_and_then (tree_of setup) present ≡ Some (arc_value snap)
@@ -82,7 +89,7 @@ items-last n waits fits =
     ap (last_from None) (sym (take-map item (suc n) waits)) ∙ last-get None (map item waits) n long ∙ get-map item waits n
 
 some-at : (setup : Setup) (h : List Entry) (line time : ℕ) (s : SessionNo) (state : SessionState) (snap : Arc Snapshot Global) (n : ℕ) → IsKept setup (seen_of setup h s) state → state.closed ≡ false
-    → ready_count setup h time s ≡ n → n ≤ length state.queue.waiting → last_from None (map (λ k. k.item) (take n state.queue.waiting)) ≡ Some snap
+    → take_count setup h time s ≡ n → n ≤ length state.queue.waiting → last_from None (map (λ k. k.item) (take n state.queue.waiting)) ≡ Some snap
     → option_and_then (tree_of setup) (of_serial (presents s h) (taken setup h s + n)) ≡ Some (arc_value snap)
 some-at setup h line time s state snap zero kept opened is fits last = cc
 some-at setup h line time s state snap (suc n) kept opened is fits last =
@@ -96,26 +103,27 @@ some-at setup h line time s state snap (suc n) kept opened is fits last =
 
 -- what was taken last is shown
 pub shown-some : (setup : Setup) (h : List Entry) (line time : ℕ) (s : SessionNo) (has_it : FenceNo → Bool) (state : SessionState) (snap : Arc Snapshot Global) → IsKept setup (seen_of setup h s) state → state.closed ≡ false
-    → ((f : FenceNo) → has_it f ≡ is_signalled setup h f) → Some snap ≡ last_from None (map (λ k. k.item) (ready_of time has_it state.queue.waiting))
+    → ((f : FenceNo) → has_it f ≡ is_signalled setup h f) → Some snap ≡ last_from None (map (λ k. k.item) (frame_takes time has_it state.queue.waiting))
     → shown setup (begun h line time) s ≡ Some (arc_value snap)
 shown-some setup h line time s has_it state snap kept opened fences last =
-    let count = ready-count setup h time s has_it state kept opened fences in
+    let n : ℕ = take_count setup h time s in
+    let first = kept-front time has_it state.queue.waiting n (take-count setup h time s has_it state kept opened fences) in
     shown-begun setup h line time s (sym kept.closed ∙ opened)
-    ∙ some-at setup h line time s state snap (ready_count setup h time s) kept opened refl (rw (← count) (prefix_len-le-length (λ kept. is_ready time has_it kept.args) state.queue.waiting))
-    (ap (λ (n : ℕ). last_from None (map (λ k. k.item) (take n state.queue.waiting))) (sym count) ∙ sym last)
+    ∙ some-at setup h line time s state snap n kept opened refl first.1 (ap (λ waits. last_from None (map (λ k. k.item) waits)) (sym first.0) ∙ sym last)
 
-none-ready : (n : ℕ) (waits : List (WaitingPresent (Arc Snapshot Global))) → n ≤ length waits → None ≡ last_from None (map (λ k. k.item) (take n waits)) → n ≡ 0
-none-ready zero waits fits last = refl
-none-ready (suc n) [] fits last = absurd (omega (arith, fits))
-none-ready (suc n) (k ∷ waits) fits last = let none = last-none (map (λ k. k.item) (take (suc n) (k ∷ waits))) (sym last) in cc
+none-taken : (n : ℕ) (waits : List (WaitingPresent (Arc Snapshot Global))) → n ≤ length waits → None ≡ last_from None (map (λ k. k.item) (take n waits)) → n ≡ 0
+none-taken zero waits fits last = refl
+none-taken (suc n) [] fits last = absurd (omega (arith, fits))
+none-taken (suc n) (k ∷ waits) fits last = let none = last-none (map (λ k. k.item) (take (suc n) (k ∷ waits))) (sym last) in cc
 
-pub no-ready : (setup : Setup) (h : List Entry) (time : ℕ) (s : SessionNo) (has_it : FenceNo → Bool) (state : SessionState) → IsKept setup (seen_of setup h s) state → state.closed ≡ false
-    → ((f : FenceNo) → has_it f ≡ is_signalled setup h f) → None ≡ last_from None (map (λ k. k.item) (ready_of time has_it state.queue.waiting)) → ready_count setup h time s ≡ 0
-no-ready setup h time s has_it state kept opened fences last =
-    sym (ready-count setup h time s has_it state kept opened fences) ∙ none-ready _ state.queue.waiting (prefix_len-le-length (λ kept. is_ready time has_it kept.args) state.queue.waiting) last
+pub takes-none : (setup : Setup) (h : List Entry) (time : ℕ) (s : SessionNo) (has_it : FenceNo → Bool) (state : SessionState) → IsKept setup (seen_of setup h s) state → state.closed ≡ false
+    → ((f : FenceNo) → has_it f ≡ is_signalled setup h f) → None ≡ last_from None (map (λ k. k.item) (frame_takes time has_it state.queue.waiting)) → take_count setup h time s ≡ 0
+takes-none setup h time s has_it state kept opened fences last =
+    let first = kept-front time has_it state.queue.waiting (take_count setup h time s) (take-count setup h time s has_it state kept opened fences) in
+    none-taken (take_count setup h time s) state.queue.waiting first.1 (last ∙ ap (λ waits. last_from None (map (λ k. k.item) waits)) first.0)
 
 -- and where none is taken, what was shown before
-pub shown-none : (setup : Setup) (h : List Entry) (line time : ℕ) (s : SessionNo) → is_closed s h ≡ false → ready_count setup h time s ≡ 0 → shown setup (begun h line time) s ≡ shown setup (to_begin h) s
+pub shown-none : (setup : Setup) (h : List Entry) (line time : ℕ) (s : SessionNo) → is_closed s h ≡ false → take_count setup h time s ≡ 0 → shown setup (begun h line time) s ≡ shown setup (to_begin h) s
 shown-none setup h line time s opened none =
     shown-begun setup h line time s opened ∙ rw (none, add-zero) (sym (shown-kept setup h s opened))
 
@@ -123,10 +131,9 @@ shown-none setup h line time s opened none =
 
 pub events-begun : (setup : Setup) (h : List Entry) (line time : ℕ) (s : SessionNo) → Legal setup (begun h line time) → is_closed s h ≡ false
     → events_to setup h (begin_entry line time) s
-    ≡ cond (nat_lt (taken setup h s) (taken setup h s + ready_count setup h time s)) (event.Credits (credits setup (begun h line time) s - credits setup h s) ∷ []) []
+    ≡ cond (nat_lt (taken setup h s) (taken setup h s + take_count setup h time s)) (event.Credits (credits setup (begun h line time) s - credits setup h s) ∷ []) []
 events-begun setup h line time s legal opened =
-    let long : length (ready_prefix time (is_signalled setup h) (waiting setup h s)) ≡ ready_count setup h time s = length-prefix_len (λ present. is_ready time (is_signalled setup h) present.args) (waiting setup h s) in
-    events-between setup h (begin_entry line time) legal s refl refl ∙ rw (opened, long) refl
+    events-between setup h (begin_entry line time) legal s refl refl ∙ rw opened refl
 
 more-than : (m n : ℕ) → 0 < n → nat_lt m (m + n) ≡ true
 more-than m n some = grind (arith, nat_tests)
@@ -134,27 +141,28 @@ more-than m n some = grind (arith, nat_tests)
 not-more : (m : ℕ) → nat_lt m (m + 0) ≡ false
 not-more m = grind (arith, nat_tests)
 
-some-ready : (n : ℕ) (waits : List (WaitingPresent (Arc Snapshot Global))) (snap : Arc Snapshot Global) → Some snap ≡ last_from None (map (λ k. k.item) (take n waits)) → 0 < n
-some-ready zero waits snap last = cc
-some-ready (suc n) waits snap last = omega arith
+some-taken : (n : ℕ) (waits : List (WaitingPresent (Arc Snapshot Global))) (snap : Arc Snapshot Global) → Some snap ≡ last_from None (map (λ k. k.item) (take n waits)) → 0 < n
+some-taken zero waits snap last = cc
+some-taken (suc n) waits snap last = omega arith
 
-pub are-ready : (setup : Setup) (h : List Entry) (time : ℕ) (s : SessionNo) (has_it : FenceNo → Bool) (state : SessionState) (snap : Arc Snapshot Global) → IsKept setup (seen_of setup h s) state → state.closed ≡ false
-    → ((f : FenceNo) → has_it f ≡ is_signalled setup h f) → Some snap ≡ last_from None (map (λ k. k.item) (ready_of time has_it state.queue.waiting)) → 0 < ready_count setup h time s
-are-ready setup h time s has_it state snap kept opened fences last =
-    rw (← ready-count setup h time s has_it state kept opened fences) (some-ready _ state.queue.waiting snap last)
+pub takes-some : (setup : Setup) (h : List Entry) (time : ℕ) (s : SessionNo) (has_it : FenceNo → Bool) (state : SessionState) (snap : Arc Snapshot Global) → IsKept setup (seen_of setup h s) state → state.closed ≡ false
+    → ((f : FenceNo) → has_it f ≡ is_signalled setup h f) → Some snap ≡ last_from None (map (λ k. k.item) (frame_takes time has_it state.queue.waiting)) → 0 < take_count setup h time s
+takes-some setup h time s has_it state snap kept opened fences last =
+    let first = kept-front time has_it state.queue.waiting (take_count setup h time s) (take-count setup h time s has_it state kept opened fences) in
+    some-taken (take_count setup h time s) state.queue.waiting snap (last ∙ ap (λ waits. last_from None (map (λ k. k.item) waits)) first.0)
 
 pub credits-line : (setup : Setup) (seen : Seen) (state : SessionState) → IsKept setup seen state → state.let_go ≡ false → credits_of state.queue ≡ cond (seen.taken == 0) 1 5 - length seen.waiting
 credits-line setup seen state kept here =
     let waits : length state.queue.waiting ≡ length seen.waiting = kept-waiting setup seen state kept false here in
     rw (kept.taken here, waits) refl
 
-pub events-some : (setup : Setup) (h : List Entry) (line time : ℕ) (s : SessionNo) (gained : ℕ) → Legal setup (begun h line time) → is_closed s h ≡ false → 0 < ready_count setup h time s
+pub events-some : (setup : Setup) (h : List Entry) (line time : ℕ) (s : SessionNo) (gained : ℕ) → Legal setup (begun h line time) → is_closed s h ≡ false → 0 < take_count setup h time s
     → gained ≡ credits setup (begun h line time) s - credits setup h s → events_to setup h (begin_entry line time) s ≡ event.Credits gained ∷ []
 events-some setup h line time s gained legal opened some is =
-    let more : nat_lt (taken setup h s) (taken setup h s + ready_count setup h time s) ≡ true = more-than (taken setup h s) (ready_count setup h time s) some in
+    let more : nat_lt (taken setup h s) (taken setup h s + take_count setup h time s) ≡ true = more-than (taken setup h s) (take_count setup h time s) some in
     events-begun setup h line time s legal opened ∙ rw (more, is) refl
 
-pub events-none : (setup : Setup) (h : List Entry) (line time : ℕ) (s : SessionNo) → Legal setup (begun h line time) → is_closed s h ≡ false → ready_count setup h time s ≡ 0
+pub events-none : (setup : Setup) (h : List Entry) (line time : ℕ) (s : SessionNo) → Legal setup (begun h line time) → is_closed s h ≡ false → take_count setup h time s ≡ 0
     → events_to setup h (begin_entry line time) s ≡ []
 events-none setup h line time s legal opened none =
     let more : nat_lt (taken setup h s) (taken setup h s + 0) ≡ false = not-more (taken setup h s) in

@@ -3,6 +3,7 @@ pub mod Changes
 pub mod BeginSteps
 pub mod FewEvents
 pub mod FinishEvents
+pub mod FrameExamples
 pub mod GetCalls
 pub mod GetExamples
 pub mod JournalExamples

@@ -2,7 +2,7 @@
 use Rattle.std.specs.Prelude.{◌≡◌, Bool, true, false, Option, Some, None, Result, Ok, Err}
 use Rattle.std.specs.Option.{option_and_then}
 use Rattle.flat_scene.specs.declared.calls.Call.{Call}
-use Rattle.flat_scene.specs.declared.calls.Call.TheVariants.{CreateView, CreateTransform, AddChild, SetHitRegions, SetInfiniteHitRegion, CreateViewport, CreateImage, CreateFilledRect}
+use Rattle.flat_scene.specs.declared.calls.Call.TheVariants.{CreateView, CreateTransform, AddChild, ReplaceChildren, SetHitRegions, SetInfiniteHitRegion, CreateViewport, CreateImage, CreateFilledRect}
 use Rattle.flat_base.specs.declared.ids.PairNo.{PairNo}
 use Rattle.flat_scene.specs.declared.calls.PresentArgs.{PresentArgs}
 use Rattle.flat_scene.specs.declared.calls.Watch.{Watch}
@@ -27,6 +27,7 @@ use Rattle.flat_draft.specs.Stands.{StandsFor}
 abbrev pub takes_memory : Call → Bool
 takes_memory (CreateTransform t) = true
 takes_memory (AddChild p k) = true
+takes_memory (ReplaceChildren p ks) = true
 takes_memory (SetHitRegions t regions) = true
 takes_memory (SetInfiniteHitRegion t i) = true
 takes_memory (CreateViewport c pair w h inset) = true

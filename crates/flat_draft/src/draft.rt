@@ -122,9 +122,9 @@ impl Draft {
     /// Makes a call, but for the token of a CreateView or a CreateViewport, which is
     /// asked for elsewhere.
     ///
-    /// A misuse closes the draft. Only what makes a transform or a content, adds a
-    /// child or sets hit regions takes memory; a CreateViewport finds it where
-    /// `ready` took it.
+    /// A misuse closes the draft. Only what makes a transform or a content, adds or
+    /// replaces children or sets hit regions takes memory; a CreateViewport finds it
+    /// where `ready` took it.
     pub fn call(&mut self, c: &Call) -> Result<(), DraftFault>
         ensures answered { (setup : Setup) (draft : scene.Draft) → StandsFor setup self.old draft →
             IsAnswer setup draft c.now self.old self.new result }
@@ -267,6 +267,9 @@ impl Draft {
             Call::SetClipBoundary { t, rect } => self.graph.set_clip(*t, *rect),
             Call::AddChild { p, k } => self.graph.add_child(*p, *k),
             Call::RemoveChild { p, k } => self.graph.remove_child(*p, *k),
+            Call::ReplaceChildren { p, children } => {
+                self.graph.replace_children(*p, children.as_slice())
+            }
             Call::SetRootTransform { t } => self.graph.set_root(*t),
             Call::SetHitRegions { t, regions } => {
                 set_hits(self.alloc, &mut self.graph, *t, regions.as_slice())

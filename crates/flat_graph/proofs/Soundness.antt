@@ -2,13 +2,14 @@
 use Rattle.std.proofs.Common.{ℕ, zero, suc, ◌+◌, ◌<◌, ◌≤◌, ◌≡◌, ◌≢◌, ◌⊎◌, inl, inr, refl, sym, ◌∙◌, ap, subst, Bool, true, false, cond, List, [], ◌∷◌, ◌++◌, filter, map, Option, Some, None, slice_index_or, slice_set, length, arith}
 use Rattle.std.specs.Prelude.{◌==◌, is_some, count_by, Result, Ok, Err, OnOk, is_ok}
 use Rattle.std.specs.Option.{option_map}
-use Rattle.std.specs.List.{Contains}
+use Rattle.std.specs.List.{Contains, cons_option}
 use Rattle.std.proofs.lemmas.List.Elements.{Contains-push_cases}
 use Rattle.std.proofs.lemmas.List.Sums.{sum_by-cons}
 use Rattle.std.proofs.lemmas.List.{get_or-set_same, get_or-set_other}
 use Rattle.std.proofs.lemmas.Bool.Decides.{eqb_tells, nat_tests}
+use Rattle.flat_base.specs.declared.ids.TransformId.{TransformId}
 use Rattle.flat_graph.specs.declared.nodes.GraphNode.{GraphNode}
-use Rattle.flat_graph.specs.Names.{key_named, names_but, names_with}
+use Rattle.flat_graph.specs.Names.{key_named, keys_named, names_but, names_with}
 use Rattle.flat_graph.specs.State.{GraphState, IsGraph, IsSound, IsKept, IsMarked, MayKeep, node_at, with_node, new_node, marked_nodes, without_content}
 use Rattle.flat_graph.proofs.lemmas.FewerNodes.{kept-marked, leaves-marked, sound-fewer}
 use Rattle.flat_graph.proofs.lemmas.NameLemmas.{named-with, named-but, rising-with, rising-but}
@@ -213,6 +214,17 @@ kept-push nodes children new all one child has = by_cases (Contains-push_cases c
     by_cases : Contains children child ⊎ (new ≡ child) → IsKept nodes child
     by_cases (inl old) = all child old
     by_cases (inr same) = rw (← same) one
+
+-- what ids name is kept
+pub kept-named : (graph : GraphState) → IsSound graph → (ids : List TransformId) (child : ℕ) → Contains (keys_named graph.names ids) child → IsKept graph.nodes child
+kept-named graph sound [] child has = absurd (omega (arith, has.1))
+kept-named graph sound (id ∷ ids) child has = by_key (key_named graph.names id.0) (sound.names_kept id.0) (kept-named graph sound ids child) has
+  where
+    by_key : (x : Option ℕ) → ((key : ℕ) → x ≡ Some key → IsKept graph.nodes key) → (Contains (keys_named graph.names ids) child → IsKept graph.nodes child)
+        → Contains (cons_option x (keys_named graph.names ids)) child → IsKept graph.nodes child
+    by_key None kept later has' = later has'
+    by_key (Some key) kept later (zero, low, same) = let is : key ≡ child = cc in rw (← is) (kept key refl)
+    by_key (Some key) kept later (suc k, low, same) = later (k, omega (arith, low), same)
 
 pub on_ok : {T E : Type 0} (P : Type 0) (result : Result T E) → is_ok result ≡ true → OnOk result P → P
 on_ok P (Ok x) e h = h

@@ -2,16 +2,16 @@
 use Rattle.std.proofs.Common.{ℕ, suc, ◌≡◌, ◌≢◌, ◌⊎◌, inl, inr, refl, sym, ◌∙◌, ap, subst, Bool, true, false, cond, not, List, [], ◌∷◌, ◌++◌, filter, map, Option, Some, None, slice_index_or, arith}
 use Rattle.std.specs.Prelude.{◌==◌}
 use Rattle.std.specs.Option.{option_map}
-use Rattle.std.specs.List.{Contains}
+use Rattle.std.specs.List.{Contains, cons_option}
 use Rattle.std.proofs.lemmas.List.{map-append, get_or-set_same, get_or-set_other}
 use Rattle.std.proofs.lemmas.Bool.Decides.{eqb_tells, nat_tests}
 use Rattle.flat_base.specs.declared.ids.TransformId.{TransformId}
 use Rattle.flat_scene.specs.declared.trees.Held.{Held}
 use Rattle.flat_scene.specs.Draft.{Draft, Transform, of_serial, changed_at}
 use Rattle.flat_scene.specs.Effect as effect
-use Rattle.flat_scene.specs.Effect.{with_transform, changed_if, is_serial}
+use Rattle.flat_scene.specs.Effect.{with_transform, changed_if, is_serial, serials_of}
 use Rattle.flat_graph.specs.declared.nodes.GraphNode.{GraphNode}
-use Rattle.flat_graph.specs.Names.{key_named}
+use Rattle.flat_graph.specs.Names.{key_named, keys_named}
 use Rattle.flat_graph.specs.State.{GraphState, IsKept, node_at, with_node, changed_node, change_at, change_named, with_child, without_child}
 use Rattle.flat_graph.specs.Stands.{StandsFor, IsHeld, serial_at, node_serial, as_transform}
 use Rattle.flat_graph.proofs.lemmas.DraftNames.{changed-length, changed-same, changed-other}
@@ -157,3 +157,14 @@ pub as-without_child : (graph : GraphState) (draft : Draft) → StandsFor graph 
 as-without_child graph draft s node all None kept = ap (λ (children : List ℕ). record (as_transform graph node) { children = children }) (all-stay (map (serial_at graph) node.children))
 as-without_child graph draft s node all (Some k) kept =
     ap (λ (children : List ℕ). record (as_transform graph node) { children = children }) (filter-serials graph draft s k (kept k refl) node.children all)
+
+-- the serials of the keys that ids name are the serials that they name
+pub serials-named : (graph : GraphState) (draft : Draft) → StandsFor graph draft → (ts : List TransformId) → serials_of draft ts ≡ map (serial_at graph) (keys_named graph.names ts)
+serials-named graph draft s [] = refl
+serials-named graph draft s (t ∷ ts) =
+    ap (λ (x : Option ℕ). cons_option x (serials_of draft ts)) (sym (s.names t.0)) ∙ by_key (key_named graph.names t.0) (serials-named graph draft s ts)
+  where
+    by_key : (x : Option ℕ) → serials_of draft ts ≡ map (serial_at graph) (keys_named graph.names ts)
+        → cons_option (option_map (serial_at graph) x) (serials_of draft ts) ≡ map (serial_at graph) (cons_option x (keys_named graph.names ts))
+    by_key None more = more
+    by_key (Some key) more = ap (λ (rest : List ℕ). serial_at graph key ∷ rest) more

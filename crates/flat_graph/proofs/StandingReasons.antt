@@ -26,6 +26,11 @@ module _ (graph : GraphState) (draft : Draft) (s : StandsFor graph draft) where
   pub none-same : (t : TransformId) → is_none (key_named graph.names t.0) ≡ is_none (transform_of draft t)
   none-same t = sym (none-map (serial_at graph) (key_named graph.names t.0)) ∙ ap (is_none {T = ℕ}) (s.names t.0)
 
+  -- one of the ids names nothing
+  pub any-none-same : (ts : List TransformId) → list_any (λ (t : TransformId). is_none (key_named graph.names t.0)) ts ≡ list_any (λ t. is_none (transform_of draft t)) ts
+  any-none-same [] = refl
+  any-none-same (t ∷ ts) = rw (none-same t, any-none-same ts) refl
+
   children-at : (x : Option ℕ) → ((k : ℕ) → x ≡ Some k → IsKept graph.nodes k)
       → unwrap_or (option_map (λ (transform : Transform). transform.children) (option_and_then (of_serial draft.transforms) (option_map (serial_at graph) x))) [] ≡ map (serial_at graph) (children_at graph x)
   children-at None kept = refl

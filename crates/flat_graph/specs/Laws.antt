@@ -6,7 +6,7 @@ use Rattle.flat_base.specs.declared.ids.ContentId.{ContentId}
 use Rattle.flat_base.specs.declared.shapes.IntRect.{IntRect}
 use Rattle.flat_base.specs.declared.shapes.Orientation.{Orientation}
 use Rattle.flat_scene.specs.declared.calls.Call.{Call}
-use Rattle.flat_scene.specs.declared.calls.Call.TheVariants.{CreateTransform, ReleaseTransform, SetTranslation, SetOrientation, SetScale, SetOpacity, SetClipBoundary, AddChild, RemoveChild, SetRootTransform, SetHitRegions, SetInfiniteHitRegion, SetContent, ReleaseViewport, Clear}
+use Rattle.flat_scene.specs.declared.calls.Call.TheVariants.{CreateTransform, ReleaseTransform, SetTranslation, SetOrientation, SetScale, SetOpacity, SetClipBoundary, AddChild, RemoveChild, ReplaceChildren, SetRootTransform, SetHitRegions, SetInfiniteHitRegion, SetContent, ReleaseViewport, Clear}
 use Rattle.flat_scene.specs.declared.calls.HitRegion.{HitRegion}
 use Rattle.flat_scene.specs.declared.calls.Interaction.{Interaction}
 use Rattle.flat_scene.specs.declared.setup.Setup.{Setup}
@@ -14,9 +14,9 @@ use Rattle.flat_scene.specs.declared.trees.Held.{Held}
 use Rattle.flat_scene.specs.Draft.{Draft, empty_draft, content_of}
 use Rattle.flat_scene.specs.Effect.{effect}
 use Rattle.flat_scene.specs.Misuse.{Test, misuse, first_reason, names_transform}
-use Rattle.flat_graph.specs.Reasons.{name_tests, create_tests, scale_tests, opacity_tests, clip_tests, hits_tests, add_tests, remove_tests, root_tests}
-use Rattle.flat_graph.specs.Names.{key_named}
-use Rattle.flat_graph.specs.State.{GraphState, Creates, MayKeep, empty_graph, released, with_root, emptied, only_marked, without_held, change_named, with_child, without_child}
+use Rattle.flat_graph.specs.Reasons.{name_tests, create_tests, scale_tests, opacity_tests, clip_tests, hits_tests, add_tests, remove_tests, replace_tests, root_tests}
+use Rattle.flat_graph.specs.Names.{key_named, keys_named}
+use Rattle.flat_graph.specs.State.{GraphState, Creates, MayKeep, empty_graph, released, with_root, emptied, only_marked, without_held, change_named, with_child, without_child, with_children}
 use Rattle.flat_graph.specs.Stands.{StandsFor, IsHeld, serial_of}
 
 -- a new graph stands for the draft of a session that made no call
@@ -50,6 +50,7 @@ module _ (setup : Setup) (graph : GraphState) (draft : Draft) where
     pub release : (t : TransformId) → IsCall setup draft (ReleaseTransform t) (name_tests graph t.0) (released graph t.0)
     pub add_child : (p k : TransformId) → IsCall setup draft (AddChild p k) (add_tests graph p.0 k.0) (change_named graph p.0 (with_child (key_named graph.names k.0)))
     pub remove_child : (p k : TransformId) → IsCall setup draft (RemoveChild p k) (remove_tests graph p.0 k.0) (change_named graph p.0 (without_child (key_named graph.names k.0)))
+    pub replace_children : (p : TransformId) (ks : List TransformId) → IsCall setup draft (ReplaceChildren p ks) (replace_tests graph p.0 ks) (change_named graph p.0 (with_children (keys_named graph.names ks)))
     pub set_root : (t : TransformId) → IsCall setup draft (SetRootTransform t) (root_tests graph t.0) (with_root graph t.0)
     pub set_translation : (t : TransformId) (x y : ℤ) → IsCall setup draft (SetTranslation t x y) (name_tests graph t.0) (change_named graph t.0 (λ node. record node { place = (x, y) }))
     pub set_orientation : (t : TransformId) (o : Orientation) → IsCall setup draft (SetOrientation t o) (name_tests graph t.0) (change_named graph t.0 (λ node. record node { turn = o }))
@@ -79,6 +80,7 @@ is_of_transforms (SetOpacity t v) = true
 is_of_transforms (SetClipBoundary t clip) = true
 is_of_transforms (AddChild p k) = true
 is_of_transforms (RemoveChild p k) = true
+is_of_transforms (ReplaceChildren p ks) = true
 is_of_transforms (SetRootTransform t) = true
 is_of_transforms (SetHitRegions t regions) = true
 is_of_transforms (SetInfiniteHitRegion t i) = true

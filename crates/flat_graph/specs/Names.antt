@@ -1,11 +1,17 @@
 -- The names of transforms, by rising id.
 use Rattle.std.specs.Prelude.{ℕ, zero, suc, ◌<◌, ◌≤◌, ◌≡◌, cond, not, nat_lt, ◌==◌, List, [], ◌∷◌, filter, Option, Some, None}
+use Rattle.std.specs.List.{filter_map}
+use Rattle.flat_base.specs.declared.ids.TransformId.{TransformId}
 use Rattle.flat_graph.specs.declared.names.Named.{Named}
 
 -- the key that an id names
 abbrev pub key_named : List Named → ℕ → Option ℕ
 key_named [] id = None
 key_named (name ∷ names) id = cond (name.id == id) (Some name.key) (key_named names id)
+
+-- the keys that ids name, in the order of the ids
+abbrev pub keys_named : List Named → List TransformId → List ℕ
+keys_named names = filter_map (λ (id : TransformId). key_named names id.0)
 
 -- the key of a name, if it is the name of that id
 abbrev pub key_if : ℕ → Option Named → Option ℕ

@@ -1,13 +1,14 @@
 -- Why calls on a graph are refused: what is asked of each, in the order of the reasons.
-use Rattle.std.specs.Prelude.{ℕ, ◌≡◌, ◌&&◌, ◌||◌, ◌==◌, ◌++◌, Bool, false, not, nat_lt, is_some, is_none, List, [], ◌∷◌, length, Option, Some, None}
+use Rattle.std.specs.Prelude.{ℕ, ◌≡◌, ◌&&◌, ◌||◌, ◌==◌, ◌++◌, Bool, false, not, nat_lt, is_some, is_none, List, [], ◌∷◌, length, map, Option, Some, None}
 use Rattle.std.specs.List.{list_any}
+use Rattle.flat_base.specs.declared.ids.TransformId.{TransformId}
 use Rattle.flat_base.specs.declared.shapes.IntRect.{IntRect}
 use Rattle.flat_base.specs.declared.errors.Reason.TheVariants.{ZeroId, IdInUse, UnknownTransform, AlreadyChild, NotChild, BadScale, BadOpacity, BadRect, TooManyRegions, TooManyNamed, TooManyChildren}
 use Rattle.flat_base.specs.declared.limits.TheConstants.{OPACITY_MAX, NAMED_MAX, CHILDREN_MAX, HIT_REGIONS_MAX}
 use Rattle.flat_scene.specs.declared.calls.HitRegion.{HitRegion}
 use Rattle.flat_scene.specs.declared.trees.GraphFault.{GraphFault}
 use Rattle.flat_scene.specs.declared.trees.GraphFault.TheVariants.{Bad, Memory}
-use Rattle.flat_scene.specs.Misuse.{Test, first_reason, is_bad_scale, is_bad_area, is_full}
+use Rattle.flat_scene.specs.Misuse.{Test, first_reason, is_bad_scale, is_bad_area, is_full, has_twice}
 use Rattle.flat_graph.specs.declared.nodes.GraphNode.{GraphNode}
 use Rattle.flat_graph.specs.Names.{key_named}
 use Rattle.flat_graph.specs.State.{GraphState, node_at}
@@ -74,6 +75,13 @@ add_tests graph parent child =
 
 abbrev pub remove_tests : GraphState → ℕ → ℕ → List Test
 remove_tests graph parent child = pair_tests graph parent child ++ (not (is_child graph parent child), NotChild) ∷ []
+
+-- what is asked of children that take the place of others: each stands once, and the children that go count no more
+abbrev pub replace_tests : GraphState → ℕ → List TransformId → List Test
+replace_tests graph parent children =
+    (parent == 0 || list_any (λ child. child.0 == 0) children, ZeroId)
+    ∷ (is_none (key_named graph.names parent) || list_any (λ child. is_none (key_named graph.names child.0)) children, UnknownTransform)
+    ∷ (has_twice (map (λ (child : TransformId). child.0) children), AlreadyChild) ∷ (nat_lt CHILDREN_MAX (length children), TooManyChildren) ∷ []
 
 -- 0 unsets the root
 abbrev pub root_tests : GraphState → ℕ → List Test

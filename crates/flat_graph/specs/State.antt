@@ -103,6 +103,10 @@ abbrev pub without_child : Option ℕ → GraphNode → GraphNode
 without_child None node = node
 without_child (Some child) node = record node { children = filter (λ other. not (other == child)) node.children }
 
+-- a node with these children in place of its own
+abbrev pub with_children : List ℕ → GraphNode → GraphNode
+with_children children node = record node { children = children }
+
 -- what a node holds, but for the content of a serial number
 abbrev pub held_but : ℕ → Option Held → Option Held
 held_but serial None = None

@@ -2,10 +2,12 @@ ghost use Rattle.std.specs.Prelude.{◌≡◌, ◌==◌, ℕ, ◌+◌, ◌<◌, 
 ghost use Rattle.std.specs.Prelude.{IfErr, OnOk, OnErr};
 ghost use Rattle.std.specs.Option.{option_copied};
 ghost use Rattle.std.specs.List.{list_any};
-ghost use Rattle.flat_graph.specs.Names.{key_named};
+ghost use Rattle.flat_graph.specs.Names.{key_named, keys_named};
 ghost use Rattle.flat_graph.specs.State.{GraphState, IsGraph, IsKept, node_at};
 
-use crate::names::{Named, add_name, key_of, remove_name};
+use crate::names::{
+    Named, add_name, has_twice, has_unknown, has_zero, key_of, keys_of, remove_name,
+};
 use crate::nodes::{GraphNode, fresh, has_key, keep_marked, take_key};
 use flat_base::{CHILDREN_MAX, NAMED_MAX, Reason, TransformId};
 use flat_scene::GraphFault;
@@ -127,9 +129,10 @@ impl Graph {
 impl Graph {
     ghost use Rattle.flat_scene.specs.Misuse.{first_reason};
     ghost use Rattle.flat_graph.specs.Reasons.{add_tests, create_tests, name_tests, pair_tests};
-    ghost use Rattle.flat_graph.specs.Reasons.{remove_tests, root_tests, IsFault, IsMisuse};
+    ghost use Rattle.flat_graph.specs.Reasons.{remove_tests, replace_tests, root_tests};
+    ghost use Rattle.flat_graph.specs.Reasons.{IsFault, IsMisuse};
     ghost use Rattle.flat_graph.specs.State.{Creates, change_named, released, with_child};
-    ghost use Rattle.flat_graph.specs.State.{with_root, without_child};
+    ghost use Rattle.flat_graph.specs.State.{with_children, with_root, without_child};
 
     /// Makes a transform and names it; answers its serial number.
     ///
@@ -270,6 +273,63 @@ impl Graph {
             return Err(GraphFault::Bad(Reason::NotChild));
         }
         take_key(alloc, &mut node.children, under);
+        Ok(())
+    }
+
+    /// The key of a transform that may have these children, or why there is none.
+    fn children_key(
+        &self,
+        parent: TransformId,
+        children: &[TransformId],
+    ) -> Result<usize, GraphFault>
+        ensures named { IfOk result (λ key. key_named self.now.names parent.0 ≡ Some key) }
+        ensures kept { IfOk result (λ key. IsKept self.now.nodes key) }
+        ensures allowed { OnOk result (first_reason (replace_tests self.now parent.0 children.now)
+            ≡ None) }
+        ensures fault { IfErr result (IsMisuse (replace_tests self.now parent.0 children.now)) }
+    {
+        if parent.0 == 0 || has_zero(children) {
+            return Err(GraphFault::Bad(Reason::ZeroId));
+        }
+        let Some(over) = key_of(&self.names, parent.0) else {
+            return Err(GraphFault::Bad(Reason::UnknownTransform));
+        };
+        if has_unknown(&self.names, children) {
+            return Err(GraphFault::Bad(Reason::UnknownTransform));
+        }
+        if has_twice(children) {
+            return Err(GraphFault::Bad(Reason::AlreadyChild));
+        }
+        if children.len() > CHILDREN_MAX as usize {
+            return Err(GraphFault::Bad(Reason::TooManyChildren));
+        }
+        Ok(over)
+    }
+
+    /// Gives a transform these children, in this order, in place of those that it has.
+    ///
+    /// `Bad` is ZeroId, UnknownTransform, AlreadyChild where an id stands twice, or
+    /// TooManyChildren.
+    pub fn replace_children(
+        &mut self,
+        parent: TransformId,
+        children: &[TransformId],
+    ) -> Result<(), GraphFault>
+        ensures replaced { OnOk result (self.new
+            ≡ change_named self.old parent.0 (with_children (keys_named self.old.names
+            children.now))) }
+        ensures allowed { OnOk result (first_reason (replace_tests self.old parent.0 children.now)
+            ≡ None) }
+        ensures fault { IfErr result (IsFault (replace_tests self.old parent.0 children.now)) }
+        ensures kept { OnErr result (self.new ≡ self.old) }
+    {
+        let over = self.children_key(parent, children)?;
+        let Ok(keys) = keys_of(*self.names.allocator(), &self.names, children) else {
+            return Err(GraphFault::Memory);
+        };
+        if let Some(node) = self.nodes.get_mut(over) {
+            node.children = keys;
+        }
         Ok(())
     }
 }

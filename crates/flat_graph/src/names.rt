@@ -1,9 +1,13 @@
-ghost use Rattle.std.specs.Prelude.{◌≡◌, ◌<◌, length, vec_capacity, IsSome, None, OnOk, OnErr};
-ghost use Rattle.std.specs.List.{slice_get};
-ghost use Rattle.flat_graph.specs.Names.{key_if, key_named, names_but, names_with, IsPlace};
-ghost use Rattle.flat_graph.specs.Names.{IsRising};
+ghost use Rattle.std.specs.Prelude.{◌≡◌, ◌<◌, length, map, vec_capacity, IsSome, None};
+ghost use Rattle.std.specs.Prelude.{◌==◌, is_none, IfOk, OnOk, OnErr};
+ghost use Rattle.std.specs.List.{list_any, slice_get};
+ghost use Rattle.flat_scene.specs.Misuse as misuse;
+ghost use Rattle.flat_graph.specs.Names.{key_if, key_named, keys_named, names_but, names_with};
+ghost use Rattle.flat_graph.specs.Names.{IsPlace, IsRising};
 
-use flat_base::NoMemory;
+use crate::nodes::KeyList;
+use flat_base::{Items, NoMemory, TransformId};
+use std::alloc::Global;
 
 /// An id, and the key of the node that it names.
 #[derive(Clone, Copy, Debug, PartialEq, Eq)]
@@ -34,6 +38,47 @@ pub fn key_of(names: &[Named], id: u64) -> Option<usize>
     ensures { result ≡ key_named names.now id }
 {
     key_at(names, place_of(names, id), id)
+}
+
+/// Whether one of the ids is 0.
+pub fn has_zero(ids: &[TransformId]) -> bool
+    ensures { result ≡ list_any (λ id. id.0 == 0) ids.now }
+{
+    ids.iter().any(|id| id.0 == 0)
+}
+
+/// Whether one of the ids names nothing.
+pub fn has_unknown(names: &[Named], ids: &[TransformId]) -> bool
+    requires { IsRising names.now }
+    ensures { result ≡ list_any (λ id. is_none (key_named names.now id.0)) ids.now }
+{
+    ids.iter().any(|id| key_of(names, id.0).is_none())
+}
+
+/// Whether an id stands twice in a list. It takes no memory, and compares each id with
+/// those behind it: a line has room for some hundred ids at most.
+pub fn has_twice(ids: &[TransformId]) -> bool
+    ensures { result ≡ misuse.has_twice (map (λ id. id.0) ids.now) }
+{
+    for place in 0..ids.len() {
+        let id = ids[place].0;
+        if ids[place + 1..].iter().any(|other| id == other.0) {
+            return true;
+        }
+    }
+    false
+}
+
+/// The keys that ids name, in the order of the ids, without those that name nothing.
+pub fn keys_of(alloc: Global, names: &[Named], ids: &[TransformId]) -> Result<KeyList, NoMemory>
+    requires { IsRising names.now }
+    ensures { IfOk result (λ keys. keys ≡ keys_named names.now ids.now) }
+{
+    let keys = ids
+        .iter()
+        .filter_map(|id| key_of(names, id.0))
+        .collect(alloc)?;
+    Ok(Items::from_vec(keys))
 }
 
 /// Puts a name among the others.

@@ -126,7 +126,7 @@ impl<T> Queue<T> {
 
     /// Takes the first present, where it is due and its acquire fences are
     /// signalled; None exactly where nothing waits or the first isn't ready. So
-    /// taking until None takes the ready prefix.
+    /// taking until None takes all before the first that isn't ready.
     pub fn take(&mut self, now: u64, fences: &FenceSet) -> Option<Queued<T>>
         ensures none { IfNone result ((self.new ≡ self.old)
             × (ready_of now (has fences.now) self.old.waiting ≡ [])) }

@@ -11,7 +11,7 @@ use Rattle.flat_base.specs.declared.ids.BufferNo.{BufferNo}
 use Rattle.flat_base.specs.declared.limits.TheConstants.{OPACITY_MAX, NAMED_MAX}
 use Rattle.flat_base.specs.declared.shapes.IntRect.{IntRect}
 use Rattle.flat_scene.specs.declared.calls.Call.{Call}
-use Rattle.flat_scene.specs.declared.calls.Call.TheVariants.{CreateTransform, SetTranslation, SetOrientation, SetScale, SetOpacity, SetClipBoundary, AddChild, RemoveChild, CreateViewport, SetViewportProperties, ReleaseViewport, CreateImage, SetImageSampleRegion, SetImageDestinationSize, SetImageBlendingFunction, SetImageFlip, SetImageOpacity, CreateFilledRect, SetSolidFill, SetHitRegions, SetInfiniteHitRegion, SetContent}
+use Rattle.flat_scene.specs.declared.calls.Call.TheVariants.{CreateTransform, SetTranslation, SetOrientation, SetScale, SetOpacity, SetClipBoundary, AddChild, RemoveChild, ReplaceChildren, CreateViewport, SetViewportProperties, ReleaseViewport, CreateImage, SetImageSampleRegion, SetImageDestinationSize, SetImageBlendingFunction, SetImageFlip, SetImageOpacity, CreateFilledRect, SetSolidFill, SetHitRegions, SetInfiniteHitRegion, SetContent}
 use Rattle.flat_scene.specs.declared.calls.ViewportProps.{ViewportProps}
 use Rattle.flat_scene.specs.declared.setup.BufferDecl.{BufferDecl}
 use Rattle.flat_scene.specs.declared.setup.Setup.{Setup}
@@ -159,6 +159,7 @@ module _ (setup : Setup) (d : Draft) (fair : IsFair d) where
   fair-effect (SetClipBoundary t rect) fine = one-transform (transform_of d t) _ (λ one low. low)
   fair-effect (AddChild p k) fine = one-transform (transform_of d p) _ (λ one low. low)
   fair-effect (RemoveChild p k) fine = one-transform (transform_of d p) _ (λ one low. low)
+  fair-effect (ReplaceChildren p ks) fine = one-transform (transform_of d p) _ (λ one low. low)
   fair-effect (CreateViewport c pair w h inset) fine = record { contents = one-more _ refl; transforms = fair.transforms }
   fair-effect (SetViewportProperties c w h inset) fine = one-content (content_of d c) _ (on-view _)
   fair-effect (ReleaseViewport c) fine = record { contents = fair.contents; transforms = all-mapped is_fair_transform _ (λ one. refl) d.transforms fair.transforms }

@@ -25,7 +25,7 @@ use Rattle.flat_scene.specs.declared.setup.Setup.{Setup}
 use Rattle.flat_scene.specs.Draft.{empty_draft}
 use Rattle.flat_rules.specs.Ends.{views_of, viewports_of, is_done, uses_view, uses_viewport, view_uses, viewport_uses, view_owner, viewport_owner, to_begin, taken_calls, times, releases_viewport}
 use Rattle.flat_scene.specs.Family.{IsClosedFamily}
-use Rattle.flat_scene.specs.Frames.{taken, takes, credits, is_signalled, is_ready, ready_prefix, sessions_to}
+use Rattle.flat_scene.specs.Frames.{taken, takes, credits, is_signalled, is_ready, is_unsquashable, up_to_first, ready_run, ready_prefix, sessions_to}
 use Rattle.flat_scene.specs.History.{◌▹◌, is_closed, is_session, closes, presents, published, Published, calls, is_begin, is_finish}
 use Rattle.flat_rules.specs.Laws.{is_beside, but_answers, Glimpse, glimpse, glimpses, is_own_event, has_own_reply, Outcome, outcome, outcomes, own_events}
 use Rattle.flat_rules.specs.Legal.{Legal, LegalEntry, is_token_back, may_act, owns_view, owns_viewport, owns_in_kind, has_token, reply_to, reply_to_present, is_get}
@@ -62,17 +62,20 @@ all-agree f g (x ∷ xs) same =
 abbrev pub seen : (FenceNo → Bool) → List Published → List (List Bool)
 seen f = map (λ present. map f present.args.acquire)
 
-ready-agree : (time : ℕ) (f g : FenceNo → Bool) (xs : List Published) → seen f xs ≡ seen g xs → ready_prefix time f xs ≡ ready_prefix time g xs
-ready-agree time f g [] same = refl
-ready-agree time f g (x ∷ xs) same =
+run-agree : (time : ℕ) (f g : FenceNo → Bool) (xs : List Published) → seen f xs ≡ seen g xs → ready_run time f xs ≡ ready_run time g xs
+run-agree time f g [] same = refl
+run-agree time f g (x ∷ xs) same =
     let first : list_all f x.args.acquire ≡ list_all g x.args.acquire = all-agree f g x.args.acquire (cc) in
-    let rest : ready_prefix time f xs ≡ ready_prefix time g xs = ready-agree time f g xs (cc) in
+    let rest : ready_run time f xs ≡ ready_run time g xs = run-agree time f g xs (cc) in
     rw (
       take_while-cons (λ present. is_ready time f present.args) x xs,
       take_while-cons (λ present. is_ready time g present.args) x xs,
       first,
       rest,
     )
+
+ready-agree : (time : ℕ) (f g : FenceNo → Bool) (xs : List Published) → seen f xs ≡ seen g xs → ready_prefix time f xs ≡ ready_prefix time g xs
+ready-agree time f g xs same = ap (up_to_first is_unsquashable) (run-agree time f g xs same)
 
 takes-agree : (kind : Kind) (f g : FenceNo → Bool) (is_shut : Bool) (n : ℕ) (xs : List Published) → (is_begin kind ≡ true → seen f xs ≡ seen g xs) → takes kind f is_shut (drop n xs) ≡ takes kind g is_shut (drop n xs)
 takes-agree (Begin time) f g is_shut n xs same =

@@ -5,7 +5,7 @@ use Rattle.std.proofs.lemmas.Bool.Decides.{nat_tests}
 use Rattle.flat_base.specs.declared.errors.Reason.{Reason}
 use Rattle.flat_base.specs.declared.limits.TheConstants.{OPACITY_MAX}
 use Rattle.flat_scene.specs.declared.calls.Call.{Call}
-use Rattle.flat_scene.specs.declared.calls.Call.TheVariants.{CreateView, ReleaseView, CreateTransform, ReleaseTransform, SetTranslation, SetOrientation, SetScale, SetOpacity, SetClipBoundary, AddChild, RemoveChild, SetRootTransform, CreateViewport, SetViewportProperties, ReleaseViewport, CreateImage, SetImageSampleRegion, SetImageDestinationSize, SetImageBlendingFunction, SetImageFlip, SetImageOpacity, ReleaseImage, CreateFilledRect, SetSolidFill, ReleaseFilledRect, SetHitRegions, SetInfiniteHitRegion, SetContent, Clear}
+use Rattle.flat_scene.specs.declared.calls.Call.TheVariants.{CreateView, ReleaseView, CreateTransform, ReleaseTransform, SetTranslation, SetOrientation, SetScale, SetOpacity, SetClipBoundary, AddChild, RemoveChild, ReplaceChildren, SetRootTransform, CreateViewport, SetViewportProperties, ReleaseViewport, CreateImage, SetImageSampleRegion, SetImageDestinationSize, SetImageBlendingFunction, SetImageFlip, SetImageOpacity, ReleaseImage, CreateFilledRect, SetSolidFill, ReleaseFilledRect, SetHitRegions, SetInfiniteHitRegion, SetContent, Clear}
 use Rattle.flat_scene.specs.declared.setup.Setup.{Setup}
 use Rattle.flat_scene.specs.Draft.{Draft, Transform, Image, Solid, Made, an_image, a_fill, a_viewport, changed_at, empty_draft, transform_of, content_of, new_transform}
 use Rattle.flat_scene.specs.declared.calls.ViewportProps.{ViewportProps}
@@ -104,6 +104,7 @@ module _ (setup : Setup) (d : Draft) (good : IsLowDraft d) where
   good_effect (SetClipBoundary t rect) fine = same_opacity (transform_of d t) _ (λ one low. low)
   good_effect (AddChild p k) fine = same_opacity (transform_of d p) _ (λ one low. low)
   good_effect (RemoveChild p k) fine = same_opacity (transform_of d p) _ (λ one low. low)
+  good_effect (ReplaceChildren p ks) fine = same_opacity (transform_of d p) _ (λ one low. low)
   good_effect (SetRootTransform t) fine = record { contents = good.contents; transforms = good.transforms }
   good_effect (CreateViewport c pair w h inset) fine = record { contents = all-more is_low d.contents _ good.contents refl; transforms = good.transforms }
   good_effect (SetViewportProperties c w h inset) fine = same_content (content_of d c) _ (on_view _)

@@ -1,12 +1,13 @@
 -- What the root and the names of a draft reach holds no viewport but a live one.
 use Rattle.std.proofs.Common.{◌≡◌, ◌∙◌, sym, ℕ, zero, suc, ◌+◌, ◌-◌, ◌≤◌, Bool, true, false, cond, List, [], ◌∷◌, ◌++◌, length, filter, map, drop, refl, arith, ap, Some, None}
 use Rattle.std.specs.Prelude.{not, ◌&&◌, ◌||◌, ◌==◌, nat_lt, Option, option_and_then, option_to_list, is_some}
-use Rattle.std.specs.List.{list_all, list_any}
+use Rattle.std.specs.List.{list_all, list_any, cons_option}
 use Rattle.std.proofs.lemmas.Bool.Decides.{nat_tests}
 use Rattle.std.proofs.lemmas.List.Folds.{list_all-append, list_any-append}
 use Rattle.flat_base.specs.declared.ids.PairNo.{PairNo}
-use Rattle.flat_scene.specs.Draft.{Draft, Transform, Made, Name, named, of_serial, changed_at, empty_draft}
-use Rattle.flat_scene.specs.Effect.{changed_if}
+use Rattle.flat_base.specs.declared.ids.TransformId.{TransformId}
+use Rattle.flat_scene.specs.Draft.{Draft, Transform, Made, Name, named, of_serial, changed_at, empty_draft, transform_of}
+use Rattle.flat_scene.specs.Effect.{changed_if, serials_of}
 use Rattle.flat_base.proofs.lemmas.Tests.{and-left, and-right}
 use Rattle.flat_states.proofs.lemmas.Lives.{pair_made, pair_at}
 use Rattle.flat_rules.proofs.lemmas.ListLemmas.{length-changed}
@@ -125,6 +126,15 @@ module _ (d : Draft) (r : IsReached d) where
   pub child-after : (o : Option ℕ) (xs : List ℕ) → is_root_after r.first o ≡ true → list_all (nat_lt r.first) xs ≡ true → list_all (nat_lt r.first) (xs ++ option_to_list o) ≡ true
   child-after None xs here all = list_all-append (nat_lt r.first) xs [] ∙ rw all refl
   child-after (Some k) xs here all = list_all-append (nat_lt r.first) xs (k ∷ []) ∙ rw (all, here) refl
+
+  -- and each serial that a name stands for
+  pub named-children : (ks : List TransformId) → list_all (nat_lt r.first) (serials_of d ks) ≡ true
+  named-children [] = refl
+  named-children (k ∷ ks) = by_name (named-children ks) (transform_of d k) (named-all r.first d.transform_names k.0 r.names)
+    where
+      by_name : list_all (nat_lt r.first) (serials_of d ks) ≡ true → (o : Option ℕ) → is_root_after r.first o ≡ true → list_all (nat_lt r.first) (cons_option o (serials_of d ks)) ≡ true
+      by_name rest None here = rest
+      by_name rest (Some n) here = rw (here, rest) refl
 
   pub fewer-after : (q : ℕ → Bool) (xs : List ℕ) → list_all (nat_lt r.first) xs ≡ true → list_all (nat_lt r.first) (filter q xs) ≡ true
   fewer-after q [] all = refl

@@ -7,14 +7,14 @@ use Rattle.std.proofs.lemmas.List.Folds.{list_all-append, list_any-append}
 use Rattle.flat_base.specs.declared.errors.Reason.{Reason}
 use Rattle.flat_base.specs.declared.ids.PairNo.{PairNo}
 use Rattle.flat_scene.specs.declared.calls.Call.{Call}
-use Rattle.flat_scene.specs.declared.calls.Call.TheVariants.{CreateTransform, ReleaseTransform, SetTranslation, SetOrientation, SetScale, SetOpacity, SetClipBoundary, AddChild, RemoveChild, SetRootTransform, CreateViewport, SetViewportProperties, ReleaseViewport, CreateImage, SetImageSampleRegion, SetImageDestinationSize, SetImageBlendingFunction, SetImageFlip, SetImageOpacity, CreateFilledRect, SetSolidFill, SetHitRegions, SetInfiniteHitRegion, SetContent, Clear}
+use Rattle.flat_scene.specs.declared.calls.Call.TheVariants.{CreateTransform, ReleaseTransform, SetTranslation, SetOrientation, SetScale, SetOpacity, SetClipBoundary, AddChild, RemoveChild, ReplaceChildren, SetRootTransform, CreateViewport, SetViewportProperties, ReleaseViewport, CreateImage, SetImageSampleRegion, SetImageDestinationSize, SetImageBlendingFunction, SetImageFlip, SetImageOpacity, CreateFilledRect, SetSolidFill, SetHitRegions, SetInfiniteHitRegion, SetContent, Clear}
 use Rattle.flat_scene.specs.declared.setup.Setup.{Setup}
 use Rattle.flat_scene.specs.Draft.{Draft, Transform, Made, a_fill, a_viewport, Name, named, changed_at, transform_of, content_of, empty_draft, new_transform}
 use Rattle.flat_scene.specs.Effect.{effect, after_calls, unless, changed_if, is_serial, held_but, on_image, on_viewport, on_fill, draft_of, new_image}
 use Rattle.flat_scene.specs.Misuse.{misuse}
 use Rattle.flat_states.proofs.lemmas.Lives.{pair_made, pair_at, serial_at, serials_by, IsTidy, tidy-empty, changed-pair, image-pair, viewport-pair, fill-pair, all-fewer}
 use Rattle.flat_states.proofs.LiveSteps.{follows}
-use Rattle.flat_states.proofs.Reached.{has, is_alive, is_reached, IsReached, reached-empty, with-changed, with-contents, child-after, fewer-after, parts, alive-same, alive-made, one-later, drop-all, named-all, mapped-later}
+use Rattle.flat_states.proofs.Reached.{has, is_alive, is_reached, IsReached, reached-empty, with-changed, with-contents, child-after, named-children, fewer-after, parts, alive-same, alive-made, one-later, drop-all, named-all, mapped-later}
 use Rattle.flat_states.proofs.lemmas.ViewCalls.{after-refused}
 
 -- a viewport that is named is alive
@@ -93,6 +93,7 @@ reached-call d (AddChild p k) tidy r =
     with-changed d r (transform_of d p) _
     (λ one here. let both = parts d r one here in rw (both.0, child-after d r (transform_of d k) one.children (named-all r.first d.transform_names k.0 r.names) both.1) refl)
 reached-call d (RemoveChild p k) tidy r = with-changed d r (transform_of d p) _ (λ one here. let both = parts d r one here in rw (both.0, fewer-after d r _ one.children both.1) refl)
+reached-call d (ReplaceChildren p ks) tidy r = with-changed d r (transform_of d p) _ (λ one here. rw ((parts d r one here).0, named-children d r ks) refl)
 reached-call d (SetRootTransform t) tidy r = record { first = r.first; fits = r.fits; names = r.names; root = named-all r.first d.transform_names t.0 r.names; later = r.later }
 reached-call d (SetContent t c) tidy r =
     with-changed d r (transform_of d t) _

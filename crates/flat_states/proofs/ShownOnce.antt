@@ -12,7 +12,8 @@ use Rattle.flat_scene.specs.declared.trees.Children.TheVariants.{Empty}
 use Rattle.flat_scene.specs.declared.trees.Content.{Content}
 use Rattle.flat_scene.specs.declared.trees.Node.{Node}
 use Rattle.flat_scene.specs.Draft.{Draft, Transform, Made, an_image, a_fill, a_viewport, Name, of_serial}
-use Rattle.flat_scene.specs.Tree.{shown_content, content_held, node, each, node_within, all_nodes, has_twice}
+use Rattle.flat_scene.specs.Misuse.{has_twice}
+use Rattle.flat_scene.specs.Tree.{shown_content, content_held, node, each, node_within, all_nodes}
 use Rattle.flat_scene.specs.Trees.{more, viewport_in, viewports_in}
 use Rattle.flat_base.proofs.lemmas.Tests.{and-left, and-right}
 use Rattle.flat_states.specs.Lives.{held_of}

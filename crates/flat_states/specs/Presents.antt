@@ -19,6 +19,8 @@ use Rattle.flat_scene.specs.declared.setup.Setup.{Setup}
 use Rattle.flat_scene.specs.History.{◌▹◌, calls, closes, is_begin, is_closed, is_finish, presents}
 use Rattle.flat_scene.specs.declared.journal.Reply.TheVariants.{Done, Presented, Closed}
 use Rattle.flat_scene.specs.Draft.{changed_at}
+use Rattle.flat_scene.specs.Frames.{up_to_first}
+use Rattle.flat_queue.specs.declared.queue.WaitingPresent.{WaitingPresent}
 use Rattle.flat_queue.specs.Line.{credits_of, pushed, ready_of}
 use Rattle.flat_snap.specs.declared.snapshot.Snapshot.{Snapshot}
 use Rattle.flat_states.specs.declared.state.SessionState.{SessionState}
@@ -64,13 +66,17 @@ pub record IsNew (state : SessionState) : Type 0 where
   pub let_go : state.let_go ≡ false
   pub account : state.account ≡ record { presents = 0; polled = 0; viewed = false; holds = false; stood = 0 }
 
--- The ready prefix was taken, this was the last of it, and it goes at the frame's end.
+-- what a frame takes of what is kept: all before the first present that isn't ready, and none after the first unsquashable one
+abbrev pub frame_takes : {T : Type 0} → ℕ → (FenceNo → Bool) → List (WaitingPresent T) → List (WaitingPresent T)
+frame_takes time is_signalled waiting = up_to_first (λ kept. kept.args.unsquashable) (ready_of time is_signalled waiting)
+
+-- That was taken, this was the last of it, and it goes at the frame's end.
 pub record TookReady (time : ℕ) (is_signalled : FenceNo → Bool) (result : Option (Arc Snapshot Global)) (old new : SessionState) : Type 0 where
-  pub took : new.took ≡ length (ready_of time is_signalled old.queue.waiting)
+  pub took : new.took ≡ length (frame_takes time is_signalled old.queue.waiting)
   pub taken : new.queue.taken ≡ old.queue.taken + new.took
   pub waiting : new.queue.waiting ≡ drop new.took old.queue.waiting
-  pub going : new.going.items ≡ map (λ kept. kept.args.release) (ready_of time is_signalled old.queue.waiting)
-  pub last : result ≡ last_from None (map (λ kept. kept.item) (ready_of time is_signalled old.queue.waiting))
+  pub going : new.going.items ≡ map (λ kept. kept.args.release) (frame_takes time is_signalled old.queue.waiting)
+  pub last : result ≡ last_from None (map (λ kept. kept.item) (frame_takes time is_signalled old.queue.waiting))
   pub room : vec_capacity new.going ≡ vec_capacity old.going
   pub closed : new.closed ≡ old.closed
   pub let_go : new.let_go ≡ old.let_go

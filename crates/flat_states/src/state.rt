@@ -85,7 +85,8 @@ impl SessionState {
     }
 }
 
-/// Takes the ready prefix, and answers the last of it.
+/// Takes what a frame takes: all before the first present that isn't ready, and none
+/// after the first unsquashable one. Answers the last that it took.
 pub fn take_ready(state: &mut SessionState, time: u64, fences: &FenceSet) -> Option<Arc<Snapshot>>
     requires room { 5 ≤ vec_capacity state.old.going }
     requires few { length state.old.queue.waiting ≤ 5 }
@@ -98,9 +99,16 @@ pub fn take_ready(state: &mut SessionState, time: u64, fences: &FenceSet) -> Opt
     let mut last = None;
     while let Some(queued) = state.queue.take(time, fences) {
         let Queued { item, args, .. } = queued;
-        let PresentArgs { release, .. } = args;
+        let PresentArgs {
+            release,
+            unsquashable,
+            ..
+        } = args;
         state.going.push_reserved(release);
         state.took += 1;
+        if unsquashable {
+            return Some(item);
+        }
         last = Some(item);
     }
     last

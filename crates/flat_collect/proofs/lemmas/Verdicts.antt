@@ -9,9 +9,9 @@ use Rattle.flat_base.specs.declared.limits.TheConstants.{TREE_NODES_MAX, PATH_NO
 use Rattle.flat_scene.specs.declared.trees.Children.{Children}
 use Rattle.flat_scene.specs.Cycles.{HasCycle}
 use Rattle.flat_scene.specs.Draft.{Draft}
-use Rattle.flat_scene.specs.Misuse.{first_reason}
+use Rattle.flat_scene.specs.Misuse.{first_reason, has_twice}
 use Rattle.flat_scene.specs.Tree as scene
-use Rattle.flat_scene.specs.Tree.{tree_tests, all_nodes, is_cyclic, has_twice, children_at, each, node_within}
+use Rattle.flat_scene.specs.Tree.{tree_tests, all_nodes, is_cyclic, children_at, each, node_within}
 use Rattle.flat_scene.proofs.lemmas.CycleLemmas.{cycle-is-reached}
 use Rattle.flat_graph.specs.State.{GraphState, IsKept}
 use Rattle.flat_graph.specs.Stands.{StandsFor, serial_at}

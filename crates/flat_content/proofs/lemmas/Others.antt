@@ -1,6 +1,6 @@
 -- The calls on transforms and on the view leave what a table stands for.
 use Rattle.std.proofs.Common.{◌≡◌, refl}
-use Rattle.flat_scene.specs.declared.calls.Call.TheVariants.{CreateView, ReleaseView, CreateTransform, ReleaseTransform, SetTranslation, SetOrientation, SetScale, SetOpacity, SetClipBoundary, AddChild, RemoveChild, SetRootTransform, CreateViewport, SetViewportProperties, ReleaseViewport, CreateImage, SetImageSampleRegion, SetImageDestinationSize, SetImageBlendingFunction, SetImageFlip, SetImageOpacity, ReleaseImage, CreateFilledRect, SetSolidFill, ReleaseFilledRect, SetHitRegions, SetInfiniteHitRegion, SetContent, Clear}
+use Rattle.flat_scene.specs.declared.calls.Call.TheVariants.{CreateView, ReleaseView, CreateTransform, ReleaseTransform, SetTranslation, SetOrientation, SetScale, SetOpacity, SetClipBoundary, AddChild, RemoveChild, ReplaceChildren, SetRootTransform, CreateViewport, SetViewportProperties, ReleaseViewport, CreateImage, SetImageSampleRegion, SetImageDestinationSize, SetImageBlendingFunction, SetImageFlip, SetImageOpacity, ReleaseImage, CreateFilledRect, SetSolidFill, ReleaseFilledRect, SetHitRegions, SetInfiniteHitRegion, SetContent, Clear}
 use Rattle.flat_scene.specs.declared.setup.Setup.{Setup}
 use Rattle.flat_scene.specs.Draft.{Draft}
 use Rattle.flat_content.specs.Laws.{OtherCallsStand}
@@ -31,6 +31,7 @@ other_calls_stand setup table draft (SetOpacity t v) other s = same-parts setup 
 other_calls_stand setup table draft (SetClipBoundary t rect) other s = same-parts setup table draft _ s refl refl refl
 other_calls_stand setup table draft (AddChild p k) other s = same-parts setup table draft _ s refl refl refl
 other_calls_stand setup table draft (RemoveChild p k) other s = same-parts setup table draft _ s refl refl refl
+other_calls_stand setup table draft (ReplaceChildren p ks) other s = same-parts setup table draft _ s refl refl refl
 other_calls_stand setup table draft (SetRootTransform t) other s = same-parts setup table draft _ s refl refl refl
 other_calls_stand setup table draft (CreateViewport c pair w h inset) other s = absurd (cc)
 other_calls_stand setup table draft (SetViewportProperties c w h inset) other s = absurd (cc)

@@ -1,13 +1,15 @@
 //! The entries of the display: a frame begins, ends, or a point is asked of it.
-ghost use Rattle.std.specs.Prelude.{◌≡◌, ◌+◌, Some, false, [], slice_get};
+ghost use Rattle.std.specs.Prelude.{◌≡◌, ◌+◌, Some, true, false, not, ◌&&◌, List, [], ◌∷◌};
+ghost use Rattle.std.specs.Prelude.{◌++◌, slice_get};
+ghost use Rattle.std.specs.List.{list_any};
 ghost use Rattle.flat_base.specs.declared.ids.SessionNo.{SessionNo};
-ghost use Rattle.flat_scene.specs.Frames.{is_ready, is_signalled, waiting};
+ghost use Rattle.flat_scene.specs.Frames.{going, is_ready, is_signalled, is_unsquashable, waiting};
 ghost use Rattle.flat_scene.specs.History.{is_closed, Published};
 ghost use Rattle.flat_topology.specs.Changes.{AreSame};
 ghost use Rattle.flat_states.specs.Machines.{MayCall, entered};
 ghost use Rattle.flat_rules.specs.Ends.{to_begin};
 ghost use Rattle.flat_rules.specs.Legal.{frames};
-ghost use Rattle.flat_rules.specs.Shown.{shown_states};
+ghost use Rattle.flat_rules.specs.Shown.{shown, shown_states, tree_of};
 
 use crate::begins::begin_all;
 use crate::board::{Begun, Board};
@@ -24,9 +26,11 @@ impl Board {
     ghost use Rattle.flat_scene.specs.declared.journal.Reply.TheVariants.{Done};
 
     /// Begins a frame. The states shown are made those of this frame: what was taken
-    /// last of each open session, and nothing of a closed one. Answers the frame's
-    /// number, and the sessions of which another state may be shown than before. It
-    /// takes no memory.
+    /// last of each open session, and nothing of a closed one. Of an open session the
+    /// first present that still waits wasn't ready, or follows an unsquashable one that
+    /// was taken; and an unsquashable one that was taken is the last, and is shown.
+    /// Answers the frame's number, and the sessions of which another state may be shown
+    /// than before. It takes no memory.
     pub fn begin(&mut self, line: u32, time: u64, into: &mut Shown) -> Begun
         requires may { MayCall self.old Display [] (Begin time) }
         requires shown { into.old ≡ shown_states self.old.setup (to_begin self.old.history) }
@@ -36,7 +40,13 @@ impl Board {
         ensures changed { AreSame result.changed into.old into.new }
         ensures next { (s : SessionNo) (present : Published) → is_closed s self.old.history
             ≡ false → slice_get (waiting self.new.setup self.new.history s) 0 ≡ Some present →
-            is_ready time (is_signalled self.old.setup self.old.history) present.args ≡ false }
+            (not (list_any is_unsquashable (going self.new.setup self.new.history s))
+            && is_ready time (is_signalled self.old.setup self.old.history) present.args) ≡ false }
+        ensures unsquashable { (s : SessionNo) (earlier later : List Published)
+            (present : Published) → is_closed s self.old.history ≡ false →
+            going self.new.setup self.new.history s ≡ earlier ++ present ∷ later →
+            is_unsquashable present ≡ true → (later ≡ []) × (shown self.new.setup
+            self.new.history s ≡ tree_of self.new.setup present) }
     {
         let mut changed = SessionSet { has: [false; 16] };
         let count = begin_all(

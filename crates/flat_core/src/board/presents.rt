@@ -8,12 +8,11 @@ ghost use Rattle.flat_rules.specs.Shown.{tree_of};
 
 use crate::board::{Back, Board};
 use crate::polls::{EventList, push_events_from};
-use flat_base::{Actor, NoMemory, SessionNo};
+use flat_base::{Actor, SessionNo, TryCopy};
 use flat_scene::{CallList, Entry, Kind, PresentArgs, Reply};
 use flat_snap::Snapshot;
 use flat_states::state::{note, present_in};
 use flat_states::views::note_ends;
-use std::alloc::Global;
 use std::sync::Arc;
 
 impl Board {
@@ -42,7 +41,7 @@ impl Board {
         ensures back { IfErr result (λ back. back
             ≡ record { calls = calls; args = Some args; snap = Some snap }) }
     {
-        let copy = match copy_args(self.alloc, &args) {
+        let copy = match args.copy(self.alloc) {
             Ok(copy) => copy,
             Err(_) => {
                 return Err(Back {
@@ -139,18 +138,6 @@ impl Board {
         });
         Ok(Reply::Polled(count))
     }
-}
-
-fn copy_args(alloc: Global, args: &PresentArgs) -> Result<PresentArgs, NoMemory>
-    ensures { IfOk result (λ copy. copy ≡ args.now) }
-{
-    let acquire = args.acquire.copy(alloc)?;
-    let release = args.release.copy(alloc)?;
-    Ok(PresentArgs {
-        time: args.time,
-        acquire,
-        release,
-    })
 }
 
 /// How many events may be posted for an accepted present.

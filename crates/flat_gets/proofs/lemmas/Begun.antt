@@ -1,10 +1,12 @@
 -- What a begin changes of what is kept of a session.
 use Rattle.std.proofs.Common.{◌≡◌, ℕ, zero, suc, ◌+◌, ◌-◌, ◌≤◌, Bool, true, false, List, [], ◌∷◌, length, refl, arith, sym, ◌∙◌, ap, map, take, drop, length-drop, add-zero}
+use Rattle.std.proofs.Math.Seq.{take-append_seam}
 use Rattle.std.proofs.lemmas.List.{drop-drop, length-map, length-take}
+use Rattle.std.proofs.lemmas.List.Sums.{take_while-cons}
 use Rattle.std.proofs.lemmas.List.Elements.{All-map, All-take, All-drop}
 use Rattle.std.specs.Prelude.{vec_capacity}
-use Rattle.std.specs.Prelude.{◌&&◌, nat_le}
-use Rattle.std.specs.List.{prefix_len, list_all}
+use Rattle.std.specs.Prelude.{cond}
+use Rattle.std.specs.List.{take_while}
 use Rattle.std.specs.declared.sync.Arc.{Arc}
 use Rattle.std.specs.declared.alloc.Global.{Global}
 use Rattle.flat_base.specs.declared.ids.FenceNo.{FenceNo}
@@ -12,23 +14,24 @@ use Rattle.flat_base.specs.declared.ids.SessionNo.{SessionNo}
 use Rattle.flat_scene.specs.declared.journal.Entry.{Entry}
 use Rattle.flat_scene.specs.declared.setup.Setup.{Setup}
 use Rattle.flat_scene.specs.History.{is_closed, presents, Published}
-use Rattle.flat_scene.specs.Frames.{is_signalled, taken, waiting, ready_prefix}
+use Rattle.flat_scene.specs.Frames.{is_signalled, taken, waiting, up_to_first, ready_prefix}
 use Rattle.flat_queue.specs.declared.queue.WaitingPresent.{WaitingPresent}
 use Rattle.flat_scene.specs.Frames.{is_ready}
 use Rattle.flat_snap.specs.declared.snapshot.Snapshot.{Snapshot}
 use Rattle.flat_states.specs.declared.state.SessionState.{SessionState}
 use Rattle.flat_states.specs.Begins.{begun}
 use Rattle.flat_states.specs.Kept.{IsKept, Below, kept_of, meant, release_of}
-use Rattle.flat_states.specs.Presents.{LetGo}
+use Rattle.flat_states.specs.Presents.{LetGo, frame_takes}
 use Rattle.flat_states.specs.Seen.{Seen, seen_of}
 use Rattle.flat_rules.proofs.lemmas.ListLemmas.{All-none}
+use Rattle.flat_scene.proofs.lemmas.TakingLemmas.{taken-up-to}
 
 -- of a closed session nothing is taken, and all that waits goes
 pub seen-begun-closed : (setup : Setup) (h : List Entry) (line time : ℕ) (s : SessionNo) → is_closed s h ≡ true
     → seen_of setup (begun h line time) s ≡ record (seen_of setup h s) { going = waiting setup h s; took = 0 }
 seen-begun-closed setup h line time s closed = let none : taken setup h s - taken setup h s ≡ 0 = omega arith in rw (closed, add-zero, none) refl
 
--- of an open one the ready prefix is taken, and goes
+-- of an open one what is ready is taken, up to an unsquashable one, and goes
 pub seen-begun-open : (setup : Setup) (h : List Entry) (line time : ℕ) (s : SessionNo) (ready : List Published) → is_closed s h ≡ false → ready ≡ ready_prefix time (is_signalled setup h) (waiting setup h s)
     → seen_of setup (begun h line time) s
     ≡ record (seen_of setup h s) { taken = taken setup h s + length ready; waiting = drop (length ready) (waiting setup h s); going = ready; took = length ready }
@@ -38,12 +41,43 @@ seen-begun-open setup h line time s ready opened is =
 
 -- ---- two lists that stand for the same
 
-prefix-map : {A B : Type 0} (p : B → Bool) (f : A → B) (xs : List A) → prefix_len (λ x. p (f x)) xs ≡ prefix_len p (map f xs)
-prefix-map p f [] = refl
-prefix-map p f (x ∷ xs) = rw (prefix-map p f xs) refl
+-- what is taken while a test holds, and up to the first item that ends it
+abbrev pub taken_up : {A : Type 0} → (A → Bool) → (A → Bool) → List A → List A
+taken_up ends p xs = up_to_first ends (take_while p xs)
 
-pub prefix-same : {A B C : Type 0} (p : C → Bool) (f : A → C) (g : B → C) (xs : List A) (ys : List B) → map f xs ≡ map g ys → prefix_len (λ x. p (f x)) xs ≡ prefix_len (λ y. p (g y)) ys
-prefix-same p f g xs ys same = prefix-map p f xs ∙ ap (prefix_len p) same ∙ sym (prefix-map p g ys)
+-- it is the front of the list
+pub front : {A : Type 0} (ends p : A → Bool) (xs : List A) → take (length (taken_up ends p xs)) xs ≡ taken_up ends p xs
+front ends p xs =
+    let prefix = taken_up ends p xs in
+    ap (take (length prefix)) (taken-up-to ends p xs).begins ∙ take-append_seam prefix (drop (length prefix) xs)
+
+while-map : {A B : Type 0} (p : B → Bool) (f : A → B) (xs : List A) → map f (take_while (λ x. p (f x)) xs) ≡ take_while p (map f xs)
+while-map p f [] = refl
+while-map {A} p f (x ∷ xs) = rw (take_while-cons (λ y. p (f y)) x xs, take_while-cons p (f x) (map f xs)) (by_test (while-map p f xs) (p (f x)))
+  where
+    by_test : map f (take_while (λ y. p (f y)) xs) ≡ take_while p (map f xs) → (b : Bool) → map f (cond b (x ∷ take_while (λ y. p (f y)) xs) []) ≡ cond b (f x ∷ take_while p (map f xs)) []
+    by_test rest true = ap (λ ys. f x ∷ ys) rest
+    by_test rest false = refl
+
+up-map : {A B : Type 0} (ends : B → Bool) (f : A → B) (xs : List A) → map f (up_to_first (λ x. ends (f x)) xs) ≡ up_to_first ends (map f xs)
+up-map ends f [] = refl
+up-map ends f (x ∷ xs) = by_test (up-map ends f xs) (ends (f x))
+  where
+    by_test : map f (up_to_first (λ y. ends (f y)) xs) ≡ up_to_first ends (map f xs) → (b : Bool)
+        → f x ∷ map f (cond b [] (up_to_first (λ y. ends (f y)) xs)) ≡ f x ∷ cond b [] (up_to_first ends (map f xs))
+    by_test rest true = refl
+    by_test rest false = ap (λ ys. f x ∷ ys) rest
+
+taken-map : {A B : Type 0} (ends p : B → Bool) (f : A → B) (xs : List A) → map f (taken_up (λ x. ends (f x)) (λ x. p (f x)) xs) ≡ taken_up ends p (map f xs)
+taken-map ends p f xs = up-map ends f (take_while (λ x. p (f x)) xs) ∙ ap (up_to_first ends) (while-map p f xs)
+
+-- as much of both
+taken-same : {A B C : Type 0} (ends p : C → Bool) (f : A → C) (g : B → C) (xs : List A) (ys : List B) → map f xs ≡ map g ys
+    → length (taken_up (λ x. ends (f x)) (λ x. p (f x)) xs) ≡ length (taken_up (λ y. ends (g y)) (λ y. p (g y)) ys)
+taken-same ends p f g xs ys same =
+    sym (length-map (taken_up (λ x. ends (f x)) (λ x. p (f x)) xs) f)
+    ∙ ap length (taken-map ends p f xs ∙ ap (taken_up ends p) same ∙ sym (taken-map ends p g ys))
+    ∙ length-map (taken_up (λ y. ends (g y)) (λ y. p (g y)) ys) g
 
 map-take : {A B : Type 0} (f : A → B) (n : ℕ) (xs : List A) → map f (take n xs) ≡ take n (map f xs)
 map-take f zero xs = refl
@@ -68,22 +102,13 @@ drop-same f g n xs ys same = map-drop f n xs ∙ ap (drop n) same ∙ sym (map-d
 pub then-same : {A B C D : Type 0} (r : C → D) (f : A → C) (g : B → C) (xs : List A) (ys : List B) → map f xs ≡ map g ys → map (λ x. r (f x)) xs ≡ map (λ y. r (g y)) ys
 then-same r f g xs ys same = map-then r f xs ∙ ap (map r) same ∙ sym (map-then r g ys)
 
-list_all-same : {A : Type 0} (p q : A → Bool) (xs : List A) → ((x : A) → p x ≡ q x) → list_all p xs ≡ list_all q xs
-list_all-same p q [] same = refl
-list_all-same p q (x ∷ xs) same = rw (same x, list_all-same p q xs same) refl
-
-prefix-tests : {A : Type 0} (p q : A → Bool) (xs : List A) → ((x : A) → p x ≡ q x) → prefix_len p xs ≡ prefix_len q xs
-prefix-tests p q [] same = refl
-prefix-tests p q (x ∷ xs) same = rw (same x, prefix-tests p q xs same) refl
-
--- the ready prefixes are equally long
-pub ready-same : (setup : Setup) (time : ℕ) (has_it signalled : FenceNo → Bool) (waits : List (WaitingPresent (Arc Snapshot Global))) (stands : List Published) → ((f : FenceNo) → has_it f ≡ signalled f)
+-- as many are taken of both
+pub takes-same : (setup : Setup) (time : ℕ) (has_it signalled : FenceNo → Bool) (waits : List (WaitingPresent (Arc Snapshot Global))) (stands : List Published) → ((f : FenceNo) → has_it f ≡ signalled f)
     → map kept_of waits ≡ map (meant setup) stands
-    → prefix_len (λ kept. is_ready time has_it kept.args) waits ≡ prefix_len (λ present. is_ready time signalled present.args) stands
-ready-same setup time has_it signalled waits stands fences same =
-    prefix-tests (λ kept. is_ready time has_it kept.args) (λ kept. is_ready time signalled kept.args) waits
-    (λ kept. ap (λ b. nat_le kept.args.time time && b) (list_all-same has_it signalled kept.args.acquire fences))
-    ∙ prefix-same (λ pair. is_ready time signalled pair.0) kept_of (meant setup) waits stands same
+    → length (frame_takes time has_it waits) ≡ length (ready_prefix time signalled stands)
+takes-same setup time has_it signalled waits stands fences same =
+    (λ i. length (frame_takes time (λ f. fences f i) waits))
+    ∙ taken-same (λ pair. pair.0.unsquashable) (λ pair. is_ready time signalled pair.0) kept_of (meant setup) waits stands same
 
 -- ---- what is kept stands for that
 

@@ -1,9 +1,8 @@
 -- All that is kept, after a begin.
-use Rattle.std.proofs.Common.{◌≡◌, ℕ, ◌+◌, ◌-◌, ◌*◌, ◌<◌, ◌≤◌, ◌^◌, Bool, true, false, List, [], ◌∷◌, ◌++◌, length, refl, arith, sym, ◌∙◌, ap, map, drop, Some, slice_get, one-add, add-one}
-use Rattle.std.specs.Prelude.{cond, ◌||◌}
-use Rattle.std.specs.List.{prefix_len}
+use Rattle.std.proofs.Common.{◌≡◌, ℕ, ◌+◌, ◌-◌, ◌*◌, ◌<◌, ◌≤◌, ◌^◌, Bool, true, false, List, [], ◌∷◌, ◌++◌, length, refl, arith, sym, ◌∙◌, ap, map, drop, Some, slice_get, add-one, add-zero, add-suc, suc, subst, length-append}
+use Rattle.std.specs.Prelude.{cond, ◌||◌, ◌&&◌, not, IfSome, Option}
+use Rattle.std.specs.List.{list_any}
 use Rattle.std.proofs.lemmas.List.Sums.{count_by-le-length, length-filter}
-use Rattle.std.proofs.lemmas.List.Folds.{length-prefix_len}
 use Rattle.flat_base.specs.declared.ids.Actor.TheVariants.{Display}
 use Rattle.flat_base.specs.declared.ids.FenceNo.{FenceNo}
 use Rattle.flat_base.specs.declared.ids.SessionNo.{SessionNo}
@@ -13,10 +12,14 @@ use Rattle.flat_scene.specs.declared.journal.Kind.TheVariants.{Begin, Finish}
 use Rattle.flat_scene.specs.declared.journal.Post.{Post}
 use Rattle.flat_scene.specs.declared.journal.Reply.TheVariants.{Done}
 use Rattle.flat_scene.specs.declared.setup.Setup.{Setup}
-use Rattle.flat_scene.specs.History.{◌▹◌, is_closed, Published}
+use Rattle.flat_scene.specs.History.{◌▹◌, is_closed, presents, Published}
 use Rattle.flat_scene.specs.History.{is_finish}
-use Rattle.flat_scene.specs.Frames.{sessions_to, waiting, is_signalled, ready_prefix}
+use Rattle.flat_scene.specs.Frames.{sessions_to, waiting, is_signalled, is_unsquashable, taken, going, up_to_first, ready_run, ready_prefix}
 use Rattle.flat_rules.specs.Legal.{frames, begin_time}
+use Rattle.flat_rules.specs.Shown.{shown, tree_of}
+use Rattle.flat_rules.proofs.lemmas.ShownSteps.{serial-get, get-drop}
+use Rattle.flat_scene.proofs.lemmas.TakingLemmas.{ready-longest}
+use Rattle.flat_scene.specs.Draft.{of_serial}
 use Rattle.flat_rules.specs.Posts.{posts, events_to, Sent}
 use Rattle.flat_fence.specs.Fences.{has}
 use Rattle.flat_scene.specs.Frames.{is_ready}
@@ -97,24 +100,57 @@ kept-begun m line time call clock fences views sessions after log mid then owed 
 pub frames-few : (h : List Entry) → frames h ≤ length h
 frames-few h = rw (length-filter (λ entry. is_finish entry.kind) h) (count_by-le-length (λ entry. is_finish entry.kind) h)
 
-stops-at : {A : Type 0} (p : A → Bool) (y : A) (xs : List A) (x : A) → (slice_get (drop (prefix_len p xs) xs) 0 ≡ Some x → p x ≡ false) → (b : Bool) → p y ≡ b
-    → slice_get (drop (cond b (1 + prefix_len p xs) 0) (y ∷ xs)) 0 ≡ Some x → p x ≡ false
-stops-at p y xs x later true passes here = later (rw one-add at here)
-stops-at p y xs x later false fails here = let same : y ≡ x = cc in rw (← same) fails
+-- what a begin takes of an open session goes at the frame's end, and the rest waits
+begun-goes : (setup : Setup) (h : List Entry) (line time : ℕ) (s : SessionNo) → is_closed s h ≡ false → going setup (begun h line time) s ≡ ready_prefix time (is_signalled setup h) (waiting setup h s)
+begun-goes setup h line time s opened = ap (λ (r : Seen). r.going) (seen-begun-open setup h line time s (ready_prefix time (is_signalled setup h) (waiting setup h s)) opened refl)
 
-stops : {A : Type 0} (p : A → Bool) (xs : List A) (x : A) → slice_get (drop (prefix_len p xs) xs) 0 ≡ Some x → p x ≡ false
-stops p [] x here = cc
-stops p (y ∷ xs) x here = stops-at p y xs x (stops p xs x) (p y) refl here
+begun-waits : (setup : Setup) (h : List Entry) (line time : ℕ) (s : SessionNo) → is_closed s h ≡ false
+    → waiting setup (begun h line time) s ≡ drop (length (ready_prefix time (is_signalled setup h) (waiting setup h s))) (waiting setup h s)
+begun-waits setup h line time s opened = ap (λ (r : Seen). r.waiting) (seen-begun-open setup h line time s (ready_prefix time (is_signalled setup h) (waiting setup h s)) opened refl)
 
--- the first present that waits after a begin wasn't ready
-pub not-ready : (setup : Setup) (h : List Entry) (line time : ℕ) (s : SessionNo) (present : Published) → is_closed s h ≡ false → slice_get (waiting setup (begun h line time) s) 0 ≡ Some present
-    → is_ready time (is_signalled setup h) present.args ≡ false
-not-ready setup h line time s present opened here =
-    let q : Published → Bool = λ p. is_ready time (is_signalled setup h) p.args in
-    let seen = seen-begun-open setup h line time s (ready_prefix time (is_signalled setup h) (waiting setup h s)) opened refl in
-    let waits : waiting setup (begun h line time) s ≡ drop (length (ready_prefix time (is_signalled setup h) (waiting setup h s))) (waiting setup h s) = ap (λ (r : Seen). r.waiting) seen in
-    let long : length (ready_prefix time (is_signalled setup h) (waiting setup h s)) ≡ prefix_len q (waiting setup h s) = length-prefix_len q (waiting setup h s) in
-    stops q (waiting setup h s) present (ap (λ (n : ℕ). slice_get (drop n (waiting setup h s)) 0) (sym long) ∙ ap (λ ps. slice_get ps 0) (sym waits) ∙ here)
+-- the first present that waits after a begin wasn't ready, or follows an unsquashable one that was taken
+pub held-back : (setup : Setup) (h : List Entry) (line time : ℕ) (s : SessionNo) (present : Published) → is_closed s h ≡ false → slice_get (waiting setup (begun h line time) s) 0 ≡ Some present
+    → (not (list_any is_unsquashable (going setup (begun h line time) s)) && is_ready time (is_signalled setup h) present.args) ≡ false
+held-back setup h line time s present opened here =
+    let prefix : List Published = ready_prefix time (is_signalled setup h) (waiting setup h s) in
+    let test : List Published → Published → Bool = λ took p. not (list_any is_unsquashable took) && is_ready time (is_signalled setup h) p.args in
+    let at : slice_get (waiting setup h s) (length prefix) ≡ Some present =
+    ap (slice_get (waiting setup h s)) (sym (add-zero (length prefix))) ∙ get-drop (length prefix) 0 (waiting setup h s) ∙ ap (λ ps. slice_get ps 0) (sym (begun-waits setup h line time s opened)) ∙ here in
+    ap (λ took. test took present) (begun-goes setup h line time s opened)
+    ∙ subst (λ (o : Option Published). IfSome o (λ (p : Published). test prefix p ≡ false)) at (ready-longest time (is_signalled setup h) (waiting setup h s)).longest
+
+-- behind the first item that ends it there is nothing
+first-ends : {A : Type 0} (ends : A → Bool) (xs earlier later : List A) (x : A) → up_to_first ends xs ≡ earlier ++ x ∷ later → ends x ≡ true → later ≡ []
+first-ends ends [] earlier later x is here = absurd (omega (arith, ap length is, length-append earlier (x ∷ later)))
+first-ends ends (y ∷ xs) [] later x is here =
+    let same : y ≡ x = cc in
+    let rest : cond (ends y) [] (up_to_first ends xs) ≡ later = cc in
+    sym rest ∙ ap (λ b. cond b [] (up_to_first ends xs)) (ap ends same ∙ here)
+first-ends ends (y ∷ xs) (z ∷ earlier) later x is here = by_end (first-ends ends xs earlier later x) (ends y) (cc)
+  where
+    by_end : (up_to_first ends xs ≡ earlier ++ x ∷ later → ends x ≡ true → later ≡ []) → (b : Bool) → cond b [] (up_to_first ends xs) ≡ earlier ++ x ∷ later → later ≡ []
+    by_end rest true none = absurd (omega (arith, ap length none, length-append earlier (x ∷ later)))
+    by_end rest false more = rest more here
+
+at-seam : {A : Type 0} (earlier rest : List A) (x : A) → slice_get ((earlier ++ x ∷ []) ++ rest) (length earlier) ≡ Some x
+at-seam [] rest x = refl
+at-seam (y ∷ earlier) rest x = at-seam earlier rest x
+
+-- an unsquashable present that a begin takes is the last, and is shown
+pub unsquashable-shown : (setup : Setup) (h : List Entry) (line time : ℕ) (s : SessionNo) (earlier later : List Published) (present : Published) → is_closed s h ≡ false
+    → going setup (begun h line time) s ≡ earlier ++ present ∷ later → is_unsquashable present ≡ true → (later ≡ []) × (shown setup (begun h line time) s ≡ tree_of setup present)
+unsquashable-shown setup h line time s earlier later present opened here ends =
+    let prefix : List Published = ready_prefix time (is_signalled setup h) (waiting setup h s) in
+    let is : prefix ≡ earlier ++ present ∷ later = sym (begun-goes setup h line time s opened) ∙ here in
+    let none : later ≡ [] = first-ends is_unsquashable (ready_run time (is_signalled setup h) (waiting setup h s)) earlier later present is ends in
+    let one : prefix ≡ earlier ++ present ∷ [] = is ∙ ap (λ ps. earlier ++ present ∷ ps) none in
+    let long : length prefix ≡ suc (length earlier) = omega (arith, ap length one, length-append earlier (present ∷ [])) in
+    let begins = (ready-longest time (is_signalled setup h) (waiting setup h s)).begins in
+    let at : slice_get (waiting setup h s) (length earlier) ≡ Some present =
+    ap (λ ps. slice_get ps (length earlier)) (begins ∙ ap (λ ps. ps ++ drop (length prefix) (waiting setup h s)) one) ∙ at-seam earlier (drop (length prefix) (waiting setup h s)) present in
+    let last : of_serial (presents s h) (taken setup h s + length prefix) ≡ Some present =
+    ap (λ n. of_serial (presents s h) (taken setup h s + n)) long
+    ∙ rw add-suc (serial-get (presents s h) (taken setup h s + length earlier) ∙ get-drop (taken setup h s) (length earlier) (presents s h) ∙ at) in (none, rw (opened, last) refl)
 
 -- there are few enough entries, and frames
 pub place-small : (m : Machine) (kind : Kind) → MayCall m Display [] kind → (clock : Clock) (fences views : List Bool) (sessions : List SessionState) (log : Logged) (owed : ℕ) {dues : ℕ} → log.history ≡ m.history

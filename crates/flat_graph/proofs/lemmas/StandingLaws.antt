@@ -8,7 +8,7 @@ use Rattle.std.proofs.lemmas.Bool.Decides.{eqb_tells}
 use Rattle.flat_base.specs.declared.ids.TransformId.{TransformId}
 use Rattle.flat_base.specs.declared.ids.ContentId.{ContentId}
 use Rattle.flat_base.specs.declared.errors.Reason.{Reason}
-use Rattle.flat_scene.specs.declared.calls.Call.TheVariants.{CreateView, ReleaseView, CreateTransform, ReleaseTransform, SetTranslation, SetOrientation, SetScale, SetOpacity, SetClipBoundary, AddChild, RemoveChild, SetRootTransform, CreateViewport, SetViewportProperties, ReleaseViewport, CreateImage, SetImageSampleRegion, SetImageDestinationSize, SetImageBlendingFunction, SetImageFlip, SetImageOpacity, ReleaseImage, CreateFilledRect, SetSolidFill, ReleaseFilledRect, SetHitRegions, SetInfiniteHitRegion, SetContent, Clear}
+use Rattle.flat_scene.specs.declared.calls.Call.TheVariants.{CreateView, ReleaseView, CreateTransform, ReleaseTransform, SetTranslation, SetOrientation, SetScale, SetOpacity, SetClipBoundary, AddChild, RemoveChild, ReplaceChildren, SetRootTransform, CreateViewport, SetViewportProperties, ReleaseViewport, CreateImage, SetImageSampleRegion, SetImageDestinationSize, SetImageBlendingFunction, SetImageFlip, SetImageOpacity, ReleaseImage, CreateFilledRect, SetSolidFill, ReleaseFilledRect, SetHitRegions, SetInfiniteHitRegion, SetContent, Clear}
 use Rattle.flat_scene.specs.declared.calls.ViewportProps.{ViewportProps}
 use Rattle.flat_scene.specs.declared.setup.Setup.{Setup}
 use Rattle.flat_scene.specs.declared.trees.Held.{Held}
@@ -18,14 +18,14 @@ use Rattle.flat_scene.specs.Effect.{effect, with_transform, changed_if, on_image
 use Rattle.flat_scene.specs.Misuse.{is_viewport}
 use Rattle.flat_graph.specs.declared.nodes.GraphNode.{GraphNode}
 use Rattle.flat_graph.specs.Laws.{GraphCallsStand, OtherCallsStand, IsCreation, IsContent}
-use Rattle.flat_graph.specs.Names.{key_named}
-use Rattle.flat_graph.specs.State.{GraphState, IsKept, node_at, change_named, with_child, without_child}
+use Rattle.flat_graph.specs.Names.{key_named, keys_named}
+use Rattle.flat_graph.specs.State.{GraphState, IsKept, node_at, change_named, with_child, without_child, with_children}
 use Rattle.flat_graph.specs.Stands.{StandsFor, IsHeld, IsOnce, serial_at, as_transform}
 use Rattle.flat_graph.proofs.lemmas.DraftNames.{of_serial-append, changed-same, changed-other}
-use Rattle.flat_graph.proofs.Soundness.{is-none, kept-push, contains-filter}
-use Rattle.flat_graph.proofs.Standing.{Changes, stands-change, stays, as-with_child, as-without_child}
+use Rattle.flat_graph.proofs.Soundness.{is-none, kept-named, kept-push, contains-filter}
+use Rattle.flat_graph.proofs.Standing.{Changes, stands-change, stays, as-with_child, as-without_child, serials-named}
 use Rattle.flat_graph.proofs.StandingCalls.{stands-released, stands-rooted, stands-emptied, stands-marked, stands-dropped, stands-created}
-use Rattle.flat_graph.proofs.StandingReasons.{some-same, none-same, count-same, child-same}
+use Rattle.flat_graph.proofs.StandingReasons.{some-same, none-same, any-none-same, count-same, child-same}
 
 -- ---- calls on transforms
 
@@ -104,6 +104,16 @@ module _ (setup : Setup) (graph : GraphState) (draft : Draft) (s : StandsFor gra
           content None held e = e
           content (Some c) held e = e
 
+  with-children : (p : TransformId) (ks : List TransformId) → StandsFor (change_named graph p.0 (with_children (keys_named graph.names ks))) (effect draft (ReplaceChildren p ks))
+  with-children p ks =
+      stands-change graph draft p (with_children (keys_named graph.names ks)) _ s
+      (λ key node e there. record {
+        serial = refl;
+        children = kept-named graph s.sound ks;
+        contents = λ held e'. s.contents key node held there e';
+        same = ap (λ (children : List ℕ). effect.with_children children (as_transform graph node)) (serials-named graph draft s ks);
+      })
+
   giving : (t : TransformId) (c : ContentId) (held : Option Held) → IsContent setup graph draft c held
       → StandsFor (change_named graph t.0 (λ node. record node { content = held })) (effect draft (SetContent t c))
   giving t c held given =
@@ -126,6 +136,10 @@ graph_calls_stand setup graph draft s = record {
   remove_child = λ p k. record {
     reason = rw (none-same graph draft s p, none-same graph draft s k, child-same graph draft s p k) refl;
     stands = without-child setup graph draft s p k;
+  };
+  replace_children = λ p ks. record {
+    reason = rw (none-same graph draft s p, any-none-same graph draft s ks) refl;
+    stands = with-children setup graph draft s p ks;
   };
   set_root = λ t. record { reason = rw (none-same graph draft s t) refl; stands = stands-rooted graph draft s t };
   set_translation = λ t x y. record { reason = rw (none-same graph draft s t) refl; stands = set setup graph draft s t _ _ (λ node. refl) (λ node. refl) (λ node. refl) (λ node. refl) };
@@ -213,6 +227,7 @@ other_calls_stand graph draft (SetOpacity t v) other s = absurd (cc)
 other_calls_stand graph draft (SetClipBoundary t clip) other s = absurd (cc)
 other_calls_stand graph draft (AddChild p k) other s = absurd (cc)
 other_calls_stand graph draft (RemoveChild p k) other s = absurd (cc)
+other_calls_stand graph draft (ReplaceChildren p ks) other s = absurd (cc)
 other_calls_stand graph draft (SetRootTransform t) other s = absurd (cc)
 other_calls_stand graph draft (CreateViewport c pair w h inset) other s = stands-other graph draft _ s refl refl refl (held-append draft.contents _)
 other_calls_stand graph draft (SetViewportProperties c w h inset) other s = stands-other graph draft _ s refl refl refl (held-changed (content_of draft c) _ draft.contents (viewport-sort _))

@@ -19,7 +19,7 @@ use Rattle.flat_scene.specs.declared.calls.Call.{Call}
 use Rattle.flat_scene.specs.declared.setup.Setup.{Setup}
 use Rattle.flat_scene.specs.declared.setup.FenceDecl.{FenceDecl}
 use Rattle.flat_scene.specs.History.{◌▹◌, own, is_closed, calls, presents, published, is_session, Published}
-use Rattle.flat_scene.specs.Frames.{is_signalled, taken, going, takes, signals, is_ready, ready_prefix, lets_go, is_among, is_released_by, sessions_to}
+use Rattle.flat_scene.specs.Frames.{is_signalled, taken, going, takes, signals, is_ready, is_unsquashable, up_to_first, ready_run, ready_prefix, lets_go, is_among, is_released_by, sessions_to}
 use Rattle.flat_scene.specs.Family.{IsClosedFamily, is_linked, shares, keeps, is_kept, only}
 use Rattle.flat_rules.specs.Legal.{owns_fence, owns_in_kind, owns_all, may_act, Legal, LegalEntry}
 use Rattle.flat_scene.proofs.lemmas.Steps.{own-kept, own-dropped, presents-own, presents-other}
@@ -57,18 +57,22 @@ all-same o f g same (x ∷ xs) all = grind (arith, same x, all-same o f g same x
 abbrev pub owns_fences_of : (FenceNo → Bool) → Published → Bool
 owns_fences_of o present = list_all o present.args.acquire && list_all o present.args.release
 
-pub ready-same : (time : ℕ) (o f g : FenceNo → Bool) → ((x : FenceNo) → o x ≡ true → f x ≡ g x) → (xs : List Published) → list_all (owns_fences_of o) xs ≡ true
-    → ready_prefix time f xs ≡ ready_prefix time g xs
-ready-same time o f g same [] all = refl
-ready-same time o f g same (x ∷ xs) all =
+run-same : (time : ℕ) (o f g : FenceNo → Bool) → ((x : FenceNo) → o x ≡ true → f x ≡ g x) → (xs : List Published) → list_all (owns_fences_of o) xs ≡ true
+    → ready_run time f xs ≡ ready_run time g xs
+run-same time o f g same [] all = refl
+run-same time o f g same (x ∷ xs) all =
     let first : list_all f x.args.acquire ≡ list_all g x.args.acquire = all-same o f g same x.args.acquire (grind arith) in
-    let rest : ready_prefix time f xs ≡ ready_prefix time g xs = ready-same time o f g same xs (grind arith) in
+    let rest : ready_run time f xs ≡ ready_run time g xs = run-same time o f g same xs (grind arith) in
     rw (
       take_while-cons (λ present. is_ready time f present.args) x xs,
       take_while-cons (λ present. is_ready time g present.args) x xs,
       first,
       rest,
     )
+
+pub ready-same : (time : ℕ) (o f g : FenceNo → Bool) → ((x : FenceNo) → o x ≡ true → f x ≡ g x) → (xs : List Published) → list_all (owns_fences_of o) xs ≡ true
+    → ready_prefix time f xs ≡ ready_prefix time g xs
+ready-same time o f g same xs all = ap (up_to_first is_unsquashable) (run-same time o f g same xs all)
 
 pub takes-same : (kind : Kind) (o f g : FenceNo → Bool) → ((x : FenceNo) → o x ≡ true → f x ≡ g x) → (is_shut : Bool) (xs : List Published)
     → list_all (owns_fences_of o) xs ≡ true → takes kind f is_shut xs ≡ takes kind g is_shut xs
@@ -91,11 +95,20 @@ all-drop p zero xs all = all
 all-drop p (suc n) [] all = refl
 all-drop p (suc n) (x ∷ xs) all = all-drop p n xs (grind arith)
 
-pub all-ready : (p : Published → Bool) (time : ℕ) (f : FenceNo → Bool) (xs : List Published) → list_all p xs ≡ true → list_all p (ready_prefix time f xs) ≡ true
-all-ready p time f [] all = refl
-all-ready p time f (x ∷ xs) all =
-    let rest : list_all p (ready_prefix time f xs) ≡ true = all-ready p time f xs (grind arith) in
+all-run : (p : Published → Bool) (time : ℕ) (f : FenceNo → Bool) (xs : List Published) → list_all p xs ≡ true → list_all p (ready_run time f xs) ≡ true
+all-run p time f [] all = refl
+all-run p time f (x ∷ xs) all =
+    let rest : list_all p (ready_run time f xs) ≡ true = all-run p time f xs (grind arith) in
     rw (take_while-cons (λ present. is_ready time f present.args) x xs) (grind arith)
+
+all-up-to : {X : Type 0} (p ends : X → Bool) (xs : List X) → list_all p xs ≡ true → list_all p (up_to_first ends xs) ≡ true
+all-up-to p ends [] all = refl
+all-up-to p ends (x ∷ xs) all =
+    let rest : list_all p (up_to_first ends xs) ≡ true = all-up-to p ends xs (grind arith) in
+    grind arith
+
+pub all-ready : (p : Published → Bool) (time : ℕ) (f : FenceNo → Bool) (xs : List Published) → list_all p xs ≡ true → list_all p (ready_prefix time f xs) ≡ true
+all-ready p time f xs all = all-up-to p is_unsquashable (ready_run time f xs) (all-run p time f xs all)
 
 pub all-let-go : (p : Published → Bool) (kind : Kind) (f : FenceNo → Bool) (b : Bool) (xs gone : List Published) → list_all p xs ≡ true → list_all p gone ≡ true
     → list_all p (lets_go kind f b xs gone) ≡ true

@@ -1,5 +1,5 @@
 -- Words for the runs that are computed.
-use Rattle.std.proofs.Common.{ℕ, List}
+use Rattle.std.proofs.Common.{false, ℕ, List}
 use Rattle.flat_base.specs.declared.ids.Actor.{Actor}
 use Rattle.flat_base.specs.declared.ids.Actor.TheVariants.{Display, Session}
 use Rattle.flat_base.specs.declared.ids.ContentId.{ContentId}

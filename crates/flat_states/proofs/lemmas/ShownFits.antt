@@ -26,9 +26,9 @@ use Rattle.flat_scene.specs.Draft.{Draft, Made, an_image, a_fill, a_viewport, of
 use Rattle.flat_scene.specs.Effect.{draft_of}
 use Rattle.flat_scene.specs.Frames.{taken}
 use Rattle.flat_scene.specs.History.{◌▹◌, is_session, is_closed, calls, presents, published, Published}
-use Rattle.flat_scene.specs.Misuse.{first_reason}
+use Rattle.flat_scene.specs.Misuse.{first_reason, has_twice}
 use Rattle.flat_scene.specs.Setups.{is_declared}
-use Rattle.flat_scene.specs.Tree.{tree_tests, tree, all_nodes, is_cyclic, is_too_large, shows_twice, has_twice}
+use Rattle.flat_scene.specs.Tree.{tree_tests, tree, all_nodes, is_cyclic, is_too_large, shows_twice}
 use Rattle.flat_scene.specs.Trees.{node_count, viewports_in}
 use Rattle.flat_scene.proofs.lemmas.Steps.{presents-own, presents-other}
 use Rattle.flat_base.proofs.lemmas.Tests.{and-left, and-right}

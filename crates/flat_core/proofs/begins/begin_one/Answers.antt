@@ -9,7 +9,7 @@ use Rattle.flat_rules.proofs.lemmas.ListLemmas.{set-own}
 use Rattle.flat_states.specs.Begins.{begun}
 use Rattle.flat_states.specs.Seen.{seen_of}
 use Rattle.flat_gets.proofs.lemmas.Begun.{seen-begun-closed, kept-let_go}
-use Rattle.flat_core.proofs.BeginSteps.{kept-begun-open, shown-some, shown-none, no-ready, are-ready, credits-line, events-some, events-none}
+use Rattle.flat_core.proofs.BeginSteps.{kept-begun-open, shown-some, shown-none, takes-none, takes-some, credits-line, events-some, events-none}
 use Rattle.flat_core.proofs.PresentSteps.{stays}
 use Rattle.flat_core.proofs.begins.begin_one.Goals as goal
 
@@ -38,7 +38,7 @@ returns-in-Some-clause-shown c =
 pub returns-in-None-clause-shown : goal.returns-in-None-clause-shown
 returns-in-None-clause-shown c =
     let opened : is_closed c.args.s c.args.log.now.history ≡ false = sym c.requires.kept.closed ∙ c.if-state.false in
-    let none = no-ready c.args.setup.now c.args.log.now.history c.args.time c.args.s (has c.args.fences.now) c.args.state.now c.requires.kept c.if-state.false c.requires.fences c.in-None.ensures.last in
+    let none = takes-none c.args.setup.now c.args.log.now.history c.args.time c.args.s (has c.args.fences.now) c.args.state.now c.requires.kept c.if-state.false c.requires.fences c.in-None.ensures.last in
     let stays : shown c.args.setup.now (begun c.args.log.now.history c.args.line c.args.time) c.args.s ≡ shown c.args.setup.now (to_begin c.args.log.now.history) c.args.s =
     shown-none c.args.setup.now c.args.log.now.history c.args.line c.args.time c.args.s opened none in
     sym (ap (λ state. slice_set c.args.into.now (c.args.s.0 - 1) state) stays ∙ set-own c.args.into.now (c.args.s.0 - 1) _ c.requires.shown)
@@ -47,7 +47,7 @@ pub returns-in-Some-clause-posts : goal.returns-in-Some-clause-posts
 returns-in-Some-clause-posts c =
     let h = c.args.log.now.history in
     let opened : is_closed c.args.s h ≡ false = sym c.requires.kept.closed ∙ c.if-state.false in
-    let some = are-ready c.args.setup.now h c.args.time c.args.s (has c.args.fences.now) c.args.state.now c.in-Some.snap c.requires.kept c.if-state.false c.requires.fences c.in-Some.ensures.last in
+    let some = takes-some c.args.setup.now h c.args.time c.args.s (has c.args.fences.now) c.args.state.now c.in-Some.snap c.requires.kept c.if-state.false c.requires.fences c.in-Some.ensures.last in
     let here : c.args.state.now.let_go ≡ false = stays c.args.setup.now (seen_of c.args.setup.now h c.args.s) c.args.state.now c.requires.kept opened in
     let old : c.credits-before.result ≡ credits c.args.setup.now h c.args.s = c.credits-before.ensures.credits ∙ credits-line c.args.setup.now (seen_of c.args.setup.now h c.args.s) c.args.state.now c.requires.kept here in
     let new : c.credits.result ≡ credits c.args.setup.now (begun h c.args.line c.args.time) c.args.s =
@@ -59,5 +59,5 @@ returns-in-Some-clause-posts c =
 pub returns-in-None-clause-posts : goal.returns-in-None-clause-posts
 returns-in-None-clause-posts c =
     let opened : is_closed c.args.s c.args.log.now.history ≡ false = sym c.requires.kept.closed ∙ c.if-state.false in
-    let none = no-ready c.args.setup.now c.args.log.now.history c.args.time c.args.s (has c.args.fences.now) c.args.state.now c.requires.kept c.if-state.false c.requires.fences c.in-None.ensures.last in
+    let none = takes-none c.args.setup.now c.args.log.now.history c.args.time c.args.s (has c.args.fences.now) c.args.state.now c.requires.kept c.if-state.false c.requires.fences c.in-None.ensures.last in
     rw (events-none c.args.setup.now c.args.log.now.history c.args.line c.args.time c.args.s c.requires.legal opened none) (sym (append-nil _))

@@ -1,7 +1,10 @@
-use Rattle.std.proofs.Common.{◌≡◌, List, [], length, false, ◌+◌, ◌<◌, ◌^◌, Some, slice_get, refl, sym, ◌∙◌, ap, subst, arith}
+use Rattle.std.specs.Prelude.{not, ◌&&◌}
+use Rattle.std.specs.List.{list_any}
+use Rattle.flat_rules.specs.Shown.{shown, tree_of}
+use Rattle.std.proofs.Common.{◌≡◌, List, [], ◌∷◌, ◌++◌, length, true, false, ◌+◌, ◌<◌, ◌^◌, Some, slice_get, refl, sym, ◌∙◌, ap, subst, arith}
 use Rattle.flat_base.specs.declared.ids.SessionNo.{SessionNo}
 use Rattle.flat_scene.specs.History.{is_closed, Published}
-use Rattle.flat_scene.specs.Frames.{is_signalled, waiting}
+use Rattle.flat_scene.specs.Frames.{is_signalled, is_unsquashable, going, waiting}
 use Rattle.flat_scene.specs.Frames.{is_ready}
 use Rattle.flat_base.specs.declared.ids.Actor.TheVariants.{Display}
 use Rattle.flat_scene.specs.declared.calls.Call.{Call}
@@ -24,7 +27,7 @@ use Rattle.flat_states.specs.Begins.{begun, begin_entry}
 use Rattle.flat_states.proofs.lemmas.Opened.{few-declared}
 use Rattle.flat_states.proofs.lemmas.Steps.{has-room, legal-entered}
 use Rattle.flat_core.proofs.Changes.{changes-same}
-use Rattle.flat_gets.proofs.lemmas.BoardBegins.{kept-begun, place-small, not-ready}
+use Rattle.flat_gets.proofs.lemmas.BoardBegins.{kept-begun, place-small, held-back, unsquashable-shown}
 use Rattle.flat_gets.proofs.lemmas.WatchingSteps.{watched-after}
 use Rattle.flat_core.proofs.board.Board.begin.Goals as goal
 use Rattle.flat_rules.proofs.lemmas.ShownList.{length-listed}
@@ -97,11 +100,23 @@ invariant_of-self c =
 pub returns-clause-next : goal.returns-clause-next
 returns-clause-next c =
     let inside = c.self.inside in
-    let setup = inside.setup in
+    let m : Machine = record { setup = inside.setup; shares = inside.shares; history = inside.log.history } in
     let after = c.enter.new.self.history in
     let new : after ≡ begun inside.log.history c.args.line c.args.time =
     c.enter.ensures.history ∙ ap (λ (carries : List Call). c.begin_all-count.new.log.history ▹ entry_of Display c.args.line carries (Begin c.args.time) Done) c.new.ensures
     ∙ ap (λ (h : List Entry). begun h c.args.line c.args.time) c.begin_all-count.ensures.history in
-    let P : Machine → Type 0 = λ m. (s : SessionNo) (present : Published) → is_closed s m.history ≡ false → slice_get (waiting setup after s) 0 ≡ Some present
-    → is_ready c.args.time (is_signalled m.setup m.history) present.args ≡ false in
-    subst P c.self.view_is (λ s present opened here. not-ready setup inside.log.history c.args.line c.args.time s present opened (ap (λ (h : List Entry). slice_get (waiting setup h s) 0) (sym new) ∙ here))
+    let P : List Entry → Machine → Type 0 = λ h n. (s : SessionNo) (present : Published) → is_closed s n.history ≡ false → slice_get (waiting inside.setup h s) 0 ≡ Some present
+    → (not (list_any is_unsquashable (going inside.setup h s)) && is_ready c.args.time (is_signalled n.setup n.history) present.args) ≡ false in
+    subst (P after) c.self.view_is (subst (λ (h : List Entry). P h m) (sym new) (held-back inside.setup inside.log.history c.args.line c.args.time))
+
+pub returns-clause-unsquashable : goal.returns-clause-unsquashable
+returns-clause-unsquashable c =
+    let inside = c.self.inside in
+    let m : Machine = record { setup = inside.setup; shares = inside.shares; history = inside.log.history } in
+    let after = c.enter.new.self.history in
+    let new : after ≡ begun inside.log.history c.args.line c.args.time =
+    c.enter.ensures.history ∙ ap (λ (carries : List Call). c.begin_all-count.new.log.history ▹ entry_of Display c.args.line carries (Begin c.args.time) Done) c.new.ensures
+    ∙ ap (λ (h : List Entry). begun h c.args.line c.args.time) c.begin_all-count.ensures.history in
+    let P : List Entry → Machine → Type 0 = λ h n. (s : SessionNo) (earlier later : List Published) (present : Published) → is_closed s n.history ≡ false
+    → going inside.setup h s ≡ earlier ++ present ∷ later → is_unsquashable present ≡ true → (later ≡ []) × (shown inside.setup h s ≡ tree_of inside.setup present) in
+    subst (P after) c.self.view_is (subst (λ (h : List Entry). P h m) (sym new) (unsquashable-shown inside.setup inside.log.history c.args.line c.args.time))

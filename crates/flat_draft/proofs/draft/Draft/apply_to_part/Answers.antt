@@ -1,7 +1,8 @@
 use Rattle.std.proofs.Common.{◌≡◌, refl, sym, ◌∙◌, ap, List, [], ◌∷◌, None, OnOk, rules}
-use Rattle.flat_scene.specs.declared.calls.Call.TheVariants.{SetHitRegions}
+use Rattle.flat_base.specs.declared.ids.TransformId.{TransformId}
+use Rattle.flat_scene.specs.declared.calls.Call.TheVariants.{ReplaceChildren, SetHitRegions}
 use Rattle.flat_scene.specs.declared.calls.HitRegion.{HitRegion}
-use Rattle.flat_graph.specs.Reasons.{add_tests, clip_tests, hits_tests, name_tests, opacity_tests, remove_tests, root_tests, scale_tests}
+use Rattle.flat_graph.specs.Reasons.{add_tests, clip_tests, hits_tests, name_tests, opacity_tests, remove_tests, replace_tests, root_tests, scale_tests}
 use Rattle.flat_graph.specs.State.{change_named}
 use Rattle.flat_graph.proofs.lemmas.StandingLaws.{graph_calls_stand}
 use Rattle.flat_draft.proofs.Applying.{graph-applied, create-applied}
@@ -48,6 +49,15 @@ returns-in-RemoveChild-clause-applied c = λ setup draft s.
     graph-applied setup draft _ _ _ c.self-in-RemoveChild.inside.graph _ _ _ _ _ (remove_tests c.self-in-RemoveChild.inside.graph c.in-RemoveChild.p.0 c.in-RemoveChild.k.0) c.remove_child.result c.in-RemoveChild.is c.self-in-RemoveChild.view_is refl refl s
     (λ g. (graph_calls_stand setup _ draft g).remove_child c.in-RemoveChild.p c.in-RemoveChild.k) c.remove_child.ensures.removed c.remove_child.ensures.allowed c.remove_child.ensures.fault c.remove_child.ensures.kept
 
+pub returns-in-ReplaceChildren-clause-applied : goal.returns-in-ReplaceChildren-clause-applied
+returns-in-ReplaceChildren-clause-applied c = λ setup draft s.
+    let e = c.replace_children.ensures in
+    let ks : List TransformId = c.as_slice.result.now in
+    graph-applied setup draft _ (ReplaceChildren c.in-ReplaceChildren.p ks) _ c.self-in-ReplaceChildren.inside.graph _ _ _ _ _ (replace_tests c.self-in-ReplaceChildren.inside.graph c.in-ReplaceChildren.p.0 ks)
+    c.replace_children.result (c.in-ReplaceChildren.is ∙ ap (ReplaceChildren c.in-ReplaceChildren.p) (sym c.as_slice.ensures)) c.self-in-ReplaceChildren.view_is refl refl s
+    (λ g. (graph_calls_stand setup _ draft g).replace_children c.in-ReplaceChildren.p ks)
+    e.replaced e.allowed e.fault e.kept
+
 pub returns-in-SetRootTransform-clause-applied : goal.returns-in-SetRootTransform-clause-applied
 returns-in-SetRootTransform-clause-applied c = λ setup draft s.
     graph-applied setup draft _ _ _ c.self-in-SetRootTransform.inside.graph _ _ _ _ _ (root_tests c.self-in-SetRootTransform.inside.graph c.in-SetRootTransform.t.0) c.set_root.result c.in-SetRootTransform.is c.self-in-SetRootTransform.view_is refl refl s
@@ -60,9 +70,9 @@ returns-in-CreateTransform-clause-applied c = λ setup draft s.
 
 pub returns-in-SetHitRegions-clause-applied : goal.returns-in-SetHitRegions-clause-applied
 returns-in-SetHitRegions-clause-applied c = λ setup draft s.
-    graph-applied setup draft _ (SetHitRegions c.in-SetHitRegions.t c.as_slice.result.now) _ c.self-in-SetHitRegions.inside.graph _ _ _ _ _ (hits_tests c.self-in-SetHitRegions.inside.graph c.in-SetHitRegions.t.0 c.as_slice.result.now)
-    c.set_hits.result (c.in-SetHitRegions.is ∙ ap (SetHitRegions c.in-SetHitRegions.t) (sym c.as_slice.ensures)) c.self-in-SetHitRegions.view_is refl refl s
-    (λ g. (graph_calls_stand setup _ draft g).set_hits c.in-SetHitRegions.t c.as_slice.result.now)
+    graph-applied setup draft _ (SetHitRegions c.in-SetHitRegions.t c.as_slice-in-SetHitRegions.result.now) _ c.self-in-SetHitRegions.inside.graph _ _ _ _ _ (hits_tests c.self-in-SetHitRegions.inside.graph c.in-SetHitRegions.t.0 c.as_slice-in-SetHitRegions.result.now)
+    c.set_hits.result (c.in-SetHitRegions.is ∙ ap (SetHitRegions c.in-SetHitRegions.t) (sym c.as_slice-in-SetHitRegions.ensures)) c.self-in-SetHitRegions.view_is refl refl s
+    (λ g. (graph_calls_stand setup _ draft g).set_hits c.in-SetHitRegions.t c.as_slice-in-SetHitRegions.result.now)
     c.set_hits.ensures.set c.set_hits.ensures.allowed c.set_hits.ensures.fault c.set_hits.ensures.kept
 
 pub returns-in-SetInfiniteHitRegion-clause-applied : goal.returns-in-SetInfiniteHitRegion-clause-applied
