@@ -3,6 +3,8 @@ use Rattle.std.proofs.lemmas.List.Elements.{All-weaker}
 use Rattle.flat_topology.specs.declared.walk.Walk.{Walk}
 use Rattle.flat_topology.proofs.Opacities.{HasLowOpacity}
 use Rattle.flat_topology.proofs.Walking.{taken, taken-goes-on, taken-low, work-taken}
+use Rattle.flat_scene.specs.Setups.{at_ratio}
+use Rattle.flat_topology.proofs.lemmas.Ratios.{fits-at}
 use Rattle.flat_topology.proofs.joining.join.Goals as goal
 
 pub place-requires-clause-is : goal.place-requires-clause-is
@@ -15,7 +17,7 @@ place-requires-clause-low c =
     let walk : Walk = record { nodes = c.loop-stretch.walk.nodes; connected = c.loop-stretch.walk.connected; left = c.pop.new.self } in
     let t = taken c.args.shown.now _ _ c.in-Some.stretch c.loop-stretch.walk walk c.loop-stretch.invariant c.in-Some.ensures.items refl refl in
     taken-low c.args.shown.now _ _ c.in-Some.stretch walk (λ at. at.opacity < 4294967296) t
-    (All-weaker HasLowOpacity (λ at. at.opacity < 4294967296) (λ at low. omega (arith, low.0)) _ (c.links_make_a_tree.ensures.low c.args.setup.now c.args.shown.now c.requires.fit))
+    (All-weaker HasLowOpacity (λ at. at.opacity < 4294967296) (λ at low. omega (arith, low.0)) _ (c.links_make_a_tree.ensures.low (at_ratio c.args.ratio c.args.setup.now) c.args.shown.now (fits-at c.args.ratio c.args.setup.now c.args.shown.now c.requires.fit)))
 
 pub loop-stretch-smaller : goal.loop-stretch-smaller
 loop-stretch-smaller c = omega (arith, c.in_ok-place.ensures.work, work-taken c.args.shown.now c.loop-stretch.walk.left.items c.pop.new.self.items c.in-Some.stretch c.in-Some.ensures.items)
