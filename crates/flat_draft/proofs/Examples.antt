@@ -13,7 +13,7 @@ use Rattle.flat_graph.specs.State.{GraphState, new_node}
 use Rattle.flat_content.specs.declared.stored.Stored.TheVariants.{Fill, Viewport}
 use Rattle.flat_content.specs.Table.{TableState, empty_table, with_stored}
 use Rattle.flat_snap.specs.Building.{with_children}
-use Rattle.flat_scene.specs.declared.calls.Call.TheVariants.{CreateView, CreateFilledRect}
+use Rattle.flat_scene.specs.declared.calls.Call.TheVariants.{CreateView, CreateFilledRect, ReplaceChildren}
 use Rattle.flat_scene.specs.declared.calls.Watch.TheVariants as watch
 use Rattle.flat_scene.specs.Draft.{empty_draft}
 use Rattle.flat_draft.specs.Answers.{pair_watched, takes_memory}
@@ -87,5 +87,5 @@ gets = (refl, refl, refl, refl)
 drafted : (pair_watched (record empty_draft { view = Some pair }) watch.Status ≡ Some pair) × (pair_watched empty_draft (watch.Child (record { 0 = 9 })) ≡ None)
 drafted = (refl, refl)
 
-taking : (takes_memory (CreateView pair) ≡ false) × (takes_memory (CreateFilledRect (record { 0 = 1 })) ≡ true)
-taking = (refl, refl)
+taking : (takes_memory (CreateView pair) ≡ false) × (takes_memory (CreateFilledRect (record { 0 = 1 })) ≡ true) × (takes_memory (ReplaceChildren (record { 0 = 1 }) []) ≡ true)
+taking = (refl, refl, refl)

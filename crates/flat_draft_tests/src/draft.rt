@@ -1,6 +1,7 @@
-use flat_base::{ContentId, Items, PairNo, Reason};
+use flat_base::{ContentId, Items, PairNo, Reason, TransformId};
 use flat_draft::{Draft, DraftFault};
-use flat_scene::{Call, Inset, Watch};
+use flat_scene::{Call, Inset, PresentArgs, TransformList, Watch};
+use std::alloc::Global;
 use std::test::Fail;
 
 const PAIR: PairNo = PairNo(3);
@@ -49,5 +50,72 @@ fn readies_what_uses_an_end(rt: HostRuntime) -> Result<(), Fail> {
     let used = use_ends(&mut draft)?;
     let (has_view, in_use) = (Some(Reason::HasView), Some(Reason::IdInUse));
     assert_eq!(rt; used, (has_view, true, in_use, PAIR));
+    Ok(())
+}
+
+/// Two transforms, by their ids.
+fn pair_of(alloc: Global, first: u64, second: u64) -> Result<TransformList, Fail> {
+    let mut ids = Items::new(alloc);
+    ids.push(TransformId(first))?;
+    ids.push(TransformId(second))?;
+    Ok(ids)
+}
+
+/// A draft of three transforms. The first is the root, and the second its child.
+fn three(alloc: Global) -> Result<Draft, Fail> {
+    let mut draft = Draft::new(alloc, Items::new(alloc));
+    for id in 1..=3 {
+        draft.call(&Call::CreateTransform { t: TransformId(id) })?;
+    }
+    draft.call(&Call::SetRootTransform { t: TransformId(1) })?;
+    draft.call(&Call::AddChild {
+        p: TransformId(1),
+        k: TransformId(2),
+    })?;
+    Ok(draft)
+}
+
+/// The serial numbers of the nodes that a present of the draft shows, in their order.
+fn shown(alloc: Global, draft: &mut Draft) -> Result<Vec<u32>, Fail> {
+    let snapshot = draft.present(&PresentArgs {
+        time: 0,
+        acquire: Items::new(alloc),
+        release: Items::new(alloc),
+        unsquashable: false,
+    })?;
+    let mut serials = Vec::new(alloc);
+    for place in 0..snapshot.nodes() {
+        serials.push(snapshot.node(place).serial)?;
+    }
+    Ok(serials)
+}
+
+#[test]
+fn replaces_children(rt: HostRuntime) -> Result<(), Fail> {
+    let alloc = rt.alloc();
+    let mut draft = three(alloc)?;
+    let p = TransformId(1);
+    let children = pair_of(alloc, 3, 2)?;
+    draft.call(&Call::ReplaceChildren { p, children })?;
+    let both = shown(alloc, &mut draft)?;
+    let children = Items::new(alloc);
+    draft.call(&Call::ReplaceChildren { p, children })?;
+    let none = shown(alloc, &mut draft)?;
+    let are_shown = both.as_slice() == [1, 3, 2].as_slice() && none.as_slice() == [1].as_slice();
+    assert!(rt; are_shown);
+    Ok(())
+}
+
+#[test]
+fn children_listed_twice_close_the_draft(rt: HostRuntime) -> Result<(), Fail> {
+    let alloc = rt.alloc();
+    let mut draft = three(alloc)?;
+    let children = pair_of(alloc, 2, 2)?;
+    let p = TransformId(1);
+    let refused = reason(draft.call(&Call::ReplaceChildren { p, children }));
+    assert_eq!(rt;
+        (refused, draft.is_closed()),
+        (Some(Reason::AlreadyChild), true)
+    );
     Ok(())
 }
