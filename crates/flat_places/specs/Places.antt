@@ -156,13 +156,14 @@ collection s a = place (λ w. mapped (λ i. record { 0 = i }) (owned s.buffers s
 
 -- the places of the head
 
+-- the number, where there is such a version
+abbrev pub known_version : Reading ℕ → Reading ℕ
+known_version (Ok n) = if is_within VERSION_MAX n then Ok n else Err UnknownVersion
+known_version (Err k) = Err k
+
 -- the number of the version
 abbrev pub version : Form ℕ
-version = place (λ w. known (whole (number_below (2 ^ 32)) (w ∷ [])))
-  where
-    known : Reading ℕ → Reading ℕ
-    known (Ok n) = if is_within VERSION_MAX n then Ok n else Err UnknownVersion
-    known (Err k) = Err k
+version = place (λ w. known_version (whole (number_below (2 ^ 32)) (w ∷ [])))
 
 -- a pair with the display was declared
 abbrev pub has_display_pair : Script → Bool

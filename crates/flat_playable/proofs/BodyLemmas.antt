@@ -15,7 +15,6 @@ use Rattle.flat_scene.specs.declared.script.Body.{Body}
 use Rattle.flat_scene.specs.declared.script.Body.TheVariants as body
 use Rattle.flat_places.specs.declared.kinds.FaultKind.TheVariants.{Limit, BadOrder}
 use Rattle.flat_places.specs.declared.script.Script.{Script}
-use Rattle.flat_places.specs.Known.{known_words}
 use Rattle.flat_places.specs.Forms.{Word, Reading, mapped, unless_kind, whole, give}
 use Rattle.flat_forms.specs.Body.{time_begun, ends_frame, begin_times, dones, is_open, greatest, in_order, begin_place, display_line, session_line, probe_line, actor_line, with_line}
 use Rattle.flat_print.specs.Print.{display_words}
@@ -24,7 +23,9 @@ use Rattle.flat_print.proofs.lemmas.BodyWordLemmas.{display_spelt}
 use Rattle.flat_print.proofs.lemmas.AgainLemmas.{with_lines, Again}
 use Rattle.flat_forms.proofs.lemmas.ParserLemmas.{dones_more}
 use Rattle.flat_playable.specs.Playable.{rise_from, frames_close, is_played}
+use Rattle.flat_playable.specs.Versions.{is_of_first_version}
 use Rattle.flat_playable.proofs.PlayedLemmas.{actor_declared, line_played}
+use Rattle.flat_playable.proofs.EarlyLemmas.{line_early}
 
 -- frames
 
@@ -138,7 +139,7 @@ done_by : (s : Script) (n : ℕ) (a : Actor) (opened : Bool) (time : ℕ) → Fr
 done_by s n a true time kept is = record { opened = false; time = time; kept = ends s n a time kept }
 done_by s n a false time kept is = absurd (let o = open_is s false time kept in cc)
 
-display_frames : (s : Script) (n : ℕ) (a : Actor) (l : DisplayLine) (opened : Bool) (time : ℕ) → FramesKept s opened time → display_line known_words s (display_words s l) ≡ Ok l → FramesGoOn (with_line s n a (body.Display l))
+display_frames : (s : Script) (n : ℕ) (a : Actor) (l : DisplayLine) (opened : Bool) (time : ℕ) → FramesKept s opened time → display_line s (display_words s l) ≡ Ok l → FramesGoOn (with_line s n a (body.Display l))
 display_frames s n a (display.Begin t) opened time kept is = begun_by s n t a opened time kept (begin_ok s (decimal t ∷ []) t (nat_lt (length (begin_times s)) 512) is)
 display_frames s n a display.Done opened time kept is = done_by s n a opened time kept (unless_ok BadOrder (is_open s) (whole (give display.Done) []) display.Done is).passed
 display_frames s n a (display.Signal f) opened time kept is = record { opened = opened; time = time; kept = passed s n a (body.Display (display.Signal f)) opened time refl refl (λ o t k c later. refl) kept }
@@ -148,15 +149,15 @@ display_frames s n a (display.Hit x y) opened time kept is = record { opened = o
 frames_at : (s : Script) (n : ℕ) (a : Actor) (b c : Body) → b ≡ c → FramesGoOn (with_line s n a b) → FramesGoOn (with_line s n a c)
 frames_at s n a b c e go = let P : Body → Type 0 = λ x. FramesGoOn (with_line s n a x) in subst P e go
 
-pub line_frames : (s : Script) (n : ℕ) (a : Actor) (words : List Word) (b : Body) (opened : Bool) (time : ℕ) → FramesKept s opened time → actor_line known_words s a words ≡ Ok b → FramesGoOn (with_line s n a b)
+pub line_frames : (s : Script) (n : ℕ) (a : Actor) (words : List Word) (b : Body) (opened : Bool) (time : ℕ) → FramesKept s opened time → actor_line s a words ≡ Ok b → FramesGoOn (with_line s n a b)
 line_frames s n Display words b opened time kept is =
-    let m = mapped_ok body.Display (display_line known_words s words) b is in
-    frames_at s n Display (body.Display m.a) b m.value (display_frames s n Display m.a opened time kept (ap (display_line known_words s) (display_spelt s words m.a m.given) ∙ m.given))
+    let m = mapped_ok body.Display (display_line s words) b is in
+    frames_at s n Display (body.Display m.a) b m.value (display_frames s n Display m.a opened time kept (ap (display_line s) (display_spelt s words m.a m.given) ∙ m.given))
 line_frames s n (Session a) words b opened time kept is =
-    let m = mapped_ok body.Session (session_line known_words s a words) b is in
+    let m = mapped_ok body.Session (session_line s a words) b is in
     frames_at s n (Session a) (body.Session m.a) b m.value (record { opened = opened; time = time; kept = passed s n (Session a) (body.Session m.a) opened time refl refl (λ o t k c later. refl) kept })
 line_frames s n (Probe p) words b opened time kept is =
-    let m = mapped_ok body.Probe (probe_line known_words words) b is in
+    let m = mapped_ok body.Probe (probe_line s.setup.version words) b is in
     frames_at s n (Probe p) (body.Probe m.a) b m.value (record { opened = opened; time = time; kept = passed s n (Probe p) (body.Probe m.a) opened time refl refl (λ o t k c later. refl) kept })
 
 -- all of a body
@@ -169,6 +170,7 @@ pub record BodyKept (h : Script) (us : List ScriptLine) (n : ℕ) : Type 0 where
   pub counted : (c : ℕ) → n ≤ c + 1 → list_all (λ (next : ScriptLine). nat_le next.number c) us ≡ true
   pub frames : FramesGoOn (with_lines h us)
   pub played : list_all (λ (next : ScriptLine). is_played h.setup next.actor next.body) us ≡ true
+  pub early : h.setup.version ≡ 1 → list_all is_of_first_version us ≡ true
 
 pub body_empty : (h : Script) (n : ℕ) → 0 < n → BodyKept h [] n
 body_empty h n some = record {
@@ -178,6 +180,7 @@ body_empty h n some = record {
   counted = λ c few. refl;
   frames = record { opened = false; time = 0; kept = record { begun = refl; last = refl; judged = λ later. refl } };
   played = refl;
+  early = λ first. refl;
 }
 
 pub body_skipped : (h : Script) (us : List ScriptLine) (n : ℕ) → BodyKept h us n → BodyKept h us (n + 1)
@@ -188,6 +191,7 @@ body_skipped h us n kept = record {
   counted = λ c few. kept.counted c (omega arith);
   frames = kept.frames;
   played = kept.played;
+  early = kept.early;
 }
 
 below_count : (n c : ℕ) → n + 1 ≤ c + 1 → nat_le n c ≡ true
@@ -206,4 +210,5 @@ body_line_kept h us n words u a many probed kept =
       counted = λ c few. all-more (λ next. nat_le next.number c) us x (kept.counted c (omega arith)) (below_count n c few);
       frames = line_frames (with_lines h us) n a.actor a.rest a.body kept.frames.opened kept.frames.time kept.frames.kept a.line;
       played = all-more (λ next. is_played h.setup next.actor next.body) us x kept.played (line_played (with_lines h us) a.actor a.rest a.body many (actor_declared h a.first a.actor many probed a.named) a.line);
+      early = λ first. all-more is_of_first_version us x (kept.early first) (line_early (with_lines h us) n a.actor a.rest a.body first a.line);
     }

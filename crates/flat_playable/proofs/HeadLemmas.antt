@@ -10,6 +10,7 @@ use Rattle.flat_base.proofs.lemmas.Tests.{all-more, all-also}
 use Rattle.flat_base.specs.declared.ids.Actor.{Actor}
 use Rattle.flat_base.specs.declared.ids.Actor.TheVariants.{Display, Session, Probe}
 use Rattle.flat_base.specs.declared.ids.SessionNo.{SessionNo}
+use Rattle.flat_base.specs.declared.limits.TheConstants.{ONE, VERSION_MAX}
 use Rattle.flat_scene.specs.declared.setup.Setup.{Setup}
 use Rattle.flat_scene.specs.declared.setup.PairDecl.{PairDecl}
 use Rattle.flat_scene.specs.declared.setup.BufferDecl.{BufferDecl}
@@ -22,7 +23,7 @@ use Rattle.flat_places.specs.declared.script.Script.{Script}
 use Rattle.flat_places.specs.Forms.{Word, whole, each, one_or_more, ◌<$>◌}
 use Rattle.flat_places.specs.Names.{session_named, owner_named, is_actor}
 use Rattle.flat_places.specs.Places.{number_from, owner_word, has_display_pair}
-use Rattle.flat_forms.specs.Head.{empty, size, side, has_display, is_ready}
+use Rattle.flat_forms.specs.Head.{empty, with_version, size, side, has_display, is_ready}
 use Rattle.flat_forms.proofs.lemmas.FormLemmas.{both_ok, or_kind_ok, whole_ok, apply_ok, map_ok, place_ok}
 use Rattle.flat_forms.proofs.lemmas.StepLemmas.{SizeStep, SessionStep, ProbeStep, BuffersStep, PairStep, FenceStep, Step, size_step, session_step, probe_step, buffers_step, pair_step, fence_step}
 use Rattle.flat_playable.proofs.PlayedLemmas.{within_of, session_declared, owner_declared}
@@ -85,8 +86,11 @@ fence_more old new wider d is =
     let b = and_parts (nat_lt 0 (length d.owners)) (list_all (may_own old) d.owners) is in
     and_from _ _ b.0 (all-also (may_own old) (may_own new) (owner_more old new wider) d.owners b.1)
 
--- what a head keeps
-pub record HeadKept (u : Script) : Type 0 where
+-- what a head of that version keeps
+pub record HeadKept (v : ℕ) (u : Script) : Type 0 where
+  pub said : u.setup.version ≡ v
+  pub known : is_within VERSION_MAX v ≡ true
+  pub ratio : (u.setup.ratio == ONE) ≡ true
   pub lines : u.lines ≡ []
   pub probes : u.setup.probes ≡ length u.probes
   pub few_probes : length u.probes ≤ 8
@@ -104,8 +108,11 @@ pub record HeadKept (u : Script) : Type 0 where
   pub fences_owned : list_all (is_fence_declared u.setup) u.setup.fences ≡ true
   pub shown : length (filter (λ (pair : PairDecl). is_display pair.viewport) u.setup.pairs) ≡ cond (has_display_pair u) 1 0
 
-pub head_empty : HeadKept empty
-head_empty = record {
+pub head_first : (v : ℕ) → is_within VERSION_MAX v ≡ true → HeadKept v (with_version empty v)
+head_first v known = record {
+  said = refl;
+  known = known;
+  ratio = refl;
   lines = refl;
   probes = refl;
   few_probes = omega arith;
@@ -130,11 +137,14 @@ few_more xs ys x y same = omega (arith, length-append xs (x ∷ []), length-appe
 room_left : {A : Type 0} (xs : List A) (x : A) (most : ℕ) → nat_lt (length xs) most ≡ true → length (xs ++ x ∷ []) ≤ most
 room_left xs x most room = let less : length xs < most = grind (arith, nat_tests) in omega (arith, length-append xs (x ∷ []))
 
-size_kept : (u : Script) (ws : List Word) (t : Script) → SizeStep u ws t → HeadKept u → HeadKept t
-size_kept u ws t x o =
-    let P : Script → Type 0 = HeadKept in
+size_kept : {v : ℕ} (u : Script) (ws : List Word) (t : Script) → SizeStep u ws t → HeadKept v u → HeadKept v t
+size_kept {v = v} u ws t x o =
+    let P : Script → Type 0 = HeadKept v in
     let taken = size_taken x.rest x.w x.h x.read in
     subst P (sym x.made) (record {
+      said = o.said;
+      known = o.known;
+      ratio = o.ratio;
       lines = o.lines;
       probes = o.probes;
       few_probes = o.few_probes;
@@ -153,12 +163,15 @@ size_kept u ws t x o =
       shown = o.shown;
     })
 
-session_kept : (u : Script) (ws : List Word) (t : Script) → SessionStep u ws t → HeadKept u → HeadKept t
-session_kept u ws t x o =
-    let P : Script → Type 0 = HeadKept in
+session_kept : {v : ℕ} (u : Script) (ws : List Word) (t : Script) → SessionStep u ws t → HeadKept v u → HeadKept v t
+session_kept {v = v} u ws t x o =
+    let P : Script → Type 0 = HeadKept v in
     let more : Setup = record u.setup { sessions = u.setup.sessions + 1 } in
     let before = o.sessions in
     subst P (sym x.made) (record {
+      said = o.said;
+      known = o.known;
+      ratio = o.ratio;
       lines = o.lines;
       probes = o.probes;
       few_probes = o.few_probes;
@@ -177,12 +190,15 @@ session_kept u ws t x o =
       shown = o.shown;
     })
 
-probe_kept : (u : Script) (ws : List Word) (t : Script) → ProbeStep u ws t → HeadKept u → HeadKept t
-probe_kept u ws t x o =
-    let P : Script → Type 0 = HeadKept in
+probe_kept : {v : ℕ} (u : Script) (ws : List Word) (t : Script) → ProbeStep u ws t → HeadKept v u → HeadKept v t
+probe_kept {v = v} u ws t x o =
+    let P : Script → Type 0 = HeadKept v in
     let more : Setup = record u.setup { probes = u.setup.probes + 1 } in
     let before = o.probes in
     subst P (sym x.made) (record {
+      said = o.said;
+      known = o.known;
+      ratio = o.ratio;
       lines = o.lines;
       probes = omega (arith, length-append u.probes (x.name ∷ []));
       few_probes = room_left u.probes x.name 8 x.room;
@@ -201,14 +217,17 @@ probe_kept u ws t x o =
       shown = o.shown;
     })
 
-buffers_kept : (u : Script) (ws : List Word) (t : Script) → BuffersStep u ws t → HeadKept u → HeadKept t
-buffers_kept u ws t x o =
-    let P : Script → Type 0 = HeadKept in
+buffers_kept : {v : ℕ} (u : Script) (ws : List Word) (t : Script) → BuffersStep u ws t → HeadKept v u → HeadKept v t
+buffers_kept {v = v} u ws t x o =
+    let P : Script → Type 0 = HeadKept v in
     let owned = session_declared u x.owner x.decl.owner o.sessions x.owned in
     let count = and_from (is_declared u.setup x.decl.owner) (is_within 64 x.decl.count) owned (from_one 64 x.a x.decl.count x.count) in
     let width = and_from _ (is_within 65536 x.decl.w) count (from_one 65536 x.b x.decl.w x.width) in
     let good : is_buffer_declared u.setup x.decl ≡ true = and_from _ (is_within 65536 x.decl.h) width (from_one 65536 x.c x.decl.h x.height) in
     subst P (sym x.made) (record {
+      said = o.said;
+      known = o.known;
+      ratio = o.ratio;
       lines = o.lines;
       probes = o.probes;
       few_probes = o.few_probes;
@@ -271,11 +290,14 @@ pair_alone : (u : Script) (w : Word) (a : Actor) (is : Bool) → is_display a �
 pair_alone u w a false shows named single = refl
 pair_alone u w a true shows named single = let word = display_named_by u w a (bytes_eq w (codes "display")) refl named shows in ap (λ b. b && has_display_pair u) (sym word) ∙ single
 
-pair_kept : (u : Script) (ws : List Word) (t : Script) → PairStep u ws t → HeadKept u → HeadKept t
-pair_kept u ws t x o =
-    let P : Script → Type 0 = HeadKept in
+pair_kept : {v : ℕ} (u : Script) (ws : List Word) (t : Script) → PairStep u ws t → HeadKept v u → HeadKept v t
+pair_kept {v = v} u ws t x o =
+    let P : Script → Type 0 = HeadKept v in
     let good : is_pair_declared u.setup x.decl ≡ true = and_from (may_own u.setup x.decl.viewport) (is_declared u.setup x.decl.view) (owner_declared u x.x x.decl.viewport o.sessions x.viewport) (session_declared u x.y x.decl.view o.sessions x.view) in
     subst P (sym x.made) (record {
+      said = o.said;
+      known = o.known;
+      ratio = o.ratio;
       lines = o.lines;
       probes = o.probes;
       few_probes = o.few_probes;
@@ -310,10 +332,13 @@ owners_some u (w ∷ ws) d many is =
     some : (x : Actor) (xs : List Actor) → nat_lt 0 (length (x ∷ xs)) ≡ true
     some x xs = grind (arith, nat_tests)
 
-fence_kept : (u : Script) (ws : List Word) (t : Script) → FenceStep u ws t → HeadKept u → HeadKept t
-fence_kept u ws t x o =
-    let P : Script → Type 0 = HeadKept in
+fence_kept : {v : ℕ} (u : Script) (ws : List Word) (t : Script) → FenceStep u ws t → HeadKept v u → HeadKept v t
+fence_kept {v = v} u ws t x o =
+    let P : Script → Type 0 = HeadKept v in
     subst P (sym x.made) (record {
+      said = o.said;
+      known = o.known;
+      ratio = o.ratio;
       lines = o.lines;
       probes = o.probes;
       few_probes = o.few_probes;
@@ -332,7 +357,7 @@ fence_kept u ws t x o =
       shown = o.shown;
     })
 
-pub step_kept : (u : Script) (ws : List Word) (t : Script) → Step u ws t → HeadKept u → HeadKept t
+pub step_kept : {v : ℕ} (u : Script) (ws : List Word) (t : Script) → Step u ws t → HeadKept v u → HeadKept v t
 step_kept u ws t (size_step x) o = size_kept u ws t x o
 step_kept u ws t (session_step x) o = session_kept u ws t x o
 step_kept u ws t (probe_step x) o = probe_kept u ws t x o
@@ -345,10 +370,10 @@ step_kept u ws t (fence_step x) o = fence_kept u ws t x o
 within_most : (n m most : ℕ) → n ≡ m → m ≤ most → nat_le n most ≡ true
 within_most n m most same few = let k : n ≤ most = omega arith in grind (arith, nat_tests)
 
-one_shown : (u : Script) → HeadKept u → has_display_pair u ≡ true → has_one_display_pair u.setup ≡ true
+one_shown : {v : ℕ} (u : Script) → HeadKept v u → has_display_pair u ≡ true → has_one_display_pair u.setup ≡ true
 one_shown u o has = ap (λ n. n == 1) (o.shown ∙ ap (λ b. cond b 1 0) has)
 
-pub setup_given : (u : Script) → HeadKept u → is_ready u ≡ true → is_setup u.setup ≡ true
+pub setup_given : {v : ℕ} (u : Script) → HeadKept v u → is_ready u ≡ true → is_setup u.setup ≡ true
 setup_given u o ready =
     let r = and_parts (has_display u && nat_lt 0 (length u.sessions)) (has_display_pair u) ready in
     let q = and_parts (has_display u) (nat_lt 0 (length u.sessions)) r.0 in
@@ -360,7 +385,7 @@ setup_given u o ready =
     let buffers = within_most (length u.setup.buffers) (length u.buffers) 256 o.buffer_names o.few_buffers in
     let fences = within_most (length u.setup.fences) (length u.fences) 4096 o.fence_names o.few_fences in
     let limits : is_within_limits u.setup ≡ true =
-    and_from _ (nat_le (length u.setup.fences) 4096) (and_from _ (nat_le (length u.setup.buffers) 256) (and_from _ (nat_le (length u.setup.pairs) 4096) (and_from _ (nat_le u.setup.probes 8) (and_from _ (is_within 16 u.setup.sessions) (and_from (is_within 65536 u.setup.width) (is_within 65536 u.setup.height) sizes.0 sizes.1) sessions) probes) pairs) buffers) fences in
+    and_from _ (nat_le (length u.setup.fences) 4096) (and_from _ (nat_le (length u.setup.buffers) 256) (and_from _ (nat_le (length u.setup.pairs) 4096) (and_from _ (nat_le u.setup.probes 8) (and_from _ (is_within 16 u.setup.sessions) (and_from _ (is_within 65536 u.setup.height) (and_from _ (is_within 65536 u.setup.width) (and_from (is_within VERSION_MAX u.setup.version) (u.setup.ratio == ONE) (ap (is_within VERSION_MAX) o.said ∙ o.known) o.ratio) sizes.0) sizes.1) sessions) probes) pairs) buffers) fences in
     let owners : owners_declared u.setup ≡ true = and_from _ (list_all (is_fence_declared u.setup) u.setup.fences) (and_from (list_all (is_pair_declared u.setup) u.setup.pairs) (list_all (is_buffer_declared u.setup) u.setup.buffers) o.pairs_owned o.buffers_owned) o.fences_owned in
     and_from _ (has_one_display_pair u.setup) (and_from (is_within_limits u.setup) (owners_declared u.setup) limits owners) (one_shown u o r.1)
   where

@@ -1,5 +1,5 @@
 -- A line of the body that is read is one that is played.
-use Rattle.std.proofs.Common.{◌≡◌, ℕ, ◌+◌, ◌<◌, ◌≤◌, ◌==◌, ◌&&◌, Bool, true, false, ◌||◌, nat_lt, if◌then◌else◌, cond, subst, List, [], ◌∷◌, Option, Some, None, unwrap_or, option_map, Ok, Err, refl, sym, ◌∙◌, ap, codes, arith, slice_get, inl, inr}
+use Rattle.std.proofs.Common.{◌≡◌, ℕ, ◌+◌, ◌<◌, ◌≤◌, ◌==◌, ◌&&◌, Bool, true, false, ◌||◌, nat_lt, if◌then◌else◌, cond, subst, List, [], ◌∷◌, ◌++◌, Option, Some, None, unwrap_or, option_map, Ok, Err, refl, sym, ◌∙◌, ap, codes, arith, slice_get, inl, inr}
 use Rattle.std.specs.Option.{option_map_or, option_or}
 use Rattle.std.specs.List.{list_any, list_all, before_first, after_first}
 use Rattle.std.proofs.lemmas.Option.{slice_get_past}
@@ -36,15 +36,14 @@ use Rattle.flat_scene.specs.Setups.{is_within, is_declared, may_own}
 use Rattle.flat_rules.specs.Legal.{owns_view, owns_viewport, owns_fence, owns_buffers, is_fence}
 use Rattle.flat_places.specs.declared.kinds.FaultKind.TheVariants.{UnknownName, NotOwner}
 use Rattle.flat_places.specs.declared.script.Script.{Script}
-use Rattle.flat_places.specs.Known.{known_words}
 use Rattle.flat_places.specs.Forms.{Word, Form, Reading, both, mapped, unless_kind, each, one_or_more, whole, optional, ◌<$>◌, ◌<*>◌}
 use Rattle.flat_places.specs.Names.{place_of, session_named, owner_named, actor_named, is_actor}
-use Rattle.flat_places.specs.Places.{time, u32, content, session, fence, fence_word, owned, view_end, viewport_end, inset, collection}
+use Rattle.flat_places.specs.Places.{time, u32, content, unsquashable, session, fence, fence_word, owned, view_end, viewport_end, inset, collection}
 use Rattle.flat_forms.specs.Calls.{call_form, inset_or_none}
 use Rattle.flat_forms.specs.declared.calls.CallName.TheVariants.{CreateViewport, CreateImage}
 use Rattle.flat_forms.specs.Lists.{ends_list}
 use Rattle.flat_forms.specs.Body.{fence_lists, present, presents_asked, session_line, display_line, probe_line, actor_line}
-use Rattle.flat_print.specs.Print.{pair_word, buffers_word, session_word, numbers, call_fields, call_words, lists_words, session_words, display_words}
+use Rattle.flat_print.specs.Print.{pair_word, buffers_word, session_word, numbers, call_fields, call_words, lists_words, unsquashable_word, session_words, display_words}
 use Rattle.flat_print.specs.Print.{fence_word as fence_name}
 use Rattle.flat_forms.proofs.lemmas.FormLemmas.{apply_ok, map_ok, place_ok, whole_ok, unless_ok, or_kind_ok, mapped_ok, both_ok}
 use Rattle.flat_forms.proofs.lemmas.ListLemmas.{pair_of, ListsOk, lists_ok}
@@ -203,7 +202,7 @@ image_played s a c b i w h words is =
     let e : p2.a ≡ b = cc in
     ap (owns_buffers s.setup a) (sym e) ∙ collection_owned s a q.word p2.a q.passes
 
-call_played : (s : Script) (a : SessionNo) (c : Call) → session_line known_words s a (call_words s c) ≡ Ok (line.Call c) → is_played_call s.setup a c ≡ true
+call_played : (s : Script) (a : SessionNo) (c : Call) → session_line s a (call_words s c) ≡ Ok (line.Call c) → is_played_call s.setup a c ≡ true
 call_played s a (call.CreateView p) is = view_played s a p is
 call_played s a (call.CreateViewport c p w h i) is = viewport_played s a c p w h i (call_fields s (call.CreateViewport c p w h i)) is
 call_played s a (call.CreateImage c b i w h) is = image_played s a c b i w h (decimal c.0 ∷ buffers_word s b ∷ numbers (i ∷ w ∷ h ∷ [])) is
@@ -278,7 +277,7 @@ lists_by s a w words lists (inl read) =
     both_owned s a _ _ lists read.1 (λ fs given. some_owned s a (before_first (ends_list true) words) fs given) (λ fs given. behind_owned s a words fs (list_any (ends_list true) words) given)
 lists_by s a w words lists (inr read) = both_owned s a _ _ lists read.1 (λ fs given. none_owned s a fs given) (λ fs given. some_owned s a words fs given)
 
-lists_owned : (s : Script) (a : SessionNo) (words : List Word) (lists : List FenceNo × List FenceNo) → fence_lists known_words (fence_word s (Session a)) words ≡ Ok lists → AreOwned s a lists
+lists_owned : (s : Script) (a : SessionNo) (words : List Word) (lists : List FenceNo × List FenceNo) → fence_lists (fence_word s (Session a)) words ≡ Ok lists → AreOwned s a lists
 lists_owned s a [] lists is =
     let none : ([], []) ≡ lists = cc in
     let P : List FenceNo × List FenceNo → Type 0 = AreOwned s a in
@@ -294,15 +293,17 @@ fence_given s who h words v is =
 
 -- the other lines of a session
 
-present_by : (s : Script) (a : SessionNo) (p : PresentArgs) (words : List Word) → whole (line.Present <$> present known_words s a) words ≡ Ok (line.Present p) → is_played_line s.setup a (line.Present p) ≡ true
+present_by : (s : Script) (a : SessionNo) (p : PresentArgs) (words : List Word) → whole (line.Present <$> present s a) words ≡ Ok (line.Present p) → is_played_line s.setup a (line.Present p) ≡ true
 present_by s a p words is =
-    let lists : Form (List FenceNo × List FenceNo) = λ ws. (fence_lists known_words (fence_word s (Session a)) ws, []) in
-    let h : ℕ → List FenceNo × List FenceNo → PresentArgs = λ t both. record { time = t; acquire = both.0; release = both.1; unsquashable = false } in
-    let whole_line = map_ok line.Present (present known_words s a) words (line.Present p) [] (whole_ok (line.Present <$> present known_words s a) words (line.Present p) is) in
-    let second = apply_ok (h <$> time) lists words whole_line.a [] whole_line.given in
+    let lists : Form (List FenceNo × List FenceNo) = λ ws. (fence_lists (fence_word s (Session a)) ws, []) in
+    let alone = unsquashable s.setup.version in
+    let h : ℕ → Bool → List FenceNo × List FenceNo → PresentArgs = λ t u both. record { time = t; acquire = both.0; release = both.1; unsquashable = u } in
+    let whole_line = map_ok line.Present (present s a) words (line.Present p) [] (whole_ok (line.Present <$> present s a) words (line.Present p) is) in
+    let third = apply_ok (h <$> time <*> alone) lists words whole_line.a [] whole_line.given in
+    let second = apply_ok (h <$> time) alone words third.g third.mid third.first in
     let first = map_ok h time words second.g second.mid second.first in
-    let owned = lists_owned s a second.mid second.a second.second.value in
-    let args : h first.a second.a ≡ whole_line.a = ap (λ g. g second.a) first.value ∙ second.value in
+    let owned = lists_owned s a third.mid third.a third.second.value in
+    let args : h first.a second.a third.a ≡ whole_line.a = ap (λ g. g second.a third.a) first.value ∙ ap (λ g. g third.a) second.value ∙ third.value in
     ap (is_played_line s.setup a) (sym (ap line.Present args ∙ whole_line.value)) ∙ owned
 
 signal_played : (s : Script) (a : SessionNo) (f : FenceNo) (words : List Word) → whole (line.Signal <$> fence s (Session a)) words ≡ Ok (line.Signal f) → owns_fence s.setup a f ≡ true
@@ -321,7 +322,7 @@ wait_fence_played s a f words is =
     let e : g.0 ≡ f = cc in
     ap (owns_fence s.setup a) (sym e) ∙ tested_owned s a g.1.0 g.0 g.1.1.0
 
-wait_played : (s : Script) (a : SessionNo) (c : Cond) → session_line known_words s a (session_words s (line.Wait c)) ≡ Ok (line.Wait c) → is_played_condition s.setup a c ≡ true
+wait_played : (s : Script) (a : SessionNo) (c : Cond) → session_line s a (session_words s (line.Wait c)) ≡ Ok (line.Wait c) → is_played_condition s.setup a c ≡ true
 wait_played s a (asks.Frames n) is = refl
 wait_played s a (asks.Credits n) is = refl
 wait_played s a (asks.Taken n) is = refl
@@ -329,9 +330,9 @@ wait_played s a (asks.Answers n) is = refl
 wait_played s a (asks.Fence f) is = wait_fence_played s a f (fence_name s f ∷ []) is
 wait_played s a (asks.Presents t n) is = absurd (cc)
 
-session_played : (s : Script) (a : SessionNo) (l : Line) → session_line known_words s a (session_words s l) ≡ Ok l → is_played_line s.setup a l ≡ true
+session_played : (s : Script) (a : SessionNo) (l : Line) → session_line s a (session_words s l) ≡ Ok l → is_played_line s.setup a l ≡ true
 session_played s a (line.Call c) is = call_played s a c is
-session_played s a (line.Present p) is = present_by s a p (decimal p.time ∷ lists_words s p) is
+session_played s a (line.Present p) is = present_by s a p (decimal p.time ∷ unsquashable_word p.unsquashable ++ lists_words s p) is
 session_played s a (line.Get w) is = refl
 session_played s a (line.Signal f) is = signal_played s a f (fence_name s f ∷ []) is
 session_played s a line.Poll is = refl
@@ -368,7 +369,7 @@ presents_declared s t n words many is =
     let e : first.a ≡ t = cc in
     ap (is_declared s.setup) (sym e) ∙ session_declared s q.word first.a many (or_kind_ok UnknownName _ first.a q.passes)
 
-display_played : (s : Script) (l : DisplayLine) → s.setup.sessions ≡ length s.sessions → display_line known_words s (display_words s l) ≡ Ok l → is_played_display s.setup l ≡ true
+display_played : (s : Script) (l : DisplayLine) → s.setup.sessions ≡ length s.sessions → display_line s (display_words s l) ≡ Ok l → is_played_display s.setup l ≡ true
 display_played s (display.Begin t) many is = refl
 display_played s display.Done many is = refl
 display_played s (display.Signal f) many is = display_signal_played s f (fence_name s f ∷ []) is
@@ -381,14 +382,14 @@ display_played s (display.Wait (asks.Presents t n)) many is = presents_declared 
 display_played s (display.Hit x y) many is = refl
 
 -- a line behind its actor
-pub line_played : (s : Script) (a : Actor) (words : List Word) (b : Body) → s.setup.sessions ≡ length s.sessions → may_act s.setup a ≡ true → actor_line known_words s a words ≡ Ok b → is_played s.setup a b ≡ true
+pub line_played : (s : Script) (a : Actor) (words : List Word) (b : Body) → s.setup.sessions ≡ length s.sessions → may_act s.setup a ≡ true → actor_line s a words ≡ Ok b → is_played s.setup a b ≡ true
 line_played s Display words b many may is =
-    let m = mapped_ok body.Display (display_line known_words s words) b is in
-    ap (is_played s.setup Display) (sym m.value) ∙ display_played s m.a many (ap (display_line known_words s) (display_spelt s words m.a m.given) ∙ m.given)
+    let m = mapped_ok body.Display (display_line s words) b is in
+    ap (is_played s.setup Display) (sym m.value) ∙ display_played s m.a many (ap (display_line s) (display_spelt s words m.a m.given) ∙ m.given)
 line_played s (Session a) words b many may is =
-    let m = mapped_ok body.Session (session_line known_words s a words) b is in
+    let m = mapped_ok body.Session (session_line s a words) b is in
     let shown = session_shown s a words m.a m.given in
     ap (is_played s.setup (Session a)) (sym m.value) ∙ ap (λ d. d && is_played_line s.setup a m.a) may ∙ session_played s a m.a shown.again
 line_played s (Probe p) words b many may is =
-    let m = mapped_ok body.Probe (probe_line known_words words) b is in
+    let m = mapped_ok body.Probe (probe_line s.setup.version words) b is in
     ap (is_played s.setup (Probe p)) (sym m.value) ∙ may

@@ -1,11 +1,12 @@
--- Every script that the reader accepts is one that is played: each part of the test, and the whole.
-use Rattle.std.specs.Prelude.{◌≡◌, ◌≤◌, ℕ, false, true, nat_le, List, length}
+-- Every script that the reader accepts is one that is played: each part of the test, and the whole; and what its version says.
+use Rattle.std.specs.Prelude.{◌≡◌, ◌≤◌, ℕ, false, true, nat_le, List, length, Some}
 use Rattle.std.specs.List.{list_all}
 use Rattle.flat_base.specs.declared.limits.TheConstants.{SCRIPT_BYTES_MAX, SESSIONS_MAX}
 use Rattle.flat_scene.specs.Setups.{is_setup}
 use Rattle.flat_places.specs.declared.script.Script.{Script}
 use Rattle.flat_script.specs.Grammar.{IsScript}
 use Rattle.flat_playable.specs.Playable.{is_playable, rise_from, frames_close, is_played}
+use Rattle.flat_playable.specs.Versions.{is_of_first_version, first_kept, version_line}
 
 -- its setup is one that a head can give
 abbrev pub SetupsAreGiven : Type 0
@@ -34,6 +35,14 @@ FramesClose = (bytes : List ℕ) (script : Script) → IsScript bytes script →
 -- each line is one that is played
 abbrev pub LinesArePlayed : Type 0
 LinesArePlayed = (bytes : List ℕ) (script : Script) → IsScript bytes script → list_all (λ next. is_played script.setup next.actor next.body) script.lines ≡ true
+
+-- where its version is the first, no line has what came with the second
+abbrev pub FirstVersionIsKept : Type 0
+FirstVersionIsKept = (bytes : List ℕ) (script : Script) → IsScript bytes script → script.setup.version ≡ 1 → list_all is_of_first_version script.lines ≡ true
+
+-- the first line of its text that isn't skipped says its version
+abbrev pub TextsSayVersions : Type 0
+TextsSayVersions = (bytes : List ℕ) (script : Script) → IsScript bytes script → first_kept bytes ≡ Some (version_line script.setup.version)
 
 -- the whole test
 abbrev pub ScriptsArePlayable : Type 0

@@ -1,2 +1,3 @@
 pub mod Playable
+pub mod Versions
 pub mod Laws

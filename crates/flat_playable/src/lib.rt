@@ -4,9 +4,10 @@
 ghost use Rattle.flat_playable.specs.Laws.{SetupsAreGiven, CountsAreWithin, LinesRise};
 ghost use Rattle.flat_playable.specs.Laws.{LinesAreCounted, FramesClose, LinesArePlayed};
 ghost use Rattle.flat_playable.specs.Laws.{SessionsAreFew, ScriptsArePlayable};
+ghost use Rattle.flat_playable.specs.Laws.{FirstVersionIsKept, TextsSayVersions};
 
 /// Every script that the reader accepts is playable: each clause is one part of
-/// that test, and the last one the whole of it; and it names few sessions. The call
+/// that test, and `playable` the whole of it; and it names few sessions. The call
 /// does nothing. Its contract is a law about the definitions.
 pub fn scripts_are_playable()
     ensures played { LinesArePlayed }
@@ -17,4 +18,7 @@ pub fn scripts_are_playable()
     ensures setup { SetupsAreGiven }
     ensures sessions { SessionsAreFew }
     ensures playable { ScriptsArePlayable }
+    // What came with the second version is read in scripts of that version alone.
+    ensures early { FirstVersionIsKept }
+    ensures version { TextsSayVersions }
 {}

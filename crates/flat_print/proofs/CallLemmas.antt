@@ -1,6 +1,6 @@
 -- The words of a call are those that it was read from.
 use Rattle.flat_page.specs.Words.{name_at}
-use Rattle.std.proofs.Common.{◌≡◌, ℕ, ◌+◌, ◌<◌, ◌≤◌, ◌^◌, ◌-◌, ◌==◌, ◌&&◌, zero, suc, nat_le, ℤ, Bool, true, false, cond, nat_lt, List, [], ◌∷◌, ◌++◌, length, Option, Some, None, Ok, Err, refl, sym, ◌∙◌, ap, option_and_then, if◌then◌else◌, slice_get, unwrap_or, arith, get_or, append-nil, length-append, subst}
+use Rattle.std.proofs.Common.{◌≡◌, ℕ, ◌+◌, ◌<◌, ◌≤◌, ◌^◌, ◌-◌, ◌==◌, ◌&&◌, zero, suc, nat_le, ℤ, Bool, true, false, cond, nat_lt, List, [], ◌∷◌, ◌++◌, length, map, Option, Some, None, Ok, Err, refl, sym, ◌∙◌, ap, option_and_then, if◌then◌else◌, slice_get, unwrap_or, arith, get_or, append-nil, length-append, subst}
 use Rattle.std.specs.List.{flat_map, find}
 use Rattle.std.specs.Option.{option_map_or}
 use Rattle.std.specs.Str.{bytes_eq}
@@ -34,14 +34,14 @@ use Rattle.flat_scene.specs.declared.calls.Call.TheVariants as call
 use Rattle.flat_text.specs.Number.{natural, signed}
 use Rattle.flat_text.proofs.lemmas.NumberLemmas.{decimal-natural, signed_decimal-signed}
 use Rattle.flat_forms.specs.declared.calls.CallName.{CallName}
-use Rattle.flat_forms.specs.declared.calls.CallName.TheVariants.{CreateView, ReleaseView, CreateTransform, ReleaseTransform, SetTranslation, SetOrientation, SetScale, SetOpacity, SetClipBoundary, AddChild, RemoveChild, SetRootTransform, CreateViewport, SetViewportProperties, ReleaseViewport, CreateImage, SetImageSampleRegion, SetImageDestinationSize, SetImageBlendingFunction, SetImageFlip, SetImageOpacity, ReleaseImage, CreateFilledRect, SetSolidFill, ReleaseFilledRect, SetHitRegions, SetInfiniteHitRegion, SetContent, Clear}
+use Rattle.flat_forms.specs.declared.calls.CallName.TheVariants.{CreateView, ReleaseView, CreateTransform, ReleaseTransform, SetTranslation, SetOrientation, SetScale, SetOpacity, SetClipBoundary, AddChild, RemoveChild, ReplaceChildren, SetRootTransform, CreateViewport, SetViewportProperties, ReleaseViewport, CreateImage, SetImageSampleRegion, SetImageDestinationSize, SetImageBlendingFunction, SetImageFlip, SetImageOpacity, ReleaseImage, CreateFilledRect, SetSolidFill, ReleaseFilledRect, SetHitRegions, SetInfiniteHitRegion, SetContent, Clear}
 use Rattle.flat_places.specs.declared.kinds.FaultKind.TheVariants.{BadNumber, UnknownName, NotOwner}
 use Rattle.flat_places.specs.declared.script.Script.{Script}
 use Rattle.flat_places.specs.Forms.{Word, Form, Reading, unless_kind, both, mapped, whole, place, optional, ◌<$>◌, ◌<*>◌}
 use Rattle.flat_places.specs.Names.{place_of, is_actor}
-use Rattle.flat_places.specs.Places.{owned, number_below, i32, u32, colour, transform, content, choice, orientation, blend, flip, interaction, view_end, viewport_end, collection, fence, region, regions, int_rect, inset, fits_i32, fence_word as tested_fence}
-use Rattle.flat_forms.specs.Calls.{call_form, call_named, call_names, text, no_inset, inset_or_none}
-use Rattle.flat_places.specs.Known.{known_words}
+use Rattle.flat_places.specs.Places.{owned, number_below, i32, u32, colour, transform, content, choice, orientation, blend, flip, interaction, view_end, viewport_end, collection, fence, region, regions, transforms, int_rect, inset, fits_i32, fence_word as tested_fence}
+use Rattle.flat_forms.specs.Calls.{call_form, call_named, call_written, call_names, text, no_inset, inset_or_none}
+use Rattle.flat_places.specs.Known.{knows}
 use Rattle.flat_print.specs.Print.{pair_word, buffers_word, fence_word, call_fields, call_name, rect_words, inset_words, region_words, orientation_number, blend_number, flip_number, interaction_number}
 use Rattle.flat_forms.proofs.lemmas.FormLemmas.{mapped_ok, unless_ok, Gives, apply_ok, map_ok, place_ok, whole_ok, or_kind_ok, both_ok, Shown, shown_whole}
 use Rattle.flat_forms.proofs.lemmas.ParserLemmas.{is_zero}
@@ -278,6 +278,18 @@ regions_taken (x ∷ y ∷ w ∷ h ∷ i ∷ ws) rs is =
 regions_words : Spells (λ words. (regions words, [])) (λ rs. flat_map region_words rs)
 regions_words = record { takes = λ words v rest given. regions_taken words v given.value ∙ sym (append-nil (flat_map region_words v)) ∙ ap (λ t. flat_map region_words v ++ t) given.left }
 
+transforms_taken : (words : List Word) (ts : List TransformId) → transforms words ≡ Ok ts → words ≡ map (λ t. decimal t.0) ts
+transforms_taken [] ts is = let e : [] ≡ ts = cc in ap (map (λ (t : TransformId). decimal t.0)) e
+transforms_taken (w ∷ words) ts is =
+    let parts = both_ok (λ t rest. t ∷ rest) (transform (w ∷ [])).0 (transforms words) ts is in
+    let one : w ∷ [] ≡ decimal parts.a.0 ∷ [] = transform_words.takes (w ∷ []) parts.a [] (record { value = parts.first; left = refl }) in
+    ap (λ t. t ++ words) one ∙ ap (λ t. decimal parts.a.0 ∷ t) (transforms_taken words parts.b parts.second) ∙ ap (map (λ (t : TransformId). decimal t.0)) parts.value
+
+transforms_words : Spells (λ words. (transforms words, [])) (map (λ t. decimal t.0))
+transforms_words = record {
+  takes = λ words v rest given. transforms_taken words v given.value ∙ sym (append-nil (map (λ (t : TransformId). decimal t.0) v)) ∙ ap (λ t. map (λ (k : TransformId). decimal k.0) v ++ t) given.left;
+}
+
 -- what a call was read from are its name and its fields
 pub record Spelt (s : Script) (name : CallName) (words : List Word) (c : Call) : Type 0 where
   pub fields : call_fields s c ≡ words
@@ -339,6 +351,18 @@ spelt-RemoveChild s o words c is =
     let p1 = map_ok h transform words p2.g p2.mid p2.first in
     let value : h p1.a p2.a ≡ c = ap (λ g. g p2.a) p1.value ∙ p2.value in
     let taken : words ≡ call_fields s (h p1.a p2.a) = transform_words.takes words p1.a p2.mid p1.given ∙ ap (λ t. decimal p1.a.0 ∷ t) (p2.behind) in
+    record { fields = ap (call_fields s) (sym value) ∙ sym taken; named = ap call_name (sym value) }
+
+spelt-ReplaceChildren : (s : Script) (o : SessionNo) (words : List Word) (c : Call) → whole (call_form s o ReplaceChildren) words ≡ Ok c → Spelt s ReplaceChildren words c
+spelt-ReplaceChildren s o words c is =
+    let h : TransformId → List TransformId → Call = λ p ks. call.ReplaceChildren p ks in
+    let spell : List TransformId → List Word = map (λ k. decimal k.0) in
+    let given = whole_ok (call_form s o ReplaceChildren) words c is in
+    let p2 = split (h <$> transform) (λ ws. (transforms ws, [])) spell words c [] transforms_words given in
+    let p1 = map_ok h transform words p2.g p2.mid p2.first in
+    let value : h p1.a p2.a ≡ c = ap (λ g. g p2.a) p1.value ∙ p2.value in
+    let last : p2.mid ≡ spell p2.a = p2.behind ∙ append-nil (spell p2.a) in
+    let taken : words ≡ call_fields s (h p1.a p2.a) = transform_words.takes words p1.a p2.mid p1.given ∙ ap (λ t. decimal p1.a.0 ∷ t) last in
     record { fields = ap (call_fields s) (sym value) ∙ sym taken; named = ap call_name (sym value) }
 
 spelt-SetRootTransform : (s : Script) (o : SessionNo) (words : List Word) (c : Call) → whole (call_form s o SetRootTransform) words ≡ Ok c → Spelt s SetRootTransform words c
@@ -682,7 +706,7 @@ AllShown s o [] = Unit {0}
 AllShown s o (n ∷ ns) = CallShown s o n × AllShown s o ns
 
 all_shown : (s : Script) (o : SessionNo) → AllShown s o call_names
-all_shown s o = (in_full s o CreateView (spelt-CreateView s o), (in_full s o ReleaseView (spelt-ReleaseView s o), (in_full s o CreateTransform (spelt-CreateTransform s o), (in_full s o ReleaseTransform (spelt-ReleaseTransform s o), (in_full s o SetTranslation (spelt-SetTranslation s o), (in_full s o SetOrientation (spelt-SetOrientation s o), (in_full s o SetScale (spelt-SetScale s o), (in_full s o SetOpacity (spelt-SetOpacity s o), (in_full s o SetClipBoundary (spelt-SetClipBoundary s o), (in_full s o AddChild (spelt-AddChild s o), (in_full s o RemoveChild (spelt-RemoveChild s o), (in_full s o SetRootTransform (spelt-SetRootTransform s o), (shown-CreateViewport s o, (in_full s o SetViewportProperties (spelt-SetViewportProperties s o), (in_full s o ReleaseViewport (spelt-ReleaseViewport s o), (in_full s o CreateImage (spelt-CreateImage s o), (in_full s o SetImageSampleRegion (spelt-SetImageSampleRegion s o), (in_full s o SetImageDestinationSize (spelt-SetImageDestinationSize s o), (in_full s o SetImageBlendingFunction (spelt-SetImageBlendingFunction s o), (in_full s o SetImageFlip (spelt-SetImageFlip s o), (in_full s o SetImageOpacity (spelt-SetImageOpacity s o), (in_full s o ReleaseImage (spelt-ReleaseImage s o), (in_full s o CreateFilledRect (spelt-CreateFilledRect s o), (in_full s o SetSolidFill (spelt-SetSolidFill s o), (in_full s o ReleaseFilledRect (spelt-ReleaseFilledRect s o), (in_full s o SetHitRegions (spelt-SetHitRegions s o), (in_full s o SetInfiniteHitRegion (spelt-SetInfiniteHitRegion s o), (in_full s o SetContent (spelt-SetContent s o), (in_full s o Clear (spelt-Clear s o), tt)))))))))))))))))))))))))))))
+all_shown s o = (in_full s o CreateView (spelt-CreateView s o), (in_full s o ReleaseView (spelt-ReleaseView s o), (in_full s o CreateTransform (spelt-CreateTransform s o), (in_full s o ReleaseTransform (spelt-ReleaseTransform s o), (in_full s o SetTranslation (spelt-SetTranslation s o), (in_full s o SetOrientation (spelt-SetOrientation s o), (in_full s o SetScale (spelt-SetScale s o), (in_full s o SetOpacity (spelt-SetOpacity s o), (in_full s o SetClipBoundary (spelt-SetClipBoundary s o), (in_full s o AddChild (spelt-AddChild s o), (in_full s o RemoveChild (spelt-RemoveChild s o), (in_full s o ReplaceChildren (spelt-ReplaceChildren s o), (in_full s o SetRootTransform (spelt-SetRootTransform s o), (shown-CreateViewport s o, (in_full s o SetViewportProperties (spelt-SetViewportProperties s o), (in_full s o ReleaseViewport (spelt-ReleaseViewport s o), (in_full s o CreateImage (spelt-CreateImage s o), (in_full s o SetImageSampleRegion (spelt-SetImageSampleRegion s o), (in_full s o SetImageDestinationSize (spelt-SetImageDestinationSize s o), (in_full s o SetImageBlendingFunction (spelt-SetImageBlendingFunction s o), (in_full s o SetImageFlip (spelt-SetImageFlip s o), (in_full s o SetImageOpacity (spelt-SetImageOpacity s o), (in_full s o ReleaseImage (spelt-ReleaseImage s o), (in_full s o CreateFilledRect (spelt-CreateFilledRect s o), (in_full s o SetSolidFill (spelt-SetSolidFill s o), (in_full s o ReleaseFilledRect (spelt-ReleaseFilledRect s o), (in_full s o SetHitRegions (spelt-SetHitRegions s o), (in_full s o SetInfiniteHitRegion (spelt-SetInfiniteHitRegion s o), (in_full s o SetContent (spelt-SetContent s o), (in_full s o Clear (spelt-Clear s o), tt))))))))))))))))))))))))))))))
 
 shown_at : (s : Script) (o : SessionNo) (n m : CallName) → m ≡ n → CallShown s o m → CallShown s o n
 shown_at s o n m e spelt = let P : CallName → Type 0 = CallShown s o in subst P e spelt
@@ -701,8 +725,12 @@ pub record NamedCall (s : Script) (o : SessionNo) (w : Word) (n : CallName) (wor
   pub fields : Shown (whole (call_form s o n)) (call_fields s c) words c
   pub word : text (call_name c) ≡ w
 
-pub call_shown : (s : Script) (o : SessionNo) (w : Word) (n : CallName) → call_named known_words w ≡ Some n → (words : List Word) (c : Call) → whole (call_form s o n) words ≡ Ok c → NamedCall s o w n words c
+pub call_shown : (s : Script) (o : SessionNo) (w : Word) (n : CallName) → call_named s.setup.version w ≡ Some n → (words : List Word) (c : Call) → whole (call_form s o n) words ≡ Ok c → NamedCall s o w n words c
 call_shown s o w n named words c is =
-    let found = find_shown s o (λ m. bytes_eq w (text m)) call_names n (all_shown s o) named in
+    let found = find_shown s o (λ m. bytes_eq w (text m)) call_names n (all_shown s o) (written_by (knows s.setup.version w) named) in
     let shown = found.0 words c is in
     record { fields = shown.fields; word = ap text shown.named ∙ sym ((bytes_eq-Decides w (text n)).0 found.1) }
+  where
+    written_by : (b : Bool) → cond b (call_written w) None ≡ Some n → call_written w ≡ Some n
+    written_by true is = is
+    written_by false is = absurd (cc)

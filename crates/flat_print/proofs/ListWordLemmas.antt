@@ -1,5 +1,5 @@
 -- The words of fence lists, of conditions and of tables are those that they were read from.
-use Rattle.std.proofs.Common.{◌≡◌, ℕ, Bool, true, false, ◌||◌, List, [], ◌∷◌, ◌++◌, map, Ok, refl, sym, ◌∙◌, ap, codes, if◌then◌else◌, inl, inr}
+use Rattle.std.proofs.Common.{◌≡◌, Bool, true, false, ◌||◌, List, [], ◌∷◌, ◌++◌, map, Ok, refl, sym, ◌∙◌, ap, codes, if◌then◌else◌, inl, inr}
 use Rattle.std.specs.List.{list_any, before_first, after_first}
 use Rattle.std.specs.Str.{bytes_eq}
 use Rattle.std.proofs.lemmas.Slice.Eq.{bytes_eq-Decides}
@@ -7,7 +7,6 @@ use Rattle.flat_base.specs.declared.ids.Actor.{Actor}
 use Rattle.flat_base.specs.declared.ids.FenceNo.{FenceNo}
 use Rattle.flat_places.specs.declared.kinds.FaultKind.{FaultKind}
 use Rattle.flat_places.specs.declared.script.Script.{Script}
-use Rattle.flat_places.specs.Known.{known_words}
 use Rattle.flat_places.specs.Forms.{Word, Table, both, each, one_or_more, at_word}
 use Rattle.flat_places.specs.Places.{fence_word as tested_fence}
 use Rattle.flat_forms.specs.Body.{fence_lists}
@@ -98,6 +97,6 @@ module _ (s : Script) (a : Actor) where
   lists_by w words lists (inl read) = ap (λ v. v ∷ words) read.0 ∙ both_spelt words lists read.1
   lists_by w words lists (inr read) = ap (λ v. v ∷ words) read.0 ∙ release_spelt words lists read.1
 
-  pub lists_spelt : (words : List Word) (lists : List FenceNo × List FenceNo) → fence_lists known_words (tested_fence s a) words ≡ Ok lists → words ≡ both_words lists
+  pub lists_spelt : (words : List Word) (lists : List FenceNo × List FenceNo) → fence_lists (tested_fence s a) words ≡ Ok lists → words ≡ both_words lists
   lists_spelt [] lists is = let none : ([], []) ≡ lists = cc in ap both_words none
   lists_spelt (w ∷ words) lists is = lists_by w words lists (lists_ok (tested_fence s a) w words lists is)

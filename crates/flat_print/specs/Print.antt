@@ -1,9 +1,8 @@
 -- The canonical text of a script: the words of each of its lines.
-use Rattle.std.specs.Prelude.{◌≡◌, ℕ, ◌+◌, ◌-◌, ◌==◌, ◌&&◌, List, [], ◌∷◌, ◌++◌, map, codes, if◌then◌else◌}
+use Rattle.std.specs.Prelude.{◌≡◌, ℕ, ◌+◌, ◌-◌, ◌==◌, Bool, ◌&&◌, List, [], ◌∷◌, ◌++◌, map, codes, if◌then◌else◌}
 use Rattle.std.specs.List.{flat_map}
 use Rattle.std.specs.Option.{option_map_or}
 use Rattle.std.specs.Fmt.{decimal, signed_decimal}
-use Rattle.flat_base.specs.declared.ids.Actor.TheVariants.{Display, Session, Probe}
 use Rattle.flat_base.specs.declared.ids.SessionNo.{SessionNo}
 use Rattle.flat_base.specs.declared.ids.PairNo.{PairNo}
 use Rattle.flat_base.specs.declared.ids.FenceNo.{FenceNo}
@@ -39,7 +38,7 @@ use Rattle.flat_scene.specs.declared.setup.PairDecl.{PairDecl}
 use Rattle.flat_scene.specs.declared.setup.BufferDecl.{BufferDecl}
 use Rattle.flat_scene.specs.declared.setup.FenceDecl.{FenceDecl}
 use Rattle.flat_forms.specs.declared.calls.CallName.{CallName}
-use Rattle.flat_forms.specs.declared.calls.CallName.TheVariants.{CreateView, ReleaseView, CreateTransform, ReleaseTransform, SetTranslation, SetOrientation, SetScale, SetOpacity, SetClipBoundary, AddChild, RemoveChild, SetRootTransform, CreateViewport, SetViewportProperties, ReleaseViewport, CreateImage, SetImageSampleRegion, SetImageDestinationSize, SetImageBlendingFunction, SetImageFlip, SetImageOpacity, ReleaseImage, CreateFilledRect, SetSolidFill, ReleaseFilledRect, SetHitRegions, SetInfiniteHitRegion, SetContent, Clear}
+use Rattle.flat_forms.specs.declared.calls.CallName.TheVariants.{CreateView, ReleaseView, CreateTransform, ReleaseTransform, SetTranslation, SetOrientation, SetScale, SetOpacity, SetClipBoundary, AddChild, RemoveChild, ReplaceChildren, SetRootTransform, CreateViewport, SetViewportProperties, ReleaseViewport, CreateImage, SetImageSampleRegion, SetImageDestinationSize, SetImageBlendingFunction, SetImageFlip, SetImageOpacity, ReleaseImage, CreateFilledRect, SetSolidFill, ReleaseFilledRect, SetHitRegions, SetInfiniteHitRegion, SetContent, Clear}
 use Rattle.flat_places.specs.declared.script.Script.{Script}
 use Rattle.flat_places.specs.Forms.{Word}
 use Rattle.flat_forms.specs.Calls.{text}
@@ -120,6 +119,7 @@ call_fields s (call.SetOpacity t v) = numbers (t.0 ∷ v ∷ [])
 call_fields s (call.SetClipBoundary t r) = decimal t.0 ∷ option_map_or rect_words r []
 call_fields s (call.AddChild p k) = numbers (p.0 ∷ k.0 ∷ [])
 call_fields s (call.RemoveChild p k) = numbers (p.0 ∷ k.0 ∷ [])
+call_fields s (call.ReplaceChildren p ks) = decimal p.0 ∷ map (λ k. decimal k.0) ks
 call_fields s (call.SetRootTransform t) = numbers (t.0 ∷ [])
 call_fields s (call.CreateViewport c p w h i) = decimal c.0 ∷ pair_word s p ∷ numbers (w ∷ h ∷ []) ++ inset_unless_none i
 call_fields s (call.SetViewportProperties c w h i) = numbers (c.0 ∷ w ∷ h ∷ []) ++ option_map_or inset_words i []
@@ -152,6 +152,7 @@ call_name (call.SetOpacity t v) = SetOpacity
 call_name (call.SetClipBoundary t r) = SetClipBoundary
 call_name (call.AddChild p k) = AddChild
 call_name (call.RemoveChild p k) = RemoveChild
+call_name (call.ReplaceChildren p ks) = ReplaceChildren
 call_name (call.SetRootTransform t) = SetRootTransform
 call_name (call.CreateViewport c p w h i) = CreateViewport
 call_name (call.SetViewportProperties c w h i) = SetViewportProperties
@@ -186,9 +187,13 @@ list_words s keyword (f ∷ fs) = keyword ∷ map (fence_word s) (f ∷ fs)
 abbrev pub lists_words : Script → PresentArgs → List Word
 lists_words s p = list_words s (codes "acquire") p.acquire ++ list_words s (codes "release") p.release
 
+-- `unsquashable`, for a present that is
+abbrev pub unsquashable_word : Bool → List Word
+unsquashable_word alone = if alone then codes "unsquashable" ∷ [] else []
+
 -- a present
 abbrev pub present_words : Script → PresentArgs → List Word
-present_words s p = codes "Present" ∷ decimal p.time ∷ lists_words s p
+present_words s p = codes "Present" ∷ decimal p.time ∷ unsquashable_word p.unsquashable ++ lists_words s p
 
 -- what a Wait asks for
 abbrev pub condition_words : Script → Cond → List Word
@@ -261,6 +266,10 @@ abbrev pub numbered : {A : Type 0} → (ℕ → A → List Word) → ℕ → Lis
 numbered f i [] = []
 numbered f i (d ∷ ds) = f i d ∷ numbered f (i + 1) ds
 
+-- the version
+abbrev pub version_words : Script → List Word
+version_words s = codes "flatland" ∷ numbers (s.setup.version ∷ [])
+
 -- the display
 abbrev pub display_line_words : Script → List Word
 display_line_words s = codes "display" ∷ numbers (s.setup.width ∷ s.setup.height ∷ [])
@@ -299,7 +308,7 @@ fed (words ∷ lines) = 10 ∷ (spelled words ++ fed lines)
 
 -- the canonical text: the version, and the other lines, with no line feed at the end
 abbrev pub text_of : Script → List ℕ
-text_of s = codes "flatland 1" ++ fed (script_words s)
+text_of s = spelled (version_words s) ++ fed (script_words s)
 
 -- the words stand behind what was there
 pub record Writes (words : List Word) (old new : List ℕ) : Type 0 where

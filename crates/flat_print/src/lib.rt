@@ -6,6 +6,7 @@
 //! (AgainLemmas, BodyWordLemmas).
 #![tactic(auto)]
 
+mod print_calls;
 mod print_lines;
 mod print_words;
 mod printer;

@@ -8,7 +8,7 @@ ghost use Rattle.flat_print.specs.Print.{rect_words, inset_words, inset_unless_n
 ghost use Rattle.flat_print.specs.Print.{region_words, list_words, orientation_number};
 ghost use Rattle.flat_print.specs.Print.{blend_number, flip_number, interaction_number};
 
-use flat_base::{Actor, FenceNo, IntRect, NoMemory, Orientation, SessionNo};
+use flat_base::{Actor, FenceNo, IntRect, NoMemory, Orientation, SessionNo, TransformId};
 use flat_page::{actor_name, name_at, session_name};
 use flat_places::Script;
 use flat_scene::{BlendMode, HitRegion, ImageFlip, Inset, Interaction};
@@ -60,6 +60,15 @@ pub fn push_u64(out: &mut Vec<u8>, value: u64) -> Result<(), NoMemory>
     ensures { OnOk result (Writes (decimal value ∷ []) out.old.items out.new.items) }
 {
     push_integer(out, value as i128)
+}
+
+pub fn push_point(out: &mut Vec<u8>, x: i32, y: i32) -> Result<(), NoMemory>
+    ensures { OnOk result (Writes (signed_decimal x ∷ signed_decimal y ∷ []) out.old.items
+        out.new.items) }
+{
+    push_i32(out, x)?;
+    push_i32(out, y)?;
+    Ok(())
 }
 
 /// Each of the numbers behind a space.
@@ -191,6 +200,16 @@ pub fn push_regions(out: &mut Vec<u8>, regions: &[HitRegion]) -> Result<(), NoMe
 {
     for region in regions {
         push_region(out, region)?;
+    }
+    Ok(())
+}
+
+pub fn push_transforms(out: &mut Vec<u8>, transforms: &[TransformId]) -> Result<(), NoMemory>
+    ensures { OnOk result (Writes (map (λ t. decimal t.0) transforms.now) out.old.items
+        out.new.items) }
+{
+    for transform in transforms {
+        push_u64(out, transform.0)?;
     }
     Ok(())
 }

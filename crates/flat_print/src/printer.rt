@@ -3,7 +3,7 @@ ghost use Rattle.std.specs.Prelude.{◌≡◌, ◌++◌, ◌∷◌, [], ℕ, Lis
 ghost use Rattle.flat_print.specs.Print.{Writes, WritesLines, Starts, name_words};
 ghost use Rattle.flat_print.specs.Print.{buffers_line_words, pair_line_words, fence_line_words};
 ghost use Rattle.flat_print.specs.Print.{numbered, display_line_words, head_words, line_words};
-ghost use Rattle.flat_print.specs.Print.{session_word, numbers, text_of};
+ghost use Rattle.flat_print.specs.Print.{session_word, numbers, text_of, spelled, version_words};
 ghost use Rattle.flat_print.specs.Print.{IsReadBack};
 ghost use Rattle.flat_script.specs.Grammar.{IsScript};
 
@@ -30,10 +30,18 @@ pub fn print(alloc: Global, script: &Script) -> Result<Vec<u8>, NoMemory>
         IfOk result (λ text. IsReadBack text.items script.now) }
 {
     let mut out = Vec::new(alloc);
-    push_bytes(&mut out, b"flatland 1")?;
+    push_version(&mut out, script)?;
     push_head(&mut out, script)?;
     push_lines(&mut out, script, script.lines.as_slice())?;
     Ok(out)
+}
+
+fn push_version(out: &mut Vec<u8>, script: &Script) -> Result<(), NoMemory>
+    ensures { OnOk result (out.new.items ≡ out.old.items ++ spelled (version_words script.now)) }
+{
+    push_bytes(out, b"flatland")?;
+    push_numbers(out, &[script.setup.version as u64])?;
+    Ok(())
 }
 
 /// A line feed, and the first word of a line.

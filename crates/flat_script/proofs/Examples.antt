@@ -1,5 +1,5 @@
 -- Scripts and faults, computed.
-use Rattle.std.proofs.Common.{◌≡◌, ℕ, List, [], ◌∷◌, Some, None, Result, Ok, Err, refl, codes, pos, negsuc}
+use Rattle.std.proofs.Common.{◌≡◌, ℕ, true, false, List, [], ◌∷◌, Some, None, Result, Ok, Err, refl, codes, pos, negsuc}
 use Rattle.flat_base.specs.declared.ids.Actor.TheVariants.{Display, Session, Probe}
 use Rattle.flat_scene.specs.declared.calls.Call.TheVariants as call
 use Rattle.flat_scene.specs.declared.calls.Watch.TheVariants as watch
@@ -12,8 +12,7 @@ use Rattle.flat_places.specs.Kinds.{number}
 use Rattle.flat_places.specs.declared.kinds.FaultKind.TheVariants.{NotAscii, BadHead, UnknownActor, UnknownCall, BadNumber, WrongCount, NotOwner, BadOrder, UnknownVersion}
 use Rattle.flat_places.specs.declared.script.Script.{Script}
 use Rattle.flat_script.specs.declared.script.ScriptFault.{ScriptFault}
-use Rattle.flat_places.specs.Known.{known_words}
-use Rattle.flat_script.specs.Grammar.{read_with, IsScript, IsFault}
+use Rattle.flat_script.specs.Grammar.{text_read, IsScript, IsFault}
 
 -- the line and the number of a fault's kind, or 0 and the number of lines
 abbrev outcome : Result Script ScriptFault → ℕ × ℕ
@@ -22,7 +21,7 @@ outcome (Err f) = (f.line, number f.kind)
 
 -- what the text gives
 abbrev gives : List ℕ → ℕ × ℕ
-gives text = outcome (read_with known_words text)
+gives text = outcome (text_read text)
 
 -- whole scripts, value by value
 
@@ -181,13 +180,56 @@ version_four = refl
 version_three_before_it_is_known : IsFault (codes "flatland 3\ndisplay 100 100\nsession A\npair t0 display A\nrun\n") (record { line = 1; kind = UnknownVersion })
 version_three_before_it_is_known = refl
 
-version_two_before_it_is_known : IsFault (codes "flatland 2\ndisplay 100 100\nsession A\npair t0 display A\nrun\n") (record { line = 1; kind = UnknownVersion })
-version_two_before_it_is_known = refl
-
 version_zero : IsFault (codes "flatland 0\ndisplay 100 100\nsession A\npair t0 display A\nrun\n") (record { line = 1; kind = UnknownVersion })
 version_zero = refl
 
--- the whole grammar of the version
+-- the second version
+
+words_of_the_second_version : IsScript (codes "flatland 2\ndisplay 100 90\nsession A\npair t0 display A\nfence f A\nrun\nA Present 0 unsquashable\nA Present 0 unsquashable acquire f\nA Present 1\nA ReplaceChildren 1\nA ReplaceChildren 1 3 2\n") (record {
+  setup = record { width = 100; height = 90; sessions = 1; probes = 0; pairs = record { viewport = Display; view = record { 0 = 1 } } ∷ []; buffers = []; fences = record { owners = Session (record { 0 = 1 }) ∷ [] } ∷ []; version = 2; ratio = 65536 };
+  sessions = codes "A" ∷ [];
+  probes = [];
+  buffers = [];
+  pairs = codes "t0" ∷ [];
+  fences = codes "f" ∷ [];
+  lines =
+      record { number = 7; actor = Session (record { 0 = 1 }); body = body.Session (line.Present (record { time = 0; acquire = []; release = []; unsquashable = true })) } ∷
+      record { number = 8; actor = Session (record { 0 = 1 }); body = body.Session (line.Present (record { time = 0; acquire = record { 0 = 0 } ∷ []; release = []; unsquashable = true })) } ∷
+      record { number = 9; actor = Session (record { 0 = 1 }); body = body.Session (line.Present (record { time = 1; acquire = []; release = []; unsquashable = false })) } ∷
+      record { number = 10; actor = Session (record { 0 = 1 }); body = body.Session (line.Call (call.ReplaceChildren (record { 0 = 1 }) [])) } ∷
+      record { number = 11; actor = Session (record { 0 = 1 }); body = body.Session (line.Call (call.ReplaceChildren (record { 0 = 1 }) (record { 0 = 3 } ∷ record { 0 = 2 } ∷ []))) } ∷ [];
+  count = 11;
+})
+words_of_the_second_version = refl
+
+number_behind_unsquashable : IsFault (codes "flatland 2\ndisplay 100 100\nsession A\npair t0 display A\nrun\nA Present 0 unsquashable 5\n") (record { line = 6; kind = WrongCount })
+number_behind_unsquashable = refl
+
+unsquashable_twice : IsFault (codes "flatland 2\ndisplay 100 100\nsession A\npair t0 display A\nrun\nA Present 0 unsquashable unsquashable\n") (record { line = 6; kind = WrongCount })
+unsquashable_twice = refl
+
+unsquashable_for_the_time : IsFault (codes "flatland 2\ndisplay 100 100\nsession A\npair t0 display A\nrun\nA Present unsquashable\n") (record { line = 6; kind = BadNumber })
+unsquashable_for_the_time = refl
+
+other_word_behind_the_time_in_version_two : IsFault (codes "flatland 2\ndisplay 100 100\nsession A\npair t0 display A\nrun\nA Present 0 5\n") (record { line = 6; kind = WrongCount })
+other_word_behind_the_time_in_version_two = refl
+
+empty_acquire_in_version_two : IsFault (codes "flatland 2\ndisplay 100 100\nsession A\npair t0 display A\nrun\nA Present 0 unsquashable acquire\n") (record { line = 6; kind = WrongCount })
+empty_acquire_in_version_two = refl
+
+unsquashable_behind_a_list : gives (codes "flatland 2\ndisplay 100 100\nsession A\npair t0 display A\nfence f A\nrun\nA Present 0 acquire f unsquashable\n") ≡ (7, 9)
+unsquashable_behind_a_list = refl
+
+children_of_no_transform : IsFault (codes "flatland 2\ndisplay 100 100\nsession A\npair t0 display A\nrun\nA ReplaceChildren\n") (record { line = 6; kind = WrongCount })
+children_of_no_transform = refl
+
+child_beyond_64_bits : IsFault (codes "flatland 2\ndisplay 100 100\nsession A\npair t0 display A\nrun\nA ReplaceChildren 1 2 18446744073709551616\n") (record { line = 6; kind = BadNumber })
+child_beyond_64_bits = refl
+
+fence_named_unsquashable : gives (codes "flatland 2\ndisplay 100 100\nsession A\npair t0 display A\nfence unsquashable A\nrun\nA Present 0 unsquashable acquire unsquashable\n") ≡ (0, 7)
+fence_named_unsquashable = refl
+
+-- the whole grammar of the first version
 
 shell_with_two_apps : gives (codes "flatland 1\ndisplay 1280 800\nsession shell\nsession mail\nsession clock\nbuffers mb mail 2 640 760\npair root display shell\npair tm shell mail\npair tc shell clock\nfence g1 mail\nfence g2 mail\nfence d1 mail\nfence d2 mail\nrun\nmail CreateView tm\nmail GetLayout\nclock CreateView tc\nclock GetStatus\nshell CreateView root\nshell CreateTransform 1\nshell SetRootTransform 1\nshell CreateTransform 2\nshell SetTranslation 2 0 40\nshell CreateTransform 3\nshell AddChild 1 2\nshell AddChild 1 3\nshell CreateViewport 1 tm 640 760\nshell SetContent 2 1\nshell CreateViewport 2 tc 1280 40\nshell SetContent 3 2\nshell GetChildStatus 1\nshell Present 0\nmail Wait answers 1\nmail CreateTransform 1\nmail SetRootTransform 1\nmail CreateImage 1 mb 0 640 760\nmail CreateImage 2 mb 1 640 760\nmail SetContent 1 1\nmail Present 0 acquire g1 release d1\nclock CreateTransform 1\nclock SetRootTransform 1\nclock CreateFilledRect 1\nclock SetSolidFill 1 0 0 0 128 1280 40\nclock SetContent 1 1\nclock Present 0\nclock GetStatus\ndisplay begin 16\ndisplay done\nmail Signal g1\ndisplay begin 33\ndisplay done\nmail SetContent 1 2\nmail Present 0 acquire g2 release d2\nmail Wait fence d1\nmail Signal g2\ndisplay begin 50\ndisplay done\n") ≡ (0, 57)
 shell_with_two_apps = refl

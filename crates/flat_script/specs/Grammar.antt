@@ -1,4 +1,4 @@
--- Scripts of version 1: the script that a text has, or the first line with a fault and its lowest kind.
+-- The script that a text has, or the first line with a fault and its lowest kind.
 use Rattle.std.specs.Prelude.{◌≡◌, ℕ, ◌+◌, ◌-◌, ◌==◌, ◌||◌, slice_index, nat_le, nat_lt, Bool, not, ◌&&◌, List, [], ◌∷◌, length, Result, Ok, Err, if◌then◌else◌}
 use Rattle.std.specs.List.{list_all}
 use Rattle.flat_text.specs.Pieces.{lines_of, words_of}
@@ -7,8 +7,7 @@ use Rattle.flat_places.specs.declared.kinds.FaultKind.TheVariants.{TooLong, NotA
 use Rattle.flat_places.specs.declared.script.Script.{Script}
 use Rattle.flat_script.specs.declared.script.ScriptFault.{ScriptFault}
 use Rattle.flat_forms.specs.declared.lines.Part.TheVariants.{Start, Body}
-use Rattle.flat_places.specs.Known.{known_words}
-use Rattle.flat_places.specs.Forms.{Word, Reading}
+use Rattle.flat_places.specs.Forms.{Reading}
 use Rattle.flat_forms.specs.Head.{empty}
 use Rattle.flat_forms.specs.Body.{is_open}
 use Rattle.flat_forms.specs.Lines.{Sofar, words_read}
@@ -22,11 +21,11 @@ abbrev pub is_skipped : List ℕ → Bool
 is_skipped line = length line == 0 || slice_index line 0 == 35
 
 -- what line n makes of it
-abbrev pub line_read : List Word → ℕ → Sofar → List ℕ → Reading Sofar
-line_read known n sofar line =
+abbrev pub line_read : ℕ → Sofar → List ℕ → Reading Sofar
+line_read n sofar line =
     if not (list_all is_plain line) then Err NotAscii
     else (if nat_lt LINE_BYTES_MAX (length line) then Err LongLine
-    else (if is_skipped line then Ok sofar else words_read known n sofar (words_of line)))
+    else (if is_skipped line then Ok sofar else words_read n sofar (words_of line)))
 
 -- what the end of the text makes of it, where n is one more than the number of lines
 abbrev pub end_read : ℕ → Sofar → Result Script ScriptFault
@@ -34,23 +33,19 @@ end_read n (Body, s) = if is_open s then Err (record { line = n; kind = BadOrder
 end_read n (_, s) = Err (record { line = n; kind = BadHead })
 
 -- what the lines from number n on make of it: the first fault decides
-abbrev pub lines_read : List Word → ℕ → Sofar → List (List ℕ) → Result Script ScriptFault
-lines_read known n sofar [] = end_read n sofar
-lines_read known n sofar (line ∷ lines) = go_on (line_read known n sofar line) n (λ next. lines_read known (n + 1) next lines)
+abbrev pub lines_read : ℕ → Sofar → List (List ℕ) → Result Script ScriptFault
+lines_read n sofar [] = end_read n sofar
+lines_read n sofar (line ∷ lines) = go_on (line_read n sofar line) n (λ next. lines_read (n + 1) next lines)
   where
     go_on : Reading Sofar → ℕ → (Sofar → Result Script ScriptFault) → Result Script ScriptFault
     go_on (Ok next) n rest = rest next
     go_on (Err k) n rest = Err (record { line = n; kind = k })
 
--- the script of a text, or its fault, where these words are known; a text that is too long is at fault as a whole
-abbrev pub read_with : List Word → List ℕ → Result Script ScriptFault
-read_with known bytes =
-    if nat_lt SCRIPT_BYTES_MAX (length bytes) then Err (record { line = 0; kind = TooLong }) else lines_read known 1 (Start, empty) (lines_of bytes)
-
--- the same with the words that are known so far. It is the one or the other: so each text has a script or a fault, and
--- none has both
+-- The script of a text, or its fault; a text that is too long is at fault as a whole. It is the one or the other: so each text
+-- has a script or a fault, and none has both.
 abbrev pub text_read : List ℕ → Result Script ScriptFault
-text_read bytes = read_with known_words bytes
+text_read bytes =
+    if nat_lt SCRIPT_BYTES_MAX (length bytes) then Err (record { line = 0; kind = TooLong }) else lines_read 1 (Start, empty) (lines_of bytes)
 
 -- the text has this script
 abbrev pub IsScript : List ℕ → Script → Type 0

@@ -1,6 +1,5 @@
 ghost use Rattle.std.specs.Prelude.{◌≡◌, ◌<◌, ◌≤◌, ◌+◌, ◌^◌, OnOk};
 ghost use Rattle.std.specs.List.{list_all};
-ghost use Rattle.flat_places.specs.Known.{known_words};
 ghost use Rattle.flat_forms.specs.Steps.{Steps};
 ghost use Rattle.flat_forms.specs.Progress.{Kept, sofar_of};
 ghost use Rattle.flat_script.specs.Grammar.{line_read, end_read, text_read, is_plain, is_skipped};
@@ -49,7 +48,7 @@ fn read_line(parser: &mut Parser, alloc: Global, number: u32, line: &[u8]) -> Re
     requires kept { Kept parser.old }
     requires begins { parser.old.begins + 1 < 2 ^ 32 }
     requires dones { parser.old.dones + 1 < 2 ^ 32 }
-    ensures steps { Steps result (line_read known_words number (sofar_of parser.old) line.now)
+    ensures steps { Steps result (line_read number (sofar_of parser.old) line.now)
         (sofar_of parser.new) }
     ensures kept { OnOk result (Kept parser.new) }
     ensures few { (parser.new.begins ≤ parser.old.begins + 1)

@@ -1,4 +1,4 @@
-use Rattle.flat_playable.proofs.AcceptedLemmas.{accepted, playable_of}
+use Rattle.flat_playable.proofs.AcceptedLemmas.{accepted, accepted_text, playable_of}
 use Rattle.flat_playable.proofs.scripts_are_playable.Goals as goal
 
 pub returns-clause-played : goal.returns-clause-played
@@ -24,3 +24,9 @@ returns-clause-sessions c = λ bytes script is. (accepted bytes script is).sessi
 
 pub returns-clause-playable : goal.returns-clause-playable
 returns-clause-playable c = λ bytes script is. playable_of script (accepted bytes script is)
+
+pub returns-clause-early : goal.returns-clause-early
+returns-clause-early c = λ bytes script is. (accepted bytes script is).early
+
+pub returns-clause-version : goal.returns-clause-version
+returns-clause-version c = λ bytes script is. (accepted_text bytes script is).first

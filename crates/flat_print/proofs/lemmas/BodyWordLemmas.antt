@@ -1,6 +1,6 @@
 -- The words of a line of the body are those that it was read from.
 use Rattle.flat_page.specs.Words.{name_at, actor_name}
-use Rattle.std.proofs.Common.{◌≡◌, ℕ, ◌+◌, ◌^◌, Bool, true, false, cond, not, nat_lt, nat_le, ℤ, List, [], ◌∷◌, ◌++◌, length, Option, Some, None, Ok, Err, refl, sym, ◌∙◌, ap, codes, option_map, append-nil, arith, subst}
+use Rattle.std.proofs.Common.{◌≡◌, ℕ, ◌+◌, ◌^◌, Bool, true, false, cond, not, nat_lt, nat_le, ℤ, List, [], ◌∷◌, ◌++◌, length, if◌then◌else◌, ◌&&◌, Option, Some, None, Ok, Err, refl, sym, ◌∙◌, ap, codes, option_map, append-nil, arith, subst}
 use Rattle.std.specs.Option.{option_map_or, option_or}
 use Rattle.std.specs.Str.{bytes_eq}
 use Rattle.std.specs.Fmt.{decimal, signed_decimal}
@@ -26,14 +26,14 @@ use Rattle.flat_scene.specs.declared.script.Body.TheVariants as body
 use Rattle.flat_forms.specs.declared.calls.CallName.{CallName}
 use Rattle.flat_places.specs.declared.kinds.FaultKind.TheVariants.{UnknownCall, UnknownName, Limit, BadOrder}
 use Rattle.flat_places.specs.declared.script.Script.{Script}
-use Rattle.flat_places.specs.Known.{known_words}
-use Rattle.flat_places.specs.Forms.{Word, Reading, Form, Table, mapped, unless_kind, whole, give, ◌<$>◌}
+use Rattle.flat_places.specs.Forms.{Word, Reading, Form, Table, mapped, unless_kind, whole, give, ◌<$>◌, ◌<*>◌}
 use Rattle.flat_places.specs.Names.{place_of, session_named, actor_named}
-use Rattle.flat_places.specs.Places.{time, u32, i32, content, point, session, fence, fence_word as tested_fence}
+use Rattle.flat_places.specs.Places.{time, u32, i32, content, point, unsquashable, session, fence, fence_word as tested_fence}
+use Rattle.flat_places.specs.Known.{knows}
 use Rattle.flat_forms.specs.Calls.{call_form, call_named, text}
 use Rattle.flat_forms.specs.Body.{fence_lists, present, other_line, session_line, display_line, session_condition, display_condition, presents_asked, child_asked, probe_line, actor_line, begin_place, begin_times, is_open, in_order, greatest}
-use Rattle.flat_print.specs.Print.{session_word, condition_words, session_words, display_words, probe_words, body_words, present_words, call_name, call_fields}
-use Rattle.flat_forms.proofs.lemmas.FormLemmas.{apply_ok, map_ok, place_ok, whole_ok, unless_ok, or_kind_ok, mapped_ok, Shown, shown_whole, shown_mapped}
+use Rattle.flat_print.specs.Print.{session_word, condition_words, session_words, display_words, probe_words, body_words, present_words, unsquashable_word, call_name, call_fields}
+use Rattle.flat_forms.proofs.lemmas.FormLemmas.{Gives, apply_ok, map_ok, place_ok, whole_ok, unless_ok, or_kind_ok, mapped_ok, Shown, shown_whole, shown_mapped}
 use Rattle.flat_print.proofs.CallLemmas.{number_words, i32_words, content_words, fence_words, split, name_at-place_of, NamedCall, call_shown}
 use Rattle.flat_print.proofs.ListWordLemmas.{table_spelt, both_words, lists_spelt}
 
@@ -123,7 +123,7 @@ presents_spelt s words c is =
 session_conditions : Script → SessionNo → Table Cond
 session_conditions s a = (codes "frames", whole (asks.Frames <$> u32)) ∷ (codes "credits", whole (asks.Credits <$> u32)) ∷ (codes "taken", whole (asks.Taken <$> u32)) ∷ (codes "answers", whole (asks.Answers <$> u32)) ∷ (codes "fence", whole (asks.Fence <$> fence s (Session a))) ∷ []
 
-session_condition_spelt : (s : Script) (a : SessionNo) (words : List Word) (c : Cond) → session_condition known_words s a words ≡ Ok c → condition_words s c ≡ words
+session_condition_spelt : (s : Script) (a : SessionNo) (words : List Word) (c : Cond) → session_condition s a words ≡ Ok c → condition_words s c ≡ words
 unfolding session_conditions
 session_condition_spelt s a [] c is = absurd (cc)
 session_condition_spelt s a (w ∷ words) c is =
@@ -133,14 +133,14 @@ session_condition_spelt s a (w ∷ words) c is =
 display_conditions : Script → Table Cond
 display_conditions s = (codes "presents", whole (presents_asked s)) ∷ (codes "fence", whole (asks.Fence <$> fence s Display)) ∷ []
 
-display_condition_spelt : (s : Script) (words : List Word) (c : Cond) → display_condition known_words s words ≡ Ok c → condition_words s c ≡ words
+display_condition_spelt : (s : Script) (words : List Word) (c : Cond) → display_condition s words ≡ Ok c → condition_words s c ≡ words
 unfolding display_conditions
 display_condition_spelt s [] c is = absurd (cc)
 display_condition_spelt s (w ∷ words) c is = table_spelt (condition_words s) UnknownCall (display_conditions s) (presents_spelt s, (waited_spelt s Display, tt)) w words c is
 
-display_wait_spelt : (s : Script) (words : List Word) (l : DisplayLine) → mapped display.Wait (display_condition known_words s words) ≡ Ok l → display_words s l ≡ codes "Wait" ∷ words
+display_wait_spelt : (s : Script) (words : List Word) (l : DisplayLine) → mapped display.Wait (display_condition s words) ≡ Ok l → display_words s l ≡ codes "Wait" ∷ words
 display_wait_spelt s words l is =
-    let m = mapped_ok display.Wait (display_condition known_words s words) l is in
+    let m = mapped_ok display.Wait (display_condition s words) l is in
     ap (display_words s) (sym m.value) ∙ ap (λ t. codes "Wait" ∷ t) (display_condition_spelt s words m.a m.given)
 
 hit_spelt : {A : Type 0} (h : ℤ → ℤ → A) (spell : A → List Word) → ((x y : ℤ) → spell (h x y) ≡ codes "hit" ∷ signed_decimal x ∷ signed_decimal y ∷ []) → (words : List Word) (l : A) → whole (point h) words ≡ Ok l → spell l ≡ codes "hit" ∷ words
@@ -156,10 +156,10 @@ display_table s =
     (codes "begin", (λ rest. mapped display.Begin (unless_kind Limit (nat_lt (length (begin_times s)) 512) (unless_kind BadOrder (not (is_open s)) (whole (begin_place s) rest))))) ∷
     (codes "done", (λ rest. unless_kind BadOrder (is_open s) (whole (give display.Done) rest))) ∷
     (codes "Signal", whole (display.Signal <$> fence s Display)) ∷
-    (codes "Wait", (λ rest. mapped display.Wait (display_condition known_words s rest))) ∷
+    (codes "Wait", (λ rest. mapped display.Wait (display_condition s rest))) ∷
     (codes "hit", whole (point (λ x y. display.Hit x y))) ∷ []
 
-pub display_spelt : (s : Script) (words : List Word) (l : DisplayLine) → display_line known_words s words ≡ Ok l → display_words s l ≡ words
+pub display_spelt : (s : Script) (words : List Word) (l : DisplayLine) → display_line s words ≡ Ok l → display_words s l ≡ words
 unfolding display_table
 display_spelt s [] l is = absurd (cc)
 display_spelt s (w ∷ words) l is =
@@ -168,15 +168,32 @@ display_spelt s (w ∷ words) l is =
 
 -- sessions
 
-present_spelt : (s : Script) (a : SessionNo) (words : List Word) (l : Line) → whole (line.Present <$> present known_words s a) words ≡ Ok l → session_words s l ≡ codes "Present" ∷ words
+unsquashable_spelt : (version : ℕ) (words : List Word) (alone : Bool) (rest : List Word) → Gives (unsquashable version) words alone rest → words ≡ unsquashable_word alone ++ rest
+unsquashable_spelt version [] alone rest given = let value = given.value in let none : false ≡ alone = cc in given.left ∙ ap (λ b. unsquashable_word b ++ rest) none
+unsquashable_spelt version (w ∷ words) alone rest given = by_test (bytes_eq w (codes "unsquashable")) (knows version w) refl given.value given.left
+  where
+    taken : Bool → Reading Bool × List Word
+    taken b = if b then (Ok true, words) else (Ok false, w ∷ words)
+
+    by_test : (b c : Bool) → bytes_eq w (codes "unsquashable") ≡ b → (taken (b && c)).0 ≡ Ok alone → (taken (b && c)).1 ≡ rest → w ∷ words ≡ unsquashable_word alone ++ rest
+    by_test true true at value left =
+        let is : true ≡ alone = cc in ap (λ v. v ∷ words) ((bytes_eq-Decides w (codes "unsquashable")).0 at) ∙ ap (λ t. codes "unsquashable" ∷ t) left ∙ ap (λ b. unsquashable_word b ++ rest) is
+    by_test true false at value left = let none : false ≡ alone = cc in left ∙ ap (λ b. unsquashable_word b ++ rest) none
+    by_test false c at value left = let none : false ≡ alone = cc in left ∙ ap (λ b. unsquashable_word b ++ rest) none
+
+present_spelt : (s : Script) (a : SessionNo) (words : List Word) (l : Line) → whole (line.Present <$> present s a) words ≡ Ok l → session_words s l ≡ codes "Present" ∷ words
 present_spelt s a words l is =
-    let lists : Form (List FenceNo × List FenceNo) = λ ws. (fence_lists known_words (tested_fence s (Session a)) ws, []) in
-    let h : ℕ → List FenceNo × List FenceNo → PresentArgs = λ t both. record { time = t; acquire = both.0; release = both.1; unsquashable = false } in
-    let whole_line = map_ok line.Present (present known_words s a) words l [] (whole_ok (line.Present <$> present known_words s a) words l is) in
-    let second = apply_ok (h <$> time) lists words whole_line.a [] whole_line.given in
+    let lists : Form (List FenceNo × List FenceNo) = λ ws. (fence_lists (tested_fence s (Session a)) ws, []) in
+    let alone = unsquashable s.setup.version in
+    let h : ℕ → Bool → List FenceNo × List FenceNo → PresentArgs = λ t u both. record { time = t; acquire = both.0; release = both.1; unsquashable = u } in
+    let whole_line = map_ok line.Present (present s a) words l [] (whole_ok (line.Present <$> present s a) words l is) in
+    let third = apply_ok (h <$> time <*> alone) lists words whole_line.a [] whole_line.given in
+    let second = apply_ok (h <$> time) alone words third.g third.mid third.first in
     let first = map_ok h time words second.g second.mid second.first in
-    let args : h first.a second.a ≡ whole_line.a = ap (λ g. g second.a) first.value ∙ second.value in
-    let taken : words ≡ decimal first.a ∷ both_words s (Session a) second.a = (number_words (2 ^ 63)).takes words first.a second.mid first.given ∙ ap (λ t. decimal first.a ∷ t) (lists_spelt s (Session a) second.mid second.a second.second.value) in
+    let args : h first.a second.a third.a ≡ whole_line.a = ap (λ g. g second.a third.a) first.value ∙ ap (λ g. g third.a) second.value ∙ third.value in
+    let behind : second.mid ≡ unsquashable_word second.a ++ both_words s (Session a) third.a =
+    unsquashable_spelt s.setup.version second.mid second.a third.mid second.second ∙ ap (λ t. unsquashable_word second.a ++ t) (lists_spelt s (Session a) third.mid third.a third.second.value) in
+    let taken : words ≡ decimal first.a ∷ unsquashable_word second.a ++ both_words s (Session a) third.a = (number_words (2 ^ 63)).takes words first.a second.mid first.given ∙ ap (λ t. decimal first.a ∷ t) behind in
     ap (session_words s) (sym whole_line.value) ∙ ap (λ p. present_words s p) (sym args) ∙ ap (λ t. codes "Present" ∷ t) (sym taken)
 
 signal_spelt : (s : Script) (a : SessionNo) (words : List Word) (l : Line) → whole (line.Signal <$> fence s (Session a)) words ≡ Ok l → session_words s l ≡ codes "Signal" ∷ words
@@ -184,9 +201,9 @@ signal_spelt s a words l is =
     let m = map_ok line.Signal (fence s (Session a)) words l [] (whole_ok (line.Signal <$> fence s (Session a)) words l is) in
     ap (session_words s) (sym m.value) ∙ ap (λ t. codes "Signal" ∷ t) (sym ((fence_words s (Session a)).takes words m.a [] m.given))
 
-wait_spelt : (s : Script) (a : SessionNo) (words : List Word) (l : Line) → mapped line.Wait (session_condition known_words s a words) ≡ Ok l → session_words s l ≡ codes "Wait" ∷ words
+wait_spelt : (s : Script) (a : SessionNo) (words : List Word) (l : Line) → mapped line.Wait (session_condition s a words) ≡ Ok l → session_words s l ≡ codes "Wait" ∷ words
 wait_spelt s a words l is =
-    let m = mapped_ok line.Wait (session_condition known_words s a words) l is in
+    let m = mapped_ok line.Wait (session_condition s a words) l is in
     ap (session_words s) (sym m.value) ∙ ap (λ t. codes "Wait" ∷ t) (session_condition_spelt s a words m.a m.given)
 
 alone_spelt : (s : Script) (one : Line) (words : List Word) (l : Line) → whole (give one) words ≡ Ok l → session_words s l ≡ session_words s one ++ words
@@ -204,43 +221,43 @@ child_spelt s words l is =
 
 other_table : Script → SessionNo → Table Line
 other_table s a =
-    (codes "Present", whole (line.Present <$> present known_words s a)) ∷
+    (codes "Present", whole (line.Present <$> present s a)) ∷
     (codes "GetLayout", whole (give (line.Get watch.Layout))) ∷
     (codes "GetStatus", whole (give (line.Get watch.Status))) ∷
     (codes "GetChildStatus", whole child_asked) ∷
     (codes "Signal", whole (line.Signal <$> fence s (Session a))) ∷
     (codes "Poll", whole (give line.Poll)) ∷
-    (codes "Wait", (λ rest. mapped line.Wait (session_condition known_words s a rest))) ∷
+    (codes "Wait", (λ rest. mapped line.Wait (session_condition s a rest))) ∷
     (codes "Disconnect", whole (give line.Disconnect)) ∷ []
 
-other_spelt : (s : Script) (a : SessionNo) (w : Word) (words : List Word) (l : Line) → other_line known_words s a (w ∷ words) ≡ Ok l → session_words s l ≡ w ∷ words
+other_spelt : (s : Script) (a : SessionNo) (w : Word) (words : List Word) (l : Line) → other_line s a (w ∷ words) ≡ Ok l → session_words s l ≡ w ∷ words
 unfolding other_table
 other_spelt s a w words l is =
     table_spelt (session_words s) UnknownCall (other_table s a)
     (present_spelt s a, (alone_spelt s (line.Get watch.Layout), (alone_spelt s (line.Get watch.Status), (child_spelt s, (signal_spelt s a, (alone_spelt s line.Poll, (wait_spelt s a, (alone_spelt s line.Disconnect, tt)))))))) w words l is
 
 -- a call; one with an inset of zeros is spelt without it
-call_line_shown : (s : Script) (a : SessionNo) (w : Word) (n : CallName) (words : List Word) (c : Call) → call_named known_words w ≡ Some n → NamedCall s a w n words c → Shown (session_line known_words s a) (session_words s (line.Call c)) (w ∷ words) (line.Call c)
+call_line_shown : (s : Script) (a : SessionNo) (w : Word) (n : CallName) (words : List Word) (c : Call) → call_named s.setup.version w ≡ Some n → NamedCall s a w n words c → Shown (session_line s a) (session_words s (line.Call c)) (w ∷ words) (line.Call c)
 call_line_shown s a w n words c at shown =
     let fields : List Word = call_fields s c in
     record {
       behind = shown.fields.behind;
       begins = ap (λ v. v ∷ words) (sym shown.word) ∙ ap (λ t. text (call_name c) ∷ t) shown.fields.begins;
-      again = ap (λ v. session_line known_words s a (v ∷ fields)) shown.word
-          ∙ ap (λ o. option_map_or (λ m. mapped line.Call (whole (call_form s a m) fields)) o (other_line known_words s a (w ∷ fields))) at ∙ ap (mapped line.Call) shown.fields.again;
+      again = ap (λ v. session_line s a (v ∷ fields)) shown.word
+          ∙ ap (λ o. option_map_or (λ m. mapped line.Call (whole (call_form s a m) fields)) o (other_line s a (w ∷ fields))) at ∙ ap (mapped line.Call) shown.fields.again;
     }
 
-by_call : (s : Script) (a : SessionNo) (w : Word) (words : List Word) (l : Line) (o : Option CallName) → call_named known_words w ≡ o → session_line known_words s a (w ∷ words) ≡ Ok l
-    → option_map_or (λ n. mapped line.Call (whole (call_form s a n) words)) o (other_line known_words s a (w ∷ words)) ≡ Ok l → Shown (session_line known_words s a) (session_words s l) (w ∷ words) l
-by_call s a w words l None at is other = shown_whole (session_line known_words s a) (session_words s l) (w ∷ words) l (other_spelt s a w words l other) is
+by_call : (s : Script) (a : SessionNo) (w : Word) (words : List Word) (l : Line) (o : Option CallName) → call_named s.setup.version w ≡ o → session_line s a (w ∷ words) ≡ Ok l
+    → option_map_or (λ n. mapped line.Call (whole (call_form s a n) words)) o (other_line s a (w ∷ words)) ≡ Ok l → Shown (session_line s a) (session_words s l) (w ∷ words) l
+by_call s a w words l None at is other = shown_whole (session_line s a) (session_words s l) (w ∷ words) l (other_spelt s a w words l other) is
 by_call s a w words l (Some n) at is called =
     let m = mapped_ok line.Call (whole (call_form s a n) words) l called in
-    let P : Line → Type 0 = λ v. Shown (session_line known_words s a) (session_words s v) (w ∷ words) v in
+    let P : Line → Type 0 = λ v. Shown (session_line s a) (session_words s v) (w ∷ words) v in
     subst P m.value (call_line_shown s a w n words m.a at (call_shown s a w n at words m.a m.given))
 
-pub session_shown : (s : Script) (a : SessionNo) (words : List Word) (l : Line) → session_line known_words s a words ≡ Ok l → Shown (session_line known_words s a) (session_words s l) words l
+pub session_shown : (s : Script) (a : SessionNo) (words : List Word) (l : Line) → session_line s a words ≡ Ok l → Shown (session_line s a) (session_words s l) words l
 session_shown s a [] l is = absurd (cc)
-session_shown s a (w ∷ words) l is = by_call s a w words l (call_named known_words w) refl is is
+session_shown s a (w ∷ words) l is = by_call s a w words l (call_named s.setup.version w) refl is is
 
 -- probes
 
@@ -252,20 +269,20 @@ await_spelt words l is =
     let m = map_ok probe.Await u32 words l [] (whole_ok (probe.Await <$> u32) words l is) in
     ap probe_words (sym m.value) ∙ ap (λ t. codes "await" ∷ t) (sym ((number_words (2 ^ 32)).takes words m.a [] m.given))
 
-probe_spelt : (words : List Word) (l : ProbeLine) → probe_line known_words words ≡ Ok l → probe_words l ≡ words
+probe_spelt : (version : ℕ) (words : List Word) (l : ProbeLine) → probe_line version words ≡ Ok l → probe_words l ≡ words
 unfolding probe_table
-probe_spelt [] l is = absurd (cc)
-probe_spelt (w ∷ words) l is = table_spelt probe_words UnknownCall probe_table (hit_spelt (λ x y. probe.Hit x y) probe_words (λ x y. refl), (await_spelt, tt)) w words l is
+probe_spelt version [] l is = absurd (cc)
+probe_spelt version (w ∷ words) l is = table_spelt probe_words UnknownCall probe_table (hit_spelt (λ x y. probe.Hit x y) probe_words (λ x y. refl), (await_spelt, tt)) w words l is
 
 -- a line behind its actor
-pub body_shown : (s : Script) (a : Actor) (words : List Word) (b : Body) → actor_line known_words s a words ≡ Ok b → Shown (actor_line known_words s a) (body_words s b) words b
+pub body_shown : (s : Script) (a : Actor) (words : List Word) (b : Body) → actor_line s a words ≡ Ok b → Shown (actor_line s a) (body_words s b) words b
 body_shown s Display words b is =
-    let m = mapped_ok body.Display (display_line known_words s words) b is in
-    shown_whole (actor_line known_words s Display) (body_words s b) words b (ap (body_words s) (sym m.value) ∙ display_spelt s words m.a m.given) is
+    let m = mapped_ok body.Display (display_line s words) b is in
+    shown_whole (actor_line s Display) (body_words s b) words b (ap (body_words s) (sym m.value) ∙ display_spelt s words m.a m.given) is
 body_shown s (Session a) words b is =
-    let m = mapped_ok body.Session (session_line known_words s a words) b is in
-    let P : Body → Type 0 = λ v. Shown (actor_line known_words s (Session a)) (body_words s v) words v in
-    subst P m.value (shown_mapped body.Session (session_line known_words s a) (session_words s m.a) words m.a (session_shown s a words m.a m.given))
+    let m = mapped_ok body.Session (session_line s a words) b is in
+    let P : Body → Type 0 = λ v. Shown (actor_line s (Session a)) (body_words s v) words v in
+    subst P m.value (shown_mapped body.Session (session_line s a) (session_words s m.a) words m.a (session_shown s a words m.a m.given))
 body_shown s (Probe p) words b is =
-    let m = mapped_ok body.Probe (probe_line known_words words) b is in
-    shown_whole (actor_line known_words s (Probe p)) (body_words s b) words b (ap (body_words s) (sym m.value) ∙ probe_spelt words m.a m.given) is
+    let m = mapped_ok body.Probe (probe_line s.setup.version words) b is in
+    shown_whole (actor_line s (Probe p)) (body_words s b) words b (ap (body_words s) (sym m.value) ∙ probe_spelt s.setup.version words m.a m.given) is

@@ -19,7 +19,7 @@ use Rattle.flat_places.specs.declared.script.Script.{Script}
 use Rattle.flat_places.specs.Forms.{Word, whole, each, one_or_more, ◌<$>◌}
 use Rattle.flat_places.specs.Names.{place_of, session_named, owner_named}
 use Rattle.flat_places.specs.Places.{number_from, owner_word}
-use Rattle.flat_forms.specs.Head.{empty, size, side, has_display, with_display, with_session, with_probe, with_buffers, with_pair, with_fence}
+use Rattle.flat_forms.specs.Head.{empty, size, side, has_display, with_version, with_display, with_session, with_probe, with_buffers, with_pair, with_fence}
 use Rattle.flat_print.specs.Print.{name_words, numbered, buffers_line_words, pair_line_words, fence_line_words, display_line_words}
 use Rattle.flat_forms.proofs.lemmas.FormLemmas.{both_ok, or_kind_ok, whole_ok, apply_ok, map_ok, place_ok}
 use Rattle.flat_print.proofs.CallLemmas.{name_at-place_of, test_ok}
@@ -80,7 +80,7 @@ pairs_with u xs zs ys = numbered (pair_line_words (record u { sessions = u.sessi
 abbrev pub fences_with : Script → List Word → List Word → List Word → List (List Word)
 fences_with u xs zs ys = numbered (fence_line_words (record u { sessions = u.sessions ++ xs; probes = u.probes ++ zs; fences = u.fences ++ ys })) 0 u.setup.fences
 
-pub record Ordered (u : Script) (k : ℕ) : Type 0 where
+pub record Ordered (version : ℕ) (u : Script) (k : ℕ) : Type 0 where
   pub d : List (List Word)
   pub s : List (List Word)
   pub q : List (List Word)
@@ -92,7 +92,7 @@ pub record Ordered (u : Script) (k : ℕ) : Type 0 where
   pub u2 : Script
   pub u3 : Script
   pub u4 : Script
-  pub sizes : Chain 0 empty d u0
+  pub sizes : Chain 0 (with_version empty version) d u0
   pub sessions : Chain 1 u0 s u1
   pub probes : Chain 2 u1 q u2
   pub buffers : Chain 3 u2 b u3
@@ -115,19 +115,19 @@ pub record Ordered (u : Script) (k : ℕ) : Type 0 where
   pub all_f : AllLines f
   pub fits : room_of d + (room_of s + (room_of q + (room_of b + (room_of p + room_of f)))) ≤ k
 
-pub ordered_empty : Ordered empty 0
-ordered_empty = record {
+pub ordered_empty : (version : ℕ) → Ordered version (with_version empty version) 0
+ordered_empty version = record {
   d = [];
   s = [];
   q = [];
   b = [];
   p = [];
   f = [];
-  u0 = empty;
-  u1 = empty;
-  u2 = empty;
-  u3 = empty;
-  u4 = empty;
+  u0 = with_version empty version;
+  u1 = with_version empty version;
+  u2 = with_version empty version;
+  u3 = with_version empty version;
+  u4 = with_version empty version;
   sizes = refl;
   sessions = refl;
   probes = refl;
@@ -253,9 +253,9 @@ fence_line u xs zs ys x many =
     let owners = owners_words u xs zs x.rest x.decl.owners x.owners in
     rw (name, owners) (sym x.begins)
 
-pub insert_size : (u : Script) (ws : List Word) (t : Script) (k : ℕ) → IsLine ws → Ordered u k → SizeStep u ws t → Ordered t (k + 1 + length (spelled ws))
-insert_size u ws t k good o x =
-    let P : Script → Type 0 = λ v. Ordered v (k + 1 + length (spelled ws)) in
+pub insert_size : {version : ℕ} (u : Script) (ws : List Word) (t : Script) (k : ℕ) → IsLine ws → Ordered version u k → SizeStep u ws t → Ordered version t (k + 1 + length (spelled ws))
+insert_size {version = version} u ws t k good o x =
+    let P : Script → Type 0 = λ v. Ordered version v (k + 1 + length (spelled ws)) in
     let t1 = with_display u x.w x.h in
     let y : Step u ws t1 = size_step (record { rest = x.rest; w = x.w; h = x.h; begins = x.begins; first = x.first; read = x.read; made = refl }) in
     let b5 = bubble 5 o.u4 u t1 o.f ws o.fences y (lit< tt) in
@@ -263,7 +263,7 @@ insert_size u ws t k good o x =
     let b3 = bubble 3 o.u2 o.u3 b4.mid o.b ws o.buffers b4.first (let e = b4.first_sort in omega arith) in
     let b2 = bubble 2 o.u1 o.u2 b3.mid o.q ws o.probes b3.first (let e = b3.first_sort in omega arith) in
     let b1 = bubble 1 o.u0 o.u1 b2.mid o.s ws o.sessions b2.first (let e = b2.first_sort in omega arith) in
-    let chain = chain_more 0 empty o.u0 b1.mid o.d ws o.sizes b1.first (let e = b1.first_sort in omega arith) in
+    let chain = chain_more 0 (with_version empty version) o.u0 b1.mid o.d ws o.sizes b1.first (let e = b1.first_sort in omega arith) in
     let taken = size_taken x.rest x.w x.h x.read in
     let none : o.d ≡ [] = o.size_words ∙ ap (λ c. cond c (display_line_words u ∷ []) []) x.first in
     let wide : nat_lt 0 x.w ≡ true = let r = taken.1 in grind (arith, nat_tests) in
@@ -304,9 +304,9 @@ insert_size u ws t k good o x =
       fits = (let e = room_of-append o.d (ws ∷ []) in let h = o.fits in omega arith);
     })
 
-pub insert_session : (u : Script) (ws : List Word) (t : Script) (k : ℕ) → IsLine ws → Ordered u k → SessionStep u ws t → Ordered t (k + 1 + length (spelled ws))
-insert_session u ws t k good o x =
-    let P : Script → Type 0 = λ v. Ordered v (k + 1 + length (spelled ws)) in
+pub insert_session : {version : ℕ} (u : Script) (ws : List Word) (t : Script) (k : ℕ) → IsLine ws → Ordered version u k → SessionStep u ws t → Ordered version t (k + 1 + length (spelled ws))
+insert_session {version = version} u ws t k good o x =
+    let P : Script → Type 0 = λ v. Ordered version v (k + 1 + length (spelled ws)) in
     let t1 = with_session u x.name in
     let y : Step u ws t1 = session_step (record { name = x.name; begins = x.begins; room = x.room; fresh = x.fresh; made = refl }) in
     let b5 = bubble 5 o.u4 u t1 o.f ws o.fences y (lit< tt) in
@@ -350,9 +350,9 @@ insert_session u ws t k good o x =
       fits = (let e = room_of-append o.s (ws ∷ []) in let h = o.fits in omega arith);
     })
 
-pub insert_probe : (u : Script) (ws : List Word) (t : Script) (k : ℕ) → IsLine ws → Ordered u k → ProbeStep u ws t → Ordered t (k + 1 + length (spelled ws))
-insert_probe u ws t k good o x =
-    let P : Script → Type 0 = λ v. Ordered v (k + 1 + length (spelled ws)) in
+pub insert_probe : {version : ℕ} (u : Script) (ws : List Word) (t : Script) (k : ℕ) → IsLine ws → Ordered version u k → ProbeStep u ws t → Ordered version t (k + 1 + length (spelled ws))
+insert_probe {version = version} u ws t k good o x =
+    let P : Script → Type 0 = λ v. Ordered version v (k + 1 + length (spelled ws)) in
     let t1 = with_probe u x.name in
     let y : Step u ws t1 = probe_step (record { name = x.name; begins = x.begins; room = x.room; fresh = x.fresh; made = refl }) in
     let b5 = bubble 5 o.u4 u t1 o.f ws o.fences y (lit< tt) in
@@ -395,9 +395,9 @@ insert_probe u ws t k good o x =
       fits = (let e = room_of-append o.q (ws ∷ []) in let h = o.fits in omega arith);
     })
 
-pub insert_buffers : (u : Script) (ws : List Word) (t : Script) (k : ℕ) → IsLine ws → Ordered u k → BuffersStep u ws t → Ordered t (k + 1 + length (spelled ws))
-insert_buffers u ws t k good o x =
-    let P : Script → Type 0 = λ v. Ordered v (k + 1 + length (spelled ws)) in
+pub insert_buffers : {version : ℕ} (u : Script) (ws : List Word) (t : Script) (k : ℕ) → IsLine ws → Ordered version u k → BuffersStep u ws t → Ordered version t (k + 1 + length (spelled ws))
+insert_buffers {version = version} u ws t k good o x =
+    let P : Script → Type 0 = λ v. Ordered version v (k + 1 + length (spelled ws)) in
     let t1 = with_buffers u x.name x.decl in
     let y : Step u ws t1 = buffers_step (record { name = x.name; owner = x.owner; a = x.a; b = x.b; c = x.c; decl = x.decl; begins = x.begins; room = x.room; fresh = x.fresh; owned = x.owned; count = x.count; width = x.width; height = x.height; made = refl }) in
     let b5 = bubble 5 o.u4 u t1 o.f ws o.fences y (lit< tt) in
@@ -440,9 +440,9 @@ insert_buffers u ws t k good o x =
       fits = (let e = room_of-append o.b (ws ∷ []) in let h = o.fits in omega arith);
     })
 
-pub insert_pair : (u : Script) (ws : List Word) (t : Script) (k : ℕ) → IsLine ws → Ordered u k → PairStep u ws t → Ordered t (k + 1 + length (spelled ws))
-insert_pair u ws t k good o x =
-    let P : Script → Type 0 = λ v. Ordered v (k + 1 + length (spelled ws)) in
+pub insert_pair : {version : ℕ} (u : Script) (ws : List Word) (t : Script) (k : ℕ) → IsLine ws → Ordered version u k → PairStep u ws t → Ordered version t (k + 1 + length (spelled ws))
+insert_pair {version = version} u ws t k good o x =
+    let P : Script → Type 0 = λ v. Ordered version v (k + 1 + length (spelled ws)) in
     let t1 = with_pair u x.name x.decl in
     let y : Step u ws t1 = pair_step (record { name = x.name; x = x.x; y = x.y; decl = x.decl; begins = x.begins; room = x.room; fresh = x.fresh; single = x.single; viewport = x.viewport; view = x.view; made = refl }) in
     let b5 = bubble 5 o.u4 u t1 o.f ws o.fences y (lit< tt) in
@@ -484,9 +484,9 @@ insert_pair u ws t k good o x =
       fits = (let e = room_of-append o.p (ws ∷ []) in let h = o.fits in omega arith);
     })
 
-pub insert_fence : (u : Script) (ws : List Word) (t : Script) (k : ℕ) → IsLine ws → Ordered u k → FenceStep u ws t → Ordered t (k + 1 + length (spelled ws))
-insert_fence u ws t k good o x =
-    let P : Script → Type 0 = λ v. Ordered v (k + 1 + length (spelled ws)) in
+pub insert_fence : {version : ℕ} (u : Script) (ws : List Word) (t : Script) (k : ℕ) → IsLine ws → Ordered version u k → FenceStep u ws t → Ordered version t (k + 1 + length (spelled ws))
+insert_fence {version = version} u ws t k good o x =
+    let P : Script → Type 0 = λ v. Ordered version v (k + 1 + length (spelled ws)) in
     let t1 = with_fence u x.name x.decl in
     let y : Step u ws t1 = fence_step (record { name = x.name; rest = x.rest; decl = x.decl; begins = x.begins; room = x.room; fresh = x.fresh; owners = x.owners; made = refl }) in
     let chain = chain_more 5 o.u4 u t1 o.f ws o.fences y (lit≤ tt) in
@@ -527,7 +527,7 @@ insert_fence u ws t k good o x =
       fits = (let e = room_of-append o.f (ws ∷ []) in let h = o.fits in omega arith);
     })
 
-pub insert : (u : Script) (ws : List Word) (t : Script) (k : ℕ) → IsLine ws → Ordered u k → Step u ws t → Ordered t (k + 1 + length (spelled ws))
+pub insert : {version : ℕ} (u : Script) (ws : List Word) (t : Script) (k : ℕ) → IsLine ws → Ordered version u k → Step u ws t → Ordered version t (k + 1 + length (spelled ws))
 insert u ws t k good o (size_step x) = insert_size u ws t k good o x
 insert u ws t k good o (session_step x) = insert_session u ws t k good o x
 insert u ws t k good o (probe_step x) = insert_probe u ws t k good o x
@@ -542,3 +542,21 @@ lines_kept u ws t (probe_step x) = ap (λ v. v.lines) x.made
 lines_kept u ws t (buffers_step x) = ap (λ v. v.lines) x.made
 lines_kept u ws t (pair_step x) = ap (λ v. v.lines) x.made
 lines_kept u ws t (fence_step x) = ap (λ v. v.lines) x.made
+
+pub version_kept : (u : Script) (ws : List Word) (t : Script) → Step u ws t → t.setup.version ≡ u.setup.version
+version_kept u ws t (size_step x) = ap (λ v. v.setup.version) x.made
+version_kept u ws t (session_step x) = ap (λ v. v.setup.version) x.made
+version_kept u ws t (probe_step x) = ap (λ v. v.setup.version) x.made
+version_kept u ws t (buffers_step x) = ap (λ v. v.setup.version) x.made
+version_kept u ws t (pair_step x) = ap (λ v. v.setup.version) x.made
+version_kept u ws t (fence_step x) = ap (λ v. v.setup.version) x.made
+
+chain_version : (k : ℕ) (u : Script) (wss : List (List Word)) (t : Script) → Chain k u wss t → t.setup.version ≡ u.setup.version
+chain_version k u [] t chain = ap (λ (v : Script). v.setup.version) (sym chain)
+chain_version k u (ws ∷ wss) t chain = chain_version k chain.mid wss t chain.behind ∙ version_kept u ws chain.mid chain.step
+
+-- the version stands before all of them
+pub ordered_version : {version : ℕ} (u : Script) (k : ℕ) → Ordered version u k → u.setup.version ≡ version
+ordered_version {version = version} u k o =
+    chain_version 5 o.u4 o.f u o.fences ∙ chain_version 4 o.u3 o.p o.u4 o.pairs ∙ chain_version 3 o.u2 o.b o.u3 o.buffers
+    ∙ chain_version 2 o.u1 o.q o.u2 o.probes ∙ chain_version 1 o.u0 o.s o.u1 o.sessions ∙ chain_version 0 (with_version empty version) o.d o.u0 o.sizes

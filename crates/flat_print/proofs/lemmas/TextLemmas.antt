@@ -129,7 +129,7 @@ split_fed : (l : List ℕ) (wss : List (List Word)) → list_all is_plain l ≡ 
 split_fed l [] plain good = ap (slice_split is_feed) (append-nil l) ∙ slice_split_none is_feed l (no_feeds l plain)
 split_fed l (ws ∷ wss) plain good = slice_split_at is_feed l 10 (spelled ws ++ fed wss) (no_feeds l plain) refl ∙ ap (λ t. l ∷ t) (split_fed (spelled ws) wss good.0.plain good.1)
 
-skipped_none : (l : List ℕ) → is_skipped l ≡ false → (length l == 0) ≡ false
+pub skipped_none : (l : List ℕ) → is_skipped l ≡ false → (length l == 0) ≡ false
 skipped_none [] h = absurd (cc)
 skipped_none (x ∷ xs) h = grind (arith, nat_tests)
 

@@ -1,6 +1,5 @@
 use Rattle.std.proofs.Common.{◌≡◌, ◌<◌, ◌≤◌, ◌+◌, length}
 use Rattle.flat_text.specs.Pieces.{lines_of}
-use Rattle.flat_places.specs.Known.{known_words}
 use Rattle.flat_script.specs.Grammar.{lines_read, text_read}
 use Rattle.flat_forms.specs.Progress.{Kept, sofar_of}
 use Rattle.flat_script.proofs.parser.parse.Given as goal
@@ -12,7 +11,7 @@ invariant-loop-first l = record {
   some : 0 < l.number;
   begins : l.parser.begins < l.number;
   dones : l.parser.dones < l.number;
-  same : lines_read known_words l.number (sofar_of l.parser) (lines_of l.text) ≡ text_read l.fn.bytes;
+  same : lines_read l.number (sofar_of l.parser) (lines_of l.text) ≡ text_read l.fn.bytes;
 }
 
 abbrev pub decreases-loop-first : goal.decreases-loop-first
