@@ -102,7 +102,7 @@ seen_line script history (line, frame) = actor_name script line.actor ∷ number
 -- the lines of the report, where these displays were lost and the probes' lines saw these frames
 abbrev pub report_lines : Script → List Entry → List Lost → List ℕ → List (List Word)
 report_lines script history lost seen =
-    (codes "report" ∷ codes "flatland" ∷ codes "1" ∷ [])
+    (codes "report" ∷ codes "flatland" ∷ number script.setup.version ∷ [])
     ∷ history_lines script lost history ++ map (seen_line script history) (zip (probe_lines script) seen)
     ++ (codes "report" ∷ codes "ends" ∷ codes "entries" ∷ number (length history) ∷ codes "frames" ∷ number (frames history) ∷ []) ∷ []
 

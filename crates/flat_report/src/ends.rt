@@ -7,13 +7,13 @@ ghost use Rattle.flat_report.specs.Handed.{end_line, title_line};
 use flat_base::NoMemory;
 use flat_page::Page;
 
-/// The first line.
-pub(crate) fn push_title(page: &mut Page) -> Result<(), NoMemory>
-    ensures { OnOk result (WritesLines (title_line ∷ []) page.old page.new) }
+/// The first line, of a script of that version.
+pub(crate) fn push_title(page: &mut Page, version: u32) -> Result<(), NoMemory>
+    ensures { OnOk result (WritesLines (title_line version ∷ []) page.old page.new) }
 {
     page.put(b"report")?;
     page.word(b"flatland")?;
-    page.word(b"1")?;
+    page.count(version as u64)?;
     page.put(b"\n")?;
     Ok(())
 }
