@@ -40,6 +40,11 @@ LinesArePlayed = (bytes : List ℕ) (script : Script) → IsScript bytes script 
 abbrev pub FirstVersionIsKept : Type 0
 FirstVersionIsKept = (bytes : List ℕ) (script : Script) → IsScript bytes script → script.setup.version ≡ 1 → list_all is_of_first_version script.lines ≡ true
 
+-- where its version is below the third, its display's pixel ratio is one from the head on
+abbrev pub EarlierVersionsHaveNoRatio : Type 0
+EarlierVersionsHaveNoRatio = (bytes : List ℕ) (script : Script) → IsScript bytes script → nat_lt script.setup.version RATIO_SINCE ≡ true
+    → (script.setup.ratio ≡ ONE) × (list_all sets_no_ratio script.lines ≡ true)
+
 -- the first line of its text that isn't skipped says its version
 abbrev pub TextsSayVersions : Type 0
 TextsSayVersions = (bytes : List ℕ) (script : Script) → IsScript bytes script → first_kept bytes ≡ Some (version_line script.setup.version)
