@@ -1,12 +1,12 @@
 -- Every script that the reader accepts is one that is played: each part of the test, and the whole; and what its version says.
-use Rattle.std.specs.Prelude.{◌≡◌, ◌≤◌, ℕ, false, true, nat_le, List, length, Some}
+use Rattle.std.specs.Prelude.{◌≡◌, ◌≤◌, ℕ, false, true, nat_le, nat_lt, List, length, Some}
 use Rattle.std.specs.List.{list_all}
-use Rattle.flat_base.specs.declared.limits.TheConstants.{SCRIPT_BYTES_MAX, SESSIONS_MAX}
+use Rattle.flat_base.specs.declared.limits.TheConstants.{ONE, RATIO_SINCE, SCRIPT_BYTES_MAX, SESSIONS_MAX}
 use Rattle.flat_scene.specs.Setups.{is_setup}
 use Rattle.flat_places.specs.declared.script.Script.{Script}
 use Rattle.flat_script.specs.Grammar.{IsScript}
 use Rattle.flat_playable.specs.Playable.{is_playable, rise_from, frames_close, is_played}
-use Rattle.flat_playable.specs.Versions.{is_of_first_version, first_kept, version_line}
+use Rattle.flat_playable.specs.Versions.{is_of_first_version, sets_no_ratio, first_kept, version_line}
 
 -- its setup is one that a head can give
 abbrev pub SetupsAreGiven : Type 0
