@@ -6,14 +6,14 @@ ghost use Rattle.flat_report.specs.Handed.{end_line, title_line};
 
 use flat_base::NoMemory;
 use flat_page::Page;
+use flat_places::Script;
 
 /// The first line.
-pub(crate) fn push_title(page: &mut Page) -> Result<(), NoMemory>
-    ensures { OnOk result (WritesLines (title_line ∷ []) page.old page.new) }
+pub(crate) fn push_title(page: &mut Page, script: &Script) -> Result<(), NoMemory>
+    ensures { OnOk result (WritesLines (title_line script.now ∷ []) page.old page.new) }
 {
     page.put(b"report")?;
-    page.word(b"flatland")?;
-    page.word(b"1")?;
+    page.counted(b"flatland", script.setup.version)?;
     page.put(b"\n")?;
     Ok(())
 }

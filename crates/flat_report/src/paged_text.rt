@@ -107,11 +107,11 @@ impl PagedText {
     }
 
     /// Puts the first line.
-    pub(crate) fn title(&mut self) -> Result<(), NoMemory>
-        ensures { OnOk result (self.new ≡ self.old ++ text_of (title_line ∷ [])) }
+    pub(crate) fn title(&mut self, script: &Script) -> Result<(), NoMemory>
+        ensures { OnOk result (self.new ≡ self.old ++ text_of (title_line script.now ∷ [])) }
     {
         let mut page = mem::replace(&mut self.page, Page::Text(Vec::new(self.alloc)));
-        push_title(&mut page)?;
+        push_title(&mut page, script)?;
         self.page = page;
         Ok(())
     }

@@ -257,7 +257,7 @@ pub fn print_report(
 {
     let mut texts = frames.texts;
     let mut paged = PagedText::new(alloc);
-    paged.title()?;
+    paged.title(script)?;
     push_history(
         &mut paged,
         script,
