@@ -36,7 +36,13 @@ fn start(alloc: Global, shown: &Shown, setup: &Setup, ratio: u32) -> Result<Walk
         left: Vec::new(alloc),
     };
     if let Some(pair) = pair_of_display(setup) {
-        walk.show(shown, pair, shown.sessions() as u32, outermost(setup, ratio), None)?;
+        walk.show(
+            shown,
+            pair,
+            shown.sessions() as u32,
+            outermost(setup, ratio),
+            None,
+        )?;
     }
     Ok(walk)
 }
@@ -44,12 +50,7 @@ fn start(alloc: Global, shown: &Shown, setup: &Setup, ratio: u32) -> Result<Walk
 /// Joins the trees of the sessions that are connected to the display, and places
 /// their nodes at the display's pixel ratio. The effort is that of the nodes that are
 /// placed.
-pub fn join(
-    alloc: Global,
-    shown: &Shown,
-    setup: &Setup,
-    ratio: u32,
-) -> Result<Joined, NoMemory>
+pub fn join(alloc: Global, shown: &Shown, setup: &Setup, ratio: u32) -> Result<Joined, NoMemory>
     requires made { length shown.now ≡ setup.now.sessions }
     requires few { setup.now.sessions ≤ SESSIONS_MAX }
     requires fit { FitsSetup setup.now shown.now }
