@@ -1,10 +1,19 @@
 -- The reports of worked cases of the same names, computed line by line.
-use Rattle.std.proofs.Common.{◌≡◌, [], ◌∷◌, refl}
+use Rattle.std.proofs.Common.{◌≡◌, List, [], ◌∷◌, true, refl}
 use Rattle.std.specs.Prelude.{map, codes}
 use Rattle.std.specs.Fmt.{digits}
+use Rattle.flat_base.specs.declared.ids.Actor.TheVariants.{Display, Session}
+use Rattle.flat_scene.specs.declared.calls.Call.TheVariants as call
+use Rattle.flat_scene.specs.declared.journal.Entry.{Entry}
+use Rattle.flat_scene.specs.declared.journal.Kind.TheVariants as kind
+use Rattle.flat_scene.specs.declared.journal.Reply.TheVariants as reply
+use Rattle.flat_scene.specs.declared.script.DisplayLine.TheVariants as display
+use Rattle.flat_scene.specs.declared.script.Line.TheVariants as line
+use Rattle.flat_scene.specs.History.{◌▹◌}
 use Rattle.flat_places.specs.declared.script.Script.{Script}
 use Rattle.flat_rules.proofs.lemmas.MoreRuns.{b16_token_not_back_yet-setup, b16_token_not_back_yet-history, b16_token_not_back_yet-lines, layout_before_first_present-setup, layout_before_first_present-history, layout_before_first_present-lines, cycle_of_links_is_never_reached-setup, cycle_of_links_is_never_reached-history, cycle_of_links_is_never_reached-lines, token_comes_back-setup, token_comes_back-history, token_comes_back-lines, app_gone_before_all-setup, app_gone_before_all-history, app_gone_before_all-lines}
 use Rattle.flat_rules.proofs.lemmas.Runs.{one_fill_one_frame-setup, one_fill_one_frame-history, one_fill_one_frame-lines, view_without_root_then_poll-setup, view_without_root_then_poll-history, view_without_root_then_poll-lines, second_present_before_a_frame_closes-setup, second_present_before_a_frame_closes-history, second_present_before_a_frame_closes-lines}
+use Rattle.flat_rules.proofs.lemmas.Samples.{s, p, by, present, session_line, display_line}
 use Rattle.flat_rules.proofs.lemmas.ShellRun.{shell_with_two_apps-setup, shell_with_two_apps-history, shell_with_two_apps-lines}
 use Rattle.flat_report.specs.Report.{report_lines}
 use Rattle.flat_page.specs.Words.{line_of}
@@ -68,6 +77,72 @@ view_without_root_then_poll-report : map line_of (report_lines view_without_root
     ∷ []
 unfolding digits
 view_without_root_then_poll-report = refl
+
+-- a present that has to be shown, and one behind it
+
+abbrev unsquashable-history : List Entry
+unsquashable-history = []
+    ▹ by (Session (s 1)) 6 ((call.CreateView (p 0)) ∷ []) (kind.View (p 0)) reply.Done
+    ▹ by (Session (s 1)) 7 [] (kind.Present (record (present 0 [] []) { unsquashable = true })) (reply.Presented 1 0)
+    ▹ by Display 8 [] (kind.Begin 5) reply.Done
+    ▹ by Display 9 [] kind.Finish reply.Done
+    ▹ by (Session (s 1)) 10 [] (kind.Present (record (present 0 [] []) { unsquashable = true })) (reply.Presented 2 4)
+    ▹ by (Session (s 1)) 11 [] (kind.Present (present 0 [] [])) (reply.Presented 3 3)
+    ▹ by Display 12 [] (kind.Begin 6) reply.Done
+    ▹ by Display 13 [] kind.Finish reply.Done
+    ▹ by Display 14 [] (kind.Begin 7) reply.Done
+    ▹ by Display 15 [] kind.Finish reply.Done
+    ▹ by (Session (s 1)) 16 [] (kind.End 0) reply.Done
+
+abbrev unsquashable-script : Script
+unsquashable-script = record {
+  setup = record one_fill_one_frame-setup { version = 2 };
+  sessions = (codes "A" ∷ []);
+  probes = [];
+  buffers = [];
+  pairs = (codes "t0" ∷ []);
+  fences = [];
+  lines =
+      session_line 6 1 (line.Call (call.CreateView (p 0)))
+      ∷ session_line 7 1 (line.Present (record (present 0 [] []) { unsquashable = true }))
+      ∷ display_line 8 (display.Begin 5)
+      ∷ display_line 9 display.Done
+      ∷ session_line 10 1 (line.Present (record (present 0 [] []) { unsquashable = true }))
+      ∷ session_line 11 1 (line.Present (present 0 [] []))
+      ∷ display_line 12 (display.Begin 6)
+      ∷ display_line 13 display.Done
+      ∷ display_line 14 (display.Begin 7)
+      ∷ display_line 15 display.Done
+      ∷ [];
+  count = 15;
+}
+
+unsquashable-report : map line_of (report_lines unsquashable-script unsquashable-history [] []) ≡
+    codes "report flatland 2"
+    ∷ codes "A 6 CreateView ok"
+    ∷ codes "A 7 Present 1 credits 0"
+    ∷ codes "display 8 begin 5 frame 1"
+    ∷ codes "> A credits 5"
+    ∷ codes "display 9 done frame 1"
+    ∷ codes "view A - 0 0 6553600 6553600"
+    ∷ codes "> A framepresented 1"
+    ∷ codes "A 10 Present 2 credits 4"
+    ∷ codes "A 11 Present 3 credits 3"
+    ∷ codes "display 12 begin 6 frame 2"
+    ∷ codes "> A credits 1"
+    ∷ codes "display 13 done frame 2"
+    ∷ codes "view A - 0 0 6553600 6553600"
+    ∷ codes "> A framepresented 1"
+    ∷ codes "display 14 begin 7 frame 3"
+    ∷ codes "> A credits 1"
+    ∷ codes "display 15 done frame 3"
+    ∷ codes "view A - 0 0 6553600 6553600"
+    ∷ codes "> A framepresented 1"
+    ∷ codes "A end 0"
+    ∷ codes "report ends entries 11 frames 3"
+    ∷ []
+unfolding digits
+unsquashable-report = refl
 
 -- misuse b16 token not back yet
 

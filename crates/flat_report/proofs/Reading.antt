@@ -18,8 +18,7 @@ use Rattle.flat_forms.specs.Body.{actor_line, body_line, probe_line, is_open}
 use Rattle.flat_places.specs.Forms.{Word, Reading, mapped}
 use Rattle.flat_forms.specs.Lines.{Sofar, words_read}
 use Rattle.flat_script.specs.Grammar.{is_plain, is_skipped, line_read, lines_read, end_read, IsScript}
-use Rattle.flat_forms.specs.Head.{empty, first_line, head_line, run_line}
-use Rattle.flat_places.specs.Known.{known_words}
+use Rattle.flat_forms.specs.Head.{empty, with_version, first_line, head_line, run_line}
 use Rattle.flat_places.specs.Names.{is_name, place_of}
 use Rattle.flat_print.proofs.lemmas.AgainLemmas.{with_lines, body_again}
 use Rattle.flat_forms.proofs.lemmas.FormLemmas.{mapped_ok}
@@ -156,12 +155,12 @@ head-kept n u ws t step kept =
       few = (let same : length t.lines ≡ length u.lines = ap (λ (ls : List ScriptLine). length ls) lines in omega (arith, few, same));
     }
 
-probe-spoken : (s : Script) (actor : Actor) (rest : List Word) (text : Body) → actor_line known_words s actor rest ≡ Ok text → is_asking actor text ≡ true
-probe-spoken s (Probe p) rest text is = let m = mapped_ok body.Probe (probe_line known_words rest) text is in ap (is_asking (Probe p)) (sym m.value)
+probe-spoken : (s : Script) (actor : Actor) (rest : List Word) (text : Body) → actor_line s actor rest ≡ Ok text → is_asking actor text ≡ true
+probe-spoken s (Probe p) rest text is = let m = mapped_ok body.Probe (probe_line s.setup.version rest) text is in ap (is_asking (Probe p)) (sym m.value)
 probe-spoken s Display rest text is = refl
 probe-spoken s (Session a) rest text is = refl
 
-body-kept : (n : ℕ) (u : Script) (ws : List Word) (t : Script) → body_line known_words u n ws ≡ Ok t → Kept n u → Kept (n + 1) t
+body-kept : (n : ℕ) (u : Script) (ws : List Word) (t : Script) → body_line u n ws ≡ Ok t → Kept n u → Kept (n + 1) t
 body-kept n u ws t is kept =
     let a = body_again u u.lines u.lines n n ws t (record { same = refl }) is in
     let line : ScriptLine = record { number = n; actor = a.actor; body = a.body } in
@@ -175,22 +174,31 @@ body-kept n u ws t is kept =
       few = omega (arith, few, length-append u.lines (line ∷ []));
     })
 
-words-kept : (n : ℕ) (sofar next : Sofar) (ws : List Word) → words_read known_words n sofar ws ≡ Ok next → Kept n sofar.1 → Kept (n + 1) next.1
-words-kept n (part.Start, u) next ws is kept = let m = mapped_ok (λ _. (part.Head, u)) (first_line ws) next is in kept-at (n + 1) u next.1 (ap (λ (v : Sofar). v.1) m.value) (kept-on n u kept)
+version-kept : (n : ℕ) (u : Script) (version : ℕ) → Kept n u → Kept n (with_version u version)
+version-kept n u version kept = record {
+  named = record { session_count = kept.named.session_count; probe_count = kept.named.probe_count; sessions = kept.named.sessions; probes = kept.named.probes; apart = kept.named.apart };
+  spoken = kept.spoken;
+  few = kept.few;
+}
+
+words-kept : (n : ℕ) (sofar next : Sofar) (ws : List Word) → words_read n sofar ws ≡ Ok next → Kept n sofar.1 → Kept (n + 1) next.1
+words-kept n (part.Start, u) next ws is kept =
+    let m = mapped_ok (λ version. (part.Head, with_version u version)) (first_line ws) next is in
+    kept-at (n + 1) (with_version u m.a) next.1 (ap (λ (v : Sofar). v.1) m.value) (kept-on n (with_version u m.a) (version-kept n u m.a kept))
 words-kept n (part.Head, u) next [] is kept = absurd (cc)
 words-kept n (part.Head, u) next (w ∷ ws) is kept = by_run (bytes_eq w (codes "run")) is
   where
-    by_run : (b : Bool) → cond b (mapped (λ _. (part.Body, u)) (run_line u ws)) (mapped (λ t. (part.Head, t)) (head_line known_words u (w ∷ ws))) ≡ Ok next → Kept (n + 1) next.1
+    by_run : (b : Bool) → cond b (mapped (λ _. (part.Body, u)) (run_line u ws)) (mapped (λ t. (part.Head, t)) (head_line u (w ∷ ws))) ≡ Ok next → Kept (n + 1) next.1
     by_run true is = let m = mapped_ok (λ _. (part.Body, u)) (run_line u ws) next is in kept-at (n + 1) u next.1 (ap (λ (v : Sofar). v.1) m.value) (kept-on n u kept)
     by_run false is =
-        let m = mapped_ok (λ t. (part.Head, t)) (head_line known_words u (w ∷ ws)) next is in
+        let m = mapped_ok (λ t. (part.Head, t)) (head_line u (w ∷ ws)) next is in
         kept-at (n + 1) m.a next.1 (ap (λ (v : Sofar). v.1) m.value) (head-kept n u (w ∷ ws) m.a (step_found u (w ∷ ws) m.a m.given) kept)
 words-kept n (part.Body, u) next ws is kept =
-    let m = mapped_ok (λ t. (part.Body, t)) (body_line known_words u n ws) next is in
+    let m = mapped_ok (λ t. (part.Body, t)) (body_line u n ws) next is in
     kept-at (n + 1) m.a next.1 (ap (λ (v : Sofar). v.1) m.value) (body-kept n u ws m.a m.given kept)
 
 line-by : (n : ℕ) (sofar next : Sofar) (ws : List Word) (p q r : Bool) → Kept n sofar.1
-    → cond {A = Reading Sofar} (not p) (Err NotAscii) (cond {A = Reading Sofar} q (Err LongLine) (cond {A = Reading Sofar} r (Ok sofar) (words_read known_words n sofar ws))) ≡ Ok next → Kept (n + 1) next.1
+    → cond {A = Reading Sofar} (not p) (Err NotAscii) (cond {A = Reading Sofar} q (Err LongLine) (cond {A = Reading Sofar} r (Ok sofar) (words_read n sofar ws))) ≡ Ok next → Kept (n + 1) next.1
 line-by n sofar next ws false q r kept is = absurd (cc)
 line-by n sofar next ws true true r kept is = absurd (cc)
 line-by n sofar next ws true false true kept is = let same : sofar ≡ next = cc in kept-at (n + 1) sofar.1 next.1 (ap (λ (v : Sofar). v.1) same) (kept-on n sofar.1 kept)
@@ -215,20 +223,20 @@ end-kept n (part.Body, u) s is kept = by_test (is_open u) is
 
 record NextRead (n : ℕ) (sofar : Sofar) (l : List ℕ) (ls : List (List ℕ)) (s : Script) : Type 0 where
   next : Sofar
-  read : line_read known_words n sofar l ≡ Ok next
-  rest : lines_read known_words (n + 1) next ls ≡ Ok s
+  read : line_read n sofar l ≡ Ok next
+  rest : lines_read (n + 1) next ls ≡ Ok s
 
-next-by : (n : ℕ) (sofar : Sofar) (l : List ℕ) (ls : List (List ℕ)) (s : Script) (r : Reading Sofar) → line_read known_words n sofar l ≡ r → lines_read known_words n sofar (l ∷ ls) ≡ Ok s → NextRead n sofar l ls s
+next-by : (n : ℕ) (sofar : Sofar) (l : List ℕ) (ls : List (List ℕ)) (s : Script) (r : Reading Sofar) → line_read n sofar l ≡ r → lines_read n sofar (l ∷ ls) ≡ Ok s → NextRead n sofar l ls s
 next-by n sofar l ls s (Ok next) e is = record { next = next; read = e; rest = rw e at is }
 next-by n sofar l ls s (Err k) e is = absurd (let wrong = rw e at is in cc)
 
 kept-to : (a b : ℕ) (s : Script) → a ≡ b → Kept a s → Kept b s
 kept-to a b s same kept = let P : ℕ → Type 0 = λ n. Kept n s in subst P same kept
 
-lines-kept : (n : ℕ) (sofar : Sofar) (ls : List (List ℕ)) (s : Script) → lines_read known_words n sofar ls ≡ Ok s → Kept n sofar.1 → Kept (n + length ls) s
+lines-kept : (n : ℕ) (sofar : Sofar) (ls : List (List ℕ)) (s : Script) → lines_read n sofar ls ≡ Ok s → Kept n sofar.1 → Kept (n + length ls) s
 lines-kept n sofar [] s is kept = kept-to n (n + 0) s (omega arith) (end-kept n sofar s is kept)
 lines-kept n sofar (l ∷ ls) s is kept =
-    let next = next-by n sofar l ls s (line_read known_words n sofar l) refl is in
+    let next = next-by n sofar l ls s (line_read n sofar l) refl is in
     let here = line-by n sofar next.next _ (list_all is_plain l) (nat_lt 1024 (length l)) (is_skipped l) kept next.read in
     kept-to (n + 1 + length ls) (n + length (l ∷ ls)) s (omega arith) (lines-kept (n + 1) next.next ls s next.rest here)
 
@@ -253,7 +261,7 @@ pub read-kept : (bytes : List ℕ) (s : Script) → IsScript bytes s → Kept (2
 read-kept bytes s is = by_size (nat_lt (16 * 1024 * 1024) (length bytes)) _ refl (lines_room-lines_of bytes) is
   where
     by_size : (b : Bool) (ls : List (List ℕ)) → nat_lt (16 * 1024 * 1024) (length bytes) ≡ b → lines_room ls ≤ length bytes + 1
-        → cond {A = Result Script ScriptFault} b (Err (record { line = 0; kind = TooLong })) (lines_read known_words 1 (part.Start, empty) ls) ≡ Ok s → Kept (2 ^ 32) s
+        → cond {A = Result Script ScriptFault} b (Err (record { line = 0; kind = TooLong })) (lines_read 1 (part.Start, empty) ls) ≡ Ok s → Kept (2 ^ 32) s
     by_size true ls at room is = absurd (cc)
     by_size false ls at room is =
         let small : length bytes ≤ 16777216 = grind (arith, nat_tests) in

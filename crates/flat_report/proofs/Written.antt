@@ -146,7 +146,7 @@ handed-is-report script all ps ts lost hs probes answered ask ps_are ts_are hs_a
     sym (ap (history_lines script lost) is ∙ grows (history_lines script lost) (entry_lines script lost) (λ before entry. refl) [] all) in
     let end : List Entry → List (List Word) = λ h. end_line (length h) (legal.frames h) ∷ [] in
     let seen : List (List Word) = map (seen_line script history) (zip (probe_lines script) (frames_seen probes)) in
-    let title : List (List Word) = title_line script ∷ [] in
+    let title : List (List Word) = title_line script.setup.version ∷ [] in
     let body : List (List Word) = history_lines script lost history in
     ap (λ t. text_of title ++ t) (same_entries script lost probes all refl refl ts_tail hs_tail ps_tail ∙ handed_tail script lost probes [] all)
     ∙ ap (λ ls. text_of title ++ (text_of ls ++ (answers_text script probes ++ text_of (end (onto [] all))))) lines

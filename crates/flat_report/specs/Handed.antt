@@ -72,9 +72,9 @@ handed_text script lost finished texts answers posts entry =
 abbrev pub first_posts : ℕ → List Post → ℕ
 first_posts place posts = length (take_while (λ post. post.entry == place) posts)
 
--- the first line, with the script's version
-abbrev pub title_line : Script → List Word
-title_line script = codes "report" ∷ codes "flatland" ∷ number script.setup.version ∷ []
+-- the first line, of a script of that version
+abbrev pub title_line : ℕ → List Word
+title_line version = codes "report" ∷ codes "flatland" ∷ number version ∷ []
 
 -- the last line, after so many entries and finished frames
 abbrev pub end_line : ℕ → ℕ → List Word
@@ -102,4 +102,4 @@ handed_entries script lost probes place finished texts answers posts (entry ∷ 
 
 -- the text of all that is handed in: the entries, the oldest first, their posts, the texts of frames, the displays that were lost, the answers to points, and those to the probes
 abbrev pub handed_report : Script → List Entry → List Post → List (List ℕ) → List Lost → List HitAnswer → List (List ProbeAnswer) → List ℕ
-handed_report script entries posts texts lost answers probes = text_of (title_line script ∷ []) ++ handed_entries script lost probes 0 0 texts answers posts entries
+handed_report script entries posts texts lost answers probes = text_of (title_line script.setup.version ∷ []) ++ handed_entries script lost probes 0 0 texts answers posts entries

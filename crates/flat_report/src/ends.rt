@@ -6,14 +6,14 @@ ghost use Rattle.flat_report.specs.Handed.{end_line, title_line};
 
 use flat_base::NoMemory;
 use flat_page::Page;
-use flat_places::Script;
 
-/// The first line.
-pub(crate) fn push_title(page: &mut Page, script: &Script) -> Result<(), NoMemory>
-    ensures { OnOk result (WritesLines (title_line script.now ∷ []) page.old page.new) }
+/// The first line, of a script of that version.
+pub(crate) fn push_title(page: &mut Page, version: u32) -> Result<(), NoMemory>
+    ensures { OnOk result (WritesLines (title_line version ∷ []) page.old page.new) }
 {
     page.put(b"report")?;
-    page.counted(b"flatland", script.setup.version)?;
+    page.word(b"flatland")?;
+    page.count(version as u64)?;
     page.put(b"\n")?;
     Ok(())
 }

@@ -106,12 +106,12 @@ impl PagedText {
         Ok(())
     }
 
-    /// Puts the first line.
-    pub(crate) fn title(&mut self, script: &Script) -> Result<(), NoMemory>
-        ensures { OnOk result (self.new ≡ self.old ++ text_of (title_line script.now ∷ [])) }
+    /// Puts the first line, of a script of that version.
+    pub(crate) fn title(&mut self, version: u32) -> Result<(), NoMemory>
+        ensures { OnOk result (self.new ≡ self.old ++ text_of (title_line version ∷ [])) }
     {
         let mut page = mem::replace(&mut self.page, Page::Text(Vec::new(self.alloc)));
-        push_title(&mut page, script)?;
+        push_title(&mut page, version)?;
         self.page = page;
         Ok(())
     }

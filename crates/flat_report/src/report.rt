@@ -257,7 +257,7 @@ pub fn print_report(
 {
     let mut texts = frames.texts;
     let mut paged = PagedText::new(alloc);
-    paged.title(script)?;
+    paged.title(script.setup.version)?;
     push_history(
         &mut paged,
         script,
