@@ -15,7 +15,6 @@ use Rattle.flat_scene.specs.declared.script.Line.{Line}
 use Rattle.flat_scene.specs.declared.script.ScriptLine.{ScriptLine}
 use Rattle.flat_text.proofs.lemmas.NumberLemmas.{natural-decimal}
 use Rattle.flat_forms.specs.declared.lines.Part.TheVariants as part
-use Rattle.flat_places.specs.Known.{known_words}
 use Rattle.flat_places.specs.Forms.{mapped}
 use Rattle.flat_places.specs.Names.{actor_named, is_actor}
 use Rattle.flat_forms.specs.Body.{time_begun, ends_frame, begin_times, dones, greatest, is_open, lines_of_actor, display_line, actor_line}
@@ -32,8 +31,8 @@ use Rattle.flat_stress.proofs.SaidLemmas.{AllSaid, moves, moves_said}
 
 -- a line that is read
 
-pub line_goes_on : (k : ℕ) (sofar next : Sofar) (ws : List Word) (rest : List (List ℕ)) → IsLine ws → words_read known_words k sofar ws ≡ Ok next
-    → lines_read known_words k sofar (spelled ws ∷ rest) ≡ lines_read known_words (k + 1) next rest
+pub line_goes_on : (k : ℕ) (sofar next : Sofar) (ws : List Word) (rest : List (List ℕ)) → IsLine ws → words_read k sofar ws ≡ Ok next
+    → lines_read k sofar (spelled ws ∷ rest) ≡ lines_read (k + 1) next rest
 line_goes_on k sofar next ws rest good is = rw (good.plain, good.short, good.kept, good.words, is) refl
 
 -- the lines so far, and one more
@@ -47,7 +46,7 @@ few_lines us a few = let most = count_by-le-length (λ (l : ScriptLine). is_acto
     below n fits = grind (arith, nat_tests)
 
 body_goes_on : (us : List ScriptLine) (k : ℕ) (a : Actor) (b : Body) (w : Word) (ws : List Word) (rest : List (List ℕ)) → IsLine (w ∷ ws) → length us < 65536 → actor_named start w ≡ Some a
-    → actor_line known_words (with_lines start us) a ws ≡ Ok b → lines_read known_words k (part.Body, with_lines start us) (spelled (w ∷ ws) ∷ rest) ≡ lines_read known_words (k + 1) (part.Body, with_lines start (more us k a b)) rest
+    → actor_line (with_lines start us) a ws ≡ Ok b → lines_read k (part.Body, with_lines start us) (spelled (w ∷ ws) ∷ rest) ≡ lines_read (k + 1) (part.Body, with_lines start (more us k a b)) rest
 body_goes_on us k a b w ws rest good few named is =
     line_goes_on k (part.Body, with_lines start us) (part.Body, with_lines start (more us k a b)) (w ∷ ws) rest good (let fits = few_lines us a few in rw (named, fits, is) refl)
 
@@ -103,7 +102,7 @@ opened us f frames = some (dones (with_lines start us)) (length (begin_times (wi
     some : (d n : ℕ) → n ≡ d + 1 → nat_lt d n ≡ true
     some d n one = grind (arith, nat_tests)
 
-begin_read : (us : List ScriptLine) (f : ℕ) → Frames us f f → f < 500 → display_line known_words (with_lines start us) (codes "begin" ∷ number (f + 1) ∷ []) ≡ Ok (display.Begin (f + 1))
+begin_read : (us : List ScriptLine) (f : ℕ) → Frames us f f → f < 500 → display_line (with_lines start us) (codes "begin" ∷ number (f + 1) ∷ []) ≡ Ok (display.Begin (f + 1))
 begin_read us f frames few =
     let shut = closed us f frames in
     let room = below (length (begin_times (with_lines start us))) 512 (omega (arith, frames.begins)) in
@@ -118,7 +117,7 @@ begin_read us f frames few =
     least : (m n : ℕ) → m ≤ n → nat_le m n ≡ true
     least m n h = grind (arith, nat_tests)
 
-done_read : (us : List ScriptLine) (f : ℕ) → Frames us (f + 1) f → display_line known_words (with_lines start us) (codes "done" ∷ []) ≡ Ok display.Done
+done_read : (us : List ScriptLine) (f : ℕ) → Frames us (f + 1) f → display_line (with_lines start us) (codes "done" ∷ []) ≡ Ok display.Done
 done_read us f frames = let open_now = opened us f frames in rw open_now refl
 
 -- what lines from line k on make of a body with these lines so far, where so many frames are begun and done at their end
@@ -127,11 +126,11 @@ pub record After (us : List ScriptLine) (k : ℕ) (wss : List (List Word)) (f : 
   pub behind : List ScriptLine
   pub frames : Frames behind f f
   pub many : length behind ≡ length us + length wss
-  pub read : (rest : List (List ℕ)) → lines_read known_words k (part.Body, with_lines start us) (map spelled wss ++ rest) ≡ lines_read known_words (k + length wss) (part.Body, with_lines start behind) rest
+  pub read : (rest : List (List ℕ)) → lines_read k (part.Body, with_lines start us) (map spelled wss ++ rest) ≡ lines_read (k + length wss) (part.Body, with_lines start behind) rest
 
 -- no line
 pub none_after : (us : List ScriptLine) (k f : ℕ) → Frames us f f → After us k [] f
-none_after us k f frames = record { good = tt; behind = us; frames = frames; many = omega arith; read = λ rest. ap (λ i. lines_read known_words i (part.Body, with_lines start us) rest) (omega arith) }
+none_after us k f frames = record { good = tt; behind = us; frames = frames; many = omega arith; read = λ rest. ap (λ i. lines_read i (part.Body, with_lines start us) rest) (omega arith) }
 
 -- some lines, and others behind them
 pub then_after : (us : List ScriptLine) (k : ℕ) (xs ys : List (List Word)) (f g : ℕ) (x : After us k xs f) → After x.behind (k + length xs) ys g → After us k (xs ++ ys) g
@@ -141,15 +140,15 @@ then_after us k xs ys f g x y = record {
   frames = y.frames;
   many = omega (arith, y.many, x.many, length-append xs ys);
   read = λ rest.
-      ap (λ t. lines_read known_words k (part.Body, with_lines start us) (t ++ rest)) (map-append spelled xs ys)
-      ∙ ap (lines_read known_words k (part.Body, with_lines start us)) (append_assoc (map spelled xs) (map spelled ys) rest)
+      ap (λ t. lines_read k (part.Body, with_lines start us) (t ++ rest)) (map-append spelled xs ys)
+      ∙ ap (lines_read k (part.Body, with_lines start us)) (append_assoc (map spelled xs) (map spelled ys) rest)
       ∙ x.read (map spelled ys ++ rest) ∙ y.read rest
-      ∙ ap (λ i. lines_read known_words i (part.Body, with_lines start y.behind) rest) (omega (arith, length-append xs ys));
+      ∙ ap (λ i. lines_read i (part.Body, with_lines start y.behind) rest) (omega (arith, length-append xs ys));
 }
 
 -- a line at the front
 line_after : (us : List ScriptLine) (k : ℕ) (a : Actor) (b : Body) (w : Word) (ws : List Word) (wss : List (List Word)) (f : ℕ) → IsLine (w ∷ ws) → length us < 65536 → actor_named start w ≡ Some a
-    → actor_line known_words (with_lines start us) a ws ≡ Ok b → After (more us k a b) (k + 1) wss f → After us k ((w ∷ ws) ∷ wss) f
+    → actor_line (with_lines start us) a ws ≡ Ok b → After (more us k a b) (k + 1) wss f → After us k ((w ∷ ws) ∷ wss) f
 line_after us k a b w ws wss f good few named is x = record {
   good = (good, x.good);
   behind = x.behind;
@@ -157,7 +156,7 @@ line_after us k a b w ws wss f good few named is x = record {
   many = omega (arith, x.many, length-append us (record { number = k; actor = a; body = b } ∷ []));
   read = λ rest.
       body_goes_on us k a b w ws (map spelled wss ++ rest) good few named is ∙ x.read rest
-      ∙ ap (λ i. lines_read known_words i (part.Body, with_lines start x.behind) rest) (omega arith);
+      ∙ ap (λ i. lines_read i (part.Body, with_lines start x.behind) rest) (omega arith);
 }
 
 -- what sessions say
@@ -167,7 +166,7 @@ said_after (ws ∷ wss) all us k f frames few =
     let s = all.0 in
     let b : Body = body.Session s.what in
     let P : List Word → Type 0 = λ t. IsLine t → After us k (t ∷ wss) f in
-    let read : actor_line known_words (with_lines start us) (Session s.who) s.words ≡ Ok b = ap (λ r. mapped body.Session r) s.read in
+    let read : actor_line (with_lines start us) (Session s.who) s.words ≡ Ok b = ap (λ r. mapped body.Session r) s.read in
     let rest = said_after wss all.1 (more us k (Session s.who) b) (k + 1) f (said_frames us k (Session s.who) s.what f f frames) (omega (arith, few, length-append us (record { number = k; actor = Session s.who; body = b } ∷ []))) in
     subst P (sym s.begins) (λ good. line_after us k (Session s.who) b s.name s.words wss f good (omega arith) s.named read rest) s.good
 

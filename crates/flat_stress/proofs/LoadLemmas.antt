@@ -7,7 +7,6 @@ use Rattle.std.proofs.lemmas.List.{map-append}
 use Rattle.flat_forms.specs.declared.lines.Part.TheVariants as part
 use Rattle.flat_places.specs.declared.script.Script.{Script}
 use Rattle.flat_script.specs.declared.script.ScriptFault.{ScriptFault}
-use Rattle.flat_places.specs.Known.{known_words}
 use Rattle.flat_forms.specs.Head.{empty}
 use Rattle.flat_forms.specs.Body.{dones}
 use Rattle.flat_script.specs.Grammar.{lines_read, text_read, IsScript}
@@ -45,7 +44,7 @@ head_good =
     let fifth : AllLines five = (line_good 114 _ _ refl (tested (codes "run") refl refl) tt (omega arith), tt) in
     AllLines-append (one ++ two ++ three ++ four) five (AllLines-append (one ++ two ++ three) four (AllLines-append (one ++ two) three (AllLines-append one two first second) third) fourth) fifth
 
-head_read : (rest : List (List ℕ)) → lines_read known_words 1 (part.Start, empty) (map spelled head ++ rest) ≡ lines_read known_words 20 (part.Body, with_lines start []) rest
+head_read : (rest : List (List ℕ)) → lines_read 1 (part.Start, empty) (map spelled head ++ rest) ≡ lines_read 20 (part.Body, with_lines start []) rest
 unfolding start digits
 head_read rest = refl
 
@@ -93,11 +92,11 @@ acts_many n some few =
 
 -- the whole
 
-text_is : (wss : List (List Word)) → AllLines wss → length wss ≤ 16000 → text_read (text_of wss) ≡ lines_read known_words 1 (part.Start, empty) (map spelled wss)
+text_is : (wss : List (List Word)) → AllLines wss → length wss ≤ 16000 → text_read (text_of wss) ≡ lines_read 1 (part.Start, empty) (map spelled wss)
 text_is wss good few =
     let fits : length (text_of wss) ≤ 16777216 = omega (arith, text_fits wss good) in
     let test : nat_lt 16777216 (length (text_of wss)) ≡ false = grind (arith, nat_tests) in
-    rw test (ap (lines_read known_words 1 (part.Start, empty)) (lines_of_text wss good))
+    rw test (ap (lines_read 1 (part.Start, empty)) (lines_of_text wss good))
 
 -- what the head and such lines are a text of
 record Made (wss : List (List Word)) (n : ℕ) : Type 0 where
@@ -114,13 +113,13 @@ made : (wss : List (List Word)) (n : ℕ) → After [] 20 wss n → length wss �
 made wss n x few =
     let made : Script = record (with_lines start x.behind) { count = 20 + length wss - 1 } in
     let shut = closed x.behind n x.frames in
-    let ended : lines_read known_words (20 + length wss) (part.Body, with_lines start x.behind) [] ≡ Ok made = rw shut refl in
+    let ended : lines_read (20 + length wss) (part.Body, with_lines start x.behind) [] ≡ Ok made = rw shut refl in
     let lines : map spelled (head ++ wss) ≡ map spelled head ++ (map spelled wss ++ []) = map-append spelled head wss ∙ ap (λ t. map spelled head ++ t) (sym (append-nil (map spelled wss))) in
     record {
       script = made;
       is =
           text_is (head ++ wss) (AllLines-append head wss head_good x.good) (omega (arith, length-append head wss, head_many))
-          ∙ ap (lines_read known_words 1 (part.Start, empty)) lines ∙ head_read (map spelled wss ++ []) ∙ x.read [] ∙ ended;
+          ∙ ap (lines_read 1 (part.Start, empty)) lines ∙ head_read (map spelled wss ++ []) ∙ x.read [] ∙ ended;
       sessions = start_sessions;
       frames = x.frames.ends;
     }

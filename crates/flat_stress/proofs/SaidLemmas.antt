@@ -4,7 +4,6 @@ use Rattle.std.specs.List.{flat_map, range_with_len}
 use Rattle.flat_base.specs.declared.ids.Actor.TheVariants.{Session}
 use Rattle.flat_base.specs.declared.ids.SessionNo.{SessionNo}
 use Rattle.flat_scene.specs.declared.script.Line.{Line}
-use Rattle.flat_places.specs.Known.{known_words}
 use Rattle.flat_places.specs.Names.{actor_named}
 use Rattle.flat_forms.specs.Body.{session_line}
 use Rattle.flat_print.proofs.lemmas.TextLemmas.{IsLine, AllLines}
@@ -22,7 +21,7 @@ pub record Said (ws : List Word) : Type 0 where
   pub begins : ws ≡ name ∷ words
   pub good : IsLine ws
   pub named : actor_named start name ≡ Some (Session who)
-  pub read : session_line known_words start who words ≡ Ok what
+  pub read : session_line start who words ≡ Ok what
 
 abbrev pub AllSaid : List (List Word) → Type 0
 AllSaid [] = Unit {0}
@@ -46,7 +45,7 @@ each_line_said f first (suc n) all = (all first (omega arith) (omega arith), eac
 
 -- one line
 
-said : (i : ℕ) (words : List Word) (l : Line) → 1 ≤ i → i ≤ 8 → AllSolid words → length words ≤ 24 → session_line known_words start (no i) words ≡ Ok l → Said (says i words)
+said : (i : ℕ) (words : List Word) (l : Line) → 1 ≤ i → i ≤ 8 → AllSolid words → length words ≤ 24 → session_line start (no i) words ≡ Ok l → Said (says i words)
 said i words l low high solid few read = record {
   who = no i;
   name = session i;

@@ -7,7 +7,7 @@ ghost use Rattle.flat_stress.specs.Load.{guest, frame, later, load, load_text};
 
 use crate::page::{Word, push_lines};
 use Word::{Number, Pair, Session, Text};
-use flat_base::NoMemory;
+use flat_base::{LOAD_FRAMES_MAX, NoMemory};
 use std::alloc::Global;
 
 // What the load's text takes at most: before its second frame, and for each frame.
@@ -18,7 +18,7 @@ const FRAME_BYTES: usize = 600;
 /// The load of so many frames, as a script.
 pub fn script(alloc: Global, n: u32) -> Result<Vec<u8>, NoMemory>
     requires first { 1 ≤ n }
-    requires last { n ≤ 500 }
+    requires last { n ≤ LOAD_FRAMES_MAX }
     ensures { IfOk result (λ text. text.items ≡ load_text n) }
 {
     let room = START_BYTES + n as usize * FRAME_BYTES;
@@ -29,7 +29,7 @@ pub fn script(alloc: Global, n: u32) -> Result<Vec<u8>, NoMemory>
 
 fn push_load(out: &mut Vec<u8>, n: u32) -> Result<(), NoMemory>
     requires first { 1 ≤ n }
-    requires last { n ≤ 500 }
+    requires last { n ≤ LOAD_FRAMES_MAX }
     ensures { OnOk result (out.new.items ≡ out.old.items ++ load_text n) }
 {
     push_head(out)?;
@@ -213,7 +213,7 @@ fn push_frame(out: &mut Vec<u8>, k: u32) -> Result<(), NoMemory>
 // The frames after the first one.
 fn push_later_frames(out: &mut Vec<u8>, n: u32) -> Result<(), NoMemory>
     requires first { 1 ≤ n }
-    requires last { n ≤ 500 }
+    requires last { n ≤ LOAD_FRAMES_MAX }
     ensures { OnOk result (out.new.items
         ≡ out.old.items ++ text_of (flat_map later (from_to 2 n))) }
 {
@@ -224,7 +224,7 @@ fn push_later_frames(out: &mut Vec<u8>, n: u32) -> Result<(), NoMemory>
 }
 
 fn push_later(out: &mut Vec<u8>, k: u32) -> Result<(), NoMemory>
-    requires { k ≤ 500 }
+    requires { k ≤ LOAD_FRAMES_MAX }
     ensures { OnOk result (out.new.items ≡ out.old.items ++ text_of (later k)) }
 {
     push_host_moves(out, k)?;
@@ -235,7 +235,7 @@ fn push_later(out: &mut Vec<u8>, k: u32) -> Result<(), NoMemory>
 }
 
 fn push_host_moves(out: &mut Vec<u8>, k: u32) -> Result<(), NoMemory>
-    requires { k ≤ 500 }
+    requires { k ≤ LOAD_FRAMES_MAX }
     ensures { OnOk result (out.new.items
         ≡ out.old.items ++ text_of (map (λ i. move 1 i ((100 * i + k) % 900) ((50 * i + k) % 900))
         (from_to 2 8))) }
