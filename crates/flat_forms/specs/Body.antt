@@ -24,7 +24,7 @@ use Rattle.flat_places.specs.declared.kinds.FaultKind.TheVariants.{UnknownActor,
 use Rattle.flat_places.specs.declared.script.Script.{Script}
 use Rattle.flat_places.specs.Forms.{Word, Reading, Form, both, unless_kind, give, place, whole, one_or_more, named, mapped, ◌<$>◌, ◌<*>◌}
 use Rattle.flat_places.specs.Names.{actor_named, is_actor}
-use Rattle.flat_places.specs.Places.{u32, time, content, point, unsquashable, session, fence, fence_word}
+use Rattle.flat_places.specs.Places.{u32, time, content, point, ratio, unsquashable, session, fence, fence_word}
 use Rattle.flat_forms.specs.Calls.{call_named, call_form}
 
 -- Present
@@ -137,7 +137,8 @@ display_line s = named s.setup.version UnknownCall (
     (codes "done", (λ rest. unless_kind BadOrder (is_open s) (whole (give display.Done) rest))) ∷
     (codes "Signal", whole (display.Signal <$> fence s Display)) ∷
     (codes "Wait", (λ rest. mapped display.Wait (display_condition s rest))) ∷
-    (codes "hit", whole (point (λ x y. display.Hit x y))) ∷ [])
+    (codes "hit", whole (point (λ x y. display.Hit x y))) ∷
+    (codes "dpr", whole (display.Dpr <$> ratio)) ∷ [])
 
 -- probes
 

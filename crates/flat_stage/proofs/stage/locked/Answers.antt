@@ -1,4 +1,4 @@
-use Rattle.std.proofs.Common.{◌≡◌, ℕ, ◌+◌, ◌<◌, arith, ap, ◌∙◌}
+use Rattle.std.proofs.Common.{◌≡◌, ◌+◌, ◌<◌, arith, ap, ◌∙◌}
 use Rattle.flat_stage.proofs.AtHome.{others_new}
 use Rattle.flat_stage.proofs.stage.locked.Goals as goal
 
