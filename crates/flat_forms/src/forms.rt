@@ -48,11 +48,7 @@ fn version(words: Option<&[u8]>) -> Result<u32, FaultKind>
 
 /// The size of the display and its first pixel ratio, in scripts of that version, where
 /// `fresh` says whether it is the first.
-pub fn size(
-    fresh: bool,
-    version: u32,
-    words: Option<&[u8]>,
-) -> Result<(u32, u32, u32), FaultKind>
+pub fn size(fresh: bool, version: u32, words: Option<&[u8]>) -> Result<(u32, u32, u32), FaultKind>
     ensures { result ≡ unless_kind BadHead fresh
         (whole (size version) (pieces_left is_space words.entry)) }
 {

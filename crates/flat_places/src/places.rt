@@ -14,7 +14,10 @@ ghost use Rattle.flat_places.specs.Reads.{reading_of};
 use crate::kinds::FaultKind;
 use crate::known::knows;
 use crate::names::is_word;
-use flat_base::{COLOUR_MAX, ContentId, INSET_MAX, IntRect, Items, NoMemory, ONE, Orientation, RATIO_MAX, RATIO_MIN, RATIO_SINCE, TIME_MAX, TransformId, VERSION_MAX};
+use flat_base::{
+    COLOUR_MAX, ContentId, INSET_MAX, IntRect, Items, NoMemory, ONE, Orientation, RATIO_MAX,
+    RATIO_MIN, RATIO_SINCE, TIME_MAX, TransformId, VERSION_MAX,
+};
 use flat_scene::{BlendMode, HitRegion, ImageFlip, Inset, Interaction, RegionList, TransformList};
 use flat_text::{next_piece, read_natural, read_number};
 use std::alloc::Global;

@@ -14,6 +14,8 @@ mod probes;
 #[cfg(test)]
 mod script;
 #[cfg(test)]
+mod second;
+#[cfg(test)]
 mod text;
 #[cfg(test)]
 mod texts;

@@ -1,6 +1,6 @@
 -- Forms, as the code reads them place by place.
 use Rattle.std.proofs.lemmas.List.Splits.{length-slice_split}
-use Rattle.std.proofs.Common.{is_some, IfOk, ◌++◌, ◌<◌, length, append_assoc, append-nil, ◌≡◌, ℕ, Bool, true, false, List, [], ◌∷◌, Option, Some, None, Result, Ok, Err, refl, sym, ◌∙◌, ap, arith, cond, nat_le}
+use Rattle.std.proofs.Common.{is_some, IfOk, ◌++◌, ◌<◌, length, append_assoc, append-nil, ◌≡◌, ℕ, Bool, true, false, List, [], ◌∷◌, Option, Some, None, Result, Ok, Err, refl, sym, ◌∙◌, ap, arith, cond, nat_le, nat_lt, ◌≤◌}
 use Rattle.std.proofs.lemmas.Bool.Decides.{nat_tests}
 use Rattle.std.specs.List.{slice_split, onto_first}
 use Rattle.std.specs.Borrow.{Bor}
@@ -262,6 +262,6 @@ if_ok P Q (Err e) weaker holds = tt
 -- ---- pixel ratios
 
 -- the first pixel ratio, where a word is left and the version has ratios
-pub first_ratio_some : (version : ℕ) (xs : List Word) → 0 < length xs → nat_lt version RATIO_SINCE ≡ false → first_ratio version xs ≡ ratio xs
+pub first_ratio_some : (version : ℕ) (xs : List Word) → 0 < length xs → RATIO_SINCE ≤ version → first_ratio version xs ≡ ratio xs
 first_ratio_some version [] some has = absurd (omega arith)
-first_ratio_some version (w ∷ ws) some has = rw has refl
+first_ratio_some version (w ∷ ws) some has = let late : nat_lt version RATIO_SINCE ≡ false = grind (arith, nat_tests) in rw late refl
