@@ -14,10 +14,10 @@ mod probes;
 #[cfg(test)]
 mod script;
 #[cfg(test)]
-mod second;
-#[cfg(test)]
 mod text;
 #[cfg(test)]
 mod texts;
+#[cfg(test)]
+mod versions;
 #[cfg(test)]
 mod viewports;

@@ -36,6 +36,15 @@ const LATER: &str =
 const LATER_PRINTED: &str =
     "flatland 2\ndisplay 9 9\nsession A\npair t0 display A\nfence f A\nrun\nA Present 1 unsquashable\nA Present 2 unsquashable acquire f release f\nA Present 3 release f\nA ReplaceChildren 1\nA ReplaceChildren 1 3 2";
 
+// Pixel ratios: a first one that says nothing is left out.
+const LATEST: &str =
+    "flatland 3\ndisplay 9 9 65536\nsession A\npair t0 display A\nrun\ndisplay dpr 16384\n";
+
+const LATEST_PRINTED: &str =
+    "flatland 3\ndisplay 9 9\nsession A\npair t0 display A\nrun\ndisplay dpr 16384";
+
+const SCALED: &str = "flatland 3\ndisplay 9 9 16384\nsession A\npair t0 display A\nrun";
+
 // What is printed of the script that a text has.
 fn reprinted(alloc: Global, text: &str) -> Result<Vec<u8>, Fail> {
     let script = parse(alloc, text.as_bytes())?;
@@ -43,12 +52,14 @@ fn reprinted(alloc: Global, text: &str) -> Result<Vec<u8>, Fail> {
 }
 
 // Texts, and what is printed of their scripts, which is printed of itself.
-const PRINTED: [(&str, &str); 5] = [
+const PRINTED: [(&str, &str); 7] = [
     (LOOSE, CANONICAL),
     (INSETS, INSETS_PRINTED),
     (CALLS, CALLS),
     (ASKED, ASKED_PRINTED),
     (LATER, LATER_PRINTED),
+    (LATEST, LATEST_PRINTED),
+    (SCALED, SCALED),
 ];
 
 #[test]
