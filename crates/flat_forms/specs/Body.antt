@@ -41,7 +41,7 @@ fence_lists test (w ∷ words) =
 -- a time, `unsquashable` or not, and the lists
 abbrev pub present : Script → SessionNo → Form PresentArgs
 present s a =
-    (λ t alone lists. record { time = t; acquire = lists.0; release = lists.1; unsquashable = alone })
+    (λ t u lists. record { time = t; acquire = lists.0; release = lists.1; unsquashable = u })
     <$> time <*> unsquashable s.setup.version <*> (λ words. (fence_lists (fence_word s (Session a)) words, []))
 
 -- Wait

@@ -119,7 +119,7 @@ regions [] = Ok []
 regions (x ∷ y ∷ w ∷ h ∷ i ∷ words) = both (λ r rest. r ∷ rest) (region (x ∷ y ∷ w ∷ h ∷ i ∷ [])).0 (regions words)
 regions words = both (λ r rest. r ∷ rest) (region words).0 (Ok [])
 
--- `unsquashable`, where it stands here and that version knows it
+-- whether `unsquashable` stands here, where that version knows it; it is taken then
 abbrev pub unsquashable : ℕ → Form Bool
 unsquashable version [] = (Ok false, [])
 unsquashable version (w ∷ words) = if bytes_eq w (codes "unsquashable") && knows version w then (Ok true, words) else (Ok false, w ∷ words)

@@ -190,7 +190,7 @@ lists_words s p = list_words s (codes "acquire") p.acquire ++ list_words s (code
 
 -- `unsquashable`, for a present that is
 abbrev pub unsquashable_word : Bool → List Word
-unsquashable_word alone = if alone then codes "unsquashable" ∷ [] else []
+unsquashable_word unsquashable = if unsquashable then codes "unsquashable" ∷ [] else []
 
 -- a present
 abbrev pub present_words : Script → PresentArgs → List Word
