@@ -130,6 +130,10 @@ in_order least (Err k) = Err k
 abbrev pub begin_place : Script → Form ℕ
 begin_place s = place (λ w. in_order (greatest (begin_times s)) (whole time (w ∷ [])))
 
+-- a line of the display that sets its pixel ratio
+abbrev pub ratio_line : Form DisplayLine
+ratio_line = display.Dpr <$> ratio
+
 -- a line of the display
 abbrev pub display_line : Script → List Word → Reading DisplayLine
 display_line s = named s.setup.version UnknownCall (
@@ -138,7 +142,7 @@ display_line s = named s.setup.version UnknownCall (
     (codes "Signal", whole (display.Signal <$> fence s Display)) ∷
     (codes "Wait", (λ rest. mapped display.Wait (display_condition s rest))) ∷
     (codes "hit", whole (point (λ x y. display.Hit x y))) ∷
-    (codes "dpr", whole (display.Dpr <$> ratio)) ∷ [])
+    (codes "dpr", whole ratio_line) ∷ [])
 
 -- probes
 

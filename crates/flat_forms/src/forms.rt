@@ -2,12 +2,12 @@ ghost use Rattle.std.specs.Prelude.{◌≡◌, ◌≤◌, ◌∷◌, ℕ, false,
 ghost use Rattle.std.specs.Str.{bytes_eq};
 ghost use Rattle.flat_text.specs.Pieces.{is_space, pieces_left, words_of};
 ghost use Rattle.flat_places.specs.declared.kinds.FaultKind.TheVariants.{BadHead, Limit, BadOrder};
-ghost use Rattle.flat_places.specs.Forms.{whole, give, unless_kind, mapped, ◌<$>◌};
+ghost use Rattle.flat_places.specs.Forms.{whole, give, unless_kind, mapped};
 ghost use Rattle.flat_forms.specs.Head as head;
 ghost use Rattle.flat_forms.specs.Head.{size, buffers, pair, run_line, first_line};
-ghost use Rattle.flat_places.specs.Places.{new_name, has_display_pair, fence, point, ratio, version};
+ghost use Rattle.flat_places.specs.Places.{new_name, has_display_pair, fence, point, version};
 ghost use Rattle.flat_forms.specs.Body.{begin_place, begin_times, dones, greatest, display_line};
-ghost use Rattle.flat_forms.specs.Body.{probe_line};
+ghost use Rattle.flat_forms.specs.Body.{probe_line, ratio_line};
 ghost use Rattle.flat_places.specs.Index.{IsIndexed};
 ghost use Rattle.flat_places.specs.Reads.{Reads};
 ghost use Rattle.flat_forms.specs.Steps.{ReachesBy};
@@ -287,7 +287,7 @@ fn timeless_line(
 
 /// A pixel ratio of the display.
 fn dpr(words: Option<&[u8]>) -> Result<DisplayLine, FaultKind>
-    ensures { result ≡ whole (display.Dpr <$> ratio) (pieces_left is_space words.entry) }
+    ensures { result ≡ whole ratio_line (pieces_left is_space words.entry) }
 {
     let mut places = Places::new(words);
     let ratio = places.ratio();
