@@ -137,7 +137,8 @@ impl LastFrame {
         trees_follow();
         self.joined = None;
         self.ratio = ratio;
-        let Drawing { items, views } = self.reuse
+        let Drawing { items, views } = self
+            .reuse
             .draw_changed(alloc, shown, setup, ratio, changed)?;
         let tree = tree_of(alloc, views, with_view)?;
         Ok(FrameOut {
@@ -178,7 +179,13 @@ impl LastFrame {
             ≡ hit_list (at_ratio self.old.ratio setup.now) self.old.reuse x y) }
         ensures stays { OnOk result (StaysLast setup.now self.old self.new) }
     {
-        let joined = joined_once(alloc, setup, self.ratio, self.reuse.shown(), self.joined.take())?;
+        let joined = joined_once(
+            alloc,
+            setup,
+            self.ratio,
+            self.reuse.shown(),
+            self.joined.take(),
+        )?;
         let found = joined.hits(alloc, x, y)?;
         self.joined = Some(joined);
         Ok(found)
@@ -222,7 +229,13 @@ impl LastFrame {
             ≡ joined_lists (at_ratio self.old.ratio setup.now) self.old.reuse) }
         ensures stays { OnOk result (StaysLast setup.now self.old self.new) }
     {
-        let joined = joined_once(alloc, setup, self.ratio, self.reuse.shown(), self.joined.take())?;
+        let joined = joined_once(
+            alloc,
+            setup,
+            self.ratio,
+            self.reuse.shown(),
+            self.joined.take(),
+        )?;
         let shared = Arc::try_clone(&joined)?;
         self.joined = Some(joined);
         Ok(shared)

@@ -88,13 +88,7 @@ impl Hand {
     }
 
     /// Sets the display's pixel ratio from the next begin on.
-    pub(crate) fn dpr<R: Wait>(
-        &mut self,
-        rt: &R,
-        stage: &Stage,
-        number: u32,
-        ratio: u32,
-    ) -> Reply
+    pub(crate) fn dpr<R: Wait>(&mut self, rt: &R, stage: &Stage, number: u32, ratio: u32) -> Reply
         requires own { (hand_seat self.old).stage ≡ stage.now }
         requires room { HasDisplayRoom (hand_seat self.old) }
         requires named { names_declared (setup_of (hand_seat self.old).stage) (Dpr ratio) ≡ true }
