@@ -126,11 +126,11 @@ module _ (script : Script) (middle : List Entry) (film : Film) (stands : FilmSta
 
 keeps_itself : (hand : Hand) → KeepsFrame hand hand
 keeps_itself (Idle seat) = tt
-keeps_itself (Open frame) = (refl, refl, refl, refl)
+keeps_itself (Open frame) = (refl, refl, refl)
 
 keeps_both : (a b c : Hand) → KeepsFrame a b → KeepsFrame b c → KeepsFrame a c
 keeps_both (Idle a) (Idle b) (Idle c) one two = tt
-keeps_both (Open a) (Open b) (Open c) one two = (two.0 ∙ one.0, two.1 ∙ one.1, two.2 ∙ one.2, two.3 ∙ one.3)
+keeps_both (Open a) (Open b) (Open c) one two = (two.0 ∙ one.0, two.1 ∙ one.1, two.2 ∙ one.2)
 keeps_both (Idle a) (Open b) c one two = absurd one
 keeps_both (Open a) (Idle b) c one two = absurd one
 keeps_both (Idle a) (Idle b) (Open c) one two = absurd two

@@ -42,7 +42,7 @@ KnowsChanges last (Open frame) = AreSame frame.changed last frame.shown
 -- an open frame stays as it was
 abbrev pub KeepsFrame : Hand → Hand → Type 0
 KeepsFrame (Idle old) (Idle new) = Unit {0}
-KeepsFrame (Open old) (Open new) = (new.shown ≡ old.shown) × (new.with_view ≡ old.with_view) × (new.changed ≡ old.changed) × (new.ratio ≡ old.ratio)
+KeepsFrame (Open old) (Open new) = (new.shown ≡ old.shown) × (new.with_view ≡ old.with_view) × (new.changed ≡ old.changed)
 KeepsFrame _ _ = ⊥
 
 -- The seat knows its own entries in what it has seen, and these are the reading of the display's lines before a place.

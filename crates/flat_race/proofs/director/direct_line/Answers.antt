@@ -228,9 +228,9 @@ returns-in_ok-seat-in-Done-clause-stands g c =
     let K : Shown → Type 0 = λ next. AreSame c.into_frame-frame.result.changed c.args.film.now.last.reuse next in
     let same : S c.changed.result = subst S (sym c.changed.ensures) (subst K (held.shows.0 ∙ sym keeps.showing) held.changes) in
     let h : List Entry = history_of c.into_frame-frame.result.display.seen in
-    let at : c.ratio.result ≡ ratio script.setup (to_begin h) = c.ratio.ensures.begun ∙ ap (λ (s : Setup). ratio s (to_begin h)) (ap setup_of held.seat.own ∙ c.requires.of.setup) in
+    let scales : c.ratio.result ≡ ratio script.setup (to_begin h) = c.ratio.ensures ∙ ap (λ (s : Setup). ratio s (to_begin h)) (ap setup_of held.seat.own ∙ c.requires.of.setup) in
     let J : ℕ → Type 0 = λ r. IsJoined (at_ratio r script.setup) done.reuse then.joined in
-    let joined = subst J (at ∙ sym keeps.scaling) (c.take_joined-joined.ensures.joined script.setup done.reuse was.is_last keeps.is_last.count same) in
+    let joined = subst J (scales ∙ sym keeps.scaling) (c.take_joined-joined.ensures.joined script.setup done.reuse was.is_last keeps.is_last.count same) in
     let stays : StaysLast script.setup done then = joined-again script.setup done then keeps.is_last refl refl refl joined in
     hand_finishes script view c.args.place x at refl c.requires.of is c.into_frame-frame.result c.in_ok-seat-in-Done.seat c.args.film.now (record c.finish.new.film { last = then }) held c.in_ok-seat-in-Done.ensures.enters
     (keeps-joined script _ _ c.args.film.now c.take_joined-joined.new.self c.finish.new.film then keeps stays)

@@ -22,7 +22,7 @@ returns-clause-shown g c =
     let before : List FrameOut = finished script.setup h in
     let frame = c.in_ok-composed.composed in
     let V : SessionSet → Type 0 = AreViewed script.setup (to_begin h) in
-    let at : c.ratio.result ≡ ratio script.setup (to_begin h) = c.ratio.ensures.begun ∙ ap (λ (s : Setup). ratio s (to_begin h)) (ap setup_of c.requires.own ∙ c.requires.of) in
+    let at : c.ratio.result ≡ ratio script.setup (to_begin h) = c.ratio.ensures ∙ ap (λ (s : Setup). ratio s (to_begin h)) (ap setup_of c.requires.own ∙ c.requires.of) in
     let composed : frame ≡ frame_at script.setup (frames h + 1) (to_begin h) =
     c.in_ok-composed.ensures.frame _ (c.shown.ensures.shown ∙ c.requires.shows.0) (scaled script.setup (to_begin h) _ at) (subst V (sym c.with_view.ensures) c.requires.shows.1) ∙ ap (λ (n : ℕ). frame_at script.setup (n + 1) (to_begin h)) c.requires.last in
     let numbered = ap (λ (f : FrameOut). f.frame.0) composed in
