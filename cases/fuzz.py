@@ -3,7 +3,7 @@
 
 fuzz.py PROGRAM [--count N] [--seed S] [--jobs J] [--keep FOLDER]
 
-Scripts of both versions are made at random: sessions that link, present, get, poll, wait and leave, some of
+Scripts of all versions are made at random: sessions that link, present, get, poll, wait and leave, some of
 them with misuses, frames beside them, and probes that ask. Every third is spoilt, in a line or a byte. No
 second service is asked; it is checked that
 
@@ -79,7 +79,7 @@ class Maker:
     def __init__(self, rng):
         self.rng = rng
         self.misuse = rng.choice([0, 0, 0.01, 0.05])
-        self.version = rng.choice([1, 2])
+        self.version = rng.choice([1, 2, 3])
         self.time = 0
         self.open = False
         self.frames = 0
@@ -96,6 +96,9 @@ class Maker:
     def size(self):
         return self.rng.choice([1, 2, 7, 30, 100, 640, 65536])
 
+    def ratio(self):
+        return self.rng.choice([16384, 32768, 65536, 98304, 131072, 1048576])
+
     def place(self):
         return self.rng.choice([0, 1, -1, 5, 40, -300, 2147483647, -2147483648])
 
@@ -106,6 +109,8 @@ class Maker:
         self.clients = [Client(name) for name in names]
         self.display_fences = []
         lines = ["display %d %d" % (rng.choice([1, 20, 100, 1280]), rng.choice([1, 20, 100, 800]))]
+        if self.version > 2 and self.chance(0.5):
+            lines[0] += " %d" % self.ratio()
         lines += ["session " + name for name in names]
         tail = []
         top = rng.choice(self.clients)
@@ -251,6 +256,8 @@ class Maker:
             return "hit %d %d" % (rng.choice([0, 3, -1, 50]), rng.choice([0, 3, 99]))
         if self.chance(0.1) and self.display_fences:
             return "Signal " + rng.choice(self.display_fences)
+        if self.version > 2 and self.chance(0.1):
+            return "dpr %d" % self.ratio()
         if self.chance(0.05):
             return "Wait presents %s %d" % (rng.choice(self.clients).name, rng.randrange(3))
         self.open = not self.open
@@ -366,7 +373,7 @@ class Entry:
 def read(report):
     """The entries of a report, and the numbers of its last line."""
     lines = report.decode("ascii").split("\n")
-    ensure(lines[0] in ("report flatland 1", "report flatland 2") and lines[-1] == "", "no whole report")
+    ensure(lines[0] in ["report flatland %d" % version for version in (1, 2, 3)] and lines[-1] == "", "no whole report")
     last = lines[-2].split(" ")
     ensure(last[:3] == ["report", "ends", "entries"] and last[4] == "frames" and len(last) == 6, "no last line")
     entries = []
@@ -474,7 +481,7 @@ def check_report(lines, report):
     ensure(report.startswith(b"report " + lines[0].encode() + b"\n"), "another version")
     entries, (count, finished) = read(report)
     run = lines.index("run")
-    size = [int(w) for w in next(l for l in lines if l.startswith("display ")).split(" ")[1:]]
+    size = [int(w) for w in next(l for l in lines if l.startswith("display ")).split(" ")[1:3]]
     sessions = [line.split(" ")[1] for line in lines[:run] if line.startswith("session ")]
     told = {name: Told() for name in sessions}
     asked = {line.split(" ")[1]: [] for line in lines[:run] if line.startswith("probe ")}
@@ -504,6 +511,8 @@ def check_report(lines, report):
             is_open, frames = False, frames + 1
             ensure(entry.words[2:] == ["done", "frame", str(frames)], "a done", entry.words)
             views = check_parts(entry.parts, size)
+        elif line[1] == "dpr":
+            ensure(entry.words[2:] == ["dpr", "ok"], "a pixel ratio", entry.words)
         elif line[1] == "hit":
             ensure(entry.words[2:7] == ["hit", line[2], line[3], "frame", str(frames)], "a hit", entry.words)
             hit = entry.words[7::2]

@@ -5,10 +5,21 @@
 pub const SCRIPT_BYTES_MAX: usize = 16_777_216;
 
 /// The latest version of scripts; the first is 1. Beyond it: script fault 13.
-pub const VERSION_MAX: u32 = 2;
+pub const VERSION_MAX: u32 = 3;
 
 /// The first version that has unsquashable presents and `ReplaceChildren`.
 pub const UNSQUASHABLE_SINCE: u32 = 2;
+
+/// The first version in which a script gives the display's pixel ratio.
+pub const RATIO_SINCE: u32 = 3;
+
+/// The least pixel ratio of the display, in fixed point: a quarter. Below it: script
+/// fault 7.
+pub const RATIO_MIN: u32 = 16_384;
+
+/// The greatest pixel ratio of the display, in fixed point: 16. Beyond it: script
+/// fault 7.
+pub const RATIO_MAX: u32 = 1_048_576;
 
 /// Bytes of one line of a script. Beyond it: script fault 3.
 pub const LINE_BYTES_MAX: usize = 1_024;

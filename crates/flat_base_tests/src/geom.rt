@@ -1,4 +1,4 @@
-use flat_base::{IntRect, Orientation, Rect};
+use flat_base::{IntRect, ONE, Orientation, Rect};
 use flat_geom::*;
 
 // Scaled by 2 and by a half, turned, then moved by 20 and 50.
@@ -47,7 +47,7 @@ fn rectangles_turn(rt: HostRuntime) {
     for (turn, placed, mapped) in cases {
         assert_eq!(rt; outer(turn), placed);
         assert_eq!(rt; map_rect(placed, ten_by_twenty), mapped);
-        assert_eq!(rt; compose(identity(), placed), placed);
+        assert_eq!(rt; compose(scaling(ONE), placed), placed);
     }
 }
 

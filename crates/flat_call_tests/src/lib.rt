@@ -22,6 +22,8 @@ mod looking;
 #[cfg(test)]
 mod outside;
 #[cfg(test)]
+mod ratios;
+#[cfg(test)]
 mod shell;
 #[cfg(test)]
 mod six;

@@ -11,7 +11,7 @@ use Rattle.flat_scene.specs.declared.journal.Entry.{Entry}
 use Rattle.flat_scene.specs.declared.journal.Event.{Event}
 use Rattle.flat_scene.specs.declared.journal.Event.TheVariants as event
 use Rattle.flat_scene.specs.declared.journal.Kind.{Kind}
-use Rattle.flat_scene.specs.declared.journal.Kind.TheVariants.{Begin, Close, End, Finish, Get, Hit, Poll, Present, Signal, View, Viewport, Wait}
+use Rattle.flat_scene.specs.declared.journal.Kind.TheVariants.{Begin, Close, Dpr, End, Finish, Get, Hit, Poll, Present, Signal, View, Viewport, Wait}
 use Rattle.flat_scene.specs.declared.journal.Told.{Told}
 use Rattle.flat_scene.specs.declared.setup.PairDecl.{PairDecl}
 use Rattle.flat_scene.specs.declared.setup.Setup.{Setup}
@@ -117,6 +117,7 @@ one-kind test pairs (End n) = omega (arith, total-none (pairs_where test 0 pairs
 one-kind test pairs (Begin time) = omega (arith, total-none (pairs_where test 0 pairs))
 one-kind test pairs Finish = omega (arith, total-none (pairs_where test 0 pairs))
 one-kind test pairs (Hit x y) = omega (arith, total-none (pairs_where test 0 pairs))
+one-kind test pairs (Dpr ratio) = omega (arith, total-none (pairs_where test 0 pairs))
 
 abbrev frame_entries : List Entry → ℕ
 frame_entries [] = 0

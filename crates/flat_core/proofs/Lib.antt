@@ -1,5 +1,6 @@
 pub mod Alone
 pub mod Changes
+pub mod DisplayRatios
 pub mod BeginSteps
 pub mod FewEvents
 pub mod FinishEvents

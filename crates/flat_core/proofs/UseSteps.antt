@@ -42,6 +42,9 @@ use Rattle.flat_states.specs.Presents.{after_viewport, use_reply, with_calls, Is
 use Rattle.flat_states.specs.Seen.{is_new_viewport, seen_of}
 use Rattle.flat_states.specs.Viewports.{AreViewports, out_of, outs_of}
 use Rattle.flat_gets.specs.Watchers.{IsJoin, IsTelling, is_shut}
+use Rattle.flat_states.specs.declared.port.DisplayPort.{DisplayPort}
+use Rattle.flat_states.specs.Views.{port_of}
+use Rattle.flat_core.proofs.DisplayRatios.{port-kept, ratios-kept}
 use Rattle.flat_states.proofs.lemmas.Changes.{IsPlainOne, is-session, kept-closed, kept-noted, seen-closed, seen-noted}
 use Rattle.flat_states.proofs.lemmas.Counts.{at-session, declared-some, kept-session, few-if}
 use Rattle.flat_gets.proofs.lemmas.EndSteps.{ends-one, links-made, viewports-closed}
@@ -261,9 +264,9 @@ module _ (m : Machine) (s : SessionNo) (line : ℕ) (calls : List Call) (p : Pai
           rw (used.live some, used.out some, counts) step
 
   -- what pairs tell then
-  pub telling-used : (is_held : Bool) (clock : Clock) (fences views : List Bool) (sessions : List SessionState) (now : Ties) → Stands m.setup m.history clock fences views sessions → Legal m.setup (m.history ▹ used_entry is_held)
-      → AreTied m.setup (m.history ▹ used_entry is_held) now.followings.items now.pairs.items → IsTelling m.setup now views m.setup (m.history ▹ used_entry is_held)
-  telling-used is_held clock fences views sessions now old legal tied = record { same = refl; legal = legal; tied = tied; viewed = old.viewed }
+  pub telling-used : (is_held : Bool) (clock : Clock) (fences views : List Bool) (sessions : List SessionState) (port : DisplayPort) (now : Ties) → port ≡ port_of clock.ratios.finished m.setup → Stands m.setup m.history clock fences views sessions → Legal m.setup (m.history ▹ used_entry is_held)
+      → AreTied m.setup (m.history ▹ used_entry is_held) now.followings.items now.pairs.items → IsTelling m.setup port now views m.setup (m.history ▹ used_entry is_held)
+  telling-used is_held clock fences views sessions port now shows old legal tied = record { same = refl; shows = port-kept m.setup m.history clock.ratios port (ratios-kept m.setup m.history clock fences views sessions old) shows; legal = legal; tied = tied; viewed = old.viewed }
 
   -- and who hears of it
   pub join-used : (is_held : Bool) (clock : Clock) (fences views : List Bool) (sessions : List SessionState) (pair : PairDecl) → Stands m.setup m.history clock fences views sessions → Legal m.setup (m.history ▹ used_entry is_held)

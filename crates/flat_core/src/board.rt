@@ -24,6 +24,7 @@ use flat_snap::Snapshot;
 use flat_states::clock::Clock;
 use flat_states::ends::EndSet;
 use flat_states::log::Log;
+use flat_states::ratios::Ratios;
 use flat_states::state::{SessionState, new_states};
 use flat_states::ties::Ties;
 use flat_states::viewports::Viewports;
@@ -45,6 +46,8 @@ pub struct Back {
 pub struct Begun {
     /// Its number.
     pub frame: FrameNo,
+    /// The display's pixel ratio in it.
+    pub ratio: u32,
     /// The sessions from which it took a present, or which closed.
     pub changed: SessionSet,
 }
@@ -104,6 +107,7 @@ impl Board {
     {
         let total = total_of(shares.as_slice());
         let log = Log::new(alloc, total)?;
+        let ratios = Ratios::new(setup.ratio);
         let fences = FenceSet::new(alloc, setup.fences.len() as u32)?;
         let views = EndSet::new(alloc, setup.pairs.len() as u32)?;
         let sessions = new_states(alloc, setup.sessions)?;
@@ -120,6 +124,7 @@ impl Board {
                 frames: 0,
                 is_open: false,
                 time: 0,
+                ratios,
             },
             fences,
             view_ends: views,

@@ -2,7 +2,6 @@
 use Rattle.std.proofs.Common.{ℕ, ◌+◌, ◌≡◌, refl, subst, Bool, true, false, List, [], ◌∷◌, length, Option, Some, None, Result, Ok, Err}
 use Rattle.std.specs.Prelude.{if◌then◌else◌, nat_lt, unwrap_or, option_and_then, slice_get, IsTrue}
 use Rattle.std.specs.List.{list_all}
-use Rattle.std.specs.Option.{option_map_or}
 use Rattle.flat_base.proofs.lemmas.Tests.{and-true}
 use Rattle.flat_base.specs.declared.limits.TheConstants.{SCRIPT_BYTES_MAX}
 use Rattle.flat_text.specs.Number.{natural}
@@ -18,7 +17,7 @@ use Rattle.flat_extra.specs.declared.split.ExtraLine.{ExtraLine}
 use Rattle.flat_extra.specs.declared.split.ExtraSet.TheVariants.{Pointer}
 use Rattle.flat_extra.specs.declared.whole.WithPointers.{WithPointers}
 use Rattle.flat_extra.specs.Extra.{rest_of, extra_of}
-use Rattle.flat_extra.specs.Reading.{failed, tested, pointer_in, pointer_at, pointer_tests, pointer_value, pointer_line, then_read, all_read}
+use Rattle.flat_extra.specs.Reading.{failed, pointer_in, pointer_tests, pointer_value, pointer_line, then_read, all_read}
 use Rattle.flat_extra.specs.Whole.{and_then, pointers_read}
 use Rattle.flat_extra.proofs.Rising.{passed, not-refused, both-read}
 

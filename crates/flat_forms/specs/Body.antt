@@ -24,7 +24,7 @@ use Rattle.flat_places.specs.declared.kinds.FaultKind.TheVariants.{UnknownActor,
 use Rattle.flat_places.specs.declared.script.Script.{Script}
 use Rattle.flat_places.specs.Forms.{Word, Reading, Form, both, unless_kind, give, place, whole, one_or_more, named, mapped, ◌<$>◌, ◌<*>◌}
 use Rattle.flat_places.specs.Names.{actor_named, is_actor}
-use Rattle.flat_places.specs.Places.{u32, time, content, point, unsquashable, session, fence, fence_word}
+use Rattle.flat_places.specs.Places.{u32, time, content, point, ratio, unsquashable, session, fence, fence_word}
 use Rattle.flat_forms.specs.Calls.{call_named, call_form}
 
 -- Present
@@ -41,7 +41,7 @@ fence_lists test (w ∷ words) =
 -- a time, `unsquashable` or not, and the lists
 abbrev pub present : Script → SessionNo → Form PresentArgs
 present s a =
-    (λ t alone lists. record { time = t; acquire = lists.0; release = lists.1; unsquashable = alone })
+    (λ t u lists. record { time = t; acquire = lists.0; release = lists.1; unsquashable = u })
     <$> time <*> unsquashable s.setup.version <*> (λ words. (fence_lists (fence_word s (Session a)) words, []))
 
 -- Wait
@@ -130,6 +130,10 @@ in_order least (Err k) = Err k
 abbrev pub begin_place : Script → Form ℕ
 begin_place s = place (λ w. in_order (greatest (begin_times s)) (whole time (w ∷ [])))
 
+-- a line of the display that sets its pixel ratio
+abbrev pub ratio_line : Form DisplayLine
+ratio_line = display.Dpr <$> ratio
+
 -- a line of the display
 abbrev pub display_line : Script → List Word → Reading DisplayLine
 display_line s = named s.setup.version UnknownCall (
@@ -137,7 +141,8 @@ display_line s = named s.setup.version UnknownCall (
     (codes "done", (λ rest. unless_kind BadOrder (is_open s) (whole (give display.Done) rest))) ∷
     (codes "Signal", whole (display.Signal <$> fence s Display)) ∷
     (codes "Wait", (λ rest. mapped display.Wait (display_condition s rest))) ∷
-    (codes "hit", whole (point (λ x y. display.Hit x y))) ∷ [])
+    (codes "hit", whole (point (λ x y. display.Hit x y))) ∷
+    (codes "dpr", whole ratio_line) ∷ [])
 
 -- probes
 

@@ -8,9 +8,9 @@ use Rattle.flat_base.specs.declared.limits.TheConstants.{ONE, BUFFER_COLLECTIONS
 use Rattle.flat_places.specs.declared.kinds.FaultKind.TheVariants.{BadHead, Limit}
 use Rattle.flat_places.specs.declared.script.Script.{Script}
 use Rattle.flat_places.specs.Forms.{Word, Reading, Form, unless_kind, give, whole, named, mapped, ◌<$>◌, ◌<*>◌}
-use Rattle.flat_places.specs.Places.{number_from, session, version, has_display_pair, new_name, pair_owner, owners}
+use Rattle.flat_places.specs.Places.{number_from, first_ratio, session, version, has_display_pair, new_name, pair_owner, owners}
 
--- nothing declared yet; a width of 0 says that no display line was read, and no line gives another ratio
+-- nothing declared yet; a width of 0 says that no display line was read
 abbrev pub empty : Script
 empty = record {
   setup = record { width = 0; height = 0; sessions = 0; probes = 0; pairs = []; buffers = []; fences = []; version = 0; ratio = ONE };
@@ -36,8 +36,8 @@ side = number_from 1 SIDE_MAX
 abbrev pub with_version : Script → ℕ → Script
 with_version s v = record s { setup = record s.setup { version = v } }
 
-abbrev pub with_display : Script → ℕ → ℕ → Script
-with_display s w h = record s { setup = record s.setup { width = w; height = h } }
+abbrev pub with_display : Script → ℕ → ℕ → ℕ → Script
+with_display s w h q = record s { setup = record s.setup { width = w; height = h; ratio = q } }
 
 abbrev pub with_session : Script → Word → Script
 with_session s name = record s { setup = record s.setup { sessions = s.setup.sessions + 1 }; sessions = s.sessions ++ name ∷ [] }
@@ -56,9 +56,9 @@ with_fence s name d = record s { setup = record s.setup { fences = s.setup.fence
 
 -- what a line declares
 
--- the size of the display
-abbrev pub size : Form (ℕ × ℕ)
-size = (λ w h. (w, h)) <$> side <*> side
+-- the size of the display, and its first pixel ratio
+abbrev pub size : ℕ → Form (ℕ × ℕ × ℕ)
+size version = (λ w h q. (w, h, q)) <$> side <*> side <*> first_ratio version
 
 -- a buffer collection: its name, its owner, how many buffers, and their size
 abbrev pub buffers : Script → Form (Word × BufferDecl)
@@ -77,7 +77,7 @@ abbrev pub declared : {A : Type 0} → ℕ → List Word → (A → Script) → 
 declared most names with form words = mapped with (unless_kind Limit (nat_lt (length names) most) (whole form words))
 
 abbrev pub display_line : Script → List Word → Reading Script
-display_line s words = mapped (λ d. with_display s d.0 d.1) (unless_kind BadHead (not (has_display s)) (whole size words))
+display_line s words = mapped (λ d. with_display s d.0 d.1 d.2) (unless_kind BadHead (not (has_display s)) (whole (size s.setup.version) words))
 
 abbrev pub session_line : Script → List Word → Reading Script
 session_line s = declared SESSIONS_MAX s.sessions (with_session s) (new_name s)

@@ -7,7 +7,7 @@ ghost use Rattle.flat_forms.specs.Head as head;
 ghost use Rattle.flat_forms.specs.Head.{size, buffers, pair, run_line, first_line};
 ghost use Rattle.flat_places.specs.Places.{new_name, has_display_pair, fence, point, version};
 ghost use Rattle.flat_forms.specs.Body.{begin_place, begin_times, dones, greatest, display_line};
-ghost use Rattle.flat_forms.specs.Body.{probe_line};
+ghost use Rattle.flat_forms.specs.Body.{probe_line, ratio_line};
 ghost use Rattle.flat_places.specs.Index.{IsIndexed};
 ghost use Rattle.flat_places.specs.Reads.{Reads};
 ghost use Rattle.flat_forms.specs.Steps.{ReachesBy};
@@ -20,7 +20,7 @@ use crate::lines::LineError;
 use flat_base::{
     Actor, BUFFERS_PER_COLLECTION_MAX, FRAMES_MAX, FenceNo, SIDE_MAX, SessionNo, TIME_MAX,
 };
-use flat_places::{FaultKind, Indexed, Places, is_word};
+use flat_places::{FaultKind, Indexed, Places, is_word, knows};
 use flat_scene::{
     BufferDecl, DisplayLine, FenceDecl, Line, PairDecl, PresentArgs, ProbeLine, Watch,
 };
@@ -46,15 +46,18 @@ fn version(words: Option<&[u8]>) -> Result<u32, FaultKind>
     places.finish(version)
 }
 
-/// The size of the display, where `fresh` says whether it is the first.
-pub fn size(fresh: bool, words: Option<&[u8]>) -> Result<(u32, u32), FaultKind>
-    ensures { result ≡ unless_kind BadHead fresh (whole size (pieces_left is_space words.entry)) }
+/// The size of the display and its first pixel ratio, in scripts of that version, where
+/// `fresh` says whether it is the first.
+pub fn size(fresh: bool, version: u32, words: Option<&[u8]>) -> Result<(u32, u32, u32), FaultKind>
+    ensures { result ≡ unless_kind BadHead fresh
+        (whole (size version) (pieces_left is_space words.entry)) }
 {
     let mut places = Places::new(words);
     places.note_unless(FaultKind::BadHead, fresh);
     let w = places.number_from(1, SIDE_MAX);
     let h = places.number_from(1, SIDE_MAX);
-    places.finish((w, h))
+    let ratio = places.first_ratio(version);
+    places.finish((w, h, ratio))
 }
 
 /// The name of a session or a probe, where `room` says whether there may be one more.
@@ -276,7 +279,19 @@ fn timeless_line(
     if is_word(word, "hit") {
         return hit(words);
     }
+    if is_word(word, "dpr") && knows(script.script.setup.version, word) {
+        return dpr(words);
+    }
     Err(FaultKind::UnknownCall)
+}
+
+/// A pixel ratio of the display.
+fn dpr(words: Option<&[u8]>) -> Result<DisplayLine, FaultKind>
+    ensures { result ≡ whole ratio_line (pieces_left is_space words.entry) }
+{
+    let mut places = Places::new(words);
+    let ratio = places.ratio();
+    places.finish(DisplayLine::Dpr(ratio))
 }
 
 /// What a line of a probe writes, whatever the script's version.

@@ -80,9 +80,11 @@ impl Parser {
         ensures kept { OnOk result (Kept self.new) }
         ensures same { SameFrames self.old self.new }
     {
-        let (width, height) = forms::size(!self.has_display(), words)?;
+        let version = self.text.script.setup.version;
+        let (width, height, ratio) = forms::size(!self.has_display(), version, words)?;
         self.text.script.setup.width = width;
         self.text.script.setup.height = height;
+        self.text.script.setup.ratio = ratio;
         Ok(())
     }
 

@@ -10,9 +10,13 @@ use Rattle.flat_geom.specs.declared.matrix.Matrix.{Matrix}
 abbrev pub unit : ℤ
 unit = pos ONE
 
+-- the matrix that scales both axes alike
+abbrev pub scaling_matrix : ℕ → Matrix
+scaling_matrix ratio = record { swap = false; a = pos ratio; b = pos ratio; x = pos 0; y = pos 0 }
+
 -- the matrix that takes each place to itself
 abbrev pub identity_matrix : Matrix
-identity_matrix = record { swap = false; a = unit; b = unit; x = pos 0; y = pos 0 }
+identity_matrix = scaling_matrix ONE
 
 -- along one axis: the number, scaled and moved
 abbrev pub scaled_and_moved : ℤ → ℤ → ℤ → ℤ

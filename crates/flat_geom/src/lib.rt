@@ -12,5 +12,5 @@
 mod matrix;
 mod rect;
 
-pub use matrix::{Matrix, compose, identity, local, map_point};
+pub use matrix::{Matrix, compose, local, map_point, scaling};
 pub use rect::{contains, intersect, is_empty, map_rect, sized, units};

@@ -1,5 +1,5 @@
 ghost use Rattle.std.specs.Prelude.{◌≡◌};
-ghost use Rattle.flat_geom.specs.Matrices.{identity_matrix, scaled_and_moved, mapped_point};
+ghost use Rattle.flat_geom.specs.Matrices.{scaling_matrix, scaled_and_moved, mapped_point};
 ghost use Rattle.flat_geom.specs.Matrices.{scaled_entry, composed, place_of_units, moving_matrix};
 ghost use Rattle.flat_geom.specs.Matrices.{local_matrix};
 
@@ -17,14 +17,15 @@ pub struct Matrix {
     pub y: i64,
 }
 
-/// The matrix of the display, which takes each place to itself.
-pub fn identity() -> Matrix
-    ensures { result ≡ identity_matrix }
+/// The matrix of a display of this pixel ratio, in fixed point: it scales both axes
+/// alike. At [`ONE`](flat_base::ONE) it takes each place to itself.
+pub fn scaling(ratio: u32) -> Matrix
+    ensures { result ≡ scaling_matrix ratio }
 {
     Matrix {
         swap: false,
-        a: ONE as i64,
-        b: ONE as i64,
+        a: ratio as i64,
+        b: ratio as i64,
         x: 0,
         y: 0,
     }

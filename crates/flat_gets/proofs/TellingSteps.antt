@@ -5,6 +5,7 @@ use Rattle.std.proofs.lemmas.Bool.Decides.{nat_tests}
 use Rattle.flat_base.specs.declared.ids.PairNo.{PairNo}
 use Rattle.flat_scene.specs.declared.journal.Entry.{Entry}
 use Rattle.flat_scene.specs.declared.setup.Setup.{Setup}
+use Rattle.flat_states.specs.declared.port.DisplayPort.{DisplayPort}
 use Rattle.flat_states.specs.declared.ties.Ties.{Ties}
 use Rattle.flat_gets.specs.Watchers.{IsTelling}
 
@@ -17,8 +18,8 @@ past m n p same over = by_tests (nat_lt p m) (nat_lt p n) refl refl over
     by_tests false b i j none = grind (arith, nat_tests)
 
 -- a pair that isn't known isn't declared
-pub unknown : (kept : Setup) (ties : Ties) (views : List Bool) (setup : Setup) (history : List Entry) → IsTelling kept ties views setup history → (p : PairNo) → (nat_lt p.0 (length kept.pairs) && nat_lt p.0 (length ties.pairs.items)) ≡ false → length setup.pairs ≤ p.0
-unknown kept ties views setup history stands p none =
+pub unknown : (kept : Setup) (port : DisplayPort) (ties : Ties) (views : List Bool) (setup : Setup) (history : List Entry) → IsTelling kept port ties views setup history → (p : PairNo) → (nat_lt p.0 (length kept.pairs) && nat_lt p.0 (length ties.pairs.items)) ≡ false → length setup.pairs ≤ p.0
+unknown kept port ties views setup history stands p none =
     let count : length ties.pairs.items ≡ length setup.pairs = stands.tied.count in
     let same : length kept.pairs ≡ length setup.pairs = ap (λ (s : Setup). length s.pairs) stands.same in
     let all : length kept.pairs ≡ length ties.pairs.items = same ∙ sym count in

@@ -16,6 +16,7 @@ use Rattle.flat_scene.specs.Setups.{is_declared}
 use Rattle.flat_gets.specs.declared.gets.Answered.{Answered}
 use Rattle.flat_gets.specs.declared.gets.Gets.{Gets}
 use Rattle.flat_states.specs.declared.state.SessionState.{SessionState}
+use Rattle.flat_states.specs.declared.port.DisplayPort.{DisplayPort}
 use Rattle.flat_states.specs.declared.ties.Ties.{Ties}
 use Rattle.flat_rules.specs.Numbers.{number, AllNumbered}
 use Rattle.flat_rules.specs.Ends.{view_uses, viewport_uses}
@@ -24,7 +25,8 @@ use Rattle.flat_states.specs.Following.{AreTied}
 use Rattle.flat_gets.specs.Gets.{AllAnswered, AllUpTo, AreGets, Asks, Settles, watched_of, watcher_for}
 use Rattle.flat_rules.specs.Legal.{Legal, answers, owns_view}
 use Rattle.flat_states.specs.Presents.{use_reply}
-use Rattle.flat_rules.specs.Watch.{Watcher, told}
+use Rattle.flat_rules.specs.Watch.{Watcher, ratio_told, told}
+use Rattle.flat_states.specs.Views.{port_of}
 
 -- the watcher of a pair that a get means
 abbrev pub watcher_meant : List Entry → Watch → PairNo → Watcher
@@ -97,8 +99,9 @@ pub record IsJoin (setup : Setup) (history : List Entry) (entry : Entry) (is_hel
   pub closed : shut ≡ true → (is_declared setup owner ≡ false) ⊎ (is_closed owner history ≡ true)
 
 -- What is kept by which pairs tell stands for a history.
-pub record IsTelling (kept_for : Setup) (ties : Ties) (views : List Bool) (setup : Setup) (history : List Entry) : Type 0 where
+pub record IsTelling (kept_for : Setup) (port : DisplayPort) (ties : Ties) (views : List Bool) (setup : Setup) (history : List Entry) : Type 0 where
   pub same : kept_for ≡ setup
+  pub shows : port ≡ port_of (ratio_told setup history) setup
   pub legal : Legal setup history
   pub tied : AreTied setup history ties.followings.items ties.pairs.items
   pub viewed : (p : PairNo) → has_end views p ≡ nat_lt 0 (length (view_uses p history))

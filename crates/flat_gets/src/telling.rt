@@ -5,12 +5,15 @@ use crate::gets::Tells;
 use flat_base::PairNo;
 use flat_scene::{Setup, Told};
 use flat_states::ends::EndSet;
+use flat_states::port::DisplayPort;
 use flat_states::ties::Ties;
 
 /// What pairs tell, by what is kept.
 #[derive(Clone, Copy)]
 pub struct Telling<'a> {
     pub setup: &'a Setup,
+    /// What is told of the display.
+    pub port: DisplayPort,
     pub ties: &'a Ties,
     /// The view ends that were used.
     pub views: &'a EndSet,
@@ -28,12 +31,13 @@ impl Telling<'_> {
 }
 
 impl Tells for Telling<'_> {
-    ghost stands = { λ telling setup history. IsTelling telling.setup.now telling.ties.now
-        telling.views.now setup history };
+    ghost stands = { λ telling setup history. IsTelling telling.setup.now telling.port
+        telling.ties.now telling.views.now setup history };
 
     fn layout(&self, p: PairNo) -> Option<Told> {
         if self.knows(p) {
-            self.ties.layout(self.setup, p, self.views.is_used(p))
+            self.ties
+                .layout(self.setup, self.port, p, self.views.is_used(p))
         } else {
             None
         }

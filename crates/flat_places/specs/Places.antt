@@ -10,7 +10,7 @@ use Rattle.flat_base.specs.declared.ids.FenceNo.{FenceNo}
 use Rattle.flat_base.specs.declared.ids.BufferNo.{BufferNo}
 use Rattle.flat_base.specs.declared.ids.TransformId.{TransformId}
 use Rattle.flat_base.specs.declared.ids.ContentId.{ContentId}
-use Rattle.flat_base.specs.declared.limits.TheConstants.{COLOUR_MAX, INSET_MAX, TIME_MAX, VERSION_MAX}
+use Rattle.flat_base.specs.declared.limits.TheConstants.{COLOUR_MAX, INSET_MAX, ONE, RATIO_MAX, RATIO_MIN, RATIO_SINCE, TIME_MAX, VERSION_MAX}
 use Rattle.flat_base.specs.declared.shapes.IntRect.{IntRect}
 use Rattle.flat_base.specs.declared.shapes.Orientation.{Orientation}
 use Rattle.flat_base.specs.declared.shapes.Orientation.TheVariants.{Ccw0, Ccw90, Ccw180, Ccw270}
@@ -119,10 +119,19 @@ regions [] = Ok []
 regions (x ∷ y ∷ w ∷ h ∷ i ∷ words) = both (λ r rest. r ∷ rest) (region (x ∷ y ∷ w ∷ h ∷ i ∷ [])).0 (regions words)
 regions words = both (λ r rest. r ∷ rest) (region words).0 (Ok [])
 
--- `unsquashable`, where it stands here and that version knows it
+-- whether `unsquashable` stands here, where that version knows it; it is taken then
 abbrev pub unsquashable : ℕ → Form Bool
 unsquashable version [] = (Ok false, [])
 unsquashable version (w ∷ words) = if bytes_eq w (codes "unsquashable") && knows version w then (Ok true, words) else (Ok false, w ∷ words)
+
+-- a pixel ratio of the display
+abbrev pub ratio : Form ℕ
+ratio = number_from RATIO_MIN RATIO_MAX
+
+-- the display's first pixel ratio, which is one where none is given, and where that version has none
+abbrev pub first_ratio : ℕ → Form ℕ
+first_ratio version [] = (Ok ONE, [])
+first_ratio version (w ∷ words) = if nat_lt version RATIO_SINCE then (Ok ONE, w ∷ words) else ratio (w ∷ words)
 
 -- names, whose kind of fault is UnknownName, or NotOwner where the actor doesn't own what is named
 

@@ -7,7 +7,7 @@ ghost use Rattle.flat_places.specs.Forms.{passes, optional};
 ghost use Rattle.flat_places.specs.Places.{number_below, number_from, transform, content, time};
 ghost use Rattle.flat_places.specs.Places.{u32, colour, i32, int_rect, inset, orientation, blend};
 ghost use Rattle.flat_places.specs.Places.{flip, interaction, region, regions, transforms};
-ghost use Rattle.flat_places.specs.Places.{unsquashable, version};
+ghost use Rattle.flat_places.specs.Places.{unsquashable, version, ratio, first_ratio};
 ghost use Rattle.flat_places.specs.Reads.{Reads, TakesWord, left, sofar, lower, finished};
 ghost use Rattle.flat_places.specs.Reads.{reading_of};
 
@@ -15,8 +15,8 @@ use crate::kinds::FaultKind;
 use crate::known::knows;
 use crate::names::is_word;
 use flat_base::{
-    COLOUR_MAX, ContentId, INSET_MAX, IntRect, Items, NoMemory, Orientation, TIME_MAX, TransformId,
-    VERSION_MAX,
+    COLOUR_MAX, ContentId, INSET_MAX, IntRect, Items, NoMemory, ONE, Orientation, RATIO_MAX,
+    RATIO_MIN, RATIO_SINCE, TIME_MAX, TransformId, VERSION_MAX,
 };
 use flat_scene::{BlendMode, HitRegion, ImageFlip, Inset, Interaction, RegionList, TransformList};
 use flat_text::{next_piece, read_natural, read_number};
@@ -331,6 +331,27 @@ impl<'a> Places<'a> {
             return true;
         }
         false
+    }
+
+    /// A pixel ratio of the display.
+    pub fn ratio(&mut self) -> u32
+        ensures { Reads ratio self.old self.new result }
+    {
+        self.number_from(RATIO_MIN, RATIO_MAX)
+    }
+
+    /// The display's first pixel ratio: one where no word is left, and where scripts of
+    /// that version give none.
+    pub fn first_ratio(&mut self, version: u32) -> u32
+        ensures { Reads (first_ratio version) self.old self.new result }
+    {
+        if self.words.is_none() {
+            return ONE;
+        }
+        if version < RATIO_SINCE {
+            return ONE;
+        }
+        self.ratio()
     }
 
     /// The version of scripts.

@@ -8,7 +8,8 @@ use Rattle.flat_scene.specs.declared.frames.ViewNode.{ViewNode}
 use Rattle.flat_scene.specs.declared.frames.ViewTree.{ViewTree}
 use Rattle.flat_scene.specs.declared.journal.Entry.{Entry}
 use Rattle.flat_scene.specs.declared.setup.Setup.{Setup}
-use Rattle.flat_scene.specs.Setups.{is_declared, is_setup}
+use Rattle.flat_scene.specs.Frames.{setup_at}
+use Rattle.flat_scene.specs.Setups.{at_ratio, is_declared, is_setup}
 use Rattle.flat_rules.specs.Ends.{has_view}
 use Rattle.flat_rules.specs.Shown.{shown_states}
 use Rattle.flat_topology.specs.Draw.{draw_list}
@@ -21,8 +22,8 @@ use Rattle.flat_stage.specs.Displays.{AreViewed}
 use Rattle.flat_play.proofs.lemmas.Starting.{few_sessions}
 use Rattle.flat_base.proofs.lemmas.Tests.{and-true}
 
-module _ (setup : Setup) (begun : List Entry) (shown : Shown) (views : SessionSet) (showing : shown ≡ shown_states setup begun) (viewed : AreViewed setup begun views) where
-  set_of : IsSetOf setup (λ s. has_view setup begun (record { 0 = s })) views
+module _ (setup : Setup) (begun : List Entry) (shown : Shown) (views : SessionSet) (at : ℕ) (scaled : at_ratio at setup ≡ setup_at setup begun) (showing : shown ≡ shown_states setup begun) (viewed : AreViewed setup begun views) where
+  set_of : IsSetOf (at_ratio at setup) (λ s. has_view setup begun (record { 0 = s })) views
   set_of = record {
     within = λ s above below.
         let declared : is_declared setup (record { 0 = s }) ≡ true = and-true (let a : nat_lt 0 s ≡ true = grind (arith, nat_tests) in a) (let b : nat_le s setup.sessions ≡ true = grind (arith, nat_tests) in b) in
@@ -30,12 +31,12 @@ module _ (setup : Setup) (begun : List Entry) (shown : Shown) (views : SessionSe
     beyond = viewed.others;
   }
 
-  pub composed : (n : ℕ) (items : List DrawItem) (nodes : List ViewNode) (tree : ViewTree) → is_setup setup ≡ true → ViewsGiveTrees → items ≡ draw_list setup shown → nodes ≡ view_nodes setup shown
+  pub composed : (n : ℕ) (items : List DrawItem) (nodes : List ViewNode) (tree : ViewTree) → is_setup setup ≡ true → ViewsGiveTrees → items ≡ draw_list (at_ratio at setup) shown → nodes ≡ view_nodes (at_ratio at setup) shown
       → tree ≡ tree_of nodes views → record { frame = record { 0 = n }; items = items; tree = tree } ≡ frame_at setup n begun
   composed n items nodes tree is_one follow items_is nodes_is tree_is =
       let has : ℕ → Bool = λ s. has_view setup begun (record { 0 = s }) in
-      let seen : tree ≡ view_tree setup shown has = tree_is ∙ ap (λ (vs : List ViewNode). tree_of vs views) nodes_is ∙ follow setup shown has views (few_sessions setup is_one) set_of in
-      let drawn_then : items ≡ draw_list setup (shown_states setup begun) = items_is ∙ ap (draw_list setup) showing in
-      let seen_then : tree ≡ view_tree setup (shown_states setup begun) has = seen ∙ ap (λ (sh : Shown). view_tree setup sh has) showing in
+      let seen : tree ≡ view_tree (at_ratio at setup) shown has = tree_is ∙ ap (λ (vs : List ViewNode). tree_of vs views) nodes_is ∙ follow (at_ratio at setup) shown has views (few_sessions setup is_one) set_of in
+      let drawn_then : items ≡ draw_list (setup_at setup begun) (shown_states setup begun) = items_is ∙ (λ i. draw_list (scaled i) (showing i)) in
+      let seen_then : tree ≡ view_tree (setup_at setup begun) (shown_states setup begun) has = seen ∙ (λ i. view_tree (scaled i) (showing i) has) in
       ap (λ (is : List DrawItem). let f : FrameOut = record { frame = record { 0 = n }; items = is; tree = tree } in f) drawn_then
-      ∙ ap (λ (t : ViewTree). let f : FrameOut = record { frame = record { 0 = n }; items = draw_list setup (shown_states setup begun); tree = t } in f) seen_then
+      ∙ ap (λ (t : ViewTree). let f : FrameOut = record { frame = record { 0 = n }; items = draw_list (setup_at setup begun) (shown_states setup begun); tree = t } in f) seen_then

@@ -94,17 +94,17 @@ module _ (script : Script) (place : ℕ) (x : ScriptLine) (at : At script place 
       upto : list_all (λ (line : ScriptLine). nat_le line.number x.number) (take (place + 1) script.lines) ≡ true
       upto = ap (list_all (λ (line : ScriptLine). nat_le line.number x.number)) at.taken ∙ all-le (take place script.lines) first-lines
 
-  module _ (history : List Entry) (last : ℕ) (below : last < x.number) (early : list_all (λ (entry : Entry). nat_le entry.line last) history ≡ true) (shown : Shown) (frame : ℕ) (number_is : frame ≡ frames history) where
+  module _ (history : List Entry) (last : ℕ) (below : last < x.number) (early : list_all (λ (entry : Entry). nat_le entry.line last) history ≡ true) (there : Setup) (shown : Shown) (frame : ℕ) (number_is : frame ≡ frames history) where
     -- all frames are finished before the line
     frame-then : frame ≡ frames_before x.number history
     frame-then = number_is ∙ sym (all-before last x.number below history early)
 
     asked-turn : (p : ℕ) (asked : ProbeLine) (answers : List (List ProbeAnswer)) → x.actor ≡ Probe p → p < length answers → SeeInTurn (take place script.lines) history answers
-        → SeeInTurn (take (place + 1) script.lines) history (with_answer p (answer_of script.setup shown frame (Probe p) x.number asked) answers)
+        → SeeInTurn (take (place + 1) script.lines) history (with_answer p (answer_of there shown frame (Probe p) x.number asked) answers)
     asked-turn p asked answers who within was = λ n one got. by n one got (p == n) refl
       where
         new : ProbeAnswer
-        new = answer_of script.setup shown frame (Probe p) x.number asked
+        new = answer_of there shown frame (Probe p) x.number asked
 
         by : (n : ℕ) (one : List ProbeAnswer) → slice_get (with_answer p new answers) n ≡ Some one → (b : Bool) → (p == n) ≡ b → map frame_seen one ≡ frames_then history (probe_lines_of n (take (place + 1) script.lines))
         by n one got true is =
@@ -124,7 +124,7 @@ module _ (script : Script) (place : ℕ) (x : ScriptLine) (at : At script place 
     unasked-turn : (answers : List (List ProbeAnswer)) → ((n : ℕ) → is_probe n x.actor ≡ false) → SeeInTurn (take place script.lines) history answers → SeeInTurn (take (place + 1) script.lines) history answers
     unasked-turn answers other was = λ n one got. was n one got ∙ ap (frames_then history) (sym (own-same script place x at n (other n)))
 
-    pub turns-more : (answers new : List (List ProbeAnswer)) → length answers ≡ script.setup.probes → new ≡ answers_after script.setup shown frame x.number (asked_of x.actor x.body) answers → SeeInTurn (take place script.lines) history answers
+    pub turns-more : (answers new : List (List ProbeAnswer)) → length answers ≡ script.setup.probes → new ≡ answers_after there shown frame x.number (asked_of x.actor x.body) answers → SeeInTurn (take place script.lines) history answers
         → SeeInTurn (take (place + 1) script.lines) history new
     turns-more answers new many is was = by x.actor refl
       where
@@ -132,7 +132,7 @@ module _ (script : Script) (place : ℕ) (x : ScriptLine) (at : At script place 
         P = SeeInTurn (take (place + 1) script.lines) history
 
         after : Option (ℕ × ProbeLine) → List (List ProbeAnswer)
-        after asked = answers_after script.setup shown frame x.number asked answers
+        after asked = answers_after there shown frame x.number asked answers
 
         by : (who : Actor) → x.actor ≡ who → P new
         by Display who = subst P (sym (is ∙ ap (λ (a : Actor). after (asked_of a x.body)) who)) (unasked-turn answers (λ n. ap (is_probe n) who) was)

@@ -14,6 +14,7 @@ use Rattle.flat_scene.specs.declared.script.ScriptLine.{ScriptLine}
 use Rattle.flat_scene.specs.declared.setup.Setup.{Setup}
 use Rattle.flat_rules.specs.Ends.{to_finished}
 use Rattle.flat_rules.specs.Legal.{frames}
+use Rattle.flat_scene.specs.Frames.{setup_at}
 use Rattle.flat_rules.specs.Shown.{shown_states}
 use Rattle.flat_topology.specs.Hits.{hit_list}
 use Rattle.flat_topology.specs.Shown.{Shown}
@@ -98,25 +99,25 @@ module _ (script : Script) (place : ℕ) (x : ScriptLine) (at : At script place 
   pub own-one : (n : ℕ) → is_probe n x.actor ≡ true → probe_lines_of n (take (place + 1) script.lines) ≡ probe_lines_of n (take place script.lines) ++ x ∷ []
   own-one n mine = own-more n ∙ ap (λ b. probe_lines_of n (take place script.lines) ++ cond b (x ∷ []) []) mine
 
-  module _ (history : List Entry) (shown : Shown) (frame : ℕ) (number_is : frame ≡ frames history) (shows : shown ≡ shown_states script.setup (to_finished history)) where
+  module _ (history : List Entry) (there : Setup) (shown : Shown) (frame : ℕ) (number_is : frame ≡ frames history) (at_finished : there ≡ setup_at script.setup (to_finished history)) (shows : shown ≡ shown_states script.setup (to_finished history)) where
     -- the last finished frame hits what is shown
-    hits-last : hits_in_frame script.setup history frame ≡ hit_list script.setup shown
-    hits-last = ap (hits_in_frame script.setup history) number_is ∙ ap (hits_at script.setup) (last-begin history) ∙ ap (hit_list script.setup) (sym shows)
+    hits-last : hits_in_frame script.setup history frame ≡ hit_list there shown
+    hits-last = ap (hits_in_frame script.setup history) number_is ∙ ap (hits_at script.setup) (last-begin history) ∙ (λ i. hit_list (sym at_finished i) (sym shows i))
 
-    answer-is : (p : ℕ) (asked : ProbeLine) → x.actor ≡ Probe p → x.body ≡ body.Probe asked → answer_of script.setup shown frame (Probe p) x.number asked ≡ answer_by (hits_in_frame script.setup history) (x, frame)
+    answer-is : (p : ℕ) (asked : ProbeLine) → x.actor ≡ Probe p → x.body ≡ body.Probe asked → answer_of there shown frame (Probe p) x.number asked ≡ answer_by (hits_in_frame script.setup history) (x, frame)
     answer-is p asked who what =
         λ i. record { actor = sym who i; line = x.number; asked = asked_by (sym what i); frame = record { 0 = frame }; hits = asked_hits (sym hits-last i) (asked_by (sym what i)) }
 
     -- a probe's line
     asked-more : (p : ℕ) (asked : ProbeLine) (answers : List (List ProbeAnswer)) → x.actor ≡ Probe p → x.body ≡ body.Probe asked → p < length answers → ProbesStand script place history answers
-        → ProbesStand script (place + 1) history (with_answer p (answer_of script.setup shown frame (Probe p) x.number asked) answers)
+        → ProbesStand script (place + 1) history (with_answer p (answer_of there shown frame (Probe p) x.number asked) answers)
     asked-more p asked answers who what within was = record {
       count = set-length answers p (slice_index_or answers p [] ++ new ∷ []) ∙ was.count;
       each = λ n one got. by n one got (p == n) refl;
     }
       where
         new : ProbeAnswer
-        new = answer_of script.setup shown frame (Probe p) x.number asked
+        new = answer_of there shown frame (Probe p) x.number asked
 
         Own : ℕ → List ScriptLine → List ProbeAnswer → Type 0
         Own n lines one = AreAnsweredBy (hits_in_frame script.setup history) (frames history) lines one
@@ -149,7 +150,7 @@ module _ (script : Script) (place : ℕ) (x : ScriptLine) (at : At script place 
     }
 
     -- any line
-    pub probes-more : (answers new : List (List ProbeAnswer)) → new ≡ answers_after script.setup shown frame x.number (asked_of x.actor x.body) answers → ProbesStand script place history answers
+    pub probes-more : (answers new : List (List ProbeAnswer)) → new ≡ answers_after there shown frame x.number (asked_of x.actor x.body) answers → ProbesStand script place history answers
         → ProbesStand script (place + 1) history new
     probes-more answers new is was = by x.actor refl
       where
@@ -157,7 +158,7 @@ module _ (script : Script) (place : ℕ) (x : ScriptLine) (at : At script place 
         P = ProbesStand script (place + 1) history
 
         after : Option (ℕ × ProbeLine) → List (List ProbeAnswer)
-        after asked = answers_after script.setup shown frame x.number asked answers
+        after asked = answers_after there shown frame x.number asked answers
 
         by : (who : Actor) → x.actor ≡ who → P new
         by Display who = subst P (sym (is ∙ ap (λ (a : Actor). after (asked_of a x.body)) who)) (unasked-more answers (λ n. ap (is_probe n) who) was)

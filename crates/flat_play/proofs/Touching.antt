@@ -16,6 +16,7 @@ use Rattle.flat_scene.specs.declared.setup.Setup.{Setup}
 use Rattle.flat_scene.specs.History.{◌▹◌, is_end, is_finish}
 use Rattle.flat_rules.specs.Ends.{to_begin, to_finished}
 use Rattle.flat_rules.specs.Legal.{frames}
+use Rattle.flat_scene.specs.Frames.{setup_at}
 use Rattle.flat_rules.specs.Shown.{shown_states}
 use Rattle.flat_report.proofs.lemmas.ProbeSteps.{begin-stays}
 use Rattle.flat_report.specs.Report.{begin_of, hits_at}
@@ -83,18 +84,18 @@ all-before last n less (before ▹ entry) early =
 -- ---- whom a line hits
 
 module _ (setup : Setup) where
-  by_call : (shown : Shown) (begun : List Entry) → shown ≡ shown_states setup begun → (call : PointerCall) → hits_in setup shown call ≡ call_hits setup begun call
-  by_call shown begun is (Down x y) = ap (λ (sh : Shown). hit_list setup sh x y) is
-  by_call shown begun is (Move x y) = refl
-  by_call shown begun is Up = refl
+  by_call : (there : Setup) (shown : Shown) (begun : List Entry) → there ≡ setup_at setup begun → shown ≡ shown_states setup begun → (call : PointerCall) → hits_in there shown call ≡ call_hits setup begun call
+  by_call there shown begun at is (Down x y) = λ i. hit_list (at i) (is i) x y
+  by_call there shown begun at is (Move x y) = refl
+  by_call there shown begun at is Up = refl
 
   -- a line behind all entries is answered by the last finished frame
-  touched-last : (shown : Shown) (last : ℕ) (history : List Entry) (line : PointerLine) → shown ≡ shown_states setup (to_finished history)
-      → list_all (λ entry. nat_le entry.line last) history ≡ true → last < line.number → touch_in setup shown line ≡ touch_of setup history line
-  touched-last shown last history line is early less =
+  touched-last : (there : Setup) (shown : Shown) (last : ℕ) (history : List Entry) (line : PointerLine) → there ≡ setup_at setup (to_finished history) → shown ≡ shown_states setup (to_finished history)
+      → list_all (λ entry. nat_le entry.line last) history ≡ true → last < line.number → touch_in there shown line ≡ touch_of setup history line
+  touched-last there shown last history line at is early less =
       let begun : begin_of (frames_before line.number history) history ≡ to_finished history =
       ap (λ n. begin_of n history) (all-before last line.number less history early) ∙ last-begin history in
-      λ i. record { line = line; hits = (by_call shown (to_finished history) is line.call ∙ ap (λ b. call_hits setup b line.call) (sym begun)) i }
+      λ i. record { line = line; hits = (by_call there shown (to_finished history) at is line.call ∙ ap (λ b. call_hits setup b line.call) (sym begun)) i }
 
   -- an entry that finishes no frame before the line
   touched-entry : (before : List Entry) (entry : Entry) (line : PointerLine) → (is_finish entry.kind && nat_lt entry.line line.number) ≡ false
@@ -181,12 +182,12 @@ all-after from (line ∷ later) rise =
     and-true first (all-also (is_after line.number) (is_after from)
     (λ one more. let test : nat_lt from one.number ≡ true = grind (arith, nat_tests) in test) later (all-after line.number later (and-right (nat_lt from line.number) _ rise)))
 
-module _ (setup : Setup) (history : List Entry) (last : ℕ) (lines left : List PointerLine) (found : List Touch) (shown : Shown)
-    (answered : AreAnswered setup history last lines left found) (shows : shown ≡ shown_states setup (to_finished history)) where
+module _ (setup : Setup) (history : List Entry) (last : ℕ) (lines left : List PointerLine) (found : List Touch) (there : Setup) (shown : Shown)
+    (answered : AreAnswered setup history last lines left found) (at : there ≡ setup_at setup (to_finished history)) (shows : shown ≡ shown_states setup (to_finished history)) where
   -- lines after the last one are answered by the last finished frame
-  next-touches : (early : List PointerLine) → list_all (is_after last) early ≡ true → map (touch_in setup shown) early ≡ map (touch_of setup history) early
-  next-touches early after = map-agrees (is_after last) (touch_in setup shown) (touch_of setup history)
-      (λ line more. touched-last setup shown last history line shows answered.entries (let less : last < line.number = grind (arith, nat_tests) in less)) early after
+  next-touches : (early : List PointerLine) → list_all (is_after last) early ≡ true → map (touch_in there shown) early ≡ map (touch_of setup history) early
+  next-touches early after = map-agrees (is_after last) (touch_in there shown) (touch_of setup history)
+      (λ line more. touched-last setup there shown last history line at shows answered.entries (let less : last < line.number = grind (arith, nat_tests) in less)) early after
 
   all-left : list_all (is_after last) left ≡ true
   all-left = all-after last left answered.after
@@ -199,7 +200,7 @@ module _ (setup : Setup) (history : List Entry) (last : ℕ) (lines left : List 
       split (x ∷ xs) all = and-true (and-left (nat_lt last x.number) _ all) (split xs (and-right (nat_lt last x.number) _ all))
 
   -- one more line of the script
-  pub answered-more : (number : ℕ) (later : List PointerLine) (found' : List Touch) (history' : List Entry) → last < number → AnswersUpto setup shown number left later found found'
+  pub answered-more : (number : ℕ) (later : List PointerLine) (found' : List Touch) (history' : List Entry) → last < number → AnswersUpto there shown number left later found found'
       → GoesOnAt number history history' → AreAnswered setup history' number lines later found'
   answered-more number later found' history' above answers on =
       let now : List PointerLine = answered.answered ++ answers.early in
@@ -227,7 +228,7 @@ module _ (setup : Setup) (history : List Entry) (last : ℕ) (lines left : List 
       entries h (enters entry at is) = ap (list_all (λ (one : Entry). nat_le one.line number)) is ∙ and-true (let test : nat_le entry.line number ≡ true = grind (arith, nat_tests) in test) still
 
   -- the lines that are left, behind all lines of the script
-  pub answered-all : (found' : List Touch) → found' ≡ found ++ map (touch_in setup shown) left → found' ≡ map (touch_of setup history) lines
+  pub answered-all : (found' : List Touch) → found' ≡ found ++ map (touch_in there shown) left → found' ≡ map (touch_of setup history) lines
   answered-all found' is =
       is ∙ (λ i. answered.touches i ++ next-touches left all-left i) ∙ sym (map-append (touch_of setup history) answered.answered left) ∙ ap (map (touch_of setup history)) (sym answered.parts)
 

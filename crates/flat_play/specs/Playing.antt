@@ -16,10 +16,10 @@ use Rattle.flat_scene.specs.declared.script.Line.{Line}
 use Rattle.flat_scene.specs.declared.script.ScriptLine.{ScriptLine}
 use Rattle.flat_scene.specs.declared.setup.Setup.{Setup}
 use Rattle.flat_scene.specs.declared.frames.SessionSet.{SessionSet}
-use Rattle.flat_scene.specs.Frames.{sessions_to}
+use Rattle.flat_scene.specs.Frames.{ratio, sessions_to}
 use Rattle.flat_scene.specs.History.{own, is_end, seat_number}
 use Rattle.flat_scene.specs.Interleave.{session_lines, display_lines, by_display, unread_lines, last_line, FollowsDisplay, Interleaves, IsReading}
-use Rattle.flat_scene.specs.Setups.{is_declared}
+use Rattle.flat_scene.specs.Setups.{at_ratio, is_declared}
 use Rattle.flat_core.specs.Machines.{Machine, entered, made}
 use Rattle.flat_rules.specs.Ends.{to_begin, to_finished, has_view}
 use Rattle.flat_rules.specs.Legal.{is_frame_open, begin_time, frames}
@@ -89,9 +89,10 @@ pub record DisplayStands (script : Script) (place : ℕ) (history : List Entry) 
   pub left : unread_lines (by_display history) (display_lines script.lines) ≡ display_lines (drop place script.lines)
   pub closing : frames_close (is_frame_open history) (begin_time history) (drop place script.lines) ≡ true
 
--- What is shown is that of the last begin.
-pub record FramesStand (setup : Setup) (history : List Entry) (shown : Shown) (with_view : SessionSet) : Type 0 where
+-- What is shown is that of the last begin, and so is the pixel ratio.
+pub record FramesStand (setup : Setup) (history : List Entry) (shown : Shown) (at : ℕ) (with_view : SessionSet) : Type 0 where
   pub showing : shown ≡ shown_states setup (to_begin history)
+  pub scaling : at ≡ ratio setup (to_begin history)
   pub viewing : (s : SessionNo) → is_declared setup s ≡ true → is_member with_view s.0 ≡ has_view setup (to_begin history) s
 
 -- The last finished frame is known, and the points that were asked for are answered.
@@ -99,6 +100,7 @@ pub record AnswersStand (setup : Setup) (history : List Entry) (last : LastFrame
   pub number : last.frame.0 ≡ frames history
   pub is_last : IsLast setup last
   pub showing : last.reuse ≡ shown_states setup (to_finished history)
+  pub scaling : last.ratio ≡ ratio setup (to_finished history)
   pub answering : answers ≡ answers_of setup history
 
 -- a set of sessions has none beyond those of the setup
@@ -119,17 +121,18 @@ pub record PlayStands (script : Script) (place : ℕ) (play : Play) : Type 0 whe
   pub order : IsInOrder script place play.board.history
   pub spent : IsSpent script place play.board.history
   pub views : HasViews script.setup play.with_view
-  pub shows : FramesStand script.setup play.board.history play.shown play.with_view
+  pub shows : FramesStand script.setup play.board.history play.shown play.ratio play.with_view
   pub keeps : Keeps script play.kept (finished script.setup play.board.history)
   pub same : AreSame play.changed play.last.reuse play.shown
   pub answers : AnswersStand script.setup play.board.history play.last play.answers
 
 -- ---- what the display does to a run
 
--- A frame begins: it shows what the sessions show from then on.
+-- A frame begins: it shows what the sessions show from then on, at the pixel ratio of its begin.
 pub record BeginsFrame (old new : Play) (number time : ℕ) : Type 0 where
   pub board : new.board ≡ entered old.board Display number [] (Begin time) Done
   pub shown : new.shown ≡ shown_states new.board.setup new.board.history
+  pub scaling : new.ratio ≡ ratio new.board.setup new.board.history
   pub changed : AreSame new.changed old.shown new.shown
   pub viewing : (s : SessionNo) → is_declared new.board.setup s ≡ true → is_member new.with_view s.0 ≡ has_view new.board.setup new.board.history s
   pub views : HasViews new.board.setup new.with_view
@@ -142,18 +145,21 @@ pub record BeginsFrame (old new : Play) (number time : ℕ) : Type 0 where
 pub record FinishesFrame (script : Script) (old new : Play) (number : ℕ) : Type 0 where
   pub board : new.board ≡ entered old.board Display number [] Finish Done
   pub shown : new.shown ≡ old.shown
+  pub ratio : new.ratio ≡ old.ratio
   pub with_view : new.with_view ≡ old.with_view
   pub readers : new.readers ≡ old.readers
   pub kept : KeepsMore script (frame_at script.setup (frames new.board.history) (to_begin old.board.history)) old.kept new.kept
   pub shows : new.last.frame.0 ≡ frames new.board.history
   pub is_last : IsLast old.board.setup new.last
   pub showing : new.last.reuse ≡ old.shown
+  pub scaling : new.last.ratio ≡ old.ratio
   pub answers : new.answers ≡ old.answers
 
 -- The display makes an entry that begins no frame and ends none.
 pub record EntersBeside (old new : Play) (number : ℕ) (kind : Kind) (reply : Reply) : Type 0 where
   pub board : new.board ≡ entered old.board Display number [] kind reply
   pub shown : new.shown ≡ old.shown
+  pub ratio : new.ratio ≡ old.ratio
   pub changed : new.changed ≡ old.changed
   pub with_view : new.with_view ≡ old.with_view
   pub readers : new.readers ≡ old.readers
@@ -163,12 +169,13 @@ pub record EntersBeside (old new : Play) (number : ℕ) (kind : Kind) (reply : R
 
 -- the answer to a point that the display asks for, by the last finished frame
 abbrev pub point_answer : Setup → LastFrame → ℕ → ℤ → ℤ → HitAnswer
-point_answer setup last number x y = record { actor = Display; line = number; frame = last.frame; hits = hit_list setup last.reuse x y }
+point_answer setup last number x y = record { actor = Display; line = number; frame = last.frame; hits = hit_list (at_ratio last.ratio setup) last.reuse x y }
 
 -- The display asks for a point, and is answered by the last finished frame.
 pub record AsksPoint (old new : Play) (number : ℕ) (x y : ℤ) : Type 0 where
   pub board : new.board ≡ entered old.board Display number [] (Hit x y) Done
   pub shown : new.shown ≡ old.shown
+  pub ratio : new.ratio ≡ old.ratio
   pub changed : new.changed ≡ old.changed
   pub with_view : new.with_view ≡ old.with_view
   pub readers : new.readers ≡ old.readers

@@ -28,7 +28,7 @@ call_hits setup begun _ = []
 abbrev pub touch_of : Setup → List Entry → PointerLine → Touch
 touch_of setup history line = record { line = line; hits = call_hits setup (begin_of (frames_before line.number history) history) line.call }
 
--- the same by the states that are shown
+-- the same by the states that are shown, at the pixel ratio of the setup
 abbrev pub hits_in : Setup → Shown → PointerCall → List Hit
 hits_in setup shown (Down x y) = hit_list setup shown x y
 hits_in setup shown _ = []

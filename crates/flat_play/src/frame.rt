@@ -1,6 +1,6 @@
 //! The last finished frame. A frame is composed without a joined tree, which points and
 //! probes want: what is shown is joined at the first of them, and stays for the next ones
-//! and for later frames before which no session changed.
+//! and for later frames before which neither a session nor the pixel ratio changed.
 ghost use Rattle.std.specs.Prelude.{◌≡◌, ◌+◌, ◌<◌, ◌^◌, ◌++◌, List, [], ◌∷◌, true, length, map};
 ghost use Rattle.std.specs.Prelude.{IfOk, OnOk};
 ghost use Rattle.std.specs.List.{list_any};
@@ -10,7 +10,8 @@ ghost use Rattle.flat_scene.specs.declared.frames.Lost.{Lost};
 ghost use Rattle.flat_scene.specs.declared.setup.Setup.{Setup};
 ghost use Rattle.flat_scene.specs.declared.journal.Entry.{Entry};
 ghost use Rattle.flat_display.specs.Shows.{Shows};
-ghost use Rattle.flat_scene.specs.Setups.{is_setup};
+ghost use Rattle.flat_scene.specs.Frames.{setup_at};
+ghost use Rattle.flat_scene.specs.Setups.{at_ratio, is_setup};
 ghost use Rattle.flat_topology.specs.Changes.{AreSame};
 ghost use Rattle.flat_topology.specs.Connected.{joined_lists};
 ghost use Rattle.flat_topology.specs.Fit.{FitsSetup};
@@ -44,27 +45,31 @@ pub struct LastFrame {
     pub frame: FrameNo,
     /// What it was composed of. Contracts see what its sessions show.
     pub reuse: Reuse,
+    /// The pixel ratio at which it was composed.
+    pub ratio: u32,
     /// What they show, joined, once that was asked for.
     pub joined: Option<Arc<Touchable>>,
 }
 
-/// What shown states are, joined, if that isn't done yet.
+/// What shown states are, joined at a pixel ratio, if that isn't done yet.
 fn joined_once(
     alloc: Global,
     setup: &Setup,
+    ratio: u32,
     shown: &Shown,
     joined: Option<Arc<Touchable>>,
 ) -> Result<Arc<Touchable>, NoMemory>
     requires setup { is_setup setup.now ≡ true }
     requires count { length shown.now ≡ setup.now.sessions }
     requires fit { FitsSetup setup.now shown.now }
-    requires joined { IsJoined setup.now shown.now joined }
-    ensures { IfOk result (λ all. arc_value all ≡ joined_lists setup.now shown.now) }
+    requires joined { IsJoined (at_ratio ratio setup.now) shown.now joined }
+    ensures { IfOk result (λ all. arc_value all
+        ≡ joined_lists (at_ratio ratio setup.now) shown.now) }
 {
     match joined {
         Some(joined) => Ok(joined),
         None => {
-            let joined = Touchable::new(alloc, join(alloc, shown, setup)?)?;
+            let joined = Touchable::new(alloc, join(alloc, shown, setup, ratio)?)?;
             Ok(Arc::new(alloc, joined)?)
         }
     }
@@ -86,27 +91,31 @@ impl LastFrame {
         ensures number { IfOk result (λ last. last.frame.0 ≡ 0) }
         ensures is { IfOk result (λ last. IsLast setup.now last) }
         ensures shows { IfOk result (λ last. last.reuse ≡ shown_states setup.now []) }
+        ensures ratio { IfOk result (λ last. last.ratio ≡ setup.now.ratio) }
     {
         shown_states_fit();
         let shown = Shown::new(alloc, setup.sessions)?;
         let mut reuse = Reuse::new(alloc)?;
-        let _nothing = reuse.draw_next(alloc, &shown, setup)?;
+        let _nothing = reuse.draw_next(alloc, &shown, setup, setup.ratio)?;
         Ok(LastFrame {
             frame: FrameNo(0),
             reuse,
+            ratio: setup.ratio,
             joined: None,
         })
     }
 
-    /// The next frame, as it is composed of what the sessions show. Those outside
-    /// `changed` show what they showed in this one. Where what is shown, and who has a
-    /// view, is that of a begin, it is the frame of this begin.
+    /// The next frame, as it is composed of what the sessions show, at a pixel ratio.
+    /// Those outside `changed` show what they showed in this one. Where what is shown,
+    /// the pixel ratio, and who has a view are those of a begin, it is the frame of this
+    /// begin.
     ///
     /// What is kept is that of the next frame from then on, but for its number.
     pub fn compose_next(
         &mut self,
         alloc: Global,
         setup: &Setup,
+        ratio: u32,
         shown: &Shown,
         changed: SessionSet,
         with_view: SessionSet,
@@ -117,15 +126,20 @@ impl LastFrame {
         requires same { AreSame changed self.old.reuse shown.now }
         requires few { self.old.frame.0 + 1 < 2 ^ 32 }
         ensures frame { (begun : List Entry) → shown.now ≡ shown_states setup.now begun →
+            at_ratio ratio setup.now ≡ setup_at setup.now begun →
             AreViewed setup.now begun with_view → IfOk result (λ frame. frame
             ≡ frame_at setup.now (self.old.frame.0 + 1) begun) }
         ensures is { OnOk result (IsLast setup.now self.new) }
         ensures shows { OnOk result (self.new.reuse ≡ shown.now) }
+        ensures ratio { self.new.ratio ≡ ratio }
         ensures number { self.new.frame ≡ self.old.frame }
     {
         trees_follow();
         self.joined = None;
-        let Drawing { items, views } = self.reuse.draw_changed(alloc, shown, setup, changed)?;
+        self.ratio = ratio;
+        let Drawing { items, views } = self
+            .reuse
+            .draw_changed(alloc, shown, setup, ratio, changed)?;
         let tree = tree_of(alloc, views, with_view)?;
         Ok(FrameOut {
             frame: FrameNo(self.frame.0 + 1),
@@ -134,16 +148,18 @@ impl LastFrame {
         })
     }
 
-    /// What is joined of it, taken out; nothing where a session is one of these. Where
-    /// the others go on to show what they show, it is what is joined of the next frame.
-    pub fn take_joined(&mut self, changed: SessionSet) -> Option<Arc<Touchable>>
+    /// What is joined of it, taken out; nothing where a session is one of these, or this
+    /// isn't its pixel ratio. Where the others go on to show what they show, it is what
+    /// is joined of the next frame at this ratio.
+    pub fn take_joined(&mut self, changed: SessionSet, ratio: u32) -> Option<Arc<Touchable>>
         ensures joined { (setup : Setup) (shown : Shown) → IsLast setup self.old → length shown
-            ≡ setup.sessions → AreSame changed self.old.reuse shown → IsJoined setup shown result }
+            ≡ setup.sessions → AreSame changed self.old.reuse shown →
+            IsJoined (at_ratio ratio setup) shown result }
         ensures stays { (setup : Setup) → IsLast setup self.old →
             StaysLast setup self.old self.new }
     {
         let joined = self.joined.take();
-        if has_any(&changed) {
+        if has_any(&changed) || self.ratio != ratio {
             return None;
         }
         joined
@@ -159,10 +175,17 @@ impl LastFrame {
     ) -> Result<HitList, NoMemory>
         requires setup { is_setup setup.now ≡ true }
         requires is { IsLast setup.now self.old }
-        ensures hits { IfOk result (λ hits. hits ≡ hit_list setup.now self.old.reuse x y) }
+        ensures hits { IfOk result (λ hits. hits
+            ≡ hit_list (at_ratio self.old.ratio setup.now) self.old.reuse x y) }
         ensures stays { OnOk result (StaysLast setup.now self.old self.new) }
     {
-        let joined = joined_once(alloc, setup, self.reuse.shown(), self.joined.take())?;
+        let joined = joined_once(
+            alloc,
+            setup,
+            self.ratio,
+            self.reuse.shown(),
+            self.joined.take(),
+        )?;
         let found = joined.hits(alloc, x, y)?;
         self.joined = Some(joined);
         Ok(found)
@@ -181,7 +204,8 @@ impl LastFrame {
         requires setup { is_setup setup.now ≡ true }
         requires is { IsLast setup.now self.old }
         ensures answer { IfOk result (λ answer. answer
-            ≡ answer_of setup.now self.old.reuse self.old.frame.0 actor line asked) }
+            ≡ answer_of (at_ratio self.old.ratio setup.now) self.old.reuse self.old.frame.0 actor
+            line asked) }
         ensures stays { OnOk result (StaysLast setup.now self.old self.new) }
     {
         let hits = match asked {
@@ -202,10 +226,16 @@ impl LastFrame {
         requires setup { is_setup setup.now ≡ true }
         requires is { IsLast setup.now self.old }
         ensures joined { IfOk result (λ all. arc_value all
-            ≡ joined_lists setup.now self.old.reuse) }
+            ≡ joined_lists (at_ratio self.old.ratio setup.now) self.old.reuse) }
         ensures stays { OnOk result (StaysLast setup.now self.old self.new) }
     {
-        let joined = joined_once(alloc, setup, self.reuse.shown(), self.joined.take())?;
+        let joined = joined_once(
+            alloc,
+            setup,
+            self.ratio,
+            self.reuse.shown(),
+            self.joined.take(),
+        )?;
         let shared = Arc::try_clone(&joined)?;
         self.joined = Some(joined);
         Ok(shared)

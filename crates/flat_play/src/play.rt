@@ -6,7 +6,7 @@ ghost use Rattle.std.specs.Prelude.{IfOk, slice_get};
 ghost use Rattle.std.specs.Option.{option_copied};
 ghost use Rattle.flat_base.specs.declared.ids.Actor.TheVariants.{Display, Session};
 ghost use Rattle.flat_scene.specs.declared.journal.Kind.TheVariants.{Begin, Finish, Hit, Signal};
-ghost use Rattle.flat_scene.specs.declared.journal.Kind.TheVariants.{Wait};
+ghost use Rattle.flat_scene.specs.declared.journal.Kind.TheVariants.{Dpr, Wait};
 ghost use Rattle.flat_scene.specs.declared.journal.Reply.TheVariants.{Done};
 ghost use Rattle.flat_scene.specs.declared.script.Body.TheVariants as body;
 ghost use Rattle.flat_scene.specs.Interleave.{IsWritten};
@@ -46,6 +46,8 @@ pub struct Play {
     pub shown: Shown,
     /// The sessions of which it may show another state than the frame before.
     pub changed: SessionSet,
+    /// The pixel ratio at its begin.
+    pub ratio: u32,
     /// The sessions that had a view at its begin.
     pub with_view: SessionSet,
     /// What is kept of the finished frames.
@@ -65,7 +67,7 @@ impl Play {
     fn compose_next(&mut self, alloc: Global) -> Result<FrameOut, NoMemory>
         requires setup { is_setup self.old.board.setup ≡ true }
         requires stands { FramesStand self.old.board.setup self.old.board.history self.old.shown
-            self.old.with_view }
+            self.old.ratio self.old.with_view }
         requires views { HasViews self.old.board.setup self.old.with_view }
         requires last { self.old.last.frame.0 ≡ frames self.old.board.history }
         requires same { AreSame self.old.changed self.old.last.reuse self.old.shown }
@@ -75,6 +77,7 @@ impl Play {
             (to_begin self.old.board.history)) }
         ensures is { OnOk result (IsLast self.old.board.setup self.new.last) }
         ensures shows { OnOk result (self.new.last.reuse ≡ self.old.shown) }
+        ensures ratio { self.new.last.ratio ≡ self.old.ratio }
         ensures others { self.new ≡ record self.old { last = self.new.last } }
     {
         let _journal = self.board.journal();
@@ -82,6 +85,7 @@ impl Play {
         self.last.compose_next(
             alloc,
             self.board.setup(),
+            self.ratio,
             &self.shown,
             self.changed,
             self.with_view,
@@ -97,6 +101,7 @@ impl Play {
     {
         let begun = self.board.begin(number, time, &mut self.shown);
         self.changed = begun.changed;
+        self.ratio = begun.ratio;
         self.with_view = self.board.with_view();
     }
 
@@ -113,7 +118,7 @@ impl Play {
         requires may { MayCall self.old.board Display [] Finish }
         requires setup { is_setup self.old.board.setup ≡ true }
         requires stands { FramesStand self.old.board.setup self.old.board.history self.old.shown
-            self.old.with_view }
+            self.old.ratio self.old.with_view }
         requires views { HasViews self.old.board.setup self.old.with_view }
         requires last { self.old.last.frame.0 ≡ frames self.old.board.history }
         requires same { AreSame self.old.changed self.old.last.reuse self.old.shown }
@@ -146,6 +151,15 @@ impl Play {
     {
         let calls = CallList::new(alloc);
         let _reply = self.board.signal(Actor::Display, number, calls, f);
+    }
+
+    /// Sets the display's pixel ratio from the next begin on. A frame that is open
+    /// keeps that of its begin.
+    fn dpr(&mut self, number: u32, ratio: u32)
+        requires { MayCall self.old.board Display [] (Dpr ratio) }
+        ensures { EntersBeside self.old self.new number (Dpr ratio) Done }
+    {
+        let _reply = self.board.dpr(number, ratio);
     }
 
     /// Looks once whether a condition of the display is met.
@@ -240,7 +254,7 @@ impl Play {
                 Ok(())
             }
             DisplayLine::Done => {
-                let joined = self.last.take_joined(self.changed);
+                let joined = self.last.take_joined(self.changed, self.ratio);
                 self.finish(alloc, script, number, set, displays)?;
                 self.last.joined = joined;
                 Ok(())
@@ -251,6 +265,10 @@ impl Play {
             }
             DisplayLine::Wait(c) => {
                 self.wait(alloc, number, c);
+                Ok(())
+            }
+            DisplayLine::Dpr(ratio) => {
+                self.dpr(number, ratio);
                 Ok(())
             }
             DisplayLine::Hit(x, y) => {

@@ -2,7 +2,7 @@
 //! then, so that a probe is answered by the frame that was finished last, as it is kept.
 ghost use Rattle.std.specs.Prelude.{◌≡◌, ◌<◌, ℕ, [], true, length, replicate, Some, IfOk, OnOk};
 ghost use Rattle.flat_scene.specs.declared.script.ProbeLine.{ProbeLine};
-ghost use Rattle.flat_scene.specs.Setups.{is_setup};
+ghost use Rattle.flat_scene.specs.Setups.{at_ratio, is_setup};
 ghost use Rattle.flat_play.specs.Last.{IsLast, StaysLast};
 ghost use Rattle.flat_play.specs.Probing.{asked_of, answers_after};
 
@@ -46,8 +46,8 @@ pub(crate) fn answer_line(
     requires known { (p : ℕ) (asked : ProbeLine) → asked_of line.now.actor line.now.body
         ≡ Some (p, asked) → p < length answers.old.items }
     ensures answers { OnOk result (answers.new.items
-        ≡ answers_after setup.now last.old.reuse last.old.frame.0 line.now.number
-        (asked_of line.now.actor line.now.body) answers.old.items) }
+        ≡ answers_after (at_ratio last.old.ratio setup.now) last.old.reuse last.old.frame.0
+        line.now.number (asked_of line.now.actor line.now.body) answers.old.items) }
     ensures stays { OnOk result (StaysLast setup.now last.old last.new) }
 {
     let Some((p, asked)) = asked_of(line) else {

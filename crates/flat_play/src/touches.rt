@@ -1,7 +1,7 @@
 //! Lines of pointers are answered while the script is played, between its lines: so no
 //! joined tree of an earlier frame is kept for them.
 ghost use Rattle.std.specs.Prelude.{◌≡◌, ◌++◌, true, map, length, OnOk, IfOk, nat_le, take_while};
-ghost use Rattle.flat_scene.specs.Setups.{is_setup};
+ghost use Rattle.flat_scene.specs.Setups.{at_ratio, is_setup};
 ghost use Rattle.flat_play.specs.Last.{IsLast, StaysLast};
 ghost use Rattle.flat_play.specs.Touches.{AnswersUpto, touch_in};
 
@@ -21,7 +21,8 @@ fn answer(
 ) -> Result<Touch, NoMemory>
     requires setup { is_setup setup.now ≡ true }
     requires is { IsLast setup.now last.old }
-    ensures touch { IfOk result (λ touch. touch ≡ touch_in setup.now last.old.reuse line) }
+    ensures touch { IfOk result (λ touch. touch
+        ≡ touch_in (at_ratio last.old.ratio setup.now) last.old.reuse line) }
     ensures stays { OnOk result (StaysLast setup.now last.old last.new) }
 {
     match line.call {
@@ -47,7 +48,8 @@ pub(crate) fn answer_all(
     requires setup { is_setup setup.now ≡ true }
     requires is { IsLast setup.now last.old }
     ensures answers { OnOk result (found.new.items
-        ≡ found.old.items ++ map (touch_in setup.now last.old.reuse) lines.now) }
+        ≡ found.old.items
+        ++ map (touch_in (at_ratio last.old.ratio setup.now) last.old.reuse) lines.now) }
     ensures stays { OnOk result (StaysLast setup.now last.old last.new) }
 {
     for line in lines {
@@ -78,8 +80,8 @@ pub(crate) fn answer_upto<'a>(
 ) -> Result<&'a [PointerLine], NoMemory>
     requires setup { is_setup setup.now ≡ true }
     requires is { IsLast setup.now last.old }
-    ensures answers { IfOk result (λ later. AnswersUpto setup.now last.old.reuse number
-        lines.entry.now later.now found.old.items found.new.items) }
+    ensures answers { IfOk result (λ later. AnswersUpto (at_ratio last.old.ratio setup.now)
+        last.old.reuse number lines.entry.now later.now found.old.items found.new.items) }
     ensures stays { OnOk result (StaysLast setup.now last.old last.new) }
 {
     let (early, later) = lines.split_at(count_upto(lines, number));

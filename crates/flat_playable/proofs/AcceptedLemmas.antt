@@ -6,6 +6,7 @@ use Rattle.std.specs.Prelude.{find}
 use Rattle.std.specs.Fmt.{decimal}
 use Rattle.std.proofs.lemmas.Bool.Decides.{nat_tests}
 use Rattle.flat_base.specs.declared.limits.TheConstants.{SCRIPT_BYTES_MAX}
+use Rattle.flat_base.specs.declared.limits.TheConstants.{ONE, RATIO_SINCE}
 use Rattle.flat_scene.specs.declared.script.ScriptLine.{ScriptLine}
 use Rattle.flat_scene.specs.Setups.{is_setup}
 use Rattle.flat_text.specs.Pieces.{is_feed, words_of, lines_of, without_empty_end}
@@ -24,7 +25,7 @@ use Rattle.flat_forms.proofs.lemmas.FoundLemmas.{step_found}
 use Rattle.flat_playable.specs.Playable.{is_playable, rise_from, frames_close, is_played}
 use Rattle.flat_playable.proofs.BodyLemmas.{FramesKept, open_is, BodyKept, body_empty, body_skipped, body_line_kept}
 use Rattle.flat_playable.proofs.HeadLemmas.{HeadKept, head_first, step_kept, setup_given}
-use Rattle.flat_playable.specs.Versions.{is_of_first_version, first_kept, version_line}
+use Rattle.flat_playable.specs.Versions.{is_of_first_version, sets_no_ratio, first_kept, version_line}
 use Rattle.std.proofs.lemmas.Bool.{and_from}
 use Rattle.flat_print.proofs.lemmas.RunLemmas.{NextOk, next_ok, read_at, line_ok, first_ok, Read}
 use Rattle.flat_print.proofs.lemmas.TextLemmas.{lines_room, split_room, some_parts, spelled-words_of}
@@ -189,6 +190,8 @@ pub record Accepted (s : Script) : Type 0 where
   pub frames : frames_close false 0 s.lines ≡ true
   pub played : list_all (λ (next : ScriptLine). is_played s.setup next.actor next.body) s.lines ≡ true
   pub early : s.setup.version ≡ 1 → list_all is_of_first_version s.lines ≡ true
+  pub one : nat_lt s.setup.version RATIO_SINCE ≡ true → s.setup.ratio ≡ ONE
+  pub unscaled : nat_lt s.setup.version RATIO_SINCE ≡ true → list_all sets_no_ratio s.lines ≡ true
 
 frames_end : (h : Script) (us : List ScriptLine) (opened : Bool) (time : ℕ) → FramesKept (with_lines h us) opened time → is_open (with_lines h us) ≡ false → frames_close false 0 us ≡ true
 frames_end h us opened time kept closed =
@@ -209,6 +212,8 @@ accepted_at n few s is less done =
       frames = frames_end done.h b.us k.frames.opened k.frames.time k.frames.kept b.closed;
       played = k.played;
       early = k.early;
+      one = λ early. done.kept.one (ap (λ n. nat_lt n RATIO_SINCE) (sym done.kept.said) ∙ early);
+      unscaled = k.unscaled;
     })
   where
     within : (m : ℕ) → m ≤ 16777216 → nat_le m 16777216 ≡ true

@@ -8,6 +8,7 @@ use Rattle.std.proofs.lemmas.Bool.Decides.{nat_tests}
 use Rattle.flat_base.proofs.lemmas.Tests.{all-more}
 use Rattle.flat_base.specs.declared.ids.Actor.{Actor}
 use Rattle.flat_base.specs.declared.ids.Actor.TheVariants.{Display, Session, Probe}
+use Rattle.flat_base.specs.declared.limits.TheConstants.{RATIO_SINCE}
 use Rattle.flat_scene.specs.declared.script.ScriptLine.{ScriptLine}
 use Rattle.flat_scene.specs.declared.script.DisplayLine.{DisplayLine}
 use Rattle.flat_scene.specs.declared.script.DisplayLine.TheVariants as display
@@ -23,9 +24,9 @@ use Rattle.flat_print.proofs.lemmas.BodyWordLemmas.{display_spelt}
 use Rattle.flat_print.proofs.lemmas.AgainLemmas.{with_lines, Again}
 use Rattle.flat_forms.proofs.lemmas.ParserLemmas.{dones_more}
 use Rattle.flat_playable.specs.Playable.{rise_from, frames_close, is_played}
-use Rattle.flat_playable.specs.Versions.{is_of_first_version}
+use Rattle.flat_playable.specs.Versions.{is_of_first_version, sets_no_ratio}
 use Rattle.flat_playable.proofs.PlayedLemmas.{actor_declared, line_played}
-use Rattle.flat_playable.proofs.EarlyLemmas.{line_early}
+use Rattle.flat_playable.proofs.EarlyLemmas.{line_early, line_unscaled}
 
 -- frames
 
@@ -145,6 +146,7 @@ display_frames s n a display.Done opened time kept is = done_by s n a opened tim
 display_frames s n a (display.Signal f) opened time kept is = record { opened = opened; time = time; kept = passed s n a (body.Display (display.Signal f)) opened time refl refl (λ o t k c later. refl) kept }
 display_frames s n a (display.Wait c) opened time kept is = record { opened = opened; time = time; kept = passed s n a (body.Display (display.Wait c)) opened time refl refl (λ o t k c later. refl) kept }
 display_frames s n a (display.Hit x y) opened time kept is = record { opened = opened; time = time; kept = passed s n a (body.Display (display.Hit x y)) opened time refl refl (λ o t k c later. refl) kept }
+display_frames s n a (display.Dpr r) opened time kept is = record { opened = opened; time = time; kept = passed s n a (body.Display (display.Dpr r)) opened time refl refl (λ o t k c later. refl) kept }
 
 frames_at : (s : Script) (n : ℕ) (a : Actor) (b c : Body) → b ≡ c → FramesGoOn (with_line s n a b) → FramesGoOn (with_line s n a c)
 frames_at s n a b c e go = let P : Body → Type 0 = λ x. FramesGoOn (with_line s n a x) in subst P e go
@@ -171,6 +173,7 @@ pub record BodyKept (h : Script) (us : List ScriptLine) (n : ℕ) : Type 0 where
   pub frames : FramesGoOn (with_lines h us)
   pub played : list_all (λ (next : ScriptLine). is_played h.setup next.actor next.body) us ≡ true
   pub early : h.setup.version ≡ 1 → list_all is_of_first_version us ≡ true
+  pub unscaled : nat_lt h.setup.version RATIO_SINCE ≡ true → list_all sets_no_ratio us ≡ true
 
 pub body_empty : (h : Script) (n : ℕ) → 0 < n → BodyKept h [] n
 body_empty h n some = record {
@@ -181,6 +184,7 @@ body_empty h n some = record {
   frames = record { opened = false; time = 0; kept = record { begun = refl; last = refl; judged = λ later. refl } };
   played = refl;
   early = λ first. refl;
+  unscaled = λ early. refl;
 }
 
 pub body_skipped : (h : Script) (us : List ScriptLine) (n : ℕ) → BodyKept h us n → BodyKept h us (n + 1)
@@ -192,6 +196,7 @@ body_skipped h us n kept = record {
   frames = kept.frames;
   played = kept.played;
   early = kept.early;
+  unscaled = kept.unscaled;
 }
 
 below_count : (n c : ℕ) → n + 1 ≤ c + 1 → nat_le n c ≡ true
@@ -210,5 +215,6 @@ body_line_kept h us n words u a many probed kept =
       counted = λ c few. all-more (λ next. nat_le next.number c) us x (kept.counted c (omega arith)) (below_count n c few);
       frames = line_frames (with_lines h us) n a.actor a.rest a.body kept.frames.opened kept.frames.time kept.frames.kept a.line;
       played = all-more (λ next. is_played h.setup next.actor next.body) us x kept.played (line_played (with_lines h us) a.actor a.rest a.body many (actor_declared h a.first a.actor many probed a.named) a.line);
+      unscaled = λ early. all-more sets_no_ratio us x (kept.unscaled early) (line_unscaled (with_lines h us) n a.actor a.rest a.body early a.line);
       early = λ first. all-more is_of_first_version us x (kept.early first) (line_early (with_lines h us) n a.actor a.rest a.body first a.line);
     }

@@ -1,5 +1,5 @@
 -- A line that is read in a script of the first version has nothing of the second.
-use Rattle.std.proofs.Common.{◌≡◌, ℕ, Bool, true, false, ◌&&◌, if◌then◌else◌, List, [], ◌∷◌, ◌++◌, Ok, refl, sym, ◌∙◌, ap, codes}
+use Rattle.std.proofs.Common.{◌≡◌, ℕ, nat_lt, Bool, true, false, ◌&&◌, if◌then◌else◌, List, [], ◌∷◌, ◌++◌, Ok, refl, sym, ◌∙◌, ap, codes}
 use Rattle.std.specs.Fmt.{decimal}
 use Rattle.std.specs.Str.{bytes_eq}
 use Rattle.std.proofs.lemmas.Slice.Eq.{bytes_eq-Decides}
@@ -19,10 +19,14 @@ use Rattle.flat_places.specs.Forms.{Word, Form, Reading, whole, ◌<$>◌, ◌<*
 use Rattle.flat_places.specs.Known.{knows}
 use Rattle.flat_places.specs.Places.{time, fence_word, unsquashable}
 use Rattle.flat_forms.specs.Body.{fence_lists, present, session_line, display_line, probe_line, actor_line}
-use Rattle.flat_print.specs.Print.{session_words, call_words, lists_words, unsquashable_word}
+use Rattle.flat_print.specs.Print.{session_words, display_words, call_words, lists_words, unsquashable_word}
 use Rattle.flat_forms.proofs.lemmas.FormLemmas.{Gives, apply_ok, map_ok, whole_ok, mapped_ok}
-use Rattle.flat_print.proofs.lemmas.BodyWordLemmas.{session_shown}
-use Rattle.flat_playable.specs.Versions.{is_early, is_of_first_version}
+use Rattle.flat_print.proofs.lemmas.BodyWordLemmas.{display_spelt, session_shown}
+use Rattle.flat_playable.specs.Versions.{is_early, is_of_first_version, sets_no_ratio}
+use Rattle.flat_base.specs.declared.limits.TheConstants.{RATIO_SINCE}
+use Rattle.flat_scene.specs.declared.script.DisplayLine.{DisplayLine}
+use Rattle.flat_scene.specs.declared.script.DisplayLine.TheVariants as display
+use Rattle.flat_playable.proofs.PlayedLemmas.{ratio_line}
 
 not_known : (version : ℕ) (w : Word) → version ≡ 1 → bytes_eq w (codes "unsquashable") ≡ true → knows version w ≡ false
 not_known version w first at =
@@ -61,6 +65,25 @@ session_early : (s : Script) (a : SessionNo) (l : Line) → s.setup.version ≡ 
 session_early s a (line.Call c) first is = call_early s a c first is
 session_early s a (line.Present p) first is = present_early s a p (decimal p.time ∷ unsquashable_word p.unsquashable ++ lists_words s p) first is
 session_early s a _ first is = refl
+
+-- a line that sets a pixel ratio isn't read below the third version
+display_unscaled : (s : Script) (n : ℕ) (l : DisplayLine) → nat_lt s.setup.version RATIO_SINCE ≡ true → display_line s (display_words s l) ≡ Ok l
+    → sets_no_ratio (record { number = n; actor = Display; body = body.Display l }) ≡ true
+display_unscaled s n (display.Dpr r) early is = absurd (let wrong : true ≡ false = sym early ∙ (ratio_line s r (decimal r ∷ []) is).0 in cc)
+display_unscaled s n _ early is = refl
+
+pub line_unscaled : (s : Script) (n : ℕ) (a : Actor) (words : List Word) (b : Body) → nat_lt s.setup.version RATIO_SINCE ≡ true → actor_line s a words ≡ Ok b
+    → sets_no_ratio (record { number = n; actor = a; body = b }) ≡ true
+line_unscaled s n Display words b early is =
+    let m = mapped_ok body.Display (display_line s words) b is in
+    let read : display_line s (display_words s m.a) ≡ Ok m.a = ap (display_line s) (display_spelt s words m.a m.given) ∙ m.given in
+    ap (λ t. sets_no_ratio (record { number = n; actor = Display; body = t })) (sym m.value) ∙ display_unscaled s n m.a early read
+line_unscaled s n (Session a) words b early is =
+    let m = mapped_ok body.Session (session_line s a words) b is in
+    ap (λ t. sets_no_ratio (record { number = n; actor = Session a; body = t })) (sym m.value)
+line_unscaled s n (Probe p) words b early is =
+    let m = mapped_ok body.Probe (probe_line s.setup.version words) b is in
+    ap (λ t. sets_no_ratio (record { number = n; actor = Probe p; body = t })) (sym m.value)
 
 pub line_early : (s : Script) (n : ℕ) (a : Actor) (words : List Word) (b : Body) → s.setup.version ≡ 1 → actor_line s a words ≡ Ok b → is_of_first_version (record { number = n; actor = a; body = b }) ≡ true
 line_early s n Display words b first is =

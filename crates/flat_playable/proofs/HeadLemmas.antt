@@ -10,21 +10,21 @@ use Rattle.flat_base.proofs.lemmas.Tests.{all-more, all-also}
 use Rattle.flat_base.specs.declared.ids.Actor.{Actor}
 use Rattle.flat_base.specs.declared.ids.Actor.TheVariants.{Display, Session, Probe}
 use Rattle.flat_base.specs.declared.ids.SessionNo.{SessionNo}
-use Rattle.flat_base.specs.declared.limits.TheConstants.{ONE, VERSION_MAX}
+use Rattle.flat_base.specs.declared.limits.TheConstants.{ONE, RATIO_SINCE, VERSION_MAX}
 use Rattle.flat_scene.specs.declared.setup.Setup.{Setup}
 use Rattle.flat_scene.specs.declared.setup.PairDecl.{PairDecl}
 use Rattle.flat_scene.specs.declared.setup.BufferDecl.{BufferDecl}
 use Rattle.flat_scene.specs.declared.setup.FenceDecl.{FenceDecl}
 use Rattle.flat_scene.specs.History.{is_display}
-use Rattle.flat_scene.specs.Setups.{is_within, is_declared, may_own, is_pair_declared, is_buffer_declared, is_fence_declared, owners_declared, is_within_limits, has_one_display_pair, is_setup}
+use Rattle.flat_scene.specs.Setups.{is_within, is_ratio, is_declared, may_own, is_pair_declared, is_buffer_declared, is_fence_declared, owners_declared, is_within_limits, has_one_display_pair, is_setup}
 use Rattle.flat_text.specs.Number.{natural}
 use Rattle.flat_places.specs.declared.kinds.FaultKind.TheVariants.{BadNumber, UnknownName}
 use Rattle.flat_places.specs.declared.script.Script.{Script}
-use Rattle.flat_places.specs.Forms.{Word, whole, each, one_or_more, ◌<$>◌}
+use Rattle.flat_places.specs.Forms.{Word, whole, each, one_or_more, ◌<$>◌, ◌<*>◌}
 use Rattle.flat_places.specs.Names.{session_named, owner_named, is_actor}
-use Rattle.flat_places.specs.Places.{number_from, owner_word, has_display_pair}
+use Rattle.flat_places.specs.Places.{number_from, ratio, first_ratio, owner_word, has_display_pair}
 use Rattle.flat_forms.specs.Head.{empty, with_version, size, side, has_display, is_ready}
-use Rattle.flat_forms.proofs.lemmas.FormLemmas.{both_ok, or_kind_ok, whole_ok, apply_ok, map_ok, place_ok}
+use Rattle.flat_forms.proofs.lemmas.FormLemmas.{Gives, both_ok, or_kind_ok, whole_ok, apply_ok, map_ok, place_ok}
 use Rattle.flat_forms.proofs.lemmas.StepLemmas.{SizeStep, SessionStep, ProbeStep, BuffersStep, PairStep, FenceStep, Step, size_step, session_step, probe_step, buffers_step, pair_step, fence_step}
 use Rattle.flat_playable.proofs.PlayedLemmas.{within_of, session_declared, owner_declared}
 use Rattle.std.proofs.lemmas.Bool.{and_parts, and_from}
@@ -41,15 +41,47 @@ is_within_of most n is = let b = and_parts (nat_le 1 n) (nat_le n most) is in ra
 from_one : (most : ℕ) (w : Word) (n : ℕ) → (number_from 1 most (w ∷ [])).0 ≡ Ok n → is_within most n ≡ true
 from_one most w n is = is_within_of most n (test_passes (λ k. nat_le 1 k && nat_le k most) (natural w) n (or_kind_ok BadNumber _ n is))
 
-size_taken : (words : List Word) (w h : ℕ) → whole size words ≡ Ok (w, h) → (is_within 65536 w ≡ true) × (is_within 65536 h ≡ true)
-size_taken words w h is =
-    let pair : ℕ → ℕ → ℕ × ℕ = λ a b. (a, b) in
-    let last = apply_ok (pair <$> side) side words (w, h) [] (whole_ok size words (w, h) is) in
-    let first = map_ok pair side words last.g last.mid last.first in
-    let x = place_ok _ words first.a last.mid first.given in
-    let y = place_ok _ last.mid last.a [] last.second in
-    let value : pair first.a last.a ≡ (w, h) = ap (λ g. g last.a) first.value ∙ last.value in
-    (ap (is_within 65536) (sym (ap (λ v. v.0) value)) ∙ from_one 65536 x.word first.a x.passes, ap (is_within 65536) (sym (ap (λ v. v.1) value)) ∙ from_one 65536 y.word last.a y.passes)
+-- the pixel ratio is one that a display may have, and one where the version gives none
+ratio_kept : (version : ℕ) (words : List Word) (q : ℕ) (rest : List Word) → Gives (first_ratio version) words q rest → (is_ratio q ≡ true) × (nat_lt version RATIO_SINCE ≡ true → q ≡ ONE)
+ratio_kept version [] q rest given =
+    let one : ONE ≡ q = let value = given.value in cc in
+    (ap is_ratio (sym one), λ early. sym one)
+ratio_kept version (w ∷ ws) q rest given = by_version (nat_lt version RATIO_SINCE) refl
+  where
+    by_version : (b : Bool) → nat_lt version RATIO_SINCE ≡ b → (is_ratio q ≡ true) × (nat_lt version RATIO_SINCE ≡ true → q ≡ ONE)
+    by_version true early =
+        let one : ONE ≡ q = let value = rw early at given.value in cc in
+        (ap is_ratio (sym one), λ at. sym one)
+    by_version false late =
+        let value : (ratio (w ∷ ws)).0 ≡ Ok q = rw late at given.value in
+        (test_passes is_ratio (natural w) q (or_kind_ok BadNumber _ q value), λ early. absurd (let wrong : true ≡ false = sym early ∙ late in cc))
+
+-- What the display's line declares.
+record SizeTaken (version w h q : ℕ) : Type 0 where
+  wide : is_within 65536 w ≡ true
+  high : is_within 65536 h ≡ true
+  ratio : is_ratio q ≡ true
+  one : nat_lt version RATIO_SINCE ≡ true → q ≡ ONE
+
+abbrev triple : ℕ → ℕ → ℕ → ℕ × ℕ × ℕ
+triple a b c = (a, b, c)
+
+size_taken : (version : ℕ) (words : List Word) (w h q : ℕ) → whole (size version) words ≡ Ok (w, h, q) → SizeTaken version w h q
+size_taken version words w h q is =
+    let last = apply_ok (triple <$> side <*> side) (first_ratio version) words (w, h, q) [] (whole_ok (size version) words (w, h, q) is) in
+    let second = apply_ok (triple <$> side) side words last.g last.mid last.first in
+    let first = map_ok triple side words second.g second.mid second.first in
+    let x = place_ok _ words first.a second.mid first.given in
+    let y = place_ok _ second.mid second.a last.mid second.second in
+    let value : triple first.a second.a last.a ≡ triple w h q = ap (λ g. g second.a last.a) first.value ∙ ap (λ g. g last.a) second.value ∙ last.value in
+    let kept = ratio_kept version last.mid last.a [] last.second in
+    let here : SizeTaken version first.a second.a last.a = record {
+      wide = from_one 65536 x.word first.a x.passes;
+      high = from_one 65536 y.word second.a y.passes;
+      ratio = kept.0;
+      one = kept.1;
+    } in
+    subst (λ (d : ℕ × ℕ × ℕ). SizeTaken version d.0 d.1 d.2) value here
 
 -- a declared session stays declared when there is one session more
 declared_more : (setup : Setup) (s : SessionNo) → is_declared setup s ≡ true → is_declared (record setup { sessions = setup.sessions + 1 }) s ≡ true
@@ -90,7 +122,8 @@ fence_more old new wider d is =
 pub record HeadKept (v : ℕ) (u : Script) : Type 0 where
   pub said : u.setup.version ≡ v
   pub known : is_within VERSION_MAX v ≡ true
-  pub ratio : (u.setup.ratio == ONE) ≡ true
+  pub ratio : is_ratio u.setup.ratio ≡ true
+  pub one : nat_lt v RATIO_SINCE ≡ true → u.setup.ratio ≡ ONE
   pub lines : u.lines ≡ []
   pub probes : u.setup.probes ≡ length u.probes
   pub few_probes : length u.probes ≤ 8
@@ -113,6 +146,7 @@ head_first v known = record {
   said = refl;
   known = known;
   ratio = refl;
+  one = λ early. refl;
   lines = refl;
   probes = refl;
   few_probes = omega arith;
@@ -140,11 +174,12 @@ room_left xs x most room = let less : length xs < most = grind (arith, nat_tests
 size_kept : {v : ℕ} (u : Script) (ws : List Word) (t : Script) → SizeStep u ws t → HeadKept v u → HeadKept v t
 size_kept {v = v} u ws t x o =
     let P : Script → Type 0 = HeadKept v in
-    let taken = size_taken x.rest x.w x.h x.read in
+    let taken = size_taken u.setup.version x.rest x.w x.h x.q x.read in
     subst P (sym x.made) (record {
       said = o.said;
       known = o.known;
-      ratio = o.ratio;
+      ratio = taken.ratio;
+      one = λ early. taken.one (ap (λ n. nat_lt n RATIO_SINCE) o.said ∙ early);
       lines = o.lines;
       probes = o.probes;
       few_probes = o.few_probes;
@@ -156,7 +191,7 @@ size_kept {v = v} u ws t x o =
       few_pairs = o.few_pairs;
       fence_names = o.fence_names;
       few_fences = o.few_fences;
-      sizes = λ is. taken;
+      sizes = λ is. (taken.wide, taken.high);
       pairs_owned = o.pairs_owned;
       buffers_owned = o.buffers_owned;
       fences_owned = o.fences_owned;
@@ -172,6 +207,7 @@ session_kept {v = v} u ws t x o =
       said = o.said;
       known = o.known;
       ratio = o.ratio;
+      one = o.one;
       lines = o.lines;
       probes = o.probes;
       few_probes = o.few_probes;
@@ -199,6 +235,7 @@ probe_kept {v = v} u ws t x o =
       said = o.said;
       known = o.known;
       ratio = o.ratio;
+      one = o.one;
       lines = o.lines;
       probes = omega (arith, length-append u.probes (x.name ∷ []));
       few_probes = room_left u.probes x.name 8 x.room;
@@ -228,6 +265,7 @@ buffers_kept {v = v} u ws t x o =
       said = o.said;
       known = o.known;
       ratio = o.ratio;
+      one = o.one;
       lines = o.lines;
       probes = o.probes;
       few_probes = o.few_probes;
@@ -298,6 +336,7 @@ pair_kept {v = v} u ws t x o =
       said = o.said;
       known = o.known;
       ratio = o.ratio;
+      one = o.one;
       lines = o.lines;
       probes = o.probes;
       few_probes = o.few_probes;
@@ -339,6 +378,7 @@ fence_kept {v = v} u ws t x o =
       said = o.said;
       known = o.known;
       ratio = o.ratio;
+      one = o.one;
       lines = o.lines;
       probes = o.probes;
       few_probes = o.few_probes;
@@ -385,7 +425,7 @@ setup_given u o ready =
     let buffers = within_most (length u.setup.buffers) (length u.buffers) 256 o.buffer_names o.few_buffers in
     let fences = within_most (length u.setup.fences) (length u.fences) 4096 o.fence_names o.few_fences in
     let limits : is_within_limits u.setup ≡ true =
-    and_from _ (nat_le (length u.setup.fences) 4096) (and_from _ (nat_le (length u.setup.buffers) 256) (and_from _ (nat_le (length u.setup.pairs) 4096) (and_from _ (nat_le u.setup.probes 8) (and_from _ (is_within 16 u.setup.sessions) (and_from _ (is_within 65536 u.setup.height) (and_from _ (is_within 65536 u.setup.width) (and_from (is_within VERSION_MAX u.setup.version) (u.setup.ratio == ONE) (ap (is_within VERSION_MAX) o.said ∙ o.known) o.ratio) sizes.0) sizes.1) sessions) probes) pairs) buffers) fences in
+    and_from _ (nat_le (length u.setup.fences) 4096) (and_from _ (nat_le (length u.setup.buffers) 256) (and_from _ (nat_le (length u.setup.pairs) 4096) (and_from _ (nat_le u.setup.probes 8) (and_from _ (is_within 16 u.setup.sessions) (and_from _ (is_within 65536 u.setup.height) (and_from _ (is_within 65536 u.setup.width) (and_from (is_within VERSION_MAX u.setup.version) (is_ratio u.setup.ratio) (ap (is_within VERSION_MAX) o.said ∙ o.known) o.ratio) sizes.0) sizes.1) sessions) probes) pairs) buffers) fences in
     let owners : owners_declared u.setup ≡ true = and_from _ (list_all (is_fence_declared u.setup) u.setup.fences) (and_from (list_all (is_pair_declared u.setup) u.setup.pairs) (list_all (is_buffer_declared u.setup) u.setup.buffers) o.pairs_owned o.buffers_owned) o.fences_owned in
     and_from _ (has_one_display_pair u.setup) (and_from (is_within_limits u.setup) (owners_declared u.setup) limits owners) (one_shown u o r.1)
   where

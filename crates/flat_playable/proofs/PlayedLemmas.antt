@@ -32,13 +32,16 @@ use Rattle.flat_scene.specs.declared.setup.FenceDecl.{FenceDecl}
 use Rattle.flat_scene.specs.declared.script.Cond.{Cond}
 use Rattle.flat_scene.specs.declared.script.Cond.TheVariants as asks
 use Rattle.flat_scene.specs.History.{is_session}
-use Rattle.flat_scene.specs.Setups.{is_within, is_declared, may_own}
+use Rattle.flat_scene.specs.Setups.{is_within, is_declared, is_ratio, may_own}
+use Rattle.flat_base.specs.declared.limits.TheConstants.{RATIO_SINCE}
+use Rattle.flat_text.specs.Number.{natural}
+use Rattle.flat_print.proofs.lemmas.OrderLemmas.{test_passes}
 use Rattle.flat_rules.specs.Legal.{owns_view, owns_viewport, owns_fence, owns_buffers, is_fence}
-use Rattle.flat_places.specs.declared.kinds.FaultKind.TheVariants.{UnknownName, NotOwner}
+use Rattle.flat_places.specs.declared.kinds.FaultKind.TheVariants.{BadNumber, UnknownName, NotOwner}
 use Rattle.flat_places.specs.declared.script.Script.{Script}
 use Rattle.flat_places.specs.Forms.{Word, Form, Reading, both, mapped, unless_kind, each, one_or_more, whole, optional, ◌<$>◌, ◌<*>◌}
 use Rattle.flat_places.specs.Names.{place_of, session_named, owner_named, actor_named, is_actor}
-use Rattle.flat_places.specs.Places.{time, u32, content, unsquashable, session, fence, fence_word, owned, view_end, viewport_end, inset, collection}
+use Rattle.flat_places.specs.Places.{time, u32, content, ratio, unsquashable, session, fence, fence_word, owned, view_end, viewport_end, inset, collection}
 use Rattle.flat_forms.specs.Calls.{call_form, inset_or_none}
 use Rattle.flat_forms.specs.declared.calls.CallName.TheVariants.{CreateViewport, CreateImage}
 use Rattle.flat_forms.specs.Lists.{ends_list}
@@ -369,6 +372,22 @@ presents_declared s t n words many is =
     let e : first.a ≡ t = cc in
     ap (is_declared s.setup) (sym e) ∙ session_declared s q.word first.a many (or_kind_ok UnknownName _ first.a q.passes)
 
+-- a line that sets a pixel ratio, as it is read where the version has it and where it hasn't
+pub ratio_line : (s : Script) (r : ℕ) (words : List Word) → display_line s (codes "dpr" ∷ words) ≡ Ok (display.Dpr r) → (nat_lt s.setup.version RATIO_SINCE ≡ false) × (whole (display.Dpr <$> ratio) words ≡ Ok (display.Dpr r))
+ratio_line s r words is = by_version (nat_lt s.setup.version RATIO_SINCE) refl
+  where
+    by_version : (b : Bool) → nat_lt s.setup.version RATIO_SINCE ≡ b → (nat_lt s.setup.version RATIO_SINCE ≡ false) × (whole (display.Dpr <$> ratio) words ≡ Ok (display.Dpr r))
+    by_version true early = absurd (let wrong = rw early at is in cc)
+    by_version false late = (late, rw late at is)
+
+ratio_played : (r : ℕ) (words : List Word) → whole (display.Dpr <$> ratio) words ≡ Ok (display.Dpr r) → is_ratio r ≡ true
+ratio_played r words is =
+    let m = map_ok display.Dpr ratio words (display.Dpr r) [] (whole_ok (display.Dpr <$> ratio) words (display.Dpr r) is) in
+    let p = place_ok _ words m.a [] m.given in
+    let d : display.Dpr m.a ≡ display.Dpr r = m.value in
+    let same : m.a ≡ r = cc in
+    ap is_ratio (sym same) ∙ test_passes is_ratio (natural p.word) m.a (or_kind_ok BadNumber _ m.a p.passes)
+
 display_played : (s : Script) (l : DisplayLine) → s.setup.sessions ≡ length s.sessions → display_line s (display_words s l) ≡ Ok l → is_played_display s.setup l ≡ true
 display_played s (display.Begin t) many is = refl
 display_played s display.Done many is = refl
@@ -380,6 +399,7 @@ display_played s (display.Wait (asks.Answers n)) many is = absurd (cc)
 display_played s (display.Wait (asks.Fence f)) many is = display_wait_fence_played s f (fence_name s f ∷ []) is
 display_played s (display.Wait (asks.Presents t n)) many is = presents_declared s t n (session_word s t ∷ decimal n ∷ []) many is
 display_played s (display.Hit x y) many is = refl
+display_played s (display.Dpr r) many is = ratio_played r (decimal r ∷ []) (ratio_line s r (decimal r ∷ []) is).1
 
 -- a line behind its actor
 pub line_played : (s : Script) (a : Actor) (words : List Word) (b : Body) → s.setup.sessions ≡ length s.sessions → may_act s.setup a ≡ true → actor_line s a words ≡ Ok b → is_played s.setup a b ≡ true

@@ -1,12 +1,12 @@
 -- Every script that the reader accepts is one that is played: each part of the test, and the whole; and what its version says.
-use Rattle.std.specs.Prelude.{◌≡◌, ◌≤◌, ℕ, false, true, nat_le, List, length, Some}
+use Rattle.std.specs.Prelude.{◌≡◌, ◌≤◌, ℕ, false, true, nat_le, nat_lt, List, length, Some}
 use Rattle.std.specs.List.{list_all}
-use Rattle.flat_base.specs.declared.limits.TheConstants.{SCRIPT_BYTES_MAX, SESSIONS_MAX}
+use Rattle.flat_base.specs.declared.limits.TheConstants.{ONE, RATIO_SINCE, SCRIPT_BYTES_MAX, SESSIONS_MAX}
 use Rattle.flat_scene.specs.Setups.{is_setup}
 use Rattle.flat_places.specs.declared.script.Script.{Script}
 use Rattle.flat_script.specs.Grammar.{IsScript}
 use Rattle.flat_playable.specs.Playable.{is_playable, rise_from, frames_close, is_played}
-use Rattle.flat_playable.specs.Versions.{is_of_first_version, first_kept, version_line}
+use Rattle.flat_playable.specs.Versions.{is_of_first_version, sets_no_ratio, first_kept, version_line}
 
 -- its setup is one that a head can give
 abbrev pub SetupsAreGiven : Type 0
@@ -39,6 +39,11 @@ LinesArePlayed = (bytes : List ℕ) (script : Script) → IsScript bytes script 
 -- where its version is the first, no line has what came with the second
 abbrev pub FirstVersionIsKept : Type 0
 FirstVersionIsKept = (bytes : List ℕ) (script : Script) → IsScript bytes script → script.setup.version ≡ 1 → list_all is_of_first_version script.lines ≡ true
+
+-- where its version is below the third, its display's pixel ratio is one from the head on
+abbrev pub EarlierVersionsHaveNoRatio : Type 0
+EarlierVersionsHaveNoRatio = (bytes : List ℕ) (script : Script) → IsScript bytes script → nat_lt script.setup.version RATIO_SINCE ≡ true
+    → (script.setup.ratio ≡ ONE) × (list_all sets_no_ratio script.lines ≡ true)
 
 -- the first line of its text that isn't skipped says its version
 abbrev pub TextsSayVersions : Type 0

@@ -4,6 +4,7 @@ use Rattle.std.specs.Fmt.{decimal}
 use Rattle.flat_scene.specs.declared.calls.Call.TheVariants as call
 use Rattle.flat_scene.specs.declared.script.Body.{Body}
 use Rattle.flat_scene.specs.declared.script.Body.TheVariants as body
+use Rattle.flat_scene.specs.declared.script.DisplayLine.TheVariants as display
 use Rattle.flat_scene.specs.declared.script.Line.{Line}
 use Rattle.flat_scene.specs.declared.script.Line.TheVariants as line
 use Rattle.flat_scene.specs.declared.script.ScriptLine.{ScriptLine}
@@ -22,6 +23,14 @@ is_of_first_version next = of next.body
   where
     of : Body → Bool
     of (body.Session text) = is_early text
+    of _ = true
+
+-- no pixel ratio is set
+abbrev pub sets_no_ratio : ScriptLine → Bool
+sets_no_ratio next = of next.body
+  where
+    of : Body → Bool
+    of (body.Display (display.Dpr ratio)) = false
     of _ = true
 
 -- the first line of a text that isn't skipped

@@ -1,5 +1,5 @@
 -- The words of fence lists, of conditions and of tables are those that they were read from.
-use Rattle.std.proofs.Common.{◌≡◌, Bool, true, false, ◌||◌, List, [], ◌∷◌, ◌++◌, map, Ok, refl, sym, ◌∙◌, ap, codes, if◌then◌else◌, inl, inr}
+use Rattle.std.proofs.Common.{◌≡◌, ℕ, Bool, true, false, ◌||◌, List, [], ◌∷◌, ◌++◌, map, Ok, refl, sym, ◌∙◌, ap, codes, if◌then◌else◌, inl, inr}
 use Rattle.std.specs.List.{list_any, before_first, after_first}
 use Rattle.std.specs.Str.{bytes_eq}
 use Rattle.std.proofs.lemmas.Slice.Eq.{bytes_eq-Decides}
@@ -7,7 +7,8 @@ use Rattle.flat_base.specs.declared.ids.Actor.{Actor}
 use Rattle.flat_base.specs.declared.ids.FenceNo.{FenceNo}
 use Rattle.flat_places.specs.declared.kinds.FaultKind.{FaultKind}
 use Rattle.flat_places.specs.declared.script.Script.{Script}
-use Rattle.flat_places.specs.Forms.{Word, Table, both, each, one_or_more, at_word}
+use Rattle.flat_places.specs.Forms.{Word, Table, both, each, one_or_more, at_word, known_rows}
+use Rattle.flat_places.specs.Known.{knows}
 use Rattle.flat_places.specs.Places.{fence_word as tested_fence}
 use Rattle.flat_forms.specs.Body.{fence_lists}
 use Rattle.flat_forms.specs.Lists.{ends_list, behind_end}
@@ -30,6 +31,15 @@ table_spelt {A = A} spell k (row ∷ rows) all w words v is = by_test (bytes_eq 
     by_test : (b : Bool) → bytes_eq w row.0 ≡ b → (if b then row.1 words else at_word k rows w words) ≡ Ok v → (at_word k rows w words ≡ Ok v → spell v ≡ w ∷ words) → spell v ≡ w ∷ words
     by_test true at same later = all.0 words v same ∙ ap (λ t. t ∷ words) (sym ((bytes_eq-Decides w row.0).0 at))
     by_test false at other later = later other
+
+-- and so does each row that a version knows
+pub known_spelt : {A : Type 0} (spell : A → List Word) (version : ℕ) (rows : Table A) → RowsSpelt spell rows → RowsSpelt spell (known_rows version rows)
+known_spelt spell version [] all = tt
+known_spelt {A = A} spell version (row ∷ rows) all = by_test (knows version row.0) refl (known_spelt spell version rows all.1)
+  where
+    by_test : (b : Bool) → knows version row.0 ≡ b → RowsSpelt spell (known_rows version rows) → RowsSpelt spell (known_rows version (row ∷ rows))
+    by_test true known later = rw known (all.0, later)
+    by_test false unknown later = rw unknown later
 
 -- lists
 

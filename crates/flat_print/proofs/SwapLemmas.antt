@@ -171,8 +171,8 @@ swap_session_size u m t b ws x moved =
     let P : Script → Type 0 = λ v. SizeStep v ws t in
     let y = subst P x.made moved in
     record {
-      mid = with_display u y.w y.h;
-      first = size_step (record { rest = y.rest; w = y.w; h = y.h; begins = y.begins; first = y.first; read = y.read; made = refl });
+      mid = with_display u y.w y.h y.q;
+      first = size_step (record { rest = y.rest; w = y.w; h = y.h; q = y.q; begins = y.begins; first = y.first; read = y.read; made = refl });
       first_sort = refl;
       second = session_step (record { name = x.name; begins = x.begins; room = x.room; fresh = record { name = x.fresh.name; fresh = x.fresh.fresh }; made = y.made });
       second_sort = refl;
@@ -183,8 +183,8 @@ swap_probe_size u m t b ws x moved =
     let P : Script → Type 0 = λ v. SizeStep v ws t in
     let y = subst P x.made moved in
     record {
-      mid = with_display u y.w y.h;
-      first = size_step (record { rest = y.rest; w = y.w; h = y.h; begins = y.begins; first = y.first; read = y.read; made = refl });
+      mid = with_display u y.w y.h y.q;
+      first = size_step (record { rest = y.rest; w = y.w; h = y.h; q = y.q; begins = y.begins; first = y.first; read = y.read; made = refl });
       first_sort = refl;
       second = probe_step (record { name = x.name; begins = x.begins; room = x.room; fresh = record { name = x.fresh.name; fresh = x.fresh.fresh }; made = y.made });
       second_sort = refl;
@@ -207,8 +207,8 @@ swap_buffers_size u m t b ws x moved =
     let P : Script → Type 0 = λ v. SizeStep v ws t in
     let y = subst P x.made moved in
     record {
-      mid = with_display u y.w y.h;
-      first = size_step (record { rest = y.rest; w = y.w; h = y.h; begins = y.begins; first = y.first; read = y.read; made = refl });
+      mid = with_display u y.w y.h y.q;
+      first = size_step (record { rest = y.rest; w = y.w; h = y.h; q = y.q; begins = y.begins; first = y.first; read = y.read; made = refl });
       first_sort = refl;
       second = buffers_step (record { name = x.name; owner = x.owner; a = x.a; b = x.b; c = x.c; decl = x.decl; begins = x.begins; room = x.room; fresh = record { name = x.fresh.name; fresh = x.fresh.fresh }; owned = x.owned; count = x.count; width = x.width; height = x.height; made = y.made });
       second_sort = refl;
@@ -243,8 +243,8 @@ swap_pair_size u m t b ws x moved =
     let P : Script → Type 0 = λ v. SizeStep v ws t in
     let y = subst P x.made moved in
     record {
-      mid = with_display u y.w y.h;
-      first = size_step (record { rest = y.rest; w = y.w; h = y.h; begins = y.begins; first = y.first; read = y.read; made = refl });
+      mid = with_display u y.w y.h y.q;
+      first = size_step (record { rest = y.rest; w = y.w; h = y.h; q = y.q; begins = y.begins; first = y.first; read = y.read; made = refl });
       first_sort = refl;
       second = pair_step (record { name = x.name; x = x.x; y = x.y; decl = x.decl; begins = x.begins; room = x.room; fresh = record { name = x.fresh.name; fresh = x.fresh.fresh }; single = x.single; viewport = x.viewport; view = x.view; made = y.made });
       second_sort = refl;
@@ -291,8 +291,8 @@ swap_fence_size u m t b ws x moved =
     let P : Script → Type 0 = λ v. SizeStep v ws t in
     let y = subst P x.made moved in
     record {
-      mid = with_display u y.w y.h;
-      first = size_step (record { rest = y.rest; w = y.w; h = y.h; begins = y.begins; first = y.first; read = y.read; made = refl });
+      mid = with_display u y.w y.h y.q;
+      first = size_step (record { rest = y.rest; w = y.w; h = y.h; q = y.q; begins = y.begins; first = y.first; read = y.read; made = refl });
       first_sort = refl;
       second = fence_step (record { name = x.name; rest = x.rest; decl = x.decl; begins = x.begins; room = x.room; fresh = record { name = x.fresh.name; fresh = x.fresh.fresh }; owners = x.owners; made = y.made });
       second_sort = refl;

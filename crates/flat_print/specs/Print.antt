@@ -3,6 +3,7 @@ use Rattle.std.specs.Prelude.{◌≡◌, ℕ, ◌+◌, ◌-◌, ◌==◌, Bool, 
 use Rattle.std.specs.List.{flat_map}
 use Rattle.std.specs.Option.{option_map_or}
 use Rattle.std.specs.Fmt.{decimal, signed_decimal}
+use Rattle.flat_base.specs.declared.limits.TheConstants.{ONE}
 use Rattle.flat_base.specs.declared.ids.SessionNo.{SessionNo}
 use Rattle.flat_base.specs.declared.ids.PairNo.{PairNo}
 use Rattle.flat_base.specs.declared.ids.FenceNo.{FenceNo}
@@ -189,7 +190,7 @@ lists_words s p = list_words s (codes "acquire") p.acquire ++ list_words s (code
 
 -- `unsquashable`, for a present that is
 abbrev pub unsquashable_word : Bool → List Word
-unsquashable_word alone = if alone then codes "unsquashable" ∷ [] else []
+unsquashable_word unsquashable = if unsquashable then codes "unsquashable" ∷ [] else []
 
 -- a present
 abbrev pub present_words : Script → PresentArgs → List Word
@@ -227,6 +228,7 @@ display_words s display.Done = codes "done" ∷ []
 display_words s (display.Signal f) = codes "Signal" ∷ fence_word s f ∷ []
 display_words s (display.Wait c) = codes "Wait" ∷ condition_words s c
 display_words s (display.Hit x y) = codes "hit" ∷ signed_decimal x ∷ signed_decimal y ∷ []
+display_words s (display.Dpr ratio) = codes "dpr" ∷ numbers (ratio ∷ [])
 
 -- a line of a probe
 abbrev pub probe_words : ProbeLine → List Word
@@ -270,9 +272,13 @@ numbered f i (d ∷ ds) = f i d ∷ numbered f (i + 1) ds
 abbrev pub version_words : Script → List Word
 version_words s = codes "flatland" ∷ numbers (s.setup.version ∷ [])
 
+-- the first pixel ratio, which is left out where it is one
+abbrev pub ratio_words : ℕ → List Word
+ratio_words ratio = if ratio == ONE then [] else decimal ratio ∷ []
+
 -- the display
 abbrev pub display_line_words : Script → List Word
-display_line_words s = codes "display" ∷ numbers (s.setup.width ∷ s.setup.height ∷ [])
+display_line_words s = codes "display" ∷ decimal s.setup.width ∷ decimal s.setup.height ∷ ratio_words s.setup.ratio
 
 -- all lines of the head behind the version: the display, and each sort in order of declaration
 abbrev pub head_words : Script → List (List Word)

@@ -153,6 +153,7 @@ fn push_display_line(out: &mut Vec<u8>, script: &Script, line: DisplayLine) -> R
         DisplayLine::Signal(f) => push_named(out, "Signal", fence_word(script, f)),
         DisplayLine::Wait(condition) => push_wait(out, script, condition),
         DisplayLine::Hit(x, y) => push_hit(out, x, y),
+        DisplayLine::Dpr(ratio) => push_count(out, "dpr", ratio),
     }
 }
 

@@ -2,14 +2,16 @@ ghost use Rattle.flat_page.specs.Words.{actor_name, name_at};
 ghost use Rattle.std.specs.Prelude.{◌≡◌, ◌++◌, ◌∷◌, [], ℕ, List, OnOk, IfOk, map, codes};
 ghost use Rattle.flat_print.specs.Print.{Writes, WritesLines, Starts, name_words};
 ghost use Rattle.flat_print.specs.Print.{buffers_line_words, pair_line_words, fence_line_words};
-ghost use Rattle.flat_print.specs.Print.{numbered, display_line_words, head_words, line_words};
+ghost use Rattle.flat_print.specs.Print.{numbered, display_line_words, ratio_words, head_words, line_words};
 ghost use Rattle.flat_print.specs.Print.{session_word, numbers, text_of, spelled, version_words};
 ghost use Rattle.flat_print.specs.Print.{IsReadBack};
 ghost use Rattle.flat_script.specs.Grammar.{IsScript};
 
 use crate::print_lines::push_body;
-use crate::print_words::{push_bytes, push_numbers, push_owners, push_word, session_word};
-use flat_base::NoMemory;
+use crate::print_words::{
+    push_bytes, push_numbers, push_owners, push_u64, push_word, session_word,
+};
+use flat_base::{NoMemory, ONE};
 use flat_page::{actor_name, name_at};
 use flat_places::{Name, Script};
 use flat_scene::{BufferDecl, FenceDecl, PairDecl, ScriptLine};
@@ -76,11 +78,20 @@ fn push_display(out: &mut Vec<u8>, script: &Script) -> Result<(), NoMemory>
         out.new.items) }
 {
     start(out, b"display")?;
-    push_numbers(
-        out,
-        &[script.setup.width as u64, script.setup.height as u64],
-    )?;
+    push_u64(out, script.setup.width as u64)?;
+    push_u64(out, script.setup.height as u64)?;
+    push_ratio(out, script.setup.ratio)?;
     Ok(())
+}
+
+/// The display's first pixel ratio, where it isn't one.
+fn push_ratio(out: &mut Vec<u8>, ratio: u32) -> Result<(), NoMemory>
+    ensures { OnOk result (Writes (ratio_words ratio) out.old.items out.new.items) }
+{
+    if ratio == ONE {
+        return Ok(());
+    }
+    push_u64(out, ratio as u64)
 }
 
 fn push_name(out: &mut Vec<u8>, keyword: &str, name: &[u8]) -> Result<(), NoMemory>

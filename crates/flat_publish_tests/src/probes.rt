@@ -1,7 +1,7 @@
 ghost use Rattle.std.specs.Prelude.{◌≡◌, ◌<◌, ◌≤◌, IfOk};
 
-use flat_base::{FrameNo, IntRect, Items, NoMemory, Rect, SessionNo};
-use flat_geom::identity;
+use flat_base::{FrameNo, IntRect, Items, NoMemory, ONE, Rect, SessionNo};
+use flat_geom::scaling;
 use flat_hit::Touchable;
 use flat_publish::{Probe, Published};
 use flat_scene::{HitRegion, Interaction};
@@ -52,7 +52,7 @@ fn square(alloc: Global, session: SessionNo) -> Result<Arc<Touchable>, NoMemory>
     nodes.push(Placed {
         session,
         serial: 1,
-        matrix: identity(),
+        matrix: scaling(ONE),
         clip: DISPLAY,
         opacity: 65_536,
         content: None,

@@ -20,6 +20,7 @@ use Rattle.flat_scene.specs.Interleave.{display_lines, unread_lines, entry_of_di
 use Rattle.flat_core.specs.Machines.{entry_of}
 use Rattle.flat_rules.specs.Ends.{to_begin, to_finished}
 use Rattle.flat_rules.specs.Legal.{Legal, is_frame_open, begin_time, frames}
+use Rattle.flat_scene.specs.Frames.{ratio}
 use Rattle.flat_rules.specs.Shown.{shown_states}
 use Rattle.flat_topology.specs.Shown.{Shown}
 use Rattle.flat_report.specs.declared.report.HitAnswer.{HitAnswer}
@@ -52,6 +53,7 @@ answers_same setup before after last answers same stands = record {
   number = stands.number ∙ sym same.number;
   is_last = stands.is_last;
   showing = stands.showing ∙ ap (shown_states setup) (sym same.ended);
+  scaling = stands.scaling ∙ ap (ratio setup) (sym same.ended);
   answering = stands.answering ∙ sym same.answering;
 }
 

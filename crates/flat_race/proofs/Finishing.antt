@@ -5,6 +5,8 @@ use Rattle.flat_scene.specs.declared.setup.Setup.{Setup}
 use Rattle.flat_scene.specs.History.{◌▹◌, is_finish}
 use Rattle.flat_rules.specs.Ends.{to_begin, to_finished}
 use Rattle.flat_rules.specs.Legal.{frames}
+use Rattle.flat_scene.specs.Frames.{ratio}
+use Rattle.flat_scene.specs.Setups.{at_ratio}
 use Rattle.flat_rules.specs.Shown.{shown_states}
 use Rattle.flat_topology.specs.Connected.{joined_lists}
 use Rattle.flat_topology.specs.Shown.{Shown}
@@ -57,9 +59,9 @@ pub published_none : (script : Script) (published : publish.Publishing) → publ
 published_none script published new = let P : publish.Publishing → Type 0 = PublishedStand script [] in subst P (sym new) (record { given = omega arith; none_refused = refl; are = λ any. refl })
 
 -- the last frame was published, where it is a new one
-pub published_more : (script : Script) (before after : List Entry) (n : ℕ) (last : LastFrame) (old new : publish.Publishing) → n ≡ frames before → last.frame.0 ≡ frames after → last.reuse ≡ shown_states script.setup (to_finished after)
+pub published_more : (script : Script) (before after : List Entry) (n : ℕ) (last : LastFrame) (old new : publish.Publishing) → n ≡ frames before → last.frame.0 ≡ frames after → last.reuse ≡ shown_states script.setup (to_finished after) → last.ratio ≡ ratio script.setup (to_finished after)
     → FinishesOne script.setup before after → PublishesLast script.setup n last old new → PublishedStand script before old → PublishedStand script after new
-published_more script before after n last old new n_is number showing one publishes was = elim publishes [
+published_more script before after n last old new n_is number showing scaling one publishes was = elim publishes [
   | inl stays ↦ still stays.0 stays.1
   | inr next ↦ more next
 ]
@@ -81,20 +83,20 @@ published_more script before after n last old new n_is number showing one publis
           ]
         ])
 
-    more : (n < last.frame.0) × (new.given ≡ last.frame.0) × publish.Publishes old (frame last.frame.0 (joined_lists script.setup last.reuse)) new → PublishedStand script after new
+    more : (n < last.frame.0) × (new.given ≡ last.frame.0) × publish.Publishes old (frame last.frame.0 (joined_lists (at_ratio last.ratio script.setup) last.reuse)) new → PublishedStand script after new
     more next = elim one [
       | inl stayed ↦ (let as_many = stayed.0 in let above = next.0 in absurd (omega (arith, as_many, above, n_is, number)))
       | inr ended ↦
           let given = next.1 in
-          let one_frame : frame last.frame.0 (joined_lists script.setup last.reuse) ≡ shown_frame script.setup (frames after) (to_finished after) =
-          ap (λ (k : ℕ). frame k (joined_lists script.setup last.reuse)) number ∙ ap (λ (s : Shown). frame (frames after) (joined_lists script.setup s)) showing in
+          let one_frame : frame last.frame.0 (joined_lists (at_ratio last.ratio script.setup) last.reuse) ≡ shown_frame script.setup (frames after) (to_finished after) =
+          ap (λ (k : ℕ). frame k (joined_lists (at_ratio last.ratio script.setup) last.reuse)) number ∙ (λ i. frame (frames after) (joined_lists (at_ratio (scaling i) script.setup) (showing i))) in
           record {
             given = omega (arith, given, number);
             none_refused = next.2.1;
             are = λ any. next.2.0
-                ∙ ap (λ (fs : List Frame). old.frames ++ fs ++ frame last.frame.0 (joined_lists script.setup last.reuse) ∷ []) was.none_refused
-                ∙ ap (λ (fs : List Frame). fs ++ frame last.frame.0 (joined_lists script.setup last.reuse) ∷ []) (append-nil old.frames)
-                ∙ ap (λ (fs : List Frame). fs ++ frame last.frame.0 (joined_lists script.setup last.reuse) ∷ []) (was.are any)
+                ∙ ap (λ (fs : List Frame). old.frames ++ fs ++ frame last.frame.0 (joined_lists (at_ratio last.ratio script.setup) last.reuse) ∷ []) was.none_refused
+                ∙ ap (λ (fs : List Frame). fs ++ frame last.frame.0 (joined_lists (at_ratio last.ratio script.setup) last.reuse) ∷ []) (append-nil old.frames)
+                ∙ ap (λ (fs : List Frame). fs ++ frame last.frame.0 (joined_lists (at_ratio last.ratio script.setup) last.reuse) ∷ []) (was.are any)
                 ∙ ap (λ (f : Frame). published_frames script.setup before ++ f ∷ []) one_frame
                 ∙ sym ended.1;
           }

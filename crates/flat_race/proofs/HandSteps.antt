@@ -14,7 +14,7 @@ use Rattle.flat_scene.specs.declared.frames.Lost.{Lost}
 use Rattle.flat_scene.specs.declared.frames.SessionSet.{SessionSet}
 use Rattle.flat_scene.specs.declared.journal.Entry.{Entry}
 use Rattle.flat_scene.specs.declared.journal.Kind.{Kind}
-use Rattle.flat_scene.specs.declared.journal.Kind.TheVariants.{Begin, Finish, Hit, Signal, Wait}
+use Rattle.flat_scene.specs.declared.journal.Kind.TheVariants.{Begin, Dpr, Finish, Hit, Signal, Wait}
 use Rattle.flat_scene.specs.declared.journal.Reply.{Reply}
 use Rattle.flat_scene.specs.declared.journal.Reply.TheVariants.{Done}
 use Rattle.flat_scene.specs.declared.script.Body.{Body}
@@ -26,7 +26,9 @@ use Rattle.flat_scene.specs.declared.script.DisplayLine.TheVariants as display
 use Rattle.flat_scene.specs.declared.script.ScriptLine.{ScriptLine}
 use Rattle.flat_scene.specs.declared.setup.Setup.{Setup}
 use Rattle.flat_scene.specs.History.{◌▹◌, history_of, is_begin, is_finish, seat_number}
+use Rattle.flat_scene.specs.Frames.{ratio}
 use Rattle.flat_scene.specs.Interleave.{entry_of_display}
+use Rattle.flat_scene.specs.Setups.{at_ratio}
 use Rattle.flat_core.specs.Machines.{MayLook, entry_of, made}
 use Rattle.flat_rules.specs.Ends.{to_begin, to_finished}
 use Rattle.flat_rules.specs.Legal.{Legal, is_frame_open, begin_time, display_may, frames, names_declared}
@@ -106,12 +108,12 @@ module _ (script : Script) (middle : List Entry) (film : Film) (stands : FilmSta
         keeps = keeps_same script film'.kept film'.kept (finished setup middle ++ frame_at setup (frames before + 1) (to_begin before) ∷ []) (finished setup (middle ▹ entry_of Display n [] Finish Done)) refl
             (sym (next_frame setup before middle same)) (keeps.frame.more (finished setup middle) stands.keeps);
         answering = subst A (sym keeps.answers) (answers_done setup middle film.last film.answers stands.answering n film'.last (keeps.number ∙ after_is)
-            keeps.is_last (keeps.showing ∙ ap (shown_states setup) (sym same.begun)));
+            keeps.is_last (keeps.showing ∙ ap (shown_states setup) (sym same.begun)) (keeps.scaling ∙ ap (ratio setup) (sym same.begun)));
       }
 
   -- a point
   film_point : (n : ℕ) (x y : ℤ) (film' : Film) → film' ≡ record film { last = film'.last; answers = film'.answers } → StaysLast setup film.last film'.last
-      → film'.answers ≡ film.answers ++ (record { actor = Display; line = n; frame = film.last.frame; hits = hit_list setup film.last.reuse x y }) ∷ [] → FilmStands script (middle ▹ entry_of Display n [] (Hit x y) Done) film'
+      → film'.answers ≡ film.answers ++ (record { actor = Display; line = n; frame = film.last.frame; hits = hit_list (at_ratio film.last.ratio setup) film.last.reuse x y }) ∷ [] → FilmStands script (middle ▹ entry_of Display n [] (Hit x y) Done) film'
   film_point n x y film' rest stays gained =
       let h : List Entry = middle ▹ entry_of Display n [] (Hit x y) Done in
       let F : Film → Type 0 = FilmStands script h in
@@ -297,6 +299,11 @@ module _ (script : Script) (view : StageView) (place : ℕ) where
     hand_signals f reply is hand hand' film stands enters same kept =
         hand_beside (display.Signal f) (Signal f) reply is refl refl refl (λ o t follows. refl) hand hand' film film stands enters same kept refl (λ middle stood. film_beside script middle film stood (entry_of Display x.number [] (Signal f) reply) refl refl)
 
+    pub hand_scales : (to : ℕ) (reply : Reply) → x.body ≡ body.Display (display.Dpr to) → (hand hand' : Hand) (film : Film) → HandStands script view place hand film → DisplayEnters x.number (Dpr to) reply (hand_seat hand) (hand_seat hand') → is_open hand' ≡ is_open hand → KeepsFrame hand hand'
+        → HandStands script view (place + 1) hand' film
+    hand_scales to reply is hand hand' film stands enters same kept =
+        hand_beside (display.Dpr to) (Dpr to) reply is refl refl refl (λ o t follows. refl) hand hand' film film stands enters same kept refl (λ middle stood. film_beside script middle film stood (entry_of Display x.number [] (Dpr to) reply) refl refl)
+
     pub hand_waits : (c : Cond) (reply : Reply) → x.body ≡ body.Display (display.Wait c) → (hand hand' : Hand) (film : Film) → HandStands script view place hand film → DisplayEnters x.number (Wait c) reply (hand_seat hand) (hand_seat hand') → is_open hand' ≡ is_open hand → KeepsFrame hand hand'
         → HandStands script view (place + 1) hand' film
     hand_waits c reply is hand hand' film stands enters same kept =
@@ -304,7 +311,7 @@ module _ (script : Script) (view : StageView) (place : ℕ) where
 
     pub hand_hits : (px py : ℤ) → x.body ≡ body.Display (display.Hit px py) → (hand hand' : Hand) (film film' : Film) → HandStands script view place hand film → DisplayEnters x.number (Hit px py) Done (hand_seat hand) (hand_seat hand') → is_open hand' ≡ is_open hand → KeepsFrame hand hand'
         → film' ≡ record film { last = film'.last; answers = film'.answers } → StaysLast script.setup film.last film'.last
-        → film'.answers ≡ film.answers ++ (record { actor = Display; line = x.number; frame = film.last.frame; hits = hit_list script.setup film.last.reuse px py }) ∷ []
+        → film'.answers ≡ film.answers ++ (record { actor = Display; line = x.number; frame = film.last.frame; hits = hit_list (at_ratio film.last.ratio script.setup) film.last.reuse px py }) ∷ []
         → HandStands script view (place + 1) hand' film'
     hand_hits px py is hand hand' film film' stands enters same kept rest stays gained =
         hand_beside (display.Hit px py) (Hit px py) Done is refl refl refl (λ o t follows. refl) hand hand' film film' stands enters same kept stays.reuse (λ middle stood. film_point script middle film stood x.number px py film' rest stays gained)
@@ -430,6 +437,6 @@ hand_last script view place hand film film' rest stays stands =
       changes = subst K (sym stays.reuse) stands.changes;
       kept = record {
         keeps = stands.kept.keeps;
-        answering = record { number = ap (λ (f : FrameNo). f.0) stays.frame ∙ was.number; is_last = stays.is; showing = stays.reuse ∙ was.showing; answering = was.answering };
+        answering = record { number = ap (λ (f : FrameNo). f.0) stays.frame ∙ was.number; is_last = stays.is; showing = stays.reuse ∙ was.showing; scaling = stays.ratio ∙ was.scaling; answering = was.answering };
       };
     })

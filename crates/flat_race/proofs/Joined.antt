@@ -15,5 +15,6 @@ keeps-joined script history after old taken new then keeps stays = record {
   number = ap (λ (f : FrameNo). f.0) stays.frame ∙ keeps.number;
   is_last = stays.is;
   showing = stays.reuse ∙ keeps.showing;
+  scaling = stays.ratio ∙ keeps.scaling;
   answers = keeps.answers;
 }

@@ -14,6 +14,8 @@ use Rattle.flat_report.specs.declared.probes.ProbeAnswer.{ProbeAnswer}
 use Rattle.flat_report.specs.Probes.{AreAnsweredBy, answer_by, asked_by, asked_hits, frame_seen, never_fall_from}
 use Rattle.flat_rules.specs.Ends.{to_finished}
 use Rattle.flat_rules.specs.Legal.{frames}
+use Rattle.flat_scene.specs.Frames.{ratio}
+use Rattle.flat_scene.specs.Setups.{at_ratio}
 use Rattle.flat_rules.specs.Shown.{shown_states}
 use Rattle.flat_topology.specs.Hits.{hit_list}
 use Rattle.flat_topology.specs.Shown.{Shown}
@@ -169,18 +171,18 @@ last-stays setup old new was now stays same is =
     let P : Publishing → Type 0 = LastIsPublished setup new in
     subst P (sym same) (record {
       number = ap (λ (n : FrameNo). n.0) stays.frame ∙ is.number;
-      hits = λ x y. ap (λ (shown : Shown). hit_list setup shown x y) stays.reuse ∙ is.hits x y;
+      hits = λ x y. (λ i. hit_list (at_ratio (stays.ratio i) setup) (stays.reuse i) x y) ∙ is.hits x y;
     })
 
 -- behind all lines of the display
-pub last-published-is : (script : Script) (history : List Entry) (last : LastFrame) (published : Publishing) → last.frame.0 ≡ frames history → last.reuse ≡ shown_states script.setup (to_finished history)
+pub last-published-is : (script : Script) (history : List Entry) (last : LastFrame) (published : Publishing) → last.frame.0 ≡ frames history → last.reuse ≡ shown_states script.setup (to_finished history) → last.ratio ≡ ratio script.setup (to_finished history)
     → published.frames ≡ published_frames script.setup history → LastIsPublished script.setup last published
-last-published-is script history last published number shows are =
+last-published-is script history last published number shows scales are =
     let counted : last_number published.frames ≡ frames history = ap last_number are ∙ last-published script.setup history in
     record {
       number = number ∙ sym counted;
       hits = λ x y.
-          ap (λ (shown : Shown). hit_list script.setup shown x y) shows ∙ ap (λ begun. hits_at script.setup begun x y) (sym (last-begin history))
+          (λ i. hit_list (at_ratio (scales i) script.setup) (shows i) x y) ∙ ap (λ begun. hits_at script.setup begun x y) (sym (last-begin history))
           ∙ sym (published-hits script.setup history (frames history) x y (omega arith))
           ∙ (λ i. hits_of (sym are i) (sym counted i) x y);
     }

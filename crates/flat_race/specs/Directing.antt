@@ -2,6 +2,7 @@
 use Rattle.std.specs.Prelude.{◌≡◌, ℕ, ◌+◌, ◌≤◌, Bool, true, false, List, [], ◌∷◌, ◌++◌, length, drop}
 use Rattle.flat_scene.specs.declared.journal.Entry.{Entry}
 use Rattle.flat_scene.specs.declared.setup.Setup.{Setup}
+use Rattle.flat_scene.specs.Frames.{ratio}
 use Rattle.flat_scene.specs.History.{history_of}
 use Rattle.flat_rules.specs.Ends.{to_begin}
 use Rattle.flat_rules.specs.Legal.{Legal, frames, is_frame_open}
@@ -81,4 +82,5 @@ pub record KeepsNext (script : Script) (history : List Entry) (after : ℕ) (old
   pub number : new.last.frame.0 ≡ after
   pub is_last : IsLast script.setup new.last
   pub showing : new.last.reuse ≡ shown_states script.setup (to_begin history)
+  pub scaling : new.last.ratio ≡ ratio script.setup (to_begin history)
   pub answers : new.answers ≡ old.answers

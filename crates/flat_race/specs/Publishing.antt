@@ -3,7 +3,9 @@ use Rattle.std.specs.Prelude.{◌≡◌, ◌⊎◌, ℕ, ℤ, suc, ◌<◌, ◌�
 use Rattle.flat_scene.specs.declared.frames.Hit.{Hit}
 use Rattle.flat_scene.specs.declared.journal.Entry.{Entry}
 use Rattle.flat_scene.specs.declared.setup.Setup.{Setup}
+use Rattle.flat_scene.specs.Frames.{setup_at}
 use Rattle.flat_scene.specs.History.{◌▹◌, is_finish}
+use Rattle.flat_scene.specs.Setups.{at_ratio}
 use Rattle.flat_rules.specs.Ends.{to_begin, to_finished}
 use Rattle.flat_rules.specs.Legal.{frames}
 use Rattle.flat_rules.specs.Shown.{shown_states}
@@ -18,9 +20,9 @@ use Rattle.flat_play.specs.declared.frame.LastFrame.{LastFrame}
 
 -- ---- frames
 
--- the frame of a number, which joins what is shown at a begin
+-- the frame of a number, which joins what is shown at a begin, at the pixel ratio by then
 abbrev pub shown_frame : Setup → ℕ → List Entry → Frame
-shown_frame setup n begun = frame n (joined_lists setup (shown_states setup begun))
+shown_frame setup n begun = frame n (joined_lists (setup_at setup begun) (shown_states setup begun))
 
 -- all finished frames, in order, as they are published
 abbrev pub published_frames : Setup → List Entry → List Frame
@@ -50,9 +52,9 @@ FinishesOne setup before after =
 abbrev pub PublishesLast : Setup → ℕ → LastFrame → publish.Publishing → publish.Publishing → Type 0
 PublishesLast setup before last old new =
     ((new ≡ old) × ((setup.probes ≡ 0) ⊎ (last.frame.0 ≤ before)))
-    ⊎ ((before < last.frame.0) × (new.given ≡ last.frame.0) × Publishes old (frame last.frame.0 (joined_lists setup last.reuse)) new)
+    ⊎ ((before < last.frame.0) × (new.given ≡ last.frame.0) × Publishes old (frame last.frame.0 (joined_lists (at_ratio last.ratio setup) last.reuse)) new)
 
 -- What is published last is the last finished frame: it has its number, and hits whom that hits.
 pub record LastIsPublished (setup : Setup) (last : LastFrame) (published : publish.Publishing) : Type 0 where
   pub number : last.frame.0 ≡ last_number published.frames
-  pub hits : (x y : ℤ) → hit_list setup last.reuse x y ≡ hits_of published.frames (last_number published.frames) x y
+  pub hits : (x y : ℤ) → hit_list (at_ratio last.ratio setup) last.reuse x y ≡ hits_of published.frames (last_number published.frames) x y

@@ -153,6 +153,7 @@ fn finish<R: Wait, G: Gate>(
     let composed = film.last.compose_next(
         lent.alloc,
         &lent.script.setup,
+        frame.ratio(),
         frame.shown(),
         frame.changed(),
         frame.with_view(),
@@ -240,7 +241,7 @@ fn direct_line<R: Wait, G: Gate>(
         }
         DisplayLine::Done => {
             let frame = hand.into_frame();
-            let joined = film.last.take_joined(frame.changed());
+            let joined = film.last.take_joined(frame.changed(), frame.ratio());
             let seat = finish(lent, frame, film, displays, number)?;
             film.last.joined = joined;
             Ok(Hand::Idle(seat))
@@ -248,6 +249,12 @@ fn direct_line<R: Wait, G: Gate>(
         DisplayLine::Signal(f) => {
             ask(lent.gate, DISPLAY, number, ASKS);
             let reply = hand.signal(lent.rt, lent.stage, number, f);
+            lent.gate.passed(DISPLAY, number, &reply);
+            Ok(hand)
+        }
+        DisplayLine::Dpr(ratio) => {
+            ask(lent.gate, DISPLAY, number, ASKS);
+            let reply = hand.dpr(lent.rt, lent.stage, number, ratio);
             lent.gate.passed(DISPLAY, number, &reply);
             Ok(hand)
         }

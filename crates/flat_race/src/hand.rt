@@ -2,7 +2,7 @@
 //! until its done; most lines are the same with it and with the seat alone.
 ghost use Rattle.std.specs.Prelude.{◌≡◌, false, true};
 ghost use Rattle.flat_base.specs.declared.ids.Actor.TheVariants.{Display};
-ghost use Rattle.flat_scene.specs.declared.journal.Kind.TheVariants.{Hit, Signal, Wait};
+ghost use Rattle.flat_scene.specs.declared.journal.Kind.TheVariants.{Dpr, Hit, Signal, Wait};
 ghost use Rattle.flat_scene.specs.History.{history_of};
 ghost use Rattle.flat_core.specs.Machines.{MayLook};
 ghost use Rattle.flat_rules.specs.Legal.{display_may, names_declared, value_of, Legal};
@@ -84,6 +84,22 @@ impl Hand {
         match self {
             Hand::Idle(seat) => seat.signal(rt, stage, number, f),
             Hand::Open(frame) => frame.signal(rt, stage, number, f),
+        }
+    }
+
+    /// Sets the display's pixel ratio from the next begin on.
+    pub(crate) fn dpr<R: Wait>(&mut self, rt: &R, stage: &Stage, number: u32, ratio: u32) -> Reply
+        requires own { (hand_seat self.old).stage ≡ stage.now }
+        requires room { HasDisplayRoom (hand_seat self.old) }
+        requires named { names_declared (setup_of (hand_seat self.old).stage) (Dpr ratio) ≡ true }
+        ensures enters { DisplayEnters number (Dpr ratio) result (hand_seat self.old)
+            (hand_seat self.new) }
+        ensures open { is_open self.new ≡ is_open self.old }
+        ensures kept { KeepsFrame self.old self.new }
+    {
+        match self {
+            Hand::Idle(seat) => seat.dpr(rt, stage, number, ratio),
+            Hand::Open(frame) => frame.dpr(rt, stage, number, ratio),
         }
     }
 

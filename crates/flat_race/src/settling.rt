@@ -1,6 +1,6 @@
 //! Answers of a probe that has come back, held against what was published.
 ghost use Rattle.std.specs.Prelude.{◌≡◌, ◌<◌, true, length, map, OnOk, slice_get, slice_set, Some};
-ghost use Rattle.flat_scene.specs.Setups.{is_setup};
+ghost use Rattle.flat_scene.specs.Setups.{at_ratio, is_setup};
 ghost use Rattle.flat_topology.specs.Hits.{hit_list};
 ghost use Rattle.flat_play.specs.Last.{IsLast, StaysLast};
 ghost use Rattle.flat_report.specs.declared.probes.ProbeAnswer.{ProbeAnswer};
@@ -25,7 +25,8 @@ fn settle_at(
     requires place { place < length answers.old }
     ensures answers { (answer : ProbeAnswer) → slice_get answers.old place ≡ Some answer →
         OnOk result (answers.new ≡ slice_set answers.old place
-        (settled last.old.frame.0 (hit_list setup.now last.old.reuse) answer)) }
+        (settled last.old.frame.0 (hit_list (at_ratio last.old.ratio setup.now) last.old.reuse)
+        answer)) }
     ensures stays { OnOk result (StaysLast setup.now last.old last.new) }
 {
     let answer = answers.at(place);
@@ -49,7 +50,8 @@ pub(crate) fn settle(
     requires setup { is_setup setup.now ≡ true }
     requires is { IsLast setup.now last.old }
     ensures answers { OnOk result (answers.new
-        ≡ map (settled last.old.frame.0 (hit_list setup.now last.old.reuse)) answers.old) }
+        ≡ map (settled last.old.frame.0
+        (hit_list (at_ratio last.old.ratio setup.now) last.old.reuse)) answers.old) }
     ensures stays { OnOk result (StaysLast setup.now last.old last.new) }
 {
     for place in 0..answers.len() {

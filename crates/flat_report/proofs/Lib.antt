@@ -9,6 +9,7 @@ pub mod Openings
 pub mod Paging
 pub mod Piecing
 pub mod Reading
+mod ScaledExample
 pub mod SeenTold
 pub mod Sheets
 mod SmallHanded

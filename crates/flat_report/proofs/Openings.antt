@@ -86,6 +86,8 @@ no-lost-said script frames hits before carries kind.Finish answer ws rest rest' 
 no-lost-said script frames hits before carries (kind.Hit x y) answer ws rest rest' may has is = differ 104 108 refl (second is)
 no-lost-said script frames hits before carries (kind.Signal f) answer ws rest rest' may has is =
     let wrong : laid (codes "Signal" ∷ codes "ok" ∷ []) rest ≡ laid (codes "lost" ∷ ws) rest' = ap (λ (r : Reply). laid (answer_words script frames hits (kind.Signal f) r) rest) (sym has) ∙ is in differ 83 108 refl (second wrong)
+no-lost-said script frames hits before carries (kind.Dpr ratio) answer ws rest rest' may has is =
+    let wrong : laid (codes "dpr" ∷ codes "ok" ∷ []) rest ≡ laid (codes "lost" ∷ ws) rest' = ap (λ (r : Reply). laid (answer_words script frames hits (kind.Dpr ratio) r) rest) (sym has) ∙ is in differ 100 108 refl (second wrong)
 no-lost-said script frames hits before carries (kind.Wait c) answer ws rest rest' may has is =
     by_test (nat_le (asked_of c) (value_of script.setup before Display c)) (value_of script.setup before Display c) has
   where

@@ -81,6 +81,7 @@ abbrev pub done_words : Kind → List Word
 done_words (kind.View p) = codes "CreateView" ∷ codes "ok" ∷ []
 done_words (kind.Viewport p props) = codes "CreateViewport" ∷ codes "ok" ∷ []
 done_words (kind.Signal f) = codes "Signal" ∷ codes "ok" ∷ []
+done_words (kind.Dpr ratio) = codes "dpr" ∷ codes "ok" ∷ []
 done_words _ = []
 
 -- the call of a get

@@ -12,6 +12,7 @@ use Rattle.flat_scene.specs.declared.script.Body.TheVariants as body
 use Rattle.flat_scene.specs.declared.script.ProbeLine.TheVariants as probe
 use Rattle.flat_scene.specs.declared.script.ScriptLine.{ScriptLine}
 use Rattle.flat_scene.specs.declared.setup.Setup.{Setup}
+use Rattle.flat_scene.specs.Frames.{setup_at}
 use Rattle.flat_scene.specs.History.{◌▹◌, is_finish}
 use Rattle.flat_rules.specs.Ends.{to_begin, to_finished, has_view}
 use Rattle.flat_rules.specs.Legal.{frames}
@@ -27,12 +28,12 @@ use Rattle.flat_page.specs.Words.{Word, number, text_of, actor_name}
 
 -- ---- frames
 
--- the frame of a number, as it is composed of the states at its begin, with which the history ends
+-- the frame of a number, as it is composed of the states and the display's pixel ratio at its begin, with which the history ends
 abbrev pub frame_at : Setup → ℕ → List Entry → FrameOut
 frame_at setup n begun = record {
   frame = record { 0 = n };
-  items = draw_list setup (shown_states setup begun);
-  tree = view_tree setup (shown_states setup begun) (λ s. has_view setup begun (record { 0 = s }));
+  items = draw_list (setup_at setup begun) (shown_states setup begun);
+  tree = view_tree (setup_at setup begun) (shown_states setup begun) (λ s. has_view setup begun (record { 0 = s }));
 }
 
 -- the history up to and with the begin of the finished frame of a number
@@ -45,9 +46,9 @@ abbrev pub finished : Setup → List Entry → List FrameOut
 finished setup [] = []
 finished setup (before ▹ entry) = finished setup before ++ cond (is_finish entry.kind) (frame_at setup (suc (frames before)) (to_begin before) ∷ []) []
 
--- who is hit at a point, by the states at a begin
+-- who is hit at a point, by the states and the pixel ratio at a begin
 abbrev pub hits_at : Setup → List Entry → ℤ → ℤ → List Hit
-hits_at setup begun = hit_list setup (shown_states setup begun)
+hits_at setup begun = hit_list (setup_at setup begun) (shown_states setup begun)
 
 -- ---- entries
 

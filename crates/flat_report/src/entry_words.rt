@@ -104,6 +104,7 @@ fn push_done(page: &mut Page, kind: &Kind) -> Result<(), NoMemory>
         Kind::View(_) => push_ok(page, b"CreateView"),
         Kind::Viewport(_, _) => push_ok(page, b"CreateViewport"),
         Kind::Signal(_) => push_ok(page, b"Signal"),
+        Kind::Dpr(_) => push_ok(page, b"dpr"),
         _ => Ok(()),
     }
 }

@@ -1,4 +1,5 @@
 ghost use Rattle.std.specs.Prelude.{◌≡◌, ◌≤◌, [], length, IfOk, OnErr, OnOk};
+ghost use Rattle.flat_scene.specs.Setups.{at_ratio};
 ghost use Rattle.flat_topology.specs.Draw.{draw_list};
 ghost use Rattle.flat_topology.specs.Fit.{FitsSetup};
 ghost use Rattle.flat_topology.specs.Views.{view_nodes};
@@ -91,21 +92,24 @@ impl Reuse {
         alloc: Global,
         shown: &Shown,
         setup: &Setup,
+        ratio: u32,
         changed: SessionSet,
     ) -> Result<Drawing, NoMemory>
         requires made { length shown.now ≡ setup.now.sessions }
         requires few { setup.now.sessions ≤ SESSIONS_MAX }
         requires fit { FitsSetup setup.now shown.now }
         requires same { AreSame changed self.old shown.now }
-        ensures items { IfOk result (λ drawing. drawing.items ≡ draw_list setup.now shown.now) }
-        ensures views { IfOk result (λ drawing. drawing.views ≡ view_nodes setup.now shown.now) }
+        ensures items { IfOk result (λ drawing. drawing.items
+            ≡ draw_list (at_ratio ratio setup.now) shown.now) }
+        ensures views { IfOk result (λ drawing. drawing.views
+            ≡ view_nodes (at_ratio ratio setup.now) shown.now) }
         ensures kept { OnOk result (self.new ≡ shown.now) }
         ensures anew { OnErr result (self.new ≡ []) }
     {
         let room = self.room;
         let mut slots = self.take(alloc);
         fit_slots(&mut slots, shown.sessions(), &changed)?;
-        let drawing = draw(&mut slots, alloc, shown, setup, room)?;
+        let drawing = draw(&mut slots, alloc, shown, setup, ratio, room)?;
         let copy = copied(alloc, shown)?;
         self.keep(copy, slots, drawing.items.len());
         Ok(drawing)
@@ -120,17 +124,20 @@ impl Reuse {
         alloc: Global,
         shown: &Shown,
         setup: &Setup,
+        ratio: u32,
     ) -> Result<Drawing, NoMemory>
         requires made { length shown.now ≡ setup.now.sessions }
         requires few { setup.now.sessions ≤ SESSIONS_MAX }
         requires fit { FitsSetup setup.now shown.now }
-        ensures items { IfOk result (λ drawing. drawing.items ≡ draw_list setup.now shown.now) }
-        ensures views { IfOk result (λ drawing. drawing.views ≡ view_nodes setup.now shown.now) }
+        ensures items { IfOk result (λ drawing. drawing.items
+            ≡ draw_list (at_ratio ratio setup.now) shown.now) }
+        ensures views { IfOk result (λ drawing. drawing.views
+            ≡ view_nodes (at_ratio ratio setup.now) shown.now) }
         ensures kept { OnOk result (self.new ≡ shown.now) }
         ensures anew { OnErr result (self.new ≡ []) }
     {
         let changed = differing(&self.shown, shown);
-        self.draw_changed(alloc, shown, setup, changed)
+        self.draw_changed(alloc, shown, setup, ratio, changed)
     }
 
     /// The draw list of any shown states: what `compose` of `join` gives.
@@ -141,15 +148,16 @@ impl Reuse {
         alloc: Global,
         shown: &Shown,
         setup: &Setup,
+        ratio: u32,
     ) -> Result<ItemList, NoMemory>
         requires made { length shown.now ≡ setup.now.sessions }
         requires few { setup.now.sessions ≤ SESSIONS_MAX }
         requires fit { FitsSetup setup.now shown.now }
-        ensures items { IfOk result (λ items. items ≡ draw_list setup.now shown.now) }
+        ensures items { IfOk result (λ items. items ≡ draw_list (at_ratio ratio setup.now) shown.now) }
         ensures kept { OnOk result (self.new ≡ shown.now) }
         ensures anew { OnErr result (self.new ≡ []) }
     {
-        let Drawing { items, views: _ } = self.draw_next(alloc, shown, setup)?;
+        let Drawing { items, views: _ } = self.draw_next(alloc, shown, setup, ratio)?;
         Ok(items)
     }
 }

@@ -21,6 +21,7 @@ use Rattle.flat_scene.specs.declared.trees.Content.TheVariants as content
 use Rattle.flat_scene.specs.declared.trees.Node.{Node}
 use Rattle.flat_scene.specs.Trees.{first}
 use Rattle.flat_base.proofs.lemmas.Tests.{and-left, and-right}
+use Rattle.flat_scene.specs.Frames.{setup_at}
 use Rattle.flat_topology.specs.declared.Placed.{Placed}
 use Rattle.flat_topology.specs.Draw.{Painting, painting_of, item_of, node_item, items_of, visible_rect, scene_matrix}
 use Rattle.flat_topology.specs.Join.{JoinedTree, Viewer, viewer_from, is_view_of, linked_to, joined_nodes, viewed, led_to, led_from}
@@ -202,4 +203,4 @@ items-drawable (at ∷ placed) fair =
     by_item rest (Some item) is may = rw is (All-cons IsDrawable item (items_of placed) may rest)
 
 pub items-are-drawable : ItemsAreDrawable
-items-are-drawable setup history = items-drawable (placed_nodes setup (shown_states setup history)) (fair-placed (shown_states setup history) (states-fair setup history) setup)
+items-are-drawable setup history = items-drawable (placed_nodes (setup_at setup history) (shown_states setup history)) (fair-placed (shown_states setup history) (states-fair setup history) (setup_at setup history))

@@ -8,7 +8,7 @@ use Rattle.flat_scene.specs.declared.calls.Call.{Call}
 use Rattle.flat_scene.specs.declared.calls.Watch.{Watch}
 use Rattle.flat_scene.specs.declared.journal.Entry.{Entry}
 use Rattle.flat_scene.specs.declared.journal.Kind.{Kind}
-use Rattle.flat_scene.specs.declared.journal.Kind.TheVariants.{View, Viewport, Present, Get, Signal, Poll, Wait, Close, End, Begin, Finish, Hit}
+use Rattle.flat_scene.specs.declared.journal.Kind.TheVariants.{View, Viewport, Present, Get, Signal, Poll, Wait, Close, End, Begin, Finish, Hit, Dpr}
 use Rattle.flat_scene.specs.declared.script.Cond.{Cond}
 use Rattle.flat_scene.specs.declared.script.Cond.TheVariants as asks
 use Rattle.flat_scene.specs.declared.setup.Setup.{Setup}
@@ -83,6 +83,7 @@ module _ (setup : Setup) (of_family : SessionNo → Bool) (closed : IsClosedFami
     reply-by whole actor by (Begin time) is may kept = refl
     reply-by whole actor by Finish is may kept = refl
     reply-by whole actor by (Hit x y) is may kept = refl
+    reply-by whole actor by (Dpr r) is may kept = refl
 
     pub reply-same : is_kept of_family e ≡ true → reply_to setup (only of_family before) e.actor e.calls e.kind ≡ reply_to setup before e.actor e.calls e.kind
     reply-same kept = reply-by kept e.actor refl e.kind refl legal.1.may.acts kept

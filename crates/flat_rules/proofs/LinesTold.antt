@@ -17,11 +17,12 @@ use Rattle.flat_scene.specs.declared.setup.Setup.{Setup}
 use Rattle.flat_scene.specs.declared.trees.Tree.{Tree}
 use Rattle.flat_scene.specs.Draft.{Draft, Made, an_image, a_fill, a_viewport, made_of}
 use Rattle.flat_scene.specs.Effect.{draft_of}
+use Rattle.flat_scene.specs.Frames.{ratio, ratio_set}
 use Rattle.flat_scene.specs.History.{◌▹◌, is_finish}
 use Rattle.flat_rules.specs.Determined.{but_line}
 use Rattle.flat_rules.specs.Ends.{to_begin, to_finished, props_of, viewport_uses, viewport_owner, view_owner, taken_calls, is_viewport_lost, is_view_lost, clears_viewport, ends_view}
 use Rattle.flat_rules.specs.Shown.{is_pair}
-use Rattle.flat_rules.specs.Watch.{Watcher, layout_of, status_of, child_of, layout_in, is_used, are_joined, props_given, props_seen, props_told, shows_view, is_connected_by, told, watcher_of_made, watcher_in, watcher_of, is_watcher, asked_in, is_open, listener, watching}
+use Rattle.flat_rules.specs.Watch.{Watcher, layout_of, status_of, child_of, layout_in, display_props, ratio_told, is_used, are_joined, props_given, props_seen, props_told, shows_view, is_connected_by, told, watcher_of_made, watcher_in, watcher_of, is_watcher, asked_in, is_open, listener, watching}
 use Rattle.flat_watch.specs.Told.{or_else, settled, asking}
 use Rattle.flat_rules.proofs.Lines.{lined, calls-lined, closed-lined, begin-lined, finished-lined, taken-calls-lined, shown-lined, connected-lined, viewports-lined, view-count, viewport-count, loses-lined}
 
@@ -57,9 +58,17 @@ module _ (setup : Setup) where
   seen-lined p n s (before ▹ e) =
       λ i. or_else (cond (is_finish e.kind) (option_and_then (props_of p n) (result_ok (draft_of setup (calls-begun before s i)))) None) (seen-lined p n s before i)
 
+  -- the pixel ratio that is told
+  ratio-lined : (h : List Entry) → ratio setup (lined h) ≡ ratio setup h
+  ratio-lined [] = refl
+  ratio-lined (before ▹ e) = λ i. unwrap_or (ratio_set e.kind) (ratio-lined before i)
+
+  ratio-told : (h : List Entry) → ratio_told setup (lined h) ≡ ratio_told setup h
+  ratio-told h = ap (ratio setup) (finished-lined h) ∙ ratio-lined (to_finished h)
+
   props-lined : (owner : Option Actor) (p : PairNo) (h : List Entry) → props_told setup owner (lined h) p ≡ props_told setup owner h p
   props-lined None p h = refl
-  props-lined (Some Display) p h = refl
+  props-lined (Some Display) p h = λ i. Some (display_props (ratio-told h i) setup)
   props-lined (Some (Probe n)) p h = refl
   props-lined (Some (Session s)) p h =
       let seen : props_seen setup p (length (viewport_uses p (lined h))) s (lined h) ≡ props_seen setup p (length (viewport_uses p h)) s h =
@@ -81,7 +90,7 @@ module _ (setup : Setup) where
 
   pub told-lined : (watcher : Watcher) (h : List Entry) → told setup (lined h) watcher ≡ told setup h watcher
   told-lined (layout_of p) h =
-      λ i. cond (viewport-lost p h i) (Some tell.Gone) (cond (joined-lined p h i) (option_map layout_in (props-lined (viewport_owner setup p) p h i)) None)
+      λ i. cond (viewport-lost p h i) (Some tell.Gone) (cond (joined-lined p h i) (option_map (layout_in (ratio-told h i)) (props-lined (viewport_owner setup p) p h i)) None)
   told-lined (status_of p) h =
       λ i. cond (viewport-lost p h i) (Some tell.Gone) (cond (joined-lined p h i) (Some (cond (connected-finished p h i) tell.Connected tell.Disconnected)) None)
   told-lined (child_of p n) h = λ i. cond (view-lost p h i) (Some tell.Gone) (cond (shows-finished p h i) (Some tell.HasPresented) None)

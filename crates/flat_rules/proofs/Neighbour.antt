@@ -17,7 +17,7 @@ use Rattle.flat_scene.specs.declared.journal.Entry.{Entry}
 use Rattle.flat_scene.specs.declared.journal.Event.{Event}
 use Rattle.flat_scene.specs.declared.journal.Event.TheVariants as event
 use Rattle.flat_scene.specs.declared.journal.Kind.{Kind}
-use Rattle.flat_scene.specs.declared.journal.Kind.TheVariants.{View, Viewport, Present, Get, Signal, Poll, Wait, Close, End, Begin, Finish, Hit}
+use Rattle.flat_scene.specs.declared.journal.Kind.TheVariants.{View, Viewport, Present, Get, Signal, Poll, Wait, Close, End, Begin, Finish, Hit, Dpr}
 use Rattle.flat_scene.specs.declared.journal.Reply.{Reply}
 use Rattle.flat_scene.specs.declared.journal.Reply.TheVariants.{Done}
 use Rattle.flat_scene.specs.declared.journal.Told.{Told}
@@ -304,6 +304,7 @@ module _ (setup : Setup) (s : SessionNo) where
     closes-same (Begin time) is = closes-by (Begin time) is refl
     closes-same Finish is = closes-by Finish is refl
     closes-same (Hit x y) is = closes-by (Hit x y) is refl
+    closes-same (Dpr ratio) is = closes-by (Dpr ratio) is refl
 
     step-shut : is_closed s (b ▹ e) ≡ is_closed s (b' ▹ with_reply e n r)
     step-shut = by_side (is_session s e.actor) refl

@@ -9,17 +9,17 @@ use Rattle.flat_base.specs.declared.ids.SessionNo.{SessionNo}
 use Rattle.flat_scene.specs.declared.calls.Call.{Call}
 use Rattle.flat_scene.specs.declared.journal.Entry.{Entry}
 use Rattle.flat_scene.specs.declared.journal.Kind.{Kind}
-use Rattle.flat_scene.specs.declared.journal.Kind.TheVariants.{View, Viewport, Begin, Finish}
+use Rattle.flat_scene.specs.declared.journal.Kind.TheVariants.{View, Viewport, Begin, Finish, Dpr}
 use Rattle.flat_scene.specs.declared.setup.Setup.{Setup}
 use Rattle.flat_scene.specs.Draft.{Draft}
 use Rattle.flat_rules.specs.Ends.{to_begin, to_finished, view_uses, viewport_uses, uses_view, uses_viewport, view_owner, viewport_owner, taken_calls, has_ended, loses, is_viewport_lost, is_view_lost, clears_viewport, ends_view}
 use Rattle.flat_scene.specs.Family.{IsClosedFamily, only, is_kept, keeps}
-use Rattle.flat_scene.specs.Frames.{taken}
+use Rattle.flat_scene.specs.Frames.{taken, ratio, ratio_set}
 use Rattle.flat_scene.specs.History.{◌▹◌, is_begin, is_finish, is_session}
 use Rattle.flat_rules.specs.Legal.{Legal, may_act, owns_in_kind, owns_view, owns_viewport}
 use Rattle.flat_rules.specs.Shown.{shown_view, is_pair, is_connected}
 use Rattle.flat_rules.specs.Local.{pair_watched}
-use Rattle.flat_rules.specs.Watch.{Watcher, layout_of, status_of, child_of, told, shows_view, is_connected_by, are_joined, is_used, props_seen, props_told}
+use Rattle.flat_rules.specs.Watch.{Watcher, layout_of, status_of, child_of, told, shows_view, is_connected_by, are_joined, is_used, props_seen, props_told, ratio_told}
 use Rattle.flat_rules.proofs.FramesLocal.{took-only}
 use Rattle.flat_rules.proofs.lemmas.Locality.{own-only, entry-owned, same-number, session-of}
 use Rattle.flat_rules.proofs.ShownLocal.{shown-only, connected-only}
@@ -53,6 +53,13 @@ module _ (setup : Setup) (of_family : SessionNo → Bool) (closed : IsClosedFami
   no-frame Finish (Session t) out acts = absurd (let h : false ≡ true = acts in cc)
   no-frame Finish (Probe p) out acts = absurd (let h : false ≡ true = acts in cc)
   no-frame _ actor out acts = (refl, refl)
+
+  -- and it sets no pixel ratio
+  no-ratio : (kind : Kind) (actor : Actor) → keeps of_family kind actor ≡ false → may_act setup kind actor ≡ true → ratio_set kind ≡ None
+  no-ratio (Dpr r) Display out acts = absurd (let h : true ≡ false = out in cc)
+  no-ratio (Dpr r) (Session t) out acts = absurd (let h : false ≡ true = acts in cc)
+  no-ratio (Dpr r) (Probe p) out acts = absurd (let h : false ≡ true = acts in cc)
+  no-ratio _ actor out acts = refl
 
   pub begin-only : (history : List Entry) → Legal setup history → to_begin (only of_family history) ≡ only of_family (to_begin history)
   begin-only [] legal = refl
@@ -121,6 +128,18 @@ module _ (setup : Setup) (of_family : SessionNo → Bool) (closed : IsClosedFami
       by_side : viewport_uses p (only of_family before) ≡ viewport_uses p before → (k : Bool) → is_kept of_family e ≡ k → viewport_uses p (only of_family (before ▹ e)) ≡ viewport_uses p (before ▹ e)
       by_side earlier true kept = rw (kept, earlier) refl
       by_side earlier false out = rw (out, no-viewport p pair e.kind e.actor out legal.1.may.acts (entry-owned setup before e legal.1)) earlier
+
+  -- the pixel ratio is the compositor's alone
+  pub ratio-only : (history : List Entry) → Legal setup history → ratio setup (only of_family history) ≡ ratio setup history
+  ratio-only [] legal = refl
+  ratio-only (before ▹ e) legal = by_side (ratio-only before legal.0) (is_kept of_family e) refl
+    where
+      by_side : ratio setup (only of_family before) ≡ ratio setup before → (k : Bool) → is_kept of_family e ≡ k → ratio setup (only of_family (before ▹ e)) ≡ ratio setup (before ▹ e)
+      by_side earlier true kept = rw (kept, earlier) refl
+      by_side earlier false out = rw (out, no-ratio e.kind e.actor out legal.1.may.acts) earlier
+
+  pub ratio-told-only : (history : List Entry) → Legal setup history → ratio_told setup (only of_family history) ≡ ratio_told setup history
+  ratio-told-only history legal = rw (finished-only history legal) (ratio-only (to_finished history) (legal-finished history legal))
 
   -- ---- what is lost
 
@@ -195,14 +214,14 @@ module _ (setup : Setup) (of_family : SessionNo → Bool) (closed : IsClosedFami
   props-told-only p pair history legal = by_owner (viewport_owner setup p) (viewport-in p pair)
     where
       by_owner : (o : Option Actor) → ((v : SessionNo) → o ≡ Some (Session v) → of_family v ≡ true) → props_told setup o (only of_family history) p ≡ props_told setup o history p
-      by_owner (Some Display) inside = refl
+      by_owner (Some Display) inside = rw (ratio-told-only history legal) refl
       by_owner (Some (Session v)) inside = rw (viewports-only p pair history legal, props-seen-only p (length (viewport_uses p history)) v (inside v refl) history legal) refl
       by_owner (Some (Probe n)) inside = refl
       by_owner None inside = refl
 
   pub told-only : (watcher : Watcher) → IsFamilyPair (pair_watched watcher) → (history : List Entry) → Legal setup history → told setup (only of_family history) watcher ≡ told setup history watcher
   told-only (layout_of p) pair history legal =
-      rw (viewport-lost-only p pair history legal, joined-only p pair history legal, props-told-only p pair history legal) refl
+      rw (viewport-lost-only p pair history legal, joined-only p pair history legal, props-told-only p pair history legal, ratio-told-only history legal) refl
   told-only (status_of p) pair history legal =
       rw (viewport-lost-only p pair history legal, joined-only p pair history legal, finished-only history legal, connected-by-only p pair (to_finished history) (legal-finished history legal)) refl
   told-only (child_of p n) pair history legal =

@@ -6,11 +6,11 @@ use Rattle.flat_scene.specs.declared.setup.Setup.{Setup}
 use Rattle.flat_scene.specs.Family.{family, IsClosedFamily}
 use Rattle.flat_base.proofs.lemmas.Tests.{or-cases}
 use Rattle.flat_rules.specs.Legal.{owns_view, owns_viewport}
-use Rattle.flat_rules.specs.Local.{pair_watched, owns_end, ShownIsLocal, ConnectedIsLocal, ToldIsLocal, WatchingIsLocal, AnswersAreLocal}
+use Rattle.flat_rules.specs.Local.{pair_watched, owns_end, ShownIsLocal, ConnectedIsLocal, RatioIsLocal, ToldIsLocal, WatchingIsLocal, AnswersAreLocal}
 use Rattle.flat_rules.proofs.FramesLocal.{closed-family}
 use Rattle.flat_rules.proofs.lemmas.RepliesLocal.{answers-only}
 use Rattle.flat_rules.proofs.ShownLocal.{shown-only, connected-only}
-use Rattle.flat_rules.proofs.ToldLocal.{IsFamilyPair, told-only}
+use Rattle.flat_rules.proofs.ToldLocal.{IsFamilyPair, ratio-only, told-only}
 use Rattle.flat_rules.proofs.lemmas.WatchLocal.{watching-only, pair-of-view, pair-of-viewport}
 
 -- a pair of which one of the family owns an end is the family's
@@ -27,6 +27,9 @@ shown-is-local setup owners history legal s t mine = shown-only setup (family se
 
 pub connected-is-local : ConnectedIsLocal
 connected-is-local setup owners history legal s t mine = connected-only setup (family setup s) (closed-family setup owners s) history legal t mine
+
+pub ratio-is-local : RatioIsLocal
+ratio-is-local setup owners history legal s = ratio-only setup (family setup s) (closed-family setup owners s) history legal
 
 pub told-is-local : ToldIsLocal
 told-is-local setup owners history legal s t w mine owns =

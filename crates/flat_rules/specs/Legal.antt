@@ -17,7 +17,7 @@ use Rattle.flat_scene.specs.declared.journal.Entry.{Entry}
 use Rattle.flat_scene.specs.declared.journal.Event.{Event}
 use Rattle.flat_scene.specs.declared.journal.Event.TheVariants as event
 use Rattle.flat_scene.specs.declared.journal.Kind.{Kind}
-use Rattle.flat_scene.specs.declared.journal.Kind.TheVariants.{View, Viewport, Present, Get, Signal, Poll, Wait, Close, Begin, Finish, Hit}
+use Rattle.flat_scene.specs.declared.journal.Kind.TheVariants.{View, Viewport, Present, Get, Signal, Poll, Wait, Close, End, Begin, Finish, Hit, Dpr}
 use Rattle.flat_scene.specs.declared.journal.Reply.{Reply}
 use Rattle.flat_scene.specs.declared.journal.Reply.TheVariants.{Done, Presented, Held, Now, Polled, Met, Unmet, Closed}
 use Rattle.flat_scene.specs.declared.journal.Told.{Told}
@@ -25,7 +25,7 @@ use Rattle.flat_scene.specs.declared.script.Cond.{Cond}
 use Rattle.flat_scene.specs.declared.script.Cond.TheVariants as asks
 use Rattle.flat_scene.specs.declared.setup.Setup.{Setup}
 use Rattle.flat_scene.specs.History.{◌▹◌, is_begin, is_finish, is_end, is_closed, is_session, calls, own, presents}
-use Rattle.flat_scene.specs.Setups.{is_declared}
+use Rattle.flat_scene.specs.Setups.{is_declared, is_ratio}
 use Rattle.flat_scene.specs.Frames.{taken, credits, is_signalled}
 use Rattle.flat_scene.specs.Effect.{draft_of}
 use Rattle.std.specs.Result.{result_ok}
@@ -162,17 +162,24 @@ abbrev pub display_may : Kind → Bool
 display_may (Begin time) = true
 display_may Finish = true
 display_may (Hit x y) = true
+display_may (Dpr ratio) = true
 display_may (Signal f) = true
 display_may (Wait (asks.Presents s n)) = true
 display_may (Wait (asks.Fence f)) = true
 display_may _ = false
 
 abbrev pub session_may : Kind → Bool
-session_may (Begin time) = false
-session_may Finish = false
-session_may (Hit x y) = false
+session_may (View p) = true
+session_may (Viewport p props) = true
+session_may (Present args) = true
+session_may (Get get) = true
+session_may (Signal f) = true
+session_may Poll = true
 session_may (Wait (asks.Presents s n)) = false
-session_may _ = true
+session_may (Wait c) = true
+session_may (Close reason) = true
+session_may (End refused) = true
+session_may _ = false
 
 module _ (setup : Setup) where
   -- whether the viewport end of a pair can be used: it wasn't yet, or its token came back since
@@ -291,7 +298,7 @@ module _ (setup : Setup) where
   owns_all (Session s) carries kind = owns_in_kind s kind && list_all (owns_in_call s) carries
   owns_all _ carries kind = true
 
-  -- the fence and the session that an entry of the compositor names are declared
+  -- the fence and the session that an entry of the compositor names are declared, and its pixel ratio is one that a display may have
   abbrev pub is_fence : FenceNo → Bool
   is_fence f = nat_lt f.0 (length setup.fences)
 
@@ -299,6 +306,7 @@ module _ (setup : Setup) where
   names_declared (Signal f) = is_fence f
   names_declared (Wait (asks.Fence f)) = is_fence f
   names_declared (Wait (asks.Presents s n)) = is_declared setup s
+  names_declared (Dpr ratio) = is_ratio ratio
   names_declared _ = true
 
   -- a present has a tree, and a get has a watcher

@@ -6,7 +6,7 @@ use Rattle.flat_base.specs.declared.ids.SessionNo.{SessionNo}
 use Rattle.flat_scene.specs.declared.journal.Entry.{Entry}
 use Rattle.flat_scene.specs.declared.setup.Setup.{Setup}
 use Rattle.flat_scene.specs.Family.{family, only}
-use Rattle.flat_scene.specs.Frames.{is_signalled, taken, going, credits, releases, is_among}
+use Rattle.flat_scene.specs.Frames.{is_signalled, taken, going, credits, ratio, releases, is_among}
 use Rattle.flat_scene.specs.History.{presents}
 use Rattle.flat_scene.specs.Setups.{owners_declared}
 use Rattle.flat_rules.specs.Laws.{IsFamilyLaw, is_beside, glimpses, own_events, outcomes}
@@ -61,6 +61,10 @@ ShownIsLocal = ForFamilies (λ setup of_family history.
 abbrev pub ConnectedIsLocal : Type 0
 ConnectedIsLocal = ForFamilies (λ setup of_family history.
     (t : SessionNo) → of_family t ≡ true → is_connected setup (only of_family history) t ≡ is_connected setup history t)
+
+-- the display's pixel ratio, which only the compositor sets
+abbrev pub RatioIsLocal : Type 0
+RatioIsLocal = ForFamilies (λ setup of_family history. ratio setup (only of_family history) ≡ ratio setup history)
 
 -- ---- what watchers tell
 

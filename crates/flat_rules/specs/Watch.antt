@@ -1,5 +1,5 @@
 -- What the watchers tell, and when a hanging get is answered.
-use Rattle.std.specs.Prelude.{ℕ, Bool, true, false, cond, not, ◌&&◌, ◌==◌, nat_lt, List, [], ◌++◌, length, Option, Some, None, option_map, option_and_then, unwrap_or}
+use Rattle.std.specs.Prelude.{ℕ, ◌*◌, ◌/◌, max, Bool, true, false, cond, not, ◌&&◌, ◌==◌, nat_lt, List, [], ◌++◌, length, Option, Some, None, option_map, option_and_then, unwrap_or}
 use Rattle.flat_base.specs.declared.ids.Actor.{Actor}
 use Rattle.flat_base.specs.declared.ids.Actor.TheVariants.{Display, Session}
 use Rattle.flat_base.specs.declared.ids.PairNo.{PairNo}
@@ -18,6 +18,7 @@ use Rattle.flat_scene.specs.declared.setup.Setup.{Setup}
 use Rattle.flat_scene.specs.History.{◌▹◌, is_finish, is_closed, calls}
 use Rattle.flat_scene.specs.Draft.{Draft, Made, a_viewport, made_of}
 use Rattle.flat_scene.specs.Effect.{draft_of}
+use Rattle.flat_scene.specs.Frames.{ratio}
 use Rattle.flat_rules.specs.Shown.{is_pair, shown_view, is_connected}
 use Rattle.flat_base.specs.declared.limits.TheConstants.{ONE}
 use Rattle.std.specs.Result.{result_ok}
@@ -41,9 +42,17 @@ same_watcher _ _ = false
 abbrev pub no_inset : Inset
 no_inset = record { top = 0; right = 0; bottom = 0; left = 0 }
 
--- the layout that the properties of a viewport give, in version 1 at the ratio one
-abbrev pub layout_in : ViewportProps → Told
-layout_in props = tell.Layout (record { w = props.w; h = props.h; inset = props.inset; ratio = ONE })
+-- the layout that the properties of a viewport give at a pixel ratio
+abbrev pub layout_in : ℕ → ViewportProps → Told
+layout_in ratio props = tell.Layout (record { w = props.w; h = props.h; inset = props.inset; ratio = ratio })
+
+-- a side of the display in logical units, of which there is one at least
+abbrev pub logical_side : ℕ → ℕ → ℕ
+logical_side ratio side = max 1 (side * ONE / ratio)
+
+-- the display as a viewport, at its pixel ratio
+abbrev pub display_props : ℕ → Setup → ViewportProps
+display_props ratio setup = record { w = logical_side ratio setup.width; h = logical_side ratio setup.height; inset = no_inset }
 
 -- the properties with which an entry uses a viewport end
 abbrev pub props_at : Kind → Option ViewportProps
@@ -75,9 +84,13 @@ module _ (setup : Setup) where
       (cond (is_finish entry.kind) (option_and_then (props_of p n) (result_ok (draft_of setup (taken_calls setup (to_begin before) s)))) None)
       (props_seen p n s before)
 
+  -- the pixel ratio that is told: that of the last finished frame's begin, or the head's
+  abbrev pub ratio_told : List Entry → ℕ
+  ratio_told history = ratio setup (to_finished history)
+
   -- the properties of the last use: those that frames have seen last, or those given
   abbrev pub props_told : Option Actor → List Entry → PairNo → Option ViewportProps
-  props_told (Some Display) history p = Some (record { w = setup.width; h = setup.height; inset = no_inset })
+  props_told (Some Display) history p = Some (display_props (ratio_told history) setup)
   props_told (Some (Session s)) history p = or_else (props_seen p (length (viewport_uses p history)) s history) (props_given (viewport_uses p history))
   props_told _ history p = None
 
@@ -85,7 +98,7 @@ module _ (setup : Setup) where
   abbrev pub told_layout : List Entry → PairNo → Option Told
   told_layout history p =
       cond (is_viewport_lost setup (to_finished history) p) (Some tell.Gone)
-      (cond (are_joined history p) (option_map layout_in (props_told (viewport_owner setup p) history p)) None)
+      (cond (are_joined history p) (option_map (layout_in (ratio_told history)) (props_told (viewport_owner setup p) history p)) None)
 
   -- whether the session that owns the view end shows that view
   abbrev pub shows_view : List Entry → PairNo → Bool

@@ -1,6 +1,6 @@
 ghost use Rattle.flat_rules.specs.Local.{PresentsAreLocal, SignalledIsLocal, TakenIsLocal};
 ghost use Rattle.flat_rules.specs.Local.{CreditsAreLocal, GoingIsLocal, ReleasedIsLocal};
-ghost use Rattle.flat_rules.specs.Local.{ShownIsLocal, ConnectedIsLocal, ToldIsLocal};
+ghost use Rattle.flat_rules.specs.Local.{ShownIsLocal, ConnectedIsLocal, RatioIsLocal, ToldIsLocal};
 ghost use Rattle.flat_rules.specs.Local.{WatchingIsLocal, AnswersAreLocal, FamiliesAreAlone};
 ghost use Rattle.flat_rules.specs.Local.{GlimpsesDecideOutcomes, OthersPostNone};
 
@@ -69,6 +69,13 @@ pub fn shown_is_local()
 /// The call does nothing. Its contract is a law about the definitions.
 pub fn connected_is_local()
     ensures { ConnectedIsLocal }
+{}
+
+/// The display's pixel ratio is the one in what the family and the compositor did.
+///
+/// The call does nothing. Its contract is a law about the definitions.
+pub fn ratio_is_local()
+    ensures { RatioIsLocal }
 {}
 
 /// A watcher of a pair of which one of a family owns an end tells what it tells in

@@ -24,8 +24,9 @@ pub use determined::{neighbours_change_nothing, replies_are_determined};
 pub use drawing::items_are_drawable;
 pub use laws::{
     answers_are_local, connected_is_local, credits_are_local, families_are_alone,
-    glimpses_decide_outcomes, going_is_local, presents_are_local, released_is_local,
-    shown_is_local, signalled_is_local, taken_is_local, told_is_local, watching_is_local,
+    glimpses_decide_outcomes, going_is_local, presents_are_local, ratio_is_local,
+    released_is_local, shown_is_local, signalled_is_local, taken_is_local, told_is_local,
+    watching_is_local,
 };
 pub use seats::{
     display_knows_frames, journals_keep_seats, refusals_close, seats_tell_actors,

@@ -126,6 +126,7 @@ same-done display.Done = refl
 same-done (display.Signal f) = refl
 same-done (display.Wait c) = refl
 same-done (display.Hit x y) = refl
+same-done (display.Dpr ratio) = refl
 
 done-line : (number : ℕ) (text : Body) (later : List (ℕ × DisplayLine)) → dones_in (display_line number text ++ later) ≡ cond (ends_frame text) 1 0 + dones_in later
 done-line number (body.Display text) later = ap (λ b. cond b 1 0 + dones_in later) (sym (same-done text))

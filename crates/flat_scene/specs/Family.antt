@@ -6,7 +6,7 @@ use Rattle.flat_base.specs.declared.ids.Actor.TheVariants.{Display, Session, Pro
 use Rattle.flat_base.specs.declared.ids.SessionNo.{SessionNo}
 use Rattle.flat_scene.specs.declared.journal.Entry.{Entry}
 use Rattle.flat_scene.specs.declared.journal.Kind.{Kind}
-use Rattle.flat_scene.specs.declared.journal.Kind.TheVariants.{Signal, Begin, Finish}
+use Rattle.flat_scene.specs.declared.journal.Kind.TheVariants.{Signal, Begin, Finish, Dpr}
 use Rattle.flat_scene.specs.declared.setup.FenceDecl.{FenceDecl}
 use Rattle.flat_scene.specs.declared.setup.PairDecl.{PairDecl}
 use Rattle.flat_scene.specs.declared.setup.Setup.{Setup}
@@ -34,11 +34,12 @@ family setup s t = s.0 == t.0 || is_reached_by (is_linked setup) (sessions_to se
 pub record IsClosedFamily (setup : Setup) (of_family : SessionNo → Bool) : Type 0 where
   pub grows : (s t : SessionNo) → of_family s ≡ true → is_linked setup s t ≡ true → of_family t ≡ true
 
--- what the compositor does to all sessions: frames and signals
+-- what the compositor does to all sessions: frames, signals, and pixel ratios
 abbrev pub is_frame_entry : Kind → Bool
 is_frame_entry (Begin time) = true
 is_frame_entry Finish = true
 is_frame_entry (Signal f) = true
+is_frame_entry (Dpr ratio) = true
 is_frame_entry _ = false
 
 -- an entry of that kind and that actor is kept
@@ -51,6 +52,6 @@ keeps of_family kind (Probe p) = false
 abbrev pub is_kept : (SessionNo → Bool) → Entry → Bool
 is_kept of_family entry = keeps of_family entry.kind entry.actor
 
--- the entries of the family's sessions, and the frames and signals of the compositor
+-- the entries of the family's sessions, and the frames, signals and pixel ratios of the compositor
 abbrev pub only : (SessionNo → Bool) → List Entry → List Entry
 only of_family = filter (is_kept of_family)

@@ -1,5 +1,5 @@
 -- What frames take and release.
-use Rattle.std.specs.Prelude.{ℕ, zero, suc, ◌+◌, ◌-◌, Bool, false, cond, ◌&&◌, ◌||◌, ◌==◌, nat_le, List, [], ◌∷◌, ◌++◌, length, drop, take_while, flat_map}
+use Rattle.std.specs.Prelude.{ℕ, zero, suc, ◌+◌, ◌-◌, Bool, false, cond, ◌&&◌, ◌||◌, ◌==◌, nat_le, List, [], ◌∷◌, ◌++◌, length, drop, take_while, flat_map, Option, Some, None, unwrap_or}
 use Rattle.std.specs.List.{list_any, list_all}
 use Rattle.flat_base.specs.declared.ids.SessionNo.{SessionNo}
 use Rattle.flat_base.specs.declared.ids.FenceNo.{FenceNo}
@@ -7,9 +7,10 @@ use Rattle.flat_base.specs.declared.limits.TheConstants.{FIRST_CREDITS, FULL_CRE
 use Rattle.flat_scene.specs.declared.calls.PresentArgs.{PresentArgs}
 use Rattle.flat_scene.specs.declared.journal.Entry.{Entry}
 use Rattle.flat_scene.specs.declared.journal.Kind.{Kind}
-use Rattle.flat_scene.specs.declared.journal.Kind.TheVariants.{Signal, Begin, Finish}
+use Rattle.flat_scene.specs.declared.journal.Kind.TheVariants.{Signal, Begin, Finish, Dpr}
 use Rattle.flat_scene.specs.declared.setup.Setup.{Setup}
 use Rattle.flat_scene.specs.History.{◌▹◌, is_closed, presents, Published}
+use Rattle.flat_scene.specs.Setups.{at_ratio}
 
 -- the sessions from 1 to a number
 abbrev pub sessions_to : ℕ → List SessionNo
@@ -61,7 +62,21 @@ signals sessions (Signal other) going fence = other.0 == fence.0
 signals sessions Finish going fence = list_any (λ s. is_released_by (going s) fence) sessions
 signals sessions _ going fence = false
 
+-- the pixel ratio that an entry of this kind sets
+abbrev pub ratio_set : Kind → Option ℕ
+ratio_set (Dpr ratio) = Some ratio
+ratio_set _ = None
+
 module _ (setup : Setup) where
+  -- the pixel ratio of the display: the one set last, or the head's
+  abbrev pub ratio : List Entry → ℕ
+  ratio [] = setup.ratio
+  ratio (before ▹ entry) = unwrap_or (ratio_set entry.kind) (ratio before)
+
+  -- the setup with the pixel ratio that its display has by then
+  abbrev pub setup_at : List Entry → Setup
+  setup_at history = at_ratio (ratio history) setup
+
   abbrev mutual
     -- whether a fence is signalled
     pub is_signalled : List Entry → FenceNo → Bool

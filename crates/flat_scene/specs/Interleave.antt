@@ -13,7 +13,7 @@ use Rattle.flat_scene.specs.declared.calls.Watch.{Watch}
 use Rattle.flat_scene.specs.declared.calls.Watch.TheVariants as watch
 use Rattle.flat_scene.specs.declared.journal.Entry.{Entry}
 use Rattle.flat_scene.specs.declared.journal.Kind.{Kind}
-use Rattle.flat_scene.specs.declared.journal.Kind.TheVariants.{View, Viewport, Present, Get, Signal, Poll, Wait, Close, End, Begin, Finish, Hit}
+use Rattle.flat_scene.specs.declared.journal.Kind.TheVariants.{View, Viewport, Present, Get, Signal, Poll, Wait, Close, End, Begin, Finish, Hit, Dpr}
 use Rattle.flat_scene.specs.declared.script.Body.{Body}
 use Rattle.flat_scene.specs.declared.script.Body.TheVariants as body
 use Rattle.flat_scene.specs.declared.script.DisplayLine.{DisplayLine}
@@ -84,6 +84,7 @@ entry_of_display display.Done = Finish
 entry_of_display (display.Signal f) = Signal f
 entry_of_display (display.Wait c) = Wait c
 entry_of_display (display.Hit x y) = Hit x y
+entry_of_display (display.Dpr ratio) = Dpr ratio
 
 -- the line of the last of some entries
 abbrev pub last_line : List Entry → ℕ

@@ -4,7 +4,7 @@ use Rattle.std.specs.List.{list_all}
 use Rattle.flat_base.specs.declared.ids.Actor.{Actor}
 use Rattle.flat_base.specs.declared.ids.Actor.TheVariants.{Display, Session, Probe}
 use Rattle.flat_base.specs.declared.ids.SessionNo.{SessionNo}
-use Rattle.flat_base.specs.declared.limits.TheConstants.{ONE, VERSION_MAX, SIDE_MAX, SESSIONS_MAX, PROBES_MAX, PAIRS_MAX, BUFFER_COLLECTIONS_MAX, BUFFERS_PER_COLLECTION_MAX, FENCES_MAX}
+use Rattle.flat_base.specs.declared.limits.TheConstants.{RATIO_MIN, RATIO_MAX, VERSION_MAX, SIDE_MAX, SESSIONS_MAX, PROBES_MAX, PAIRS_MAX, BUFFER_COLLECTIONS_MAX, BUFFERS_PER_COLLECTION_MAX, FENCES_MAX}
 use Rattle.flat_scene.specs.declared.setup.BufferDecl.{BufferDecl}
 use Rattle.flat_scene.specs.declared.setup.FenceDecl.{FenceDecl}
 use Rattle.flat_scene.specs.declared.setup.PairDecl.{PairDecl}
@@ -40,10 +40,18 @@ abbrev pub owners_declared : Setup → Bool
 owners_declared setup =
     list_all (is_pair_declared setup) setup.pairs && list_all (is_buffer_declared setup) setup.buffers && list_all (is_fence_declared setup) setup.fences
 
--- the version, the display's ratio and size, and the counts are within their limits; no script gives a ratio yet
+-- a pixel ratio that a display may have
+abbrev pub is_ratio : ℕ → Bool
+is_ratio ratio = nat_le RATIO_MIN ratio && nat_le ratio RATIO_MAX
+
+-- the setup whose display has another pixel ratio
+abbrev pub at_ratio : ℕ → Setup → Setup
+at_ratio ratio setup = record setup { ratio = ratio }
+
+-- the version, the display's ratio and size, and the counts are within their limits
 abbrev pub is_within_limits : Setup → Bool
 is_within_limits setup =
-    is_within VERSION_MAX setup.version && setup.ratio == ONE && is_within SIDE_MAX setup.width && is_within SIDE_MAX setup.height && is_within SESSIONS_MAX setup.sessions && nat_le setup.probes PROBES_MAX
+    is_within VERSION_MAX setup.version && is_ratio setup.ratio && is_within SIDE_MAX setup.width && is_within SIDE_MAX setup.height && is_within SESSIONS_MAX setup.sessions && nat_le setup.probes PROBES_MAX
     && nat_le (length setup.pairs) PAIRS_MAX && nat_le (length setup.buffers) BUFFER_COLLECTIONS_MAX && nat_le (length setup.fences) FENCES_MAX
 
 -- exactly one viewport end is the display's

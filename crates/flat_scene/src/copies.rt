@@ -164,6 +164,7 @@ impl TryCopy for Kind {
             Kind::Begin(time) => Kind::Begin(*time),
             Kind::Finish => Kind::Finish,
             Kind::Hit(x, y) => Kind::Hit(*x, *y),
+            Kind::Dpr(ratio) => Kind::Dpr(*ratio),
         })
     }
 }

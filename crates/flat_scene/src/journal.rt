@@ -85,6 +85,8 @@ pub enum Kind {
     Finish,
     /// A point of the display, in units.
     Hit(i32, i32),
+    /// The display's pixel ratio, in fixed point, from the next begin on.
+    Dpr(u32),
 }
 
 /// Calls, in the order in which they were made.

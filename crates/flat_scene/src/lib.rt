@@ -19,8 +19,8 @@ mod setup;
 mod trees;
 
 pub use calls::{
-    BlendMode, Call, HitRegion, ImageFlip, Inset, Interaction, PresentArgs, RegionList, TransformList,
-    ViewportProps, Watch,
+    BlendMode, Call, HitRegion, ImageFlip, Inset, Interaction, PresentArgs, RegionList,
+    TransformList, ViewportProps, Watch,
 };
 pub use frames::{
     DrawItem, FrameOut, Hit, HitList, ItemList, Lost, NodeList, Paint, RectList, SceneMatrix,

@@ -42,6 +42,9 @@ pub enum DisplayLine {
     Wait(Cond),
     /// Asks who is hit at a point of the display, in units.
     Hit(i32, i32),
+    /// Sets the display's pixel ratio, in fixed point, from the next begin on. Only
+    /// scripts of version 3 and above can say so.
+    Dpr(u32),
 }
 
 /// A line of a probe.

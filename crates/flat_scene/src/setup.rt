@@ -49,7 +49,8 @@ pub struct Setup {
     pub fences: FenceDeclList,
     /// Of the script's grammar, 1 to [`VERSION_MAX`](flat_base::VERSION_MAX).
     pub version: u32,
-    /// The display's pixel ratio at the start, in fixed point. No script gives one yet:
-    /// it is [`ONE`](flat_base::ONE).
+    /// The display's pixel ratio at the start, in fixed point, from
+    /// [`RATIO_MIN`](flat_base::RATIO_MIN) to [`RATIO_MAX`](flat_base::RATIO_MAX). It is
+    /// [`ONE`](flat_base::ONE) where the script gives none, as none below version 3 does.
     pub ratio: u32,
 }

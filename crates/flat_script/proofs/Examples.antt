@@ -177,9 +177,6 @@ unsquashable_in_version_one = refl
 version_four : IsFault (codes "flatland 4\ndisplay 100 100\nsession A\npair t0 display A\nrun\n") (record { line = 1; kind = UnknownVersion })
 version_four = refl
 
-version_three_before_it_is_known : IsFault (codes "flatland 3\ndisplay 100 100\nsession A\npair t0 display A\nrun\n") (record { line = 1; kind = UnknownVersion })
-version_three_before_it_is_known = refl
-
 version_zero : IsFault (codes "flatland 0\ndisplay 100 100\nsession A\npair t0 display A\nrun\n") (record { line = 1; kind = UnknownVersion })
 version_zero = refl
 
@@ -405,3 +402,34 @@ interaction_of_two = refl
 
 begin_with_a_bad_time_inside_a_frame : gives (codes "flatland 1\ndisplay 100 100\nsession A\npair t0 display A\nrun\ndisplay begin 5\ndisplay begin x\n") ≡ (7, 7)
 begin_with_a_bad_time_inside_a_frame = refl
+
+-- the third version
+
+words_of_the_third_version : IsScript (codes "flatland 3\ndisplay 100 90 131072\nsession A\npair t0 display A\nrun\ndisplay dpr 16384\nA Present 0 unsquashable\n") (record {
+  setup = record { width = 100; height = 90; sessions = 1; probes = 0; pairs = record { viewport = Display; view = record { 0 = 1 } } ∷ []; buffers = []; fences = []; version = 3; ratio = 131072 };
+  sessions = codes "A" ∷ [];
+  probes = [];
+  buffers = [];
+  pairs = codes "t0" ∷ [];
+  fences = [];
+  lines =
+      record { number = 6; actor = Display; body = body.Display (display.Dpr 16384) } ∷
+      record { number = 7; actor = Session (record { 0 = 1 }); body = body.Session (line.Present (record { time = 0; acquire = []; release = []; unsquashable = true })) } ∷ [];
+  count = 7;
+})
+words_of_the_third_version = refl
+
+ratio_too_small : IsFault (codes "flatland 3\ndisplay 100 100 16383\nsession A\npair t0 display A\nrun\n") (record { line = 2; kind = BadNumber })
+ratio_too_small = refl
+
+ratio_too_great : IsFault (codes "flatland 3\ndisplay 100 100\nsession A\npair t0 display A\nrun\ndisplay dpr 1048577\n") (record { line = 6; kind = BadNumber })
+ratio_too_great = refl
+
+ratio_of_a_session : IsFault (codes "flatland 3\ndisplay 100 100\nsession A\npair t0 display A\nrun\nA dpr 65536\n") (record { line = 6; kind = UnknownCall })
+ratio_of_a_session = refl
+
+ratio_in_version_two_head : IsFault (codes "flatland 2\ndisplay 100 100 65536\nsession A\npair t0 display A\nrun\n") (record { line = 2; kind = WrongCount })
+ratio_in_version_two_head = refl
+
+dpr_in_version_two : IsFault (codes "flatland 2\ndisplay 100 100\nsession A\npair t0 display A\nrun\ndisplay dpr 65536\n") (record { line = 6; kind = UnknownCall })
+dpr_in_version_two = refl

@@ -3,7 +3,7 @@ use flat_script::parse;
 use std::test::Fail;
 
 // What follows HEAD, and the line and the kind of its fault, or 0 and the number of lines.
-const BODIES: [(&str, u32, u32); 42] = [
+const BODIES: [(&str, u32, u32); 45] = [
     // bad number
     (
         "A CreateView t0\nA CreateTransform 1\nA SetRootTransform 1\nA CreateFilledRect x\nA SetSolidFill 2 255 0 0 255 10 10\nA SetContent 1 2\nA Present 0\ndisplay begin 1000\ndisplay done\n",
@@ -50,8 +50,11 @@ const BODIES: [(&str, u32, u32); 42] = [
     ("A Clear \n", 6, 8),
     // replace children in version one
     ("A CreateTransform 1\nA ReplaceChildren 1\n", 7, 6),
+    ("A ReplaceChildren x\n", 6, 6),
     // unsquashable in version one
     ("A Present 0 unsquashable\n", 6, 8),
+    ("A Present 0 unsquashable acquire t0\n", 6, 8),
+    ("A Present x unsquashable\n", 6, 7),
     // limit: 16 hit regions
     (
         "A CreateTransform 1\nA SetHitRegions 1 0 0 1 1 0 0 0 1 1 0 0 0 1 1 0 0 0 1 1 0 0 0 1 1 0 0 0 1 1 0 0 0 1 1 0 0 0 1 1 0 0 0 1 1 0 0 0 1 1 0 0 0 1 1 0 0 0 1 1 0 0 0 1 1 0 0 0 1 1 0 0 0 1 1 0 0 0 1 1 0\n",

@@ -18,4 +18,6 @@ mod text;
 #[cfg(test)]
 mod texts;
 #[cfg(test)]
+mod versions;
+#[cfg(test)]
 mod viewports;

@@ -29,6 +29,22 @@ const ASKED: &str =
 const ASKED_PRINTED: &str =
     "flatland 1\ndisplay 9 9\nsession A\nprobe P\nprobe Q\npair t0 display A\nfence f display\nrun\nQ await 2\nP hit -1 5\nQ hit 0 0";
 
+// What came with the second version.
+const LATER: &str =
+    "flatland 2\nsession A\nfence f A\npair t0 display A\ndisplay 9 9\nrun\nA Present 1 unsquashable\nA Present 2 unsquashable acquire f release f\nA Present 3 release f\nA ReplaceChildren 1\nA ReplaceChildren 1 3 2\n";
+
+const LATER_PRINTED: &str =
+    "flatland 2\ndisplay 9 9\nsession A\npair t0 display A\nfence f A\nrun\nA Present 1 unsquashable\nA Present 2 unsquashable acquire f release f\nA Present 3 release f\nA ReplaceChildren 1\nA ReplaceChildren 1 3 2";
+
+// Pixel ratios: a first one that says nothing is left out.
+const LATEST: &str =
+    "flatland 3\ndisplay 9 9 65536\nsession A\npair t0 display A\nrun\ndisplay dpr 16384\n";
+
+const LATEST_PRINTED: &str =
+    "flatland 3\ndisplay 9 9\nsession A\npair t0 display A\nrun\ndisplay dpr 16384";
+
+const SCALED: &str = "flatland 3\ndisplay 9 9 16384\nsession A\npair t0 display A\nrun";
+
 // What is printed of the script that a text has.
 fn reprinted(alloc: Global, text: &str) -> Result<Vec<u8>, Fail> {
     let script = parse(alloc, text.as_bytes())?;
@@ -36,11 +52,14 @@ fn reprinted(alloc: Global, text: &str) -> Result<Vec<u8>, Fail> {
 }
 
 // Texts, and what is printed of their scripts, which is printed of itself.
-const PRINTED: [(&str, &str); 4] = [
+const PRINTED: [(&str, &str); 7] = [
     (LOOSE, CANONICAL),
     (INSETS, INSETS_PRINTED),
     (CALLS, CALLS),
     (ASKED, ASKED_PRINTED),
+    (LATER, LATER_PRINTED),
+    (LATEST, LATEST_PRINTED),
+    (SCALED, SCALED),
 ];
 
 #[test]

@@ -2,7 +2,7 @@ use crate::outcome::outcome;
 use flat_script::parse;
 
 // Whole texts.
-const TEXTS: [(&str, u32, u32); 50] = [
+const TEXTS: [(&str, u32, u32); 59] = [
     // lists and conditions of a session and of the display
     (
         "flatland 1\ndisplay 100 100\nsession A\nsession B\npair t0 display A\nfence f A display\nfence g B\nrun\nA Present 0 acquire f f release f\nA Present 1 release f\nA Signal f\nA Poll\nA Wait frames 1\nA Wait credits 1\nA Wait taken 1\nA Wait fence f\ndisplay Signal f\ndisplay Wait presents B 0\ndisplay Wait fence f\nA Disconnect\n",
@@ -101,18 +101,44 @@ const TEXTS: [(&str, u32, u32); 50] = [
         1,
         13,
     ),
-    // version three before it is known
+    // version three
     (
         "flatland 3\ndisplay 100 100\nsession A\npair t0 display A\nrun\n",
-        1,
-        13,
+        0,
+        5,
     ),
-    // version two before it is known
+    // a ratio in the head of version three, as it is read and not
+    (
+        "flatland 3\ndisplay 100 100 16384\nsession dpr\npair t0 display dpr\nrun\ndpr Clear\n",
+        0,
+        6,
+    ),
+    ("flatland 3\ndisplay 100 100 16383\n", 2, 7),
+    ("flatland 3\ndisplay 100 100 1048577\n", 2, 7),
+    ("flatland 3\ndisplay 100 100 65536 1\n", 2, 8),
+    ("flatland 3\ndisplay 100\n", 2, 8),
+    // ratio in version two head
+    (
+        "flatland 2\ndisplay 100 100 65536\nsession A\npair t0 display A\nrun\n",
+        2,
+        8,
+    ),
+    // version two
     (
         "flatland 2\ndisplay 100 100\nsession A\npair t0 display A\nrun\n",
-        1,
-        13,
+        0,
+        5,
     ),
+    // a later word as a name
+    (
+        "flatland 2\ndisplay 1 1\nsession unsquashable\npair p display unsquashable\nrun\nunsquashable Clear\n",
+        0,
+        6,
+    ),
+    // version two with a zero before it
+    ("flatland 02\n", 1, 7),
+    // version two and a word
+    ("flatland 2 2\n", 1, 8),
     // version zero
     (
         "flatland 0\ndisplay 100 100\nsession A\npair t0 display A\nrun\n",

@@ -1,6 +1,6 @@
 -- The seats of a new stage may read as many lines as their shares allow.
-use Rattle.std.proofs.Common.{◌≡◌, ◌≢◌, ◌∙◌, ℕ, ◌+◌, ◌-◌, ◌<◌, ◌≤◌, List, [], ◌∷◌, refl, sym, subst, lit<, arith}
-use Rattle.std.specs.Prelude.{Option, Some, None, slice_get, slice_index, slice_index_or, slice_set, length}
+use Rattle.std.proofs.Common.{◌≡◌, ◌≢◌, ◌∙◌, ℕ, ◌<◌, ◌≤◌, List, refl, sym, subst, lit<, arith}
+use Rattle.std.specs.Prelude.{Option, Some, None, slice_index, slice_index_or}
 use Rattle.std.proofs.lemmas.Option.{get_or_from_slice_get}
 use Rattle.std.proofs.lemmas.List.{get_or-set_other}
 use Rattle.flat_base.specs.declared.ids.SessionNo.{SessionNo}

@@ -1,4 +1,4 @@
-ghost use Rattle.std.specs.Prelude.{◌≡◌, ◌+◌, ◌<◌, ◌^◌, [], ◌∷◌, IfOk};
+ghost use Rattle.std.specs.Prelude.{◌≡◌, ◌+◌, ◌<◌, ◌^◌, false, [], ◌∷◌, IfOk};
 ghost use Rattle.flat_base.specs.declared.ids.Actor.TheVariants.{Display, Session};
 ghost use Rattle.flat_stage_tests.specs.Room.{MayRead, MayBegin};
 
@@ -265,16 +265,16 @@ fn frames_of(entries: &[Entry]) -> Option<u32> {
 
 /// The seats of a new stage.
 #[derive(Drop)]
-struct Cast {
-    stage: Stage,
-    compositor: CompositorSeat,
+pub(crate) struct Cast {
+    pub(crate) stage: Stage,
+    pub(crate) compositor: CompositorSeat,
     seats: SessionSeats,
     first: SessionSeat,
     second: SessionSeat,
 }
 
 /// A stage, and its seats handed out.
-fn new_cast(alloc: Global) -> Result<Cast, Fail>
+pub(crate) fn new_cast(alloc: Global) -> Result<Cast, Fail>
     ensures seats { IfOk result (λ c. c.seats.stage ≡ c.stage) }
     ensures compositor { IfOk result (λ c. (c.compositor.stage ≡ c.stage)
         × MayBegin 10 0 c.compositor) }

@@ -22,7 +22,7 @@ use Rattle.flat_states.specs.Lives.{lives_after, clears_live, count_of}
 use Rattle.flat_rules.specs.Shown.{is_pair, shown_view, is_connected}
 use Rattle.flat_rules.specs.Stamps.{IsStamp, is_seen, stamp_then}
 use Rattle.flat_states.specs.Views.{view_then, view_after, ends_it, ends_of, layout_by, status_by, child_by}
-use Rattle.flat_rules.specs.Watch.{told, layout_of, status_of, child_of, are_joined, props_told}
+use Rattle.flat_rules.specs.Watch.{told, layout_of, status_of, child_of, are_joined, props_told, ratio_told}
 use Rattle.flat_states.proofs.lemmas.Earlier.{finished-earlier}
 use Rattle.flat_states.proofs.lemmas.LiveCounts.{lived-all, lived, Lived, count-is}
 use Rattle.flat_states.proofs.lemmas.StampSteps.{own-stamp, stamp-ended}
@@ -142,7 +142,7 @@ module _ (setup : Setup) (h : List Entry) (p : PairNo) where
       → is_view_lost setup (to_finished h) p ≡ (is_closed w (to_finished h) || is_seen stamp (taken setup (to_finished h) w))
   view-lost w owner stamp is = ap (λ (o : Option SessionNo). loses setup (ends_view p) (to_finished h) (option_map Session o)) owner ∙ stamp-ended setup (ends_view p) w (to_finished h) h stamp (finished-earlier h) is
 
-  pub layout-told : told setup h (layout_of p) ≡ layout_by (is_viewport_lost setup (to_finished h) p) (are_joined setup h p) (props_told setup (viewport_owner setup p) h p)
+  pub layout-told : told setup h (layout_of p) ≡ layout_by (ratio_told setup h) (is_viewport_lost setup (to_finished h) p) (are_joined setup h p) (props_told setup (viewport_owner setup p) h p)
   layout-told = refl
 
   pub status-told : (w : SessionNo) → view_owner setup p ≡ Some w

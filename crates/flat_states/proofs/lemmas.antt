@@ -14,6 +14,7 @@ pub mod Ones
 pub mod Opened
 pub mod PairIdle
 pub mod PairSteps
+pub mod Ratios
 pub mod Serials
 pub mod ShownFits
 pub mod StampSteps

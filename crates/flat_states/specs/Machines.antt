@@ -1,5 +1,5 @@
 -- The board as contracts see it, what its calls ask for, and what is kept of it.
-use Rattle.std.specs.Prelude.{◌≡◌, IsTrue, ℕ, ◌+◌, ◌*◌, ◌<◌, ◌≤◌, ◌^◌, Bool, cond, ◌==◌, nat_lt, List, ◌++◌, length, count_by, sum, slice_index}
+use Rattle.std.specs.Prelude.{◌≡◌, IsTrue, ℕ, ◌+◌, ◌*◌, ◌<◌, ◌≤◌, ◌^◌, Bool, cond, ◌==◌, nat_lt, List, ◌++◌, length, count_by, sum, slice_index, unwrap_or}
 use Rattle.flat_base.specs.declared.ids.Actor.{Actor}
 use Rattle.flat_base.specs.declared.ids.FenceNo.{FenceNo}
 use Rattle.flat_base.specs.declared.ids.PairNo.{PairNo}
@@ -14,12 +14,13 @@ use Rattle.flat_scene.specs.declared.script.Cond.{Cond}
 use Rattle.flat_scene.specs.declared.setup.Setup.{Setup}
 use Rattle.flat_scene.specs.History.{◌▹◌, Published, calls, seat_number}
 use Rattle.flat_scene.specs.Setups.{is_within_limits}
-use Rattle.flat_scene.specs.Frames.{is_signalled}
+use Rattle.flat_scene.specs.Frames.{is_signalled, ratio, ratio_set}
 use Rattle.flat_fence.specs.Fences.{has}
 use Rattle.flat_states.specs.declared.clock.Clock.{Clock}
+use Rattle.flat_states.specs.declared.ratios.Ratios.{Ratios}
 use Rattle.flat_states.specs.declared.state.SessionState.{SessionState}
 use Rattle.flat_states.specs.declared.viewports.Viewports.{Viewports}
-use Rattle.flat_rules.specs.Ends.{view_uses}
+use Rattle.flat_rules.specs.Ends.{view_uses, to_begin}
 use Rattle.flat_states.specs.Flags.{has_end}
 use Rattle.flat_states.specs.Kept.{IsKept}
 use Rattle.flat_rules.specs.Numbers.{AllNumbered, number}
@@ -28,6 +29,7 @@ use Rattle.flat_states.specs.Logs.{Logged}
 use Rattle.flat_rules.specs.Posts.{posts}
 use Rattle.flat_states.specs.Seen.{seen_of}
 use Rattle.flat_states.specs.Viewports.{AreViewports}
+use Rattle.flat_rules.specs.Watch.{ratio_told}
 
 -- A board: the setup, the shares, and the history for which it stands.
 pub record Machine : Type 0 where
@@ -69,8 +71,16 @@ pub record MayLook (setup : Setup) (who : Actor) (c : Cond) : Type 0 where
 
 -- ---- what is kept
 
-abbrev pub clock_of : List Entry → Clock
-clock_of history = record { frames = frames history; is_open = is_frame_open history; time = begin_time history }
+-- the display's pixel ratios: that of now, and those of the begins of the last frame and of the last finished one
+abbrev pub ratios_of : Setup → List Entry → Ratios
+ratios_of setup history = record { latest = ratio setup history; begun = ratio setup (to_begin history); finished = ratio_told setup history }
+
+abbrev pub clock_of : Setup → List Entry → Clock
+clock_of setup history = record { frames = frames history; is_open = is_frame_open history; time = begin_time history; ratios = ratios_of setup history }
+
+-- the clock after an entry of no frame: a pixel ratio may have been set
+abbrev pub clock_then : Kind → Clock → Clock
+clock_then kind clock = record clock { ratios = record clock.ratios { latest = unwrap_or (ratio_set kind) clock.ratios.latest } }
 
 -- how many events may still be posted to a session for what it presented
 abbrev pub due : SessionState → ℕ
@@ -83,7 +93,7 @@ due_back ends = length ends.out.items
 -- The parts that stand for the history.
 pub record Stands (setup : Setup) (history : List Entry) (clock : Clock) (fences views : List Bool) (sessions : List SessionState) : Type 0 where
   pub legal : Legal setup history
-  pub timed : clock ≡ clock_of history
+  pub timed : clock ≡ clock_of setup history
   pub fence_count : length fences ≡ length setup.fences
   pub signalled : (f : FenceNo) → has fences f ≡ is_signalled setup history f
   pub view_count : length views ≡ length setup.pairs

@@ -6,11 +6,13 @@ use Rattle.flat_scene.specs.declared.calls.Call.TheVariants.{CreateView, Release
 use Rattle.flat_scene.specs.declared.journal.Told.{Told}
 use Rattle.flat_scene.specs.declared.journal.Told.TheVariants as tell
 use Rattle.flat_scene.specs.declared.calls.ViewportProps.{ViewportProps}
+use Rattle.flat_scene.specs.declared.setup.Setup.{Setup}
 use Rattle.flat_states.specs.declared.pairs.PairState.{PairState}
+use Rattle.flat_states.specs.declared.port.DisplayPort.{DisplayPort}
 use Rattle.flat_rules.specs.Legal.{number_if}
 use Rattle.flat_rules.specs.Shown.{is_pair}
 use Rattle.flat_rules.specs.Stamps.{stamp_then}
-use Rattle.flat_rules.specs.Watch.{layout_in}
+use Rattle.flat_rules.specs.Watch.{layout_in, display_props}
 
 -- the view after a call, and after several
 abbrev pub view_then : Option PairNo → Call → Option PairNo
@@ -35,9 +37,13 @@ ends_of p view (call ∷ calls) = number_if (ends_it p view call) + ends_of p (v
 
 -- ---- what the ends of a pair tell
 
--- the layout, by whether the viewport end is lost, whether both ends are used, and the properties
-abbrev pub layout_by : Bool → Bool → Option ViewportProps → Option Told
-layout_by lost joined props = cond lost (Some tell.Gone) (cond joined (option_map layout_in props) None)
+-- the display at a pixel ratio
+abbrev pub port_of : ℕ → Setup → DisplayPort
+port_of ratio setup = record { ratio = ratio; props = display_props ratio setup }
+
+-- the layout, by the display's pixel ratio, whether the viewport end is lost, whether both ends are used, and the properties
+abbrev pub layout_by : ℕ → Bool → Bool → Option ViewportProps → Option Told
+layout_by ratio lost joined props = cond lost (Some tell.Gone) (cond joined (option_map (layout_in ratio) props) None)
 
 -- the status, by whether the view's session is connected, and shows this view
 abbrev pub status_by : Bool → Bool → Bool → Option Told

@@ -1,4 +1,6 @@
-/// Which frame is open, and when the last one began.
+use crate::ratios::Ratios;
+
+/// Which frame is open, when the last one began, and the display's pixel ratios.
 #[derive(Clone, Copy, Debug, PartialEq, Eq)]
 pub struct Clock {
     /// How many are finished.
@@ -6,4 +8,5 @@ pub struct Clock {
     pub is_open: bool,
     /// When the last one began; 0 before the first.
     pub time: u64,
+    pub ratios: Ratios,
 }

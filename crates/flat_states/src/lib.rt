@@ -1,10 +1,12 @@
 //! What a board keeps of its sessions and of the pairs that link them, and its log:
 //! the presents that wait and what frames took of them (state), the viewports that
-//! live and the tokens that are out (viewports), and by what the ends of pairs are told
-//! (ties). Each part stands for a history by a record of its own (specs/).
+//! live and the tokens that are out (viewports), by what the ends of pairs are told
+//! (ties), the clock of frames and the display's pixel ratios (clock, ratios). Each part
+//! stands for a history by a record of its own (specs/).
 //!
 //! Other crates may cite the lemmas of proofs/lemmas/:
-//! - of histories: Between, Earlier, Serials, ShownFits, TokenLaw, Uses, ViewHistory, ViewLaw;
+//! - of histories: Between, Earlier, Ratios, Serials, ShownFits, TokenLaw, Uses, ViewHistory,
+//!   ViewLaw;
 //! - of drafts: LiveCounts, Lives, ViewCalls;
 //! - of what is kept of one session: Changes, Counts, Ones, StampSteps, Stamped, ViewSteps;
 //! - of tokens: Backs, Marks, TokensBack;
@@ -21,6 +23,8 @@ pub mod live;
 pub mod log;
 pub mod noted;
 pub mod pairs;
+pub mod port;
+pub mod ratios;
 pub mod state;
 pub mod ties;
 mod ties_tell;

@@ -10,14 +10,16 @@ ghost use Rattle.flat_rules.specs.Stamps.{is_seen};
 ghost use Rattle.flat_rules.specs.Shown.{is_pair};
 ghost use Rattle.flat_watch.specs.Told.{or_else};
 ghost use Rattle.flat_rules.specs.Watch.{are_joined, props_told, told, layout_of, status_of};
-ghost use Rattle.flat_rules.specs.Watch.{child_of};
+ghost use Rattle.flat_rules.specs.Watch.{child_of, ratio_told};
+ghost use Rattle.flat_states.specs.Views.{port_of};
 
 use crate::following::Sight;
 use crate::followings::NOTHING;
+use crate::port::DisplayPort;
 use crate::ties::Ties;
 use crate::told::{child_by, is_seen, layout_by, status_by};
 use flat_base::{Actor, PairNo, SessionNo};
-use flat_scene::{Inset, Setup, Told, ViewportProps};
+use flat_scene::{Setup, Told, ViewportProps};
 
 /// Whether an end is lost, by its owner and by the stamp of what loses it.
 fn is_lost(owner: Sight, stamp: Option<u32>) -> bool
@@ -90,24 +92,16 @@ impl Ties {
             }
     }
 
-    /// The properties of the viewport that the last use made.
-    fn props(&self, setup: &Setup, p: PairNo) -> Option<ViewportProps>
+    /// The properties of the viewport that the last use made, or those of the display.
+    fn props(&self, setup: &Setup, port: DisplayPort, p: PairNo) -> Option<ViewportProps>
         requires known { p.0 < length setup.now.pairs }
         requires kept { p.0 < length self.now.pairs.items }
         ensures { (h : List Entry) → AreTied setup.now h self.now.followings.items
-            self.now.pairs.items → result ≡ props_told setup.now (viewport_owner setup.now p) h p }
+            self.now.pairs.items → port ≡ port_of (ratio_told setup.now h) setup.now → result
+            ≡ props_told setup.now (viewport_owner setup.now p) h p }
     {
         match setup.pairs.at(p.0 as usize).viewport {
-            Actor::Display => Some(ViewportProps {
-                w: setup.width,
-                h: setup.height,
-                inset: Inset {
-                    top: 0,
-                    right: 0,
-                    bottom: 0,
-                    left: 0,
-                },
-            }),
+            Actor::Display => Some(port.props),
             Actor::Session(_) => {
                 let state = self.pairs.state(p);
                 latest(state.seen, state.given)
@@ -116,18 +110,27 @@ impl Ties {
         }
     }
 
-    /// The layout of a pair's view, where it is known whether its view end was used.
-    pub fn layout(&self, setup: &Setup, p: PairNo, is_viewed: bool) -> Option<Told>
+    /// The layout of a pair's view, where it is known whether its view end was used,
+    /// and what is told of the display.
+    pub fn layout(
+        &self,
+        setup: &Setup,
+        port: DisplayPort,
+        p: PairNo,
+        is_viewed: bool,
+    ) -> Option<Told>
         requires known { p.0 < length setup.now.pairs }
         requires kept { p.0 < length self.now.pairs.items }
         ensures { (h : List Entry) → AreTied setup.now h self.now.followings.items
-            self.now.pairs.items → Legal setup.now h → is_viewed
+            self.now.pairs.items → Legal setup.now h → port
+            ≡ port_of (ratio_told setup.now h) setup.now → is_viewed
             ≡ nat_lt 0 (length (view_uses p h)) → result ≡ told setup.now h (layout_of p) }
     {
         layout_by(
+            port.ratio,
             self.is_viewport_lost(setup, p),
             self.are_joined(setup, p, is_viewed),
-            self.props(setup, p),
+            self.props(setup, port, p),
         )
     }
 

@@ -10,7 +10,6 @@ ghost use Rattle.flat_rules.specs.Stamps.{is_seen, stamp_then};
 ghost use Rattle.flat_states.specs.Views.{layout_by, status_by, child_by};
 ghost use Rattle.flat_rules.specs.Watch.{layout_in};
 
-use flat_base::ONE;
 use flat_scene::{Layout, Told, ViewportProps};
 
 /// Whether the first so many presents have seen what has that stamp.
@@ -33,27 +32,30 @@ pub fn stamp_then(stamp: Option<u32>, does_it: bool, presents: u32) -> Option<u3
     }
 }
 
-/// The layout that the properties of a viewport give.
-fn layout_in(props: ViewportProps) -> Told
-    ensures { result ≡ layout_in props }
+/// The layout that the properties of a viewport give at a pixel ratio.
+fn layout_in(ratio: u32, props: ViewportProps) -> Told
+    ensures { result ≡ layout_in ratio props }
 {
     Told::Layout(Layout {
         w: props.w,
         h: props.h,
         inset: props.inset,
-        ratio: ONE,
+        ratio,
     })
 }
 
 /// What is told of a view's layout: that the viewport end is lost, or the layout
-/// where both ends are used.
-pub fn layout_by(lost: bool, joined: bool, props: Option<ViewportProps>) -> Option<Told>
-    ensures { result ≡ layout_by lost joined props }
+/// where both ends are used, at the display's pixel ratio.
+pub fn layout_by(ratio: u32, lost: bool, joined: bool, props: Option<ViewportProps>) -> Option<Told>
+    ensures { result ≡ layout_by ratio lost joined props }
 {
     if lost {
         return Some(Told::Gone);
     }
-    if joined { props.map(layout_in) } else { None }
+    match props {
+        Some(props) if joined => Some(layout_in(ratio, props)),
+        _ => None,
+    }
 }
 
 /// What is told of a view's status.

@@ -2,3 +2,4 @@
 pub mod Distances
 pub mod Distinct
 pub mod Rooted
+pub mod Ratios

@@ -4,7 +4,7 @@ use Rattle.flat_base.specs.declared.limits.TheConstants.{ONE, OPACITY_MAX}
 use Rattle.flat_base.specs.declared.shapes.IntRect.{IntRect}
 use Rattle.flat_base.specs.declared.shapes.Rect.{Rect}
 use Rattle.flat_geom.specs.declared.matrix.Matrix.{Matrix}
-use Rattle.flat_geom.specs.Matrices.{identity_matrix, composed, local_matrix}
+use Rattle.flat_geom.specs.Matrices.{scaling_matrix, composed, local_matrix}
 use Rattle.flat_geom.specs.Rectangles.{mapped_rect, shared_part, in_places, sized_rect}
 use Rattle.flat_scene.specs.declared.calls.ViewportProps.{ViewportProps}
 use Rattle.flat_scene.specs.declared.setup.Setup.{Setup}
@@ -29,9 +29,9 @@ pub record Space : Type 0 where
 abbrev pub display_rect : Setup → Rect
 display_rect setup = sized_rect setup.width setup.height
 
--- the space of the display
+-- the space of the display, which scales by its pixel ratio
 abbrev pub display_space : Setup → Space
-display_space setup = record { matrix = identity_matrix; clip = display_rect setup; opacity = OPACITY_MAX }
+display_space setup = record { matrix = scaling_matrix setup.ratio; clip = display_rect setup; opacity = OPACITY_MAX }
 
 -- a clip, cut by a clip boundary that is mapped by a matrix
 abbrev pub cut_clip : Rect → Matrix → Option IntRect → Rect

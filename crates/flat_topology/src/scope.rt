@@ -1,6 +1,7 @@
 ghost use Rattle.std.specs.Prelude.{◌≡◌, ◌<◌, ◌^◌, IfOk, Some};
 ghost use Rattle.flat_scene.specs.declared.trees.Content.TheVariants as content;
 ghost use Rattle.flat_scene.specs.declared.trees.Children.TheVariants.{Empty};
+ghost use Rattle.flat_scene.specs.Setups.{at_ratio};
 ghost use Rattle.flat_snap.specs.Flat.{lent};
 ghost use Rattle.flat_snap.specs.Forest.{as_node};
 ghost use Rattle.flat_topology.specs.Place.{seen_through, cut_clip, display_rect, display_space};
@@ -10,7 +11,7 @@ ghost use Rattle.flat_topology.specs.Walking.{space_of};
 
 use crate::Placed;
 use flat_base::{IntRect, Items, NoMemory, ONE, OPACITY_MAX, Rect, SessionNo};
-use flat_geom::{Matrix, compose, identity, intersect, local, map_rect, sized, units};
+use flat_geom::{Matrix, compose, intersect, local, map_rect, scaling, sized, units};
 use flat_scene::{Setup, ViewportProps};
 use flat_snap::FlatNode;
 use std::alloc::Global;
@@ -30,12 +31,12 @@ pub fn whole_display(setup: &Setup) -> Rect
     sized(setup.width, setup.height)
 }
 
-/// What the display hands on.
-pub fn outermost(setup: &Setup) -> Scope
-    ensures { space_of result ≡ display_space setup.now }
+/// What the display hands on at a pixel ratio.
+pub fn outermost(setup: &Setup, ratio: u32) -> Scope
+    ensures { space_of result ≡ display_space (at_ratio ratio setup.now) }
 {
     Scope {
-        matrix: identity(),
+        matrix: scaling(ratio),
         clip: whole_display(setup),
         opacity: OPACITY_MAX,
     }

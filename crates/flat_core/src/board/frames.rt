@@ -1,9 +1,11 @@
-//! The entries of the display: a frame begins, ends, or a point is asked of it.
+//! The entries of the display: its pixel ratio is set, a frame begins, ends, or a point is
+//! asked of it.
 ghost use Rattle.std.specs.Prelude.{◌≡◌, ◌+◌, Some, true, false, not, ◌&&◌, List, [], ◌∷◌};
 ghost use Rattle.std.specs.Prelude.{◌++◌, slice_get};
 ghost use Rattle.std.specs.List.{list_any};
 ghost use Rattle.flat_base.specs.declared.ids.SessionNo.{SessionNo};
-ghost use Rattle.flat_scene.specs.Frames.{going, is_ready, is_signalled, is_unsquashable, waiting};
+ghost use Rattle.flat_scene.specs.Frames.{going, is_ready, is_signalled, is_unsquashable, ratio};
+ghost use Rattle.flat_scene.specs.Frames.{waiting};
 ghost use Rattle.flat_scene.specs.History.{is_closed, Published};
 ghost use Rattle.flat_topology.specs.Changes.{AreSame};
 ghost use Rattle.flat_states.specs.Machines.{MayCall, entered};
@@ -18,24 +20,26 @@ use flat_base::{Actor, FrameNo};
 use flat_gets::telling::Telling;
 use flat_scene::{CallList, Entry, Kind, Reply, SessionSet};
 use flat_states::clock::Clock;
+use flat_states::port::port_of;
 use flat_topology::Shown;
 
 impl Board {
     ghost use Rattle.flat_base.specs.declared.ids.Actor.TheVariants.{Display};
-    ghost use Rattle.flat_scene.specs.declared.journal.Kind.TheVariants.{Begin, Finish, Hit};
+    ghost use Rattle.flat_scene.specs.declared.journal.Kind.TheVariants.{Begin, Dpr, Finish, Hit};
     ghost use Rattle.flat_scene.specs.declared.journal.Reply.TheVariants.{Done};
 
     /// Begins a frame. The states shown are made those of this frame: what was taken
     /// last of each open session, and nothing of a closed one. Of an open session the
     /// first present that still waits wasn't ready, or follows an unsquashable one that
     /// was taken; and an unsquashable one that was taken is the last, and is shown.
-    /// Answers the frame's number, and the sessions of which another state may be shown
-    /// than before. It takes no memory.
+    /// Answers the frame's number, its pixel ratio, which is the one set last, and the
+    /// sessions of which another state may be shown than before. It takes no memory.
     pub fn begin(&mut self, line: u32, time: u64, into: &mut Shown) -> Begun
         requires may { MayCall self.old Display [] (Begin time) }
         requires shown { into.old ≡ shown_states self.old.setup (to_begin self.old.history) }
         ensures entry { self.new ≡ entered self.old Display line [] (Begin time) Done }
         ensures frame { result.frame.0 ≡ frames self.new.history + 1 }
+        ensures ratio { result.ratio ≡ ratio self.new.setup self.new.history }
         ensures shown { into.new ≡ shown_states self.new.setup self.new.history }
         ensures changed { AreSame result.changed into.old into.new }
         ensures next { (s : SessionNo) (present : Published) → is_closed s self.old.history
@@ -62,10 +66,12 @@ impl Board {
         self.ties.begin(&self.setup, self.sessions.as_slice(), into);
         self.owed -= count;
         let frames = self.clock.frames;
+        let ratios = self.clock.ratios.begin();
         self.clock = Clock {
             frames,
             is_open: true,
             time,
+            ratios,
         };
         self.log.enter(Entry {
             actor: Actor::Display,
@@ -76,6 +82,7 @@ impl Board {
         });
         Begun {
             frame: FrameNo(frames + 1),
+            ratio: ratios.begun,
             changed,
         }
     }
@@ -88,8 +95,10 @@ impl Board {
         ensures frame { result.0 ≡ frames self.new.history }
     {
         self.ties.finish(&self.setup);
+        let ratios = self.clock.ratios.finish();
         let telling = Telling {
             setup: &self.setup,
+            port: port_of(ratios.finished, &self.setup),
             ties: &self.ties,
             views: &self.view_ends,
         };
@@ -110,6 +119,7 @@ impl Board {
             frames,
             is_open: false,
             time,
+            ratios,
         };
         self.log.enter(Entry {
             actor: Actor::Display,
@@ -119,6 +129,24 @@ impl Board {
             reply: Reply::Done,
         });
         FrameNo(frames)
+    }
+
+    /// Sets the display's pixel ratio, for the frames that begin from now on. It takes
+    /// no memory.
+    pub fn dpr(&mut self, line: u32, ratio: u32) -> Reply
+        requires { MayCall self.old Display [] (Dpr ratio) }
+        ensures reply { result ≡ Done }
+        ensures entry { self.new ≡ entered self.old Display line [] (Dpr ratio) result }
+    {
+        self.clock.ratios = self.clock.ratios.set(ratio);
+        self.log.enter(Entry {
+            actor: Actor::Display,
+            line,
+            calls: CallList::new(self.alloc),
+            kind: Kind::Dpr(ratio),
+            reply: Reply::Done,
+        });
+        Reply::Done
     }
 
     /// Asks what a point of the last finished frame hits. Who composes the frames

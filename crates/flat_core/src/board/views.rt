@@ -9,6 +9,7 @@ use crate::board::{Back, Board, number_if};
 use flat_base::{Actor, PairNo, SessionNo};
 use flat_gets::telling::Telling;
 use flat_scene::{CallList, Entry, Kind, Reply, ViewportProps, Watch};
+use flat_states::port::port_of;
 use flat_states::state::{SessionState, note};
 use flat_states::views::{get_in, note_ends, use_ends, view_in, viewport_in};
 
@@ -86,6 +87,7 @@ impl Board {
         note(&mut state.account, calls.as_slice());
         let telling = Telling {
             setup: &self.setup,
+            port: port_of(self.clock.ratios.finished, &self.setup),
             ties: &self.ties,
             views: &self.view_ends,
         };
@@ -126,6 +128,7 @@ impl Board {
     {
         let telling = Telling {
             setup: &self.setup,
+            port: port_of(self.clock.ratios.finished, &self.setup),
             ties: &self.ties,
             views: &self.view_ends,
         };

@@ -24,9 +24,10 @@ use Rattle.flat_rules.specs.Posts.{posts, events_to, Sent}
 use Rattle.flat_fence.specs.Fences.{has}
 use Rattle.flat_scene.specs.Frames.{is_ready}
 use Rattle.flat_states.specs.declared.clock.Clock.{Clock}
+use Rattle.flat_states.specs.declared.ratios.Ratios.{Ratios}
 use Rattle.flat_states.specs.declared.state.SessionState.{SessionState}
 use Rattle.flat_states.specs.Begins.{begun, begin_entry, finished, finish_entry, post_of, posts_to}
-use Rattle.flat_states.specs.Machines.{Machine, MayCall, Stands, HasRoom, entry_of}
+use Rattle.flat_states.specs.Machines.{Machine, MayCall, Stands, HasRoom, entry_of, ratios_of}
 use Rattle.flat_rules.specs.Numbers.{number, AllNumbered}
 use Rattle.flat_states.specs.Kept.{IsKept}
 use Rattle.flat_states.specs.Logs.{Logged}
@@ -78,16 +79,18 @@ pub kept-begun : (m : Machine) (line time : ℕ) → MayCall m Display [] (Begin
     → Stands m.setup log.history clock fences views sessions → HasRoom m.setup m.shares log owed dues
     → length after ≡ m.setup.sessions → AllNumbered (λ i. IsKept m.setup (seen_of m.setup (begun m.history line time) (number i))) after
     → Framed m.setup m.history (begin_entry line time) log mid then count dues dues_now
-    → Stands m.setup then.history (record { frames = clock.frames; is_open = true; time = time }) fences views after × HasRoom m.setup m.shares then (owed - count) dues_now
-kept-begun m line time call clock fences views sessions after log mid then owed count {dues} {dues_now} same stands room all each framed =
+    → (ratios : Ratios) → (clock.ratios ≡ ratios_of m.setup m.history → ratios ≡ ratios_of m.setup (begun m.history line time))
+    → Stands m.setup then.history (record { frames = clock.frames; is_open = true; time = time; ratios = ratios }) fences views after × HasRoom m.setup m.shares then (owed - count) dues_now
+kept-begun m line time call clock fences views sessions after log mid then owed count {dues} {dues_now} same stands room all each framed ratios noted =
     let h : List Entry = m.history in
     let e : Entry = begin_entry line time in
     let old : Stands m.setup h clock fences views sessions = rw (← same) stands in
     let now : then.history ≡ (h ▹ e) = framed.entered.history ∙ rw (framed.history, same) refl in
     let ticks : clock.frames ≡ frames h = ap (λ (c : Clock). c.frames) old.timed in
-    let is : Stands m.setup (h ▹ e) (record { frames = clock.frames; is_open = true; time = time }) fences views after = record {
+    let told : ratios ≡ ratios_of m.setup (h ▹ e) = noted (ap (λ (c : Clock). c.ratios) old.timed) in
+    let is : Stands m.setup (h ▹ e) (record { frames = clock.frames; is_open = true; time = time; ratios = ratios }) fences views after = record {
       legal = (old.legal, legal-entered m Display line [] (Begin time) Done call refl);
-      timed = rw (frames-quiet h e refl, ticks) refl;
+      timed = rw (frames-quiet h e refl, ticks, told) refl;
       fence_count = old.fence_count;
       signalled = λ f. old.signalled f ∙ or-false _;
       view_count = old.view_count;
@@ -169,8 +172,9 @@ pub kept-finished : (m : Machine) (line : ℕ) → MayCall m Display [] Finish
     → length after ≡ m.setup.sessions → AllNumbered (λ i. IsKept m.setup (seen_of m.setup (finished m.history line) (number i))) after
     → length signalled_now ≡ length fences → ((g : FenceNo) → has signalled_now g ≡ (has fences g || released_to m.setup m.history m.setup.sessions g))
     → Framed m.setup m.history (finish_entry line) log mid then count dues dues_now
-    → Stands m.setup then.history (record { frames = clock.frames + 1; is_open = false; time = clock.time }) signalled_now views after × HasRoom m.setup m.shares then (owed - count) dues_now
-kept-finished m line call clock fences signalled_now views sessions after log mid then owed count {dues} {dues_now} same stands room all each size members framed =
+    → (ratios : Ratios) → (clock.ratios ≡ ratios_of m.setup m.history → ratios ≡ ratios_of m.setup (finished m.history line))
+    → Stands m.setup then.history (record { frames = clock.frames + 1; is_open = false; time = clock.time; ratios = ratios }) signalled_now views after × HasRoom m.setup m.shares then (owed - count) dues_now
+kept-finished m line call clock fences signalled_now views sessions after log mid then owed count {dues} {dues_now} same stands room all each size members framed ratios noted =
     let h : List Entry = m.history in
     let e : Entry = finish_entry line in
     let old : Stands m.setup h clock fences views sessions = rw (← same) stands in
@@ -178,9 +182,10 @@ kept-finished m line call clock fences signalled_now views sessions after log mi
     let ticks : clock.frames ≡ frames h = ap (λ (c : Clock). c.frames) old.timed in
     let times : clock.time ≡ begin_time h = ap (λ (c : Clock). c.time) old.timed in
     let more : frames (h ▹ e) ≡ frames h + 1 = sym (add-one (frames h)) in
-    let is : Stands m.setup (h ▹ e) (record { frames = clock.frames + 1; is_open = false; time = clock.time }) signalled_now views after = record {
+    let told : ratios ≡ ratios_of m.setup (h ▹ e) = noted (ap (λ (c : Clock). c.ratios) old.timed) in
+    let is : Stands m.setup (h ▹ e) (record { frames = clock.frames + 1; is_open = false; time = clock.time; ratios = ratios }) signalled_now views after = record {
       legal = (old.legal, legal-entered m Display line [] Finish Done call refl);
-      timed = rw (more, ticks, times) refl;
+      timed = rw (more, ticks, times, told) refl;
       fence_count = size ∙ old.fence_count;
       signalled = λ f. members f ∙ ap (λ b. b || released_to m.setup h m.setup.sessions f) (old.signalled f);
       view_count = old.view_count;

@@ -17,7 +17,7 @@ use Rattle.flat_scene.specs.declared.calls.Watch.{Watch}
 use Rattle.flat_scene.specs.declared.journal.Entry.{Entry}
 use Rattle.flat_scene.specs.declared.journal.Event.{Event}
 use Rattle.flat_scene.specs.declared.journal.Kind.{Kind}
-use Rattle.flat_scene.specs.declared.journal.Kind.TheVariants.{Begin, Close, End, Finish, Get, Hit, Poll, Present, Signal, View, Viewport, Wait}
+use Rattle.flat_scene.specs.declared.journal.Kind.TheVariants.{Begin, Close, Dpr, End, Finish, Get, Hit, Poll, Present, Signal, View, Viewport, Wait}
 use Rattle.flat_scene.specs.declared.journal.Post.{Post}
 use Rattle.flat_scene.specs.declared.journal.Reply.{Reply}
 use Rattle.flat_scene.specs.declared.journal.Reply.TheVariants.{Now}
@@ -125,6 +125,7 @@ gets-fewer (h ▹ e) open_frame = by_kind (λ still. gets-fewer h still) e.kind 
     by_kind rest (End n) is = by_begin rest (End n) refl is
     by_kind rest Finish is = by_begin rest Finish refl is
     by_kind rest (Hit x y) is = by_begin rest (Hit x y) refl is
+    by_kind rest (Dpr ratio) is = by_begin rest (Dpr ratio) refl is
 
 -- what is kept of each session is few, where the history is short
 pub few-all : (setup : Setup) (h : List Entry) (gets : List Gets) (last : List Answered) → AreWatched setup h gets last → length h < 2 ^ 32 - 1 → AllNumbered is_few gets

@@ -1,6 +1,6 @@
 -- Forms, as the code reads them place by place.
 use Rattle.std.proofs.lemmas.List.Splits.{length-slice_split}
-use Rattle.std.proofs.Common.{is_some, IfOk, ◌++◌, ◌<◌, length, append_assoc, append-nil, ◌≡◌, ℕ, Bool, true, false, List, [], ◌∷◌, Option, Some, None, Result, Ok, Err, refl, sym, ◌∙◌, ap, arith, cond, nat_le}
+use Rattle.std.proofs.Common.{is_some, IfOk, ◌++◌, ◌<◌, length, append_assoc, append-nil, ◌≡◌, ℕ, Bool, true, false, List, [], ◌∷◌, Option, Some, None, Result, Ok, Err, refl, sym, ◌∙◌, ap, arith, cond, nat_le, nat_lt, ◌≤◌}
 use Rattle.std.proofs.lemmas.Bool.Decides.{nat_tests}
 use Rattle.std.specs.List.{slice_split, onto_first}
 use Rattle.std.specs.Borrow.{Bor}
@@ -10,7 +10,8 @@ use Rattle.flat_places.specs.declared.kinds.FaultKind.TheVariants.{WrongCount}
 use Rattle.flat_places.specs.declared.places.Places.{Places}
 use Rattle.flat_places.specs.Kinds.{number, lower_kind}
 use Rattle.flat_places.specs.Forms.{place, each, optional, one_or_more, Word, Reading, Form, both, mapped, nothing, whole, give, passes, unless_kind, ◌<$>◌, ◌<*>◌}
-use Rattle.flat_places.specs.Places.{region, regions, transform, transforms}
+use Rattle.flat_base.specs.declared.limits.TheConstants.{RATIO_SINCE}
+use Rattle.flat_places.specs.Places.{region, regions, transform, transforms, ratio, first_ratio}
 use Rattle.flat_places.specs.Reads.{Reads, sofar, left, lower, giving, finished}
 
 -- a text has a piece at least
@@ -257,3 +258,10 @@ read_one_or_more test {p = p} some read = same_form (λ ws. (one_or_more test ws
 pub if_ok : {A E : Type 0} (P Q : A → Type 0) (r : Result A E) → ((v : A) → P v → Q v) → IfOk r P → IfOk r Q
 if_ok P Q (Ok v) weaker holds = weaker v holds
 if_ok P Q (Err e) weaker holds = tt
+
+-- ---- pixel ratios
+
+-- the first pixel ratio, where a word is left and the version has ratios
+pub first_ratio_some : (version : ℕ) (xs : List Word) → 0 < length xs → RATIO_SINCE ≤ version → first_ratio version xs ≡ ratio xs
+first_ratio_some version [] some has = absurd (omega arith)
+first_ratio_some version (w ∷ ws) some has = let late : nat_lt version RATIO_SINCE ≡ false = grind (arith, nat_tests) in rw late refl

@@ -10,7 +10,7 @@ use Rattle.flat_scene.specs.declared.frames.Hit as point
 use Rattle.flat_scene.specs.declared.frames.SessionSet.{SessionSet}
 use Rattle.flat_scene.specs.declared.journal.Entry.{Entry}
 use Rattle.flat_scene.specs.declared.journal.Kind.{Kind}
-use Rattle.flat_scene.specs.declared.journal.Kind.TheVariants.{Begin, Finish, End, Hit, Signal, Wait}
+use Rattle.flat_scene.specs.declared.journal.Kind.TheVariants.{Begin, Dpr, Finish, End, Hit, Signal, Wait}
 use Rattle.flat_scene.specs.declared.journal.Reply.{Reply}
 use Rattle.flat_scene.specs.declared.journal.Reply.TheVariants.{Done}
 use Rattle.flat_scene.specs.declared.script.Cond.{Cond}
@@ -25,7 +25,8 @@ use Rattle.flat_scene.specs.declared.script.ScriptLine.{ScriptLine}
 use Rattle.flat_scene.specs.declared.setup.Setup.{Setup}
 use Rattle.flat_scene.specs.History.{◌▹◌, is_display, is_begin, is_finish, is_end}
 use Rattle.flat_scene.specs.Interleave.{display_lines, display_line, by_display, unread_lines, entry_of_display, FollowsDisplay}
-use Rattle.flat_scene.specs.Setups.{is_declared}
+use Rattle.flat_scene.specs.Frames.{ratio}
+use Rattle.flat_scene.specs.Setups.{at_ratio, is_declared, is_ratio}
 use Rattle.flat_core.specs.Machines.{Machine, MayCall, HasShare, entry_of}
 use Rattle.flat_rules.specs.Ends.{to_begin, to_finished, has_view}
 use Rattle.flat_rules.specs.Legal.{is_frame_open, begin_time, frames, is_fence, names_declared, display_may}
@@ -201,6 +202,13 @@ may_signal_fence m f share named = record {
   share = share;
 }
 
+-- so may a pixel ratio that a display may have
+pub may_dpr : (m : Machine) (to : ℕ) → HasShare m Display → is_ratio to ≡ true → MayCall m Display [] (Dpr to)
+may_dpr m to share named = record {
+  may = record { acts = refl; lasts = refl; times = refl; drafted = refl; calls = refl; links = refl; owned = refl; named = named; tree = refl; watcher = refl };
+  share = share;
+}
+
 waits_for : (m : Machine) (c : Cond) → HasShare m Display → display_may (Wait c) ≡ true → names_declared m.setup (Wait c) ≡ true → MayCall m Display [] (Wait c)
 waits_for m c share acts named = record {
   may = record { acts = acts; lasts = refl; times = refl; drafted = refl; calls = refl; links = refl; owned = refl; named = named; tree = refl; watcher = refl };
@@ -226,31 +234,34 @@ pub finished-session : (setup : Setup) (old new : List Entry) → QuietStep old 
 finished-session setup old new (same now) = ap (finished setup) now
 finished-session setup old new (more e other quiet now) = ap (finished setup) now ∙ finished-beside setup old e (quiet_finish e.kind quiet)
 
-module _ (setup : Setup) (old : List Entry) (shown : Shown) (views : SessionSet) (stands : FramesStand setup old shown views) where
+module _ (setup : Setup) (old : List Entry) (shown : Shown) (at : ℕ) (views : SessionSet) (stands : FramesStand setup old shown at views) where
   -- an entry that begins no frame and ends none
-  pub frames_beside : (e : Entry) → is_begin e.kind ≡ false → FramesStand setup (old ▹ e) shown views
+  pub frames_beside : (e : Entry) → is_begin e.kind ≡ false → FramesStand setup (old ▹ e) shown at views
   frames_beside e no_begin =
       let begun : to_begin (old ▹ e) ≡ to_begin old = rw no_begin refl in
       record {
         showing = stands.showing ∙ ap (shown_states setup) (sym begun);
+        scaling = stands.scaling ∙ ap (ratio setup) (sym begun);
         viewing = λ s declared. stands.viewing s declared ∙ ap (λ h. has_view setup h s) (sym begun);
       }
 
-  pub frames_session : (new : List Entry) → QuietStep old new → FramesStand setup new shown views
-  frames_session new (same now) = let P : List Entry → Type 0 = λ h. FramesStand setup h shown views in subst P (sym now) stands
-  frames_session new (more e other quiet now) = let P : List Entry → Type 0 = λ h. FramesStand setup h shown views in subst P (sym now) (frames_beside e (quiet_begin e.kind quiet))
+  pub frames_session : (new : List Entry) → QuietStep old new → FramesStand setup new shown at views
+  frames_session new (same now) = let P : List Entry → Type 0 = λ h. FramesStand setup h shown at views in subst P (sym now) stands
+  frames_session new (more e other quiet now) = let P : List Entry → Type 0 = λ h. FramesStand setup h shown at views in subst P (sym now) (frames_beside e (quiet_begin e.kind quiet))
 
-  pub frames_begin : (n time : ℕ) (new_shown : Shown) (new_views : SessionSet)
+  pub frames_begin : (n time : ℕ) (new_shown : Shown) (new_at : ℕ) (new_views : SessionSet)
       → new_shown ≡ shown_states setup (old ▹ entry_of Display n [] (Begin time) Done)
+      → new_at ≡ ratio setup (old ▹ entry_of Display n [] (Begin time) Done)
       → ((s : SessionNo) → is_declared setup s ≡ true → is_member new_views s.0 ≡ has_view setup (old ▹ entry_of Display n [] (Begin time) Done) s)
-      → FramesStand setup (old ▹ entry_of Display n [] (Begin time) Done) new_shown new_views
-  frames_begin n time new_shown new_views shows views_are = record {
+      → FramesStand setup (old ▹ entry_of Display n [] (Begin time) Done) new_shown new_at new_views
+  frames_begin n time new_shown new_at new_views shows scales views_are = record {
     showing = shows;
+    scaling = scales;
     viewing = views_are;
   }
 
-  pub frames_done : (n : ℕ) → FramesStand setup (old ▹ entry_of Display n [] Finish Done) shown views
-  frames_done n = record { showing = stands.showing; viewing = stands.viewing }
+  pub frames_done : (n : ℕ) → FramesStand setup (old ▹ entry_of Display n [] Finish Done) shown at views
+  frames_done n = record { showing = stands.showing; scaling = stands.scaling; viewing = stands.viewing }
 
 -- ---- answers
 
@@ -264,6 +275,7 @@ module _ (setup : Setup) (old : List Entry) (last : LastFrame) (answers : List H
         number = stands.number ∙ sym as_many;
         is_last = stands.is_last;
         showing = stands.showing ∙ ap (shown_states setup) (sym ended);
+        scaling = stands.scaling ∙ ap (ratio setup) (sym ended);
         answering = stands.answering ∙ sym (append-nil (answers_of setup old)) ∙ ap (λ (more : List HitAnswer). answers_of setup old ++ more) (sym none);
       }
 
@@ -274,11 +286,13 @@ module _ (setup : Setup) (old : List Entry) (last : LastFrame) (answers : List H
       subst P (sym now) (answers_beside e (quiet_finish e.kind quiet) (quiet_answers e (frames old) (hits_at setup (to_finished old)) e.kind quiet))
 
   -- the end of a frame
-  pub answers_done : (n : ℕ) (then : LastFrame) → then.frame.0 ≡ suc (frames old) → IsLast setup then → then.reuse ≡ shown_states setup (to_begin old) → AnswersStand setup (old ▹ entry_of Display n [] Finish Done) then answers
-  answers_done n then number is showing = record {
+  pub answers_done : (n : ℕ) (then : LastFrame) → then.frame.0 ≡ suc (frames old) → IsLast setup then → then.reuse ≡ shown_states setup (to_begin old) → then.ratio ≡ ratio setup (to_begin old)
+      → AnswersStand setup (old ▹ entry_of Display n [] Finish Done) then answers
+  answers_done n then number is showing scaling = record {
     number = number;
     is_last = is;
     showing = showing;
+    scaling = scaling;
     answering = stands.answering ∙ sym (append-nil (answers_of setup old));
   }
 
@@ -288,22 +302,24 @@ module _ (setup : Setup) (old : List Entry) (last : LastFrame) (answers : List H
     number = ap (λ (f : FrameNo). f.0) stays.frame ∙ stands.number;
     is_last = stays.is;
     showing = stays.reuse ∙ stands.showing;
+    scaling = stays.ratio ∙ stands.scaling;
     answering = stands.answering;
   }
 
   -- a point
   pub answers_point : (n : ℕ) (x y : ℤ) (then : LastFrame) (all : List HitAnswer) → StaysLast setup last then
-      → all ≡ answers ++ (record { actor = Display; line = n; frame = last.frame; hits = hit_list setup last.reuse x y }) ∷ [] → AnswersStand setup (old ▹ entry_of Display n [] (Hit x y) Done) then all
+      → all ≡ answers ++ (record { actor = Display; line = n; frame = last.frame; hits = hit_list (at_ratio last.ratio setup) last.reuse x y }) ∷ [] → AnswersStand setup (old ▹ entry_of Display n [] (Hit x y) Done) then all
   answers_point n x y then all stays is =
-      let hits : hit_list setup last.reuse x y ≡ hits_at setup (to_finished old) x y = ap (λ (sh : Shown). hit_list setup sh x y) stands.showing in
+      let hits : hit_list (at_ratio last.ratio setup) last.reuse x y ≡ hits_at setup (to_finished old) x y = λ i. hit_list (at_ratio (stands.scaling i) setup) (stands.showing i) x y in
       let one : FrameNo → List point.Hit → List HitAnswer = λ f hs. (record { actor = Display; line = n; frame = f; hits = hs }) ∷ [] in
       let number : last.frame ≡ record { 0 = frames old } = ap (λ (k : ℕ). let f : FrameNo = record { 0 = k } in f) stands.number in
       record {
         number = ap (λ (f : FrameNo). f.0) stays.frame ∙ stands.number;
         is_last = stays.is;
         showing = stays.reuse ∙ stands.showing;
-        answering = is ∙ ap (λ (given : List HitAnswer). given ++ one last.frame (hit_list setup last.reuse x y)) stands.answering
-            ∙ ap (λ (f : FrameNo). answers_of setup old ++ one f (hit_list setup last.reuse x y)) number ∙ ap (λ (hs : List point.Hit). answers_of setup old ++ one (record { 0 = frames old }) hs) hits;
+        scaling = stays.ratio ∙ stands.scaling;
+        answering = is ∙ ap (λ (given : List HitAnswer). given ++ one last.frame (hit_list (at_ratio last.ratio setup) last.reuse x y)) stands.answering
+            ∙ ap (λ (f : FrameNo). answers_of setup old ++ one f (hit_list (at_ratio last.ratio setup) last.reuse x y)) number ∙ ap (λ (hs : List point.Hit). answers_of setup old ++ one (record { 0 = frames old }) hs) hits;
       }
 
 pub may_hit : (m : Machine) (x y : ℤ) → HasShare m Display → MayCall m Display [] (Hit x y)

@@ -13,7 +13,9 @@ use Rattle.flat_core.specs.Machines.{Machine}
 use Rattle.flat_rules.specs.Ends.{to_begin}
 use Rattle.flat_rules.specs.Laws.{BegunStatesFit, EachSessionHasOneState}
 use Rattle.flat_rules.specs.Legal.{Legal, frames}
+use Rattle.flat_scene.specs.Frames.{ratio, setup_at}
 use Rattle.flat_rules.specs.Shown.{shown_states}
+use Rattle.flat_topology.proofs.lemmas.Ratios.{fits-at}
 use Rattle.flat_rules.proofs.lemmas.AllOrSome.{all-append}
 use Rattle.flat_places.specs.declared.script.Script.{Script}
 use Rattle.flat_report.specs.declared.report.HitAnswer.{HitAnswer}
@@ -44,7 +46,7 @@ within views states sessions below each = grind (arith, nat_tests)
 -- the views are a tree
 pub trees-finished : ViewsAreATree → BegunStatesFit → (setup : Setup) (history : List Entry) → Legal setup history → IsTrue (list_all (λ out. is_tree out.tree.nodes) (finished setup history))
 trees-finished tree begun setup history legal =
-    all-finished setup (λ (out : FrameOut). is_tree out.tree.nodes) (λ n before before_legal. tree setup (shown_states setup (to_begin before)) (begun setup before before_legal)) history legal
+    all-finished setup (λ (out : FrameOut). is_tree out.tree.nodes) (λ n before before_legal. tree (setup_at setup (to_begin before)) (shown_states setup (to_begin before)) (fits-at (ratio setup (to_begin before)) setup (shown_states setup (to_begin before)) (begun setup before before_legal))) history legal
 
 -- and no more than there are sessions
 pub few-finished : ViewsAreFew → BegunStatesFit → EachSessionHasOneState → (setup : Setup) (history : List Entry) → Legal setup history
@@ -53,7 +55,8 @@ few-finished few begun each setup history legal =
     all-finished setup (λ (out : FrameOut). nat_le (length out.tree.nodes) setup.sessions)
     (λ n before before_legal.
     let shown : Shown = shown_states setup (to_begin before) in
-    within (length (view_nodes setup shown)) (length shown) setup.sessions (few setup shown (begun setup before before_legal)) (each setup (to_begin before)))
+    let there : Setup = setup_at setup (to_begin before) in
+    within (length (view_nodes there shown)) (length shown) setup.sessions (few there shown (fits-at (ratio setup (to_begin before)) setup shown (begun setup before before_legal))) (each setup (to_begin before)))
     history legal
 
 -- ---- the frames of a script that was played

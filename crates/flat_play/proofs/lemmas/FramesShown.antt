@@ -8,7 +8,8 @@ use Rattle.flat_scene.specs.declared.frames.SessionSet.{SessionSet}
 use Rattle.flat_scene.specs.declared.journal.Entry.{Entry}
 use Rattle.flat_scene.specs.declared.setup.Setup.{Setup}
 use Rattle.flat_scene.specs.History.{◌▹◌, is_begin, is_finish, seat_number}
-use Rattle.flat_scene.specs.Setups.{is_declared}
+use Rattle.flat_scene.specs.Frames.{ratio, setup_at}
+use Rattle.flat_scene.specs.Setups.{at_ratio, is_declared}
 use Rattle.flat_core.specs.Machines.{made}
 use Rattle.flat_rules.specs.Ends.{to_begin, to_finished}
 use Rattle.flat_rules.specs.Laws.{BegunStatesFit, EachSessionHasOneState}
@@ -20,7 +21,11 @@ use Rattle.flat_play.specs.Playing.{FramesStand, HasViews}
 use Rattle.flat_rules.proofs.lemmas.FrameKinds.{not-finish}
 use Rattle.flat_base.proofs.lemmas.Tests.{and-left}
 
-module _ (setup : Setup) (history : List Entry) (shown : Shown) (views : SessionSet) (stands : FramesStand setup history shown views) where
+-- the setup at a pixel ratio that is the one after a history
+pub scaled : (setup : Setup) (history : List Entry) (at : ℕ) → at ≡ ratio setup history → at_ratio at setup ≡ setup_at setup history
+scaled setup history at is = ap (λ r. at_ratio r setup) is
+
+module _ (setup : Setup) (history : List Entry) (shown : Shown) (at : ℕ) (views : SessionSet) (stands : FramesStand setup history shown at views) where
   pub shown_count : EachSessionHasOneState → length shown ≡ setup.sessions
   shown_count each = ap (length {A = _}) stands.showing ∙ each setup (to_begin history)
 

@@ -3,6 +3,7 @@ use Rattle.std.proofs.Common.{◌≡◌, ℕ, zero, suc, ◌+◌, ◌<◌, ◌�
 use Rattle.std.specs.List.{list_any}
 use Rattle.flat_scene.specs.declared.frames.SessionSet.{SessionSet}
 use Rattle.flat_scene.specs.declared.setup.Setup.{Setup}
+use Rattle.flat_scene.specs.Setups.{at_ratio}
 use Rattle.flat_topology.specs.Changes.{AreSame}
 use Rattle.flat_topology.specs.Fit.{FitsSetup}
 use Rattle.flat_topology.specs.Shown.{Shown}
@@ -30,13 +31,15 @@ all-same changed old new none long same =
     same-states old new long (λ i within. same (suc i) (let low : suc i ≤ length new = omega (arith, within) in low) (no-member changed.has none i))
 
 -- what is joined of a frame is put back
-pub joined-again : (setup : Setup) (last new : LastFrame) → IsLast setup last → new.frame ≡ last.frame → new.reuse ≡ last.reuse → IsJoined setup last.reuse new.joined → StaysLast setup last new
-joined-again setup last new is number shows joined = record {
+pub joined-again : (setup : Setup) (last new : LastFrame) → IsLast setup last → new.frame ≡ last.frame → new.reuse ≡ last.reuse → new.ratio ≡ last.ratio
+    → IsJoined (at_ratio last.ratio setup) last.reuse new.joined → StaysLast setup last new
+joined-again setup last new is number shows scales joined = record {
   frame = number;
+  ratio = scales;
   reuse = shows;
   is = record {
     count = ap length shows ∙ is.count;
     fits = subst (FitsSetup setup) (sym shows) is.fits;
-    joined = subst (λ (shown : Shown). IsJoined setup shown new.joined) (sym shows) joined;
+    joined = subst (λ (r : ℕ). IsJoined (at_ratio r setup) new.reuse new.joined) (sym scales) (subst (λ (shown : Shown). IsJoined (at_ratio last.ratio setup) shown new.joined) (sym shows) joined);
   };
 }

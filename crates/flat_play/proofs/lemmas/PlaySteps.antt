@@ -23,10 +23,10 @@ use Rattle.flat_scene.specs.declared.script.Line.{Line}
 use Rattle.flat_scene.specs.declared.script.ProbeLine.{ProbeLine}
 use Rattle.flat_scene.specs.declared.script.ScriptLine.{ScriptLine}
 use Rattle.flat_scene.specs.declared.setup.Setup.{Setup}
-use Rattle.flat_scene.specs.Frames.{sessions_to}
+use Rattle.flat_scene.specs.Frames.{ratio, sessions_to}
 use Rattle.flat_scene.specs.Interleave.{entry_of_display}
 use Rattle.flat_scene.specs.History.{◌▹◌, is_begin, is_end, is_finish, is_session}
-use Rattle.flat_scene.specs.Setups.{is_declared}
+use Rattle.flat_scene.specs.Setups.{at_ratio, is_declared}
 use Rattle.flat_core.specs.Machines.{Machine, HasShare, entered, entry_of, made}
 use Rattle.flat_topology.specs.Hits.{hit_list}
 use Rattle.flat_rules.specs.Ends.{to_begin, to_finished, has_view}
@@ -196,8 +196,8 @@ module _ (script : Script) (place : ℕ) (x : ScriptLine) (at : At script place 
   -- a line of a session, which its reader has played
   pub session_more : (old new : Play) (s : SessionNo) (text : Line) (reader : Reader) → x.actor ≡ Session s → x.body ≡ body.Session text → is_declared script.setup s ≡ true → PlayStands script place old
       → new.readers.items ≡ set old.readers.items (s.0 - 1) reader → ReaderStands script s (place + 1) new.board.history reader → Grows old.board new.board (Session s) x.number
-      → new.shown ≡ old.shown → new.with_view ≡ old.with_view → new.kept ≡ old.kept → new.last ≡ old.last → new.answers ≡ old.answers → new.changed ≡ old.changed → PlayStands script (place + 1) new
-  session_more old new s text reader actor is declared stands readers_is mine grown shown_is views_is kept_is last_is answers_are changed_is =
+      → new.shown ≡ old.shown → new.ratio ≡ old.ratio → new.with_view ≡ old.with_view → new.kept ≡ old.kept → new.last ≡ old.last → new.answers ≡ old.answers → new.changed ≡ old.changed → PlayStands script (place + 1) new
+  session_more old new s text reader actor is declared stands readers_is mine grown shown_is ratio_is views_is kept_is last_is answers_are changed_is =
       let g : Grown x old.board new.board = grown_is x s old.board new.board actor grown in
       let within = below_declared script.setup s declared in
       let inside : s.0 ≤ length old.readers.items = let count = stands.readers.count in let below = within.1 in omega arith in
@@ -211,7 +211,7 @@ module _ (script : Script) (place : ℕ) (x : ScriptLine) (at : At script place 
         order = order_more script place x at old.board.history new.board.history g.step stands.order;
         spent = spent_more script place x at old.board.history new.board.history g.step stands.spent;
         views = subst V (sym views_is) stands.views;
-        shows = rw (shown_is, views_is) (frames_session script.setup old.board.history old.shown old.with_view stands.shows new.board.history g.calm);
+        shows = rw (shown_is, ratio_is, views_is) (frames_session script.setup old.board.history old.shown old.ratio old.with_view stands.shows new.board.history g.calm);
         keeps = keeps_same script old.kept new.kept (finished script.setup old.board.history) (finished script.setup new.board.history) kept_is (finished-session script.setup old.board.history new.board.history g.calm) stands.keeps;
         same = rw (changed_is, last_is, shown_is) stands.same;
         answers = rw (last_is, answers_are) (answers_session script.setup old.board.history old.last old.answers stands.answers new.board.history g.calm);
@@ -227,11 +227,12 @@ module _ (script : Script) (place : ℕ) (x : ScriptLine) (at : At script place 
       let step : Step x h new.board.history = more e (sym actor) refl refl grown in
       let D : List Entry → Type 0 = DisplayStands script (place + 1) in
       let shown : new.shown ≡ shown_states script.setup (h ▹ e) = begins.shown ∙ ap (λ st. shown_states st new.board.history) setup ∙ ap (shown_states script.setup) grown in
+      let scaled : new.ratio ≡ ratio script.setup (h ▹ e) = begins.scaling ∙ ap (λ st. ratio st new.board.history) setup ∙ ap (ratio script.setup) grown in
       let W : Setup → Type 0 = λ st. HasViews st new.with_view in
       let V : Setup → List Entry → Type 0 = λ st es. (s : SessionNo) → is_declared st s ≡ true → is_member new.with_view s.0 ≡ has_view st es s in
       let V1 : Setup → Type 0 = λ st. V st new.board.history in
       let V2 : List Entry → Type 0 = V script.setup in
-      let F : List Entry → Type 0 = λ es. FramesStand script.setup es new.shown new.with_view in
+      let F : List Entry → Type 0 = λ es. FramesStand script.setup es new.shown new.ratio new.with_view in
       let S : Shown → Type 0 = λ was. AreSame new.changed was new.shown in
       let ended : to_finished h ≡ to_begin h = all-finished h (shut (is_frame_open h) (and-left (not (is_frame_open h)) _ (begin_time_ok script place x at time is h stands.display))) in
       record {
@@ -243,7 +244,7 @@ module _ (script : Script) (place : ℕ) (x : ScriptLine) (at : At script place 
         spent = spent_more script place x at h new.board.history step stands.spent;
         views = subst W setup begins.views;
         shows = subst F (sym grown)
-            (frames_begin script.setup h old.shown old.with_view stands.shows x.number time new.shown new.with_view shown (subst V2 grown (subst V1 setup begins.viewing)));
+            (frames_begin script.setup h old.shown old.ratio old.with_view stands.shows x.number time new.shown new.ratio new.with_view shown scaled (subst V2 grown (subst V1 setup begins.viewing)));
         keeps = keeps_same script old.kept new.kept (finished script.setup h) (finished script.setup new.board.history) begins.kept (ap (finished script.setup) grown ∙ append-nil (finished script.setup h)) stands.keeps;
         same = rw begins.last (subst S (sym (stands.answers.showing ∙ ap (shown_states script.setup) ended ∙ sym stands.shows.showing)) begins.changed);
         answers = rw (grown, begins.last, begins.answers) (answers_beside script.setup h old.last old.answers stands.answers e refl refl);
@@ -258,7 +259,7 @@ module _ (script : Script) (place : ℕ) (x : ScriptLine) (at : At script place 
       let step : Step x h new.board.history = more e (sym actor) refl refl grown in
       let D : List Entry → Type 0 = DisplayStands script (place + 1) in
       let V : SessionSet → Type 0 = HasViews script.setup in
-      let F : List Entry → Type 0 = λ es. FramesStand script.setup es new.shown new.with_view in
+      let F : List Entry → Type 0 = λ es. FramesStand script.setup es new.shown new.ratio new.with_view in
       let L : Setup → Type 0 = λ st. IsLast st new.last in
       let number : frames new.board.history ≡ suc (frames h) = ap frames grown in
       let all : finished script.setup new.board.history ≡ finished script.setup h ++ frame_at script.setup (frames new.board.history) (to_begin h) ∷ [] =
@@ -271,27 +272,27 @@ module _ (script : Script) (place : ℕ) (x : ScriptLine) (at : At script place 
         order = order_more script place x at h new.board.history step stands.order;
         spent = spent_more script place x at h new.board.history step stands.spent;
         views = subst V (sym finishes.with_view) stands.views;
-        shows = subst F (sym grown) (rw (finishes.shown, finishes.with_view)
-            (frames_done script.setup h old.shown old.with_view stands.shows x.number));
+        shows = subst F (sym grown) (rw (finishes.shown, finishes.ratio, finishes.with_view)
+            (frames_done script.setup h old.shown old.ratio old.with_view stands.shows x.number));
         keeps = keeps_same script new.kept new.kept (finished script.setup h ++ frame_at script.setup (frames new.board.history) (to_begin h) ∷ []) (finished script.setup new.board.history) refl all (finishes.kept.more (finished script.setup h) stands.keeps);
         same = λ s within none. ap (λ (states : Shown). state_of states s) (finishes.showing ∙ sym finishes.shown);
         answers = rw (grown, finishes.answers) (answers_done script.setup h old.last old.answers stands.answers x.number new.last (finishes.shows ∙ number)
-            (subst L stands.setup finishes.is_last) (finishes.showing ∙ stands.shows.showing));
+            (subst L stands.setup finishes.is_last) (finishes.showing ∙ stands.shows.showing) (finishes.scaling ∙ stands.shows.scaling));
       }
 
   -- any of these, by what becomes of the answers
   entered_more : (old new : Play) (text : DisplayLine) (kind : Kind) (reply : Reply) → x.actor ≡ Display → x.body ≡ body.Display text → entry_of_display text ≡ kind → is_begin kind ≡ false → is_finish kind ≡ false → is_end kind ≡ false
       → ((o : Bool) (t : ℕ) (follows : Bool → ℕ → Bool) → keeps_frames o t (body.Display text) follows ≡ follows o t)
-      → PlayStands script place old → new.board ≡ entered old.board Display x.number [] kind reply → new.shown ≡ old.shown → new.changed ≡ old.changed → new.with_view ≡ old.with_view → new.readers ≡ old.readers → new.kept ≡ old.kept → new.last.reuse ≡ old.last.reuse
+      → PlayStands script place old → new.board ≡ entered old.board Display x.number [] kind reply → new.shown ≡ old.shown → new.ratio ≡ old.ratio → new.changed ≡ old.changed → new.with_view ≡ old.with_view → new.readers ≡ old.readers → new.kept ≡ old.kept → new.last.reuse ≡ old.last.reuse
       → AnswersStand script.setup (old.board.history ▹ entry_of Display x.number [] kind reply) new.last new.answers → PlayStands script (place + 1) new
-  entered_more old new text kind reply actor is makes no_begin no_finish no_end keeps stands board shown_is changed_is views_is readers_are kept_is reuse_is answers =
+  entered_more old new text kind reply actor is makes no_begin no_finish no_end keeps stands board shown_is ratio_is changed_is views_is readers_are kept_is reuse_is answers =
       let e : Entry = entry_of Display x.number [] kind reply in
       let h : List Entry = old.board.history in
       let grown : new.board.history ≡ (h ▹ e) = ap (λ (m : Machine). m.history) board in
       let step : Step x h new.board.history = more e (sym actor) refl no_end grown in
       let D : List Entry → Type 0 = DisplayStands script (place + 1) in
       let V : SessionSet → Type 0 = HasViews script.setup in
-      let F : List Entry → Type 0 = λ es. FramesStand script.setup es new.shown new.with_view in
+      let F : List Entry → Type 0 = λ es. FramesStand script.setup es new.shown new.ratio new.with_view in
       record {
         setup = ap (λ (m : Machine). m.setup) board ∙ stands.setup;
         shares = ap (λ (m : Machine). m.shares) board ∙ stands.shares;
@@ -300,7 +301,7 @@ module _ (script : Script) (place : ℕ) (x : ScriptLine) (at : At script place 
         order = order_more script place x at h new.board.history step stands.order;
         spent = spent_more script place x at h new.board.history step stands.spent;
         views = subst V (sym views_is) stands.views;
-        shows = subst F (sym grown) (rw (shown_is, views_is) (frames_beside script.setup h old.shown old.with_view stands.shows e no_begin));
+        shows = subst F (sym grown) (rw (shown_is, ratio_is, views_is) (frames_beside script.setup h old.shown old.ratio old.with_view stands.shows e no_begin));
         keeps = keeps_same script old.kept new.kept (finished script.setup h) (finished script.setup new.board.history) kept_is (ap (finished script.setup) grown ∙ finished-beside script.setup h e no_finish) stands.keeps;
         same = rw (changed_is, reuse_is, shown_is) stands.same;
         answers = rw grown answers;
@@ -313,15 +314,15 @@ module _ (script : Script) (place : ℕ) (x : ScriptLine) (at : At script place 
   beside_more old new text kind reply actor is makes calm keeps stands enters =
       let e : Entry = entry_of Display x.number [] kind reply in
       let h : List Entry = old.board.history in
-      entered_more old new text kind reply actor is makes (quiet_begin kind calm) (quiet_finish kind calm) (quiet_end kind calm) keeps stands enters.board enters.shown enters.changed enters.with_view enters.readers enters.kept (ap (λ (l : LastFrame). l.reuse) enters.last)
+      entered_more old new text kind reply actor is makes (quiet_begin kind calm) (quiet_finish kind calm) (quiet_end kind calm) keeps stands enters.board enters.shown enters.ratio enters.changed enters.with_view enters.readers enters.kept (ap (λ (l : LastFrame). l.reuse) enters.last)
       (rw (enters.last, enters.answers) (answers_beside script.setup h old.last old.answers stands.answers e (quiet_finish kind calm) (quiet_answers e (frames h) (hits_at script.setup (to_finished h)) kind calm)))
 
   -- a line that asks for a point
   pub point_more : (old new : Play) (px py : ℤ) → x.actor ≡ Display → x.body ≡ body.Display (display.Hit px py) → PlayStands script place old → AsksPoint old new x.number px py → PlayStands script (place + 1) new
   point_more old new px py actor is stands asks =
       let L : Setup → Type 0 = λ st. StaysLast st old.last new.last in
-      let given : Setup → List HitAnswer = λ st. (record { actor = Display; line = x.number; frame = old.last.frame; hits = hit_list st old.last.reuse px py }) ∷ [] in
-      entered_more old new (display.Hit px py) (Hit px py) Done actor is refl refl refl refl (λ o t follows. refl) stands asks.board asks.shown asks.changed asks.with_view asks.readers asks.kept asks.last.reuse
+      let given : Setup → List HitAnswer = λ st. (record { actor = Display; line = x.number; frame = old.last.frame; hits = hit_list (at_ratio old.last.ratio st) old.last.reuse px py }) ∷ [] in
+      entered_more old new (display.Hit px py) (Hit px py) Done actor is refl refl refl refl (λ o t follows. refl) stands asks.board asks.shown asks.ratio asks.changed asks.with_view asks.readers asks.kept asks.last.reuse
       (answers_point script.setup old.board.history old.last old.answers stands.answers x.number px py new.last new.answers
       (subst L stands.setup asks.last) (asks.answers ∙ ap (λ st. old.answers ++ given st) stands.setup))
 

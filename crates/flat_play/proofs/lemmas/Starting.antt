@@ -196,9 +196,10 @@ no_members set all zero = refl
 no_members set all (suc before) = all_false set.has all before
 
 pub first_shown : NothingIsShownAtFirst → (setup : Setup) (shown : Shown) (views : SessionSet) → length shown ≡ setup.sessions → All (λ state. state ≡ None) shown
-    → list_all not views.has ≡ true → FramesStand setup [] shown views
+    → list_all not views.has ≡ true → FramesStand setup [] shown setup.ratio views
 first_shown at_first setup shown views count none all = record {
   showing = at_first setup shown count none;
+  scaling = refl;
   viewing = λ s declared. no_members views all s.0 ∙ sym (no_view setup s);
 }
 
@@ -207,18 +208,18 @@ pub nothing_fits : BegunStatesFit → NothingIsShownAtFirst → (setup : Setup) 
 nothing_fits begun at_first setup shown count none = subst (FitsSetup setup) (sym (at_first setup shown count none)) (begun setup [] tt)
 
 -- nothing is shown, and no frame is finished
-pub first_answers : (setup : Setup) (last : LastFrame) (answers : List HitAnswer) → last.frame.0 ≡ 0 → IsLast setup last → last.reuse ≡ shown_states setup [] → answers ≡ [] → AnswersStand setup [] last answers
-first_answers setup last answers number is showing nothing = record { number = number; is_last = is; showing = showing; answering = nothing }
+pub first_answers : (setup : Setup) (last : LastFrame) (answers : List HitAnswer) → last.frame.0 ≡ 0 → IsLast setup last → last.reuse ≡ shown_states setup [] → last.ratio ≡ setup.ratio → answers ≡ [] → AnswersStand setup [] last answers
+first_answers setup last answers number is showing scaling nothing = record { number = number; is_last = is; showing = showing; scaling = scaling; answering = nothing }
 
 pub starts : (script : Script) (play : Play) → is_playable script ≡ true → NoneIsRead → play.board ≡ record { setup = script.setup; shares = shares_of script; history = [] } → AreNew script.setup script.setup.sessions play.readers.items
-    → FramesStand script.setup [] play.shown play.with_view → Keeps script play.kept [] → list_all not play.with_view.has ≡ true → AnswersStand script.setup [] play.last play.answers → PlayStands script 0 play
+    → FramesStand script.setup [] play.shown play.ratio play.with_view → Keeps script play.kept [] → list_all not play.with_view.has ≡ true → AnswersStand script.setup [] play.last play.answers → PlayStands script 0 play
 starts script play playable none_is_read board new shows keeps none answers =
     let history : [] ≡ play.board.history = sym (ap (λ (m : Machine). m.history) board) in
     let P : List Entry → Type 0 = λ es. ReadersStand script 0 es play.readers.items in
     let D : List Entry → Type 0 = DisplayStands script 0 in
     let O : List Entry → Type 0 = IsInOrder script 0 in
     let S : List Entry → Type 0 = IsSpent script 0 in
-    let F : List Entry → Type 0 = λ es. FramesStand script.setup es play.shown play.with_view in
+    let F : List Entry → Type 0 = λ es. FramesStand script.setup es play.shown play.ratio play.with_view in
     let K : List Entry → Type 0 = λ es. Keeps script play.kept (finished script.setup es) in
     let A : List Entry → Type 0 = λ es. AnswersStand script.setup es play.last play.answers in
     record {

@@ -30,3 +30,6 @@ returns-clause-early c = λ bytes script is. (accepted bytes script is).early
 
 pub returns-clause-version : goal.returns-clause-version
 returns-clause-version c = λ bytes script is. (accepted_text bytes script is).first
+
+pub returns-clause-ratio : goal.returns-clause-ratio
+returns-clause-ratio c = λ bytes script is early. let found = accepted bytes script is in (found.one early, found.unscaled early)

@@ -24,18 +24,21 @@ use Rattle.flat_scene.specs.declared.script.ProbeLine.TheVariants as probe
 use Rattle.flat_scene.specs.declared.script.Body.{Body}
 use Rattle.flat_scene.specs.declared.script.Body.TheVariants as body
 use Rattle.flat_forms.specs.declared.calls.CallName.{CallName}
-use Rattle.flat_places.specs.declared.kinds.FaultKind.TheVariants.{UnknownCall, UnknownName, Limit, BadOrder}
+use Rattle.flat_places.specs.declared.kinds.FaultKind.TheVariants.{BadNumber, UnknownCall, UnknownName, Limit, BadOrder}
 use Rattle.flat_places.specs.declared.script.Script.{Script}
-use Rattle.flat_places.specs.Forms.{Word, Reading, Form, Table, mapped, unless_kind, whole, give, ◌<$>◌, ◌<*>◌}
+use Rattle.flat_places.specs.Forms.{Word, Reading, Form, Table, known_rows, mapped, unless_kind, whole, give, ◌<$>◌, ◌<*>◌}
 use Rattle.flat_places.specs.Names.{place_of, session_named, actor_named}
-use Rattle.flat_places.specs.Places.{time, u32, i32, content, point, unsquashable, session, fence, fence_word as tested_fence}
+use Rattle.flat_places.specs.Places.{time, u32, i32, content, point, ratio, unsquashable, session, fence, fence_word as tested_fence}
 use Rattle.flat_places.specs.Known.{knows}
 use Rattle.flat_forms.specs.Calls.{call_form, call_named, text}
 use Rattle.flat_forms.specs.Body.{fence_lists, present, other_line, session_line, display_line, session_condition, display_condition, presents_asked, child_asked, probe_line, actor_line, begin_place, begin_times, is_open, in_order, greatest}
 use Rattle.flat_print.specs.Print.{session_word, condition_words, session_words, display_words, probe_words, body_words, present_words, unsquashable_word, call_name, call_fields}
 use Rattle.flat_forms.proofs.lemmas.FormLemmas.{Gives, apply_ok, map_ok, place_ok, whole_ok, unless_ok, or_kind_ok, mapped_ok, Shown, shown_whole, shown_mapped}
-use Rattle.flat_print.proofs.CallLemmas.{number_words, i32_words, content_words, fence_words, split, name_at-place_of, NamedCall, call_shown}
-use Rattle.flat_print.proofs.ListWordLemmas.{table_spelt, both_words, lists_spelt}
+use Rattle.flat_print.proofs.CallLemmas.{test_ok, number_words, i32_words, content_words, fence_words, split, name_at-place_of, NamedCall, call_shown}
+use Rattle.flat_base.specs.declared.limits.TheConstants.{RATIO_MIN, RATIO_MAX}
+use Rattle.flat_text.specs.Number.{natural}
+use Rattle.flat_text.proofs.lemmas.NumberLemmas.{decimal-natural}
+use Rattle.flat_print.proofs.ListWordLemmas.{known_spelt, table_spelt, both_words, lists_spelt}
 
 -- actors
 
@@ -157,14 +160,24 @@ display_table s =
     (codes "done", (λ rest. unless_kind BadOrder (is_open s) (whole (give display.Done) rest))) ∷
     (codes "Signal", whole (display.Signal <$> fence s Display)) ∷
     (codes "Wait", (λ rest. mapped display.Wait (display_condition s rest))) ∷
-    (codes "hit", whole (point (λ x y. display.Hit x y))) ∷ []
+    (codes "hit", whole (point (λ x y. display.Hit x y))) ∷
+    (codes "dpr", whole (display.Dpr <$> ratio)) ∷ []
+
+dpr_spelt : (s : Script) (words : List Word) (l : DisplayLine) → whole (display.Dpr <$> ratio) words ≡ Ok l → display_words s l ≡ codes "dpr" ∷ words
+dpr_spelt s words l is =
+    let m = map_ok display.Dpr ratio words l [] (whole_ok (display.Dpr <$> ratio) words l is) in
+    let p = place_ok _ words m.a [] m.given in
+    let number = test_ok (λ n. nat_le RATIO_MIN n && nat_le n RATIO_MAX) (natural p.word) m.a (or_kind_ok BadNumber _ m.a p.passes) in
+    ap (display_words s) (sym m.value) ∙ ap (λ t. codes "dpr" ∷ t) (ap (λ w. w ∷ []) (decimal-natural p.word m.a number).0 ∙ sym p.begins)
 
 pub display_spelt : (s : Script) (words : List Word) (l : DisplayLine) → display_line s words ≡ Ok l → display_words s l ≡ words
 unfolding display_table
 display_spelt s [] l is = absurd (cc)
 display_spelt s (w ∷ words) l is =
-    table_spelt (display_words s) UnknownCall (display_table s)
-    ((λ rest v given. begin_spelt s rest v _ _ given), ((λ rest v given. done_spelt s rest v (is_open s) given), (display_signal_spelt s, (display_wait_spelt s, (hit_spelt (λ x y. display.Hit x y) (display_words s) (λ x y. refl), tt))))) w words l is
+    table_spelt (display_words s) UnknownCall (known_rows s.setup.version (display_table s))
+    (known_spelt (display_words s) s.setup.version (display_table s)
+    ((λ rest v given. begin_spelt s rest v _ _ given), ((λ rest v given. done_spelt s rest v (is_open s) given), (display_signal_spelt s, (display_wait_spelt s, (hit_spelt (λ x y. display.Hit x y) (display_words s) (λ x y. refl), (dpr_spelt s, tt)))))))
+    w words l is
 
 -- sessions
 

@@ -12,18 +12,20 @@ use Rattle.std.proofs.lemmas.Bool.Decides.{nat_tests}
 use Rattle.flat_base.specs.declared.ids.Actor.{Actor}
 use Rattle.flat_base.specs.declared.ids.Actor.TheVariants.{Display, Session}
 use Rattle.flat_base.specs.declared.ids.SessionNo.{SessionNo}
+use Rattle.flat_base.specs.declared.limits.TheConstants.{ONE, RATIO_MIN, RATIO_MAX, RATIO_SINCE}
+use Rattle.std.specs.Prelude.{◌==◌}
 use Rattle.flat_text.specs.Number.{natural}
 use Rattle.flat_text.proofs.lemmas.NumberLemmas.{decimal-natural}
 use Rattle.flat_places.specs.declared.kinds.FaultKind.TheVariants.{BadNumber, UnknownName}
 use Rattle.flat_places.specs.declared.script.Script.{Script}
-use Rattle.flat_places.specs.Forms.{Word, whole, each, one_or_more, ◌<$>◌}
+use Rattle.flat_places.specs.Forms.{Word, Reading, ◌<*>◌, whole, each, one_or_more, ◌<$>◌}
 use Rattle.flat_places.specs.Names.{place_of, session_named, owner_named}
-use Rattle.flat_places.specs.Places.{number_from, owner_word}
+use Rattle.flat_places.specs.Places.{number_from, ratio, first_ratio, owner_word}
 use Rattle.flat_forms.specs.Head.{empty, size, side, has_display, with_version, with_display, with_session, with_probe, with_buffers, with_pair, with_fence}
-use Rattle.flat_print.specs.Print.{name_words, numbered, buffers_line_words, pair_line_words, fence_line_words, display_line_words}
-use Rattle.flat_forms.proofs.lemmas.FormLemmas.{both_ok, or_kind_ok, whole_ok, apply_ok, map_ok, place_ok}
+use Rattle.flat_print.specs.Print.{name_words, numbered, buffers_line_words, pair_line_words, fence_line_words, display_line_words, ratio_words}
+use Rattle.flat_forms.proofs.lemmas.FormLemmas.{Gives, both_ok, or_kind_ok, whole_ok, apply_ok, map_ok, place_ok}
 use Rattle.flat_print.proofs.CallLemmas.{name_at-place_of, test_ok}
-use Rattle.flat_print.proofs.lemmas.TextLemmas.{IsLine, AllLines, AllLines-append, room_of, room_of-append}
+use Rattle.flat_print.proofs.lemmas.TextLemmas.{IsLine, line_front, front_fits, AllLines, AllLines-append, room_of, room_of-append}
 use Rattle.flat_print.specs.Print.{spelled}
 use Rattle.flat_print.proofs.lemmas.WordLemmas.{numbered-append}
 use Rattle.flat_forms.proofs.lemmas.StepLemmas.{SizeStep, SessionStep, ProbeStep, BuffersStep, PairStep, FenceStep, Step, size_step, session_step, probe_step, buffers_step, pair_step, fence_step, sort}
@@ -212,19 +214,69 @@ owners_words u xs zs (w ∷ ws) os is = each_words u xs zs (w ∷ ws) os is
 
 -- the words of the size
 
-size_taken : (rest : List Word) (w h : ℕ) → whole size rest ≡ Ok (w, h) → (rest ≡ decimal w ∷ decimal h ∷ []) × (nat_le 1 w ≡ true)
-size_taken rest w h is =
-    let pair : ℕ → ℕ → ℕ × ℕ = λ x y. (x, y) in
-    let two = apply_ok (pair <$> side) side rest (w, h) [] (whole_ok size rest (w, h) is) in
-    let one = map_ok pair side rest two.g two.mid two.first in
+-- What stands behind the sides: the pixel ratio as it is printed, and perhaps one that says nothing.
+record RatioTaken (version : ℕ) (words : List Word) (q : ℕ) : Type 0 where
+  extra : List Word
+  is : words ≡ ratio_words q ++ extra
+  again : first_ratio version (ratio_words q) ≡ (Ok q, [])
+
+ratio_taken : (version : ℕ) (words : List Word) (q : ℕ) → Gives (first_ratio version) words q [] → RatioTaken version words q
+ratio_taken version [] q given =
+    let one : ONE ≡ q = let value = given.value in cc in
+    subst (λ (r : ℕ). RatioTaken version [] r) one (record { extra = []; is = refl; again = refl })
+ratio_taken version (w ∷ ws) q given = by_version (nat_lt version RATIO_SINCE) refl
+  where
+    by_ratio : (b : Bool) → (q == ONE) ≡ b → nat_lt version RATIO_SINCE ≡ false → decimal q ≡ w → ws ≡ [] → (ratio (w ∷ [])).0 ≡ Ok q → RatioTaken version (w ∷ ws) q
+    by_ratio true one late number none passes =
+        let same : q ≡ ONE = grind (arith, nat_tests) in
+        record { extra = w ∷ []; is = rw one (ap (λ r. w ∷ r) none); again = rw one (ap (λ (r : ℕ). let given : Reading ℕ × List Word = (Ok r, []) in given) (sym same)) }
+    by_ratio false other late number none passes = record {
+      extra = [];
+      is = rw other (ap (λ v. v ∷ ws) (sym number) ∙ ap (λ r. decimal q ∷ r) none);
+      again = rw (other, late, number, passes) refl;
+    }
+
+    by_version : (b : Bool) → nat_lt version RATIO_SINCE ≡ b → RatioTaken version (w ∷ ws) q
+    by_version true early = absurd (let left = rw early at given.left in cc)
+    by_version false late =
+        let at : Gives ratio (w ∷ ws) q [] = record { value = rw late at given.value; left = rw late at given.left } in
+        by_ratio (q == ONE) refl late (range_ok RATIO_MIN RATIO_MAX w q at.value).0 at.left at.value
+
+-- What a display line has: its sides and its pixel ratio as they are printed, which are read as the whole line is.
+record SizeTaken (version : ℕ) (rest : List Word) (w h q : ℕ) : Type 0 where
+  extra : List Word
+  words : rest ≡ (decimal w ∷ decimal h ∷ ratio_words q) ++ extra
+  again : whole (size version) (decimal w ∷ decimal h ∷ ratio_words q) ≡ Ok (w, h, q)
+  wide : nat_le 1 w ≡ true
+
+abbrev triple : ℕ → ℕ → ℕ → ℕ × ℕ × ℕ
+triple x y z = (x, y, z)
+
+size_taken : (version : ℕ) (rest : List Word) (w h q : ℕ) → whole (size version) rest ≡ Ok (w, h, q) → SizeTaken version rest w h q
+size_taken version rest w h q is =
+    let three = apply_ok (triple <$> side <*> side) (first_ratio version) rest (w, h, q) [] (whole_ok (size version) rest (w, h, q) is) in
+    let two = apply_ok (triple <$> side) side rest three.g three.mid three.first in
+    let one = map_ok triple side rest two.g two.mid two.first in
     let a = place_ok _ rest one.a two.mid one.given in
-    let b = place_ok _ two.mid two.a [] two.second in
-    let value : pair one.a two.a ≡ (w, h) = ap (λ g. g two.a) one.value ∙ two.value in
-    let wide : one.a ≡ w = ap (λ d. d.0) value in
-    let high : two.a ≡ h = ap (λ d. d.1) value in
-    let ra = range_ok 1 65536 a.word one.a a.passes in
-    let rb = range_ok 1 65536 b.word two.a b.passes in
-    (a.begins ∙ ap (λ v. v ∷ two.mid) (sym ra.0 ∙ ap decimal wide) ∙ ap (λ v. decimal w ∷ v) (b.begins ∙ ap (λ v. v ∷ []) (sym rb.0 ∙ ap decimal high)), ap (nat_le 1) (sym wide) ∙ ra.1)
+    let b = place_ok _ two.mid two.a three.mid two.second in
+    let value : triple one.a two.a three.a ≡ triple w h q = ap (λ g. g two.a three.a) one.value ∙ ap (λ g. g three.a) two.value ∙ three.value in
+    sized version rest a.word b.word three.mid one.a two.a three.a w h q value (a.begins ∙ ap (λ r. a.word ∷ r) b.begins) a.passes b.passes (ratio_taken version three.mid three.a three.second)
+  where
+    sized : (version : ℕ) (rest : List Word) (u v : Word) (tail : List Word) (x y z w h q : ℕ) → triple x y z ≡ triple w h q → rest ≡ u ∷ v ∷ tail
+        → (side (u ∷ [])).0 ≡ Ok x → (side (v ∷ [])).0 ≡ Ok y → RatioTaken version tail z → SizeTaken version rest w h q
+    sized version rest u v tail x y z w h q value words first second left =
+        let ra = range_ok 1 65536 u x first in
+        let rb = range_ok 1 65536 v y second in
+        let here : SizeTaken version rest x y z = record {
+          extra = left.extra;
+          words = words ∙ ap (λ r. r ∷ v ∷ tail) (sym ra.0) ∙ ap (λ r. decimal x ∷ r ∷ tail) (sym rb.0) ∙ ap (λ r. decimal x ∷ decimal y ∷ r) left.is;
+          again = (let one : (side (decimal x ∷ [])).0 ≡ Ok x = ap (λ r. (side (r ∷ [])).0) ra.0 ∙ first in
+              let two : (side (decimal y ∷ [])).0 ≡ Ok y = ap (λ r. (side (r ∷ [])).0) rb.0 ∙ second in
+              let tail_again = left.again in
+              rw (one, two, tail_again) refl);
+          wide = ra.1;
+        } in
+        subst (λ (d : ℕ × ℕ × ℕ). SizeTaken version rest d.0 d.1 d.2) value here
 
 -- the line of a declaration, as it is printed
 
@@ -256,20 +308,26 @@ fence_line u xs zs ys x many =
 pub insert_size : {version : ℕ} (u : Script) (ws : List Word) (t : Script) (k : ℕ) → IsLine ws → Ordered version u k → SizeStep u ws t → Ordered version t (k + 1 + length (spelled ws))
 insert_size {version = version} u ws t k good o x =
     let P : Script → Type 0 = λ v. Ordered version v (k + 1 + length (spelled ws)) in
-    let t1 = with_display u x.w x.h in
-    let y : Step u ws t1 = size_step (record { rest = x.rest; w = x.w; h = x.h; begins = x.begins; first = x.first; read = x.read; made = refl }) in
-    let b5 = bubble 5 o.u4 u t1 o.f ws o.fences y (lit< tt) in
-    let b4 = bubble 4 o.u3 o.u4 b5.mid o.p ws o.pairs b5.first (let e = b5.first_sort in omega arith) in
-    let b3 = bubble 3 o.u2 o.u3 b4.mid o.b ws o.buffers b4.first (let e = b4.first_sort in omega arith) in
-    let b2 = bubble 2 o.u1 o.u2 b3.mid o.q ws o.probes b3.first (let e = b3.first_sort in omega arith) in
-    let b1 = bubble 1 o.u0 o.u1 b2.mid o.s ws o.sessions b2.first (let e = b2.first_sort in omega arith) in
-    let chain = chain_more 0 (with_version empty version) o.u0 b1.mid o.d ws o.sizes b1.first (let e = b1.first_sort in omega arith) in
-    let taken = size_taken x.rest x.w x.h x.read in
+    let t1 = with_display u x.w x.h x.q in
+    let taken = size_taken u.setup.version x.rest x.w x.h x.q x.read in
+    let line : List Word = codes "display" ∷ decimal x.w ∷ decimal x.h ∷ ratio_words x.q in
+    let written : ws ≡ line ++ taken.extra = x.begins ∙ ap (λ r. codes "display" ∷ r) taken.words in
+    let fine : IsLine line = line_front (codes "display") (decimal x.w) (decimal x.h ∷ ratio_words x.q) taken.extra (subst IsLine written good) in
+    let shorter : length (spelled line) ≤ length (spelled ws) =
+    let front = front_fits (codes "display") (decimal x.w ∷ decimal x.h ∷ ratio_words x.q) taken.extra in
+    let same = ap (λ v. length (spelled v)) written in omega (arith, front, same) in
+    let y : Step u line t1 = size_step (record { rest = decimal x.w ∷ decimal x.h ∷ ratio_words x.q; w = x.w; h = x.h; q = x.q; begins = refl; first = x.first; read = taken.again; made = refl }) in
+    let b5 = bubble 5 o.u4 u t1 o.f line o.fences y (lit< tt) in
+    let b4 = bubble 4 o.u3 o.u4 b5.mid o.p line o.pairs b5.first (let e = b5.first_sort in omega arith) in
+    let b3 = bubble 3 o.u2 o.u3 b4.mid o.b line o.buffers b4.first (let e = b4.first_sort in omega arith) in
+    let b2 = bubble 2 o.u1 o.u2 b3.mid o.q line o.probes b3.first (let e = b3.first_sort in omega arith) in
+    let b1 = bubble 1 o.u0 o.u1 b2.mid o.s line o.sessions b2.first (let e = b2.first_sort in omega arith) in
+    let chain = chain_more 0 (with_version empty version) o.u0 b1.mid o.d line o.sizes b1.first (let e = b1.first_sort in omega arith) in
     let none : o.d ≡ [] = o.size_words ∙ ap (λ c. cond c (display_line_words u ∷ []) []) x.first in
-    let wide : nat_lt 0 x.w ≡ true = let r = taken.1 in grind (arith, nat_tests) in
-    let shown : o.d ++ ws ∷ [] ≡ cond (nat_lt 0 x.w) (display_line_words t1 ∷ []) [] = ap (λ l. l ++ ws ∷ []) none ∙ ap (λ v. v ∷ []) (x.begins ∙ ap (λ r. codes "display" ∷ r) taken.0) ∙ ap (λ c. cond c (display_line_words t1 ∷ []) []) (sym wide) in
+    let wide : nat_lt 0 x.w ≡ true = let r = taken.wide in grind (arith, nat_tests) in
+    let shown : o.d ++ line ∷ [] ≡ cond (nat_lt 0 x.w) (display_line_words t1 ∷ []) [] = ap (λ l. l ++ line ∷ []) none ∙ ap (λ c. cond c (display_line_words t1 ∷ []) []) (sym wide) in
     subst P (sym x.made) (record {
-      d = o.d ++ ws ∷ [];
+      d = o.d ++ line ∷ [];
       s = o.s;
       q = o.q;
       b = o.b;
@@ -295,13 +353,13 @@ insert_size {version = version} u ws t k good o x =
       buffer_names = o.buffer_names;
       pair_names = o.pair_names;
       fence_names = o.fence_names;
-      all_d = AllLines-append o.d (ws ∷ []) o.all_d (good, tt);
+      all_d = AllLines-append o.d (line ∷ []) o.all_d (fine, tt);
       all_s = o.all_s;
       all_q = o.all_q;
       all_b = o.all_b;
       all_p = o.all_p;
       all_f = o.all_f;
-      fits = (let e = room_of-append o.d (ws ∷ []) in let h = o.fits in omega arith);
+      fits = (let e = room_of-append o.d (line ∷ []) in let h = o.fits in omega (arith, shorter));
     })
 
 pub insert_session : {version : ℕ} (u : Script) (ws : List Word) (t : Script) (k : ℕ) → IsLine ws → Ordered version u k → SessionStep u ws t → Ordered version t (k + 1 + length (spelled ws))

@@ -40,7 +40,7 @@ module _ (setup : Setup) where
 
   props-same : (owner : Option Actor) (p : PairNo) (before : List Entry) (e : Entry) → IsStill p e → props_told setup owner (before ▹ e) p ≡ props_told setup owner before p
   props-same None p before e still = refl
-  props-same (Some Display) p before e still = refl
+  props-same (Some Display) p before e still = rw still.no_finish refl
   props-same (Some (Probe n)) p before e still = refl
   props-same (Some (Session s)) p before e still =
       let uses : viewport_uses p (before ▹ e) ≡ viewport_uses p before = rw still.no_viewport refl in

@@ -202,7 +202,7 @@ none-before s before e none = by_owner (is_session s e.actor) refl
     by_owner true mine =
         let more : List Published = published e.kind e.reply (calls s before ++ e.calls) in
         (or_parts (list_any is_unsquashable (presents s before)) (list_any is_unsquashable more)
-            (sym (list_any-append is_unsquashable (presents s before) more) ∙ ap (list_any is_unsquashable) (sym (presents-own s before e mine)) ∙ none)).0
+        (sym (list_any-append is_unsquashable (presents s before) more) ∙ ap (list_any is_unsquashable) (sym (presents-own s before e mine)) ∙ none)).0
     by_owner false other = ap (list_any is_unsquashable) (sym (presents-other s before e other)) ∙ none
 
 is-squashed : (setup : Setup) (history : List Entry) → ((s : SessionNo) → list_any is_unsquashable (presents s history) ≡ false) → IsSquashed setup history
@@ -211,7 +211,7 @@ is-squashed setup (before ▹ e) none =
     let earlier : (s : SessionNo) → list_any is_unsquashable (presents s before) ≡ false = λ s. none-before s before e (none s) in
     let was : IsSquashed setup before = is-squashed setup before earlier in
     let left : (s : SessionNo) → list_any is_unsquashable (drop (squashed.taken setup before s) (presents s before)) ≡ false =
-        λ s. none-left is_unsquashable (squashed.taken setup before s) (presents s before) (earlier s) in
+    λ s. none-left is_unsquashable (squashed.taken setup before s) (presents s before) (earlier s) in
     record {
       signalled = λ i. λ fence. was.signalled i fence || signals (sessions_to setup.sessions) e.kind (was.going i) fence;
       taken =

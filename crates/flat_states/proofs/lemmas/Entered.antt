@@ -8,7 +8,7 @@ use Rattle.flat_scene.specs.declared.journal.Reply.{Reply}
 use Rattle.flat_scene.specs.History.{◌▹◌, is_begin, is_finish}
 use Rattle.flat_states.specs.declared.clock.Clock.{Clock}
 use Rattle.flat_states.specs.declared.state.SessionState.{SessionState}
-use Rattle.flat_states.specs.Machines.{Machine, MayCall, Stands, HasRoom, entry_of}
+use Rattle.flat_states.specs.Machines.{clock_then, Machine, MayCall, Stands, HasRoom, entry_of}
 use Rattle.flat_rules.specs.Numbers.{number, AllNumbered}
 use Rattle.flat_states.specs.Kept.{IsKept}
 use Rattle.flat_rules.specs.Legal.{Legal, reply_to}
@@ -49,7 +49,7 @@ pub kept-entered : (m : Machine) (who : Actor) (line : ℕ) (calls : List Call) 
     → Changed m (entry_of who line calls kind reply) fences fences_now views views_now → length after ≡ length sessions
     → AllNumbered (λ i. IsKept m.setup (seen_of m.setup (m.history ▹ entry_of who line calls kind reply) (number i))) after → dues_now ≡ dues
     → Entered log then (entry_of who line calls kind reply)
-    → Stands m.setup then.history clock fences_now views_now after × HasRoom m.setup m.shares then owed dues_now
+    → Stands m.setup then.history (clock_then kind clock) fences_now views_now after × HasRoom m.setup m.shares then owed dues_now
 kept-entered m who line calls kind reply call replied no_begin no_finish no_viewport clock fences fences_now views views_now sessions after log then owed dues dues_now same stands room changed count each owes is =
     let old : Stands m.setup m.history clock fences views sessions = rw (← same) stands in
     let now : then.history ≡ (m.history ▹ entry_of who line calls kind reply) = rw is.history (rw same refl) in (

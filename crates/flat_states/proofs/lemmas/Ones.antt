@@ -21,7 +21,7 @@ use Rattle.flat_scene.specs.Setups.{is_declared}
 use Rattle.flat_base.proofs.lemmas.Tests.{and-right}
 use Rattle.flat_states.specs.declared.clock.Clock.{Clock}
 use Rattle.flat_states.specs.declared.state.SessionState.{SessionState}
-use Rattle.flat_states.specs.Machines.{Machine, MayCall, Stands, HasRoom, entry_of, due}
+use Rattle.flat_states.specs.Machines.{Machine, MayCall, Stands, HasRoom, clock_then, entry_of, due}
 use Rattle.flat_rules.specs.Numbers.{number, AllNumbered}
 use Rattle.flat_states.specs.Kept.{IsKept}
 use Rattle.flat_rules.specs.Legal.{reply_to, may_act, session_may}
@@ -69,7 +69,7 @@ pub kept-one : (m : Machine) (s : SessionNo) (line : ℕ) (calls : List Call) (k
     → Changed m (entry_of (Session s) line calls kind reply) fences fences_now views views_now
     → (IsKept m.setup (seen_of m.setup m.history s) state → IsKept m.setup (seen_of m.setup (m.history ▹ entry_of (Session s) line calls kind reply) s) new)
     → due new ≡ due state → due_back_now ≡ due_back → Entered log then (entry_of (Session s) line calls kind reply)
-    → Stands m.setup then.history clock fences_now views_now (slice_set sessions (s.0 - 1) new) × HasRoom m.setup m.shares then owed (sum_by due (slice_set sessions (s.0 - 1) new) + due_back_now)
+    → Stands m.setup then.history (clock_then kind clock) fences_now views_now (slice_set sessions (s.0 - 1) new) × HasRoom m.setup m.shares then owed (sum_by due (slice_set sessions (s.0 - 1) new) + due_back_now)
 kept-one m s line calls kind reply call replied no_begin no_finish no_viewport clock fences fences_now views views_now sessions log then owed {due_back} {due_back_now} state new is same stands room changed step owes comes entered =
     let old : Stands m.setup m.history clock fences views sessions = rw (← same) stands in
     let here = declared-some s.0 m.setup.sessions (declared-of m.setup kind s call.may.acts) in
@@ -141,7 +141,7 @@ pub kept-quiet : (m : Machine) (who : Actor) (line : ℕ) (calls : List Call) (k
     → (clock : Clock) (fences fences_now views views_now : List Bool) (sessions after : List SessionState) (log then : Logged) (owed : ℕ) {due_back due_back_now : ℕ} → log.history ≡ m.history
     → Stands m.setup log.history clock fences views sessions → HasRoom m.setup m.shares log owed (sum_by due sessions + due_back)
     → Changed m (entry_of who line calls kind reply) fences fences_now views views_now → after ≡ noted_in who calls sessions → due_back_now ≡ due_back → Entered log then (entry_of who line calls kind reply)
-    → Stands m.setup then.history clock fences_now views_now after × HasRoom m.setup m.shares then owed (sum_by due after + due_back_now)
+    → Stands m.setup then.history (clock_then kind clock) fences_now views_now after × HasRoom m.setup m.shares then owed (sum_by due after + due_back_now)
 kept-quiet m who line calls kind reply call replied quiet stays no_viewport clock fences fences_now views views_now sessions after log then owed {due_back} {due_back_now} same stands room changed noted comes entered =
     let old : Stands m.setup m.history clock fences views sessions = rw (← same) stands in
     rw noted

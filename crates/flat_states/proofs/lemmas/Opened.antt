@@ -1,9 +1,9 @@
 -- A board before any entry.
 use Rattle.std.proofs.Common.{◌≡◌, ℕ, ◌+◌, ◌<◌, ◌≤◌, ◌^◌, Bool, true, false, List, [], ◌∷◌, length, refl, arith, sym, ◌∙◌, All, sum, slice_index_or}
-use Rattle.std.specs.Prelude.{◌&&◌, ◌==◌, nat_lt, nat_le, sum_by}
+use Rattle.std.specs.Prelude.{◌&&◌, nat_lt, nat_le, sum_by}
 use Rattle.flat_base.specs.declared.ids.PairNo.{PairNo}
-use Rattle.flat_base.specs.declared.limits.TheConstants.{ONE, VERSION_MAX, SIDE_MAX, SESSIONS_MAX, PROBES_MAX, PAIRS_MAX, BUFFER_COLLECTIONS_MAX, FENCES_MAX}
-use Rattle.flat_scene.specs.Setups.{is_within, is_within_limits}
+use Rattle.flat_base.specs.declared.limits.TheConstants.{VERSION_MAX, SIDE_MAX, SESSIONS_MAX, PROBES_MAX, PAIRS_MAX, BUFFER_COLLECTIONS_MAX, FENCES_MAX}
+use Rattle.flat_scene.specs.Setups.{is_ratio, is_within, is_within_limits}
 use Rattle.flat_base.proofs.lemmas.Tests.{and-left, and-right}
 use Rattle.flat_states.specs.Flags.{has_end}
 use Rattle.flat_states.proofs.lemmas.Counts.{le-of}
@@ -14,7 +14,7 @@ use Rattle.flat_base.specs.declared.ids.SessionNo.{SessionNo}
 use Rattle.flat_scene.specs.declared.setup.Setup.{Setup}
 use Rattle.flat_fence.specs.Fences.{has}
 use Rattle.flat_states.specs.declared.state.SessionState.{SessionState}
-use Rattle.flat_states.specs.Machines.{Stands, HasRoom, due}
+use Rattle.flat_states.specs.Machines.{Stands, HasRoom, clock_of, due}
 use Rattle.flat_rules.specs.Numbers.{number}
 use Rattle.flat_states.specs.Kept.{IsKept, Below}
 use Rattle.flat_states.specs.Logs.{Logged}
@@ -58,16 +58,16 @@ three-of a b c d e f g all =
 -- there are few sessions, pairs and fences
 pub few-declared : (setup : Setup) → is_within_limits setup ≡ true → (setup.sessions ≤ SESSIONS_MAX) × (length setup.pairs ≤ PAIRS_MAX) × (length setup.fences ≤ FENCES_MAX)
 few-declared setup limits =
-    let three = three-of (is_within VERSION_MAX setup.version && setup.ratio == ONE && is_within SIDE_MAX setup.width) (is_within SIDE_MAX setup.height) (is_within SESSIONS_MAX setup.sessions) (nat_le setup.probes PROBES_MAX) (nat_le (length setup.pairs) PAIRS_MAX)
+    let three = three-of (is_within VERSION_MAX setup.version && is_ratio setup.ratio && is_within SIDE_MAX setup.width) (is_within SIDE_MAX setup.height) (is_within SESSIONS_MAX setup.sessions) (nat_le setup.probes PROBES_MAX) (nat_le (length setup.pairs) PAIRS_MAX)
     (nat_le (length setup.buffers) BUFFER_COLLECTIONS_MAX) (nat_le (length setup.fences) FENCES_MAX) limits in
     (le-of setup.sessions SESSIONS_MAX (and-right (nat_lt 0 setup.sessions) (nat_le setup.sessions SESSIONS_MAX) three.0), le-of (length setup.pairs) PAIRS_MAX three.1, le-of (length setup.fences) FENCES_MAX three.2)
 
 pub opened : (setup : Setup) (shares : List ℕ) (log : Logged) (fences views : List Bool) (sessions : List SessionState) (total : ℕ) → is_within_limits setup ≡ true → length shares ≡ setup.sessions + 1 → sum shares < 2 ^ 32
     → total ≡ sum shares → log.history ≡ [] → log.posts ≡ [] → total ≤ log.room → length fences ≡ length setup.fences → ((f : FenceNo) → has fences f ≡ false)
     → length views ≡ length setup.pairs → ((p : PairNo) → has_end views p ≡ false) → length sessions ≡ setup.sessions → All IsNew sessions
-    → Stands setup log.history (record { frames = 0; is_open = false; time = 0 }) fences views sessions × HasRoom setup shares log 0 (sum_by due sessions + 0)
+    → Stands setup log.history (clock_of setup []) fences views sessions × HasRoom setup shares log 0 (sum_by due sessions + 0)
 opened setup shares log fences views sessions total limits actors few is history posts room size none view_size no_view count new =
-    let stands : Stands setup [] (record { frames = 0; is_open = false; time = 0 }) fences views sessions = record {
+    let stands : Stands setup [] (clock_of setup []) fences views sessions = record {
       legal = tt;
       timed = refl;
       fence_count = size;

@@ -21,7 +21,7 @@ use Rattle.flat_base.proofs.lemmas.Tests.{and-right}
 use Rattle.flat_fence.specs.Fences.{has}
 use Rattle.flat_states.specs.declared.clock.Clock.{Clock}
 use Rattle.flat_states.specs.declared.state.SessionState.{SessionState}
-use Rattle.flat_states.specs.Machines.{Machine, MayCall, Stands, HasRoom, entry_of, made, clock_of}
+use Rattle.flat_states.specs.Machines.{Machine, MayCall, Stands, HasRoom, entry_of, made, clock_of, clock_then}
 use Rattle.flat_rules.specs.Numbers.{number, AllNumbered}
 use Rattle.flat_rules.specs.Ends.{view_uses, uses_view, is_done}
 use Rattle.flat_states.specs.Flags.{has_end}
@@ -44,9 +44,9 @@ legal-entered m who line calls kind reply call replied = record { may = call.may
 pub frames-quiet : (h : List Entry) (e : Entry) → is_finish e.kind ≡ false → frames (h ▹ e) ≡ frames h
 frames-quiet h e no_finish = rw no_finish refl
 
--- the clock goes on
-pub clock-quiet : (h : List Entry) (e : Entry) → is_begin e.kind ≡ false → is_finish e.kind ≡ false → clock_of (h ▹ e) ≡ clock_of h
-clock-quiet h e no_begin no_finish = rw (frames-quiet h e no_finish, no_begin, no_finish) refl
+-- the clock goes on, at the pixel ratio that the entry may set
+pub clock-quiet : (setup : Setup) (h : List Entry) (e : Entry) → is_begin e.kind ≡ false → is_finish e.kind ≡ false → clock_of setup (h ▹ e) ≡ clock_then e.kind (clock_of setup h)
+clock-quiet setup h e no_begin no_finish = rw (frames-quiet h e no_finish, no_begin, no_finish) refl
 
 -- a view end is used once more, or none is
 used-more : (p : PairNo) (e : Entry) (h : List Entry) (b : Bool) → nat_lt 0 (length (cond b (e ∷ view_uses p h) (view_uses p h))) ≡ (nat_lt 0 (length (view_uses p h)) || b)
@@ -88,12 +88,12 @@ pub stands-entered : (m : Machine) (who : Actor) (line : ℕ) (calls : List Call
     → (clock : Clock) (fences fences_now views views_now : List Bool) (sessions after : List SessionState) → Stands m.setup m.history clock fences views sessions
     → Changed m (entry_of who line calls kind reply) fences fences_now views views_now → length after ≡ length sessions
     → AllNumbered (λ i. IsKept m.setup (seen_of m.setup (m.history ▹ entry_of who line calls kind reply) (number i))) after
-    → Stands m.setup (m.history ▹ entry_of who line calls kind reply) clock fences_now views_now after
+    → Stands m.setup (m.history ▹ entry_of who line calls kind reply) (clock_then kind clock) fences_now views_now after
 stands-entered m who line calls kind reply call replied no_begin no_finish clock fences fences_now views views_now sessions after old changed count each =
     let e : Entry = entry_of who line calls kind reply in
     record {
       legal = (old.legal, legal-entered m who line calls kind reply call replied);
-      timed = old.timed ∙ sym (clock-quiet m.history e no_begin no_finish);
+      timed = ap (clock_then kind) old.timed ∙ sym (clock-quiet m.setup m.history e no_begin no_finish);
       fence_count = changed.fence_size ∙ old.fence_count;
       signalled = λ f. changed.signalled f ∙ ap (λ b. b || signals (sessions_to m.setup.sessions) kind (going m.setup m.history) f) (old.signalled f);
       view_count = changed.view_size ∙ old.view_count;

@@ -2,6 +2,7 @@ use Rattle.std.proofs.Common.{◌≡◌, ℕ, ◌+◌, List, length, take, refl,
 use Rattle.flat_scene.specs.declared.journal.Entry.{Entry}
 use Rattle.flat_report.specs.Report.{finished}
 use Rattle.flat_base.specs.declared.ids.FrameNo.{FrameNo}
+use Rattle.flat_rules.specs.Ends.{to_finished}
 use Rattle.flat_rules.specs.Legal.{frames}
 use Rattle.flat_play.specs.Playing.{PlayStands, last_number}
 use Rattle.flat_play.specs.Touches.{AreAnswered}
@@ -9,6 +10,8 @@ use Rattle.flat_play.specs.Probing.{ProbesStand}
 use Rattle.flat_play.proofs.Probed.{asked-within, probes-unasked, probes-on, probes-more, probes-all}
 use Rattle.flat_play.proofs.InTurn.{turns-none, turns-on, turns-more, turns-all}
 use Rattle.flat_play.proofs.Touching.{answered-none, answered-more, answered-all}
+use Rattle.flat_scene.specs.Setups.{at_ratio}
+use Rattle.flat_play.proofs.lemmas.FramesShown.{scaled}
 use Rattle.flat_play.proofs.lemmas.PlaySteps.{play_stays}
 use Rattle.flat_play.proofs.lemmas.Places.{setup_is}
 use Rattle.flat_play.proofs.lemmas.Steps.{at_place}
@@ -85,13 +88,13 @@ loop-place-preserved g c =
       answered =
           let A : ℕ → Type 0 = λ n. AreAnswered script.setup new n c.args.lines.now c.in_ok-left.left.now c.answer_upto.new.found.items in
           subst A (sym at.last)
-          (answered-more script.setup _ _ _ _ _ _ was.answered was.stands.answers.showing x.number _ _ _ at.above c.in_ok-left.ensures.answers on);
+          (answered-more script.setup _ _ _ _ _ (at_ratio c.loop-place.play.last.ratio script.setup) _ was.answered (scaled script.setup (to_finished old) c.loop-place.play.last.ratio was.stands.answers.scaling) was.stands.answers.showing x.number _ _ _ at.above c.in_ok-left.ensures.answers on);
       asked =
           probes-on script (place + 1) x.number old new c.answer_line.new.answers.items on
-          (probes-more script place x at old last.reuse last.frame.0 number showing c.loop-place.answers.items c.answer_line.new.answers.items asks was.asked);
+          (probes-more script place x at old (at_ratio last.ratio script.setup) last.reuse last.frame.0 number (scaled script.setup (to_finished old) last.ratio (stays.ratio ∙ was.stands.answers.scaling)) showing c.loop-place.answers.items c.answer_line.new.answers.items asks was.asked);
       turns =
           turns-on script place x at old new c.answer_line.new.answers.items on
-          (turns-more script place x at old (last_number 0 (take place script.lines)) at.above was.answered.entries last.reuse last.frame.0 number c.loop-place.answers.items c.answer_line.new.answers.items was.asked.count asks was.turns);
+          (turns-more script place x at old (last_number 0 (take place script.lines)) at.above was.answered.entries (at_ratio last.ratio script.setup) last.reuse last.frame.0 number c.loop-place.answers.items c.answer_line.new.answers.items was.asked.count asks was.turns);
     }
 
 pub returns-clause-stands : goal.returns-clause-stands
@@ -101,7 +104,10 @@ returns-clause-stands g c =
     play_stays c.args.script.now _ c.loop-place.play _ c.in_ok-answer_all.ensures.stays (subst P last c.loop-place.invariant.stands)
 
 pub returns-clause-touches : goal.returns-clause-touches
-returns-clause-touches g c = answered-all _ _ _ _ _ _ _ c.loop-place.invariant.answered c.loop-place.invariant.stands.answers.showing _ c.in_ok-answer_all.ensures.answers
+returns-clause-touches g c =
+    let setup = c.args.script.now.setup in
+    let play = c.loop-place.play in
+    answered-all setup _ _ _ _ _ (at_ratio play.last.ratio setup) _ c.loop-place.invariant.answered (scaled setup (to_finished play.board.history) play.last.ratio c.loop-place.invariant.stands.answers.scaling) c.loop-place.invariant.stands.answers.showing _ c.in_ok-answer_all.ensures.answers
 
 pub returns-clause-probes : goal.returns-clause-probes
 returns-clause-probes g c =

@@ -12,7 +12,7 @@ returns-clause-stands c =
     let script = c.args.script.now in
     starts script _ c.requires c.lines_are_read.ensures.none c.in_ok-board.ensures c.in_ok-readers.ensures
     (first_shown c.shown_states_fit.ensures.nothing script.setup _ _ c.in_ok-shown.ensures.size c.in_ok-shown.ensures.none refl) (c.new-2.ensures.none script) refl
-    (first_answers script.setup _ _ c.in_ok-last.ensures.number c.in_ok-last.ensures.is c.in_ok-last.ensures.shows c.new-3.ensures)
+    (first_answers script.setup _ _ c.in_ok-last.ensures.number c.in_ok-last.ensures.is c.in_ok-last.ensures.shows c.in_ok-last.ensures.ratio c.new-3.ensures)
 
 pub returns-clause-no_entry : goal.returns-clause-no_entry
 returns-clause-no_entry c = ap (λ (m : Machine). m.history) c.in_ok-board.ensures

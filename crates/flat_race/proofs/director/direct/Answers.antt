@@ -56,7 +56,7 @@ loop-place-preserved g c =
       keeping = ap (λ (f : Film). keeping_of f.kept) sent.others ∙ now.keeping ∙ was.keeping;
       same = ap (λ (s : Driven). s.displays) set ∙ c.direct_next.ensures.same ∙ was.same;
       published = published_more script was_seen now_seen c.loop-place.film.last.frame.0 c.direct_next.new.film.last c.loop-place.published c.end_line.new.published
-          was.stands.kept.answering.number now.stands.kept.answering.number now.stands.kept.answering.showing now.finishes c.in_ok-end_line.ensures.publishes was.published;
+          was.stands.kept.answering.number now.stands.kept.answering.number now.stands.kept.answering.showing now.stands.kept.answering.scaling now.finishes c.in_ok-end_line.ensures.publishes was.published;
       home = sent.home ∙ was.home;
     }
 

@@ -1,23 +1,27 @@
-use Rattle.std.proofs.Common.{rules, ◌≡◌, true, [], ◌∷◌, ◌++◌, refl, ap, sym, ◌∙◌, subst}
+use Rattle.std.proofs.Common.{rules, ◌≡◌, ℕ, List, true, [], ◌∷◌, ◌++◌, refl, ap, sym, ◌∙◌, subst}
 use Rattle.flat_base.specs.declared.ids.Actor.TheVariants.{Display}
 use Rattle.flat_core.specs.Machines.{MayLook}
 use Rattle.flat_rules.specs.Legal.{is_fence, names_declared}
 use Rattle.flat_rules.specs.Owned.{is_played_display}
-use Rattle.flat_scene.specs.declared.journal.Kind.TheVariants.{Begin, Hit, Signal, Wait}
+use Rattle.flat_scene.specs.declared.journal.Kind.TheVariants.{Begin, Dpr, Hit, Signal, Wait}
 use Rattle.flat_scene.specs.declared.journal.Reply.TheVariants.{Done}
 use Rattle.flat_scene.specs.declared.script.Body.TheVariants as body
 use Rattle.flat_scene.specs.declared.script.DisplayLine.{DisplayLine}
 use Rattle.flat_scene.specs.declared.script.DisplayLine.TheVariants as display
 use Rattle.flat_scene.specs.declared.script.ScriptLine.{ScriptLine}
 use Rattle.flat_scene.specs.declared.setup.Setup.{Setup}
+use Rattle.flat_scene.specs.declared.journal.Entry.{Entry}
+use Rattle.flat_scene.specs.Frames.{ratio}
 use Rattle.flat_scene.specs.History.{history_of}
+use Rattle.flat_scene.specs.Setups.{at_ratio}
+use Rattle.flat_rules.specs.Ends.{to_begin}
 use Rattle.flat_topology.specs.Hits.{hit_list}
 use Rattle.flat_base.specs.declared.ids.FrameNo.{FrameNo}
 use Rattle.flat_scene.specs.declared.frames.SessionSet.{SessionSet}
 use Rattle.flat_topology.specs.Changes.{AreSame}
 use Rattle.flat_topology.specs.Shown.{Shown}
 use Rattle.flat_play.specs.declared.frame.LastFrame.{LastFrame}
-use Rattle.flat_play.specs.Last.{StaysLast}
+use Rattle.flat_play.specs.Last.{IsJoined, StaysLast}
 use Rattle.flat_play.proofs.lemmas.Joining.{joined-again}
 use Rattle.flat_stage.specs.Displays.{DisplayEnters}
 use Rattle.flat_stage.specs.Seats.{setup_of}
@@ -33,7 +37,7 @@ use Rattle.flat_race.specs.Directing.{HandStands, hand_seat}
 use Rattle.flat_race.specs.Publishing.{FinishesOne}
 use Rattle.flat_race.proofs.Finishing.{finishes_then}
 use Rattle.flat_race.proofs.Joined.{keeps-joined}
-use Rattle.flat_race.proofs.HandSteps.{begins_idle, finished_still, finished_then, finishes_open, frames_few, looked_beside, looked_finishes, publishes_still, publishes_then, shown_as, hand_begins, hand_finishes, hand_hits, hand_looks, hand_room, hand_signals, hand_waits, looked_there, time_fits, wait_fits}
+use Rattle.flat_race.proofs.HandSteps.{begins_idle, finished_still, finished_then, finishes_open, frames_few, looked_beside, looked_finishes, publishes_still, publishes_then, shown_as, hand_begins, hand_finishes, hand_hits, hand_looks, hand_room, hand_scales, hand_signals, hand_waits, looked_there, time_fits, wait_fits}
 use Rattle.flat_race.proofs.director.direct_line.Goals as goal
 
 pub into_seat-requires : goal.into_seat-requires
@@ -123,6 +127,14 @@ signal-reply-requires-clause-room g c =
     let at : At script c.args.place x = at_place script c.args.place x c.requires.playable c.requires.line in
     hand_room script view c.args.place x at refl c.requires.of (hand_seat c.args.hand) c.requires.stands.seat
 
+pub dpr-reply-requires-clause-room : goal.dpr-reply-requires-clause-room
+dpr-reply-requires-clause-room g c =
+    let script = c.args.lent.now.script.now in
+    let view = c.args.lent.now.stage.now in
+    let x : ScriptLine = record { number = c.args.number; actor = Display; body = body.Display c.args.text } in
+    let at : At script c.args.place x = at_place script c.args.place x c.requires.playable c.requires.line in
+    hand_room script view c.args.place x at refl c.requires.of (hand_seat c.args.hand) c.requires.stands.seat
+
 pub signal-reply-requires-clause-named : goal.signal-reply-requires-clause-named
 signal-reply-requires-clause-named g c =
     let script = c.args.lent.now.script.now in
@@ -132,6 +144,15 @@ signal-reply-requires-clause-named g c =
     let D : DisplayLine → Type 0 = λ t. is_played_display script.setup t ≡ true in
     let F : Setup → Type 0 = λ s. is_fence s c.in-Signal.f ≡ true in
     subst F (sym (ap setup_of c.requires.stands.seat.own ∙ c.requires.of.setup)) (subst D c.in-Signal.is at.played)
+
+pub dpr-reply-requires-clause-named : goal.dpr-reply-requires-clause-named
+dpr-reply-requires-clause-named g c =
+    let script = c.args.lent.now.script.now in
+    let view = c.args.lent.now.stage.now in
+    let x : ScriptLine = record { number = c.args.number; actor = Display; body = body.Display c.args.text } in
+    let at : At script c.args.place x = at_place script c.args.place x c.requires.playable c.requires.line in
+    let D : DisplayLine → Type 0 = λ t. is_played_display script.setup t ≡ true in
+    subst D c.in-Dpr.is at.played
 
 pub look_again-requires-clause-may : goal.look_again-requires-clause-may
 look_again-requires-clause-may g c κs within =
@@ -206,8 +227,11 @@ returns-in_ok-seat-in-Done-clause-stands g c =
     let S : SessionSet → Type 0 = λ changed. AreSame changed c.args.film.now.last.reuse done.reuse in
     let K : Shown → Type 0 = λ next. AreSame c.into_frame-frame.result.changed c.args.film.now.last.reuse next in
     let same : S c.changed.result = subst S (sym c.changed.ensures) (subst K (held.shows.0 ∙ sym keeps.showing) held.changes) in
-    let joined = c.take_joined-joined.ensures.joined script.setup done.reuse was.is_last keeps.is_last.count same in
-    let stays : StaysLast script.setup done then = joined-again script.setup done then keeps.is_last refl refl joined in
+    let h : List Entry = history_of c.into_frame-frame.result.display.seen in
+    let scales : c.ratio.result ≡ ratio script.setup (to_begin h) = c.ratio.ensures ∙ ap (λ (s : Setup). ratio s (to_begin h)) (ap setup_of held.seat.own ∙ c.requires.of.setup) in
+    let J : ℕ → Type 0 = λ r. IsJoined (at_ratio r script.setup) done.reuse then.joined in
+    let joined = subst J (scales ∙ sym keeps.scaling) (c.take_joined-joined.ensures.joined script.setup done.reuse was.is_last keeps.is_last.count same) in
+    let stays : StaysLast script.setup done then = joined-again script.setup done then keeps.is_last refl refl refl joined in
     hand_finishes script view c.args.place x at refl c.requires.of is c.into_frame-frame.result c.in_ok-seat-in-Done.seat c.args.film.now (record c.finish.new.film { last = then }) held c.in_ok-seat-in-Done.ensures.enters
     (keeps-joined script _ _ c.args.film.now c.take_joined-joined.new.self c.finish.new.film then keeps stays)
 
@@ -219,6 +243,15 @@ returns-in-Signal-clause-stands g c =
     let at : At script c.args.place x = at_place script c.args.place x c.requires.playable c.requires.line in
     let is : x.body ≡ body.Display (display.Signal c.in-Signal.f) = ap (λ t. body.Display t) c.in-Signal.is in
     hand_signals script view c.args.place x at refl c.requires.of c.in-Signal.f c.signal-reply.result is c.args.hand c.signal-reply.new.self c.args.film.now c.requires.stands c.signal-reply.ensures.enters c.signal-reply.ensures.open c.signal-reply.ensures.kept
+
+pub returns-in-Dpr-clause-stands : goal.returns-in-Dpr-clause-stands
+returns-in-Dpr-clause-stands g c =
+    let script = c.args.lent.now.script.now in
+    let view = c.args.lent.now.stage.now in
+    let x : ScriptLine = record { number = c.args.number; actor = Display; body = body.Display c.args.text } in
+    let at : At script c.args.place x = at_place script c.args.place x c.requires.playable c.requires.line in
+    let is : x.body ≡ body.Display (display.Dpr c.in-Dpr.ratio) = ap (λ t. body.Display t) c.in-Dpr.is in
+    hand_scales script view c.args.place x at refl c.requires.of c.in-Dpr.ratio c.dpr-reply.result is c.args.hand c.dpr-reply.new.self c.args.film.now c.requires.stands c.dpr-reply.ensures.enters c.dpr-reply.ensures.open c.dpr-reply.ensures.kept
 
 pub returns-in-Wait-clause-stands : goal.returns-in-Wait-clause-stands
 returns-in-Wait-clause-stands g c =
@@ -241,7 +274,7 @@ returns-in_ok-hit-in-Hit-clause-stands g c =
     let was = c.args.film.now in
     let entered : DisplayEnters c.args.number (Hit c.in-Hit.x c.in-Hit.y) Done (hand_seat c.args.hand) (hand_seat c.hit.new.hand) = search rules in
     let stays : StaysLast script.setup was.last c.hit.new.film.last = search rules in
-    let gained : c.hit.new.film.answers ≡ was.answers ++ (record { actor = Display; line = c.args.number; frame = was.last.frame; hits = hit_list script.setup was.last.reuse c.in-Hit.x c.in-Hit.y }) ∷ [] = search rules in
+    let gained : c.hit.new.film.answers ≡ was.answers ++ (record { actor = Display; line = c.args.number; frame = was.last.frame; hits = hit_list (at_ratio was.last.ratio script.setup) was.last.reuse c.in-Hit.x c.in-Hit.y }) ∷ [] = search rules in
     hand_hits script view c.args.place x at refl c.requires.of c.in-Hit.x c.in-Hit.y is c.args.hand c.hit.new.hand c.args.film.now c.hit.new.film c.requires.stands entered hits.open hits.kept hits.others stays gained
 
 pub returns-in-Begin-clause-shown : goal.returns-in-Begin-clause-shown
@@ -271,6 +304,14 @@ returns-in-Signal-clause-shown g c =
     let x : ScriptLine = record { number = c.args.number; actor = Display; body = body.Display c.args.text } in
     let at : At script c.args.place x = at_place script c.args.place x c.requires.playable c.requires.line in
     IsShown.shows_none (finished_still script view c.args.place x at refl c.requires.of (Signal c.in-Signal.f) c.signal-reply.result (hand_seat c.args.hand) (hand_seat c.signal-reply.new.self) refl c.requires.stands.seat c.signal-reply.ensures.enters) refl refl
+
+pub returns-in-Dpr-clause-shown : goal.returns-in-Dpr-clause-shown
+returns-in-Dpr-clause-shown g c =
+    let script = c.args.lent.now.script.now in
+    let view = c.args.lent.now.stage.now in
+    let x : ScriptLine = record { number = c.args.number; actor = Display; body = body.Display c.args.text } in
+    let at : At script c.args.place x = at_place script c.args.place x c.requires.playable c.requires.line in
+    IsShown.shows_none (finished_still script view c.args.place x at refl c.requires.of (Dpr c.in-Dpr.ratio) c.dpr-reply.result (hand_seat c.args.hand) (hand_seat c.dpr-reply.new.self) refl c.requires.stands.seat c.dpr-reply.ensures.enters) refl refl
 
 pub returns-in-Wait-clause-shown : goal.returns-in-Wait-clause-shown
 returns-in-Wait-clause-shown g c =
@@ -319,6 +360,14 @@ returns-in-Signal-clause-finishes g c =
     let x : ScriptLine = record { number = c.args.number; actor = Display; body = body.Display c.args.text } in
     let at : At script c.args.place x = at_place script c.args.place x c.requires.playable c.requires.line in
     publishes_still script view c.args.place x at refl c.requires.of (Signal c.in-Signal.f) c.signal-reply.result (hand_seat c.args.hand) (hand_seat c.signal-reply.new.self) refl c.requires.stands.seat c.signal-reply.ensures.enters
+
+pub returns-in-Dpr-clause-finishes : goal.returns-in-Dpr-clause-finishes
+returns-in-Dpr-clause-finishes g c =
+    let script = c.args.lent.now.script.now in
+    let view = c.args.lent.now.stage.now in
+    let x : ScriptLine = record { number = c.args.number; actor = Display; body = body.Display c.args.text } in
+    let at : At script c.args.place x = at_place script c.args.place x c.requires.playable c.requires.line in
+    publishes_still script view c.args.place x at refl c.requires.of (Dpr c.in-Dpr.ratio) c.dpr-reply.result (hand_seat c.args.hand) (hand_seat c.dpr-reply.new.self) refl c.requires.stands.seat c.dpr-reply.ensures.enters
 
 pub returns-in-Wait-clause-finishes : goal.returns-in-Wait-clause-finishes
 returns-in-Wait-clause-finishes g c =

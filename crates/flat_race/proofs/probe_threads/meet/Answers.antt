@@ -1,4 +1,5 @@
 use Rattle.std.proofs.Common.{◌≡◌, ℕ, ℤ, ◌≤◌, List, map, sym, ap, ◌∙◌, subst}
+use Rattle.flat_scene.specs.Setups.{at_ratio}
 use Rattle.flat_topology.specs.Hits.{hit_list}
 use Rattle.flat_publish.specs.Frames.{last_number}
 use Rattle.flat_publish.proofs.lemmas.Beginnings.{prefix_trans}
@@ -21,7 +22,7 @@ returns-clause-answered g c = λ lines answered. (
     let last = c.requires.last in
     let saw = seen-more c.args.back.probe.frames seen grows rise lines c.args.back.answers (answered c.if-not-is_whole.false) in
     let agree : (n : ℕ) → n ≤ last_number published → (x y : ℤ) → hits_of seen n x y ≡ hits_of published n x y = λ n low x y. sym (hits-later published seen n x y meets rise low) in
-    let shown = hit_list c.args.lent.now.script.now.setup c.args.last.now.reuse in
+    let shown = hit_list (at_ratio c.args.last.now.ratio c.args.lent.now.script.now.setup) c.args.last.now.reuse in
     let now : c.settle.new.answers ≡ map (settled (last_number published) shown) c.args.back.answers =
     c.in_ok-settle.ensures.answers ∙ ap (λ (n : ℕ). map (settled n shown) c.args.back.answers) last.number in
     let P : List ProbeAnswer → Type 0 = AreAnsweredBy (hits_of published) (last_number published) lines in

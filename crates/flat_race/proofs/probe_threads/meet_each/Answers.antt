@@ -28,7 +28,7 @@ loop-next-preserved g c =
     let out = probe-next script c.args.published.now.home c.loop-next.probe c.loop-next.out.items c.pop_front.new.self.items c.in-Some.next first was.out in
     record {
       same = c.meet.ensures.same ∙ was.same;
-      stays = let now = c.in_ok-meet.ensures.stays in record { frame = now.frame ∙ was.stays.frame; reuse = now.reuse ∙ was.stays.reuse; is = now.is };
+      stays = let now = c.in_ok-meet.ensures.stays in record { frame = now.frame ∙ was.stays.frame; ratio = now.ratio ∙ was.stays.ratio; reuse = now.reuse ∙ was.stays.reuse; is = now.is };
       out = out.1;
       many = omega (arith, many, long);
       answered = answered-more script (record { home = c.args.published.now.home; frames = c.args.published.now.frames }) c.loop-next.probe c.loop-next.answers.items c.push.new.self.items c.in_ok-meet.field-0 (search rules)

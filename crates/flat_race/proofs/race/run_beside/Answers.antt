@@ -18,7 +18,7 @@ meet_each-requires-clause-is g c = c.in_ok-compositor.ensures.film.answering.is_
 pub meet_each-requires-clause-last : goal.meet_each-requires-clause-last
 meet_each-requires-clause-last g c = λ any. (
     let was = c.in_ok-compositor.ensures in
-    last-published-is c.args.lent.now.script.now (history_of c.in_ok-compositor.compositor.seen) c.direct-directed.new.film.last c.direct-directed.new.published was.film.answering.number was.film.answering.showing (was.published.are any)
+    last-published-is c.args.lent.now.script.now (history_of c.in_ok-compositor.compositor.seen) c.direct-directed.new.film.last c.direct-directed.new.published was.film.answering.number was.film.answering.showing was.film.answering.scaling (was.published.are any)
     )
 
 pub returns-clause-ended : goal.returns-clause-ended

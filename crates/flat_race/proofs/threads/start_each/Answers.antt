@@ -1,13 +1,22 @@
-use Rattle.std.proofs.Common.{rules, ℕ, List, Some, slice_get, slice_index_or, ◌≡◌, ◌≤◌, ◌+◌, [], ◌∷◌, ◌++◌, ap, sym, ◌∙◌, subst, arith, vec_capacity}
+use Rattle.std.proofs.Common.{rules, ℕ, List, Option, None, Some, slice_get, slice_index_or, ◌≡◌, ◌≤◌, ◌+◌, [], ◌∷◌, ◌++◌, ap, sym, ◌∙◌, subst, arith, vec_capacity}
 use Rattle.std.proofs.lemmas.Option.{slice_get-get_or}
 use Rattle.flat_base.specs.declared.ids.SessionNo.{SessionNo}
-use Rattle.flat_stage.specs.Homes.{SeatsView}
+use Rattle.flat_stage.specs.Homes.{SeatsView, fresh_view}
 use Rattle.flat_stage.specs.Seats.{SessionView}
 use Rattle.flat_race.specs.OwnLines.{ArePlaces, own_places}
 use Rattle.flat_race.specs.Sessions.{IsOut}
 use Rattle.flat_race.proofs.OwnLines.{placed-next, placed-own}
-use Rattle.flat_race.proofs.Outs.{is_next, left-all, left-more, next_is_fresh, out-more}
+use Rattle.flat_race.proofs.Outs.{is_next, left-all, left-more, left-next, next_is_fresh, out-more}
 use Rattle.flat_race.proofs.threads.start_each.Goals as goal
+
+pub unreachable-requires : goal.unreachable-requires
+unreachable-requires g c =
+    let view = c.args.lent.now.stage.now in
+    let k = c.loop-before.before in
+    let next = left-next view c.args.lent.now.script.now.setup.sessions k c.loop-before.seats.seats (omega (arith, c.loop-before-test.true)) c.loop-before.invariant.left in
+    let fresh : SessionView = fresh_view view (record { 0 = k + 1 }) in
+    let wrong : ◌≡◌ {A = Option SessionView} None (Some fresh) = sym c.in_default.is ∙ c.take.ensures.seat ∙ next in
+    cc
 
 pub start-started-requires-clause-fresh : goal.start-started-requires-clause-fresh
 start-started-requires-clause-fresh g c κs within = next_is_fresh c.args.lent.now.stage.now c.args.lent.now.script.now.setup.sessions c.loop-before.before c.loop-before.seats.seats c.in-Some.seat (omega (arith, c.loop-before-test.true)) c.loop-before.invariant.left c.in-Some.ensures.seat

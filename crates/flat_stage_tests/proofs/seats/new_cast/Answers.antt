@@ -1,4 +1,4 @@
-use Rattle.std.proofs.Common.{◌≡◌, ◌∙◌, ◌<◌, ◌≤◌, ℕ, [], ◌∷◌, ap, sym, subst, lit<, lit≤}
+use Rattle.std.proofs.Common.{◌≡◌, ◌∙◌, ◌<◌, ℕ, [], ◌∷◌, ap, sym, subst, lit<, lit≤}
 use Rattle.flat_stage.specs.Homes.{SeatsView, session_at}
 use Rattle.flat_stage_tests.proofs.Fresh.{first_is, second_is, fresh_reads, number}
 use Rattle.flat_stage_tests.proofs.seats.new_cast.Goals as goal

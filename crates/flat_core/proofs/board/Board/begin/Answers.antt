@@ -29,6 +29,9 @@ use Rattle.flat_states.proofs.lemmas.Steps.{has-room, legal-entered}
 use Rattle.flat_core.proofs.Changes.{changes-same}
 use Rattle.flat_gets.proofs.lemmas.BoardBegins.{kept-begun, place-small, held-back, unsquashable-shown}
 use Rattle.flat_gets.proofs.lemmas.WatchingSteps.{watched-after}
+use Rattle.flat_scene.specs.Frames.{ratio}
+use Rattle.flat_states.specs.declared.ratios.Ratios.{Ratios}
+use Rattle.flat_core.proofs.DisplayRatios.{ratios-kept}
 use Rattle.flat_core.proofs.board.Board.begin.Goals as goal
 use Rattle.flat_rules.proofs.lemmas.ShownList.{length-listed}
 
@@ -94,7 +97,7 @@ invariant_of-self c =
       post_room = all.post_room;
       due = omega (arith, all.due);
       entered = record { history = history; posts = log.posts; room = log.room; post_room = log.post_room };
-    }) in
+    }) c.begin-ratios.result (c.begin-ratios.ensures inside.setup inside.log.history c.args.line c.args.time) in
     (kept.0, kept.1, rw now ends, rw now tied, rw now (watched-after m Display c.args.line [] (Begin c.args.time) Done may refl refl refl refl c.self.invariant.0.legal inside.watchers.gets.items inside.watchers.answered.items c.self.invariant.4))
 
 pub returns-clause-next : goal.returns-clause-next
@@ -120,3 +123,12 @@ returns-clause-unsquashable c =
     let P : List Entry → Machine → Type 0 = λ h n. (s : SessionNo) (earlier later : List Published) (present : Published) → is_closed s n.history ≡ false
     → going inside.setup h s ≡ earlier ++ present ∷ later → is_unsquashable present ≡ true → (later ≡ []) × (shown inside.setup h s ≡ tree_of inside.setup present) in
     subst (P after) c.self.view_is (subst (λ (h : List Entry). P h m) (sym new) (unsquashable-shown inside.setup inside.log.history c.args.line c.args.time))
+
+pub returns-clause-ratio : goal.returns-clause-ratio
+returns-clause-ratio c =
+    let inside = c.self.inside in
+    let new : c.enter.new.self.history ≡ begun inside.log.history c.args.line c.args.time =
+    c.enter.ensures.history ∙ ap (λ (carries : List Call). c.begin_all-count.new.log.history ▹ entry_of Display c.args.line carries (Begin c.args.time) Done) c.new.ensures
+    ∙ ap (λ (h : List Entry). begun h c.args.line c.args.time) c.begin_all-count.ensures.history in
+    let noted = c.begin-ratios.ensures inside.setup inside.log.history c.args.line c.args.time (ratios-kept inside.setup inside.log.history _ _ _ _ c.self.invariant.0) in
+    ap (λ (r : Ratios). r.begun) noted ∙ sym (ap (ratio inside.setup) new)

@@ -10,6 +10,8 @@ use Rattle.flat_states.specs.Begins.{finish_entry, finished}
 use Rattle.flat_rules.specs.Legal.{Legal}
 use Rattle.flat_states.proofs.lemmas.Steps.{has-room, legal-entered, short-history}
 use Rattle.flat_gets.proofs.lemmas.BoardBegins.{kept-finished, place-small}
+use Rattle.flat_states.proofs.lemmas.Ratios.{has-display}
+use Rattle.flat_core.proofs.DisplayRatios.{finished-least, port-kept, ratios-kept}
 use Rattle.flat_core.proofs.board.Board.done.Goals as goal
 
 pub done_all-count-requires-clause-place : goal.done_all-count-requires-clause-place
@@ -25,7 +27,23 @@ done_all-count-requires-clause-tells c =
     let m : Machine = record { setup = inside.setup; shares = inside.shares; history = inside.log.history } in
     let legal : Legal inside.setup (finished inside.log.history c.args.line) = (c.self.invariant.0.legal, legal-entered m Display c.args.line [] Finish Done may refl) in
     let tied = c.finish.ensures.tied inside.log.history c.args.line legal c.self.invariant.3 in
-    record { same = refl; legal = legal; tied = tied; viewed = c.self.invariant.0.viewed }
+    let noted = c.finish-ratios.ensures inside.setup inside.log.history c.args.line (ratios-kept inside.setup inside.log.history _ _ _ _ c.self.invariant.0) in
+    record { same = refl; shows = port-kept inside.setup (finished inside.log.history c.args.line) c.finish-ratios.result c.port_of.result noted c.port_of.ensures; legal = legal; tied = tied; viewed = c.self.invariant.0.viewed }
+
+pub port_of-requires-clause-ratio : goal.port_of-requires-clause-ratio
+port_of-requires-clause-ratio c =
+    let may = rw (← c.self.view_is) at c.requires in
+    let inside = c.self.inside in
+    let m : Machine = record { setup = inside.setup; shares = inside.shares; history = inside.log.history } in
+    let legal : Legal inside.setup (finished inside.log.history c.args.line) = (c.self.invariant.0.legal, legal-entered m Display c.args.line [] Finish Done may refl) in
+    let noted = c.finish-ratios.ensures inside.setup inside.log.history c.args.line (ratios-kept inside.setup inside.log.history _ _ _ _ c.self.invariant.0) in
+    finished-least inside.setup (finished inside.log.history c.args.line) c.finish-ratios.result noted legal (has-display inside.setup c.self.invariant.1.limits)
+
+pub port_of-requires-clause-width : goal.port_of-requires-clause-width
+port_of-requires-clause-width c = (has-display c.self.inside.setup c.self.invariant.1.limits).width
+
+pub port_of-requires-clause-height : goal.port_of-requires-clause-height
+port_of-requires-clause-height c = (has-display c.self.inside.setup c.self.invariant.1.limits).height
 
 pub enter-requires : goal.enter-requires
 enter-requires c =
@@ -54,7 +72,7 @@ invariant_of-self c =
       post_room = all.post_room;
       due = all.due;
       entered = record { history = history; posts = log.posts; room = log.room; post_room = log.post_room };
-    }) in
+    }) c.finish-ratios.result (c.finish-ratios.ensures c.self.inside.setup c.self.inside.log.history c.args.line) in
     let now = history ∙ ap (λ (h : List Entry). h ▹ finish_entry c.args.line) all.history in
     let inside = c.self.inside in
     let m : Machine = record { setup = inside.setup; shares = inside.shares; history = inside.log.history } in

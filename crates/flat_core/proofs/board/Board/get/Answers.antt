@@ -15,6 +15,8 @@ use Rattle.flat_core.proofs.GetCalls.{kept-got, room-got}
 use Rattle.flat_states.proofs.lemmas.Ones.{declared-of}
 use Rattle.flat_states.proofs.lemmas.Steps.{has-room, legal-entered, owed-small, room-more, short-history}
 use Rattle.flat_gets.proofs.lemmas.WatchingSteps.{asked-known, asked-replied, few-all, watched-asked}
+use Rattle.flat_core.proofs.DisplayRatios.{finished-least, port-kept, ratios-kept}
+use Rattle.flat_states.proofs.lemmas.Ratios.{has-display}
 use Rattle.flat_core.proofs.board.Board.get.Goals as goal
 use Rattle.flat_states.proofs.lemmas.Counts.{few-if}
 
@@ -74,7 +76,7 @@ invariant_of-self-2 c =
     let state = c.index_mut-state.result.now in
     let reply = c.in-Ok.reply in
     let log = c.enter.ensures in
-    let telling : IsTelling inside.setup inside.ties inside.view_ends inside.setup h = record { same = refl; legal = c.self.invariant.0.legal; tied = c.self.invariant.3; viewed = c.self.invariant.0.viewed } in
+    let telling : IsTelling inside.setup c.port_of.result inside.ties inside.view_ends inside.setup h = record { same = refl; shows = port-kept inside.setup h inside.clock.ratios c.port_of.result (ratios-kept inside.setup h _ _ _ _ c.self.invariant.0) c.port_of.ensures; legal = c.self.invariant.0.legal; tied = c.self.invariant.3; viewed = c.self.invariant.0.viewed } in
     let asked = c.in-Ok.ensures.asked inside.setup h telling in
     let declared = declared-of inside.setup (Get c.args.get) c.args.s call.may.acts in
     let known = asked-known inside.setup h c.self.invariant.0.legal c.args.s c.args.calls c.args.get call.may c.args.p means in
@@ -112,9 +114,21 @@ returns-clause-reply c =
     let means = rw (← c.self.view_is) at c.requires.meant in
     let inside = c.self.inside in
     let h = inside.log.history in
-    let telling : IsTelling inside.setup inside.ties inside.view_ends inside.setup h = record { same = refl; legal = c.self.invariant.0.legal; tied = c.self.invariant.3; viewed = c.self.invariant.0.viewed } in
+    let telling : IsTelling inside.setup c.port_of.result inside.ties inside.view_ends inside.setup h = record { same = refl; shows = port-kept inside.setup h inside.clock.ratios c.port_of.result (ratios-kept inside.setup h _ _ _ _ c.self.invariant.0) c.port_of.ensures; legal = c.self.invariant.0.legal; tied = c.self.invariant.3; viewed = c.self.invariant.0.viewed } in
     let asked = c.in-Ok.ensures.asked inside.setup h telling in
     let declared = declared-of inside.setup (Get c.args.get) c.args.s call.may.acts in
     let known = asked-known inside.setup h c.self.invariant.0.legal c.args.s c.args.calls c.args.get call.may c.args.p means in
     let P : Machine → Type 0 = λ m. c.in-Ok.reply ≡ reply_to m.setup m.history (Session c.args.s) c.args.calls (Get c.args.get) in
     subst P c.self.view_is (asked-replied inside.setup h c.self.invariant.0.legal c.args.s declared c.args.calls c.args.get call.may c.args.p known means _ _ _ _ c.in-Ok.reply asked c.self.invariant.4)
+
+pub port_of-requires-clause-ratio : goal.port_of-requires-clause-ratio
+port_of-requires-clause-ratio c =
+    let stands = c.self.invariant.0 in
+    let setup = c.self.inside.setup in
+    finished-least setup c.self.inside.log.history c.self.inside.clock.ratios (ratios-kept setup c.self.inside.log.history _ _ _ _ stands) stands.legal (has-display setup c.self.invariant.1.limits)
+
+pub port_of-requires-clause-width : goal.port_of-requires-clause-width
+port_of-requires-clause-width c = (has-display c.self.inside.setup c.self.invariant.1.limits).width
+
+pub port_of-requires-clause-height : goal.port_of-requires-clause-height
+port_of-requires-clause-height c = (has-display c.self.inside.setup c.self.invariant.1.limits).height

@@ -21,6 +21,8 @@ use Rattle.flat_states.proofs.lemmas.Ones.{declared-of}
 use Rattle.flat_states.proofs.lemmas.Steps.{has-room, owed-small, room-more, short-history}
 use Rattle.flat_gets.proofs.lemmas.WatchingSteps.{few-all, seldom-all}
 use Rattle.flat_core.proofs.UseSteps.{held-told, join-used, kept-used, last-uses, others-none, replied, room-used, telling-used}
+use Rattle.flat_core.proofs.DisplayRatios.{finished-least, ratios-kept}
+use Rattle.flat_states.proofs.lemmas.Ratios.{has-display}
 use Rattle.flat_core.proofs.board.Board.viewport.Goals as goal
 
 pub overflow_add-self-inside : goal.overflow_add-self-inside
@@ -80,7 +82,7 @@ join-told-requires-clause-stands c =
     let e : Entry = entry_of (Session c.args.s) c.args.line c.args.calls (Viewport c.args.p c.args.props) (use_reply held) in
     let used = kept-used m c.args.s c.args.line c.args.calls c.args.p c.args.props call held is inside.clock inside.fences inside.view_ends inside.sessions.items roomy state c.index_mut-ends.result.now c.use_ends-is_held.new.ends
     c.index_mut-state.ensures.value c.index_mut-ends.ensures.value c.self.invariant.0 same.0 used_by inside.ties c.use_ends-is_held.new.ties c.self.invariant.3 ties short in
-    let telling = telling-used m c.args.s c.args.line c.args.calls c.args.p c.args.props call held inside.clock inside.fences inside.view_ends inside.sessions.items c.use_ends-is_held.new.ties c.self.invariant.0 used.0 used.3 in
+    let telling = telling-used m c.args.s c.args.line c.args.calls c.args.p c.args.props call held inside.clock inside.fences inside.view_ends inside.sessions.items c.port_of.result c.use_ends-is_held.new.ties c.port_of.ensures c.self.invariant.0 used.0 used.3 in
     (inside.setup, (h ▹ e, telling))
 
 pub join-told-requires-clause-some : goal.join-told-requires-clause-some
@@ -152,7 +154,7 @@ invariant_of-self-2 c =
     let e : Entry = entry_of (Session c.args.s) c.args.line c.args.calls (Viewport c.args.p c.args.props) (use_reply held) in
     let used = kept-used m c.args.s c.args.line c.args.calls c.args.p c.args.props call held is inside.clock inside.fences inside.view_ends inside.sessions.items roomy state c.index_mut-ends.result.now c.use_ends-is_held.new.ends
     c.index_mut-state.ensures.value c.index_mut-ends.ensures.value c.self.invariant.0 same.0 used_by inside.ties c.use_ends-is_held.new.ties c.self.invariant.3 ties short in
-    let telling = telling-used m c.args.s c.args.line c.args.calls c.args.p c.args.props call held inside.clock inside.fences inside.view_ends inside.sessions.items c.use_ends-is_held.new.ties c.self.invariant.0 used.0 used.3 in
+    let telling = telling-used m c.args.s c.args.line c.args.calls c.args.p c.args.props call held inside.clock inside.fences inside.view_ends inside.sessions.items c.port_of.result c.use_ends-is_held.new.ties c.port_of.ensures c.self.invariant.0 used.0 used.3 in
     let room : HasRoom inside.setup inside.shares c.reserve_with.new.log inside.owed (all_due inside.sessions.items roomy inside.watchers.gets.items) =
     room-more inside.setup inside.shares inside.log c.reserve_with.new.log inside.owed _ (all_due inside.sessions.items roomy inside.watchers.gets.items) c.self.invariant.1 took.history took.posts took.room took.post_room (omega (arith, same.1)) in
     let asks = join-used m c.args.s c.args.line c.args.calls c.args.p c.args.props call held inside.clock inside.fences inside.view_ends inside.sessions.items c.at.result.now c.self.invariant.0 used.0 c.at.ensures in
@@ -193,3 +195,15 @@ returns-clause-reply c =
     let is : held ≡ has_token inside.setup c.args.p h = held-told m c.args.s c.args.line c.args.calls c.args.p c.args.props call roomy c.index_mut-ends.result.now c.index_mut-ends.ensures.value same.0 held did.held in
     let P : Machine → Type 0 = λ k. c.viewport_in-reply.result ≡ reply_to k.setup k.history (Session c.args.s) c.args.calls (Viewport c.args.p c.args.props) in
     subst P c.self.view_is (c.viewport_in-reply.ensures.reply ∙ replied m c.args.s c.args.line c.args.calls c.args.p c.args.props call held is)
+
+pub port_of-requires-clause-ratio : goal.port_of-requires-clause-ratio
+port_of-requires-clause-ratio c =
+    let stands = c.self.invariant.0 in
+    let setup = c.self.inside.setup in
+    finished-least setup c.self.inside.log.history c.self.inside.clock.ratios (ratios-kept setup c.self.inside.log.history _ _ _ _ stands) stands.legal (has-display setup c.self.invariant.1.limits)
+
+pub port_of-requires-clause-width : goal.port_of-requires-clause-width
+port_of-requires-clause-width c = (has-display c.self.inside.setup c.self.invariant.1.limits).width
+
+pub port_of-requires-clause-height : goal.port_of-requires-clause-height
+port_of-requires-clause-height c = (has-display c.self.inside.setup c.self.invariant.1.limits).height

@@ -1,18 +1,19 @@
-use Rattle.flat_play.specs.Last.{IsLast}
+use Rattle.flat_play.specs.Last.{IsJoined, IsLast}
 use Rattle.flat_play.specs.Playing.{AsksPoint}
 use Rattle.flat_play.specs.Showing.{IsShown}
-use Rattle.std.proofs.Common.{rules, ◌≡◌, ◌≤◌, ◌+◌, true, length, refl, sym, ap, ◌∙◌, subst, arith}
+use Rattle.std.proofs.Common.{rules, ◌≡◌, ℕ, ◌≤◌, ◌+◌, true, length, refl, sym, ap, ◌∙◌, subst, arith}
 use Rattle.flat_base.specs.declared.ids.Actor.TheVariants.{Display}
 use Rattle.flat_scene.specs.declared.script.Body.TheVariants as body
 use Rattle.flat_scene.specs.declared.script.DisplayLine.{DisplayLine}
 use Rattle.flat_scene.specs.declared.script.DisplayLine.TheVariants as display
 use Rattle.flat_scene.specs.declared.script.ScriptLine.{ScriptLine}
-use Rattle.flat_scene.specs.declared.journal.Kind.TheVariants.{Signal, Wait}
+use Rattle.flat_scene.specs.declared.journal.Kind.TheVariants.{Dpr, Signal, Wait}
 use Rattle.flat_scene.specs.declared.setup.Setup.{Setup}
 use Rattle.flat_base.specs.declared.ids.FrameNo.{FrameNo}
+use Rattle.flat_scene.specs.Setups.{at_ratio}
 use Rattle.flat_rules.specs.Legal.{is_fence}
 use Rattle.flat_rules.specs.Owned.{is_played_display}
-use Rattle.flat_play.proofs.lemmas.DisplaySteps.{display_share, begin_time_ok, done_ok, may_begin, may_finish, may_hit, may_signal_fence, may_wait_for}
+use Rattle.flat_play.proofs.lemmas.DisplaySteps.{display_share, begin_time_ok, done_ok, may_begin, may_finish, may_dpr, may_hit, may_signal_fence, may_wait_for}
 use Rattle.flat_play.proofs.lemmas.PlaySteps.{begin_more, display_finishes, finish_more, beside_more, play_stays, point_more}
 use Rattle.flat_topology.specs.Changes.{AreSame}
 use Rattle.flat_topology.specs.Shown.{Shown}
@@ -61,6 +62,15 @@ signal-requires g c =
     (display_share c.args.script.now c.args.place x at c.args.self.now.board c.requires.stands.shares refl c.requires.stands.spent)
     (subst Q (sym c.requires.stands.setup) (subst P c.in-Signal.is at.played))
 
+pub dpr-requires : goal.dpr-requires
+dpr-requires g c =
+    let x : ScriptLine = record { number = c.args.number; actor = Display; body = body.Display c.args.text } in
+    let at : At c.args.script.now c.args.place x = at_place c.args.script.now c.args.place x c.requires.playable c.requires.line in
+    let P : DisplayLine → Type 0 = λ t. is_played_display c.args.script.now.setup t ≡ true in
+    may_dpr c.args.self.now.board c.in-Dpr.ratio
+    (display_share c.args.script.now c.args.place x at c.args.self.now.board c.requires.stands.shares refl c.requires.stands.spent)
+    (subst P c.in-Dpr.is at.played)
+
 pub wait-requires : goal.wait-requires
 wait-requires g c =
     let x : ScriptLine = record { number = c.args.number; actor = Display; body = body.Display c.args.text } in
@@ -100,8 +110,9 @@ returns-in_ok-finish-in-Done-clause-stands g c =
     let last = c.finish.new.self.last in
     let then : LastFrame = record last { joined = c.take_joined-joined.result } in
     let S : Shown → Type 0 = λ next. AreSame self.changed self.last.reuse next in
-    let joined = c.take_joined-joined.ensures.joined script.setup last.reuse c.requires.stands.answers.is_last done.answers.is_last.count (subst S (sym finishes.showing) c.requires.stands.same) in
-    play_stays script (c.args.place + 1) c.finish.new.self then (joined-again script.setup last then done.answers.is_last refl refl joined) done
+    let J : ℕ → Type 0 = λ r. IsJoined (at_ratio r script.setup) last.reuse then.joined in
+    let joined = subst J (sym finishes.scaling) (c.take_joined-joined.ensures.joined script.setup last.reuse c.requires.stands.answers.is_last done.answers.is_last.count (subst S (sym finishes.showing) c.requires.stands.same)) in
+    play_stays script (c.args.place + 1) c.finish.new.self then (joined-again script.setup last then done.answers.is_last refl refl refl joined) done
 
 pub returns-in-Signal-clause-stands : goal.returns-in-Signal-clause-stands
 returns-in-Signal-clause-stands g c =
@@ -109,6 +120,13 @@ returns-in-Signal-clause-stands g c =
     let at : At c.args.script.now c.args.place x = at_place c.args.script.now c.args.place x c.requires.playable c.requires.line in
     let is : x.body ≡ body.Display (display.Signal c.in-Signal.f) = ap (λ t. body.Display t) c.in-Signal.is in
     beside_more c.args.script.now c.args.place x at c.args.self.now c.signal.new.self (display.Signal c.in-Signal.f) (Signal c.in-Signal.f) _ refl is refl refl (λ o t follows. refl) c.requires.stands c.signal.ensures
+
+pub returns-in-Dpr-clause-stands : goal.returns-in-Dpr-clause-stands
+returns-in-Dpr-clause-stands g c =
+    let x : ScriptLine = record { number = c.args.number; actor = Display; body = body.Display c.args.text } in
+    let at : At c.args.script.now c.args.place x = at_place c.args.script.now c.args.place x c.requires.playable c.requires.line in
+    let is : x.body ≡ body.Display (display.Dpr c.in-Dpr.ratio) = ap (λ t. body.Display t) c.in-Dpr.is in
+    beside_more c.args.script.now c.args.place x at c.args.self.now c.dpr.new.self (display.Dpr c.in-Dpr.ratio) (Dpr c.in-Dpr.ratio) _ refl is refl refl (λ o t follows. refl) c.requires.stands c.dpr.ensures
 
 pub returns-in-Wait-clause-stands : goal.returns-in-Wait-clause-stands
 returns-in-Wait-clause-stands g c =
@@ -140,6 +158,9 @@ returns-in-Begin-clause-goes_on g c = entered-on _ _ _ _ _ _ _ c.begin.ensures.b
 pub returns-in-Signal-clause-goes_on : goal.returns-in-Signal-clause-goes_on
 returns-in-Signal-clause-goes_on g c = entered-on _ _ _ _ _ _ _ c.signal.ensures.board
 
+pub returns-in-Dpr-clause-goes_on : goal.returns-in-Dpr-clause-goes_on
+returns-in-Dpr-clause-goes_on g c = entered-on _ _ _ _ _ _ _ c.dpr.ensures.board
+
 pub returns-in-Wait-clause-goes_on : goal.returns-in-Wait-clause-goes_on
 returns-in-Wait-clause-goes_on g c = entered-on _ _ _ _ _ _ _ c.wait.ensures.board
 
@@ -158,6 +179,10 @@ returns-in-Begin-clause-shows g c =
 pub returns-in-Signal-clause-shows : goal.returns-in-Signal-clause-shows
 returns-in-Signal-clause-shows g c =
     IsShown.shows_none (display_finishes c.args.script.now.setup c.args.self.now.board c.signal.new.self.board _ _ _ refl c.signal.ensures.board) refl refl
+
+pub returns-in-Dpr-clause-shows : goal.returns-in-Dpr-clause-shows
+returns-in-Dpr-clause-shows g c =
+    IsShown.shows_none (display_finishes c.args.script.now.setup c.args.self.now.board c.dpr.new.self.board _ _ _ refl c.dpr.ensures.board) refl refl
 
 pub returns-in-Wait-clause-shows : goal.returns-in-Wait-clause-shows
 returns-in-Wait-clause-shows g c =

@@ -1,0 +1,27 @@
+-- The display's pixel ratios that a board keeps: what is told of the display, and what it asks for.
+use Rattle.std.proofs.Common.{◌≡◌, ◌∙◌, ℕ, ◌≤◌, Bool, List, ap, subst, sym}
+use Rattle.flat_base.specs.declared.limits.TheConstants.{RATIO_MIN, SIDE_MAX}
+use Rattle.flat_scene.specs.declared.journal.Entry.{Entry}
+use Rattle.flat_scene.specs.declared.setup.Setup.{Setup}
+use Rattle.flat_states.specs.declared.clock.Clock.{Clock}
+use Rattle.flat_states.specs.declared.port.DisplayPort.{DisplayPort}
+use Rattle.flat_states.specs.declared.ratios.Ratios.{Ratios}
+use Rattle.flat_states.specs.declared.state.SessionState.{SessionState}
+use Rattle.flat_states.specs.Logs.{Logged}
+use Rattle.flat_states.specs.Machines.{Stands, HasRoom, ratios_of}
+use Rattle.flat_states.specs.Views.{port_of}
+use Rattle.flat_rules.specs.Legal.{Legal}
+use Rattle.flat_rules.specs.Watch.{ratio_told}
+use Rattle.flat_states.proofs.lemmas.Ratios.{HasDisplay, has-display, told-least}
+
+-- what is kept of them
+pub ratios-kept : (setup : Setup) (h : List Entry) (clock : Clock) (fences views : List Bool) (sessions : List SessionState) → Stands setup h clock fences views sessions → clock.ratios ≡ ratios_of setup h
+ratios-kept setup h clock fences views sessions stands = ap (λ (c : Clock). c.ratios) stands.timed
+
+-- what is told of the display
+pub port-kept : (setup : Setup) (h : List Entry) (ratios : Ratios) (port : DisplayPort) → ratios ≡ ratios_of setup h → port ≡ port_of ratios.finished setup → port ≡ port_of (ratio_told setup h) setup
+port-kept setup h ratios port kept is = is ∙ ap (λ (r : Ratios). port_of r.finished setup) kept
+
+-- the ratio that is told isn't too small
+pub finished-least : (setup : Setup) (h : List Entry) (ratios : Ratios) → ratios ≡ ratios_of setup h → Legal setup h → HasDisplay setup → RATIO_MIN ≤ ratios.finished
+finished-least setup h ratios kept legal display = subst (λ (r : Ratios). RATIO_MIN ≤ r.finished) (sym kept) (told-least setup h legal display)

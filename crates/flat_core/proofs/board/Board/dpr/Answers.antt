@@ -1,0 +1,29 @@
+use Rattle.std.proofs.Common.{◌≡◌, [], refl, ◌∙◌}
+use Rattle.flat_base.specs.declared.ids.Actor.TheVariants.{Display}
+use Rattle.flat_scene.specs.declared.journal.Kind.TheVariants.{Dpr}
+use Rattle.flat_scene.specs.declared.journal.Reply.TheVariants.{Done}
+use Rattle.flat_scene.specs.History.{◌▹◌}
+use Rattle.flat_states.specs.Machines.{Machine, entry_of}
+use Rattle.flat_gets.proofs.lemmas.EndSteps.{ends-after}
+use Rattle.flat_states.proofs.lemmas.Ones.{kept-quiet}
+use Rattle.flat_states.proofs.lemmas.Steps.{has-room, unchanged}
+use Rattle.flat_gets.proofs.lemmas.WatchingSteps.{told-too, watched-after}
+use Rattle.flat_core.proofs.board.Board.dpr.Goals as goal
+
+pub enter-requires : goal.enter-requires
+enter-requires c =
+    let call = rw (← c.self.view_is) at c.requires in
+    has-room _ _ _ _ call c.self.invariant.0.legal _ _ _ refl c.self.invariant.1
+
+pub invariant_of-self : goal.invariant_of-self
+invariant_of-self c =
+    let call = rw (← c.self.view_is) at c.requires in
+    let log = c.enter.ensures in
+    let inside = c.self.inside in
+    let m : Machine = record { setup = inside.setup; shares = inside.shares; history = inside.log.history } in
+    let history : c.enter.new.self.history ≡ (inside.log.history ▹ entry_of Display c.args.line [] (Dpr c.args.ratio) Done) =
+    log.history ∙ rw c.new.ensures refl in
+    let ends = ends-after m Display c.args.line [] (Dpr c.args.ratio) Done call refl refl refl refl inside.clock inside.fences inside.view_ends inside.sessions.items inside.viewports.items inside.viewports.items inside.ties inside.ties c.self.invariant.0 (refl, refl) c.self.invariant.2 c.self.invariant.3 in
+    let kept = kept-quiet m Display c.args.line [] (Dpr c.args.ratio) Done call refl (record { no_begin = refl; no_finish = refl; no_poll = refl; no_view = refl; none = λ made. refl }) refl refl _ _ _ _ _ _ _ _ _ _ refl c.self.invariant.0 c.self.invariant.1
+    (unchanged _ _ _ _ (λ sessions g f. refl) (λ p. refl)) refl (told-too inside.watchers.gets.items ends.1) (record { history = history; posts = log.posts; room = log.room; post_room = log.post_room }) in
+    (rw c.set-self-inside.ensures kept.0, kept.1, rw history ends.0, rw history ends.2, rw history (watched-after m Display c.args.line [] (Dpr c.args.ratio) Done call refl refl refl refl c.self.invariant.0.legal inside.watchers.gets.items inside.watchers.answered.items c.self.invariant.4))
