@@ -2,6 +2,7 @@
 //! anyone can repeat and there is one way into a run. All numbers of its summary but the
 //! first are counted from the run.
 ghost use Rattle.std.specs.Prelude.{◌≡◌, ◌<◌, ◌≤◌, ◌^◌, length, count_by, IfOk, Ok, Some, None};
+ghost use Rattle.flat_base.specs.declared.limits.TheConstants.{LOAD_FRAMES_MAX};
 ghost use Rattle.flat_report.specs.Report.{finished};
 ghost use Rattle.flat_scene.specs.History.{history_of, is_finish};
 ghost use Rattle.flat_base.specs.Last.{last_item};
@@ -90,7 +91,7 @@ fn summed(
     displays: &mut Vec<Box<dyn Display>>,
 ) -> Result<Vec<u8>, NoMemory>
     requires first { 1 ≤ frames }
-    requires last { frames ≤ 500 }
+    requires last { frames ≤ LOAD_FRAMES_MAX }
     requires read { text_read (load_text frames) ≡ Ok script.now }
     requires few { length displays.old.items < 2 ^ 32 }
     ensures told { IfOk result (λ text. IsTold (λ d. shown d) (λ d. faults d)
@@ -111,7 +112,7 @@ fn summed(
 /// The script of the load of so many frames, read from its text.
 fn load_script(alloc: Global, frames: u32) -> Result<Script, NoMemory>
     requires first { 1 ≤ frames }
-    requires last { frames ≤ 500 }
+    requires last { frames ≤ LOAD_FRAMES_MAX }
     ensures { IfOk result (λ script. text_read (load_text frames) ≡ Ok script) }
 {
     loads_are_scripts();
@@ -130,7 +131,7 @@ pub fn stress(
     displays: &mut Vec<Box<dyn Display>>,
 ) -> Result<Answer, NoMemory>
     requires first { 1 ≤ frames }
-    requires last { frames ≤ 500 }
+    requires last { frames ≤ LOAD_FRAMES_MAX }
     requires few { length displays.old.items < 2 ^ 32 }
     ensures status { IfOk result (λ answer. answer.status ≡ DONE) }
     ensures told { IfOk result (λ answer. IsTold (λ d. shown d) (λ d. faults d)
