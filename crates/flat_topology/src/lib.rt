@@ -11,8 +11,8 @@
 //! `Shown::find_connected` (distances) `AreDistances` (specs/Distances).
 //!
 //! Other crates may cite the lemmas of proofs/lemmas/: lists without repeats,
-//! distances from the display, and the nodes of a state (Distances, Distinct,
-//! Rooted).
+//! distances from the display, the nodes of a state, and what a pixel ratio plays
+//! no part in (Distances, Distinct, Rooted, Ratios).
 #![tactic(auto)]
 
 ghost use Rattle.flat_topology.specs.Laws.{JoinsTheConnected, JoinsEachOnce, ReachesNoCycle};
