@@ -23,7 +23,7 @@ use Rattle.flat_scene.specs.Frames.{is_ready}
 use Rattle.flat_queue.specs.Line.{credits_of}
 use Rattle.flat_snap.specs.declared.snapshot.Snapshot.{Snapshot}
 use Rattle.flat_states.specs.declared.state.SessionState.{SessionState}
-use Rattle.flat_states.specs.Begins.{begun, begin_entry}
+use Rattle.flat_facts.specs.Begins.{begun, begin_entry}
 use Rattle.flat_states.specs.Kept.{IsKept, kept_of, meant}
 use Rattle.flat_rules.specs.Legal.{Legal}
 use Rattle.flat_rules.specs.Lasts.{last_from}
@@ -32,7 +32,7 @@ use Rattle.flat_states.specs.Seen.{Seen, seen_of}
 use Rattle.flat_gets.proofs.lemmas.Begun.{seen-begun-open, takes-same, front, kept-ready, then-same}
 use Rattle.flat_scene.proofs.lemmas.TakingLemmas.{taken-up-to}
 use Rattle.flat_states.proofs.lemmas.Counts.{kept-waiting}
-use Rattle.flat_states.proofs.lemmas.Between.{events-between}
+use Rattle.flat_facts.proofs.lemmas.Between.{events-between}
 use Rattle.flat_core.proofs.PresentSteps.{stays}
 use Rattle.flat_rules.proofs.lemmas.ShownSteps.{serial-get, get-drop, get-map, last-get, last-none, shown-kept}
 

@@ -9,10 +9,10 @@ use Rattle.flat_states.specs.declared.ratios.Ratios.{Ratios}
 use Rattle.flat_states.specs.declared.state.SessionState.{SessionState}
 use Rattle.flat_states.specs.Logs.{Logged}
 use Rattle.flat_states.specs.Machines.{Stands, HasRoom, ratios_of}
-use Rattle.flat_states.specs.Views.{port_of}
+use Rattle.flat_states.specs.Ports.{port_of}
 use Rattle.flat_rules.specs.Legal.{Legal}
 use Rattle.flat_rules.specs.Watch.{ratio_told}
-use Rattle.flat_states.proofs.lemmas.Ratios.{HasDisplay, has-display, told-least}
+use Rattle.flat_facts.proofs.lemmas.Ratios.{HasDisplay, has-display, told-least}
 
 -- what is kept of them
 pub ratios-kept : (setup : Setup) (h : List Entry) (clock : Clock) (fences views : List Bool) (sessions : List SessionState) → Stands setup h clock fences views sessions → clock.ratios ≡ ratios_of setup h

@@ -24,8 +24,8 @@ use Rattle.flat_rules.specs.Posts.{at_begin, at_finish, event_of, events_to, fra
 use Rattle.flat_rules.specs.Watch.{child_of, layout_of, status_of}
 use Rattle.flat_rules.proofs.lemmas.EventsLocal.{viewports-owned}
 use Rattle.flat_states.proofs.lemmas.Counts.{few-if}
-use Rattle.flat_states.proofs.lemmas.Earlier.{begin-earlier, begun-earlier, finished-earlier, taken-begun, taken-drop}
-use Rattle.flat_states.proofs.lemmas.TokenLaw.{few-released, seen-rises}
+use Rattle.flat_facts.proofs.lemmas.Earlier.{begin-earlier, begun-earlier, finished-earlier, taken-begun, taken-drop}
+use Rattle.flat_facts.proofs.lemmas.TokenLaw.{few-released, seen-rises}
 use Rattle.flat_gets.specs.Gets.{gets_made}
 
 -- ---- events that answer no get

@@ -9,13 +9,13 @@ use Rattle.flat_scene.specs.declared.setup.Setup.{Setup}
 use Rattle.flat_scene.specs.Frames.{taken}
 use Rattle.flat_scene.specs.History.{is_closed}
 use Rattle.flat_scene.specs.Setups.{is_declared}
-use Rattle.flat_states.specs.declared.live.Live.{Live}
-use Rattle.flat_states.specs.declared.live.OutToken.{OutToken}
-use Rattle.flat_states.specs.Begins.{finish_entry, took_event}
+use Rattle.flat_facts.specs.declared.live.Live.{Live}
+use Rattle.flat_links.specs.declared.tokens.OutToken.{OutToken}
+use Rattle.flat_facts.specs.Begins.{finish_entry, took_event}
 use Rattle.flat_rules.specs.Ends.{views_of, viewports_of, viewport_uses}
 use Rattle.flat_rules.specs.Legal.{Legal, is_frame_open}
 use Rattle.flat_rules.specs.Posts.{told_event, events_to, news_for, frame_took, tokens_back, up_to}
-use Rattle.flat_states.specs.Viewports.{AreViewports, back_events}
+use Rattle.flat_links.specs.Viewports.{AreViewports, back_events}
 use Rattle.flat_rules.specs.Watch.{layout_of, status_of, child_of}
 use Rattle.flat_gets.proofs.lemmas.ViewportUses.{tokens-finish}
 use Rattle.flat_rules.proofs.lemmas.Watchers.{is_held, layouts-held, statuses-held, children-held}

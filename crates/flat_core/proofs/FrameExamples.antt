@@ -18,7 +18,7 @@ use Rattle.flat_scene.specs.Tree.{tree}
 use Rattle.flat_rules.specs.Posts.{events_to}
 use Rattle.flat_rules.specs.Shown.{shown}
 use Rattle.flat_rules.proofs.lemmas.Samples.{s, t, f, by, present}
-use Rattle.flat_states.specs.Begins.{begin_entry, finish_entry}
+use Rattle.flat_facts.specs.Begins.{begin_entry, finish_entry}
 
 -- a session with three release fences
 abbrev setup : Setup

@@ -14,7 +14,8 @@ use Rattle.flat_scene.specs.History.{◌▹◌, closes}
 use Rattle.flat_scene.specs.Setups.{is_declared}
 use Rattle.flat_states.specs.declared.clock.Clock.{Clock}
 use Rattle.flat_states.specs.declared.state.SessionState.{SessionState}
-use Rattle.flat_states.specs.Machines.{HasRoom, Machine, MayCall, Stands, due, entry_of}
+use Rattle.flat_states.specs.Machines.{HasRoom, Machine, MayCall, Stands, due}
+use Rattle.flat_facts.specs.Begins.{entry_of}
 use Rattle.flat_states.specs.Kept.{IsKept}
 use Rattle.flat_rules.specs.Legal.{number_if, reply_to}
 use Rattle.flat_states.specs.Logs.{Logged}
@@ -22,7 +23,7 @@ use Rattle.flat_rules.specs.Posts.{posts}
 use Rattle.flat_states.specs.Presents.{after_get, with_calls}
 use Rattle.flat_states.specs.Seen.{seen_of}
 use Rattle.flat_gets.specs.Watchers.{is_held}
-use Rattle.flat_states.proofs.lemmas.Between.{posted-between}
+use Rattle.flat_facts.proofs.lemmas.Between.{posted-between}
 use Rattle.flat_states.proofs.lemmas.Changes.{IsPlainOne, is-session, kept-closed, kept-noted, seen-closed, seen-noted, sum-same}
 use Rattle.flat_states.proofs.lemmas.Counts.{declared-some, few-if}
 use Rattle.flat_states.proofs.lemmas.Ones.{declared-of, each-one}

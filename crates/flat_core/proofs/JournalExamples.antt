@@ -12,7 +12,7 @@ use Rattle.flat_scene.specs.declared.setup.Setup.{Setup}
 use Rattle.flat_scene.specs.History.{◌▹◌}
 use Rattle.flat_rules.specs.Laws.{glimpses, outcomes}
 use Rattle.flat_rules.specs.Watch.{no_inset}
-use Rattle.flat_states.specs.Machines.{entry_of}
+use Rattle.flat_facts.specs.Begins.{entry_of}
 use Rattle.flat_core.specs.Journals.{IsQuietBeside}
 
 abbrev session : ℕ → SessionNo

@@ -18,8 +18,7 @@ use Rattle.flat_scene.specs.Frames.{sessions_to}
 use Rattle.flat_scene.specs.History.{◌▹◌, is_session}
 use Rattle.flat_states.specs.declared.state.Account.{Account}
 use Rattle.flat_states.specs.declared.state.SessionState.{SessionState}
-use Rattle.flat_states.specs.Begins.{post_of, posts_to}
-use Rattle.flat_states.specs.Machines.{entry_of}
+use Rattle.flat_facts.specs.Begins.{post_of, posts_to, entry_of}
 use Rattle.flat_states.specs.Kept.{IsKept}
 use Rattle.flat_rules.specs.Legal.{is_poll, unread, unread_events}
 use Rattle.flat_core.specs.Polls.{events_for}

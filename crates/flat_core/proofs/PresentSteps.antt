@@ -29,7 +29,8 @@ use Rattle.flat_queue.specs.Line.{credits_of}
 use Rattle.flat_snap.specs.declared.snapshot.Snapshot.{Snapshot}
 use Rattle.flat_states.specs.declared.clock.Clock.{Clock}
 use Rattle.flat_states.specs.declared.state.SessionState.{SessionState}
-use Rattle.flat_states.specs.Machines.{Machine, MayCall, Stands, HasRoom, entry_of, present_of, due}
+use Rattle.flat_states.specs.Machines.{Machine, MayCall, Stands, HasRoom, present_of, due}
+use Rattle.flat_facts.specs.Begins.{entry_of}
 use Rattle.flat_rules.specs.Numbers.{number, AllNumbered}
 use Rattle.flat_states.specs.Kept.{IsKept, Below}
 use Rattle.flat_rules.specs.Legal.{goes_on, owns_fence, owns_in_kind, owns_in_call, reply_to}
@@ -40,7 +41,7 @@ use Rattle.flat_states.specs.Seen.{Seen, seen_of}
 use Rattle.flat_rules.specs.Shown.{tree_of}
 use Rattle.flat_states.proofs.lemmas.Changes.{IsPlainOne, is-session, seen-closed, kept-closed, kept-noted}
 use Rattle.flat_states.proofs.lemmas.Counts.{kept-waiting, kept-session, declared-some}
-use Rattle.flat_states.proofs.lemmas.Between.{posted-between}
+use Rattle.flat_facts.proofs.lemmas.Between.{posted-between}
 use Rattle.flat_states.proofs.lemmas.Ones.{declared-of, each-one}
 use Rattle.flat_core.proofs.Presented.{seen-presented, kept-presented, presents-few}
 use Rattle.flat_states.proofs.lemmas.Steps.{unchanged, stands-entered, few-history, legal-entered, room-entered, posts-none}

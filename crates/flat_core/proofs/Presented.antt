@@ -21,7 +21,8 @@ use Rattle.flat_rules.specs.Shown.{tree_of}
 use Rattle.flat_queue.specs.declared.queue.WaitingPresent.{WaitingPresent}
 use Rattle.flat_snap.specs.declared.snapshot.Snapshot.{Snapshot}
 use Rattle.flat_states.specs.declared.state.SessionState.{SessionState}
-use Rattle.flat_states.specs.Machines.{entry_of, present_of}
+use Rattle.flat_facts.specs.Begins.{entry_of}
+use Rattle.flat_states.specs.Machines.{present_of}
 use Rattle.flat_states.specs.Kept.{IsKept, Below, kept_of, meant}
 use Rattle.flat_states.specs.Presents.{with_present}
 use Rattle.flat_states.specs.Seen.{Seen, seen_of, account_of, noted}

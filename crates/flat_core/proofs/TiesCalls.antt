@@ -9,17 +9,17 @@ use Rattle.flat_scene.specs.declared.journal.Kind.TheVariants.{Viewport}
 use Rattle.flat_scene.specs.declared.setup.Setup.{Setup}
 use Rattle.flat_scene.specs.History.{◌▹◌, is_begin, is_closed, is_end, is_finish, is_session}
 use Rattle.flat_states.specs.declared.state.SessionState.{SessionState}
-use Rattle.flat_states.specs.Begins.{begun}
+use Rattle.flat_facts.specs.Begins.{begun}
 use Rattle.flat_rules.specs.Numbers.{number, AllNumbered}
 use Rattle.flat_rules.specs.Ends.{is_done, uses_viewport}
-use Rattle.flat_states.specs.Following.{IsBegun, IsIdle, UsesNone}
+use Rattle.flat_links.specs.Following.{IsBegun, IsIdle, UsesNone}
 use Rattle.flat_states.specs.Kept.{IsKept}
 use Rattle.flat_rules.specs.Legal.{Legal, display_may, goes_on, may_act}
 use Rattle.flat_states.specs.Seen.{seen_of}
-use Rattle.flat_states.proofs.lemmas.PairIdle.{an-end}
-use Rattle.flat_states.proofs.lemmas.PairSteps.{no-begin, no-finish, one-session}
-use Rattle.flat_states.proofs.lemmas.ShownFits.{states-fit}
-use Rattle.flat_states.proofs.lemmas.ViewHistory.{same-session}
+use Rattle.flat_links.proofs.lemmas.PairIdle.{an-end}
+use Rattle.flat_links.proofs.lemmas.PairSteps.{no-begin, no-finish, one-session}
+use Rattle.flat_facts.proofs.lemmas.ShownFits.{states-fit}
+use Rattle.flat_facts.proofs.lemmas.ViewHistory.{same-session}
 use Rattle.flat_topology.specs.Fit.{FitsSetup}
 use Rattle.flat_topology.specs.Shown.{Shown}
 use Rattle.std.proofs.lemmas.Bool.{and_right, and_left}

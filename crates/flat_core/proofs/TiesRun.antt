@@ -1,12 +1,12 @@
 -- What is kept of sessions and pairs, on a small history.
 use Rattle.std.proofs.Common.{◌≡◌, true, false, ◌∷◌, [], drop, refl, Some, None, length}
 use Rattle.flat_scene.specs.declared.calls.Call.TheVariants as call
-use Rattle.flat_states.specs.Clears.{clears_pair}
+use Rattle.flat_facts.specs.Clears.{clears_pair}
 use Rattle.flat_rules.specs.Ends.{clears_viewport, happens, to_finished}
-use Rattle.flat_states.specs.Following.{capped, props_pending, sight_of}
+use Rattle.flat_links.specs.Following.{capped, props_pending, sight_of}
 use Rattle.flat_rules.specs.Serials.{contents_made}
 use Rattle.flat_rules.specs.Stamps.{first_at}
-use Rattle.flat_states.specs.Usage.{props_among}
+use Rattle.flat_links.specs.Usage.{props_among}
 use Rattle.flat_rules.specs.Watch.{no_inset, props_seen}
 use Rattle.flat_rules.proofs.lemmas.Samples.{s, p, c}
 use Rattle.flat_rules.proofs.lemmas.ShellRun.{shell_with_two_apps-setup, shell_with_two_apps-history}

@@ -24,38 +24,40 @@ use Rattle.flat_scene.specs.History.{◌▹◌, is_closed, is_session, presents}
 use Rattle.flat_scene.specs.Setups.{is_declared}
 use Rattle.flat_base.proofs.lemmas.Tests.{and-left, and-right}
 use Rattle.flat_states.specs.declared.clock.Clock.{Clock}
-use Rattle.flat_states.specs.declared.live.OutToken.{OutToken}
+use Rattle.flat_links.specs.declared.tokens.OutToken.{OutToken}
 use Rattle.flat_states.specs.declared.state.Account.{Account}
 use Rattle.flat_states.specs.declared.state.SessionState.{SessionState}
-use Rattle.flat_states.specs.declared.ties.Ties.{Ties}
-use Rattle.flat_states.specs.declared.viewports.Viewports.{Viewports}
-use Rattle.flat_states.specs.Machines.{AreEnds, HasRoom, Machine, MayCall, Stands, due, due_back, entry_of}
+use Rattle.flat_links.specs.declared.ties.Ties.{Ties}
+use Rattle.flat_links.specs.declared.viewports.Viewports.{Viewports}
+use Rattle.flat_links.specs.AllEnds.{AreEnds, due_back, IsOwn, IsUsed, TiesUsed}
+use Rattle.flat_states.specs.Machines.{HasRoom, Machine, MayCall, Stands, due}
+use Rattle.flat_facts.specs.Begins.{entry_of}
 use Rattle.flat_rules.specs.Numbers.{number, AllNumbered}
 use Rattle.flat_rules.specs.Ends.{is_done, uses_viewport, viewports_of}
 use Rattle.flat_states.specs.Kept.{IsKept}
 use Rattle.flat_rules.specs.Legal.{Legal, all_but_last, goes_on, has_token, links_alone, makes_viewport, number_if, owns_in_call, owns_in_kind, owns_viewport, own_call, refused_token, reply_to}
-use Rattle.flat_states.specs.Lives.{makes_one, uses_last}
+use Rattle.flat_facts.specs.Lives.{makes_one, uses_last, is_new_viewport}
 use Rattle.flat_states.specs.Logs.{Logged}
 use Rattle.flat_rules.specs.Posts.{posts}
-use Rattle.flat_states.specs.Following.{AreTied}
-use Rattle.flat_states.specs.Presents.{after_viewport, use_reply, with_calls, IsOwn, IsUsed, TiesUsed}
-use Rattle.flat_states.specs.Seen.{is_new_viewport, seen_of}
-use Rattle.flat_states.specs.Viewports.{AreViewports, out_of, outs_of}
+use Rattle.flat_links.specs.Following.{AreTied}
+use Rattle.flat_states.specs.Presents.{after_viewport, use_reply, with_calls}
+use Rattle.flat_states.specs.Seen.{seen_of}
+use Rattle.flat_links.specs.Viewports.{AreViewports, out_of, outs_of}
 use Rattle.flat_gets.specs.Watchers.{IsJoin, IsTelling, is_shut}
 use Rattle.flat_states.specs.declared.port.DisplayPort.{DisplayPort}
-use Rattle.flat_states.specs.Views.{port_of}
+use Rattle.flat_states.specs.Ports.{port_of}
 use Rattle.flat_core.proofs.DisplayRatios.{port-kept, ratios-kept}
 use Rattle.flat_states.proofs.lemmas.Changes.{IsPlainOne, is-session, kept-closed, kept-noted, seen-closed, seen-noted}
 use Rattle.flat_states.proofs.lemmas.Counts.{at-session, declared-some, kept-session, few-if}
 use Rattle.flat_gets.proofs.lemmas.EndSteps.{ends-one, links-made, viewports-closed}
-use Rattle.flat_states.proofs.lemmas.HasView.{found, any-found}
+use Rattle.flat_facts.proofs.lemmas.HasView.{found, any-found}
 use Rattle.flat_states.proofs.lemmas.Ones.{declared-of, each-one}
 use Rattle.flat_states.proofs.lemmas.Steps.{legal-entered, room-entered, stands-entered, unchanged}
-use Rattle.flat_states.proofs.lemmas.TokensBack.{any-flat, pair-is}
+use Rattle.flat_facts.proofs.lemmas.TokensBack.{any-flat, pair-is}
 use Rattle.flat_gets.proofs.lemmas.ViewportUses.{viewports-used}
 use Rattle.std.proofs.lemmas.Bool.{not-true, and_right, and_parts}
 use Rattle.std.specs.Cmp.{both_ways}
-use Rattle.flat_states.proofs.lemmas.Between.{viewport-nested}
+use Rattle.flat_facts.proofs.lemmas.Between.{viewport-nested}
 use Rattle.std.proofs.Math.Bool.{or-false}
 use Rattle.flat_rules.proofs.lemmas.AllOrSome.{any-same}
 

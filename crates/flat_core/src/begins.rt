@@ -4,7 +4,7 @@ ghost use Rattle.std.specs.Arc.{arc_value};
 ghost use Rattle.flat_base.specs.declared.ids.FenceNo.{FenceNo};
 ghost use Rattle.flat_fence.specs.Fences.{has};
 ghost use Rattle.flat_scene.specs.Frames.{is_signalled};
-ghost use Rattle.flat_states.specs.Begins.{begun, begin_entry, post_of, posts_to};
+ghost use Rattle.flat_facts.specs.Begins.{begun, begin_entry, post_of, posts_to};
 ghost use Rattle.flat_states.specs.Machines.{due};
 ghost use Rattle.flat_rules.specs.Numbers.{number, AllNumbered};
 ghost use Rattle.flat_rules.specs.Ends.{to_begin};

@@ -18,6 +18,9 @@ mod waits;
 use flat_base::{FrameNo, NoMemory, ShareList};
 use flat_fence::FenceSet;
 use flat_gets::watching::Watchers;
+use flat_links::entries::new_ends;
+use flat_links::ties::Ties;
+use flat_links::viewports::Viewports;
 use flat_rules::{families_are_alone, glimpses_decide_outcomes};
 use flat_scene::{CallList, Journal, PresentArgs, SessionSet, Setup};
 use flat_snap::Snapshot;
@@ -26,9 +29,7 @@ use flat_states::ends::EndSet;
 use flat_states::log::Log;
 use flat_states::ratios::Ratios;
 use flat_states::state::{SessionState, new_states};
-use flat_states::ties::Ties;
-use flat_states::viewports::Viewports;
-use flat_states::views::{new_ends, with_view};
+use flat_states::views::with_view;
 use std::alloc::Global;
 use std::marker::Model;
 use std::sync::Arc;
@@ -78,9 +79,10 @@ pub struct Board {
 }
 
 impl Model for Board {
-    ghost use Rattle.flat_states.specs.Machines.{Machine, Stands, HasRoom, AreEnds};
+    ghost use Rattle.flat_states.specs.Machines.{Machine, Stands, HasRoom};
+    ghost use Rattle.flat_links.specs.AllEnds.{AreEnds};
     ghost use Rattle.flat_gets.specs.Dues.{all_due};
-    ghost use Rattle.flat_states.specs.Following.{AreTied};
+    ghost use Rattle.flat_links.specs.Following.{AreTied};
     ghost use Rattle.flat_gets.specs.Watchers.{AreWatched};
 
     ghost Value = { Machine };

@@ -8,25 +8,26 @@ ghost use Rattle.flat_scene.specs.declared.journal.Kind.TheVariants.{Finish};
 ghost use Rattle.flat_scene.specs.Frames.{going, is_among, is_released_by, sessions_to, taken};
 ghost use Rattle.flat_scene.specs.History.{is_closed};
 ghost use Rattle.flat_scene.specs.Setups.{is_declared};
-ghost use Rattle.flat_states.specs.Begins.{finished, finish_entry, post_of, posts_to, took_event};
-ghost use Rattle.flat_states.specs.Machines.{AreEnds, due, due_back};
+ghost use Rattle.flat_facts.specs.Begins.{finished, finish_entry, post_of, posts_to, took_event};
+ghost use Rattle.flat_links.specs.AllEnds.{AreEnds, due_back};
+ghost use Rattle.flat_states.specs.Machines.{due};
 ghost use Rattle.flat_gets.specs.Dues.{all_due, due_told};
 ghost use Rattle.flat_rules.specs.Numbers.{number, AllNumbered};
 ghost use Rattle.flat_states.specs.Kept.{IsKept, Below};
 ghost use Rattle.flat_rules.specs.Legal.{is_frame_open, Legal, MayEnter};
 ghost use Rattle.flat_rules.specs.Posts.{events_to, frame_took};
 ghost use Rattle.flat_states.specs.Seen.{seen_of};
-ghost use Rattle.flat_states.specs.Viewports.{AreViewports, back_events};
+ghost use Rattle.flat_links.specs.Viewports.{AreViewports, back_events};
 ghost use Rattle.flat_gets.specs.Watchers.{AreWatched, WatchedUpTo};
 
 use flat_base::{FenceList, FenceNo, SessionNo};
 use flat_fence::FenceSet;
 use flat_gets::gets::Tells;
 use flat_gets::watching::Watchers;
+use flat_links::viewports::Viewports;
 use flat_scene::{Event, Post, Setup};
 use flat_states::log::Log;
 use flat_states::state::SessionState;
-use flat_states::viewports::Viewports;
 
 fn signal_list(list: &[FenceNo], fences: &mut FenceSet)
     requires { Below (length fences.old) list.now }

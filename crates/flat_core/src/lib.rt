@@ -9,9 +9,8 @@
 mod begins;
 mod board;
 mod dones;
-mod laws;
 mod polls;
 
 pub use board::{Back, Begun, Board};
-pub use laws::shown_states_fit;
+pub use flat_facts::shown_states_fit;
 pub use polls::EventList;

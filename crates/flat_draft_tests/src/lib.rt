@@ -1,4 +1,4 @@
-//! Tests of a session's draft and what it is made of, and of links and watchers: what no
+//! Tests of a session's draft and what it is made of, and of watchers: what no
 //! contract says, and what no worked case on the program reaches.
 #![tactic(auto)]
 
@@ -6,8 +6,6 @@
 mod draft;
 #[cfg(test)]
 mod graph;
-#[cfg(test)]
-mod links;
 #[cfg(test)]
 mod sweep;
 #[cfg(test)]

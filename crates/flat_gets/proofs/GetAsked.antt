@@ -26,7 +26,7 @@ use Rattle.flat_gets.specs.declared.gets.Answered.{Answered}
 use Rattle.flat_gets.specs.declared.gets.HeldGet.{HeldGet}
 use Rattle.flat_gets.specs.declared.gets.Watched.{Watched}
 use Rattle.flat_gets.specs.declared.gets.Watched.TheVariants as watches
-use Rattle.flat_states.specs.Machines.{entry_of}
+use Rattle.flat_facts.specs.Begins.{entry_of}
 use Rattle.flat_rules.specs.Ends.{uses_view, uses_viewport, viewport_uses}
 use Rattle.flat_gets.specs.Gets.{watched_by, watcher_for, watched_of, held_with, held_by, held_of, helds_of, hears, watchers_of, is_held_in, with_held, news_of, answers_to, last_of, held_get, AreGets, Asks, IsAnswered}
 use Rattle.flat_rules.specs.Legal.{Legal, MayEnter, answers, got, is_get, is_now, number_if, reply_to}
@@ -42,7 +42,7 @@ use Rattle.flat_gets.proofs.GetOrder.{AreOwn, insert-held, meant-found, watchers
 use Rattle.flat_gets.proofs.GetOwners.{IsMeant, of_layout, of_status, of_child, get-meant, get-open, meant-heard}
 use Rattle.flat_gets.proofs.GetSteps.{answers-more, quiet}
 use Rattle.flat_rules.proofs.lemmas.Still.{IsStill, told-same, watching-same}
-use Rattle.flat_states.proofs.lemmas.ViewHistory.{closes-first}
+use Rattle.flat_facts.proofs.lemmas.ViewHistory.{closes-first}
 use Rattle.flat_rules.proofs.lemmas.Watchers.{after_get, got-one, unasked}
 use Rattle.flat_rules.proofs.lemmas.ListLemmas.{flat-each, not-some}
 

@@ -23,7 +23,7 @@ use Rattle.flat_rules.specs.Numbers.{AllNumbered}
 use Rattle.flat_rules.specs.Legal.{Legal, owns_view, is_get}
 use Rattle.flat_rules.specs.Local.{pair_watched}
 use Rattle.flat_rules.specs.Watch.{Watcher, told, is_open, watcher_of}
-use Rattle.flat_states.proofs.lemmas.Between.{is_viewport}
+use Rattle.flat_facts.proofs.lemmas.Between.{is_viewport}
 use Rattle.flat_gets.proofs.GetEnds.{answered-between, answered-refused, answered-apart, answered-shut, answered-foreign, answered-joined, answered-started, answered-aside, answered-asked, upto-first, upto-next, upto-closed, upto-last}
 use Rattle.flat_rules.proofs.lemmas.ListLemmas.{flat_map-none}
 use Rattle.flat_rules.proofs.lemmas.OwnedTree.{pair_no}

@@ -28,14 +28,14 @@ use Rattle.flat_rules.specs.Local.{pair_watched}
 use Rattle.flat_rules.specs.Watch.{Watcher, layout_of, status_of, child_of, watching, told, asked, is_open, listener, same_watcher, watcher_of, is_watcher}
 use Rattle.flat_rules.proofs.lemmas.AllOrSome.{any-same}
 use Rattle.flat_rules.proofs.lemmas.SameWatchers.{nothing-settled, same-is, same-sym}
-use Rattle.flat_states.proofs.lemmas.Between.{is_viewport}
+use Rattle.flat_facts.proofs.lemmas.Between.{is_viewport}
 use Rattle.flat_gets.proofs.GetAnswers.{Fits, noted-by, uses-answered, uses-kept, last-apart, last-among}
 use Rattle.flat_gets.proofs.GetAsked.{Finds, found, other-rests, own-asked}
 use Rattle.flat_gets.proofs.GetHistory.{owner-heard, own-watcher, owner-hears, hears-open, watchers-heard, fresh-use, next-fresh}
 use Rattle.flat_gets.proofs.GetOrder.{meant-found}
 use Rattle.flat_gets.proofs.GetOwners.{others-unasked, IsMeant, of_layout, of_status, of_child, get-meant, get-open, meant-heard}
 use Rattle.flat_gets.proofs.GetSteps.{idle-kind, rests-between, rests-joined, rests-refused}
-use Rattle.flat_states.proofs.lemmas.ViewHistory.{same-session}
+use Rattle.flat_facts.proofs.lemmas.ViewHistory.{same-session}
 use Rattle.flat_rules.proofs.lemmas.Watchers.{after_get, got-two, settled-now, unasked, unheld-stays}
 use Rattle.flat_rules.proofs.lemmas.ListLemmas.{not-some}
 

@@ -15,7 +15,7 @@ use Rattle.flat_watch.specs.Told.{news}
 use Rattle.flat_gets.specs.declared.gets.Answered.{Answered}
 use Rattle.flat_gets.specs.declared.gets.HeldGet.{HeldGet}
 use Rattle.flat_gets.specs.declared.gets.Watched.{Watched}
-use Rattle.flat_states.specs.Begins.{post_of}
+use Rattle.flat_facts.specs.Begins.{post_of}
 use Rattle.flat_gets.specs.Gets.{watched_of, last_of, comes_before, is_held_in, with_held, place_in, news_of, answers_to, still_held, noted_one, noted_all, answered_get, held_get, Changes, Answers, Asks}
 use Rattle.flat_rules.specs.Legal.{got}
 use Rattle.flat_rules.specs.Posts.{event_of}

@@ -12,7 +12,7 @@ use Rattle.flat_scene.specs.declared.journal.Kind.TheVariants.{Get}
 use Rattle.flat_scene.specs.declared.setup.PairDecl.{PairDecl}
 use Rattle.flat_scene.specs.declared.setup.Setup.{Setup}
 use Rattle.flat_scene.specs.History.{is_session}
-use Rattle.flat_states.specs.Machines.{entry_of}
+use Rattle.flat_facts.specs.Begins.{entry_of}
 use Rattle.flat_rules.specs.Legal.{Legal, MayEnter, owns_view, owns_viewport, reply_to}
 use Rattle.flat_rules.specs.Local.{pair_watched}
 use Rattle.flat_rules.specs.Watch.{Watcher, watcher_of}

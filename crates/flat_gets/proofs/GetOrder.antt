@@ -22,7 +22,7 @@ use Rattle.flat_rules.proofs.lemmas.SameWatchers.{same-is}
 use Rattle.std.proofs.lemmas.List.Folds.{list_any-append}
 use Rattle.flat_gets.proofs.GetOwners.{IsMeant, of_layout, of_status, of_child}
 use Rattle.std.proofs.lemmas.Bool.{or_right, or_left, and_from}
-use Rattle.flat_states.proofs.lemmas.Between.{view-nested, viewport-nested}
+use Rattle.flat_facts.proofs.lemmas.Between.{view-nested, viewport-nested}
 
 -- one watcher answers before another
 abbrev pub precedes : Watcher → Watcher → Bool

@@ -24,14 +24,14 @@ use Rattle.flat_rules.specs.Serials.{contents_made, serials_in}
 use Rattle.flat_rules.specs.Shown.{is_pair}
 use Rattle.flat_rules.specs.Watch.{Watcher, layout_of, status_of, child_of, asked, listener, watcher_of, watcher_in, watcher_of_made, is_watcher, same_watcher}
 use Rattle.flat_gets.proofs.GetHistory.{owner-hears}
-use Rattle.flat_states.proofs.lemmas.LiveCounts.{made-append}
-use Rattle.flat_states.proofs.lemmas.Lives.{pair_made}
+use Rattle.flat_facts.proofs.lemmas.LiveCounts.{made-append}
+use Rattle.flat_facts.proofs.lemmas.Lives.{pair_made}
 use Rattle.flat_rules.proofs.lemmas.Owned.{IsOwned, draft-owned, made_owned, view_owned}
 use Rattle.flat_rules.proofs.lemmas.OwnedTree.{at-serial}
-use Rattle.flat_states.proofs.lemmas.Serials.{draft-contents, serials-count}
+use Rattle.flat_facts.proofs.lemmas.Serials.{draft-contents, serials-count}
 use Rattle.flat_rules.proofs.lemmas.SameWatchers.{same-is}
 use Rattle.flat_rules.proofs.lemmas.ShownOwned.{all-calls-owned, ok-is}
-use Rattle.flat_states.proofs.lemmas.Uses.{uses-made, none-made}
+use Rattle.flat_facts.proofs.lemmas.Uses.{uses-made, none-made}
 use Rattle.flat_rules.proofs.lemmas.Watchers.{unasked}
 use Rattle.std.proofs.lemmas.Bool.{not-true}
 use Rattle.flat_rules.proofs.lemmas.WatchLocal.{one-viewport}

@@ -32,7 +32,7 @@ use Rattle.flat_rules.specs.Legal.{Legal, answers, asked_of, has_token, is_now, 
 use Rattle.flat_rules.specs.Local.{pair_watched}
 use Rattle.flat_rules.specs.Posts.{releases_seen, event_of, events_to, at_finish, at_begin, frame_took, tokens_back}
 use Rattle.flat_rules.specs.Watch.{Watcher, layout_of, status_of, child_of, watching, told, asked, asked_in, is_open, listener, same_watcher}
-use Rattle.flat_states.proofs.lemmas.Between.{is_viewport, fresh-view}
+use Rattle.flat_facts.proofs.lemmas.Between.{is_viewport, fresh-view}
 use Rattle.flat_rules.proofs.lemmas.EventsLocal.{rest-none, flat-none}
 use Rattle.flat_rules.proofs.lemmas.AllOrSome.{flat-nested}
 use Rattle.flat_gets.proofs.GetHistory.{owner-heard, event-after, helds-kept, helds-settled, hears-open, told-part, watchers-heard}
@@ -40,9 +40,9 @@ use Rattle.flat_gets.proofs.GetLists.{answered-or-held}
 use Rattle.flat_gets.proofs.GetOwners.{others-unasked}
 use Rattle.flat_rules.proofs.lemmas.ShownSteps.{closed-before}
 use Rattle.flat_rules.proofs.lemmas.Still.{IsStill, watching-same, child-rests}
-use Rattle.flat_states.proofs.lemmas.Unwatched.{unwatched, is_layout, is_status}
-use Rattle.flat_states.proofs.lemmas.ViewHistory.{used_in}
-use Rattle.flat_states.proofs.lemmas.ViewSteps.{same-pair}
+use Rattle.flat_facts.proofs.lemmas.Unwatched.{unwatched, is_layout, is_status}
+use Rattle.flat_facts.proofs.lemmas.ViewHistory.{used_in}
+use Rattle.flat_facts.proofs.lemmas.Tests.{same-pair}
 use Rattle.flat_rules.proofs.lemmas.Watchers.{settled-now, unheld-stays}
 use Rattle.std.proofs.lemmas.Bool.{and_right}
 

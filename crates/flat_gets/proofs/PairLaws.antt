@@ -13,19 +13,19 @@ use Rattle.flat_scene.specs.Frames.{taken}
 use Rattle.flat_scene.specs.History.{calls, is_closed}
 use Rattle.flat_scene.specs.Setups.{is_declared}
 use Rattle.flat_base.proofs.lemmas.Tests.{and-left}
-use Rattle.flat_states.specs.declared.live.Live.{Live}
+use Rattle.flat_facts.specs.declared.live.Live.{Live}
 use Rattle.flat_rules.specs.Ends.{to_begin, to_finished, releases_viewport, viewport_uses}
 use Rattle.flat_rules.specs.Legal.{Legal, has_token, owns_viewport, is_frame_open, all_but_last, makes_viewport}
-use Rattle.flat_states.specs.Lives.{held_of, lives_after, lives_then}
+use Rattle.flat_facts.specs.Lives.{held_of, lives_after, lives_then}
 use Rattle.flat_rules.specs.Posts.{releases_seen}
 use Rattle.flat_rules.specs.Stamps.{first_at, is_seen, IsStamp, happens_often}
-use Rattle.flat_states.proofs.lemmas.Earlier.{begin-earlier, begun-earlier, finished-earlier, taken-begun, taken-drop}
-use Rattle.flat_states.proofs.lemmas.LiveCounts.{held-append, lives-append}
-use Rattle.flat_states.proofs.lemmas.StampSteps.{stamp-of, stamp-taken}
-use Rattle.flat_states.proofs.lemmas.Stamped.{stamped, often-lasts}
-use Rattle.flat_states.proofs.lemmas.TokenLaw.{counted, balanced, seen-rises, seen-then, released, live_in}
-use Rattle.flat_states.proofs.lemmas.TokensBack.{came}
-use Rattle.flat_states.proofs.lemmas.ViewCalls.{split-last}
+use Rattle.flat_facts.proofs.lemmas.Earlier.{begin-earlier, begun-earlier, finished-earlier, taken-begun, taken-drop}
+use Rattle.flat_facts.proofs.lemmas.LiveCounts.{held-append, lives-append}
+use Rattle.flat_facts.proofs.lemmas.StampSteps.{stamp-of, stamp-taken}
+use Rattle.flat_facts.proofs.lemmas.Stamped.{stamped, often-lasts}
+use Rattle.flat_facts.proofs.lemmas.TokenLaw.{counted, balanced, seen-rises, seen-then, released, live_in}
+use Rattle.flat_facts.proofs.lemmas.TokensBack.{came}
+use Rattle.flat_facts.proofs.lemmas.ViewCalls.{split-last}
 use Rattle.flat_rules.proofs.lemmas.ListLemmas.{not-some}
 
 module _ (setup : Setup) (s : SessionNo) (p : PairNo) (owned : owns_viewport setup s p ≡ true) (declared : is_declared setup s ≡ true) where

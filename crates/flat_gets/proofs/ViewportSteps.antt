@@ -13,27 +13,27 @@ use Rattle.flat_scene.specs.Draft.{Draft, empty_draft}
 use Rattle.flat_scene.specs.Effect.{draft_of}
 use Rattle.flat_scene.specs.History.{◌▹◌, own, calls, closes, is_closed, is_finish, is_session, presents}
 use Rattle.flat_scene.specs.Setups.{is_declared}
-use Rattle.flat_states.specs.declared.live.Live.{Live}
-use Rattle.flat_states.specs.declared.live.OutToken.{OutToken}
+use Rattle.flat_facts.specs.declared.live.Live.{Live}
+use Rattle.flat_links.specs.declared.tokens.OutToken.{OutToken}
 use Rattle.flat_rules.specs.Ends.{to_finished, times, releases_viewport, viewport_uses, viewports_of, uses_viewport, is_done}
 use Rattle.flat_rules.specs.Legal.{Legal, has_token, owns_viewport, is_token_back}
-use Rattle.flat_states.specs.Lives.{lives_after, count_of, releases_live}
+use Rattle.flat_facts.specs.Lives.{lives_after, count_of, releases_live}
 use Rattle.flat_rules.specs.Posts.{posted, Sent}
 use Rattle.flat_rules.specs.Stamps.{first_at, IsStamp, happens_often, stamp_then}
-use Rattle.flat_states.specs.Viewports.{released_at, out_of, outs_of, AreViewports, marked}
-use Rattle.flat_states.proofs.lemmas.Earlier.{finished-earlier}
+use Rattle.flat_links.specs.Viewports.{released_at, out_of, outs_of, AreViewports, marked}
+use Rattle.flat_facts.proofs.lemmas.Earlier.{finished-earlier}
 use Rattle.flat_rules.proofs.lemmas.EventsLocal.{flat-same, viewports-owned}
-use Rattle.flat_states.proofs.lemmas.LiveCounts.{lives-append, lived-all, lived, Lived}
+use Rattle.flat_facts.proofs.lemmas.LiveCounts.{lives-append, lived-all, lived, Lived}
 use Rattle.flat_gets.proofs.PairLaws.{unused-token}
 use Rattle.flat_rules.proofs.lemmas.ShownSteps.{closed-before}
-use Rattle.flat_states.proofs.lemmas.StampSteps.{stamp-of, own-stamp}
-use Rattle.flat_states.proofs.lemmas.Stamped.{often-lasts, stamp-other, stamped, IsLasting}
-use Rattle.flat_states.proofs.lemmas.TokenLaw.{counted, seen-then, token-kept}
-use Rattle.flat_states.proofs.lemmas.TokensBack.{no-token}
-use Rattle.flat_states.proofs.lemmas.Uses.{uses-other}
-use Rattle.flat_states.proofs.lemmas.ViewCalls.{times-append}
-use Rattle.flat_states.proofs.lemmas.ViewHistory.{viewing-of}
-use Rattle.flat_states.proofs.lemmas.ViewLaw.{good-more}
+use Rattle.flat_facts.proofs.lemmas.StampSteps.{stamp-of, own-stamp}
+use Rattle.flat_facts.proofs.lemmas.Stamped.{often-lasts, stamp-other, stamped, IsLasting}
+use Rattle.flat_facts.proofs.lemmas.TokenLaw.{counted, seen-then, token-kept}
+use Rattle.flat_facts.proofs.lemmas.TokensBack.{no-token}
+use Rattle.flat_facts.proofs.lemmas.Uses.{uses-other}
+use Rattle.flat_facts.proofs.lemmas.ViewCalls.{times-append}
+use Rattle.flat_facts.proofs.lemmas.ViewHistory.{viewing-of}
+use Rattle.flat_facts.proofs.lemmas.ViewLaw.{good-more}
 use Rattle.flat_rules.proofs.lemmas.ListLemmas.{flat-mapped, none-put}
 use Rattle.std.proofs.lemmas.List.Elements.{filter-append}
 

@@ -19,7 +19,7 @@ use Rattle.flat_gets.specs.declared.gets.Answered.{Answered}
 use Rattle.flat_gets.specs.declared.gets.HeldGet.{HeldGet}
 use Rattle.flat_gets.specs.declared.gets.Watched.{Watched}
 use Rattle.flat_gets.specs.declared.gets.Watched.TheVariants as watches
-use Rattle.flat_states.specs.Begins.{post_of}
+use Rattle.flat_facts.specs.Begins.{post_of}
 use Rattle.flat_rules.specs.Ends.{views_of, viewports_of, viewport_owner, viewport_uses}
 use Rattle.flat_rules.specs.Numbers.{AllNumbered}
 use Rattle.flat_rules.specs.Legal.{answers, got, is_get, is_now, number_if}

@@ -17,16 +17,16 @@ use Rattle.flat_gets.specs.declared.gets.Answered.{Answered}
 use Rattle.flat_gets.specs.declared.gets.Gets.{Gets}
 use Rattle.flat_states.specs.declared.state.SessionState.{SessionState}
 use Rattle.flat_states.specs.declared.port.DisplayPort.{DisplayPort}
-use Rattle.flat_states.specs.declared.ties.Ties.{Ties}
+use Rattle.flat_links.specs.declared.ties.Ties.{Ties}
 use Rattle.flat_rules.specs.Numbers.{number, AllNumbered}
 use Rattle.flat_rules.specs.Ends.{view_uses, viewport_uses}
 use Rattle.flat_states.specs.Flags.{has_end}
-use Rattle.flat_states.specs.Following.{AreTied}
+use Rattle.flat_links.specs.Following.{AreTied}
 use Rattle.flat_gets.specs.Gets.{AllAnswered, AllUpTo, AreGets, Asks, Settles, watched_of, watcher_for}
 use Rattle.flat_rules.specs.Legal.{Legal, answers, owns_view}
 use Rattle.flat_states.specs.Presents.{use_reply}
 use Rattle.flat_rules.specs.Watch.{Watcher, ratio_told, told}
-use Rattle.flat_states.specs.Views.{port_of}
+use Rattle.flat_states.specs.Ports.{port_of}
 
 -- the watcher of a pair that a get means
 abbrev pub watcher_meant : List Entry → Watch → PairNo → Watcher

@@ -3,10 +3,10 @@ ghost use Rattle.std.specs.Prelude.{◌≡◌, ◌&&◌, length, nat_lt};
 
 use crate::gets::Tells;
 use flat_base::PairNo;
+use flat_links::ties::Ties;
 use flat_scene::{Setup, Told};
 use flat_states::ends::EndSet;
 use flat_states::port::DisplayPort;
-use flat_states::ties::Ties;
 
 /// What pairs tell, by what is kept.
 #[derive(Clone, Copy)]

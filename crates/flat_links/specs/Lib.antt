@@ -1,3 +1,7 @@
-pub mod Calls
-pub mod Laws
-pub mod Pairs
+pub mod AllEnds
+pub mod Clears
+pub mod Following
+pub mod Noted
+pub mod Usage
+pub mod Viewports
+pub mod Views

@@ -1,14 +1,22 @@
-//! The ends of the pairs that link a parent to a child, and the tokens by which
-//! they are used.
+//! What a board keeps of the pairs that link its sessions: the viewports that live and the
+//! tokens that are out (viewports), and by what the ends of pairs are told (ties). What an
+//! entry of a session does to both stands in entries.rt. Each part stands for a history by
+//! a record of its own (specs/).
 //!
-//! Each call of `Links` (links) is one equation on the pairs (specs/Calls); what holds of
-//! them after any calls is specs/Laws.
+//! Other crates may cite the lemmas of proofs/lemmas/:
+//! - of tokens: Backs, Marks;
+//! - of pairs and ties: PairIdle, PairSteps, TiesSteps.
 #![tactic(auto)]
 
-mod laws;
-mod links;
-mod pairs;
-
-pub use laws::link_laws;
-pub use links::Links;
-pub use pairs::{Pair, Token, ViewEnd, ViewportEnd};
+mod clears;
+pub mod entries;
+pub mod following;
+pub mod followings;
+pub mod noted;
+pub mod pairs;
+pub mod ties;
+mod ties_tell;
+pub mod tokens;
+pub mod told;
+mod usage;
+pub mod viewports;

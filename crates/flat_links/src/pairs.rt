@@ -1,115 +1,89 @@
-ghost use Rattle.std.specs.Prelude.{◌≡◌};
-ghost use Rattle.flat_links.specs.Pairs.{new_pair, has_token, is_viewport_there, is_joined};
-ghost use Rattle.flat_links.specs.Pairs.{child_of};
-ghost use Rattle.flat_links.specs.Calls.{join_viewport, done};
+ghost use Rattle.std.specs.Prelude.{◌≡◌, Some, [], ◌∷◌};
+ghost use Rattle.flat_facts.specs.Views.{view_then, view_after};
+ghost use Rattle.flat_links.specs.Views.{EndsViews, EndsOne};
 
-use flat_base::{Actor, SessionNo};
-use flat_scene::{PairDecl, ViewportProps};
+use crate::told::stamp_then;
+use flat_base::PairNo;
+use flat_scene::{Call, ViewportProps};
 
-/// Where the token of a viewport end is.
+/// What is kept of a pair, but for its token.
 #[derive(Clone, Copy, Debug, PartialEq, Eq)]
-pub enum Token {
-    /// The end's owner has it: the end may be used.
-    Held,
-    /// It was used, and hasn't come back.
-    Out,
-}
-
-/// What became of the view end of a pair. It may be used once ever.
-#[derive(Clone, Copy, Debug, PartialEq, Eq)]
-pub struct ViewEnd {
-    pub used: bool,
-    /// Lost, for good.
-    pub lost: bool,
-}
-
-/// What became of the viewport end of a pair. It may be used again whenever its
-/// token came back.
-#[derive(Clone, Copy, Debug, PartialEq, Eq)]
-pub struct ViewportEnd {
-    /// How often it was used. The count stands still at its type's end.
+pub struct PairState {
+    /// How many presents the owner of the view end had made when the view ended.
+    pub ended: Option<u32>,
+    /// How often the viewport end was used.
     pub uses: u32,
-    pub token: Token,
-    /// The properties of its last use; None where it was never used.
-    pub props: Option<ViewportProps>,
-    /// The viewport of its last use is released.
-    pub released: bool,
-    /// Lost, for good.
-    pub lost: bool,
+    /// How many presents its owner had made at the first Clear while a viewport of
+    /// the pair lived.
+    pub cleared: Option<u32>,
+    /// The serial of the viewport that the last use made, as far as a count goes.
+    pub serial: u64,
+    /// The properties of the last use, as they were given, and as a finished frame
+    /// has seen them last.
+    pub given: Option<ViewportProps>,
+    pub seen: Option<ViewportProps>,
+    /// What will be seen of it once the frame begun last has ended.
+    pub pending: Option<ViewportProps>,
 }
 
-/// A pair: who owns its ends, and what became of them.
-#[derive(Clone, Copy, Debug, PartialEq, Eq)]
-pub struct Pair {
-    pub owners: PairDecl,
-    pub view: ViewEnd,
-    pub viewport: ViewportEnd,
+/// The view of a pair ends.
+fn end_pair(pairs: &mut [PairState], p: PairNo, presents: u32)
+    ensures { EndsOne (Some p) presents pairs.old pairs.new }
+{
+    let place = p.0 as usize;
+    if place < pairs.len() {
+        let ended = stamp_then(pairs[place].ended, true, presents);
+        pairs[place].ended = ended;
+    }
 }
 
-impl Pair {
-    /// A pair of which no end was used, and the token is held.
-    pub(crate) fn new(owners: PairDecl) -> Pair
-        ensures { result ≡ new_pair owners }
-    {
-        Pair {
-            owners,
-            view: ViewEnd {
-                used: false,
-                lost: false,
-            },
-            viewport: ViewportEnd {
-                uses: 0,
-                token: Token::Held,
-                props: None,
-                released: false,
-                lost: false,
-            },
-        }
+/// The view ends, if there is one.
+fn end_view(pairs: &mut [PairState], view: Option<PairNo>, presents: u32)
+    ensures { EndsOne view presents pairs.old pairs.new }
+{
+    match view {
+        Some(p) => end_pair(pairs, p, presents),
+        None => {}
     }
+}
 
-    /// The viewport end is used, where its token is held.
-    pub(crate) fn use_viewport(&mut self, props: ViewportProps)
-        ensures { self.new ≡ done (join_viewport props) self.old }
-    {
-        self.viewport = ViewportEnd {
-            uses: self.viewport.uses.saturating_add(1),
-            token: Token::Out,
-            props: Some(props),
-            released: false,
-            lost: self.viewport.lost,
-        };
+/// What a call does to the stamps of views.
+fn note_one(pairs: &mut [PairState], view: Option<PairNo>, call: &Call, presents: u32)
+    ensures { EndsViews view (call.now ∷ []) presents pairs.old pairs.new }
+{
+    match call {
+        Call::ReleaseView => end_view(pairs, view, presents),
+        Call::Clear => end_view(pairs, view, presents),
+        _ => {}
     }
+}
 
-    /// Whether the viewport end may be used.
-    pub fn has_token(&self) -> bool
-        ensures { result ≡ has_token self.now }
-    {
-        self.viewport.token == Token::Held
+fn view_then(view: Option<PairNo>, call: &Call) -> Option<PairNo>
+    ensures { result ≡ view_then view call.now }
+{
+    match call {
+        Call::CreateView { pair } => Some(*pair),
+        Call::ReleaseView => None,
+        Call::Clear => None,
+        _ => view,
     }
+}
 
-    /// Whether the viewport end is there: the display's is from the start, any other
-    /// from its first use on, whatever becomes of it.
-    pub fn is_viewport_there(&self) -> bool
-        ensures { result ≡ is_viewport_there self.now }
-    {
-        self.owners.viewport == Actor::Display || self.viewport.uses > 0
+/// Notes the calls of an entry, where its session had this view and had made so
+/// many presents before. Answers the view after them. It takes no memory.
+pub fn note_views(
+    pairs: &mut [PairState],
+    view: Option<PairNo>,
+    calls: &[Call],
+    presents: u32,
+) -> Option<PairNo>
+    ensures view { result ≡ view_after view calls.now }
+    ensures ends { EndsViews view calls.now presents pairs.old pairs.new }
+{
+    let mut now = view;
+    for call in calls {
+        note_one(pairs, now, call, presents);
+        now = view_then(now, call);
     }
-
-    /// Whether both ends are there, whatever became of them.
-    pub fn is_joined(&self) -> bool
-        ensures { result ≡ is_joined self.now }
-    {
-        self.view.used && self.is_viewport_there()
-    }
-
-    /// The session of the view end, where both ends are there.
-    pub fn child(&self) -> Option<SessionNo>
-        ensures { result ≡ child_of self.now }
-    {
-        if self.is_joined() {
-            Some(self.owners.view)
-        } else {
-            None
-        }
-    }
+    now
 }

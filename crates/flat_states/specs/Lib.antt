@@ -1,14 +1,7 @@
-pub mod Begins
-pub mod Clears
 pub mod Flags
-pub mod Following
 pub mod Kept
-pub mod Lives
 pub mod Logs
 pub mod Machines
-pub mod Noted
+pub mod Ports
 pub mod Presents
 pub mod Seen
-pub mod Usage
-pub mod Viewports
-pub mod Views

@@ -19,7 +19,6 @@ use Rattle.flat_fence.specs.Fences.{has}
 use Rattle.flat_states.specs.declared.clock.Clock.{Clock}
 use Rattle.flat_states.specs.declared.ratios.Ratios.{Ratios}
 use Rattle.flat_states.specs.declared.state.SessionState.{SessionState}
-use Rattle.flat_states.specs.declared.viewports.Viewports.{Viewports}
 use Rattle.flat_rules.specs.Ends.{view_uses, to_begin}
 use Rattle.flat_states.specs.Flags.{has_end}
 use Rattle.flat_states.specs.Kept.{IsKept}
@@ -28,18 +27,14 @@ use Rattle.flat_rules.specs.Legal.{Legal, MayEnter, may_act, names_declared, fra
 use Rattle.flat_states.specs.Logs.{Logged}
 use Rattle.flat_rules.specs.Posts.{posts}
 use Rattle.flat_states.specs.Seen.{seen_of}
-use Rattle.flat_states.specs.Viewports.{AreViewports}
 use Rattle.flat_rules.specs.Watch.{ratio_told}
+pub use Rattle.flat_facts.specs.Begins.{entry_of}
 
 -- A board: the setup, the shares, and the history for which it stands.
 pub record Machine : Type 0 where
   pub setup : Setup
   pub shares : List ℕ
   pub history : List Entry
-
--- an entry
-abbrev pub entry_of : Actor → ℕ → List Call → Kind → Reply → Entry
-entry_of who line calls kind reply = record { actor = who; line = line; calls = calls; kind = kind; reply = reply }
 
 -- a board with one entry more
 abbrev pub entered : Machine → Actor → ℕ → List Call → Kind → Reply → Machine
@@ -86,10 +81,6 @@ clock_then kind clock = record clock { ratios = record clock.ratios { latest = u
 abbrev pub due : SessionState → ℕ
 due state = 2 * length state.queue.waiting + cond (nat_lt 0 state.took) 1 0
 
--- and how many for its tokens that are out
-abbrev pub due_back : Viewports → ℕ
-due_back ends = length ends.out.items
-
 -- The parts that stand for the history.
 pub record Stands (setup : Setup) (history : List Entry) (clock : Clock) (fences views : List Bool) (sessions : List SessionState) : Type 0 where
   pub legal : Legal setup history
@@ -100,11 +91,6 @@ pub record Stands (setup : Setup) (history : List Entry) (clock : Clock) (fences
   pub viewed : (p : PairNo) → has_end views p ≡ nat_lt 0 (length (view_uses p history))
   pub count : length sessions ≡ setup.sessions
   pub each : AllNumbered (λ i. IsKept setup (seen_of setup history (number i))) sessions
-
--- What is kept of the sessions' viewports stands for them.
-pub record AreEnds (setup : Setup) (history : List Entry) (ends : List Viewports) : Type 0 where
-  pub count : length ends ≡ setup.sessions
-  pub each : AllNumbered (λ i one. AreViewports setup history (number i) one.live.items one.out.items) ends
 
 -- Room for all entries that the shares allow, and for all events that may still be posted, so many. No entry has more than two of these.
 pub record HasRoom (setup : Setup) (shares : List ℕ) (log : Logged) (owed dues : ℕ) : Type 0 where

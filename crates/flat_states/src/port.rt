@@ -1,7 +1,7 @@
 //! The display as a viewport.
 ghost use Rattle.std.specs.Prelude.{◌≡◌, ◌≤◌};
 ghost use Rattle.flat_rules.specs.Watch.{display_props, logical_side};
-ghost use Rattle.flat_states.specs.Views.{port_of};
+ghost use Rattle.flat_states.specs.Ports.{port_of};
 
 use flat_base::{ONE, RATIO_MIN, SIDE_MAX};
 use flat_scene::{Inset, Setup, ViewportProps};

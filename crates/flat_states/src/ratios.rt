@@ -6,7 +6,7 @@
 ghost use Rattle.std.specs.Prelude.{◌≡◌, ℕ, List, []};
 ghost use Rattle.flat_scene.specs.declared.journal.Entry.{Entry};
 ghost use Rattle.flat_scene.specs.declared.setup.Setup.{Setup};
-ghost use Rattle.flat_states.specs.Begins.{begun, finished};
+ghost use Rattle.flat_facts.specs.Begins.{begun, finished};
 ghost use Rattle.flat_states.specs.Machines.{ratios_of};
 
 /// The display's pixel ratios.

@@ -2,7 +2,8 @@ ghost use Rattle.std.specs.Prelude.{◌≡◌, ℕ, ◌+◌, ◌-◌, ◌^◌, �
 ghost use Rattle.std.specs.Prelude.{vec_capacity};
 ghost use Rattle.flat_fence.specs.Fences.{has};
 ghost use Rattle.flat_states.specs.Presents.{present_reply, after_present, IsNew, TookReady, LetGo};
-ghost use Rattle.flat_states.specs.Seen.{holds_then, holds_after, noted};
+ghost use Rattle.flat_facts.specs.Views.{holds_then, holds_after};
+ghost use Rattle.flat_states.specs.Seen.{noted};
 
 use flat_base::{FIRST_CREDITS, FULL_CREDITS, FenceList, FlatlandError, NoMemory};
 use flat_fence::FenceSet;

@@ -6,9 +6,9 @@ ghost use Rattle.flat_states.specs.Presents.{reply_to_close};
 
 use crate::board::Board;
 use flat_base::{Actor, FlatlandError, Reason, SessionNo};
+use flat_links::entries::note_in;
 use flat_scene::{CallList, Entry, Kind, Reply};
 use flat_states::state::note;
-use flat_states::views::note_in;
 
 impl Board {
     ghost use Rattle.flat_base.specs.declared.ids.Actor.TheVariants.{Session};

@@ -9,10 +9,10 @@ ghost use Rattle.flat_rules.specs.Shown.{tree_of};
 use crate::board::{Back, Board};
 use crate::polls::{EventList, push_events_from};
 use flat_base::{Actor, SessionNo, TryCopy};
+use flat_links::entries::note_ends;
 use flat_scene::{CallList, Entry, Kind, PresentArgs, Reply};
 use flat_snap::Snapshot;
 use flat_states::state::{note, present_in};
-use flat_states::views::note_ends;
 use std::sync::Arc;
 
 impl Board {

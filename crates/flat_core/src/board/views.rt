@@ -8,10 +8,11 @@ ghost use Rattle.flat_gets.specs.Watchers.{is_held, is_shut, watcher_meant};
 use crate::board::{Back, Board, number_if};
 use flat_base::{Actor, PairNo, SessionNo};
 use flat_gets::telling::Telling;
+use flat_links::entries::{note_ends, use_ends};
 use flat_scene::{CallList, Entry, Kind, Reply, ViewportProps, Watch};
 use flat_states::port::port_of;
 use flat_states::state::{SessionState, note};
-use flat_states::views::{get_in, note_ends, use_ends, view_in, viewport_in};
+use flat_states::views::{get_in, view_in, viewport_in};
 
 impl Board {
     ghost use Rattle.flat_base.specs.declared.ids.Actor.TheVariants.{Session};

@@ -5,8 +5,8 @@ ghost use Rattle.flat_rules.specs.Legal.{asked_of, reply_to, value_of, waited};
 
 use crate::board::{Board, number_if};
 use flat_base::{Actor, FenceNo};
+use flat_links::entries::note_in;
 use flat_scene::{CallList, Cond, Entry, Kind, Reply};
-use flat_states::views::note_in;
 
 impl Board {
     ghost use Rattle.flat_scene.specs.declared.journal.Kind.TheVariants.{Signal, Wait};

@@ -19,7 +19,7 @@ use Rattle.flat_queue.specs.declared.queue.WaitingPresent.{WaitingPresent}
 use Rattle.flat_scene.specs.Frames.{is_ready}
 use Rattle.flat_snap.specs.declared.snapshot.Snapshot.{Snapshot}
 use Rattle.flat_states.specs.declared.state.SessionState.{SessionState}
-use Rattle.flat_states.specs.Begins.{begun}
+use Rattle.flat_facts.specs.Begins.{begun}
 use Rattle.flat_states.specs.Kept.{IsKept, Below, kept_of, meant, release_of}
 use Rattle.flat_states.specs.Presents.{LetGo, frame_takes}
 use Rattle.flat_states.specs.Seen.{Seen, seen_of}

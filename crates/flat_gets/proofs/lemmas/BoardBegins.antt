@@ -26,8 +26,8 @@ use Rattle.flat_scene.specs.Frames.{is_ready}
 use Rattle.flat_states.specs.declared.clock.Clock.{Clock}
 use Rattle.flat_states.specs.declared.ratios.Ratios.{Ratios}
 use Rattle.flat_states.specs.declared.state.SessionState.{SessionState}
-use Rattle.flat_states.specs.Begins.{begun, begin_entry, finished, finish_entry, post_of, posts_to}
-use Rattle.flat_states.specs.Machines.{Machine, MayCall, Stands, HasRoom, entry_of, ratios_of}
+use Rattle.flat_facts.specs.Begins.{begun, begin_entry, finished, finish_entry, post_of, posts_to, entry_of}
+use Rattle.flat_states.specs.Machines.{Machine, MayCall, Stands, HasRoom, ratios_of}
 use Rattle.flat_rules.specs.Numbers.{number, AllNumbered}
 use Rattle.flat_states.specs.Kept.{IsKept}
 use Rattle.flat_states.specs.Logs.{Logged}
@@ -35,7 +35,8 @@ use Rattle.flat_states.specs.Seen.{Seen, seen_of}
 use Rattle.flat_gets.proofs.lemmas.DoneSteps.{released_to}
 use Rattle.flat_gets.proofs.lemmas.Begun.{seen-begun-open}
 use Rattle.flat_states.proofs.lemmas.Entered.{Entered}
-use Rattle.flat_states.proofs.lemmas.Steps.{legal-entered, frames-quiet, or-false, room-entered, few-history}
+use Rattle.flat_states.proofs.lemmas.Steps.{legal-entered, frames-quiet, room-entered, few-history}
+use Rattle.flat_facts.proofs.lemmas.Tests.{or-false}
 use Rattle.flat_rules.proofs.lemmas.ListLemmas.{flat-mapped, flat-each}
 
 map-twice : {A B C : Type 0} (f : B → C) (g : A → B) (xs : List A) → map f (map g xs) ≡ map (λ x. f (g x)) xs

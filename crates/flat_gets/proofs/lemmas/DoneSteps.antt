@@ -11,16 +11,16 @@ use Rattle.flat_scene.specs.declared.journal.Event.{Event}
 use Rattle.flat_scene.specs.declared.setup.Setup.{Setup}
 use Rattle.flat_scene.specs.History.{Published}
 use Rattle.flat_scene.specs.Frames.{going, is_among, is_released_by, sessions_to}
-use Rattle.flat_states.specs.Viewports.{AreViewports}
+use Rattle.flat_links.specs.Viewports.{AreViewports}
 use Rattle.flat_states.specs.declared.state.SessionState.{SessionState}
-use Rattle.flat_states.specs.declared.viewports.Viewports.{Viewports}
-use Rattle.flat_states.specs.Begins.{finished}
+use Rattle.flat_links.specs.declared.viewports.Viewports.{Viewports}
+use Rattle.flat_facts.specs.Begins.{finished}
 use Rattle.flat_rules.specs.Numbers.{number, AllNumbered}
 use Rattle.flat_states.specs.Kept.{IsKept, release_of}
 use Rattle.flat_states.specs.Seen.{seen_of}
 use Rattle.flat_states.proofs.lemmas.BeginLoop.{same-side, this-side, not-below, none-below, all-below, sessions-on}
 use Rattle.flat_states.proofs.lemmas.Changes.{changed-one}
-use Rattle.flat_states.proofs.lemmas.Steps.{or-false}
+use Rattle.flat_facts.proofs.lemmas.Tests.{or-false}
 use Rattle.std.proofs.lemmas.List.Folds.{list_any-append}
 use Rattle.std.proofs.Math.Bool.{or_assoc}
 

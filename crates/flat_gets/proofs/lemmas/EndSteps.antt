@@ -20,29 +20,31 @@ use Rattle.flat_scene.specs.declared.journal.Reply.{Reply}
 use Rattle.flat_scene.specs.declared.setup.Setup.{Setup}
 use Rattle.flat_scene.specs.History.{◌▹◌, is_begin, is_closed, is_finish, is_session, presents}
 use Rattle.flat_scene.specs.Setups.{is_declared}
-use Rattle.flat_states.specs.declared.live.Live.{Live}
-use Rattle.flat_states.specs.declared.live.OutToken.{OutToken}
+use Rattle.flat_facts.specs.declared.live.Live.{Live}
+use Rattle.flat_links.specs.declared.tokens.OutToken.{OutToken}
 use Rattle.flat_states.specs.declared.clock.Clock.{Clock}
 use Rattle.flat_states.specs.declared.state.Account.{Account}
 use Rattle.flat_states.specs.declared.state.SessionState.{SessionState}
-use Rattle.flat_states.specs.declared.ties.Ties.{Ties}
-use Rattle.flat_states.specs.declared.viewports.Viewports.{Viewports}
-use Rattle.flat_states.specs.Machines.{AreEnds, Machine, MayCall, Stands, due_back, entry_of}
+use Rattle.flat_links.specs.declared.ties.Ties.{Ties}
+use Rattle.flat_links.specs.declared.viewports.Viewports.{Viewports}
+use Rattle.flat_links.specs.AllEnds.{AreEnds, due_back, HasNone, IsNoted, IsOwn, EndsNoted}
+use Rattle.flat_states.specs.Machines.{Machine, MayCall, Stands}
+use Rattle.flat_facts.specs.Begins.{entry_of}
 use Rattle.flat_rules.specs.Numbers.{number}
 use Rattle.flat_rules.specs.Ends.{uses_viewport, is_done, viewports_of}
 use Rattle.flat_states.specs.Kept.{IsKept}
 use Rattle.flat_rules.specs.Legal.{Legal, all_but_last, is_link, links_alone, makes_view, own_call, reply_to}
-use Rattle.flat_states.specs.Following.{AreTied, UsesNone}
-use Rattle.flat_states.specs.Presents.{HasNone, IsNoted, IsOwn, EndsNoted}
-use Rattle.flat_states.specs.Seen.{is_new_viewport, seen_of}
-use Rattle.flat_states.specs.Viewports.{AreViewports, marked, out_of, outs_of}
+use Rattle.flat_links.specs.Following.{AreTied, UsesNone}
+use Rattle.flat_facts.specs.Lives.{is_new_viewport}
+use Rattle.flat_states.specs.Seen.{seen_of}
+use Rattle.flat_links.specs.Viewports.{AreViewports, marked, out_of, outs_of}
 use Rattle.flat_states.proofs.lemmas.Changes.{changed-one, not-session, is-session, sum-same}
 use Rattle.flat_states.proofs.lemmas.Counts.{at-session, declared-some, kept-session, same-number}
 use Rattle.flat_rules.proofs.lemmas.ListLemmas.{flat_map-none}
 use Rattle.flat_states.proofs.lemmas.Ones.{declared-of}
 use Rattle.flat_states.proofs.lemmas.Steps.{legal-entered}
-use Rattle.flat_states.proofs.lemmas.TiesSteps.{tied-idle}
-use Rattle.flat_states.proofs.lemmas.ViewCalls.{split-last}
+use Rattle.flat_links.proofs.lemmas.TiesSteps.{tied-idle}
+use Rattle.flat_facts.proofs.lemmas.ViewCalls.{split-last}
 use Rattle.flat_gets.proofs.ViewportSteps.{viewports-other, viewports-own}
 use Rattle.std.proofs.lemmas.Bool.{not-true, or_parts}
 

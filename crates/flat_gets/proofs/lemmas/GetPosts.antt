@@ -25,19 +25,18 @@ use Rattle.flat_scene.specs.Setups.{is_declared}
 use Rattle.flat_base.proofs.lemmas.Tests.{and-left}
 use Rattle.flat_gets.specs.declared.gets.Answered.{Answered}
 use Rattle.flat_gets.specs.declared.gets.HeldGet.{HeldGet}
-use Rattle.flat_states.specs.declared.live.Live.{Live}
-use Rattle.flat_states.specs.declared.live.OutToken.{OutToken}
-use Rattle.flat_states.specs.Begins.{finish_entry, finished, post_of}
+use Rattle.flat_facts.specs.declared.live.Live.{Live}
+use Rattle.flat_links.specs.declared.tokens.OutToken.{OutToken}
+use Rattle.flat_facts.specs.Begins.{finish_entry, finished, post_of, took_event}
 use Rattle.flat_rules.specs.Ends.{is_done, pair_of, uses_view, view_owner, view_uses}
 use Rattle.flat_gets.specs.Gets.{answers_to, held_get, helds_of, Asks, Settles}
 use Rattle.flat_rules.specs.Legal.{Legal, MayEnter, is_frame_open, owns_view, is_get}
 use Rattle.flat_rules.specs.Posts.{events_to, frame_took, posts}
-use Rattle.flat_states.specs.Viewports.{AreViewports, back_events}
+use Rattle.flat_links.specs.Viewports.{AreViewports, back_events}
 use Rattle.flat_rules.specs.Watch.{Watcher, layout_of, status_of, child_of, told}
 use Rattle.flat_states.proofs.lemmas.BeginLoop.{flat-on}
-use Rattle.flat_states.proofs.lemmas.Between.{events-joined}
+use Rattle.flat_facts.proofs.lemmas.Between.{events-joined}
 use Rattle.flat_gets.proofs.lemmas.BoardBegins.{posts-all}
-use Rattle.flat_states.specs.Begins.{took_event}
 use Rattle.flat_gets.proofs.GetAsked.{kept-length}
 use Rattle.flat_gets.proofs.GetLists.{answered-or-held}
 use Rattle.flat_gets.proofs.GetHistory.{events-finished, events-told}

@@ -13,23 +13,23 @@ use Rattle.flat_scene.specs.declared.setup.Setup.{Setup}
 use Rattle.flat_scene.specs.Frames.{taken}
 use Rattle.flat_scene.specs.History.{◌▹◌, own, calls, is_closed, is_finish, is_session, presents}
 use Rattle.flat_scene.specs.Setups.{is_declared}
-use Rattle.flat_states.specs.declared.live.Live.{Live}
-use Rattle.flat_states.specs.declared.live.OutToken.{OutToken}
+use Rattle.flat_facts.specs.declared.live.Live.{Live}
+use Rattle.flat_links.specs.declared.tokens.OutToken.{OutToken}
 use Rattle.flat_rules.specs.Ends.{to_begin, to_finished, releases_viewport, viewport_uses, viewports_of, pairs_where, uses_viewport, is_done}
 use Rattle.flat_rules.specs.Legal.{Legal, has_token, owns_viewport, is_frame_open, makes_viewport}
-use Rattle.flat_states.specs.Lives.{lives_after, held_of}
+use Rattle.flat_facts.specs.Lives.{lives_after, held_of}
 use Rattle.flat_rules.specs.Posts.{tokens_back}
 use Rattle.flat_rules.specs.Stamps.{first_at, is_seen, happens_often}
-use Rattle.flat_states.specs.Viewports.{released_at, out_of, outs_of, AreViewports, marked, with_out, is_back, back_events, still_out}
-use Rattle.flat_states.proofs.lemmas.Earlier.{taken-begin}
+use Rattle.flat_links.specs.Viewports.{released_at, out_of, outs_of, AreViewports, marked, with_out, is_back, back_events, still_out}
+use Rattle.flat_facts.proofs.lemmas.Earlier.{taken-begin}
 use Rattle.flat_rules.proofs.lemmas.EventsLocal.{flat-same, viewports-owned}
 use Rattle.flat_gets.proofs.PairLaws.{used-token, unused-came, used-came, fresh-stamp, made-lives}
 use Rattle.flat_rules.proofs.lemmas.ShownSteps.{closed-before}
-use Rattle.flat_states.proofs.lemmas.StampSteps.{stamp-of}
-use Rattle.flat_states.proofs.lemmas.Stamped.{often-lasts, stamp-other, IsLasting}
-use Rattle.flat_states.proofs.lemmas.TokensBack.{came}
+use Rattle.flat_facts.proofs.lemmas.StampSteps.{stamp-of}
+use Rattle.flat_facts.proofs.lemmas.Stamped.{often-lasts, stamp-other, IsLasting}
+use Rattle.flat_facts.proofs.lemmas.TokensBack.{came}
 use Rattle.flat_gets.proofs.ViewportSteps.{flat-filtered, out-used, own-out, lives-own}
-use Rattle.flat_states.proofs.lemmas.Between.{viewport-nested}
+use Rattle.flat_facts.proofs.lemmas.Between.{viewport-nested}
 use Rattle.flat_rules.proofs.lemmas.ListLemmas.{flat-mapped}
 use Rattle.flat_rules.proofs.lemmas.OwnedTree.{pair_no}
 

@@ -31,12 +31,12 @@ use Rattle.flat_gets.specs.declared.gets.Gets.{Gets}
 use Rattle.flat_gets.specs.declared.gets.HeldGet.{HeldGet}
 use Rattle.flat_gets.specs.declared.gets.Watched.{Watched}
 use Rattle.flat_gets.specs.declared.gets.Watched.TheVariants as watches
-use Rattle.flat_states.specs.Begins.{finish_entry, finished, post_of}
-use Rattle.flat_states.specs.Machines.{Machine, MayCall, entry_of}
+use Rattle.flat_facts.specs.Begins.{finish_entry, finished, post_of, entry_of}
+use Rattle.flat_states.specs.Machines.{Machine, MayCall}
 use Rattle.flat_gets.specs.Dues.{due_told}
 use Rattle.flat_rules.specs.Numbers.{number, AllNumbered}
 use Rattle.flat_rules.specs.Ends.{is_done, view_owner, viewport_uses}
-use Rattle.flat_states.proofs.lemmas.Counts.{few-if}
+use Rattle.flat_states.proofs.lemmas.Counts.{few-if, at-session, declared-some, same-number}
 use Rattle.flat_gets.specs.Gets.{gets_made, answers_to, hears, held_get, helds_of, is_held_in, last_of, started, watched_of, watcher_for, AllAnswered, AreGets, Asks, IsAnswered, Settles}
 use Rattle.flat_rules.specs.Legal.{Legal, MayEnter, is_frame_open, answers, got, is_now, is_told, number_if, owns_view, reply_to, sent_to, is_get}
 use Rattle.flat_rules.specs.Local.{pair_watched}
@@ -44,9 +44,8 @@ use Rattle.flat_rules.specs.Posts.{events_to, news_for, posts}
 use Rattle.flat_rules.specs.Watch.{Watcher, is_open, told, watcher_of}
 use Rattle.flat_gets.specs.Watchers.{AreOwnGets, AreWatched, IsAsked, IsJoin, IsSettled, WatchedUpTo, is_few, is_held, is_seldom, watcher_meant}
 use Rattle.flat_states.proofs.lemmas.BeginLoop.{not-below, same-side, this-side}
-use Rattle.flat_states.proofs.lemmas.Between.{is_viewport}
+use Rattle.flat_facts.proofs.lemmas.Between.{is_viewport}
 use Rattle.flat_states.proofs.lemmas.Changes.{changed-one, not-session}
-use Rattle.flat_states.proofs.lemmas.Counts.{at-session, declared-some, same-number}
 use Rattle.flat_gets.proofs.lemmas.DoneSteps.{UpTo, up-end, up-here, up-next, up-start}
 use Rattle.flat_gets.proofs.lemmas.EndSteps.{number-declared}
 use Rattle.flat_gets.proofs.GetAnswers.{uses-kept}
@@ -60,7 +59,7 @@ use Rattle.flat_gets.proofs.GetSteps.{gets-between, gets-elsewhere, gets-refused
 use Rattle.flat_states.proofs.lemmas.Steps.{legal-entered}
 use Rattle.std.proofs.lemmas.Bool.{and_right}
 use Rattle.std.proofs.Math.Bool.{or-true}
-use Rattle.flat_states.proofs.lemmas.Uses.{uses-few}
+use Rattle.flat_facts.proofs.lemmas.Uses.{uses-few}
 
 -- ---- lists
 

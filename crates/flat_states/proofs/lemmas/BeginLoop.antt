@@ -15,7 +15,7 @@ use Rattle.flat_scene.specs.Frames.{sessions_to}
 use Rattle.flat_rules.specs.Posts.{events_to}
 use Rattle.flat_rules.specs.Shown.{shown}
 use Rattle.flat_states.specs.declared.state.SessionState.{SessionState}
-use Rattle.flat_states.specs.Begins.{begun, post_of, posts_to}
+use Rattle.flat_facts.specs.Begins.{begun, post_of, posts_to}
 use Rattle.flat_states.specs.Machines.{due}
 use Rattle.flat_rules.specs.Numbers.{number, AllNumbered}
 use Rattle.flat_states.specs.Kept.{IsKept}

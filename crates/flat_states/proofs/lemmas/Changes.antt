@@ -16,7 +16,8 @@ use Rattle.flat_states.specs.declared.state.SessionState.{SessionState}
 use Rattle.flat_rules.specs.Numbers.{number, AllNumbered}
 use Rattle.flat_states.specs.Kept.{IsKept}
 use Rattle.flat_rules.specs.Legal.{is_poll}
-use Rattle.flat_states.specs.Seen.{Seen, seen_of, account_of, noted, makes_it}
+use Rattle.flat_states.specs.Seen.{Seen, seen_of, account_of, noted}
+use Rattle.flat_facts.specs.Views.{makes_it}
 use Rattle.flat_rules.proofs.lemmas.Quiet.{closed-quiet, presents-quiet, taken-quiet, going-quiet, took-quiet}
 
 -- another's entry changes nothing

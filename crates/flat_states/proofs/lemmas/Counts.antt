@@ -3,15 +3,13 @@ use Rattle.std.proofs.Common.{◌≡◌, ℕ, ◌+◌, ◌-◌, ◌<◌, ◌≤�
 use Rattle.std.proofs.lemmas.List.{length-map}
 use Rattle.std.proofs.lemmas.List.Sums.{prefix_len-le-length}
 use Rattle.std.proofs.lemmas.List.Folds.{length-prefix_len}
-use Rattle.std.proofs.lemmas.Bool.Decides.{nat_tests}
-use Rattle.std.specs.Prelude.{nat_lt, nat_le, slice_index_or, IsTrue}
+use Rattle.std.specs.Prelude.{nat_lt, nat_le, slice_index_or, IsTrue, cond, ◌&&◌, ◌==◌, take_while}
 use Rattle.flat_scene.proofs.lemmas.TakingLemmas.{taken-made}
 use Rattle.flat_states.specs.declared.clock.Clock.{Clock}
 use Rattle.flat_scene.specs.Setups.{is_declared}
 use Rattle.flat_states.specs.Machines.{Stands}
 use Rattle.flat_rules.specs.Numbers.{number, AllNumbered}
 use Rattle.flat_base.proofs.lemmas.Tests.{and-left, and-right}
-use Rattle.std.specs.Prelude.{cond, ◌&&◌, ◌==◌, take_while}
 use Rattle.flat_base.specs.declared.ids.SessionNo.{SessionNo}
 use Rattle.flat_scene.specs.declared.journal.Entry.{Entry}
 use Rattle.flat_scene.specs.declared.setup.Setup.{Setup}
@@ -22,6 +20,7 @@ use Rattle.flat_states.specs.declared.state.SessionState.{SessionState}
 use Rattle.flat_states.specs.Kept.{IsKept, taken_in, waiting_in, credits_in, release_of, kept_of, meant}
 use Rattle.flat_states.specs.Seen.{Seen, seen_of}
 use Rattle.flat_rules.specs.Legal.{number_if}
+use Rattle.flat_facts.proofs.lemmas.Tests.{lt-of, le-of}
 
 pub length-take_while : {A : Type 0} (p : A → Bool) (xs : List A) → length (take_while p xs) ≤ length xs
 length-take_while p xs = rw (length-prefix_len p xs) (prefix_len-le-length p xs)
@@ -65,12 +64,6 @@ pub at-session : {A : Type 0} (P : SessionNo → A → Type 0) (xs : List A) (s 
 at-session P xs s x each some few is =
     let here : P (number (s.0 - 1)) (slice_index_or xs (s.0 - 1) x) = each (s.0 - 1) x (omega arith) in
     rw (← same-number s some) (rw is here)
-
-pub lt-of : (m n : ℕ) → nat_lt m n ≡ true → m < n
-lt-of m n h = grind (arith, nat_tests)
-
-pub le-of : (m n : ℕ) → nat_le m n ≡ true → m ≤ n
-le-of m n h = grind (arith, nat_tests)
 
 pub declared-some : (m n : ℕ) → (nat_lt 0 m && nat_le m n) ≡ true → (0 < m) × (m ≤ n)
 declared-some m n h = (lt-of 0 m (and-left (nat_lt 0 m) (nat_le m n) h), le-of m n (and-right (nat_lt 0 m) (nat_le m n) h))

@@ -8,14 +8,15 @@ use Rattle.flat_scene.specs.declared.journal.Reply.{Reply}
 use Rattle.flat_scene.specs.History.{◌▹◌, is_begin, is_finish}
 use Rattle.flat_states.specs.declared.clock.Clock.{Clock}
 use Rattle.flat_states.specs.declared.state.SessionState.{SessionState}
-use Rattle.flat_states.specs.Machines.{clock_then, Machine, MayCall, Stands, HasRoom, entry_of}
+use Rattle.flat_states.specs.Machines.{clock_then, Machine, MayCall, Stands, HasRoom}
+use Rattle.flat_facts.specs.Begins.{entry_of}
 use Rattle.flat_rules.specs.Numbers.{number, AllNumbered}
 use Rattle.flat_states.specs.Kept.{IsKept}
 use Rattle.flat_rules.specs.Legal.{Legal, reply_to}
 use Rattle.flat_states.specs.Logs.{Logged}
 use Rattle.flat_rules.specs.Posts.{posts, posted}
 use Rattle.flat_states.specs.Seen.{seen_of}
-use Rattle.flat_states.proofs.lemmas.Between.{is_viewport, posted-between}
+use Rattle.flat_facts.proofs.lemmas.Between.{is_viewport, posted-between}
 use Rattle.flat_states.proofs.lemmas.Steps.{Changed, legal-entered, posts-none, room-entered, stands-entered}
 
 -- where nothing is posted

@@ -21,7 +21,8 @@ use Rattle.flat_scene.specs.Setups.{is_declared}
 use Rattle.flat_base.proofs.lemmas.Tests.{and-right}
 use Rattle.flat_states.specs.declared.clock.Clock.{Clock}
 use Rattle.flat_states.specs.declared.state.SessionState.{SessionState}
-use Rattle.flat_states.specs.Machines.{Machine, MayCall, Stands, HasRoom, clock_then, entry_of, due}
+use Rattle.flat_states.specs.Machines.{Machine, MayCall, Stands, HasRoom, clock_then, due}
+use Rattle.flat_facts.specs.Begins.{entry_of}
 use Rattle.flat_rules.specs.Numbers.{number, AllNumbered}
 use Rattle.flat_states.specs.Kept.{IsKept}
 use Rattle.flat_rules.specs.Legal.{reply_to, may_act, session_may}
@@ -29,8 +30,9 @@ use Rattle.flat_states.specs.Logs.{Logged}
 use Rattle.flat_states.specs.Presents.{reply_to_close, noted_in, with_calls, IsPlaced}
 use Rattle.flat_states.specs.Seen.{seen_of}
 use Rattle.flat_states.proofs.lemmas.Changes.{IsPlainOne, seen-other, seen-noted, kept-noted, changed-one, changed-set, changed-each, sum-changed, not-session, is-session, sum-same}
-use Rattle.flat_states.proofs.lemmas.Counts.{kept-session, declared-some, lt-of, same-number}
-use Rattle.flat_states.proofs.lemmas.Between.{is_viewport}
+use Rattle.flat_states.proofs.lemmas.Counts.{kept-session, declared-some, same-number}
+use Rattle.flat_facts.proofs.lemmas.Tests.{lt-of}
+use Rattle.flat_facts.proofs.lemmas.Between.{is_viewport}
 use Rattle.flat_states.proofs.lemmas.Entered.{Entered, kept-entered}
 use Rattle.flat_states.proofs.lemmas.Steps.{Changed}
 use Rattle.flat_rules.proofs.lemmas.ListLemmas.{length-changed}

@@ -6,7 +6,7 @@ use Rattle.flat_base.specs.declared.limits.TheConstants.{VERSION_MAX, SIDE_MAX, 
 use Rattle.flat_scene.specs.Setups.{is_ratio, is_within, is_within_limits}
 use Rattle.flat_base.proofs.lemmas.Tests.{and-left, and-right}
 use Rattle.flat_states.specs.Flags.{has_end}
-use Rattle.flat_states.proofs.lemmas.Counts.{le-of}
+use Rattle.flat_facts.proofs.lemmas.Tests.{le-of}
 use Rattle.std.proofs.lemmas.List.Elements.{All-head, All-tail}
 use Rattle.std.proofs.lemmas.List.Sums.{sum_by-cons}
 use Rattle.flat_base.specs.declared.ids.FenceNo.{FenceNo}

@@ -1,7 +1,7 @@
 -- What one more entry does to the parts of a board.
-use Rattle.std.proofs.Common.{◌≡◌, ℕ, suc, ◌+◌, ◌-◌, ◌*◌, ◌<◌, ◌≤◌, ◌^◌, Bool, true, false, List, [], ◌∷◌, length, refl, arith, sym, ◌∙◌, ap, slice_index, sum}
+use Rattle.std.proofs.Common.{◌≡◌, ℕ, suc, ◌+◌, ◌-◌, ◌*◌, ◌<◌, ◌≤◌, ◌^◌, Bool, true, false, List, [], length, refl, arith, sym, ◌∙◌, ap, slice_index, sum}
 use Rattle.std.proofs.lemmas.List.{append-nil}
-use Rattle.std.specs.Prelude.{cond, ◌&&◌, ◌||◌, ◌==◌, nat_le, nat_lt}
+use Rattle.std.specs.Prelude.{◌&&◌, ◌||◌, ◌==◌, nat_le, nat_lt}
 use Rattle.std.proofs.lemmas.Bool.Decides.{nat_tests}
 use Rattle.flat_base.specs.declared.ids.Actor.{Actor}
 use Rattle.flat_base.specs.declared.ids.Actor.TheVariants.{Display, Session, Probe}
@@ -21,9 +21,10 @@ use Rattle.flat_base.proofs.lemmas.Tests.{and-right}
 use Rattle.flat_fence.specs.Fences.{has}
 use Rattle.flat_states.specs.declared.clock.Clock.{Clock}
 use Rattle.flat_states.specs.declared.state.SessionState.{SessionState}
-use Rattle.flat_states.specs.Machines.{Machine, MayCall, Stands, HasRoom, entry_of, made, clock_of, clock_then}
+use Rattle.flat_states.specs.Machines.{Machine, MayCall, Stands, HasRoom, made, clock_of, clock_then}
+use Rattle.flat_facts.specs.Begins.{entry_of}
 use Rattle.flat_rules.specs.Numbers.{number, AllNumbered}
-use Rattle.flat_rules.specs.Ends.{view_uses, uses_view, is_done}
+use Rattle.flat_rules.specs.Ends.{uses_view, is_done}
 use Rattle.flat_states.specs.Flags.{has_end}
 use Rattle.flat_states.specs.Kept.{IsKept}
 use Rattle.flat_rules.specs.Legal.{Legal, LegalEntry, reply_to, may_act, session_may, frames}
@@ -31,10 +32,8 @@ use Rattle.flat_states.specs.Logs.{Logged}
 use Rattle.flat_rules.specs.Posts.{posts, posted}
 use Rattle.flat_states.specs.Seen.{seen_of}
 use Rattle.flat_states.proofs.Shares.{AllPlaced, few-entries, fair-more}
-
-pub or-false : (b : Bool) → b ≡ (b || false)
-or-false true = refl
-or-false false = refl
+use Rattle.flat_facts.proofs.lemmas.Tests.{or-false}
+use Rattle.flat_facts.proofs.lemmas.ViewUses.{viewed-more}
 
 -- an entry that an actor may make, with the reply of the rules, is legal
 pub legal-entered : (m : Machine) (who : Actor) (line : ℕ) (calls : List Call) (kind : Kind) (reply : Reply) → MayCall m who calls kind → reply ≡ reply_to m.setup m.history who calls kind
@@ -47,14 +46,6 @@ frames-quiet h e no_finish = rw no_finish refl
 -- the clock goes on, at the pixel ratio that the entry may set
 pub clock-quiet : (setup : Setup) (h : List Entry) (e : Entry) → is_begin e.kind ≡ false → is_finish e.kind ≡ false → clock_of setup (h ▹ e) ≡ clock_then e.kind (clock_of setup h)
 clock-quiet setup h e no_begin no_finish = rw (frames-quiet h e no_finish, no_begin, no_finish) refl
-
--- a view end is used once more, or none is
-used-more : (p : PairNo) (e : Entry) (h : List Entry) (b : Bool) → nat_lt 0 (length (cond b (e ∷ view_uses p h) (view_uses p h))) ≡ (nat_lt 0 (length (view_uses p h)) || b)
-used-more p e h true = grind (arith, nat_tests)
-used-more p e h false = or-false _
-
-pub viewed-more : (p : PairNo) (e : Entry) (h : List Entry) → nat_lt 0 (length (view_uses p (h ▹ e))) ≡ (nat_lt 0 (length (view_uses p h)) || (uses_view p e.kind && is_done e.reply))
-viewed-more p e h = used-more p e h (uses_view p e.kind && is_done e.reply)
 
 -- A call that may change fences, view ends and sessions as its entry says leaves all that stands.
 pub record Changed (m : Machine) (e : Entry) (fences fences_now views views_now : List Bool) : Type 0 where

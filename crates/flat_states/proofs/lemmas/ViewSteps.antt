@@ -15,7 +15,8 @@ use Rattle.flat_scene.specs.History.{◌▹◌}
 use Rattle.flat_base.proofs.lemmas.Tests.{and-left}
 use Rattle.flat_states.specs.declared.state.Account.{Account}
 use Rattle.flat_states.specs.declared.state.SessionState.{SessionState}
-use Rattle.flat_states.specs.Machines.{Machine, MayCall, entry_of, due}
+use Rattle.flat_states.specs.Machines.{Machine, MayCall, due}
+use Rattle.flat_facts.specs.Begins.{entry_of}
 use Rattle.flat_rules.specs.Ends.{view_uses, is_done}
 use Rattle.flat_states.specs.Flags.{has_end}
 use Rattle.flat_states.specs.Kept.{IsKept}
@@ -24,6 +25,7 @@ use Rattle.flat_states.specs.Presents.{use_reply, after_view, with_calls}
 use Rattle.flat_states.specs.Seen.{seen_of, account_of, noted}
 use Rattle.flat_states.proofs.lemmas.Changes.{IsPlainOne, seen-closed, kept-account, kept-closed, kept-noted, is-session}
 use Rattle.flat_rules.proofs.lemmas.Quiet.{closed-quiet, presents-quiet, taken-quiet, going-quiet, took-quiet}
+use Rattle.flat_facts.proofs.lemmas.Tests.{same-pair}
 
 -- ---- the reply
 
@@ -43,9 +45,6 @@ view-replied setup h s calls p used is = ap (λ b. use_reply (not b)) is ∙ by-
 and-true : (b : Bool) → b ≡ (b && true)
 and-true true = refl
 and-true false = refl
-
-pub same-pair : (p q : PairNo) → (p.0 == q.0) ≡ true → p ≡ q
-same-pair p q is = let number : p.0 ≡ q.0 = grind (arith, nat_tests) in ap (λ (n : ℕ). let r : PairNo = record { 0 = n } in r) number
 
 used-already : (b : Bool) (views : List Bool) (p q : PairNo) → has_end views p ≡ true → (p.0 == q.0) ≡ b → (has_end views q || b) ≡ (has_end views q || (b && false))
 used-already true views p q used is =

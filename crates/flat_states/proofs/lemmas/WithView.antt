@@ -17,9 +17,10 @@ use Rattle.flat_states.specs.Machines.{Stands, HasRoom}
 use Rattle.flat_rules.specs.Ends.{has_view}
 use Rattle.flat_states.specs.Kept.{IsKept, has_view_in}
 use Rattle.flat_states.specs.Logs.{Logged}
-use Rattle.flat_states.specs.Seen.{seen_of, has_viewed, stood_at}
+use Rattle.flat_states.specs.Seen.{seen_of}
+use Rattle.flat_facts.specs.Views.{has_viewed, stood_at}
 use Rattle.flat_states.proofs.lemmas.Counts.{declared-some, kept-session, seen-count, taken-kept}
-use Rattle.flat_states.proofs.lemmas.HasView.{has-view}
+use Rattle.flat_facts.proofs.lemmas.HasView.{has-view}
 use Rattle.flat_states.proofs.lemmas.Opened.{few-declared}
 
 -- ---- one flag after the other

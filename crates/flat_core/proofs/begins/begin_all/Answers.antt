@@ -4,9 +4,8 @@ use Rattle.flat_rules.specs.Numbers.{AllNumbered}
 use Rattle.std.proofs.lemmas.List.{length-set}
 use Rattle.std.proofs.lemmas.List.Sums.{sum_by-set}
 use Rattle.flat_states.specs.Machines.{due}
-use Rattle.flat_states.specs.Begins.{begin_entry}
+use Rattle.flat_facts.specs.Begins.{begin_entry, begun}
 use Rattle.flat_states.proofs.lemmas.BeginLoop.{ShownUpTo, kept-start, shown-start, kept-next, shown-next, shown-there, shown-end, posts-next}
-use Rattle.flat_states.specs.Begins.{begun}
 use Rattle.flat_rules.specs.Ends.{to_begin}
 use Rattle.flat_rules.specs.Shown.{shown}
 use Rattle.flat_rules.proofs.lemmas.ShownList.{listed, each-listed}

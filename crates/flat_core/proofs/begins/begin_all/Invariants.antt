@@ -1,6 +1,6 @@
 use Rattle.std.proofs.Common.{◌≡◌, ◌+◌, ◌≤◌, ◌++◌, length}
 use Rattle.std.specs.Prelude.{sum_by}
-use Rattle.flat_states.specs.Begins.{begin_entry, posts_to}
+use Rattle.flat_facts.specs.Begins.{begin_entry, posts_to}
 use Rattle.flat_states.specs.Machines.{due}
 use Rattle.flat_rules.specs.Numbers.{AllNumbered}
 use Rattle.flat_states.proofs.lemmas.BeginLoop.{KeptUpTo, ShownUpTo}

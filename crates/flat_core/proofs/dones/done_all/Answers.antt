@@ -3,8 +3,9 @@ use Rattle.flat_scene.specs.declared.journal.Entry.{Entry}
 use Rattle.std.proofs.lemmas.List.{length-set}
 use Rattle.std.proofs.lemmas.List.Sums.{sum_by-set}
 use Rattle.flat_fence.specs.Fences.{has}
-use Rattle.flat_states.specs.Machines.{due, due_back}
-use Rattle.flat_states.specs.Begins.{finish_entry, finished}
+use Rattle.flat_states.specs.Machines.{due}
+use Rattle.flat_links.specs.AllEnds.{due_back}
+use Rattle.flat_facts.specs.Begins.{finish_entry, finished}
 use Rattle.flat_rules.specs.Legal.{Legal, LegalEntry}
 use Rattle.flat_gets.specs.Watchers.{WatchedUpTo}
 use Rattle.flat_states.proofs.lemmas.BeginLoop.{posts-next}

@@ -2,7 +2,7 @@ use Rattle.std.proofs.Common.{◌≡◌, ◌+◌, ◌≤◌, ◌++◌, length}
 use Rattle.std.specs.Prelude.{◌||◌}
 use Rattle.flat_base.specs.declared.ids.FenceNo.{FenceNo}
 use Rattle.flat_fence.specs.Fences.{has}
-use Rattle.flat_states.specs.Begins.{finish_entry, finished, posts_to}
+use Rattle.flat_facts.specs.Begins.{finish_entry, finished, posts_to}
 use Rattle.flat_gets.specs.Dues.{all_due}
 use Rattle.flat_rules.specs.Numbers.{AllNumbered}
 use Rattle.flat_gets.specs.Watchers.{WatchedUpTo}

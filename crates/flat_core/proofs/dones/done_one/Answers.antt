@@ -9,10 +9,10 @@ use Rattle.flat_scene.specs.Frames.{going}
 use Rattle.flat_scene.specs.declared.journal.Entry.{Entry}
 use Rattle.flat_scene.specs.Frames.{taken}
 use Rattle.flat_scene.specs.History.{◌▹◌}
-use Rattle.flat_states.specs.Begins.{finish_entry, post_of, took_event}
+use Rattle.flat_facts.specs.Begins.{finish_entry, post_of, took_event}
 use Rattle.flat_rules.specs.Legal.{Legal, LegalEntry}
 use Rattle.flat_states.specs.Seen.{seen_of}
-use Rattle.flat_states.specs.Viewports.{back_events}
+use Rattle.flat_links.specs.Viewports.{back_events}
 use Rattle.flat_states.proofs.lemmas.Counts.{seen-count, taken-kept}
 use Rattle.flat_gets.proofs.lemmas.DoneSteps.{members-done}
 use Rattle.flat_gets.proofs.lemmas.ViewportUses.{viewports-finish}

@@ -10,11 +10,11 @@ use Rattle.flat_scene.specs.Frames.{taken}
 use Rattle.flat_scene.specs.History.{is_closed}
 use Rattle.flat_scene.specs.Setups.{is_declared}
 use Rattle.flat_gets.specs.declared.watching.Watchers.{Watchers}
-use Rattle.flat_states.specs.Begins.{finish_entry, finished, post_of, took_event}
+use Rattle.flat_facts.specs.Begins.{finish_entry, finished, post_of, took_event}
 use Rattle.flat_gets.specs.Gets.{answers_to, helds_of}
 use Rattle.flat_rules.specs.Legal.{Legal, LegalEntry}
 use Rattle.flat_rules.specs.Posts.{events_to, frame_took}
-use Rattle.flat_states.specs.Viewports.{back_events}
+use Rattle.flat_links.specs.Viewports.{back_events}
 use Rattle.flat_rules.specs.Watch.{told}
 use Rattle.flat_gets.specs.Watchers.{WatchedUpTo}
 use Rattle.flat_gets.proofs.lemmas.GetPosts.{finish-posts}

@@ -3,7 +3,7 @@ use Rattle.flat_scene.specs.declared.journal.Entry.{Entry}
 use Rattle.flat_gets.specs.declared.gets.HeldGet.{HeldGet}
 use Rattle.flat_rules.specs.Watch.{told}
 use Rattle.flat_gets.proofs.GetLists.{Answering, answering-next, answered-all}
-use Rattle.flat_states.proofs.lemmas.Marks.{drop-is, drop-end}
+use Rattle.flat_links.proofs.lemmas.Marks.{drop-is, drop-end}
 use Rattle.flat_gets.proofs.gets.answer_all.Goals as goal
 
 pub loop-one-preserved : goal.loop-one-preserved

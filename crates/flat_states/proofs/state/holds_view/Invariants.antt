@@ -1,5 +1,5 @@
 use Rattle.std.proofs.Common.{◌≡◌, drop}
-use Rattle.flat_states.specs.Seen.{holds_after}
+use Rattle.flat_facts.specs.Views.{holds_after}
 use Rattle.flat_states.proofs.state.holds_view.Given as goal
 
 -- what is left leads from here to the same end

@@ -13,7 +13,9 @@ use Rattle.flat_scene.specs.declared.journal.Kind.TheVariants.{Begin}
 use Rattle.flat_scene.specs.declared.journal.Reply.TheVariants.{Done}
 use Rattle.flat_scene.specs.History.{◌▹◌}
 use Rattle.flat_states.specs.declared.state.SessionState.{SessionState}
-use Rattle.flat_states.specs.Machines.{AreEnds, Machine, entry_of}
+use Rattle.flat_links.specs.AllEnds.{AreEnds}
+use Rattle.flat_states.specs.Machines.{Machine}
+use Rattle.flat_facts.specs.Begins.{entry_of, begun, begin_entry}
 use Rattle.flat_gets.specs.Dues.{all_due}
 use Rattle.flat_rules.specs.Numbers.{number, AllNumbered}
 use Rattle.flat_states.specs.Kept.{IsKept}
@@ -22,8 +24,7 @@ use Rattle.flat_topology.specs.Fit.{FitsSetup}
 use Rattle.flat_topology.specs.Shown.{Shown}
 use Rattle.flat_rules.specs.Legal.{Legal}
 use Rattle.flat_gets.proofs.lemmas.EndSteps.{ends-other}
-use Rattle.flat_states.proofs.lemmas.ShownFits.{begun-fits}
-use Rattle.flat_states.specs.Begins.{begun, begin_entry}
+use Rattle.flat_facts.proofs.lemmas.ShownFits.{begun-fits}
 use Rattle.flat_states.proofs.lemmas.Opened.{few-declared}
 use Rattle.flat_states.proofs.lemmas.Steps.{has-room, legal-entered}
 use Rattle.flat_core.proofs.Changes.{changes-same}

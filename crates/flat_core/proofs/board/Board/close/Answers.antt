@@ -4,11 +4,13 @@ use Rattle.flat_scene.specs.declared.calls.Call.{Call}
 use Rattle.flat_scene.specs.declared.journal.Kind.TheVariants.{Close}
 use Rattle.flat_scene.specs.declared.journal.Entry.{Entry}
 use Rattle.flat_scene.specs.History.{◌▹◌, is_closed}
-use Rattle.flat_states.specs.Machines.{AreEnds, Machine, entry_of}
+use Rattle.flat_links.specs.AllEnds.{AreEnds}
+use Rattle.flat_states.specs.Machines.{Machine}
+use Rattle.flat_facts.specs.Begins.{entry_of}
 use Rattle.flat_states.specs.declared.state.Account.{Account}
 use Rattle.flat_states.specs.Kept.{IsKept}
 use Rattle.flat_rules.specs.Legal.{Legal}
-use Rattle.flat_states.specs.Viewports.{AreViewports}
+use Rattle.flat_links.specs.Viewports.{AreViewports}
 use Rattle.flat_states.specs.Presents.{with_calls}
 use Rattle.flat_states.specs.Seen.{noted, seen_of}
 use Rattle.flat_states.proofs.lemmas.Changes.{seen-closed, kept-closed, kept-noted, is-session}

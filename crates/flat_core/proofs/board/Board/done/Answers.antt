@@ -5,12 +5,12 @@ use Rattle.flat_scene.specs.declared.journal.Kind.TheVariants.{Finish}
 use Rattle.flat_scene.specs.declared.journal.Reply.TheVariants.{Done}
 use Rattle.flat_scene.specs.History.{◌▹◌}
 use Rattle.flat_scene.specs.declared.journal.Entry.{Entry}
-use Rattle.flat_states.specs.Machines.{Machine, entry_of}
-use Rattle.flat_states.specs.Begins.{finish_entry, finished}
+use Rattle.flat_states.specs.Machines.{Machine}
+use Rattle.flat_facts.specs.Begins.{entry_of, finish_entry, finished}
 use Rattle.flat_rules.specs.Legal.{Legal}
 use Rattle.flat_states.proofs.lemmas.Steps.{has-room, legal-entered, short-history}
 use Rattle.flat_gets.proofs.lemmas.BoardBegins.{kept-finished, place-small}
-use Rattle.flat_states.proofs.lemmas.Ratios.{has-display}
+use Rattle.flat_facts.proofs.lemmas.Ratios.{has-display}
 use Rattle.flat_core.proofs.DisplayRatios.{finished-least, port-kept, ratios-kept}
 use Rattle.flat_core.proofs.board.Board.done.Goals as goal
 

@@ -2,8 +2,9 @@ use Rattle.std.proofs.Common.{refl, sym, subst, ap, ◌∙◌, List}
 use Rattle.std.specs.List.{list_any}
 use Rattle.flat_scene.specs.declared.calls.Call.{Call}
 use Rattle.flat_states.specs.Machines.{Machine}
-use Rattle.flat_states.specs.Presents.{noted_in, EndsNoted}
-use Rattle.flat_states.specs.Seen.{is_new_viewport}
+use Rattle.flat_states.specs.Presents.{noted_in}
+use Rattle.flat_links.specs.AllEnds.{EndsNoted}
+use Rattle.flat_facts.specs.Lives.{is_new_viewport}
 use Rattle.flat_gets.proofs.lemmas.EndSteps.{ends-after, none-new}
 use Rattle.flat_base.specs.declared.ids.Actor.{Actor}
 use Rattle.flat_base.specs.declared.ids.Actor.TheVariants.{Session}

@@ -5,10 +5,12 @@ use Rattle.flat_scene.specs.declared.calls.Call.{Call}
 use Rattle.flat_scene.specs.declared.journal.Entry.{Entry}
 use Rattle.flat_scene.specs.declared.journal.Kind.TheVariants.{Get}
 use Rattle.flat_scene.specs.History.{◌▹◌}
-use Rattle.flat_states.specs.Machines.{Machine, entry_of}
+use Rattle.flat_states.specs.Machines.{Machine}
+use Rattle.flat_facts.specs.Begins.{entry_of}
 use Rattle.flat_rules.specs.Legal.{Legal, reply_to}
-use Rattle.flat_states.specs.Presents.{TiesNoted}
-use Rattle.flat_states.specs.Seen.{is_new_viewport, noted}
+use Rattle.flat_links.specs.AllEnds.{TiesNoted}
+use Rattle.flat_facts.specs.Lives.{is_new_viewport}
+use Rattle.flat_states.specs.Seen.{noted}
 use Rattle.flat_gets.specs.Watchers.{IsTelling}
 use Rattle.flat_gets.proofs.lemmas.EndSteps.{ends-after, none-new, noted-slice}
 use Rattle.flat_core.proofs.GetCalls.{kept-got, room-got}
@@ -16,7 +18,7 @@ use Rattle.flat_states.proofs.lemmas.Ones.{declared-of}
 use Rattle.flat_states.proofs.lemmas.Steps.{has-room, legal-entered, owed-small, room-more, short-history}
 use Rattle.flat_gets.proofs.lemmas.WatchingSteps.{asked-known, asked-replied, few-all, watched-asked}
 use Rattle.flat_core.proofs.DisplayRatios.{finished-least, port-kept, ratios-kept}
-use Rattle.flat_states.proofs.lemmas.Ratios.{has-display}
+use Rattle.flat_facts.proofs.lemmas.Ratios.{has-display}
 use Rattle.flat_core.proofs.board.Board.get.Goals as goal
 use Rattle.flat_states.proofs.lemmas.Counts.{few-if}
 

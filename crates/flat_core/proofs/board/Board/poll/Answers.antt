@@ -7,8 +7,9 @@ use Rattle.flat_scene.specs.declared.journal.Reply.TheVariants.{Polled}
 use Rattle.flat_states.specs.declared.state.Account.{Account}
 use Rattle.flat_states.specs.Machines.{Machine}
 use Rattle.flat_rules.specs.Legal.{reply_to, unread_events}
-use Rattle.flat_states.specs.Presents.{TiesNoted}
-use Rattle.flat_states.specs.Seen.{is_new_viewport, noted}
+use Rattle.flat_links.specs.AllEnds.{TiesNoted}
+use Rattle.flat_facts.specs.Lives.{is_new_viewport}
+use Rattle.flat_states.specs.Seen.{noted}
 use Rattle.flat_gets.proofs.lemmas.EndSteps.{ends-after, none-new, noted-slice}
 use Rattle.flat_states.proofs.lemmas.Ones.{kept-one}
 use Rattle.flat_core.proofs.Polled.{kept-polled}

@@ -9,9 +9,12 @@ use Rattle.flat_core.proofs.PresentSteps.{kept-after-present, count-small, prese
 use Rattle.flat_scene.specs.History.{◌▹◌}
 use Rattle.flat_rules.specs.Legal.{reply_to}
 use Rattle.flat_scene.specs.declared.journal.Kind.TheVariants.{Present}
-use Rattle.flat_states.specs.Machines.{Machine, entry_of, present_of}
-use Rattle.flat_states.specs.Presents.{present_reply, after_present, TiesNoted}
-use Rattle.flat_states.specs.Seen.{is_new_viewport, noted}
+use Rattle.flat_states.specs.Machines.{Machine, present_of}
+use Rattle.flat_facts.specs.Begins.{entry_of}
+use Rattle.flat_states.specs.Presents.{present_reply, after_present}
+use Rattle.flat_links.specs.AllEnds.{TiesNoted}
+use Rattle.flat_facts.specs.Lives.{is_new_viewport}
+use Rattle.flat_states.specs.Seen.{noted}
 use Rattle.flat_gets.proofs.lemmas.EndSteps.{ends-after, none-new, noted-slice}
 use Rattle.flat_scene.specs.declared.calls.Call.{Call}
 use Rattle.flat_gets.proofs.lemmas.WatchingSteps.{told-too, watched-after}

@@ -6,13 +6,17 @@ use Rattle.flat_scene.specs.declared.calls.Call.{Call}
 use Rattle.flat_scene.specs.declared.journal.Kind.TheVariants.{View}
 use Rattle.flat_scene.specs.declared.journal.Reply.{Reply}
 use Rattle.flat_scene.specs.History.{◌▹◌}
-use Rattle.flat_states.specs.Machines.{Machine, entry_of}
+use Rattle.flat_states.specs.Machines.{Machine}
+use Rattle.flat_facts.specs.Begins.{entry_of}
 use Rattle.flat_rules.specs.Legal.{reply_to}
-use Rattle.flat_states.specs.Presents.{use_reply, TiesNoted}
-use Rattle.flat_states.specs.Seen.{is_new_viewport, noted}
+use Rattle.flat_states.specs.Presents.{use_reply}
+use Rattle.flat_links.specs.AllEnds.{TiesNoted}
+use Rattle.flat_facts.specs.Lives.{is_new_viewport}
+use Rattle.flat_states.specs.Seen.{noted}
 use Rattle.flat_gets.proofs.lemmas.EndSteps.{ends-after, none-new, noted-slice}
 use Rattle.flat_states.proofs.lemmas.Ones.{kept-one}
-use Rattle.flat_states.proofs.lemmas.Steps.{has-room, or-false}
+use Rattle.flat_states.proofs.lemmas.Steps.{has-room}
+use Rattle.flat_facts.proofs.lemmas.Tests.{or-false}
 use Rattle.flat_states.proofs.lemmas.ViewSteps.{view-replied, view-changed, view-below, view-kept, view-due}
 use Rattle.flat_gets.proofs.lemmas.WatchingSteps.{told-too, watched-after}
 use Rattle.flat_core.proofs.board.Board.view.Goals as goal

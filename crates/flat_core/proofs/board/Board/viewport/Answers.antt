@@ -3,8 +3,9 @@ use Rattle.flat_base.specs.declared.ids.Actor.TheVariants.{Session}
 use Rattle.flat_scene.specs.declared.calls.Call.{Call}
 use Rattle.flat_scene.specs.declared.journal.Kind.TheVariants.{Viewport}
 use Rattle.flat_scene.specs.History.{◌▹◌}
-use Rattle.flat_states.specs.declared.viewports.Viewports.{Viewports}
-use Rattle.flat_states.specs.Machines.{HasRoom, Machine, entry_of}
+use Rattle.flat_links.specs.declared.viewports.Viewports.{Viewports}
+use Rattle.flat_states.specs.Machines.{HasRoom, Machine}
+use Rattle.flat_facts.specs.Begins.{entry_of}
 use Rattle.flat_gets.specs.Dues.{all_due, due_told}
 use Rattle.flat_gets.specs.Watchers.{IsJoin, is_shut}
 use Rattle.flat_scene.specs.declared.journal.Entry.{Entry}
@@ -13,7 +14,8 @@ use Rattle.std.specs.Prelude.{sum_by}
 use Rattle.flat_core.proofs.UseSteps.{shut-known}
 use Rattle.std.proofs.lemmas.Option.{slice_get_within}
 use Rattle.flat_rules.specs.Legal.{has_token, reply_to}
-use Rattle.flat_states.specs.Presents.{use_reply, IsUsed, TiesUsed}
+use Rattle.flat_states.specs.Presents.{use_reply}
+use Rattle.flat_links.specs.AllEnds.{IsUsed, TiesUsed}
 use Rattle.flat_states.specs.Seen.{noted}
 use Rattle.flat_states.proofs.lemmas.Counts.{declared-some, few-if}
 use Rattle.flat_gets.proofs.lemmas.EndSteps.{ends-same}
@@ -22,7 +24,7 @@ use Rattle.flat_states.proofs.lemmas.Steps.{has-room, owed-small, room-more, sho
 use Rattle.flat_gets.proofs.lemmas.WatchingSteps.{few-all, seldom-all}
 use Rattle.flat_core.proofs.UseSteps.{held-told, join-used, kept-used, last-uses, others-none, replied, room-used, telling-used}
 use Rattle.flat_core.proofs.DisplayRatios.{finished-least, ratios-kept}
-use Rattle.flat_states.proofs.lemmas.Ratios.{has-display}
+use Rattle.flat_facts.proofs.lemmas.Ratios.{has-display}
 use Rattle.flat_core.proofs.board.Board.viewport.Goals as goal
 
 pub overflow_add-self-inside : goal.overflow_add-self-inside

@@ -4,8 +4,9 @@ use Rattle.flat_scene.specs.declared.calls.Call.{Call}
 use Rattle.flat_scene.specs.declared.journal.Kind.TheVariants.{Wait}
 use Rattle.flat_states.specs.Machines.{Machine}
 use Rattle.flat_rules.specs.Legal.{reply_to}
-use Rattle.flat_states.specs.Presents.{noted_in, EndsNoted}
-use Rattle.flat_states.specs.Seen.{is_new_viewport}
+use Rattle.flat_states.specs.Presents.{noted_in}
+use Rattle.flat_links.specs.AllEnds.{EndsNoted}
+use Rattle.flat_facts.specs.Lives.{is_new_viewport}
 use Rattle.flat_gets.proofs.lemmas.EndSteps.{ends-after, none-new}
 use Rattle.flat_states.proofs.lemmas.Ones.{kept-quiet, plain-wait, placed-of}
 use Rattle.flat_states.proofs.lemmas.Steps.{has-room, unchanged}

@@ -3,7 +3,7 @@ use Rattle.std.specs.List.{insert}
 use Rattle.std.specs.Prelude.{is_ok, length, vec_len}
 use Rattle.flat_gets.specs.declared.gets.HeldGet.{HeldGet}
 use Rattle.flat_gets.specs.Gets.{is_held_in, place_in, with_held}
-use Rattle.flat_states.proofs.lemmas.Backs.{if-so}
+use Rattle.flat_links.proofs.lemmas.Backs.{if-so}
 use Rattle.flat_gets.proofs.GetLists.{asks-held, put-in-place}
 use Rattle.flat_gets.proofs.gets.Gets.ask.Goals as goal
 

@@ -1,6 +1,6 @@
 use Rattle.std.proofs.Common.{◌≡◌, sym, subst, ◌∙◌}
 use Rattle.flat_scene.specs.declared.setup.Setup.{Setup}
-use Rattle.flat_states.specs.Following.{AreTied}
+use Rattle.flat_links.specs.Following.{AreTied}
 use Rattle.flat_rules.specs.Legal.{Legal}
 use Rattle.flat_rules.specs.Watch.{told, child_of}
 use Rattle.flat_gets.proofs.lemmas.GetPosts.{undeclared-untold}

@@ -1,0 +1,23 @@
+-- Lemmas that other crates may cite.
+pub mod Between
+pub mod Earlier
+pub mod Foreign
+pub mod HasView
+pub mod LiveCounts
+pub mod Lives
+pub mod Ratios
+pub mod SerialSteps
+pub mod Serials
+pub mod ShownFits
+pub mod StampSteps
+pub mod Stamped
+pub mod Tests
+pub mod TokenLaw
+pub mod TokensBack
+pub mod Undeclared
+pub mod Unwatched
+pub mod Uses
+pub mod ViewCalls
+pub mod ViewHistory
+pub mod ViewLaw
+pub mod ViewUses

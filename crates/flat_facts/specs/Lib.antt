@@ -1,0 +1,5 @@
+pub mod Begins
+pub mod Clears
+pub mod Laws
+pub mod Lives
+pub mod Views

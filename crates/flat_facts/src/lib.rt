@@ -1,0 +1,20 @@
+//! What legal histories say, by definitions alone: of views and of how long they stand, of
+//! viewports that live and tokens that are out, of the serials by which trees show them,
+//! of what trees show, of pixel ratios, and of what entries post. Nothing is kept here;
+//! what the crates above keep stands for a history by these facts.
+//!
+//! The functions of laws.rt do nothing: their contracts are laws. `Live` is a viewport that
+//! lives. All else is lemmas.
+//!
+//! Other crates may cite the lemmas of proofs/lemmas/:
+//! - of histories: Between, Earlier, Ratios, SerialSteps, Serials, ShownFits, StampSteps,
+//!   Stamped, TokenLaw, TokensBack, Undeclared, Unwatched, Uses, ViewHistory, ViewLaw, ViewUses;
+//! - of drafts and calls: Foreign, LiveCounts, Lives, ViewCalls;
+//! - of sessions that have a view: HasView;
+//! - of tests: Tests.
+#![tactic(auto)]
+
+mod laws;
+pub mod live;
+
+pub use laws::{ratios_are_allowed, shown_states_fit, tokens_follow_releases, views_stand};

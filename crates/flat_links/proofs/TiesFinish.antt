@@ -1,0 +1,59 @@
+-- The end of a frame, for what is kept of sessions and pairs.
+use Rattle.std.proofs.Common.{◌≡◌, ◌∙◌, ℕ, ◌+◌, ◌<◌, true, false, List, length, refl, arith, ap, Some, None, slice_set, slice_index_or}
+use Rattle.std.specs.Prelude.{Option, option_and_then}
+use Rattle.std.specs.Result.{result_ok}
+use Rattle.flat_base.specs.declared.ids.PairNo.{PairNo}
+use Rattle.flat_base.specs.declared.ids.SessionNo.{SessionNo}
+use Rattle.flat_scene.specs.declared.calls.ViewportProps.{ViewportProps}
+use Rattle.flat_scene.specs.declared.journal.Entry.{Entry}
+use Rattle.flat_scene.specs.declared.setup.Setup.{Setup}
+use Rattle.flat_scene.specs.Effect.{draft_of}
+use Rattle.flat_links.specs.declared.following.Following.{Following}
+use Rattle.flat_links.specs.declared.pairs.PairState.{PairState}
+use Rattle.flat_facts.specs.Begins.{finished, finish_entry}
+use Rattle.flat_rules.specs.Numbers.{number, AllNumbered}
+use Rattle.flat_rules.specs.Ends.{props_of, taken_calls, to_begin, viewport_uses}
+use Rattle.flat_links.specs.Following.{AreTied, IsFollowed, IsPairKept, pair, props_pending}
+use Rattle.flat_rules.specs.Legal.{Legal}
+use Rattle.flat_links.specs.Usage.{SettlesPairs, settled}
+use Rattle.flat_rules.specs.Watch.{props_seen}
+use Rattle.flat_watch.specs.Told.{or_else}
+use Rattle.flat_links.proofs.Followed.{followed-still}
+use Rattle.flat_links.proofs.lemmas.PairIdle.{pair-still}
+use Rattle.flat_links.proofs.TiesBegin.{FollowedUpTo, followed-end, followed-here, followed-on}
+
+-- what is pending before the end of a frame is so after it
+pending-stays : (setup : Setup) (p : PairNo) (n : ℕ) (v : SessionNo) (h : List Entry) (line : ℕ) → props_pending setup p n v h ≡ props_pending setup p n v (finished h line)
+pending-stays setup p n v h line = once (option_and_then (props_of p n) (result_ok (draft_of setup (taken_calls setup (to_begin h) v)))) (props_seen setup p n v h)
+  where
+    once : (x y : Option ViewportProps) → or_else x y ≡ or_else x (or_else x y)
+    once (Some a) y = refl
+    once None y = refl
+
+module _ (setup : Setup) (h : List Entry) (line : ℕ) (legal : Legal setup (finished h line)) where
+  pair-settled : (p : PairNo) (state new : PairState) → new ≡ settled state → IsPairKept setup h p state → IsPairKept setup (finished h line) p new
+  pair-settled p state new is kept =
+      pair-still setup h (finish_entry line) legal (λ s mine. let wrong : false ≡ true = mine in cc) p refl state new
+      (ap (λ (x : PairState). x.uses) is) (ap (λ (x : PairState). x.ended) is) (ap (λ (x : PairState). x.cleared) is) (ap (λ (x : PairState). x.serial) is) (ap (λ (x : PairState). x.given) is)
+      (λ v owner. ap (λ (x : PairState). x.seen) is ∙ kept.pending v owner)
+      (λ v owner. ap (λ (x : PairState). x.pending) is ∙ kept.pending v owner ∙ pending-stays setup p (length (viewport_uses p h)) v h line) kept
+
+  -- one session more
+  pub finished-on : (i : ℕ) (followings : List Following) (was : Following) → i < length followings → was ≡ slice_index_or followings i was → AllNumbered (FollowedUpTo setup h (finished h line) i) followings
+      → AllNumbered (FollowedUpTo setup h (finished h line) (i + 1)) (slice_set followings i (let new : Following = record was { finished = was.begun } in new))
+  finished-on i followings was below is each =
+      let old : IsFollowed setup h (number i) was = followed-here setup h (finished h line) i followings was each below is in
+      let new : Following = record was { finished = was.begun } in
+      followed-on setup h (finished h line) i followings new each (followed-still setup (number i) h (finish_entry line) (λ mine. let wrong : false ≡ true = mine in cc) was new refl refl old.begun old.begun old)
+
+  -- all of them
+  pub tied-finished : (old followings : List Following) (pairs new : List PairState) → AreTied setup h old pairs → length followings ≡ setup.sessions → AllNumbered (FollowedUpTo setup h (finished h line) setup.sessions) followings
+      → SettlesPairs pairs new → AreTied setup (finished h line) followings new
+  tied-finished old followings pairs new tied count each settles = record {
+    sessions = count;
+    count = settles.count ∙ tied.count;
+    each_session = followed-end setup h (finished h line) setup.sessions followings count each;
+    each_pair = λ j d below.
+        let within : j < length pairs = omega (arith, below, settles.count) in
+        pair-settled (pair j) (slice_index_or pairs j d) (slice_index_or new j d) (settles.each j d within) (tied.each_pair j d within);
+  }

@@ -1,0 +1,116 @@
+-- What is told, by what is kept of sessions and pairs.
+use Rattle.std.proofs.Common.{◌≡◌, ◌≢◌, ◌∙◌, sym, subst, ℕ, ◌-◌, ◌<◌, ◌≤◌, Bool, true, false, List, [], length, refl, arith, ap, Some, None, slice_get, slice_index_or}
+use Rattle.std.specs.Prelude.{Option, cond, ◌&&◌, ◌||◌, option_and_then}
+use Rattle.std.specs.List.{list_any}
+use Rattle.std.proofs.lemmas.Bool.Decides.{nat_tests}
+use Rattle.flat_base.specs.declared.ids.Actor.{Actor}
+use Rattle.flat_base.specs.declared.ids.Actor.TheVariants.{Session}
+use Rattle.flat_base.specs.declared.ids.PairNo.{PairNo}
+use Rattle.flat_base.specs.declared.ids.SessionNo.{SessionNo}
+use Rattle.flat_scene.specs.declared.calls.ViewportProps.{ViewportProps}
+use Rattle.flat_scene.specs.declared.journal.Entry.{Entry}
+use Rattle.flat_scene.specs.declared.setup.PairDecl.{PairDecl}
+use Rattle.flat_scene.specs.declared.setup.Setup.{Setup}
+use Rattle.flat_scene.specs.declared.trees.Tree.{Tree}
+use Rattle.flat_scene.specs.Frames.{taken}
+use Rattle.flat_scene.specs.History.{closes, is_closed, own, presents, published_all, Published}
+use Rattle.flat_scene.specs.Setups.{is_declared}
+use Rattle.flat_scene.proofs.lemmas.TakingLemmas.{taken-made}
+use Rattle.flat_links.specs.declared.following.Following.{Following}
+use Rattle.flat_links.specs.declared.following.Sight.{Sight}
+use Rattle.flat_links.specs.declared.pairs.PairState.{PairState}
+use Rattle.flat_rules.specs.Ends.{is_viewport_lost, to_finished, view_owner, viewport_owner, viewport_uses}
+use Rattle.flat_links.specs.Following.{AreTied, IsFollowed, IsLastSight, IsPairKept, nothing}
+use Rattle.flat_rules.specs.Numbers.{AllNumbered, number}
+use Rattle.flat_states.proofs.lemmas.Counts.{at-session}
+use Rattle.flat_rules.specs.Legal.{Legal}
+use Rattle.flat_rules.specs.Shown.{is_pair, shown_view, tree_of}
+use Rattle.flat_rules.specs.Stamps.{is_seen}
+use Rattle.flat_links.specs.Views.{child_by}
+use Rattle.flat_rules.specs.Watch.{child_of, props_seen, props_told, told}
+use Rattle.flat_watch.specs.Told.{or_else}
+use Rattle.flat_facts.proofs.lemmas.Earlier.{finished-earlier, legal-earlier}
+use Rattle.flat_links.proofs.PairTold.{child-told, view-lost, viewport-lost}
+use Rattle.flat_facts.proofs.lemmas.Undeclared.{none-taken, own-none}
+
+-- ---- who isn't declared
+
+module _ (setup : Setup) (s : SessionNo) (h : List Entry) (legal : Legal setup h) where
+  finished_legal : Legal setup (to_finished h)
+  finished_legal = legal-earlier setup (to_finished h) h (finished-earlier h) legal
+
+  pub unknown-sight : is_declared setup s ≡ false → IsLastSight setup h s nothing
+  unknown-sight unknown =
+      let none : own s (to_finished h) ≡ [] = own-none setup s unknown (to_finished h) finished_legal in
+      let presents_none : length (presents s (to_finished h)) ≡ 0 = ap (λ (xs : List Entry). length (published_all xs)) none in
+      let opened : is_closed s (to_finished h) ≡ false = ap (list_any (λ (e : Entry). closes e.reply)) none in
+      let view : shown_view setup (to_finished h) s ≡ None =
+      ap (λ (o : Option Published). option_and_then (λ (t : Tree). t.view) (cond (is_closed s (to_finished h)) None (option_and_then (tree_of setup) o))) (none-taken setup s unknown (to_finished h) finished_legal)
+      ∙ both (is_closed s (to_finished h)) in
+      record {
+        closed = sym opened;
+        took = omega (arith, taken-made setup s (to_finished h), presents_none);
+        view = sym view;
+        connected = λ p. rw view refl;
+      }
+    where
+      both : (b : Bool) → option_and_then (λ (t : Tree). t.view) (cond b None None) ≡ None
+      both true = refl
+      both false = refl
+
+  -- number 0 isn't, nor is one beyond the last
+  pub zero-sight : s.0 ≡ 0 → IsLastSight setup h s nothing
+  zero-sight none = unknown-sight (grind (arith, nat_tests))
+
+  pub beyond-sight : (followings : List Following) → length followings ≡ setup.sessions → length followings ≤ s.0 - 1 → s.0 ≢ 0 → IsLastSight setup h s nothing
+  beyond-sight followings count past some = unknown-sight (by_tests (is_declared setup s) refl)
+    where
+      by_tests : (b : Bool) → is_declared setup s ≡ b → b ≡ false
+      by_tests false is = refl
+      by_tests true is = absurd (grind (arith, nat_tests))
+
+-- one of them is
+pub within-sight : (setup : Setup) (s : SessionNo) (h : List Entry) (followings : List Following) → AllNumbered (λ i. IsFollowed setup h (number i)) followings → 0 < s.0 → s.0 ≤ length followings
+    → (one : Following) → one ≡ slice_index_or followings (s.0 - 1) one → IsLastSight setup h s one.finished
+within-sight setup s h followings each some few one at =
+    let kept : IsFollowed setup h s one = at-session (IsFollowed setup h) followings s one each some few at in
+    record {
+      closed = ap (λ (g : Sight). g.closed) kept.finished;
+      took = ap (λ (g : Sight). g.taken) kept.finished;
+      view = ap (λ (g : Sight). g.view) kept.finished;
+      connected = λ p. ap (λ (g : Sight). is_pair g.view p && g.connected) kept.finished;
+    }
+
+-- ---- what is told of a pair
+
+-- what is kept of one pair
+pub pair-of : (setup : Setup) (h : List Entry) (followings : List Following) (pairs : List PairState) (p : PairNo) (state : PairState) → AreTied setup h followings pairs → p.0 < length setup.pairs → state ≡ slice_index_or pairs p.0 state → IsPairKept setup h p state
+pair-of setup h followings pairs p state tied below is = subst (IsPairKept setup h p) (sym is) (tied.each_pair p.0 state (omega (arith, below, tied.count)))
+
+owner-at : (setup : Setup) (p : PairNo) (decl : PairDecl) → slice_get setup.pairs p.0 ≡ Some decl → viewport_owner setup p ≡ Some decl.viewport
+owner-at setup p decl at = rw at refl
+
+module _ (setup : Setup) (h : List Entry) (p : PairNo) where
+  pub lost-told : (v : SessionNo) (decl : PairDecl) → slice_get setup.pairs p.0 ≡ Some decl → decl.viewport ≡ Session v → (state : PairState) → IsPairKept setup h p state → (owner : Sight) → IsLastSight setup h v owner
+      → (owner.closed || is_seen state.cleared owner.taken) ≡ is_viewport_lost setup (to_finished h) p
+  lost-told v decl at is state kept owner sight =
+      let owned : viewport_owner setup p ≡ Some (Session v) = owner-at setup p decl at ∙ ap (λ (a : Actor). Some a) is in
+      ap (λ (b : Bool). b || is_seen state.cleared owner.taken) sight.closed ∙ ap (λ (n : ℕ). is_closed v (to_finished h) || is_seen state.cleared n) sight.took
+      ∙ sym (viewport-lost setup h p v owned state.cleared (kept.cleared v owned))
+
+  pub props-kept : (v : SessionNo) (decl : PairDecl) → slice_get setup.pairs p.0 ≡ Some decl → decl.viewport ≡ Session v → (state : PairState) → IsPairKept setup h p state
+      → or_else state.seen state.given ≡ props_told setup (viewport_owner setup p) h p
+  props-kept v decl at is state kept =
+      let owned : viewport_owner setup p ≡ Some (Session v) = owner-at setup p decl at ∙ ap (λ (a : Actor). Some a) is in
+      ap (λ (o : Option ViewportProps). or_else o state.given) (kept.seen v owned) ∙ ap (or_else (props_seen setup p (length (viewport_uses p h)) v h)) kept.given
+      ∙ sym (ap (λ (o : Option Actor). props_told setup o h p) owned)
+
+  pub child-kept : (n : ℕ) (decl : PairDecl) → slice_get setup.pairs p.0 ≡ Some decl → (state : PairState) → IsPairKept setup h p state → (owner : Sight) → IsLastSight setup h decl.view owner
+      → child_by (owner.closed || is_seen state.ended owner.taken) (is_pair owner.view p) ≡ told setup h (child_of p n)
+  child-kept n decl at state kept owner sight =
+      let owned : view_owner setup p ≡ Some decl.view = rw at refl in
+      ap (λ (b : Bool). child_by (b || is_seen state.ended owner.taken) (is_pair owner.view p)) sight.closed
+      ∙ ap (λ (k : ℕ). child_by (is_closed decl.view (to_finished h) || is_seen state.ended k) (is_pair owner.view p)) sight.took
+      ∙ ap (λ (view : Option PairNo). child_by (is_closed decl.view (to_finished h) || is_seen state.ended (taken setup (to_finished h) decl.view)) (is_pair view p)) sight.view
+      ∙ ap (λ (b : Bool). child_by b (is_pair (shown_view setup (to_finished h) decl.view) p)) (sym (view-lost setup h p decl.view owned state.ended (kept.ended decl.view owned)))
+      ∙ sym (child-told setup h p decl.view n owned)

@@ -1,0 +1,19 @@
+use Rattle.std.proofs.Common.{◌≡◌, ℕ, ◌+◌, List, None, length, slice_index_or}
+use Rattle.std.specs.Prelude.{is_some}
+use Rattle.flat_scene.specs.declared.journal.Entry.{Entry}
+use Rattle.flat_facts.specs.Begins.{begun}
+use Rattle.flat_links.specs.Following.{AreTied, IsBegun, pair}
+use Rattle.flat_rules.specs.Numbers.{AllNumbered}
+use Rattle.flat_links.proofs.TiesBegin.{FollowedUpTo}
+use Rattle.flat_links.proofs.TiesSees.{PairUpTo}
+use Rattle.flat_topology.specs.Join.{is_joined}
+use Rattle.flat_links.proofs.ties.Ties.begin.Given as goal
+
+abbrev pub invariant-loop-i : goal.invariant-loop-i
+invariant-loop-i l = record {
+  count : length l.self.followings.items ≡ l.setup.sessions;
+  many : length l.self.pairs.items ≡ length l.fn.self.pairs.items;
+  followed : (h : List Entry) (line time : ℕ) → IsBegun l.setup h line time l.sessions l.shown → AreTied l.setup h l.fn.self.followings.items l.fn.self.pairs.items → AllNumbered (FollowedUpTo l.setup h (begun h line time) l.i) l.self.followings.items;
+  connected : (i : ℕ) → is_some (slice_index_or l.self.followings.distances i None) ≡ is_joined l.setup l.shown (i + 1);
+  each : (h : List Entry) (line time : ℕ) → IsBegun l.setup h line time l.sessions l.shown → AreTied l.setup h l.fn.self.followings.items l.fn.self.pairs.items → AllNumbered (λ j. PairUpTo l.setup h (begun h line time) l.i (pair j)) l.self.pairs.items;
+}

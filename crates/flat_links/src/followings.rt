@@ -1,0 +1,105 @@
+ghost use Rattle.std.specs.Prelude.{◌≡◌, ◌+◌, ◌<◌, ℕ, IfOk, None, is_some, length, replicate};
+ghost use Rattle.std.specs.Prelude.{slice_index_or, slice_set};
+ghost use Rattle.flat_topology.specs.Fit.{FitsSetup};
+ghost use Rattle.flat_topology.specs.Join.{is_joined};
+ghost use Rattle.flat_links.specs.Following.{KeptFollowings, new_following};
+
+use crate::following::{Following, Sight};
+use flat_base::NoMemory;
+use flat_scene::Setup;
+use flat_topology::{Shown, pair_of_display};
+use std::alloc::Global;
+use std::marker::Model;
+
+/// What a history without a frame says of a session.
+pub const NOTHING: Sight = Sight {
+    closed: false,
+    taken: 0,
+    view: None,
+    connected: false,
+};
+
+const NEW_FOLLOWING: Following = Following {
+    view: None,
+    contents: 0,
+    begun: NOTHING,
+    finished: NOTHING,
+};
+
+/// What is kept of all sessions, the first of them session 1, with room to find those
+/// that are connected.
+#[derive(Debug, Drop)]
+pub struct Followings {
+    each: Vec<Following>,
+    /// As it was found last: through how many others each session is connected to the
+    /// display; None where it isn't.
+    distances: Vec<Option<usize>>,
+}
+
+impl Model for Followings {
+    ghost use Rattle.std.specs.Prelude.{◌≡◌, length};
+    ghost use Rattle.flat_links.specs.Following.{KeptFollowings};
+
+    ghost Value = { KeptFollowings };
+
+    ghost view = { λ f. record { items = f.each.items; distances = f.distances.items } };
+
+    ghost invariant = { λ f. length f.distances.items ≡ length f.each.items };
+}
+
+impl Followings {
+    /// So many sessions, to which nothing happened. The room is taken here.
+    pub fn new(alloc: Global, sessions: u32) -> Result<Followings, NoMemory>
+        ensures { IfOk result (λ followings. followings.items ≡ replicate sessions new_following) }
+    {
+        let each = Vec::from_elem(alloc, NEW_FOLLOWING, sessions as usize)?;
+        let distances = Vec::from_elem(alloc, None, sessions as usize)?;
+        Ok(Followings { each, distances })
+    }
+
+    /// How many sessions there are.
+    pub fn len(&self) -> usize
+        ensures { result ≡ length self.now.items }
+    {
+        self.each.len()
+    }
+
+    /// What is kept of the session at a place.
+    pub fn at(&self, place: usize) -> Following
+        requires { place < length self.now.items }
+        ensures { result ≡ slice_index_or self.now.items place result }
+    {
+        self.each[place]
+    }
+
+    /// Keeps this of the session at a place.
+    pub fn set(&mut self, place: usize, following: Following)
+        requires { place < length self.old.items }
+        ensures items { self.new.items ≡ slice_set self.old.items place following }
+        ensures distances { self.new.distances ≡ self.old.distances }
+    {
+        self.each[place] = following;
+    }
+
+    /// Finds the sessions that are connected to the display, by what is shown. It
+    /// takes no memory.
+    pub fn find_connected(&mut self, setup: &Setup, shown: &Shown)
+        requires made { length shown.now ≡ setup.now.sessions }
+        requires all { length self.old.items ≡ length shown.now }
+        requires fit { FitsSetup setup.now shown.now }
+        ensures items { self.new.items ≡ self.old.items }
+        ensures connected { (i : ℕ) → is_some (slice_index_or self.new.distances i None)
+            ≡ is_joined setup.now shown.now (i + 1) }
+    {
+        let display = pair_of_display(setup);
+        shown.find_connected(setup, display, self.distances.as_mut_slice());
+    }
+
+    /// Whether the session at a place was found to be connected.
+    pub fn is_connected(&self, place: usize) -> bool
+        requires { place < length self.now.items }
+        ensures { result ≡ is_some (slice_index_or self.now.distances place None) }
+    {
+        self.distances[place].is_some()
+    }
+}

@@ -1,0 +1,139 @@
+ghost use Rattle.std.specs.Prelude.{◌≡◌, ◌<◌, [], ◌∷◌, length, replicate, slice_index_or, IfOk};
+ghost use Rattle.flat_links.specs.Noted.{AreNoted, KeptPairs, ListsPair, NotesPairs, new_pair};
+ghost use Rattle.flat_links.specs.Usage.{SeesUses, SettlesPairs, UsesPair};
+ghost use Rattle.flat_facts.specs.Views.{view_after};
+
+use crate::clears::note_clears;
+use crate::pairs::{PairState, note_views};
+use crate::usage::{see_use, settle_pairs, use_pair};
+use flat_base::{NoMemory, PairNo, Roomy};
+use flat_facts::live::Live;
+use flat_scene::{Call, ViewportProps, ViewportUse};
+use std::alloc::Global;
+use std::marker::Model;
+
+const NEW_PAIR: PairState = PairState {
+    ended: None,
+    uses: 0,
+    cleared: None,
+    serial: 0,
+    given: None,
+    seen: None,
+    pending: None,
+};
+
+/// What is kept of all declared pairs. Contracts see their states. The pairs that
+/// frames noted since the last one ended are listed, so that the end of a frame
+/// looks at these alone.
+#[derive(Debug, Drop)]
+pub struct PairStates {
+    states: Vec<PairState>,
+    noted: Roomy<PairNo>,
+    /// More were noted than the list has room for.
+    overflows: bool,
+}
+
+impl Model for PairStates {
+    ghost use Rattle.flat_links.specs.Noted.{AreNoted, KeptPairs};
+
+    ghost Value = { KeptPairs };
+
+    ghost view = { λ p. record { items = p.states.items } };
+
+    ghost invariant = { λ p. AreNoted p.overflows p.noted.items p.states.items };
+}
+
+impl PairStates {
+    /// So many pairs, to which nothing happened. The list's room is taken here.
+    pub fn new(alloc: Global, count: usize) -> Result<PairStates, NoMemory>
+        ensures { IfOk result (λ pairs. pairs.items ≡ replicate count new_pair) }
+    {
+        let noted = Roomy::with_capacity(alloc, count)?;
+        let states = Vec::from_elem(alloc, NEW_PAIR, count)?;
+        Ok(PairStates {
+            states,
+            noted,
+            overflows: false,
+        })
+    }
+
+    /// How many pairs there are.
+    pub fn len(&self) -> usize
+        ensures { result ≡ length self.now.items }
+    {
+        self.states.len()
+    }
+
+    /// What is kept of a pair.
+    pub fn state(&self, p: PairNo) -> PairState
+        requires { p.0 < length self.now.items }
+        ensures { result ≡ slice_index_or self.now.items p.0 result }
+    {
+        self.states[p.0 as usize]
+    }
+
+    /// Notes the calls of an entry, where its session had this view, had made so
+    /// many presents, and these viewports of it lived, before. Answers the view
+    /// after them. It takes no memory.
+    pub fn note(
+        &mut self,
+        view: Option<PairNo>,
+        calls: &[Call],
+        presents: u32,
+        live: &[Live],
+    ) -> Option<PairNo>
+        ensures view { result ≡ view_after view calls.now }
+        ensures notes { NotesPairs view calls.now presents live.now self.old.items self.new.items }
+    {
+        let after = note_views(self.states.as_mut_slice(), view, calls, presents);
+        note_clears(self.states.as_mut_slice(), live, calls, presents);
+        after
+    }
+
+    /// The viewport end of a pair is used; the viewport has that serial. It takes no
+    /// memory.
+    pub fn use_pair(&mut self, p: PairNo, serial: u64, props: ViewportProps)
+        ensures { UsesPair p serial props self.old.items self.new.items }
+    {
+        use_pair(&mut self.states, p, serial, props);
+    }
+
+    /// A frame that begins has these viewports. It takes no memory.
+    pub fn see_uses(&mut self, uses: &[ViewportUse])
+        ensures { SeesUses uses.now self.old.items self.new.items }
+    {
+        for one in uses {
+            self.see_use(one);
+        }
+    }
+
+    /// A frame that begins has this viewport.
+    fn see_use(&mut self, one: &ViewportUse)
+        ensures { SeesUses (one.now ∷ []) self.old.items self.new.items }
+    {
+        self.overflows = list_pair(&mut self.noted, self.overflows, one.pair);
+        see_use(&mut self.states, one);
+    }
+
+    /// The frame begun last ends: what was pending is seen. It looks at no pair that
+    /// nothing was noted of, and takes no memory.
+    pub fn settle(&mut self)
+        ensures { SettlesPairs self.old.items self.new.items }
+    {
+        settle_pairs(&mut self.states, self.overflows, self.noted.as_slice());
+        self.noted.clear();
+        self.overflows = false;
+    }
+}
+
+/// Lists a pair, where there is room. Answers whether more were noted than the list
+/// has room for, where it is known of the pairs before.
+fn list_pair(noted: &mut Roomy<PairNo>, overflows: bool, p: PairNo) -> bool
+    ensures { ListsPair p overflows result noted.old.items noted.new.items }
+{
+    if noted.room() == 0 {
+        return true;
+    }
+    noted.push(p);
+    overflows
+}

@@ -1,0 +1,209 @@
+ghost use Rattle.std.specs.Prelude.{◌≡◌, ℕ, ◌-◌, ◌^◌, ◌<◌, ◌≤◌, [], All, IfOk, List, length};
+ghost use Rattle.flat_scene.specs.declared.setup.Setup.{Setup};
+ghost use Rattle.flat_scene.specs.declared.journal.Entry.{Entry};
+ghost use Rattle.flat_scene.specs.History.{◌▹◌};
+ghost use Rattle.flat_topology.specs.Fit.{FitsSetup};
+ghost use Rattle.flat_topology.specs.Join.{is_joined};
+ghost use Rattle.flat_topology.specs.Shown.{state_of};
+ghost use Rattle.flat_facts.specs.Begins.{begun, finished};
+ghost use Rattle.flat_links.specs.Following.{AreTied, IsBegun, IsOwnEntry, UsesNone};
+ghost use Rattle.flat_links.specs.Following.{sight_of_state};
+ghost use Rattle.flat_rules.specs.Legal.{Legal};
+ghost use Rattle.flat_links.specs.Usage.{IsUse, NotesCalls, SeesUses, uses_if};
+
+use crate::following::{Following, Sight};
+use crate::followings::Followings;
+use crate::noted::PairStates;
+use crate::usage::count_contents;
+use flat_base::{NoMemory, PairNo, SessionNo};
+use flat_facts::live::Live;
+use flat_scene::{Call, Setup, ViewportProps};
+use flat_states::state::SessionState;
+use flat_topology::Shown;
+use std::alloc::Global;
+
+/// What the begin of a frame sees of a session, of which it knows whether it is
+/// connected.
+fn see_session(shown: &Shown, connected: bool, state: &SessionState, s: SessionNo) -> Sight
+    requires some { 0 < s.0 }
+    requires few { s.0 ≤ length shown.now }
+    requires goes { length state.now.going.items ≤ 5 }
+    ensures { (setup : Setup) → connected ≡ is_joined setup shown.now s.0 → result
+        ≡ sight_of_state setup shown.now state.now s }
+{
+    let view = match shown.state(s) {
+        Some(state) => state.view(),
+        None => None,
+    };
+    Sight {
+        closed: state.closed,
+        taken: state.taken(),
+        view,
+        connected,
+    }
+}
+
+/// What is kept of a session after the begin of a frame that saw this of it.
+fn begun_by(old: Following, sight: Sight) -> Following
+    ensures { result ≡ record old { begun = sight } }
+{
+    Following {
+        view: old.view,
+        contents: old.contents,
+        begun: sight,
+        finished: old.finished,
+    }
+}
+
+/// What is kept of a session after the end of a frame.
+fn finished_by(old: Following) -> Following
+    ensures { result ≡ record old { finished = old.begun } }
+{
+    Following {
+        view: old.view,
+        contents: old.contents,
+        begun: old.begun,
+        finished: old.begun,
+    }
+}
+
+/// A frame that begins has what is shown of a session, if it took something from it.
+fn see_taken(pairs: &mut PairStates, shown: &Shown, s: SessionNo, took: bool)
+    requires some { 0 < s.0 }
+    requires few { s.0 ≤ length shown.now }
+    ensures { SeesUses (uses_if took (state_of shown.now s.0)) pairs.old.items pairs.new.items }
+{
+    if !took {
+        return;
+    }
+    match shown.state(s) {
+        Some(state) => pairs.see_uses(state.viewports().as_slice()),
+        None => {}
+    }
+}
+
+/// What is kept of sessions and of pairs, by which the layout and the status of
+/// each pair's view, and its child, are told at once.
+#[derive(Debug, Drop)]
+pub struct Ties {
+    /// The sessions, the first of them session 1.
+    pub followings: Followings,
+    pub pairs: PairStates,
+}
+
+impl Ties {
+    /// Before any entry.
+    pub fn new(alloc: Global, setup: &Setup) -> Result<Ties, NoMemory>
+        ensures { IfOk result (λ ties. AreTied setup.now [] ties.followings.items
+            ties.pairs.items) }
+    {
+        let followings = Followings::new(alloc, setup.sessions)?;
+        let pairs = PairStates::new(alloc, setup.pairs.len())?;
+        Ok(Ties { followings, pairs })
+    }
+
+    /// Notes the calls of an entry of a session that is open, where the session had
+    /// made so many presents, and these viewports of it lived, before. It takes no
+    /// memory.
+    pub fn note(&mut self, s: SessionNo, calls: &[Call], presents: u32, live: &[Live])
+        requires some { 0 < s.0 }
+        requires few { s.0 ≤ length self.old.followings.items }
+        ensures sessions { length self.new.followings.items ≡ length self.old.followings.items }
+        ensures count { length self.new.pairs.items ≡ length self.old.pairs.items }
+        ensures tied { (setup : Setup) (h : List Entry) (e : Entry) →
+            IsOwnEntry setup h e s calls.now presents live.now → UsesNone e →
+            AreTied setup h self.old.followings.items self.old.pairs.items →
+            AreTied setup (h ▹ e) self.new.followings.items self.new.pairs.items }
+    {
+        self.note_calls(s, calls, presents, live);
+    }
+
+    /// Notes a use of the viewport end of a pair, which was done. It takes no memory.
+    pub fn use_viewport(
+        &mut self,
+        s: SessionNo,
+        calls: &[Call],
+        presents: u32,
+        live: &[Live],
+        p: PairNo,
+        props: ViewportProps,
+    )
+        requires some { 0 < s.0 }
+        requires few { s.0 ≤ length self.old.followings.items }
+        ensures sessions { length self.new.followings.items ≡ length self.old.followings.items }
+        ensures count { length self.new.pairs.items ≡ length self.old.pairs.items }
+        ensures tied { (setup : Setup) (h : List Entry) (e : Entry) →
+            IsOwnEntry setup h e s calls.now presents live.now → IsUse e p props →
+            length h < 2 ^ 32 - 1 → AreTied setup h self.old.followings.items self.old.pairs.items →
+            AreTied setup (h ▹ e) self.new.followings.items self.new.pairs.items }
+    {
+        let serial = self.note_calls(s, calls, presents, live);
+        self.pairs.use_pair(p, serial, props);
+    }
+
+    /// Notes the begin of a frame, after it took what it takes: what it sees of each
+    /// session, and of the viewports of those sessions from which it took something.
+    /// It takes no memory.
+    pub fn begin(&mut self, setup: &Setup, sessions: &[SessionState], shown: &Shown)
+        requires count { length self.old.followings.items ≡ setup.now.sessions }
+        requires all { length sessions.now ≡ setup.now.sessions }
+        requires shown { length shown.now ≡ setup.now.sessions }
+        requires goes { All (λ state. length state.going.items ≤ 5) sessions.now }
+        requires fit { FitsSetup setup.now shown.now }
+        ensures sessions { length self.new.followings.items ≡ length self.old.followings.items }
+        ensures count { length self.new.pairs.items ≡ length self.old.pairs.items }
+        ensures tied { (h : List Entry) (line time : ℕ) → IsBegun setup.now h line time sessions.now
+            shown.now → AreTied setup.now h self.old.followings.items self.old.pairs.items →
+            AreTied setup.now (begun h line time) self.new.followings.items self.new.pairs.items }
+    {
+        self.followings.find_connected(setup, shown);
+        for i in 0..setup.sessions {
+            let s = SessionNo(i + 1);
+            let connected = self.followings.is_connected(i as usize);
+            let sight = see_session(shown, connected, &sessions[i as usize], s);
+            let one = self.followings.at(i as usize);
+            let took = one.begun.taken < sight.taken;
+            self.followings.set(i as usize, begun_by(one, sight));
+            see_taken(&mut self.pairs, shown, s, took);
+        }
+    }
+
+    /// Notes the end of a frame: what its begin saw is that of the last finished
+    /// frame from now on. Of the pairs it looks at those that the begin noted. It takes
+    /// no memory.
+    pub fn finish(&mut self, setup: &Setup)
+        requires { length self.old.followings.items ≡ setup.now.sessions }
+        ensures sessions { length self.new.followings.items ≡ length self.old.followings.items }
+        ensures count { length self.new.pairs.items ≡ length self.old.pairs.items }
+        ensures tied { (h : List Entry) (line : ℕ) → Legal setup.now (finished h line) →
+            AreTied setup.now h self.old.followings.items self.old.pairs.items →
+            AreTied setup.now (finished h line) self.new.followings.items self.new.pairs.items }
+    {
+        for i in 0..setup.sessions {
+            let one = self.followings.at(i as usize);
+            self.followings.set(i as usize, finished_by(one));
+        }
+        self.pairs.settle();
+    }
+
+    /// The same but for uses. Answers how many contents the session's calls made.
+    fn note_calls(&mut self, s: SessionNo, calls: &[Call], presents: u32, live: &[Live]) -> u64
+        requires some { 0 < s.0 }
+        requires few { s.0 ≤ length self.old.followings.items }
+        ensures { NotesCalls s calls.now presents live.now result self.old.followings.items
+            self.new.followings.items self.old.pairs.items self.new.pairs.items }
+    {
+        let place = s.0 as usize - 1;
+        let old = self.followings.at(place);
+        let view = self.pairs.note(old.view, calls, presents, live);
+        let contents = count_contents(old.contents, calls);
+        let new = Following {
+            view,
+            contents,
+            begun: old.begun,
+            finished: old.finished,
+        };
+        self.followings.set(place, new);
+        contents
+    }
+}

@@ -1,5 +1,0 @@
-use Rattle.flat_states.proofs.NotedPairs.{lists-pushed}
-use Rattle.flat_states.proofs.noted.list_pair.Goals as goal
-
-pub returns : goal.returns
-returns c = lists-pushed c.args.p c.args.overflows c.args.noted.now.items _ c.push.ensures.items

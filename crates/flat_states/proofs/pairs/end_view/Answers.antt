@@ -1,5 +1,0 @@
-use Rattle.flat_states.proofs.ViewMarks.{ends-no-view}
-use Rattle.flat_states.proofs.pairs.end_view.Goals as goal
-
-pub returns-in-None : goal.returns-in-None
-returns-in-None c = rw c.in-None.is (ends-no-view c.args.presents c.args.pairs.now)

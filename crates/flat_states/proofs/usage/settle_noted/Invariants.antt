@@ -1,6 +1,0 @@
-use Rattle.std.proofs.Common.{drop}
-use Rattle.flat_states.proofs.NotedPairs.{SettledBut}
-use Rattle.flat_states.proofs.usage.settle_noted.Given as goal
-
-abbrev pub invariant-loop-p : goal.invariant-loop-p
-invariant-loop-p l = SettledBut (drop l.p-index l.noted) l.fn.pairs.items l.pairs.items
