@@ -2,17 +2,16 @@ ghost use Rattle.std.specs.Prelude.{◌≡◌, ◌≤◌, ◌==◌, ◌<◌, ◌
 ghost use Rattle.std.specs.Prelude.{unwrap_or, slice_get, Err, OnOk, OnErr, IfSome};
 ghost use Rattle.flat_text.specs.Pieces.{words_of};
 ghost use Rattle.flat_places.specs.Names.{place_of, session_named};
-ghost use Rattle.flat_text.specs.Number.{natural, signed};
 ghost use Rattle.flat_script.specs.declared.script.ScriptError.TheVariants.{Memory};
 ghost use Rattle.flat_extra.specs.Reading.{has_room, session_at, focus_line, all_read, Reads};
 ghost use Rattle.flat_extra.specs.Reading.{Takes, is_word_at, pointer_in, pointer_at, units_in};
 ghost use Rattle.flat_extra.specs.Reading.{units_at, may_be, has_numbers, word_count, pointer_call};
 ghost use Rattle.flat_extra.specs.Reading.{pointer_line};
 
-use crate::split::{ExtraLine, ExtraList, is_word};
+use crate::split::{ExtraLine, ExtraList};
 use flat_base::{Items, SESSIONS_MAX, SessionNo};
 use flat_focus::{FocusLine, FocusLines};
-use flat_places::{FaultKind, NameList, Script};
+use flat_places::{FaultKind, NameList, Script, is_word};
 use flat_pointer::{POINTERS, PointerCall, PointerLine, PointerLines};
 use flat_script::{ScriptError, ScriptFault};
 use flat_text::{read_natural, read_number, word};
@@ -27,7 +26,7 @@ fn place_of(names: &NameList, name: &[u8]) -> Option<usize>
     ensures within { IfSome result (λ i. i < length names.now) }
 {
     let names = names.as_slice();
-    names.iter().position(|one| is_word(one.as_slice(), name))
+    names.iter().position(|one| one.as_slice() == name)
 }
 
 /// The session of that name.
@@ -141,7 +140,7 @@ pub fn read_focus(
 // ---- pointers
 
 /// Whether a line has that word at a place.
-fn is_at(line: &[u8], i: usize, text: &[u8]) -> bool
+fn is_at(line: &[u8], i: usize, text: &str) -> bool
     ensures { result ≡ is_word_at text.now (words_of line.now) i }
 {
     match word(line, i) {
@@ -153,7 +152,7 @@ fn is_at(line: &[u8], i: usize, text: &[u8]) -> bool
 fn pointer_in(word: &[u8]) -> Option<u8>
     ensures { result ≡ pointer_in word.now }
 {
-    let number = natural_in(word)?;
+    let number = read_natural(word)?;
     if number < POINTERS as u128 {
         Some(number as u8)
     } else {
@@ -161,22 +160,10 @@ fn pointer_in(word: &[u8]) -> Option<u8>
     }
 }
 
-fn natural_in(word: &[u8]) -> Option<u128>
-    ensures { result ≡ natural word.now }
-{
-    read_natural(word)
-}
-
-fn signed_in(word: &[u8]) -> Option<i128>
-    ensures { result ≡ signed word.now }
-{
-    read_number(word)
-}
-
 fn units_in(word: &[u8]) -> Option<i32>
     ensures { result ≡ units_in word.now }
 {
-    i32::try_from(signed_in(word)?).ok()
+    i32::try_from(read_number(word)?).ok()
 }
 
 /// The pointer that a line names, if the word is there.
@@ -216,7 +203,7 @@ fn has_numbers(line: &[u8]) -> bool
     ensures { result ≡ has_numbers (words_of line.now) }
 {
     may_be_pointer(line)
-        && (is_at(line, 1, b"Up") || (may_be_units(line, 3) && may_be_units(line, 4)))
+        && (is_at(line, 1, "Up") || (may_be_units(line, 3) && may_be_units(line, 4)))
 }
 
 /// How many words a line has, by its second one.
@@ -224,7 +211,7 @@ fn word_count(line: &[u8]) -> usize
     ensures count { result ≡ word_count (words_of line.now) }
     ensures some { 0 < result }
 {
-    if is_at(line, 1, b"Up") { 3 } else { 5 }
+    if is_at(line, 1, "Up") { 3 } else { 5 }
 }
 
 fn units_or_none(line: &[u8], i: usize) -> i32
@@ -236,12 +223,12 @@ fn units_or_none(line: &[u8], i: usize) -> i32
 fn pointer_call(line: &[u8]) -> PointerCall
     ensures { result ≡ pointer_call (words_of line.now) }
 {
-    if is_at(line, 1, b"Up") {
+    if is_at(line, 1, "Up") {
         return PointerCall::Up;
     }
     let x = units_or_none(line, 3);
     let y = units_or_none(line, 4);
-    if is_at(line, 1, b"Down") {
+    if is_at(line, 1, "Down") {
         PointerCall::Down { x, y }
     } else {
         PointerCall::Move { x, y }
@@ -254,7 +241,7 @@ fn pointer_line(before: usize, line: &ExtraLine) -> Result<PointerLine, FaultKin
     ensures { result ≡ pointer_line before line.now }
 {
     let text = line.text.as_slice();
-    if !is_at(text, 0, b"display") {
+    if !is_at(text, 0, "display") {
         return Err(FaultKind::UnknownActor);
     }
     if !has_numbers(text) {

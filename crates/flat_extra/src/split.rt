@@ -1,12 +1,12 @@
 ghost use Rattle.std.specs.Prelude.{◌≡◌, ◌≤◌, [], ◌∷◌, ◌++◌, ◌&&◌, ◌||◌, length, cond, OnOk, IfOk};
 ghost use Rattle.std.specs.List.{list_all};
-ghost use Rattle.std.specs.Str.{bytes_eq};
 ghost use Rattle.flat_text.specs.Pieces.{words_of};
 ghost use Rattle.flat_script.specs.Grammar.{is_plain, is_skipped};
 ghost use Rattle.flat_extra.specs.Extra.{is_call, has_call, is_extra, is_run, rest_line, rest_of};
 ghost use Rattle.flat_extra.specs.Extra.{if_extra, extra_of};
 
 use flat_base::{Items, LINE_BYTES_MAX, NoMemory, SCRIPT_BYTES_MAX};
+use flat_places::is_word;
 use flat_script::{all_plain, is_skipped};
 use flat_text::{next_piece, word};
 use std::alloc::Global;
@@ -57,21 +57,12 @@ impl Split {
     }
 }
 
-/// Whether a word is that text.
-pub fn is_word(word: &[u8], text: &[u8]) -> bool
-    ensures { result ≡ bytes_eq word.now text.now }
-{
-    word == text
-}
-
 fn is_call(set: ExtraSet, word: &[u8]) -> bool
     ensures { result ≡ is_call set word.now }
 {
     match set {
-        ExtraSet::Focus => is_word(word, b"Focus"),
-        ExtraSet::Pointer => is_word(word, b"Down")
-            || is_word(word, b"Move")
-            || is_word(word, b"Up"),
+        ExtraSet::Focus => is_word(word, "Focus"),
+        ExtraSet::Pointer => is_word(word, "Down") || is_word(word, "Move") || is_word(word, "Up"),
     }
 }
 
@@ -100,7 +91,7 @@ fn is_extra_behind(begun: bool, set: ExtraSet, line: &[u8]) -> bool
 fn has_begun(begun: bool, line: &[u8]) -> bool
     ensures { result ≡ (begun || is_run line.now) }
 {
-    begun || is_word(line, b"run")
+    begun || is_word(line, "run")
 }
 
 /// Puts what stands in the rest in place of a line.

@@ -1,5 +1,5 @@
 ghost use Rattle.std.specs.Prelude.{◌≡◌, ◌≤◌, ◌<◌, [], ◌∷◌, ◌++◌, length, map, nat_lt, take_while};
-ghost use Rattle.std.specs.Prelude.{codes, OnOk, IfOk};
+ghost use Rattle.std.specs.Prelude.{OnOk, IfOk};
 ghost use Rattle.std.specs.List.{list_all};
 ghost use Rattle.flat_page.specs.Happenings.{finished, said, count_before, merged, after_all};
 ghost use Rattle.flat_page.specs.Happenings.{all_lines};
@@ -143,26 +143,6 @@ fn push_ask_line(
     Ok(())
 }
 
-fn push_total(page: &mut Page, requests: usize) -> Result<(), NoMemory>
-    ensures { OnOk result (Writes (codes "ends" ∷ codes "requests" ∷ number requests ∷ []) page.old
-        page.new) }
-{
-    page.word(b"ends")?;
-    page.word(b"requests")?;
-    page.count(requests as u64)?;
-    Ok(())
-}
-
-/// The last line.
-fn push_end(page: &mut Page, requests: usize) -> Result<(), NoMemory>
-    ensures { OnOk result (WritesLines (end_line requests ∷ []) page.old page.new) }
-{
-    page.put(b"focus")?;
-    push_total(page, requests)?;
-    page.put(b"\n")?;
-    Ok(())
-}
-
 /// A frame is finished.
 fn push_frame(
     page: &mut Page,
@@ -281,7 +261,7 @@ fn push_text(
 {
     let mut focus = Focus::new(alloc, sessions)?;
     push_happenings(page, names, &mut focus, dones, frames, lines)?;
-    push_end(page, lines.len())?;
+    page.ends(b"focus", b"requests", lines.len())?;
     Ok(())
 }
 

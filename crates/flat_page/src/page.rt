@@ -1,9 +1,9 @@
 ghost use Rattle.std.specs.Prelude.{◌≡◌, ◌≤◌, ◌+◌, [], ◌∷◌, ◌++◌, ℕ, List, length, false, OnOk};
-ghost use Rattle.std.specs.Prelude.{IfOk};
+ghost use Rattle.std.specs.Prelude.{IfOk, codes};
 ghost use Rattle.std.specs.Fmt.{decimal, signed_decimal};
 ghost use Rattle.flat_page.specs.Words.{number, numbers};
 ghost use Rattle.flat_page.specs.Pages.{HasRoom, IsText, StandsAt, bytes_of, is_counting, Puts};
-ghost use Rattle.flat_page.specs.Pages.{Writes};
+ghost use Rattle.flat_page.specs.Pages.{Writes, WritesLines};
 
 use crate::digits::{NUMBER_BYTES, count_length, place_length, write_count, write_place};
 use flat_base::NoMemory;
@@ -194,5 +194,26 @@ impl Page {
     {
         self.count(a as u64)?;
         self.count(b as u64)
+    }
+
+    fn total(&mut self, what: &[u8], count: usize) -> Result<(), NoMemory>
+        ensures { OnOk result
+            (Writes (codes "ends" ∷ what.now ∷ number count ∷ []) self.old self.new) }
+    {
+        self.word(b"ends")?;
+        self.word(what)?;
+        self.count(count as u64)?;
+        Ok(())
+    }
+
+    /// Puts the last line of a text: the text's word, and of what it has so many.
+    pub fn ends(&mut self, text: &[u8], what: &[u8], count: usize) -> Result<(), NoMemory>
+        ensures { OnOk result (WritesLines
+            ((text.now ∷ codes "ends" ∷ what.now ∷ number count ∷ []) ∷ []) self.old self.new) }
+    {
+        self.put(text)?;
+        self.total(what, count)?;
+        self.put(b"\n")?;
+        Ok(())
     }
 }

@@ -204,26 +204,6 @@ fn push_title(page: &mut Page, frame: u32) -> Result<(), NoMemory>
     Ok(())
 }
 
-fn push_total(page: &mut Page, lines: usize) -> Result<(), NoMemory>
-    ensures { OnOk result (Writes (codes "ends" ∷ codes "lines" ∷ number lines ∷ []) page.old
-        page.new) }
-{
-    page.word(b"ends")?;
-    page.word(b"lines")?;
-    page.count(lines as u64)?;
-    Ok(())
-}
-
-/// The last line.
-fn push_end(page: &mut Page, lines: usize) -> Result<(), NoMemory>
-    ensures { OnOk result (WritesLines (end_line lines ∷ []) page.old page.new) }
-{
-    page.put(b"pointer")?;
-    push_total(page, lines)?;
-    page.put(b"\n")?;
-    Ok(())
-}
-
 /// What a pointer's line is answered.
 fn answer(pointers: &mut Pointers, touch: &Touch) -> PointerAnswer
     requires { touch.now.line.pointer < POINTERS }
@@ -362,7 +342,7 @@ fn push_text(
 {
     let mut pointers = Pointers::new();
     push_happenings(page, names, &mut pointers, dones, frames, touches)?;
-    push_end(page, touches.len())?;
+    page.ends(b"pointer", b"lines", touches.len())?;
     Ok(())
 }
 

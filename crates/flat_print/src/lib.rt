@@ -11,4 +11,5 @@ mod print_lines;
 mod print_words;
 mod printer;
 
+pub use print_words::{flip_number, interaction_number};
 pub use printer::print;

@@ -168,6 +168,7 @@ pub fn blend_number(blend: BlendMode) -> u64
     }
 }
 
+/// The number of a flip in a text.
 pub fn flip_number(flip: ImageFlip) -> u64
     ensures { result ≡ flip_number flip }
 {
@@ -178,6 +179,7 @@ pub fn flip_number(flip: ImageFlip) -> u64
     }
 }
 
+/// The number of an interaction in a text.
 pub fn interaction_number(interaction: Interaction) -> u64
     ensures { result ≡ interaction_number interaction }
 {

@@ -9,9 +9,9 @@ use Rattle.flat_rules.specs.Ends.{to_begin, to_finished}
 use Rattle.flat_rules.specs.Legal.{LegalEntry, frames}
 use Rattle.flat_rules.specs.Posts.{Sent, posted}
 use Rattle.flat_places.specs.declared.script.Script.{Script}
-use Rattle.flat_report.specs.EntryLines.{entry_line, event_line}
-use Rattle.flat_report.specs.FrameLines.{frame_lines, lost_line}
-use Rattle.flat_report.specs.Report.{frame_at, hits_at, lost_at, shown_lines, entry_lines}
+use Rattle.flat_lines.specs.EntryLines.{entry_line, event_line}
+use Rattle.flat_lines.specs.FrameLines.{frame_lines, lost_line, lost_at}
+use Rattle.flat_report.specs.Report.{frame_at, hits_at, shown_lines, entry_lines}
 use Rattle.flat_page.specs.Words.{Word}
 use Rattle.flat_report.proofs.Losses.{AgreeTo, is_small, losses-told, all-at}
 use Rattle.flat_report.proofs.Named.{IsNamed, Acts, acts, same-actor}

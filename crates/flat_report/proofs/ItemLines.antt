@@ -9,7 +9,7 @@ use Rattle.flat_page.specs.declared.page.Page.{Page}
 use Rattle.flat_page.specs.Pages.{WritesLines, bytes_of, is_counting}
 use Rattle.flat_page.proofs.lemmas.PageLemmas.{longer, no_lines, same_lines, then_lines}
 use Rattle.flat_report.specs.declared.item_lines.Part.{Part}
-use Rattle.flat_report.specs.FrameLines.{item_line}
+use Rattle.flat_lines.specs.FrameLines.{item_line}
 use Rattle.flat_report.specs.ItemLines.{HasLine, HaveLines, StandsIn, line_text}
 use Rattle.flat_report.specs.Pieces.{text_on}
 use Rattle.flat_report.proofs.Paging.{grown, long-on, still}

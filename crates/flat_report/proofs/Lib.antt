@@ -4,6 +4,7 @@ pub mod Examples
 pub mod FewFrames
 pub mod ItemLines
 pub mod Losses
+pub mod MoreExamples
 pub mod Named
 pub mod Openings
 pub mod Paging

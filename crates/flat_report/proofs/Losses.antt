@@ -7,8 +7,8 @@ use Rattle.std.proofs.lemmas.List.{append_cancel_left}
 use Rattle.flat_scene.specs.declared.frames.Lost.{Lost}
 use Rattle.flat_scene.specs.declared.journal.Entry.{Entry}
 use Rattle.flat_rules.specs.Legal.{frames}
-use Rattle.flat_report.specs.FrameLines.{lost_line}
-use Rattle.flat_report.specs.Report.{lost_at, is_lost_before, is_loss}
+use Rattle.flat_lines.specs.FrameLines.{lost_line, lost_at}
+use Rattle.flat_report.specs.Report.{is_lost_before, is_loss}
 use Rattle.flat_page.specs.Words.{number}
 use Rattle.flat_report.proofs.Openings.{NoLoss, lost_words}
 use Rattle.flat_report.proofs.Sheets.{laid, line_on, sheet, laid-same, told-next, number-word}

@@ -17,8 +17,8 @@ use Rattle.flat_scene.specs.declared.journal.Reply.{Reply}
 use Rattle.flat_scene.specs.declared.journal.Reply.TheVariants as reply
 use Rattle.flat_rules.specs.Legal.{LegalEntry, may_act, display_may, reply_to, asked_of, value_of}
 use Rattle.flat_places.specs.declared.script.Script.{Script}
-use Rattle.flat_report.specs.EntryLines.{entry_line, event_line, said_words, answer_words}
-use Rattle.flat_report.specs.FrameLines.{lost_line}
+use Rattle.flat_lines.specs.EntryLines.{entry_line, event_line, said_words, answer_words}
+use Rattle.flat_lines.specs.FrameLines.{lost_line}
 use Rattle.flat_page.specs.Words.{Word, number, session_name, actor_name}
 use Rattle.flat_report.proofs.Named.{IsNamed, Acts, acts, actor-word, not-display, session-proper}
 use Rattle.flat_report.proofs.Sheets.{laid, line_on, told, told-next, is_word, number-word, number-digits, is_digit}

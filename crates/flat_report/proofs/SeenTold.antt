@@ -14,7 +14,7 @@ use Rattle.flat_scene.specs.declared.script.Body.TheVariants as body
 use Rattle.flat_scene.specs.declared.script.ProbeLine.TheVariants as probe
 use Rattle.flat_scene.specs.declared.script.ScriptLine.{ScriptLine}
 use Rattle.flat_places.specs.declared.script.Script.{Script}
-use Rattle.flat_report.specs.EntryLines.{hit_words, said_words}
+use Rattle.flat_lines.specs.EntryLines.{hit_words, said_words}
 use Rattle.flat_report.specs.Report.{begin_of, hits_at, is_probe, probe_lines_of, probe_lines, numbers_from, seen_words, seen_line}
 use Rattle.flat_page.specs.Words.{Word, number, name_at, actor_name}
 use Rattle.flat_report.specs.Probes.{is_asking}

@@ -12,8 +12,9 @@ use Rattle.flat_places.specs.declared.script.Script.{Script}
 use Rattle.flat_report.specs.declared.probes.ProbeAnswer.{ProbeAnswer}
 use Rattle.flat_report.specs.declared.report.HitAnswer.{HitAnswer}
 use Rattle.flat_page.specs.Words.{text_of}
-use Rattle.flat_report.specs.EntryLines.{entry_line}
-use Rattle.flat_report.specs.Handed.{answers_text, end_line, first_hits, first_posts, handed_text, handed_entries}
+use Rattle.flat_lines.specs.EntryLines.{entry_line}
+use Rattle.flat_report.specs.Handed.{answers_text, first_hits, first_posts, handed_text, handed_entries}
+use Rattle.flat_lines.specs.Ends.{end_line}
 
 module _ (s : SessionNo) (event : Event) where
   abbrev post : ℕ → Post

@@ -9,7 +9,7 @@ use Rattle.flat_page.proofs.lemmas.LastItems.{last-more}
 use Rattle.flat_page.proofs.lemmas.PageLemmas.{then_lines, same_lines}
 use Rattle.flat_report.specs.declared.frame_texts.FrameTexts.{FrameTexts}
 use Rattle.flat_report.specs.declared.item_lines.Part.{Part}
-use Rattle.flat_report.specs.FrameLines.{frame_lines, item_line, view_line, apart_line}
+use Rattle.flat_lines.specs.FrameLines.{frame_lines, item_line, view_line, apart_line}
 use Rattle.flat_report.specs.FrameTexts.{AreTexts, frame_text}
 use Rattle.flat_report.specs.ItemLines.{AreLines, HaveLines}
 use Rattle.flat_report.specs.Pieces.{text_on}

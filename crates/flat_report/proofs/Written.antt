@@ -13,7 +13,8 @@ use Rattle.flat_places.specs.declared.script.Script.{Script}
 use Rattle.flat_report.specs.declared.probes.ProbeAnswer.{ProbeAnswer}
 use Rattle.flat_report.specs.declared.report.HitAnswer.{HitAnswer}
 use Rattle.flat_report.specs.FrameTexts.{frame_text}
-use Rattle.flat_report.specs.Handed.{answers_of, answers_text, texts_after, answers_after, end_line, first_posts, handed_text, handed_entries, title_line}
+use Rattle.flat_report.specs.Handed.{answers_of, answers_text, texts_after, answers_after, first_posts, handed_text, handed_entries}
+use Rattle.flat_lines.specs.Ends.{end_line, title_line}
 use Rattle.flat_report.specs.Laws.{HandedIsReport}
 use Rattle.flat_report.specs.Probes.{frames_seen}
 use Rattle.flat_report.specs.Report.{finished, history_lines, entry_lines, seen_line, probe_lines}

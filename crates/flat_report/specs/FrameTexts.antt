@@ -5,7 +5,7 @@ use Rattle.flat_scene.specs.declared.frames.FrameOut.{FrameOut}
 use Rattle.flat_places.specs.declared.script.Script.{Script}
 use Rattle.flat_page.specs.Words.{text_of}
 use Rattle.flat_report.specs.declared.frame_texts.FrameTexts.{FrameTexts}
-use Rattle.flat_report.specs.FrameLines.{frame_lines}
+use Rattle.flat_lines.specs.FrameLines.{frame_lines}
 use Rattle.flat_report.specs.ItemLines.{AreLines}
 
 -- the text of a frame's own lines

@@ -16,10 +16,11 @@ use Rattle.flat_rules.specs.Legal.{frames}
 use Rattle.flat_places.specs.declared.script.Script.{Script}
 use Rattle.flat_report.specs.declared.probes.ProbeAnswer.{ProbeAnswer}
 use Rattle.flat_report.specs.declared.report.HitAnswer.{HitAnswer}
-use Rattle.flat_report.specs.EntryLines.{entry_line, event_line, point_words}
-use Rattle.flat_report.specs.FrameLines.{lost_line}
+use Rattle.flat_lines.specs.EntryLines.{entry_line, point_words, post_line}
+use Rattle.flat_lines.specs.Ends.{end_line, title_line}
+use Rattle.flat_lines.specs.FrameLines.{lost_at, lost_line}
 use Rattle.flat_report.specs.Probes.{frame_seen}
-use Rattle.flat_report.specs.Report.{hits_at, lost_at}
+use Rattle.flat_report.specs.Report.{hits_at}
 use Rattle.flat_page.specs.Words.{Word, number, text_of, actor_name}
 
 -- the answer to an entry that asks for a point, where the last finished frame has this number and these hits
@@ -31,10 +32,6 @@ answer_to entry n hits _ = []
 abbrev pub answers_of : Setup → List Entry → List HitAnswer
 answers_of setup [] = []
 answers_of setup (before ▹ entry) = answers_of setup before ++ answer_to entry (frames before) (hits_at setup (to_finished before)) entry.kind
-
--- the line of an event that was posted
-abbrev pub post_line : Script → Post → List Word
-post_line script post = event_line script post.session post.event
 
 -- the hits of the first answer
 abbrev pub first_hits : List HitAnswer → List Hit
@@ -71,14 +68,6 @@ handed_text script lost finished texts answers posts entry =
 -- how many of some posts, from the first, are of the entry at a place
 abbrev pub first_posts : ℕ → List Post → ℕ
 first_posts place posts = length (take_while (λ post. post.entry == place) posts)
-
--- the first line, of a script of that version
-abbrev pub title_line : ℕ → List Word
-title_line version = codes "report" ∷ codes "flatland" ∷ number version ∷ []
-
--- the last line, after so many entries and finished frames
-abbrev pub end_line : ℕ → ℕ → List Word
-end_line entries finished = codes "report" ∷ codes "ends" ∷ codes "entries" ∷ number entries ∷ codes "frames" ∷ number finished ∷ []
 
 -- what is said of an answer behind the number of its line, by what the line asks
 abbrev pub probe_words : Script → ProbeLine → ℕ → List Hit → List Word

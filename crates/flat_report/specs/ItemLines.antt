@@ -6,7 +6,7 @@ use Rattle.flat_places.specs.declared.script.Script.{Script}
 use Rattle.flat_page.specs.Words.{text_of}
 use Rattle.flat_report.specs.declared.item_lines.ItemLines.{ItemLines}
 use Rattle.flat_report.specs.declared.item_lines.Part.{Part}
-use Rattle.flat_report.specs.FrameLines.{item_line}
+use Rattle.flat_lines.specs.FrameLines.{item_line}
 
 -- the text of an item's line
 abbrev pub line_text : Script → DrawItem → List ℕ

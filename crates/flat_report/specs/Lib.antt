@@ -1,10 +1,7 @@
-pub mod EntryLines
-pub mod FrameLines
 pub mod FrameTexts
 pub mod Handed
 pub mod ItemLines
 pub mod Laws
-pub mod Names
 pub mod Pieces
 pub mod Probes
 pub mod Report

@@ -22,8 +22,9 @@ use Rattle.flat_places.specs.declared.script.Script.{Script}
 use Rattle.flat_topology.specs.Draw.{draw_list}
 use Rattle.flat_topology.specs.Hits.{hit_list}
 use Rattle.flat_topology.specs.Views.{view_tree}
-use Rattle.flat_report.specs.EntryLines.{event_line, entry_line, point_words}
-use Rattle.flat_report.specs.FrameLines.{frame_lines, lost_line}
+use Rattle.flat_lines.specs.Ends.{end_line, title_line}
+use Rattle.flat_lines.specs.EntryLines.{event_line, entry_line, point_words}
+use Rattle.flat_lines.specs.FrameLines.{frame_lines, lost_at, lost_line}
 use Rattle.flat_page.specs.Words.{Word, number, text_of, actor_name}
 
 -- ---- frames
@@ -51,10 +52,6 @@ abbrev pub hits_at : Setup → List Entry → ℤ → ℤ → List Hit
 hits_at setup begun = hit_list (setup_at setup begun) (shown_states setup begun)
 
 -- ---- entries
-
--- the displays that were lost at the frame of a number
-abbrev pub lost_at : ℕ → List Lost → List Lost
-lost_at n = filter (λ lost. lost.frame.0 == n)
 
 -- what stands between a done line and its events: the frame, and the displays lost at it
 abbrev pub shown_lines : Script → List Lost → List Entry → List (List Word)
@@ -103,9 +100,9 @@ seen_line script history (line, frame) = actor_name script line.actor ∷ number
 -- the lines of the report, where these displays were lost and the probes' lines saw these frames
 abbrev pub report_lines : Script → List Entry → List Lost → List ℕ → List (List Word)
 report_lines script history lost seen =
-    (codes "report" ∷ codes "flatland" ∷ number script.setup.version ∷ [])
+    title_line script.setup.version
     ∷ history_lines script lost history ++ map (seen_line script history) (zip (probe_lines script) seen)
-    ++ (codes "report" ∷ codes "ends" ∷ codes "entries" ∷ number (length history) ∷ codes "frames" ∷ number (frames history) ∷ []) ∷ []
+    ++ end_line (length history) (frames history) ∷ []
 
 -- the report
 abbrev pub report : Script → List Entry → List Lost → List ℕ → List ℕ

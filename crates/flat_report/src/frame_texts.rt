@@ -7,9 +7,9 @@ ghost use Rattle.flat_base.specs.Last.{last_item};
 ghost use Rattle.flat_scene.specs.declared.frames.FrameOut.{FrameOut};
 ghost use Rattle.flat_report.specs.FrameTexts.{AreTexts};
 
-use crate::frame_words::push_tree;
 use crate::item_lines::ItemLines;
 use flat_base::{Items, NoMemory};
+use flat_lines::push_tree;
 use flat_page::Page;
 use flat_places::Script;
 use flat_scene::FrameOut;

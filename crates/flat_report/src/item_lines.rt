@@ -3,13 +3,13 @@
 ghost use Rattle.std.specs.Prelude.{◌≡◌, ◌+◌, [], ◌∷◌, List, ℕ, length, map, false, None, IfOk};
 ghost use Rattle.std.specs.Prelude.{IfSome, OnOk};
 ghost use Rattle.flat_page.specs.Pages.{is_counting, WritesLines};
-ghost use Rattle.flat_report.specs.FrameLines.{item_line};
+ghost use Rattle.flat_lines.specs.FrameLines.{item_line};
 ghost use Rattle.flat_report.specs.ItemLines.{AreLines, HaveLines, StandsIn, items_of, line_text};
 ghost use Rattle.flat_report.specs.Pieces.{text_on};
 
-use crate::frame_words::push_item;
 use flat_base::NoMemory;
 use flat_drawable::is_same;
+use flat_lines::push_item;
 use flat_page::Page;
 use flat_places::Script;
 use flat_scene::{DrawItem, FrameOut};

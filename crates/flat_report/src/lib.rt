@@ -2,23 +2,18 @@
 //!
 //! It keeps `report` (specs/Report), which is what `print_report` writes of what it is
 //! handed (`handed_report`, specs/Handed) where that is what the rules say of the history.
-//! report.rt goes through the journal; lines stand in entry_lines.rt, entry_words.rt,
-//! probe_lines.rt and ends.rt, those of frames in frame_words.rt and item_lines.rt; the
-//! texts of finished frames are kept in frame_texts.rt, and the report's own is put
-//! together in paged_text.rt.
+//! report.rt goes through the journal, with the lines of flat_lines; what probes are
+//! answered is in probes.rt, and their lines in probe_lines.rt; the texts of finished frames
+//! are kept in frame_texts.rt, with the lines of draw items copied from frame to frame in
+//! item_lines.rt, and the report's own text is put together in paged_text.rt.
 //!
 //! Other crates may cite the lemmas of proofs/lemmas/: what answers to probes are after
 //! one answer more, and after more entries (ProbeSteps).
 #![tactic(auto)]
 
-mod ends;
-mod entry_lines;
-mod entry_words;
 mod frame_texts;
-mod frame_words;
 mod item_lines;
 mod laws;
-mod names;
 mod paged_text;
 mod pieces;
 mod probe_lines;

@@ -4,19 +4,17 @@
 ghost use Rattle.std.specs.Prelude.{◌≡◌, ◌<◌, ◌^◌, ◌-◌, ◌∷◌, ◌++◌, [], map, false, IfOk, OnOk};
 ghost use Rattle.flat_page.specs.Pages.{Puts, is_counting};
 ghost use Rattle.flat_page.specs.Words.{text_of};
-ghost use Rattle.flat_report.specs.EntryLines.{entry_line};
-ghost use Rattle.flat_report.specs.FrameLines.{lost_line};
-ghost use Rattle.flat_report.specs.Handed.{answer_line, end_line, post_line, title_line};
+ghost use Rattle.flat_lines.specs.Ends.{end_line, title_line};
+ghost use Rattle.flat_lines.specs.EntryLines.{entry_line, post_line};
+ghost use Rattle.flat_lines.specs.FrameLines.{lost_at, lost_line};
+ghost use Rattle.flat_report.specs.Handed.{answer_line};
 ghost use Rattle.flat_report.specs.Pieces.{text_on};
-ghost use Rattle.flat_report.specs.Report.{lost_at};
 
-use crate::ends::{push_end, push_title};
-use crate::entry_lines::{push_entry, push_posts};
-use crate::frame_words::push_losses;
 use crate::pieces::Pieces;
 use crate::probe_lines::push_probe_line;
 use crate::probes::ProbeAnswer;
 use flat_base::{Items, NoMemory};
+use flat_lines::{push_end, push_entry, push_losses, push_posts, push_title};
 use flat_page::Page;
 use flat_places::Script;
 use flat_scene::{Entry, Hit, Lost, Post};

@@ -5,9 +5,9 @@ ghost use Rattle.flat_page.specs.Words.{number};
 ghost use Rattle.flat_report.specs.Handed.{answer_line, probe_words};
 ghost use Rattle.flat_report.specs.Probes.{frame_seen};
 
-use crate::entry_lines::{push_long, push_point};
 use crate::probes::ProbeAnswer;
 use flat_base::NoMemory;
+use flat_lines::{push_long, push_point};
 use flat_page::{Page, actor_name};
 use flat_places::Script;
 use flat_scene::ProbeLine;

@@ -4,7 +4,8 @@ ghost use Rattle.std.specs.Prelude.{◌≡◌, ◌++◌, ◌∷◌, ◌+◌, ◌
 ghost use Rattle.std.specs.Prelude.{map};
 ghost use Rattle.flat_scene.specs.History.{is_finish};
 ghost use Rattle.flat_page.specs.Words.{text_of};
-ghost use Rattle.flat_report.specs.Handed.{answer_line, answers_text, end_line, first_hits};
+ghost use Rattle.flat_lines.specs.Ends.{end_line};
+ghost use Rattle.flat_report.specs.Handed.{answer_line, answers_text, first_hits};
 ghost use Rattle.flat_report.specs.Handed.{answers_after, texts_after, first_posts, shown_text};
 ghost use Rattle.flat_report.specs.Handed.{handed_text, handed_entries, handed_report};
 

@@ -151,32 +151,12 @@ fn push_all(page: &mut Page, damaged: &[Damaged]) -> Result<(), NoMemory>
     Ok(())
 }
 
-fn push_total(page: &mut Page, frames: usize) -> Result<(), NoMemory>
-    ensures { OnOk result (Writes (codes "ends" ∷ codes "frames" ∷ number frames ∷ []) page.old
-        page.new) }
-{
-    page.word(b"ends")?;
-    page.word(b"frames")?;
-    page.count(frames as u64)?;
-    Ok(())
-}
-
-/// The last line.
-fn push_end(page: &mut Page, frames: usize) -> Result<(), NoMemory>
-    ensures { OnOk result (WritesLines (end_line frames ∷ []) page.old page.new) }
-{
-    page.put(b"damage")?;
-    push_total(page, frames)?;
-    page.put(b"\n")?;
-    Ok(())
-}
-
 fn push_text(page: &mut Page, damaged: &[Damaged]) -> Result<(), NoMemory>
     ensures { OnOk result (WritesLines (flat_map damaged_lines damaged.now
         ++ end_line (length damaged.now) ∷ []) page.old page.new) }
 {
     push_all(page, damaged)?;
-    push_end(page, damaged.len())?;
+    page.ends(b"damage", b"frames", damaged.len())?;
     Ok(())
 }
 

@@ -5,7 +5,7 @@ use Rattle.flat_page.specs.declared.page.Page.TheVariants.{Text}
 use Rattle.flat_page.specs.Pages.{WritesLines}
 use Rattle.flat_report.specs.declared.item_lines.ItemLines.{ItemLines}
 use Rattle.flat_report.specs.declared.item_lines.Part.{Part}
-use Rattle.flat_report.specs.FrameLines.{item_line}
+use Rattle.flat_lines.specs.FrameLines.{item_line}
 use Rattle.flat_report.specs.ItemLines.{AreLines, HaveLines}
 use Rattle.flat_report.specs.Pieces.{text_on}
 use Rattle.flat_report.proofs.Paging.{own-text}

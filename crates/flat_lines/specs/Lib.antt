@@ -1,0 +1,4 @@
+pub mod Ends
+pub mod EntryLines
+pub mod FrameLines
+pub mod Names

@@ -1,7 +1,0 @@
-use Rattle.std.proofs.Common.{take, map}
-use Rattle.flat_page.specs.Pages.{WritesLines}
-use Rattle.flat_report.specs.FrameLines.{apart_line}
-use Rattle.flat_report.proofs.frame_words.push_aparts.Given as goal
-
-abbrev pub invariant-loop-session : goal.invariant-loop-session
-invariant-loop-session l = WritesLines (map (apart_line l.script) (take l.session-index l.sessions)) l.fn.page l.page
