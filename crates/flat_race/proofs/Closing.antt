@@ -21,12 +21,11 @@ use Rattle.flat_report.specs.Report.{finished}
 use Rattle.flat_play.specs.Playing.{HasPlayed}
 use Rattle.flat_play.proofs.lemmas.Places.{all_to, drop_all}
 use Rattle.flat_play.proofs.lemmas.Starting.{is_numbered}
-use Rattle.flat_race.specs.declared.director.Film.{Film}
+use Rattle.flat_actors.specs.declared.film.Film.{Film}
 use Rattle.flat_race.specs.Ends.{HaveEnded}
 use Rattle.flat_report.specs.Probes.{ProbesAnswered}
-use Rattle.flat_race.proofs.Beside.{IsBeside, seen_beside}
-use Rattle.flat_race.proofs.DirectSteps.{display_same}
-use Rattle.flat_race.proofs.HandSteps.{film_same}
+use Rattle.flat_actors.proofs.lemmas.Beside.{IsBeside, seen_beside}
+use Rattle.flat_actors.proofs.lemmas.StillStands.{display_same, film_same}
 use Rattle.flat_race.proofs.Probed.{answered-on-all}
 use Rattle.flat_base.proofs.lemmas.Tests.{and-true}
 

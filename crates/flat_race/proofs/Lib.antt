@@ -1,14 +1,7 @@
-pub mod Beside
 pub mod Closing
-pub mod DirectSteps
-pub mod Finishing
-pub mod HandSteps
-pub mod Joined
 pub mod Outs
-pub mod OwnLines
-pub mod Points
+pub mod PlaceLists
 pub mod Probed
 pub mod Published
 pub mod RaceEnds
-pub mod SessionSteps
 pub mod Settled

@@ -9,8 +9,9 @@ use Rattle.flat_play.proofs.lemmas.Slots.{got-other, got-same, set-length}
 use Rattle.flat_stage.specs.Homes.{AreFresh, fresh_view, seats_without, session_at}
 use Rattle.flat_stage.specs.Seats.{SessionView, StageView}
 use Rattle.flat_race.specs.declared.threads.Out.{Out}
-use Rattle.flat_race.specs.declared.session.Back.{Back}
-use Rattle.flat_race.specs.Sessions.{AreBack, AreLeft, AreOut, HasRun, IsOut}
+use Rattle.flat_actors.specs.declared.session.SessionBack.{SessionBack}
+use Rattle.flat_race.specs.SessionThreads.{AreBack, AreLeft, AreOut, IsOut}
+use Rattle.flat_actors.specs.Sessions.{HasRun}
 
 module _ {X : Type 0} where
   pub got-push : (xs : List X) (x : X) (i : ℕ) (o : X) → slice_get (xs ++ x ∷ []) i ≡ Some o → (slice_get xs i ≡ Some o) ⊎ ((i ≡ length xs) × (o ≡ x))
@@ -47,7 +48,7 @@ module _ (view : StageView) (script : Script) where
   )
 
   -- one more is back
-  pub back-more : (k : ℕ) (are_whole are_whole' : Bool) (seats seats' : List (Option SessionView)) (back : Back) → HasRun view script (record { 0 = k + 1 }) back → k < script.setup.sessions
+  pub back-more : (k : ℕ) (are_whole are_whole' : Bool) (seats seats' : List (Option SessionView)) (back : SessionBack) → HasRun view script (record { 0 = k + 1 }) back → k < script.setup.sessions
       → seats' ≡ slice_set seats (back.seat.session.0 - 1) (Some back.seat) → (are_whole' ≡ true → (are_whole ≡ true) × (back.is_whole ≡ true))
       → AreBack view script (k + 1) are_whole seats → AreBack view script k are_whole' seats'
   back-more k are_whole are_whole' seats seats' back run within put both was =

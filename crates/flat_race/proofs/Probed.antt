@@ -1,55 +1,32 @@
--- What a probe was answered: line by line, and once it has met what was published.
-use Rattle.std.proofs.Common.{◌≡◌, inl, inr, ℕ, zero, suc, ◌+◌, ◌<◌, ◌≤◌, Bool, true, false, cond, List, [], ◌∷◌, ◌++◌, length, take, slice_get, slice_index_or, slice_set, replicate, length-append, Option, Some, None, Fits, w32, nat_le, rules, refl, sym, ap, ◌∙◌, subst, arith, append-nil}
+-- What probes were answered, once they have met what was published.
+use Rattle.std.proofs.Common.{◌≡◌, inl, inr, ℕ, zero, suc, ◌+◌, ◌<◌, ◌≤◌, true, List, [], ◌∷◌, ◌++◌, length, slice_get, slice_index_or, slice_set, replicate, length-append, Option, Some, None, Fits, w32, nat_le, rules, refl, sym, ap, ◌∙◌, subst, arith}
 use Rattle.std.proofs.lemmas.Bool.Decides.{nat_tests}
-use Rattle.std.proofs.lemmas.List.{take_all}
-use Rattle.std.proofs.lemmas.List.Elements.{filter-append}
 use Rattle.std.proofs.lemmas.Option.{slice_get_within}
 use mathlib.Core.List.{IsPrefix}
 use Rattle.flat_base.proofs.lemmas.Tests.{and-left, and-right}
-use Rattle.flat_base.specs.declared.ids.Actor.{Actor}
-use Rattle.flat_base.specs.declared.ids.Actor.TheVariants.{Display, Session, Probe}
 use Rattle.flat_base.specs.declared.limits.TheConstants.{PROBES_MAX}
 use Rattle.logbook.specs.Pages.{Book}
 use Rattle.flat_scene.specs.declared.journal.Entry.{Entry}
-use Rattle.flat_scene.specs.declared.script.Body.{Body}
-use Rattle.flat_scene.specs.declared.script.Body.TheVariants as body
-use Rattle.flat_scene.specs.declared.script.ProbeLine.{ProbeLine}
 use Rattle.flat_scene.specs.declared.script.ScriptLine.{ScriptLine}
 use Rattle.flat_scene.specs.declared.setup.Setup.{Setup}
 use Rattle.flat_scene.specs.Setups.{is_setup}
 use Rattle.flat_places.specs.declared.script.Script.{Script}
-use Rattle.flat_playable.specs.Playable.{is_played}
-use Rattle.flat_report.specs.Report.{is_probe, probe_lines_of}
+use Rattle.flat_report.specs.Report.{probe_lines_of}
 use Rattle.flat_publish.specs.declared.frame.Frame.{Frame}
-use Rattle.flat_publish.specs.Frames.{last_from, last_number, number_of, IsRising, RisesFrom}
+use Rattle.flat_publish.specs.Frames.{last_number, IsRising}
 use Rattle.flat_publish.specs.State as publish
 use Rattle.flat_publish.specs.State.{Seen, newcomer}
-use Rattle.flat_publish.proofs.lemmas.Beginnings.{rises_last, same_last}
+use Rattle.flat_publish.proofs.lemmas.Beginnings.{same_last}
 use Rattle.flat_play.proofs.lemmas.Starting.{limits_are}
-use Rattle.flat_play.proofs.lemmas.Steps.{At}
 use Rattle.flat_race.specs.declared.probe_threads.ProbeOut.{ProbeOut}
 use Rattle.flat_report.specs.declared.probes.ProbeAnswer.{ProbeAnswer}
-use Rattle.flat_report.specs.Probes.{AreAnsweredBy, ProbesAnswered, answer_by}
-use Rattle.flat_race.specs.Probing.{AreAnswered, AreProbesOut, IsProbeOut, ProbeStands}
-use Rattle.flat_race.specs.Publishing.{PublishedStand, hits_of, published_frames}
+use Rattle.flat_report.specs.Probes.{AreAnsweredBy, ProbesAnswered}
+use Rattle.flat_race.specs.ProbeThreads.{AreAnswered, AreProbesOut, IsProbeOut}
+use Rattle.flat_actors.specs.Publishing.{PublishedStand, hits_of, published_frames}
 use Rattle.flat_race.proofs.Outs.{got-push}
-use Rattle.flat_report.proofs.lemmas.ProbeSteps.{answered-later, last-answer-more, none-answered, still-answered}
-use Rattle.flat_race.proofs.Published.{hits-later, last-published, published-hits}
-
--- ---- frames that a probe saw, and more of them
-
-last-grows : (before : Option Frame) (fs all : List Frame) → IsPrefix fs all → RisesFrom (number_of before) all → number_of (last_from before fs) ≤ number_of (last_from before all)
-last-grows before [] all begins rise = rises_last before all rise
-last-grows before (f ∷ fs) [] begins rise = absurd (cc (begins.1))
-last-grows before (f ∷ fs) (g ∷ gs) begins rise =
-    let head : g ≡ f = cc (begins.1) in
-    let rise' : RisesFrom f.number.0 gs = subst (λ (h : Frame). RisesFrom h.number.0 gs) head rise.1 in
-    let rest = last-grows (Some f) fs gs (begins.0, cc (begins.1)) rise' in
-    subst (λ (h : Frame). number_of (last_from (Some f) fs) ≤ number_of (last_from (Some h) gs)) (sym head) rest
-
--- what was answered by the frames seen is answered by more of them
-pub seen-more : (old new : List Frame) → IsPrefix old new → IsRising new → (lines : List ScriptLine) (answers : List ProbeAnswer) → AreAnsweredBy (hits_of old) (last_number old) lines answers → AreAnsweredBy (hits_of new) (last_number new) lines answers
-seen-more old new begins rise lines answers answered = still-answered (last-grows None old new begins rise) (λ n low x y. hits-later old new n x y begins rise low) lines answers answered
+use Rattle.flat_report.proofs.lemmas.ProbeSteps.{answered-later, still-answered}
+use Rattle.flat_race.proofs.Published.{last-published, published-hits}
+use Rattle.flat_actors.proofs.lemmas.SeenFrames.{seen-more}
 
 -- a probe that begins with all that was published, and saw no later frame, saw just that
 pub seen-published : (old new published : List Frame) → IsPrefix old new → IsPrefix published new → IsRising new → last_number new ≡ last_number published → (lines : List ScriptLine) (answers : List ProbeAnswer)
@@ -57,54 +34,6 @@ pub seen-published : (old new published : List Frame) → IsPrefix old new → I
 seen-published old new published grows meets rise last lines answers answered =
     let same : published ≡ new = same_last None published new meets rise (omega (arith, last)) in
     subst (λ (fs : List Frame). AreAnsweredBy (hits_of fs) (last_number fs) lines answers) (sym same) (seen-more old new grows rise lines answers answered)
-
--- ---- line by line
-
-module _ (script : Script) (p place : ℕ) (x : ScriptLine) (at : At script place x) where
-  lines-then : probe_lines_of p (take (place + 1) script.lines) ≡ probe_lines_of p (take place script.lines) ++ probe_lines_of p (x ∷ [])
-  lines-then = ap (probe_lines_of p) at.taken ∙ filter-append (λ (line : ScriptLine). is_probe p line.actor) (take place script.lines) (x ∷ [])
-
-  lines-by : (b : Bool) → is_probe p x.actor ≡ b → probe_lines_of p (take (place + 1) script.lines) ≡ probe_lines_of p (take place script.lines) ++ cond b (x ∷ []) []
-  lines-by b is = lines-then ∙ ap (λ b. probe_lines_of p (take place script.lines) ++ cond b (x ∷ []) []) is
-
-  -- a line that isn't the probe's
-  pub probe-skips : is_probe p x.actor ≡ false → (probe : Seen) (answers : List ProbeAnswer) → ProbeStands script p place probe answers → ProbeStands script p (place + 1) probe answers
-  probe-skips other probe answers stands =
-      let same : probe_lines_of p (take (place + 1) script.lines) ≡ probe_lines_of p (take place script.lines) = lines-by false other ∙ append-nil (probe_lines_of p (take place script.lines)) in
-      let P : List ScriptLine → Type 0 = λ lines. AreAnsweredBy (hits_of probe.frames) (last_number probe.frames) lines answers in
-      subst P (sym same) stands
-
-  -- its own line, which was answered by the frame seen last
-  pub probe-answers : (asked : ProbeLine) → is_probe p x.actor ≡ true → x.body ≡ body.Probe asked → (old new : Seen) (answers answers' : List ProbeAnswer) → IsPrefix old.frames new.frames → IsRising new.frames
-      → answers' ≡ answers ++ answer_by (hits_of new.frames) (record { number = x.number; actor = x.actor; body = body.Probe asked }, last_number new.frames) ∷ []
-      → ProbeStands script p place old answers → ProbeStands script p (place + 1) new answers'
-  probe-answers asked mine is old new answers answers' grows rise gained stands =
-      let was = seen-more old.frames new.frames grows rise (probe_lines_of p (take place script.lines)) answers stands in
-      let line : ScriptLine = record { number = x.number; actor = x.actor; body = body.Probe asked } in
-      let same : x ≡ line = ap (λ (b : Body). let l : ScriptLine = record { number = x.number; actor = x.actor; body = b } in l) is in
-      let lines : probe_lines_of p (take (place + 1) script.lines) ≡ probe_lines_of p (take place script.lines) ++ line ∷ [] = lines-by true mine ∙ ap (λ (l : ScriptLine). probe_lines_of p (take place script.lines) ++ l ∷ []) same in
-      let P : List ScriptLine → Type 0 = λ ls. AreAnsweredBy (hits_of new.frames) (last_number new.frames) ls answers' in
-      let Q : List ProbeAnswer → Type 0 = λ all. AreAnsweredBy (hits_of new.frames) (last_number new.frames) (probe_lines_of p (take place script.lines) ++ line ∷ []) all in
-      subst P (sym lines) (subst Q (sym gained) (last-answer-more was line))
-
--- before the first line
-pub probe-starts : (script : Script) (p : ℕ) (probe : Seen) (answers : List ProbeAnswer) → answers ≡ [] → ProbeStands script p 0 probe answers
-probe-starts script p probe answers none = let P : List ProbeAnswer → Type 0 = ProbeStands script p 0 probe in subst P (sym none) (none-answered (hits_of probe.frames) (last_number probe.frames))
-
--- behind the last one
-pub probe-ends : (script : Script) (p place : ℕ) (probe : Seen) (answers : List ProbeAnswer) → length script.lines ≤ place → ProbeStands script p place probe answers
-    → AreAnsweredBy (hits_of probe.frames) (last_number probe.frames) (probe_lines_of p script.lines) answers
-probe-ends script p place probe answers all stands =
-    let P : List ScriptLine → Type 0 = λ lines. AreAnsweredBy (hits_of probe.frames) (last_number probe.frames) (probe_lines_of p lines) answers in
-    subst P (take_all place script.lines all) stands
-
--- a line of a probe asks it something
-pub no-other : (setup : Setup) (p : ℕ) (who : Actor) (text : Body) → is_probe p who ≡ true → is_played setup who text ≡ true → ((asked : ProbeLine) → text ≡ body.Probe asked → ⊥) → ⊥
-no-other setup p (Probe q) (body.Probe asked) mine played other = other asked refl
-no-other setup p (Probe q) (body.Session text) mine played other = cc
-no-other setup p (Probe q) (body.Display text) mine played other = cc
-no-other setup p Display text mine played other = let wrong : false ≡ true = mine in cc
-no-other setup p (Session s) text mine played other = let wrong : false ≡ true = mine in cc
 
 -- ---- probes that are out, and come back
 

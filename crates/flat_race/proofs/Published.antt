@@ -1,9 +1,7 @@
 -- Frames as they are published: their numbers, and who is hit in them.
-use Rattle.std.proofs.Common.{◌≡◌, inl, inr, ℕ, ℤ, zero, suc, ◌+◌, ◌<◌, ◌≤◌, ◌==◌, Bool, true, false, cond, List, [], ◌∷◌, ◌++◌, length, map, Option, Some, None, refl, sym, ap, ◌∙◌, subst, arith, append-nil, eq-or-lt_of_le}
+use Rattle.std.proofs.Common.{◌≡◌, inl, inr, ℕ, ℤ, zero, suc, ◌+◌, ◌≤◌, ◌==◌, Bool, true, false, cond, List, [], ◌∷◌, ◌++◌, length, map, Option, Some, None, refl, sym, ap, ◌∙◌, subst, arith, append-nil, eq-or-lt_of_le}
 use Rattle.std.proofs.lemmas.Bool.Decides.{nat_tests}
-use mathlib.Core.List.{IsPrefix}
 use Rattle.flat_base.specs.declared.ids.SessionNo.{SessionNo}
-use Rattle.flat_scene.specs.declared.frames.Hit.{Hit}
 use Rattle.flat_scene.specs.declared.journal.Entry.{Entry}
 use Rattle.flat_scene.specs.declared.setup.Setup.{Setup}
 use Rattle.flat_scene.specs.Frames.{sessions_to}
@@ -16,50 +14,14 @@ use Rattle.flat_topology.specs.Join.{JoinedTree, led_from, led_to, nothing, view
 use Rattle.flat_topology.specs.Pairs.{display_pair}
 use Rattle.flat_topology.specs.Place.{display_space, placed_in}
 use Rattle.flat_publish.specs.declared.frame.Frame.{Frame}
-use Rattle.flat_publish.specs.Frames.{frame_hits, last_from, last_number, last_of, number_of, IsRising, RisesFrom}
-use Rattle.flat_publish.proofs.lemmas.Beginnings.{last_snoc, rises_last, rises_snoc}
+use Rattle.flat_publish.specs.Frames.{frame_hits, last_number, last_of, number_of, IsRising}
+use Rattle.flat_publish.proofs.lemmas.Beginnings.{last_snoc, rises_snoc}
 use Rattle.flat_report.specs.Report.{begin_of, hits_at}
 use Rattle.flat_play.proofs.lemmas.Seen.{frames_more}
 use Rattle.flat_report.specs.Probes.{hits_in_frame}
-use Rattle.flat_race.specs.Publishing.{hits_of, published_frames, shown_frame}
+use Rattle.flat_actors.specs.Publishing.{hits_of, published_frames, shown_frame}
 use Rattle.flat_report.proofs.lemmas.ProbeSteps.{begin-stays}
-
--- ---- frames that rise
-
--- none of them has a number up to the one before them
-hits-none : (k : ℕ) (fs : List Frame) (n : ℕ) (x y : ℤ) → RisesFrom k fs → n ≤ k → hits_of fs n x y ≡ []
-hits-none k [] n x y rise low = refl
-hits-none k (f ∷ fs) n x y rise low =
-    let above = rise.0 in
-    let other : (f.number.0 == n) ≡ false = grind (arith, nat_tests) in
-    rw other (hits-none f.number.0 fs n x y rise.1 (omega (arith, above, low)))
-
--- later frames change no hits in earlier ones
-hits-begin : (before : Option Frame) (fs all : List Frame) (n : ℕ) (x y : ℤ) → IsPrefix fs all → RisesFrom (number_of before) all → n ≤ number_of (last_from before fs) → hits_of fs n x y ≡ hits_of all n x y
-hits-begin before [] all n x y begins rise low = sym (hits-none (number_of before) all n x y rise low)
-hits-begin before (f ∷ fs) [] n x y begins rise low = absurd (cc (begins.1))
-hits-begin before (f ∷ fs) (g ∷ gs) n x y begins rise low =
-    let head : g ≡ f = cc (begins.1) in
-    let rise' : RisesFrom f.number.0 gs = subst (λ (h : Frame). RisesFrom h.number.0 gs) head rise.1 in
-    let rest = hits-begin (Some f) fs gs n x y (begins.0, cc (begins.1)) rise' low in
-    ap (λ (l : List Hit). cond (f.number.0 == n) (hits_among f.joined.nodes x y) l) rest
-    ∙ ap (λ (h : Frame). cond (h.number.0 == n) (hits_among h.joined.nodes x y) (hits_of gs n x y)) (sym head)
-
-pub hits-later : (fs all : List Frame) (n : ℕ) (x y : ℤ) → IsPrefix fs all → IsRising all → n ≤ last_number fs → hits_of fs n x y ≡ hits_of all n x y
-hits-later = hits-begin None
-
--- the frame of the last number is the last frame
-hits-at-last : (f : Frame) (fs : List Frame) (x y : ℤ) → RisesFrom f.number.0 fs → hits_of (f ∷ fs) (number_of (last_from (Some f) fs)) x y ≡ frame_hits (last_from (Some f) fs) x y
-hits-at-last f [] x y rise = let same : (f.number.0 == f.number.0) ≡ true = grind (arith, nat_tests) in rw same refl
-hits-at-last f (g ∷ gs) x y rise =
-    let above = rise.0 in
-    let last = rises_last (Some g) gs rise.1 in
-    let other : (f.number.0 == number_of (last_from (Some g) gs)) ≡ false = (let less : f.number.0 < number_of (last_from (Some g) gs) = omega (arith, above, last) in grind (arith, nat_tests)) in
-    rw other (hits-at-last g gs x y rise.1)
-
-pub hits-last : (fs : List Frame) (x y : ℤ) → IsRising fs → hits_of fs (last_number fs) x y ≡ frame_hits (last_of fs) x y
-hits-last [] x y rise = refl
-hits-last (f ∷ fs) x y rise = hits-at-last f fs x y rise.1
+use Rattle.flat_actors.proofs.lemmas.SeenFrames.{hits-last, hits-later}
 
 -- ---- before any frame
 

@@ -10,7 +10,7 @@ use Rattle.flat_places.specs.declared.script.Script.{Script}
 use Rattle.flat_play.specs.declared.kept.Keeping.{Keeping}
 use Rattle.flat_play.specs.Keeping.{keeping_of}
 use Rattle.flat_play.specs.Showing.{HaveSeen}
-use Rattle.flat_race.specs.declared.race.Ended.{Ended}
+use Rattle.flat_race.specs.declared.running.Ended.{Ended}
 use Rattle.flat_race.specs.Ends.{HaveEnded}
 
 module _ (r : Result Ended NoMemory) (e : Ended) (is : r ≡ Ok e) where

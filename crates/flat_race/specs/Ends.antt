@@ -5,10 +5,10 @@ use Rattle.flat_places.specs.declared.script.Script.{Script}
 use Rattle.flat_stage.specs.Displays.{DisplayView}
 use Rattle.flat_stage.specs.Homes.{SeatsView}
 use Rattle.flat_stage.specs.Seats.{StageView}
-use Rattle.flat_race.specs.declared.director.Film.{Film}
+use Rattle.flat_actors.specs.declared.film.Film.{Film}
 use Rattle.flat_report.specs.Probes.{ProbesAnswered}
-use Rattle.flat_race.specs.Directing.{SeatStands, FilmStands}
-use Rattle.flat_race.specs.Sessions.{AreBack}
+use Rattle.flat_actors.specs.Directing.{SeatStands, FilmStands}
+use Rattle.flat_race.specs.SessionThreads.{AreBack}
 
 -- The compositor has read all its lines, and so has each session, which ended; and the lines of all probes are answered.
 pub record HaveEnded (view : StageView) (script : Script) (compositor : DisplayView) (seats : SeatsView) (film : Film) : Type 0 where

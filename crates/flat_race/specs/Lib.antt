@@ -1,7 +1,5 @@
-pub mod Directing
 pub mod Ends
-pub mod OwnLines
-pub mod Probing
-pub mod Publishing
-pub mod Sessions
+pub mod PlaceLists
+pub mod ProbeThreads
+pub mod SessionThreads
 pub mod Settling

@@ -4,7 +4,7 @@ ghost use Rattle.std.specs.Prelude.{◌≡◌, ◌<◌, ◌≤◌, true, length,
 ghost use Rattle.flat_base.specs.declared.ids.Actor.TheVariants.{Session};
 ghost use Rattle.flat_base.specs.declared.ids.SessionNo.{SessionNo};
 ghost use Rattle.flat_playable.specs.Playable.{is_playable};
-ghost use Rattle.flat_race.specs.OwnLines.{ArePlaces, noted};
+ghost use Rattle.flat_race.specs.PlaceLists.{ArePlaces, noted};
 
 use flat_base::{Actor, Items, NoMemory};
 use flat_places::Script;

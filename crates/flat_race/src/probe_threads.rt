@@ -9,13 +9,13 @@ ghost use Rattle.flat_play.specs.Last.{IsLast, StaysLast};
 ghost use Rattle.flat_publish.specs.Frames.{last_number};
 ghost use Rattle.flat_publish.specs.State.{newcomer};
 ghost use Rattle.flat_report.specs.Probes.{AreAnsweredBy};
-ghost use Rattle.flat_race.specs.Probing.{AreAnswered, AreProbesOut, HasAsked, IsProbeOut};
-ghost use Rattle.flat_race.specs.Publishing.{LastIsPublished, hits_of};
+ghost use Rattle.flat_actors.specs.Probing.{HasAsked};
+ghost use Rattle.flat_actors.specs.Publishing.{hits_of};
+ghost use Rattle.flat_race.specs.ProbeThreads.{AreAnswered, AreProbesOut, IsProbeOut};
+ghost use Rattle.flat_race.specs.Settling.{LastIsPublished};
 
-use crate::gate::Gate;
-use crate::lent::Lent;
-use crate::probe::{Asking, ProbeBack, run};
 use crate::settling::settle;
+use flat_actors::{Asking, Gate, Lent, ProbeBack, run_probe};
 use flat_base::NoMemory;
 use flat_places::Script;
 use flat_play::LastFrame;
@@ -34,7 +34,7 @@ pub(crate) struct Asked<'a> {
 }
 
 impl<'a> Promise<ProbeBack> for Asked<'a> {
-    ghost use Rattle.flat_race.specs.Probing.{HasAsked};
+    ghost use Rattle.flat_actors.specs.Probing.{HasAsked};
 
     ghost kept_by = { λ p r. HasAsked p.script.now p.home p.probe r };
 }
@@ -89,7 +89,7 @@ fn start<'s, E, G: Gate>(
                 gate,
                 probe,
             };
-            run(&asking, seat)
+            run_probe(&asking, seat)
         },
     ) {
         Ok(handle) => ProbeOut::Thread(handle),

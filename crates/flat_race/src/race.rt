@@ -1,54 +1,33 @@
 //! A race. Each seat knows its own part of the history, and what others did only to the
 //! point that it has seen; the whole is known when all seats are home (`close`).
-ghost use Rattle.std.specs.Prelude.{◌≡◌, ◌<◌, ◌^◌, [], true, length, replicate, Some, IfOk, OnOk};
+ghost use Rattle.std.specs.Prelude.{◌≡◌, ◌<◌, ◌^◌, [], true, length, IfOk};
 ghost use Rattle.flat_playable.specs.Playable.{is_playable};
 ghost use Rattle.flat_display.specs.Had.{AreKept};
 ghost use Rattle.flat_scene.specs.History.{history_of};
 ghost use Rattle.flat_rules.specs.Legal.{frames};
 ghost use Rattle.flat_stage.specs.Homes.{AreFresh};
-ghost use Rattle.flat_stage.specs.Seats.{setup_of};
 ghost use Rattle.flat_report.specs.Report.{finished};
-ghost use Rattle.flat_publish.specs.State.{newcomer};
 ghost use Rattle.flat_play.specs.Keeping.{keeping_of};
 ghost use Rattle.flat_play.specs.Playing.{HasPlayed};
 ghost use Rattle.flat_play.specs.Showing.{HaveSeen};
-ghost use Rattle.flat_race.specs.Directing.{FilmStands};
+ghost use Rattle.flat_actors.specs.Directing.{FilmStands};
 ghost use Rattle.flat_race.specs.Ends.{HaveEnded};
 ghost use Rattle.flat_report.specs.Probes.{ProbesAnswered};
-ghost use Rattle.flat_race.specs.Sessions.{IsStageOf};
+ghost use Rattle.flat_actors.specs.Sessions.{IsStageOf};
 
-use crate::director::{Film, direct};
-use crate::gate::Gate;
-use crate::lent::Lent;
-use crate::probe_threads::{meet_each, start_probes};
-use crate::threads::{put_back, start_each};
+use crate::running::{Ended, on_threads};
+use flat_actors::{Film, Gate};
 use flat_base::NoMemory;
 use flat_display::{Display, DisplaySet};
 use flat_places::Script;
 use flat_play::{Keeping, Kept, LastFrame, Played, open_board};
-use flat_publish::{ProbeSeats, Published};
 use flat_report::HitAnswers;
 use flat_rules::{journals_keep_seats, seats_tell_actors};
 use flat_stage::{CompositorSeat, SessionSeats, Stage};
 use std::alloc::Global;
+use std::mem;
 use std::sync::Wait;
-use std::thread::{Scope, Threads};
-use std::{mem, thread};
-
-/// What all actors leave, where each came to its end.
-#[derive(Drop)]
-struct Ended {
-    compositor: CompositorSeat,
-    seats: SessionSeats,
-    film: Film,
-}
-
-/// The displays that come back from a race, and what its actors leave.
-#[derive(Drop)]
-struct Raced {
-    displays: Vec<Box<dyn Display>>,
-    ended: Result<Ended, NoMemory>,
-}
+use std::thread::Threads;
 
 /// What is kept of frames before the first one.
 fn new_film(
@@ -72,212 +51,6 @@ fn new_film(
         set,
         probes: Vec::new(alloc),
     })
-}
-
-/// Runs the sessions and the probes beside the compositor, and puts the seats of all
-/// sessions back.
-fn run_beside<'s, E, T: Threads + Wait + Sync, G: Gate>(
-    scope: &Scope<'s, E>,
-    lent: &Lent<'s, T, G>,
-    compositor: CompositorSeat,
-    seats: &mut SessionSeats,
-    film: &mut Film,
-    displays: &mut Vec<Box<dyn Display>>,
-    published: &mut Published,
-    probes: &mut ProbeSeats,
-) -> Result<CompositorSeat, NoMemory>
-    requires playable { is_playable lent.now.script.now ≡ true }
-    requires of { IsStageOf lent.now.stage.now lent.now.script.now }
-    requires compositor { compositor ≡ record { stage = lent.now.stage.now; seen = []; mine = [] } }
-    requires own { seats.old.stage ≡ lent.now.stage.now }
-    requires sessions { AreFresh lent.now.stage.now lent.now.script.now.setup.sessions
-        seats.old.seats }
-    requires film { FilmStands lent.now.script.now [] film.old }
-    requires none { film.old.set.lost ≡ [] }
-    requires number { length displays.old.items ≡ film.old.set.displays }
-    requires few { film.old.set.displays < 2 ^ 32 }
-    requires unpublished { published.old
-        ≡ record { home = published.old.home; frames = []; refused = []; given = 0 } }
-    requires probes { probes.old ≡ replicate lent.now.script.now.setup.probes
-        (Some (newcomer published.old.home)) }
-    ensures ended { IfOk result (λ compositor. HaveEnded lent.now.stage.now lent.now.script.now
-        compositor seats.new film.new) }
-    ensures seen { IfOk result (λ compositor. HaveSeen (λ d. shown d) (λ d. faults d)
-        (finished lent.now.script.now.setup (history_of compositor.seen))
-        (history_of compositor.seen) film.new.set.lost displays.old.items displays.new.items) }
-    ensures keeping { OnOk result (keeping_of film.new.kept ≡ keeping_of film.old.kept) }
-    ensures kept { AreKept (λ d. shown d) (λ d. faults d) displays.old.items displays.new.items
-        (λ d. d.vtable) }
-{
-    let out = start_each(scope, lent, seats)?;
-    let asked = start_probes(scope, lent, published, probes)?;
-    let directed = direct(lent, compositor, film, displays, published);
-    if !put_back(lent, seats, out) {
-        return Err(NoMemory);
-    }
-    let compositor = directed?;
-    film.probes = meet_each(lent, published, &mut film.last, asked)?;
-    Ok(compositor)
-}
-
-/// Runs all actors, and puts the seats of all sessions back. What is published to the
-/// probes is let go at the end.
-fn run_all<'s, E, T: Threads + Wait + Sync, G: Gate>(
-    scope: &Scope<'s, E>,
-    lent: &Lent<'s, T, G>,
-    compositor: CompositorSeat,
-    seats: &mut SessionSeats,
-    film: &mut Film,
-    displays: &mut Vec<Box<dyn Display>>,
-) -> Result<CompositorSeat, NoMemory>
-    requires playable { is_playable lent.now.script.now ≡ true }
-    requires of { IsStageOf lent.now.stage.now lent.now.script.now }
-    requires compositor { compositor ≡ record { stage = lent.now.stage.now; seen = []; mine = [] } }
-    requires own { seats.old.stage ≡ lent.now.stage.now }
-    requires sessions { AreFresh lent.now.stage.now lent.now.script.now.setup.sessions
-        seats.old.seats }
-    requires film { FilmStands lent.now.script.now [] film.old }
-    requires none { film.old.set.lost ≡ [] }
-    requires number { length displays.old.items ≡ film.old.set.displays }
-    requires few { film.old.set.displays < 2 ^ 32 }
-    ensures ended { IfOk result (λ compositor. HaveEnded lent.now.stage.now lent.now.script.now
-        compositor seats.new film.new) }
-    ensures seen { IfOk result (λ compositor. HaveSeen (λ d. shown d) (λ d. faults d)
-        (finished lent.now.script.now.setup (history_of compositor.seen))
-        (history_of compositor.seen) film.new.set.lost displays.old.items displays.new.items) }
-    ensures keeping { OnOk result (keeping_of film.new.kept ≡ keeping_of film.old.kept) }
-    ensures kept { AreKept (λ d. shown d) (λ d. faults d) displays.old.items displays.new.items
-        (λ d. d.vtable) }
-{
-    let (mut published, mut probes) = Published::new(
-        lent.rt,
-        lent.alloc,
-        lent.script.setup.probes,
-    )?;
-    let run = run_beside(
-        scope,
-        lent,
-        compositor,
-        seats,
-        film,
-        displays,
-        &mut published,
-        &mut probes,
-    );
-    published.close(lent.rt);
-    run
-}
-
-/// Runs the sessions beside the compositor, and answers what all of them leave.
-fn run_in<'s, E, T: Threads + Wait + Sync, G: Gate>(
-    scope: &Scope<'s, E>,
-    lent: &Lent<'s, T, G>,
-    compositor: CompositorSeat,
-    mut seats: SessionSeats,
-    mut film: Film,
-    mut displays: Vec<Box<dyn Display>>,
-) -> Raced
-    requires playable { is_playable lent.now.script.now ≡ true }
-    requires of { IsStageOf lent.now.stage.now lent.now.script.now }
-    requires compositor { compositor ≡ record { stage = lent.now.stage.now; seen = []; mine = [] } }
-    requires own { seats.stage ≡ lent.now.stage.now }
-    requires sessions { AreFresh lent.now.stage.now lent.now.script.now.setup.sessions seats.seats }
-    requires film { FilmStands lent.now.script.now [] film }
-    requires none { film.set.lost ≡ [] }
-    requires number { length displays.items ≡ film.set.displays }
-    requires few { film.set.displays < 2 ^ 32 }
-    ensures ended { IfOk result.ended (λ e. HaveEnded lent.now.stage.now lent.now.script.now
-        e.compositor e.seats e.film) }
-    ensures seen { IfOk result.ended (λ e. HaveSeen (λ d. shown d) (λ d. faults d)
-        (finished lent.now.script.now.setup (history_of e.compositor.seen))
-        (history_of e.compositor.seen) e.film.set.lost displays.items result.displays.items) }
-    ensures keeping { IfOk result.ended (λ e. keeping_of e.film.kept ≡ keeping_of film.kept) }
-    ensures kept { AreKept (λ d. shown d) (λ d. faults d) displays.items result.displays.items
-        (λ d. d.vtable) }
-{
-    match run_all(
-        scope,
-        lent,
-        compositor,
-        &mut seats,
-        &mut film,
-        &mut displays,
-    ) {
-        Ok(compositor) => Raced {
-            displays,
-            ended: Ok(Ended {
-                compositor,
-                seats,
-                film,
-            }),
-        },
-        Err(NoMemory) => Raced {
-            displays,
-            ended: Err(NoMemory),
-        },
-    }
-}
-
-/// Runs each session on a thread of its own, and the compositor on this one.
-fn on_threads<T: Threads + Wait + Sync, G: Gate>(
-    rt: &T,
-    alloc: Global,
-    stage: &Stage,
-    script: &Script,
-    gate: &G,
-    compositor: CompositorSeat,
-    seats: SessionSeats,
-    film: Film,
-    displays: Vec<Box<dyn Display>>,
-) -> Raced
-    requires playable { is_playable script.now ≡ true }
-    requires of { IsStageOf stage.now script.now }
-    requires compositor { compositor ≡ record { stage = stage.now; seen = []; mine = [] } }
-    requires own { seats.stage ≡ stage.now }
-    requires sessions { AreFresh stage.now script.now.setup.sessions seats.seats }
-    requires film { FilmStands script.now [] film }
-    requires none { film.set.lost ≡ [] }
-    requires number { length displays.items ≡ film.set.displays }
-    requires few { film.set.displays < 2 ^ 32 }
-    ensures ended { IfOk result.ended (λ e. HaveEnded stage.now script.now e.compositor e.seats
-        e.film) }
-    ensures seen { IfOk result.ended (λ e. HaveSeen (λ d. shown d) (λ d. faults d)
-        (finished script.now.setup (history_of e.compositor.seen)) (history_of e.compositor.seen)
-        e.film.set.lost displays.items result.displays.items) }
-    ensures keeping { IfOk result.ended (λ e. keeping_of e.film.kept ≡ keeping_of film.kept) }
-    ensures kept { AreKept (λ d. shown d) (λ d. faults d) displays.items result.displays.items
-        (λ d. d.vtable) }
-{
-    thread::scope(
-        thread::scope_env(),
-        rt,
-        move |scope| -> Raced
-            requires { (is_playable script.now ≡ true) × IsStageOf stage.now script.now
-                × (compositor ≡ record { stage = stage.now; seen = []; mine = [] })
-                × (seats.stage ≡ stage.now)
-                × AreFresh stage.now script.now.setup.sessions seats.seats
-                × FilmStands script.now [] film × (film.set.lost ≡ [])
-                × (length displays.items ≡ film.set.displays) × (film.set.displays < 2 ^ 32) }
-            ensures { IfOk result.ended (λ e. HaveEnded stage.entry.now script.entry.now
-                e.compositor e.seats e.film)
-                × IfOk result.ended (λ e. HaveSeen (λ d. shown d) (λ d. faults d)
-                (finished script.entry.now.setup (history_of e.compositor.seen))
-                (history_of e.compositor.seen) e.film.set.lost displays.items
-                result.displays.items)
-                × IfOk result.ended (λ e. keeping_of e.film.kept ≡ keeping_of film.kept)
-                × AreKept (λ d. shown d) (λ d. faults d) displays.items result.displays.items
-                (λ d. d.vtable) }
-        {
-            let lent = Lent {
-                rt,
-                alloc,
-                stage,
-                script,
-                gate,
-            };
-            run_in(scope, &lent, compositor, seats, film, displays)
-        },
-    )
 }
 
 /// A stage for a script: a board before any entry, with room for all its lines.
@@ -332,6 +105,47 @@ fn close(stage: Stage, script: &Script, ended: Ended) -> Played
     }
 }
 
+/// Runs a race on a stage before any entry, and hands out what it leaves.
+fn race_on<T: Threads + Wait + Sync, G: Gate>(
+    rt: &T,
+    alloc: Global,
+    stage: Stage,
+    script: &Script,
+    gate: &G,
+    compositor: CompositorSeat,
+    seats: SessionSeats,
+    film: Film,
+    displays: &mut Vec<Box<dyn Display>>,
+) -> Result<Played, NoMemory>
+    requires playable { is_playable script.now ≡ true }
+    requires of { IsStageOf stage script.now }
+    requires compositor { compositor ≡ record { stage = stage; seen = []; mine = [] } }
+    requires own { seats.stage ≡ stage }
+    requires sessions { AreFresh stage script.now.setup.sessions seats.seats }
+    requires film { FilmStands script.now [] film }
+    requires none { film.set.lost ≡ [] }
+    requires number { length displays.old.items ≡ film.set.displays }
+    requires few { film.set.displays < 2 ^ 32 }
+    ensures played { IfOk result (λ played. HasPlayed script.now played.board played.kept
+        played.answers) }
+    ensures probes { IfOk result (λ played. ProbesAnswered script.now played.board.history
+        played.probes.items) }
+    ensures keeping { IfOk result (λ played. keeping_of played.kept ≡ keeping_of film.kept) }
+    ensures seen { IfOk result (λ played. HaveSeen (λ d. shown d) (λ d. faults d)
+        (finished script.now.setup played.board.history) played.board.history played.set.lost
+        displays.old.items displays.new.items) }
+    ensures kept { AreKept (λ d. shown d) (λ d. faults d) displays.old.items displays.new.items
+        (λ d. d.vtable) }
+{
+    let shown_here = mem::replace(displays, Vec::new(alloc));
+    let raced = on_threads(
+        rt, alloc, &stage, script, gate, compositor, seats, film, shown_here,
+    );
+    *displays = raced.displays;
+    let ended = raced.ended?;
+    Ok(close(stage, script, ended))
+}
+
 /// Runs a script with each session on a thread of its own beside the compositor, which
 /// composes each frame and shows it to the displays while the sessions go on; and each
 /// probe on one, which is answered by the frame that it saw last among those that the
@@ -366,11 +180,7 @@ pub fn race_script<T: Threads + Wait + Sync, G: Gate>(
 {
     let film = new_film(alloc, script, keeping, displays.len() as u32)?;
     let (stage, compositor, seats) = new_stage(alloc, script)?;
-    let shown_here = mem::replace(displays, Vec::new(alloc));
-    let raced = on_threads(
-        rt, alloc, &stage, script, gate, compositor, seats, film, shown_here,
-    );
-    *displays = raced.displays;
-    let ended = raced.ended?;
-    Ok(close(stage, script, ended))
+    race_on(
+        rt, alloc, stage, script, gate, compositor, seats, film, displays,
+    )
 }

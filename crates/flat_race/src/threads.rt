@@ -1,16 +1,16 @@
 //! The sessions' threads. A promise is plain data, the stage, the script and the session,
 //! and is kept by the seat that comes back. Where no thread can be started, the session is
 //! run here with the same promise.
-ghost use Rattle.std.specs.Prelude.{◌≡◌, ◌&&◌, true, length, IfOk};
+ghost use Rattle.std.specs.Prelude.{◌≡◌, ◌+◌, ◌<◌, ◌&&◌, true, length, IfOk};
 ghost use Rattle.flat_playable.specs.Playable.{is_playable};
 ghost use Rattle.flat_stage.specs.Homes.{AreFresh, fresh_view};
-ghost use Rattle.flat_race.specs.OwnLines.{own_places};
-ghost use Rattle.flat_race.specs.Sessions.{AreBack, AreOut, HasRun, IsOut, IsStageOf};
+ghost use Rattle.flat_actors.specs.OwnLines.{own_places};
+ghost use Rattle.flat_actors.specs.Sessions.{HasRun, IsStageOf};
+ghost use Rattle.flat_race.specs.PlaceLists.{ArePlaces};
+ghost use Rattle.flat_race.specs.SessionThreads.{AreBack, AreLeft, AreOut, IsOut};
 
-use crate::gate::Gate;
-use crate::lent::Lent;
 use crate::own_lines::{PlaceList, places_by_session};
-use crate::session::{Back, run};
+use flat_actors::{Gate, Lent, SessionBack, run_session};
 use flat_base::{NoMemory, SessionNo};
 use flat_places::Script;
 use flat_stage::{SessionSeat, SessionSeats, Stage};
@@ -27,8 +27,8 @@ pub(crate) struct Promised<'a> {
     session: SessionNo,
 }
 
-impl<'a> Promise<Back> for Promised<'a> {
-    ghost use Rattle.flat_race.specs.Sessions.{HasRun};
+impl<'a> Promise<SessionBack> for Promised<'a> {
+    ghost use Rattle.flat_actors.specs.Sessions.{HasRun};
 
     ghost kept_by = { λ p r. HasRun p.stage.now p.script.now p.session r };
 }
@@ -36,13 +36,13 @@ impl<'a> Promise<Back> for Promised<'a> {
 /// A seat that is out: a thread has it, or its session was run here.
 #[derive(Drop)]
 pub(crate) enum Out<'a> {
-    Thread(PromisedHandle<Back, Promised<'a>>),
-    Here(Back),
+    Thread(PromisedHandle<SessionBack, Promised<'a>>),
+    Here(SessionBack),
 }
 
 impl<'a> Out<'a> {
     /// Waits until the session's run is over.
-    fn wait<R: Threads, G>(self, lent: &Lent<R, G>, session: SessionNo) -> Back
+    fn wait<R: Threads, G>(self, lent: &Lent<R, G>, session: SessionNo) -> SessionBack
         requires { IsOut lent.now.stage.now lent.now.script.now session self }
         ensures { HasRun lent.now.stage.now lent.now.script.now session result }
     {
@@ -78,7 +78,7 @@ fn start<'s, E, R: Threads + Wait + Sync, G: Gate>(
             script,
             session,
         },
-        move || -> Back
+        move || -> SessionBack
             requires { (is_playable script.now ≡ true) × IsStageOf stage.now script.now
                 × (seat ≡ fresh_view stage.now seat.session)
                 × (places ≡ own_places seat.session script.now.lines) }
@@ -91,12 +91,52 @@ fn start<'s, E, R: Threads + Wait + Sync, G: Gate>(
                 script,
                 gate,
             };
-            run(&lent, seat, places.as_slice())
+            run_session(&lent, seat, places.as_slice())
         },
     ) {
         Ok(handle) => Out::Thread(handle),
         Err(refused) => Out::Here((refused.value)()),
     }
+}
+
+/// Starts the next session behind the first so many: its seat and its places are handed
+/// out.
+fn start_next<'s, E, R: Threads + Wait + Sync, G: Gate>(
+    scope: &Scope<'s, E>,
+    lent: &Lent<'s, R, G>,
+    seats: &mut SessionSeats,
+    places: &mut Vec<PlaceList>,
+    before: u32,
+) -> Out<'s>
+    requires playable { is_playable lent.now.script.now ≡ true }
+    requires of { IsStageOf lent.now.stage.now lent.now.script.now }
+    requires own { seats.old.stage ≡ lent.now.stage.now }
+    requires next { before < lent.now.script.now.setup.sessions }
+    requires left { AreLeft lent.now.stage.now lent.now.script.now.setup.sessions before
+        seats.old.seats }
+    requires places { ArePlaces lent.now.script.now.lines before places.old.items }
+    requires many { length places.old.items ≡ lent.now.script.now.setup.sessions }
+    ensures out { IsOut lent.now.stage.now lent.now.script.now (record { 0 = before + 1 }) result }
+    ensures own { seats.new.stage ≡ seats.old.stage }
+    ensures left { AreLeft lent.now.stage.now lent.now.script.now.setup.sessions (before + 1)
+        seats.new.seats }
+    ensures places { ArePlaces lent.now.script.now.lines (before + 1) places.new.items }
+    ensures many { length places.new.items ≡ length places.old.items }
+{
+    let Some(seat) = seats.take(SessionNo(before + 1)) else {
+        unreachable!()
+    };
+    let own = mem::replace(&mut places[before as usize], PlaceList::new(lent.alloc));
+    start(
+        scope,
+        lent.rt,
+        lent.alloc,
+        lent.stage,
+        lent.script,
+        lent.gate,
+        seat,
+        own,
+    )
 }
 
 /// Starts each session. The seats are handed out, the first session's first.
@@ -118,23 +158,8 @@ pub(crate) fn start_each<'s, E, R: Threads + Wait + Sync, G: Gate>(
     let mut places = places_by_session(lent.alloc, lent.script)?;
     let mut out = Vec::with_capacity(lent.alloc, lent.script.setup.sessions as usize)?;
     for before in 0..lent.script.setup.sessions {
-        let Some(seat) = seats.take(SessionNo(before + 1)) else {
-            unreachable!()
-        };
-        let own = mem::replace(&mut places[before as usize], PlaceList::new(lent.alloc));
-        let started = start(
-            scope,
-            lent.rt,
-            lent.alloc,
-            lent.stage,
-            lent.script,
-            lent.gate,
-            seat,
-            own,
-        );
-        let Ok(()) = out.push(started) else {
-            unreachable!()
-        };
+        let started = start_next(scope, lent, seats, &mut places, before);
+        out.push_reserved(started);
     }
     Ok(out)
 }
@@ -163,7 +188,7 @@ pub(crate) fn put_back<'s, R: Threads, G>(
     let mut are_whole = true;
     while let Some(last) = out.pop() {
         let session = SessionNo(out.len() as u32 + 1);
-        let Back { seat, is_whole } = last.wait(lent, session);
+        let SessionBack { seat, is_whole } = last.wait(lent, session);
         are_whole = both(are_whole, is_whole);
         seats.put(seat);
     }

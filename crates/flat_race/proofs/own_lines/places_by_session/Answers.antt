@@ -2,8 +2,8 @@ use Rattle.std.proofs.Common.{rules, ◌≡◌, ◌≤◌, ◌+◌, ℕ, List, l
 use Rattle.std.proofs.lemmas.List.{length-take, take_all}
 use Rattle.flat_scene.specs.declared.script.ScriptLine.{ScriptLine}
 use Rattle.flat_play.proofs.lemmas.Places.{take_at}
-use Rattle.flat_race.specs.OwnLines.{ArePlaces, noted}
-use Rattle.flat_race.proofs.OwnLines.{declared-at, noted-line, noted-long, placed-none}
+use Rattle.flat_race.specs.PlaceLists.{ArePlaces, noted}
+use Rattle.flat_race.proofs.PlaceLists.{declared-at, noted-line, noted-long, placed-none}
 use Rattle.flat_race.proofs.own_lines.places_by_session.Goals as goal
 
 pub loop-place-init : goal.loop-place-init

@@ -1,5 +1,5 @@
 use Rattle.std.proofs.Common.{◌≡◌, ℕ, List, [], Some, length, take, slice_get}
-use Rattle.flat_race.specs.OwnLines.{ArePlaces}
+use Rattle.flat_race.specs.PlaceLists.{ArePlaces}
 use Rattle.flat_race.proofs.own_lines.places_by_session.Given as goal
 
 abbrev pub invariant-loop : goal.invariant-loop

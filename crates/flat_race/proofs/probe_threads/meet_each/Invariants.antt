@@ -1,6 +1,6 @@
 use Rattle.std.proofs.Common.{◌≡◌, ◌+◌, length}
 use Rattle.flat_play.specs.Last.{StaysLast}
-use Rattle.flat_race.specs.Probing.{AreAnswered, AreProbesOut}
+use Rattle.flat_race.specs.ProbeThreads.{AreAnswered, AreProbesOut}
 use Rattle.flat_race.proofs.probe_threads.meet_each.Given as goal
 
 abbrev pub invariant-loop-next : goal.invariant-loop-next

@@ -1,6 +1,6 @@
 use Rattle.std.proofs.Common.{◌≡◌, ℕ, ◌<◌, ◌≤◌, None, Some, length, slice_index_or, deque_capacity}
 use Rattle.flat_publish.specs.State.{newcomer}
-use Rattle.flat_race.specs.Probing.{AreProbesOut}
+use Rattle.flat_race.specs.ProbeThreads.{AreProbesOut}
 use Rattle.flat_race.proofs.probe_threads.start_probes.Given as goal
 
 abbrev pub invariant-loop-probe : goal.invariant-loop-probe

@@ -1,8 +1,7 @@
-use Rattle.std.proofs.Common.{◌≡◌, ◌∙◌, ap, sym}
-use Rattle.flat_display.specs.Lost.{Driven}
+use Rattle.std.proofs.Common.{◌≡◌, IfOk, subst}
+use Rattle.flat_play.specs.declared.kept.Keeping.{Keeping}
 use Rattle.flat_play.specs.Keeping.{keeping_of}
-use Rattle.flat_play.proofs.lemmas.Seen.{kept_from, kept_none, seen_counted}
-use Rattle.flat_race.proofs.RaceEnds.{ok_kept, ok_seen}
+use Rattle.flat_play.proofs.lemmas.Seen.{kept_none}
 use Rattle.flat_race.proofs.race.race_script.Goals as goal
 
 pub returns-in_err-film-clause-kept : goal.returns-in_err-film-clause-kept
@@ -11,16 +10,5 @@ returns-in_err-film-clause-kept g c = kept_none _ _ _ _
 pub returns-in_err-stage-clause-kept : goal.returns-in_err-stage-clause-kept
 returns-in_err-stage-clause-kept g c = kept_none _ _ _ _
 
-pub returns-clause-seen : goal.returns-clause-seen
-returns-clause-seen g c =
-    seen_counted _ _ _ _ _ _ _ _ _ _ _ c.close.ensures.frames c.close.ensures.as_many (ap (λ (s : Driven). s.lost) c.close.ensures.set) (ap (λ v. v.items) (sym c.replace-shown_here.ensures.value))
-    (ok_seen _ c.in_ok-ended.ended c.in_ok-ended.was _ _ c.args.script.now.setup _ _ c.on_threads-raced.ensures.seen)
-
-pub returns-clause-kept : goal.returns-clause-kept
-returns-clause-kept g c = kept_from _ _ _ _ _ _ (ap (λ v. v.items) (sym c.replace-shown_here.ensures.value)) c.on_threads-raced.ensures.kept
-
-pub returns-in_err-ended-clause-kept : goal.returns-in_err-ended-clause-kept
-returns-in_err-ended-clause-kept g c = kept_from _ _ _ _ _ _ (ap (λ v. v.items) (sym c.replace-shown_here.ensures.value)) c.on_threads-raced.ensures.kept
-
 pub returns-clause-keeping : goal.returns-clause-keeping
-returns-clause-keeping g c = ap keeping_of c.close.ensures.kept ∙ ok_kept _ c.in_ok-ended.ended c.in_ok-ended.was _ c.on_threads-raced.ensures.keeping ∙ c.in_ok-film.ensures.keeping
+returns-clause-keeping g c = let P : Keeping → Type 0 = λ k. IfOk c.race_on.result (λ p. keeping_of p.kept ≡ k) in subst P c.in_ok-film.ensures.keeping c.race_on.ensures.keeping

@@ -1,5 +1,5 @@
 use Rattle.std.proofs.Common.{◌≡◌, ◌≤◌, length}
-use Rattle.flat_race.specs.Sessions.{AreBack, AreOut}
+use Rattle.flat_race.specs.SessionThreads.{AreBack, AreOut}
 use Rattle.flat_race.proofs.threads.put_back.Given as goal
 
 abbrev pub invariant-loop-last : goal.invariant-loop-last

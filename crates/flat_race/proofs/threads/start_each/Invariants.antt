@@ -1,6 +1,6 @@
 use Rattle.std.proofs.Common.{◌≡◌, ◌≤◌, length, vec_capacity}
-use Rattle.flat_race.specs.OwnLines.{ArePlaces}
-use Rattle.flat_race.specs.Sessions.{AreLeft, AreOut}
+use Rattle.flat_race.specs.PlaceLists.{ArePlaces}
+use Rattle.flat_race.specs.SessionThreads.{AreLeft, AreOut}
 use Rattle.flat_race.proofs.threads.start_each.Given as goal
 
 abbrev pub invariant-loop-before : goal.invariant-loop-before

@@ -1,0 +1,11 @@
+pub mod DirectSteps
+pub mod FilmSteps
+pub mod Finishing
+pub mod HandSteps
+pub mod Held
+pub mod Joined
+pub mod lemmas
+pub mod Points
+pub mod ProbeLines
+pub mod ReadLines
+pub mod SessionSteps

@@ -1,0 +1,5 @@
+pub mod Directing
+pub mod OwnLines
+pub mod Probing
+pub mod Publishing
+pub mod Sessions

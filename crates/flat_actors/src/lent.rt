@@ -1,0 +1,16 @@
+//! What the actors of a race are lent, as one argument. A thread is handed the parts and
+//! makes its own, since the struct would be moved into it whole.
+use flat_places::Script;
+use flat_stage::Stage;
+use std::alloc::Global;
+
+/// What each session of a race and its compositor are lent: leave to wait, memory, the
+/// stage, the script that is run, and the gate.
+#[derive(Drop)]
+pub struct Lent<'a, R, G> {
+    pub rt: &'a R,
+    pub alloc: Global,
+    pub stage: &'a Stage,
+    pub script: &'a Script,
+    pub gate: &'a G,
+}
