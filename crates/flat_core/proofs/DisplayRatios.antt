@@ -1,18 +1,17 @@
 -- The display's pixel ratios that a board keeps: what is told of the display, and what it asks for.
-use Rattle.std.proofs.Common.{◌≡◌, ◌∙◌, ℕ, ◌≤◌, Bool, List, ap, subst, sym}
-use Rattle.flat_base.specs.declared.limits.TheConstants.{RATIO_MIN, SIDE_MAX}
+use Rattle.std.proofs.Common.{◌≡◌, ◌∙◌, ◌≤◌, Bool, List, ap, subst, sym}
+use Rattle.flat_base.specs.declared.limits.TheConstants.{RATIO_MIN}
 use Rattle.flat_scene.specs.declared.journal.Entry.{Entry}
 use Rattle.flat_scene.specs.declared.setup.Setup.{Setup}
 use Rattle.flat_states.specs.declared.clock.Clock.{Clock}
 use Rattle.flat_states.specs.declared.port.DisplayPort.{DisplayPort}
 use Rattle.flat_states.specs.declared.ratios.Ratios.{Ratios}
 use Rattle.flat_states.specs.declared.state.SessionState.{SessionState}
-use Rattle.flat_states.specs.Logs.{Logged}
-use Rattle.flat_states.specs.Machines.{Stands, HasRoom, ratios_of}
+use Rattle.flat_states.specs.Machines.{Stands, ratios_of}
 use Rattle.flat_states.specs.Ports.{port_of}
 use Rattle.flat_rules.specs.Legal.{Legal}
 use Rattle.flat_rules.specs.Watch.{ratio_told}
-use Rattle.flat_facts.proofs.lemmas.Ratios.{HasDisplay, has-display, told-least}
+use Rattle.flat_facts.proofs.lemmas.Ratios.{HasDisplay, told-least}
 
 -- what is kept of them
 pub ratios-kept : (setup : Setup) (h : List Entry) (clock : Clock) (fences views : List Bool) (sessions : List SessionState) → Stands setup h clock fences views sessions → clock.ratios ≡ ratios_of setup h

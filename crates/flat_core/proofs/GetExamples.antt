@@ -10,11 +10,11 @@ use Rattle.flat_scene.specs.declared.journal.Reply.TheVariants as reply
 use Rattle.flat_scene.specs.declared.journal.Told.TheVariants as tell
 use Rattle.flat_scene.specs.declared.setup.Setup.{Setup}
 use Rattle.flat_scene.specs.History.{◌▹◌}
-use Rattle.flat_gets.specs.declared.gets.HeldGet.{HeldGet}
-use Rattle.flat_gets.specs.declared.gets.Watched.TheVariants as watches
-use Rattle.flat_gets.specs.Gets.{IsAnswered, answers_to, helds_of, with_held}
+use Rattle.flat_gets.specs.Gets.{HeldGet, answers_to, helds_of}
+use Rattle.flat_gets.specs.declared.pair.PairWatchers.{PairWatchers}
+use Rattle.flat_gets.specs.Pairs.{AreAt}
 use Rattle.flat_rules.specs.Legal.{answers}
-use Rattle.flat_rules.specs.Watch.{no_inset, told}
+use Rattle.flat_rules.specs.Watch.{layout_of, status_of, child_of, no_inset, told}
 use Rattle.flat_rules.proofs.lemmas.Samples.{s, p, c, by, layout, present}
 
 -- session 2 has a view in a viewport of session 1
@@ -45,17 +45,14 @@ abbrev held : HeldGet → HeldGet → List HeldGet
 held a b = a ∷ b ∷ []
 
 abbrev of_layout : HeldGet
-of_layout = record { pair = p 1; watched = watches.Layout; get = watch.Layout; last = None }
+of_layout = record { watcher = layout_of (p 1); get = watch.Layout; last = None }
 
 abbrev of_status : HeldGet
-of_status = record { pair = p 1; watched = watches.Status; get = watch.Status; last = None }
+of_status = record { watcher = status_of (p 1); get = watch.Status; last = None }
 
 -- the layout stands before the status
 both-held : helds_of setup asked (s 2) ≡ held of_layout of_status
 both-held = refl
-
-in-place : with_held of_layout (of_status ∷ []) ≡ held of_layout of_status
-in-place = refl
 
 -- the viewport's entry answers both, the layout before the status
 both-answered : answers_to (told setup joined) (helds_of setup asked (s 2)) ≡ (event.Told (p 1) watch.Layout (tell.Layout (layout 60 40 0 0 0 0)) ∷ event.Told (p 1) watch.Status tell.Disconnected ∷ [])
@@ -67,8 +64,9 @@ none-left = refl
 counted : answers setup (s 2) joined ≡ 2
 counted = refl
 
-last-answered : IsAnswered setup joined (p 1) (record { layout = Some (tell.Layout (layout 60 40 0 0 0 0)); status = Some tell.Disconnected; child = None; uses = 1 })
-last-answered = record { last = record { layout = refl; status = refl; child = refl }; uses = refl }
+-- what is kept of the pair: the layout that was told, the status, and a child that wasn't asked for
+are-at : (w : PairWatchers) → w.layout ≡ record { last = Some (tell.Layout (layout 60 40 0 0 0 0)); waits = None } → w.status ≡ record { last = Some tell.Disconnected; waits = None } → w.child ≡ record { last = None; waits = None } → w.former.items ≡ [] → AreAt setup joined joined (p 1) w
+are-at w one two three none = record { layout = one; status = two; child = three; former = none }
 
 -- a viewport that is released and made anew: a get of either child waits
 abbrev anew : List Entry
@@ -83,7 +81,7 @@ anew = joined
     ▹ by (Session (s 1)) 19 ((call.CreateViewport (c 2) (p 1) 30 30 no_inset) ∷ []) (kind.Viewport (p 1) (record { w = 30; h = 30; inset = no_inset })) reply.Done
     ▹ by (Session (s 1)) 20 [] (kind.Get (watch.Child (c 2))) reply.Held
 
-first-and-second : helds_of setup anew (s 1) ≡ held (record { pair = p 1; watched = watches.Child 1; get = watch.Child (c 1); last = None }) (record { pair = p 1; watched = watches.Child 2; get = watch.Child (c 2); last = None })
+first-and-second : helds_of setup anew (s 1) ≡ held (record { watcher = child_of (p 1) 1; get = watch.Child (c 1); last = None }) (record { watcher = child_of (p 1) 2; get = watch.Child (c 2); last = None })
 first-and-second = refl
 
 -- the end of the child's session answers both, once a frame has ended

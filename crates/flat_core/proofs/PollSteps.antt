@@ -1,5 +1,5 @@
 -- A poll of the board.
-use Rattle.std.proofs.Common.{◌≡◌, ℕ, ◌-◌, ◌<◌, ◌≤◌, ◌^◌, Bool, false, List, [], ◌∷◌, ◌++◌, length, arith, ◌∙◌, ap, drop, slice_index_or}
+use Rattle.std.proofs.Common.{◌≡◌, ℕ, ◌-◌, ◌<◌, ◌≤◌, ◌^◌, Bool, false, List, ◌++◌, length, arith, ◌∙◌, ap, drop, slice_index_or}
 use Rattle.std.specs.Prelude.{IsTrue, sum, not}
 use Rattle.std.specs.List.{list_any}
 use Rattle.std.proofs.lemmas.Bool.{not-true}
@@ -12,11 +12,11 @@ use Rattle.flat_scene.specs.declared.journal.Event.{Event}
 use Rattle.flat_scene.specs.declared.setup.Setup.{Setup}
 use Rattle.flat_scene.specs.History.{is_closed, is_end, own}
 use Rattle.flat_base.proofs.lemmas.Tests.{and-right}
-use Rattle.flat_gets.specs.declared.gets.Answered.{Answered}
-use Rattle.flat_gets.specs.declared.gets.Gets.{Gets}
+use Rattle.std.proofs.lemmas.List.Sums.{sum_by-set}
+use Rattle.flat_gets.specs.declared.watching.Watchers.{Watchers}
+use Rattle.flat_gets.specs.Listed.{KeptGets, no_gets}
 use Rattle.flat_gets.specs.Gets.{gets_made}
-use Rattle.flat_gets.specs.Watchers.{AreOwnGets, AreWatched}
-use Rattle.flat_rules.specs.Numbers.{number, AllNumbered}
+use Rattle.flat_gets.specs.Watchers.{AreWatched, answers_in}
 use Rattle.flat_core.proofs.FewEvents.{unread-short}
 use Rattle.flat_scene.specs.declared.journal.Kind.TheVariants.{Poll}
 use Rattle.flat_scene.specs.declared.journal.Post.{Post}
@@ -52,12 +52,14 @@ pub record Handed (m : Machine) (s : SessionNo) (count : ℕ) (into list : List 
   pub place : length all ≡ length (posts m.setup m.history)
 
 -- a session has no more answers than gets were made
-told-few : (setup : Setup) (h : List Entry) (s : SessionNo) (gets : List Gets) → AllNumbered (λ i. AreOwnGets setup h (number i)) gets → 0 < s.0 → s.0 ≤ length gets → answers setup s h ≤ gets_made h
-told-few setup h s [] each some few = absurd (omega (arith, some, few))
-told-few setup h s (one ∷ more) each some few =
-    let at : s.0 - 1 < length (one ∷ more) = omega (arith, some, few) in
-    let own = at-session (AreOwnGets setup h) (one ∷ more) s (slice_index_or (one ∷ more) (s.0 - 1) one) each some few (get_or_default (one ∷ more) (s.0 - 1) one (slice_index_or (one ∷ more) (s.0 - 1) one) at) in
-    omega (arith, own.held.few, own.counted)
+told-few : (setup : Setup) (h : List Entry) (s : SessionNo) (watchers : Watchers) → AreWatched setup h watchers → 0 < s.0 → s.0 ≤ length watchers.sessions.items → answers setup s h ≤ gets_made h
+told-few setup h s watchers are some few =
+    let all : List KeptGets = watchers.sessions.items in
+    let at : s.0 - 1 < length all = omega (arith, some, few) in
+    let own : KeptGets = slice_index_or all (s.0 - 1) no_gets in
+    let is : own ≡ slice_index_or all (s.0 - 1) own = get_or_default all (s.0 - 1) no_gets own at in
+    let counted : own.answers ≡ answers setup s h = at-session (λ t one. one.answers ≡ answers setup t h) all s own are.answered some few is in
+    omega (arith, are.few, counted, sum_by-set answers_in all (s.0 - 1) no_gets own at, ap answers_in is)
 
 -- a session that polls is open
 polls-open : (before : List Entry) (s : SessionNo) → IsTrue (goes_on before Poll (Session s)) → is_closed s before ≡ false
@@ -67,8 +69,8 @@ pub handed : (m : Machine) (s : SessionNo) (calls : List Call) → MayCall m (Se
     → (clock : Clock) (fences views : List Bool) (sessions : List SessionState) (log : Logged) (owed : ℕ) {dues : ℕ} (state : SessionState) (all : List Post) (into list : List Event) (count : ℕ)
     → state ≡ slice_index_or sessions (s.0 - 1) state
     → log.history ≡ m.history → Stands m.setup log.history clock fences views sessions → HasRoom m.setup m.shares log owed dues → all ≡ log.posts
-    → list ≡ into ++ events_for s (drop state.account.polled all) → count ≡ length list - length into → (gets : List Gets) (last : List Answered) → AreWatched m.setup m.history gets last → Handed m s count into list all
-handed m s calls call clock fences views sessions log owed {dues} state all into list count is same stands room posted pushed counted gets last watched =
+    → list ≡ into ++ events_for s (drop state.account.polled all) → count ≡ length list - length into → (watchers : Watchers) → AreWatched m.setup m.history watchers → Handed m s count into list all
+handed m s calls call clock fences views sessions log owed {dues} state all into list count is same stands room posted pushed counted watchers watched =
     let old : Stands m.setup m.history clock fences views sessions = rw (← same) stands in
     let declared = declared-of m.setup Poll s call.may.acts in
     let here = declared-some s.0 m.setup.sessions declared in
@@ -77,7 +79,7 @@ handed m s calls call clock fences views sessions log owed {dues} state all into
     let events : list ≡ into ++ unread_events m.setup s m.history = handed-over m.setup m.history s into list state.account.polled all here.0 here.1 pushed (ap (λ (a : Account). a.polled) kept.account) all_posts in
     let as_many : count ≡ unread m.setup s m.history = counted ∙ handed-count m.setup m.history s into list events in
     let opened : is_closed s m.history ≡ false = polls-open m.history s call.may.lasts in
-    let told = told-few m.setup m.history s gets watched.each here.0 (omega (arith, here.1, watched.count)) in
+    let told = told-few m.setup m.history s watchers watched here.0 (omega (arith, here.1, watched.sessions)) in
     let few : length m.history < sum m.shares = few-history m (Session s) calls Poll call old.legal log owed dues same room in
     record {
       events = events;

@@ -91,10 +91,10 @@ impl Model for Board {
 
     ghost invariant = { λ b. Stands b.setup b.log.history b.clock b.fences b.view_ends
         b.sessions.items × HasRoom b.setup b.shares b.log b.owed
-        (all_due b.sessions.items b.viewports.items b.watchers.gets.items)
+        (all_due b.sessions.items b.viewports.items b.watchers)
         × AreEnds b.setup b.log.history b.viewports.items
         × AreTied b.setup b.log.history b.ties.followings.items b.ties.pairs.items
-        × AreWatched b.setup b.log.history b.watchers.gets.items b.watchers.answered.items };
+        × AreWatched b.setup b.log.history b.watchers };
 }
 
 impl Board {

@@ -22,7 +22,7 @@ ghost use Rattle.flat_gets.specs.Watchers.{AreWatched, WatchedUpTo};
 
 use flat_base::{FenceList, FenceNo, SessionNo};
 use flat_fence::FenceSet;
-use flat_gets::gets::Tells;
+use flat_gets::telling::Tells;
 use flat_gets::watching::Watchers;
 use flat_links::viewports::Viewports;
 use flat_scene::{Event, Post, Setup};
@@ -146,17 +146,17 @@ fn finish_one<T: Tells>(
     requires ends { AreViewports setup.now log.old.history s ends.old.live.items
         ends.old.out.items }
     requires watched { WatchedUpTo setup.now (s.0 - 1) (finished log.old.history line)
-        log.old.history watchers.old.gets.items watchers.old.answered.items }
-    requires room { due state.old + due_back ends.old + sum_by due_told watchers.old.gets.items
+        log.old.history watchers.old }
+    requires room { due state.old + due_back ends.old + due_told watchers.old
         ≤ log.old.post_room }
-    requires small { due state.old + due_back ends.old + sum_by due_told watchers.old.gets.items < 2
+    requires small { due state.old + due_back ends.old + due_told watchers.old < 2
         ^ 64 }
     ensures kept { IsKept setup.now (seen_of setup.now (finished log.old.history line) s)
         state.new }
     ensures ends { AreViewports setup.now (finished log.old.history line) s ends.new.live.items
         ends.new.out.items }
     ensures watched { WatchedUpTo setup.now s.0 (finished log.old.history line) log.old.history
-        watchers.new.gets.items watchers.new.answered.items }
+        watchers.new }
     ensures size { length fences.new ≡ length fences.old }
     ensures members { (g : FenceNo) → has fences.new g
         ≡ (has fences.old g || is_released_by (going setup.now log.old.history s) g) }
@@ -166,8 +166,8 @@ fn finish_one<T: Tells>(
     ensures history { log.new.history ≡ log.old.history }
     ensures room { log.new.room ≡ log.old.room }
     ensures post_room { log.new.post_room + result ≡ log.old.post_room }
-    ensures due { due state.new + due_back ends.new + sum_by due_told watchers.new.gets.items
-        + result ≤ due state.old + due_back ends.old + sum_by due_told watchers.old.gets.items }
+    ensures due { due state.new + due_back ends.new + due_told watchers.new
+        + result ≤ due state.old + due_back ends.old + due_told watchers.old }
 {
     let told = watchers.settle(s, state.closed, tells, log);
     told + done_one(setup, line, s, state, ends, fences, log)
@@ -185,8 +185,7 @@ pub fn done_all<T: Tells>(
     log: &mut Log,
 ) -> usize
     requires tells { T.stands tells.now setup.now (finished log.old.history line) }
-    requires watched { AreWatched setup.now log.old.history watchers.old.gets.items
-        watchers.old.answered.items }
+    requires watched { AreWatched setup.now log.old.history watchers.old }
     requires legal { Legal setup.now log.old.history }
     requires may { MayEnter setup.now log.old.history Display [] Finish }
     requires place { length log.old.history < 2 ^ 32 - 1 }
@@ -196,15 +195,14 @@ pub fn done_all<T: Tells>(
     requires kept { AllNumbered (λ i. IsKept setup.now (seen_of setup.now log.old.history
         (number i))) sessions.old.items }
     requires ends { AreEnds setup.now log.old.history ends.old.items }
-    requires room { all_due sessions.old.items ends.old.items watchers.old.gets.items
+    requires room { all_due sessions.old.items ends.old.items watchers.old
         ≤ log.old.post_room }
-    requires small { all_due sessions.old.items ends.old.items watchers.old.gets.items < 2 ^ 64 }
+    requires small { all_due sessions.old.items ends.old.items watchers.old < 2 ^ 64 }
     ensures all { length sessions.new.items ≡ setup.now.sessions }
     ensures kept { AllNumbered (λ i. IsKept setup.now
         (seen_of setup.now (finished log.old.history line) (number i))) sessions.new.items }
     ensures ends { AreEnds setup.now (finished log.old.history line) ends.new.items }
-    ensures watched { AreWatched setup.now (finished log.old.history line) watchers.new.gets.items
-        watchers.new.answered.items }
+    ensures watched { AreWatched setup.now (finished log.old.history line) watchers.new }
     ensures size { length fences.new ≡ length fences.old }
     ensures members { (g : FenceNo) → has fences.new g
         ≡ (has fences.old g || list_any (λ s. is_released_by (going setup.now log.old.history s) g)
@@ -215,8 +213,8 @@ pub fn done_all<T: Tells>(
     ensures history { log.new.history ≡ log.old.history }
     ensures room { log.new.room ≡ log.old.room }
     ensures post_room { log.new.post_room + result ≡ log.old.post_room }
-    ensures due { all_due sessions.new.items ends.new.items watchers.new.gets.items + result
-        ≤ all_due sessions.old.items ends.old.items watchers.old.gets.items }
+    ensures due { all_due sessions.new.items ends.new.items watchers.new + result
+        ≤ all_due sessions.old.items ends.old.items watchers.old }
 {
     let mut count = 0usize;
     for i in 0..setup.sessions {

@@ -1,5 +1,5 @@
-use flat_scene::{Inset, Layout, Told};
-use flat_watch::{Cell, GetAnswer};
+use flat_scene::{Inset, Layout, Told, Watch};
+use flat_watch::{Answer, Cell, GetAnswer};
 use std::test::Fail;
 
 fn sized(w: u32) -> Told {
@@ -20,11 +20,20 @@ fn sized(w: u32) -> Told {
 #[test]
 fn a_get_is_answered_by_news(rt: HostRuntime) -> Result<(), Fail> {
     let mut cell = Cell::new();
-    let unasked = cell.set(sized(5));
-    let gets = [cell.get(), cell.get(), cell.get()];
-    let same = cell.set(sized(5));
-    let other = cell.set(sized(6));
-    let after = cell.set(sized(7));
+    let unasked = cell.tell(Some(sized(5)));
+    let now = Some(sized(5));
+    let gets = [
+        cell.get(Watch::Layout, now),
+        cell.get(Watch::Layout, now),
+        cell.get(Watch::Layout, now),
+    ];
+    let same = cell.tell(now);
+    let other = cell.tell(Some(sized(6)));
+    let after = cell.tell(Some(sized(7)));
+    let answer = Answer {
+        get: Watch::Layout,
+        value: sized(6),
+    };
     assert!(rt;
         gets == [
             GetAnswer::Now(sized(5)),
@@ -32,18 +41,21 @@ fn a_get_is_answered_by_news(rt: HostRuntime) -> Result<(), Fail> {
             GetAnswer::BadHangingGet
         ]
     );
-    assert!(rt; [unasked, same, other, after] == [None, None, Some(sized(6)), None]);
-    assert!(rt; !cell.is_held() && cell.last() == Some(sized(6)) && cell.news() == Some(sized(7)));
+    assert!(rt; [unasked, same, other, after] == [None, None, Some(answer), None]);
+    assert!(rt; cell.waits().is_none() && cell.last() == Some(sized(6)));
     Ok(())
 }
 
 #[test]
 fn what_is_there_no_more_answers_nothing(rt: HostRuntime) -> Result<(), Fail> {
     let mut cell = Cell::new();
-    let unasked = cell.set(Told::HasPresented);
-    cell.unset();
-    let get = cell.get();
-    let gone = cell.set(Told::Gone);
-    assert!(rt; get == GetAnswer::Held && [unasked, gone] == [None, Some(Told::Gone)]);
+    let unasked = cell.tell(Some(Told::HasPresented));
+    let get = cell.get(Watch::Status, None);
+    let gone = cell.tell(Some(Told::Gone));
+    let answer = Answer {
+        get: Watch::Status,
+        value: Told::Gone,
+    };
+    assert!(rt; get == GetAnswer::Held && [unasked, gone] == [None, Some(answer)]);
     Ok(())
 }

@@ -1,6 +1,6 @@
 -- What the watchers of a session hold, and what an entry that asks none of them answers.
-use Rattle.std.proofs.Common.{◌≡◌, ◌≢◌, ◌∙◌, sym, ℕ, suc, ◌<◌, Bool, true, false, List, [], ◌∷◌, ◌++◌, length, map, filter, refl, arith, ap, Some, None, inl, inr, ◌⊎◌}
-use Rattle.std.specs.Prelude.{cond, not, Option, is_some, flat_map, option_and_then, option_map, unwrap_or, ◌==◌, ◌&&◌}
+use Rattle.std.proofs.Common.{◌≡◌, ◌≢◌, ◌∙◌, sym, ℕ, ◌<◌, Bool, true, false, List, [], ◌∷◌, ◌++◌, length, map, refl, arith, ap, Some, None, inl, inr, ◌⊎◌}
+use Rattle.std.specs.Prelude.{cond, Option, flat_map, option_and_then, option_map, unwrap_or, ◌==◌, ◌&&◌}
 use Rattle.std.specs.List.{list_all}
 use Rattle.std.specs.Result.{result_ok}
 use Rattle.std.proofs.lemmas.Bool.Decides.{nat_tests}
@@ -19,10 +19,9 @@ use Rattle.flat_scene.specs.declared.setup.Setup.{Setup}
 use Rattle.flat_scene.specs.Draft.{Draft, Made, an_image, a_fill, a_viewport, made_of}
 use Rattle.flat_scene.specs.Effect.{draft_of}
 use Rattle.flat_scene.specs.History.{◌▹◌, calls, is_closed, is_finish, is_begin, is_session}
-use Rattle.flat_watch.specs.Told.{Watching, answered_by, answer, news, settled}
-use Rattle.flat_gets.specs.declared.gets.HeldGet.{HeldGet}
-use Rattle.flat_rules.specs.Ends.{is_done, uses_viewport, view_owner, viewport_owner, viewport_uses, views_of, viewports_of}
-use Rattle.flat_gets.specs.Gets.{watched_by, watcher_for, held_with, held_by, held_of, helds_of, hears, watchers_of, news_of, answers_to, still_held}
+use Rattle.flat_watch.specs.Told.{Watching, answer, news, settled}
+use Rattle.flat_rules.specs.Ends.{view_owner, viewport_owner, viewport_uses, views_of, viewports_of}
+use Rattle.flat_gets.specs.Gets.{held_with, held_of, helds_of, hears, watchers_of, news_of, answers_to}
 use Rattle.flat_rules.specs.Legal.{owns_view, owns_viewport}
 use Rattle.flat_rules.specs.Local.{pair_watched}
 use Rattle.flat_rules.specs.Posts.{told_event, event_of, events_to, at_finish, at_begin, up_to}
@@ -30,9 +29,8 @@ use Rattle.flat_rules.specs.Watch.{Watcher, layout_of, status_of, child_of, watc
 use Rattle.flat_rules.proofs.lemmas.AllOrSome.{all-append, all-every, all-flat, all-map, flat-nested}
 use Rattle.flat_rules.proofs.lemmas.SameWatchers.{nothing-settled}
 use Rattle.std.proofs.lemmas.Grind.{flat_map-append}
-use Rattle.flat_rules.proofs.lemmas.EventsLocal.{flat-same, views-owned, viewports-owned, hears-viewport}
+use Rattle.flat_rules.proofs.lemmas.EventsLocal.{views-owned, viewports-owned, hears-viewport}
 use Rattle.flat_rules.proofs.lemmas.Watchers.{settled-now, unasked}
-use Rattle.flat_gets.proofs.ViewportSteps.{flat-filtered}
 use Rattle.flat_rules.proofs.lemmas.ListLemmas.{flat-each}
 use Rattle.std.proofs.lemmas.List.Folds.{flat_map-map}
 
@@ -65,43 +63,15 @@ shaped true ends begins all finish begin opened no_begin = cc
 shaped false ends true all finish begin opened no_begin = cc
 shaped false ends false all finish begin opened no_begin = append-nil (all ++ cond ends finish [])
 
--- ---- a held get is of its watcher
+-- ---- the answer to a held get is the event
 
-pub own-watcher : (w : Watcher) → watcher_for (pair_watched w) (watched_by w) ≡ w
-own-watcher (layout_of p) = refl
-own-watcher (status_of p) = refl
-own-watcher (child_of p n) = refl
-
--- what is told now answers it or lets it wait
-held-settled : (w : Watcher) (now : Watcher → Option Told) (last : Option Told) (waits : Option Watch)
-    → held_by w (settled true (now w) (record { last = last; waits = waits })) ≡ still_held now (held_with w last waits)
-held-settled w now last None = refl
-held-settled w now last (Some get) = by_news (news (now w) last) (ap (λ (v : Watcher). news (now v) last) (sym (own-watcher w)))
-  where
-    one : HeldGet
-    one = record { pair = pair_watched w; watched = watched_by w; get = get; last = last }
-
-    by_news : (o : Option Told) → o ≡ news_of now one
-        → held_by w (answered_by o (record { last = last; waits = Some get })) ≡ filter (λ x. not (is_some (news_of now x))) (one ∷ [])
-    by_news None is = rw (← is) refl
-    by_news (Some value) is = rw (← is) refl
-
--- and its answer is the event
 event-answers : (w : Watcher) (now : Watcher → Option Told) (last : Option Told) (waits : Option Watch)
     → event_of (pair_watched w) waits (answer (now w) (record { last = last; waits = waits })) ≡ answers_to now (held_with w last waits)
 event-answers w now last None = refl
-event-answers w now last (Some get) =
-    ap (λ (v : Watcher). event_of (pair_watched w) (Some get) (news (now v) last)) (sym (own-watcher w)) ∙ sym (append-nil (event_of (pair_watched w) (Some get) (news (now (watcher_for (pair_watched w) (watched_by w))) last)))
+event-answers w now last (Some get) = sym (append-nil (event_of (pair_watched w) (Some get) (news (now w) last)))
 
 module _ (setup : Setup) where
-  -- ---- an entry that asks nothing of a watcher
-
-  pub held-after : (w : Watcher) (h : List Entry) (e : Entry) → asked setup w h e ≡ None → is_open setup (listener setup w) (h ▹ e) ≡ true
-      → held_of setup (h ▹ e) w ≡ still_held (told setup (h ▹ e)) (held_of setup h w)
-  held-after w h e idle listens =
-      let v : Watching = watching setup w h in
-      ap (held_by w) (settled-now setup w h e idle) ∙ ap (λ (b : Bool). held_by w (settled b (told setup (h ▹ e) w) v)) listens
-      ∙ held-settled w (told setup (h ▹ e)) v.last v.waits
+  -- ---- what an entry answers
 
   pub event-after : (w : Watcher) (h : List Entry) (e : Entry) → told_event setup (pair_watched w) w h e ≡ answers_to (told setup (h ▹ e)) (held_of setup h w)
   event-after w h e = let v : Watching = watching setup w h in event-answers w (told setup (h ▹ e)) v.last v.waits
@@ -126,7 +96,7 @@ module _ (setup : Setup) where
       ++ flat_map (λ p. flat_map (λ n. told_event setup p (child_of p n) h e) (uses p)) (viewports_of setup s)) =
       flat_map-append t (map layout_of views ++ map status_of views) children ∙ ap (λ (l : List Event). l ++ flat_map t children) (flat_map-append t (map layout_of views) (map status_of views))
       ∙ three-same (flat_map-map t layout_of views) (flat_map-map t status_of views) third in
-      sym whole ∙ flat-each t f (λ w. event-after w h e) (watchers_of setup h s) ∙ sym (flat-nested (λ one. event_of one.pair (Some one.get) (news_of now one)) (held_of setup h) (watchers_of setup h s))
+      sym whole ∙ flat-each t f (λ w. event-after w h e) (watchers_of setup h s) ∙ sym (flat-nested (λ one. event_of (pair_watched one.watcher) (Some one.get) (news_of now one)) (held_of setup h) (watchers_of setup h s))
     where
       three-same : {a a' b b' c c' : List Event} → a ≡ a' → b ≡ b' → c ≡ c' → (a ++ b ++ c) ≡ (a' ++ b' ++ c')
       three-same pa pb pc = cc
@@ -224,42 +194,3 @@ module _ (setup : Setup) (p : PairNo) (m : ℕ) where
   fresh-use (h ▹ e) past =
       let before : length (viewport_uses p h) < m = fewer-uses _ e (viewport_uses p h) past in
       next-fresh h e before (fresh-use h before)
-
--- ---- all that a session waits for
-
-module _ (setup : Setup) where
-  -- the uses of one pair
-  held-uses : (p : PairNo) (h : List Entry) (e : Entry) → (b : Bool) (n m : ℕ) → n ≡ length (viewport_uses p h) → m ≡ length (cond b (e ∷ viewport_uses p h) (viewport_uses p h))
-      → flat_map (held_of setup (h ▹ e)) (map (child_of p) (up_to m)) ≡ flat_map (held_of setup (h ▹ e)) (map (child_of p) (up_to n))
-  held-uses p h e false n m is now = ap (λ (k : ℕ). flat_map (held_of setup (h ▹ e)) (map (child_of p) (up_to k))) (now ∙ sym is)
-  held-uses p h e true n m is now =
-      let next : m ≡ suc n = now ∙ omega (arith, is) in
-      let past : length (viewport_uses p h) < suc n = omega (arith, is) in
-      let none : held_of setup (h ▹ e) (child_of p (suc n)) ≡ [] = ap (held_by (child_of p (suc n))) (next-fresh setup p (suc n) h e past (fresh-use setup p (suc n) h past)) in
-      ap (λ (k : ℕ). flat_map (held_of setup (h ▹ e)) (map (child_of p) (up_to k))) next ∙ flat_map-map (held_of setup (h ▹ e)) (child_of p) (up_to n ++ suc n ∷ [])
-      ∙ flat_map-append (λ k. held_of setup (h ▹ e) (child_of p k)) (up_to n) (suc n ∷ []) ∙ ap (λ l. flat_map (λ k. held_of setup (h ▹ e) (child_of p k)) (up_to n) ++ (l ++ [])) none
-      ∙ append-nil _ ∙ sym (flat_map-map (held_of setup (h ▹ e)) (child_of p) (up_to n))
-
-  -- a new use adds nothing
-  pub watchers-more : (s : SessionNo) (h : List Entry) (e : Entry) → helds_of setup (h ▹ e) s ≡ flat_map (held_of setup (h ▹ e)) (watchers_of setup h s)
-  watchers-more s h e =
-      let f : Watcher → List HeldGet = held_of setup (h ▹ e) in
-      let views : List Watcher = map layout_of (views_of setup s) ++ map status_of (views_of setup s) in
-      let new : PairNo → List Watcher = λ p. map (child_of p) (up_to (length (viewport_uses p (h ▹ e)))) in
-      let old : PairNo → List Watcher = λ p. map (child_of p) (up_to (length (viewport_uses p h))) in
-      let each : (p : PairNo) → flat_map f (new p) ≡ flat_map f (old p) = λ p. held-uses p h e (uses_viewport p e.kind && is_done e.reply) (length (viewport_uses p h)) (length (viewport_uses p (h ▹ e))) refl refl in
-      flat_map-append f views (flat_map new (viewports_of setup s))
-      ∙ ap (λ l. flat_map f views ++ l) (flat-nested f new (viewports_of setup s) ∙ flat-each (λ p. flat_map f (new p)) (λ p. flat_map f (old p)) each (viewports_of setup s) ∙ sym (flat-nested f old (viewports_of setup s)))
-      ∙ sym (flat_map-append f views (flat_map old (viewports_of setup s)))
-
-  -- an entry that asks none of a session's watchers answers its held gets by what is told after it
-  pub helds-settled : (s : SessionNo) (h : List Entry) (e : Entry) → is_closed s (h ▹ e) ≡ false → ((w : Watcher) → hears setup s w ≡ true → asked setup w h e ≡ None) → helds_of setup (h ▹ e) s ≡ still_held (told setup (h ▹ e)) (helds_of setup h s)
-  helds-settled s h e opened idle =
-      let now : Watcher → Option Told = told setup (h ▹ e) in
-      watchers-more s h e
-      ∙ flat-same (hears setup s) (held_of setup (h ▹ e)) (λ w. still_held now (held_of setup h w)) (λ w heard. held-after setup w h e (idle w heard) (hears-open setup s w (h ▹ e) heard opened)) (watchers_of setup h s) (watchers-heard setup h s)
-      ∙ sym (flat-filtered (λ one. not (is_some (news_of now one))) (held_of setup h) (watchers_of setup h s))
-
-  -- where they all stay as they are
-  pub helds-kept : (s : SessionNo) (h : List Entry) (e : Entry) → ((w : Watcher) → hears setup s w ≡ true → watching setup w (h ▹ e) ≡ watching setup w h) → helds_of setup (h ▹ e) s ≡ helds_of setup h s
-  helds-kept s h e rests = watchers-more s h e ∙ flat-same (hears setup s) (held_of setup (h ▹ e)) (held_of setup h) (λ w heard. ap (held_by w) (rests w heard)) (watchers_of setup h s) (watchers-heard setup h s)

@@ -1,6 +1,6 @@
 -- The gets of a session after each kind of entry: kept, settled, or one more.
 use Rattle.std.proofs.Common.{◌≡◌, ◌∙◌, sym, subst, ℕ, zero, suc, ◌+◌, ◌-◌, Bool, true, false, List, [], ◌∷◌, ◌++◌, length, filter, drop, refl, arith, ap, Some, None}
-use Rattle.std.specs.Prelude.{cond, Option, flat_map, option_map, unwrap_or, replicate, ◌==◌, ◌&&◌, nat_lt, nat_le}
+use Rattle.std.specs.Prelude.{cond, Option, flat_map, replicate, ◌==◌, ◌&&◌, nat_lt, nat_le}
 use Rattle.std.proofs.lemmas.Bool.Decides.{nat_tests}
 use Rattle.std.proofs.lemmas.List.{append-nil}
 use Rattle.std.proofs.lemmas.List.Elements.{filter-append}
@@ -15,30 +15,24 @@ use Rattle.flat_scene.specs.declared.journal.Event.{Event}
 use Rattle.flat_scene.specs.declared.journal.Event.TheVariants as event
 use Rattle.flat_scene.specs.declared.journal.Kind.{Kind}
 use Rattle.flat_scene.specs.declared.journal.Kind.TheVariants.{View, Viewport, Present, Get, Wait, Close}
-use Rattle.flat_scene.specs.declared.journal.Post.{Post}
 use Rattle.flat_scene.specs.declared.journal.Reply.{Reply}
 use Rattle.flat_scene.specs.declared.journal.Reply.TheVariants.{Done}
 use Rattle.flat_scene.specs.declared.journal.Told.{Told}
 use Rattle.flat_scene.specs.declared.setup.Setup.{Setup}
 use Rattle.flat_scene.specs.Frames.{credits}
 use Rattle.flat_base.proofs.lemmas.Tests.{and-left, and-right}
-use Rattle.flat_scene.specs.History.{◌▹◌, own, is_closed, is_finish, is_begin, is_session}
+use Rattle.flat_scene.specs.History.{◌▹◌, is_closed, is_finish, is_begin, is_session}
 use Rattle.flat_watch.specs.Told.{Watching, answer, settled}
-use Rattle.flat_gets.specs.declared.gets.Answered.{Answered}
-use Rattle.flat_gets.specs.declared.gets.HeldGet.{HeldGet}
-use Rattle.flat_rules.specs.Ends.{is_done, to_begin, view_owner, uses_view, uses_viewport, view_uses, viewports_of}
-use Rattle.flat_gets.specs.Gets.{held_of, helds_of, hears, watchers_of, news_of, answers_to, still_held, AreGets, Settles}
-use Rattle.flat_rules.specs.Legal.{Legal, answers, asked_of, has_token, is_now, is_told, number_if, owns_view, refused_token, reply_to, reply_to_present, value_of, is_get}
+use Rattle.flat_rules.specs.Ends.{is_done, to_begin, uses_view, uses_viewport, view_uses, viewports_of}
+use Rattle.flat_gets.specs.Gets.{HeldGet, held_of, helds_of, hears, watchers_of, news_of, answers_to}
+use Rattle.flat_rules.specs.Legal.{Legal, answers, asked_of, has_token, is_now, is_told, number_if, refused_token, reply_to, reply_to_present, value_of, is_get}
 use Rattle.flat_rules.specs.Local.{pair_watched}
 use Rattle.flat_rules.specs.Posts.{releases_seen, event_of, events_to, at_finish, at_begin, frame_took, tokens_back}
 use Rattle.flat_rules.specs.Watch.{Watcher, layout_of, status_of, child_of, watching, told, asked, asked_in, is_open, listener, same_watcher}
 use Rattle.flat_facts.proofs.lemmas.Between.{is_viewport, fresh-view}
 use Rattle.flat_rules.proofs.lemmas.EventsLocal.{rest-none, flat-none}
 use Rattle.flat_rules.proofs.lemmas.AllOrSome.{flat-nested}
-use Rattle.flat_gets.proofs.GetHistory.{owner-heard, event-after, helds-kept, helds-settled, hears-open, told-part, watchers-heard}
-use Rattle.flat_gets.proofs.GetLists.{answered-or-held}
-use Rattle.flat_gets.proofs.GetOwners.{others-unasked}
-use Rattle.flat_rules.proofs.lemmas.ShownSteps.{closed-before}
+use Rattle.flat_gets.proofs.GetHistory.{event-after, hears-open, told-part, watchers-heard}
 use Rattle.flat_rules.proofs.lemmas.Still.{IsStill, watching-same, child-rests}
 use Rattle.flat_facts.proofs.lemmas.Unwatched.{unwatched, is_layout, is_status}
 use Rattle.flat_facts.proofs.lemmas.ViewHistory.{used_in}
@@ -54,7 +48,7 @@ told-answer p get (Some value) rest is = ap (λ (l : List Event). event.Told p g
 
 told-answers : (now : Watcher → Option Told) (held : List HeldGet) → filter is_told (answers_to now held) ≡ answers_to now held
 told-answers now [] = refl
-told-answers now (one ∷ more) = told-answer one.pair one.get (news_of now one) (answers_to now more) (told-answers now more)
+told-answers now (one ∷ more) = told-answer (pair_watched one.watcher) one.get (news_of now one) (answers_to now more) (told-answers now more)
 
 untold-cond : (b : Bool) (xs ys : List Event) → filter is_told xs ≡ [] → filter is_told ys ≡ [] → filter is_told (cond b xs ys) ≡ []
 untold-cond true xs ys first second = first
@@ -99,23 +93,6 @@ module _ (setup : Setup) where
       → answers setup s (h ▹ e) ≡ answers setup s h + number_if (is_session s e.actor && is_now e.reply) + length (answers_to (told setup (h ▹ e)) (helds_of setup h s))
   answers-more h e s opened = ap (λ (l : List Event). answers setup s h + number_if (is_session s e.actor && is_now e.reply) + length l) (told-to h e s opened)
 
-  -- ---- an entry that answers held gets
-
-  pub gets-settled : (h : List Entry) (e : Entry) (s : SessionNo) → ((w : Watcher) → hears setup s w ≡ true → asked setup w h e ≡ None) → (is_session s e.actor && is_now e.reply) ≡ false
-      → (place : ℕ) (held left : List HeldGet) (old new : List Answered) (posts after : List Post) (count total : ℕ) → AreGets setup h s held total → Settles (told setup (h ▹ e)) place s held left old new posts after count
-      → AreGets setup (h ▹ e) s left (total + count)
-  gets-settled h e s idle not_now place held left old new posts after count total gets settles =
-      let now : Watcher → Option Told = told setup (h ▹ e) in
-      let before : is_closed s (h ▹ e) ≡ false → is_closed s h ≡ false = λ o. closed-before (is_session s e.actor) e (own s h) o in
-      record {
-        waiting = λ o. settles.waiting ∙ ap (still_held now) (gets.waiting (before o)) ∙ sym (helds-settled setup s h e o idle);
-        answers = λ o.
-            let more : count ≡ length (answers_to now (helds_of setup h s)) = settles.answers.counted ∙ ap (λ (l : List HeldGet). length (answers_to now l)) (gets.waiting (before o)) in
-            let none : number_if (is_session s e.actor && is_now e.reply) ≡ 0 = ap number_if not_now in
-            omega (arith, gets.answers (before o), more, none, answers-more h e s o);
-        few = omega (arith, gets.few, settles.answers.counted, ap (length {A = HeldGet}) settles.waiting, answered-or-held now held);
-      }
-
   -- ---- an entry at which all its watchers rest
 
   pub quiet : (w : Watcher) (h : List Entry) (e : Entry) → asked setup w h e ≡ None → is_open setup (listener setup w) (h ▹ e) ≡ true → watching setup w (h ▹ e) ≡ watching setup w h → answers_to (told setup (h ▹ e)) (held_of setup h w) ≡ []
@@ -128,21 +105,8 @@ module _ (setup : Setup) where
       → answers_to (told setup (h ▹ e)) (helds_of setup h s) ≡ []
   quiet-all h e s opened rests =
       let now : Watcher → Option Told = told setup (h ▹ e) in
-      flat-nested (λ one. event_of one.pair (Some one.get) (news_of now one)) (held_of setup h) (watchers_of setup h s)
+      flat-nested (λ one. event_of (pair_watched one.watcher) (Some one.get) (news_of now one)) (held_of setup h) (watchers_of setup h s)
       ∙ flat-none (hears setup s) (λ w. answers_to now (held_of setup h w)) (λ w heard. quiet w h e (rests w heard).0 (hears-open setup s w (h ▹ e) heard opened) (rests w heard).1) (watchers_of setup h s) (watchers-heard setup h s)
-
-  pub gets-kept : (h : List Entry) (e : Entry) (s : SessionNo) → ((w : Watcher) → hears setup s w ≡ true → (asked setup w h e ≡ None) × (watching setup w (h ▹ e) ≡ watching setup w h)) → (is_session s e.actor && is_now e.reply) ≡ false
-      → (held : List HeldGet) (total : ℕ) → AreGets setup h s held total → AreGets setup (h ▹ e) s held total
-  gets-kept h e s rests not_now held total gets =
-      let before : is_closed s (h ▹ e) ≡ false → is_closed s h ≡ false = λ o. closed-before (is_session s e.actor) e (own s h) o in
-      record {
-        waiting = λ o. gets.waiting (before o) ∙ sym (helds-kept setup s h e (λ w heard. (rests w heard).1));
-        answers = λ o.
-            let none : number_if (is_session s e.actor && is_now e.reply) ≡ 0 = ap number_if not_now in
-            let silent : length (answers_to (told setup (h ▹ e)) (helds_of setup h s)) ≡ 0 = ap (length {A = Event}) (quiet-all h e s o rests) in
-            omega (arith, gets.answers (before o), none, silent, answers-more h e s o);
-        few = omega (arith, gets.few);
-      }
 
 -- ---- kinds of entry
 
@@ -219,19 +183,6 @@ module _ (setup : Setup) (h : List Entry) (e : Entry) (legal : Legal setup (h �
       by_kind (Viewport q props) is f v = cc
       by_kind kind is f v = watching-same setup w h e (record { no_finish = no_finish; no_view = rw is refl; no_viewport = rw is refl }) idle
 
-  -- the gets of a session stay, where no frame ends, no viewport end is used, and it asks for nothing
-  pub gets-between : (s : SessionNo) → is_finish e.kind ≡ false → is_viewport e.kind ≡ false → (is_session s e.actor ≡ true → is_get e.kind ≡ false) → (held : List HeldGet) (total : ℕ) → AreGets setup h s held total → AreGets setup (h ▹ e) s held total
-  gets-between s no_finish no_viewport no_get held total gets =
-      gets-kept setup h e s (λ w heard. let idle = none w heard (is_session s e.actor) refl in (idle, rests-between no_finish no_viewport w idle)) (by_mine (is_session s e.actor) refl) held total gets
-    where
-      none : (w : Watcher) → hears setup s w ≡ true → (b : Bool) → is_session s e.actor ≡ b → asked setup w h e ≡ None
-      none w heard true mine = idle-kind setup h e (no_get mine) w
-      none w heard false other = others-unasked setup h e legal s other w heard
-
-      by_mine : (b : Bool) → is_session s e.actor ≡ b → (b && is_now e.reply) ≡ false
-      by_mine true mine = untold-kind setup h e legal (no_get mine)
-      by_mine false other = refl
-
   -- ---- a viewport's entry
 
   abbrev IsJoin : PairNo → Kind → Type 0
@@ -257,34 +208,8 @@ module _ (setup : Setup) (h : List Entry) (e : Entry) (legal : Legal setup (h �
       by_watcher (status_of p) other' idle = watching-same setup (status_of p) h e (still p other'.1) idle
       by_watcher (child_of p n) other' idle = child-rests setup p n h e (join-kind q props is).0 idle
 
-  -- the gets of a session stay that doesn't own the pair's view
-  pub gets-elsewhere : (s : SessionNo) (q : PairNo) (props : ViewportProps) → e.kind ≡ Viewport q props → owns_view setup s q ≡ false → (held : List HeldGet) (total : ℕ) → AreGets setup h s held total → AreGets setup (h ▹ e) s held total
-  gets-elsewhere s q props is foreign held total gets =
-      let k : IsJoin q e.kind = join-kind q props is in
-      gets-kept setup h e s (λ w heard. (idle-kind setup h e k.1 w, rests-joined q props is w (others w heard))) (and_right (is_session s e.actor) (is_now e.reply) (untold-kind setup h e legal k.1)) held total gets
-    where
-      no_view : (p : PairNo) → unwrap_or (option_map (is_session s) (option_map Session (view_owner setup p))) false ≡ true → (p.0 == q.0) ≡ false
-      no_view p heard = by_same (p.0 == q.0) refl
-        where
-          by_same : (b : Bool) → (p.0 == q.0) ≡ b → b ≡ false
-          by_same false differ = refl
-          by_same true same =
-              let H : PairNo → Type 0 = λ r. unwrap_or (option_map (is_session s) (option_map Session (view_owner setup r))) false ≡ true in
-              let mine : unwrap_or (option_map (is_session s) (option_map Session (view_owner setup q))) false ≡ true = subst H (same-pair p q same) heard in
-              sym (owner-heard s (view_owner setup q) mine) ∙ foreign
-
-      others : (w : Watcher) → hears setup s w ≡ true → (same_watcher w (layout_of q) ≡ false) × (same_watcher w (status_of q) ≡ false)
-      others (layout_of p) heard = (no_view p heard, refl)
-      others (status_of p) heard = (refl, no_view p heard)
-      others (child_of p n) heard = (refl, refl)
-
   -- and all stay where the use is refused
   pub rests-refused : (q : PairNo) (props : ViewportProps) → e.kind ≡ Viewport q props → is_done e.reply ≡ false → (w : Watcher) → watching setup w (h ▹ e) ≡ watching setup w h
   rests-refused q props is refused w =
       let k : IsJoin q e.kind = join-kind q props is in
       watching-same setup w h e (record { no_finish = k.0; no_view = rw (k.2 (pair_watched w)).0 refl; no_viewport = and_right (uses_viewport (pair_watched w) e.kind) (is_done e.reply) refused }) (idle-kind setup h e k.1 w)
-
-  pub gets-refused : (s : SessionNo) (q : PairNo) (props : ViewportProps) → e.kind ≡ Viewport q props → is_done e.reply ≡ false → (held : List HeldGet) (total : ℕ) → AreGets setup h s held total → AreGets setup (h ▹ e) s held total
-  gets-refused s q props is refused held total gets =
-      let k : IsJoin q e.kind = join-kind q props is in
-      gets-kept setup h e s (λ w heard. (idle-kind setup h e k.1 w, rests-refused q props is refused w)) (and_right (is_session s e.actor) (is_now e.reply) (untold-kind setup h e legal k.1)) held total gets

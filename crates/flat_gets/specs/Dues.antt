@@ -1,15 +1,16 @@
 -- How many events may still be posted to all sessions.
-use Rattle.std.specs.Prelude.{ℕ, ◌+◌, List, length, sum_by}
+use Rattle.std.specs.Prelude.{ℕ, ◌+◌, List, sum_by}
 use Rattle.flat_states.specs.Machines.{due}
 use Rattle.flat_links.specs.AllEnds.{due_back}
 use Rattle.flat_states.specs.declared.state.SessionState.{SessionState}
 use Rattle.flat_links.specs.declared.viewports.Viewports.{Viewports}
-use Rattle.flat_gets.specs.declared.gets.Gets.{Gets}
+use Rattle.flat_gets.specs.declared.watching.Watchers.{Watchers}
+use Rattle.flat_gets.specs.Pairs.{waiting_in}
 
--- to a session, for its gets that wait
-abbrev pub due_told : Gets → ℕ
-due_told gets = length gets.held.items
+-- for the gets that wait
+abbrev pub due_told : Watchers → ℕ
+due_told watchers = sum_by waiting_in watchers.pairs.items
 
--- to all sessions
-abbrev pub all_due : List SessionState → List Viewports → List Gets → ℕ
-all_due sessions ends gets = sum_by due sessions + (sum_by due_back ends + sum_by due_told gets)
+-- all
+abbrev pub all_due : List SessionState → List Viewports → Watchers → ℕ
+all_due sessions ends watchers = sum_by due sessions + (sum_by due_back ends + due_told watchers)

@@ -1,91 +1,183 @@
--- What is kept of the gets of all sessions, and of what all watchers answered last.
-use Rattle.std.specs.Prelude.{◌≡◌, ◌⊎◌, ◌<◌, ◌+◌, ◌-◌, ◌^◌, ℕ, Bool, true, false, nat_lt, cond, ◌==◌, option_map, unwrap_or, slice_get, List, length, slice_index_or, slice_set, Option}
+-- What is kept of the gets of all sessions, by the watchers of all pairs.
+use Rattle.std.specs.Prelude.{◌≡◌, ◌⊎◌, ◌<◌, ◌≤◌, ◌+◌, ◌-◌, ◌++◌, ℕ, Bool, true, false, not, nat_lt, nat_le, cond, ◌&&◌, ◌==◌, option_map, unwrap_or, slice_get, List, filter, flat_map, map, length, slice_index_or, slice_set, sum_by, vec_capacity, Option, Some, None, is_some}
+use Rattle.flat_base.specs.declared.ids.Actor.{Actor}
+use Rattle.flat_base.specs.declared.ids.Actor.TheVariants.{Session}
 use Rattle.flat_base.specs.declared.ids.PairNo.{PairNo}
 use Rattle.flat_base.specs.declared.ids.SessionNo.{SessionNo}
 use Rattle.flat_scene.specs.declared.calls.ViewportProps.{ViewportProps}
 use Rattle.flat_scene.specs.declared.calls.Watch.{Watch}
 use Rattle.flat_scene.specs.declared.journal.Entry.{Entry}
+use Rattle.flat_scene.specs.declared.journal.Event.{Event}
 use Rattle.flat_scene.specs.declared.journal.Kind.TheVariants.{Viewport}
 use Rattle.flat_scene.specs.declared.journal.Post.{Post}
 use Rattle.flat_scene.specs.declared.journal.Reply.{Reply}
-use Rattle.flat_scene.specs.declared.journal.Reply.TheVariants.{Held}
+use Rattle.flat_scene.specs.declared.journal.Reply.TheVariants.{Closed, Held, Now}
+use Rattle.flat_base.specs.declared.errors.FlatlandError.TheVariants.{BadHangingGet}
+use Rattle.flat_watch.specs.declared.cell.GetAnswer.{GetAnswer}
+use Rattle.flat_watch.specs.declared.cell.GetAnswer.TheVariants as answers_at_once
 use Rattle.flat_scene.specs.declared.journal.Told.{Told}
 use Rattle.flat_scene.specs.declared.setup.Setup.{Setup}
 use Rattle.flat_scene.specs.History.{◌▹◌, is_closed}
 use Rattle.flat_scene.specs.Setups.{is_declared}
-use Rattle.flat_gets.specs.declared.gets.Answered.{Answered}
-use Rattle.flat_gets.specs.declared.gets.Gets.{Gets}
+use Rattle.flat_gets.specs.declared.pair.PairWatchers.{PairWatchers}
+use Rattle.flat_gets.specs.declared.pair.Part.{Part}
+use Rattle.flat_gets.specs.declared.pair.Part.TheVariants as parts
+use Rattle.flat_gets.specs.declared.watching.Watchers.{Watchers}
 use Rattle.flat_states.specs.declared.state.SessionState.{SessionState}
 use Rattle.flat_states.specs.declared.port.DisplayPort.{DisplayPort}
 use Rattle.flat_links.specs.declared.ties.Ties.{Ties}
-use Rattle.flat_rules.specs.Numbers.{number, AllNumbered}
-use Rattle.flat_rules.specs.Ends.{view_uses, viewport_uses}
+use Rattle.flat_facts.specs.Begins.{post_of}
 use Rattle.flat_states.specs.Flags.{has_end}
-use Rattle.flat_links.specs.Following.{AreTied}
-use Rattle.flat_gets.specs.Gets.{AllAnswered, AllUpTo, AreGets, Asks, Settles, watched_of, watcher_for}
-use Rattle.flat_rules.specs.Legal.{Legal, answers, owns_view}
+use Rattle.flat_links.specs.Following.{AreTied, pair}
 use Rattle.flat_states.specs.Presents.{use_reply}
-use Rattle.flat_rules.specs.Watch.{Watcher, ratio_told, told}
 use Rattle.flat_states.specs.Ports.{port_of}
+use Rattle.flat_rules.specs.Numbers.{number, AllNumbered}
+use Rattle.flat_rules.specs.Ends.{view_uses, viewport_owner, viewport_uses}
+use Rattle.flat_rules.specs.Legal.{Legal, answers, got, is_now, number_if, owns_view}
+use Rattle.flat_rules.specs.Posts.{event_of}
+use Rattle.flat_rules.specs.Watch.{Watcher, layout_of, status_of, listener, ratio_told, told}
+use Rattle.flat_watch.specs.Told.{answer, news, settled}
+use Rattle.flat_gets.specs.Dues.{due_told}
+use Rattle.flat_gets.specs.Gets.{gets_made}
+use Rattle.flat_gets.specs.Listed.{AreListed, KeptGets, is_listed, view_waits, viewport_waits, waits_at, with_pair}
+use Rattle.flat_gets.specs.Pairs.{AreAt, IsGot, IsTold, cell_at, is_child, part_events, part_of, still_waiting, watcher_at}
+
+-- ---- a get
 
 -- the watcher of a pair that a get means
 abbrev pub watcher_meant : List Entry → Watch → PairNo → Watcher
-watcher_meant history get p = watcher_for p (watched_of (length (viewport_uses p history)) get)
+watcher_meant history get p = watcher_at (part_of get) p (length (viewport_uses p history))
 
--- What is kept of the gets of a session stands for them; how many answers it has had is known also of a closed one.
-pub record AreOwnGets (setup : Setup) (history : List Entry) (s : SessionNo) (gets : Gets) : Type 0 where
-  pub held : AreGets setup history s gets.held.items gets.answers
-  pub counted : gets.answers ≡ answers setup s history
-
--- The same of all sessions, and of all pairs.
-pub record AreWatched (setup : Setup) (history : List Entry) (gets : List Gets) (last : List Answered) : Type 0 where
-  pub count : length gets ≡ setup.sessions
-  pub each : AllNumbered (λ i. AreOwnGets setup history (number i)) gets
-  pub answered : AllAnswered setup history last
-
--- whether a session is closed by its state, or isn't one of these
-abbrev pub is_shut : List SessionState → SessionNo → Bool
-is_shut sessions s = cond (s.0 == 0) true (unwrap_or (option_map (λ state. state.closed) (slice_get sessions (s.0 - 1))) true)
+-- the reply to a get by the answer of its cell
+abbrev pub replied : GetAnswer → Reply
+replied (answers_at_once.Now value) = Now value
+replied answers_at_once.Held = Held
+replied answers_at_once.BadHangingGet = Closed (Some BadHangingGet) None
 
 -- whether a get waits by its reply
 abbrev pub is_held : Reply → Bool
 is_held Held = true
 is_held _ = false
 
--- its answers and its gets that wait are few, with one more
-abbrev pub is_few : ℕ → Gets → Type 0
-is_few i gets = gets.answers + length gets.held.items + 1 < 2 ^ 32
+-- A session asks for a value of a pair, as it is told after the history.
+pub record IsAsked (setup : Setup) (history : List Entry) (s : SessionNo) (p : PairNo) (get : Watch) (reply : Reply) (old new : Watchers) : Type 0 where
+  pub was : PairWatchers
+  pub then : PairWatchers
+  pub from : KeptGets
+  pub to : KeptGets
+  pub of_was : was ≡ slice_index_or old.pairs.items p.0 was
+  pub pairs_are : new.pairs.items ≡ slice_set old.pairs.items p.0 then
+  pub of_from : from ≡ slice_index_or old.sessions.items (s.0 - 1) from
+  pub sessions_are : new.sessions.items ≡ slice_set old.sessions.items (s.0 - 1) to
+  pub gets : IsGot (part_of get) get (told setup history (watcher_at (part_of get) p 0)) was then
+  pub replied : reply ≡ got (is_some (cell_at (part_of get) was).waits) (news (told setup history (watcher_at (part_of get) p 0)) (cell_at (part_of get) was).last)
+  pub counted : to.answers ≡ from.answers + number_if (is_now reply)
+  pub views : to.views ≡ cond (is_held reply && not (is_child (part_of get))) (with_pair p from.views) from.views
+  pub viewports : to.viewports ≡ cond (is_held reply && is_child (part_of get)) (with_pair p from.viewports) from.viewports
 
--- a pair's viewport end was used few times
-abbrev pub is_seldom : ℕ → Answered → Type 0
-is_seldom i one = one.uses + 1 < 2 ^ 32
+-- ---- gets are answered
+
+-- what the listed pairs answer of a part, where this is told of each now
+abbrev pub part_answers : Part → (PairNo → Option Told) → List PairWatchers → PairWatchers → List PairNo → List Event
+part_answers part now pairs d = flat_map (λ p. part_events part p (now p) (slice_index_or pairs p.0 d))
+
+-- The listed pairs answer a part, by an entry of that place.
+pub record TellsEach (part : Part) (now : PairNo → Option Told) (place : ℕ) (s : SessionNo) (listed : List PairNo) (old new : List PairWatchers) (posts after : List Post) (count : ℕ) : Type 0 where
+  pub length_is : length new ≡ length old
+  pub told : (p : PairNo) (d : PairWatchers) → p.0 < length old → is_listed p.0 listed ≡ true → IsTold part (now p) (slice_index_or old p.0 d) (slice_index_or new p.0 d)
+  pub others : (i : ℕ) (d : PairWatchers) → i < length old → is_listed i listed ≡ false → slice_index_or new i d ≡ slice_index_or old i d
+  pub posted : (d : PairWatchers) → after ≡ posts ++ map (post_of place s) (part_answers part now old d listed)
+  pub counted : (d : PairWatchers) → count ≡ length (part_answers part now old d listed)
+
+-- What is kept of a pair after all answers to a session, of which these pairs were listed.
+pub record IsToldAll (now : Watcher → Option Told) (from : KeptGets) (p : PairNo) (old new : PairWatchers) : Type 0 where
+  pub layout : new.layout ≡ settled (is_listed p.0 from.views) (now (watcher_at parts.Layout p 0)) old.layout
+  pub status : new.status ≡ settled (is_listed p.0 from.views) (now (watcher_at parts.Status p 0)) old.status
+  pub child : new.child ≡ settled (is_listed p.0 from.viewports) (now (watcher_at parts.Child p 0)) old.child
+  pub former : new.former.items ≡ cond (is_listed p.0 from.viewports) (still_waiting (now (watcher_at parts.Child p 0)) old.former.items) old.former.items
+
+-- all answers to a session, in order: layouts, statuses, children
+abbrev pub all_answers : (Watcher → Option Told) → KeptGets → List PairWatchers → PairWatchers → List Event
+all_answers now from pairs d =
+    part_answers parts.Layout (λ p. now (watcher_at parts.Layout p 0)) pairs d from.views
+    ++ part_answers parts.Status (λ p. now (watcher_at parts.Status p 0)) pairs d from.views
+    ++ part_answers parts.Child (λ p. now (watcher_at parts.Child p 0)) pairs d from.viewports
 
 -- The gets of a session that wait are answered where there is news, and others aren't.
-pub record IsSettled (now : Watcher → Option Told) (place : ℕ) (s : SessionNo) (old new : List Gets) (was last : List Answered) (posts after : List Post) (count : ℕ) : Type 0 where
-  pub before : Gets
-  pub then : Gets
-  pub of_before : before ≡ slice_index_or old (s.0 - 1) before
-  pub new_is : new ≡ slice_set old (s.0 - 1) then
-  pub settles : Settles now place s before.held.items then.held.items was last posts after count
-  pub total : then.answers ≡ before.answers + count
+pub record IsSettled (now : Watcher → Option Told) (place : ℕ) (s : SessionNo) (old new : Watchers) (posts after : List Post) (count : ℕ) : Type 0 where
+  pub from : KeptGets
+  pub to : KeptGets
+  pub of_from : from ≡ slice_index_or old.sessions.items (s.0 - 1) from
+  pub sessions_are : new.sessions.items ≡ slice_set old.sessions.items (s.0 - 1) to
+  pub length_is : length new.pairs.items ≡ length old.pairs.items
+  pub each : (p : PairNo) (d : PairWatchers) → p.0 < length old.pairs.items → IsToldAll now from p (slice_index_or old.pairs.items p.0 d) (slice_index_or new.pairs.items p.0 d)
+  pub posted : (d : PairWatchers) → after ≡ posts ++ map (post_of place s) (all_answers now from old.pairs.items d)
+  pub counted : (d : PairWatchers) → count ≡ length (all_answers now from old.pairs.items d)
+  pub total : to.answers ≡ from.answers + count
+  pub views : to.views ≡ filter (waits_at view_waits new.pairs.items) from.views
+  pub viewports : to.viewports ≡ filter (waits_at viewport_waits new.pairs.items) from.viewports
 
--- A session asks for a value of a pair, as it is told after the history.
-pub record IsAsked (setup : Setup) (history : List Entry) (s : SessionNo) (p : PairNo) (get : Watch) (reply : Reply) (old new : List Gets) (was last : List Answered) : Type 0 where
-  pub before : Gets
-  pub then : Gets
-  pub pair : Answered
-  pub asked : Answered
-  pub of_before : before ≡ slice_index_or old (s.0 - 1) before
-  pub new_is : new ≡ slice_set old (s.0 - 1) then
-  pub of_pair : pair ≡ slice_index_or was p.0 pair
-  pub last_is : last ≡ slice_set was p.0 asked
-  pub asks : Asks p get (told setup history (watcher_for p (watched_of pair.uses get))) pair asked before.held.items then.held.items before.answers then.answers reply
+-- What is kept of a pair after the answers to gets of its view.
+pub record IsViewTold (now : Watcher → Option Told) (p : PairNo) (old new : PairWatchers) : Type 0 where
+  pub layout : new.layout ≡ settled true (now (layout_of p)) old.layout
+  pub status : new.status ≡ settled true (now (status_of p)) old.status
+  pub child : new.child ≡ old.child
+  pub former : new.former.items ≡ old.former.items
 
--- What is kept at the end of a frame, where the first so many sessions were told.
-pub record WatchedUpTo (setup : Setup) (n : ℕ) (after before : List Entry) (gets : List Gets) (last : List Answered) : Type 0 where
-  pub count : length gets ≡ setup.sessions
-  pub each : AllNumbered (λ i. AreOwnGets setup (cond (nat_lt i n) after before) (number i)) gets
-  pub answered : AllUpTo setup n after before last
+-- The gets of a pair's view that wait are answered where there is news, to a session.
+pub record TellsView (now : Watcher → Option Told) (place : ℕ) (s : SessionNo) (p : PairNo) (old new : Watchers) (posts after : List Post) (count : ℕ) : Type 0 where
+  pub was : PairWatchers
+  pub then : PairWatchers
+  pub from : KeptGets
+  pub of_was : was ≡ slice_index_or old.pairs.items p.0 was
+  pub pairs_are : new.pairs.items ≡ slice_set old.pairs.items p.0 then
+  pub of_from : from ≡ slice_index_or old.sessions.items (s.0 - 1) from
+  pub sessions_are : new.sessions.items ≡ slice_set old.sessions.items (s.0 - 1) (record from { answers = from.answers + count })
+  pub told : IsViewTold now p was then
+  pub posted : after ≡ posts ++ map (post_of place s) (event_of p was.layout.waits (answer (now (layout_of p)) was.layout) ++ event_of p was.status.waits (answer (now (status_of p)) was.status))
+  pub counted : count ≡ length (event_of p was.layout.waits (answer (now (layout_of p)) was.layout) ++ event_of p was.status.waits (answer (now (status_of p)) was.status))
+
+-- the room is there for one more use of the viewport end of a pair
+abbrev pub HasRoomAt : PairNo → Watchers → Type 0
+HasRoomAt p watchers = (d : PairWatchers) → length (slice_index_or watchers.pairs.items p.0 d).former.items < vec_capacity (slice_index_or watchers.pairs.items p.0 d).former
+
+-- ---- what is kept stands for a history
+
+abbrev pub answers_in : KeptGets → ℕ
+answers_in gets = gets.answers
+
+-- answers and gets that wait are no more than the gets made
+abbrev pub told_and_due : Watchers → ℕ
+told_and_due watchers = sum_by answers_in watchers.sessions.items + due_told watchers
+
+-- What is kept of all sessions and all pairs stands for a history.
+pub record AreWatched (setup : Setup) (history : List Entry) (watchers : Watchers) : Type 0 where
+  pub count : length watchers.pairs.items ≡ length setup.pairs
+  pub sessions : length watchers.sessions.items ≡ setup.sessions
+  pub each : AllNumbered (λ i. AreAt setup history history (pair i)) watchers.pairs.items
+  pub answered : AllNumbered (λ i one. one.answers ≡ answers setup (number i) history) watchers.sessions.items
+  pub listed : AllNumbered (λ i. AreListed setup (number i) watchers.pairs.items) watchers.sessions.items
+  pub few : told_and_due watchers ≤ gets_made history
+
+-- a history, or the one after an entry where this actor is one of the first sessions, up to that number
+abbrev pub reached : ℕ → Option Actor → List Entry → List Entry → List Entry
+reached n (Some (Session s)) after before = cond (nat_lt 0 s.0 && nat_le s.0 n) after before
+reached n _ after before = before
+
+-- The same at the end of a frame, where the first so many sessions were told.
+pub record WatchedUpTo (setup : Setup) (n : ℕ) (after before : List Entry) (watchers : Watchers) : Type 0 where
+  pub count : length watchers.pairs.items ≡ length setup.pairs
+  pub sessions : length watchers.sessions.items ≡ setup.sessions
+  pub each : AllNumbered (λ i. AreAt setup (reached n (listener setup (layout_of (pair i))) after before) (reached n (viewport_owner setup (pair i)) after before) (pair i)) watchers.pairs.items
+  pub answered : AllNumbered (λ i one. one.answers ≡ answers setup (number i) (cond (nat_lt i n) after before)) watchers.sessions.items
+  pub listed : AllNumbered (λ i. AreListed setup (number i) watchers.pairs.items) watchers.sessions.items
+  pub few : told_and_due watchers ≤ gets_made before
+
+-- ---- a viewport
+
+-- whether a session is closed by its state, or isn't one of these
+abbrev pub is_shut : List SessionState → SessionNo → Bool
+is_shut sessions s = cond (s.0 == 0) true (unwrap_or (option_map (λ state. state.closed) (slice_get sessions (s.0 - 1))) true)
 
 -- An entry uses the viewport end of a pair, whose view this session owns, or is refused to. The session is shut where it is closed, or isn't one of the setup.
 pub record IsJoin (setup : Setup) (history : List Entry) (entry : Entry) (is_held : Bool) (owner : SessionNo) (shut : Bool) (p : PairNo) : Type 0 where

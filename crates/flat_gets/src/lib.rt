@@ -1,14 +1,17 @@
-//! Hanging gets of sessions: which are held, what watchers answered last (gets,
-//! watching), and what they tell, by what is kept of pairs (telling).
+//! Hanging gets of sessions: what is kept of the watchers of each pair (pair), which
+//! pairs of a session have gets that may wait (session), all of them (watching), and
+//! what pairs tell (telling).
 //!
-//! `Gets` answers and holds by specs/Gets, `Watchers` of all sessions by specs/Watchers,
-//! over any teller (`Tells`).
+//! A pair has a `Cell` of flat_watch for each of its watchers, by specs/Pairs; a session
+//! lists the pairs that it has to look at when a frame ends, by specs/Listed; `Watchers`
+//! stands for a history by `AreWatched` (specs/Watchers), over any teller (`Tells`).
 //!
 //! Other crates may cite the lemmas of proofs/lemmas/: what the board takes of gets and
 //! watchers at a get (GetPosts), at a call that uses a viewport (ViewportUses), at a begin
 //! (Begun, BoardBegins), at a done (DoneSteps, WatchingSteps) and at an End (EndSteps).
 #![tactic(auto)]
 
-pub mod gets;
+pub mod pair;
+pub mod session;
 pub mod telling;
 pub mod watching;

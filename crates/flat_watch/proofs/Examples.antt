@@ -1,4 +1,4 @@
--- Small lists of calls, computed.
+-- Small lists of values, computed.
 use Rattle.std.proofs.Common.{◌≡◌, ℕ, true, false, [], ◌∷◌, Some, None, refl}
 use Rattle.std.specs.Prelude.{find}
 use Rattle.std.specs.List.{position_from}
@@ -7,8 +7,8 @@ use Rattle.flat_scene.specs.declared.journal.Told.{Told}
 use Rattle.flat_scene.specs.declared.journal.Told.TheVariants.{Layout, Connected, Disconnected, HasPresented, Gone}
 use Rattle.flat_watch.specs.declared.cell.GetAnswer.TheVariants.{Now, Held, BadHangingGet}
 use Rattle.flat_watch.specs.Told.{same_told, news, asking, settled}
-use Rattle.flat_watch.specs.Cells.{new_cell, got, get, set, unset, run, says, values}
-use Rattle.flat_watch.specs.Laws.{is_news}
+use Rattle.flat_watch.specs.Cells.{after_all, after_get, answers, answered_get, got, new_cell}
+use Rattle.flat_watch.specs.Laws.{answers_from, is_news}
 
 abbrev sized : ℕ → Told
 sized w = Layout (record { w = w; h = 1; inset = record { top = 0; right = 0; bottom = 0; left = 0 }; ratio = 65536 })
@@ -29,18 +29,21 @@ first_is_news : news (Some Gone) None ≡ Some Gone
 first_is_news = refl
 
 -- answered at once, and then held until the value changes; the same value answers nothing
-held_until_it_changes : says new_cell (set (sized 5) ∷ get ∷ get ∷ set (sized 5) ∷ set (sized 6) ∷ set (sized 7) ∷ []) ≡ None ∷ Some (sized 5) ∷ None ∷ None ∷ Some (sized 6) ∷ None ∷ []
+at_once : after_get watch.Layout (Some (sized 5)) new_cell ≡ record { last = Some (sized 5); waits = None }
+at_once = refl
+
+held_until_it_changes : answers_from watch.Layout (Some (sized 5)) (Some (sized 5) ∷ Some (sized 6) ∷ Some (sized 7) ∷ []) (record { last = Some (sized 5); waits = None }) ≡ None ∷ None ∷ Some (sized 6) ∷ None ∷ []
 held_until_it_changes = refl
 
 -- what changes and changes back is not told
-changes_back : says new_cell (get ∷ set Connected ∷ set Disconnected ∷ set Connected ∷ get ∷ []) ≡ None ∷ Some Connected ∷ None ∷ None ∷ None ∷ []
+changes_back : after_get watch.Status (Some Connected) (after_all (record { last = Some Connected; waits = None }) (Some Disconnected ∷ Some Connected ∷ [])) ≡ record { last = Some Connected; waits = Some watch.Status }
 changes_back = refl
 
 -- a second get while one is held
-second_get : got (run new_cell (get ∷ [])).held None ≡ BadHangingGet
+second_get : got true (Some Gone) ≡ BadHangingGet
 second_get = refl
 
-second_changes_nothing : run new_cell (get ∷ get ∷ []) ≡ run new_cell (get ∷ [])
+second_changes_nothing : after_get watch.Status (Some Gone) (record { last = None; waits = Some watch.Layout }) ≡ record { last = None; waits = Some watch.Layout }
 second_changes_nothing = refl
 
 first_get : got false (news None None) ≡ Held
@@ -50,14 +53,18 @@ get_at_once : got false (news (Some Gone) (Some HasPresented)) ≡ Now Gone
 get_at_once = refl
 
 -- a value that is there no more answers nothing
-gone_before_asked : says new_cell (set HasPresented ∷ unset ∷ get ∷ set Gone ∷ []) ≡ None ∷ None ∷ None ∷ Some Gone ∷ []
+gone_before_asked : answers (after_get watch.Layout None (after_all new_cell (Some HasPresented ∷ None ∷ []))) (Some Gone ∷ []) ≡ Some Gone ∷ []
 gone_before_asked = refl
 
+-- an answer has the name of its get
+named : answered_get (Some watch.Status) (Some Gone) ≡ Some (record { get = watch.Status; value = Gone })
+named = refl
+
 -- the first news from the get on, and its moment
-first_news_from_a_get : find (is_news (Some Connected)) (values (Some Connected) (get ∷ set Connected ∷ set Gone ∷ set Connected ∷ [])) ≡ Some (Some Gone)
+first_news_from_a_get : find (is_news (Some Connected)) (Some Connected ∷ Some Connected ∷ Some Gone ∷ Some Connected ∷ []) ≡ Some (Some Gone)
 first_news_from_a_get = refl
 
-its_moment : position_from (is_news (Some Connected)) 0 (values (Some Connected) (get ∷ set Connected ∷ set Gone ∷ set Connected ∷ [])) ≡ Some 2
+its_moment : position_from (is_news (Some Connected)) 0 (Some Connected ∷ Some Connected ∷ Some Gone ∷ Some Connected ∷ []) ≡ Some 2
 its_moment = refl
 
 -- a watcher answers its held get where its session listens

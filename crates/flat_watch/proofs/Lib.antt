@@ -1,3 +1,3 @@
 pub mod Examples
-pub mod News
+pub mod NewsLemmas
 pub mod Runs

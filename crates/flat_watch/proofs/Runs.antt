@@ -1,78 +1,65 @@
--- Cells after any calls.
+-- Cells after any values.
 use Rattle.std.proofs.Common.{◌≡◌, ℕ, ◌+◌, Bool, true, false, List, [], ◌∷◌, Option, Some, None, refl, sym, ap, subst}
 use Rattle.std.specs.Prelude.{find, is_some}
 use Rattle.std.specs.List.{list_any, position_from}
+use Rattle.flat_scene.specs.declared.calls.Watch.{Watch}
 use Rattle.flat_scene.specs.declared.journal.Told.{Told}
-use Rattle.flat_watch.specs.Told.{news}
-use Rattle.flat_watch.specs.Cells.{Kept, CellCall, get, set, unset, answered, run, says, values, is_get}
-use Rattle.flat_watch.specs.Laws.{is_news, AnswersFirstNews, FirstNewsIsAnswered, SilentUnasked}
-use Rattle.flat_watch.proofs.News.{news-none, news-value}
+use Rattle.flat_watch.specs.Told.{Watching, answer, answered_by, news, settled}
+use Rattle.flat_watch.specs.Cells.{after_all, answers}
+use Rattle.flat_watch.specs.Laws.{is_news, AnswersFirstNews, AnswersOnce, FirstNewsIsAnswered, SilenceChangesNothing, SilentUnasked}
+use Rattle.flat_watch.proofs.NewsLemmas.{news-value}
 
--- a cell that holds a get, and one that doesn't
-abbrev waiting : Option Told → Option Told → Kept
-waiting last value = record { last = last; value = value; held = true }
+-- a cell that holds a get
+abbrev waiting : Watch → Option Told → Watching
+waiting get last = record { last = last; waits = Some get }
 
-abbrev resting : Option Told → Option Told → Kept
-resting last value = record { last = last; value = value; held = false }
-
--- what a cell says is, from a number of moments on, the first news among these values
-record SaysFirst (n : ℕ) (last : Option Told) (told said : List (Option Told)) (held : Bool) : Type 0 where
+-- What a cell says is, from a number of moments on, the first news among these values.
+record SaysFirst (n : ℕ) (get : Watch) (last : Option Told) (told said : List (Option Told)) (waits : Option Watch) : Type 0 where
   value : find is_some said ≡ find (is_news last) told
   moment : position_from is_some n said ≡ position_from (is_news last) n told
-  waits : list_any is_some said ≡ false → held ≡ true
+  held : list_any is_some said ≡ false → waits ≡ Some get
 
 -- a moment without news
-silent : (n : ℕ) (last now : Option Told) (told said : List (Option Told)) (held : Bool) → news now last ≡ None →
-    SaysFirst (n + 1) last told said held → SaysFirst n last (now ∷ told) (None ∷ said) held
-silent n last now told said held none later = record {
+silent : (n : ℕ) (get : Watch) (last now : Option Told) (told said : List (Option Told)) (waits : Option Watch) → news now last ≡ None → SaysFirst (n + 1) get last told said waits → SaysFirst n get last (now ∷ told) (None ∷ said) waits
+silent n get last now told said waits none later = record {
   value = rw none later.value;
   moment = rw none later.moment;
-  waits = later.waits;
+  held = later.held;
 }
 
 -- a moment with news
-spoken : (n : ℕ) (last now : Option Told) (v : Told) (told said : List (Option Told)) (held : Bool) → news now last ≡ Some v → SaysFirst n last (now ∷ told) (Some v ∷ said) held
-spoken n last now v told said held some = record {
+spoken : (n : ℕ) (get : Watch) (last now : Option Told) (v : Told) (told said : List (Option Told)) (waits : Option Watch) → news now last ≡ Some v → SaysFirst n get last (now ∷ told) (Some v ∷ said) waits
+spoken n get last now v told said waits some = record {
   value = rw some (ap (λ x. Some x) (sym (news-value now last v some)));
   moment = rw some refl;
-  waits = λ e. absurd (cc);
+  held = λ e. absurd (cc);
 }
 
-while_waiting : (calls : List CellCall) (n : ℕ) (last value : Option Told) → news value last ≡ None →
-    SaysFirst n last (values value calls) (says (waiting last value) calls) (run (waiting last value) calls).held
-while_waiting [] n last value quiet = record { value = refl; moment = refl; waits = λ _. refl }
-while_waiting (get ∷ calls) n last value quiet =
-    silent n last value (values value calls) (says (waiting last value) calls) (run (waiting last value) calls).held quiet (while_waiting calls (n + 1) last value quiet)
-while_waiting (unset ∷ calls) n last value quiet =
-    silent n last None (values None calls) (says (waiting last None) calls) (run (waiting last None) calls).held (news-none last)
-    (while_waiting calls (n + 1) last None (news-none last))
-while_waiting (set v ∷ calls) n last value quiet = by_news (news (Some v) last) refl (λ none. while_waiting calls (n + 1) last (Some v) none) where
-  by_news : (m : Option Told) → news (Some v) last ≡ m →
-      (news (Some v) last ≡ None → SaysFirst (n + 1) last (values (Some v) calls) (says (waiting last (Some v)) calls) (run (waiting last (Some v)) calls).held) →
-      SaysFirst n last (Some v ∷ values (Some v) calls) (m ∷ says (answered m (waiting last (Some v))) calls) (run (answered m (waiting last (Some v))) calls).held
-  by_news None e later = silent n last (Some v) (values (Some v) calls) (says (waiting last (Some v)) calls) (run (waiting last (Some v)) calls).held e (later e)
-  by_news (Some w) e later =
-      spoken n last (Some v) w (values (Some v) calls) (says (answered (Some w) (waiting last (Some v))) calls) (run (answered (Some w) (waiting last (Some v))) calls).held e
+while_waiting : (told : List (Option Told)) (n : ℕ) (get : Watch) (last : Option Told) → SaysFirst n get last told (answers (waiting get last) told) (after_all (waiting get last) told).waits
+while_waiting [] n get last = record { value = refl; moment = refl; held = λ _. refl }
+while_waiting (now ∷ told) n get last = by_news (news now last) refl (while_waiting told (n + 1) get last)
+  where
+    by_news : (m : Option Told) → news now last ≡ m → SaysFirst (n + 1) get last told (answers (waiting get last) told) (after_all (waiting get last) told).waits
+        → SaysFirst n get last (now ∷ told) (m ∷ answers (answered_by m (waiting get last)) told) (after_all (answered_by m (waiting get last)) told).waits
+    by_news None e later = silent n get last now told (answers (waiting get last) told) (after_all (waiting get last) told).waits e later
+    by_news (Some v) e later = spoken n get last now v told (answers (answered_by (Some v) (waiting get last)) told) (after_all (answered_by (Some v) (waiting get last)) told).waits e
 
-from_rest : (last value : Option Told) (later : List CellCall) (m : Option Told) → news value last ≡ m →
-    SaysFirst 0 last (value ∷ values value later) (m ∷ says (answered m (waiting last value)) later) (run (answered m (waiting last value)) later).held
-from_rest last value later None e =
-    silent 0 last value (values value later) (says (waiting last value) later) (run (waiting last value) later).held e (while_waiting later (0 + 1) last value e)
-from_rest last value later (Some w) e =
-    spoken 0 last value w (values value later) (says (answered (Some w) (waiting last value)) later) (run (answered (Some w) (waiting last value)) later).held e
+from_rest : (get : Watch) (last now : Option Told) (told : List (Option Told)) (m : Option Told) → news now last ≡ m
+    → SaysFirst 0 get last (now ∷ told) (m ∷ answers (answered_by m (waiting get last)) told) (after_all (answered_by m (waiting get last)) told).waits
+from_rest get last now told None e = silent 0 get last now told (answers (waiting get last) told) (after_all (waiting get last) told).waits e (while_waiting told (0 + 1) get last)
+from_rest get last now told (Some v) e = spoken 0 get last now v told (answers (answered_by (Some v) (waiting get last)) told) (after_all (answered_by (Some v) (waiting get last)) told).waits e
 
-at_rest : (last value : Option Told) (later : List CellCall) → AnswersFirstNews (resting last value) later
-at_rest last value later = let m = from_rest last value later (news value last) refl in record { value = m.value; moment = m.moment; waits = m.waits }
+at_rest : (get : Watch) (last now : Option Told) (later : List (Option Told)) → AnswersFirstNews (record { last = last; waits = None }) get now later
+at_rest get last now later = let m = from_rest get last now later (news now last) refl in record { value = m.value; moment = m.moment; waits = m.held }
 
 pub first-news-is-answered : FirstNewsIsAnswered
-first-news-is-answered cell free later = subst (λ (b : Bool). AnswersFirstNews (record { last = cell.last; value = cell.value; held = b }) later) (sym free) (at_rest cell.last cell.value later)
-
-resting-silent : (calls : List CellCall) (last value : Option Told) → list_any is_get calls ≡ false → list_any is_some (says (resting last value) calls) ≡ false
-resting-silent [] last value none = refl
-resting-silent (get ∷ calls) last value none = absurd (cc)
-resting-silent (set v ∷ calls) last value none = resting-silent calls last (Some v) none
-resting-silent (unset ∷ calls) last value none = resting-silent calls last None none
+first-news-is-answered w free get now later = subst (λ (o : Option Watch). AnswersFirstNews (record { last = w.last; waits = o }) get now later) (sym free) (at_rest get w.last now later)
 
 pub silent-unasked : SilentUnasked
-silent-unasked cell free calls none =
-    subst (λ (b : Bool). list_any is_some (says (record { last = cell.last; value = cell.value; held = b }) calls) ≡ false) (sym free) (resting-silent calls cell.last cell.value none)
+silent-unasked w free now = rw free refl
+
+pub answers-once : AnswersOnce
+answers-once w now value is = rw is refl
+
+pub silence-changes-nothing : SilenceChangesNothing
+silence-changes-nothing w now none = rw none refl

@@ -1,89 +1,38 @@
--- What a cell keeps, and what its calls do and answer.
-use Rattle.std.specs.Prelude.{Bool, true, false, cond, List, [], ◌∷◌, Option, Some, None}
+-- What a cell answers, and what its calls do to it.
+use Rattle.std.specs.Prelude.{Bool, true, false, cond, List, [], ◌∷◌, Option, Some, None, is_some}
+use Rattle.flat_scene.specs.declared.calls.Watch.{Watch}
 use Rattle.flat_scene.specs.declared.journal.Told.{Told}
+use Rattle.flat_watch.specs.declared.cell.Answer.{Answer}
 use Rattle.flat_watch.specs.declared.cell.GetAnswer.{GetAnswer}
 use Rattle.flat_watch.specs.declared.cell.GetAnswer.TheVariants.{Now, Held, BadHangingGet}
-use Rattle.flat_watch.specs.Told.{news}
+use Rattle.flat_watch.specs.Told.{Watching, answer, asking, settled}
 
--- The value answered last, the value that there is now, and whether a get is held.
-pub record Kept : Type 0 where
-  pub last : Option Told
-  pub value : Option Told
-  pub held : Bool
+-- nothing was asked yet
+abbrev pub new_cell : Watching
+new_cell = record { last = None; waits = None }
 
-abbrev pub new_cell : Kept
-new_cell = record { last = None; value = None; held = false }
-
--- the answer to a get, where one is held, or where there is a value to tell or none
+-- the answer to a get, where one is held, or where there is news or none
 abbrev pub got : Bool → Option Told → GetAnswer
 got true value = BadHangingGet
 got false (Some value) = Now value
 got false None = Held
 
--- the cell after it answered, or had nothing to answer
-abbrev pub answered : Option Told → Kept → Kept
-answered (Some value) cell = record cell { last = Some value; held = false }
-answered None cell = cell
+-- the cell after a get, where this is told now: it is held, and answered where that is news; while one is held, another changes nothing
+abbrev pub after_get : Watch → Option Told → Watching → Watching
+after_get get now w = cond (is_some w.waits) w (settled true now (asking (Some get) w))
 
--- a get that is held is answered if there is news, and waits on if there is none
-abbrev pub settled_cell : Kept → Kept
-settled_cell cell = cond cell.held (answered (news cell.value cell.last) cell) cell
+-- the answer to the get that is held, with its name
+abbrev pub answered_get : Option Watch → Option Told → Option Answer
+answered_get (Some get) (Some value) = Some (record { get = get; value = value })
+answered_get _ _ = None
 
--- the answer to the get that is held, where there is this value now
-abbrev pub waiting_news : Option Told → Kept → Option Told
-waiting_news now cell = cond cell.held (news now cell.last) None
+-- ---- one value told after another
 
--- the cell after a get: it is held, and answered where there is news
-abbrev pub after_get : Kept → Kept
-after_get cell = cond cell.held cell (settled_cell (record cell { held = true }))
+-- what each of them answers, and the cell after them
+abbrev pub answers : Watching → List (Option Told) → List (Option Told)
+answers w [] = []
+answers w (now ∷ later) = answer now w ∷ answers (settled true now w) later
 
--- the cell after there is a value, and after there is none
-abbrev pub after_set : Told → Kept → Kept
-after_set value cell = settled_cell (record cell { value = Some value })
-
-abbrev pub after_unset : Kept → Kept
-after_unset cell = record cell { value = None }
-
--- ---- lists of calls, the oldest first
-
--- A call on a cell.
-pub data CellCall : Type 0 where
-  get : CellCall
-  set : Told → CellCall
-  unset : CellCall
-
--- the cell after a call
-abbrev pub after : CellCall → Kept → Kept
-after get cell = after_get cell
-after (set value) cell = after_set value cell
-after unset cell = after_unset cell
-
--- the value that a call answers: to itself at once, or to the get that is held
-abbrev pub said : CellCall → Kept → Option Told
-said get cell = cond cell.held None (news cell.value cell.last)
-said (set value) cell = waiting_news (Some value) cell
-said unset cell = None
-
--- the value that there is after a call
-abbrev pub told_by : CellCall → Option Told → Option Told
-told_by get now = now
-told_by (set value) now = Some value
-told_by unset now = None
-
--- the cell after calls, and the values that each of them answers
-abbrev pub run : Kept → List CellCall → Kept
-run cell [] = cell
-run cell (call ∷ calls) = run (after call cell) calls
-
-abbrev pub says : Kept → List CellCall → List (Option Told)
-says cell [] = []
-says cell (call ∷ calls) = said call cell ∷ says (after call cell) calls
-
--- the value that there is after each of the calls
-abbrev pub values : Option Told → List CellCall → List (Option Told)
-values now [] = []
-values now (call ∷ calls) = told_by call now ∷ values (told_by call now) calls
-
-abbrev pub is_get : CellCall → Bool
-is_get get = true
-is_get _ = false
+abbrev pub after_all : Watching → List (Option Told) → Watching
+after_all w [] = w
+after_all w (now ∷ later) = after_all (settled true now w) later

@@ -1,13 +1,11 @@
-ghost use Rattle.std.specs.Prelude.{◌≡◌, ◌≢◌, ◌↔◌, ◌⊎◌, true, false, IsTrue, IfSome, None, Some};
-ghost use Rattle.flat_scene.specs.declared.journal.Told.{Told};
-ghost use Rattle.flat_watch.specs.Told.{same_told, news};
-ghost use Rattle.flat_watch.specs.Cells.{new_cell, got, waiting_news, after_get, after_set};
-ghost use Rattle.flat_watch.specs.Cells.{after_unset};
+ghost use Rattle.std.specs.Prelude.{◌≡◌, ◌↔◌, IsTrue, is_some, true};
+ghost use Rattle.flat_watch.specs.Told.{answer, news, settled};
+ghost use Rattle.flat_watch.specs.Cells.{after_get, answered_get, got, new_cell};
 
-use flat_scene::Told;
+use flat_scene::{Told, Watch};
 use std::marker::Model;
 
-/// The answer to a get.
+/// What a get is answered.
 #[derive(Clone, Copy, Debug, PartialEq, Eq)]
 pub enum GetAnswer {
     /// The value, at once.
@@ -18,107 +16,96 @@ pub enum GetAnswer {
     BadHangingGet,
 }
 
-/// What a watcher keeps: the value that it answered last, the value that there is
-/// now, and whether a get is held. Contracts see just these.
+/// The answer to a get that was held.
+#[derive(Clone, Copy, Debug, PartialEq, Eq)]
+pub struct Answer {
+    pub get: Watch,
+    pub value: Told,
+}
+
+/// What is kept of a watcher: the value that it answered last, and the get that it
+/// holds. Contracts see just these.
 ///
 /// No call takes memory.
 #[derive(Clone, Copy, Debug)]
 pub struct Cell {
     last: Option<Told>,
-    value: Option<Told>,
-    held: bool,
+    waits: Option<Watch>,
 }
 
 impl Model for Cell {
-    ghost use Rattle.flat_watch.specs.Cells.{Kept};
+    ghost use Rattle.flat_watch.specs.Told.{Watching};
 
-    ghost Value = { Kept };
+    ghost Value = { Watching };
 
-    ghost view = { λ cell. record { last = cell.last; value = cell.value; held = cell.held } };
+    ghost view = { λ cell. record { last = cell.last; waits = cell.waits } };
 
-    ghost inverse = { λ kept. record { last = kept.last; value = kept.value; held = kept.held } };
+    ghost inverse = { λ w. record { last = w.last; waits = w.waits } };
+}
+
+/// The value to answer where another was answered last.
+pub fn news(now: Option<Told>, last: Option<Told>) -> Option<Told>
+    ensures { result ≡ news now last }
+{
+    let value = now?;
+    match last {
+        Some(last) if last == value => None,
+        _ => Some(value),
+    }
 }
 
 impl Cell {
-    /// A cell without a value, of which nothing was asked.
+    /// A cell of which nothing was asked.
     pub fn new() -> Cell
         ensures { result ≡ new_cell }
     {
         Cell {
             last: None,
-            value: None,
-            held: false,
+            waits: None,
         }
     }
 
-    /// Asks for the value. It is answered at once where there is one that differs
-    /// from the one answered last, and else held until `set` answers it. While a get
-    /// is held, another is refused and changes nothing.
-    pub fn get(&mut self) -> GetAnswer
-        ensures refused { (result ≡ GetAnswer.BadHangingGet) ↔ IsTrue self.old.held }
-        ensures held { (result ≡ GetAnswer.Held) ↔ ((self.old.held ≡ false)
-            × ((self.old.value ≡ None) ⊎ (self.old.value ≡ self.old.last))) }
-        ensures now { (v : Told) → (result ≡ GetAnswer.Now v) ↔ ((self.old.held ≡ false)
-            × (self.old.value ≡ Some v) × (self.old.last ≢ Some v)) }
-        ensures answer { result ≡ got self.old.held (news self.old.value self.old.last) }
-        ensures after { self.new ≡ after_get self.old }
+    /// Asks for the value, where this is told now. It is answered at once where that
+    /// is there and differs from the value answered last, and else held until `tell`
+    /// answers it. While a get is held, another is refused and changes nothing.
+    pub fn get(&mut self, get: Watch, now: Option<Told>) -> GetAnswer
+        ensures refused { (result ≡ GetAnswer.BadHangingGet) ↔ IsTrue (is_some self.old.waits) }
+        ensures answer { result ≡ got (is_some self.old.waits) (news now self.old.last) }
+        ensures after { self.new ≡ after_get get now self.old }
     {
-        if self.held {
+        if self.waits.is_some() {
             return GetAnswer::BadHangingGet;
         }
-        match self.news() {
+        match news(now, self.last) {
             Some(value) => {
                 self.last = Some(value);
                 GetAnswer::Now(value)
             }
             None => {
-                self.held = true;
+                self.waits = Some(get);
                 GetAnswer::Held
             }
         }
     }
 
-    /// There is a value now. It answers the get that is held: Some, with that value,
-    /// exactly where one is held and the value differs from the one answered last.
-    pub fn set(&mut self, v: Told) -> Option<Told>
-        ensures told { (result ≡ Some v) ↔ ((self.old.held ≡ true) × (self.old.last ≢ Some v)) }
-        ensures value { IfSome result (λ value. value ≡ v) }
-        ensures answer { result ≡ waiting_news (Some v) self.old }
-        ensures after { self.new ≡ after_set v self.old }
+    /// This is told now. It answers the get that is held, where it is there and differs
+    /// from the value answered last; that get is held no more.
+    pub fn tell(&mut self, now: Option<Told>) -> Option<Answer>
+        ensures answer { result ≡ answered_get self.old.waits (answer now self.old) }
+        ensures after { self.new ≡ settled true now self.old }
     {
-        self.value = Some(v);
-        if !self.held {
-            return None;
-        }
-        let value = self.news()?;
+        let get = self.waits?;
+        let value = news(now, self.last)?;
         self.last = Some(value);
-        self.held = false;
-        Some(value)
+        self.waits = None;
+        Some(Answer { get, value })
     }
 
-    /// There is no value any more. A get that is held waits on.
-    pub fn unset(&mut self)
-        ensures { self.new ≡ after_unset self.old }
+    /// The get that is held.
+    pub fn waits(&self) -> Option<Watch>
+        ensures { result ≡ self.now.waits }
     {
-        self.value = None;
-    }
-
-    /// The value that a get is answered, where none is held.
-    pub fn news(&self) -> Option<Told>
-        ensures { result ≡ news self.now.value self.now.last }
-    {
-        let value = self.value?;
-        match self.last {
-            Some(last) if last == value => None,
-            _ => Some(value),
-        }
-    }
-
-    /// Whether a get is held.
-    pub fn is_held(&self) -> bool
-        ensures { result ≡ self.now.held }
-    {
-        self.held
+        self.waits
     }
 
     /// The value answered last.

@@ -1,15 +1,12 @@
 ghost use Rattle.flat_watch.specs.Laws.{SameIsEqual, FirstNewsIsAnswered, AnswersOnce};
-ghost use Rattle.flat_watch.specs.Laws.{SilenceKeepsTheLast, SilentUnasked, CellKeepsWatching};
-ghost use Rattle.flat_watch.specs.Laws.{NewCellKeeps};
+ghost use Rattle.flat_watch.specs.Laws.{SilenceChangesNothing, SilentUnasked};
 
-/// What holds of every cell, whatever calls are made on it: its clauses are laws of
-/// the definitions. The call does nothing.
+/// What holds of every cell, whatever is told: its clauses are laws of the
+/// definitions. The call does nothing.
 pub fn cell_laws()
     ensures same_is_equal { SameIsEqual }
     ensures first_news_is_answered { FirstNewsIsAnswered }
     ensures answers_once { AnswersOnce }
-    ensures silence_keeps_the_last { SilenceKeepsTheLast }
+    ensures silence_changes_nothing { SilenceChangesNothing }
     ensures silent_unasked { SilentUnasked }
-    ensures new_cell_keeps { NewCellKeeps }
-    ensures cell_keeps_watching { CellKeepsWatching }
 {}

@@ -71,6 +71,16 @@ impl Board {
         let owner = self.setup.pairs.at(p.0 as usize).view;
         let is_shut = is_shut(self.sessions.as_slice(), owner);
         let place = s.0 as usize - 1;
+        match self.watchers.reserve_use(p) {
+            Ok(()) => {}
+            Err(_) => {
+                return Err(Back {
+                    calls,
+                    args: None,
+                    snap: None,
+                });
+            }
+        }
         match self.viewports[place].reserve_with(&mut self.log, self.owed + 1) {
             Ok(()) => {}
             Err(_) => {

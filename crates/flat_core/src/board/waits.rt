@@ -80,7 +80,7 @@ impl Board {
                 _ => 0,
             },
             Cond::Answers(_) => match who {
-                Actor::Session(s) => self.watchers.gets[s.0 as usize - 1].answers,
+                Actor::Session(s) => self.watchers.answers(s),
                 _ => 0,
             },
         }

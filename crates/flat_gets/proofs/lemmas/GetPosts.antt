@@ -1,5 +1,5 @@
 -- What entries post of held gets.
-use Rattle.std.proofs.Common.{◌≡◌, ◌≢◌, ◌∙◌, sym, subst, ℕ, zero, suc, ◌+◌, ◌<◌, ◌≤◌, Bool, true, false, List, [], ◌∷◌, ◌++◌, length, map, refl, arith, ap, Some, None, inl, inr, ◌⊎◌}
+use Rattle.std.proofs.Common.{◌≡◌, ◌≢◌, ◌∙◌, sym, subst, ℕ, zero, suc, ◌<◌, ◌≤◌, Bool, true, false, List, [], ◌∷◌, ◌++◌, length, map, refl, arith, ap, Some, None, inl, inr, ◌⊎◌}
 use Rattle.std.specs.Prelude.{cond, Option, flat_map, option_map, slice_get, unwrap_or, ◌==◌, ◌&&◌, nat_lt, nat_le}
 use Rattle.std.proofs.lemmas.Bool.Decides.{nat_tests}
 use Rattle.std.proofs.lemmas.List.{append-nil}
@@ -9,36 +9,29 @@ use Rattle.flat_base.specs.declared.ids.Actor.TheVariants.{Display, Session, Pro
 use Rattle.flat_base.specs.declared.ids.PairNo.{PairNo}
 use Rattle.flat_base.specs.declared.ids.SessionNo.{SessionNo}
 use Rattle.flat_scene.specs.declared.calls.ViewportProps.{ViewportProps}
-use Rattle.flat_scene.specs.declared.calls.Watch.{Watch}
 use Rattle.flat_scene.specs.declared.journal.Entry.{Entry}
 use Rattle.flat_scene.specs.declared.journal.Event.{Event}
 use Rattle.flat_scene.specs.declared.journal.Kind.{Kind}
 use Rattle.flat_scene.specs.declared.journal.Kind.TheVariants.{View, Viewport}
 use Rattle.flat_scene.specs.declared.journal.Post.{Post}
-use Rattle.flat_scene.specs.declared.journal.Reply.{Reply}
-use Rattle.flat_scene.specs.declared.journal.Told.{Told}
 use Rattle.flat_scene.specs.declared.setup.PairDecl.{PairDecl}
 use Rattle.flat_scene.specs.declared.setup.Setup.{Setup}
 use Rattle.flat_scene.specs.Frames.{sessions_to, taken}
 use Rattle.flat_scene.specs.History.{◌▹◌, is_begin, is_closed, is_finish}
 use Rattle.flat_scene.specs.Setups.{is_declared}
 use Rattle.flat_base.proofs.lemmas.Tests.{and-left}
-use Rattle.flat_gets.specs.declared.gets.Answered.{Answered}
-use Rattle.flat_gets.specs.declared.gets.HeldGet.{HeldGet}
 use Rattle.flat_facts.specs.declared.live.Live.{Live}
 use Rattle.flat_links.specs.declared.tokens.OutToken.{OutToken}
 use Rattle.flat_facts.specs.Begins.{finish_entry, finished, post_of, took_event}
 use Rattle.flat_rules.specs.Ends.{is_done, pair_of, uses_view, view_owner, view_uses}
-use Rattle.flat_gets.specs.Gets.{answers_to, held_get, helds_of, Asks, Settles}
+use Rattle.flat_gets.specs.Gets.{answers_to, helds_of}
 use Rattle.flat_rules.specs.Legal.{Legal, MayEnter, is_frame_open, owns_view, is_get}
-use Rattle.flat_rules.specs.Posts.{events_to, frame_took, posts}
+use Rattle.flat_rules.specs.Posts.{events_to, frame_took, posts, told_event}
 use Rattle.flat_links.specs.Viewports.{AreViewports, back_events}
-use Rattle.flat_rules.specs.Watch.{Watcher, layout_of, status_of, child_of, told}
+use Rattle.flat_rules.specs.Watch.{layout_of, status_of, child_of, told}
 use Rattle.flat_states.proofs.lemmas.BeginLoop.{flat-on}
 use Rattle.flat_facts.proofs.lemmas.Between.{events-joined}
 use Rattle.flat_gets.proofs.lemmas.BoardBegins.{posts-all}
-use Rattle.flat_gets.proofs.GetAsked.{kept-length}
-use Rattle.flat_gets.proofs.GetLists.{answered-or-held}
 use Rattle.flat_gets.proofs.GetHistory.{events-finished, events-told}
 use Rattle.flat_gets.proofs.GetSteps.{idle-kind, quiet-all, rests-refused}
 use Rattle.flat_gets.proofs.lemmas.ViewportUses.{tokens-finish}
@@ -100,14 +93,17 @@ module _ (setup : Setup) (h : List Entry) (e : Entry) (legal : Legal setup (h �
   events-closed : (s : SessionNo) → is_closed s (h ▹ e) ≡ true → events_to setup h e s ≡ []
   events-closed s closed = shut-events (is_closed s (h ▹ e)) (owns_view setup s q) _ (events_to setup h e s) (events-joined setup h e legal s q props is) (inl closed)
 
-  -- where the owner of the pair's view is open, its held gets are answered, and nothing else is posted
-  pub joined-posts : (t : SessionNo) → is_declared setup t ≡ true → owns_view setup t q ≡ true → is_closed t (h ▹ e) ≡ false → posts setup (h ▹ e) ≡ posts setup h ++ map (post_of (length h) t) (answers_to (told setup (h ▹ e)) (helds_of setup h t))
+  -- where the owner of the pair's view is open, the held gets of that view are answered, and nothing else is posted
+  pub joined-posts : (t : SessionNo) → is_declared setup t ≡ true → owns_view setup t q ≡ true → is_closed t (h ▹ e) ≡ false
+      → posts setup (h ▹ e) ≡ posts setup h ++ map (post_of (length h) t) (told_event setup q (layout_of q) h e ++ told_event setup q (status_of q) h e)
   joined-posts t declared owned opened =
       let f : SessionNo → List Post = λ s. map (post_of (length h) s) (events_to setup h e s) in
       let some : 0 < t.0 = grind (arith, nat_tests) in
       let within : t.0 ≤ setup.sessions = grind (arith, nat_tests) in
+      let all : List Event = told_event setup q (layout_of q) h e ++ told_event setup q (status_of q) h e in
+      let own : events_to setup h e t ≡ all = events-joined setup h e legal t q props is ∙ ap (λ (b : Bool). cond b [] (cond (owns_view setup t q) all [])) opened ∙ ap (λ (b : Bool). cond b all []) owned in
       posts-all setup h e ∙ ap (λ (l : List Post). posts setup h ++ l) (flat-only f t.0 setup.sessions some within (λ m other. ap (map (post_of (length h) (record { 0 = m }))) (events-unowned (record { 0 = m }) (not-owner m other))))
-      ∙ ap (λ (l : List Event). posts setup h ++ map (post_of (length h) t) l) (events-told setup t h e kind-is.0 kind-is.1.0 opened)
+      ∙ ap (λ (l : List Event). posts setup h ++ map (post_of (length h) t) l) own
     where
       not-owner : (m : ℕ) → m ≢ t.0 → owns_view setup (record { 0 = m }) q ≡ false
       not-owner m other = by_owner (view_owner setup q) owned
@@ -160,19 +156,6 @@ pub finish-posts : (setup : Setup) (h : List Entry) (line : ℕ) (s : SessionNo)
 finish-posts setup h line s declared legal going opened live out kept =
     events-finished setup s h (finish_entry line) refl refl opened
     ∙ ap (λ (l : List Event). answers_to (told setup (finished h line)) (helds_of setup h s) ++ (took_event (frame_took setup h s) ++ l)) (tokens-finish setup s declared h legal opened going live out kept)
-
--- ---- how many
-
--- those answered and those that wait on are all
-pub settled-all : (now : Watcher → Option Told) (place : ℕ) (s : SessionNo) (held left : List HeldGet) (old new : List Answered) (posts after : List Post) (count : ℕ) → Settles now place s held left old new posts after count → length left + count ≡ length held
-settled-all now place s held left old new posts after count settles = omega (arith, answered-or-held now held, ap (length {A = HeldGet}) settles.waiting, settles.answers.counted)
-
-held-few : (b : Bool) (o : Option Told) (one : HeldGet) (held after : List HeldGet) → after ≡ held_get b o one held → length after ≤ length held + 1
-held-few b o one held after is = omega (arith, ap (length {A = HeldGet}) is, kept-length b o one held)
-
--- a get adds one at most
-pub asked-few : (pair : PairNo) (get : Watch) (now : Option Told) (old new : Answered) (held after : List HeldGet) (count total : ℕ) (reply : Reply) → Asks pair get now old new held after count total reply → length after ≤ length held + 1
-asked-few pair get now old new held after count total reply done = held-few _ _ _ held after done.kept
 
 -- ---- what isn't declared
 

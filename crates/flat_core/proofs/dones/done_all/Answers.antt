@@ -34,7 +34,7 @@ loop-i-preserved g c =
       kept = done-next setup c.loop-i.log.history h line i c.loop-i.sessions.items c.finish_one-count.new.state same inv.kept e.kept;
       ends_all = length-set c.loop-i.ends.items i c.finish_one-count.new.ends ∙ inv.ends_all;
       ends = up-next (EndsOf setup) h (finished h line) i c.loop-i.ends.items c.finish_one-count.new.ends inv.ends ends;
-      watched = subst (λ (k : List Entry). WatchedUpTo setup (i + 1) (finished k line) k c.finish_one-count.new.watchers.gets.items c.finish_one-count.new.watchers.answered.items) same e.watched;
+      watched = subst (λ (k : List Entry). WatchedUpTo setup (i + 1) (finished k line) k c.finish_one-count.new.watchers) same e.watched;
       size = e.size ∙ inv.size;
       members = λ g. members-next setup c.loop-i.log.history h i g (has c.args.fences.now g) (has c.loop-i.fences g) (has c.finish_one-count.new.fences g) same (inv.members g) (e.members g);
       posts = posts-next setup c.loop-i.log.history h (finish_entry line) i c.args.log.now.posts c.loop-i.log.posts c.finish_one-count.new.log.posts same inv.posts e.posts;
@@ -52,5 +52,5 @@ returns-clause-watched g c =
     let inv = c.loop-i.invariant in
     let last : c.loop-i.i ≡ setup.sessions = omega (arith, c.loop-i.auto.i-end, c.loop-i-test.false) in
     let legal : Legal setup (finished h c.args.line) = (c.requires.legal, (let one : LegalEntry setup h (finish_entry c.args.line) = record { may = c.requires.may; reply = refl } in one)) in
-    let W : ℕ → Type 0 = λ n. WatchedUpTo setup n (finished h c.args.line) h c.loop-i.watchers.gets.items c.loop-i.watchers.answered.items in
-    watched-last setup h c.args.line legal c.loop-i.watchers.gets.items c.loop-i.watchers.answered.items (subst W last inv.watched)
+    let W : ℕ → Type 0 = λ n. WatchedUpTo setup n (finished h c.args.line) h c.loop-i.watchers in
+    watched-last setup h c.args.line legal c.loop-i.watchers (subst W last inv.watched)

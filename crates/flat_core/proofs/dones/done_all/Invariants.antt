@@ -14,7 +14,7 @@ invariant-loop-i g l = record {
   all : length l.sessions.items ≡ l.setup.sessions;
   kept : AllNumbered (DoneUpTo l.setup l.fn.log.history l.line l.i) l.sessions.items;
   ends_all : length l.ends.items ≡ l.setup.sessions;
-  watched : WatchedUpTo l.setup l.i (finished l.fn.log.history l.line) l.fn.log.history l.watchers.gets.items l.watchers.answered.items;
+  watched : WatchedUpTo l.setup l.i (finished l.fn.log.history l.line) l.fn.log.history l.watchers;
   ends : AllNumbered (EndsUpTo l.setup l.fn.log.history l.line l.i) l.ends.items;
   size : length l.fences ≡ length l.fn.fences;
   members : (g : FenceNo) → has l.fences g ≡ (has l.fn.fences g || released_to l.setup l.fn.log.history l.i g);
@@ -23,5 +23,5 @@ invariant-loop-i g l = record {
   history : l.log.history ≡ l.fn.log.history;
   room : l.log.room ≡ l.fn.log.room;
   post_room : l.log.post_room + l.count ≡ l.fn.log.post_room;
-  due : all_due l.sessions.items l.ends.items l.watchers.gets.items + l.count ≤ all_due l.fn.sessions.items l.fn.ends.items l.fn.watchers.gets.items;
+  due : all_due l.sessions.items l.ends.items l.watchers + l.count ≤ all_due l.fn.sessions.items l.fn.ends.items l.fn.watchers;
 }

@@ -1,4 +1,4 @@
-use Rattle.std.proofs.Common.{◌≡◌, ◌∙◌, ap, sym, subst, refl, arith, ◌<◌, ◌≤◌, Bool, true, false, List, [], ◌++◌, length}
+use Rattle.std.proofs.Common.{◌≡◌, ◌∙◌, ap, sym, subst, refl, arith, ◌-◌, ◌<◌, ◌≤◌, Bool, true, false, List, [], ◌++◌, length}
 use Rattle.std.specs.Prelude.{cond, map, nat_lt, nat_le}
 use Rattle.std.proofs.lemmas.Bool.Decides.{nat_tests}
 use Rattle.std.proofs.lemmas.List.{append-nil}
@@ -23,7 +23,10 @@ use Rattle.flat_gets.proofs.lemmas.DoneSteps.{told-then}
 use Rattle.flat_core.proofs.dones.finish_one.Goals as goal
 
 pub settle-told-requires-clause-few : goal.settle-told-requires-clause-few
-settle-told-requires-clause-few g c = few-to _ _ _ _ _ _ c.requires.watched c.requires.opened c.requires.place
+settle-told-requires-clause-few g c = few-to _ _ _ _ _ c.requires.watched c.requires.place
+
+pub settle-told-requires-clause-watched : goal.settle-told-requires-clause-watched
+settle-told-requires-clause-watched g c = (c.args.setup.now, (c.args.s.0 - 1, (finished c.args.log.now.history c.args.line, (c.args.log.now.history, c.requires.watched))))
 
 pub returns-clause-watched : goal.returns-clause-watched
 returns-clause-watched g c = by_shut c.args.state.now.closed refl
@@ -40,12 +43,12 @@ returns-clause-watched g c = by_shut c.args.state.now.closed refl
     legal : Legal setup k
     legal = (c.requires.legal, (let one : LegalEntry setup h (finish_entry c.args.line) = record { may = c.requires.may; reply = refl } in one))
 
-    by_shut : (b : Bool) → c.args.state.now.closed ≡ b → WatchedUpTo setup c.args.s.0 k h c.settle-told.new.self.gets.items c.settle-told.new.self.answered.items
+    by_shut : (b : Bool) → c.args.state.now.closed ≡ b → WatchedUpTo setup c.args.s.0 k h c.settle-told.new.self
     by_shut true is =
-        let W : Watchers → Type 0 = λ w. WatchedUpTo setup c.args.s.0 k h w.gets.items w.answered.items in
-        subst W (sym (c.settle-told.ensures.same is)) (watched-passed setup h c.args.line legal c.args.s c.requires.some c.requires.few (sym c.requires.kept.closed ∙ is) _ _ c.requires.watched)
+        let W : Watchers → Type 0 = λ w. WatchedUpTo setup c.args.s.0 k h w in
+        subst W (sym (c.settle-told.ensures.same is)) (watched-passed setup h c.args.line legal c.args.s c.requires.some c.requires.few (sym c.requires.kept.closed ∙ is) _ c.requires.watched)
     by_shut false is =
-        (watched-told setup h c.args.line legal c.args.s c.requires.some c.requires.few (sym c.requires.kept.closed ∙ is) _ _ _ _ _ _ _ (c.settle-told.ensures.settled is setup k c.requires.tells) c.requires.watched).0
+        (watched-told setup h c.args.line legal c.args.s c.requires.some c.requires.few (sym c.requires.kept.closed ∙ is) _ _ _ _ _ (c.settle-told.ensures.settled is setup k c.requires.tells) c.settle-told.ensures.due c.requires.watched).0
 
 pub returns-clause-posts : goal.returns-clause-posts
 returns-clause-posts g c = by_shut c.args.state.now.closed refl
@@ -85,7 +88,7 @@ returns-clause-posts g c = by_shut c.args.state.now.closed refl
         posted ∙ append-nil _ ∙ (c.settle-told.ensures.none is).1 ∙ sym (append-nil _) ∙ ap (λ (l : List Event). c.args.log.now.posts ++ map (post_of (length h) s) l) (sym none)
     by_shut false is =
         let opened : is_closed s h ≡ false = sym c.requires.kept.closed ∙ is in
-        let first = (watched-told setup h c.args.line legal s c.requires.some c.requires.few opened _ _ _ _ _ _ _ (c.settle-told.ensures.settled is setup k c.requires.tells) c.requires.watched).1 in
+        let first = (watched-told setup h c.args.line legal s c.requires.some c.requires.few opened _ _ _ _ _ (c.settle-told.ensures.settled is setup k c.requires.tells) c.settle-told.ensures.due c.requires.watched).1 in
         let events = finish-posts setup h c.args.line s declared c.requires.legal c.requires.opened opened c.args.ends.now.live.items c.args.ends.now.out.items c.requires.ends in
         let same : c.settle-told.new.log.history ≡ h = c.settle-told.ensures.history in
         let second : c.done_one.new.log.posts ≡ c.settle-told.new.log.posts ++ map (post_of (length h) s) rest =

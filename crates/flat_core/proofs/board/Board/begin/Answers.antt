@@ -89,7 +89,7 @@ invariant_of-self c =
       kept = subst (λ (xs : List SessionState). AllNumbered (λ i. IsKept inside.setup (seen_of inside.setup (begun inside.log.history c.args.line c.args.time) (number i))) xs) (sym states) all.kept;
       shown = all.shown;
     }) c.self.invariant.3 in
-    let kept = kept-begun m c.args.line c.args.time may _ _ _ _ _ _ _ _ _ _ {dues = all_due inside.sessions.items inside.viewports.items inside.watchers.gets.items} {dues_now = all_due c.begin_all-count.new.sessions.items inside.viewports.items inside.watchers.gets.items} refl c.self.invariant.0 c.self.invariant.1 all.all all.kept
+    let kept = kept-begun m c.args.line c.args.time may _ _ _ _ _ _ _ _ _ _ {dues = all_due inside.sessions.items inside.viewports.items inside.watchers} {dues_now = all_due c.begin_all-count.new.sessions.items inside.viewports.items inside.watchers} refl c.self.invariant.0 c.self.invariant.1 all.all all.kept
     (record {
       posts = all.posts;
       posted = all.count;
@@ -99,7 +99,7 @@ invariant_of-self c =
       due = omega (arith, all.due);
       entered = record { history = history; posts = log.posts; room = log.room; post_room = log.post_room };
     }) c.begin-ratios.result (c.begin-ratios.ensures inside.setup inside.log.history c.args.line c.args.time) in
-    (kept.0, kept.1, rw now ends, rw now tied, rw now (watched-after m Display c.args.line [] (Begin c.args.time) Done may refl refl refl refl c.self.invariant.0.legal inside.watchers.gets.items inside.watchers.answered.items c.self.invariant.4))
+    (kept.0, kept.1, rw now ends, rw now tied, rw now (watched-after m Display c.args.line [] (Begin c.args.time) Done may refl refl refl refl c.self.invariant.0.legal inside.watchers c.self.invariant.4))
 
 pub returns-clause-next : goal.returns-clause-next
 returns-clause-next c =

@@ -62,4 +62,4 @@ invariant_of-self c =
     (λ kept. rw (seen-closed setup h (entry_of (Session c.args.s) c.args.line c.args.calls (Close c.args.why) c.close_reply-reply.result) c.args.s (plain-close _ _ _ _ _) (rw reply (closes-close c.args.why)) (is-session c.args.s))
     (kept-noted setup _ _ c.args.calls (kept-closed setup _ _ kept)))
     refl refl (record { history = log.history; posts = log.posts; room = log.room; post_room = log.post_room }) in
-    (kept.0, kept.1, rw log.history ends, rw log.history tied, rw log.history (watched-after m (Session c.args.s) c.args.line c.args.calls (Close c.args.why) c.close_reply-reply.result call is refl refl refl c.self.invariant.0.legal c.self.inside.watchers.gets.items c.self.inside.watchers.answered.items c.self.invariant.4)))
+    (kept.0, kept.1, rw log.history ends, rw log.history tied, rw log.history (watched-after m (Session c.args.s) c.args.line c.args.calls (Close c.args.why) c.close_reply-reply.result call is refl refl refl c.self.invariant.0.legal c.self.inside.watchers c.self.invariant.4)))

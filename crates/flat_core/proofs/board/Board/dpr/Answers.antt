@@ -26,5 +26,5 @@ invariant_of-self c =
     log.history ∙ rw c.new.ensures refl in
     let ends = ends-after m Display c.args.line [] (Dpr c.args.ratio) Done call refl refl refl refl inside.clock inside.fences inside.view_ends inside.sessions.items inside.viewports.items inside.viewports.items inside.ties inside.ties c.self.invariant.0 (refl, refl) c.self.invariant.2 c.self.invariant.3 in
     let kept = kept-quiet m Display c.args.line [] (Dpr c.args.ratio) Done call refl (record { no_begin = refl; no_finish = refl; no_poll = refl; no_view = refl; none = λ made. refl }) refl refl _ _ _ _ _ _ _ _ _ _ refl c.self.invariant.0 c.self.invariant.1
-    (unchanged _ _ _ _ (λ sessions g f. refl) (λ p. refl)) refl (told-too inside.watchers.gets.items ends.1) (record { history = history; posts = log.posts; room = log.room; post_room = log.post_room }) in
-    (rw c.set-self-inside.ensures kept.0, kept.1, rw history ends.0, rw history ends.2, rw history (watched-after m Display c.args.line [] (Dpr c.args.ratio) Done call refl refl refl refl c.self.invariant.0.legal inside.watchers.gets.items inside.watchers.answered.items c.self.invariant.4))
+    (unchanged _ _ _ _ (λ sessions g f. refl) (λ p. refl)) refl (told-too inside.watchers ends.1) (record { history = history; posts = log.posts; room = log.room; post_room = log.post_room }) in
+    (rw c.set-self-inside.ensures kept.0, kept.1, rw history ends.0, rw history ends.2, rw history (watched-after m Display c.args.line [] (Dpr c.args.ratio) Done call refl refl refl refl c.self.invariant.0.legal inside.watchers c.self.invariant.4))

@@ -33,12 +33,12 @@ ask-requires-clause-known c =
     let call = rw (← c.self.view_is) at c.requires.may in
     let means = rw (← c.self.view_is) at c.requires.meant in
     let known = asked-known c.self.inside.setup c.self.inside.log.history c.self.invariant.0.legal c.args.s c.args.calls c.args.get call.may c.args.p means in
-    omega (arith, known, c.self.invariant.4.answered.count)
+    omega (arith, known, c.self.invariant.4.count)
 
 pub ask-requires-clause-few : goal.ask-requires-clause-few
 ask-requires-clause-few c =
     let call = rw (← c.self.view_is) at c.requires.may in
-    few-all _ _ _ _ c.self.invariant.4 ((short-history _ _ _ _ call c.self.invariant.0.legal _ _ _ refl c.self.invariant.1))
+    few-all _ _ _ c.self.invariant.4 ((short-history _ _ _ _ call c.self.invariant.0.legal _ _ _ refl c.self.invariant.1))
 
 pub invariant_of-self : goal.invariant_of-self
 invariant_of-self c =
@@ -83,7 +83,7 @@ invariant_of-self-2 c =
     let declared = declared-of inside.setup (Get c.args.get) c.args.s call.may.acts in
     let known = asked-known inside.setup h c.self.invariant.0.legal c.args.s c.args.calls c.args.get call.may c.args.p means in
     let replied : reply ≡ reply_to inside.setup h (Session c.args.s) c.args.calls (Get c.args.get) =
-    asked-replied inside.setup h c.self.invariant.0.legal c.args.s declared c.args.calls c.args.get call.may c.args.p known means _ _ _ _ reply asked c.self.invariant.4 in
+    asked-replied inside.setup h c.args.s c.args.calls c.args.get c.args.p known means _ _ reply asked c.self.invariant.4 in
     let ends = ends-after m (Session c.args.s) c.args.line c.args.calls (Get c.args.get) reply call replied refl refl refl inside.clock inside.fences inside.view_ends inside.sessions.items inside.viewports.items _ inside.ties c.note_ends.new.ties c.self.invariant.0
     (record {
       state = state;
@@ -97,7 +97,7 @@ invariant_of-self-2 c =
     }) c.self.invariant.2 c.self.invariant.3 in
     let e : Entry = entry_of (Session c.args.s) c.args.line c.args.calls (Get c.args.get) reply in
     let legal : Legal inside.setup (h ▹ e) = (c.self.invariant.0.legal, legal-entered m (Session c.args.s) c.args.line c.args.calls (Get c.args.get) reply call replied) in
-    let watched = watched-asked inside.setup h e legal c.args.s refl declared c.args.get refl c.args.p known means _ _ _ _ asked c.self.invariant.4 in
+    let watched = watched-asked inside.setup h e legal c.args.s refl c.args.get refl c.args.p means declared known _ _ asked c.self.invariant.4 in
     let history : c.enter.new.self.history ≡ (h ▹ e) = log.history ∙ rw c.ask.ensures.history refl in
     let account : c.note.new.account ≡ noted c.args.calls c.get_in.new.state.account = c.note.ensures ∙ ap (λ (calls : List Call). noted calls c.get_in.new.state.account) c.as_slice-2.ensures in
     let kept = kept-got m c.args.s c.args.line c.args.calls c.args.get call reply replied inside.clock inside.fences inside.view_ends inside.sessions.items state c.index_mut-state.ensures.value c.self.invariant.0 in
@@ -121,7 +121,7 @@ returns-clause-reply c =
     let declared = declared-of inside.setup (Get c.args.get) c.args.s call.may.acts in
     let known = asked-known inside.setup h c.self.invariant.0.legal c.args.s c.args.calls c.args.get call.may c.args.p means in
     let P : Machine → Type 0 = λ m. c.in-Ok.reply ≡ reply_to m.setup m.history (Session c.args.s) c.args.calls (Get c.args.get) in
-    subst P c.self.view_is (asked-replied inside.setup h c.self.invariant.0.legal c.args.s declared c.args.calls c.args.get call.may c.args.p known means _ _ _ _ c.in-Ok.reply asked c.self.invariant.4)
+    subst P c.self.view_is (asked-replied inside.setup h c.args.s c.args.calls c.args.get c.args.p known means _ _ c.in-Ok.reply asked c.self.invariant.4)
 
 pub port_of-requires-clause-ratio : goal.port_of-requires-clause-ratio
 port_of-requires-clause-ratio c =

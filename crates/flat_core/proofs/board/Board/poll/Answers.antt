@@ -27,7 +27,7 @@ pub overflow_cast-count : goal.overflow_cast-count
 overflow_cast-count c =
     let call = rw (← c.self.view_is) at c.requires in
     let count : c.len.result - c.len-before.result ≡ length c.push_events_from.new.into - length c.args.into.now = rw (c.len.ensures, c.len-before.ensures) refl in
-    let over = handed _ c.args.s _ call _ _ _ _ _ _ _ _ _ _ _ c.index_mut-state.ensures.value refl c.self.invariant.0 c.self.invariant.1 c.posts-posts.ensures c.in-Ok.ensures.ok count _ _ c.self.invariant.4 in
+    let over = handed _ c.args.s _ call _ _ _ _ _ _ _ _ _ _ _ c.index_mut-state.ensures.value refl c.self.invariant.0 c.self.invariant.1 c.posts-posts.ensures c.in-Ok.ensures.ok count _ c.self.invariant.4 in
     let small : c.len.result - c.len-before.result < 2 ^ 32 = over.small in
     omega (arith, small)
 
@@ -47,7 +47,7 @@ invariant_of-self-2 c =
     let h = c.self.inside.log.history in
     let call = rw (← c.self.view_is) at c.requires in
     let count : c.len.result - c.len-before.result ≡ length c.push_events_from.new.into - length c.args.into.now = rw (c.len.ensures, c.len-before.ensures) refl in
-    let over = handed _ c.args.s _ call _ _ _ _ _ _ _ _ _ _ _ c.index_mut-state.ensures.value refl c.self.invariant.0 c.self.invariant.1 c.posts-posts.ensures c.in-Ok.ensures.ok count _ _ c.self.invariant.4 in
+    let over = handed _ c.args.s _ call _ _ _ _ _ _ _ _ _ _ _ c.index_mut-state.ensures.value refl c.self.invariant.0 c.self.invariant.1 c.posts-posts.ensures c.in-Ok.ensures.ok count _ c.self.invariant.4 in
     let log = c.enter.ensures in
     let state = c.index_mut-state.result.now in
     let account : c.note.new.account ≡ noted c.args.calls (record state.account { polled = length c.posts-posts.result.now }) =
@@ -69,14 +69,14 @@ invariant_of-self-2 c =
     (let kept = kept-one m c.args.s c.args.line c.args.calls Poll (Polled (c.len.result - c.len-before.result)) call (ap Polled over.as_many) refl refl refl _ _ _ _ _ _ _ _ _
     state _ c.index_mut-state.ensures.value refl c.self.invariant.0 c.self.invariant.1 (unchanged _ _ _ _ (λ sessions g f. refl) (λ p. refl))
     (λ kept. kept-polled setup h c.args.s c.args.line c.args.calls (c.len.result - c.len-before.result) (length c.posts-posts.result.now) state over.place kept)
-    refl (told-too inside.watchers.gets.items ends.1) (record { history = log.history; posts = log.posts; room = log.room; post_room = log.post_room }) in
-    (kept.0, kept.1, rw log.history ends.0, rw log.history ends.2, rw log.history (watched-after m (Session c.args.s) c.args.line c.args.calls Poll (Polled (c.len.result - c.len-before.result)) call (ap Polled over.as_many) refl refl refl c.self.invariant.0.legal inside.watchers.gets.items inside.watchers.answered.items c.self.invariant.4)))
+    refl (told-too inside.watchers ends.1) (record { history = log.history; posts = log.posts; room = log.room; post_room = log.post_room }) in
+    (kept.0, kept.1, rw log.history ends.0, rw log.history ends.2, rw log.history (watched-after m (Session c.args.s) c.args.line c.args.calls Poll (Polled (c.len.result - c.len-before.result)) call (ap Polled over.as_many) refl refl refl c.self.invariant.0.legal inside.watchers c.self.invariant.4)))
 
 pub returns-clause-reply : goal.returns-clause-reply
 returns-clause-reply c =
     let call = rw (← c.self.view_is) at c.requires in
     let count : c.len.result - c.len-before.result ≡ length c.push_events_from.new.into - length c.args.into.now = rw (c.len.ensures, c.len-before.ensures) refl in
-    let over = handed _ c.args.s _ call _ _ _ _ _ _ _ _ _ _ _ c.index_mut-state.ensures.value refl c.self.invariant.0 c.self.invariant.1 c.posts-posts.ensures c.in-Ok.ensures.ok count _ _ c.self.invariant.4 in
+    let over = handed _ c.args.s _ call _ _ _ _ _ _ _ _ _ _ _ c.index_mut-state.ensures.value refl c.self.invariant.0 c.self.invariant.1 c.posts-posts.ensures c.in-Ok.ensures.ok count _ c.self.invariant.4 in
     let P : Machine → Type 0 = λ m. Polled (c.len.result - c.len-before.result) ≡ reply_to m.setup m.history (Session c.args.s) c.args.calls Poll in
     subst P c.self.view_is (ap Polled over.as_many)
 
@@ -84,7 +84,7 @@ pub returns-clause-events : goal.returns-clause-events
 returns-clause-events c =
     let call = rw (← c.self.view_is) at c.requires in
     let count : c.len.result - c.len-before.result ≡ length c.push_events_from.new.into - length c.args.into.now = rw (c.len.ensures, c.len-before.ensures) refl in
-    let over = handed _ c.args.s _ call _ _ _ _ _ _ _ _ _ _ _ c.index_mut-state.ensures.value refl c.self.invariant.0 c.self.invariant.1 c.posts-posts.ensures c.in-Ok.ensures.ok count _ _ c.self.invariant.4 in
+    let over = handed _ c.args.s _ call _ _ _ _ _ _ _ _ _ _ _ c.index_mut-state.ensures.value refl c.self.invariant.0 c.self.invariant.1 c.posts-posts.ensures c.in-Ok.ensures.ok count _ c.self.invariant.4 in
     let P : Machine → Type 0 = λ m. c.push_events_from.new.into ≡ c.args.into.now ++ unread_events m.setup c.args.s m.history in
     subst P c.self.view_is over.events
 
@@ -92,6 +92,6 @@ pub returns-clause-count : goal.returns-clause-count
 returns-clause-count c =
     let call = rw (← c.self.view_is) at c.requires in
     let count : c.len.result - c.len-before.result ≡ length c.push_events_from.new.into - length c.args.into.now = rw (c.len.ensures, c.len-before.ensures) refl in
-    let over = handed _ c.args.s _ call _ _ _ _ _ _ _ _ _ _ _ c.index_mut-state.ensures.value refl c.self.invariant.0 c.self.invariant.1 c.posts-posts.ensures c.in-Ok.ensures.ok count _ _ c.self.invariant.4 in
+    let over = handed _ c.args.s _ call _ _ _ _ _ _ _ _ _ _ _ c.index_mut-state.ensures.value refl c.self.invariant.0 c.self.invariant.1 c.posts-posts.ensures c.in-Ok.ensures.ok count _ c.self.invariant.4 in
     let P : Machine → Type 0 = λ m. Polled (c.len.result - c.len-before.result) ≡ Polled (length (unread_events m.setup c.args.s m.history)) in
     subst P c.self.view_is (ap Polled over.as_many)

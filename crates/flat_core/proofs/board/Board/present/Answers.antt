@@ -76,9 +76,9 @@ invariant_of-self-2 c =
     let room : inside.owed + 2 ≤ c.reserve.new.self.post_room = c.in-Ok-reserve.ensures.ok in
     let history : c.enter.new.self.history ≡ (inside.log.history ▹ entry_of (Session c.args.s) c.args.line c.args.calls (Present c.args.args) (present_reply state)) = log.history ∙ rw (c.reserve.ensures.history, reply) refl in
     rw (account, present_now, c.owes.ensures, reply)
-    (let kept = kept-after-present m c.args.s c.args.line c.args.calls c.args.args c.args.snap may tree _ _ _ _ _ c.enter.new.self _ state c.index_mut-state.ensures.value refl c.self.invariant.0 c.self.invariant.1 (told-too inside.watchers.gets.items ends.1)
+    (let kept = kept-after-present m c.args.s c.args.line c.args.calls c.args.args c.args.snap may tree _ _ _ _ _ c.enter.new.self _ state c.index_mut-state.ensures.value refl c.self.invariant.0 c.self.invariant.1 (told-too inside.watchers ends.1)
     history (log.posts ∙ c.reserve.ensures.posts) (log.room ∙ c.reserve.ensures.room) (omega (arith, room, log.post_room)) in
-    (kept.0, kept.1, rw history ends.0, rw history ends.2, rw history (watched-after m (Session c.args.s) c.args.line c.args.calls (Present c.args.args) (present_reply state) may is refl refl refl c.self.invariant.0.legal inside.watchers.gets.items inside.watchers.answered.items c.self.invariant.4)))
+    (kept.0, kept.1, rw history ends.0, rw history ends.2, rw history (watched-after m (Session c.args.s) c.args.line c.args.calls (Present c.args.args) (present_reply state) may is refl refl refl c.self.invariant.0.legal inside.watchers c.self.invariant.4)))
 
 pub returns-clause-reply : goal.returns-clause-reply
 returns-clause-reply c =

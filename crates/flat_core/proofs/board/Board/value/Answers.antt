@@ -1,5 +1,8 @@
-use Rattle.std.proofs.Common.{◌∙◌, arith}
-use Rattle.flat_gets.specs.Watchers.{AreOwnGets}
+use Rattle.std.proofs.Common.{◌≡◌, ◌∙◌, ◌-◌, ◌<◌, List, length, arith, slice_index_or}
+use Rattle.std.proofs.lemmas.List.{get_or_default}
+use Rattle.flat_base.specs.declared.ids.SessionNo.{SessionNo}
+use Rattle.flat_rules.specs.Legal.{answers}
+use Rattle.flat_gets.specs.Listed.{KeptGets, no_gets}
 use Rattle.flat_states.proofs.lemmas.Counts.{at-session, declared-some, kept-session, credits-kept, taken-kept, seen-count}
 use Rattle.flat_states.proofs.lemmas.Ones.{looks-declared}
 use Rattle.flat_core.proofs.board.Board.value.Goals as goal
@@ -22,5 +25,10 @@ returns-in-Session-who-2 c =
     let inside = c.self.inside in
     let declared = looks-declared inside.setup c.args.c c.in-Session-who-2.s acts in
     let here = declared-some c.in-Session-who-2.s.0 inside.setup.sessions declared in
-    let own = at-session (AreOwnGets inside.setup inside.log.history) inside.watchers.gets.items c.in-Session-who-2.s c.index-in-Session-who-2.result.now c.self.invariant.4.each here.0 (omega (arith, here.1, c.self.invariant.4.count)) c.index-in-Session-who-2.ensures in
-    rw (← c.self.view_is, c.in-Answers.is, c.in-Session-who-2.is) own.counted
+    let all : List KeptGets = inside.watchers.sessions.items in
+    let s : SessionNo = c.in-Session-who-2.s in
+    let below : s.0 - 1 < length all = omega (arith, here.0, here.1, c.self.invariant.4.sessions) in
+    let own : KeptGets = slice_index_or all (s.0 - 1) no_gets in
+    let is : own ≡ slice_index_or all (s.0 - 1) own = get_or_default all (s.0 - 1) no_gets own below in
+    let counted : own.answers ≡ answers inside.setup s inside.log.history = at-session (λ t one. one.answers ≡ answers inside.setup t inside.log.history) all s own c.self.invariant.4.answered here.0 (omega (arith, here.1, c.self.invariant.4.sessions)) is in
+    rw (← c.self.view_is, c.in-Answers.is, c.in-Session-who-2.is) (c.answers.ensures own is ∙ counted)

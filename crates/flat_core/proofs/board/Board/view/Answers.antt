@@ -65,9 +65,9 @@ invariant_of-self c =
     is refl refl refl _ _ _ _ _ _ _ _ _
     c.index_mut-state.result.now _ c.index_mut-state.ensures.value refl c.self.invariant.0 c.self.invariant.1
     (record { fence_size = refl; signalled = λ f. or-false _; view_size = c.set.ensures.size; viewed = view-changed _ _ c.args.p used (sym c.is_used-is_held.ensures) c.set.ensures.members })
-    (λ kept. view-kept inside.setup inside.log.history c.args.s c.args.line c.args.calls c.args.p (not used) _ kept) (view-due c.args.calls (not used) _) (told-too inside.watchers.gets.items ends.1)
+    (λ kept. view-kept inside.setup inside.log.history c.args.s c.args.line c.args.calls c.args.p (not used) _ kept) (view-due c.args.calls (not used) _) (told-too inside.watchers ends.1)
     (record { history = history; posts = log.posts; room = log.room; post_room = log.post_room }) in
-    (kept.0, kept.1, rw history ends.0, rw history ends.2, rw history (watched-after m (Session c.args.s) c.args.line c.args.calls (View c.args.p) (use_reply (not used)) call is refl refl refl c.self.invariant.0.legal inside.watchers.gets.items inside.watchers.answered.items c.self.invariant.4)))
+    (kept.0, kept.1, rw history ends.0, rw history ends.2, rw history (watched-after m (Session c.args.s) c.args.line c.args.calls (View c.args.p) (use_reply (not used)) call is refl refl refl c.self.invariant.0.legal inside.watchers c.self.invariant.4)))
 
 pub returns-clause-reply : goal.returns-clause-reply
 returns-clause-reply c =
