@@ -3,7 +3,8 @@ use Rattle.std.proofs.Common.{◌≡◌, true, false, ◌∷◌, [], drop, refl,
 use Rattle.flat_scene.specs.declared.calls.Call.TheVariants as call
 use Rattle.flat_facts.specs.Clears.{clears_pair}
 use Rattle.flat_rules.specs.Ends.{clears_viewport, happens, to_finished}
-use Rattle.flat_links.specs.Following.{capped, props_pending, sight_of}
+use Rattle.flat_facts.specs.Contents.{capped}
+use Rattle.flat_links.specs.Following.{props_pending, sight_of}
 use Rattle.flat_rules.specs.Serials.{contents_made}
 use Rattle.flat_rules.specs.Stamps.{first_at}
 use Rattle.flat_links.specs.Usage.{props_among}

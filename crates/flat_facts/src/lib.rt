@@ -1,10 +1,13 @@
 //! What legal histories say, by definitions alone: of views and of how long they stand, of
 //! viewports that live and tokens that are out, of the serials by which trees show them,
-//! of what trees show, of pixel ratios, and of what entries post. Nothing is kept here;
-//! what the crates above keep stands for a history by these facts.
+//! of what trees show, of pixel ratios, and of what entries post. And the walks over an
+//! entry's calls that keep these definitions: the view that calls leave (views), what they
+//! clear (clears), how many contents they make (contents), viewports that live by their
+//! names (live, lives), and stamps (stamps). No state is kept here; what the crates above
+//! keep stands for a history by these facts.
 //!
-//! The functions of laws.rt do nothing: their contracts are laws. `Live` is a viewport that
-//! lives. All else is lemmas.
+//! The functions of laws.rt do nothing: their contracts are laws. The others answer exactly
+//! their definitions, for all arguments, and know no history.
 //!
 //! Other crates may cite the lemmas of proofs/lemmas/:
 //! - of histories: Between, Earlier, Ratios, SerialSteps, Serials, ShownFits, StampSteps,
@@ -14,7 +17,12 @@
 //! - of tests: Tests.
 #![tactic(auto)]
 
+pub mod clears;
+pub mod contents;
 mod laws;
 pub mod live;
+pub mod lives;
+pub mod stamps;
+pub mod views;
 
 pub use laws::{ratios_are_allowed, shown_states_fit, tokens_follow_releases, views_stand};

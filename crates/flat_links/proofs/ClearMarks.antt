@@ -11,7 +11,7 @@ use Rattle.flat_links.specs.declared.pairs.PairState.{PairState}
 use Rattle.flat_facts.specs.Clears.{is_clear, is_cleared, clears_pair}
 use Rattle.flat_links.specs.Clears.{cleared_if, ClearsOne, ClearsLive}
 use Rattle.flat_rules.specs.Stamps.{stamp_then}
-use Rattle.flat_links.proofs.lemmas.Marks.{stamp-none}
+use Rattle.flat_links.proofs.Marks.{stamp-none}
 use Rattle.std.proofs.lemmas.Bool.{and_right}
 
 abbrev with_clear : PairState → Option ℕ → PairState

@@ -9,7 +9,8 @@ use Rattle.flat_scene.specs.declared.setup.Setup.{Setup}
 use Rattle.flat_scene.specs.History.{◌▹◌, own, calls, is_begin, is_closed, is_finish, is_session}
 use Rattle.flat_links.specs.declared.following.Following.{Following}
 use Rattle.flat_rules.specs.Ends.{to_begin, to_finished}
-use Rattle.flat_links.specs.Following.{IsFollowed, capped, sight_of}
+use Rattle.flat_facts.specs.Contents.{capped}
+use Rattle.flat_links.specs.Following.{IsFollowed, sight_of}
 use Rattle.flat_rules.specs.Serials.{contents_made}
 use Rattle.flat_facts.specs.Views.{view_after}
 use Rattle.flat_links.proofs.lemmas.PairIdle.{shut-stays}

@@ -1,6 +1,8 @@
+pub mod Backs
 pub mod ClearMarks
 pub mod Followed
 pub mod FrameSees
+pub mod Marks
 pub mod NewTies
 pub mod NotedPairs
 pub mod PairTold

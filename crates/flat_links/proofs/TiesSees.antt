@@ -25,7 +25,8 @@ use Rattle.flat_states.specs.declared.state.SessionState.{SessionState}
 use Rattle.flat_facts.specs.Begins.{begun, begin_entry}
 use Rattle.flat_rules.specs.Numbers.{number, AllNumbered}
 use Rattle.flat_rules.specs.Ends.{live_props, props_of, serials_of, taken_calls, to_begin, to_finished, viewport_owner, viewport_uses}
-use Rattle.flat_links.specs.Following.{AreTied, IsBegun, IsFollowed, IsPairKept, capped, pair, props_pending, sight_of}
+use Rattle.flat_facts.specs.Contents.{capped}
+use Rattle.flat_links.specs.Following.{AreTied, IsBegun, IsFollowed, IsPairKept, pair, props_pending, sight_of}
 use Rattle.flat_rules.specs.Legal.{Legal, begin_time, is_frame_open, owns_viewport}
 use Rattle.flat_rules.specs.Shown.{last_taken, shown, tree_of}
 use Rattle.flat_links.specs.Usage.{SeesOne, SeesUses, props_among, uses_if, uses_in, with_pending}

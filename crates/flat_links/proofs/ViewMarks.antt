@@ -11,7 +11,7 @@ use Rattle.flat_rules.specs.Shown.{is_pair}
 use Rattle.flat_rules.specs.Stamps.{stamp_then}
 use Rattle.flat_facts.specs.Views.{view_then, ends_it, ends_of}
 use Rattle.flat_links.specs.Views.{ended_by, EndsViews, EndsOne}
-use Rattle.flat_links.proofs.lemmas.Marks.{stamp-more, stamp-none, once}
+use Rattle.flat_links.proofs.Marks.{stamp-more, stamp-none, once}
 
 abbrev pub with_end : PairState → Option ℕ → PairState
 with_end state stamp = record state { ended = stamp }

@@ -1,5 +1,5 @@
 -- What is kept of sessions and of pairs, so that what the ends of a pair tell can be told at once.
-use Rattle.std.specs.Prelude.{◌≡◌, ℕ, ◌-◌, ◌^◌, ◌<◌, true, false, min, List, [], length, Option, Some, None, ◌&&◌, option_and_then}
+use Rattle.std.specs.Prelude.{◌≡◌, ℕ, ◌-◌, ◌^◌, ◌<◌, true, false, List, [], length, Option, Some, None, ◌&&◌, option_and_then}
 use Rattle.flat_base.specs.declared.ids.Actor.TheVariants.{Session}
 use Rattle.flat_base.specs.declared.ids.PairNo.{PairNo}
 use Rattle.flat_base.specs.declared.ids.SessionNo.{SessionNo}
@@ -15,6 +15,7 @@ use Rattle.flat_facts.specs.declared.live.Live.{Live}
 use Rattle.flat_links.specs.declared.pairs.PairState.{PairState}
 use Rattle.flat_states.specs.declared.state.SessionState.{SessionState}
 use Rattle.flat_facts.specs.Begins.{begun, finished}
+use Rattle.flat_facts.specs.Contents.{capped}
 use Rattle.flat_rules.specs.Numbers.{number, AllNumbered}
 use Rattle.flat_rules.specs.Ends.{clears_viewport, ends_view, happens, to_begin, to_finished, view_owner, viewport_owner, viewport_uses, uses_viewport, is_done}
 use Rattle.flat_states.specs.Kept.{IsKept, taken_in}
@@ -41,10 +42,6 @@ nothing = record { closed = false; taken = 0; view = None; connected = false }
 -- what is kept of a session to which nothing happened
 abbrev pub new_following : Following
 new_following = record { view = None; contents = 0; begun = nothing; finished = nothing }
-
--- a count that stays at its end, which is beyond every serial of a tree
-abbrev pub capped : ℕ → ℕ
-capped n = min n (2 ^ 64 - 1)
 
 -- what a history says of a session, where it ends with the begin of a frame
 abbrev pub sight_of : Setup → List Entry → SessionNo → Sight

@@ -14,7 +14,7 @@ use Rattle.flat_facts.specs.declared.live.Live.{Live}
 use Rattle.flat_links.specs.declared.pairs.PairState.{PairState}
 use Rattle.flat_facts.specs.Clears.{clears_pair}
 use Rattle.flat_links.specs.Clears.{cleared_if}
-use Rattle.flat_links.specs.Following.{capped}
+use Rattle.flat_facts.specs.Contents.{capped}
 use Rattle.flat_rules.specs.Serials.{contents_made}
 use Rattle.flat_links.specs.Views.{ended_by}
 use Rattle.flat_facts.specs.Views.{view_after}

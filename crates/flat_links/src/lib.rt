@@ -3,9 +3,8 @@
 //! entry of a session does to both stands in entries.rt. Each part stands for a history by
 //! a record of its own (specs/).
 //!
-//! Other crates may cite the lemmas of proofs/lemmas/:
-//! - of tokens: Backs, Marks;
-//! - of pairs and ties: PairIdle, PairSteps, TiesSteps.
+//! Other crates may cite the lemmas of proofs/lemmas/, which are of pairs and ties:
+//! PairIdle, PairSteps, TiesSteps.
 #![tactic(auto)]
 
 mod clears;

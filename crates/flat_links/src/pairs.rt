@@ -1,9 +1,10 @@
 ghost use Rattle.std.specs.Prelude.{◌≡◌, Some, [], ◌∷◌};
-ghost use Rattle.flat_facts.specs.Views.{view_then, view_after};
+ghost use Rattle.flat_facts.specs.Views.{view_after};
 ghost use Rattle.flat_links.specs.Views.{EndsViews, EndsOne};
 
-use crate::told::stamp_then;
 use flat_base::PairNo;
+use flat_facts::stamps::stamp_then;
+use flat_facts::views::view_then;
 use flat_scene::{Call, ViewportProps};
 
 /// What is kept of a pair, but for its token.
@@ -55,17 +56,6 @@ fn note_one(pairs: &mut [PairState], view: Option<PairNo>, call: &Call, presents
         Call::ReleaseView => end_view(pairs, view, presents),
         Call::Clear => end_view(pairs, view, presents),
         _ => {}
-    }
-}
-
-fn view_then(view: Option<PairNo>, call: &Call) -> Option<PairNo>
-    ensures { result ≡ view_then view call.now }
-{
-    match call {
-        Call::CreateView { pair } => Some(*pair),
-        Call::ReleaseView => None,
-        Call::Clear => None,
-        _ => view,
     }
 }
 

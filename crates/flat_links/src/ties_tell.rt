@@ -16,8 +16,9 @@ ghost use Rattle.flat_states.specs.Ports.{port_of};
 use crate::following::Sight;
 use crate::followings::NOTHING;
 use crate::ties::Ties;
-use crate::told::{child_by, is_seen, layout_by, status_by};
+use crate::told::{child_by, layout_by, status_by};
 use flat_base::{Actor, PairNo, SessionNo};
+use flat_facts::stamps::is_seen;
 use flat_scene::{Setup, Told, ViewportProps};
 use flat_states::port::DisplayPort;
 

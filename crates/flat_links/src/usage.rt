@@ -1,35 +1,10 @@
 ghost use Rattle.std.specs.Prelude.{◌≡◌, ℕ, ◌+◌, Some, [], ◌∷◌, length, false};
-ghost use Rattle.flat_links.specs.Following.{capped};
-ghost use Rattle.flat_rules.specs.Serials.{makes_content, contents_made};
 ghost use Rattle.flat_links.specs.Noted.{AreNoted, KeepsOthers};
 ghost use Rattle.flat_links.specs.Usage.{SettlesOne, SettlesPairs, UsesPair, SeesUses};
 
 use crate::pairs::PairState;
 use flat_base::PairNo;
-use flat_scene::{Call, ViewportProps, ViewportUse};
-
-/// The count of contents after a call. A count at its end stays there.
-fn count_one(count: u64, call: &Call) -> u64
-    ensures { (n : ℕ) → count ≡ capped n → result ≡ capped (n + length (makes_content call.now)) }
-{
-    match call {
-        Call::CreateViewport { .. } => count.saturating_add(1),
-        Call::CreateImage { .. } => count.saturating_add(1),
-        Call::CreateFilledRect { .. } => count.saturating_add(1),
-        _ => count,
-    }
-}
-
-/// The count of contents after calls.
-pub fn count_contents(count: u64, calls: &[Call]) -> u64
-    ensures { (n : ℕ) → count ≡ capped n → result ≡ capped (n + length (contents_made calls.now)) }
-{
-    let mut now = count;
-    for call in calls {
-        now = count_one(now, call);
-    }
-    now
-}
+use flat_scene::{ViewportProps, ViewportUse};
 
 /// The viewport end of a pair is used; the viewport has that serial.
 pub fn use_pair(pairs: &mut Vec<PairState>, p: PairNo, serial: u64, props: ViewportProps)

@@ -10,9 +10,10 @@ ghost use Rattle.flat_links.specs.Viewports.{marked, marked_by, with_out, place_
 ghost use Rattle.flat_links.specs.Viewports.{back_events, still_out};
 
 use crate::tokens::OutToken;
-use crate::told::{is_seen, stamp_then};
 use flat_base::{ContentId, NoMemory, PairNo, SessionNo};
 use flat_facts::live::Live;
+use flat_facts::lives::{drop_named, pair_named};
+use flat_facts::stamps::{is_seen, stamp_then};
 use flat_scene::{Call, Event, Post};
 use flat_states::log::Log;
 use std::alloc::Global;
@@ -24,26 +25,6 @@ impl OutToken {
     {
         is_seen(self.released, taken)
     }
-}
-
-/// The pair of the live viewport that an id names.
-pub fn pair_named(live: &[Live], name: ContentId) -> Option<PairNo>
-    ensures { result ≡ pair_named live.now name.0 }
-{
-    for one in live {
-        if one.name.0 == name.0 {
-            return Some(one.pair);
-        }
-    }
-    None
-}
-
-/// Takes the live viewport that an id names away.
-pub fn drop_named(live: &mut Vec<Live>, name: ContentId)
-    ensures live { live.new.items ≡ filter (λ one. not (one.name.0 == name.0)) live.old.items }
-    ensures room { vec_capacity live.new ≡ vec_capacity live.old }
-{
-    live.retain(|one| one.name.0 != name.0);
 }
 
 /// The token of a pair, where it is out, is marked as that of a viewport released

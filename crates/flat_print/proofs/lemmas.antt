@@ -4,4 +4,3 @@ pub mod BodyWordLemmas
 pub mod OrderLemmas
 pub mod RunLemmas
 pub mod TextLemmas
-pub mod WordLemmas

@@ -2,8 +2,8 @@
 //! writes of a script that some text has is read as that script, up to line numbers.
 //!
 //! Other crates may cite the lemmas of proofs/lemmas/: what is written is read again:
-//! words and lines of a text (WordLemmas, TextLemmas, OrderLemmas, RunLemmas), lines
-//! (AgainLemmas, BodyWordLemmas).
+//! words and lines of a text (TextLemmas, OrderLemmas, RunLemmas), lines (AgainLemmas,
+//! BodyWordLemmas).
 #![tactic(auto)]
 
 mod print_calls;

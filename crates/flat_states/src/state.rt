@@ -2,10 +2,10 @@ ghost use Rattle.std.specs.Prelude.{◌≡◌, ℕ, ◌+◌, ◌-◌, ◌^◌, �
 ghost use Rattle.std.specs.Prelude.{vec_capacity};
 ghost use Rattle.flat_fence.specs.Fences.{has};
 ghost use Rattle.flat_states.specs.Presents.{present_reply, after_present, IsNew, TookReady, LetGo};
-ghost use Rattle.flat_facts.specs.Views.{holds_then, holds_after};
 ghost use Rattle.flat_states.specs.Seen.{noted};
 
 use flat_base::{FIRST_CREDITS, FULL_CREDITS, FenceList, FlatlandError, NoMemory};
+use flat_facts::views::holds_view;
 use flat_fence::FenceSet;
 use flat_queue::{Queue, Queued};
 use flat_scene::{Call, PresentArgs, Reply};
@@ -158,28 +158,6 @@ pub fn note(account: &mut Account, calls: &[Call])
 {
     account.holds = holds_view(account.holds, calls);
     account.stood = stood(account);
-}
-
-/// Whether there is a view after those calls, where there was one before or not.
-fn holds_view(before: bool, calls: &[Call]) -> bool
-    ensures { result ≡ holds_after before calls.now }
-{
-    let mut holds = before;
-    for call in calls {
-        holds = holds_then(holds, call);
-    }
-    holds
-}
-
-fn holds_then(holds: bool, call: &Call) -> bool
-    ensures { result ≡ holds_then holds call.now }
-{
-    match call {
-        Call::CreateView { .. } => true,
-        Call::ReleaseView => false,
-        Call::Clear => false,
-        _ => holds,
-    }
 }
 
 fn stood(account: &Account) -> u32

@@ -30,7 +30,7 @@ use Rattle.flat_links.specs.Views.{ended_by}
 use Rattle.flat_facts.specs.Views.{ends_of, view_after}
 use Rattle.flat_rules.specs.Watch.{props_given, props_seen}
 use Rattle.flat_facts.proofs.lemmas.Foreign.{AreTame, clears-count, foreign-live, foreign-view}
-use Rattle.flat_links.proofs.lemmas.Marks.{stamp-none}
+use Rattle.flat_links.proofs.Marks.{stamp-none}
 use Rattle.flat_links.proofs.PairTold.{clear-stamp, view-stamp}
 use Rattle.flat_facts.proofs.lemmas.SerialSteps.{serial-closing, serial-other, serial-own}
 use Rattle.flat_rules.proofs.lemmas.FrameKinds.{not-begin, not-finish}

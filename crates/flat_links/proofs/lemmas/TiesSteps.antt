@@ -15,7 +15,8 @@ use Rattle.flat_links.specs.declared.pairs.PairState.{PairState}
 use Rattle.flat_rules.specs.Numbers.{number, AllNumbered}
 use Rattle.flat_facts.specs.Clears.{clears_pair}
 use Rattle.flat_links.specs.Clears.{cleared_if}
-use Rattle.flat_links.specs.Following.{AreTied, IsFollowed, IsIdle, IsOwnEntry, IsPairKept, UsesNone, capped, pair}
+use Rattle.flat_facts.specs.Contents.{capped}
+use Rattle.flat_links.specs.Following.{AreTied, IsFollowed, IsIdle, IsOwnEntry, IsPairKept, UsesNone, pair}
 use Rattle.flat_rules.specs.Serials.{contents_made}
 use Rattle.flat_links.specs.Usage.{IsUse, NotesCalls, UsesPair, followed_by, used_by}
 use Rattle.flat_links.specs.Views.{ended_by}

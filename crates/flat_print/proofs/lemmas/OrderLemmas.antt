@@ -27,7 +27,7 @@ use Rattle.flat_forms.proofs.lemmas.FormLemmas.{Gives, both_ok, or_kind_ok, whol
 use Rattle.flat_print.proofs.CallLemmas.{name_at-place_of, test_ok}
 use Rattle.flat_print.proofs.lemmas.TextLemmas.{IsLine, line_front, front_fits, AllLines, AllLines-append, room_of, room_of-append}
 use Rattle.flat_print.specs.Print.{spelled}
-use Rattle.flat_print.proofs.lemmas.WordLemmas.{numbered-append}
+use Rattle.flat_print.proofs.WordLemmas.{numbered-append}
 use Rattle.flat_forms.proofs.lemmas.StepLemmas.{SizeStep, SessionStep, ProbeStep, BuffersStep, PairStep, FenceStep, Step, size_step, session_step, probe_step, buffers_step, pair_step, fence_step, sort}
 use Rattle.flat_print.proofs.SwapLemmas.{swap}
 use Rattle.std.proofs.lemmas.Bool.{and_parts}

@@ -10,7 +10,7 @@ use Rattle.flat_places.specs.Forms.{Word}
 use Rattle.flat_script.specs.Grammar.{is_plain, is_skipped}
 use Rattle.flat_print.specs.Print.{spelled, spaced, fed}
 use Rattle.std.proofs.lemmas.Bool.{and_parts}
-use Rattle.flat_print.proofs.lemmas.WordLemmas.{spaced-append}
+use Rattle.flat_print.proofs.WordLemmas.{spaced-append}
 
 spelled-join : (ws : List Word) → spelled ws ≡ join_with_byte 32 ws
 spelled-join [] = refl

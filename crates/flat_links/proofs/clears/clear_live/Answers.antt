@@ -2,7 +2,7 @@ use Rattle.std.proofs.Common.{◌≡◌, ◌∙◌, sym, drop, ◌+◌, [], ◌�
 use Rattle.flat_facts.specs.declared.live.Live.{Live}
 use Rattle.flat_links.specs.declared.pairs.PairState.{PairState}
 use Rattle.flat_links.specs.Clears.{ClearsLive}
-use Rattle.flat_links.proofs.lemmas.Marks.{drop-is, drop-end}
+use Rattle.flat_links.proofs.Marks.{drop-is, drop-end}
 use Rattle.flat_links.proofs.ClearMarks.{clears-more, clears-less, clears-none}
 use Rattle.flat_links.proofs.clears.clear_live.Goals as goal
 use Rattle.flat_links.proofs.clears.clear_live.Goals.{then-is_cleared, else-is_cleared}

@@ -4,7 +4,7 @@ use Rattle.flat_base.specs.declared.ids.PairNo.{PairNo}
 use Rattle.flat_scene.specs.declared.calls.Call.{Call}
 use Rattle.flat_facts.specs.Views.{view_then, view_after}
 use Rattle.flat_links.specs.Views.{EndsViews}
-use Rattle.flat_links.proofs.lemmas.Marks.{drop-is, drop-end}
+use Rattle.flat_links.proofs.Marks.{drop-is, drop-end}
 use Rattle.flat_links.proofs.ViewMarks.{ends-more, ends-none}
 use Rattle.flat_links.proofs.pairs.note_views.Goals as goal
 

@@ -1,6 +1,6 @@
 use Rattle.std.proofs.Common.{◌≡◌, drop, ◌+◌, [], ◌∷◌, List, subst, slice_index_or}
 use Rattle.flat_base.specs.declared.ids.PairNo.{PairNo}
-use Rattle.flat_links.proofs.lemmas.Marks.{drop-is, drop-end}
+use Rattle.flat_links.proofs.Marks.{drop-is, drop-end}
 use Rattle.flat_links.proofs.NotedPairs.{SettledBut, settled-end, settled-on, settled-start}
 use Rattle.flat_links.proofs.usage.settle_noted.Goals as goal
 

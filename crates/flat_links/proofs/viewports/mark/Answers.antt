@@ -2,7 +2,7 @@ use Rattle.std.proofs.Common.{ℕ, Some, None, ap, slice_index_or}
 use Rattle.std.specs.Prelude.{Option}
 use Rattle.flat_links.specs.declared.tokens.OutToken.{OutToken}
 use Rattle.flat_links.specs.Viewports.{marked_by}
-use Rattle.flat_links.proofs.lemmas.Marks.{mapped-next}
+use Rattle.flat_links.proofs.Marks.{mapped-next}
 use Rattle.flat_links.proofs.viewports.mark.Goals as goal
 
 pub loop-one-preserved : goal.loop-one-preserved

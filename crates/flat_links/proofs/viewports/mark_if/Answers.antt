@@ -1,5 +1,5 @@
 use Rattle.std.proofs.Common.{sym}
-use Rattle.flat_links.proofs.lemmas.Marks.{unmarked}
+use Rattle.flat_links.proofs.Marks.{unmarked}
 use Rattle.flat_links.proofs.viewports.mark_if.Goals as goal
 
 pub returns-in-None : goal.returns-in-None

@@ -1,5 +1,5 @@
 use Rattle.std.proofs.Common.{arith}
-use Rattle.flat_links.proofs.lemmas.Backs.{back-few}
+use Rattle.flat_links.proofs.Backs.{back-few}
 use Rattle.flat_links.proofs.viewports.post_back.Goals as goal
 
 pub post-requires : goal.post-requires

@@ -1,4 +1,4 @@
-use Rattle.flat_print.proofs.lemmas.WordLemmas.{then}
+use Rattle.flat_print.proofs.WordLemmas.{then}
 use Rattle.flat_print.proofs.print_lines.push_present.Goals as goal
 
 pub returns : goal.returns

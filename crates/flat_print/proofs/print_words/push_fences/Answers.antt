@@ -1,5 +1,5 @@
 use Rattle.flat_print.specs.Print.{fence_word}
-use Rattle.flat_print.proofs.lemmas.WordLemmas.{more_mapped}
+use Rattle.flat_print.proofs.WordLemmas.{more_mapped}
 use Rattle.flat_print.proofs.print_words.push_fences.Goals as goal
 
 pub loop-fence-preserved : goal.loop-fence-preserved

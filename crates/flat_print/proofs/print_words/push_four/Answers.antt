@@ -1,6 +1,6 @@
 use Rattle.std.proofs.Common.{w32}
 use Rattle.std.proofs.lemmas.Int.{to_z-of_z}
-use Rattle.flat_print.proofs.lemmas.WordLemmas.{then}
+use Rattle.flat_print.proofs.WordLemmas.{then}
 use Rattle.flat_print.proofs.print_words.push_four.Goals as goal
 
 pub returns : goal.returns

@@ -1,6 +1,6 @@
 use Rattle.std.proofs.Common.{refl}
 use Rattle.std.specs.Fmt.{decimal}
-use Rattle.flat_print.proofs.lemmas.WordLemmas.{more_mapped}
+use Rattle.flat_print.proofs.WordLemmas.{more_mapped}
 use Rattle.flat_print.proofs.print_words.push_numbers.Goals as goal
 
 pub loop-value-preserved : goal.loop-value-preserved

@@ -1,5 +1,5 @@
 use Rattle.flat_page.specs.Words.{actor_name}
-use Rattle.flat_print.proofs.lemmas.WordLemmas.{more_mapped}
+use Rattle.flat_print.proofs.WordLemmas.{more_mapped}
 use Rattle.flat_print.proofs.print_words.push_owners.Goals as goal
 
 pub loop-owner-preserved : goal.loop-owner-preserved

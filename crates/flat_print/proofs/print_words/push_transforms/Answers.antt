@@ -1,7 +1,7 @@
 use Rattle.std.proofs.Common.{refl}
 use Rattle.std.specs.Fmt.{decimal}
 use Rattle.flat_base.specs.declared.ids.TransformId.{TransformId}
-use Rattle.flat_print.proofs.lemmas.WordLemmas.{more_mapped}
+use Rattle.flat_print.proofs.WordLemmas.{more_mapped}
 use Rattle.flat_print.proofs.print_words.push_transforms.Goals as goal
 
 pub loop-transform-preserved : goal.loop-transform-preserved

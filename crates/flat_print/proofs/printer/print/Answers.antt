@@ -1,6 +1,6 @@
 use Rattle.std.proofs.Common.{◌≡◌, ℕ, List, ap, ◌∙◌, ◌++◌, map, sym, subst}
 use Rattle.flat_print.specs.Print.{fed, spelled, version_words, script_words, line_words, text_of, IsReadBack}
-use Rattle.flat_print.proofs.lemmas.WordLemmas.{then_lines, same_lines}
+use Rattle.flat_print.proofs.WordLemmas.{then_lines, same_lines}
 use Rattle.flat_print.proofs.lemmas.RunLemmas.{printed}
 use Rattle.flat_print.proofs.printer.print.Goals as goal
 

@@ -1,7 +1,7 @@
 use Rattle.std.proofs.Common.{◌≡◌, sym, drop, ◌+◌, [], ◌∷◌, List, subst, slice_index_or}
 use Rattle.flat_scene.specs.declared.trees.ViewportUse.{ViewportUse}
 use Rattle.flat_links.specs.Usage.{SeesUses}
-use Rattle.flat_links.proofs.lemmas.Marks.{drop-is, drop-end}
+use Rattle.flat_links.proofs.Marks.{drop-is, drop-end}
 use Rattle.flat_links.proofs.UsageSteps.{sees-more, sees-none}
 use Rattle.flat_links.proofs.noted.PairStates.see_uses.Goals as goal
 

@@ -3,7 +3,7 @@ use Rattle.std.specs.List.{insert}
 use Rattle.std.specs.Prelude.{is_ok, length, vec_len}
 use Rattle.flat_links.specs.declared.tokens.OutToken.{OutToken}
 use Rattle.flat_links.specs.Viewports.{place_of}
-use Rattle.flat_links.proofs.lemmas.Backs.{put-in-place, if-so}
+use Rattle.flat_links.proofs.Backs.{put-in-place, if-so}
 use Rattle.flat_links.proofs.viewports.Viewports.join.Goals as goal
 
 pub returns-clause-out : goal.returns-clause-out

@@ -3,7 +3,7 @@ use Rattle.std.specs.List.{list_any}
 use Rattle.flat_scene.specs.declared.calls.Call.{Call}
 use Rattle.flat_facts.specs.Lives.{is_new_viewport}
 use Rattle.flat_links.specs.Viewports.{marked}
-use Rattle.flat_links.proofs.lemmas.Marks.{drop-is, drop-end, left-next, marked-none}
+use Rattle.flat_links.proofs.Marks.{drop-is, drop-end, left-next, marked-none}
 use Rattle.flat_links.proofs.viewports.Viewports.note_calls.Goals as goal
 use Rattle.std.proofs.lemmas.Bool.{or_parts}
 

@@ -1,5 +1,5 @@
 use Rattle.std.proofs.Common.{sym, ◌∙◌}
-use Rattle.flat_links.proofs.lemmas.Marks.{plain-lives, plain-marks, unmarked, marked-release}
+use Rattle.flat_links.proofs.Marks.{plain-lives, plain-marks, unmarked, marked-release}
 use Rattle.flat_links.proofs.viewports.Viewports.note_one.Goals as goal
 
 pub returns-in-Clear-clause-out : goal.returns-in-Clear-clause-out

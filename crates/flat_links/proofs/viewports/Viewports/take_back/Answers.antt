@@ -2,7 +2,7 @@ use Rattle.std.proofs.Common.{◌≡◌, ◌∙◌, rules, not, arith, ap, lengt
 use Rattle.std.proofs.lemmas.Fn.{filter_same}
 use Rattle.flat_links.specs.declared.tokens.OutToken.{OutToken}
 use Rattle.flat_links.specs.Viewports.{is_back, still_out, back_events}
-use Rattle.flat_links.proofs.lemmas.Backs.{back-or-out}
+use Rattle.flat_links.proofs.Backs.{back-or-out}
 use Rattle.flat_links.proofs.viewports.Viewports.take_back.Goals as goal
 
 pub returns-clause-out : goal.returns-clause-out

@@ -1,6 +1,6 @@
 use Rattle.std.proofs.Common.{◌≡◌, drop}
 use Rattle.flat_facts.specs.Views.{holds_after}
-use Rattle.flat_states.proofs.state.holds_view.Given as goal
+use Rattle.flat_facts.proofs.views.holds_view.Given as goal
 
 -- what is left leads from here to the same end
 abbrev pub invariant-loop-call : goal.invariant-loop-call

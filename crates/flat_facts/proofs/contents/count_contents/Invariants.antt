@@ -1,7 +1,7 @@
 use Rattle.std.proofs.Common.{◌≡◌, ℕ, ◌+◌, length, drop}
-use Rattle.flat_links.specs.Following.{capped}
+use Rattle.flat_facts.specs.Contents.{capped}
 use Rattle.flat_rules.specs.Serials.{contents_made}
-use Rattle.flat_links.proofs.usage.count_contents.Given as goal
+use Rattle.flat_facts.proofs.contents.count_contents.Given as goal
 
 -- what is left leads from here to the same end
 abbrev pub invariant-loop-call : goal.invariant-loop-call

@@ -1,6 +1,6 @@
 use Rattle.std.proofs.Common.{◌≡◌, drop}
 use Rattle.flat_facts.specs.Lives.{pair_named}
-use Rattle.flat_links.proofs.viewports.pair_named.Given as goal
+use Rattle.flat_facts.proofs.lives.pair_named.Given as goal
 
 -- none of those before has that name
 abbrev pub invariant-loop-one : goal.invariant-loop-one
