@@ -1,9 +1,18 @@
 ghost use Rattle.std.specs.Prelude.{◌≡◌, IsTrue, true, ◌+◌, ◌<◌, ◌^◌, false, [], length, sum, IfOk};
-ghost use Rattle.std.specs.Prelude.{ℕ};
+ghost use Rattle.std.specs.Prelude.{All, ℕ};
+ghost use Rattle.flat_base.specs.declared.ids.FenceNo.{FenceNo};
+ghost use Rattle.flat_base.specs.declared.ids.PairNo.{PairNo};
 ghost use Rattle.flat_base.specs.declared.ids.SessionNo.{SessionNo};
 ghost use Rattle.flat_scene.specs.History.{history_of};
 ghost use Rattle.flat_scene.specs.Setups.{is_declared, is_within_limits};
 ghost use Rattle.flat_topology.specs.Views.{is_member};
+ghost use Rattle.flat_fence.specs.Fences.{has};
+ghost use Rattle.flat_gets.specs.Dues.{due_told};
+ghost use Rattle.flat_gets.specs.Watchers.{AreWatched};
+ghost use Rattle.flat_links.specs.AllEnds.{HasNone};
+ghost use Rattle.flat_links.specs.Following.{AreTied};
+ghost use Rattle.flat_states.specs.Flags.{has_end};
+ghost use Rattle.flat_states.specs.Presents.{IsNew};
 ghost use Rattle.flat_core.specs.Journals.{FamiliesStandAlone, IsDecidedByGlimpses, IsQuietBeside};
 ghost use Rattle.flat_rules.specs.Ends.{has_view};
 ghost use Rattle.flat_rules.specs.Legal.{number_if, Legal};
@@ -110,12 +119,9 @@ impl Board {
         let total = total_of(shares.as_slice());
         let log = Log::new(alloc, total)?;
         let ratios = Ratios::new(setup.ratio);
-        let fences = FenceSet::new(alloc, setup.fences.len() as u32)?;
-        let views = EndSet::new(alloc, setup.pairs.len() as u32)?;
-        let sessions = new_states(alloc, setup.sessions)?;
-        let ends = new_ends(alloc, setup.sessions)?;
-        let ties = Ties::new(alloc, &setup)?;
-        let watchers = Watchers::new(alloc, &setup)?;
+        let (fences, views) = new_sets(alloc, &setup)?;
+        let (sessions, ends) = new_sessions(alloc, setup.sessions)?;
+        let (ties, watchers) = new_pairs(alloc, &setup)?;
         Ok(Board {
             alloc,
             setup,
@@ -173,6 +179,46 @@ impl Board {
     {
         &self.setup
     }
+}
+
+/// The fences, none of which is signalled, and the view ends, none of which was used.
+fn new_sets(alloc: Global, setup: &Setup) -> Result<(FenceSet, EndSet), NoMemory>
+    requires { IsTrue (is_within_limits setup.now) }
+    ensures fences { IfOk result (λ new. length new.0 ≡ length setup.now.fences) }
+    ensures none { IfOk result (λ new. (f : FenceNo) → has new.0 f ≡ false) }
+    ensures views { IfOk result (λ new. length new.1 ≡ length setup.now.pairs) }
+    ensures unused { IfOk result (λ new. (p : PairNo) → has_end new.1 p ≡ false) }
+{
+    let fences = FenceSet::new(alloc, setup.fences.len() as u32)?;
+    let views = EndSet::new(alloc, setup.pairs.len() as u32)?;
+    Ok((fences, views))
+}
+
+/// What is kept of sessions that made no entry.
+fn new_sessions(
+    alloc: Global,
+    n: u32,
+) -> Result<(Vec<SessionState>, Vec<Viewports>), NoMemory>
+    ensures count { IfOk result (λ new. length new.0.items ≡ n) }
+    ensures new { IfOk result (λ new. All IsNew new.0.items) }
+    ensures ends { IfOk result (λ new. length new.1.items ≡ n) }
+    ensures none { IfOk result (λ new. All HasNone new.1.items) }
+{
+    let states = new_states(alloc, n)?;
+    let ends = new_ends(alloc, n)?;
+    Ok((states, ends))
+}
+
+/// What is kept of pairs that nobody has used.
+fn new_pairs(alloc: Global, setup: &Setup) -> Result<(Ties, Watchers), NoMemory>
+    ensures tied { IfOk result (λ new. AreTied setup.now [] new.0.followings.items
+        new.0.pairs.items) }
+    ensures watched { IfOk result (λ new. AreWatched setup.now [] new.1) }
+    ensures told { IfOk result (λ new. due_told new.1 ≡ 0) }
+{
+    let ties = Ties::new(alloc, setup)?;
+    let watchers = Watchers::new(alloc, setup)?;
+    Ok((ties, watchers))
 }
 
 /// A fence's value.

@@ -1,15 +1,22 @@
 //! The entries that use the ends of a pair, or watch it.
-ghost use Rattle.std.specs.Prelude.{◌≡◌, None, Some, IfOk, IfErr};
+ghost use Rattle.std.specs.Prelude.{◌≡◌, ◌<◌, ◌≤◌, List, None, Some, IfOk, IfErr, OnOk, length};
+ghost use Rattle.std.specs.Prelude.{vec_capacity};
+ghost use Rattle.flat_scene.specs.declared.journal.Entry.{Entry};
+ghost use Rattle.flat_scene.specs.declared.setup.Setup.{Setup};
 ghost use Rattle.flat_states.specs.Machines.{MayCall, entered};
 ghost use Rattle.flat_rules.specs.Legal.{reply_to};
 ghost use Rattle.flat_rules.specs.Watch.{watcher_of};
-ghost use Rattle.flat_gets.specs.Watchers.{is_held, is_shut, watcher_meant};
+ghost use Rattle.flat_gets.specs.Dues.{due_told};
+ghost use Rattle.flat_gets.specs.Watchers.{AreWatched, HasRoomAt, is_held, is_shut, watcher_meant};
 
 use crate::board::{Back, Board, number_if};
-use flat_base::{Actor, PairNo, SessionNo};
+use flat_base::{Actor, NoMemory, PairNo, SessionNo};
 use flat_gets::telling::Telling;
+use flat_gets::watching::Watchers;
 use flat_links::entries::{note_ends, use_ends};
+use flat_links::viewports::Viewports;
 use flat_scene::{CallList, Entry, Kind, Reply, ViewportProps, Watch};
+use flat_states::log::Log;
 use flat_states::port::port_of;
 use flat_states::state::{SessionState, note};
 use flat_states::views::{get_in, view_in, viewport_in};
@@ -71,17 +78,8 @@ impl Board {
         let owner = self.setup.pairs.at(p.0 as usize).view;
         let is_shut = is_shut(self.sessions.as_slice(), owner);
         let place = s.0 as usize - 1;
-        match self.watchers.reserve_use(p) {
-            Ok(()) => {}
-            Err(_) => {
-                return Err(Back {
-                    calls,
-                    args: None,
-                    snap: None,
-                });
-            }
-        }
-        match self.viewports[place].reserve_with(&mut self.log, self.owed + 1) {
+        let ends = &mut self.viewports[place];
+        match make_room(&mut self.watchers, ends, &mut self.log, p, self.owed + 1) {
             Ok(()) => {}
             Err(_) => {
                 return Err(Back {
@@ -175,6 +173,35 @@ impl Board {
         });
         Ok(reply)
     }
+}
+
+/// Makes the room for one more use of the viewport end of a pair, and for so many posts.
+fn make_room(
+    watchers: &mut Watchers,
+    ends: &mut Viewports,
+    log: &mut Log,
+    p: PairNo,
+    posts: usize,
+) -> Result<(), NoMemory>
+    requires { p.0 < length watchers.old.pairs.items }
+    ensures watched { (setup : Setup) (history : List Entry) → AreWatched setup history watchers.old →
+        AreWatched setup history watchers.new }
+    ensures told { due_told watchers.new ≡ due_told watchers.old }
+    ensures sessions { watchers.new.sessions ≡ watchers.old.sessions }
+    ensures pairs { length watchers.new.pairs.items ≡ length watchers.old.pairs.items }
+    ensures use_room { OnOk result (HasRoomAt p watchers.new) }
+    ensures live { ends.new.live.items ≡ ends.old.live.items }
+    ensures out { ends.new.out.items ≡ ends.old.out.items }
+    ensures room_live { OnOk result (length ends.new.live.items < vec_capacity ends.new.live) }
+    ensures room_out { OnOk result (length ends.new.out.items < vec_capacity ends.new.out) }
+    ensures history { log.new.history ≡ log.old.history }
+    ensures posts { log.new.posts ≡ log.old.posts }
+    ensures room { log.new.room ≡ log.old.room }
+    ensures post_room { log.old.post_room ≤ log.new.post_room }
+    ensures reserved { OnOk result (posts ≤ log.new.post_room) }
+{
+    watchers.reserve_use(p)?;
+    ends.reserve_with(log, posts)
 }
 
 /// Whether a get waits by its reply.
