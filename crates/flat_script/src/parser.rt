@@ -1,9 +1,12 @@
-ghost use Rattle.std.specs.Prelude.{◌≡◌, ◌<◌, ◌≤◌, ◌+◌, ◌^◌, OnOk};
+ghost use Rattle.std.specs.Prelude.{◌≡◌, ℕ, ◌<◌, ◌≤◌, ◌+◌, ◌^◌, Ok, OnOk, IfErr, IfOk};
 ghost use Rattle.std.specs.List.{list_all};
 ghost use Rattle.flat_forms.specs.Steps.{Steps};
 ghost use Rattle.flat_forms.specs.Progress.{Kept, sofar_of};
+ghost use Rattle.flat_forms.specs.declared.lines.Part.TheVariants.{Start};
+ghost use Rattle.flat_forms.specs.Head.{empty};
+ghost use Rattle.flat_script.specs.declared.script.ScriptError.TheVariants.{Fault};
 ghost use Rattle.flat_script.specs.Grammar.{line_read, end_read, text_read, is_plain, is_skipped};
-ghost use Rattle.flat_script.specs.Answers.{Answers};
+ghost use Rattle.flat_script.specs.Answers.{Answers, Fails, ends_by};
 
 use crate::script::{ScriptError, ScriptFault};
 use flat_base::{LINE_BYTES_MAX, SCRIPT_BYTES_MAX};
@@ -20,27 +23,45 @@ use std::alloc::Global;
 pub fn parse(alloc: Global, bytes: &[u8]) -> Result<Script, ScriptError>
     ensures { Answers result (text_read bytes.now) }
 {
-    if bytes.len() > SCRIPT_BYTES_MAX {
-        return Err(ScriptError::Fault(ScriptFault {
-            line: 0,
-            kind: FaultKind::TooLong,
-        }));
-    }
     let mut parser = Parser::new(alloc);
+    let lines = read_text(&mut parser, alloc, bytes)?;
+    Ok(script_of(parser, lines))
+}
+
+/// Reads all lines of a text, and answers how many they are.
+fn read_text(parser: &mut Parser, alloc: Global, bytes: &[u8]) -> Result<u32, ScriptError>
+    requires kept { Kept parser.old }
+    requires new { sofar_of parser.old ≡ (Start, empty) }
+    requires begins { parser.old.begins ≡ 0 }
+    requires dones { parser.old.dones ≡ 0 }
+    ensures ok { IfOk result (λ lines. text_read bytes.now
+        ≡ Ok (record (sofar_of parser.new).1 { count = lines })) }
+    ensures err { IfErr result (λ error. Fails error (text_read bytes.now)) }
+{
+    if bytes.len() > SCRIPT_BYTES_MAX {
+        return Err(fault(0, FaultKind::TooLong));
+    }
     let mut number = 1u32;
     let mut text = bytes;
     while let Some((first, rest)) = line(text) {
-        match read_line(&mut parser, alloc, number, first) {
+        match read_line(parser, alloc, number, first) {
             Ok(()) => {}
-            Err(LineError::Kind(kind)) => {
-                return Err(ScriptError::Fault(ScriptFault { line: number, kind }));
-            }
+            Err(LineError::Kind(kind)) => return Err(fault(number, kind)),
             Err(LineError::Memory) => return Err(ScriptError::Memory),
         }
         number += 1;
         text = rest;
     }
-    end(parser, number)
+    match end_fault(parser) {
+        Some(kind) => Err(fault(number, kind)),
+        None => Ok(number - 1),
+    }
+}
+
+fn fault(line: u32, kind: FaultKind) -> ScriptError
+    ensures { result ≡ Fault (record { line = line; kind = kind }) }
+{
+    ScriptError::Fault(ScriptFault { line, kind })
 }
 
 /// Reads the line of that number.
@@ -66,28 +87,30 @@ fn read_line(parser: &mut Parser, alloc: Global, number: u32, line: &[u8]) -> Re
     parser.words(alloc, number, line)
 }
 
-/// The script, where the text ends before the line of that number.
-fn end(mut parser: Parser, number: u32) -> Result<Script, ScriptError>
-    requires kept { Kept parser }
-    requires number { 0 < number }
-    ensures { Answers result (end_read number (sofar_of parser)) }
+/// The kind of fault that it is if the text ends here, if it is one.
+fn end_fault(parser: &Parser) -> Option<FaultKind>
+    requires { Kept parser.now }
+    ensures { (number : ℕ) → end_read number (sofar_of parser.now)
+        ≡ ends_by number result (sofar_of parser.now).1 }
 {
     match parser.part {
         Part::Body => {
             if parser.dones < parser.begins {
-                return Err(ScriptError::Fault(ScriptFault {
-                    line: number,
-                    kind: FaultKind::BadOrder,
-                }));
+                return Some(FaultKind::BadOrder);
             }
-            parser.text.script.count = number - 1;
-            Ok(parser.text.script)
+            None
         }
-        _ => Err(ScriptError::Fault(ScriptFault {
-            line: number,
-            kind: FaultKind::BadHead,
-        })),
+        _ => Some(FaultKind::BadHead),
     }
+}
+
+/// The script of a text that was read, with its number of lines.
+fn script_of(parser: Parser, lines: u32) -> Script
+    ensures { result ≡ record (sofar_of parser).1 { count = lines } }
+{
+    let mut script = parser.text.script;
+    script.count = lines;
+    script
 }
 
 /// Whether a line has printable ASCII alone.

@@ -2,7 +2,7 @@ use Rattle.std.proofs.Common.{◌≡◌, ◌<◌, ◌≤◌, ◌+◌, length}
 use Rattle.flat_text.specs.Pieces.{lines_of}
 use Rattle.flat_script.specs.Grammar.{lines_read, text_read}
 use Rattle.flat_forms.specs.Progress.{Kept, sofar_of}
-use Rattle.flat_script.proofs.parser.parse.Given as goal
+use Rattle.flat_script.proofs.parser.read_text.Given as goal
 
 abbrev pub invariant-loop-first : goal.invariant-loop-first
 invariant-loop-first l = record {
