@@ -12,7 +12,7 @@ use Rattle.flat_base.specs.declared.ids.SessionNo.{SessionNo}
 use Rattle.flat_scene.specs.declared.calls.Call.{Call}
 use Rattle.flat_scene.specs.declared.calls.ViewportProps.{ViewportProps}
 use Rattle.flat_scene.specs.declared.journal.Kind.TheVariants.{Viewport}
-use Rattle.flat_scene.specs.History.{◌▹◌, calls, is_begin, is_closed, is_finish, presents}
+use Rattle.flat_scene.specs.History.{◌▹◌, calls, closes, is_begin, is_closed, is_finish, presents}
 use Rattle.flat_states.specs.declared.state.SessionState.{SessionState}
 use Rattle.flat_links.specs.declared.ties.Ties.{Ties}
 use Rattle.flat_links.specs.Following.{AreTied, UsesNone}
@@ -38,6 +38,11 @@ pub record HasNone (ends : Viewports) : Type 0 where
 pub record IsNoted (calls : List Call) (presents : ℕ) (old new : Viewports) : Type 0 where
   pub live : new.live.items ≡ lives_after old.live.items calls
   pub out : new.out.items ≡ map (marked old.live.items calls presents) old.out.items
+
+-- What is kept of a session's viewports after an entry that uses no viewport end, before which it had made so many presents. One that closes the session leaves it as it was, since nothing of it is told any more.
+pub record IsHeard (entry : Entry) (presents : ℕ) (old new : Viewports) : Type 0 where
+  pub noted : closes entry.reply ≡ false → IsNoted entry.calls presents old new
+  pub shut : closes entry.reply ≡ true → new ≡ old
 
 -- What the use of an end did to what is kept of its session's viewports, where the token was held or not.
 pub record IsUsed (p : PairNo) (calls : List Call) (presents : ℕ) (is_held : Bool) (old new : Viewports) : Type 0 where
@@ -69,16 +74,20 @@ TiesUsed s carries p props is_held state ends old new =
     → length history < 2 ^ 32 - 1 → AreTied setup history old.followings.items old.pairs.items → AreTied setup (history ▹ entry) new.followings.items new.pairs.items
 
 -- The same of all sessions' viewports, where this one made the entry.
-pub record NotedAt (s : SessionNo) (carries : List Call) (states : List SessionState) (old new : List Viewports) (tied now : Ties) : Type 0 where
+pub record EnteredAt (s : SessionNo) (entry : Entry) (states : List SessionState) (old new : List Viewports) (tied now : Ties) : Type 0 where
   pub state : SessionState
   pub before : Viewports
   pub after : Viewports
   pub of_state : state ≡ slice_index_or states (s.0 - 1) state
   pub of_before : before ≡ slice_index_or old (s.0 - 1) before
-  pub noted : IsNoted carries state.account.presents before after
+  pub heard : IsHeard entry state.account.presents before after
   pub new_is : new ≡ slice_set old (s.0 - 1) after
-  pub ties : TiesNoted s carries state before tied now
+  pub ties : TiesNoted s entry.calls state before tied now
 
-abbrev pub EndsNoted : Actor → List Call → List SessionState → List Viewports → List Viewports → Ties → Ties → Type 0
-EndsNoted (Session s) calls states old new tied now = NotedAt s calls states old new tied now
-EndsNoted who calls states old new tied now = (new ≡ old) × (now ≡ tied)
+-- and whoever made it
+abbrev pub EndsEnteredBy : Actor → Entry → List SessionState → List Viewports → List Viewports → Ties → Ties → Type 0
+EndsEnteredBy (Session s) entry states old new tied now = EnteredAt s entry states old new tied now
+EndsEnteredBy who entry states old new tied now = (new ≡ old) × (now ≡ tied)
+
+abbrev pub EndsEntered : Entry → List SessionState → List Viewports → List Viewports → Ties → Ties → Type 0
+EndsEntered entry = EndsEnteredBy entry.actor entry

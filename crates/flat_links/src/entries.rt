@@ -5,16 +5,18 @@ ghost use Rattle.std.specs.List.{list_any};
 ghost use Rattle.flat_states.specs.declared.state.SessionState.{SessionState};
 ghost use Rattle.flat_rules.specs.Legal.{all_but_last};
 ghost use Rattle.flat_facts.specs.Lives.{uses_last};
-ghost use Rattle.flat_states.specs.Presents.{noted_in, IsPlaced};
-ghost use Rattle.flat_links.specs.AllEnds.{IsNoted, IsUsed, EndsNoted};
+ghost use Rattle.flat_scene.specs.History.{closes};
+ghost use Rattle.flat_states.specs.Presents.{entered_in, IsPlaced};
+ghost use Rattle.flat_links.specs.AllEnds.{IsHeard, IsUsed, EndsEntered};
 ghost use Rattle.flat_links.specs.AllEnds.{TiesNoted, TiesUsed, HasNone};
 ghost use Rattle.flat_facts.specs.Lives.{is_new_viewport};
 
 use crate::ties::Ties;
 use crate::viewports::{Viewports, is_out};
 use flat_base::{Actor, NoMemory, PairNo, SessionNo};
-use flat_scene::{Call, ViewportProps};
-use flat_states::state::{SessionState, note};
+use flat_scene::{Call, Entry, ViewportProps};
+use flat_states::replies::{closes, note_entry};
+use flat_states::state::SessionState;
 use std::alloc::Global;
 
 /// What is kept of sessions' viewports before any entry.
@@ -29,28 +31,47 @@ pub fn new_ends(alloc: Global, n: u32) -> Result<Vec<Viewports>, NoMemory>
     Ok(ends)
 }
 
-/// Notes the calls of an entry of a session by its ends, where it is in this state
-/// before. None of them makes a viewport.
-pub fn note_ends(
+/// Notes the calls of an entry by the ties of its session, where that is open.
+fn note_ties(state: &SessionState, ends: &Viewports, ties: &mut Ties, s: SessionNo, calls: &[Call])
+    requires some { 0 < s.0 }
+    requires few { s.0 ≤ length ties.old.followings.items }
+    ensures { TiesNoted s calls.now state.now ends.now ties.old ties.new }
+{
+    if state.closed {
+        return;
+    }
+    ties.note(s, calls, state.account.presents, ends.live.as_slice());
+}
+
+/// Notes the calls of an entry by its session's viewports, unless it closes the session.
+/// None of them makes one.
+fn note_viewports(ends: &mut Viewports, entry: &Entry, presents: u32)
+    requires { closes entry.now.reply ≡ false → list_any is_new_viewport entry.now.calls ≡ false }
+    ensures { IsHeard entry.now presents ends.old ends.new }
+{
+    if closes(entry.reply) {
+        return;
+    }
+    ends.note_calls(entry.calls.as_slice(), presents);
+}
+
+/// Notes an entry that uses no viewport end, of a session in this state before.
+fn note_ends(
     state: &SessionState,
     ends: &mut Viewports,
     ties: &mut Ties,
     s: SessionNo,
-    calls: &[Call],
+    entry: &Entry,
 )
     requires some { 0 < s.0 }
     requires few { s.0 ≤ length ties.old.followings.items }
-    requires none { list_any is_new_viewport calls.now ≡ false }
-    ensures ends { IsNoted calls.now state.now.account.presents ends.old ends.new }
-    ensures ties { TiesNoted s calls.now state.now ends.old ties.old ties.new }
+    requires none { closes entry.now.reply ≡ false →
+        list_any is_new_viewport entry.now.calls ≡ false }
+    ensures ends { IsHeard entry.now state.now.account.presents ends.old ends.new }
+    ensures ties { TiesNoted s entry.now.calls state.now ends.old ties.old ties.new }
 {
-    let presents = state.account.presents;
-    if state.closed {
-        ends.note_calls(calls, presents);
-        return;
-    }
-    ties.note(s, calls, presents, ends.live.as_slice());
-    ends.note_calls(calls, presents);
+    note_ties(state, ends, ties, s, entry.calls.as_slice());
+    note_viewports(ends, entry, state.account.presents);
 }
 
 /// Uses the viewport end of a pair by the last of the calls of an entry of a session
@@ -84,29 +105,29 @@ pub fn use_ends(
     true
 }
 
-/// Notes the calls that an entry carries, where a session made it. None of them
-/// makes a viewport.
+/// Notes an entry that uses no viewport end, where a session made it: the calls that it
+/// carries, and what its reply decides. It takes no memory.
 pub fn note_in(
     sessions: &mut Vec<SessionState>,
     ends: &mut Vec<Viewports>,
     ties: &mut Ties,
-    who: Actor,
-    calls: &[Call],
+    entry: &Entry,
 )
-    requires placed { IsPlaced (length sessions.old.items) who }
+    requires placed { IsPlaced (length sessions.old.items) entry.now.actor }
     requires all { length ends.old.items ≡ length sessions.old.items }
     requires tied { length ties.old.followings.items ≡ length sessions.old.items }
-    requires none { list_any is_new_viewport calls.now ≡ false }
-    ensures sessions { sessions.new.items ≡ noted_in who calls.now sessions.old.items }
-    ensures ends { EndsNoted who calls.now sessions.old.items ends.old.items ends.new.items ties.old
+    requires none { closes entry.now.reply ≡ false →
+        list_any is_new_viewport entry.now.calls ≡ false }
+    ensures sessions { sessions.new.items ≡ entered_in entry.now sessions.old.items }
+    ensures ends { EndsEntered entry.now sessions.old.items ends.old.items ends.new.items ties.old
         ties.new }
 {
-    match who {
+    match entry.actor {
         Actor::Session(s) => {
             let place = s.0 as usize - 1;
             let state = &mut sessions[place];
-            note_ends(state, &mut ends[place], ties, s, calls);
-            note(&mut state.account, calls);
+            note_ends(state, &mut ends[place], ties, s, entry);
+            note_entry(state, entry);
         }
         _ => {}
     }

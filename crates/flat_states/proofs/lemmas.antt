@@ -3,6 +3,7 @@ pub mod BeginLoop
 pub mod Changes
 pub mod Counts
 pub mod Entered
+pub mod Heard
 pub mod Ones
 pub mod Opened
 pub mod Steps

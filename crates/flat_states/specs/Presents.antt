@@ -9,6 +9,9 @@ use Rattle.flat_base.specs.declared.ids.Actor.TheVariants.{Session}
 use Rattle.flat_base.specs.declared.ids.FenceNo.{FenceNo}
 use Rattle.flat_scene.specs.declared.calls.Call.{Call}
 use Rattle.flat_scene.specs.declared.calls.PresentArgs.{PresentArgs}
+use Rattle.flat_scene.specs.declared.journal.Entry.{Entry}
+use Rattle.flat_scene.specs.declared.journal.Kind.{Kind}
+use Rattle.flat_scene.specs.declared.journal.Kind.TheVariants.{Present, View}
 use Rattle.flat_scene.specs.declared.journal.Reply.{Reply}
 use Rattle.flat_scene.specs.History.{closes}
 use Rattle.flat_scene.specs.declared.journal.Reply.TheVariants.{Done, Presented, Closed}
@@ -34,6 +37,10 @@ present_reply state =
 -- a present joins those that wait
 abbrev pub with_present : SessionState → Arc Snapshot Global → PresentArgs → SessionState
 with_present state snap args = record state { queue = pushed state.queue snap args; account = record state.account { presents = next_present state } }
+
+-- a present joins those that wait, where the session has a credit
+abbrev pub with_waiting : SessionState → Arc Snapshot Global → PresentArgs → SessionState
+with_waiting state snap args = cond (nat_lt 0 (credits_of state.queue)) (record state { queue = pushed state.queue snap args }) state
 
 -- a present joins, or closes the session where it has no credit
 abbrev pub after_present : SessionState → Arc Snapshot Global → PresentArgs → SessionState
@@ -105,6 +112,25 @@ after_get reply state = cond (closes reply) (record state { closed = true }) sta
 -- a session's state with the calls of one more entry
 abbrev pub with_calls : List Call → SessionState → SessionState
 with_calls calls state = record state { account = noted calls state.account }
+
+-- what the reply to an entry decides of what is kept of its session: it is closed, made one more present, or has a view
+abbrev pub after_reply : Kind → Reply → SessionState → SessionState
+after_reply (Present args) (Presented number credits) state = record state { account = record state.account { presents = number } }
+after_reply (View p) Done state = record state { account = record state.account { viewed = true } }
+after_reply kind (Closed error reason) state = record state { closed = true }
+after_reply kind reply state = state
+
+-- a session's state after one more entry of its own, for which a present has joined already
+abbrev pub after_entry : Entry → SessionState → SessionState
+after_entry entry state = with_calls entry.calls (after_reply entry.kind entry.reply state)
+
+-- all states after an entry of this actor
+abbrev pub entered_by : Actor → Entry → List SessionState → List SessionState
+entered_by (Session s) entry states = changed_at s.0 (after_entry entry) states
+entered_by who entry states = states
+
+abbrev pub entered_in : Entry → List SessionState → List SessionState
+entered_in entry = entered_by entry.actor entry
 
 -- all states, where this actor carries calls
 abbrev pub noted_in : Actor → List Call → List SessionState → List SessionState

@@ -4,7 +4,7 @@
 //! stands for a history by a record of its own (specs/).
 //!
 //! Other crates may cite the lemmas of proofs/lemmas/:
-//! - of what is kept of one session: Changes, Counts, Ones, ViewSteps, WithView;
+//! - of what is kept of one session: Changes, Counts, Heard, Ones, ViewSteps, WithView;
 //! - of all that is kept: BeginLoop, Entered, Opened, Steps.
 #![tactic(auto)]
 
@@ -13,5 +13,6 @@ pub mod ends;
 pub mod log;
 pub mod port;
 pub mod ratios;
+pub mod replies;
 pub mod state;
 pub mod views;

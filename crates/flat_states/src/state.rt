@@ -1,7 +1,7 @@
 ghost use Rattle.std.specs.Prelude.{◌≡◌, ℕ, ◌+◌, ◌-◌, ◌^◌, ◌<◌, ◌≤◌, [], length, All, IfOk, cond};
 ghost use Rattle.std.specs.Prelude.{vec_capacity};
 ghost use Rattle.flat_fence.specs.Fences.{has};
-ghost use Rattle.flat_states.specs.Presents.{present_reply, after_present, IsNew, TookReady, LetGo};
+ghost use Rattle.flat_states.specs.Presents.{present_reply, with_waiting, IsNew, TookReady, LetGo};
 ghost use Rattle.flat_states.specs.Seen.{noted};
 
 use flat_base::{FIRST_CREDITS, FULL_CREDITS, FenceList, FlatlandError, NoMemory};
@@ -115,24 +115,18 @@ pub fn take_ready(state: &mut SessionState, time: u64, fences: &FenceSet) -> Opt
     last
 }
 
-/// Makes a present, or closes the session where it has no credit.
+/// A present joins those that wait, where the session has a credit. Answers the reply.
 pub fn present_in(state: &mut SessionState, snap: Arc<Snapshot>, args: PresentArgs) -> Reply
     requires { state.old.queue.taken + length state.old.queue.waiting < 2 ^ 32 - 1 }
     ensures reply { result ≡ present_reply state.old }
-    ensures after { state.new ≡ after_present state.old snap args }
+    ensures after { state.new ≡ with_waiting state.old snap args }
 {
     match state.queue.push(snap, args) {
-        Ok(number) => {
-            state.account.presents = number;
-            Reply::Presented {
-                number,
-                credits: state.queue.credits(),
-            }
-        }
-        Err(_) => {
-            state.closed = true;
-            Reply::Closed(Some(FlatlandError::NoPresentsRemaining), None)
-        }
+        Ok(number) => Reply::Presented {
+            number,
+            credits: state.queue.credits(),
+        },
+        Err(_) => Reply::Closed(Some(FlatlandError::NoPresentsRemaining), None),
     }
 }
 

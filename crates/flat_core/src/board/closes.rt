@@ -5,10 +5,9 @@ ghost use Rattle.flat_rules.specs.Legal.{reply_to};
 ghost use Rattle.flat_states.specs.Presents.{reply_to_close};
 
 use crate::board::Board;
+use crate::entries::enter;
 use flat_base::{Actor, FlatlandError, Reason, SessionNo};
-use flat_links::entries::note_in;
 use flat_scene::{CallList, Entry, Kind, Reply};
-use flat_states::state::note;
 
 impl Board {
     ghost use Rattle.flat_base.specs.declared.ids.Actor.TheVariants.{Session};
@@ -24,20 +23,19 @@ impl Board {
         ensures entry { self.new ≡ entered self.old (Session s) line calls (Close why) result }
     {
         let reply = close_reply(why);
-        let place = s.0 as usize - 1;
-        let state = &mut self.sessions[place];
-        let live = self.viewports[place].live.as_slice();
-        self.ties
-            .note(s, calls.as_slice(), state.account.presents, live);
-        state.closed = true;
-        note(&mut state.account, calls.as_slice());
-        self.log.enter(Entry {
-            actor: Actor::Session(s),
-            line,
-            calls,
-            kind: Kind::Close(why),
-            reply,
-        });
+        enter(
+            &mut self.sessions,
+            &mut self.viewports,
+            &mut self.ties,
+            &mut self.log,
+            Entry {
+                actor: Actor::Session(s),
+                line,
+                calls,
+                kind: Kind::Close(why),
+                reply,
+            },
+        );
         reply
     }
 
@@ -48,21 +46,19 @@ impl Board {
         ensures reply { result ≡ Done }
         ensures entry { self.new ≡ entered self.old (Session s) line calls (End refused) result }
     {
-        let who = Actor::Session(s);
-        note_in(
+        enter(
             &mut self.sessions,
             &mut self.viewports,
             &mut self.ties,
-            who,
-            calls.as_slice(),
+            &mut self.log,
+            Entry {
+                actor: Actor::Session(s),
+                line,
+                calls,
+                kind: Kind::End(refused),
+                reply: Reply::Done,
+            },
         );
-        self.log.enter(Entry {
-            actor: Actor::Session(s),
-            line,
-            calls,
-            kind: Kind::End(refused),
-            reply: Reply::Done,
-        });
         Reply::Done
     }
 }

@@ -7,12 +7,12 @@ ghost use Rattle.flat_states.specs.Presents.{owed_for};
 ghost use Rattle.flat_rules.specs.Shown.{tree_of};
 
 use crate::board::{Back, Board};
+use crate::entries::enter;
 use crate::polls::{EventList, push_events_from};
 use flat_base::{Actor, SessionNo, TryCopy};
-use flat_links::entries::note_ends;
 use flat_scene::{CallList, Entry, Kind, PresentArgs, Reply};
 use flat_snap::Snapshot;
-use flat_states::state::{note, present_in};
+use flat_states::state::present_in;
 use std::sync::Arc;
 
 impl Board {
@@ -62,24 +62,21 @@ impl Board {
             }
         }
         let place = s.0 as usize - 1;
-        let state = &mut self.sessions[place];
-        note_ends(
-            state,
-            &mut self.viewports[place],
-            &mut self.ties,
-            s,
-            calls.as_slice(),
-        );
-        let reply = present_in(state, snap, copy);
-        note(&mut state.account, calls.as_slice());
+        let reply = present_in(&mut self.sessions[place], snap, copy);
         self.owed += owes(reply);
-        self.log.enter(Entry {
-            actor: Actor::Session(s),
-            line,
-            calls,
-            kind: Kind::Present(args),
-            reply,
-        });
+        enter(
+            &mut self.sessions,
+            &mut self.viewports,
+            &mut self.ties,
+            &mut self.log,
+            Entry {
+                actor: Actor::Session(s),
+                line,
+                calls,
+                kind: Kind::Present(args),
+                reply,
+            },
+        );
         Ok(reply)
     }
 
@@ -120,22 +117,20 @@ impl Board {
             }
         }
         let count = (into.len() - before) as u32;
-        note_ends(
-            state,
-            &mut self.viewports[place],
-            &mut self.ties,
-            s,
-            calls.as_slice(),
-        );
         state.account.polled = posts.len();
-        note(&mut state.account, calls.as_slice());
-        self.log.enter(Entry {
-            actor: Actor::Session(s),
-            line,
-            calls,
-            kind: Kind::Poll,
-            reply: Reply::Polled(count),
-        });
+        enter(
+            &mut self.sessions,
+            &mut self.viewports,
+            &mut self.ties,
+            &mut self.log,
+            Entry {
+                actor: Actor::Session(s),
+                line,
+                calls,
+                kind: Kind::Poll,
+                reply: Reply::Polled(count),
+            },
+        );
         Ok(Reply::Polled(count))
     }
 }

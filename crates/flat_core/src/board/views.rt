@@ -10,16 +10,17 @@ ghost use Rattle.flat_gets.specs.Dues.{due_told};
 ghost use Rattle.flat_gets.specs.Watchers.{AreWatched, HasRoomAt, is_held, is_shut, watcher_meant};
 
 use crate::board::{Back, Board, number_if};
+use crate::entries::enter;
 use flat_base::{Actor, NoMemory, PairNo, SessionNo};
 use flat_gets::telling::Telling;
 use flat_gets::watching::Watchers;
-use flat_links::entries::{note_ends, use_ends};
+use flat_links::entries::use_ends;
 use flat_links::viewports::Viewports;
 use flat_scene::{CallList, Entry, Kind, Reply, ViewportProps, Watch};
 use flat_states::log::Log;
 use flat_states::port::port_of;
-use flat_states::state::{SessionState, note};
-use flat_states::views::{get_in, view_in, viewport_in};
+use flat_states::replies::{note_entry, use_reply};
+use flat_states::state::SessionState;
 
 impl Board {
     ghost use Rattle.flat_base.specs.declared.ids.Actor.TheVariants.{Session};
@@ -35,24 +36,20 @@ impl Board {
     {
         let is_held = !self.view_ends.is_used(p);
         self.view_ends.set(p);
-        let place = s.0 as usize - 1;
-        let state = &mut self.sessions[place];
-        note_ends(
-            state,
-            &mut self.viewports[place],
+        let reply = use_reply(is_held);
+        enter(
+            &mut self.sessions,
+            &mut self.viewports,
             &mut self.ties,
-            s,
-            calls.as_slice(),
+            &mut self.log,
+            Entry {
+                actor: Actor::Session(s),
+                line,
+                calls,
+                kind: Kind::View(p),
+                reply,
+            },
         );
-        let reply = view_in(state, is_held);
-        note(&mut state.account, calls.as_slice());
-        self.log.enter(Entry {
-            actor: Actor::Session(s),
-            line,
-            calls,
-            kind: Kind::View(p),
-            reply,
-        });
         reply
     }
 
@@ -92,8 +89,15 @@ impl Board {
         let state = &mut self.sessions[place];
         let ends = &mut self.viewports[place];
         let is_held = use_ends(state, ends, &mut self.ties, s, calls.as_slice(), p, props);
-        let reply = viewport_in(state, is_held);
-        note(&mut state.account, calls.as_slice());
+        let reply = use_reply(is_held);
+        let entry = Entry {
+            actor: Actor::Session(s),
+            line,
+            calls,
+            kind: Kind::Viewport(p, props),
+            reply,
+        };
+        note_entry(state, &entry);
         let telling = Telling {
             setup: &self.setup,
             port: port_of(self.clock.ratios.finished, &self.setup),
@@ -104,13 +108,7 @@ impl Board {
             .watchers
             .join(is_held, owner, is_shut, p, &telling, &mut self.log);
         self.owed = self.owed + number_if(is_held) as usize - told;
-        self.log.enter(Entry {
-            actor: Actor::Session(s),
-            line,
-            calls,
-            kind: Kind::Viewport(p, props),
-            reply,
-        });
+        self.log.enter(entry);
         Ok(reply)
     }
 
@@ -152,25 +150,20 @@ impl Board {
                 });
             }
         };
-        let place = s.0 as usize - 1;
-        let state = &mut self.sessions[place];
-        note_ends(
-            state,
-            &mut self.viewports[place],
-            &mut self.ties,
-            s,
-            calls.as_slice(),
-        );
-        get_in(state, reply);
-        note(&mut state.account, calls.as_slice());
         self.owed += number_if(is_held(reply)) as usize;
-        self.log.enter(Entry {
-            actor: Actor::Session(s),
-            line,
-            calls,
-            kind: Kind::Get(get),
-            reply,
-        });
+        enter(
+            &mut self.sessions,
+            &mut self.viewports,
+            &mut self.ties,
+            &mut self.log,
+            Entry {
+                actor: Actor::Session(s),
+                line,
+                calls,
+                kind: Kind::Get(get),
+                reply,
+            },
+        );
         Ok(reply)
     }
 }

@@ -4,8 +4,8 @@ ghost use Rattle.flat_states.specs.Machines.{MayCall, MayLook, entered};
 ghost use Rattle.flat_rules.specs.Legal.{asked_of, reply_to, value_of, waited};
 
 use crate::board::{Board, number_if};
+use crate::entries::enter;
 use flat_base::{Actor, FenceNo};
-use flat_links::entries::note_in;
 use flat_scene::{CallList, Cond, Entry, Kind, Reply};
 
 impl Board {
@@ -19,20 +19,19 @@ impl Board {
         ensures entry { self.new ≡ entered self.old who line calls (Signal f) result }
     {
         self.fences.signal(f);
-        note_in(
+        enter(
             &mut self.sessions,
             &mut self.viewports,
             &mut self.ties,
-            who,
-            calls.as_slice(),
+            &mut self.log,
+            Entry {
+                actor: who,
+                line,
+                calls,
+                kind: Kind::Signal(f),
+                reply: Reply::Done,
+            },
         );
-        self.log.enter(Entry {
-            actor: who,
-            line,
-            calls,
-            kind: Kind::Signal(f),
-            reply: Reply::Done,
-        });
         Reply::Done
     }
 
@@ -45,20 +44,19 @@ impl Board {
     {
         let value = self.value(who, c);
         let reply = wait_reply(asked(c), value);
-        note_in(
+        enter(
             &mut self.sessions,
             &mut self.viewports,
             &mut self.ties,
-            who,
-            calls.as_slice(),
+            &mut self.log,
+            Entry {
+                actor: who,
+                line,
+                calls,
+                kind: Kind::Wait(c),
+                reply,
+            },
         );
-        self.log.enter(Entry {
-            actor: who,
-            line,
-            calls,
-            kind: Kind::Wait(c),
-            reply,
-        });
         reply
     }
 

@@ -3,7 +3,8 @@ use Rattle.std.proofs.Common.{◌≡◌, ◌∙◌, sym, ℕ, ◌+◌, ◌-◌, 
 use Rattle.std.specs.Prelude.{IsTrue, Option, Some, None, option_map, unwrap_or, slice_get, ◌++◌, ◌&&◌, ◌==◌, nat_lt, nat_le, sum_by}
 use Rattle.std.specs.List.{list_any}
 use Rattle.std.proofs.lemmas.Bool.Decides.{nat_tests}
-use Rattle.std.proofs.lemmas.List.{length-set, length-map}
+use Rattle.std.proofs.lemmas.List.{get_or-set_same, length-set, length-map}
+use Rattle.std.proofs.Math.Bool.{and-false}
 use Rattle.std.proofs.lemmas.List.Folds.{list_any-append}
 use Rattle.std.proofs.lemmas.List.Elements.{All-head, All-tail}
 use Rattle.std.proofs.lemmas.List.Sums.{sum_by-cons}
@@ -17,8 +18,9 @@ use Rattle.flat_scene.specs.declared.calls.Call.TheVariants.{CreateView, CreateV
 use Rattle.flat_scene.specs.declared.journal.Kind.{Kind}
 use Rattle.flat_scene.specs.declared.journal.Kind.TheVariants.{View, Viewport, Close}
 use Rattle.flat_scene.specs.declared.journal.Reply.{Reply}
+use Rattle.flat_scene.specs.declared.journal.Reply.TheVariants.{Closed}
 use Rattle.flat_scene.specs.declared.setup.Setup.{Setup}
-use Rattle.flat_scene.specs.History.{◌▹◌, is_begin, is_closed, is_finish, is_session, presents}
+use Rattle.flat_scene.specs.History.{◌▹◌, closes, is_begin, is_closed, is_finish, is_session, presents}
 use Rattle.flat_scene.specs.Setups.{is_declared}
 use Rattle.flat_facts.specs.declared.live.Live.{Live}
 use Rattle.flat_links.specs.declared.tokens.OutToken.{OutToken}
@@ -27,7 +29,7 @@ use Rattle.flat_states.specs.declared.state.Account.{Account}
 use Rattle.flat_states.specs.declared.state.SessionState.{SessionState}
 use Rattle.flat_links.specs.declared.ties.Ties.{Ties}
 use Rattle.flat_links.specs.declared.viewports.Viewports.{Viewports}
-use Rattle.flat_links.specs.AllEnds.{AreEnds, due_back, HasNone, IsNoted, IsOwn, EndsNoted}
+use Rattle.flat_links.specs.AllEnds.{AreEnds, due_back, HasNone, IsNoted, IsOwn, EndsEntered}
 use Rattle.flat_states.specs.Machines.{Machine, MayCall, Stands}
 use Rattle.flat_facts.specs.Begins.{entry_of}
 use Rattle.flat_rules.specs.Numbers.{number}
@@ -195,59 +197,100 @@ no-use : (kind : Kind) (reply : Reply) (p : PairNo) → may_make kind ≡ false 
 no-use (Viewport q props) reply p quiet = cc
 no-use kind reply p quiet = refl
 
--- a note of the same calls
-pub noted-slice : {xs ys : List Call} (n : ℕ) (before after : Viewports) → xs ≡ ys → IsNoted xs n before after → IsNoted ys n before after
-noted-slice n before after same noted = subst (λ (zs : List Call). IsNoted zs n before after) same noted
+-- an entry that closes its session uses no end
+no-use-closing : (kind : Kind) (reply : Reply) (p : PairNo) → closes reply ≡ true → (uses_viewport p kind && is_done reply) ≡ false
+no-use-closing kind (Closed error reason) p is = and-false (uses_viewport p kind)
+no-use-closing kind _ p is = cc
 
--- all sessions' viewports after an entry that carries calls
+none-used : (kind : Kind) (reply : Reply) (p : PairNo) → (closes reply ≡ false → may_make kind ≡ false) → (uses_viewport p kind && is_done reply) ≡ false
+none-used kind reply p quiet = by_reply (closes reply) refl
+  where
+    by_reply : (b : Bool) → closes reply ≡ b → (uses_viewport p kind && is_done reply) ≡ false
+    by_reply true shut = no-use-closing kind reply p shut
+    by_reply false opened = no-use kind reply p (quiet opened)
+
+-- what is kept of the actor's session says whether it is closed and how many presents it made
+abbrev pub IsStanding : Actor → List SessionState → List Entry → Type 0
+IsStanding (Session s) states history = (state : SessionState) → state ≡ slice_index_or states (s.0 - 1) state → (state.closed ≡ is_closed s history) × (state.account.presents ≡ length (presents s history))
+IsStanding who states history = Unit {0}
+
+pub standing : (m : Machine) (who : Actor) (calls : List Call) (kind : Kind) → MayCall m who calls kind → (clock : Clock) (fences views : List Bool) (sessions : List SessionState) → Stands m.setup m.history clock fences views sessions
+    → IsStanding who sessions m.history
+standing m Display calls kind call clock fences views sessions old = tt
+standing m (Probe p) calls kind call clock fences views sessions old = tt
+standing m (Session s) calls kind call clock fences views sessions old = λ state is.
+    let kept : IsKept m.setup (seen_of m.setup m.history s) state = kept-session m.setup m.history clock fences views sessions s state old (declared-of m.setup kind s call.may.acts) is in
+    (kept.closed, ap (λ (a : Account). a.presents) kept.account)
+
+-- also where something else of that session was changed
+pub standing-set : (s : SessionNo) (states : List SessionState) (history : List Entry) (state new : SessionState) → s.0 - 1 < length states → state ≡ slice_index_or states (s.0 - 1) state → new.closed ≡ state.closed → new.account.presents ≡ state.account.presents
+    → IsStanding (Session s) states history → IsStanding (Session s) (slice_set states (s.0 - 1) new) history
+standing-set s states history state new below is closed counts stands = λ one at.
+    let same : one ≡ new = at ∙ get_or-set_same states (s.0 - 1) new one below in
+    let stood = stands state is in
+    (ap (λ (x : SessionState). x.closed) same ∙ closed ∙ stood.0, ap (λ (x : SessionState). x.account.presents) same ∙ counts ∙ stood.1)
+
+-- all sessions' viewports after an entry that uses no viewport end, or closes its session
 pub ends-after : (m : Machine) (who : Actor) (line : ℕ) (calls : List Call) (kind : Kind) (reply : Reply) → MayCall m who calls kind → reply ≡ reply_to m.setup m.history who calls kind
-    → is_begin kind ≡ false → is_finish kind ≡ false → may_make kind ≡ false
-    → (clock : Clock) (fences views : List Bool) (sessions : List SessionState) (ends after : List Viewports) (tied now : Ties) → Stands m.setup m.history clock fences views sessions
-    → EndsNoted who calls sessions ends after tied now → AreEnds m.setup m.history ends → AreTied m.setup m.history tied.followings.items tied.pairs.items
+    → is_begin kind ≡ false → is_finish kind ≡ false → (closes reply ≡ false → may_make kind ≡ false) → Legal m.setup m.history
+    → (states : List SessionState) (ends after : List Viewports) (tied now : Ties) → IsStanding who states m.history
+    → EndsEntered (entry_of who line calls kind reply) states ends after tied now → AreEnds m.setup m.history ends → AreTied m.setup m.history tied.followings.items tied.pairs.items
     → AreEnds m.setup (m.history ▹ entry_of who line calls kind reply) after × (sum_by due_back after ≡ sum_by due_back ends) × AreTied m.setup (m.history ▹ entry_of who line calls kind reply) now.followings.items now.pairs.items
-ends-after m Display line calls kind reply call replied no_begin no_finish quiet clock fences views sessions ends after tied now old noted are ties =
+ends-after m Display line calls kind reply call replied no_begin no_finish quiet was states ends after tied now stands n are ties =
     let e : Entry = entry_of Display line calls kind reply in
-    let legal : Legal m.setup (m.history ▹ e) = (old.legal, legal-entered m Display line calls kind reply call replied) in
-    rw (noted.0, noted.1) (
+    let legal : Legal m.setup (m.history ▹ e) = (was, legal-entered m Display line calls kind reply call replied) in
+    rw (n.0, n.1) (
       ends-other m.setup m.history e legal no_finish ends (λ j. refl) are,
       refl,
-      tied-idle m.setup m.history e (record { legal = legal; no_begin = no_begin; no_finish = no_finish; no_use = λ p. no-use kind reply p quiet; shut = λ s mine. cc }) tied.followings.items tied.pairs.items ties,
+      tied-idle m.setup m.history e (record { legal = legal; no_begin = no_begin; no_finish = no_finish; no_use = λ p. none-used kind reply p quiet; shut = λ s mine. cc }) tied.followings.items tied.pairs.items ties,
     )
-ends-after m (Probe p) line calls kind reply call replied no_begin no_finish quiet clock fences views sessions ends after tied now old noted are ties =
+ends-after m (Probe p) line calls kind reply call replied no_begin no_finish quiet was states ends after tied now stands n are ties =
     let e : Entry = entry_of (Probe p) line calls kind reply in
-    let legal : Legal m.setup (m.history ▹ e) = (old.legal, legal-entered m (Probe p) line calls kind reply call replied) in
-    rw (noted.0, noted.1) (
+    let legal : Legal m.setup (m.history ▹ e) = (was, legal-entered m (Probe p) line calls kind reply call replied) in
+    rw (n.0, n.1) (
       ends-other m.setup m.history e legal no_finish ends (λ j. refl) are,
       refl,
-      tied-idle m.setup m.history e (record { legal = legal; no_begin = no_begin; no_finish = no_finish; no_use = λ p. no-use kind reply p quiet; shut = λ s mine. cc }) tied.followings.items tied.pairs.items ties,
+      tied-idle m.setup m.history e (record { legal = legal; no_begin = no_begin; no_finish = no_finish; no_use = λ p. none-used kind reply p quiet; shut = λ s mine. cc }) tied.followings.items tied.pairs.items ties,
     )
-ends-after m (Session s) line calls kind reply call replied no_begin no_finish quiet clock fences views sessions ends after tied now old n are ties =
+ends-after m (Session s) line calls kind reply call replied no_begin no_finish quiet was states ends after tied now stands n are ties =
+    let h : List Entry = m.history in
     let e : Entry = entry_of (Session s) line calls kind reply in
     let declared : IsTrue (is_declared m.setup s) = declared-of m.setup kind s call.may.acts in
     let here = declared-some s.0 m.setup.sessions declared in
     let count : length ends ≡ m.setup.sessions = are.count in
     let below : s.0 - 1 < length ends = omega (arith, here.0, here.1, count) in
-    let kept : IsKept m.setup (seen_of m.setup m.history s) n.state = kept-session m.setup m.history clock fences views sessions s n.state old declared n.of_state in
-    let counts : n.state.account.presents ≡ length (presents s m.history) = ap (λ (a : Account). a.presents) kept.account in
-    let legal : Legal m.setup (m.history ▹ e) = (old.legal, legal-entered m (Session s) line calls kind reply call replied) in
-    let own : AreViewports m.setup m.history s n.before.live.items n.before.out.items =
-    at-session (λ t one. AreViewports m.setup m.history t one.live.items one.out.items) ends s n.before are.each here.0 (omega (arith, here.1, count)) n.of_before in
-    let made : IsOwn m.setup m.history e s calls n.state n.before = record {
+    let stood = stands n.state n.of_state in
+    let legal : Legal m.setup (h ▹ e) = (was, legal-entered m (Session s) line calls kind reply call replied) in
+    let own : AreViewports m.setup h s n.before.live.items n.before.out.items =
+    at-session (λ t one. AreViewports m.setup h t one.live.items one.out.items) ends s n.before are.each here.0 (omega (arith, here.1, count)) n.of_before in
+    let made : IsOwn m.setup h e s calls n.state n.before = record {
       legal = legal;
       actor = refl;
       carried = refl;
-      closed = kept.closed;
-      counted = counts;
+      closed = stood.0;
+      counted = stood.1;
       living = own.lives;
       no_begin = no_begin;
       no_finish = no_finish;
     } in
-    let uses : UsesNone e = λ p. no-use kind reply p quiet in
-    rw n.new_is (
-      ends-noted m.setup m.history e legal no_finish ends s refl declared uses n.before n.after n.of_before n.state.account.presents counts n.noted are,
-      back-noted ends (s.0 - 1) n.before n.after below n.of_before calls n.state.account.presents n.noted,
-      n.ties m.setup m.history e made uses ties,
+    let uses : UsesNone e = λ p. none-used kind reply p quiet in
+    let both = by_reply legal declared below stood.1 uses (closes reply) refl in
+    rw n.new_is (both.0, both.1, n.ties m.setup h e made uses ties)
+  where
+    e : Entry
+    e = entry_of (Session s) line calls kind reply
+
+    by_reply : Legal m.setup (m.history ▹ e) → IsTrue (is_declared m.setup s) → s.0 - 1 < length ends → n.state.account.presents ≡ length (presents s m.history) → UsesNone e → (b : Bool) → closes reply ≡ b
+        → AreEnds m.setup (m.history ▹ e) (slice_set ends (s.0 - 1) n.after) × (sum_by due_back (slice_set ends (s.0 - 1) n.after) ≡ sum_by due_back ends)
+    by_reply legal declared below counts uses false opened = (
+      ends-noted m.setup m.history e legal no_finish ends s refl declared uses n.before n.after n.of_before n.state.account.presents counts (n.heard.noted opened) are,
+      back-noted ends (s.0 - 1) n.before n.after below n.of_before calls n.state.account.presents (n.heard.noted opened),
     )
+    by_reply legal declared below counts uses true shut =
+        let closed : is_closed s (m.history ▹ e) ≡ true = rw (is-session s, shut) refl in (
+          ends-one m.setup m.history e legal no_finish ends s refl declared n.before n.after n.of_before (λ own. viewports-closed m.setup (m.history ▹ e) s n.after.live.items n.after.out.items closed) are,
+          sum-same due_back ends (s.0 - 1) n.after n.before below n.of_before (ap due_back (n.heard.shut shut)),
+        )
 
 -- where what is kept of one session is replaced by the same
 pub ends-same : (setup : Setup) (h : List Entry) (ends : List Viewports) (place : ℕ) (before after : Viewports) → before ≡ slice_index_or ends place before → place < length ends

@@ -1,45 +1,38 @@
-use Rattle.std.proofs.Common.{refl, sym, subst, ap, ◌∙◌, List}
-use Rattle.std.specs.List.{list_any}
-use Rattle.flat_scene.specs.declared.calls.Call.{Call}
-use Rattle.flat_states.specs.Machines.{Machine}
-use Rattle.flat_states.specs.Presents.{noted_in}
-use Rattle.flat_links.specs.AllEnds.{EndsNoted}
-use Rattle.flat_facts.specs.Lives.{is_new_viewport}
-use Rattle.flat_gets.proofs.lemmas.EndSteps.{ends-after, none-new}
+use Rattle.std.proofs.Common.{refl, sym, ◌∙◌}
 use Rattle.flat_base.specs.declared.ids.Actor.{Actor}
 use Rattle.flat_base.specs.declared.ids.Actor.TheVariants.{Session}
 use Rattle.flat_scene.specs.declared.journal.Kind.TheVariants.{End}
 use Rattle.flat_scene.specs.declared.journal.Reply.TheVariants.{Done}
+use Rattle.flat_states.specs.Machines.{Machine}
+use Rattle.flat_gets.proofs.lemmas.EndSteps.{ends-after, none-new, standing}
+use Rattle.flat_states.proofs.lemmas.Heard.{entered-noted}
 use Rattle.flat_states.proofs.lemmas.Ones.{kept-quiet, placed-of, plain-end}
 use Rattle.flat_states.proofs.lemmas.Steps.{has-room, unchanged}
 use Rattle.flat_gets.proofs.lemmas.WatchingSteps.{told-too, watched-after}
 use Rattle.flat_core.proofs.board.Board.end.Goals as goal
 
-pub note_in-requires : goal.note_in-requires
-note_in-requires c =
-    let call = rw (← c.self.view_is) at c.requires in
-    record {
-      placed = placed-of c.self.inside.setup (End c.args.refused) (Session c.args.s) _ c.self.invariant.0.count call.may.acts;
-      all = c.self.invariant.2.count ∙ sym c.self.invariant.0.count;
-      tied = c.self.invariant.3.sessions ∙ sym c.self.invariant.0.count;
-      none = ap (list_any is_new_viewport) c.as_slice.ensures ∙ none-new (End c.args.refused) c.args.calls refl call.may.links call.may.calls;
-    }
-
 pub enter-requires : goal.enter-requires
 enter-requires c =
     let call = rw (← c.self.view_is) at c.requires in
-    has-room _ _ _ _ call c.self.invariant.0.legal _ _ _ refl c.self.invariant.1
+    record {
+      room = has-room _ _ _ _ call c.self.invariant.0.legal _ _ _ refl c.self.invariant.1;
+      placed = placed-of c.self.inside.setup (End c.args.refused) (Session c.args.s) _ c.self.invariant.0.count call.may.acts;
+      all = c.self.invariant.2.count ∙ sym c.self.invariant.0.count;
+      tied = c.self.invariant.3.sessions ∙ sym c.self.invariant.0.count;
+      none = λ opened. none-new (End c.args.refused) c.args.calls refl call.may.links call.may.calls;
+    }
 
 pub invariant_of-self : goal.invariant_of-self
 invariant_of-self c =
     let call = rw (← c.self.view_is) at c.requires in
-    let log = c.enter.ensures in
+    let did = c.enter.ensures in
     let inside = c.self.inside in
     let m : Machine = record { setup = inside.setup; shares = inside.shares; history = inside.log.history } in
     let who : Actor = Session c.args.s in
-    let ends = ends-after m who c.args.line c.args.calls (End c.args.refused) Done call refl refl refl refl inside.clock inside.fences inside.view_ends inside.sessions.items inside.viewports.items c.note_in.new.ends.items inside.ties c.note_in.new.ties c.self.invariant.0
-    (subst (λ (calls : List Call). EndsNoted who calls inside.sessions.items inside.viewports.items c.note_in.new.ends.items inside.ties c.note_in.new.ties) c.as_slice.ensures c.note_in.ensures.ends) c.self.invariant.2 c.self.invariant.3 in
+    let states = inside.sessions.items in
+    let stands = standing m who c.args.calls (End c.args.refused) call inside.clock inside.fences inside.view_ends states c.self.invariant.0 in
+    let ends = ends-after m who c.args.line c.args.calls (End c.args.refused) Done call refl refl refl (λ opened. refl) c.self.invariant.0.legal states inside.viewports.items c.enter.new.ends.items inside.ties c.enter.new.ties stands did.ends c.self.invariant.2 c.self.invariant.3 in
     let kept = kept-quiet m who c.args.line c.args.calls (End c.args.refused) Done call refl (plain-end _ _ _ _) refl refl _ _ _ _ _ _ _ _ _ _ refl c.self.invariant.0 c.self.invariant.1
-    (unchanged _ _ _ _ (λ sessions g f. refl) (λ p. refl)) (c.note_in.ensures.sessions ∙ ap (λ (calls : List Call). noted_in who calls inside.sessions.items) c.as_slice.ensures) (told-too inside.watchers ends.1)
-    (record { history = log.history; posts = log.posts; room = log.room; post_room = log.post_room }) in
-    (kept.0, kept.1, rw log.history ends.0, rw log.history ends.2, rw log.history (watched-after m who c.args.line c.args.calls (End c.args.refused) Done call refl refl refl refl c.self.invariant.0.legal inside.watchers c.self.invariant.4))
+    (unchanged _ _ _ _ (λ sessions g f. refl) (λ p. refl)) (did.sessions ∙ entered-noted who c.args.line c.args.calls (End c.args.refused) Done states (λ state. refl)) (told-too inside.watchers ends.1)
+    (record { history = did.history; posts = did.posts; room = did.room; post_room = did.post_room }) in
+    (kept.0, kept.1, rw did.history ends.0, rw did.history ends.2, rw did.history (watched-after m who c.args.line c.args.calls (End c.args.refused) Done call refl refl refl refl c.self.invariant.0.legal inside.watchers c.self.invariant.4))

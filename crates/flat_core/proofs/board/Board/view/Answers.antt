@@ -1,20 +1,15 @@
-use Rattle.std.proofs.Common.{◌≡◌, refl, sym, ◌∙◌, ap, List, subst}
+use Rattle.std.proofs.Common.{◌≡◌, ◌-◌, refl, sym, ◌∙◌, ap, slice_set, subst}
 use Rattle.std.specs.Prelude.{not}
-use Rattle.std.specs.List.{list_any}
 use Rattle.flat_base.specs.declared.ids.Actor.TheVariants.{Session}
-use Rattle.flat_scene.specs.declared.calls.Call.{Call}
 use Rattle.flat_scene.specs.declared.journal.Kind.TheVariants.{View}
 use Rattle.flat_scene.specs.declared.journal.Reply.{Reply}
-use Rattle.flat_scene.specs.History.{◌▹◌}
+use Rattle.flat_states.specs.declared.state.SessionState.{SessionState}
 use Rattle.flat_states.specs.Machines.{Machine}
-use Rattle.flat_facts.specs.Begins.{entry_of}
+use Rattle.flat_states.specs.Presents.{after_reply, after_view, use_reply, with_calls}
 use Rattle.flat_rules.specs.Legal.{reply_to}
-use Rattle.flat_states.specs.Presents.{use_reply}
-use Rattle.flat_links.specs.AllEnds.{TiesNoted}
-use Rattle.flat_facts.specs.Lives.{is_new_viewport}
-use Rattle.flat_states.specs.Seen.{noted}
-use Rattle.flat_gets.proofs.lemmas.EndSteps.{ends-after, none-new, noted-slice}
-use Rattle.flat_states.proofs.lemmas.Ones.{kept-one}
+use Rattle.flat_gets.proofs.lemmas.EndSteps.{ends-after, none-new, standing}
+use Rattle.flat_states.proofs.lemmas.Heard.{entered-set, heard-view}
+use Rattle.flat_states.proofs.lemmas.Ones.{kept-one, placed-of}
 use Rattle.flat_states.proofs.lemmas.Steps.{has-room}
 use Rattle.flat_facts.proofs.lemmas.Tests.{or-false}
 use Rattle.flat_states.proofs.lemmas.ViewSteps.{view-replied, view-changed, view-below, view-kept, view-due}
@@ -26,53 +21,47 @@ set-requires c =
     let call = rw (← c.self.view_is) at c.requires in
     view-below _ _ _ c.args.p _ call c.self.invariant.0.view_count
 
-pub note_ends-requires-clause-none : goal.note_ends-requires-clause-none
-note_ends-requires-clause-none c =
-    let call = rw (← c.self.view_is) at c.requires in
-    ap (list_any is_new_viewport) c.as_slice.ensures ∙ none-new (View c.args.p) c.args.calls refl call.may.links call.may.calls
-
 pub enter-requires : goal.enter-requires
 enter-requires c =
     let call = rw (← c.self.view_is) at c.requires in
-    has-room _ _ _ _ call c.self.invariant.0.legal _ _ _ refl c.self.invariant.1
+    record {
+      room = has-room _ _ _ _ call c.self.invariant.0.legal _ _ _ refl c.self.invariant.1;
+      placed = placed-of c.self.inside.setup (View c.args.p) (Session c.args.s) _ c.self.invariant.0.count call.may.acts;
+      all = c.self.invariant.2.count ∙ sym c.self.invariant.0.count;
+      tied = c.self.invariant.3.sessions ∙ sym c.self.invariant.0.count;
+      none = λ opened. none-new (View c.args.p) c.args.calls refl call.may.links call.may.calls;
+    }
 
 pub invariant_of-self : goal.invariant_of-self
 invariant_of-self c =
     let call = rw (← c.self.view_is) at c.requires in
     let inside = c.self.inside in
-    let log = c.enter.ensures in
-    let used = c.is_used-is_held.result in
-    let reply = c.view_in-reply.ensures.reply in
-    let account : c.note.new.account ≡ noted c.args.calls c.view_in-reply.new.state.account = c.note.ensures ∙ ap (λ (calls : List Call). noted calls c.view_in-reply.new.state.account) c.as_slice-2.ensures in
+    let did = c.enter.ensures in
+    let at = did.ends in
+    let held = not c.is_used-is_held.result in
+    let reply = c.use_reply-reply.result in
+    let replied = c.use_reply-reply.ensures in
     let m : Machine = record { setup = inside.setup; shares = inside.shares; history = inside.log.history } in
-    let state = c.index_mut-state.result.now in
-    let is = view-replied inside.setup inside.log.history c.args.s c.args.calls c.args.p used (c.is_used-is_held.ensures ∙ c.self.invariant.0.viewed c.args.p) in
-    let ends = ends-after m (Session c.args.s) c.args.line c.args.calls (View c.args.p) (use_reply (not used)) call is refl refl refl inside.clock inside.fences inside.view_ends inside.sessions.items inside.viewports.items _ inside.ties c.note_ends.new.ties c.self.invariant.0
-    (record {
-      state = state;
-      before = c.index_mut.result.now;
-      after = c.note_ends.new.ends;
-      of_state = c.index_mut-state.ensures.value;
-      of_before = c.index_mut.ensures.value;
-      noted = noted-slice state.account.presents c.index_mut.result.now c.note_ends.new.ends c.as_slice.ensures c.note_ends.ensures.ends;
-      new_is = refl;
-      ties = subst (λ (calls : List Call). TiesNoted c.args.s calls state c.index_mut.result.now inside.ties c.note_ends.new.ties) c.as_slice.ensures c.note_ends.ensures.ties;
-    }) c.self.invariant.2 c.self.invariant.3 in
-    let history : c.enter.new.self.history ≡ (inside.log.history ▹ entry_of (Session c.args.s) c.args.line c.args.calls (View c.args.p) (use_reply (not used))) =
-    log.history ∙ ap (λ (r : Reply). inside.log.history ▹ entry_of (Session c.args.s) c.args.line c.args.calls (View c.args.p) r) reply in
-    rw (account, c.view_in-reply.ensures.after)
-    (let kept = kept-one m c.args.s c.args.line c.args.calls (View c.args.p) (use_reply (not used)) call
-    is refl refl refl _ _ _ _ _ _ _ _ _
-    c.index_mut-state.result.now _ c.index_mut-state.ensures.value refl c.self.invariant.0 c.self.invariant.1
-    (record { fence_size = refl; signalled = λ f. or-false _; view_size = c.set.ensures.size; viewed = view-changed _ _ c.args.p used (sym c.is_used-is_held.ensures) c.set.ensures.members })
-    (λ kept. view-kept inside.setup inside.log.history c.args.s c.args.line c.args.calls c.args.p (not used) _ kept) (view-due c.args.calls (not used) _) (told-too inside.watchers ends.1)
-    (record { history = history; posts = log.posts; room = log.room; post_room = log.post_room }) in
-    (kept.0, kept.1, rw history ends.0, rw history ends.2, rw history (watched-after m (Session c.args.s) c.args.line c.args.calls (View c.args.p) (use_reply (not used)) call is refl refl refl c.self.invariant.0.legal inside.watchers c.self.invariant.4)))
+    let states = inside.sessions.items in
+    let is : reply ≡ reply_to inside.setup inside.log.history (Session c.args.s) c.args.calls (View c.args.p) =
+    replied ∙ view-replied inside.setup inside.log.history c.args.s c.args.calls c.args.p c.is_used-is_held.result (c.is_used-is_held.ensures ∙ c.self.invariant.0.viewed c.args.p) in
+    let stands = standing m (Session c.args.s) c.args.calls (View c.args.p) call inside.clock inside.fences inside.view_ends states c.self.invariant.0 in
+    let ends = ends-after m (Session c.args.s) c.args.line c.args.calls (View c.args.p) reply call is refl refl (λ opened. refl) c.self.invariant.0.legal states inside.viewports.items c.enter.new.ends.items inside.ties c.enter.new.ties stands at c.self.invariant.2 c.self.invariant.3 in
+    let placed = placed-of inside.setup (View c.args.p) (Session c.args.s) _ c.self.invariant.0.count call.may.acts in
+    let sessions : c.enter.new.sessions.items ≡ slice_set states (c.args.s.0 - 1) (with_calls c.args.calls (after_view held at.state)) =
+    did.sessions ∙ entered-set c.args.s c.args.line c.args.calls (View c.args.p) reply states at.state placed at.of_state
+    ∙ ap (λ (x : SessionState). slice_set states (c.args.s.0 - 1) (with_calls c.args.calls x)) (ap (λ (r : Reply). after_reply (View c.args.p) r at.state) replied ∙ heard-view c.args.p held at.state) in
+    let kept = kept-one m c.args.s c.args.line c.args.calls (View c.args.p) reply call is refl refl refl _ _ _ _ _ _ _ _ _
+    at.state (with_calls c.args.calls (after_view held at.state)) at.of_state refl c.self.invariant.0 c.self.invariant.1
+    (record { fence_size = refl; signalled = λ f. or-false _; view_size = c.set.ensures.size; viewed = rw replied (view-changed _ _ c.args.p c.is_used-is_held.result (sym c.is_used-is_held.ensures) c.set.ensures.members) })
+    (λ kept. rw replied (view-kept inside.setup inside.log.history c.args.s c.args.line c.args.calls c.args.p held at.state kept)) (view-due c.args.calls held at.state) (told-too inside.watchers ends.1)
+    (record { history = did.history; posts = did.posts; room = did.room; post_room = did.post_room }) in
+    rw sessions (kept.0, kept.1, rw did.history ends.0, rw did.history ends.2, rw did.history (watched-after m (Session c.args.s) c.args.line c.args.calls (View c.args.p) reply call is refl refl refl c.self.invariant.0.legal inside.watchers c.self.invariant.4))
 
 pub returns-clause-reply : goal.returns-clause-reply
 returns-clause-reply c =
     let inside = c.self.inside in
     let used = c.is_used-is_held.result in
-    let P : Machine → Type 0 = λ m. c.view_in-reply.result ≡ reply_to m.setup m.history (Session c.args.s) c.args.calls (View c.args.p) in
+    let P : Machine → Type 0 = λ m. c.use_reply-reply.result ≡ reply_to m.setup m.history (Session c.args.s) c.args.calls (View c.args.p) in
     subst P c.self.view_is
-    (c.view_in-reply.ensures.reply ∙ view-replied inside.setup inside.log.history c.args.s c.args.calls c.args.p used (c.is_used-is_held.ensures ∙ c.self.invariant.0.viewed c.args.p))
+    (c.use_reply-reply.ensures ∙ view-replied inside.setup inside.log.history c.args.s c.args.calls c.args.p used (c.is_used-is_held.ensures ∙ c.self.invariant.0.viewed c.args.p))
