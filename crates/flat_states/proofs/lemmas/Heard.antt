@@ -1,8 +1,9 @@
 -- What the reply to an entry decides of what is kept of its session, kind by kind.
-use Rattle.std.proofs.Common.{◌≡◌, ℕ, suc, ◌-◌, ◌<◌, Bool, true, false, List, [], ◌∷◌, length, refl, arith, ◌∙◌, ap, sym, slice_set, slice_index_or}
+use Rattle.std.proofs.Common.{◌≡◌, ℕ, zero, suc, ◌-◌, ◌<◌, ◌≤◌, Bool, true, false, List, [], ◌∷◌, length, refl, arith, ◌∙◌, ap, sym, slice_set, slice_index_or}
 use Rattle.std.specs.Prelude.{Option, None, Some, cond, nat_lt, nat_le}
 use Rattle.std.specs.declared.alloc.Global.{Global}
 use Rattle.std.specs.declared.sync.Arc.{Arc}
+use Rattle.std.proofs.lemmas.List.{get_or-set_same, length-set}
 use Rattle.flat_base.specs.declared.errors.Reason.{Reason}
 use Rattle.flat_base.specs.declared.ids.Actor.{Actor}
 use Rattle.flat_base.specs.declared.ids.Actor.TheVariants.{Display, Session, Probe}
@@ -77,6 +78,31 @@ entered-of e s mine sessions state placed is =
 pub entered-set : (s : SessionNo) (line : ℕ) (calls : List Call) (kind : Kind) (reply : Reply) (sessions : List SessionState) (state : SessionState) → IsPlaced (length sessions) (Session s) → state ≡ slice_index_or sessions (s.0 - 1) state
     → entered_in (entry_of (Session s) line calls kind reply) sessions ≡ slice_set sessions (s.0 - 1) (with_calls calls (after_reply kind reply state))
 entered-set s line calls kind reply sessions state placed is = sym (entered-of (entry_of (Session s) line calls kind reply) s refl sessions state placed is)
+
+set-twice : {A : Type 0} (xs : List A) (i : ℕ) (x y : A) → slice_set (slice_set xs i x) i y ≡ slice_set xs i y
+set-twice [] i x y = refl
+set-twice (z ∷ xs) zero x y = refl
+set-twice (z ∷ xs) (suc i) x y = ap (λ ys. z ∷ ys) (set-twice xs i x y)
+
+-- where something else of that session was changed before
+pub entered-changed : (s : SessionNo) (line : ℕ) (calls : List Call) (kind : Kind) (reply : Reply) (sessions : List SessionState) (new : SessionState) → IsPlaced (length sessions) (Session s)
+    → entered_in (entry_of (Session s) line calls kind reply) (slice_set sessions (s.0 - 1) new) ≡ slice_set sessions (s.0 - 1) (with_calls calls (after_reply kind reply new))
+entered-changed s line calls kind reply sessions new placed =
+    let some : 0 < s.0 = placed.0 in
+    let few : s.0 ≤ length sessions = placed.1 in
+    let below : s.0 - 1 < length sessions = omega (arith, some, few) in
+    let count : length (slice_set sessions (s.0 - 1) new) ≡ length sessions = length-set sessions (s.0 - 1) new in
+    let there : s.0 ≤ length (slice_set sessions (s.0 - 1) new) = omega (arith, few, count) in
+    entered-set s line calls kind reply (slice_set sessions (s.0 - 1) new) new (some, there) (sym (get_or-set_same sessions (s.0 - 1) new new below))
+    ∙ set-twice sessions (s.0 - 1) new (with_calls calls (after_reply kind reply new))
+
+-- what waits more changes nothing else
+pub waiting-alone : (state : SessionState) (snap : Arc Snapshot Global) (args : PresentArgs) → ((with_waiting state snap args).closed ≡ state.closed) × ((with_waiting state snap args).account.presents ≡ state.account.presents)
+waiting-alone state snap args = by_test (nat_lt 0 (credits_of state.queue)) refl
+  where
+    by_test : (b : Bool) → nat_lt 0 (credits_of state.queue) ≡ b → ((with_waiting state snap args).closed ≡ state.closed) × ((with_waiting state snap args).account.presents ≡ state.account.presents)
+    by_test true is = rw is (refl, refl)
+    by_test false is = rw is (refl, refl)
 
 changed-alike : {A : Type 0} (f g : A → A) → ((x : A) → f x ≡ g x) → (n : ℕ) (xs : List A) → changed_at n f xs ≡ changed_at n g xs
 changed-alike f g same n [] = refl

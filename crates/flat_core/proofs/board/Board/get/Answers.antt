@@ -1,4 +1,4 @@
-use Rattle.std.proofs.Common.{◌≡◌, ◌+◌, ◌<◌, ◌≤◌, ◌^◌, refl, ◌∙◌, ap, arith, List, subst}
+use Rattle.std.proofs.Common.{◌≡◌, ◌-◌, sym, slice_set, ◌+◌, ◌<◌, ◌≤◌, ◌^◌, refl, ◌∙◌, ap, arith, List, subst}
 use Rattle.std.specs.List.{list_any}
 use Rattle.flat_base.specs.declared.ids.Actor.TheVariants.{Session}
 use Rattle.flat_scene.specs.declared.calls.Call.{Call}
@@ -12,9 +12,12 @@ use Rattle.flat_links.specs.AllEnds.{TiesNoted}
 use Rattle.flat_facts.specs.Lives.{is_new_viewport}
 use Rattle.flat_states.specs.Seen.{noted}
 use Rattle.flat_gets.specs.Watchers.{IsTelling}
-use Rattle.flat_gets.proofs.lemmas.EndSteps.{ends-after, none-new, noted-slice}
+use Rattle.flat_gets.proofs.lemmas.EndSteps.{ends-after, none-new, standing}
+use Rattle.flat_states.proofs.lemmas.Heard.{entered-set, heard-get}
+use Rattle.flat_states.specs.declared.state.SessionState.{SessionState}
+use Rattle.flat_states.specs.Presents.{after_get, with_calls}
 use Rattle.flat_core.proofs.GetCalls.{kept-got, room-got}
-use Rattle.flat_states.proofs.lemmas.Ones.{declared-of}
+use Rattle.flat_states.proofs.lemmas.Ones.{declared-of, placed-of}
 use Rattle.flat_states.proofs.lemmas.Steps.{has-room, legal-entered, owed-small, room-more, short-history}
 use Rattle.flat_gets.proofs.lemmas.WatchingSteps.{asked-known, asked-replied, few-all, watched-asked}
 use Rattle.flat_core.proofs.DisplayRatios.{finished-least, port-kept, ratios-kept}
@@ -51,11 +54,6 @@ invariant_of-self c =
       rw log.history (c.in-Err.ensures.watched inside.setup inside.log.history c.self.invariant.4),
     )
 
-pub note_ends-requires-clause-none : goal.note_ends-requires-clause-none
-note_ends-requires-clause-none c =
-    let call = rw (← c.self.view_is) at c.requires.may in
-    ap (list_any is_new_viewport) c.as_slice.ensures ∙ none-new (Get c.args.get) c.args.calls refl call.may.links call.may.calls
-
 pub overflow_add-self : goal.overflow_add-self
 overflow_add-self c =
     let call = rw (← c.self.view_is) at c.requires.may in
@@ -66,7 +64,13 @@ overflow_add-self c =
 pub enter-requires : goal.enter-requires
 enter-requires c =
     let call = rw (← c.self.view_is) at c.requires.may in
-    rw c.ask.ensures.room (has-room _ _ _ _ call c.self.invariant.0.legal _ _ _ refl c.self.invariant.1)
+    record {
+      room = rw c.ask.ensures.room (has-room _ _ _ _ call c.self.invariant.0.legal _ _ _ refl c.self.invariant.1);
+      placed = placed-of c.self.inside.setup (Get c.args.get) (Session c.args.s) _ c.self.invariant.0.count call.may.acts;
+      all = c.self.invariant.2.count ∙ sym c.self.invariant.0.count;
+      tied = c.self.invariant.3.sessions ∙ sym c.self.invariant.0.count;
+      none = λ opened. none-new (Get c.args.get) c.args.calls refl call.may.links call.may.calls;
+    }
 
 pub invariant_of-self-2 : goal.invariant_of-self-2
 invariant_of-self-2 c =
@@ -75,36 +79,31 @@ invariant_of-self-2 c =
     let inside = c.self.inside in
     let h = inside.log.history in
     let m : Machine = record { setup = inside.setup; shares = inside.shares; history = h } in
-    let state = c.index_mut-state.result.now in
+    let states = inside.sessions.items in
+    let did = c.enter.ensures in
+    let at = did.ends in
     let reply = c.in-Ok.reply in
-    let log = c.enter.ensures in
     let telling : IsTelling inside.setup c.port_of.result inside.ties inside.view_ends inside.setup h = record { same = refl; shows = port-kept inside.setup h inside.clock.ratios c.port_of.result (ratios-kept inside.setup h _ _ _ _ c.self.invariant.0) c.port_of.ensures; legal = c.self.invariant.0.legal; tied = c.self.invariant.3; viewed = c.self.invariant.0.viewed } in
     let asked = c.in-Ok.ensures.asked inside.setup h telling in
     let declared = declared-of inside.setup (Get c.args.get) c.args.s call.may.acts in
     let known = asked-known inside.setup h c.self.invariant.0.legal c.args.s c.args.calls c.args.get call.may c.args.p means in
     let replied : reply ≡ reply_to inside.setup h (Session c.args.s) c.args.calls (Get c.args.get) =
     asked-replied inside.setup h c.args.s c.args.calls c.args.get c.args.p known means _ _ reply asked c.self.invariant.4 in
-    let ends = ends-after m (Session c.args.s) c.args.line c.args.calls (Get c.args.get) reply call replied refl refl refl inside.clock inside.fences inside.view_ends inside.sessions.items inside.viewports.items _ inside.ties c.note_ends.new.ties c.self.invariant.0
-    (record {
-      state = state;
-      before = c.index_mut.result.now;
-      after = c.note_ends.new.ends;
-      of_state = c.index_mut-state.ensures.value;
-      of_before = c.index_mut.ensures.value;
-      noted = noted-slice state.account.presents c.index_mut.result.now c.note_ends.new.ends c.as_slice.ensures c.note_ends.ensures.ends;
-      new_is = refl;
-      ties = subst (λ (calls : List Call). TiesNoted c.args.s calls state c.index_mut.result.now inside.ties c.note_ends.new.ties) c.as_slice.ensures c.note_ends.ensures.ties;
-    }) c.self.invariant.2 c.self.invariant.3 in
+    let stands = standing m (Session c.args.s) c.args.calls (Get c.args.get) call inside.clock inside.fences inside.view_ends states c.self.invariant.0 in
+    let ends = ends-after m (Session c.args.s) c.args.line c.args.calls (Get c.args.get) reply call replied refl refl (λ opened. refl) c.self.invariant.0.legal states inside.viewports.items c.enter.new.ends.items inside.ties c.enter.new.ties stands at c.self.invariant.2 c.self.invariant.3 in
+    let placed = placed-of inside.setup (Get c.args.get) (Session c.args.s) _ c.self.invariant.0.count call.may.acts in
+    let sessions : c.enter.new.sessions.items ≡ slice_set states (c.args.s.0 - 1) (with_calls c.args.calls (after_get reply at.state)) =
+    did.sessions ∙ entered-set c.args.s c.args.line c.args.calls (Get c.args.get) reply states at.state placed at.of_state
+    ∙ ap (λ (x : SessionState). slice_set states (c.args.s.0 - 1) (with_calls c.args.calls x)) (heard-get c.args.get reply at.state) in
     let e : Entry = entry_of (Session c.args.s) c.args.line c.args.calls (Get c.args.get) reply in
     let legal : Legal inside.setup (h ▹ e) = (c.self.invariant.0.legal, legal-entered m (Session c.args.s) c.args.line c.args.calls (Get c.args.get) reply call replied) in
     let watched = watched-asked inside.setup h e legal c.args.s refl c.args.get refl c.args.p means declared known _ _ asked c.self.invariant.4 in
-    let history : c.enter.new.self.history ≡ (h ▹ e) = log.history ∙ rw c.ask.ensures.history refl in
-    let account : c.note.new.account ≡ noted c.args.calls c.get_in.new.state.account = c.note.ensures ∙ ap (λ (calls : List Call). noted calls c.get_in.new.state.account) c.as_slice-2.ensures in
-    let kept = kept-got m c.args.s c.args.line c.args.calls c.args.get call reply replied inside.clock inside.fences inside.view_ends inside.sessions.items state c.index_mut-state.ensures.value c.self.invariant.0 in
-    rw (account, c.get_in.ensures, c.number_if.ensures, c.is_held.ensures) (
+    let history : c.enter.new.log.history ≡ (h ▹ e) = did.history ∙ rw c.ask.ensures.history refl in
+    let kept = kept-got m c.args.s c.args.line c.args.calls c.args.get call reply replied inside.clock inside.fences inside.view_ends states at.state at.of_state c.self.invariant.0 in
+    rw (sessions, c.number_if.ensures, c.is_held.ensures) (
       rw history kept.0,
-      room-got m c.args.s c.args.line c.args.calls c.args.get call reply replied inside.clock inside.fences inside.view_ends inside.sessions.items c.self.invariant.0 inside.log c.ask.new.log c.enter.new.self inside.owed _ _ refl c.self.invariant.1
-          c.ask.ensures.history c.ask.ensures.posts c.ask.ensures.room c.in-Ok.ensures.reserved log.history log.posts log.room log.post_room (omega (arith, kept.1, ends.1, c.in-Ok.ensures.due)),
+      room-got m c.args.s c.args.line c.args.calls c.args.get call reply replied inside.clock inside.fences inside.view_ends states c.self.invariant.0 inside.log c.ask.new.log c.enter.new.log inside.owed _ _ refl c.self.invariant.1
+          c.ask.ensures.history c.ask.ensures.posts c.ask.ensures.room c.in-Ok.ensures.reserved did.history did.posts did.room did.post_room (omega (arith, kept.1, ends.1, c.in-Ok.ensures.due)),
       rw history ends.0,
       rw history ends.2,
       rw history watched,

@@ -1,4 +1,4 @@
-use Rattle.std.proofs.Common.{◌≡◌, ◌-◌, ◌<◌, ◌^◌, ◌++◌, length, refl, ◌∙◌, ap, arith, subst, List}
+use Rattle.std.proofs.Common.{◌≡◌, ◌-◌, ◌<◌, ◌^◌, ◌++◌, length, refl, sym, ◌∙◌, ap, arith, slice_set, subst, List}
 use Rattle.flat_base.specs.declared.ids.Actor.TheVariants.{Session}
 use Rattle.std.specs.List.{list_any}
 use Rattle.flat_scene.specs.declared.calls.Call.{Call}
@@ -10,8 +10,13 @@ use Rattle.flat_rules.specs.Legal.{reply_to, unread_events}
 use Rattle.flat_links.specs.AllEnds.{TiesNoted}
 use Rattle.flat_facts.specs.Lives.{is_new_viewport}
 use Rattle.flat_states.specs.Seen.{noted}
-use Rattle.flat_gets.proofs.lemmas.EndSteps.{ends-after, none-new, noted-slice}
-use Rattle.flat_states.proofs.lemmas.Ones.{kept-one}
+use Rattle.flat_gets.proofs.lemmas.EndSteps.{ends-after, none-new, standing, standing-set}
+use Rattle.flat_states.proofs.lemmas.Heard.{entered-changed}
+use Rattle.std.proofs.lemmas.List.{length-set}
+use Rattle.flat_states.specs.declared.state.SessionState.{SessionState}
+use Rattle.flat_scene.specs.declared.journal.Reply.{Reply}
+use Rattle.flat_states.specs.Presents.{with_calls}
+use Rattle.flat_states.proofs.lemmas.Ones.{kept-one, placed-of}
 use Rattle.flat_core.proofs.Polled.{kept-polled}
 use Rattle.flat_core.proofs.PollSteps.{polled-within, handed}
 use Rattle.flat_states.proofs.lemmas.Steps.{has-room, unchanged}
@@ -31,46 +36,47 @@ overflow_cast-count c =
     let small : c.len.result - c.len-before.result < 2 ^ 32 = over.small in
     omega (arith, small)
 
-pub note_ends-requires-clause-none : goal.note_ends-requires-clause-none
-note_ends-requires-clause-none c =
-    let call = rw (← c.self.view_is) at c.requires in
-    ap (list_any is_new_viewport) c.as_slice.ensures ∙ none-new Poll c.args.calls refl call.may.links call.may.calls
-
 pub enter-requires : goal.enter-requires
 enter-requires c =
     let call = rw (← c.self.view_is) at c.requires in
-    has-room _ _ _ _ call c.self.invariant.0.legal _ _ _ refl c.self.invariant.1
+    let setup = c.self.inside.setup in
+    let state = c.index_mut-state.result.now in
+    let polled : SessionState = record state { account = record state.account { polled = length c.posts-posts.result.now } } in
+    let count : length (slice_set c.self.inside.sessions.items (c.args.s.0 - 1) polled) ≡ setup.sessions = length-set c.self.inside.sessions.items (c.args.s.0 - 1) polled ∙ c.self.invariant.0.count in
+    record {
+      room = has-room _ _ _ _ call c.self.invariant.0.legal _ _ _ refl c.self.invariant.1;
+      placed = placed-of setup Poll (Session c.args.s) _ count call.may.acts;
+      all = c.self.invariant.2.count ∙ sym count;
+      tied = c.self.invariant.3.sessions ∙ sym count;
+      none = λ opened. none-new Poll c.args.calls refl call.may.links call.may.calls;
+    }
 
 pub invariant_of-self-2 : goal.invariant_of-self-2
 invariant_of-self-2 c =
-    let setup = c.self.inside.setup in
-    let h = c.self.inside.log.history in
     let call = rw (← c.self.view_is) at c.requires in
+    let inside = c.self.inside in
+    let setup = inside.setup in
+    let h = inside.log.history in
+    let m : Machine = record { setup = setup; shares = inside.shares; history = h } in
+    let states = inside.sessions.items in
+    let place = c.args.s.0 - 1 in
     let count : c.len.result - c.len-before.result ≡ length c.push_events_from.new.into - length c.args.into.now = rw (c.len.ensures, c.len-before.ensures) refl in
     let over = handed _ c.args.s _ call _ _ _ _ _ _ _ _ _ _ _ c.index_mut-state.ensures.value refl c.self.invariant.0 c.self.invariant.1 c.posts-posts.ensures c.in-Ok.ensures.ok count _ c.self.invariant.4 in
-    let log = c.enter.ensures in
+    let did = c.enter.ensures in
     let state = c.index_mut-state.result.now in
-    let account : c.note.new.account ≡ noted c.args.calls (record state.account { polled = length c.posts-posts.result.now }) =
-    c.note.ensures ∙ ap (λ (calls : List Call). let a : Account = record state.account { polled = length c.posts-posts.result.now } in noted calls a) c.as_slice-2.ensures in
-    let inside = c.self.inside in
-    let m : Machine = record { setup = setup; shares = inside.shares; history = h } in
-    let ends = ends-after m (Session c.args.s) c.args.line c.args.calls Poll (Polled (c.len.result - c.len-before.result)) call (ap Polled over.as_many) refl refl refl inside.clock inside.fences inside.view_ends inside.sessions.items inside.viewports.items _ inside.ties c.note_ends.new.ties c.self.invariant.0
-    (record {
-      state = state;
-      before = c.index_mut.result.now;
-      after = c.note_ends.new.ends;
-      of_state = c.index_mut-state.ensures.value;
-      of_before = c.index_mut.ensures.value;
-      noted = noted-slice state.account.presents c.index_mut.result.now c.note_ends.new.ends c.as_slice.ensures c.note_ends.ensures.ends;
-      new_is = refl;
-      ties = subst (λ (calls : List Call). TiesNoted c.args.s calls state c.index_mut.result.now inside.ties c.note_ends.new.ties) c.as_slice.ensures c.note_ends.ensures.ties;
-    }) c.self.invariant.2 c.self.invariant.3 in
-    rw account
-    (let kept = kept-one m c.args.s c.args.line c.args.calls Poll (Polled (c.len.result - c.len-before.result)) call (ap Polled over.as_many) refl refl refl _ _ _ _ _ _ _ _ _
-    state _ c.index_mut-state.ensures.value refl c.self.invariant.0 c.self.invariant.1 (unchanged _ _ _ _ (λ sessions g f. refl) (λ p. refl))
+    let of_state = c.index_mut-state.ensures.value in
+    let polled : SessionState = record state { account = record state.account { polled = length c.posts-posts.result.now } } in
+    let reply : Reply = Polled (c.len.result - c.len-before.result) in
+    let placed = placed-of setup Poll (Session c.args.s) _ c.self.invariant.0.count call.may.acts in
+    let below : place < length states = omega (arith, placed.0, placed.1) in
+    let stands = standing-set c.args.s states h state polled below of_state refl refl (standing m (Session c.args.s) c.args.calls Poll call inside.clock inside.fences inside.view_ends states c.self.invariant.0) in
+    let ends = ends-after m (Session c.args.s) c.args.line c.args.calls Poll reply call (ap Polled over.as_many) refl refl (λ opened. refl) c.self.invariant.0.legal (slice_set states place polled) inside.viewports.items c.enter.new.ends.items inside.ties c.enter.new.ties stands did.ends c.self.invariant.2 c.self.invariant.3 in
+    let sessions : c.enter.new.sessions.items ≡ slice_set states place (with_calls c.args.calls polled) = did.sessions ∙ entered-changed c.args.s c.args.line c.args.calls Poll reply states polled placed in
+    let kept = kept-one m c.args.s c.args.line c.args.calls Poll reply call (ap Polled over.as_many) refl refl refl _ _ _ _ _ _ _ _ _
+    state (with_calls c.args.calls polled) of_state refl c.self.invariant.0 c.self.invariant.1 (unchanged _ _ _ _ (λ sessions g f. refl) (λ p. refl))
     (λ kept. kept-polled setup h c.args.s c.args.line c.args.calls (c.len.result - c.len-before.result) (length c.posts-posts.result.now) state over.place kept)
-    refl (told-too inside.watchers ends.1) (record { history = log.history; posts = log.posts; room = log.room; post_room = log.post_room }) in
-    (kept.0, kept.1, rw log.history ends.0, rw log.history ends.2, rw log.history (watched-after m (Session c.args.s) c.args.line c.args.calls Poll (Polled (c.len.result - c.len-before.result)) call (ap Polled over.as_many) refl refl refl c.self.invariant.0.legal inside.watchers c.self.invariant.4)))
+    refl (told-too inside.watchers ends.1) (record { history = did.history; posts = did.posts; room = did.room; post_room = did.post_room }) in
+    rw sessions (kept.0, kept.1, rw did.history ends.0, rw did.history ends.2, rw did.history (watched-after m (Session c.args.s) c.args.line c.args.calls Poll reply call (ap Polled over.as_many) refl refl refl c.self.invariant.0.legal inside.watchers c.self.invariant.4))
 
 pub returns-clause-reply : goal.returns-clause-reply
 returns-clause-reply c =

@@ -13,7 +13,9 @@ use Rattle.flat_states.specs.declared.state.SessionState.{SessionState}
 use Rattle.flat_core.proofs.UseSteps.{shut-known}
 use Rattle.std.proofs.lemmas.Option.{slice_get_within}
 use Rattle.flat_rules.specs.Legal.{has_token, reply_to}
-use Rattle.flat_states.specs.Presents.{use_reply}
+use Rattle.flat_states.specs.Presents.{after_reply, after_viewport, use_reply, with_calls}
+use Rattle.flat_scene.specs.declared.journal.Reply.{Reply}
+use Rattle.flat_states.proofs.lemmas.Heard.{heard-viewport}
 use Rattle.flat_links.specs.AllEnds.{IsUsed, TiesUsed}
 use Rattle.flat_states.specs.Seen.{noted}
 use Rattle.flat_states.proofs.lemmas.Counts.{declared-some, few-if}
@@ -131,10 +133,12 @@ invariant_of-self-2 c =
     let join : IsJoin inside.setup h e held c.at.result.now.view c.is_shut-is_shut.result c.args.p = rw shut asks in
     let told = c.join-told.ensures.watched inside.setup h e join telling took.history (took.posts ∙ c.self.invariant.1.posts) (c.make_room.ensures.watched inside.setup h c.self.invariant.4) in
     let log = c.enter.ensures in
-    let history : c.enter.new.self.history ≡ (h ▹ e) = log.history ∙ rw (c.join-told.ensures.history, took.history, c.viewport_in-reply.ensures.reply) refl in
-    let account : c.note.new.account ≡ noted c.args.calls c.viewport_in-reply.new.state.account = c.note.ensures ∙ ap (λ (calls : List Call). noted calls c.viewport_in-reply.new.state.account) c.as_slice-3.ensures in
+    let replied = c.use_reply-reply.ensures in
+    let history : c.enter.new.self.history ≡ (h ▹ e) = log.history ∙ rw (c.join-told.ensures.history, took.history, replied) refl in
+    let noted : c.note_entry.new.state ≡ with_calls c.args.calls (after_viewport held state) =
+    c.note_entry.ensures ∙ ap (λ (r : Reply). with_calls c.args.calls (after_reply (Viewport c.args.p c.args.props) r state)) replied ∙ ap (with_calls c.args.calls) (heard-viewport c.args.p c.args.props held state) in
     let dues = used.4 (due_told c.join-told.new.self) in
-    rw (account, c.viewport_in-reply.ensures.after, c.number_if.ensures) (
+    rw (noted, c.number_if.ensures) (
       rw history used.1,
       room-used m c.args.s c.args.line c.args.calls c.args.p c.args.props call held c.make_room.new.log c.enter.new.self inside.owed (all_due inside.sessions.items roomy c.make_room.new.watchers) _ c.join-told.result took.history room
           (history ∙ rw took.history refl) (log.posts ∙ told.1) (omega (arith, ap length log.posts, c.join-told.ensures.count)) (omega (arith, log.room, c.join-told.ensures.room)) (omega (arith, log.post_room, c.join-told.ensures.post_room)) c.in-Ok.ensures.reserved
@@ -162,8 +166,8 @@ returns-clause-reply c =
     let state = c.index_mut-state.result.now in
     let did = c.use_ends-is_held.ensures in
     let is : held ≡ has_token inside.setup c.args.p h = held-told m c.args.s c.args.line c.args.calls c.args.p c.args.props call roomy c.index_mut-ends-2.result.now c.index_mut-ends-2.ensures.value same.0 held did.held in
-    let P : Machine → Type 0 = λ k. c.viewport_in-reply.result ≡ reply_to k.setup k.history (Session c.args.s) c.args.calls (Viewport c.args.p c.args.props) in
-    subst P c.self.view_is (c.viewport_in-reply.ensures.reply ∙ replied m c.args.s c.args.line c.args.calls c.args.p c.args.props call held is)
+    let P : Machine → Type 0 = λ k. c.use_reply-reply.result ≡ reply_to k.setup k.history (Session c.args.s) c.args.calls (Viewport c.args.p c.args.props) in
+    subst P c.self.view_is (c.use_reply-reply.ensures ∙ replied m c.args.s c.args.line c.args.calls c.args.p c.args.props call held is)
 
 pub port_of-requires-clause-ratio : goal.port_of-requires-clause-ratio
 port_of-requires-clause-ratio c =
