@@ -16,6 +16,7 @@ ghost use Rattle.flat_rules.specs.Shown.{shown, shown_states, tree_of};
 use crate::begins::begin_all;
 use crate::board::{Begun, Board};
 use crate::dones::done_all;
+use crate::entries::enter;
 use flat_base::{Actor, FrameNo};
 use flat_gets::telling::Telling;
 use flat_scene::{CallList, Entry, Kind, Reply, SessionSet};
@@ -73,13 +74,19 @@ impl Board {
             time,
             ratios,
         };
-        self.log.enter(Entry {
-            actor: Actor::Display,
-            line,
-            calls: CallList::new(self.alloc),
-            kind: Kind::Begin(time),
-            reply: Reply::Done,
-        });
+        enter(
+            &mut self.sessions,
+            &mut self.viewports,
+            &mut self.ties,
+            &mut self.log,
+            Entry {
+                actor: Actor::Display,
+                line,
+                calls: CallList::new(self.alloc),
+                kind: Kind::Begin(time),
+                reply: Reply::Done,
+            },
+        );
         Begun {
             frame: FrameNo(frames + 1),
             ratio: ratios.begun,
@@ -121,13 +128,19 @@ impl Board {
             time,
             ratios,
         };
-        self.log.enter(Entry {
-            actor: Actor::Display,
-            line,
-            calls: CallList::new(self.alloc),
-            kind: Kind::Finish,
-            reply: Reply::Done,
-        });
+        enter(
+            &mut self.sessions,
+            &mut self.viewports,
+            &mut self.ties,
+            &mut self.log,
+            Entry {
+                actor: Actor::Display,
+                line,
+                calls: CallList::new(self.alloc),
+                kind: Kind::Finish,
+                reply: Reply::Done,
+            },
+        );
         FrameNo(frames)
     }
 
@@ -139,13 +152,19 @@ impl Board {
         ensures entry { self.new ≡ entered self.old Display line [] (Dpr ratio) result }
     {
         self.clock.ratios = self.clock.ratios.set(ratio);
-        self.log.enter(Entry {
-            actor: Actor::Display,
-            line,
-            calls: CallList::new(self.alloc),
-            kind: Kind::Dpr(ratio),
-            reply: Reply::Done,
-        });
+        enter(
+            &mut self.sessions,
+            &mut self.viewports,
+            &mut self.ties,
+            &mut self.log,
+            Entry {
+                actor: Actor::Display,
+                line,
+                calls: CallList::new(self.alloc),
+                kind: Kind::Dpr(ratio),
+                reply: Reply::Done,
+            },
+        );
         Reply::Done
     }
 
@@ -156,13 +175,19 @@ impl Board {
         ensures reply { result ≡ Done }
         ensures entry { self.new ≡ entered self.old Display line [] (Hit x y) result }
     {
-        self.log.enter(Entry {
-            actor: Actor::Display,
-            line,
-            calls: CallList::new(self.alloc),
-            kind: Kind::Hit(x, y),
-            reply: Reply::Done,
-        });
+        enter(
+            &mut self.sessions,
+            &mut self.viewports,
+            &mut self.ties,
+            &mut self.log,
+            Entry {
+                actor: Actor::Display,
+                line,
+                calls: CallList::new(self.alloc),
+                kind: Kind::Hit(x, y),
+                reply: Reply::Done,
+            },
+        );
         Reply::Done
     }
 }

@@ -1,5 +1,6 @@
 use Rattle.std.specs.Prelude.{not, ◌&&◌}
 use Rattle.std.specs.List.{list_any}
+use Rattle.flat_facts.specs.Lives.{is_new_viewport}
 use Rattle.flat_rules.specs.Shown.{shown, tree_of}
 use Rattle.std.proofs.Common.{◌≡◌, List, [], ◌∷◌, ◌++◌, length, true, false, ◌+◌, ◌<◌, ◌^◌, Some, slice_get, refl, sym, ◌∙◌, ap, subst, arith}
 use Rattle.flat_base.specs.declared.ids.SessionNo.{SessionNo}
@@ -50,7 +51,14 @@ begin_all-count-requires-clause-place c =
 pub enter-requires : goal.enter-requires
 enter-requires c =
     let may = rw (← c.self.view_is) at c.requires.may in
-    rw c.begin_all-count.ensures.room (has-room _ _ _ _ may c.self.invariant.0.legal _ _ _ refl c.self.invariant.1)
+    let all = c.begin_all-count.ensures in
+    record {
+      room = rw all.room (has-room _ _ _ _ may c.self.invariant.0.legal _ _ _ refl c.self.invariant.1);
+      placed = tt;
+      all = c.self.invariant.2.count ∙ sym all.all;
+      tied = c.begin.ensures.sessions ∙ c.self.invariant.3.sessions ∙ sym all.all;
+      none = λ opened. ap (list_any is_new_viewport) c.new.ensures;
+    }
 
 pub overflow_add-result : goal.overflow_add-result
 overflow_add-result c =
@@ -75,14 +83,14 @@ invariant_of-self c =
     let may = rw (← c.self.view_is) at c.requires.may in
     let all = c.begin_all-count.ensures in
     let log = c.enter.ensures in
-    let history : c.enter.new.self.history ≡ (c.begin_all-count.new.log.history ▹ begin_entry c.args.line c.args.time) =
+    let history : c.enter.new.log.history ≡ (c.begin_all-count.new.log.history ▹ begin_entry c.args.line c.args.time) =
     log.history ∙ ap (λ (carries : List Call). c.begin_all-count.new.log.history ▹ entry_of Display c.args.line carries (Begin c.args.time) Done) c.new.ensures in
     let inside = c.self.inside in
     let e : Entry = begin_entry c.args.line c.args.time in
     let m : Machine = record { setup = inside.setup; shares = inside.shares; history = inside.log.history } in
     let legal : Legal inside.setup (inside.log.history ▹ e) = (c.self.invariant.0.legal, legal-entered m Display c.args.line [] (Begin c.args.time) Done may refl) in
     let ends : AreEnds inside.setup (inside.log.history ▹ e) inside.viewports.items = ends-other inside.setup inside.log.history e legal refl inside.viewports.items (λ j. refl) c.self.invariant.2 in
-    let now : c.enter.new.self.history ≡ (inside.log.history ▹ e) = history ∙ ap (λ (h : List Entry). h ▹ e) all.history in
+    let now : c.enter.new.log.history ≡ (inside.log.history ▹ e) = history ∙ ap (λ (h : List Entry). h ▹ e) all.history in
     let states = c.as_slice.ensures.value in
     let tied = c.begin.ensures.tied inside.log.history c.args.line c.args.time (record {
       legal = legal;
@@ -99,13 +107,13 @@ invariant_of-self c =
       due = omega (arith, all.due);
       entered = record { history = history; posts = log.posts; room = log.room; post_room = log.post_room };
     }) c.begin-ratios.result (c.begin-ratios.ensures inside.setup inside.log.history c.args.line c.args.time) in
-    (kept.0, kept.1, rw now ends, rw now tied, rw now (watched-after m Display c.args.line [] (Begin c.args.time) Done may refl refl refl refl c.self.invariant.0.legal inside.watchers c.self.invariant.4))
+    rw (log.sessions, log.ends.0, log.ends.1) (kept.0, kept.1, rw now ends, rw now tied, rw now (watched-after m Display c.args.line [] (Begin c.args.time) Done may refl refl refl refl c.self.invariant.0.legal inside.watchers c.self.invariant.4))
 
 pub returns-clause-next : goal.returns-clause-next
 returns-clause-next c =
     let inside = c.self.inside in
     let m : Machine = record { setup = inside.setup; shares = inside.shares; history = inside.log.history } in
-    let after = c.enter.new.self.history in
+    let after = c.enter.new.log.history in
     let new : after ≡ begun inside.log.history c.args.line c.args.time =
     c.enter.ensures.history ∙ ap (λ (carries : List Call). c.begin_all-count.new.log.history ▹ entry_of Display c.args.line carries (Begin c.args.time) Done) c.new.ensures
     ∙ ap (λ (h : List Entry). begun h c.args.line c.args.time) c.begin_all-count.ensures.history in
@@ -117,7 +125,7 @@ pub returns-clause-unsquashable : goal.returns-clause-unsquashable
 returns-clause-unsquashable c =
     let inside = c.self.inside in
     let m : Machine = record { setup = inside.setup; shares = inside.shares; history = inside.log.history } in
-    let after = c.enter.new.self.history in
+    let after = c.enter.new.log.history in
     let new : after ≡ begun inside.log.history c.args.line c.args.time =
     c.enter.ensures.history ∙ ap (λ (carries : List Call). c.begin_all-count.new.log.history ▹ entry_of Display c.args.line carries (Begin c.args.time) Done) c.new.ensures
     ∙ ap (λ (h : List Entry). begun h c.args.line c.args.time) c.begin_all-count.ensures.history in
@@ -128,7 +136,7 @@ returns-clause-unsquashable c =
 pub returns-clause-ratio : goal.returns-clause-ratio
 returns-clause-ratio c =
     let inside = c.self.inside in
-    let new : c.enter.new.self.history ≡ begun inside.log.history c.args.line c.args.time =
+    let new : c.enter.new.log.history ≡ begun inside.log.history c.args.line c.args.time =
     c.enter.ensures.history ∙ ap (λ (carries : List Call). c.begin_all-count.new.log.history ▹ entry_of Display c.args.line carries (Begin c.args.time) Done) c.new.ensures
     ∙ ap (λ (h : List Entry). begun h c.args.line c.args.time) c.begin_all-count.ensures.history in
     let noted = c.begin-ratios.ensures inside.setup inside.log.history c.args.line c.args.time (ratios-kept inside.setup inside.log.history _ _ _ _ c.self.invariant.0) in

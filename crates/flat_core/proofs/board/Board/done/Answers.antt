@@ -1,4 +1,6 @@
-use Rattle.std.proofs.Common.{◌≡◌, List, [], ◌+◌, ◌<◌, ◌^◌, refl, ◌∙◌, ap, arith}
+use Rattle.std.proofs.Common.{◌≡◌, List, [], ◌+◌, ◌<◌, ◌^◌, refl, sym, ◌∙◌, ap, arith}
+use Rattle.std.specs.List.{list_any}
+use Rattle.flat_facts.specs.Lives.{is_new_viewport}
 use Rattle.flat_base.specs.declared.ids.Actor.TheVariants.{Display}
 use Rattle.flat_scene.specs.declared.calls.Call.{Call}
 use Rattle.flat_scene.specs.declared.journal.Kind.TheVariants.{Finish}
@@ -48,7 +50,14 @@ port_of-requires-clause-height c = (has-display c.self.inside.setup c.self.invar
 pub enter-requires : goal.enter-requires
 enter-requires c =
     let may = rw (← c.self.view_is) at c.requires in
-    rw c.done_all-count.ensures.room (has-room _ _ _ _ may c.self.invariant.0.legal _ _ _ refl c.self.invariant.1)
+    let all = c.done_all-count.ensures in
+    record {
+      room = rw all.room (has-room _ _ _ _ may c.self.invariant.0.legal _ _ _ refl c.self.invariant.1);
+      placed = tt;
+      all = all.ends.count ∙ sym all.all;
+      tied = c.finish.ensures.sessions ∙ c.self.invariant.3.sessions ∙ sym all.all;
+      none = λ opened. ap (list_any is_new_viewport) c.new.ensures;
+    }
 
 pub overflow_add-frames : goal.overflow_add-frames
 overflow_add-frames c =
@@ -61,7 +70,7 @@ invariant_of-self c =
     let may = rw (← c.self.view_is) at c.requires in
     let all = c.done_all-count.ensures in
     let log = c.enter.ensures in
-    let history : c.enter.new.self.history ≡ (c.done_all-count.new.log.history ▹ finish_entry c.args.line) =
+    let history : c.enter.new.log.history ≡ (c.done_all-count.new.log.history ▹ finish_entry c.args.line) =
     log.history ∙ ap (λ (carries : List Call). c.done_all-count.new.log.history ▹ entry_of Display c.args.line carries Finish Done) c.new.ensures in
     let kept = kept-finished _ c.args.line may _ _ _ _ _ _ _ _ _ _ _ refl c.self.invariant.0 c.self.invariant.1 all.all all.kept all.size all.members
     (record {
@@ -77,4 +86,4 @@ invariant_of-self c =
     let inside = c.self.inside in
     let m : Machine = record { setup = inside.setup; shares = inside.shares; history = inside.log.history } in
     let tied = c.finish.ensures.tied inside.log.history c.args.line (c.self.invariant.0.legal, legal-entered m Display c.args.line [] Finish Done may refl) c.self.invariant.3 in
-    (kept.0, kept.1, rw now all.ends, rw now tied, rw now all.watched)
+    rw (log.sessions, log.ends.0, log.ends.1) (kept.0, kept.1, rw now all.ends, rw now tied, rw now all.watched)

@@ -1,4 +1,6 @@
-use Rattle.std.proofs.Common.{◌≡◌, [], refl, ◌∙◌}
+use Rattle.std.proofs.Common.{◌≡◌, [], ap, refl, sym, ◌∙◌}
+use Rattle.std.specs.List.{list_any}
+use Rattle.flat_facts.specs.Lives.{is_new_viewport}
 use Rattle.std.specs.Int.{w32}
 use Rattle.std.proofs.lemmas.Int.{to_z-of_z}
 use Rattle.flat_base.specs.declared.ids.Actor.TheVariants.{Display}
@@ -16,7 +18,13 @@ use Rattle.flat_core.proofs.board.Board.hit.Goals as goal
 pub enter-requires : goal.enter-requires
 enter-requires c =
     let call = rw (← c.self.view_is) at c.requires in
-    has-room _ _ _ _ call c.self.invariant.0.legal _ _ _ refl c.self.invariant.1
+    record {
+      room = has-room _ _ _ _ call c.self.invariant.0.legal _ _ _ refl c.self.invariant.1;
+      placed = tt;
+      all = c.self.invariant.2.count ∙ sym c.self.invariant.0.count;
+      tied = c.self.invariant.3.sessions ∙ sym c.self.invariant.0.count;
+      none = λ opened. ap (list_any is_new_viewport) c.new.ensures;
+    }
 
 pub invariant_of-self : goal.invariant_of-self
 invariant_of-self c =
@@ -24,9 +32,9 @@ invariant_of-self c =
     let log = c.enter.ensures in
     let inside = c.self.inside in
     let m : Machine = record { setup = inside.setup; shares = inside.shares; history = inside.log.history } in
-    let history : c.enter.new.self.history ≡ (inside.log.history ▹ entry_of Display c.args.line [] (Hit c.args.x c.args.y) Done) =
+    let history : c.enter.new.log.history ≡ (inside.log.history ▹ entry_of Display c.args.line [] (Hit c.args.x c.args.y) Done) =
     log.history ∙ rw (to_z-of_z w32 c.args.x c.ranges.x, to_z-of_z w32 c.args.y c.ranges.y, c.new.ensures) refl in
-    let ends = ends-after m Display c.args.line [] (Hit c.args.x c.args.y) Done call refl refl refl refl inside.clock inside.fences inside.view_ends inside.sessions.items inside.viewports.items inside.viewports.items inside.ties inside.ties c.self.invariant.0 (refl, refl) c.self.invariant.2 c.self.invariant.3 in
+    let ends = ends-after m Display c.args.line [] (Hit c.args.x c.args.y) Done call refl refl refl (λ opened. refl) c.self.invariant.0.legal inside.sessions.items inside.viewports.items c.enter.new.ends.items inside.ties c.enter.new.ties tt log.ends c.self.invariant.2 c.self.invariant.3 in
     let kept = kept-quiet m Display c.args.line [] (Hit c.args.x c.args.y) Done call refl (record { no_begin = refl; no_finish = refl; no_poll = refl; no_view = refl; none = λ made. refl }) refl refl _ _ _ _ _ _ _ _ _ _ refl c.self.invariant.0 c.self.invariant.1
-    (unchanged _ _ _ _ (λ sessions g f. refl) (λ p. refl)) refl (told-too inside.watchers ends.1) (record { history = history; posts = log.posts; room = log.room; post_room = log.post_room }) in
+    (unchanged _ _ _ _ (λ sessions g f. refl) (λ p. refl)) log.sessions (told-too inside.watchers ends.1) (record { history = history; posts = log.posts; room = log.room; post_room = log.post_room }) in
     (kept.0, kept.1, rw history ends.0, rw history ends.2, rw history (watched-after m Display c.args.line [] (Hit c.args.x c.args.y) Done call refl refl refl refl c.self.invariant.0.legal inside.watchers c.self.invariant.4))
