@@ -4,28 +4,8 @@
 #![tactic(auto)]
 
 #[cfg(test)]
-mod apps;
-#[cfg(test)]
-mod asks;
-#[cfg(test)]
-mod call;
-#[cfg(test)]
-mod cuts;
-#[cfg(test)]
-mod displays;
-#[cfg(test)]
 mod gates;
 #[cfg(test)]
-mod hearing;
-#[cfg(test)]
-mod looking;
+mod orders;
 #[cfg(test)]
 mod outside;
-#[cfg(test)]
-mod ratios;
-#[cfg(test)]
-mod shell;
-#[cfg(test)]
-mod six;
-#[cfg(test)]
-mod texts;
