@@ -1,4 +1,4 @@
-ghost use Rattle.std.specs.Prelude.{◌<◌, ◌^◌, length};
+ghost use Rattle.std.specs.Prelude.{◌≡◌, ◌<◌, ◌^◌, length};
 
 use crate::faults::{Faults, NONE};
 use flat_base::NoMemory;
@@ -22,17 +22,24 @@ pub struct Called {
 
 impl Called {
     /// Its status.
-    pub fn status(&self) -> u8 {
+    pub fn status(&self) -> u8
+        ensures { result ≡ self.now.status }
+    {
         self.status
     }
 
     /// What it wrote.
-    pub fn report(&self) -> &[u8] {
+    pub fn report(&self) -> &[u8]
+        ensures { result.now ≡ self.now.sink.kept.bytes }
+    {
         self.sink.bytes()
     }
 
     /// Its status, and what it wrote.
-    pub fn answer(&self) -> (u8, &[u8]) {
+    pub fn answer(&self) -> (u8, &[u8])
+        ensures status { result.0 ≡ self.now.status }
+        ensures report { result.1.now ≡ self.now.sink.kept.bytes }
+    {
         (self.status, self.sink.bytes())
     }
 }

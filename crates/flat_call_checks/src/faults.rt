@@ -24,7 +24,7 @@ pub enum Fault {
 
 /// At which calls, from 1, a source fails, and a sink fails or takes nothing (0: at
 /// none).
-#[derive(Clone, Copy, Debug)]
+#[derive(Clone, Copy)]
 pub(crate) struct Faults {
     pub(crate) read: u32,
     pub(crate) write: u32,
