@@ -79,7 +79,7 @@ fn play_failing<T: Threads + Wait + Sync>(
 
 /// Plays the shell's script again and again, and at each play the next call fails, from
 /// the first on. It answers the first play that isn't answered with this status and a
-/// beginning of this text, and which of its calls was to fail.
+/// beginning of this text, or the 999th, and before it which of its calls was to fail.
 pub fn first_spared<T: Threads + Wait + Sync>(
     rt: &T,
     alloc: Global,

@@ -11,6 +11,12 @@ use std::alloc::Global;
 use std::sync::{Arc, Wait};
 use std::thread::Threads;
 
+/// What the second present of `FILL` is to be answered while its frame is shown.
+const SECOND: Reply = Reply::Presented {
+    number: 2,
+    credits: 4,
+};
+
 /// Holds the second present of `FILL` until the display shows, and the session's End until
 /// the frame is done.
 #[derive(Drop)]
@@ -69,16 +75,7 @@ impl Gate for Holding {
         match line {
             12 => self.first_presented.set(),
             14 => self.done.set(),
-            15
-                if matches!(
-                    reply,
-                    Reply::Presented {
-                        number: 2,
-                        credits: 4
-                    }
-                ) => {
-                self.presented.set();
-            }
+            15 if *reply == SECOND => self.presented.set(),
             _ => {}
         }
     }

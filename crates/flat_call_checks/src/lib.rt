@@ -1,6 +1,4 @@
-//! What tests of the whole call `flatland` are made of: scripts with their reports, calls
-//! that play and race them, gates that say in which order threads make their entries, and
-//! displays and faults around a call. It serves tests alone, and nothing is claimed of it.
+//! Scripts, plays, races, gates, displays and faults of which tests of `flatland` are made.
 #![tactic(auto)]
 
 mod call;

@@ -1,6 +1,4 @@
-//! Tests of the whole call `flatland`: races with gates that say in which order threads
-//! make their entries, and plays where what is around them fails: reads and writes,
-//! displays, texts that end too early, an application that leaves.
+//! Tests of `flatland`: races under gates, and plays where what is around them fails.
 #![tactic(auto)]
 
 #[cfg(test)]
