@@ -1,271 +1,97 @@
-ghost use Rattle.std.specs.Prelude.{◌<◌, ◌^◌, length};
-
-use crate::shell::{SHELL, SHELL_REPORTED};
-use crate::texts::{
-    FILL, FILL_REPORTED, PROBED, PROBED_ORDER, PROBED_REPORTED, SHELL_ORDER, TWO, TWO_REPORTED,
+use flat_call_checks::{
+    AWAIT, AWAIT_REPORTED, DISPLAY_WAIT, DISPLAY_WAIT_ORDER, DISPLAY_WAIT_REPORTED, FILL,
+    FILL_REPORTED, Hearing, HearsBegin, Looking, NEVER, PROBED_ORDER, SORTS, SORTS_REPORTED,
+    SORTS_TOLD, WAIT, WAIT_ORDER, WAIT_REPORTED, asked_for, race, race_held,
 };
-use flat_display::Display;
-use flat_io::{Failed, MemSink, MemSource};
-use flat_race::Gate;
-use flat_run::flatland;
-use flat_scene::{FrameOut, Reply};
-use std::alloc::Global;
-use std::sync::atomic::{AtomicBool, AtomicU32, Ordering};
-use std::sync::{Arc, Wait};
 use std::test::Fail;
-use std::thread;
-use std::thread::Threads;
 
-/// How often a gate or a display turns while it waits for another thread.
-const TURNS: u32 = 100_000_000;
+/// How often a gate is asked for one line at most, and how often a Wait looks, by the rules.
+const ASKS: u32 = 1_000_000;
 
-/// Room for the longest report.
-const ROOM: usize = 4096;
+const LOOKS: u32 = 100_000;
 
-/// Waits until a flag is set, for so many turns at most. Whether it is.
-pub fn is_set_in_time(flag: &AtomicBool) -> bool {
-    for _ in 0..TURNS {
-        if flag.load(Ordering::SeqCst) {
-            return true;
-        }
-        thread::yield_now();
-    }
-    false
-}
-
-/// Races a script, and answers the status with the sink.
-pub fn race<T: Threads + Wait + Sync, G: Gate>(
-    rt: &T,
-    alloc: Global,
-    text: &[u8],
-    displays: &mut Vec<Box<dyn Display>>,
-    gate: &G,
-) -> Result<(u8, MemSink), Fail>
-    requires { length displays.old.items < 2 ^ 32 }
-{
-    let words = [String::from_str(alloc, "race")?];
-    let mut source = MemSource::new(text.to_vec(alloc)?, Vec::new(alloc));
-    let mut sink = MemSink::new(alloc, ROOM, Vec::new(alloc), Vec::new(alloc))?;
-    let status = flatland(rt, alloc, &words, &mut source, &mut sink, displays, gate);
-    Ok((status, sink))
-}
-
-/// Opens entries and probes' lines in one order.
-#[derive(Drop)]
-pub struct InOrder {
-    order: &'static [(u32, u32)],
-    next: AtomicU32,
-}
-
-impl InOrder {
-    /// None of them was made yet.
-    pub fn new(order: &'static [(u32, u32)]) -> InOrder {
-        InOrder {
-            order,
-            next: AtomicU32::new(0),
-        }
-    }
-}
-
-impl Gate for InOrder {
-    fn open(&self, actor: u32, line: u32) -> bool {
-        let next = self.next.load(Ordering::SeqCst) as usize;
-        match self.order.get(next) {
-            Some(entry) => *entry == (actor, line),
-            None => true,
-        }
-    }
-
-    fn passed(&self, _actor: u32, _line: u32, _reply: &Reply) {
-        self.next.fetch_add(1, Ordering::SeqCst);
-    }
-}
+/// Scripts, a line, for how many asks the gate is shut, and how often it is asked: all asks
+/// of a line are one budget, and a gate that is open is asked once for each look. Calls of
+/// a session's own draft aren't asked for, nor are lines behind the one that closed it.
+const ASKED: [(&[u8], u32, u32, u32); 12] = [
+    (NEVER, 6, ASKS, ASKS),
+    (NEVER, 7, ASKS, ASKS),
+    (NEVER, 8, ASKS, ASKS),
+    (FILL, 12, ASKS, ASKS),
+    (FILL, 13, ASKS, ASKS),
+    (FILL, 14, ASKS, ASKS),
+    (NEVER, 6, 0, LOOKS),
+    (NEVER, 7, 0, LOOKS),
+    (NEVER, 8, 0, 1),
+    (FILL, 7, 0, 0),
+    (FILL, 14, 0, 1),
+    (SORTS, 17, 0, 0),
+];
 
 #[test]
-fn race_in_written_order(rt: HostRuntime) -> Result<(), Fail> {
-    let alloc = rt.alloc();
-    let gate = InOrder::new(&SHELL_ORDER);
-    let (status, sink) = race(&rt, alloc, SHELL, &mut Vec::new(alloc), &gate)?;
-    assert_eq!(rt; status, 0);
-    assert_eq!(rt; sink.bytes(), SHELL_REPORTED);
+fn a_gate_is_asked_so_often(rt: HostRuntime) -> Result<(), Fail> {
+    for (text, line, shut, asked) in ASKED.iter() {
+        let found = asked_for(&rt, rt.alloc(), text, *line, *shut)?;
+        assert_eq!(rt; found, *asked, "line {line}, shut for {shut}");
+    }
     Ok(())
 }
 
-/// Two sessions meet at the gate; then the second makes its entry first.
-#[derive(Drop)]
-struct Meeting {
-    first: AtomicBool,
-    second: AtomicBool,
-    missed: AtomicBool,
-    second_passed: AtomicBool,
-    first_passed: AtomicBool,
-    first_ended: AtomicBool,
-}
-
-impl Meeting {
-    /// One comes, and waits for the other.
-    fn meet(&self, mine: &AtomicBool, other: &AtomicBool) {
-        mine.store(true, Ordering::SeqCst);
-        if !is_set_in_time(other) {
-            self.missed.store(true, Ordering::SeqCst);
-        }
-    }
-}
-
-impl Gate for Meeting {
-    fn open(&self, actor: u32, line: u32) -> bool {
-        match (actor, line) {
-            (1, 8) => {
-                self.meet(&self.first, &self.second);
-                self.second_passed.load(Ordering::SeqCst)
-            }
-            (2, 9) => {
-                self.meet(&self.second, &self.first);
-                true
-            }
-            (1, _) => self.first_passed.load(Ordering::SeqCst),
-            _ => self.first_ended.load(Ordering::SeqCst),
-        }
-    }
-
-    fn passed(&self, actor: u32, line: u32, _reply: &Reply) {
-        let flag = match (actor, line) {
-            (1, 8) => &self.first_passed,
-            (1, _) => &self.first_ended,
-            _ => &self.second_passed,
-        };
-        flag.store(true, Ordering::SeqCst);
-    }
-}
-
 #[test]
-fn race_against_the_written_order(rt: HostRuntime) -> Result<(), Fail> {
-    let alloc = rt.alloc();
-    let gate = Meeting {
-        first: AtomicBool::new(false),
-        second: AtomicBool::new(false),
-        missed: AtomicBool::new(false),
-        second_passed: AtomicBool::new(false),
-        first_passed: AtomicBool::new(false),
-        first_ended: AtomicBool::new(false),
-    };
-    let (status, sink) = race(&rt, alloc, TWO, &mut Vec::new(alloc), &gate)?;
-    assert_eq!(rt; status, 0);
-    assert!(rt; !gate.missed.load(Ordering::SeqCst));
-    assert_eq!(rt; sink.bytes(), TWO_REPORTED);
+fn a_wait_looks_again(rt: HostRuntime) -> Result<(), Fail> {
+    let gate = Looking::new(&WAIT_ORDER, 6, 7);
+    let called = race(&rt, rt.alloc(), WAIT, &gate)?;
+    assert_eq!(rt; called.answer(), (0, WAIT_REPORTED));
+    assert_eq!(rt; gate.looks(), 2);
     Ok(())
 }
 
-/// What a display and a gate know of each other.
-#[derive(Drop)]
-struct Meanwhile {
-    shows: AtomicBool,
-    presented: AtomicBool,
-    presented_while_it_showed: AtomicBool,
-    first_presented: AtomicBool,
-    done: AtomicBool,
-    is_asked_late: AtomicBool,
+#[test]
+fn a_wait_of_the_display_looks_again(rt: HostRuntime) -> Result<(), Fail> {
+    let gate = Looking::new(&DISPLAY_WAIT_ORDER, 7, 8);
+    let called = race(&rt, rt.alloc(), DISPLAY_WAIT, &gate)?;
+    assert_eq!(rt; called.answer(), (0, DISPLAY_WAIT_REPORTED));
+    assert_eq!(rt; gate.looks(), 2);
+    Ok(())
 }
 
-/// A display that shows until a session has presented.
-#[derive(Drop)]
-struct Slow {
-    meanwhile: Arc<Meanwhile>,
+#[test]
+fn a_probe_awaits_a_frame(rt: HostRuntime) -> Result<(), Fail> {
+    let gate = Looking::new(&PROBED_ORDER, 16, 14);
+    let called = race(&rt, rt.alloc(), AWAIT, &gate)?;
+    assert_eq!(rt; called.answer(), (0, AWAIT_REPORTED));
+    assert_eq!(rt; gate.looks(), 2);
+    Ok(())
 }
 
-impl Display for Slow {
-    ghost faults = { λ _. 0 };
-
-    fn show(&mut self, _frame: &FrameOut) -> Result<(), Failed> {
-        let meanwhile = &self.meanwhile;
-        meanwhile.shows.store(true, Ordering::SeqCst);
-        if is_set_in_time(&meanwhile.presented) {
-            meanwhile
-                .presented_while_it_showed
-                .store(true, Ordering::SeqCst);
-        }
-        Ok(())
-    }
+#[test]
+fn the_gate_hears_each_entry(rt: HostRuntime) -> Result<(), Fail> {
+    let gate = Hearing::new(&SORTS_TOLD);
+    let called = race(&rt, rt.alloc(), SORTS, &gate)?;
+    assert_eq!(rt;
+        (gate.heard(), gate.was_mistold()),
+        (SORTS_TOLD.len(), false)
+    );
+    assert_eq!(rt; called.answer(), (0, SORTS_REPORTED));
+    Ok(())
 }
 
-/// Holds the second present until the display shows.
-#[derive(Drop)]
-struct Holding {
-    meanwhile: Arc<Meanwhile>,
-}
-
-impl Gate for Holding {
-    fn open(&self, _actor: u32, line: u32) -> bool {
-        match line {
-            13 => self.meanwhile.first_presented.load(Ordering::SeqCst),
-            // A done asks before its frame is shown.
-            14 => {
-                if self.meanwhile.shows.load(Ordering::SeqCst) {
-                    self.meanwhile.is_asked_late.store(true, Ordering::SeqCst);
-                }
-                true
-            }
-            15 => self.meanwhile.shows.load(Ordering::SeqCst),
-            16 => self.meanwhile.done.load(Ordering::SeqCst),
-            _ => true,
-        }
-    }
-
-    fn passed(&self, _actor: u32, line: u32, reply: &Reply) {
-        match line {
-            12 => self.meanwhile.first_presented.store(true, Ordering::SeqCst),
-            14 => self.meanwhile.done.store(true, Ordering::SeqCst),
-            15 => {
-                let second = matches!(
-                    reply,
-                    Reply::Presented {
-                        number: 2,
-                        credits: 4
-                    }
-                );
-                self.meanwhile.presented.store(second, Ordering::SeqCst);
-            }
-            _ => {}
-        }
-    }
+#[test]
+fn a_begin_is_made_before_the_gate_hears_of_it(rt: HostRuntime) -> Result<(), Fail> {
+    let gate = HearsBegin::new();
+    let called = race(&rt, rt.alloc(), FILL, &gate)?;
+    assert!(rt; !gate.was_missed());
+    assert_eq!(rt; called.answer(), (0, FILL_REPORTED));
+    Ok(())
 }
 
 #[test]
 fn present_while_a_display_shows(rt: HostRuntime) -> Result<(), Fail> {
-    let alloc = rt.alloc();
-    let meanwhile = Arc::new(
-        alloc,
-        Meanwhile {
-            shows: AtomicBool::new(false),
-            presented: AtomicBool::new(false),
-            presented_while_it_showed: AtomicBool::new(false),
-            first_presented: AtomicBool::new(false),
-            done: AtomicBool::new(false),
-            is_asked_late: AtomicBool::new(false),
-        },
-    )?;
-    let gate = Holding {
-        meanwhile: meanwhile.clone()?,
-    };
-    let mut displays: Vec<Box<dyn Display>> = Vec::new(alloc);
-    let slow = Slow {
-        meanwhile: meanwhile.clone()?,
-    };
-    displays.push(Box::new(alloc, slow)?)?;
-    let (status, sink) = race(&rt, alloc, FILL, &mut displays, &gate)?;
-    assert_eq!(rt; status, 0);
-    assert!(rt; meanwhile.presented_while_it_showed.load(Ordering::SeqCst));
-    assert!(rt; !meanwhile.is_asked_late.load(Ordering::SeqCst));
-    assert_eq!(rt; sink.bytes(), FILL_REPORTED);
-    Ok(())
-}
-
-#[test]
-fn a_probe_sees_the_frame_of_its_time(rt: HostRuntime) -> Result<(), Fail> {
-    let alloc = rt.alloc();
-    let gate = InOrder::new(&PROBED_ORDER);
-    let (status, sink) = race(&rt, alloc, PROBED, &mut Vec::new(alloc), &gate)?;
-    assert_eq!(rt; status, 0);
-    assert_eq!(rt; sink.bytes(), PROBED_REPORTED);
+    let (called, gate) = race_held(&rt, rt.alloc())?;
+    assert_eq!(rt;
+        (gate.presented_while_it_showed(), gate.was_asked_late()),
+        (true, false)
+    );
+    assert_eq!(rt; called.answer(), (0, FILL_REPORTED));
     Ok(())
 }

@@ -1,60 +1,93 @@
-use crate::call::{Faults, NONE, play};
-use crate::shell::{SHELL, SHELL_REPORTED};
+use flat_call_checks::{
+    FRAMES, Fault, SHELL, SHELL_REPORTED, first_spared, frames_before, has_answer, has_line,
+    is_fault, is_report, mail_leaves_before, moved, play, play_six, report_with,
+};
 use std::test::Fail;
-
-/// More than the reads and writes of a run of the shell.
-const CALLS: u32 = 1000;
 
 #[test]
 fn each_read_fails_in_turn(rt: HostRuntime) -> Result<(), Fail> {
-    let alloc = rt.alloc();
-    for read in 1..CALLS {
-        let faults = Faults { read, ..NONE };
-        let called = play(&rt, alloc, SHELL, faults, &mut Vec::new(alloc))?;
-        if called.status == 0 {
-            assert_eq!(rt; called.sink.bytes(), SHELL_REPORTED);
-            assert!(rt; read > 1);
-            return Ok(());
-        }
-        assert_eq!(rt; called.status, 4);
-        assert!(rt; called.sink.bytes().is_empty());
-    }
-    assert!(rt; false);
+    let (read, called) = first_spared(&rt, rt.alloc(), Fault::Read, 4, b"")?;
+    assert_eq!(rt; called.answer(), (0, SHELL_REPORTED), "read {read}");
+    assert!(rt; read > 1);
     Ok(())
 }
 
 #[test]
 fn each_write_fails_in_turn(rt: HostRuntime) -> Result<(), Fail> {
-    let alloc = rt.alloc();
-    for write in 1..CALLS {
-        let faults = Faults { write, ..NONE };
-        let called = play(&rt, alloc, SHELL, faults, &mut Vec::new(alloc))?;
-        if called.status == 0 {
-            assert_eq!(rt; called.sink.bytes(), SHELL_REPORTED);
-            assert!(rt; write > 1);
-            return Ok(());
-        }
-        assert_eq!(rt; called.status, 5);
-        assert!(rt; SHELL_REPORTED.starts_with(called.sink.bytes()));
-    }
-    assert!(rt; false);
+    let (write, called) = first_spared(&rt, rt.alloc(), Fault::Write, 5, SHELL_REPORTED)?;
+    assert_eq!(rt; called.answer(), (0, SHELL_REPORTED), "write {write}");
+    assert!(rt; write > 1);
     Ok(())
 }
 
 #[test]
 fn each_write_takes_nothing_in_turn(rt: HostRuntime) -> Result<(), Fail> {
+    let (write, called) = first_spared(&rt, rt.alloc(), Fault::Stall, 5, SHELL_REPORTED)?;
+    assert_eq!(rt; called.answer(), (0, SHELL_REPORTED), "write {write}");
+    assert!(rt; write > 1);
+    Ok(())
+}
+
+#[test]
+fn each_display_fails_at_each_show(rt: HostRuntime) -> Result<(), Fail> {
     let alloc = rt.alloc();
-    for stall in 1..CALLS {
-        let faults = Faults { stall, ..NONE };
-        let called = play(&rt, alloc, SHELL, faults, &mut Vec::new(alloc))?;
-        if called.status == 0 {
-            assert_eq!(rt; called.sink.bytes(), SHELL_REPORTED);
-            assert!(rt; stall > 1);
-            return Ok(());
+    for first in 0..=FRAMES {
+        for second in 0..=FRAMES {
+            let (called, had) = play_six(&rt, alloc, first, second)?;
+            let wanted = report_with(alloc, first, second)?;
+            assert_eq!(rt; called.answer(), (0, wanted.as_slice()));
+            assert_eq!(rt;
+                had,
+                [Some(frames_before(first)), Some(frames_before(second))]
+            );
         }
-        assert_eq!(rt; called.status, 5);
-        assert!(rt; SHELL_REPORTED.starts_with(called.sink.bytes()));
     }
-    assert!(rt; false);
+    Ok(())
+}
+
+/// How many bytes are before the end of the line `run`: a text that ends before has no
+/// head.
+const HEAD: usize = 217;
+
+#[test]
+fn a_script_is_cut_after_each_byte(rt: HostRuntime) -> Result<(), Fail> {
+    for end in 0..SHELL.len() {
+        let called = play(&rt, rt.alloc(), &SHELL[..end])?;
+        let text = called.report();
+        match called.status() {
+            0 => assert!(rt; is_report(text) && end >= HEAD),
+            3 => assert!(rt; is_fault(text)),
+            _ => assert!(rt; false),
+        }
+    }
+    Ok(())
+}
+
+/// The first line of the shell's script behind its head, and the last one.
+const FIRST: u32 = 15;
+
+const LAST: u32 = 57;
+
+/// The shell's lines whose answers stay what they are, with these answers.
+const KEPT: [(u32, &str); 5] = [
+    (19, "CreateView ok"),
+    (27, "CreateViewport ok"),
+    (29, "CreateViewport ok"),
+    (31, "GetChildStatus held"),
+    (32, "Present 1 credits 0"),
+];
+
+#[test]
+fn the_mail_leaves_before_each_line(rt: HostRuntime) -> Result<(), Fail> {
+    let alloc = rt.alloc();
+    for before in FIRST..=LAST {
+        let called = play(&rt, alloc, &mail_leaves_before(alloc, before)?)?;
+        assert_eq!(rt; called.status(), 0);
+        for (line, answer) in KEPT.iter() {
+            let line = moved(*line, before);
+            assert!(rt; has_answer(alloc, called.report(), line, answer)?);
+        }
+        assert!(rt; has_line(called.report(), b"shell end 0"));
+    }
     Ok(())
 }

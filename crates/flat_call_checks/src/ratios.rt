@@ -1,10 +1,6 @@
-use crate::call::{NONE, play};
-use crate::gates::{InOrder, race};
-use std::test::Fail;
-
 /// Three frames of one state, each at another pixel ratio: inside the first two the next
 /// one is set.
-const RATIOS: &[u8] = b"flatland 3
+pub const RATIOS: &[u8] = b"flatland 3
 display 100 100
 session A
 pair t0 display A
@@ -33,8 +29,8 @@ display done
 display hit 15 15
 ";
 
-/// The written order.
-const RATIOS_ORDER: [(u32, u32); 16] = [
+/// Its entries and the probe's line in written order: the numbers of actor and line.
+pub const RATIOS_ORDER: [(u32, u32); 16] = [
     (1, 7),
     (1, 14),
     (0, 15),
@@ -55,7 +51,7 @@ const RATIOS_ORDER: [(u32, u32); 16] = [
 
 /// The report of it in this order: a frame is of the ratio at its begin, and so are its
 /// hits, and the layout that is told behind it.
-const RATIOS_REPORTED: &[u8] = b"report flatland 3
+pub const RATIOS_REPORTED: &[u8] = b"report flatland 3
 A 7 CreateView ok
 A 14 Present 1 credits 0
 display 15 begin 1000 frame 1
@@ -82,22 +78,3 @@ A end 0
 P 23 hit 15 15 frame 2 A 0
 report ends entries 15 frames 3
 ";
-
-#[test]
-fn frames_are_played_at_their_ratios(rt: HostRuntime) -> Result<(), Fail> {
-    let alloc = rt.alloc();
-    let called = play(&rt, alloc, RATIOS, NONE, &mut Vec::new(alloc))?;
-    assert_eq!(rt; called.status, 0);
-    assert_eq!(rt; called.sink.bytes(), RATIOS_REPORTED);
-    Ok(())
-}
-
-#[test]
-fn frames_are_raced_at_their_ratios(rt: HostRuntime) -> Result<(), Fail> {
-    let alloc = rt.alloc();
-    let gate = InOrder::new(&RATIOS_ORDER);
-    let (status, sink) = race(&rt, alloc, RATIOS, &mut Vec::new(alloc), &gate)?;
-    assert_eq!(rt; status, 0);
-    assert_eq!(rt; sink.bytes(), RATIOS_REPORTED);
-    Ok(())
-}

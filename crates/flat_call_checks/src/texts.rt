@@ -1,33 +1,3 @@
-/// Its entries in written order: the numbers of actor and line.
-pub const SHELL_ORDER: [(u32, u32); 26] = [
-    (2, 15),
-    (2, 16),
-    (3, 17),
-    (3, 18),
-    (1, 19),
-    (1, 27),
-    (1, 29),
-    (1, 31),
-    (1, 32),
-    (2, 33),
-    (2, 39),
-    (3, 45),
-    (3, 46),
-    (0, 47),
-    (0, 48),
-    (2, 49),
-    (0, 50),
-    (0, 51),
-    (2, 53),
-    (2, 54),
-    (2, 55),
-    (0, 56),
-    (0, 57),
-    (1, 58),
-    (2, 58),
-    (3, 58),
-];
-
 /// Two sessions that use an end each.
 pub const TWO: &[u8] = b"flatland 1
 display 100 100
@@ -136,45 +106,6 @@ pair t0 display A
 run
 A Wait frames 1
 display Wait presents A 1
-";
-
-/// A line of each sort that makes an entry, and a misuse that closes.
-pub const SORTS: &[u8] = b"flatland 1
-display 100 100
-session A
-pair t0 display A
-fence f1 display A
-run
-A CreateView t0
-A Present 0
-display Wait presents A 1
-display Signal f1
-A Wait fence f1
-display begin 1
-display done
-display hit 5 5
-A Poll
-A CreateTransform 0
-A Poll
-";
-
-/// The report of it in written order.
-pub const SORTS_REPORTED: &[u8] = b"report flatland 1
-A 7 CreateView ok
-A 8 Present 1 credits 0
-display 9 Wait met 1
-display 10 Signal ok
-A 11 Wait met 1
-display 12 begin 1 frame 1
-> A credits 5
-display 13 done frame 1
-view A - 0 0 6553600 6553600
-> A framepresented 1
-display 14 hit 5 5 frame 1
-A 15 Poll 2
-A 16 closed BAD_OPERATION B1
-A end 1
-report ends entries 11 frames 1
 ";
 
 /// Two frames, and a probe that asks for a point behind the first.

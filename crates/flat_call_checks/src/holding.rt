@@ -1,0 +1,116 @@
+use crate::call::{Called, call};
+use crate::faults::NONE;
+use crate::flags::Flag;
+use crate::texts::FILL;
+use flat_base::NoMemory;
+use flat_display::Display;
+use flat_io::Failed;
+use flat_race::Gate;
+use flat_scene::{FrameOut, Reply};
+use std::alloc::Global;
+use std::sync::{Arc, Wait};
+use std::thread::Threads;
+
+/// What the second present of `FILL` is to be answered while its frame is shown.
+const SECOND: Reply = Reply::Presented {
+    number: 2,
+    credits: 4,
+};
+
+/// Holds the second present of `FILL` until the display shows, and the session's End until
+/// the frame is done.
+#[derive(Drop)]
+pub struct Holding {
+    shows: Flag,
+    presented: Flag,
+    presented_while_it_showed: Flag,
+    first_presented: Flag,
+    done: Flag,
+    is_asked_late: Flag,
+}
+
+impl Holding {
+    /// Nothing was presented yet.
+    fn new() -> Holding {
+        Holding {
+            shows: Flag::new(),
+            presented: Flag::new(),
+            presented_while_it_showed: Flag::new(),
+            first_presented: Flag::new(),
+            done: Flag::new(),
+            is_asked_late: Flag::new(),
+        }
+    }
+
+    /// Whether the second present was made, with the reply that it is to have, before the
+    /// display had shown its frame.
+    pub fn presented_while_it_showed(&self) -> bool {
+        self.presented_while_it_showed.is_set()
+    }
+
+    /// Whether the gate was asked for the done once its frame was shown.
+    pub fn was_asked_late(&self) -> bool {
+        self.is_asked_late.is_set()
+    }
+}
+
+impl Gate for Holding {
+    fn open(&self, _actor: u32, line: u32) -> bool {
+        match line {
+            13 => self.first_presented.is_set(),
+            // A done asks before its frame is shown.
+            14 => {
+                if self.shows.is_set() {
+                    self.is_asked_late.set();
+                }
+                true
+            }
+            15 => self.shows.is_set(),
+            16 => self.done.is_set(),
+            _ => true,
+        }
+    }
+
+    fn passed(&self, _actor: u32, line: u32, reply: &Reply) {
+        match line {
+            12 => self.first_presented.set(),
+            14 => self.done.set(),
+            15 if *reply == SECOND => self.presented.set(),
+            _ => {}
+        }
+    }
+}
+
+/// A display that shows until the gate hears of the second present.
+#[derive(Drop)]
+struct Slow {
+    gate: Arc<Holding>,
+}
+
+impl Display for Slow {
+    ghost faults = { λ _. 0 };
+
+    fn show(&mut self, _frame: &FrameOut) -> Result<(), Failed> {
+        self.gate.shows.set();
+        if self.gate.presented.is_set_in_time() {
+            self.gate.presented_while_it_showed.set();
+        }
+        Ok(())
+    }
+}
+
+/// Races `FILL` on a display that shows until the second present was made, and answers
+/// with the gate that held this until then.
+pub fn race_held<T: Threads + Wait + Sync>(
+    rt: &T,
+    alloc: Global,
+) -> Result<(Called, Arc<Holding>), NoMemory> {
+    let gate = Arc::new(alloc, Holding::new())?;
+    let mut displays: Vec<Box<dyn Display>> = Vec::new(alloc);
+    let slow = Slow {
+        gate: gate.clone()?,
+    };
+    displays.push(Box::new(alloc, slow)?)?;
+    let called = call(rt, alloc, "race", FILL, NONE, &mut displays, &*gate)?;
+    Ok((called, gate))
+}

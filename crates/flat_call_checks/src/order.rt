@@ -1,0 +1,33 @@
+use crate::flags::Count;
+use flat_race::Gate;
+use flat_scene::Reply;
+
+/// Opens entries and probes' lines in one order, given by the numbers of actor and line.
+#[derive(Drop)]
+pub struct InOrder {
+    order: &'static [(u32, u32)],
+    next: Count,
+}
+
+impl InOrder {
+    /// None of them was made yet.
+    pub fn new(order: &'static [(u32, u32)]) -> InOrder {
+        InOrder {
+            order,
+            next: Count::new(),
+        }
+    }
+}
+
+impl Gate for InOrder {
+    fn open(&self, actor: u32, line: u32) -> bool {
+        match self.order.get(self.next.number() as usize) {
+            Some(entry) => *entry == (actor, line),
+            None => true,
+        }
+    }
+
+    fn passed(&self, _actor: u32, _line: u32, _reply: &Reply) {
+        self.next.add();
+    }
+}
