@@ -1,3 +1,4 @@
+pub mod Alone
 pub mod Composing
 pub mod Displayed
 pub mod Ending

@@ -21,4 +21,4 @@ mod trees;
 pub use frame::{LastFrame, show_last};
 pub use kept::{Keeping, Kept};
 pub use play::Play;
-pub use run::{Played, open_board, play_script, play_touched};
+pub use run::{Played, let_go, open_board, play_script, play_touched};
