@@ -1,4 +1,3 @@
-pub mod Alone
 pub mod Composing
 pub mod Displayed
 pub mod Ending

@@ -265,6 +265,11 @@ impl Played {
         drop(board);
         kept
     }
+
+    /// Lets all of it go.
+    pub fn let_go(self) {
+        drop(self);
+    }
 }
 
 /// Lets a board go, for crates above that would else have to prove how.

@@ -1,6 +1,6 @@
 use Rattle.flat_play.specs.Last.{IsJoined, IsLast}
 use Rattle.flat_play.specs.Playing.{AsksPoint, is_alone}
-use Rattle.flat_play.proofs.Alone.{may_alone, quiet_alone, ends_none, keeps_alone}
+use Rattle.flat_play.proofs.lemmas.Alone.{may_alone, quiet_alone, ends_none, keeps_alone}
 use Rattle.flat_play.specs.Showing.{IsShown}
 use Rattle.std.proofs.Common.{rules, ◌≡◌, ℕ, ◌≤◌, ◌+◌, true, length, refl, sym, ap, ◌∙◌, subst, arith}
 use Rattle.flat_base.specs.declared.ids.Actor.TheVariants.{Display}
