@@ -1,4 +1,4 @@
-use Rattle.std.proofs.Common.{◌≡◌, None, length, ap, sym, ◌∙◌}
+use Rattle.std.proofs.Common.{None, length, ap, sym, ◌∙◌}
 use Rattle.std.proofs.lemmas.List.{length-set}
 use Rattle.flat_stage.proofs.AtHome.{first_new, others_new}
 use Rattle.flat_stage.proofs.stage.take_first.Goals as goal
