@@ -6,20 +6,17 @@ use Rattle.std.proofs.lemmas.List.{length-reverse}
 use Rattle.std.proofs.lemmas.List.Sums.{length-filter}
 use Rattle.flat_base.specs.declared.ids.Actor.{Actor}
 use Rattle.flat_base.specs.declared.ids.Actor.TheVariants.{Display, Session, Probe}
-use Rattle.flat_base.specs.declared.ids.FenceNo.{FenceNo}
 use Rattle.flat_base.specs.declared.ids.FrameNo.{FrameNo}
 use Rattle.flat_base.specs.declared.limits.TheConstants.{SESSIONS_MAX}
 use Rattle.flat_scene.specs.declared.frames.FrameOut.{FrameOut}
 use Rattle.flat_scene.specs.declared.frames.Lost.{Lost}
 use Rattle.flat_scene.specs.declared.journal.Entry.{Entry}
 use Rattle.flat_scene.specs.declared.journal.Kind.{Kind}
-use Rattle.flat_scene.specs.declared.journal.Kind.TheVariants.{Begin, Dpr, Finish, Hit, Signal, Wait}
+use Rattle.flat_scene.specs.declared.journal.Kind.TheVariants.{Begin, Finish, Hit}
 use Rattle.flat_scene.specs.declared.journal.Reply.{Reply}
 use Rattle.flat_scene.specs.declared.journal.Reply.TheVariants.{Done}
 use Rattle.flat_scene.specs.declared.script.Body.{Body}
 use Rattle.flat_scene.specs.declared.script.Body.TheVariants as body
-use Rattle.flat_scene.specs.declared.script.Cond.{Cond}
-use Rattle.flat_scene.specs.declared.script.Cond.TheVariants as asks
 use Rattle.flat_scene.specs.declared.script.DisplayLine.{DisplayLine}
 use Rattle.flat_scene.specs.declared.script.DisplayLine.TheVariants as display
 use Rattle.flat_scene.specs.declared.script.ScriptLine.{ScriptLine}
@@ -29,8 +26,7 @@ use Rattle.flat_scene.specs.Interleave.{entry_of_display}
 use Rattle.flat_scene.specs.Setups.{at_ratio}
 use Rattle.flat_core.specs.Machines.{entry_of, made}
 use Rattle.flat_rules.specs.Ends.{to_begin}
-use Rattle.flat_rules.specs.Legal.{Legal, is_frame_open, begin_time, display_may, frames, names_declared}
-use Rattle.flat_rules.specs.Owned.{is_played_display}
+use Rattle.flat_rules.specs.Legal.{Legal, is_frame_open, begin_time, frames}
 use Rattle.flat_rules.specs.Seats.{DisplayKnowsFrames, JournalsKeepSeats, SeatsTellActors, of_seat}
 use Rattle.flat_rules.specs.Shown.{shown_states}
 use Rattle.flat_topology.specs.Changes.{AreSame}
@@ -43,7 +39,8 @@ use Rattle.flat_stage.specs.Displays.{AreViewed, DisplayEnters, DisplayView, Fra
 use Rattle.flat_stage.specs.Seats.{StageView, setup_of, entries_of_seat}
 use Rattle.flat_stage.specs.Seats as stage
 use Rattle.flat_play.specs.Last.{StaysLast}
-use Rattle.flat_play.specs.Playing.{DisplayStands, lines_by}
+use Rattle.flat_play.specs.Playing.{DisplayStands, is_alone, lines_by}
+use Rattle.flat_play.proofs.lemmas.Alone.{ends_none, keeps_alone}
 use Rattle.flat_play.proofs.lemmas.DisplaySteps.{finished-beside, begin_time_ok, display_probe, display_session, done_ok}
 use Rattle.flat_play.proofs.lemmas.DisplaySteps as quiet
 use Rattle.flat_play.proofs.lemmas.FramesShown.{all-finished, few_frames}
@@ -62,6 +59,7 @@ use Rattle.flat_actors.proofs.lemmas.Beside.{IsBeside, seen_beside}
 use Rattle.flat_actors.specs.Publishing.{FinishesOne}
 use Rattle.flat_actors.proofs.Finishing.{finishes_one}
 use Rattle.flat_actors.proofs.lemmas.StillStands.{display_same, film_same}
+use Rattle.flat_actors.proofs.LinesAlone.{begins_none, asks_none}
 use Rattle.flat_actors.proofs.DirectSteps.{enters_as, seat_begins, seat_beside, seat_finishes}
 use Rattle.flat_actors.proofs.FilmSteps.{film_beside, film_done, film_point, next_frame}
 use Rattle.flat_actors.proofs.Held.{changes_same, shows_same}
@@ -199,20 +197,13 @@ module _ (script : Script) (view : StageView) (place : ℕ) where
           kept = subst F (sym en.grown) (films en.middle (film_same script (history_of (hand_seat hand).seen) en.middle en.beside film stands.kept));
         }
 
-    pub hand_signals : (f : FenceNo) (reply : Reply) → x.body ≡ body.Display (display.Signal f) → (hand hand' : Hand) (film : Film) → HandStands script view place hand film → DisplayEnters x.number (Signal f) reply (hand_seat hand) (hand_seat hand') → is_open hand' ≡ is_open hand → KeepsFrame hand hand'
+    -- one that leaves points alone too
+    pub hand_alone : (text : DisplayLine) → is_alone text ≡ true → (reply : Reply) → x.body ≡ body.Display text → (hand hand' : Hand) (film : Film) → HandStands script view place hand film → DisplayEnters x.number (entry_of_display text) reply (hand_seat hand) (hand_seat hand') → is_open hand' ≡ is_open hand → KeepsFrame hand hand'
         → HandStands script view (place + 1) hand' film
-    hand_signals f reply is hand hand' film stands enters same kept =
-        hand_beside (display.Signal f) (Signal f) reply is refl refl refl (λ o t follows. refl) hand hand' film film stands enters same kept refl (λ middle stood. film_beside script middle film stood (entry_of Display x.number [] (Signal f) reply) refl refl)
-
-    pub hand_scales : (to : ℕ) (reply : Reply) → x.body ≡ body.Display (display.Dpr to) → (hand hand' : Hand) (film : Film) → HandStands script view place hand film → DisplayEnters x.number (Dpr to) reply (hand_seat hand) (hand_seat hand') → is_open hand' ≡ is_open hand → KeepsFrame hand hand'
-        → HandStands script view (place + 1) hand' film
-    hand_scales to reply is hand hand' film stands enters same kept =
-        hand_beside (display.Dpr to) (Dpr to) reply is refl refl refl (λ o t follows. refl) hand hand' film film stands enters same kept refl (λ middle stood. film_beside script middle film stood (entry_of Display x.number [] (Dpr to) reply) refl refl)
-
-    pub hand_waits : (c : Cond) (reply : Reply) → x.body ≡ body.Display (display.Wait c) → (hand hand' : Hand) (film : Film) → HandStands script view place hand film → DisplayEnters x.number (Wait c) reply (hand_seat hand) (hand_seat hand') → is_open hand' ≡ is_open hand → KeepsFrame hand hand'
-        → HandStands script view (place + 1) hand' film
-    hand_waits c reply is hand hand' film stands enters same kept =
-        hand_beside (display.Wait c) (Wait c) reply is refl refl refl (λ o t follows. refl) hand hand' film film stands enters same kept refl (λ middle stood. film_beside script middle film stood (entry_of Display x.number [] (Wait c) reply) refl refl)
+    hand_alone text alone reply is hand hand' film stands enters same kept =
+        let e : Entry = entry_of Display x.number [] (entry_of_display text) reply in
+        hand_beside text (entry_of_display text) reply is refl (begins_none text alone) (ends_none text alone) (keeps_alone text alone) hand hand' film film stands enters same kept refl
+        (λ middle stood. film_beside script middle film stood e (ends_none text alone) (asks_none e _ _ text alone))
 
     pub hand_hits : (px py : ℤ) → x.body ≡ body.Display (display.Hit px py) → (hand hand' : Hand) (film film' : Film) → HandStands script view place hand film → DisplayEnters x.number (Hit px py) Done (hand_seat hand) (hand_seat hand') → is_open hand' ≡ is_open hand → KeepsFrame hand hand'
         → film' ≡ record film { last = film'.last; answers = film'.answers } → StaysLast script.setup film.last film'.last
@@ -265,15 +256,6 @@ module _ (script : Script) (view : StageView) (place : ℕ) where
       by_body (body.Display text) is = absurd (other text is)
       by_body (body.Session text) is = with_display (display_session script place x at text is _ _ (quiet.same refl) stands.seat.display)
       by_body (body.Probe text) is = with_display (display_probe script place x at text is _ stands.seat.display)
-
--- what the display may wait for
-pub wait_fits : (setup : Setup) (c : Cond) → is_played_display setup (display.Wait c) ≡ true → (display_may (Wait c) ≡ true) × (names_declared setup (Wait c) ≡ true)
-wait_fits setup (asks.Presents s n) played = (refl, played)
-wait_fits setup (asks.Fence f) played = (refl, played)
-wait_fits setup (asks.Frames n) played = absurd (cc)
-wait_fits setup (asks.Credits n) played = absurd (cc)
-wait_fits setup (asks.Taken n) played = absurd (cc)
-wait_fits setup (asks.Answers n) played = absurd (cc)
 
 -- ---- a line of the display
 

@@ -2,6 +2,7 @@ pub mod DirectSteps
 pub mod FilmSteps
 pub mod Finishing
 pub mod HandSteps
+pub mod LinesAlone
 pub mod Held
 pub mod Joined
 pub mod lemmas

@@ -1,9 +1,12 @@
 -- The compositor of a race: how its seat stands at a place of the script.
 use Rattle.std.specs.Prelude.{◌≡◌, ℕ, ◌+◌, ◌≤◌, Bool, true, false, List, [], ◌∷◌, ◌++◌, length, drop}
 use Rattle.flat_scene.specs.declared.journal.Entry.{Entry}
+use Rattle.flat_scene.specs.declared.journal.Reply.{Reply}
+use Rattle.flat_scene.specs.declared.script.DisplayLine.{DisplayLine}
 use Rattle.flat_scene.specs.declared.setup.Setup.{Setup}
 use Rattle.flat_scene.specs.Frames.{ratio}
 use Rattle.flat_scene.specs.History.{history_of}
+use Rattle.flat_scene.specs.Interleave.{entry_of_display}
 use Rattle.flat_rules.specs.Ends.{to_begin}
 use Rattle.flat_rules.specs.Legal.{Legal, frames, is_frame_open}
 use Rattle.flat_rules.specs.Shown.{shown_states}
@@ -11,7 +14,7 @@ use Rattle.flat_topology.specs.Changes.{AreSame}
 use Rattle.flat_topology.specs.Shown.{Shown}
 use Rattle.flat_report.specs.Report.{finished, frame_at}
 use Rattle.flat_places.specs.declared.script.Script.{Script}
-use Rattle.flat_stage.specs.Displays.{AreViewed, DisplaySees, DisplayView}
+use Rattle.flat_stage.specs.Displays.{AreViewed, DisplayEnters, DisplaySees, DisplayView}
 use Rattle.flat_stage.specs.Seats.{StageView, entries_of_seat}
 use Rattle.flat_play.specs.Keeping.{Keeps, KeepsMore}
 use Rattle.flat_play.specs.Last.{IsLast}
@@ -75,6 +78,15 @@ pub record HasLooked (setup : Setup) (old new : Hand) : Type 0 where
   pub whole : (hand_seat new).mine ≡ entries_of_seat 0 (hand_seat new).seen
   pub opened : is_open new ≡ is_open old
   pub kept : KeepsFrame old new
+
+-- It looked, and then made the entry of a line that leaves frames and points alone.
+pub record EntersAlone (setup : Setup) (number : ℕ) (text : DisplayLine) (old new : Hand) : Type 0 where
+  pub looked : Hand
+  pub looks : HasLooked setup old looked
+  pub reply : Reply
+  pub enters : DisplayEnters number (entry_of_display text) reply (hand_seat looked) (hand_seat new)
+  pub opened : is_open new ≡ is_open looked
+  pub kept : KeepsFrame looked new
 
 -- The next frame is kept, which shows the last begin; after the entry so many frames are finished.
 pub record KeepsNext (script : Script) (history : List Entry) (after : ℕ) (old new : Film) : Type 0 where

@@ -6,11 +6,15 @@ ghost use Rattle.flat_base.specs.declared.ids.Actor.TheVariants.{Display};
 ghost use Rattle.flat_scene.specs.declared.journal.Kind.TheVariants.{Begin, Finish, Hit};
 ghost use Rattle.flat_scene.specs.declared.journal.Reply.TheVariants.{Done};
 ghost use Rattle.flat_scene.specs.declared.script.Body.TheVariants as body;
+ghost use Rattle.flat_scene.specs.declared.script.Cond.{Cond};
+ghost use Rattle.flat_scene.specs.declared.script.DisplayLine.TheVariants as display;
 ghost use Rattle.flat_scene.specs.History.{history_of};
+ghost use Rattle.flat_scene.specs.Interleave.{entry_of_display};
 ghost use Rattle.flat_scene.specs.Setups.{is_setup};
 ghost use Rattle.flat_core.specs.Machines.{MayLook};
 ghost use Rattle.flat_rules.specs.Ends.{to_begin};
 ghost use Rattle.flat_rules.specs.Legal.{asked_of, begin_time, frames, value_of, Legal};
+ghost use Rattle.flat_rules.specs.Legal.{display_may, names_declared};
 ghost use Rattle.flat_rules.specs.Shown.{shown_states};
 ghost use Rattle.flat_topology.specs.Changes.{AreSame};
 ghost use Rattle.flat_topology.specs.Hits.{hit_list};
@@ -21,11 +25,12 @@ ghost use Rattle.flat_stage.specs.Seats.{entries_of_seat, setup_of};
 ghost use Rattle.flat_report.specs.Report.{finished, frame_at};
 ghost use Rattle.flat_play.specs.Keeping.{Keeps, keeping_of};
 ghost use Rattle.flat_play.specs.Last.{IsLast, StaysLast};
-ghost use Rattle.flat_play.specs.Playing.{point_answer};
+ghost use Rattle.flat_play.specs.Playing.{is_alone, point_answer};
 ghost use Rattle.flat_play.specs.Showing.{HaveSeen, IsShown};
 ghost use Rattle.flat_actors.specs.declared.hand.Hand.TheVariants.{Open};
 ghost use Rattle.flat_actors.specs.Directing.{hand_seat, is_open, KeepsFrame, HasLooked, KeepsNext};
 ghost use Rattle.flat_actors.specs.Directing.{ShowsBegin, FilmStands, HandStands, SeatStands};
+ghost use Rattle.flat_actors.specs.Directing.{EntersAlone};
 ghost use Rattle.flat_actors.specs.Publishing.{FinishesOne, PublishedStand};
 ghost use Rattle.flat_actors.specs.Sessions.{IsStageOf};
 
@@ -68,6 +73,42 @@ fn look_again<R: Wait, G: Gate>(lent: &Lent<R, G>, hand: &mut Hand, number: u32,
         thread::yield_now();
     }
     false
+}
+
+/// Looks as a wait does, or asks the gate once as is due before another line.
+fn pause<R: Wait, G: Gate>(lent: &Lent<R, G>, hand: &mut Hand, number: u32, text: DisplayLine)
+    requires own { (hand_seat hand.old).stage ≡ lent.now.stage.now }
+    requires may { (c : Cond) → text ≡ display.Wait c → MayLook (setup_of lent.now.stage.now)
+        Display c }
+    requires legal { Legal (setup_of lent.now.stage.now) (history_of (hand_seat hand.old).seen) }
+    requires whole { (hand_seat hand.old).mine ≡ entries_of_seat 0 (hand_seat hand.old).seen }
+    ensures { HasLooked (setup_of lent.now.stage.now) hand.old hand.new }
+{
+    match text {
+        DisplayLine::Wait(c) => {
+            look_again(lent, hand, number, c);
+        }
+        _ => {
+            ask(lent.gate, DISPLAY, number, ASKS);
+        }
+    }
+}
+
+/// Makes the entry of a line that leaves frames and points alone, once the gate lets it in.
+/// The gate hears of it.
+fn enter_alone<R: Wait, G: Gate>(lent: &Lent<R, G>, hand: &mut Hand, number: u32, text: DisplayLine)
+    requires own { (hand_seat hand.old).stage ≡ lent.now.stage.now }
+    requires room { HasDisplayRoom (hand_seat hand.old) }
+    requires alone { is_alone text ≡ true }
+    requires acts { display_may (entry_of_display text) ≡ true }
+    requires named { names_declared (setup_of lent.now.stage.now) (entry_of_display text) ≡ true }
+    requires legal { Legal (setup_of lent.now.stage.now) (history_of (hand_seat hand.old).seen) }
+    requires whole { (hand_seat hand.old).mine ≡ entries_of_seat 0 (hand_seat hand.old).seen }
+    ensures { EntersAlone (setup_of lent.now.stage.now) number text hand.old hand.new }
+{
+    pause(lent, hand, number, text);
+    let reply = hand.enter_alone(lent.rt, lent.stage, number, text);
+    lent.gate.passed(DISPLAY, number, &reply);
 }
 
 /// Begins a frame.
@@ -229,26 +270,12 @@ fn direct_line<R: Wait, G: Gate>(
             film.last.joined = joined;
             Ok(Hand::Idle(seat))
         }
-        DisplayLine::Signal(f) => {
-            ask(lent.gate, DISPLAY, number, ASKS);
-            let reply = hand.signal(lent.rt, lent.stage, number, f);
-            lent.gate.passed(DISPLAY, number, &reply);
-            Ok(hand)
-        }
-        DisplayLine::Dpr(ratio) => {
-            ask(lent.gate, DISPLAY, number, ASKS);
-            let reply = hand.dpr(lent.rt, lent.stage, number, ratio);
-            lent.gate.passed(DISPLAY, number, &reply);
-            Ok(hand)
-        }
-        DisplayLine::Wait(c) => {
-            look_again(lent, &mut hand, number, c);
-            let reply = hand.wait(lent.rt, lent.stage, number, c);
-            lent.gate.passed(DISPLAY, number, &reply);
-            Ok(hand)
-        }
         DisplayLine::Hit(x, y) => {
             hit(lent, &mut hand, film, number, x, y)?;
+            Ok(hand)
+        }
+        _ => {
+            enter_alone(lent, &mut hand, number, text);
             Ok(hand)
         }
     }

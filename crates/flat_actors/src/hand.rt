@@ -4,15 +4,17 @@ ghost use Rattle.std.specs.Prelude.{◌≡◌, false, true};
 ghost use Rattle.flat_base.specs.declared.ids.Actor.TheVariants.{Display};
 ghost use Rattle.flat_scene.specs.declared.journal.Kind.TheVariants.{Dpr, Hit, Signal, Wait};
 ghost use Rattle.flat_scene.specs.History.{history_of};
+ghost use Rattle.flat_scene.specs.Interleave.{entry_of_display};
 ghost use Rattle.flat_core.specs.Machines.{MayLook};
 ghost use Rattle.flat_rules.specs.Legal.{display_may, names_declared, value_of, Legal};
 ghost use Rattle.flat_stage.specs.Displays.{DisplayEnters, DisplaySees, HasDisplayRoom};
 ghost use Rattle.flat_stage.specs.Seats.{entries_of_seat, setup_of};
+ghost use Rattle.flat_play.specs.Playing.{is_alone};
 ghost use Rattle.flat_actors.specs.declared.hand.Hand.TheVariants.{Idle, Open};
 ghost use Rattle.flat_actors.specs.Directing.{hand_seat, is_open, KeepsFrame};
 
 use flat_base::FenceNo;
-use flat_scene::{Cond, Reply};
+use flat_scene::{Cond, DisplayLine, Reply};
 use flat_stage::{CompositorSeat, OpenFrame, Stage};
 use std::sync::Wait;
 
@@ -117,6 +119,33 @@ impl Hand {
         match self {
             Hand::Idle(seat) => seat.wait(rt, stage, number, c),
             Hand::Open(frame) => frame.wait(rt, stage, number, c),
+        }
+    }
+
+    /// Makes the entry of a line that leaves frames and points alone.
+    pub(crate) fn enter_alone<R: Wait>(
+        &mut self,
+        rt: &R,
+        stage: &Stage,
+        number: u32,
+        text: DisplayLine,
+    ) -> Reply
+        requires own { (hand_seat self.old).stage ≡ stage.now }
+        requires room { HasDisplayRoom (hand_seat self.old) }
+        requires alone { is_alone text ≡ true }
+        requires acts { display_may (entry_of_display text) ≡ true }
+        requires named { names_declared (setup_of (hand_seat self.old).stage)
+            (entry_of_display text) ≡ true }
+        ensures enters { DisplayEnters number (entry_of_display text) result (hand_seat self.old)
+            (hand_seat self.new) }
+        ensures open { is_open self.new ≡ is_open self.old }
+        ensures kept { KeepsFrame self.old self.new }
+    {
+        match text {
+            DisplayLine::Signal(f) => self.signal(rt, stage, number, f),
+            DisplayLine::Dpr(ratio) => self.dpr(rt, stage, number, ratio),
+            DisplayLine::Wait(c) => self.wait(rt, stage, number, c),
+            _ => unreachable!(),
         }
     }
 

@@ -1,9 +1,9 @@
 -- Probes that are asked on the way.
-use Rattle.std.proofs.Common.{◌≡◌, ℕ, ℤ, zero, suc, ◌+◌, ◌<◌, ◌≤◌, Bool, true, false, ◌&&◌, ◌==◌, nat_le, nat_lt, List, [], ◌∷◌, ◌++◌, length, map, take, get_or, replicate, cond, refl, sym, ap, ◌∙◌, subst, arith, append-nil, Option, Some, None, slice_get, slice_set, slice_index_or}
+use Rattle.std.proofs.Common.{◌≡◌, ℕ, zero, suc, ◌+◌, ◌<◌, Bool, true, false, ◌==◌, List, [], ◌∷◌, ◌++◌, length, take, replicate, cond, refl, sym, ap, ◌∙◌, subst, arith, append-nil, Option, Some, None, slice_get, slice_index_or}
 use Rattle.std.proofs.lemmas.List.{take_all, length-replicate}
 use Rattle.std.proofs.lemmas.Bool.{eq-eqb, eqb-true}
 use Rattle.std.proofs.lemmas.List.Elements.{filter-append}
-use Rattle.std.proofs.lemmas.Option.{slice_get-get_or, slice_get_within}
+use Rattle.std.proofs.lemmas.Option.{slice_get-get_or}
 use Rattle.flat_base.specs.declared.ids.Actor.{Actor}
 use Rattle.flat_base.specs.declared.ids.Actor.TheVariants.{Display, Session, Probe}
 use Rattle.flat_scene.specs.declared.journal.Entry.{Entry}
@@ -23,8 +23,8 @@ use Rattle.flat_playable.specs.Playable.{is_played}
 use Rattle.flat_report.specs.declared.probes.ProbeAnswer.{ProbeAnswer}
 use Rattle.flat_report.specs.Probes.{AreAnsweredBy, ProbesAnswered, answer_by, asked_by, asked_hits, hits_in_frame}
 use Rattle.flat_report.proofs.lemmas.ProbeSteps.{none-answered, last-answer-more, answered-on, answered-later}
-use Rattle.flat_report.specs.Report.{begin_of, hits_at, is_probe, probe_lines_of}
-use Rattle.flat_play.specs.Probing.{ProbesStand, script_to, asked_of, answer_of, answers_after, with_answer}
+use Rattle.flat_report.specs.Report.{hits_at, is_probe, probe_lines_of}
+use Rattle.flat_play.specs.Probing.{ProbesStand, asked_of, answer_of, answers_after, with_answer}
 use Rattle.flat_play.specs.Touches.{GoesOnAt, stays, enters, GoesOnByEnds}
 use Rattle.flat_play.proofs.lemmas.PlaySteps.{IsAsked, is_asked}
 use Rattle.flat_play.proofs.lemmas.Seen.{last-begin}

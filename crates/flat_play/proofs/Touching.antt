@@ -1,25 +1,23 @@
 -- Pointers' lines beside a script.
-use Rattle.std.proofs.Common.{◌≡◌, ℕ, zero, suc, ◌+◌, ◌<◌, ◌≤◌, Bool, true, false, cond, ◌&&◌, ◌==◌, not, nat_lt, nat_le, List, [], ◌∷◌, ◌++◌, length, map, take, drop, refl, sym, ap, ◌∙◌, subst, arith, append-nil, append_assoc, zero-add, get_or, Some, slice_get}
+use Rattle.std.proofs.Common.{◌≡◌, ℕ, ◌+◌, ◌<◌, ◌≤◌, Bool, true, false, cond, ◌&&◌, nat_lt, nat_le, List, [], ◌∷◌, ◌++◌, length, map, take, drop, refl, sym, ap, ◌∙◌, subst, arith, append_assoc, zero-add, get_or, Some, slice_get}
 use Rattle.std.specs.Prelude.{take_while}
 use Rattle.std.specs.List.{list_all}
 use Rattle.std.proofs.lemmas.Bool.Decides.{nat_tests}
-use Rattle.std.proofs.lemmas.Grind.{common_steps}
 use Rattle.std.proofs.lemmas.List.{map-append, take_more, take-append-drop}
 use Rattle.std.proofs.lemmas.List.Sums.{take_while-cons}
 use Rattle.flat_base.proofs.lemmas.Tests.{and-left, and-right, and-true, all-also}
 use Rattle.flat_rules.proofs.lemmas.AllOrSome.{all-append}
-use Rattle.flat_scene.specs.declared.frames.Hit.{Hit}
 use Rattle.flat_scene.specs.declared.journal.Entry.{Entry}
 use Rattle.flat_scene.specs.declared.journal.Kind.{Kind}
-use Rattle.flat_scene.specs.declared.journal.Kind.TheVariants.{End, Finish}
+use Rattle.flat_scene.specs.declared.journal.Kind.TheVariants.{Finish}
 use Rattle.flat_scene.specs.declared.setup.Setup.{Setup}
 use Rattle.flat_scene.specs.History.{◌▹◌, is_end, is_finish}
-use Rattle.flat_rules.specs.Ends.{to_begin, to_finished}
+use Rattle.flat_rules.specs.Ends.{to_finished}
 use Rattle.flat_rules.specs.Legal.{frames}
 use Rattle.flat_scene.specs.Frames.{setup_at}
 use Rattle.flat_rules.specs.Shown.{shown_states}
 use Rattle.flat_report.proofs.lemmas.ProbeSteps.{begin-stays}
-use Rattle.flat_report.specs.Report.{begin_of, hits_at}
+use Rattle.flat_report.specs.Report.{begin_of}
 use Rattle.flat_topology.specs.Hits.{hit_list}
 use Rattle.flat_topology.specs.Shown.{Shown}
 use Rattle.flat_pointer.specs.declared.text.PointerCall.{PointerCall}
@@ -31,7 +29,7 @@ use Rattle.flat_scene.specs.declared.calls.Call.{Call}
 use Rattle.flat_scene.specs.declared.journal.Reply.{Reply}
 use Rattle.flat_scene.specs.declared.script.ScriptLine.{ScriptLine}
 use Rattle.flat_core.specs.Machines.{Machine, entered, entry_of}
-use Rattle.flat_play.proofs.lemmas.Seen.{frames_more, last-begin}
+use Rattle.flat_play.proofs.lemmas.Seen.{last-begin}
 use Rattle.flat_play.proofs.Growing.{Grows}
 use Rattle.flat_play.proofs.Growing as grow
 use Rattle.flat_pointer.specs.Lines.{rise_after}

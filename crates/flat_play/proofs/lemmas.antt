@@ -1,4 +1,5 @@
 -- Lemmas that other crates may cite.
+pub mod Alone
 pub mod DisplaySteps
 pub mod FewViews
 pub mod FramesShown

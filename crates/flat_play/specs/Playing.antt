@@ -1,5 +1,5 @@
 -- How a session stands at a place of the script.
-use Rattle.std.specs.Prelude.{◌≡◌, ℕ, ℤ, ◌+◌, ◌<◌, ◌≤◌, ◌==◌, true, false, List, [], ◌∷◌, ◌++◌, length, take, drop, map, reverse, count_by, slice_index, slice_index_or, slice_set, Option, Some, None}
+use Rattle.std.specs.Prelude.{◌≡◌, ℕ, ℤ, Bool, ◌+◌, ◌<◌, ◌≤◌, ◌==◌, true, false, List, [], ◌∷◌, ◌++◌, length, take, drop, map, reverse, count_by, slice_index, slice_index_or, slice_set, Option, Some, None}
 use Rattle.std.specs.List.{AllByRecursion}
 use Rattle.std.specs.List.Sorted.{IsStrictlyIncreasing}
 use Rattle.flat_base.specs.declared.ids.Actor.TheVariants.{Display, Session}
@@ -7,6 +7,7 @@ use Rattle.flat_scene.specs.declared.journal.Reply.TheVariants.{Done}
 use Rattle.flat_scene.specs.declared.script.Body.{Body}
 use Rattle.flat_scene.specs.declared.script.Body.TheVariants as body
 use Rattle.flat_scene.specs.declared.script.DisplayLine.{DisplayLine}
+use Rattle.flat_scene.specs.declared.script.DisplayLine.TheVariants as display
 use Rattle.flat_base.specs.declared.ids.SessionNo.{SessionNo}
 use Rattle.flat_scene.specs.declared.journal.Entry.{Entry}
 use Rattle.flat_scene.specs.declared.journal.Kind.{Kind}
@@ -154,6 +155,13 @@ pub record FinishesFrame (script : Script) (old new : Play) (number : ℕ) : Typ
   pub showing : new.last.reuse ≡ old.shown
   pub scaling : new.last.ratio ≡ old.ratio
   pub answers : new.answers ≡ old.answers
+
+-- a line of the display that leaves frames and points alone
+abbrev pub is_alone : DisplayLine → Bool
+is_alone (display.Signal f) = true
+is_alone (display.Wait c) = true
+is_alone (display.Dpr ratio) = true
+is_alone _ = false
 
 -- The display makes an entry that begins no frame and ends none.
 pub record EntersBeside (old new : Play) (number : ℕ) (kind : Kind) (reply : Reply) : Type 0 where

@@ -3,7 +3,8 @@
 //! It keeps `HasPlayed` (specs/Playing): run.rt goes through the lines, play.rt plays each,
 //! frame.rt composes and answers points, and kept.rt has what stays of the frames.
 //!
-//! Other crates may cite the lemmas of proofs/lemmas/: lines at their places (Places,
+//! Other crates may cite the lemmas of proofs/lemmas/: lines that leave frames alone (Alone),
+//! lines at their places (Places,
 //! Steps, Unread), what a line leaves (PlaySteps, Readers, DisplaySteps), what is shown
 //! (FramesShown) and to how many sessions (FewViews), what of it is joined (Joining), what
 //! displays have had (Seen), what a play begins with (Starting), and lists of which an
@@ -21,4 +22,4 @@ mod trees;
 pub use frame::{LastFrame, show_last};
 pub use kept::{Keeping, Kept};
 pub use play::Play;
-pub use run::{Played, open_board, play_script, play_touched};
+pub use run::{Played, let_go, open_board, play_script, play_touched};

@@ -5,11 +5,9 @@ ghost use Rattle.std.specs.Prelude.{◌≡◌, ◌+◌, ◌<◌, ◌^◌, [], tr
 ghost use Rattle.std.specs.Prelude.{IfOk, slice_get};
 ghost use Rattle.std.specs.Option.{option_copied};
 ghost use Rattle.flat_base.specs.declared.ids.Actor.TheVariants.{Display, Session};
-ghost use Rattle.flat_scene.specs.declared.journal.Kind.TheVariants.{Begin, Finish, Hit, Signal};
-ghost use Rattle.flat_scene.specs.declared.journal.Kind.TheVariants.{Dpr, Wait};
-ghost use Rattle.flat_scene.specs.declared.journal.Reply.TheVariants.{Done};
+ghost use Rattle.flat_scene.specs.declared.journal.Kind.TheVariants.{Begin, Finish, Hit};
 ghost use Rattle.flat_scene.specs.declared.script.Body.TheVariants as body;
-ghost use Rattle.flat_scene.specs.Interleave.{IsWritten};
+ghost use Rattle.flat_scene.specs.Interleave.{entry_of_display, IsWritten};
 ghost use Rattle.flat_scene.specs.Setups.{is_setup};
 ghost use Rattle.flat_core.specs.Machines.{MayCall};
 ghost use Rattle.flat_rules.specs.Ends.{to_begin};
@@ -18,7 +16,7 @@ ghost use Rattle.flat_rules.specs.Shown.{shown_states};
 ghost use Rattle.flat_topology.specs.Changes.{AreSame};
 ghost use Rattle.flat_report.specs.Report.{finished, frame_at};
 ghost use Rattle.flat_playable.specs.Playable.{is_playable};
-ghost use Rattle.flat_play.specs.Playing.{session_text, display_text};
+ghost use Rattle.flat_play.specs.Playing.{session_text, display_text, is_alone};
 ghost use Rattle.flat_play.specs.Touches.{GoesOnAt, GoesOnByEnds};
 ghost use Rattle.flat_play.specs.Keeping.{Keeps, keeping_of};
 ghost use Rattle.flat_play.specs.Showing.{IsShown};
@@ -26,12 +24,12 @@ ghost use Rattle.flat_scene.specs.declared.script.ScriptLine.{ScriptLine};
 
 use crate::frame::{LastFrame, show_last};
 use crate::kept::Kept;
-use flat_base::{Actor, FenceNo, NoMemory, SessionNo, TryCopy};
+use flat_base::{Actor, NoMemory, SessionNo, TryCopy};
 use flat_core::{Board, shown_states_fit};
 use flat_display::{Display, DisplaySet};
 use flat_places::Script;
 use flat_report::{HitAnswer, HitAnswers};
-use flat_scene::{Body, CallList, Cond, DisplayLine, FrameOut, Line, SessionSet};
+use flat_scene::{Body, CallList, DisplayLine, FrameOut, Line, SessionSet};
 use flat_stage::{Reader, lines_are_read};
 use flat_topology::Shown;
 use std::alloc::Global;
@@ -144,32 +142,29 @@ impl Play {
         Ok(())
     }
 
-    /// Signals a fence of the display.
-    fn signal(&mut self, alloc: Global, number: u32, f: FenceNo)
-        requires { MayCall self.old.board Display [] (Signal f) }
-        ensures { EntersBeside self.old self.new number (Signal f) Done }
+    /// Makes the entry of a line that leaves frames and points alone: it signals a fence, looks
+    /// once whether a condition is met, or sets the pixel ratio from the next begin on. A
+    /// frame that is open keeps that of its begin.
+    fn enter_alone(&mut self, alloc: Global, number: u32, text: DisplayLine)
+        requires alone { is_alone text ≡ true }
+        requires may { MayCall self.old.board Display [] (entry_of_display text) }
+        ensures { EntersBeside self.old self.new number (entry_of_display text)
+            (reply_to self.old.board.setup self.old.board.history Display []
+            (entry_of_display text)) }
     {
         let calls = CallList::new(alloc);
-        let _reply = self.board.signal(Actor::Display, number, calls, f);
-    }
-
-    /// Sets the display's pixel ratio from the next begin on. A frame that is open
-    /// keeps that of its begin.
-    fn dpr(&mut self, number: u32, ratio: u32)
-        requires { MayCall self.old.board Display [] (Dpr ratio) }
-        ensures { EntersBeside self.old self.new number (Dpr ratio) Done }
-    {
-        let _reply = self.board.dpr(number, ratio);
-    }
-
-    /// Looks once whether a condition of the display is met.
-    fn wait(&mut self, alloc: Global, number: u32, c: Cond)
-        requires { MayCall self.old.board Display [] (Wait c) }
-        ensures { EntersBeside self.old self.new number (Wait c) (reply_to self.old.board.setup
-            self.old.board.history Display [] (Wait c)) }
-    {
-        let calls = CallList::new(alloc);
-        let _reply = self.board.wait(Actor::Display, number, calls, c);
+        match text {
+            DisplayLine::Signal(f) => {
+                let _reply = self.board.signal(Actor::Display, number, calls, f);
+            }
+            DisplayLine::Wait(c) => {
+                let _reply = self.board.wait(Actor::Display, number, calls, c);
+            }
+            DisplayLine::Dpr(ratio) => {
+                let _reply = self.board.dpr(number, ratio);
+            }
+            _ => unreachable!(),
+        }
     }
 
     /// Asks what a point of the last finished frame hits.
@@ -259,20 +254,12 @@ impl Play {
                 self.last.joined = joined;
                 Ok(())
             }
-            DisplayLine::Signal(f) => {
-                self.signal(alloc, number, f);
-                Ok(())
-            }
-            DisplayLine::Wait(c) => {
-                self.wait(alloc, number, c);
-                Ok(())
-            }
-            DisplayLine::Dpr(ratio) => {
-                self.dpr(number, ratio);
-                Ok(())
-            }
             DisplayLine::Hit(x, y) => {
                 self.hit(alloc, number, x, y)?;
+                Ok(())
+            }
+            _ => {
+                self.enter_alone(alloc, number, text);
                 Ok(())
             }
         }

@@ -1,6 +1,6 @@
 //! A script is played in written order. What may fail has the play by `&mut`: each exit
-//! behind which it were held would drop all of it, which is most of what a check has to
-//! look at.
+//! behind which it were held would drop all of it, part by part, which is most of what a
+//! check has to look at. Where it has to go, one call of `drop` lets it go.
 ghost use Rattle.std.specs.Prelude.{map, ◌≡◌, ◌+◌, ◌<◌, ◌^◌, slice_index, [], ◌∷◌, ◌++◌, List};
 ghost use Rattle.std.specs.Prelude.{true, length, replicate, All, IfOk, OnOk};
 ghost use Rattle.flat_scene.specs.History.{seat_number};
@@ -211,7 +211,7 @@ fn play_lines(
     let mut probes = no_answers(alloc, script.setup.probes)?;
     let mut touches = Vec::new(alloc);
     let mut play = start(alloc, script, keeping)?;
-    play_each(
+    let ended = play_each(
         alloc,
         script,
         &mut play,
@@ -220,12 +220,18 @@ fn play_lines(
         &mut probes,
         set,
         displays,
-    )?;
-    Ok(LinesPlayed {
-        play,
-        touches,
-        probes,
-    })
+    );
+    match ended {
+        Ok(()) => Ok(LinesPlayed {
+            play,
+            touches,
+            probes,
+        }),
+        Err(NoMemory) => {
+            drop(play);
+            Err(NoMemory)
+        }
+    }
 }
 
 /// A script that was run to its end.
@@ -241,6 +247,34 @@ pub struct Played {
     pub probes: Vec<ProbeAnswers>,
     /// Which displays were lost.
     pub set: DisplaySet,
+}
+
+impl Played {
+    /// What is kept of the frames. All else is let go here: a crate that drops a board has
+    /// to prove the drop of every type in it.
+    pub fn into_kept(self) -> Kept
+        ensures { result ≡ self.kept }
+    {
+        let Played {
+            board,
+            kept,
+            answers: _,
+            probes: _,
+            set: _,
+        } = self;
+        drop(board);
+        kept
+    }
+
+    /// Lets all of it go.
+    pub fn let_go(self) {
+        drop(self);
+    }
+}
+
+/// Lets a board go, for crates above that would else have to prove how.
+pub fn let_go(board: Board) {
+    drop(board);
 }
 
 /// Plays a script to its end, as [`play_script`] does, and answers lines of pointers

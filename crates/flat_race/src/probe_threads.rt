@@ -133,11 +133,39 @@ pub(crate) fn start_probes<'s, E, R: Threads, G: Gate>(
 
 /// A probe that came to its end meets what was published, whose last frame is the last
 /// finished one, and its answers are held against that.
+fn hold<R, G>(
+    lent: &Lent<R, G>,
+    published: &mut Published,
+    last: &mut LastFrame,
+    back: &mut ProbeBack,
+) -> Result<(), NoMemory>
+    requires setup { is_setup lent.now.script.now.setup ≡ true }
+    requires is { IsLast lent.now.script.now.setup last.old }
+    requires home { back.old.probe.home ≡ published.old.home }
+    requires last { LastIsPublished lent.now.script.now.setup last.old published.old }
+    ensures same { published.new ≡ published.old }
+    ensures stays { OnOk result (StaysLast lent.now.script.now.setup last.old last.new) }
+    ensures answered { (lines : List ScriptLine) →
+        (back.old.is_whole ≡ true → AreAnsweredBy (hits_of back.old.probe.frames)
+        (last_number back.old.probe.frames) lines back.old.answers) →
+        OnOk result (AreAnsweredBy (hits_of published.old.frames)
+        (last_number published.old.frames) lines back.new.answers) }
+{
+    if !back.is_whole {
+        return Err(NoMemory);
+    }
+    published.meet(&mut back.probe)?;
+    back.probe.frame()?;
+    settle(lent.alloc, &lent.script.setup, last, &mut back.answers)?;
+    Ok(())
+}
+
+/// The same of a probe that is let go.
 fn meet<R, G>(
     lent: &Lent<R, G>,
     published: &mut Published,
     last: &mut LastFrame,
-    back: ProbeBack,
+    mut back: ProbeBack,
 ) -> Result<ProbeAnswers, NoMemory>
     requires setup { is_setup lent.now.script.now.setup ≡ true }
     requires is { IsLast lent.now.script.now.setup last.old }
@@ -151,18 +179,13 @@ fn meet<R, G>(
         IfOk result (λ answers. AreAnsweredBy (hits_of published.old.frames)
         (last_number published.old.frames) lines answers) }
 {
-    let ProbeBack {
-        mut probe,
-        mut answers,
-        is_whole,
-    } = back;
-    if !is_whole {
-        return Err(NoMemory);
+    let held = hold(lent, published, last, &mut back);
+    let ProbeBack { probe, answers, .. } = back;
+    drop(probe);
+    match held {
+        Ok(()) => Ok(answers),
+        Err(NoMemory) => Err(NoMemory),
     }
-    published.meet(&mut probe)?;
-    probe.frame()?;
-    settle(lent.alloc, &lent.script.setup, last, &mut answers)?;
-    Ok(answers)
 }
 
 /// Waits for each probe, the first one first, and answers what each was answered.

@@ -179,7 +179,10 @@ pub fn race_script<T: Threads + Wait + Sync, G: Gate>(
         (λ d. d.vtable) }
 {
     let film = new_film(alloc, script, keeping, displays.len() as u32)?;
-    let (stage, compositor, seats) = new_stage(alloc, script)?;
+    let Ok((stage, compositor, seats)) = new_stage(alloc, script) else {
+        drop(film);
+        return Err(NoMemory);
+    };
     race_on(
         rt, alloc, stage, script, gate, compositor, seats, film, displays,
     )

@@ -76,14 +76,24 @@ fn run_beside<'s, E, T: Threads + Wait + Sync, G: Gate>(
     ensures kept { AreKept (λ d. shown d) (λ d. faults d) displays.old.items displays.new.items
         (λ d. d.vtable) }
 {
-    let out = start_each(scope, lent, seats)?;
-    let asked = start_probes(scope, lent, published, probes)?;
+    let Ok(out) = start_each(scope, lent, seats) else {
+        drop(compositor);
+        return Err(NoMemory);
+    };
+    let Ok(asked) = start_probes(scope, lent, published, probes) else {
+        drop(compositor);
+        return Err(NoMemory);
+    };
     let directed = direct(lent, compositor, film, displays, published);
     if !put_back(lent, seats, out) {
         return Err(NoMemory);
     }
     let compositor = directed?;
-    film.probes = meet_each(lent, published, &mut film.last, asked)?;
+    let Ok(answers) = meet_each(lent, published, &mut film.last, asked) else {
+        drop(compositor);
+        return Err(NoMemory);
+    };
+    film.probes = answers;
     Ok(compositor)
 }
 
@@ -178,10 +188,14 @@ fn run_in<'s, E, T: Threads + Wait + Sync, G: Gate>(
                 film,
             }),
         },
-        Err(NoMemory) => Raced {
-            displays,
-            ended: Err(NoMemory),
-        },
+        Err(NoMemory) => {
+            drop(seats);
+            drop(film);
+            Raced {
+                displays,
+                ended: Err(NoMemory),
+            }
+        }
     }
 }
 

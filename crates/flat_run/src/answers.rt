@@ -256,7 +256,11 @@ fn answer_text<T: Threads + Wait + Sync, G: Gate>(
     pointers_rise();
     extra_laws();
     match read_text(alloc, form, bytes) {
-        Ok(reading) => answer_reading(rt, alloc, form, &reading, displays, gate),
+        Ok(reading) => {
+            let answer = answer_reading(rt, alloc, form, &reading, displays, gate);
+            drop(reading);
+            answer
+        }
         Err(ScriptError::Fault(fault)) => refusal(alloc, fault),
         Err(ScriptError::Memory) => Err(NoMemory),
     }

@@ -106,6 +106,7 @@ fn summed(
     let played = play_script(alloc, script, Keeping::Last, displays)?;
     let journal = played.board.journal();
     let totals = totals_of(frames, &script.setup, journal, played.kept.last());
+    played.let_go();
     summary(alloc, totals)
 }
 
@@ -124,6 +125,26 @@ fn load_script(alloc: Global, frames: u32) -> Result<Script, NoMemory>
     }
 }
 
+/// The summary of a run of the load of so many frames.
+fn load_summary(
+    alloc: Global,
+    frames: u32,
+    displays: &mut Vec<Box<dyn Display>>,
+) -> Result<Vec<u8>, NoMemory>
+    requires first { 1 ≤ frames }
+    requires last { frames ≤ LOAD_FRAMES_MAX }
+    requires few { length displays.old.items < 2 ^ 32 }
+    ensures told { IfOk result (λ text. IsTold (λ d. shown d) (λ d. faults d)
+        displays.old.items displays.new.items (Stress frames) (load_text frames) text.items) }
+    ensures kept { AreKept (λ d. shown d) (λ d. faults d) displays.old.items displays.new.items
+        (λ d. d.vtable) }
+{
+    let script = load_script(alloc, frames)?;
+    let text = summed(alloc, frames, &script, displays);
+    drop(script);
+    text
+}
+
 /// Plays the load of so many frames.
 pub fn stress(
     alloc: Global,
@@ -139,8 +160,7 @@ pub fn stress(
     ensures kept { AreKept (λ d. shown d) (λ d. faults d) displays.old.items displays.new.items
         (λ d. d.vtable) }
 {
-    let script = load_script(alloc, frames)?;
-    let text = summed(alloc, frames, &script, displays)?;
+    let text = load_summary(alloc, frames, displays)?;
     Ok(Answer {
         status: DONE,
         text: Pieces::one(alloc, text)?,

@@ -25,7 +25,7 @@ use flat_base::{Items, NoMemory};
 use flat_core::shown_states_fit;
 use flat_focus::{focus_laws, print_focus};
 use flat_places::Script;
-use flat_play::{Keeping, Played};
+use flat_play::{Keeping, Played, let_go};
 use flat_pointer::{Touch, pointer_laws, print_pointers};
 use flat_report::{Pieces, handed_is_report, print_report};
 use flat_rules::items_are_drawable;
@@ -68,7 +68,7 @@ fn report_of(alloc: Global, script: &Script, played: Played) -> Result<Pieces, N
     let frames = kept.into_texts();
     let lost = set.lost();
     let answered = probes.as_slice();
-    print_report(
+    let text = print_report(
         alloc,
         script,
         board.journal(),
@@ -76,7 +76,9 @@ fn report_of(alloc: Global, script: &Script, played: Played) -> Result<Pieces, N
         lost,
         &answers,
         answered,
-    )
+    );
+    let_go(board);
+    text
 }
 
 /// The picture of the last frame of a run.
@@ -110,8 +112,11 @@ fn finished_of(
         (λ r. r.1 ≡ map without_items (finished script.now.setup played.board.history)) }
     ensures legal { Legal played.board.setup played.board.history }
 {
-    let dones = finish_lines(alloc, played.board.journal().entries.as_slice())?;
-    let frames = played.kept.into_trees().into_frames()?;
+    let Ok(dones) = finish_lines(alloc, played.board.journal().entries.as_slice()) else {
+        played.let_go();
+        return Err(NoMemory);
+    };
+    let frames = played.into_kept().into_trees().into_frames()?;
     Ok((dones, frames))
 }
 
@@ -173,7 +178,7 @@ fn damages_of(script: &Script, played: Played) -> Result<Vec<u8>, NoMemory>
     ensures { IfOk result
         (λ text. IsDamageText (finished script.now.setup played.board.history) text.items) }
 {
-    played.kept.into_damages().text()
+    played.into_kept().into_damages().text()
 }
 
 /// What a form writes of a run in place of its report.
@@ -198,7 +203,11 @@ fn picture_or_lines<T: Threads + Sync>(
 {
     match form {
         Form::Play | Form::Race | Form::Stress(_) => unreachable!(),
-        Form::Render => last_picture(rt, alloc, &reading.script, &played),
+        Form::Render => {
+            let text = last_picture(rt, alloc, &reading.script, &played);
+            played.let_go();
+            text
+        }
         Form::Damage => damages_of(&reading.script, played),
         Form::Focus => focus_of(alloc, reading, played),
         Form::Pointer => pointers_of(alloc, reading, played, touches),

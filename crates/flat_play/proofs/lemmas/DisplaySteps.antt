@@ -5,7 +5,6 @@ use Rattle.flat_base.specs.declared.ids.Actor.TheVariants.{Display}
 use Rattle.flat_base.specs.declared.ids.FenceNo.{FenceNo}
 use Rattle.flat_base.specs.declared.ids.SessionNo.{SessionNo}
 use Rattle.flat_base.specs.declared.ids.FrameNo.{FrameNo}
-use Rattle.flat_scene.specs.declared.frames.FrameOut.{FrameOut}
 use Rattle.flat_scene.specs.declared.frames.Hit as point
 use Rattle.flat_scene.specs.declared.frames.SessionSet.{SessionSet}
 use Rattle.flat_scene.specs.declared.journal.Entry.{Entry}

@@ -1,18 +1,16 @@
 use Rattle.std.proofs.Common.{rules, ◌≡◌, ℕ, List, true, [], ◌∷◌, ◌++◌, refl, ap, sym, ◌∙◌, subst}
 use Rattle.flat_base.specs.declared.ids.Actor.TheVariants.{Display}
-use Rattle.flat_core.specs.Machines.{MayLook}
-use Rattle.flat_rules.specs.Legal.{is_fence, names_declared}
-use Rattle.flat_rules.specs.Owned.{is_played_display}
-use Rattle.flat_scene.specs.declared.journal.Kind.TheVariants.{Begin, Dpr, Hit, Signal, Wait}
+use Rattle.flat_rules.specs.Legal.{names_declared, Legal}
+use Rattle.flat_scene.specs.declared.journal.Kind.TheVariants.{Begin, Hit}
 use Rattle.flat_scene.specs.declared.journal.Reply.TheVariants.{Done}
 use Rattle.flat_scene.specs.declared.script.Body.TheVariants as body
-use Rattle.flat_scene.specs.declared.script.DisplayLine.{DisplayLine}
 use Rattle.flat_scene.specs.declared.script.DisplayLine.TheVariants as display
 use Rattle.flat_scene.specs.declared.script.ScriptLine.{ScriptLine}
 use Rattle.flat_scene.specs.declared.setup.Setup.{Setup}
 use Rattle.flat_scene.specs.declared.journal.Entry.{Entry}
 use Rattle.flat_scene.specs.Frames.{ratio}
 use Rattle.flat_scene.specs.History.{history_of}
+use Rattle.flat_scene.specs.Interleave.{entry_of_display}
 use Rattle.flat_scene.specs.Setups.{at_ratio}
 use Rattle.flat_rules.specs.Ends.{to_begin}
 use Rattle.flat_topology.specs.Hits.{hit_list}
@@ -33,12 +31,15 @@ use Rattle.flat_play.proofs.lemmas.Starting.{few_sessions}
 use Rattle.flat_play.proofs.lemmas.Steps.{At, at_place}
 use Rattle.flat_actors.specs.declared.hand.Hand.{Hand}
 use Rattle.flat_actors.specs.declared.hand.Hand.TheVariants.{Idle, Open}
-use Rattle.flat_actors.specs.Directing.{HandStands, hand_seat}
+use Rattle.flat_actors.specs.Directing.{EntersAlone, HandStands, hand_seat}
 use Rattle.flat_actors.specs.Publishing.{FinishesOne}
 use Rattle.flat_actors.proofs.Finishing.{finishes_then}
 use Rattle.flat_actors.proofs.Joined.{keeps-joined}
-use Rattle.flat_actors.proofs.HandSteps.{begins_idle, finished_still, finished_then, finishes_open, frames_few, looked_beside, looked_finishes, publishes_still, publishes_then, shown_as, hand_begins, hand_finishes, hand_hits, hand_looks, hand_room, hand_scales, hand_signals, hand_waits, time_fits, wait_fits}
+use Rattle.flat_actors.proofs.HandSteps.{begins_idle, finished_still, finished_then, finishes_open, frames_few, looked_beside, looked_finishes, publishes_still, publishes_then, shown_as, hand_alone, hand_begins, hand_finishes, hand_hits, hand_looks, hand_room, time_fits}
+use Rattle.flat_play.specs.Playing.{is_alone}
+use Rattle.flat_play.proofs.lemmas.Alone.{ends_none}
 use Rattle.flat_actors.proofs.Held.{looked_there}
+use Rattle.flat_actors.proofs.LinesAlone.{alone_fits}
 use Rattle.flat_actors.proofs.director.direct_line.Goals as goal
 
 pub into_seat-requires : goal.into_seat-requires
@@ -120,81 +121,6 @@ finish-requires-clause-few g c κs within =
     let held : HandStands script view c.args.place (Open c.into_frame-frame.result) c.args.film.now = subst (λ (h : Hand). HandStands script view c.args.place h c.args.film.now) (sym c.into_frame-frame.ensures) c.requires.stands in
     frames_few script view c.args.place c.journals_keep_seats.ensures.seats c.requires.playable c.into_frame-frame.result.display held.seat
 
-pub signal-reply-requires-clause-room : goal.signal-reply-requires-clause-room
-signal-reply-requires-clause-room g c =
-    let script = c.args.lent.now.script.now in
-    let view = c.args.lent.now.stage.now in
-    let x : ScriptLine = record { number = c.args.number; actor = Display; body = body.Display c.args.text } in
-    let at : At script c.args.place x = at_place script c.args.place x c.requires.playable c.requires.line in
-    hand_room script view c.args.place x at refl c.requires.of (hand_seat c.args.hand) c.requires.stands.seat
-
-pub dpr-reply-requires-clause-room : goal.dpr-reply-requires-clause-room
-dpr-reply-requires-clause-room g c =
-    let script = c.args.lent.now.script.now in
-    let view = c.args.lent.now.stage.now in
-    let x : ScriptLine = record { number = c.args.number; actor = Display; body = body.Display c.args.text } in
-    let at : At script c.args.place x = at_place script c.args.place x c.requires.playable c.requires.line in
-    hand_room script view c.args.place x at refl c.requires.of (hand_seat c.args.hand) c.requires.stands.seat
-
-pub signal-reply-requires-clause-named : goal.signal-reply-requires-clause-named
-signal-reply-requires-clause-named g c =
-    let script = c.args.lent.now.script.now in
-    let view = c.args.lent.now.stage.now in
-    let x : ScriptLine = record { number = c.args.number; actor = Display; body = body.Display c.args.text } in
-    let at : At script c.args.place x = at_place script c.args.place x c.requires.playable c.requires.line in
-    let D : DisplayLine → Type 0 = λ t. is_played_display script.setup t ≡ true in
-    let F : Setup → Type 0 = λ s. is_fence s c.in-Signal.f ≡ true in
-    subst F (sym (ap setup_of c.requires.stands.seat.own ∙ c.requires.of.setup)) (subst D c.in-Signal.is at.played)
-
-pub dpr-reply-requires-clause-named : goal.dpr-reply-requires-clause-named
-dpr-reply-requires-clause-named g c =
-    let script = c.args.lent.now.script.now in
-    let view = c.args.lent.now.stage.now in
-    let x : ScriptLine = record { number = c.args.number; actor = Display; body = body.Display c.args.text } in
-    let at : At script c.args.place x = at_place script c.args.place x c.requires.playable c.requires.line in
-    let D : DisplayLine → Type 0 = λ t. is_played_display script.setup t ≡ true in
-    subst D c.in-Dpr.is at.played
-
-pub look_again-requires-clause-may : goal.look_again-requires-clause-may
-look_again-requires-clause-may g c κs within =
-    let script = c.args.lent.now.script.now in
-    let view = c.args.lent.now.stage.now in
-    let x : ScriptLine = record { number = c.args.number; actor = Display; body = body.Display c.args.text } in
-    let at : At script c.args.place x = at_place script c.args.place x c.requires.playable c.requires.line in
-    let D : DisplayLine → Type 0 = λ t. is_played_display script.setup t ≡ true in
-    let M : Setup → Type 0 = λ s. MayLook s Display c.in-Wait.c in
-    let fits = wait_fits script.setup c.in-Wait.c (subst D c.in-Wait.is at.played) in
-    subst M (sym c.requires.of.setup) (record { acts = fits.0; named = fits.1 })
-
-pub wait-reply-requires-clause-room : goal.wait-reply-requires-clause-room
-wait-reply-requires-clause-room g c =
-    let script = c.args.lent.now.script.now in
-    let view = c.args.lent.now.stage.now in
-    let x : ScriptLine = record { number = c.args.number; actor = Display; body = body.Display c.args.text } in
-    let at : At script c.args.place x = at_place script c.args.place x c.requires.playable c.requires.line in
-    let looked = hand_looks script view c.args.place c.args.hand c.look_again.new.hand c.args.film.now (looked_there _ _ _ _ c.requires.of.setup c.look_again.ensures.looked) c.requires.stands in
-    hand_room script view c.args.place x at refl c.requires.of (hand_seat c.look_again.new.hand) looked.seat
-
-pub wait-reply-requires-clause-acts : goal.wait-reply-requires-clause-acts
-wait-reply-requires-clause-acts g c =
-    let script = c.args.lent.now.script.now in
-    let view = c.args.lent.now.stage.now in
-    let x : ScriptLine = record { number = c.args.number; actor = Display; body = body.Display c.args.text } in
-    let at : At script c.args.place x = at_place script c.args.place x c.requires.playable c.requires.line in
-    let D : DisplayLine → Type 0 = λ t. is_played_display script.setup t ≡ true in
-    (wait_fits script.setup c.in-Wait.c (subst D c.in-Wait.is at.played)).0
-
-pub wait-reply-requires-clause-named : goal.wait-reply-requires-clause-named
-wait-reply-requires-clause-named g c =
-    let script = c.args.lent.now.script.now in
-    let view = c.args.lent.now.stage.now in
-    let x : ScriptLine = record { number = c.args.number; actor = Display; body = body.Display c.args.text } in
-    let at : At script c.args.place x = at_place script c.args.place x c.requires.playable c.requires.line in
-    let D : DisplayLine → Type 0 = λ t. is_played_display script.setup t ≡ true in
-    let looked = hand_looks script view c.args.place c.args.hand c.look_again.new.hand c.args.film.now (looked_there _ _ _ _ c.requires.of.setup c.look_again.ensures.looked) c.requires.stands in
-    let N : Setup → Type 0 = λ s. names_declared s (Wait c.in-Wait.c) ≡ true in
-    subst N (sym (ap setup_of looked.seat.own ∙ c.requires.of.setup)) (wait_fits script.setup c.in-Wait.c (subst D c.in-Wait.is at.played)).1
-
 pub hit-requires-clause-room : goal.hit-requires-clause-room
 hit-requires-clause-room g c κs within =
     let script = c.args.lent.now.script.now in
@@ -236,34 +162,6 @@ returns-in_ok-seat-in-Done-clause-stands g c =
     hand_finishes script view c.args.place x at refl c.requires.of is c.into_frame-frame.result c.in_ok-seat-in-Done.seat c.args.film.now (record c.finish.new.film { last = then }) held c.in_ok-seat-in-Done.ensures.enters
     (keeps-joined script _ _ c.args.film.now c.take_joined-joined.new.self c.finish.new.film then keeps stays)
 
-pub returns-in-Signal-clause-stands : goal.returns-in-Signal-clause-stands
-returns-in-Signal-clause-stands g c =
-    let script = c.args.lent.now.script.now in
-    let view = c.args.lent.now.stage.now in
-    let x : ScriptLine = record { number = c.args.number; actor = Display; body = body.Display c.args.text } in
-    let at : At script c.args.place x = at_place script c.args.place x c.requires.playable c.requires.line in
-    let is : x.body ≡ body.Display (display.Signal c.in-Signal.f) = ap (λ t. body.Display t) c.in-Signal.is in
-    hand_signals script view c.args.place x at refl c.requires.of c.in-Signal.f c.signal-reply.result is c.args.hand c.signal-reply.new.self c.args.film.now c.requires.stands c.signal-reply.ensures.enters c.signal-reply.ensures.open c.signal-reply.ensures.kept
-
-pub returns-in-Dpr-clause-stands : goal.returns-in-Dpr-clause-stands
-returns-in-Dpr-clause-stands g c =
-    let script = c.args.lent.now.script.now in
-    let view = c.args.lent.now.stage.now in
-    let x : ScriptLine = record { number = c.args.number; actor = Display; body = body.Display c.args.text } in
-    let at : At script c.args.place x = at_place script c.args.place x c.requires.playable c.requires.line in
-    let is : x.body ≡ body.Display (display.Dpr c.in-Dpr.ratio) = ap (λ t. body.Display t) c.in-Dpr.is in
-    hand_scales script view c.args.place x at refl c.requires.of c.in-Dpr.ratio c.dpr-reply.result is c.args.hand c.dpr-reply.new.self c.args.film.now c.requires.stands c.dpr-reply.ensures.enters c.dpr-reply.ensures.open c.dpr-reply.ensures.kept
-
-pub returns-in-Wait-clause-stands : goal.returns-in-Wait-clause-stands
-returns-in-Wait-clause-stands g c =
-    let script = c.args.lent.now.script.now in
-    let view = c.args.lent.now.stage.now in
-    let x : ScriptLine = record { number = c.args.number; actor = Display; body = body.Display c.args.text } in
-    let at : At script c.args.place x = at_place script c.args.place x c.requires.playable c.requires.line in
-    let is : x.body ≡ body.Display (display.Wait c.in-Wait.c) = ap (λ t. body.Display t) c.in-Wait.is in
-    let looked = hand_looks script view c.args.place c.args.hand c.look_again.new.hand c.args.film.now (looked_there _ _ _ _ c.requires.of.setup c.look_again.ensures.looked) c.requires.stands in
-    hand_waits script view c.args.place x at refl c.requires.of c.in-Wait.c c.wait-reply.result is c.look_again.new.hand c.wait-reply.new.self c.args.film.now looked c.wait-reply.ensures.enters c.wait-reply.ensures.open c.wait-reply.ensures.kept
-
 pub returns-in_ok-hit-in-Hit-clause-stands : goal.returns-in_ok-hit-in-Hit-clause-stands
 returns-in_ok-hit-in-Hit-clause-stands g c =
     let script = c.args.lent.now.script.now in
@@ -298,33 +196,6 @@ returns-in_ok-seat-in-Done-clause-shown g c =
     let all = finished_then script view c.args.place x at refl c.requires.of c.into_frame-frame.result.display c.in_ok-seat-in-Done.seat held.seat c.in_ok-seat-in-Done.ensures.enters in
     shown_as _ _ _ _ _ _ _ _ _ _ (ap (λ (h : Hand). finished script.setup (history_of (hand_seat h).seen)) (sym c.into_frame-frame.ensures)) all c.in_ok-seat-in-Done.ensures.shown
 
-pub returns-in-Signal-clause-shown : goal.returns-in-Signal-clause-shown
-returns-in-Signal-clause-shown g c =
-    let script = c.args.lent.now.script.now in
-    let view = c.args.lent.now.stage.now in
-    let x : ScriptLine = record { number = c.args.number; actor = Display; body = body.Display c.args.text } in
-    let at : At script c.args.place x = at_place script c.args.place x c.requires.playable c.requires.line in
-    IsShown.shows_none (finished_still script view c.args.place x at refl c.requires.of (Signal c.in-Signal.f) c.signal-reply.result (hand_seat c.args.hand) (hand_seat c.signal-reply.new.self) refl c.requires.stands.seat c.signal-reply.ensures.enters) refl refl
-
-pub returns-in-Dpr-clause-shown : goal.returns-in-Dpr-clause-shown
-returns-in-Dpr-clause-shown g c =
-    let script = c.args.lent.now.script.now in
-    let view = c.args.lent.now.stage.now in
-    let x : ScriptLine = record { number = c.args.number; actor = Display; body = body.Display c.args.text } in
-    let at : At script c.args.place x = at_place script c.args.place x c.requires.playable c.requires.line in
-    IsShown.shows_none (finished_still script view c.args.place x at refl c.requires.of (Dpr c.in-Dpr.ratio) c.dpr-reply.result (hand_seat c.args.hand) (hand_seat c.dpr-reply.new.self) refl c.requires.stands.seat c.dpr-reply.ensures.enters) refl refl
-
-pub returns-in-Wait-clause-shown : goal.returns-in-Wait-clause-shown
-returns-in-Wait-clause-shown g c =
-    let script = c.args.lent.now.script.now in
-    let view = c.args.lent.now.stage.now in
-    let x : ScriptLine = record { number = c.args.number; actor = Display; body = body.Display c.args.text } in
-    let at : At script c.args.place x = at_place script c.args.place x c.requires.playable c.requires.line in
-    let there = looked_there _ _ _ _ c.requires.of.setup c.look_again.ensures.looked in
-    let looked = hand_looks script view c.args.place c.args.hand c.look_again.new.hand c.args.film.now there c.requires.stands in
-    IsShown.shows_none (finished_still script view c.args.place x at refl c.requires.of (Wait c.in-Wait.c) c.wait-reply.result (hand_seat c.look_again.new.hand) (hand_seat c.wait-reply.new.self) refl looked.seat c.wait-reply.ensures.enters
-    ∙ looked_finishes script view c.args.place c.args.hand c.look_again.new.hand c.args.film.now there c.requires.stands) refl refl
-
 pub returns-in_ok-hit-in-Hit-clause-shown : goal.returns-in_ok-hit-in-Hit-clause-shown
 returns-in_ok-hit-in-Hit-clause-shown g c =
     let script = c.args.lent.now.script.now in
@@ -354,34 +225,6 @@ returns-in_ok-seat-in-Done-clause-finishes g c =
     subst (λ (h : Hand). FinishesOne script.setup (history_of (hand_seat h).seen) (history_of c.in_ok-seat-in-Done.seat.seen)) c.into_frame-frame.ensures
     (publishes_then script view c.args.place x at refl c.requires.of c.into_frame-frame.result.display c.in_ok-seat-in-Done.seat held.seat c.in_ok-seat-in-Done.ensures.enters)
 
-pub returns-in-Signal-clause-finishes : goal.returns-in-Signal-clause-finishes
-returns-in-Signal-clause-finishes g c =
-    let script = c.args.lent.now.script.now in
-    let view = c.args.lent.now.stage.now in
-    let x : ScriptLine = record { number = c.args.number; actor = Display; body = body.Display c.args.text } in
-    let at : At script c.args.place x = at_place script c.args.place x c.requires.playable c.requires.line in
-    publishes_still script view c.args.place x at refl c.requires.of (Signal c.in-Signal.f) c.signal-reply.result (hand_seat c.args.hand) (hand_seat c.signal-reply.new.self) refl c.requires.stands.seat c.signal-reply.ensures.enters
-
-pub returns-in-Dpr-clause-finishes : goal.returns-in-Dpr-clause-finishes
-returns-in-Dpr-clause-finishes g c =
-    let script = c.args.lent.now.script.now in
-    let view = c.args.lent.now.stage.now in
-    let x : ScriptLine = record { number = c.args.number; actor = Display; body = body.Display c.args.text } in
-    let at : At script c.args.place x = at_place script c.args.place x c.requires.playable c.requires.line in
-    publishes_still script view c.args.place x at refl c.requires.of (Dpr c.in-Dpr.ratio) c.dpr-reply.result (hand_seat c.args.hand) (hand_seat c.dpr-reply.new.self) refl c.requires.stands.seat c.dpr-reply.ensures.enters
-
-pub returns-in-Wait-clause-finishes : goal.returns-in-Wait-clause-finishes
-returns-in-Wait-clause-finishes g c =
-    let script = c.args.lent.now.script.now in
-    let view = c.args.lent.now.stage.now in
-    let x : ScriptLine = record { number = c.args.number; actor = Display; body = body.Display c.args.text } in
-    let at : At script c.args.place x = at_place script c.args.place x c.requires.playable c.requires.line in
-    let there = looked_there _ _ _ _ c.requires.of.setup c.look_again.ensures.looked in
-    let looked = hand_looks script view c.args.place c.args.hand c.look_again.new.hand c.args.film.now there c.requires.stands in
-    finishes_then script.setup (history_of (hand_seat c.args.hand).seen) (history_of (hand_seat c.look_again.new.hand).seen) (history_of (hand_seat c.wait-reply.new.self).seen)
-    (looked_beside script view c.args.place c.args.hand c.look_again.new.hand c.args.film.now there c.requires.stands)
-    (publishes_still script view c.args.place x at refl c.requires.of (Wait c.in-Wait.c) c.wait-reply.result (hand_seat c.look_again.new.hand) (hand_seat c.wait-reply.new.self) refl looked.seat c.wait-reply.ensures.enters)
-
 pub returns-in_ok-hit-in-Hit-clause-finishes : goal.returns-in_ok-hit-in-Hit-clause-finishes
 returns-in_ok-hit-in-Hit-clause-finishes g c =
     let script = c.args.lent.now.script.now in
@@ -390,3 +233,76 @@ returns-in_ok-hit-in-Hit-clause-finishes g c =
     let at : At script c.args.place x = at_place script c.args.place x c.requires.playable c.requires.line in
     let entered : DisplayEnters c.args.number (Hit c.in-Hit.x c.in-Hit.y) Done (hand_seat c.args.hand) (hand_seat c.hit.new.hand) = search rules in
     publishes_still script view c.args.place x at refl c.requires.of (Hit c.in-Hit.x c.in-Hit.y) Done (hand_seat c.args.hand) (hand_seat c.hit.new.hand) refl c.requires.stands.seat entered
+
+pub enter_alone-requires-clause-room : goal.enter_alone-requires-clause-room
+enter_alone-requires-clause-room g c κs within =
+    let script = c.args.lent.now.script.now in
+    let view = c.args.lent.now.stage.now in
+    let x : ScriptLine = record { number = c.args.number; actor = Display; body = body.Display c.args.text } in
+    let at : At script c.args.place x = at_place script c.args.place x c.requires.playable c.requires.line in
+    hand_room script view c.args.place x at refl c.requires.of (hand_seat c.args.hand) c.requires.stands.seat
+
+pub enter_alone-requires-clause-acts : goal.enter_alone-requires-clause-acts
+enter_alone-requires-clause-acts g c κs within =
+    let script = c.args.lent.now.script.now in
+    let view = c.args.lent.now.stage.now in
+    let x : ScriptLine = record { number = c.args.number; actor = Display; body = body.Display c.args.text } in
+    let at : At script c.args.place x = at_place script c.args.place x c.requires.playable c.requires.line in
+    let alone : is_alone c.args.text ≡ true = search rules in
+    let fits = alone_fits script.setup c.args.text alone at.played in
+    fits.0
+
+pub enter_alone-requires-clause-named : goal.enter_alone-requires-clause-named
+enter_alone-requires-clause-named g c κs within =
+    let script = c.args.lent.now.script.now in
+    let view = c.args.lent.now.stage.now in
+    let x : ScriptLine = record { number = c.args.number; actor = Display; body = body.Display c.args.text } in
+    let at : At script c.args.place x = at_place script c.args.place x c.requires.playable c.requires.line in
+    let alone : is_alone c.args.text ≡ true = search rules in
+    let fits = alone_fits script.setup c.args.text alone at.played in
+    let N : Setup → Type 0 = λ s. names_declared s (entry_of_display c.args.text) ≡ true in
+    subst N (sym c.requires.of.setup) fits.1
+
+pub enter_alone-requires-clause-legal : goal.enter_alone-requires-clause-legal
+enter_alone-requires-clause-legal g c κs within =
+    let L : Setup → Type 0 = λ s. Legal s (history_of (hand_seat c.args.hand).seen) in
+    subst L (sym c.requires.of.setup) c.requires.stands.seat.legal
+
+pub returns-in_default-clause-stands : goal.returns-in_default-clause-stands
+returns-in_default-clause-stands g c =
+    let script = c.args.lent.now.script.now in
+    let view = c.args.lent.now.stage.now in
+    let x : ScriptLine = record { number = c.args.number; actor = Display; body = body.Display c.args.text } in
+    let at : At script c.args.place x = at_place script c.args.place x c.requires.playable c.requires.line in
+    let alone : is_alone c.args.text ≡ true = search rules in
+    let e : EntersAlone (setup_of view) c.args.number c.args.text c.args.hand c.enter_alone.new.hand = c.enter_alone.ensures in
+    let there = looked_there _ _ _ _ c.requires.of.setup e.looks in
+    let looked = hand_looks script view c.args.place c.args.hand e.looked c.args.film.now there c.requires.stands in
+    hand_alone script view c.args.place x at refl c.requires.of c.args.text alone e.reply refl e.looked c.enter_alone.new.hand c.args.film.now looked e.enters e.opened e.kept
+
+pub returns-in_default-clause-shown : goal.returns-in_default-clause-shown
+returns-in_default-clause-shown g c =
+    let script = c.args.lent.now.script.now in
+    let view = c.args.lent.now.stage.now in
+    let x : ScriptLine = record { number = c.args.number; actor = Display; body = body.Display c.args.text } in
+    let at : At script c.args.place x = at_place script c.args.place x c.requires.playable c.requires.line in
+    let alone : is_alone c.args.text ≡ true = search rules in
+    let e : EntersAlone (setup_of view) c.args.number c.args.text c.args.hand c.enter_alone.new.hand = c.enter_alone.ensures in
+    let there = looked_there _ _ _ _ c.requires.of.setup e.looks in
+    let looked = hand_looks script view c.args.place c.args.hand e.looked c.args.film.now there c.requires.stands in
+    IsShown.shows_none (finished_still script view c.args.place x at refl c.requires.of (entry_of_display c.args.text) e.reply (hand_seat e.looked) (hand_seat c.enter_alone.new.hand) (ends_none c.args.text alone) looked.seat e.enters
+    ∙ looked_finishes script view c.args.place c.args.hand e.looked c.args.film.now there c.requires.stands) refl refl
+
+pub returns-in_default-clause-finishes : goal.returns-in_default-clause-finishes
+returns-in_default-clause-finishes g c =
+    let script = c.args.lent.now.script.now in
+    let view = c.args.lent.now.stage.now in
+    let x : ScriptLine = record { number = c.args.number; actor = Display; body = body.Display c.args.text } in
+    let at : At script c.args.place x = at_place script c.args.place x c.requires.playable c.requires.line in
+    let alone : is_alone c.args.text ≡ true = search rules in
+    let e : EntersAlone (setup_of view) c.args.number c.args.text c.args.hand c.enter_alone.new.hand = c.enter_alone.ensures in
+    let there = looked_there _ _ _ _ c.requires.of.setup e.looks in
+    let looked = hand_looks script view c.args.place c.args.hand e.looked c.args.film.now there c.requires.stands in
+    finishes_then script.setup (history_of (hand_seat c.args.hand).seen) (history_of (hand_seat e.looked).seen) (history_of (hand_seat c.enter_alone.new.hand).seen)
+    (looked_beside script view c.args.place c.args.hand e.looked c.args.film.now there c.requires.stands)
+    (publishes_still script view c.args.place x at refl c.requires.of (entry_of_display c.args.text) e.reply (hand_seat e.looked) (hand_seat c.enter_alone.new.hand) (ends_none c.args.text alone) looked.seat e.enters)

@@ -6,11 +6,11 @@ use Rattle.flat_race.proofs.Probed.{answered-all}
 use Rattle.flat_race.proofs.Settled.{last-published-is}
 use Rattle.flat_race.proofs.running.run_beside.Goals as goal
 
-pub returns-in_err-out-clause-kept : goal.returns-in_err-out-clause-kept
-returns-in_err-out-clause-kept g c = kept_none _ _ _ _
+pub returns-in_default-clause-kept : goal.returns-in_default-clause-kept
+returns-in_default-clause-kept g c = kept_none _ _ _ _
 
-pub returns-in_err-asked-clause-kept : goal.returns-in_err-asked-clause-kept
-returns-in_err-asked-clause-kept g c = kept_none _ _ _ _
+pub returns-in_default-start_probes-clause-kept : goal.returns-in_default-start_probes-clause-kept
+returns-in_default-start_probes-clause-kept g c = kept_none _ _ _ _
 
 pub meet_each-requires-clause-is : goal.meet_each-requires-clause-is
 meet_each-requires-clause-is g c = c.in_ok-compositor.ensures.film.answering.is_last
@@ -29,8 +29,8 @@ returns-clause-ended g c =
     let sent = c.direct-directed.new.published in
     record {
       directed = was.stands;
-      kept = record { keeps = was.film.keeps; answering = answers_stay script.setup history c.direct-directed.new.film.last c.direct-directed.new.film.answers was.film.answering c.meet_each.new.last c.in_ok-film.ensures.stays };
+      kept = record { keeps = was.film.keeps; answering = answers_stay script.setup history c.direct-directed.new.film.last c.direct-directed.new.film.answers was.film.answering c.meet_each.new.last c.in-Ok-meet_each.ensures.stays };
       own = search rules;
       back = search rules;
-      probed = answered-all script history sent (record { home = sent.home; frames = sent.frames }) c.in_ok-film.field-0.items refl was.published c.in_ok-film.ensures.answered;
+      probed = answered-all script history sent (record { home = sent.home; frames = sent.frames }) c.in-Ok-meet_each.answers.items refl was.published c.in-Ok-meet_each.ensures.answered;
     }

@@ -23,13 +23,13 @@ refused_result : {D E : Type 0} (shown : D → Option (List FrameOut)) (faults :
 refused_result shown faults ds form bytes fault read (Ok a) is_3 is = refused shown faults ds ds form bytes fault read a.status a.text is_3 is refl
 refused_result shown faults ds form bytes fault read (Err e) is_3 is = tt
 
-pub answer_reading-requires-clause-runnable : goal.answer_reading-requires-clause-runnable
-answer_reading-requires-clause-runnable g c κs within =
+pub answer_reading-answer-requires-clause-runnable : goal.answer_reading-answer-requires-clause-runnable
+answer_reading-answer-requires-clause-runnable g c κs within =
     runnable c.scripts_are_playable.ensures.playable c.rests_are_read.ensures.focus c.rests_are_read.ensures.pointers c.pointers_rise.ensures c.extra_laws.ensures.pointers_are_known
     c.args.form c.args.bytes.now c.in-Ok.reading c.in-Ok.ensures
 
 pub returns-in-Ok-clause-reply : goal.returns-in-Ok-clause-reply
-returns-in-Ok-clause-reply g c = c.answer_reading.ensures.reply c.args.bytes.now c.in-Ok.ensures
+returns-in-Ok-clause-reply g c = c.answer_reading-answer.ensures.reply c.args.bytes.now c.in-Ok.ensures
 
 pub returns-in-Err-Fault-clause-reply : goal.returns-in-Err-Fault-clause-reply
 returns-in-Err-Fault-clause-reply g c =

@@ -2,7 +2,6 @@ use Rattle.std.proofs.Common.{◌≡◌, ℕ, List, Option, sym, subst}
 use Rattle.flat_scene.specs.declared.frames.FrameOut.{FrameOut}
 use Rattle.flat_words.specs.declared.form.Form.{Form}
 use Rattle.flat_run.specs.Promise.{IsTold}
-use Rattle.flat_play.proofs.lemmas.Seen.{kept_none}
 use Rattle.flat_run.proofs.load.stress.Goals as goal
 
 -- the same text is told of the same run
@@ -11,6 +10,3 @@ told_same shown faults olds news form bytes text text' same told = subst (λ t. 
 
 pub returns-clause-told : goal.returns-clause-told
 returns-clause-told g c = told_same _ _ _ _ _ _ _ _ c.in_ok-one.ensures c.in_ok-text.ensures.told
-
-pub returns-in_err-script-clause-kept : goal.returns-in_err-script-clause-kept
-returns-in_err-script-clause-kept g c = kept_none _ _ _ _

@@ -1,19 +1,17 @@
 use Rattle.flat_play.specs.Last.{IsJoined, IsLast}
-use Rattle.flat_play.specs.Playing.{AsksPoint}
+use Rattle.flat_play.specs.Playing.{AsksPoint, is_alone}
+use Rattle.flat_play.proofs.lemmas.Alone.{may_alone, quiet_alone, ends_none, keeps_alone}
 use Rattle.flat_play.specs.Showing.{IsShown}
 use Rattle.std.proofs.Common.{rules, ◌≡◌, ℕ, ◌≤◌, ◌+◌, true, length, refl, sym, ap, ◌∙◌, subst, arith}
 use Rattle.flat_base.specs.declared.ids.Actor.TheVariants.{Display}
 use Rattle.flat_scene.specs.declared.script.Body.TheVariants as body
-use Rattle.flat_scene.specs.declared.script.DisplayLine.{DisplayLine}
 use Rattle.flat_scene.specs.declared.script.DisplayLine.TheVariants as display
 use Rattle.flat_scene.specs.declared.script.ScriptLine.{ScriptLine}
-use Rattle.flat_scene.specs.declared.journal.Kind.TheVariants.{Dpr, Signal, Wait}
 use Rattle.flat_scene.specs.declared.setup.Setup.{Setup}
 use Rattle.flat_base.specs.declared.ids.FrameNo.{FrameNo}
 use Rattle.flat_scene.specs.Setups.{at_ratio}
-use Rattle.flat_rules.specs.Legal.{is_fence}
 use Rattle.flat_rules.specs.Owned.{is_played_display}
-use Rattle.flat_play.proofs.lemmas.DisplaySteps.{display_share, begin_time_ok, done_ok, may_begin, may_finish, may_dpr, may_hit, may_signal_fence, may_wait_for}
+use Rattle.flat_play.proofs.lemmas.DisplaySteps.{display_share, begin_time_ok, done_ok, may_begin, may_finish, may_hit}
 use Rattle.flat_play.proofs.lemmas.PlaySteps.{begin_more, display_finishes, finish_more, beside_more, play_stays, point_more}
 use Rattle.flat_topology.specs.Changes.{AreSame}
 use Rattle.flat_topology.specs.Shown.{Shown}
@@ -52,35 +50,6 @@ finish-requires-clause-same g c =
     let S : Shown → Type 0 = λ last. AreSame c.args.self.now.changed last c.args.self.now.shown in
     subst S (sym (c.take_joined-joined.ensures.stays c.args.script.now.setup c.requires.stands.answers.is_last).reuse) c.requires.stands.same
 
-pub signal-requires : goal.signal-requires
-signal-requires g c =
-    let x : ScriptLine = record { number = c.args.number; actor = Display; body = body.Display c.args.text } in
-    let at : At c.args.script.now c.args.place x = at_place c.args.script.now c.args.place x c.requires.playable c.requires.line in
-    let P : DisplayLine → Type 0 = λ t. is_played_display c.args.script.now.setup t ≡ true in
-    let Q : Setup → Type 0 = λ s. is_fence s c.in-Signal.f ≡ true in
-    may_signal_fence c.args.self.now.board c.in-Signal.f
-    (display_share c.args.script.now c.args.place x at c.args.self.now.board c.requires.stands.shares refl c.requires.stands.spent)
-    (subst Q (sym c.requires.stands.setup) (subst P c.in-Signal.is at.played))
-
-pub dpr-requires : goal.dpr-requires
-dpr-requires g c =
-    let x : ScriptLine = record { number = c.args.number; actor = Display; body = body.Display c.args.text } in
-    let at : At c.args.script.now c.args.place x = at_place c.args.script.now c.args.place x c.requires.playable c.requires.line in
-    let P : DisplayLine → Type 0 = λ t. is_played_display c.args.script.now.setup t ≡ true in
-    may_dpr c.args.self.now.board c.in-Dpr.ratio
-    (display_share c.args.script.now c.args.place x at c.args.self.now.board c.requires.stands.shares refl c.requires.stands.spent)
-    (subst P c.in-Dpr.is at.played)
-
-pub wait-requires : goal.wait-requires
-wait-requires g c =
-    let x : ScriptLine = record { number = c.args.number; actor = Display; body = body.Display c.args.text } in
-    let at : At c.args.script.now c.args.place x = at_place c.args.script.now c.args.place x c.requires.playable c.requires.line in
-    let P : DisplayLine → Type 0 = λ t. is_played_display c.args.script.now.setup t ≡ true in
-    let Q : Setup → Type 0 = λ s. is_played_display s (display.Wait c.in-Wait.c) ≡ true in
-    may_wait_for c.args.self.now.board c.in-Wait.c
-    (display_share c.args.script.now c.args.place x at c.args.self.now.board c.requires.stands.shares refl c.requires.stands.spent)
-    (subst Q (sym c.requires.stands.setup) (subst P c.in-Wait.is at.played))
-
 pub hit-requires-clause-may : goal.hit-requires-clause-may
 hit-requires-clause-may g c =
     let x : ScriptLine = record { number = c.args.number; actor = Display; body = body.Display c.args.text } in
@@ -114,27 +83,6 @@ returns-in_ok-finish-in-Done-clause-stands g c =
     let joined = subst J (sym finishes.scaling) (c.take_joined-joined.ensures.joined script.setup last.reuse c.requires.stands.answers.is_last done.answers.is_last.count (subst S (sym finishes.showing) c.requires.stands.same)) in
     play_stays script (c.args.place + 1) c.finish.new.self then (joined-again script.setup last then done.answers.is_last refl refl refl joined) done
 
-pub returns-in-Signal-clause-stands : goal.returns-in-Signal-clause-stands
-returns-in-Signal-clause-stands g c =
-    let x : ScriptLine = record { number = c.args.number; actor = Display; body = body.Display c.args.text } in
-    let at : At c.args.script.now c.args.place x = at_place c.args.script.now c.args.place x c.requires.playable c.requires.line in
-    let is : x.body ≡ body.Display (display.Signal c.in-Signal.f) = ap (λ t. body.Display t) c.in-Signal.is in
-    beside_more c.args.script.now c.args.place x at c.args.self.now c.signal.new.self (display.Signal c.in-Signal.f) (Signal c.in-Signal.f) _ refl is refl refl (λ o t follows. refl) c.requires.stands c.signal.ensures
-
-pub returns-in-Dpr-clause-stands : goal.returns-in-Dpr-clause-stands
-returns-in-Dpr-clause-stands g c =
-    let x : ScriptLine = record { number = c.args.number; actor = Display; body = body.Display c.args.text } in
-    let at : At c.args.script.now c.args.place x = at_place c.args.script.now c.args.place x c.requires.playable c.requires.line in
-    let is : x.body ≡ body.Display (display.Dpr c.in-Dpr.ratio) = ap (λ t. body.Display t) c.in-Dpr.is in
-    beside_more c.args.script.now c.args.place x at c.args.self.now c.dpr.new.self (display.Dpr c.in-Dpr.ratio) (Dpr c.in-Dpr.ratio) _ refl is refl refl (λ o t follows. refl) c.requires.stands c.dpr.ensures
-
-pub returns-in-Wait-clause-stands : goal.returns-in-Wait-clause-stands
-returns-in-Wait-clause-stands g c =
-    let x : ScriptLine = record { number = c.args.number; actor = Display; body = body.Display c.args.text } in
-    let at : At c.args.script.now c.args.place x = at_place c.args.script.now c.args.place x c.requires.playable c.requires.line in
-    let is : x.body ≡ body.Display (display.Wait c.in-Wait.c) = ap (λ t. body.Display t) c.in-Wait.is in
-    beside_more c.args.script.now c.args.place x at c.args.self.now c.wait.new.self (display.Wait c.in-Wait.c) (Wait c.in-Wait.c) _ refl is refl refl (λ o t follows. refl) c.requires.stands c.wait.ensures
-
 pub returns-in_ok-hit-in-Hit-clause-stands : goal.returns-in_ok-hit-in-Hit-clause-stands
 returns-in_ok-hit-in-Hit-clause-stands g c =
     let x : ScriptLine = record { number = c.args.number; actor = Display; body = body.Display c.args.text } in
@@ -155,15 +103,6 @@ finish-requires-clause-few g c =
 pub returns-in-Begin-clause-goes_on : goal.returns-in-Begin-clause-goes_on
 returns-in-Begin-clause-goes_on g c = entered-on _ _ _ _ _ _ _ c.begin.ensures.board
 
-pub returns-in-Signal-clause-goes_on : goal.returns-in-Signal-clause-goes_on
-returns-in-Signal-clause-goes_on g c = entered-on _ _ _ _ _ _ _ c.signal.ensures.board
-
-pub returns-in-Dpr-clause-goes_on : goal.returns-in-Dpr-clause-goes_on
-returns-in-Dpr-clause-goes_on g c = entered-on _ _ _ _ _ _ _ c.dpr.ensures.board
-
-pub returns-in-Wait-clause-goes_on : goal.returns-in-Wait-clause-goes_on
-returns-in-Wait-clause-goes_on g c = entered-on _ _ _ _ _ _ _ c.wait.ensures.board
-
 pub returns-in_ok-finish-in-Done-clause-goes_on : goal.returns-in_ok-finish-in-Done-clause-goes_on
 returns-in_ok-finish-in-Done-clause-goes_on g c = entered-on _ _ _ _ _ _ _ c.in_ok-finish-in-Done.ensures.finishes.board
 
@@ -176,19 +115,32 @@ pub returns-in-Begin-clause-shows : goal.returns-in-Begin-clause-shows
 returns-in-Begin-clause-shows g c =
     IsShown.shows_none (display_finishes c.args.script.now.setup c.args.self.now.board c.begin.new.self.board _ _ _ refl c.begin.ensures.board) refl refl
 
-pub returns-in-Signal-clause-shows : goal.returns-in-Signal-clause-shows
-returns-in-Signal-clause-shows g c =
-    IsShown.shows_none (display_finishes c.args.script.now.setup c.args.self.now.board c.signal.new.self.board _ _ _ refl c.signal.ensures.board) refl refl
-
-pub returns-in-Dpr-clause-shows : goal.returns-in-Dpr-clause-shows
-returns-in-Dpr-clause-shows g c =
-    IsShown.shows_none (display_finishes c.args.script.now.setup c.args.self.now.board c.dpr.new.self.board _ _ _ refl c.dpr.ensures.board) refl refl
-
-pub returns-in-Wait-clause-shows : goal.returns-in-Wait-clause-shows
-returns-in-Wait-clause-shows g c =
-    IsShown.shows_none (display_finishes c.args.script.now.setup c.args.self.now.board c.wait.new.self.board _ _ _ refl c.wait.ensures.board) refl refl
-
 pub returns-in_ok-hit-in-Hit-clause-shows : goal.returns-in_ok-hit-in-Hit-clause-shows
 returns-in_ok-hit-in-Hit-clause-shows g c =
     let asks : AsksPoint c.args.self.now c.hit.new.self c.args.number c.in-Hit.x c.in-Hit.y = search rules in
     IsShown.shows_none (display_finishes c.args.script.now.setup c.args.self.now.board c.hit.new.self.board _ _ _ refl asks.board) refl refl
+
+pub enter_alone-requires-clause-may : goal.enter_alone-requires-clause-may
+enter_alone-requires-clause-may g c =
+    let x : ScriptLine = record { number = c.args.number; actor = Display; body = body.Display c.args.text } in
+    let at : At c.args.script.now c.args.place x = at_place c.args.script.now c.args.place x c.requires.playable c.requires.line in
+    let alone : is_alone c.args.text ≡ true = search rules in
+    let P : Setup → Type 0 = λ s. is_played_display s c.args.text ≡ true in
+    may_alone c.args.self.now.board c.args.text alone
+    (display_share c.args.script.now c.args.place x at c.args.self.now.board c.requires.stands.shares refl c.requires.stands.spent)
+    (subst P (sym c.requires.stands.setup) at.played)
+
+pub returns-in_default-clause-stands : goal.returns-in_default-clause-stands
+returns-in_default-clause-stands g c =
+    let x : ScriptLine = record { number = c.args.number; actor = Display; body = body.Display c.args.text } in
+    let at : At c.args.script.now c.args.place x = at_place c.args.script.now c.args.place x c.requires.playable c.requires.line in
+    let alone : is_alone c.args.text ≡ true = search rules in
+    beside_more c.args.script.now c.args.place x at c.args.self.now c.enter_alone.new.self c.args.text _ _ refl refl refl (quiet_alone c.args.text alone) (keeps_alone c.args.text alone) c.requires.stands c.enter_alone.ensures
+
+pub returns-in_default-clause-goes_on : goal.returns-in_default-clause-goes_on
+returns-in_default-clause-goes_on g c = entered-on _ _ _ _ _ _ _ c.enter_alone.ensures.board
+
+pub returns-in_default-clause-shows : goal.returns-in_default-clause-shows
+returns-in_default-clause-shows g c =
+    let alone : is_alone c.args.text ≡ true = search rules in
+    IsShown.shows_none (display_finishes c.args.script.now.setup c.args.self.now.board c.enter_alone.new.self.board _ _ _ (ends_none c.args.text alone) c.enter_alone.ensures.board) refl refl

@@ -9,7 +9,7 @@ use Rattle.flat_actors.specs.Publishing.{hits_of}
 use Rattle.flat_race.specs.Settling.{settled}
 use Rattle.flat_actors.proofs.lemmas.SeenFrames.{seen-more, hits-later}
 use Rattle.flat_race.proofs.Settled.{settled-answers}
-use Rattle.flat_race.proofs.probe_threads.meet.Goals as goal
+use Rattle.flat_race.proofs.probe_threads.hold.Goals as goal
 
 pub returns-clause-answered : goal.returns-clause-answered
 returns-clause-answered g c = λ lines answered. (
@@ -19,11 +19,11 @@ returns-clause-answered g c = λ lines answered. (
     let grows = prefix_trans _ _ _ c.meet.ensures.grows c.frame.ensures.grows in
     let meets = prefix_trans _ _ _ c.in_ok-meet.ensures.meets c.frame.ensures.grows in
     let last = c.requires.last in
-    let saw = seen-more c.args.back.probe.frames seen grows rise lines c.args.back.answers (answered c.if-not-is_whole.false) in
+    let saw = seen-more c.args.back.now.probe.frames seen grows rise lines c.args.back.now.answers (answered c.if-not-back.false) in
     let agree : (n : ℕ) → n ≤ last_number published → (x y : ℤ) → hits_of seen n x y ≡ hits_of published n x y = λ n low x y. sym (hits-later published seen n x y meets rise low) in
     let shown = hit_list (at_ratio c.args.last.now.ratio c.args.lent.now.script.now.setup) c.args.last.now.reuse in
-    let now : c.settle.new.answers ≡ map (settled (last_number published) shown) c.args.back.answers =
-    c.in_ok-settle.ensures.answers ∙ ap (λ (n : ℕ). map (settled n shown) c.args.back.answers) last.number in
+    let now : c.settle.new.answers ≡ map (settled (last_number published) shown) c.args.back.now.answers =
+    c.in_ok-settle.ensures.answers ∙ ap (λ (n : ℕ). map (settled n shown) c.args.back.now.answers) last.number in
     let P : List ProbeAnswer → Type 0 = AreAnsweredBy (hits_of published) (last_number published) lines in
-    subst P (sym now) (settled-answers (hits_of seen) (hits_of published) (last_number published) shown agree last.hits (last_number seen) lines c.args.back.answers saw)
+    subst P (sym now) (settled-answers (hits_of seen) (hits_of published) (last_number published) shown agree last.hits (last_number seen) lines c.args.back.now.answers saw)
     )
