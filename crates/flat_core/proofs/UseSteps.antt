@@ -88,9 +88,6 @@ module _ (setup : Setup) (h : List Entry) (s : SessionNo) (p : PairNo) where
 
 -- ---- what the rules ask of its entry
 
-pub opened-close : (h : List Entry) (s : SessionNo) (why : Option Reason) → goes_on h (Close why) (Session s) ≡ true → is_closed s h ≡ false
-opened-close h s why may = not-true (is_closed s h) (and-right _ _ may)
-
 -- its session is open
 pub opened-viewport : (h : List Entry) (s : SessionNo) (p : PairNo) (props : ViewportProps) → goes_on h (Viewport p props) (Session s) ≡ true → is_closed s h ≡ false
 opened-viewport h s p props may = not-true (is_closed s h) (and-right _ _ may)

@@ -195,10 +195,7 @@ fn new_sets(alloc: Global, setup: &Setup) -> Result<(FenceSet, EndSet), NoMemory
 }
 
 /// What is kept of sessions that made no entry.
-fn new_sessions(
-    alloc: Global,
-    n: u32,
-) -> Result<(Vec<SessionState>, Vec<Viewports>), NoMemory>
+fn new_sessions(alloc: Global, n: u32) -> Result<(Vec<SessionState>, Vec<Viewports>), NoMemory>
     ensures count { IfOk result (λ new. length new.0.items ≡ n) }
     ensures new { IfOk result (λ new. All IsNew new.0.items) }
     ensures ends { IfOk result (λ new. length new.1.items ≡ n) }

@@ -1,12 +1,12 @@
 -- A text with extra lines: its script and the values of those lines, or its fault.
-use Rattle.std.specs.Prelude.{ℕ, nat_lt, if◌then◌else◌, List, length, Result, Ok, Err}
+use Rattle.std.specs.Prelude.{◌≡◌, ℕ, ◌<◌, nat_lt, if◌then◌else◌, List, length, Result, Ok, Err}
 use Rattle.flat_base.specs.declared.limits.TheConstants.{SCRIPT_BYTES_MAX}
 use Rattle.flat_places.specs.declared.kinds.FaultKind.TheVariants.{TooLong}
-use Rattle.flat_places.specs.declared.script.Script.{Script}
+use Rattle.flat_script.specs.declared.script.ScriptError.{ScriptError}
+use Rattle.flat_script.specs.declared.script.ScriptError.TheVariants.{Fault, Memory}
 use Rattle.flat_script.specs.declared.script.ScriptFault.{ScriptFault}
 use Rattle.flat_script.specs.Grammar.{text_read}
 use Rattle.flat_extra.specs.declared.split.ExtraLine.{ExtraLine}
-use Rattle.flat_extra.specs.declared.split.ExtraSet.{ExtraSet}
 use Rattle.flat_extra.specs.declared.split.ExtraSet.TheVariants.{Focus, Pointer}
 use Rattle.flat_extra.specs.declared.whole.WithFocus.{WithFocus}
 use Rattle.flat_extra.specs.declared.whole.WithPointers.{WithPointers}
@@ -23,14 +23,21 @@ and_then (Err fault) next = Err fault
 abbrev pub unless_long : {A : Type 0} → List ℕ → Result A ScriptFault → Result A ScriptFault
 unless_long bytes read = if nat_lt SCRIPT_BYTES_MAX (length bytes) then Err (record { line = 0; kind = TooLong }) else read
 
--- the script of a text without its extra lines, and then what is read of these
-abbrev pub read_with_extra : {A : Type 0} → ExtraSet → (Script → List ExtraLine → Result A ScriptFault) → List ℕ → Result A ScriptFault
-read_with_extra set next bytes = unless_long bytes (and_then (text_read (rest_of set bytes)) (λ script. next script (extra_of set bytes)))
+-- an error says that a text is too long, unless memory ran out
+abbrev pub IsLong : ScriptError → List ℕ → Type 0
+IsLong Memory bytes = Unit {0}
+IsLong (Fault fault) bytes = (SCRIPT_BYTES_MAX < length bytes) × (fault ≡ record { line = 0; kind = TooLong })
 
--- ---- both sets
+-- ---- both sets: the script of a text without its extra lines, and then what is read of these
+
+abbrev pub focus_of : List ℕ → List ExtraLine → Result WithFocus ScriptFault
+focus_of rest extra = and_then (text_read rest) (λ script. and_then (all_read (focus_line script) 0 extra) (λ lines. Ok (record { script = script; lines = lines })))
 
 abbrev pub focus_read : List ℕ → Result WithFocus ScriptFault
-focus_read bytes = read_with_extra Focus (λ script extra. and_then (all_read (focus_line script) 0 extra) (λ lines. Ok (record { script = script; lines = lines }))) bytes
+focus_read bytes = unless_long bytes (focus_of (rest_of Focus bytes) (extra_of Focus bytes))
+
+abbrev pub pointers_of : List ℕ → List ExtraLine → Result WithPointers ScriptFault
+pointers_of rest extra = and_then (text_read rest) (λ script. and_then (all_read pointer_line 0 extra) (λ lines. Ok (record { script = script; lines = lines })))
 
 abbrev pub pointers_read : List ℕ → Result WithPointers ScriptFault
-pointers_read bytes = read_with_extra Pointer (λ script extra. and_then (all_read pointer_line 0 extra) (λ lines. Ok (record { script = script; lines = lines }))) bytes
+pointers_read bytes = unless_long bytes (pointers_of (rest_of Pointer bytes) (extra_of Pointer bytes))

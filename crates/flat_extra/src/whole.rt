@@ -1,9 +1,12 @@
+ghost use Rattle.std.specs.Prelude.{◌≡◌, ◌≤◌, IfErr, IfOk, length};
+ghost use Rattle.flat_base.specs.declared.limits.TheConstants.{SCRIPT_BYTES_MAX};
 ghost use Rattle.flat_script.specs.Answers.{Answers};
+ghost use Rattle.flat_extra.specs.Extra.{extra_of, rest_of};
 ghost use Rattle.flat_extra.specs.Reading.{Reads};
-ghost use Rattle.flat_extra.specs.Whole.{focus_read, pointers_read};
+ghost use Rattle.flat_extra.specs.Whole.{IsLong, focus_of, focus_read, pointers_of, pointers_read};
 
 use crate::reading::{read_focus, read_pointers};
-use crate::split::{ExtraSet, split_text};
+use crate::split::{ExtraSet, Split, split_text};
 use flat_base::SCRIPT_BYTES_MAX;
 use flat_focus::FocusLines;
 use flat_places::{FaultKind, Script};
@@ -26,11 +29,12 @@ pub struct WithPointers {
     pub lines: PointerLines,
 }
 
-/// The script of a text without its extra lines, and those lines; or the fault of
-/// the text: that it is too long, else the fault of the rest, else that of the first
-/// extra line with one.
-pub fn parse_focus(alloc: Global, bytes: &[u8]) -> Result<WithFocus, ScriptError>
-    ensures { Reads result (focus_read bytes.now) }
+/// A text without its extra lines, and those lines; or that the text is too long.
+fn split_within(alloc: Global, bytes: &[u8], set: ExtraSet) -> Result<Split, ScriptError>
+    ensures short { IfOk result (λ split. length bytes.now ≤ SCRIPT_BYTES_MAX) }
+    ensures rest { IfOk result (λ split. split.rest ≡ rest_of set bytes.now) }
+    ensures lines { IfOk result (λ split. split.lines ≡ extra_of set bytes.now) }
+    ensures long { IfErr result (λ error. IsLong error bytes.now) }
 {
     if bytes.len() > SCRIPT_BYTES_MAX {
         return Err(ScriptError::Fault(ScriptFault {
@@ -38,10 +42,16 @@ pub fn parse_focus(alloc: Global, bytes: &[u8]) -> Result<WithFocus, ScriptError
             kind: FaultKind::TooLong,
         }));
     }
-    let split = match split_text(alloc, bytes, ExtraSet::Focus) {
-        Ok(split) => split,
-        Err(_) => return Err(ScriptError::Memory),
-    };
+    match split_text(alloc, bytes, set) {
+        Ok(split) => Ok(split),
+        Err(_) => Err(ScriptError::Memory),
+    }
+}
+
+/// The script of a text that was split, and what its extra lines ask of the focus.
+fn focus_of(alloc: Global, split: &Split) -> Result<WithFocus, ScriptError>
+    ensures { Reads result (focus_of split.now.rest split.now.lines) }
+{
     let script = match parse(alloc, split.rest()) {
         Ok(script) => script,
         Err(error) => return Err(error),
@@ -54,19 +64,9 @@ pub fn parse_focus(alloc: Global, bytes: &[u8]) -> Result<WithFocus, ScriptError
 }
 
 /// The same of the lines that pointers have.
-pub fn parse_pointers(alloc: Global, bytes: &[u8]) -> Result<WithPointers, ScriptError>
-    ensures { Reads result (pointers_read bytes.now) }
+fn pointers_of(alloc: Global, split: &Split) -> Result<WithPointers, ScriptError>
+    ensures { Reads result (pointers_of split.now.rest split.now.lines) }
 {
-    if bytes.len() > SCRIPT_BYTES_MAX {
-        return Err(ScriptError::Fault(ScriptFault {
-            line: 0,
-            kind: FaultKind::TooLong,
-        }));
-    }
-    let split = match split_text(alloc, bytes, ExtraSet::Pointer) {
-        Ok(split) => split,
-        Err(_) => return Err(ScriptError::Memory),
-    };
     let (rest, lines) = (split.rest(), split.lines());
     let script = match parse(alloc, rest) {
         Ok(script) => script,
@@ -74,6 +74,28 @@ pub fn parse_pointers(alloc: Global, bytes: &[u8]) -> Result<WithPointers, Scrip
     };
     match read_pointers(alloc, lines) {
         Ok(lines) => Ok(WithPointers { script, lines }),
+        Err(error) => Err(error),
+    }
+}
+
+/// The script of a text without its extra lines, and those lines; or the fault of
+/// the text: that it is too long, else the fault of the rest, else that of the first
+/// extra line with one.
+pub fn parse_focus(alloc: Global, bytes: &[u8]) -> Result<WithFocus, ScriptError>
+    ensures { Reads result (focus_read bytes.now) }
+{
+    match split_within(alloc, bytes, ExtraSet::Focus) {
+        Ok(split) => focus_of(alloc, &split),
+        Err(error) => Err(error),
+    }
+}
+
+/// The same of the lines that pointers have.
+pub fn parse_pointers(alloc: Global, bytes: &[u8]) -> Result<WithPointers, ScriptError>
+    ensures { Reads result (pointers_read bytes.now) }
+{
+    match split_within(alloc, bytes, ExtraSet::Pointer) {
+        Ok(split) => pointers_of(alloc, &split),
         Err(error) => Err(error),
     }
 }

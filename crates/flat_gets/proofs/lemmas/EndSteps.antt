@@ -133,24 +133,6 @@ module _ (setup : Setup) (h : List Entry) (e : Entry) (legal : Legal setup (h �
       let step = viewports-own setup s declared h e legal (ap (is_session s) mine ∙ is-session s) no_finish (λ p owned. no_use p) before.live.items before.out.items own in
       rw (noted.live, noted.out, counts) step) old
 
-  -- a session's entry that closes it
-  pub ends-closed : (ends : List Viewports) (s : SessionNo) → e.actor ≡ Session s → is_declared setup s ≡ true → is_closed s (h ▹ e) ≡ true → AreEnds setup h ends → AreEnds setup (h ▹ e) ends
-  ends-closed ends s mine declared closed old =
-      record {
-        count = old.count;
-        each = λ i d below. by_place i (slice_index_or ends i d) (number-declared setup i (length ends) old.count below) (old.each i d below) (i + 1 == s.0) refl;
-      }
-    where
-      by_place : (i : ℕ) (one : Viewports) → is_declared setup (number i) ≡ true → AreViewports setup h (number i) one.live.items one.out.items → (b : Bool) → (i + 1 == s.0) ≡ b
-          → AreViewports setup (h ▹ e) (number i) one.live.items one.out.items
-      by_place i one within kept true is =
-          let same : i + 1 ≡ s.0 = grind (arith, nat_tests) in
-          let it : number i ≡ s = ap (λ (n : ℕ). let r : SessionNo = record { 0 = n } in r) same in
-          viewports-closed setup (h ▹ e) (number i) _ _ (ap (λ (t : SessionNo). is_closed t (h ▹ e)) it ∙ closed)
-      by_place i one within kept false is =
-          let other : is_session (number i) (Session s) ≡ false = grind (arith, nat_tests) in
-          viewports-other setup (number i) within h e legal (ap (is_session (number i)) mine ∙ other) no_finish _ _ kept
-
 -- what may come back, after such a note
 pub back-noted : (ends : List Viewports) (place : ℕ) (before after : Viewports) → place < length ends → before ≡ slice_index_or ends place before → (calls : List Call) (n : ℕ) → IsNoted calls n before after
     → sum_by due_back (slice_set ends place after) ≡ sum_by due_back ends

@@ -119,14 +119,6 @@ each-noted m (Session s) line calls kind reply call quiet stays clock fences vie
     let R : ℕ → Type 0 = λ n. AllNumbered Q (changed_at n (with_calls calls) sessions) in
     subst R place all i d within
 
-pub noted-set : (s : SessionNo) (calls : List Call) (sessions : List SessionState) (state : SessionState) → IsPlaced (length sessions) (Session s) → state ≡ slice_index_or sessions (s.0 - 1) state
-    → slice_set sessions (s.0 - 1) (with_calls calls state) ≡ noted_in (Session s) calls sessions
-noted-set s calls sessions state placed is =
-    let below : s.0 - 1 < length sessions = omega (arith, placed.0, placed.1) in
-    let place : suc (s.0 - 1) ≡ s.0 = omega (arith, placed.0) in
-    ap (λ (x : SessionState). slice_set sessions (s.0 - 1) (with_calls calls x)) is ∙ sym (changed-set (with_calls calls) sessions (s.0 - 1) state below)
-    ∙ ap (λ (n : ℕ). changed_at n (with_calls calls) sessions) place
-
 length-noted : (who : Actor) (calls : List Call) (sessions : List SessionState) → length (noted_in who calls sessions) ≡ length sessions
 length-noted Display calls sessions = refl
 length-noted (Probe p) calls sessions = refl
