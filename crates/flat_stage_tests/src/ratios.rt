@@ -22,14 +22,29 @@ fn ratios<R: Wait>(rt: &R, stage: &Stage, mut seat: CompositorSeat) -> [u32; 3]
     [at_begin, later, open.ratio()]
 }
 
-#[test]
-fn a_frame_keeps_its_ratio(rt: HostRuntime) -> Result<(), Fail> {
+/// The same of a new stage, which is let go.
+fn ratios_of<R: Wait>(rt: &R, cast: Cast) -> [u32; 3]
+    requires own { cast.compositor.stage ≡ cast.stage }
+    requires may { MayBegin 10 0 cast.compositor }
+{
     let Cast {
         stage,
         compositor,
-        ..
-    } = new_cast(rt.alloc())?;
-    let ratios = ratios(&rt, &stage, compositor);
+        seats,
+        first,
+        second,
+    } = cast;
+    let found = ratios(rt, &stage, compositor);
+    drop(stage);
+    drop(seats);
+    drop(first);
+    drop(second);
+    found
+}
+
+#[test]
+fn a_frame_keeps_its_ratio(rt: HostRuntime) -> Result<(), Fail> {
+    let ratios = ratios_of(&rt, new_cast(rt.alloc())?);
     assert_eq!(rt; ratios, [131_072, 131_072, 32_768]);
     Ok(())
 }

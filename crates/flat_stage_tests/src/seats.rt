@@ -1,4 +1,6 @@
-ghost use Rattle.std.specs.Prelude.{◌≡◌, ◌+◌, ◌<◌, ◌^◌, false, [], ◌∷◌, IfOk};
+ghost use Rattle.std.specs.Prelude.{◌≡◌, ◌+◌, ◌<◌, ◌^◌, true, false, [], ◌∷◌, IfOk, OnOk};
+ghost use Rattle.std.specs.List.{list_all};
+ghost use Rattle.std.specs.Option.{is_some};
 ghost use Rattle.flat_base.specs.declared.ids.Actor.TheVariants.{Display, Session};
 ghost use Rattle.flat_stage_tests.specs.Room.{MayRead, MayBegin};
 
@@ -120,6 +122,24 @@ fn poll<R: Wait>(
 }
 
 /// One present, and then the polls.
+fn read_each<R: Wait>(
+    rt: &R,
+    alloc: Global,
+    stage: &Stage,
+    seat: &mut SessionSeat,
+) -> Result<(), NoMemory>
+    requires own { seat.old.stage ≡ stage.now }
+    requires may { MayRead 101 seat.old }
+    ensures { seat.new.stage ≡ stage.now }
+{
+    present(rt, alloc, stage, seat, POLLS)?;
+    for k in 0..POLLS {
+        poll(rt, stage, seat, k + 2, POLLS - 1 - k)?;
+    }
+    Ok(())
+}
+
+/// The same of a seat that is let go where memory is wanted.
 fn read_all<R: Wait>(
     rt: &R,
     alloc: Global,
@@ -130,11 +150,13 @@ fn read_all<R: Wait>(
     requires may { MayRead 101 seat }
     ensures { IfOk result (λ seat. seat.stage ≡ stage.now) }
 {
-    present(rt, alloc, stage, &mut seat, POLLS)?;
-    for k in 0..POLLS {
-        poll(rt, stage, &mut seat, k + 2, POLLS - 1 - k)?;
+    match read_each(rt, alloc, stage, &mut seat) {
+        Ok(()) => Ok(seat),
+        Err(NoMemory) => {
+            drop(seat);
+            Err(NoMemory)
+        }
     }
-    Ok(seat)
 }
 
 /// One frame, after which so many more may be made.
@@ -268,9 +290,9 @@ fn frames_of(entries: &[Entry]) -> Option<u32> {
 pub(crate) struct Cast {
     pub(crate) stage: Stage,
     pub(crate) compositor: CompositorSeat,
-    seats: SessionSeats,
-    first: SessionSeat,
-    second: SessionSeat,
+    pub(crate) seats: SessionSeats,
+    pub(crate) first: SessionSeat,
+    pub(crate) second: SessionSeat,
 }
 
 /// A stage, and its seats handed out.
@@ -293,6 +315,32 @@ pub(crate) fn new_cast(alloc: Global) -> Result<Cast, Fail>
     })
 }
 
+/// Both sessions' seats come home, and so no other is away.
+fn put_both(seats: &mut SessionSeats, both: Both) -> Result<(), Fail>
+    requires first { IfOk both.0 (λ seat. seat.stage ≡ seats.old.stage) }
+    requires second { IfOk both.1 (λ seat. seat.stage ≡ seats.old.stage) }
+    ensures own { seats.new.stage ≡ seats.old.stage }
+    ensures home { OnOk result (list_all is_some seats.new.seats ≡ true) }
+{
+    let (first, second) = both;
+    match first {
+        Ok(seat) => seats.put(seat),
+        Err(NoMemory) => {
+            drop(second);
+            return Err(NoMemory.into());
+        }
+    }
+    match second {
+        Ok(seat) => seats.put(seat),
+        Err(NoMemory) => return Err(NoMemory.into()),
+    }
+    if seats.all_home() {
+        Ok(())
+    } else {
+        Err("a seat is away".into())
+    }
+}
+
 /// The board that a stage leaves, once both sessions and all frames are done.
 fn run<R: Threads + Wait + Sync>(rt: &R, alloc: Global, cast: Cast) -> Result<Board, Fail>
     requires seats { cast.seats.stage ≡ cast.stage }
@@ -308,12 +356,15 @@ fn run<R: Threads + Wait + Sync>(rt: &R, alloc: Global, cast: Cast) -> Result<Bo
         second,
     } = cast;
     let (compositor, both) = run_all(rt, alloc, &stage, compositor, first, second);
-    seats.put(both.0?);
-    seats.put(both.1?);
-    if !seats.all_home() {
-        return Err("a seat is away".into());
+    match put_both(&mut seats, both) {
+        Ok(()) => Ok(stage.close(compositor, seats)),
+        Err(error) => {
+            drop(stage);
+            drop(compositor);
+            drop(seats);
+            Err(error)
+        }
     }
-    Ok(stage.close(compositor, seats))
 }
 
 /// How many entries a board has, how many frames, and how many polls of each session.
@@ -333,6 +384,7 @@ fn seats_on_two_threads(rt: HostRuntime) -> Result<(), Fail> {
     let is_away = cast.seats.take(SessionNo(2)).is_none();
     let board = run(&rt, rt.alloc(), cast)?;
     let counts = counts(&board);
+    drop(board);
     let all = [Some(222), Some(FRAMES), Some(POLLS), Some(POLLS)];
     assert_eq!(rt; (is_away, counts), (true, all));
     Ok(())
