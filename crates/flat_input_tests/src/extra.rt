@@ -1,15 +1,19 @@
-use flat_base::SCRIPT_BYTES_MAX;
+use flat_base::{NoMemory, SCRIPT_BYTES_MAX};
 use flat_extra::{ExtraSet, parse_focus, parse_pointers, split_text};
 use flat_pointer::{PointerCall, PointerLine};
-use flat_script::{ScriptError, ScriptFault};
+use flat_script::ScriptError;
 use std::alloc::{AllocError, Global};
 use std::test::Fail;
 
 // The head of the texts, of six lines.
 const HEAD: &str = "flatland 1\ndisplay 9 9\nsession A\nsession B\npair t0 display A\nrun\n";
 
-// What follows HEAD, and the line and the kind of its fault, or 0 and the number of extra lines.
-const FOCUS: [(&str, u32, u32); 10] = [
+/// What follows HEAD, and the line and the kind of the text's fault, or 0 and the number of
+/// its extra lines.
+type Case = (&'static str, u32, u32);
+
+// Lines that ask for the focus.
+const FOCUS: [Case; 10] = [
     ("A Focus B\nA Clear\nB Focus A", 0, 2),
     // a remark
     ("# Focus x\nA Focus B\n", 0, 1),
@@ -31,7 +35,7 @@ const FOCUS: [(&str, u32, u32); 10] = [
 ];
 
 // The same of the lines of pointers.
-const POINTER: [(&str, u32, u32); 6] = [
+const POINTER: [Case; 6] = [
     (
         "display Down 15 -2147483648 2147483647\ndisplay Move 0 0 0\ndisplay Up 0\n",
         0,
@@ -49,49 +53,76 @@ const POINTER: [(&str, u32, u32); 6] = [
     ("display Up 0 \n", 7, 8),
 ];
 
-fn joined(alloc: Global, rest: &str) -> Result<Vec<u8>, AllocError> {
-    let mut text = HEAD.as_bytes().to_vec(alloc)?;
-    text.extend_from_slice(rest.as_bytes())?;
-    Ok(text)
+fn focus_count(alloc: Global, text: &[u8]) -> Result<usize, ScriptError> {
+    let read = parse_focus(alloc, text)?;
+    Ok(read.lines.len())
 }
 
-/// The line and the kind of a fault, or 0 and a number of lines.
-fn outcome(lines: Result<usize, ScriptError>) -> Option<(usize, usize)> {
-    match lines {
+fn pointer_count(alloc: Global, text: &[u8]) -> Result<usize, ScriptError> {
+    let read = parse_pointers(alloc, text)?;
+    Ok(read.lines.len())
+}
+
+/// The line and the kind of a text's fault, or 0 and the number of its extra lines.
+fn outcome(alloc: Global, set: ExtraSet, text: &[u8]) -> Option<(usize, usize)> {
+    let count = match set {
+        ExtraSet::Focus => focus_count(alloc, text),
+        ExtraSet::Pointer => pointer_count(alloc, text),
+    };
+    match count {
         Ok(count) => Some((0, count)),
-        Err(ScriptError::Fault(ScriptFault { line, kind })) => Some((
-            line as usize,
-            kind.number() as usize,
-        )),
+        Err(ScriptError::Fault(fault)) => {
+            Some((fault.line as usize, fault.kind.number() as usize))
+        }
         Err(ScriptError::Memory) => None,
     }
 }
 
-fn focus_outcome(alloc: Global, text: &[u8]) -> Option<(usize, usize)> {
-    outcome(parse_focus(alloc, text).map(|read| read.lines.len()))
+/// The outcome of HEAD with some text behind it, and then another so many times.
+fn outcome_of(
+    alloc: Global,
+    set: ExtraSet,
+    before: &str,
+    rest: &str,
+    times: u32,
+) -> Result<Option<(usize, usize)>, AllocError> {
+    let mut text = HEAD.as_bytes().to_vec(alloc)?;
+    push_times(&mut text, before, 1)?;
+    push_times(&mut text, rest, times)?;
+    Ok(outcome(alloc, set, text.as_slice()))
 }
 
-fn pointer_outcome(alloc: Global, text: &[u8]) -> Option<(usize, usize)> {
-    outcome(parse_pointers(alloc, text).map(|read| read.lines.len()))
+fn push_times(text: &mut Vec<u8>, rest: &str, times: u32) -> Result<(), AllocError> {
+    for _ in 0..times {
+        text.extend_from_slice(rest.as_bytes())?;
+    }
+    Ok(())
+}
+
+/// The first of the cases that has another outcome, and which.
+fn first_wrong<'a>(
+    alloc: Global,
+    set: ExtraSet,
+    cases: &'a [Case],
+) -> Result<Option<(&'a str, Option<(usize, usize)>)>, AllocError> {
+    for (rest, line, kind) in cases {
+        let answer = outcome_of(alloc, set, "", rest, 1)?;
+        if answer != Some((*line as usize, *kind as usize)) {
+            return Ok(Some((*rest, answer)));
+        }
+    }
+    Ok(None)
 }
 
 #[test]
 fn focus_lines(rt: HostRuntime) -> Result<(), Fail> {
-    for (rest, line, kind) in FOCUS.iter() {
-        let text = joined(rt.alloc(), rest)?;
-        let answer = focus_outcome(rt.alloc(), text.as_slice());
-        assert_eq!(rt; answer, Some((*line as usize, *kind as usize)), "{rest}");
-    }
+    assert_eq!(rt; first_wrong(rt.alloc(), ExtraSet::Focus, &FOCUS)?, None);
     Ok(())
 }
 
 #[test]
 fn pointer_lines(rt: HostRuntime) -> Result<(), Fail> {
-    for (rest, line, kind) in POINTER.iter() {
-        let text = joined(rt.alloc(), rest)?;
-        let answer = pointer_outcome(rt.alloc(), text.as_slice());
-        assert_eq!(rt; answer, Some((*line as usize, *kind as usize)), "{rest}");
-    }
+    assert_eq!(rt; first_wrong(rt.alloc(), ExtraSet::Pointer, &POINTER)?, None);
     Ok(())
 }
 
@@ -107,20 +138,22 @@ const REPEATED: [(&str, &str, u32, u32, u32); 6] = [
     ("A Focus ", "x", 1_017, 7, 3),
 ];
 
+/// The first of the repeated texts that has another outcome, how often, and which.
+fn first_wrong_repeated(
+    alloc: Global,
+) -> Result<Option<(&'static str, u32, Option<(usize, usize)>)>, AllocError> {
+    for (before, rest, times, line, kind) in REPEATED.iter() {
+        let answer = outcome_of(alloc, ExtraSet::Focus, before, rest, *times)?;
+        if answer != Some((*line as usize, *kind as usize)) {
+            return Ok(Some((*rest, *times, answer)));
+        }
+    }
+    Ok(None)
+}
+
 #[test]
 fn many_lines_and_long_ones(rt: HostRuntime) -> Result<(), Fail> {
-    for (before, rest, times, line, kind) in REPEATED.iter() {
-        let mut text = joined(rt.alloc(), before)?;
-        for _ in 0..*times {
-            text.extend_from_slice(rest.as_bytes())?;
-        }
-        let answer = focus_outcome(rt.alloc(), text.as_slice());
-        assert_eq!(rt;
-            answer,
-            Some((*line as usize, *kind as usize)),
-            "{times} of {rest}"
-        );
-    }
+    assert_eq!(rt; first_wrong_repeated(rt.alloc())?, None);
     Ok(())
 }
 
@@ -128,18 +161,37 @@ const TEXT: &str = "flatland 1\nx Up 1\nrun\ndisplay Down 0 5 -5\nA Poll\ndispla
 
 const REST: &str = "flatland 1\nx Up 1\nrun\n#\nA Poll\n#\n";
 
-#[test]
-fn a_text_in_two_parts(rt: HostRuntime) -> Result<(), Fail> {
-    let text = TEXT.as_bytes();
-    assert!(rt; text.len() <= SCRIPT_BYTES_MAX);
-    let split = split_text(rt.alloc(), text, ExtraSet::Pointer)?;
-    assert!(rt; split.rest() == REST.as_bytes() && split.lines().len() == 2);
-    Ok(())
+/// Whether a text is split into a rest and so many extra lines; None where it is too long.
+fn is_split(
+    alloc: Global,
+    text: &[u8],
+    rest: &[u8],
+    lines: usize,
+) -> Result<Option<bool>, NoMemory> {
+    if text.len() > SCRIPT_BYTES_MAX {
+        return Ok(None);
+    }
+    let split = split_text(alloc, text, ExtraSet::Pointer)?;
+    Ok(Some(split.rest() == rest && split.lines().len() == lines))
 }
 
 #[test]
-fn values_of_lines(rt: HostRuntime) -> Result<(), Fail> {
-    let text = joined(rt.alloc(), "display Down 15 5 -5\nA Poll\ndisplay Up 0\n")?;
+fn a_text_in_two_parts(rt: HostRuntime) {
+    let is_split = is_split(rt.alloc(), TEXT.as_bytes(), REST.as_bytes(), 2);
+    assert_eq!(rt; is_split, Ok(Some(true)));
+}
+
+const VALUES: &str =
+    "flatland 1\ndisplay 9 9\nsession A\nsession B\npair t0 display A\nrun\ndisplay Down 15 5 -5\nA Poll\ndisplay Up 0\n";
+
+/// Whether the extra lines of a text are these.
+fn are_read(alloc: Global, text: &[u8], lines: &[PointerLine]) -> Result<bool, ScriptError> {
+    let read = parse_pointers(alloc, text)?;
+    Ok(read.lines.as_slice() == lines)
+}
+
+#[test]
+fn values_of_lines(rt: HostRuntime) {
     let down = PointerLine {
         number: 7,
         pointer: 15,
@@ -150,7 +202,6 @@ fn values_of_lines(rt: HostRuntime) -> Result<(), Fail> {
         pointer: 0,
         call: PointerCall::Up,
     };
-    let read = parse_pointers(rt.alloc(), text.as_slice()).ok();
-    assert!(rt; read.is_some_and(|read| read.lines.as_slice() == [down, up].as_slice()));
-    Ok(())
+    let are_read = are_read(rt.alloc(), VALUES.as_bytes(), &[down, up]);
+    assert_eq!(rt; are_read, Ok(true));
 }

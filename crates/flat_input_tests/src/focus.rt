@@ -42,29 +42,36 @@ fn play_three(
     Ok([handed, taken, nobody])
 }
 
-#[test]
-fn a_lost_focus_goes_to_the_last_that_is_left(rt: HostRuntime) -> Result<(), Fail> {
-    let mut focus = Focus::new(rt.alloc(), 3)?;
-    let mut told = Vec::new(rt.alloc());
-    let answers = play_three(rt.alloc(), &mut focus, &mut told)?;
-    let expected = [
-        FocusAnswer::Granted,
-        FocusAnswer::Denied,
-        FocusAnswer::Denied,
-    ];
-    assert!(rt; answers == expected && told.as_slice() == [1, 2, 3, 0, 1, 2, 0, 0].as_slice());
-    Ok(())
+fn play_anew(alloc: Global, told: &mut Vec<u32>) -> Result<[FocusAnswer; 3], NoMemory> {
+    let mut focus = Focus::new(alloc, 3)?;
+    play_three(alloc, &mut focus, told)
 }
 
 #[test]
-fn a_request_before_any_frame_is_denied(rt: HostRuntime) -> Result<(), Fail> {
-    let alloc = rt.alloc();
+fn a_lost_focus_goes_to_the_last_that_is_left(rt: HostRuntime) {
+    let mut told = Vec::new(rt.alloc());
+    let answers = play_anew(rt.alloc(), &mut told);
+    let expected = Ok([
+        FocusAnswer::Granted,
+        FocusAnswer::Denied,
+        FocusAnswer::Denied,
+    ]);
+    assert!(rt; answers == expected && told.as_slice() == [1, 2, 3, 0, 1, 2, 0, 0].as_slice());
+}
+
+fn text_without_frames(alloc: Global) -> Result<Vec<u8>, NoMemory> {
     let line = FocusLine {
         number: 7,
         by: SessionNo(1),
         of: SessionNo(1),
     };
-    let text = print_focus(alloc, 3, &Items::new(alloc), &[], &[], &[line])?;
+    let names = Items::new(alloc);
+    print_focus(alloc, 3, &names, &[], &[], &[line])
+}
+
+#[test]
+fn a_request_before_any_frame_is_denied(rt: HostRuntime) -> Result<(), Fail> {
+    let text = text_without_frames(rt.alloc())?;
     let expected = b"focus 7   denied chain\nfocus ends requests 1\n";
     assert_eq!(rt; text.as_slice(), expected.as_slice());
     Ok(())

@@ -1,11 +1,13 @@
-use crate::scenes::{fill, list};
+use crate::scenes::{BLACK, Wrong, fill, list, shown, wrong_in};
 use flat_base::{Items, NoMemory, Rect};
 use flat_damage::{damage, redraw};
 use flat_drawable::are_drawable;
-use flat_render::render;
+use flat_render::Picture;
 use flat_scene::{DrawItem, ItemList, RectList};
 use std::alloc::Global;
+use std::process::Abort;
 use std::test::Fail;
+use std::thread::Threads;
 
 /// A red square of ten units, which stands as far to the right as its letter comes
 /// after `a`, in steps of twenty.
@@ -34,26 +36,40 @@ fn damaged(alloc: Global, old: &str, new: &str) -> Result<RectList, NoMemory> {
     damage(alloc, &squares(alloc, old)?, &squares(alloc, new)?)
 }
 
+/// Lists before and after, and what is damaged between them.
+const CASES: [(&str, &str, &str); 9] = [
+    ("", "", ""),
+    ("ab", "ab", ""),
+    ("cab", "cdb", "ad"),
+    ("", "ab", "ab"),
+    ("ab", "", "ab"),
+    ("aa", "a", "a"),
+    ("a", "aa", "a"),
+    ("aba", "aa", "b"),
+    ("abcdefgh", "ijklmnop", "abcdefghijklmnop"),
+];
+
+fn is_damaged(alloc: Global, old: &str, new: &str, different: &str) -> Result<bool, NoMemory> {
+    let found = damaged(alloc, old, new)?;
+    let expected = rects(alloc, different)?;
+    Ok(found.as_slice() == expected.as_slice())
+}
+
+/// The first lists between which something else is damaged.
+fn first_wrong(alloc: Global) -> Result<Option<(&'static str, &'static str)>, NoMemory> {
+    for (old, new, different) in CASES.iter() {
+        if !is_damaged(alloc, old, new, different)? {
+            return Ok(Some((*old, *new)));
+        }
+    }
+    Ok(None)
+}
+
 /// What differs is damaged: not what stays, nor what both ends of the lists have in
 /// common.
 #[test]
 fn what_differs_is_damaged(rt: HostRuntime) -> Result<(), Fail> {
-    let cases = [
-        ("", "", ""),
-        ("ab", "ab", ""),
-        ("cab", "cdb", "ad"),
-        ("", "ab", "ab"),
-        ("ab", "", "ab"),
-        ("aa", "a", "a"),
-        ("a", "aa", "a"),
-        ("aba", "aa", "b"),
-        ("abcdefgh", "ijklmnop", "abcdefghijklmnop"),
-    ];
-    for (old, new, different) in cases {
-        let found = damaged(rt.alloc(), old, new)?;
-        let expected = rects(rt.alloc(), different)?;
-        assert_eq!(rt; found.as_slice(), expected.as_slice());
-    }
+    assert_eq!(rt; first_wrong(rt.alloc())?, None);
     Ok(())
 }
 
@@ -71,21 +87,36 @@ fn many_rectangles_are_one(rt: HostRuntime) -> Result<(), Fail> {
     Ok(())
 }
 
+/// The picture of a draw list, turned into that of the next.
+fn redrawn(
+    rt: &(impl Abort + Threads + Sync),
+    alloc: Global,
+    old: &ItemList,
+    new: &ItemList,
+    w: u32,
+    h: u32,
+) -> Result<Picture, NoMemory> {
+    assert!(rt; are_drawable(new.as_slice()));
+    let mut picture = shown(rt, alloc, old, w, h)?;
+    redraw(alloc, &mut picture, old, new)?;
+    Ok(picture)
+}
+
+/// Looks at a grey pixel that has moved from the first of three pixels to the third.
+fn wrong_moved(
+    rt: &(impl Abort + Threads + Sync),
+    alloc: Global,
+) -> Result<Option<Wrong>, NoMemory> {
+    let old = list(alloc, &[fill([9, 9, 9, 255], 1, 1, 0, 0)])?;
+    let new = list(alloc, &[fill([9, 9, 9, 255], 1, 1, 2, 0)])?;
+    let picture = redrawn(rt, alloc, &old, &new, 3, 1)?;
+    let pixels = [(0, 0, BLACK), (1, 0, BLACK), (2, 0, [9, 9, 9])];
+    Ok(wrong_in(&picture, &pixels))
+}
+
 /// A picture is turned into that of the next list.
 #[test]
 fn pictures_are_redrawn(rt: HostRuntime) -> Result<(), Fail> {
-    let alloc = rt.alloc();
-    let old = list(alloc, [fill([9, 9, 9, 255], 1, 1, 0, 0)].as_slice())?;
-    let new = list(alloc, [fill([9, 9, 9, 255], 1, 1, 2, 0)].as_slice())?;
-    assert!(rt; are_drawable(old.as_slice()));
-    assert!(rt; are_drawable(new.as_slice()));
-    let mut picture = render(&rt, alloc, &old, 3, 1)?;
-    redraw(alloc, &mut picture, &old, &new)?;
-    let seen = [
-        picture.pixel(0, 0),
-        picture.pixel(1, 0),
-        picture.pixel(2, 0),
-    ];
-    assert_eq!(rt; seen, [[0, 0, 0], [0, 0, 0], [9, 9, 9]]);
+    assert_eq!(rt; wrong_moved(&rt, rt.alloc())?, None);
     Ok(())
 }

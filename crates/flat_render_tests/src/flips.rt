@@ -1,7 +1,6 @@
-use crate::scenes::{list, turned};
-use flat_base::{BufferNo, IntRect, Orientation};
-use flat_drawable::are_drawable;
-use flat_render::{render, texel};
+use crate::scenes::{Wrong, turned, wrong};
+use flat_base::{BufferNo, IntRect, NoMemory, Orientation};
+use flat_render::texel;
 use flat_scene::{ImageFlip, Paint};
 use std::alloc::Global;
 use std::process::Abort;
@@ -24,63 +23,135 @@ fn image(flip: ImageFlip) -> Paint {
     }
 }
 
-/// The texels of a buffer of two by two that are seen at (0, 0), (1, 0), (0, 1) and
-/// (1, 1): column and row.
-fn seen(
+/// The colour of a texel at a column and a row.
+fn colour(place: (u8, u8)) -> [u8; 3] {
+    let [red, green, blue, _] = texel(0, 0, place.0 as u32, place.1 as u32);
+    [red, green, blue]
+}
+
+/// A turn, a move, a flip, and the texels of a buffer of two by two that are then seen at
+/// (0, 0), (1, 0), (0, 1) and (1, 1): column and row.
+type Case = (Orientation, i32, i32, ImageFlip, [(u8, u8); 4]);
+
+const CASES: [Case; 12] = [
+    (
+        Orientation::Ccw0,
+        0,
+        0,
+        ImageFlip::Plain,
+        [(0, 0), (1, 0), (0, 1), (1, 1)],
+    ),
+    (
+        Orientation::Ccw0,
+        0,
+        0,
+        ImageFlip::LeftRight,
+        [(1, 0), (0, 0), (1, 1), (0, 1)],
+    ),
+    (
+        Orientation::Ccw0,
+        0,
+        0,
+        ImageFlip::UpDown,
+        [(0, 1), (1, 1), (0, 0), (1, 0)],
+    ),
+    (
+        Orientation::Ccw90,
+        0,
+        2,
+        ImageFlip::Plain,
+        [(1, 0), (1, 1), (0, 0), (0, 1)],
+    ),
+    (
+        Orientation::Ccw90,
+        0,
+        2,
+        ImageFlip::LeftRight,
+        [(0, 0), (0, 1), (1, 0), (1, 1)],
+    ),
+    (
+        Orientation::Ccw90,
+        0,
+        2,
+        ImageFlip::UpDown,
+        [(1, 1), (1, 0), (0, 1), (0, 0)],
+    ),
+    (
+        Orientation::Ccw180,
+        2,
+        2,
+        ImageFlip::Plain,
+        [(1, 1), (0, 1), (1, 0), (0, 0)],
+    ),
+    (
+        Orientation::Ccw180,
+        2,
+        2,
+        ImageFlip::LeftRight,
+        [(0, 1), (1, 1), (0, 0), (1, 0)],
+    ),
+    (
+        Orientation::Ccw180,
+        2,
+        2,
+        ImageFlip::UpDown,
+        [(1, 0), (0, 0), (1, 1), (0, 1)],
+    ),
+    (
+        Orientation::Ccw270,
+        2,
+        0,
+        ImageFlip::Plain,
+        [(0, 1), (0, 0), (1, 1), (1, 0)],
+    ),
+    (
+        Orientation::Ccw270,
+        2,
+        0,
+        ImageFlip::LeftRight,
+        [(1, 1), (1, 0), (0, 1), (0, 0)],
+    ),
+    (
+        Orientation::Ccw270,
+        2,
+        0,
+        ImageFlip::UpDown,
+        [(0, 0), (0, 1), (1, 0), (1, 1)],
+    ),
+];
+
+/// Looks at the four pixels of a case.
+fn wrong_case(
     rt: &(impl Abort + Threads + Sync),
     alloc: Global,
-    turn: Orientation,
-    x: i32,
-    y: i32,
-    flip: ImageFlip,
-) -> Result<[[u8; 3]; 4], Fail> {
-    let items = list(alloc, [turned(image(flip), 2, 2, turn, x, y)].as_slice())?;
-    assert!(rt; are_drawable(items.as_slice()));
-    let picture = render(rt, alloc, &items, 2, 2)?;
-    Ok([
-        picture.pixel(0, 0),
-        picture.pixel(1, 0),
-        picture.pixel(0, 1),
-        picture.pixel(1, 1),
-    ])
+    case: &Case,
+) -> Result<Option<Wrong>, NoMemory> {
+    let (turn, x, y, flip, [first, second, third, fourth]) = *case;
+    let pixels = [
+        (0, 0, colour(first)),
+        (1, 0, colour(second)),
+        (0, 1, colour(third)),
+        (1, 1, colour(fourth)),
+    ];
+    let item = turned(image(flip), 2, 2, turn, x, y);
+    wrong(rt, alloc, &[item], 2, 2, &pixels)
 }
 
-/// The colours of the four texels at these columns and rows.
-fn texels(places: [(u8, u8); 4]) -> [[u8; 3]; 4] {
-    places.map(|(column, row)| {
-        let [red, green, blue, _] = texel(0, 0, column as u32, row as u32);
-        [red, green, blue]
-    })
+/// The first case that is seen otherwise, and where.
+fn first_wrong(
+    rt: &(impl Abort + Threads + Sync),
+    alloc: Global,
+) -> Result<Option<(Case, Wrong)>, NoMemory> {
+    for case in CASES.iter() {
+        if let Some(wrong) = wrong_case(rt, alloc, case)? {
+            return Ok(Some((*case, wrong)));
+        }
+    }
+    Ok(None)
 }
-
-const PLAIN: ImageFlip = ImageFlip::Plain;
-
-const LEFT_RIGHT: ImageFlip = ImageFlip::LeftRight;
-
-const UP_DOWN: ImageFlip = ImageFlip::UpDown;
 
 #[test]
 fn images_turn_and_flip(rt: HostRuntime) -> Result<(), Fail> {
-    let none = Orientation::Ccw0;
-    let quarter = Orientation::Ccw90;
-    let half = Orientation::Ccw180;
-    let back = Orientation::Ccw270;
-    let cases = [
-        (none, 0, 0, PLAIN, [(0, 0), (1, 0), (0, 1), (1, 1)]),
-        (none, 0, 0, LEFT_RIGHT, [(1, 0), (0, 0), (1, 1), (0, 1)]),
-        (none, 0, 0, UP_DOWN, [(0, 1), (1, 1), (0, 0), (1, 0)]),
-        (quarter, 0, 2, PLAIN, [(1, 0), (1, 1), (0, 0), (0, 1)]),
-        (quarter, 0, 2, LEFT_RIGHT, [(0, 0), (0, 1), (1, 0), (1, 1)]),
-        (quarter, 0, 2, UP_DOWN, [(1, 1), (1, 0), (0, 1), (0, 0)]),
-        (half, 2, 2, PLAIN, [(1, 1), (0, 1), (1, 0), (0, 0)]),
-        (half, 2, 2, LEFT_RIGHT, [(0, 1), (1, 1), (0, 0), (1, 0)]),
-        (half, 2, 2, UP_DOWN, [(1, 0), (0, 0), (1, 1), (0, 1)]),
-        (back, 2, 0, PLAIN, [(0, 1), (0, 0), (1, 1), (1, 0)]),
-        (back, 2, 0, LEFT_RIGHT, [(1, 1), (1, 0), (0, 1), (0, 0)]),
-        (back, 2, 0, UP_DOWN, [(0, 0), (0, 1), (1, 0), (1, 1)]),
-    ];
-    for (turn, x, y, flip, places) in cases {
-        assert_eq!(rt; seen(&rt, rt.alloc(), turn, x, y, flip)?, texels(places));
-    }
+    assert_eq!(rt; first_wrong(&rt, rt.alloc())?, None);
     Ok(())
 }

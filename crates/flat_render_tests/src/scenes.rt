@@ -1,8 +1,27 @@
+ghost use Rattle.std.specs.Prelude.{All, IfOk};
+ghost use Rattle.flat_drawable.specs.Drawable.{IsDrawable};
+ghost use Rattle.flat_render.specs.Pictures.{Shows, width_of, height_of};
+ghost use Rattle.flat_render.specs.Pixels.{pixel};
+
 use flat_base::{Items, NoMemory, Orientation, Rect, SessionNo};
-use flat_drawable::full_rect;
+use flat_drawable::{are_drawable, full_rect};
 use flat_geom::local;
+use flat_render::{Picture, is_too_large, render};
 use flat_scene::{BlendMode, DrawItem, ItemList, Paint, SceneMatrix};
 use std::alloc::Global;
+use std::process::Abort;
+use std::thread::Threads;
+
+pub const WHITE: [u8; 3] = [255, 255, 255];
+
+pub const BLACK: [u8; 3] = [0, 0, 0];
+
+/// A pixel's place, and its colour there.
+pub type Pixel = (u32, u32, [u8; 3]);
+
+/// The place of a pixel that has another colour, and that colour, or None where the
+/// picture has no such pixel.
+pub type Wrong = (u32, u32, Option<[u8; 3]>);
 
 const NOWHERE: Rect = Rect {
     x0: 0,
@@ -49,4 +68,70 @@ pub fn list(alloc: Global, drawn: &[DrawItem]) -> Result<ItemList, NoMemory> {
     let mut items = Items::new(alloc);
     items.extend_from_slice(drawn)?;
     Ok(items)
+}
+
+/// The picture of a draw list that can be drawn, on a display that can be drawn on.
+pub fn shown(
+    rt: &(impl Abort + Threads + Sync),
+    alloc: Global,
+    items: &ItemList,
+    w: u32,
+    h: u32,
+) -> Result<Picture, NoMemory>
+    ensures drawable { All IsDrawable items.now }
+    ensures shows { IfOk result (λ picture. Shows picture (width_of picture) (height_of picture)
+        (pixel items.now)) }
+{
+    assert!(rt; w > 0 && h > 0 && !is_too_large(w, h) && are_drawable(items.as_slice()));
+    render(rt, alloc, items, w, h)
+}
+
+/// The picture of some items, of which a rectangle is drawn anew with nothing on it.
+pub fn repainted(
+    rt: &(impl Abort + Threads + Sync),
+    alloc: Global,
+    items: &[DrawItem],
+    w: u32,
+    h: u32,
+    rect: Rect,
+) -> Result<Picture, NoMemory> {
+    let mut rects = Items::new(alloc);
+    rects.push(rect)?;
+    let items = list(alloc, items)?;
+    let mut picture = shown(rt, alloc, &items, w, h)?;
+    picture.repaint(&Items::new(alloc), &rects);
+    Ok(picture)
+}
+
+fn colour(picture: &Picture, x: u32, y: u32) -> Option<[u8; 3]> {
+    if x < picture.width() && y < picture.height() {
+        Some(picture.pixel(x, y))
+    } else {
+        None
+    }
+}
+
+/// The first of the pixels that has another colour in a picture.
+pub fn wrong_in(picture: &Picture, pixels: &[Pixel]) -> Option<Wrong> {
+    for (x, y, expected) in pixels {
+        let seen = colour(picture, *x, *y);
+        if seen != Some(*expected) {
+            return Some((*x, *y, seen));
+        }
+    }
+    None
+}
+
+/// The first of the pixels that has another colour in the picture of some items.
+pub fn wrong(
+    rt: &(impl Abort + Threads + Sync),
+    alloc: Global,
+    items: &[DrawItem],
+    w: u32,
+    h: u32,
+    pixels: &[Pixel],
+) -> Result<Option<Wrong>, NoMemory> {
+    let items = list(alloc, items)?;
+    let picture = shown(rt, alloc, &items, w, h)?;
+    Ok(wrong_in(&picture, pixels))
 }

@@ -1,9 +1,8 @@
-use crate::outcome::{HEAD, joined, outcome};
-use flat_script::parse;
+use crate::outcome::{Case, HEAD, first_wrong};
 use std::test::Fail;
 
 // What follows HEAD, and the line and the kind of its fault, or 0 and the number of lines.
-const BODIES: [(&str, u32, u32); 45] = [
+const BODIES: &[Case] = &[
     // bad number
     (
         "A CreateView t0\nA CreateTransform 1\nA SetRootTransform 1\nA CreateFilledRect x\nA SetSolidFill 2 255 0 0 255 10 10\nA SetContent 1 2\nA Present 0\ndisplay begin 1000\ndisplay done\n",
@@ -115,10 +114,6 @@ const BODIES: [(&str, u32, u32); 45] = [
 
 #[test]
 fn bodies(rt: HostRuntime) -> Result<(), Fail> {
-    for (rest, line, kind) in BODIES.iter() {
-        let text = joined(rt.alloc(), HEAD, rest)?;
-        let answer = outcome(parse(rt.alloc(), text.as_slice()));
-        assert_eq!(rt; answer, Some((*line, *kind)), "{rest}");
-    }
+    assert_eq!(rt; first_wrong(rt.alloc(), HEAD, BODIES)?, None);
     Ok(())
 }

@@ -1,12 +1,11 @@
-use crate::outcome::{joined, outcome};
-use flat_script::parse;
+use crate::outcome::{Case, first_wrong};
 use std::test::Fail;
 
 // The head of the texts of PROBES.
 const PROBED: &str = "flatland 1\ndisplay 100 100\nsession A\npair t0 display A\nprobe P\nrun\n";
 
 // What follows PROBED, and the line and the kind of its fault, or 0 and the number of lines.
-const PROBES: [(&str, u32, u32); 13] = [
+const PROBES: [Case; 13] = [
     // a line of each kind
     (
         "P hit -2147483648 2147483647\nP await 0\nP await 4294967295\n",
@@ -41,10 +40,6 @@ const PROBES: [(&str, u32, u32); 13] = [
 
 #[test]
 fn probes(rt: HostRuntime) -> Result<(), Fail> {
-    for (rest, line, kind) in PROBES.iter() {
-        let text = joined(rt.alloc(), PROBED, rest)?;
-        let answer = outcome(parse(rt.alloc(), text.as_slice()));
-        assert_eq!(rt; answer, Some((*line, *kind)), "{rest}");
-    }
+    assert_eq!(rt; first_wrong(rt.alloc(), PROBED, &PROBES)?, None);
     Ok(())
 }

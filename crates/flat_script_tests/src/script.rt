@@ -1,24 +1,20 @@
-use crate::outcome::{HEAD, joined, outcome};
+use crate::outcome::{HEAD, outcome};
 use flat_base::TransformId;
 use flat_places::Script;
-use flat_scene::{Body, Call, DisplayLine, Line};
-use flat_script::parse;
+use flat_scene::{Body, Call, DisplayLine, Line, ScriptLine};
+use flat_script::{ScriptError, parse};
+use std::alloc::{AllocError, Global};
 use std::test::Fail;
 
 // A script with a remark, an empty line, and a line of each actor.
 const LINES: &str =
     "flatland 1\ndisplay 100 90\nsession A\npair t0 display A\nrun\n# a remark\n\nA SetTranslation 7 -5 40\ndisplay begin 16\ndisplay done";
 
-#[test]
-fn a_script(rt: HostRuntime) -> Result<(), Fail> {
-    let script = parse(rt.alloc(), LINES.as_bytes())?;
-    let Script { setup, lines, .. } = &script;
-    let counts = [script.count, setup.width, setup.height, setup.sessions];
-    assert_eq!(rt; counts, [10, 100, 90, 1]);
-    let lengths = [script.sessions.len(), script.pairs.len(), setup.pairs.len()];
-    assert_eq!(rt; lengths, [1, 1, 1]);
-    let [first, _, last] = lines.as_slice() else {
-        return Err("another number of lines".into());
+/// Whether these are the lines of LINES: at its ends a translation, which stands in its
+/// eighth line, and the end of a frame.
+fn are_lines(lines: &[ScriptLine]) -> bool {
+    let [first, _, last] = lines else {
+        return false;
     };
     let translates = matches!(
         first.body,
@@ -29,29 +25,71 @@ fn a_script(rt: HostRuntime) -> Result<(), Fail> {
         }))
     );
     let ends = matches!(last.body, Body::Display(DisplayLine::Done));
-    assert!(rt; first.number == 8 && translates && ends);
+    first.number == 8 && translates && ends
+}
+
+/// What a script declares, of how much, and whether its lines are those of LINES.
+fn told(script: &Script) -> ([u32; 4], [usize; 3], bool) {
+    let setup = &script.setup;
+    (
+        [script.count, setup.width, setup.height, setup.sessions],
+        [script.sessions.len(), script.pairs.len(), setup.pairs.len()],
+        are_lines(script.lines.as_slice()),
+    )
+}
+
+fn told_of(alloc: Global, text: &str) -> Result<([u32; 4], [usize; 3], bool), ScriptError> {
+    let script = parse(alloc, text.as_bytes())?;
+    Ok(told(&script))
+}
+
+#[test]
+fn a_script(rt: HostRuntime) {
+    let told = told_of(rt.alloc(), LINES);
+    assert_eq!(rt; told, Ok(([10, 100, 90, 1], [1, 1, 1], true)));
+}
+
+/// A byte alone in a line is 2 where it isn't plain, but a line feed ends the line and a
+/// `#` begins a remark.
+fn outcome_of_byte(byte: u8) -> (u32, u32) {
+    match byte {
+        b'\n' => (6, 6),
+        b'#' => (0, 6),
+        32..=126 => (6, 6),
+        _ => (6, 2),
+    }
+}
+
+/// What is in front of a byte that is alone in its line.
+fn front_of(byte: u8) -> &'static [u8] {
+    if byte == b'#' { b"" } else { b"A " }
+}
+
+fn read_byte(alloc: Global, byte: u8) -> Result<Option<(u32, u32)>, AllocError> {
+    let mut text = HEAD.as_bytes().to_vec(alloc)?;
+    push_byte(&mut text, byte)?;
+    Ok(outcome(alloc, text.as_slice()))
+}
+
+fn push_byte(text: &mut Vec<u8>, byte: u8) -> Result<(), AllocError> {
+    text.extend_from_slice(front_of(byte))?;
+    text.push(byte)?;
     Ok(())
 }
 
-// Each byte, alone in a line: 2 where it isn't plain, but a line feed ends the line
-// and a `#` begins a remark.
+/// The first byte that has another outcome, and which.
+fn first_wrong_byte(alloc: Global) -> Result<Option<(u8, Option<(u32, u32)>)>, AllocError> {
+    for byte in 0..=255u8 {
+        let answer = read_byte(alloc, byte)?;
+        if answer != Some(outcome_of_byte(byte)) {
+            return Ok(Some((byte, answer)));
+        }
+    }
+    Ok(None)
+}
+
 #[test]
 fn every_byte(rt: HostRuntime) -> Result<(), Fail> {
-    for byte in 0..=255u8 {
-        let mut text = joined(rt.alloc(), HEAD, "A ")?;
-        if byte == b'#' {
-            text.clear();
-            text.extend_from_slice(HEAD.as_bytes())?;
-        }
-        text.push(byte)?;
-        let want = match byte {
-            b'\n' => (6, 6),
-            b'#' => (0, 6),
-            32..=126 => (6, 6),
-            _ => (6, 2),
-        };
-        let answer = outcome(parse(rt.alloc(), text.as_slice()));
-        assert_eq!(rt; answer, Some(want), "byte {byte}");
-    }
+    assert_eq!(rt; first_wrong_byte(rt.alloc())?, None);
     Ok(())
 }

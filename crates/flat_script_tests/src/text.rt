@@ -1,4 +1,6 @@
-use flat_text::{line, next_piece, push_number, read_natural, read_number, word};
+use flat_base::NoMemory;
+use flat_text::{push_number, read_natural, read_number};
+use std::alloc::Global;
 use std::test::Fail;
 
 // Each number and its only spelling.
@@ -31,21 +33,41 @@ const NO_NUMBERS: [&str; 14] = [
     "-100000000000000000000",
 ];
 
+/// Whether a text is a number's spelling.
+fn is_spelling(alloc: Global, text: &str, number: i128) -> Result<bool, NoMemory> {
+    let mut out = Vec::new(alloc);
+    push_number(&mut out, number)?;
+    Ok(out.as_slice() == text.as_bytes() && read_number(text.as_bytes()) == Some(number))
+}
+
+/// The first of the spellings that isn't its number's.
+fn first_wrong_spelling(alloc: Global) -> Result<Option<&'static str>, NoMemory> {
+    for (text, number) in SPELLINGS.iter() {
+        if !is_spelling(alloc, text, *number)? {
+            return Ok(Some(*text));
+        }
+    }
+    Ok(None)
+}
+
 #[test]
 fn numbers_and_back(rt: HostRuntime) -> Result<(), Fail> {
-    for (text, number) in SPELLINGS.iter() {
-        assert_eq!(rt; read_number(text.as_bytes()), Some(*number), "{text}");
-        let mut out = Vec::new(rt.alloc());
-        push_number(&mut out, *number)?;
-        assert_eq!(rt; out.as_slice(), text.as_bytes(), "{text}");
-    }
+    assert_eq!(rt; first_wrong_spelling(rt.alloc())?, None);
     Ok(())
+}
+
+/// The first of those that are no numbers which is read as one.
+fn first_number() -> Option<&'static str> {
+    for text in NO_NUMBERS.iter() {
+        let bytes = text.as_bytes();
+        if read_number(bytes).is_some() || read_natural(bytes).is_some() {
+            return Some(*text);
+        }
+    }
+    None
 }
 
 #[test]
 fn no_numbers(rt: HostRuntime) {
-    for text in NO_NUMBERS.iter() {
-        assert_eq!(rt; read_number(text.as_bytes()), None, "{text}");
-        assert_eq!(rt; read_natural(text.as_bytes()), None, "{text}");
-    }
+    assert_eq!(rt; first_number(), None);
 }

@@ -1,8 +1,8 @@
-use crate::outcome::outcome;
-use flat_script::parse;
+use crate::outcome::{Case, first_wrong};
+use std::test::Fail;
 
 // Whole texts.
-const TEXTS: [(&str, u32, u32); 59] = [
+const TEXTS: [Case; 59] = [
     // lists and conditions of a session and of the display
     (
         "flatland 1\ndisplay 100 100\nsession A\nsession B\npair t0 display A\nfence f A display\nfence g B\nrun\nA Present 0 acquire f f release f\nA Present 1 release f\nA Signal f\nA Poll\nA Wait frames 1\nA Wait credits 1\nA Wait taken 1\nA Wait fence f\ndisplay Signal f\ndisplay Wait presents B 0\ndisplay Wait fence f\nA Disconnect\n",
@@ -232,9 +232,7 @@ const TEXTS: [(&str, u32, u32); 59] = [
 ];
 
 #[test]
-fn texts(rt: HostRuntime) {
-    for (text, line, kind) in TEXTS.iter() {
-        let answer = outcome(parse(rt.alloc(), text.as_bytes()));
-        assert_eq!(rt; answer, Some((*line, *kind)), "{text}");
-    }
+fn texts(rt: HostRuntime) -> Result<(), Fail> {
+    assert_eq!(rt; first_wrong(rt.alloc(), "", &TEXTS)?, None);
+    Ok(())
 }

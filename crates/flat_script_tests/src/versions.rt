@@ -1,5 +1,4 @@
-use crate::outcome::{joined, outcome};
-use flat_script::parse;
+use crate::outcome::{Case, first_wrong};
 use std::test::Fail;
 
 // The head of the texts of LATER.
@@ -7,7 +6,7 @@ const SECOND: &str =
     "flatland 2\ndisplay 100 100\nsession A\nsession B\npair t0 display A\nfence f A\nfence g B\nrun\n";
 
 // What follows SECOND, and the line and the kind of its fault, or 0 and the number of lines.
-const LATER: [(&str, u32, u32); 32] = [
+const LATER: [Case; 32] = [
     // presents that have to be shown
     ("A Present 0 unsquashable\n", 0, 9),
     ("A Present 0 unsquashable acquire f\n", 0, 9),
@@ -59,7 +58,7 @@ const LATER: [(&str, u32, u32); 32] = [
 const THIRD: &str = "flatland 3\ndisplay 100 100 131072\nsession A\npair t0 display A\nrun\n";
 
 // What follows THIRD, and the line and the kind of its fault, or 0 and the number of lines.
-const LATEST: [(&str, u32, u32); 10] = [
+const LATEST: [Case; 10] = [
     ("display dpr 16384\n", 0, 6),
     ("display dpr 1048576\n", 0, 6),
     ("A Present 0 unsquashable\n", 0, 6),
@@ -77,20 +76,12 @@ const LATEST: [(&str, u32, u32); 10] = [
 
 #[test]
 fn third(rt: HostRuntime) -> Result<(), Fail> {
-    for (rest, line, kind) in LATEST.iter() {
-        let text = joined(rt.alloc(), THIRD, rest)?;
-        let answer = outcome(parse(rt.alloc(), text.as_slice()));
-        assert_eq!(rt; answer, Some((*line, *kind)), "{rest}");
-    }
+    assert_eq!(rt; first_wrong(rt.alloc(), THIRD, &LATEST)?, None);
     Ok(())
 }
 
 #[test]
 fn second(rt: HostRuntime) -> Result<(), Fail> {
-    for (rest, line, kind) in LATER.iter() {
-        let text = joined(rt.alloc(), SECOND, rest)?;
-        let answer = outcome(parse(rt.alloc(), text.as_slice()));
-        assert_eq!(rt; answer, Some((*line, *kind)), "{rest}");
-    }
+    assert_eq!(rt; first_wrong(rt.alloc(), SECOND, &LATER)?, None);
     Ok(())
 }

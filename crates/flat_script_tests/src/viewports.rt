@@ -1,5 +1,4 @@
-use crate::outcome::{joined, outcome};
-use flat_script::parse;
+use crate::outcome::{Case, first_wrong};
 use std::test::Fail;
 
 // The head of the texts of VIEWPORTS.
@@ -7,7 +6,7 @@ const PAIRED: &str =
     "flatland 1\ndisplay 100 100\nsession A\nsession B\npair t0 display A\npair t1 A B\nrun\n";
 
 // What follows PAIRED, and the line and the kind of its fault, or 0 and the number of lines.
-const VIEWPORTS: [(&str, u32, u32); 47] = [
+static VIEWPORTS: [Case; 47] = [
     // a viewport
     ("A CreateViewport 1 t1 9 9\n", 0, 8),
     // with an inset
@@ -118,10 +117,6 @@ const VIEWPORTS: [(&str, u32, u32); 47] = [
 
 #[test]
 fn viewports(rt: HostRuntime) -> Result<(), Fail> {
-    for (rest, line, kind) in VIEWPORTS.iter() {
-        let text = joined(rt.alloc(), PAIRED, rest)?;
-        let answer = outcome(parse(rt.alloc(), text.as_slice()));
-        assert_eq!(rt; answer, Some((*line, *kind)), "{rest}");
-    }
+    assert_eq!(rt; first_wrong(rt.alloc(), PAIRED, &VIEWPORTS)?, None);
     Ok(())
 }
