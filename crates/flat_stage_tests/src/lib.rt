@@ -2,6 +2,8 @@
 #![tactic(auto)]
 
 #[cfg(test)]
+mod cast;
+#[cfg(test)]
 mod ratios;
 #[cfg(test)]
 mod seats;

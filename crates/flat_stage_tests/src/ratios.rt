@@ -1,7 +1,7 @@
 ghost use Rattle.std.specs.Prelude.{◌≡◌};
 ghost use Rattle.flat_stage_tests.specs.Room.{MayBegin};
 
-use crate::seats::{Cast, new_cast};
+use crate::cast::{Cast, new_cast};
 use flat_stage::{CompositorSeat, Stage};
 use std::sync::Wait;
 use std::test::Fail;

@@ -1,12 +1,13 @@
-ghost use Rattle.std.specs.Prelude.{◌≡◌, ◌+◌, ◌<◌, ◌^◌, true, false, [], ◌∷◌, IfOk, OnOk};
+ghost use Rattle.std.specs.Prelude.{◌≡◌, ◌+◌, ◌<◌, true, false, [], IfOk, OnOk, Some};
 ghost use Rattle.std.specs.List.{list_all};
 ghost use Rattle.std.specs.Option.{is_some};
 ghost use Rattle.flat_base.specs.declared.ids.Actor.TheVariants.{Display, Session};
 ghost use Rattle.flat_stage_tests.specs.Room.{MayRead, MayBegin};
 
-use flat_base::{Actor, Items, NoMemory, ONE, SessionNo, ShareList};
+use crate::cast::{Cast, new_cast};
+use flat_base::{Actor, Items, NoMemory, SessionNo};
 use flat_core::Board;
-use flat_scene::{Entry, Kind, Line, PairDecl, PresentArgs, Reply, Setup};
+use flat_scene::{Entry, Kind, Line, PresentArgs, Reply};
 use flat_stage::{CompositorSeat, SessionSeat, SessionSeats, Stage};
 use std::alloc::Global;
 use std::sync::Wait;
@@ -17,66 +18,6 @@ use std::thread::Threads;
 const POLLS: u32 = 100;
 
 const FRAMES: u32 = 10;
-
-/// A display that shows session 1, beside session 2.
-fn two_sessions(alloc: Global) -> Result<Setup, NoMemory>
-    ensures { IfOk result (λ setup. setup
-        ≡ record {
-          width = 100;
-          height = 50;
-          sessions = 2;
-          probes = 0;
-          pairs = record
-              { viewport = Display; view = record { 0 = 1 } } ∷ [];
-          buffers = [];
-          fences = [];
-          version = 1;
-          ratio = 65536;
-        }) }
-{
-    let mut pairs = Items::new(alloc);
-    pairs.push(PairDecl {
-        viewport: Actor::Display,
-        view: SessionNo(1),
-    })?;
-    Ok(Setup {
-        width: 100,
-        height: 50,
-        sessions: 2,
-        probes: 0,
-        pairs,
-        buffers: Items::new(alloc),
-        fences: Items::new(alloc),
-        version: 1,
-        ratio: ONE,
-    })
-}
-
-fn opened(alloc: Global) -> Result<Board, NoMemory>
-    ensures { IfOk result (λ board. board
-        ≡ record {
-          setup = record {
-            width = 100;
-            height = 50;
-            sessions = 2;
-            probes = 0;
-            pairs = record { viewport = Display; view = record { 0 = 1 } }
-                ∷ [];
-            buffers = [];
-            fences = [];
-            version = 1;
-            ratio = 65536;
-          };
-          shares = 20 ∷ 101 ∷ 101 ∷ [];
-          history = [];
-        }) }
-{
-    let mut shares = ShareList::new(alloc);
-    shares.push(20)?;
-    shares.push(101)?;
-    shares.push(101)?;
-    Board::open(alloc, two_sessions(alloc)?, shares)
-}
 
 fn no_fences(alloc: Global) -> PresentArgs
     ensures { result ≡ record { time = 0; acquire = []; release = []; unsquashable = false } }
@@ -285,36 +226,6 @@ fn frames_of(entries: &[Entry]) -> Option<u32> {
     if is_open { None } else { Some(frames) }
 }
 
-/// The seats of a new stage.
-#[derive(Drop)]
-pub(crate) struct Cast {
-    pub(crate) stage: Stage,
-    pub(crate) compositor: CompositorSeat,
-    pub(crate) seats: SessionSeats,
-    pub(crate) first: SessionSeat,
-    pub(crate) second: SessionSeat,
-}
-
-/// A stage, and its seats handed out.
-pub(crate) fn new_cast(alloc: Global) -> Result<Cast, Fail>
-    ensures seats { IfOk result (λ c. c.seats.stage ≡ c.stage) }
-    ensures compositor { IfOk result (λ c. (c.compositor.stage ≡ c.stage)
-        × MayBegin 10 0 c.compositor) }
-    ensures first { IfOk result (λ c. (c.first.stage ≡ c.stage) × MayRead 101 c.first) }
-    ensures second { IfOk result (λ c. (c.second.stage ≡ c.stage) × MayRead 101 c.second) }
-{
-    let (stage, compositor, mut seats) = Stage::new(alloc, opened(alloc)?)?;
-    let first = seats.take(SessionNo(1)).ok_or("no seat")?;
-    let second = seats.take(SessionNo(2)).ok_or("no seat")?;
-    Ok(Cast {
-        stage,
-        compositor,
-        seats,
-        first,
-        second,
-    })
-}
-
 /// Both sessions' seats come home, and so no other is away.
 fn put_both(seats: &mut SessionSeats, both: Both) -> Result<(), Fail>
     requires first { IfOk both.0 (λ seat. seat.stage ≡ seats.old.stage) }
@@ -381,7 +292,9 @@ fn counts(board: &Board) -> [Option<u32>; 4] {
 #[test]
 fn seats_on_two_threads(rt: HostRuntime) -> Result<(), Fail> {
     let mut cast = new_cast(rt.alloc())?;
-    let is_away = cast.seats.take(SessionNo(2)).is_none();
+    let away = cast.seats.take(SessionNo(2));
+    let is_away = away.is_none();
+    drop(away);
     let board = run(&rt, rt.alloc(), cast)?;
     let counts = counts(&board);
     drop(board);

@@ -1,0 +1,125 @@
+//! A new stage of two sessions, with all its seats handed out.
+ghost use Rattle.std.specs.Prelude.{◌≡◌, [], ◌∷◌, IfOk, IfSome, Some};
+ghost use Rattle.flat_base.specs.declared.ids.Actor.TheVariants.{Display};
+ghost use Rattle.flat_stage_tests.specs.Room.{MayBegin, MayRead};
+
+use flat_base::{Actor, Items, NoMemory, ONE, SessionNo, ShareList};
+use flat_core::Board;
+use flat_scene::{PairDecl, Setup};
+use flat_stage::{CompositorSeat, SessionSeat, SessionSeats, Stage};
+use std::alloc::Global;
+use std::test::Fail;
+
+/// A display that shows session 1, beside session 2.
+fn two_sessions(alloc: Global) -> Result<Setup, NoMemory>
+    ensures { IfOk result (λ setup. setup
+        ≡ record {
+          width = 100;
+          height = 50;
+          sessions = 2;
+          probes = 0;
+          pairs = record
+              { viewport = Display; view = record { 0 = 1 } } ∷ [];
+          buffers = [];
+          fences = [];
+          version = 1;
+          ratio = 65536;
+        }) }
+{
+    let mut pairs = Items::new(alloc);
+    pairs.push(PairDecl {
+        viewport: Actor::Display,
+        view: SessionNo(1),
+    })?;
+    Ok(Setup {
+        width: 100,
+        height: 50,
+        sessions: 2,
+        probes: 0,
+        pairs,
+        buffers: Items::new(alloc),
+        fences: Items::new(alloc),
+        version: 1,
+        ratio: ONE,
+    })
+}
+
+fn opened(alloc: Global) -> Result<Board, NoMemory>
+    ensures { IfOk result (λ board. board
+        ≡ record {
+          setup = record {
+            width = 100;
+            height = 50;
+            sessions = 2;
+            probes = 0;
+            pairs = record { viewport = Display; view = record { 0 = 1 } }
+                ∷ [];
+            buffers = [];
+            fences = [];
+            version = 1;
+            ratio = 65536;
+          };
+          shares = 20 ∷ 101 ∷ 101 ∷ [];
+          history = [];
+        }) }
+{
+    let mut shares = ShareList::new(alloc);
+    shares.push(20)?;
+    shares.push(101)?;
+    shares.push(101)?;
+    Board::open(alloc, two_sessions(alloc)?, shares)
+}
+
+/// The seats of a new stage.
+#[derive(Drop)]
+pub(crate) struct Cast {
+    pub(crate) stage: Stage,
+    pub(crate) compositor: CompositorSeat,
+    pub(crate) seats: SessionSeats,
+    pub(crate) first: SessionSeat,
+    pub(crate) second: SessionSeat,
+}
+
+/// Two seats, where both are there.
+fn both_of(
+    first: Option<SessionSeat>,
+    second: Option<SessionSeat>,
+) -> Option<(SessionSeat, SessionSeat)>
+    ensures { IfSome result (λ r. (first ≡ Some r.0) × (second ≡ Some r.1)) }
+{
+    let Some(first) = first else {
+        drop(second);
+        return None;
+    };
+    let Some(second) = second else {
+        drop(first);
+        return None;
+    };
+    Some((first, second))
+}
+
+/// A stage, and its seats handed out.
+pub(crate) fn new_cast(alloc: Global) -> Result<Cast, Fail>
+    ensures seats { IfOk result (λ c. c.seats.stage ≡ c.stage) }
+    ensures compositor { IfOk result (λ c. (c.compositor.stage ≡ c.stage)
+        × MayBegin 10 0 c.compositor) }
+    ensures first { IfOk result (λ c. (c.first.stage ≡ c.stage) × MayRead 101 c.first) }
+    ensures second { IfOk result (λ c. (c.second.stage ≡ c.stage) × MayRead 101 c.second) }
+{
+    let (stage, compositor, mut seats) = Stage::new(alloc, opened(alloc)?)?;
+    let first = seats.take(SessionNo(1));
+    let second = seats.take(SessionNo(2));
+    let Some((first, second)) = both_of(first, second) else {
+        drop(stage);
+        drop(compositor);
+        drop(seats);
+        return Err("no seat".into());
+    };
+    Ok(Cast {
+        stage,
+        compositor,
+        seats,
+        first,
+        second,
+    })
+}
