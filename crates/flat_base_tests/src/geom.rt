@@ -45,9 +45,12 @@ fn rectangles_turn(rt: HostRuntime) {
         ),
     ];
     for (turn, placed, mapped) in cases {
-        assert_eq!(rt; outer(turn), placed);
-        assert_eq!(rt; map_rect(placed, ten_by_twenty), mapped);
-        assert_eq!(rt; compose(scaling(ONE), placed), placed);
+        let found = (
+            outer(turn),
+            map_rect(placed, ten_by_twenty),
+            compose(scaling(ONE), placed),
+        );
+        assert_eq!(rt; found, (placed, mapped, placed));
     }
 }
 
@@ -98,55 +101,58 @@ fn matrices_compose(rt: HostRuntime) {
 #[test]
 fn products_round_towards_zero(rt: HostRuntime) {
     let halves = matrix(false, 32_768, -32_768, 0, 0);
-    assert_eq!(rt; map_rect(halves, rect(1, 1, 3, 3)), rect(0, -1, 1, 0));
-    assert_eq!(rt; map_point(halves, 3, 3), (1, -1));
+    let found = (map_rect(halves, rect(1, 1, 3, 3)), map_point(halves, 3, 3));
+    assert_eq!(rt; found, (rect(0, -1, 1, 0), (1, -1)));
 }
 
 #[test]
 fn places_and_entries_saturate(rt: HostRuntime) {
-    let far = local(65_536, 65_536, Orientation::Ccw0, i32::MAX, i32::MIN);
-    assert_eq!(rt;
-        far,
+    let large = matrix(false, 16_777_216, 16_777_216, 0, 0);
+    let found = [
+        local(65_536, 65_536, Orientation::Ccw0, i32::MAX, i32::MIN),
+        compose(large, large),
+        local(u32::MAX, u32::MAX, Orientation::Ccw180, 0, 0),
+    ];
+    let expected = [
         matrix(
             false,
             65_536,
             65_536,
             70_368_744_177_664,
-            -70_368_744_177_664
-        )
-    );
-    let large = matrix(false, 16_777_216, 16_777_216, 0, 0);
-    assert_eq!(rt;
-        compose(large, large),
-        matrix(false, 2_147_483_648, 2_147_483_648, 0, 0)
-    );
-    let huge = local(u32::MAX, u32::MAX, Orientation::Ccw180, 0, 0);
-    assert_eq!(rt; huge, matrix(false, -2_147_483_648, -2_147_483_648, 0, 0));
+            -70_368_744_177_664,
+        ),
+        matrix(false, 2_147_483_648, 2_147_483_648, 0, 0),
+        matrix(false, -2_147_483_648, -2_147_483_648, 0, 0),
+    ];
+    assert_eq!(rt; found, expected);
 }
 
 #[test]
 fn rectangles_hold_their_lower_bounds(rt: HostRuntime) {
     let square = rect(0, 0, 10, 10);
     let touching = intersect(square, rect(10, -5, 20, 5));
-    assert_eq!(rt; touching, rect(10, 0, 10, 5));
-    for (r, empty) in [
-        (square, false),
-        (touching, true),
-        (rect(3, 1, 2, 5), true),
-        (rect(1, 3, 5, 3), true),
-    ] {
-        assert_eq!(rt; is_empty(r), empty);
-    }
-    for (x, y, held) in [
-        (0, 0, true),
-        (9, 9, true),
-        (10, 5, false),
-        (5, 10, false),
-        (-1, 5, false),
-        (5, -1, false),
-    ] {
-        assert_eq!(rt; contains(square, x, y), held, "at {x} {y}");
-    }
+    let empty = [
+        is_empty(square),
+        is_empty(touching),
+        is_empty(rect(3, 1, 2, 5)),
+        is_empty(rect(1, 3, 5, 3)),
+    ];
+    let held = [
+        contains(square, 0, 0),
+        contains(square, 9, 9),
+        contains(square, 10, 5),
+        contains(square, 5, 10),
+        contains(square, -1, 5),
+        contains(square, 5, -1),
+    ];
+    assert_eq!(rt;
+        (touching, empty, held),
+        (
+            rect(10, 0, 10, 5),
+            [false, true, true, true],
+            [true, true, false, false, false, false]
+        )
+    );
 }
 
 #[test]
@@ -157,20 +163,20 @@ fn units_are_exact(rt: HostRuntime) {
         w: 3,
         h: 4,
     };
-    assert_eq!(rt; units(small), rect(-65_536, 131_072, 131_072, 393_216));
     let far = IntRect {
         x: i32::MAX,
         y: i32::MIN,
         w: i32::MAX,
         h: i32::MIN,
     };
-    assert_eq!(rt;
-        units(far),
+    let expected = [
+        rect(-65_536, 131_072, 131_072, 393_216),
         rect(
             140_737_488_289_792,
             -140_737_488_355_328,
             281_474_976_579_584,
-            -281_474_976_710_656
-        )
-    );
+            -281_474_976_710_656,
+        ),
+    ];
+    assert_eq!(rt; [units(small), units(far)], expected);
 }

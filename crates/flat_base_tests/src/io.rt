@@ -1,5 +1,6 @@
-ghost use Rattle.std.specs.Prelude.{◌≡◌};
+ghost use Rattle.std.specs.Prelude.{◌≡◌, ◌<◌};
 
+use flat_base::NoMemory;
 use flat_io::{
     Failed, MemSink, MemSource, ReadAll, Sink, Source, StdSink, StdSource, SteadySink,
     SteadySource, WriteAll, read_all, write_all,
@@ -40,12 +41,12 @@ impl Sink for Sips {
     }
 }
 
-fn mem_source(alloc: Global, bytes: &[u8], fail: &[u32]) -> Result<MemSource, Fail> {
+fn mem_source(alloc: Global, bytes: &[u8], fail: &[u32]) -> Result<MemSource, NoMemory> {
     Ok(MemSource::new(bytes.to_vec(alloc)?, fail.to_vec(alloc)?))
 }
 
-fn mem_sink(alloc: Global, room: usize, fail: &[u32], zero: &[u32]) -> Result<MemSink, Fail> {
-    Ok(MemSink::new(alloc, room, fail.to_vec(alloc)?, zero.to_vec(alloc)?)?)
+fn mem_sink(alloc: Global, room: usize, fail: &[u32], zero: &[u32]) -> Result<MemSink, NoMemory> {
+    MemSink::new(alloc, room, fail.to_vec(alloc)?, zero.to_vec(alloc)?)
 }
 
 #[test]
@@ -53,110 +54,178 @@ fn a_steady_sink_drops_all_from_the_first_piece_that_does_not_fit(
     rt: HostRuntime,
 ) -> Result<(), Fail> {
     let mut sink = SteadySink::new(rt.alloc(), 4)?;
-    assert_eq!(rt; sink.write(b"ab"), Ok(2));
-    assert_eq!(rt; sink.write(b"cde"), Ok(3));
-    assert_eq!(rt; sink.write(b"f"), Ok(1));
-    assert_eq!(rt; sink.bytes(), b"ab".as_slice());
+    let writes = [sink.write(b"ab"), sink.write(b"cde"), sink.write(b"f")];
+    assert_eq!(rt;
+        (writes, sink.bytes()),
+        ([Ok(2), Ok(3), Ok(1)], b"ab".as_slice())
+    );
     Ok(())
+}
+
+/// What three reads of a byte each answer, and the bytes after the second and the third.
+fn read_three(source: &mut MemSource) -> ([Result<usize, Failed>; 3], [[u8; 1]; 2]) {
+    let mut into = [0u8; 1];
+    let first = source.read(&mut into);
+    let second = source.read(&mut into);
+    let before = into;
+    let third = source.read(&mut into);
+    ([first, second, third], [before, into])
 }
 
 #[test]
 fn a_source_fails_at_the_chosen_calls(rt: HostRuntime) -> Result<(), Fail> {
     let mut source = mem_source(rt.alloc(), b"ab", &[2])?;
-    let mut into = [0u8; 1];
-    let before = [source.read(&mut into), source.read(&mut into)];
-    let first = into;
-    let after = source.read(&mut into);
-    assert_eq!(rt; before, [Ok(1), Err(Failed)]);
-    assert_eq!(rt; after, Ok(1));
-    assert_eq!(rt; [first, into], [*b"a", *b"b"]);
+    assert_eq!(rt;
+        read_three(&mut source),
+        ([Ok(1), Err(Failed), Ok(1)], [*b"a", *b"b"])
+    );
     Ok(())
 }
 
-#[test]
-fn a_sink_fails_at_the_chosen_calls(rt: HostRuntime) -> Result<(), Fail> {
-    let mut sink = mem_sink(rt.alloc(), 8, &[1, 4], &[2, 4])?;
-    let writes = [
+fn write_five(sink: &mut MemSink) -> [Result<usize, Failed>; 5] {
+    [
         sink.write(b"ab"),
         sink.write(b"ab"),
         sink.write(b"ab"),
         sink.write(b"cd"),
         sink.write(b"ef"),
-    ];
-    assert_eq!(rt; writes, [Err(Failed), Ok(0), Ok(2), Err(Failed), Ok(2)]);
-    assert_eq!(rt; sink.bytes(), b"abef".as_slice());
-    Ok(())
+    ]
 }
 
 #[test]
-fn a_text_is_read_whole_up_to_the_limit(rt: HostRuntime) -> Result<(), Fail> {
+fn a_sink_fails_at_the_chosen_calls(rt: HostRuntime) -> Result<(), Fail> {
+    let mut sink = mem_sink(rt.alloc(), 8, &[1, 4], &[2, 4])?;
+    let writes = write_five(&mut sink);
+    let expected = [Err(Failed), Ok(0), Ok(2), Err(Failed), Ok(2)];
+    assert_eq!(rt; (writes, sink.bytes()), (expected, b"abef".as_slice()));
+    Ok(())
+}
+
+const TEXT: &[u8] = b"scene";
+
+/// Whether TEXT is read where it is within the limit, and else too long.
+fn is_limited(read: &Result<Vec<u8>, ReadAll>, limit: usize) -> bool {
+    match read {
+        Ok(text) => limit >= 5 && text.as_slice() == TEXT,
+        Err(ReadAll::TooLong) => limit < 5,
+        Err(_) => false,
+    }
+}
+
+fn read_up_to(alloc: Global, limit: usize) -> Result<bool, NoMemory> {
+    let mut source = SteadySource::new(TEXT.to_vec(alloc)?);
+    let read = read_all(alloc, &mut source, limit);
+    Ok(is_limited(&read, limit))
+}
+
+fn first_wrong_limit(alloc: Global) -> Result<Option<usize>, NoMemory> {
     for limit in 0..8 {
-        let mut source = SteadySource::new(b"scene".to_vec(rt.alloc())?);
-        match read_all(rt.alloc(), &mut source, limit) {
-            Ok(text) => {
-                assert!(rt; limit >= 5);
-                assert_eq!(rt; text.as_slice(), b"scene".as_slice());
-            }
-            Err(ReadAll::TooLong) => assert!(rt; limit < 5),
-            Err(_) => assert!(rt; false),
+        if !read_up_to(alloc, limit)? {
+            return Ok(Some(limit));
         }
     }
-    Ok(())
+    Ok(None)
 }
 
 #[test]
-fn a_read_that_fails_at_any_place_is_a_fault(rt: HostRuntime) -> Result<(), Fail> {
-    for place in 1..8u32 {
-        let mut source = Drops(mem_source(rt.alloc(), b"scene", &[place])?);
-        match read_all(rt.alloc(), &mut source, 100) {
-            Ok(text) => {
-                assert_eq!(rt; place, 7);
-                assert_eq!(rt; text.as_slice(), b"scene".as_slice());
-            }
-            Err(ReadAll::Fault) => {
-                assert!(rt; place <= 6);
-                let rest = read_all(rt.alloc(), &mut source, 100).map_err(|_| "no rest")?;
-                assert_eq!(rt; rest.len(), 6 - place as usize);
-            }
-            Err(_) => assert!(rt; false),
+fn a_text_is_read_whole_up_to_the_limit(rt: HostRuntime) {
+    assert_eq!(rt; first_wrong_limit(rt.alloc()), Ok(None));
+}
+
+/// Whether TEXT is read where the read at a place fails that is behind its end, and else is
+/// a fault, and then the rest is read.
+fn is_read_on(
+    read: &Result<Vec<u8>, ReadAll>,
+    rest: &Result<Vec<u8>, ReadAll>,
+    place: u32,
+) -> bool {
+    match (read, rest) {
+        (Ok(text), _) => place == 7 && text.as_slice() == TEXT,
+        (Err(ReadAll::Fault), Ok(rest)) => place <= 6 && rest.len() == 6 - place as usize,
+        _ => false,
+    }
+}
+
+fn read_through(alloc: Global, place: u32) -> Result<bool, NoMemory> {
+    let mut source = Drops(mem_source(alloc, TEXT, &[place])?);
+    let read = read_all(alloc, &mut source, 100);
+    let rest = read_all(alloc, &mut source, 100);
+    Ok(is_read_on(&read, &rest, place))
+}
+
+fn first_wrong_read(alloc: Global) -> Result<Option<u32>, NoMemory> {
+    for place in 1..8 {
+        if !read_through(alloc, place)? {
+            return Ok(Some(place));
         }
     }
-    Ok(())
+    Ok(None)
 }
 
 #[test]
-fn a_write_that_fails_or_stalls_at_any_place_is_a_fault(rt: HostRuntime) -> Result<(), Fail> {
-    for place in 1..7u32 {
+fn a_read_that_fails_at_any_place_is_a_fault(rt: HostRuntime) {
+    assert_eq!(rt; first_wrong_read(rt.alloc()), Ok(None));
+}
+
+/// A sink whose write at a place stalls or fails.
+fn bad_sink(alloc: Global, place: u32, stalls: bool) -> Result<MemSink, NoMemory> {
+    if stalls {
+        mem_sink(alloc, 9, &[], &[place])
+    } else {
+        mem_sink(alloc, 9, &[place], &[])
+    }
+}
+
+/// Whether TEXT is written where that place is behind its end, and else what is in front of
+/// the place.
+fn is_written(written: &Result<(), WriteAll>, bytes: &[u8], place: u32) -> bool
+    requires { 0 < place }
+{
+    match written {
+        Ok(()) => place == 6 && bytes == TEXT,
+        Err(WriteAll::Fault) => place <= 5 && bytes.len() == place as usize - 1,
+    }
+}
+
+fn write_through(alloc: Global, place: u32, stalls: bool) -> Result<bool, NoMemory>
+    requires { 0 < place }
+{
+    let mut sink = Sips(bad_sink(alloc, place, stalls)?);
+    let written = write_all(&mut sink, TEXT);
+    Ok(is_written(&written, sink.0.bytes(), place))
+}
+
+fn first_wrong_write(alloc: Global) -> Result<Option<(u32, bool)>, NoMemory> {
+    for place in 1..7 {
         for stalls in [false, true] {
-            let sink = if stalls {
-                mem_sink(rt.alloc(), 9, &[], &[place])?
-            } else {
-                mem_sink(rt.alloc(), 9, &[place], &[])?
-            };
-            let mut sink = Sips(sink);
-            match write_all(&mut sink, b"scene") {
-                Ok(()) => {
-                    assert_eq!(rt; place, 6);
-                    assert_eq!(rt; sink.0.bytes(), b"scene".as_slice());
-                }
-                Err(WriteAll::Fault) => {
-                    assert!(rt; place <= 5);
-                    assert_eq!(rt; sink.0.bytes().len(), place as usize - 1);
-                }
+            if !write_through(alloc, place, stalls)? {
+                return Ok(Some((place, stalls)));
             }
         }
     }
-    Ok(())
+    Ok(None)
+}
+
+#[test]
+fn a_write_that_fails_or_stalls_at_any_place_is_a_fault(rt: HostRuntime) {
+    assert_eq!(rt; first_wrong_write(rt.alloc()), Ok(None));
+}
+
+fn read_system(alloc: Global) -> Result<Vec<u8>, ReadAll> {
+    let mut source = StdSource::new(Cursor::new(TEXT));
+    read_all(alloc, &mut source, 5)
+}
+
+fn write_system(held: &mut Vec<u8>, text: &[u8]) -> Result<(), WriteAll> {
+    let mut sink = StdSink::new(held);
+    write_all(&mut sink, text)
 }
 
 #[test]
 fn the_system_is_read_and_written_through(rt: HostRuntime) -> Result<(), Fail> {
-    let mut source = StdSource::new(Cursor::new(b"scene".as_slice()));
-    let text = read_all(rt.alloc(), &mut source, 5)?;
-    assert_eq!(rt; text.as_slice(), b"scene".as_slice());
+    let text = read_system(rt.alloc())?;
     let mut held = Vec::new(rt.alloc());
-    let mut sink = StdSink::new(&mut held);
-    write_all(&mut sink, text.as_slice())?;
-    assert_eq!(rt; held.as_slice(), b"scene".as_slice());
+    let written = write_system(&mut held, text.as_slice());
+    assert!(rt; written.is_ok() && text.as_slice() == TEXT && held.as_slice() == TEXT);
     Ok(())
 }

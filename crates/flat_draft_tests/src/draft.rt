@@ -1,8 +1,9 @@
 use flat_base::{ContentId, Items, PairNo, Reason, TransformId};
 use flat_draft::{Draft, DraftFault};
-use flat_scene::{Call, Inset, PresentArgs, TransformList, Watch};
+use flat_scene::{Call, Inset, PresentArgs, Watch};
+use flat_snap::Snapshot;
 use std::alloc::Global;
-use std::test::Fail;
+use std::sync::Arc;
 
 const PAIR: PairNo = PairNo(3);
 
@@ -24,7 +25,7 @@ const CREATE_VIEWPORT: Call = Call::CreateViewport {
 };
 
 /// The reason of a refusal by a misuse.
-fn reason<T: Drop>(answer: Result<T, DraftFault>) -> Option<Reason> {
+fn reason(answer: Result<(), DraftFault>) -> Option<Reason> {
     match answer {
         Err(DraftFault::Bad(reason)) => Some(reason),
         _ => None,
@@ -33,7 +34,9 @@ fn reason<T: Drop>(answer: Result<T, DraftFault>) -> Option<Reason> {
 
 /// Why a second view and a second viewport are refused, whether the draft is open in
 /// between, and the pair of the first viewport.
-fn use_ends(draft: &mut Draft) -> Result<(Option<Reason>, bool, Option<Reason>, PairNo), Fail> {
+type Used = (Option<Reason>, bool, Option<Reason>, PairNo);
+
+fn use_ends(draft: &mut Draft) -> Result<Used, DraftFault> {
     draft.call(&CREATE_VIEW)?;
     let second_view = reason(draft.ready(&CREATE_VIEW));
     let is_open = !draft.is_closed();
@@ -44,26 +47,20 @@ fn use_ends(draft: &mut Draft) -> Result<(Option<Reason>, bool, Option<Reason>, 
     Ok((second_view, is_open, second_viewport, watched))
 }
 
-#[test]
-fn readies_what_uses_an_end(rt: HostRuntime) -> Result<(), Fail> {
-    let mut draft = Draft::new(rt.alloc(), Items::new(rt.alloc()));
-    let used = use_ends(&mut draft)?;
-    let (has_view, in_use) = (Some(Reason::HasView), Some(Reason::IdInUse));
-    assert_eq!(rt; used, (has_view, true, in_use, PAIR));
-    Ok(())
-}
-
-/// Two transforms, by their ids.
-fn pair_of(alloc: Global, first: u64, second: u64) -> Result<TransformList, Fail> {
-    let mut ids = Items::new(alloc);
-    ids.push(TransformId(first))?;
-    ids.push(TransformId(second))?;
-    Ok(ids)
-}
-
-/// A draft of three transforms. The first is the root, and the second its child.
-fn three(alloc: Global) -> Result<Draft, Fail> {
+fn use_ends_anew(alloc: Global) -> Result<Used, DraftFault> {
     let mut draft = Draft::new(alloc, Items::new(alloc));
+    use_ends(&mut draft)
+}
+
+#[test]
+fn readies_what_uses_an_end(rt: HostRuntime) {
+    let used = use_ends_anew(rt.alloc()).ok();
+    let (has_view, in_use) = (Some(Reason::HasView), Some(Reason::IdInUse));
+    assert_eq!(rt; used, Some((has_view, true, in_use, PAIR)));
+}
+
+/// Makes three transforms. The first is the root, and the second its child.
+fn make_three(draft: &mut Draft) -> Result<(), DraftFault> {
     for id in 1..=3 {
         draft.call(&Call::CreateTransform { t: TransformId(id) })?;
     }
@@ -71,51 +68,83 @@ fn three(alloc: Global) -> Result<Draft, Fail> {
     draft.call(&Call::AddChild {
         p: TransformId(1),
         k: TransformId(2),
-    })?;
-    Ok(draft)
+    })
 }
 
-/// The serial numbers of the nodes that a present of the draft shows, in their order.
-fn shown(alloc: Global, draft: &mut Draft) -> Result<Vec<u32>, Fail> {
-    let snapshot = draft.present(&PresentArgs {
+/// Replaces the children of the first transform.
+fn replace(alloc: Global, draft: &mut Draft, ids: &[TransformId]) -> Result<(), DraftFault> {
+    let p = TransformId(1);
+    let mut children = Items::new(alloc);
+    if children.extend_from_slice(ids).is_err() {
+        return Err(DraftFault::Memory);
+    }
+    draft.call(&Call::ReplaceChildren { p, children })
+}
+
+fn present(alloc: Global, draft: &mut Draft) -> Result<Arc<Snapshot>, DraftFault> {
+    draft.present(&PresentArgs {
         time: 0,
         acquire: Items::new(alloc),
         release: Items::new(alloc),
         unsquashable: false,
-    })?;
-    let mut serials = Vec::new(alloc);
-    for place in 0..snapshot.nodes() {
-        serials.push(snapshot.node(place).serial)?;
+    })
+}
+
+/// Whether the nodes of a snapshot have these serial numbers, in their order.
+fn are_serials(snapshot: &Snapshot, serials: &[u32]) -> bool {
+    if snapshot.nodes() as usize != serials.len() {
+        return false;
     }
-    Ok(serials)
+    for place in 0..snapshot.nodes() {
+        if snapshot.node(place).serial != serials[place as usize] {
+            return false;
+        }
+    }
+    true
+}
+
+/// Whether a present of the draft shows nodes of these serial numbers, in their order.
+fn shows(alloc: Global, draft: &mut Draft, serials: &[u32]) -> Result<bool, DraftFault> {
+    let snapshot = present(alloc, draft)?;
+    Ok(are_serials(&snapshot, serials))
+}
+
+/// Whether presents of a new draft show the two children that replace the first one, and
+/// then none.
+fn replace_twice(alloc: Global, draft: &mut Draft) -> Result<[bool; 2], DraftFault> {
+    make_three(draft)?;
+    replace(alloc, draft, &[TransformId(3), TransformId(2)])?;
+    let both = shows(alloc, draft, &[1, 3, 2])?;
+    replace(alloc, draft, &[])?;
+    let none = shows(alloc, draft, &[1])?;
+    Ok([both, none])
+}
+
+fn replaced(alloc: Global) -> Result<[bool; 2], DraftFault> {
+    let mut draft = Draft::new(alloc, Items::new(alloc));
+    replace_twice(alloc, &mut draft)
 }
 
 #[test]
-fn replaces_children(rt: HostRuntime) -> Result<(), Fail> {
-    let alloc = rt.alloc();
-    let mut draft = three(alloc)?;
-    let p = TransformId(1);
-    let children = pair_of(alloc, 3, 2)?;
-    draft.call(&Call::ReplaceChildren { p, children })?;
-    let both = shown(alloc, &mut draft)?;
-    let children = Items::new(alloc);
-    draft.call(&Call::ReplaceChildren { p, children })?;
-    let none = shown(alloc, &mut draft)?;
-    let are_shown = both.as_slice() == [1, 3, 2].as_slice() && none.as_slice() == [1].as_slice();
-    assert!(rt; are_shown);
-    Ok(())
+fn replaces_children(rt: HostRuntime) {
+    assert_eq!(rt; replaced(rt.alloc()).ok(), Some([true, true]));
+}
+
+/// Why children of whom one is listed twice are refused, and whether the draft, which is
+/// new, is closed then.
+fn list_twice(alloc: Global, draft: &mut Draft) -> Result<(Option<Reason>, bool), DraftFault> {
+    make_three(draft)?;
+    let refused = reason(replace(alloc, draft, &[TransformId(2), TransformId(2)]));
+    Ok((refused, draft.is_closed()))
+}
+
+fn refused(alloc: Global) -> Result<(Option<Reason>, bool), DraftFault> {
+    let mut draft = Draft::new(alloc, Items::new(alloc));
+    list_twice(alloc, &mut draft)
 }
 
 #[test]
-fn children_listed_twice_close_the_draft(rt: HostRuntime) -> Result<(), Fail> {
-    let alloc = rt.alloc();
-    let mut draft = three(alloc)?;
-    let children = pair_of(alloc, 2, 2)?;
-    let p = TransformId(1);
-    let refused = reason(draft.call(&Call::ReplaceChildren { p, children }));
-    assert_eq!(rt;
-        (refused, draft.is_closed()),
-        (Some(Reason::AlreadyChild), true)
-    );
-    Ok(())
+fn children_listed_twice_close_the_draft(rt: HostRuntime) {
+    let expected = (Some(Reason::AlreadyChild), true);
+    assert_eq!(rt; refused(rt.alloc()).ok(), Some(expected));
 }

@@ -1,23 +1,20 @@
 use flat_base::TransformId;
 use flat_graph::Graph;
-use flat_scene::Held;
+use flat_scene::{GraphFault, Held};
 use std::alloc::Global;
-use std::test::Fail;
 
-const FIRST: TransformId = TransformId(1);
+pub const FIRST: TransformId = TransformId(1);
 
-const SECOND: TransformId = TransformId(2);
+pub const SECOND: TransformId = TransformId(2);
 
-const THIRD: TransformId = TransformId(3);
+pub const THIRD: TransformId = TransformId(3);
 
-/// A graph of three transforms, with the first as its root.
-fn three(alloc: Global) -> Result<Graph, Fail> {
-    let mut graph = Graph::new(alloc);
+/// Makes three transforms.
+pub fn create_three(graph: &mut Graph) -> Result<(), GraphFault> {
     for id in 1..=3 {
         graph.create(TransformId(id))?;
     }
-    graph.set_root(FIRST)?;
-    Ok(graph)
+    Ok(())
 }
 
 /// What the root's transform holds.
@@ -25,23 +22,32 @@ fn held_by_root(graph: &Graph) -> Option<Held> {
     graph.node(graph.root()?)?.content
 }
 
+/// What the root of a new graph holds, where first all that is dropped is another content,
+/// then its own, and then another transform that held it is the root.
+fn drop_contents(graph: &mut Graph, held: Held) -> Result<[Option<Held>; 3], GraphFault> {
+    create_three(graph)?;
+    graph.set_root(FIRST)?;
+    graph.set_content(FIRST, Some(held))?;
+    graph.set_content(SECOND, Some(held))?;
+    graph.drop_content(6);
+    let kept = held_by_root(graph);
+    graph.drop_content(7);
+    let dropped = held_by_root(graph);
+    graph.set_root(SECOND)?;
+    Ok([kept, dropped, held_by_root(graph)])
+}
+
+fn dropped(alloc: Global, held: Held) -> Result<[Option<Held>; 3], GraphFault> {
+    let mut graph = Graph::new(alloc);
+    drop_contents(&mut graph, held)
+}
+
 #[test]
-fn drops_a_content(rt: HostRuntime) -> Result<(), Fail> {
-    let mut graph = three(rt.alloc())?;
+fn drops_a_content(rt: HostRuntime) {
     let held = Held {
         serial: 7,
         viewport: true,
     };
-    graph.set_content(FIRST, Some(held))?;
-    graph.set_content(SECOND, Some(held))?;
-    graph.drop_content(6);
-    let kept = held_by_root(&graph);
-    graph.drop_content(7);
-    let dropped = held_by_root(&graph);
-    graph.set_root(SECOND)?;
-    assert_eq!(rt;
-        [kept, dropped, held_by_root(&graph)],
-        [Some(held), None, None]
-    );
-    Ok(())
+    let expected = [Some(held), None, None];
+    assert_eq!(rt; dropped(rt.alloc(), held).ok(), Some(expected));
 }

@@ -1,6 +1,5 @@
 use flat_scene::{Inset, Layout, Told, Watch};
 use flat_watch::{Answer, Cell, GetAnswer};
-use std::test::Fail;
 
 fn sized(w: u32) -> Told {
     let inset = Inset {
@@ -18,7 +17,7 @@ fn sized(w: u32) -> Told {
 }
 
 #[test]
-fn a_get_is_answered_by_news(rt: HostRuntime) -> Result<(), Fail> {
+fn a_get_is_answered_by_news(rt: HostRuntime) {
     let mut cell = Cell::new();
     let unasked = cell.tell(Some(sized(5)));
     let now = Some(sized(5));
@@ -34,20 +33,21 @@ fn a_get_is_answered_by_news(rt: HostRuntime) -> Result<(), Fail> {
         get: Watch::Layout,
         value: sized(6),
     };
+    let expected = [
+        GetAnswer::Now(sized(5)),
+        GetAnswer::Held,
+        GetAnswer::BadHangingGet,
+    ];
     assert!(rt;
-        gets == [
-            GetAnswer::Now(sized(5)),
-            GetAnswer::Held,
-            GetAnswer::BadHangingGet
-        ]
+        gets == expected
+            && [unasked, same, other, after] == [None, None, Some(answer), None]
+            && cell.waits().is_none()
+            && cell.last() == Some(sized(6))
     );
-    assert!(rt; [unasked, same, other, after] == [None, None, Some(answer), None]);
-    assert!(rt; cell.waits().is_none() && cell.last() == Some(sized(6)));
-    Ok(())
 }
 
 #[test]
-fn what_is_there_no_more_answers_nothing(rt: HostRuntime) -> Result<(), Fail> {
+fn what_is_there_no_more_answers_nothing(rt: HostRuntime) {
     let mut cell = Cell::new();
     let unasked = cell.tell(Some(Told::HasPresented));
     let get = cell.get(Watch::Status, None);
@@ -57,5 +57,4 @@ fn what_is_there_no_more_answers_nothing(rt: HostRuntime) -> Result<(), Fail> {
         value: Told::Gone,
     };
     assert!(rt; get == GetAnswer::Held && [unasked, gone] == [None, Some(answer)]);
-    Ok(())
 }

@@ -3,4 +3,6 @@
 #![tactic(auto)]
 
 #[cfg(test)]
+mod journal;
+#[cfg(test)]
 mod lock;

@@ -1,8 +1,10 @@
-ghost use Rattle.std.specs.Prelude.{◌≡◌, [], ◌∷◌, ◌++◌, Some, true, IsTrue, IsFalse, OnErr, OnOk};
+ghost use Rattle.std.specs.Prelude.{◌≡◌, Some, true, IsTrue, IsFalse};
 ghost use Rattle.flat_lock.specs.History.{StartsWith, GoesOn};
+ghost use Rattle.flat_lock.specs.Seats.{AreNew};
 
+use crate::journal::{Journal, Line, changes, new_journal};
 use flat_base::NoMemory;
-use flat_lock::{LockSeat, Storied, TicketLock};
+use flat_lock::{LockSeat, LockSeats, TicketLock};
 use std::alloc::Global;
 use std::sync::Wait;
 use std::test::Fail;
@@ -10,43 +12,6 @@ use std::thread;
 use std::thread::Threads;
 
 const LINES: u32 = 400;
-
-/// One more entry of an actor.
-#[derive(Clone, Copy, Debug, PartialEq, Eq)]
-struct Line {
-    actor: u32,
-    number: u32,
-}
-
-/// A journal that several actors write, with a name that never changes.
-#[derive(Drop)]
-struct Journal {
-    name: u32,
-    lines: Vec<Line>,
-}
-
-impl Storied for Journal {
-    type Entry = Line;
-
-    type Fixed = u32;
-
-    ghost history = { λ j. j.lines.items };
-
-    ghost actor = { λ line. line.actor };
-
-    ghost fixed = { λ j. j.name };
-}
-
-impl Journal {
-    fn add(&mut self, line: Line) -> Result<(), NoMemory>
-        ensures name { self.new.name ≡ self.old.name }
-        ensures ok { OnOk result (self.new.lines.items ≡ self.old.lines.items ++ line ∷ []) }
-        ensures err { OnErr result (self.new.lines.items ≡ self.old.lines.items) }
-    {
-        self.lines.push(line)?;
-        Ok(())
-    }
-}
 
 // One turn, in which the seat's actor writes a line.
 fn write(
@@ -146,51 +111,82 @@ fn write_four<R: Threads + Wait + Sync>(
     )
 }
 
-fn new_journal(alloc: Global) -> Journal
-    ensures { result.lines.items ≡ [] }
+// The actor of a seat that is taken and stays away.
+fn taken(seats: &mut LockSeats<Journal>, place: u32) -> Option<u32> {
+    let seat = seats.take(place)?;
+    Some(seat.actor())
+}
+
+// Whether all seats are home, the actors of two seats, of one of them again, and of no
+// seats, and whether all are home then.
+fn take_each(seats: &mut LockSeats<Journal>) -> (bool, [Option<u32>; 5], bool) {
+    let before = seats.all_home();
+    let actors = [
+        taken(seats, 0),
+        taken(seats, 2),
+        taken(seats, 2),
+        taken(seats, 3),
+        taken(seats, u32::MAX),
+    ];
+    (before, actors, seats.all_home())
+}
+
+fn take_each_anew(alloc: Global) -> Result<(bool, [Option<u32>; 5], bool), NoMemory> {
+    let (_, mut seats) = TicketLock::new(alloc, new_journal(alloc), 3)?;
+    Ok(take_each(&mut seats))
+}
+
+#[test]
+fn a_seat_is_taken_once(rt: HostRuntime) {
+    let actors = [Some(0), Some(2), None, None, None];
+    assert_eq!(rt; take_each_anew(rt.alloc()), Ok((true, actors, false)));
+}
+
+// Whether all seats are home, and the journal has its name and these lines.
+fn has_lines(lock: TicketLock<Journal>, seats: LockSeats<Journal>, lines: &[Line]) -> bool
+    requires { seats.lock ≡ lock }
 {
-    Journal {
-        name: 7,
-        lines: Vec::new(alloc),
+    if !seats.all_home() {
+        return false;
     }
-}
-
-#[test]
-fn a_seat_is_taken_once(rt: HostRuntime) -> Result<(), Fail> {
-    let (_, mut seats) = TicketLock::new(rt.alloc(), new_journal(rt.alloc()), 3)?;
-    let all = seats.all_home();
-    let (Some(first), Some(second)) = (seats.take(0), seats.take(2)) else {
-        panic!(rt; "two seats are at home")
-    };
-    let others = [seats.take(2), seats.take(3), seats.take(u32::MAX)];
-    assert!(rt; all && !seats.all_home());
-    assert!(rt;
-        others.iter().all(|seat| seat.is_none()),
-        "a seat twice, or no such seat"
-    );
-    assert_eq!(rt; [first.actor(), second.actor()], [0, 2]);
-    Ok(())
-}
-
-#[test]
-fn a_seat_is_put_back(rt: HostRuntime) -> Result<(), Fail> {
-    let (lock, mut seats) = TicketLock::new(rt.alloc(), new_journal(rt.alloc()), 3)?;
-    let Some(mut seat) = seats.take(2) else {
-        panic!(rt; "the seat is at home")
-    };
-    write(&rt, &lock, &mut seat, 40)?;
-    seats.put(seat);
-    let Some(mut seat) = seats.take(2) else {
-        panic!(rt; "the seat is at home again")
-    };
-    write(&rt, &lock, &mut seat, 41)?;
-    seats.put(seat);
-    assert!(rt; seats.all_home());
     let journal = lock.close(seats);
-    let written = [40, 41].map(|number| Line { actor: 2, number });
-    assert_eq!(rt; journal.name, 7);
-    assert_eq!(rt; journal.lines.as_slice(), written.as_slice());
-    Ok(())
+    journal.name == 7 && journal.lines.as_slice() == lines
+}
+
+// A seat is taken, writes and is put back, and then again. None where it isn't at home.
+fn write_twice(
+    rt: &impl Wait,
+    lock: &TicketLock<Journal>,
+    seats: &mut LockSeats<Journal>,
+) -> Option<[Result<(), NoMemory>; 2]>
+    requires own { seats.old.lock ≡ lock.now }
+    requires new { AreNew lock.now seats.old.seats }
+    requires three { lock.now.seats ≡ 3 }
+    ensures { seats.new.lock ≡ seats.old.lock }
+{
+    let mut seat = seats.take(2)?;
+    let first = write(rt, lock, &mut seat, 40);
+    seats.put(seat);
+    let mut seat = seats.take(2)?;
+    let second = write(rt, lock, &mut seat, 41);
+    seats.put(seat);
+    Some([first, second])
+}
+
+fn write_twice_anew(
+    rt: &impl Wait,
+    alloc: Global,
+) -> Result<(Option<[Result<(), NoMemory>; 2]>, bool), NoMemory> {
+    let (lock, mut seats) = TicketLock::new(alloc, new_journal(alloc), 3)?;
+    let written = write_twice(rt, &lock, &mut seats);
+    let lines = [40, 41].map(|number| Line { actor: 2, number });
+    Ok((written, has_lines(lock, seats, &lines)))
+}
+
+#[test]
+fn a_seat_is_put_back(rt: HostRuntime) {
+    let expected = (Some([Ok(()), Ok(())]), true);
+    assert_eq!(rt; write_twice_anew(&rt, rt.alloc()), Ok(expected));
 }
 
 // A seat gives the journal, and another takes it, which was told: what the other
@@ -240,64 +236,113 @@ fn write_and_tell(
     added
 }
 
-#[test]
-fn a_seat_is_told(rt: HostRuntime) -> Result<(), Fail> {
-    let (lock, mut seats) = TicketLock::new(rt.alloc(), new_journal(rt.alloc()), 2)?;
-    let (Some(mut first), Some(mut second)) = (seats.take(0), seats.take(1)) else {
-        panic!(rt; "the seats are at home")
-    };
-    write_and_tell(&rt, &lock, &mut first, &mut second, 60)?;
-    write_and_tell(&rt, &lock, &mut second, &mut first, 70)?;
-    lock.tell(&mut first, &mut second);
-    lock.tell(&mut first, &mut second);
-    write_and_tell(&rt, &lock, &mut second, &mut first, 71)?;
+// Two seats write and tell each other in turn.
+fn tell_each_other(
+    rt: &impl Wait,
+    lock: &TicketLock<Journal>,
+    first: &mut LockSeat<Journal>,
+    second: &mut LockSeat<Journal>,
+) -> Result<(), NoMemory>
+    requires first { (first.old.lock ≡ lock.now) × IsFalse first.old.has_turn }
+    requires second { (second.old.lock ≡ lock.now) × IsFalse second.old.has_turn }
+    ensures first { (first.new.lock ≡ first.old.lock) × (first.new.actor ≡ first.old.actor)
+        × IsFalse first.new.has_turn }
+    ensures second { (second.new.lock ≡ second.old.lock) × (second.new.actor ≡ second.old.actor)
+        × IsFalse second.new.has_turn }
+{
+    write_and_tell(rt, lock, first, second, 60)?;
+    write_and_tell(rt, lock, second, first, 70)?;
+    lock.tell(first, second);
+    lock.tell(first, second);
+    write_and_tell(rt, lock, second, first, 71)
+}
+
+// The same by two seats that are taken and put back. None where one isn't at home.
+fn tell_by_two(
+    rt: &impl Wait,
+    lock: &TicketLock<Journal>,
+    seats: &mut LockSeats<Journal>,
+) -> Option<Result<(), NoMemory>>
+    requires own { seats.old.lock ≡ lock.now }
+    requires new { AreNew lock.now seats.old.seats }
+    requires two { lock.now.seats ≡ 2 }
+    ensures { seats.new.lock ≡ seats.old.lock }
+{
+    let mut first = seats.take(0)?;
+    let mut second = seats.take(1)?;
+    let written = tell_each_other(rt, lock, &mut first, &mut second);
     seats.put(first);
     seats.put(second);
-    assert!(rt; seats.all_home());
-    let journal = lock.close(seats);
-    let written = [(0, 60), (1, 70), (1, 71)].map(|(actor, number)| Line { actor, number });
-    assert_eq!(rt; journal.lines.as_slice(), written.as_slice());
-    Ok(())
+    Some(written)
 }
 
-// How often the actor changes from one line to the next; None where an actor's
-// own lines aren't its numbers from 0 on, in order.
-fn changes(lines: &[Line]) -> Option<u32> {
-    let mut next = [0; 4];
-    let mut changes = 0u32;
-    let mut last = 0;
-    for line in lines {
-        let number = next.get_mut(line.actor as usize)?;
-        if line.number != *number {
-            return None;
-        }
-        *number = line.number.checked_add(1)?;
-        if line.actor != last {
-            changes = changes.checked_add(1)?;
-        }
-        last = line.actor;
-    }
-    Some(changes)
+fn tell_anew(
+    rt: &impl Wait,
+    alloc: Global,
+) -> Result<(Option<Result<(), NoMemory>>, bool), NoMemory> {
+    let (lock, mut seats) = TicketLock::new(alloc, new_journal(alloc), 2)?;
+    let written = tell_by_two(rt, &lock, &mut seats);
+    let lines = [(0, 60), (1, 70), (1, 71)].map(|(actor, number)| Line { actor, number });
+    Ok((written, has_lines(lock, seats, &lines)))
 }
 
 #[test]
-fn threads_write_one_history(rt: HostRuntime) -> Result<(), Fail> {
-    let (lock, mut seats) = TicketLock::new(rt.alloc(), new_journal(rt.alloc()), 4)?;
-    let (Some(a), Some(b)) = (seats.take(0), seats.take(1)) else {
-        panic!(rt; "the seats are at home")
-    };
-    let (Some(c), Some(d)) = (seats.take(2), seats.take(3)) else {
-        panic!(rt; "the seats are at home")
-    };
-    let ((a, b), (c, d)) = write_four(&rt, &lock, (a, b), (c, d));
+fn a_seat_is_told(rt: HostRuntime) {
+    let expected = (Some(Ok(())), true);
+    assert_eq!(rt; tell_anew(&rt, rt.alloc()), Ok(expected));
+}
+
+// Four seats are taken, write at once and are put back. None where one isn't at home.
+fn write_by_four<R: Threads + Wait + Sync>(
+    rt: &R,
+    lock: &TicketLock<Journal>,
+    seats: &mut LockSeats<Journal>,
+) -> Option<()>
+    requires own { seats.old.lock ≡ lock.now }
+    requires new { AreNew lock.now seats.old.seats }
+    requires four { lock.now.seats ≡ 4 }
+    ensures { seats.new.lock ≡ seats.old.lock }
+{
+    let a = seats.take(0)?;
+    let b = seats.take(1)?;
+    let c = seats.take(2)?;
+    let d = seats.take(3)?;
+    let ((a, b), (c, d)) = write_four(rt, lock, (a, b), (c, d));
     seats.put(d);
     seats.put(c);
     seats.put(b);
     seats.put(a);
-    assert!(rt; seats.all_home());
+    Some(())
+}
+
+// How often the actor changes in a journal that four seats have written whole.
+fn changes_of(lock: TicketLock<Journal>, seats: LockSeats<Journal>) -> Option<u32>
+    requires { seats.lock ≡ lock }
+{
+    if !seats.all_home() {
+        return None;
+    }
     let journal = lock.close(seats);
-    assert_eq!(rt; journal.lines.len(), (4 * LINES) as usize);
-    let changes = changes(journal.lines.as_slice()).ok_or("an actor's lines are in order")?;
+    if journal.lines.len() == (4 * LINES) as usize {
+        changes(journal.lines.as_slice())
+    } else {
+        None
+    }
+}
+
+fn changes_by_four<R: Threads + Wait + Sync>(
+    rt: &R,
+    alloc: Global,
+) -> Result<Option<u32>, NoMemory> {
+    let (lock, mut seats) = TicketLock::new(alloc, new_journal(alloc), 4)?;
+    let written = write_by_four(rt, &lock, &mut seats);
+    Ok(written.and(changes_of(lock, seats)))
+}
+
+#[test]
+fn threads_write_one_history(rt: HostRuntime) -> Result<(), Fail> {
+    let changes = changes_by_four(&rt, rt.alloc())?;
+    let changes = changes.ok_or("four seats write all their lines, each in order")?;
     println!(rt; "the actor changed {changes} times")?;
     Ok(())
 }

@@ -1,14 +1,13 @@
-ghost use Rattle.std.specs.Prelude.{◌≡◌, ◌<◌, ◌≤◌, IfOk};
+ghost use Rattle.std.specs.Prelude.{◌≡◌, ◌<◌, OnOk};
 
 use flat_base::{FrameNo, IntRect, Items, NoMemory, ONE, Rect, SessionNo};
 use flat_geom::scaling;
 use flat_hit::Touchable;
-use flat_publish::{Probe, Published};
+use flat_publish::{Probe, ProbeSeats, Published};
 use flat_scene::{HitRegion, Interaction};
 use flat_topology::{Joined, Placed};
 use std::alloc::Global;
 use std::sync::{Arc, Wait};
-use std::test::Fail;
 use std::thread;
 use std::thread::Threads;
 
@@ -26,18 +25,18 @@ const DISPLAY: Rect = Rect {
     y1: 100 * 65_536,
 };
 
-/// A frame in which nothing is joined.
-fn empty(alloc: Global) -> Result<Arc<Touchable>, NoMemory> {
+/// A frame of some nodes.
+fn touchable(alloc: Global, nodes: Items<Placed>) -> Result<Arc<Touchable>, NoMemory> {
     let joined = Joined {
         display: DISPLAY,
-        nodes: Items::new(alloc),
+        nodes,
         connected: Items::new(alloc),
     };
     Ok(Arc::new(alloc, Touchable::new(alloc, joined)?)?)
 }
 
-/// A frame with one node, of a session that takes hits in a square of 10 by 10.
-fn square(alloc: Global, session: SessionNo) -> Result<Arc<Touchable>, NoMemory> {
+/// A node of a session that takes hits in a square of 10 by 10.
+fn square(alloc: Global, session: SessionNo) -> Result<Placed, NoMemory> {
     let mut hits = Items::new(alloc);
     hits.push(HitRegion {
         area: Some(IntRect {
@@ -48,8 +47,7 @@ fn square(alloc: Global, session: SessionNo) -> Result<Arc<Touchable>, NoMemory>
         }),
         interaction: Interaction::Default,
     })?;
-    let mut nodes = Items::new(alloc);
-    nodes.push(Placed {
+    Ok(Placed {
         session,
         serial: 1,
         matrix: scaling(ONE),
@@ -57,17 +55,18 @@ fn square(alloc: Global, session: SessionNo) -> Result<Arc<Touchable>, NoMemory>
         opacity: 65_536,
         content: None,
         hits,
-    })?;
-    let joined = Joined {
-        display: DISPLAY,
-        nodes,
-        connected: Items::new(alloc),
-    };
-    Ok(Arc::new(alloc, Touchable::new(alloc, joined)?)?)
+    })
 }
 
-/// How often the frames of a probe went back while it looked, and the last one.
-fn watch(mut probe: Probe) -> Result<(u32, FrameNo), NoMemory> {
+/// A frame with one node, which takes hits.
+fn one_square(alloc: Global, session: SessionNo) -> Result<Arc<Touchable>, NoMemory> {
+    let mut nodes = Items::new(alloc);
+    nodes.push(square(alloc, session)?)?;
+    touchable(alloc, nodes)
+}
+
+/// How often the frames of a probe went back while it looked.
+fn watch_on(probe: &mut Probe) -> Result<u32, NoMemory> {
     let mut backwards = 0;
     let mut last = FrameNo(0);
     for _ in 0..LOOKS {
@@ -78,7 +77,11 @@ fn watch(mut probe: Probe) -> Result<(u32, FrameNo), NoMemory> {
         last = frame;
         thread::yield_now();
     }
-    Ok((backwards, last))
+    Ok(backwards)
+}
+
+fn watch(mut probe: Probe) -> Result<u32, NoMemory> {
+    watch_on(&mut probe)
 }
 
 /// Publishes all frames.
@@ -86,7 +89,11 @@ fn publish_all<R: Wait>(rt: &R, alloc: Global, published: &mut Published) -> Res
     requires { published.old.given ≡ 0 }
 {
     for before in 0..FRAMES {
-        published.publish(rt, FrameNo(before + 1), empty(alloc)?)?;
+        published.publish(
+            rt,
+            FrameNo(before + 1),
+            touchable(alloc, Items::new(alloc))?,
+        )?;
         thread::yield_now();
     }
     Ok(())
@@ -97,52 +104,75 @@ fn watch_two<R: Threads + Wait + Sync>(
     rt: &R,
     first: Probe,
     second: Probe,
-) -> [Result<(u32, FrameNo), NoMemory>; 2] {
-    let (first, second) = thread::join(
+) -> (Result<u32, NoMemory>, Result<u32, NoMemory>) {
+    thread::join(
         rt,
-        move || -> Result<(u32, FrameNo), NoMemory> { watch(first) },
-        move || -> Result<(u32, FrameNo), NoMemory> { watch(second) },
-    );
-    [first, second]
+        move || -> Result<u32, NoMemory> { watch(first) },
+        move || -> Result<u32, NoMemory> { watch(second) },
+    )
 }
 
-/// Two probes look while all frames are published: what they saw.
+/// What two probes saw while all frames were published, and whether they were.
+type Watched = (
+    (Result<u32, NoMemory>, Result<u32, NoMemory>),
+    Result<(), NoMemory>,
+);
+
+/// Two probes look while all frames are published.
 fn watch_beside<R: Threads + Wait + Sync>(
     rt: &R,
     alloc: Global,
     published: &mut Published,
     first: Probe,
     second: Probe,
-) -> Result<[(u32, FrameNo); 2], NoMemory>
+) -> Watched
     requires { published.old.given ≡ 0 }
 {
-    let (watched, sent) = thread::join(
+    thread::join(
         rt,
-        move || -> [Result<(u32, FrameNo), NoMemory>; 2] { watch_two(rt, first, second) },
+        move || -> (Result<u32, NoMemory>, Result<u32, NoMemory>) { watch_two(rt, first, second) },
         move || -> Result<(), NoMemory>
             requires { published.now.given ≡ 0 }
         { publish_all(rt, alloc, published) },
-    );
-    sent?;
-    let [first, second] = watched;
-    Ok([first?, second?])
+    )
+}
+
+/// The same by the first two probes. None where there are no two.
+fn watch_by_two<R: Threads + Wait + Sync>(
+    rt: &R,
+    alloc: Global,
+    published: &mut Published,
+    probes: &mut ProbeSeats,
+) -> Option<Watched>
+    requires { published.old.given ≡ 0 }
+{
+    let first = probes.take(0)?;
+    let second = probes.take(1)?;
+    Some(watch_beside(rt, alloc, published, first, second))
+}
+
+/// The frame that a probe tells.
+fn frame_of(probes: &mut ProbeSeats, place: u32) -> Option<Result<FrameNo, NoMemory>> {
+    let mut probe = probes.take(place)?;
+    Some(probe.frame())
+}
+
+fn watch_anew<R: Threads + Wait + Sync>(
+    rt: &R,
+    alloc: Global,
+) -> Result<(Option<Watched>, Option<Result<FrameNo, NoMemory>>), NoMemory> {
+    let (mut published, mut probes) = Published::new(rt, alloc, 3)?;
+    let watched = watch_by_two(rt, alloc, &mut published, &mut probes);
+    let last = frame_of(&mut probes, 2);
+    published.close(rt);
+    Ok((watched, last))
 }
 
 #[test]
-fn probes_beside_fifty_frames_never_go_back(rt: HostRuntime) -> Result<(), Fail> {
-    let (mut published, mut probes) = Published::new(&rt, rt.alloc(), 3)?;
-    let watched = match (probes.take(0), probes.take(1)) {
-        (Some(first), Some(second)) => {
-            watch_beside(&rt, rt.alloc(), &mut published, first, second)
-        }
-        _ => Err(NoMemory),
-    };
-    let last = probes.take(2).map(|mut probe| probe.frame());
-    published.close(&rt);
-    let [first, second] = watched?;
-    assert_eq!(rt; [first.0, second.0], [0, 0]);
-    assert_eq!(rt; last, Some(Ok(FrameNo(FRAMES))));
-    Ok(())
+fn probes_beside_fifty_frames_never_go_back(rt: HostRuntime) {
+    let watched = ((Ok(0), Ok(0)), Ok(()));
+    let expected = (Some(watched), Some(Ok(FrameNo(FRAMES))));
+    assert_eq!(rt; watch_anew(&rt, rt.alloc()), Ok(expected));
 }
 
 /// What a probe answers: the frame, and the sessions of the first two hits.
@@ -161,41 +191,59 @@ fn ask(alloc: Global, probe: &mut Probe, x: i32) -> Result<Answer, NoMemory>
     Ok((frame, sessions))
 }
 
+/// Publishes a square of the session of the frame's number.
+fn publish_square<R: Wait>(
+    rt: &R,
+    alloc: Global,
+    published: &mut Published,
+    number: u32,
+) -> Result<(), NoMemory>
+    requires { published.old.given < number }
+    ensures home { published.new.home ≡ published.old.home }
+    ensures given { OnOk result (published.new.given ≡ number) }
+{
+    let square = one_square(alloc, SessionNo(number))?;
+    published.publish(rt, FrameNo(number), square)
+}
+
 /// Asks a probe before any frame, after the first, beside the second's square, and after
 /// it has met it.
 fn ask_each<R: Wait>(
     rt: &R,
     alloc: Global,
     published: &mut Published,
-    mut probe: Probe,
+    probe: &mut Probe,
 ) -> Result<[Answer; 4], NoMemory>
     requires given { published.old.given ≡ 0 }
-    requires home { probe.home ≡ published.old.home }
+    requires home { probe.old.home ≡ published.old.home }
 {
-    let before = ask(alloc, &mut probe, 5)?;
-    published.publish(rt, FrameNo(1), square(alloc, SessionNo(1))?)?;
-    let first = ask(alloc, &mut probe, 5)?;
-    published.publish(rt, FrameNo(2), square(alloc, SessionNo(2))?)?;
-    let beside = ask(alloc, &mut probe, 15)?;
-    published.meet(&mut probe)?;
-    let second = ask(alloc, &mut probe, 5)?;
+    let before = ask(alloc, probe, 5)?;
+    publish_square(rt, alloc, published, 1)?;
+    let first = ask(alloc, probe, 5)?;
+    publish_square(rt, alloc, published, 2)?;
+    let beside = ask(alloc, probe, 15)?;
+    published.meet(probe)?;
+    let second = ask(alloc, probe, 5)?;
     Ok([before, first, beside, second])
 }
 
-#[test]
-fn a_probe_answers_by_the_last_frame(rt: HostRuntime) -> Result<(), Fail> {
-    let (mut published, mut probes) = Published::new(&rt, rt.alloc(), 1)?;
+fn ask_anew<R: Wait>(rt: &R, alloc: Global) -> Result<[Answer; 4], NoMemory> {
+    let (mut published, mut probes) = Published::new(rt, alloc, 1)?;
     let asked = match probes.take(0) {
-        Some(probe) => ask_each(&rt, rt.alloc(), &mut published, probe),
+        Some(mut probe) => ask_each(rt, alloc, &mut published, &mut probe),
         None => Err(NoMemory),
     };
-    published.close(&rt);
+    published.close(rt);
+    asked
+}
+
+#[test]
+fn a_probe_answers_by_the_last_frame(rt: HostRuntime) {
     let expected = [
         (FrameNo(0), [None, None]),
         (FrameNo(1), [Some(SessionNo(1)), None]),
         (FrameNo(2), [None, None]),
         (FrameNo(2), [Some(SessionNo(2)), None]),
     ];
-    assert_eq!(rt; asked?, expected);
-    Ok(())
+    assert_eq!(rt; ask_anew(&rt, rt.alloc()), Ok(expected));
 }
