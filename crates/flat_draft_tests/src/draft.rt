@@ -1,3 +1,6 @@
+ghost use Rattle.std.specs.Prelude.{IsTrue};
+ghost use Rattle.flat_draft.specs.Answers.{uses_an_end};
+
 use flat_base::{ContentId, Items, PairNo, Reason, TransformId};
 use flat_draft::{Draft, DraftFault};
 use flat_scene::{Call, Inset, PresentArgs, Watch};
@@ -36,20 +39,22 @@ fn reason(answer: Result<(), DraftFault>) -> Option<Reason> {
 /// between, and the pair of the first viewport.
 type Used = (Option<Reason>, bool, Option<Reason>, PairNo);
 
-fn use_ends(draft: &mut Draft) -> Result<Used, DraftFault> {
-    draft.call(&CREATE_VIEW)?;
-    let second_view = reason(draft.ready(&CREATE_VIEW));
+fn use_ends(draft: &mut Draft, view: &Call, viewport: &Call) -> Result<Used, DraftFault>
+    requires { IsTrue (uses_an_end view.now) × IsTrue (uses_an_end viewport.now) }
+{
+    draft.call(view)?;
+    let second_view = reason(draft.ready(view));
     let is_open = !draft.is_closed();
-    draft.ready(&CREATE_VIEWPORT)?;
-    draft.call(&CREATE_VIEWPORT)?;
-    let second_viewport = reason(draft.ready(&CREATE_VIEWPORT));
+    draft.ready(viewport)?;
+    draft.call(viewport)?;
+    let second_viewport = reason(draft.ready(viewport));
     let watched = draft.get(Watch::Child(ContentId(2)))?;
     Ok((second_view, is_open, second_viewport, watched))
 }
 
 fn use_ends_anew(alloc: Global) -> Result<Used, DraftFault> {
     let mut draft = Draft::new(alloc, Items::new(alloc));
-    use_ends(&mut draft)
+    use_ends(&mut draft, &CREATE_VIEW, &CREATE_VIEWPORT)
 }
 
 #[test]
@@ -59,16 +64,18 @@ fn readies_what_uses_an_end(rt: HostRuntime) {
     assert_eq!(rt; used, Some((has_view, true, in_use, PAIR)));
 }
 
+fn call(draft: &mut Draft, c: Call) -> Result<(), DraftFault> {
+    draft.call(&c)
+}
+
 /// Makes three transforms. The first is the root, and the second its child.
 fn make_three(draft: &mut Draft) -> Result<(), DraftFault> {
     for id in 1..=3 {
-        draft.call(&Call::CreateTransform { t: TransformId(id) })?;
+        call(draft, Call::CreateTransform { t: TransformId(id) })?;
     }
-    draft.call(&Call::SetRootTransform { t: TransformId(1) })?;
-    draft.call(&Call::AddChild {
-        p: TransformId(1),
-        k: TransformId(2),
-    })
+    let (p, k) = (TransformId(1), TransformId(2));
+    call(draft, Call::SetRootTransform { t: p })?;
+    call(draft, Call::AddChild { p, k })
 }
 
 /// Replaces the children of the first transform.
@@ -78,7 +85,7 @@ fn replace(alloc: Global, draft: &mut Draft, ids: &[TransformId]) -> Result<(), 
     if children.extend_from_slice(ids).is_err() {
         return Err(DraftFault::Memory);
     }
-    draft.call(&Call::ReplaceChildren { p, children })
+    call(draft, Call::ReplaceChildren { p, children })
 }
 
 fn present(alloc: Global, draft: &mut Draft) -> Result<Arc<Snapshot>, DraftFault> {

@@ -1,8 +1,7 @@
-use crate::outcome::{Case, HEAD, first_wrong};
-use std::test::Fail;
+use crate::outcome::Case;
 
 // What follows HEAD, and the line and the kind of its fault, or 0 and the number of lines.
-const BODIES: &[Case] = &[
+pub const BODIES: &[Case] = &[
     // bad number
     (
         "A CreateView t0\nA CreateTransform 1\nA SetRootTransform 1\nA CreateFilledRect x\nA SetSolidFill 2 255 0 0 255 10 10\nA SetContent 1 2\nA Present 0\ndisplay begin 1000\ndisplay done\n",
@@ -111,9 +110,3 @@ const BODIES: &[Case] = &[
     // a time beyond it
     ("A Present 9223372036854775808\n", 6, 7),
 ];
-
-#[test]
-fn bodies(rt: HostRuntime) -> Result<(), Fail> {
-    assert_eq!(rt; first_wrong(rt.alloc(), HEAD, BODIES)?, None);
-    Ok(())
-}

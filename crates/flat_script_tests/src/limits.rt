@@ -2,13 +2,12 @@ use crate::outcome::{HEAD, outcome, outcome_of};
 use flat_base::NoMemory;
 use flat_text::push_number;
 use std::alloc::{AllocError, Global};
-use std::test::Fail;
 
 /// What follows a head, how often, what follows that, and the outcome.
 type Repeated = (&'static str, u32, &'static str, u32, u32);
 
 // Lines behind HEAD.
-const REPEATED: [Repeated; 8] = [
+const REPEATED: [Repeated; 10] = [
     ("A Clear\n", 65536, "", 0, 65541),
     ("A Clear\n", 65537, "", 65542, 11),
     ("A Clear\n", 65536, "A CreateView t1\n", 65542, 9),
@@ -35,20 +34,18 @@ const REPEATED: [Repeated; 8] = [
         1029,
         11,
     ),
+    // a remark of 1,024 bytes, and one of a byte more
+    ("#", 1024, "", 0, 6),
+    ("#", 1025, "", 6, 3),
 ];
 
-// Remarks behind HEAD: a line of 1,024 bytes, and one of a byte more.
-const LONG_LINES: [Repeated; 2] = [("#", 1024, "", 0, 6), ("#", 1025, "", 6, 3)];
+/// What is repeated, how often, and the outcome.
+type Wrong = (&'static str, u32, Option<(u32, u32)>);
 
-/// The first of the cases behind a head that has another outcome: what is repeated, how
-/// often, and the outcome.
-fn first_wrong<'a>(
-    alloc: Global,
-    head: &str,
-    cases: &'a [Repeated],
-) -> Result<Option<(&'a str, u32, Option<(u32, u32)>)>, AllocError> {
-    for (rest, times, end, line, kind) in cases {
-        let answer = outcome_of(alloc, head, rest, *times, end)?;
+/// The first of the cases that has another outcome.
+fn first_wrong(alloc: Global) -> Result<Option<Wrong>, AllocError> {
+    for (rest, times, end, line, kind) in REPEATED.iter() {
+        let answer = outcome_of(alloc, HEAD, rest, *times, end)?;
         if answer != Some((*line, *kind)) {
             return Ok(Some((*rest, *times, answer)));
         }
@@ -57,15 +54,8 @@ fn first_wrong<'a>(
 }
 
 #[test]
-fn many_lines(rt: HostRuntime) -> Result<(), Fail> {
-    assert_eq!(rt; first_wrong(rt.alloc(), HEAD, &REPEATED)?, None);
-    Ok(())
-}
-
-#[test]
-fn long_lines(rt: HostRuntime) -> Result<(), Fail> {
-    assert_eq!(rt; first_wrong(rt.alloc(), HEAD, &LONG_LINES)?, None);
-    Ok(())
+fn many_lines_and_long_ones(rt: HostRuntime) {
+    assert_eq!(rt; first_wrong(rt.alloc()), Ok(None));
 }
 
 /// The outcome of a byte so many times.
@@ -84,10 +74,9 @@ fn filled_each(alloc: Global) -> Result<[Option<(u32, u32)>; 3], AllocError> {
 }
 
 #[test]
-fn long_texts(rt: HostRuntime) -> Result<(), Fail> {
+fn long_texts(rt: HostRuntime) {
     let expected = [Some((1, 3)), Some((0, 1)), Some((16777217, 4))];
-    assert_eq!(rt; filled_each(rt.alloc())?, expected);
-    Ok(())
+    assert_eq!(rt; filled_each(rt.alloc()), Ok(expected));
 }
 
 /// The word, the name, what follows, how often, and the outcome. The pair of the display
@@ -107,40 +96,42 @@ const DECLARED: [Declared; 10] = [
     ("fence", "f", " S0 display", 4097, 4100, 11),
 ];
 
-/// A declaration of a name with a number.
-fn push_declaration(text: &mut Vec<u8>, case: &Declared, i: u32) -> Result<(), NoMemory> {
-    let (line, name, rest, ..) = case;
-    for word in [*line, " ", *name] {
+fn push_all(text: &mut Vec<u8>, words: &[&str]) -> Result<(), NoMemory> {
+    for word in words {
         text.extend_from_slice(word.as_bytes())?;
     }
-    push_number(text, i as i128)?;
-    text.extend_from_slice(rest.as_bytes())?;
-    text.push(b'\n')?;
     Ok(())
 }
 
-/// So many declarations, and what ends the text.
+/// A declaration of a name with a number.
+fn push_declaration(text: &mut Vec<u8>, case: &Declared, i: u32) -> Result<(), NoMemory> {
+    push_all(text, &[case.0, " ", case.1])?;
+    push_number(text, i as i128)?;
+    push_all(text, &[case.2, "\n"])
+}
+
+/// A text of so many declarations.
 fn push_declarations(text: &mut Vec<u8>, case: &Declared) -> Result<(), NoMemory> {
-    if case.0 != "session" {
-        text.extend_from_slice(b"session S0\n")?;
-    }
+    let first = if case.0 == "session" {
+        ""
+    } else {
+        "session S0\n"
+    };
+    push_all(text, &["flatland 1\ndisplay 1 1\n", first])?;
     for i in 0..case.3 {
         push_declaration(text, case, i)?;
     }
-    text.extend_from_slice(b"pair root display S0\nrun\n")?;
-    Ok(())
+    push_all(text, &["pair root display S0\nrun\n"])
 }
 
 fn declared(alloc: Global, case: &Declared) -> Result<Option<(u32, u32)>, NoMemory> {
-    let mut text = b"flatland 1\ndisplay 1 1\n".to_vec(alloc)?;
+    let mut text = Vec::new(alloc);
     push_declarations(&mut text, case)?;
     Ok(outcome(alloc, text.as_slice()))
 }
 
 /// The first of the cases that has another outcome: its word, how often, and the outcome.
-fn first_wrong_declared(
-    alloc: Global,
-) -> Result<Option<(&'static str, u32, Option<(u32, u32)>)>, NoMemory> {
+fn first_wrong_declared(alloc: Global) -> Result<Option<Wrong>, NoMemory> {
     for case in DECLARED.iter() {
         let answer = declared(alloc, case)?;
         if answer != Some((case.4, case.5)) {
@@ -151,7 +142,6 @@ fn first_wrong_declared(
 }
 
 #[test]
-fn many_declarations(rt: HostRuntime) -> Result<(), Fail> {
-    assert_eq!(rt; first_wrong_declared(rt.alloc())?, None);
-    Ok(())
+fn many_declarations(rt: HostRuntime) {
+    assert_eq!(rt; first_wrong_declared(rt.alloc()), Ok(None));
 }

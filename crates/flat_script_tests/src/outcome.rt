@@ -13,6 +13,9 @@ fn count_of(alloc: Global, text: &[u8]) -> Result<u32, ScriptError> {
     Ok(script.count)
 }
 
+/// What follows a head, and the outcome of the text.
+pub type Wrong = (&'static str, Option<(u32, u32)>);
+
 /// The line and the kind of a text's fault, or 0 and the number of its lines.
 pub fn outcome(alloc: Global, text: &[u8]) -> Option<(u32, u32)> {
     match count_of(alloc, text) {
@@ -44,11 +47,7 @@ fn push_times(text: &mut Vec<u8>, rest: &str, times: u32) -> Result<(), AllocErr
 }
 
 /// The first of the cases behind a head that has another outcome, and which.
-pub fn first_wrong<'a>(
-    alloc: Global,
-    head: &str,
-    cases: &'a [Case],
-) -> Result<Option<(&'a str, Option<(u32, u32)>)>, AllocError> {
+pub fn first_wrong(alloc: Global, head: &str, cases: &[Case]) -> Result<Option<Wrong>, AllocError> {
     for (rest, line, kind) in cases {
         let answer = outcome_of(alloc, head, rest, 1, "")?;
         if answer != Some((*line, *kind)) {

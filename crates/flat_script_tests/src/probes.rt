@@ -1,11 +1,11 @@
-use crate::outcome::{Case, first_wrong};
-use std::test::Fail;
+use crate::outcome::Case;
 
 // The head of the texts of PROBES.
-const PROBED: &str = "flatland 1\ndisplay 100 100\nsession A\npair t0 display A\nprobe P\nrun\n";
+pub const PROBED: &str =
+    "flatland 1\ndisplay 100 100\nsession A\npair t0 display A\nprobe P\nrun\n";
 
 // What follows PROBED, and the line and the kind of its fault, or 0 and the number of lines.
-const PROBES: [Case; 13] = [
+pub const PROBES: &[Case] = &[
     // a line of each kind
     (
         "P hit -2147483648 2147483647\nP await 0\nP await 4294967295\n",
@@ -37,9 +37,3 @@ const PROBES: [Case; 13] = [
     // a probe that isn't declared
     ("Q await 1\n", 7, 5),
 ];
-
-#[test]
-fn probes(rt: HostRuntime) -> Result<(), Fail> {
-    assert_eq!(rt; first_wrong(rt.alloc(), PROBED, &PROBES)?, None);
-    Ok(())
-}

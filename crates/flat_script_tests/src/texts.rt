@@ -1,8 +1,12 @@
-use crate::outcome::{Case, first_wrong};
-use std::test::Fail;
+use crate::bodies::BODIES;
+use crate::outcome::{Case, HEAD, Wrong, first_wrong};
+use crate::probes::{PROBED, PROBES};
+use crate::versions::{LATER, LATEST, SECOND, THIRD};
+use crate::viewports::{PAIRED, VIEWPORTS};
+use std::alloc::{AllocError, Global};
 
 // Whole texts.
-const TEXTS: [Case; 59] = [
+const TEXTS: &[Case] = &[
     // lists and conditions of a session and of the display
     (
         "flatland 1\ndisplay 100 100\nsession A\nsession B\npair t0 display A\nfence f A display\nfence g B\nrun\nA Present 0 acquire f f release f\nA Present 1 release f\nA Signal f\nA Poll\nA Wait frames 1\nA Wait credits 1\nA Wait taken 1\nA Wait fence f\ndisplay Signal f\ndisplay Wait presents B 0\ndisplay Wait fence f\nA Disconnect\n",
@@ -231,8 +235,28 @@ const TEXTS: [Case; 59] = [
     ("# one\n\n# two", 4, 4),
 ];
 
+// All cases, by their heads.
+const ALL: [(&str, &[Case]); 6] = [
+    ("", TEXTS),
+    (HEAD, BODIES),
+    (PROBED, PROBES),
+    (PAIRED, VIEWPORTS),
+    (SECOND, LATER),
+    (THIRD, LATEST),
+];
+
+/// The first of all cases that has another outcome, and which.
+fn first_wrong_of_all(alloc: Global) -> Result<Option<Wrong>, AllocError> {
+    for (head, cases) in ALL.iter() {
+        let wrong = first_wrong(alloc, head, cases)?;
+        if wrong.is_some() {
+            return Ok(wrong);
+        }
+    }
+    Ok(None)
+}
+
 #[test]
-fn texts(rt: HostRuntime) -> Result<(), Fail> {
-    assert_eq!(rt; first_wrong(rt.alloc(), "", &TEXTS)?, None);
-    Ok(())
+fn texts(rt: HostRuntime) {
+    assert_eq!(rt; first_wrong_of_all(rt.alloc()), Ok(None));
 }

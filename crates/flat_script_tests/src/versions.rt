@@ -1,12 +1,11 @@
-use crate::outcome::{Case, first_wrong};
-use std::test::Fail;
+use crate::outcome::Case;
 
 // The head of the texts of LATER.
-const SECOND: &str =
+pub const SECOND: &str =
     "flatland 2\ndisplay 100 100\nsession A\nsession B\npair t0 display A\nfence f A\nfence g B\nrun\n";
 
 // What follows SECOND, and the line and the kind of its fault, or 0 and the number of lines.
-const LATER: [Case; 32] = [
+pub const LATER: &[Case] = &[
     // presents that have to be shown
     ("A Present 0 unsquashable\n", 0, 9),
     ("A Present 0 unsquashable acquire f\n", 0, 9),
@@ -55,10 +54,10 @@ const LATER: [Case; 32] = [
 ];
 
 // The head of the texts of LATEST.
-const THIRD: &str = "flatland 3\ndisplay 100 100 131072\nsession A\npair t0 display A\nrun\n";
+pub const THIRD: &str = "flatland 3\ndisplay 100 100 131072\nsession A\npair t0 display A\nrun\n";
 
 // What follows THIRD, and the line and the kind of its fault, or 0 and the number of lines.
-const LATEST: [Case; 10] = [
+pub const LATEST: &[Case] = &[
     ("display dpr 16384\n", 0, 6),
     ("display dpr 1048576\n", 0, 6),
     ("A Present 0 unsquashable\n", 0, 6),
@@ -73,15 +72,3 @@ const LATEST: [Case; 10] = [
     ("A dpr 65536\n", 6, 6),
     ("display begin 1\ndisplay dpr 65536\ndisplay done\n", 0, 8),
 ];
-
-#[test]
-fn third(rt: HostRuntime) -> Result<(), Fail> {
-    assert_eq!(rt; first_wrong(rt.alloc(), THIRD, &LATEST)?, None);
-    Ok(())
-}
-
-#[test]
-fn second(rt: HostRuntime) -> Result<(), Fail> {
-    assert_eq!(rt; first_wrong(rt.alloc(), SECOND, &LATER)?, None);
-    Ok(())
-}

@@ -1,12 +1,11 @@
-use crate::outcome::{Case, first_wrong};
-use std::test::Fail;
+use crate::outcome::Case;
 
 // The head of the texts of VIEWPORTS.
-const PAIRED: &str =
+pub const PAIRED: &str =
     "flatland 1\ndisplay 100 100\nsession A\nsession B\npair t0 display A\npair t1 A B\nrun\n";
 
 // What follows PAIRED, and the line and the kind of its fault, or 0 and the number of lines.
-static VIEWPORTS: [Case; 47] = [
+pub const VIEWPORTS: &[Case] = &[
     // a viewport
     ("A CreateViewport 1 t1 9 9\n", 0, 8),
     // with an inset
@@ -114,9 +113,3 @@ static VIEWPORTS: [Case; 47] = [
     // a point of a session
     ("A hit 5 5\n", 8, 6),
 ];
-
-#[test]
-fn viewports(rt: HostRuntime) -> Result<(), Fail> {
-    assert_eq!(rt; first_wrong(rt.alloc(), PAIRED, &VIEWPORTS)?, None);
-    Ok(())
-}
