@@ -5,6 +5,7 @@ ghost use Rattle.std.specs.Option.{option_map_or};
 ghost use Rattle.flat_print.specs.Print.{numbers, pair_word, buffers_word};
 ghost use Rattle.flat_print.specs.Print.{rect_words, inset_words, inset_unless_none, region_words};
 ghost use Rattle.flat_print.specs.Print.{Writes, call_name, call_fields, call_words};
+ghost use Rattle.flat_print.specs.Print.{IsFew, longer_fields};
 
 use crate::print_words::{
     blend_number, flip_number, interaction_number, orientation_number, push_inset_if_any,
@@ -65,20 +66,62 @@ pub fn push_call(out: &mut Vec<u8>, script: &Script, call: &Call) -> Result<(), 
 fn push_fields(out: &mut Vec<u8>, script: &Script, call: &Call) -> Result<(), NoMemory>
     ensures { OnOk result (Writes (call_fields script.now call.now) out.old.items out.new.items) }
 {
+    match few_of(call) {
+        Some((count, a, b, c)) => {
+            let values = [a, b, c];
+            push_numbers(out, &values[..count])
+        }
+        None => push_longer(out, script, call),
+    }
+}
+
+/// The fields of a call that has up to three numbers and no other: so many of these three.
+fn few_of(call: &Call) -> Option<(usize, u64, u64, u64)>
+    ensures { IsFew result call.now }
+{
+    match call {
+        Call::ReleaseView => Some((0, 0, 0, 0)),
+        Call::CreateTransform { t } => Some((1, t.0, 0, 0)),
+        Call::ReleaseTransform { t } => Some((1, t.0, 0, 0)),
+        Call::SetOrientation { t, o } => Some((2, t.0, orientation_number(*o), 0)),
+        Call::SetScale { t, sx, sy } => Some((3, t.0, *sx as u64, *sy as u64)),
+        Call::SetOpacity { t, v } => Some((2, t.0, *v as u64, 0)),
+        Call::AddChild { p, k } => Some((2, p.0, k.0, 0)),
+        Call::RemoveChild { p, k } => Some((2, p.0, k.0, 0)),
+        Call::SetRootTransform { t } => Some((1, t.0, 0, 0)),
+        Call::ReleaseViewport { c } => Some((1, c.0, 0, 0)),
+        Call::SetImageDestinationSize { c, w, h } => Some((3, c.0, *w as u64, *h as u64)),
+        Call::SetImageBlendingFunction { c, m } => Some((2, c.0, blend_number(*m), 0)),
+        Call::SetImageFlip { c, f } => Some((2, c.0, flip_number(*f), 0)),
+        Call::SetImageOpacity { c, v } => Some((2, c.0, *v as u64, 0)),
+        Call::ReleaseImage { c } => Some((1, c.0, 0, 0)),
+        Call::CreateFilledRect { c } => Some((1, c.0, 0, 0)),
+        Call::ReleaseFilledRect { c } => Some((1, c.0, 0, 0)),
+        Call::SetInfiniteHitRegion { t, i } => Some((2, t.0, interaction_number(*i), 0)),
+        Call::SetContent { t, c } => Some((2, t.0, c.0, 0)),
+        Call::Clear => Some((0, 0, 0, 0)),
+        Call::CreateView { .. } => None,
+        Call::SetTranslation { .. } => None,
+        Call::SetClipBoundary { .. } => None,
+        Call::ReplaceChildren { .. } => None,
+        Call::CreateViewport { .. } => None,
+        Call::SetViewportProperties { .. } => None,
+        Call::CreateImage { .. } => None,
+        Call::SetImageSampleRegion { .. } => None,
+        Call::SetSolidFill { .. } => None,
+        Call::SetHitRegions { .. } => None,
+    }
+}
+
+/// The fields of a call that has others than up to three numbers.
+fn push_longer(out: &mut Vec<u8>, script: &Script, call: &Call) -> Result<(), NoMemory>
+    ensures { OnOk result (Writes (longer_fields script.now call.now) out.old.items out.new.items) }
+{
     match call {
         Call::CreateView { pair } => push_word(out, name_at(&script.pairs, pair.0 as usize)),
-        Call::ReleaseView => Ok(()),
-        Call::CreateTransform { t } => push_numbers(out, &[t.0]),
-        Call::ReleaseTransform { t } => push_numbers(out, &[t.0]),
         Call::SetTranslation { t, x, y } => push_translation(out, t.0, *x, *y),
-        Call::SetOrientation { t, o } => push_numbers(out, &[t.0, orientation_number(*o)]),
-        Call::SetScale { t, sx, sy } => push_numbers(out, &[t.0, *sx as u64, *sy as u64]),
-        Call::SetOpacity { t, v } => push_numbers(out, &[t.0, *v as u64]),
         Call::SetClipBoundary { t, rect } => push_clip(out, t.0, *rect),
-        Call::AddChild { p, k } => push_numbers(out, &[p.0, k.0]),
-        Call::RemoveChild { p, k } => push_numbers(out, &[p.0, k.0]),
         Call::ReplaceChildren { p, children } => push_children(out, p.0, children.as_slice()),
-        Call::SetRootTransform { t } => push_numbers(out, &[t.0]),
         Call::CreateViewport {
             c,
             pair,
@@ -87,7 +130,6 @@ fn push_fields(out: &mut Vec<u8>, script: &Script, call: &Call) -> Result<(), No
             inset,
         } => push_viewport(out, script, c.0, *pair, *w, *h, *inset),
         Call::SetViewportProperties { c, w, h, inset } => push_properties(out, c.0, *w, *h, *inset),
-        Call::ReleaseViewport { c } => push_numbers(out, &[c.0]),
         Call::CreateImage {
             c,
             buffers,
@@ -96,15 +138,6 @@ fn push_fields(out: &mut Vec<u8>, script: &Script, call: &Call) -> Result<(), No
             h,
         } => push_image(out, script, c.0, *buffers, *i, *w, *h),
         Call::SetImageSampleRegion { c, rect } => push_sample(out, c.0, *rect),
-        Call::SetImageDestinationSize { c, w, h } => push_numbers(
-            out,
-            &[c.0, *w as u64, *h as u64],
-        ),
-        Call::SetImageBlendingFunction { c, m } => push_numbers(out, &[c.0, blend_number(*m)]),
-        Call::SetImageFlip { c, f } => push_numbers(out, &[c.0, flip_number(*f)]),
-        Call::SetImageOpacity { c, v } => push_numbers(out, &[c.0, *v as u64]),
-        Call::ReleaseImage { c } => push_numbers(out, &[c.0]),
-        Call::CreateFilledRect { c } => push_numbers(out, &[c.0]),
         Call::SetSolidFill {
             c,
             r,
@@ -114,11 +147,8 @@ fn push_fields(out: &mut Vec<u8>, script: &Script, call: &Call) -> Result<(), No
             w,
             h,
         } => push_fill(out, c.0, *r, *g, *b, *a, *w, *h),
-        Call::ReleaseFilledRect { c } => push_numbers(out, &[c.0]),
         Call::SetHitRegions { t, regions } => push_hit_regions(out, t.0, regions.as_slice()),
-        Call::SetInfiniteHitRegion { t, i } => push_numbers(out, &[t.0, interaction_number(*i)]),
-        Call::SetContent { t, c } => push_numbers(out, &[t.0, c.0]),
-        Call::Clear => Ok(()),
+        _ => Ok(()),
     }
 }
 

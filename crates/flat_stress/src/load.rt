@@ -1,7 +1,7 @@
 ghost use Rattle.std.specs.Prelude.{◌≡◌, ℕ, ◌+◌, ◌*◌, ◌%◌, ◌≤◌, ◌++◌, ◌∷◌, [], map, OnOk, IfOk};
 ghost use Rattle.std.specs.Prelude.{codes};
 ghost use Rattle.std.specs.List.{flat_map};
-ghost use Rattle.flat_stress.specs.Words.{text_of, session, pair, from_to};
+ghost use Rattle.flat_stress.specs.Words.{text_of, number, session, pair, from_to};
 ghost use Rattle.flat_stress.specs.Load.{head, opening, node, move, fill, viewport, present, host};
 ghost use Rattle.flat_stress.specs.Load.{guest, frame, later, load, load_text};
 
@@ -43,15 +43,42 @@ fn push_load(out: &mut Vec<u8>, n: u32) -> Result<(), NoMemory>
 fn push_head(out: &mut Vec<u8>) -> Result<(), NoMemory>
     ensures { OnOk result (out.new.items ≡ out.old.items ++ text_of head) }
 {
+    push_start(out)?;
+    push_sessions(out)?;
+    push_first_pair(out)?;
+    push_pairs(out)?;
+    push_run(out)?;
+    Ok(())
+}
+
+// The version and the display.
+fn push_start(out: &mut Vec<u8>) -> Result<(), NoMemory>
+    ensures { OnOk result (out.new.items
+        ≡ out.old.items ++ text_of ((codes "flatland" ∷ number 1 ∷ [])
+        ∷ (codes "display" ∷ number 1000 ∷ number 1000 ∷ []) ∷ [])) }
+{
     let version = [Text("flatland"), Number(1)];
     let display = [Text("display"), Number(1000), Number(1000)];
-    let first_pair = [Text("pair"), Pair(1), Text("display"), Session(1)];
-    push_lines(out, &[&version, &display])?;
-    push_sessions(out)?;
-    push_lines(out, &[&first_pair])?;
-    push_pairs(out)?;
-    push_lines(out, &[&[Text("run")]])?;
-    Ok(())
+    push_lines(out, &[&version, &display])
+}
+
+// The pair whose viewport end is the display's.
+fn push_first_pair(out: &mut Vec<u8>) -> Result<(), NoMemory>
+    ensures { OnOk result (out.new.items
+        ≡ out.old.items ++ text_of ((codes "pair" ∷ pair 1 ∷ codes "display" ∷ session 1 ∷ [])
+        ∷ [])) }
+{
+    push_lines(
+        out,
+        &[&[Text("pair"), Pair(1), Text("display"), Session(1)]],
+    )
+}
+
+fn push_run(out: &mut Vec<u8>) -> Result<(), NoMemory>
+    ensures { OnOk result (out.new.items
+        ≡ out.old.items ++ text_of ((codes "run" ∷ []) ∷ [])) }
+{
+    push_lines(out, &[&[Text("run")]])
 }
 
 fn push_sessions(out: &mut Vec<u8>) -> Result<(), NoMemory>

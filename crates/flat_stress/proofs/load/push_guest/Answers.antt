@@ -9,4 +9,5 @@ pub returns : goal.returns
 returns c =
     let i = c.args.i in
     let fills = flat_map (λ j. node i j ++ move i j (3 * j) (2 * j) ∷ fill i j) (from_to 2 33) in
-    two (opening i ++ fills) (present i 0 ∷ []) _ _ _ (two (opening i) fills _ _ _ c.in_ok-push_opening.ensures c.in_ok-push_fills.ensures) c.in_ok-push_present.ensures
+    let shown = two fills (present i 0 ∷ []) _ _ _ c.in_ok-push_fills.ensures c.in_ok-push_present.ensures in
+    two (opening i) (fills ++ present i 0 ∷ []) _ _ _ c.in_ok-push_opening.ensures shown

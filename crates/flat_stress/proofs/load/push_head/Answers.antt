@@ -10,7 +10,7 @@ returns c =
     let first = (codes "pair" ∷ pair 1 ∷ codes "display" ∷ session 1 ∷ []) ∷ [] in
     let pairs = map (λ i. codes "pair" ∷ pair i ∷ session 1 ∷ session i ∷ []) (from_to 2 8) in
     let run = (codes "run" ∷ []) ∷ [] in
-    let a = two start sessions _ _ _ c.in_ok-push_lines.ensures c.in_ok-push_sessions.ensures in
-    let b = two (start ++ sessions) first _ _ _ a c.in_ok-push_lines-2.ensures in
-    let d = two (start ++ sessions ++ first) pairs _ _ _ b c.in_ok-push_pairs.ensures in
-    two (start ++ sessions ++ first ++ pairs) run _ _ _ d c.in_ok-push_lines-3.ensures
+    let d = two pairs run _ _ _ c.in_ok-push_pairs.ensures c.in_ok-push_run.ensures in
+    let b = two first (pairs ++ run) _ _ _ c.in_ok-push_first_pair.ensures d in
+    let a = two sessions (first ++ pairs ++ run) _ _ _ c.in_ok-push_sessions.ensures b in
+    two start (sessions ++ first ++ pairs ++ run) _ _ _ c.in_ok-push_start.ensures a
