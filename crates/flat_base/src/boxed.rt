@@ -9,7 +9,7 @@ use std::marker::Model;
 /// are not equal there.
 ///
 /// A type may hold a `Boxed` of itself.
-#[derive(Debug, Drop)]
+#[derive(Drop)]
 pub struct Boxed<T> {
     inner: Box<T>,
 }

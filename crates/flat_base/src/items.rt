@@ -15,7 +15,7 @@ use std::marker::Model;
 /// It keeps the allocator of its constructor. Where room is to be taken ahead,
 /// [`Roomy`](crate::Roomy) is the list whose room contracts see; it becomes an
 /// `Items` without memory.
-#[derive(Debug, Drop)]
+#[derive(Drop)]
 pub struct Items<T> {
     inner: Vec<T>,
 }

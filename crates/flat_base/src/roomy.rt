@@ -10,7 +10,7 @@ use std::marker::Model;
 
 /// A list whose contracts see its items and its room: how many items more it
 /// takes without asking for memory. Within the room a `push` can't be refused.
-#[derive(Debug, Drop)]
+#[derive(Drop)]
 pub struct Roomy<T> {
     inner: Vec<T>,
 }

@@ -14,7 +14,7 @@ use std::marker::Model;
 
 /// A display over memory that fails at chosen calls. Contracts see the frames
 /// that it keeps, whether it tells them, those calls, and its counts.
-#[derive(Debug, Drop)]
+#[derive(Drop)]
 pub struct MemDisplay {
     alloc: Global,
     frames: Items<FrameOut>,

@@ -16,7 +16,7 @@ use std::marker::Model;
 
 /// Which of a vector of displays are lost. Contracts see how many displays there
 /// are, and the losses.
-#[derive(Debug, Drop)]
+#[derive(Drop)]
 pub struct DisplaySet {
     displays: u32,
     lost: Roomy<Lost>,

@@ -8,7 +8,7 @@ use std::marker::Model;
 
 /// A display that counts its frames, tells nothing and never fails. Contracts
 /// see the count, which stands still at 2^64 - 1.
-#[derive(Debug, Drop)]
+#[derive(Drop)]
 pub struct Tally {
     frames: u64,
 }

@@ -1,7 +1,7 @@
 use flat_base::Reason;
 
 /// Why a draft refuses a call or a present.
-#[derive(Debug, Drop)]
+#[derive(Drop)]
 pub enum DraftFault {
     /// It is a misuse, which closes the draft. Of several reasons it is the first.
     Bad(Reason),

@@ -24,7 +24,7 @@ pub enum ExtraSet {
 pub type ByteList = Items<u8>;
 
 /// An extra line.
-#[derive(Debug, Drop)]
+#[derive(Drop)]
 pub struct ExtraLine {
     /// Its number in the text, from 1.
     pub number: u32,
@@ -35,7 +35,7 @@ pub struct ExtraLine {
 pub type ExtraList = Items<ExtraLine>;
 
 /// A text in two parts.
-#[derive(Debug, Drop)]
+#[derive(Drop)]
 pub struct Split {
     pub rest: ByteList,
     pub lines: ExtraList,

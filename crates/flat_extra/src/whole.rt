@@ -16,14 +16,14 @@ use flat_script::{ScriptError, ScriptFault, parse};
 use std::alloc::Global;
 
 /// A script, and the extra lines of its text that ask for the focus.
-#[derive(Debug, Drop)]
+#[derive(Drop)]
 pub struct WithFocus {
     pub script: Script,
     pub lines: FocusLines,
 }
 
 /// A script, and the extra lines of its text that pointers have.
-#[derive(Debug, Drop)]
+#[derive(Drop)]
 pub struct WithPointers {
     pub script: Script,
     pub lines: PointerLines,

@@ -8,7 +8,7 @@ use std::marker::Model;
 
 /// Which fences are signalled, of those whose numbers are below a number. A fence
 /// that is signalled stays so. Contracts see a flag for each fence.
-#[derive(Debug, Drop)]
+#[derive(Drop)]
 pub struct FenceSet {
     flags: Vec<bool>,
 }

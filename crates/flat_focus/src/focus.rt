@@ -23,7 +23,7 @@ pub enum FocusAnswer {
 /// the nodes of that tree, and the chain.
 ///
 /// Nothing but `new` takes memory.
-#[derive(Debug, Drop)]
+#[derive(Drop)]
 pub struct Focus {
     sessions: u32,
     nodes: Roomy<ViewNode>,

@@ -15,7 +15,7 @@ use std::mem;
 pub type KeyList = Items<usize>;
 
 /// A transform.
-#[derive(Debug, Drop)]
+#[derive(Drop)]
 pub struct GraphNode {
     /// The session's n-th transform has number n.
     pub serial: u32,

@@ -13,7 +13,7 @@ use std::marker::Model;
 
 /// A joined tree, with the places of its nodes that have hit regions. Contracts see the
 /// joined tree.
-#[derive(Debug, Drop)]
+#[derive(Drop)]
 pub struct Touchable {
     joined: Joined,
     places: Items<usize>,

@@ -15,7 +15,7 @@ use std::marker::Model;
 
 /// A source over bytes in memory that fails at chosen calls. Contracts see the
 /// bytes that it has left, the calls at which it fails, and its counts.
-#[derive(Debug, Drop)]
+#[derive(Drop)]
 pub struct MemSource {
     inner: SteadySource,
     fail: Vec<u32>,
@@ -85,7 +85,7 @@ impl Source for MemSource {
 
 /// A sink over memory that fails, or takes nothing, at chosen calls. Contracts
 /// see what it keeps, those calls, and its counts.
-#[derive(Debug, Drop)]
+#[derive(Drop)]
 pub struct MemSink {
     inner: SteadySink,
     fail: Vec<u32>,

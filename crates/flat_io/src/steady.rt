@@ -10,7 +10,7 @@ use std::marker::Model;
 
 /// A source over bytes in memory, which never fails. Contracts see it as the
 /// bytes that it has left.
-#[derive(Debug, Drop)]
+#[derive(Drop)]
 pub struct SteadySource {
     bytes: Vec<u8>,
     taken: usize,
@@ -56,7 +56,7 @@ impl Source for SteadySource {
 
 /// A sink over memory, which never fails and never stalls. Contracts see the
 /// bytes that it took, the room that is left, and whether it tells them.
-#[derive(Debug, Drop)]
+#[derive(Drop)]
 pub struct SteadySink {
     bytes: Vec<u8>,
     is_told: bool,

@@ -28,7 +28,7 @@ const NEW_FOLLOWING: Following = Following {
 
 /// What is kept of all sessions, the first of them session 1, with room to find those
 /// that are connected.
-#[derive(Debug, Drop)]
+#[derive(Drop)]
 pub struct Followings {
     each: Vec<Following>,
     /// As it was found last: through how many others each session is connected to the

@@ -25,7 +25,7 @@ const NEW_PAIR: PairState = PairState {
 /// What is kept of all declared pairs. Contracts see their states. The pairs that
 /// frames noted since the last one ended are listed, so that the end of a frame
 /// looks at these alone.
-#[derive(Debug, Drop)]
+#[derive(Drop)]
 pub struct PairStates {
     states: Vec<PairState>,
     noted: Roomy<PairNo>,

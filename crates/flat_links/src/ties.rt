@@ -84,7 +84,7 @@ fn see_taken(pairs: &mut PairStates, shown: &Shown, s: SessionNo, took: bool)
 
 /// What is kept of sessions and of pairs, by which the layout and the status of
 /// each pair's view, and its child, are told at once.
-#[derive(Debug, Drop)]
+#[derive(Drop)]
 pub struct Ties {
     /// The sessions, the first of them session 1.
     pub followings: Followings,

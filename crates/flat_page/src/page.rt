@@ -12,7 +12,7 @@ use std::alloc::Global;
 
 /// A text that is written, or whose bytes are counted first, so that the room for
 /// it can be taken at once.
-#[derive(Debug, Drop)]
+#[derive(Drop)]
 pub enum Page {
     /// So many bytes would stand there.
     Count(usize),

@@ -4,7 +4,7 @@ use flat_base::{Items, NAME_BYTES_MAX};
 use std::marker::Model;
 
 /// A name, as its bytes.
-#[derive(Debug, Drop)]
+#[derive(Drop)]
 pub struct Name {
     bytes: [u8; NAME_BYTES_MAX],
     len: u8,

@@ -3,7 +3,7 @@ use flat_scene::{LineList, Setup};
 
 /// What a text declares and says: the setup of its head, the names that the head
 /// gives, and the lines of its body.
-#[derive(Debug, Drop)]
+#[derive(Drop)]
 pub struct Script {
     pub setup: Setup,
     /// Names in order of declaration. The numbers of sessions begin at 1, all

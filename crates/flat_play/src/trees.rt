@@ -13,7 +13,7 @@ use std::alloc::Global;
 
 /// Finished frames with their view trees, but without their draw items; the last frame
 /// has its items too.
-#[derive(Debug, Drop)]
+#[derive(Drop)]
 pub struct FrameTrees {
     alloc: Global,
     /// Those before the last one, without items.

@@ -31,7 +31,7 @@ pub enum PointerAnswer {
 /// them as a list of these sessions.
 ///
 /// No call takes memory.
-#[derive(Debug, Drop)]
+#[derive(Drop)]
 pub struct Pointers {
     streams: [Option<SessionNo>; 16],
 }

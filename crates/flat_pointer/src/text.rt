@@ -37,7 +37,7 @@ pub struct PointerLine {
 pub type PointerLines = Items<PointerLine>;
 
 /// A line of a pointer, and whom its point hits, where it goes down.
-#[derive(Debug, Drop)]
+#[derive(Drop)]
 pub struct Touch {
     pub line: PointerLine,
     pub hits: HitList,

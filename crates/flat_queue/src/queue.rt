@@ -12,7 +12,7 @@ use std::alloc::Global;
 use std::marker::Model;
 
 /// A present that a queue gives out.
-#[derive(Debug, Drop)]
+#[derive(Drop)]
 pub struct Queued<T> {
     pub item: T,
     pub args: PresentArgs,
@@ -21,14 +21,14 @@ pub struct Queued<T> {
 }
 
 /// What is handed back where there is no credit.
-#[derive(Debug, Drop)]
+#[derive(Drop)]
 pub struct NoCredit<T> {
     pub item: T,
     pub args: PresentArgs,
 }
 
 /// A present that waits.
-#[derive(Debug, Drop)]
+#[derive(Drop)]
 pub struct WaitingPresent<T> {
     pub item: T,
     pub args: PresentArgs,
@@ -39,7 +39,7 @@ pub struct WaitingPresent<T> {
 /// Contracts see how many were taken, and those that wait.
 ///
 /// Nothing but `new` takes memory.
-#[derive(Debug, Drop)]
+#[derive(Drop)]
 pub struct Queue<T> {
     waiting: Roomy<WaitingPresent<T>>,
     taken: u32,

@@ -3,7 +3,7 @@ use flat_base::{Actor, FrameNo, Items};
 use flat_scene::{HitList, ProbeLine};
 
 /// The answer to a line of a probe.
-#[derive(Debug, Drop)]
+#[derive(Drop)]
 pub struct ProbeAnswer {
     pub actor: Actor,
     /// The number of the line.

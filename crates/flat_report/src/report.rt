@@ -20,7 +20,7 @@ use std::alloc::Global;
 use std::collections::VecDeque;
 
 /// The answer to a line that asks for a point of the display.
-#[derive(Debug, Drop)]
+#[derive(Drop)]
 pub struct HitAnswer {
     pub actor: Actor,
     /// The number of the line.

@@ -14,7 +14,7 @@ use std::alloc::Global;
 
 /// What a form reads of a text: its script, and the values of the extra lines that the
 /// form knows.
-#[derive(Debug, Drop)]
+#[derive(Drop)]
 pub struct Reading {
     pub script: Script,
     pub focus: FocusLines,

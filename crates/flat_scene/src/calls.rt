@@ -62,7 +62,7 @@ pub type RegionList = Items<HitRegion>;
 pub type TransformList = Items<TransformId>;
 
 /// What a present carries beside the session's state.
-#[derive(Debug, Drop)]
+#[derive(Drop)]
 pub struct PresentArgs {
     /// The least time of a frame that may take it, at most
     /// [`TIME_MAX`](flat_base::TIME_MAX).
@@ -93,7 +93,7 @@ pub enum Watch {
 /// `t`, `p` and `k` name transforms and `c` a content. Rectangles, sizes and
 /// translations are in units; scales and opacities in fixed point, where
 /// [`ONE`](flat_base::ONE) is one.
-#[derive(Debug, Drop)]
+#[derive(Drop)]
 pub enum Call {
     /// Makes the session's view, at the view end of a pair.
     CreateView {

@@ -71,7 +71,7 @@ pub type RectList = Items<Rect>;
 
 /// The sessions that are connected to the display, and those that are apart:
 /// open, with a view whose end isn't lost, but not connected.
-#[derive(Debug, Drop)]
+#[derive(Drop)]
 pub struct ViewTree {
     pub nodes: NodeList,
     /// In order of the sessions.
@@ -92,7 +92,7 @@ pub struct SessionSet {
 }
 
 /// A whole frame, as it is shown to displays.
-#[derive(Debug, Drop)]
+#[derive(Drop)]
 pub struct FrameOut {
     pub frame: FrameNo,
     pub items: ItemList,

@@ -63,7 +63,7 @@ pub enum Reply {
 }
 
 /// The kind of an entry.
-#[derive(Debug, Drop)]
+#[derive(Drop)]
 pub enum Kind {
     /// CreateView.
     View(PairNo),
@@ -94,7 +94,7 @@ pub type CallList = Items<Call>;
 
 /// One event of the service: a call that touches what is shared, a present, or an
 /// event of a frame.
-#[derive(Debug, Drop)]
+#[derive(Drop)]
 pub struct Entry {
     pub actor: Actor,
     /// The number of the script's line that made it, from 1.
@@ -114,7 +114,7 @@ pub struct Post {
 }
 
 /// All entries and all events posted, oldest first. Contracts see the room.
-#[derive(Debug, Drop)]
+#[derive(Drop)]
 pub struct Journal {
     pub entries: Vec<Entry>,
     pub posts: Vec<Post>,

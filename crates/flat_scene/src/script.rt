@@ -19,7 +19,7 @@ pub enum Cond {
 }
 
 /// A line of a session.
-#[derive(Debug, Drop)]
+#[derive(Drop)]
 pub enum Line {
     Call(Call),
     Present(PresentArgs),
@@ -57,7 +57,7 @@ pub enum ProbeLine {
 }
 
 /// What a line says, by the sort of its actor.
-#[derive(Debug, Drop)]
+#[derive(Drop)]
 pub enum Body {
     Session(Line),
     Display(DisplayLine),
@@ -65,7 +65,7 @@ pub enum Body {
 }
 
 /// A body line of a script.
-#[derive(Debug, Drop)]
+#[derive(Drop)]
 pub struct ScriptLine {
     /// Its place among all lines of the text, from 1.
     pub number: u32,

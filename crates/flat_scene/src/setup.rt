@@ -20,7 +20,7 @@ pub struct BufferDecl {
 }
 
 /// A fence, and who may name it.
-#[derive(Debug, Drop)]
+#[derive(Drop)]
 pub struct FenceDecl {
     pub owners: ActorList,
 }
@@ -35,7 +35,7 @@ pub type BufferList = Items<BufferDecl>;
 pub type FenceDeclList = Items<FenceDecl>;
 
 /// What the head of a script declares.
-#[derive(Debug, Drop)]
+#[derive(Drop)]
 pub struct Setup {
     /// The display's size, in units.
     pub width: u32,

@@ -89,7 +89,7 @@ pub struct Held {
 }
 
 /// Why a call on a draft's parts is refused.
-#[derive(Debug, Drop)]
+#[derive(Drop)]
 pub enum GraphFault {
     /// The call is a misuse.
     Bad(Reason),

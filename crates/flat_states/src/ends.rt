@@ -8,7 +8,7 @@ use std::marker::Model;
 
 /// Which view ends were used. One that is used stays so. Contracts see a flag for
 /// each pair.
-#[derive(Debug, Drop)]
+#[derive(Drop)]
 pub struct EndSet {
     flags: Vec<bool>,
 }

@@ -9,7 +9,7 @@ use std::marker::Model;
 
 /// The journal, with room that is taken ahead. Contracts see its history, the
 /// newest entry first, its posts, and how many more fit without memory.
-#[derive(Debug, Drop)]
+#[derive(Drop)]
 pub struct Log {
     journal: Journal,
 }

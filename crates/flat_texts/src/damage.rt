@@ -17,7 +17,7 @@ use flat_scene::{FrameOut, ItemList, RectList};
 use std::alloc::Global;
 
 /// What changed with a frame.
-#[derive(Debug, Drop)]
+#[derive(Drop)]
 pub struct Damaged {
     pub frame: FrameNo,
     /// The rectangles outside of which nothing did.
@@ -26,7 +26,7 @@ pub struct Damaged {
 
 /// What changed with each of some finished frames. The last one is kept too, so that it
 /// is known what changes with the next.
-#[derive(Debug, Drop)]
+#[derive(Drop)]
 pub struct FrameDamages {
     alloc: Global,
     damaged: Vec<Damaged>,

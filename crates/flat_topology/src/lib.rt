@@ -36,7 +36,7 @@ use flat_geom::Matrix;
 use flat_scene::{Content, RegionList};
 
 /// A node of the joined tree in its place on the display.
-#[derive(Debug, Drop)]
+#[derive(Drop)]
 pub struct Placed {
     pub session: SessionNo,
     /// The transform's serial number.
@@ -67,7 +67,7 @@ pub struct Connected {
 pub type ConnectedList = Items<Connected>;
 
 /// The joined tree.
-#[derive(Debug, Drop)]
+#[derive(Drop)]
 pub struct Joined {
     /// The display's rectangle, in places.
     pub display: Rect,

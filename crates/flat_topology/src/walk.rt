@@ -34,7 +34,7 @@ pub struct Stretch {
 
 /// A walk over the joined tree: what was placed, and what is left, the last
 /// stretch first.
-#[derive(Debug, Drop)]
+#[derive(Drop)]
 pub struct Walk {
     pub nodes: PlacedList,
     pub connected: ConnectedList,
