@@ -1,10 +1,8 @@
-//! Tests of the numbers, rectangles, sources and sinks below all others: what no contract
-//! says, and what no worked case on the program reaches.
+//! Tests of the numbers and rectangles below all others: what no contract says, and what no
+//! worked case on the program reaches.
 #![tactic(auto)]
 
 #[cfg(test)]
 mod base;
 #[cfg(test)]
 mod geom;
-#[cfg(test)]
-mod io;

@@ -53,21 +53,11 @@ const POINTER: [Case; 6] = [
     ("display Up 0 \n", 7, 8),
 ];
 
-fn focus_count(alloc: Global, text: &[u8]) -> Result<usize, ScriptError> {
-    let read = parse_focus(alloc, text)?;
-    Ok(read.lines.len())
-}
-
-fn pointer_count(alloc: Global, text: &[u8]) -> Result<usize, ScriptError> {
-    let read = parse_pointers(alloc, text)?;
-    Ok(read.lines.len())
-}
-
 /// The line and the kind of a text's fault, or 0 and the number of its extra lines.
 fn outcome(alloc: Global, set: ExtraSet, text: &[u8]) -> Option<(usize, usize)> {
     let count = match set {
-        ExtraSet::Focus => focus_count(alloc, text),
-        ExtraSet::Pointer => pointer_count(alloc, text),
+        ExtraSet::Focus => parse_focus(alloc, text).map(|read| read.lines.len()),
+        ExtraSet::Pointer => parse_pointers(alloc, text).map(|read| read.lines.len()),
     };
     match count {
         Ok(count) => Some((0, count)),
