@@ -3,7 +3,6 @@ use flat_extra::{ExtraSet, parse_focus, parse_pointers, split_text};
 use flat_pointer::{PointerCall, PointerLine};
 use flat_script::ScriptError;
 use std::alloc::{AllocError, Global};
-use std::test::Fail;
 
 // The head of the texts, of six lines.
 const HEAD: &str = "flatland 1\ndisplay 9 9\nsession A\nsession B\npair t0 display A\nrun\n";
@@ -105,15 +104,11 @@ fn first_wrong<'a>(
 }
 
 #[test]
-fn focus_lines(rt: HostRuntime) -> Result<(), Fail> {
-    assert_eq!(rt; first_wrong(rt.alloc(), ExtraSet::Focus, &FOCUS)?, None);
-    Ok(())
-}
-
-#[test]
-fn pointer_lines(rt: HostRuntime) -> Result<(), Fail> {
-    assert_eq!(rt; first_wrong(rt.alloc(), ExtraSet::Pointer, &POINTER)?, None);
-    Ok(())
+fn lines_of_both_sets(rt: HostRuntime) {
+    let alloc = rt.alloc();
+    let focus = first_wrong(alloc, ExtraSet::Focus, &FOCUS);
+    let pointer = first_wrong(alloc, ExtraSet::Pointer, &POINTER);
+    assert_eq!(rt; [focus, pointer], [Ok(None), Ok(None)]);
 }
 
 // What follows HEAD, what follows that and how often, and the outcome.
@@ -142,9 +137,8 @@ fn first_wrong_repeated(
 }
 
 #[test]
-fn many_lines_and_long_ones(rt: HostRuntime) -> Result<(), Fail> {
-    assert_eq!(rt; first_wrong_repeated(rt.alloc())?, None);
-    Ok(())
+fn many_lines_and_long_ones(rt: HostRuntime) {
+    assert_eq!(rt; first_wrong_repeated(rt.alloc()), Ok(None));
 }
 
 const TEXT: &str = "flatland 1\nx Up 1\nrun\ndisplay Down 0 5 -5\nA Poll\ndisplay Up 0\n";

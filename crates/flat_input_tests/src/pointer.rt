@@ -79,11 +79,10 @@ fn first_wrong(pointers: &mut Pointers) -> Option<u8> {
 }
 
 #[test]
-fn sixteen_pointers_at_once(rt: HostRuntime) -> Result<(), Fail> {
+fn sixteen_pointers_at_once(rt: HostRuntime) {
     let mut pointers = Pointers::new();
-    down_all(rt.alloc(), &mut pointers)?;
-    assert_eq!(rt; first_wrong(&mut pointers), None);
-    Ok(())
+    let downs = down_all(rt.alloc(), &mut pointers);
+    assert_eq!(rt; (downs, first_wrong(&mut pointers)), (Ok(()), None));
 }
 
 /// Pointers 0 and 15 go down on session 2, and pointer 7 on session 1.

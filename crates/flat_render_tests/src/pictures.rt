@@ -11,22 +11,20 @@ use std::thread::Threads;
 
 /// Blue that covers half of what is there, over white.
 #[test]
-fn colours_are_laid_in_order(rt: HostRuntime) -> Result<(), Fail> {
+fn colours_are_laid_in_order(rt: HostRuntime) {
     let mut blue = fill([0, 0, 255, 128], 1, 1, 0, 0);
     blue.blend = BlendMode::SrcOver;
     let pixels = [(0, 0, [127, 127, 255]), (1, 0, WHITE)];
-    let wrong = wrong(&rt, rt.alloc(), &[white(2, 1), blue], 2, 1, &pixels)?;
-    assert_eq!(rt; wrong, None);
-    Ok(())
+    let wrong = wrong(&rt, rt.alloc(), &[white(2, 1), blue], 2, 1, &pixels);
+    assert_eq!(rt; wrong, Ok(None));
 }
 
 /// Two white pixels one below another, and a third that is black.
 #[test]
-fn a_picture_may_be_one_pixel_wide(rt: HostRuntime) -> Result<(), Fail> {
+fn a_picture_may_be_one_pixel_wide(rt: HostRuntime) {
     let pixels = [(0, 0, WHITE), (0, 1, WHITE), (0, 2, BLACK)];
-    let wrong = wrong(&rt, rt.alloc(), &[white(1, 2)], 1, 3, &pixels)?;
-    assert_eq!(rt; wrong, None);
-    Ok(())
+    let wrong = wrong(&rt, rt.alloc(), &[white(1, 2)], 1, 3, &pixels);
+    assert_eq!(rt; wrong, Ok(None));
 }
 
 /// Looks at the last pixel of a white square, and at those beside it and below it, on a
@@ -62,14 +60,13 @@ fn first_wrong_square(
 }
 
 #[test]
-fn squares_end_beside_tiles(rt: HostRuntime) -> Result<(), Fail> {
-    assert_eq!(rt; first_wrong_square(&rt, rt.alloc())?, None);
-    Ok(())
+fn squares_end_beside_tiles(rt: HostRuntime) {
+    assert_eq!(rt; first_wrong_square(&rt, rt.alloc()), Ok(None));
 }
 
 /// The largest picture, and those that are larger by one row or column.
 #[test]
-fn pictures_have_a_largest_size(rt: HostRuntime) -> Result<(), Fail> {
+fn pictures_have_a_largest_size(rt: HostRuntime) {
     let large = [
         is_too_large(4096, 1024),
         is_too_large(4096, 1025),
@@ -78,9 +75,8 @@ fn pictures_have_a_largest_size(rt: HostRuntime) -> Result<(), Fail> {
     ];
     let pixels = [(4094, 1023, BLACK), (4095, 1023, [1, 2, 3])];
     let item = fill([1, 2, 3, 255], 1, 1, 4095, 1023);
-    let wrong = wrong(&rt, rt.alloc(), &[item], 4096, 1024, &pixels)?;
-    assert_eq!(rt; (large, wrong), ([false, true, true, true], None));
-    Ok(())
+    let wrong = wrong(&rt, rt.alloc(), &[item], 4096, 1024, &pixels);
+    assert_eq!(rt; (large, wrong), ([false, true, true, true], Ok(None)));
 }
 
 /// The text of a picture of which the right half is drawn anew.

@@ -86,6 +86,26 @@ pub fn shown(
     render(rt, alloc, items, w, h)
 }
 
+/// The picture of some items.
+fn shown_of(
+    rt: &(impl Abort + Threads + Sync),
+    alloc: Global,
+    items: &[DrawItem],
+    w: u32,
+    h: u32,
+) -> Result<Picture, NoMemory> {
+    let items = list(alloc, items)?;
+    shown(rt, alloc, &items, w, h)
+}
+
+/// Draws a rectangle anew with nothing on it.
+fn repaint(alloc: Global, picture: &mut Picture, rect: Rect) -> Result<(), NoMemory> {
+    let mut rects = Items::new(alloc);
+    rects.push(rect)?;
+    picture.repaint(&Items::new(alloc), &rects);
+    Ok(())
+}
+
 /// The picture of some items, of which a rectangle is drawn anew with nothing on it.
 pub fn repainted(
     rt: &(impl Abort + Threads + Sync),
@@ -95,11 +115,8 @@ pub fn repainted(
     h: u32,
     rect: Rect,
 ) -> Result<Picture, NoMemory> {
-    let mut rects = Items::new(alloc);
-    rects.push(rect)?;
-    let items = list(alloc, items)?;
-    let mut picture = shown(rt, alloc, &items, w, h)?;
-    picture.repaint(&Items::new(alloc), &rects);
+    let mut picture = shown_of(rt, alloc, items, w, h)?;
+    repaint(alloc, &mut picture, rect)?;
     Ok(picture)
 }
 
@@ -131,7 +148,6 @@ pub fn wrong(
     h: u32,
     pixels: &[Pixel],
 ) -> Result<Option<Wrong>, NoMemory> {
-    let items = list(alloc, items)?;
-    let picture = shown(rt, alloc, &items, w, h)?;
+    let picture = shown_of(rt, alloc, items, w, h)?;
     Ok(wrong_in(&picture, pixels))
 }
