@@ -1,6 +1,6 @@
 -- A walk that builds the nodes of some keys.
 use Rattle.std.proofs.Common.{ℕ, zero, suc, ◌+◌, ◌-◌, ◌<◌, ◌≤◌, ◌≡◌, refl, sym, ◌∙◌, ap, Bool, true, false, List, [], ◌∷◌, length, drop, Option, Some, None, slice_index_or, drop-cons, add-one, arith}
-use Rattle.std.specs.Prelude.{option_to_list}
+use Rattle.std.specs.Prelude.{option_to_list, IsFalse}
 use Rattle.flat_base.specs.declared.limits.TheConstants.{PATH_NODES_MAX}
 use Rattle.flat_scene.specs.declared.trees.Children.{Children}
 use Rattle.flat_scene.specs.declared.trees.Children.TheVariants.{Empty}
@@ -8,13 +8,18 @@ use Rattle.flat_scene.specs.Trees.{more, node_count, nodes}
 use Rattle.flat_graph.specs.declared.nodes.GraphNode.{GraphNode}
 use Rattle.flat_graph.specs.Reasons.{links_in}
 use Rattle.flat_graph.specs.State.{GraphState, node_at}
-use Rattle.flat_collect.specs.Forest.{size}
+use Rattle.flat_collect.specs.Forest.{Forest, size}
+use Rattle.flat_collect.specs.Judge.{is_too_large}
 use Rattle.flat_collect.specs.Walking.{below}
 use Rattle.flat_collect.proofs.lemmas.Walking.{below-first}
 use Rattle.flat_content.specs.Table.{TableState}
 use Rattle.flat_snap.specs.Building.{Building, adds, entered, left, with_children}
 use Rattle.flat_snap.proofs.lemmas.Adding.{adds-none, adds-adds, left-adds}
 use Rattle.flat_draft.specs.Shown.{HasRoom, all_shown, leaf, shown_nodes}
+
+-- there is room for a tree that isn't too large, where there is room for so many nodes as it has
+pub tree-room : (forest : Forest) (nodes room : ℕ) → IsFalse (is_too_large forest) → nodes ≡ size forest → room ≡ nodes → HasRoom forest PATH_NODES_MAX room
+tree-room forest nodes room fits counted e = record { short = grind arith; small = omega (arith, counted, e) }
 
 module _ (graph : GraphState) (table : TableState) where
   pub shown-none : (levels : ℕ) (is_root : Bool) → shown_nodes graph table levels is_root [] ≡ Empty

@@ -8,6 +8,7 @@ pub mod Channels
 pub mod CoveredUp
 pub mod Covered
 pub mod Items
+pub mod Cuts
 pub mod Places
 pub mod Chunks
 pub mod Any
