@@ -31,10 +31,6 @@ fn rects(alloc: Global, letters: &str) -> Result<RectList, NoMemory> {
     Ok(rects)
 }
 
-fn damaged(alloc: Global, old: &str, new: &str) -> Result<RectList, NoMemory> {
-    damage(alloc, &squares(alloc, old)?, &squares(alloc, new)?)
-}
-
 /// Lists before and after, and what is damaged between them.
 const CASES: [(&str, &str, &str); 9] = [
     ("", "", ""),
@@ -49,7 +45,7 @@ const CASES: [(&str, &str, &str); 9] = [
 ];
 
 fn is_damage(alloc: Global, old: &str, new: &str, rects: &[Rect]) -> Result<bool, NoMemory> {
-    let found = damaged(alloc, old, new)?;
+    let found = damage(alloc, &squares(alloc, old)?, &squares(alloc, new)?)?;
     Ok(found.as_slice() == rects)
 }
 

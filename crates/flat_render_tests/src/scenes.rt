@@ -98,14 +98,6 @@ fn shown_of(
     shown(rt, alloc, &items, w, h)
 }
 
-/// Draws a rectangle anew with nothing on it.
-fn repaint(alloc: Global, picture: &mut Picture, rect: Rect) -> Result<(), NoMemory> {
-    let mut rects = Items::new(alloc);
-    rects.push(rect)?;
-    picture.repaint(&Items::new(alloc), &rects);
-    Ok(())
-}
-
 /// The picture of some items, of which a rectangle is drawn anew with nothing on it.
 pub fn repainted(
     rt: &(impl Abort + Threads + Sync),
@@ -115,8 +107,10 @@ pub fn repainted(
     h: u32,
     rect: Rect,
 ) -> Result<Picture, NoMemory> {
+    let mut rects = Items::new(alloc);
+    rects.push(rect)?;
     let mut picture = shown_of(rt, alloc, items, w, h)?;
-    repaint(alloc, &mut picture, rect)?;
+    picture.repaint(&Items::new(alloc), &rects);
     Ok(picture)
 }
 
