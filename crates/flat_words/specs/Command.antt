@@ -38,24 +38,6 @@ service =
     (new_app (codes "focus")).top)
     (new_app (codes "pointer")).top
 
--- A command with the forms that play: play, race and stress.
-abbrev pub with_played : App → App
-with_played app = with_subcommand
-    (with_subcommand
-    (with_subcommand app (new_app (codes "play")).top)
-    (new_app (codes "race")).top)
-    (with_rule (new_app (codes "stress")) frames).top
-
--- A command with the forms that tell more: render, damage, focus and pointer.
-abbrev pub with_told : App → App
-with_told app = with_subcommand
-    (with_subcommand
-    (with_subcommand
-    (with_subcommand app (new_app (codes "render")).top)
-    (new_app (codes "damage")).top)
-    (new_app (codes "focus")).top)
-    (new_app (codes "pointer")).top
-
 -- A subcommand, with its name and its own words, is that of a form.
 abbrev pub IsNamed : Text × List Row → Form → Type 0
 IsNamed call Play = call.0 ≡ codes "play"

@@ -10,7 +10,6 @@ ghost use Rattle.clap.specs.Words.{app_of, fault_of, new_app, subcommand_of, sub
 ghost use Rattle.clap.specs.Words.{with_rule, with_subcommand};
 ghost use Rattle.flat_words.specs.Forms.{CallFor, is_option};
 ghost use Rattle.flat_words.specs.Command.{IsNamed, asking, frames, service};
-ghost use Rattle.flat_words.specs.Command.{with_played, with_told};
 
 use clap::error::ErrorKind;
 use clap::{Arg, ArgMatches, Command};
@@ -98,31 +97,18 @@ fn bare<'a>(alloc: Global) -> Command<'a>
         .subcommand_required(true)
 }
 
-// The command with the forms that play: a script on one thread or at once, and the load.
-fn with_played<'a>(alloc: Global, command: Command<'a>) -> Result<Command<'a>, NoMemory>
-    ensures { IfOk result (λ more. app_of more ≡ with_played (app_of command.entry)) }
-{
-    let command = with_form(alloc, command, "play")?;
-    let command = with_form(alloc, command, "race")?;
-    with_load(alloc, command)
-}
-
-// The command with the forms that tell more of a script that is played.
-fn with_told<'a>(alloc: Global, command: Command<'a>) -> Result<Command<'a>, NoMemory>
-    ensures { IfOk result (λ more. app_of more ≡ with_told (app_of command.entry)) }
-{
-    let command = with_form(alloc, command, "render")?;
-    let command = with_form(alloc, command, "damage")?;
-    let command = with_form(alloc, command, "focus")?;
-    with_form(alloc, command, "pointer")
-}
-
 // The command, whose subcommands are the forms.
 fn service<'a>(alloc: Global) -> Result<Command<'a>, NoMemory>
     ensures { IfOk result (λ command. app_of command ≡ service) }
 {
-    let command = with_played(alloc, bare(alloc))?;
-    with_told(alloc, command)
+    let command = bare(alloc);
+    let command = with_form(alloc, command, "play")?;
+    let command = with_form(alloc, command, "race")?;
+    let command = with_load(alloc, command)?;
+    let command = with_form(alloc, command, "render")?;
+    let command = with_form(alloc, command, "damage")?;
+    let command = with_form(alloc, command, "focus")?;
+    with_form(alloc, command, "pointer")
 }
 
 // What the words give the command, or None where it refuses them.
