@@ -1,9 +1,16 @@
-//! Tests of `flatland`: races under gates, and plays where what is around them fails.
+//! Tests of `flatland`: races under gates, and plays where what is around them fails; and
+//! of its displays and its command words.
 #![tactic(auto)]
 
+#[cfg(test)]
+mod display;
 #[cfg(test)]
 mod gates;
 #[cfg(test)]
 mod orders;
 #[cfg(test)]
 mod outside;
+#[cfg(test)]
+mod source;
+#[cfg(test)]
+mod words;

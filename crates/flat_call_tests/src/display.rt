@@ -15,23 +15,27 @@ fn frame_of(alloc: Global, number: u32) -> FrameOut {
     }
 }
 
+/// Whether a display took each of five frames.
+fn show_five(alloc: Global, display: &mut MemDisplay) -> [bool; 5] {
+    let mut taken = [false; 5];
+    for (place, is_taken) in taken.iter_mut().enumerate() {
+        *is_taken = display.show(&frame_of(alloc, place as u32 + 1)).is_ok();
+    }
+    taken
+}
+
+/// Whether these are the frames of these numbers.
+fn are_numbered(frames: &[FrameOut], numbers: &[u32]) -> bool {
+    frames.len() == numbers.len() && frames.iter().zip(numbers).all(|(one, n)| one.frame.0 == *n)
+}
+
 #[test]
 fn memory_fails_at_its_calls(rt: HostRuntime) -> Result<(), Fail> {
     let alloc = rt.alloc();
     let mut display = MemDisplay::new(alloc, vec![in alloc; 2, 4]?);
-    let mut answers = Vec::new(alloc);
-    for number in 1..=5 {
-        answers.push(display.show(&frame_of(alloc, number)).is_ok())?;
-    }
-    assert_eq!(rt;
-        answers.as_slice(),
-        [true, false, true, false, true].as_slice()
-    );
-    let mut kept = Vec::new(alloc);
-    for frame in display.frames() {
-        kept.push(frame.frame.0)?;
-    }
-    assert_eq!(rt; kept.as_slice(), [1, 3, 5].as_slice());
+    let taken = show_five(alloc, &mut display);
+    let kept = are_numbered(display.frames(), &[1, 3, 5]);
+    assert_eq!(rt; (taken, kept), ([true, false, true, false, true], true));
     Ok(())
 }
 
