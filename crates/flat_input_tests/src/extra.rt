@@ -52,11 +52,25 @@ const POINTER: [Case; 6] = [
     ("display Up 0 \n", 7, 8),
 ];
 
+fn count_focus(alloc: Global, text: &[u8]) -> Result<usize, ScriptError> {
+    let read = parse_focus(alloc, text)?;
+    let count = read.lines.len();
+    drop(read);
+    Ok(count)
+}
+
+fn count_pointers(alloc: Global, text: &[u8]) -> Result<usize, ScriptError> {
+    let read = parse_pointers(alloc, text)?;
+    let count = read.lines.len();
+    drop(read);
+    Ok(count)
+}
+
 /// The line and the kind of a text's fault, or 0 and the number of its extra lines.
 fn outcome(alloc: Global, set: ExtraSet, text: &[u8]) -> Option<(usize, usize)> {
     let count = match set {
-        ExtraSet::Focus => parse_focus(alloc, text).map(|read| read.lines.len()),
-        ExtraSet::Pointer => parse_pointers(alloc, text).map(|read| read.lines.len()),
+        ExtraSet::Focus => count_focus(alloc, text),
+        ExtraSet::Pointer => count_pointers(alloc, text),
     };
     match count {
         Ok(count) => Some((0, count)),
@@ -171,7 +185,9 @@ const VALUES: &str =
 /// Whether the extra lines of a text are these.
 fn are_read(alloc: Global, text: &[u8], lines: &[PointerLine]) -> Result<bool, ScriptError> {
     let read = parse_pointers(alloc, text)?;
-    Ok(read.lines.as_slice() == lines)
+    let are_these = read.lines.as_slice() == lines;
+    drop(read);
+    Ok(are_these)
 }
 
 #[test]
