@@ -1,4 +1,4 @@
-ghost use Rattle.std.specs.Prelude.{◌≡◌, IfOk};
+ghost use Rattle.std.specs.Prelude.{◌≡◌, IfOk, true};
 ghost use Rattle.flat_base.specs.declared.ids.SessionNo.{SessionNo};
 ghost use Rattle.flat_text.specs.Pieces.{is_space, pieces_left};
 ghost use Rattle.flat_places.specs.declared.script.Script.{Script};
@@ -9,7 +9,7 @@ ghost use Rattle.flat_forms.specs.declared.calls.CallName.TheVariants.{CreateIma
 ghost use Rattle.flat_forms.specs.declared.calls.CallName.TheVariants.{SetImageDestinationSize};
 ghost use Rattle.flat_forms.specs.declared.calls.CallName.TheVariants.{SetSolidFill};
 ghost use Rattle.flat_places.specs.Forms.{whole};
-ghost use Rattle.flat_forms.specs.Calls.{call_form, inset_or_none};
+ghost use Rattle.flat_forms.specs.Calls.{call_form, inset_or_none, is_of_contents};
 ghost use Rattle.flat_places.specs.Index.{IsIndexed};
 ghost use Rattle.flat_places.specs.Reads.{Reads};
 ghost use Rattle.flat_forms.specs.Steps.{Reaches};
@@ -93,39 +93,6 @@ fn fields(
         CallName::SetRootTransform => Ok(Call::SetRootTransform {
             t: places.transform(),
         }),
-        CallName::CreateViewport => Ok(create_viewport(places, script, session)),
-        CallName::SetViewportProperties => Ok(set_viewport_properties(places)),
-        CallName::ReleaseViewport => Ok(Call::ReleaseViewport {
-            c: places.content(),
-        }),
-        CallName::CreateImage => Ok(create_image(places, script, session)),
-        CallName::SetImageSampleRegion => Ok(Call::SetImageSampleRegion {
-            c: places.content(),
-            rect: places.int_rect(),
-        }),
-        CallName::SetImageDestinationSize => Ok(set_image_destination_size(places)),
-        CallName::SetImageBlendingFunction => Ok(Call::SetImageBlendingFunction {
-            c: places.content(),
-            m: places.blend(),
-        }),
-        CallName::SetImageFlip => Ok(Call::SetImageFlip {
-            c: places.content(),
-            f: places.flip(),
-        }),
-        CallName::SetImageOpacity => Ok(Call::SetImageOpacity {
-            c: places.content(),
-            v: places.u32(),
-        }),
-        CallName::ReleaseImage => Ok(Call::ReleaseImage {
-            c: places.content(),
-        }),
-        CallName::CreateFilledRect => Ok(Call::CreateFilledRect {
-            c: places.content(),
-        }),
-        CallName::SetSolidFill => Ok(set_solid_fill(places)),
-        CallName::ReleaseFilledRect => Ok(Call::ReleaseFilledRect {
-            c: places.content(),
-        }),
         CallName::SetHitRegions => Ok(Call::SetHitRegions {
             t: places.transform(),
             regions: places.regions(alloc)?,
@@ -139,6 +106,51 @@ fn fields(
             c: places.content(),
         }),
         CallName::Clear => Ok(Call::Clear),
+        _ => Ok(content_fields(places, script, session, name)),
+    }
+}
+
+/// The fields of a call that makes, changes or releases a content.
+fn content_fields(places: &mut Places, script: &Indexed, session: SessionNo, name: CallName) -> Call
+    requires indexed { IsIndexed script.now }
+    requires contents { is_of_contents name ≡ true }
+    ensures { Reads (call_form script.now.script session name) places.old places.new result }
+{
+    match name {
+        CallName::CreateViewport => create_viewport(places, script, session),
+        CallName::SetViewportProperties => set_viewport_properties(places),
+        CallName::ReleaseViewport => Call::ReleaseViewport {
+            c: places.content(),
+        },
+        CallName::CreateImage => create_image(places, script, session),
+        CallName::SetImageSampleRegion => Call::SetImageSampleRegion {
+            c: places.content(),
+            rect: places.int_rect(),
+        },
+        CallName::SetImageDestinationSize => set_image_destination_size(places),
+        CallName::SetImageBlendingFunction => Call::SetImageBlendingFunction {
+            c: places.content(),
+            m: places.blend(),
+        },
+        CallName::SetImageFlip => Call::SetImageFlip {
+            c: places.content(),
+            f: places.flip(),
+        },
+        CallName::SetImageOpacity => Call::SetImageOpacity {
+            c: places.content(),
+            v: places.u32(),
+        },
+        CallName::ReleaseImage => Call::ReleaseImage {
+            c: places.content(),
+        },
+        CallName::CreateFilledRect => Call::CreateFilledRect {
+            c: places.content(),
+        },
+        CallName::SetSolidFill => set_solid_fill(places),
+        CallName::ReleaseFilledRect => Call::ReleaseFilledRect {
+            c: places.content(),
+        },
+        _ => unreachable!(),
     }
 }
 

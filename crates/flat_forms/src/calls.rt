@@ -8,7 +8,7 @@ use flat_places::{is_word, knows};
 const LONG_NAME: usize = 14;
 
 /// The words that name a call of a session.
-#[derive(Clone, Copy, Debug, PartialEq, Eq)]
+#[derive(Clone, Copy)]
 pub enum CallName {
     CreateView,
     ReleaseView,

@@ -1,12 +1,12 @@
-ghost use Rattle.std.specs.Prelude.{◌≡◌, ◌≤◌, ◌∷◌, ℕ, false, length, nat_lt, not, codes, IsTrue, IfOk};
+ghost use Rattle.std.specs.Prelude.{◌≡◌, ◌≤◌, [], ◌∷◌, ℕ, false, length, nat_lt, not, codes, IsTrue, IfOk};
 ghost use Rattle.std.specs.Str.{bytes_eq};
 ghost use Rattle.flat_text.specs.Pieces.{is_space, pieces_left, words_of};
 ghost use Rattle.flat_places.specs.declared.kinds.FaultKind.TheVariants.{BadHead, Limit, BadOrder};
 ghost use Rattle.flat_places.specs.Forms.{whole, give, unless_kind, mapped};
 ghost use Rattle.flat_forms.specs.Head as head;
 ghost use Rattle.flat_forms.specs.Head.{size, buffers, pair, run_line, first_line};
-ghost use Rattle.flat_places.specs.Places.{new_name, has_display_pair, fence, point, version};
-ghost use Rattle.flat_forms.specs.Body.{begin_place, begin_times, dones, greatest, display_line};
+ghost use Rattle.flat_places.specs.Places.{new_name, has_display_pair, fence, point, time, version};
+ghost use Rattle.flat_forms.specs.Body.{begin_place, begin_times, dones, greatest, display_line, in_order};
 ghost use Rattle.flat_forms.specs.Body.{probe_line, ratio_line};
 ghost use Rattle.flat_places.specs.Index.{IsIndexed};
 ghost use Rattle.flat_places.specs.Reads.{Reads};
@@ -196,19 +196,29 @@ fn begin_time(places: &mut Places, script: &Indexed, last: u64) -> u64
         places.note(FaultKind::WrongCount);
         return 0;
     };
-    match read_natural(word) {
-        Some(n) if n <= TIME_MAX as u128 => {
-            if last as u128 <= n {
-                return n as u64;
-            }
-            places.note(FaultKind::BadOrder);
-            0
-        }
-        _ => {
-            places.note(FaultKind::BadNumber);
+    match time_from(word, last) {
+        Ok(time) => time,
+        Err(kind) => {
+            places.note(kind);
             0
         }
     }
+}
+
+/// The time that the word is, where it isn't before `least`.
+fn time_from(word: &[u8], least: u64) -> Result<u64, FaultKind>
+    ensures { result ≡ in_order least (whole time (word.now ∷ [])) }
+{
+    let Some(number) = read_natural(word) else {
+        return Err(FaultKind::BadNumber);
+    };
+    if number > TIME_MAX as u128 {
+        return Err(FaultKind::BadNumber);
+    }
+    if number < least as u128 {
+        return Err(FaultKind::BadOrder);
+    }
+    Ok(number as u64)
 }
 
 fn done(in_frame: bool, words: Option<&[u8]>) -> Result<DisplayLine, FaultKind>

@@ -13,6 +13,7 @@ mod call_forms;
 mod calls;
 mod conditions;
 mod counts;
+mod declared;
 mod forms;
 mod lines;
 mod lists;

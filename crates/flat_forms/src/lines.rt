@@ -5,7 +5,7 @@ use flat_base::NoMemory;
 use flat_places::FaultKind;
 
 /// The part of a text that a line is in.
-#[derive(Clone, Copy, Debug, PartialEq, Eq)]
+#[derive(Clone, Copy)]
 pub enum Part {
     /// Before the first line that isn't skipped.
     Start,
@@ -16,7 +16,7 @@ pub enum Part {
 }
 
 /// Why a line isn't taken.
-#[derive(Clone, Copy, Debug, PartialEq, Eq)]
+#[derive(Clone, Copy)]
 pub enum LineError {
     /// It has a fault, whose lowest kind this is.
     Kind(FaultKind),

@@ -1,4 +1,4 @@
-ghost use Rattle.std.specs.Prelude.{◌≡◌, ◌<◌, ◌≤◌, ◌+◌, ◌^◌, OnOk, OnErr, length, Ok, Err, nat_lt};
+ghost use Rattle.std.specs.Prelude.{◌≡◌, ◌<◌, ◌≤◌, ◌+◌, ◌^◌, OnOk, OnErr, Ok, Err, nat_lt};
 ghost use Rattle.flat_text.specs.Pieces.{is_space, pieces_left, words_of};
 ghost use Rattle.flat_forms.specs.declared.lines.LineError.TheVariants.{Memory};
 ghost use Rattle.flat_forms.specs.declared.lines.Part.TheVariants.{Start};
@@ -16,14 +16,15 @@ ghost use Rattle.flat_forms.specs.Progress.{Kept, sofar_of, SameFrames};
 use crate::counts::{
     ACTORS_MAX, ends_frame, last_after, limited, one_if, or_display, slot, time_begun,
 };
+use crate::declared::{add_name, empty};
 use crate::lines::{LineError, Part};
 use crate::{forms, session_forms};
 use flat_base::{
-    Actor, BUFFER_COLLECTIONS_MAX, FENCES_MAX, Items, LINES_PER_ACTOR_MAX, ONE, PAIRS_MAX,
-    PROBES_MAX, SESSIONS_MAX,
+    Actor, BUFFER_COLLECTIONS_MAX, FENCES_MAX, LINES_PER_ACTOR_MAX, PAIRS_MAX, PROBES_MAX,
+    SESSIONS_MAX,
 };
-use flat_places::{FaultKind, Indexed, Meaning, Name, Names, Script, is_word};
-use flat_scene::{Body, ScriptLine, Setup};
+use flat_places::{FaultKind, Indexed, Meaning, Names, is_word};
+use flat_scene::{Body, ScriptLine};
 use flat_text::next_piece;
 use std::alloc::Global;
 
@@ -98,10 +99,13 @@ impl Parser {
         let number = self.text.script.sessions.len() as u32;
         let name = forms::lone_name(&self.text, number < SESSIONS_MAX, words)?;
         self.text.script.setup.sessions += 1;
-        self.text.script.sessions.push(Name::new(name))?;
-        self.text
-            .names
-            .declare(alloc, name, Meaning::Session(number))?;
+        add_name(
+            alloc,
+            &mut self.text.script.sessions,
+            &mut self.text.names,
+            name,
+            Meaning::Session(number),
+        )?;
         Ok(())
     }
 
@@ -115,10 +119,13 @@ impl Parser {
         let number = self.text.script.probes.len() as u32;
         let name = forms::lone_name(&self.text, number < PROBES_MAX, words)?;
         self.text.script.setup.probes += 1;
-        self.text.script.probes.push(Name::new(name))?;
-        self.text
-            .names
-            .declare(alloc, name, Meaning::Probe(number))?;
+        add_name(
+            alloc,
+            &mut self.text.script.probes,
+            &mut self.text.names,
+            name,
+            Meaning::Probe(number),
+        )?;
         Ok(())
     }
 
@@ -132,10 +139,13 @@ impl Parser {
         let number = self.text.script.buffers.len() as u32;
         let (name, decl) = forms::buffers(&self.text, number < BUFFER_COLLECTIONS_MAX, words)?;
         self.text.script.setup.buffers.push(decl)?;
-        self.text.script.buffers.push(Name::new(name))?;
-        self.text
-            .names
-            .declare(alloc, name, Meaning::Buffers(number))?;
+        add_name(
+            alloc,
+            &mut self.text.script.buffers,
+            &mut self.text.names,
+            name,
+            Meaning::Buffers(number),
+        )?;
         Ok(())
     }
 
@@ -150,8 +160,13 @@ impl Parser {
         let (name, decl) = forms::pair(&self.text, number < PAIRS_MAX, self.paired, words)?;
         self.paired = or_display(self.paired, decl.viewport);
         self.text.script.setup.pairs.push(decl)?;
-        self.text.script.pairs.push(Name::new(name))?;
-        self.text.names.declare(alloc, name, Meaning::Pair(number))?;
+        add_name(
+            alloc,
+            &mut self.text.script.pairs,
+            &mut self.text.names,
+            name,
+            Meaning::Pair(number),
+        )?;
         Ok(())
     }
 
@@ -165,10 +180,13 @@ impl Parser {
         let number = self.text.script.fences.len() as u32;
         let (name, decl) = forms::fence(alloc, &self.text, number < FENCES_MAX, words)?;
         self.text.script.setup.fences.push(decl)?;
-        self.text.script.fences.push(Name::new(name))?;
-        self.text
-            .names
-            .declare(alloc, name, Meaning::Fence(number))?;
+        add_name(
+            alloc,
+            &mut self.text.script.fences,
+            &mut self.text.names,
+            name,
+            Meaning::Fence(number),
+        )?;
         Ok(())
     }
 
@@ -364,30 +382,5 @@ impl Parser {
             }
             Part::Body => self.body(alloc, number, words),
         }
-    }
-}
-
-fn empty(alloc: Global) -> Script
-    ensures { result ≡ empty }
-{
-    Script {
-        setup: Setup {
-            width: 0,
-            height: 0,
-            sessions: 0,
-            probes: 0,
-            pairs: Items::new(alloc),
-            buffers: Items::new(alloc),
-            fences: Items::new(alloc),
-            version: 0,
-            ratio: ONE,
-        },
-        sessions: Items::new(alloc),
-        probes: Items::new(alloc),
-        buffers: Items::new(alloc),
-        pairs: Items::new(alloc),
-        fences: Items::new(alloc),
-        lines: Items::new(alloc),
-        count: 0,
     }
 }

@@ -17,38 +17,17 @@ returns-in-AddChild c = rw c.in-AddChild.is (then (begin (λ p k. call.AddChild 
 pub returns-in-RemoveChild : goal.returns-in-RemoveChild
 returns-in-RemoveChild c = rw c.in-RemoveChild.is (then (begin (λ p k. call.RemoveChild p k) c.transform-in-RemoveChild.ensures) c.transform-in-RemoveChild-2.ensures)
 
-pub returns-in-SetImageSampleRegion : goal.returns-in-SetImageSampleRegion
-returns-in-SetImageSampleRegion c = rw c.in-SetImageSampleRegion.is (then (begin (λ d r. call.SetImageSampleRegion d r) c.content-in-SetImageSampleRegion.ensures) c.int_rect.ensures)
-
-pub returns-in-SetImageBlendingFunction : goal.returns-in-SetImageBlendingFunction
-returns-in-SetImageBlendingFunction c = rw c.in-SetImageBlendingFunction.is (then (begin (λ d m. call.SetImageBlendingFunction d m) c.content-in-SetImageBlendingFunction.ensures) c.blend.ensures)
-
-pub returns-in-SetImageFlip : goal.returns-in-SetImageFlip
-returns-in-SetImageFlip c = rw c.in-SetImageFlip.is (then (begin (λ d f. call.SetImageFlip d f) c.content-in-SetImageFlip.ensures) c.flip.ensures)
-
-pub returns-in-SetImageOpacity : goal.returns-in-SetImageOpacity
-returns-in-SetImageOpacity c = rw c.in-SetImageOpacity.is (then (begin (λ d v. call.SetImageOpacity d v) c.content-in-SetImageOpacity.ensures) c.u32-in-SetImageOpacity.ensures)
-
 pub returns-in-SetInfiniteHitRegion : goal.returns-in-SetInfiniteHitRegion
 returns-in-SetInfiniteHitRegion c = rw c.in-SetInfiniteHitRegion.is (then (begin (λ t i. call.SetInfiniteHitRegion t i) c.transform-in-SetInfiniteHitRegion.ensures) c.interaction.ensures)
 
 pub returns-in-SetContent : goal.returns-in-SetContent
-returns-in-SetContent c = rw c.in-SetContent.is (then (begin (λ t d. call.SetContent t d) c.transform-in-SetContent.ensures) c.content-in-SetContent.ensures)
+returns-in-SetContent c = rw c.in-SetContent.is (then (begin (λ t d. call.SetContent t d) c.transform-in-SetContent.ensures) c.content.ensures)
 
 pub returns-in-SetTranslation : goal.returns-in-SetTranslation
 returns-in-SetTranslation c = rw c.in-SetTranslation.is (c.set_translation.ensures c.args.script.now.script c.args.session)
 
 pub returns-in-SetScale : goal.returns-in-SetScale
 returns-in-SetScale c = rw c.in-SetScale.is (c.set_scale.ensures c.args.script.now.script c.args.session)
-
-pub returns-in-SetViewportProperties : goal.returns-in-SetViewportProperties
-returns-in-SetViewportProperties c = rw c.in-SetViewportProperties.is (c.set_viewport_properties.ensures c.args.script.now.script c.args.session)
-
-pub returns-in-SetImageDestinationSize : goal.returns-in-SetImageDestinationSize
-returns-in-SetImageDestinationSize c = rw c.in-SetImageDestinationSize.is (c.set_image_destination_size.ensures c.args.script.now.script c.args.session)
-
-pub returns-in-SetSolidFill : goal.returns-in-SetSolidFill
-returns-in-SetSolidFill c = rw c.in-SetSolidFill.is (c.set_solid_fill.ensures c.args.script.now.script c.args.session)
 
 pub returns-in_ok-regions-in-SetHitRegions : goal.returns-in_ok-regions-in-SetHitRegions
 returns-in_ok-regions-in-SetHitRegions c =

@@ -1,14 +1,10 @@
 use Rattle.std.proofs.Common.{nat_lt, refl}
 use Rattle.flat_text.specs.Pieces.{is_space, pieces_left}
-use Rattle.flat_places.proofs.lemmas.NameLemmas.{is_name-short}
 use Rattle.flat_forms.proofs.DeclareLemmas.{fence_declares, one_longer, fences_found}
 use Rattle.flat_forms.proofs.parser.Parser.fence.Goals as goal
 
-pub new-requires : goal.new-requires
-new-requires c = let read = fence_declares c.args.self.now.text.script (pieces_left is_space c.args.words) (nat_lt c.len-number.result 4096) (c.in_ok-name.name.now, c.in_ok-name.decl) c.in_ok-name.ensures in is_name-short c.in_ok-name.name.now read.fresh.name
-
-pub declare-requires-clause-name : goal.declare-requires-clause-name
-declare-requires-clause-name c = let read = fence_declares c.args.self.now.text.script (pieces_left is_space c.args.words) (nat_lt c.len-number.result 4096) (c.in_ok-name.name.now, c.in_ok-name.decl) c.in_ok-name.ensures in read.fresh.name
+pub add_name-requires-clause-name : goal.add_name-requires-clause-name
+add_name-requires-clause-name c = let read = fence_declares c.args.self.now.text.script (pieces_left is_space c.args.words) (nat_lt c.len-number.result 4096) (c.in_ok-name.name.now, c.in_ok-name.decl) c.in_ok-name.ensures in read.fresh.name
 
 pub returns-clause-kept : goal.returns-clause-kept
 returns-clause-kept c =
@@ -17,14 +13,14 @@ returns-clause-kept c =
     let read = fence_declares c.args.self.now.text.script (pieces_left is_space c.args.words) (nat_lt c.len-number.result 4096) (c.in_ok-name.name.now, c.in_ok-name.decl) c.in_ok-name.ensures in
     record {
       indexed = record {
-        only = c.in_ok-declare.ensures.only;
+        only = c.in_ok-add_name.ensures.only;
         finds = λ w.
-            fences_found old _ c.in_ok-name.name.now c.new.result w c.in_ok-name.decl c.len-number.result _ _ c.in_ok-push-2.ensures.ok c.new.ensures refl refl refl refl c.len-number.ensures read.fresh (c.in_ok-declare.ensures.found w) (had.finds w);
+            fences_found old _ c.in_ok-name.name.now c.in_ok-name.name.now w c.in_ok-name.decl c.len-number.result _ _ c.in_ok-add_name.ensures.list refl refl refl refl refl c.len-number.ensures read.fresh (c.in_ok-add_name.ensures.found w) (had.finds w);
         sessions = had.sessions;
         probes = had.probes;
         buffers = had.buffers;
         pairs = had.pairs;
-        fences = one_longer old.fences c.push-2.new.self c.new.result c.len-number.result 4096 c.in_ok-push-2.ensures.ok c.len-number.ensures read.allowed;
+        fences = one_longer old.fences c.add_name.new.list c.in_ok-name.name.now c.len-number.result 4096 c.in_ok-add_name.ensures.list c.len-number.ensures read.allowed;
       };
       sessions = c.requires.sessions;
       probes = c.requires.probes;

@@ -1,14 +1,10 @@
 use Rattle.std.proofs.Common.{◌+◌, ◌∷◌, [], nat_lt, length, refl, sym, ◌∙◌, ap, length-append}
 use Rattle.flat_text.specs.Pieces.{is_space, pieces_left}
-use Rattle.flat_places.proofs.lemmas.NameLemmas.{is_name-short}
 use Rattle.flat_forms.proofs.DeclareLemmas.{name_declares, one_longer, sessions_found}
 use Rattle.flat_forms.proofs.parser.Parser.session.Goals as goal
 
-pub new-requires : goal.new-requires
-new-requires c = let read = name_declares c.args.self.now.text.script (pieces_left is_space c.args.words) (nat_lt c.len-number.result 16) c.in_ok-name.name.now c.in_ok-name.ensures in is_name-short c.in_ok-name.name.now read.fresh.name
-
-pub declare-requires-clause-name : goal.declare-requires-clause-name
-declare-requires-clause-name c = let read = name_declares c.args.self.now.text.script (pieces_left is_space c.args.words) (nat_lt c.len-number.result 16) c.in_ok-name.name.now c.in_ok-name.ensures in read.fresh.name
+pub add_name-requires-clause-name : goal.add_name-requires-clause-name
+add_name-requires-clause-name c = let read = name_declares c.args.self.now.text.script (pieces_left is_space c.args.words) (nat_lt c.len-number.result 16) c.in_ok-name.name.now c.in_ok-name.ensures in read.fresh.name
 
 pub returns-clause-kept : goal.returns-clause-kept
 returns-clause-kept c =
@@ -17,16 +13,16 @@ returns-clause-kept c =
     let read = name_declares c.args.self.now.text.script (pieces_left is_space c.args.words) (nat_lt c.len-number.result 16) c.in_ok-name.name.now c.in_ok-name.ensures in
     record {
       indexed = record {
-        only = c.in_ok-declare.ensures.only;
+        only = c.in_ok-add_name.ensures.only;
         finds = λ w.
-            sessions_found old _ c.in_ok-name.name.now c.new.result w c.len-number.result _ _ c.in_ok-push.ensures.ok c.new.ensures refl refl refl refl c.len-number.ensures read.fresh (c.in_ok-declare.ensures.found w) (had.finds w);
-        sessions = one_longer old.sessions c.push.new.self c.new.result c.len-number.result 16 c.in_ok-push.ensures.ok c.len-number.ensures read.allowed;
+            sessions_found old _ c.in_ok-name.name.now c.in_ok-name.name.now w c.len-number.result _ _ c.in_ok-add_name.ensures.list refl refl refl refl refl c.len-number.ensures read.fresh (c.in_ok-add_name.ensures.found w) (had.finds w);
+        sessions = one_longer old.sessions c.add_name.new.list c.in_ok-name.name.now c.len-number.result 16 c.in_ok-add_name.ensures.list c.len-number.ensures read.allowed;
         probes = had.probes;
         buffers = had.buffers;
         pairs = had.pairs;
         fences = had.fences;
       };
-      sessions = ap (λ n. n + 1) c.requires.sessions ∙ sym (ap length c.in_ok-push.ensures.ok ∙ length-append old.sessions (c.new.result ∷ []));
+      sessions = ap (λ n. n + 1) c.requires.sessions ∙ sym (ap length c.in_ok-add_name.ensures.list ∙ length-append old.sessions (c.in_ok-name.name.now ∷ []));
       probes = c.requires.probes;
       paired = c.requires.paired;
       begins = c.requires.begins;
