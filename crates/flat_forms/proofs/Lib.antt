@@ -1,3 +1,4 @@
+mod Times
 pub mod DeclareLemmas
 pub mod Naming
 pub mod lemmas
