@@ -1,8 +1,8 @@
-//! The words of a line, place by place: numbers of a range (src/places.rt), and names
-//! of a script (src/named.rt, src/names.rt). Each method of [`Places`] reads the form of
-//! its name (specs/Places), as `Reads` says (specs/Reads), and notes the lowest kind of
-//! the faults (src/kinds.rt, specs/Kinds). Which words a version of scripts has says
-//! specs/Known (src/known.rt).
+//! The words of a line, place by place: numbers of a range (src/places.rt, and
+//! src/numbers.rt for what one word says), and names of a script (src/named.rt,
+//! src/names.rt). Each method of [`Places`] reads the form of its name (specs/Places),
+//! as `Reads` says (specs/Reads), and notes the lowest kind of the faults (src/kinds.rt,
+//! specs/Kinds). Which words a version of scripts has says specs/Known (src/known.rt).
 //!
 //! Other crates may cite the lemmas of proofs/lemmas/: names (NameLemmas), and forms as
 //! the code reads them (ReadsLemmas).
@@ -13,6 +13,7 @@ mod known;
 mod name;
 mod named;
 mod names;
+mod numbers;
 mod places;
 mod script;
 

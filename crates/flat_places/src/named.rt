@@ -1,4 +1,4 @@
-ghost use Rattle.std.specs.Prelude.{◌≡◌, length, [], IfOk};
+ghost use Rattle.std.specs.Prelude.{◌≡◌, length, [], ◌∷◌, IfOk};
 ghost use Rattle.std.specs.List.{list_any};
 ghost use Rattle.flat_base.specs.declared.ids.Actor.TheVariants.{Session};
 ghost use Rattle.flat_places.specs.Forms.{each};
@@ -84,20 +84,9 @@ impl<'a> Places<'a> {
         ensures { Reads (view_end script.now.script owner) self.old self.new result }
     {
         let Some(word) = self.next() else {
-            self.note(FaultKind::WrongCount);
-            return PairNo(0);
+            return self.kept(Err(FaultKind::WrongCount), PairNo(0));
         };
-        let Some(i) = script.pair_place(word) else {
-            self.note(FaultKind::UnknownName);
-            return PairNo(0);
-        };
-        match script.script.setup.pairs.as_slice().get(i as usize) {
-            Some(pair) if is_session(owner, pair.view) => PairNo(i),
-            _ => {
-                self.note(FaultKind::NotOwner);
-                PairNo(0)
-            }
-        }
+        self.kept(view_end_in(word, script, owner), PairNo(0))
     }
 
     /// A pair whose viewport end the session owns.
@@ -106,20 +95,9 @@ impl<'a> Places<'a> {
         ensures { Reads (viewport_end script.now.script owner) self.old self.new result }
     {
         let Some(word) = self.next() else {
-            self.note(FaultKind::WrongCount);
-            return PairNo(0);
+            return self.kept(Err(FaultKind::WrongCount), PairNo(0));
         };
-        let Some(i) = script.pair_place(word) else {
-            self.note(FaultKind::UnknownName);
-            return PairNo(0);
-        };
-        match script.script.setup.pairs.as_slice().get(i as usize) {
-            Some(pair) if is_actor(Actor::Session(owner), pair.viewport) => PairNo(i),
-            _ => {
-                self.note(FaultKind::NotOwner);
-                PairNo(0)
-            }
-        }
+        self.kept(viewport_end_in(word, script, owner), PairNo(0))
     }
 
     /// A buffer collection that the session owns.
@@ -128,20 +106,9 @@ impl<'a> Places<'a> {
         ensures { Reads (collection script.now.script owner) self.old self.new result }
     {
         let Some(word) = self.next() else {
-            self.note(FaultKind::WrongCount);
-            return BufferNo(0);
+            return self.kept(Err(FaultKind::WrongCount), BufferNo(0));
         };
-        let Some(i) = script.buffers_place(word) else {
-            self.note(FaultKind::UnknownName);
-            return BufferNo(0);
-        };
-        match script.script.setup.buffers.as_slice().get(i as usize) {
-            Some(buffers) if is_session(owner, buffers.owner) => BufferNo(i),
-            _ => {
-                self.note(FaultKind::NotOwner);
-                BufferNo(0)
-            }
-        }
+        self.kept(collection_in(word, script, owner), BufferNo(0))
     }
 
     /// A fence that the actor owns.
@@ -150,20 +117,9 @@ impl<'a> Places<'a> {
         ensures { Reads (fence script.now.script owner) self.old self.new result }
     {
         let Some(word) = self.next() else {
-            self.note(FaultKind::WrongCount);
-            return FenceNo(0);
+            return self.kept(Err(FaultKind::WrongCount), FenceNo(0));
         };
-        let Some(i) = script.fence_place(word) else {
-            self.note(FaultKind::UnknownName);
-            return FenceNo(0);
-        };
-        match script.script.setup.fences.as_slice().get(i as usize) {
-            Some(fence) if has_owner(fence, owner) => FenceNo(i),
-            _ => {
-                self.note(FaultKind::NotOwner);
-                FenceNo(0)
-            }
-        }
+        self.kept(fence_in(word, script, owner), FenceNo(0))
     }
 
     /// A name that isn't declared yet.
@@ -208,6 +164,62 @@ impl<'a> Places<'a> {
                 Actor::Display
             }
         }
+    }
+}
+
+/// The pair of that name, whose view end the session owns.
+fn view_end_in(word: &[u8], script: &Indexed, owner: SessionNo) -> Result<PairNo, FaultKind>
+    requires { IsIndexed script.now }
+    ensures { result ≡ (view_end script.now.script owner (word.now ∷ [])).0 }
+{
+    let Some(i) = script.pair_place(word) else {
+        return Err(FaultKind::UnknownName);
+    };
+    match script.script.setup.pairs.as_slice().get(i as usize) {
+        Some(pair) if is_session(owner, pair.view) => Ok(PairNo(i)),
+        _ => Err(FaultKind::NotOwner),
+    }
+}
+
+/// The pair of that name, whose viewport end the session owns.
+fn viewport_end_in(word: &[u8], script: &Indexed, owner: SessionNo) -> Result<PairNo, FaultKind>
+    requires { IsIndexed script.now }
+    ensures { result ≡ (viewport_end script.now.script owner (word.now ∷ [])).0 }
+{
+    let Some(i) = script.pair_place(word) else {
+        return Err(FaultKind::UnknownName);
+    };
+    match script.script.setup.pairs.as_slice().get(i as usize) {
+        Some(pair) if is_actor(Actor::Session(owner), pair.viewport) => Ok(PairNo(i)),
+        _ => Err(FaultKind::NotOwner),
+    }
+}
+
+/// The collection of that name, which the session owns.
+fn collection_in(word: &[u8], script: &Indexed, owner: SessionNo) -> Result<BufferNo, FaultKind>
+    requires { IsIndexed script.now }
+    ensures { result ≡ (collection script.now.script owner (word.now ∷ [])).0 }
+{
+    let Some(i) = script.buffers_place(word) else {
+        return Err(FaultKind::UnknownName);
+    };
+    match script.script.setup.buffers.as_slice().get(i as usize) {
+        Some(buffers) if is_session(owner, buffers.owner) => Ok(BufferNo(i)),
+        _ => Err(FaultKind::NotOwner),
+    }
+}
+
+/// The fence of that name, which the actor owns.
+fn fence_in(word: &[u8], script: &Indexed, owner: Actor) -> Result<FenceNo, FaultKind>
+    requires { IsIndexed script.now }
+    ensures { result ≡ (fence script.now.script owner (word.now ∷ [])).0 }
+{
+    let Some(i) = script.fence_place(word) else {
+        return Err(FaultKind::UnknownName);
+    };
+    match script.script.setup.fences.as_slice().get(i as usize) {
+        Some(fence) if has_owner(fence, owner) => Ok(FenceNo(i)),
+        _ => Err(FaultKind::NotOwner),
     }
 }
 

@@ -12,7 +12,7 @@ use std::collections::BTreeMap;
 
 /// What a name names: the place among those of its sort, from 0, in the order of
 /// declaration.
-#[derive(Clone, Copy, Debug, PartialEq, Eq)]
+#[derive(Clone, Copy)]
 pub enum Meaning {
     /// A session.
     Session(u32),

@@ -6,17 +6,18 @@ ghost use Rattle.flat_text.specs.Pieces.{is_space, pieces_left};
 ghost use Rattle.flat_places.specs.Forms.{passes, optional};
 ghost use Rattle.flat_places.specs.Places.{number_below, number_from, transform, content, time};
 ghost use Rattle.flat_places.specs.Places.{u32, colour, i32, int_rect, inset, orientation, blend};
-ghost use Rattle.flat_places.specs.Places.{flip, interaction, region, regions, transforms};
+ghost use Rattle.flat_places.specs.Places.{choice, flip, interaction, region, regions, transforms};
 ghost use Rattle.flat_places.specs.Places.{unsquashable, version, ratio, first_ratio};
-ghost use Rattle.flat_places.specs.Reads.{Reads, TakesWord, left, sofar, lower, finished};
+ghost use Rattle.flat_places.specs.Reads.{Reads, TakesWord, left, sofar, lower, giving, finished};
 ghost use Rattle.flat_places.specs.Reads.{reading_of};
 
 use crate::kinds::FaultKind;
 use crate::known::knows;
 use crate::names::is_word;
+use crate::numbers::{chosen, number_in, version_in};
 use flat_base::{
     COLOUR_MAX, ContentId, INSET_MAX, IntRect, Items, NoMemory, ONE, Orientation, RATIO_MAX,
-    RATIO_MIN, RATIO_SINCE, TIME_MAX, TransformId, VERSION_MAX,
+    RATIO_MIN, RATIO_SINCE, TIME_MAX, TransformId,
 };
 use flat_scene::{BlendMode, HitRegion, ImageFlip, Inset, Interaction, RegionList, TransformList};
 use flat_text::{next_piece, read_natural, read_number};
@@ -71,6 +72,31 @@ impl<'a> Places<'a> {
         if !test {
             self.note(kind);
         }
+    }
+
+    /// The value that was read, or the other one where there was a fault, which is kept.
+    pub(crate) fn kept<T: Copy>(&mut self, read: Result<T, FaultKind>, other: T) -> T
+        ensures words { self.new.words ≡ self.old.words }
+        ensures lower { lower (sofar self.old) read ≡ giving result (sofar self.new) }
+    {
+        match read {
+            Ok(value) => value,
+            Err(kind) => {
+                self.note(kind);
+                other
+            }
+        }
+    }
+
+    /// One of the values, which are numbered from `first` on.
+    fn choice<T: Copy>(&mut self, first: u128, values: &[T]) -> T
+        requires { 0 < length values.now }
+        ensures { Reads (choice first values.now) self.old self.new result }
+    {
+        let Some(word) = self.next() else {
+            return self.kept(Err(FaultKind::WrongCount), values[0]);
+        };
+        self.kept(chosen(word, first, values), values[0])
     }
 
     /// A number from 0 to that one.
@@ -143,16 +169,9 @@ impl<'a> Places<'a> {
         ensures { Reads (number_from least most) self.old self.new result }
     {
         let Some(word) = self.next() else {
-            self.note(FaultKind::WrongCount);
-            return 0;
+            return self.kept(Err(FaultKind::WrongCount), 0);
         };
-        match read_natural(word) {
-            Some(n) if least as u128 <= n && n <= most as u128 => n as u32,
-            _ => {
-                self.note(FaultKind::BadNumber);
-                0
-            }
-        }
+        self.kept(number_in(word, least, most), 0)
     }
 
     /// A number of 32 bits with a sign.
@@ -223,75 +242,42 @@ impl<'a> Places<'a> {
     pub fn orientation(&mut self) -> Orientation
         ensures { Reads orientation self.old self.new result }
     {
-        let Some(word) = self.next() else {
-            self.note(FaultKind::WrongCount);
-            return Orientation::Ccw0;
-        };
-        match read_natural(word) {
-            Some(1) => Orientation::Ccw0,
-            Some(2) => Orientation::Ccw90,
-            Some(3) => Orientation::Ccw180,
-            Some(4) => Orientation::Ccw270,
-            _ => {
-                self.note(FaultKind::BadNumber);
-                Orientation::Ccw0
-            }
-        }
+        self.choice(
+            1,
+            &[
+                Orientation::Ccw0,
+                Orientation::Ccw90,
+                Orientation::Ccw180,
+                Orientation::Ccw270,
+            ],
+        )
     }
 
     /// A blend mode, written 1 or 2.
     pub fn blend(&mut self) -> BlendMode
         ensures { Reads blend self.old self.new result }
     {
-        let Some(word) = self.next() else {
-            self.note(FaultKind::WrongCount);
-            return BlendMode::Src;
-        };
-        match read_natural(word) {
-            Some(1) => BlendMode::Src,
-            Some(2) => BlendMode::SrcOver,
-            _ => {
-                self.note(FaultKind::BadNumber);
-                BlendMode::Src
-            }
-        }
+        self.choice(1, &[BlendMode::Src, BlendMode::SrcOver])
     }
 
     /// How an image is flipped, written 1 to 3.
     pub fn flip(&mut self) -> ImageFlip
         ensures { Reads flip self.old self.new result }
     {
-        let Some(word) = self.next() else {
-            self.note(FaultKind::WrongCount);
-            return ImageFlip::Plain;
-        };
-        match read_natural(word) {
-            Some(1) => ImageFlip::Plain,
-            Some(2) => ImageFlip::LeftRight,
-            Some(3) => ImageFlip::UpDown,
-            _ => {
-                self.note(FaultKind::BadNumber);
-                ImageFlip::Plain
-            }
-        }
+        self.choice(
+            1,
+            &[ImageFlip::Plain, ImageFlip::LeftRight, ImageFlip::UpDown],
+        )
     }
 
     /// How a hit region answers, written 0 or 1.
     pub fn interaction(&mut self) -> Interaction
         ensures { Reads interaction self.old self.new result }
     {
-        let Some(word) = self.next() else {
-            self.note(FaultKind::WrongCount);
-            return Interaction::Default;
-        };
-        match read_natural(word) {
-            Some(0) => Interaction::Default,
-            Some(1) => Interaction::SemanticallyInvisible,
-            _ => {
-                self.note(FaultKind::BadNumber);
-                Interaction::Default
-            }
-        }
+        self.choice(
+            0,
+            &[Interaction::Default, Interaction::SemanticallyInvisible],
+        )
     }
 
     fn region(&mut self) -> HitRegion
@@ -359,20 +345,9 @@ impl<'a> Places<'a> {
         ensures { Reads version self.old self.new result }
     {
         let Some(word) = self.next() else {
-            self.note(FaultKind::WrongCount);
-            return 0;
+            return self.kept(Err(FaultKind::WrongCount), 0);
         };
-        match read_natural(word) {
-            Some(n) if 1 <= n && n <= VERSION_MAX as u128 => n as u32,
-            Some(n) if n <= u32::MAX as u128 => {
-                self.note(FaultKind::UnknownVersion);
-                0
-            }
-            _ => {
-                self.note(FaultKind::BadNumber);
-                0
-            }
-        }
+        self.kept(version_in(word), 0)
     }
 
     /// The value, where all words are taken and none had a fault; else the lowest

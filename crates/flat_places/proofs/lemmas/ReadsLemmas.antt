@@ -236,6 +236,20 @@ pub some_left : (o : Option (Bor (List ℕ))) → is_some o ≡ true → 0 < len
 some_left None h = absurd (cc)
 some_left (Some text) h = omega (arith, length-slice_split is_space text.now)
 
+none_left : (o : Option (Bor (List ℕ))) → is_some o ≡ false → pieces_left is_space o ≡ []
+none_left None h = refl
+none_left (Some text) h = absurd (cc)
+
+-- all groups to the end of the line
+pub all_read : {A : Type 0} (rest : List Word → Reading (List A)) (p q : Places) (v : List A) → rest [] ≡ Ok [] → is_some q.words ≡ false
+    → lower (sofar q) (mapped (λ r. v ++ r) (rest (left q))) ≡ lower (sofar p) (rest (left p)) → Reads (λ ws. (rest ws, [])) p q v
+all_read rest p q v ends none read =
+    let gone = none_left q.words none in
+    record {
+      words = gone;
+      outcome = sym read ∙ ap (λ ws. lower (sofar q) (mapped (λ r. v ++ r) (rest ws))) gone ∙ ap (λ x. lower (sofar q) (mapped (λ r. v ++ r) x)) ends ∙ no_more v (sofar q);
+    }
+
 -- a form that may be left out
 
 optional_some : {A : Type 0} (form : Form A) (xs : List Word) → 0 < length xs → optional form xs ≡ (Some <$> form) xs

@@ -1,8 +1,8 @@
-use Rattle.std.proofs.Common.{◌++◌, sym, ◌∙◌, ap}
+use Rattle.std.proofs.Common.{◌++◌, refl, sym, ◌∙◌, ap}
 use Rattle.flat_places.specs.Forms.{mapped, each, place}
 use Rattle.flat_places.specs.Places.{owner_word}
 use Rattle.flat_places.specs.Reads.{lower, sofar, left}
-use Rattle.flat_places.proofs.lemmas.ReadsLemmas.{one_more, each_step, shorter, some_left}
+use Rattle.flat_places.proofs.lemmas.ReadsLemmas.{all_read, one_more, each_step, shorter, some_left}
 use Rattle.flat_places.proofs.places.Places.each_owner.Goals as goal
 
 pub loop-self-smaller : goal.loop-self-smaller
@@ -17,3 +17,6 @@ loop-self-preserved c =
     ∙ one_more (each test) (place test) c.loop-self.found c.owner-one.result (sofar c.loop-self.self) (sofar c.owner-one.new.self) (left c.loop-self.self) (left c.owner-one.new.self)
     (each_step test (left c.loop-self.self) some) c.owner-one.ensures.words c.owner-one.ensures.outcome
     ∙ c.loop-self.invariant
+
+pub returns : goal.returns
+returns c = all_read (each (owner_word c.args.script.now.script)) c.args.self.now c.loop-self.self c.loop-self.found refl (sym c.is_some.ensures ∙ c.loop-self-test.false) c.loop-self.invariant

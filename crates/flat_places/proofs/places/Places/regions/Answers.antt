@@ -1,8 +1,8 @@
-use Rattle.std.proofs.Common.{◌++◌, sym, ◌∙◌, ap}
+use Rattle.std.proofs.Common.{◌++◌, refl, sym, ◌∙◌, ap}
 use Rattle.flat_places.specs.Forms.{mapped}
 use Rattle.flat_places.specs.Places.{region, regions}
 use Rattle.flat_places.specs.Reads.{lower, sofar, left}
-use Rattle.flat_places.proofs.lemmas.ReadsLemmas.{one_more, regions_step, region_shorter, some_left}
+use Rattle.flat_places.proofs.lemmas.ReadsLemmas.{all_read, one_more, regions_step, region_shorter, some_left}
 use Rattle.flat_places.proofs.places.Places.regions.Goals as goal
 
 pub loop-self-smaller : goal.loop-self-smaller
@@ -15,3 +15,6 @@ loop-self-preserved c =
     ∙ one_more regions region c.loop-self.found c.region-one.result (sofar c.loop-self.self) (sofar c.region-one.new.self) (left c.loop-self.self) (left c.region-one.new.self)
     (regions_step (left c.loop-self.self) some) c.region-one.ensures.words c.region-one.ensures.outcome
     ∙ c.loop-self.invariant
+
+pub returns : goal.returns
+returns c = all_read regions c.args.self.now c.loop-self.self c.loop-self.found refl (sym c.is_some.ensures ∙ c.loop-self-test.false) c.loop-self.invariant
