@@ -1,8 +1,8 @@
 -- A choice among numbered values, and declared things with owners, case by case.
-use Rattle.std.proofs.Common.{◌≡◌, ℕ, ◌<◌, ◌≤◌, ◌-◌, Bool, true, false, List, length, Option, Some, None, Ok, Err, sym, ◌∙◌, ap, arith, nat_le, if◌then◌else◌, option_and_then, slice_get, get_or}
+use Rattle.std.proofs.Common.{◌≡◌, ℕ, ◌<◌, ◌≤◌, ◌-◌, Bool, true, false, List, length, Option, Some, None, Ok, Err, sym, ◌∙◌, ap, arith, nat_le, nat_lt, refl, if◌then◌else◌, option_and_then, slice_get, get_or}
 use Rattle.std.specs.Option.{option_map_or}
 use Rattle.std.proofs.lemmas.Bool.Decides.{nat_tests}
-use Rattle.std.proofs.lemmas.Option.{slice_get-get_or, slice_get_past}
+use Rattle.std.proofs.lemmas.Option.{slice_get-get_or, slice_get_past, slice_get_read}
 use Rattle.flat_places.specs.declared.kinds.FaultKind.TheVariants.{BadNumber, NotOwner, UnknownName}
 use Rattle.flat_places.specs.Forms.{Reading, Word, mapped, or_kind, unless_kind}
 use Rattle.flat_places.specs.Names.{place_of}
@@ -40,3 +40,9 @@ pub owned_by : {D B : Type 0} (make : ℕ → B) (names : List Word) (declared :
 owned_by make names declared owns w place i thing b found some got test =
     ap (λ p. mapped make (option_map_or (λ i. unless_kind NotOwner (option_map_or owns (slice_get declared i) false) (Ok i)) p (Err UnknownName))) (sym found ∙ some)
     ∙ ap (λ t. mapped make (unless_kind NotOwner t (Ok i))) (ap (λ o. option_map_or owns o false) got ∙ test)
+
+-- the item that a look-up found
+pub found_at : {D : Type 0} (xs ys : List D) (i : ℕ) (x : D) → ys ≡ xs → true ≡ nat_lt i (length ys) → x ≡ get_or ys i x → slice_get xs i ≡ Some x
+found_at xs ys i x same within item =
+    let below : i < length ys = grind (arith, nat_tests) in
+    ap (λ zs. slice_get zs i) (sym same) ∙ slice_get_read ys (length ys) i x refl below item
