@@ -236,6 +236,11 @@ pub some_left : (o : Option (Bor (List ℕ))) → is_some o ≡ true → 0 < len
 some_left None h = absurd (cc)
 some_left (Some text) h = omega (arith, length-slice_split is_space text.now)
 
+-- no group was read yet
+pub none_read : {A : Type 0} (found : List A) (s : Reading (Unit {0})) (x : Reading (List A)) → found ≡ [] → lower s (mapped (λ r. found ++ r) x) ≡ lower s x
+none_read found s (Ok r) is = rw is refl
+none_read found s (Err k) is = refl
+
 none_left : (o : Option (Bor (List ℕ))) → is_some o ≡ false → pieces_left is_space o ≡ []
 none_left None h = refl
 none_left (Some text) h = absurd (cc)

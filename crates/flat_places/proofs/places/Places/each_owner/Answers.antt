@@ -2,7 +2,7 @@ use Rattle.std.proofs.Common.{◌++◌, refl, sym, ◌∙◌, ap}
 use Rattle.flat_places.specs.Forms.{mapped, each, place}
 use Rattle.flat_places.specs.Places.{owner_word}
 use Rattle.flat_places.specs.Reads.{lower, sofar, left}
-use Rattle.flat_places.proofs.lemmas.ReadsLemmas.{all_read, one_more, each_step, shorter, some_left}
+use Rattle.flat_places.proofs.lemmas.ReadsLemmas.{all_read, none_read, one_more, each_step, shorter, some_left}
 use Rattle.flat_places.proofs.places.Places.each_owner.Goals as goal
 
 pub loop-self-smaller : goal.loop-self-smaller
@@ -20,3 +20,6 @@ loop-self-preserved c =
 
 pub returns : goal.returns
 returns c = all_read (each (owner_word c.args.script.now.script)) c.args.self.now c.loop-self.self c.loop-self.found refl (sym c.is_some.ensures ∙ c.loop-self-test.false) c.loop-self.invariant
+
+pub loop-self-init : goal.loop-self-init
+loop-self-init c = none_read c.new-found.result (sofar c.args.self.now) (each (owner_word c.args.script.now.script) (left c.args.self.now)) c.new-found.ensures

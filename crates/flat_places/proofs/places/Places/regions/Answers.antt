@@ -2,7 +2,7 @@ use Rattle.std.proofs.Common.{◌++◌, refl, sym, ◌∙◌, ap}
 use Rattle.flat_places.specs.Forms.{mapped}
 use Rattle.flat_places.specs.Places.{region, regions}
 use Rattle.flat_places.specs.Reads.{lower, sofar, left}
-use Rattle.flat_places.proofs.lemmas.ReadsLemmas.{all_read, one_more, regions_step, region_shorter, some_left}
+use Rattle.flat_places.proofs.lemmas.ReadsLemmas.{all_read, none_read, one_more, regions_step, region_shorter, some_left}
 use Rattle.flat_places.proofs.places.Places.regions.Goals as goal
 
 pub loop-self-smaller : goal.loop-self-smaller
@@ -18,3 +18,6 @@ loop-self-preserved c =
 
 pub returns : goal.returns
 returns c = all_read regions c.args.self.now c.loop-self.self c.loop-self.found refl (sym c.is_some.ensures ∙ c.loop-self-test.false) c.loop-self.invariant
+
+pub loop-self-init : goal.loop-self-init
+loop-self-init c = none_read c.new-found.result (sofar c.args.self.now) (regions (left c.args.self.now)) c.new-found.ensures
