@@ -1,4 +1,7 @@
-use crate::calls::{Call, PresentArgs};
+ghost use Rattle.std.specs.Prelude.{◌≡◌, IfOk};
+ghost use Rattle.flat_scene.specs.declared.trees.Children.TheVariants.{More};
+
+use crate::calls::{Call, PresentArgs, RegionList};
 use crate::frames::{FrameOut, ViewTree};
 use crate::journal::{Entry, Kind};
 use crate::script::{Body, Line, ScriptLine};
@@ -24,22 +27,38 @@ impl TryCopy for Children {
             Children::Empty => Ok(Children::Empty),
             Children::More(node, rest) => {
                 let node = node.get();
-                let first = Node {
-                    serial: node.serial,
-                    scale: node.scale,
-                    turn: node.turn,
-                    place: node.place,
-                    clip: node.clip,
-                    opacity: node.opacity,
-                    hits: node.hits.copy(alloc)?,
-                    content: node.content,
-                    children: node.children.copy(alloc)?,
-                };
+                let hits = node.hits.copy(alloc)?;
+                let children = node.children.copy(alloc)?;
                 let after = rest.get().copy(alloc)?;
-                Ok(Children::More(Boxed::new(alloc, first)?, Boxed::new(alloc, after)?))
+                joined(alloc, node, hits, children, after)
             }
         }
     }
+}
+
+/// The node with these lists as its own, and then the others.
+fn joined(
+    alloc: Global,
+    node: &Node,
+    hits: RegionList,
+    children: Children,
+    after: Children,
+) -> Result<Children, NoMemory>
+    ensures { IfOk result (λ made.
+        made ≡ More (record node.now { hits = hits; children = children }) after) }
+{
+    let first = Node {
+        serial: node.serial,
+        scale: node.scale,
+        turn: node.turn,
+        place: node.place,
+        clip: node.clip,
+        opacity: node.opacity,
+        hits,
+        content: node.content,
+        children,
+    };
+    Ok(Children::More(Boxed::new(alloc, first)?, Boxed::new(alloc, after)?))
 }
 
 impl TryCopy for Node {

@@ -51,7 +51,7 @@ pub struct DrawItem {
 }
 
 /// A session that is shown, in the view tree.
-#[derive(Clone, Copy, Debug, PartialEq, Eq)]
+#[derive(Clone, Copy)]
 pub struct ViewNode {
     pub session: SessionNo,
     /// The session whose viewport shows it; None for the first.
@@ -100,7 +100,7 @@ pub struct FrameOut {
 }
 
 /// A session that a point hits, and the interaction of the region that was hit.
-#[derive(Clone, Copy, Debug, PartialEq, Eq)]
+#[derive(Clone, Copy)]
 pub struct Hit {
     pub session: SessionNo,
     pub interaction: Interaction,
@@ -110,7 +110,7 @@ pub struct Hit {
 pub type HitList = Items<Hit>;
 
 /// A display that failed, and the frame at which it did. It is shown no more.
-#[derive(Clone, Copy, Debug, PartialEq, Eq)]
+#[derive(Clone, Copy)]
 pub struct Lost {
     /// The display's number, from 1, as handed in.
     pub display: u32,

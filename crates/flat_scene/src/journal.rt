@@ -28,7 +28,7 @@ pub enum Told {
 }
 
 /// What the service tells a session without being asked.
-#[derive(Clone, Copy, Debug, PartialEq, Eq)]
+#[derive(Clone, Copy)]
 pub enum Event {
     /// A held get of that pair's watcher is answered.
     Told(PairNo, Watch, Told),
@@ -41,7 +41,7 @@ pub enum Event {
 }
 
 /// The answer to a line.
-#[derive(Clone, Copy, Debug, PartialEq, Eq)]
+#[derive(Clone, Copy, PartialEq, Eq)]
 pub enum Reply {
     /// It was done.
     Done,
@@ -106,7 +106,7 @@ pub struct Entry {
 }
 
 /// An event, with the place in the journal, from 0, of the entry that posts it.
-#[derive(Clone, Copy, Debug, PartialEq, Eq)]
+#[derive(Clone, Copy)]
 pub struct Post {
     pub entry: u32,
     pub session: SessionNo,

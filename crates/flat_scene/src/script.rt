@@ -2,7 +2,7 @@ use crate::calls::{Call, PresentArgs, Watch};
 use flat_base::{Actor, FenceNo, Items, SessionNo};
 
 /// What a Wait asks for: at least so many of them.
-#[derive(Clone, Copy, Debug, PartialEq, Eq)]
+#[derive(Clone, Copy)]
 pub enum Cond {
     /// Finished frames.
     Frames(u32),
@@ -32,7 +32,7 @@ pub enum Line {
 }
 
 /// A line of the compositor.
-#[derive(Clone, Copy, Debug, PartialEq, Eq)]
+#[derive(Clone, Copy)]
 pub enum DisplayLine {
     /// Begins a frame at that time.
     Begin(u64),
@@ -48,7 +48,7 @@ pub enum DisplayLine {
 }
 
 /// A line of a probe.
-#[derive(Clone, Copy, Debug, PartialEq, Eq)]
+#[derive(Clone, Copy)]
 pub enum ProbeLine {
     /// Asks who is hit at a point of the display, in units.
     Hit(i32, i32),

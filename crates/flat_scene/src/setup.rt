@@ -1,7 +1,7 @@
 use flat_base::{Actor, ActorList, Items, SessionNo};
 
 /// A pair of ends that link a parent to a child.
-#[derive(Clone, Copy, Debug, PartialEq, Eq)]
+#[derive(Clone, Copy)]
 pub struct PairDecl {
     /// Who owns the viewport end: a session or the display.
     pub viewport: Actor,
@@ -10,7 +10,7 @@ pub struct PairDecl {
 }
 
 /// A buffer collection: so many buffers of one size.
-#[derive(Clone, Copy, Debug, PartialEq, Eq)]
+#[derive(Clone, Copy)]
 pub struct BufferDecl {
     pub owner: SessionNo,
     pub count: u32,

@@ -60,7 +60,7 @@ pub enum Children {
 }
 
 /// A viewport that was neither released nor cleared.
-#[derive(Clone, Copy, Debug, PartialEq, Eq)]
+#[derive(Clone, Copy, PartialEq, Eq)]
 pub struct ViewportUse {
     pub serial: u32,
     pub pair: PairNo,
