@@ -21,7 +21,7 @@ pub enum ImageFlip {
 }
 
 /// What a hit region tells of itself when it is hit.
-#[derive(Clone, Copy, Debug, PartialEq, Eq)]
+#[derive(Clone, Copy, Debug)]
 pub enum Interaction {
     /// Number 0.
     Default,
@@ -48,7 +48,7 @@ pub struct ViewportProps {
 }
 
 /// A part of a transform's own space that can be hit.
-#[derive(Clone, Copy, Debug, PartialEq, Eq)]
+#[derive(Clone, Copy, Debug)]
 pub struct HitRegion {
     /// In units; None is infinite, which means the whole clip of the node.
     pub area: Option<IntRect>,
