@@ -1,3 +1,4 @@
 pub mod Calls
 pub mod Meaning
 mod Examples
+mod Results

@@ -70,7 +70,26 @@ fn with_form<'a>(
     ensures { IfOk result (λ more. app_of more
         ≡ with_subcommand (app_of command.entry) (new_app name.entry.now).top) }
 {
-    Ok(command.subcommand(Command::new(alloc, name))?)
+    match command.subcommand(Command::new(alloc, name)) {
+        Ok(more) => Ok(more),
+        Err(_) => Err(NoMemory),
+    }
+}
+
+// The command with two forms more, each a word alone.
+fn with_two<'a>(
+    alloc: Global,
+    command: Command<'a>,
+    first: &'a str,
+    second: &'a str,
+) -> Result<Command<'a>, NoMemory>
+    ensures { IfOk result (λ more. app_of more ≡ with_subcommand (with_subcommand
+        (app_of command.entry) (new_app first.entry.now).top) (new_app second.entry.now).top) }
+{
+    let Ok(command) = with_form(alloc, command, first) else {
+        return Err(NoMemory);
+    };
+    with_form(alloc, command, second)
 }
 
 // The command with the form of a load, which has the number of its frames behind its
@@ -81,8 +100,14 @@ fn with_load<'a>(alloc: Global, command: Command<'a>) -> Result<Command<'a>, NoM
         frames).top) }
 {
     let frames = Arg::new(alloc, "frames").required(true);
-    let stress = Command::new(alloc, "stress").arg(frames)?;
-    Ok(command.subcommand(stress)?)
+    let Ok(stress) = Command::new(alloc, "stress").arg(frames) else {
+        drop(command);
+        return Err(NoMemory);
+    };
+    match command.subcommand(stress) {
+        Ok(more) => Ok(more),
+        Err(_) => Err(NoMemory),
+    }
 }
 
 // The command without its forms.
@@ -101,14 +126,16 @@ fn bare<'a>(alloc: Global) -> Command<'a>
 fn service<'a>(alloc: Global) -> Result<Command<'a>, NoMemory>
     ensures { IfOk result (λ command. app_of command ≡ service) }
 {
-    let command = bare(alloc);
-    let command = with_form(alloc, command, "play")?;
-    let command = with_form(alloc, command, "race")?;
-    let command = with_load(alloc, command)?;
-    let command = with_form(alloc, command, "render")?;
-    let command = with_form(alloc, command, "damage")?;
-    let command = with_form(alloc, command, "focus")?;
-    with_form(alloc, command, "pointer")
+    let Ok(command) = with_two(alloc, bare(alloc), "play", "race") else {
+        return Err(NoMemory);
+    };
+    let Ok(command) = with_load(alloc, command) else {
+        return Err(NoMemory);
+    };
+    let Ok(command) = with_two(alloc, command, "render", "damage") else {
+        return Err(NoMemory);
+    };
+    with_two(alloc, command, "focus", "pointer")
 }
 
 // What the words give the command, or None where it refuses them.
