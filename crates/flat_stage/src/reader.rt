@@ -82,6 +82,7 @@ impl Reader {
         ensures kept { OnErr result (self.new ≡ record self.old { draft = self.new.draft }) }
     {
         if self.closed {
+            drop(text);
             self.refused += 1;
             return Ok(Reply::Closed(None, None));
         }

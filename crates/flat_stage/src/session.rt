@@ -71,7 +71,8 @@ impl SessionSeat {
     pub(crate) fn into_seat(self) -> LockSeat<Shared>
         ensures { result ≡ lock_seat self }
     {
-        let SessionSeat { seat, reader: _ } = self;
+        let SessionSeat { seat, reader } = self;
+        drop(reader);
         seat
     }
 
@@ -100,6 +101,7 @@ impl SessionSeat {
             IfOk result (λ _. SeatHasRead (given ++ (number, text) ∷ []) self.new) }
     {
         if self.reader.closed {
+            drop(text);
             self.reader.refused += 1;
             return Ok(Reply::Closed(None, None));
         }

@@ -1,4 +1,4 @@
-use Rattle.std.proofs.Common.{sym, refl, ◌+◌, Some, None, [], ◌∷◌, ◌++◌, ◌≡◌, true, List, Option, ap, ◌∙◌, subst, IfOk, OnErr}
+use Rattle.std.proofs.Common.{sym, refl, ◌+◌, Some, None, [], ◌∷◌, ◌++◌, ◌≡◌, true, List, Option, ap, ◌∙◌, subst, IfOk, OnErr, length, ◌<◌}
 use Rattle.flat_scene.specs.declared.journal.Entry.{Entry}
 use Rattle.flat_scene.specs.declared.setup.Setup.{Setup}
 use Rattle.flat_scene.specs.History.{history_of}
@@ -7,13 +7,15 @@ use Rattle.flat_stage.specs.declared.reader.Reader.{Reader}
 use Rattle.flat_stage.specs.Made.{kind_of, takes_memory}
 use Rattle.flat_rules.specs.Owned.{is_played_line}
 use Rattle.flat_stage.specs.Reads.{Tells, Stands, kept_calls, viewport_call, draft_so_far}
-use Rattle.flat_stage.specs.Seats.{Seat, SessionView, SessionEnters, SessionReads, SeatSeesMore, SeesMore, session_view, setup_of, is_ended}
+use Rattle.flat_stage.specs.Seats.{Seat, SessionView, SessionEnters, SessionReads, SeatSeesMore, SeesMore, session_view, setup_of, is_ended, HasRoom, shares_of}
 use Rattle.flat_scene.specs.Interleave.{entry_of_line}
 use Rattle.flat_stage.specs.Readings.{SeatHasRead}
 use Rattle.flat_stage.proofs.Following.{waits_more, refused_more, seat_enters_more}
 use Rattle.flat_stage.proofs.Going.{goes_on}
 use Rattle.flat_stage.proofs.Sitting.{if_ok, on_err_three, reads_line, view_kept, at_one_same, enters_line}
 use Rattle.flat_stage.proofs.Standing.{was, so_far, is_ready, stands_waiting, kept_line}
+use Rattle.flat_base.specs.declared.ids.SessionNo.{SessionNo}
+use Rattle.std.specs.Prelude.{slice_index}
 use Rattle.flat_stage.proofs.session.SessionSeat.call.Goals as goal
 
 pub invariant_of-self-in-None : goal.invariant_of-self-in-None
@@ -139,3 +141,18 @@ returns-then-self-clause-follows g c = λ given has.
     let reader : Reader = c.self.inside.reader in
     let V : SessionView → Type 0 = SeatHasRead given in
     refused_more (setup_of seat.lock) given c.args.number c.args.text (history_of seat.mine) reader (record reader { refused = reader.refused + 1 }) (subst V (sym c.self.view_is) has) c.if-self.true refl
+
+pub judge-requires-clause-stands : goal.judge-requires-clause-stands
+judge-requires-clause-stands g c = let opened = (c.self.invariant.stands (ap (λ (v : SessionView). is_ended v.mine) c.self.view_is ∙ c.requires.unended)).when_open c.if-self.false in (setup_of c.self.inside.seat.lock, (opened.draft, opened.stands))
+
+pub judge-requires-clause-opened : goal.judge-requires-clause-opened
+judge-requires-clause-opened g c = ((c.self.invariant.stands (ap (λ (v : SessionView). is_ended v.mine) c.self.view_is ∙ c.requires.unended)).when_open c.if-self.false).still_open
+
+pub enter-requires-clause-own : goal.enter-requires-clause-own
+enter-requires-clause-own g c = ap (λ (v : SessionView). v.stage) c.self.view_is ∙ c.requires.own
+
+pub enter-requires-clause-one : goal.enter-requires-clause-one
+enter-requires-clause-one g c = at_one_same c.self.inside.seat c.self.inside.reader c.judge.new.self c.self.invariant.at_one (ap (λ (r : Reader). r.session) c.in_ok-judge.ensures.rest)
+
+pub enter-requires-clause-room : goal.enter-requires-clause-room
+enter-requires-clause-room g c = let R : SessionNo → Type 0 = λ s. length c.self.inside.seat.mine < slice_index (shares_of c.self.inside.seat.lock) s.0 in subst R (sym (ap (λ (r : Reader). r.session) c.in_ok-judge.ensures.rest)) (subst HasRoom (sym c.self.view_is) c.requires.room)
