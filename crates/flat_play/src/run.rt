@@ -109,7 +109,10 @@ fn start(alloc: Global, script: &Script, keeping: Keeping) -> Result<Play, NoMem
     let readers = new_readers(alloc, &script.setup)?;
     let shown = Shown::new(alloc, script.setup.sessions)?;
     let last = LastFrame::none(alloc, &script.setup)?;
-    let board = open_board(alloc, script)?;
+    let Ok(board) = open_board(alloc, script) else {
+        drop(last);
+        return Err(NoMemory);
+    };
     Ok(Play {
         board,
         readers,
@@ -321,9 +324,10 @@ pub fn play_touched(
         ratio: _,
         with_view: _,
         kept,
-        last: _,
+        last,
         answers,
     } = play;
+    drop(last);
     let played = Played {
         board,
         kept,
