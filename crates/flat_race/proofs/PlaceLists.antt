@@ -1,5 +1,5 @@
 -- The places of the sessions' lines, noted one after another, and handed out.
-use Rattle.std.proofs.Common.{◌≡◌, ℕ, suc, ◌+◌, ◌-◌, ◌<◌, ◌≤◌, Bool, true, false, cond, ◌==◌, List, [], ◌∷◌, ◌++◌, length, take, slice_get, slice_set, slice_index_or, Some, refl, sym, ap, ◌∙◌, arith, append-nil}
+use Rattle.std.proofs.Common.{◌≡◌, ℕ, zero, suc, ◌+◌, ◌-◌, ◌<◌, ◌≤◌, Bool, true, false, cond, ◌==◌, List, [], ◌∷◌, ◌++◌, length, replicate, take, slice_get, slice_set, slice_index_or, Some, refl, sym, ap, ◌∙◌, arith, append-nil}
 use Rattle.std.proofs.lemmas.Bool.Decides.{nat_tests}
 use Rattle.std.proofs.lemmas.Option.{slice_get-get_or}
 use Rattle.flat_base.specs.declared.ids.Actor.{Actor}
@@ -86,6 +86,15 @@ pub noted-long : (who : Actor) (place : ℕ) (places : List (List ℕ)) → leng
 noted-long (Session s) place places = set-length places (s.0 - 1) (slice_index_or places (s.0 - 1) [] ++ place ∷ [])
 noted-long Display place places = refl
 noted-long (Probe p) place places = refl
+
+-- each item of a list that repeats none
+repeated : (n k : ℕ) (own : List ℕ) → slice_get (replicate n []) k ≡ Some own → own ≡ []
+repeated zero k own got = absurd (cc)
+repeated (suc n) zero own got = cc
+repeated (suc n) (suc k) own got = repeated n k own got
+
+pub none-repeated : (n : ℕ) (places : List (List ℕ)) → places ≡ replicate n [] → (k : ℕ) (own : List ℕ) → slice_get places k ≡ Some own → own ≡ []
+none-repeated n places is k own got = repeated n k own (ap (λ (ps : List (List ℕ)). slice_get ps k) (sym is) ∙ got)
 
 -- before any line
 pub placed-none : (lines : List ScriptLine) (places : List (List ℕ)) → ((k : ℕ) (own : List ℕ) → slice_get places k ≡ Some own → own ≡ []) → ArePlaces (take 0 lines) 0 places

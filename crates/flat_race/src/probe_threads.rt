@@ -21,6 +21,7 @@ use flat_places::Script;
 use flat_play::LastFrame;
 use flat_publish::{BookMark, Probe, ProbeSeats, Published};
 use flat_report::ProbeAnswers;
+use flat_scene::Setup;
 use std::alloc::Global;
 use std::collections::VecDeque;
 use std::thread::{Promise, PromisedHandle, Scope, Threads};
@@ -48,12 +49,18 @@ pub(crate) enum ProbeOut<'a> {
 
 impl<'a> ProbeOut<'a> {
     /// Waits until the probe's run is over.
-    fn wait<R: Threads, G>(self, lent: &Lent<R, G>, published: &Published, probe: u32) -> ProbeBack
-        requires { IsProbeOut lent.now.script.now published.now.home probe self }
-        ensures { HasAsked lent.now.script.now published.now.home probe result }
+    fn wait<R: Threads>(
+        self,
+        rt: &R,
+        script: &Script,
+        published: &Published,
+        probe: u32,
+    ) -> ProbeBack
+        requires { IsProbeOut script.now published.now.home probe self }
+        ensures { HasAsked script.now published.now.home probe result }
     {
         match self {
-            ProbeOut::Thread(handle) => handle.join(lent.rt),
+            ProbeOut::Thread(handle) => handle.join(rt),
             ProbeOut::Here(back) => back,
         }
     }
@@ -133,18 +140,19 @@ pub(crate) fn start_probes<'s, E, R: Threads, G: Gate>(
 
 /// A probe that came to its end meets what was published, whose last frame is the last
 /// finished one, and its answers are held against that.
-fn hold<R, G>(
-    lent: &Lent<R, G>,
+fn hold(
+    alloc: Global,
+    setup: &Setup,
     published: &mut Published,
     last: &mut LastFrame,
     back: &mut ProbeBack,
 ) -> Result<(), NoMemory>
-    requires setup { is_setup lent.now.script.now.setup ≡ true }
-    requires is { IsLast lent.now.script.now.setup last.old }
+    requires setup { is_setup setup.now ≡ true }
+    requires is { IsLast setup.now last.old }
     requires home { back.old.probe.home ≡ published.old.home }
-    requires last { LastIsPublished lent.now.script.now.setup last.old published.old }
+    requires last { LastIsPublished setup.now last.old published.old }
     ensures same { published.new ≡ published.old }
-    ensures stays { OnOk result (StaysLast lent.now.script.now.setup last.old last.new) }
+    ensures stays { OnOk result (StaysLast setup.now last.old last.new) }
     ensures answered { (lines : List ScriptLine) →
         (back.old.is_whole ≡ true → AreAnsweredBy (hits_of back.old.probe.frames)
         (last_number back.old.probe.frames) lines back.old.answers) →
@@ -156,30 +164,31 @@ fn hold<R, G>(
     }
     published.meet(&mut back.probe)?;
     back.probe.frame()?;
-    settle(lent.alloc, &lent.script.setup, last, &mut back.answers)?;
+    settle(alloc, setup, last, &mut back.answers)?;
     Ok(())
 }
 
 /// The same of a probe that is let go.
-fn meet<R, G>(
-    lent: &Lent<R, G>,
+fn meet(
+    alloc: Global,
+    setup: &Setup,
     published: &mut Published,
     last: &mut LastFrame,
     mut back: ProbeBack,
 ) -> Result<ProbeAnswers, NoMemory>
-    requires setup { is_setup lent.now.script.now.setup ≡ true }
-    requires is { IsLast lent.now.script.now.setup last.old }
+    requires setup { is_setup setup.now ≡ true }
+    requires is { IsLast setup.now last.old }
     requires home { back.probe.home ≡ published.old.home }
-    requires last { LastIsPublished lent.now.script.now.setup last.old published.old }
+    requires last { LastIsPublished setup.now last.old published.old }
     ensures same { published.new ≡ published.old }
-    ensures stays { OnOk result (StaysLast lent.now.script.now.setup last.old last.new) }
+    ensures stays { OnOk result (StaysLast setup.now last.old last.new) }
     ensures answered { (lines : List ScriptLine) →
         (back.is_whole ≡ true → AreAnsweredBy (hits_of back.probe.frames)
         (last_number back.probe.frames) lines back.answers) →
         IfOk result (λ answers. AreAnsweredBy (hits_of published.old.frames)
         (last_number published.old.frames) lines answers) }
 {
-    let held = hold(lent, published, last, &mut back);
+    let held = hold(alloc, setup, published, last, &mut back);
     let ProbeBack { probe, answers, .. } = back;
     drop(probe);
     match held {
@@ -189,29 +198,40 @@ fn meet<R, G>(
 }
 
 /// Waits for each probe, the first one first, and answers what each was answered.
-pub(crate) fn meet_each<'s, R: Threads, G>(
-    lent: &Lent<R, G>,
+pub(crate) fn meet_each<'s, R: Threads>(
+    rt: &R,
+    alloc: Global,
+    script: &Script,
     published: &mut Published,
     last: &mut LastFrame,
     mut out: VecDeque<ProbeOut<'s>>,
 ) -> Result<Vec<ProbeAnswers>, NoMemory>
-    requires playable { is_playable lent.now.script.now ≡ true }
-    requires is { IsLast lent.now.script.now.setup last.old }
-    requires last { 0 < lent.now.script.now.setup.probes → LastIsPublished lent.now.script.now.setup
-        last.old published.old }
-    requires out { AreProbesOut lent.now.script.now published.old.home 0 out.items }
-    requires many { length out.items ≡ lent.now.script.now.setup.probes }
-    ensures answered { IfOk result (λ answers. AreAnswered lent.now.script.now
+    requires playable { is_playable script.now ≡ true }
+    requires is { IsLast script.now.setup last.old }
+    requires last { 0 < script.now.setup.probes → LastIsPublished script.now.setup last.old
+        published.old }
+    requires out { AreProbesOut script.now published.old.home 0 out.items }
+    requires many { length out.items ≡ script.now.setup.probes }
+    ensures answered { IfOk result (λ answers. AreAnswered script.now
         (record { home = published.old.home; frames = published.old.frames })
-        lent.now.script.now.setup.probes answers.items) }
-    ensures stays { OnOk result (StaysLast lent.now.script.now.setup last.old last.new) }
+        script.now.setup.probes answers.items) }
+    ensures stays { OnOk result (StaysLast script.now.setup last.old last.new) }
     ensures same { published.new ≡ published.old }
 {
-    let mut answers = Vec::new(lent.alloc);
+    let mut answers = Vec::new(alloc);
     let mut probe = 0;
     while let Some(next) = out.pop_front() {
-        let back = next.wait(lent, published, probe);
-        answers.push(meet(lent, published, last, back)?)?;
+        let back = next.wait(rt, script, published, probe);
+        let Ok(met) = meet(alloc, &script.setup, published, last, back) else {
+            drop(out);
+            drop(answers);
+            return Err(NoMemory);
+        };
+        let Ok(()) = answers.push(met) else {
+            drop(out);
+            drop(answers);
+            return Err(NoMemory);
+        };
         probe += 1;
     }
     Ok(answers)

@@ -81,15 +81,28 @@ fn run_beside<'s, E, T: Threads + Wait + Sync, G: Gate>(
         return Err(NoMemory);
     };
     let Ok(asked) = start_probes(scope, lent, published, probes) else {
+        drop(out);
         drop(compositor);
         return Err(NoMemory);
     };
     let directed = direct(lent, compositor, film, displays, published);
     if !put_back(lent, seats, out) {
+        drop(asked);
+        drop(directed);
         return Err(NoMemory);
     }
-    let compositor = directed?;
-    let Ok(answers) = meet_each(lent, published, &mut film.last, asked) else {
+    let Ok(compositor) = directed else {
+        drop(asked);
+        return Err(NoMemory);
+    };
+    let Ok(answers) = meet_each(
+        lent.rt,
+        lent.alloc,
+        lent.script,
+        published,
+        &mut film.last,
+        asked,
+    ) else {
         drop(compositor);
         return Err(NoMemory);
     };
@@ -126,11 +139,14 @@ fn run_all<'s, E, T: Threads + Wait + Sync, G: Gate>(
     ensures kept { AreKept (λ d. shown d) (λ d. faults d) displays.old.items displays.new.items
         (λ d. d.vtable) }
 {
-    let (mut published, mut probes) = Published::new(
+    let Ok((mut published, mut probes)) = Published::new(
         lent.rt,
         lent.alloc,
         lent.script.setup.probes,
-    )?;
+    ) else {
+        drop(compositor);
+        return Err(NoMemory);
+    };
     let run = run_beside(
         scope,
         lent,

@@ -156,7 +156,10 @@ pub(crate) fn start_each<'s, E, R: Threads + Wait + Sync, G: Gate>(
     ensures count { length seats.new.seats ≡ length seats.old.seats }
 {
     let mut places = places_by_session(lent.alloc, lent.script)?;
-    let mut out = Vec::with_capacity(lent.alloc, lent.script.setup.sessions as usize)?;
+    let Ok(mut out) = Vec::with_capacity(lent.alloc, lent.script.setup.sessions as usize) else {
+        drop(places);
+        return Err(NoMemory);
+    };
     for before in 0..lent.script.setup.sessions {
         let started = start_next(scope, lent, seats, &mut places, before);
         out.push_reserved(started);

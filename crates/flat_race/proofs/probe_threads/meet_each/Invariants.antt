@@ -6,10 +6,10 @@ use Rattle.flat_race.proofs.probe_threads.meet_each.Given as goal
 abbrev pub invariant-loop-next : goal.invariant-loop-next
 invariant-loop-next g l = record {
   same : l.published ≡ l.initial.published;
-  stays : StaysLast l.lent.script.now.setup l.initial.last l.last;
-  out : AreProbesOut l.lent.script.now l.initial.published.home l.probe l.out.items;
-  many : l.probe + length l.out.items ≡ l.lent.script.now.setup.probes;
-  answered : AreAnswered l.lent.script.now (record { home = l.initial.published.home; frames = l.initial.published.frames }) l.probe l.answers.items;
+  stays : StaysLast l.script.setup l.initial.last l.last;
+  out : AreProbesOut l.script l.initial.published.home l.probe l.out.items;
+  many : l.probe + length l.out.items ≡ l.script.setup.probes;
+  answered : AreAnswered l.script (record { home = l.initial.published.home; frames = l.initial.published.frames }) l.probe l.answers.items;
 }
 
 abbrev pub decreases-loop-next : goal.decreases-loop-next

@@ -1,5 +1,6 @@
 use Rattle.std.proofs.Common.{rules, ◌≡◌, [], ◌∷◌, ◌++◌}
 use Rattle.flat_race.proofs.Probed.{home-without, probe-out}
+use Rattle.std.proofs.lemmas.Result.{IfOk-from_err}
 use Rattle.flat_race.proofs.probe_threads.start_probes.Goals as goal
 
 pub loop-probe-preserved : goal.loop-probe-preserved
@@ -12,3 +13,12 @@ loop-probe-preserved g c =
       room = search rules;
       left = home-without c.args.published.now.home c.loop-probe.probe c.args.lent.now.script.now.setup.probes c.loop-probe.probes c.take.new.self (search rules) was.left;
     }
+
+pub returns-in_err-out-clause-out : goal.returns-in_err-out-clause-out
+returns-in_err-out-clause-out g c = IfOk-from_err _ _ c.from_residual.ensures.0
+
+pub returns-in_err-out-clause-many : goal.returns-in_err-out-clause-many
+returns-in_err-out-clause-many g c = IfOk-from_err _ _ c.from_residual.ensures.0
+
+pub start-started-requires-clause-playable : goal.start-started-requires-clause-playable
+start-started-requires-clause-playable g c κs within = c.requires.playable

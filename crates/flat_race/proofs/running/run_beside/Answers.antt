@@ -13,19 +13,19 @@ pub returns-in_default-start_probes-clause-kept : goal.returns-in_default-start_
 returns-in_default-start_probes-clause-kept g c = kept_none _ _ _ _
 
 pub meet_each-requires-clause-is : goal.meet_each-requires-clause-is
-meet_each-requires-clause-is g c = c.in_ok-compositor.ensures.film.answering.is_last
+meet_each-requires-clause-is g c = c.in-Ok-directed.ensures.film.answering.is_last
 
 pub meet_each-requires-clause-last : goal.meet_each-requires-clause-last
 meet_each-requires-clause-last g c = λ any. (
-    let was = c.in_ok-compositor.ensures in
-    last-published-is c.args.lent.now.script.now (history_of c.in_ok-compositor.compositor.seen) c.direct-directed.new.film.last c.direct-directed.new.published was.film.answering.number was.film.answering.showing was.film.answering.scaling (was.published.are any)
+    let was = c.in-Ok-directed.ensures in
+    last-published-is c.args.lent.now.script.now (history_of c.in-Ok-directed.compositor.seen) c.direct-directed.new.film.last c.direct-directed.new.published was.film.answering.number was.film.answering.showing was.film.answering.scaling (was.published.are any)
     )
 
 pub returns-clause-ended : goal.returns-clause-ended
 returns-clause-ended g c =
-    let was = c.in_ok-compositor.ensures in
+    let was = c.in-Ok-directed.ensures in
     let script = c.args.lent.now.script.now in
-    let history = history_of c.in_ok-compositor.compositor.seen in
+    let history = history_of c.in-Ok-directed.compositor.seen in
     let sent = c.direct-directed.new.published in
     record {
       directed = was.stands;
@@ -34,3 +34,111 @@ returns-clause-ended g c =
       back = search rules;
       probed = answered-all script history sent (record { home = sent.home; frames = sent.frames }) c.in-Ok-meet_each.answers.items refl was.published c.in-Ok-meet_each.ensures.answered;
     }
+
+pub start_each-requires-clause-playable : goal.start_each-requires-clause-playable
+start_each-requires-clause-playable g c κs within = c.requires.playable
+
+pub start_each-requires-clause-of : goal.start_each-requires-clause-of
+start_each-requires-clause-of g c κs within = c.requires.of
+
+pub start_each-requires-clause-own : goal.start_each-requires-clause-own
+start_each-requires-clause-own g c κs within = c.requires.own
+
+pub start_each-requires-clause-fresh : goal.start_each-requires-clause-fresh
+start_each-requires-clause-fresh g c κs within = c.requires.sessions
+
+pub returns-in_default-clause-ended : goal.returns-in_default-clause-ended
+returns-in_default-clause-ended g c = tt
+
+pub returns-in_default-clause-seen : goal.returns-in_default-clause-seen
+returns-in_default-clause-seen g c = tt
+
+pub returns-in_default-clause-keeping : goal.returns-in_default-clause-keeping
+returns-in_default-clause-keeping g c = tt
+
+pub start_probes-requires-clause-playable : goal.start_probes-requires-clause-playable
+start_probes-requires-clause-playable g c κs within = c.requires.playable
+
+pub start_probes-requires-clause-fresh : goal.start_probes-requires-clause-fresh
+start_probes-requires-clause-fresh g c κs within = c.requires.probes
+
+pub returns-in_default-start_probes-clause-ended : goal.returns-in_default-start_probes-clause-ended
+returns-in_default-start_probes-clause-ended g c = tt
+
+pub returns-in_default-start_probes-clause-seen : goal.returns-in_default-start_probes-clause-seen
+returns-in_default-start_probes-clause-seen g c = tt
+
+pub returns-in_default-start_probes-clause-keeping : goal.returns-in_default-start_probes-clause-keeping
+returns-in_default-start_probes-clause-keeping g c = tt
+
+pub direct-directed-requires-clause-playable : goal.direct-directed-requires-clause-playable
+direct-directed-requires-clause-playable g c κs within = c.requires.playable
+
+pub direct-directed-requires-clause-of : goal.direct-directed-requires-clause-of
+direct-directed-requires-clause-of g c κs within = c.requires.of
+
+pub direct-directed-requires-clause-film : goal.direct-directed-requires-clause-film
+direct-directed-requires-clause-film g c κs within = c.requires.film
+
+pub direct-directed-requires-clause-none : goal.direct-directed-requires-clause-none
+direct-directed-requires-clause-none g c κs within = c.requires.none
+
+pub direct-directed-requires-clause-number : goal.direct-directed-requires-clause-number
+direct-directed-requires-clause-number g c κs within = c.requires.number
+
+pub direct-directed-requires-clause-few : goal.direct-directed-requires-clause-few
+direct-directed-requires-clause-few g c κs within = c.requires.few
+
+pub direct-directed-requires-clause-fresh : goal.direct-directed-requires-clause-fresh
+direct-directed-requires-clause-fresh g c κs within = c.requires.compositor
+
+pub direct-directed-requires-clause-unpublished : goal.direct-directed-requires-clause-unpublished
+direct-directed-requires-clause-unpublished g c κs within = c.requires.unpublished
+
+pub put_back-requires-clause-playable : goal.put_back-requires-clause-playable
+put_back-requires-clause-playable g c = c.requires.playable
+
+pub returns-then-not-put_back-clause-ended : goal.returns-then-not-put_back-clause-ended
+returns-then-not-put_back-clause-ended g c = tt
+
+pub returns-then-not-put_back-clause-seen : goal.returns-then-not-put_back-clause-seen
+returns-then-not-put_back-clause-seen g c = tt
+
+pub returns-then-not-put_back-clause-keeping : goal.returns-then-not-put_back-clause-keeping
+returns-then-not-put_back-clause-keeping g c = tt
+
+pub returns-then-not-put_back-clause-kept : goal.returns-then-not-put_back-clause-kept
+returns-then-not-put_back-clause-kept g c = c.direct-directed.ensures.kept
+
+pub returns-in_default-directed-clause-ended : goal.returns-in_default-directed-clause-ended
+returns-in_default-directed-clause-ended g c = tt
+
+pub returns-in_default-directed-clause-seen : goal.returns-in_default-directed-clause-seen
+returns-in_default-directed-clause-seen g c = tt
+
+pub returns-in_default-directed-clause-keeping : goal.returns-in_default-directed-clause-keeping
+returns-in_default-directed-clause-keeping g c = tt
+
+pub returns-in_default-directed-clause-kept : goal.returns-in_default-directed-clause-kept
+returns-in_default-directed-clause-kept g c = c.direct-directed.ensures.kept
+
+pub meet_each-requires-clause-playable : goal.meet_each-requires-clause-playable
+meet_each-requires-clause-playable g c = c.requires.playable
+
+pub returns-in_default-meet_each-clause-ended : goal.returns-in_default-meet_each-clause-ended
+returns-in_default-meet_each-clause-ended g c = tt
+
+pub returns-in_default-meet_each-clause-seen : goal.returns-in_default-meet_each-clause-seen
+returns-in_default-meet_each-clause-seen g c = tt
+
+pub returns-in_default-meet_each-clause-keeping : goal.returns-in_default-meet_each-clause-keeping
+returns-in_default-meet_each-clause-keeping g c = tt
+
+pub returns-in_default-meet_each-clause-kept : goal.returns-in_default-meet_each-clause-kept
+returns-in_default-meet_each-clause-kept g c = c.direct-directed.ensures.kept
+
+pub returns-clause-seen : goal.returns-clause-seen
+returns-clause-seen g c = c.in-Ok-directed.ensures.seen
+
+pub returns-clause-kept : goal.returns-clause-kept
+returns-clause-kept g c = c.direct-directed.ensures.kept

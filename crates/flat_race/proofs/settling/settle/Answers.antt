@@ -4,6 +4,7 @@ use Rattle.flat_topology.specs.Hits.{hit_list}
 use Rattle.flat_report.specs.declared.probes.ProbeAnswer.{ProbeAnswer}
 use Rattle.flat_race.specs.Settling.{settled}
 use Rattle.flat_race.proofs.Settled.{first-mapped, next-is, next-mapped, some-at}
+use Rattle.std.proofs.lemmas.Result.{IfOk-from_err}
 use Rattle.flat_race.proofs.settling.settle.Goals as goal
 
 pub settle_at-requires-clause-is : goal.settle_at-requires-clause-is
@@ -26,3 +27,12 @@ loop-place-preserved c =
       answers = now.answers here.0 at ∙ (λ i. slice_set (was.answers i) n (same i here.0)) ∙ next-mapped f n xs here.0 here.1 ∙ ap (λ (k : ℕ). first-mapped f k xs) (sym (add-one n));
       stays = record { frame = now.stays.frame ∙ was.stays.frame; ratio = now.stays.ratio ∙ was.stays.ratio; reuse = now.stays.reuse ∙ was.stays.reuse; is = now.stays.is };
     }
+
+pub settle_at-requires-clause-setup : goal.settle_at-requires-clause-setup
+settle_at-requires-clause-setup c = c.requires.setup
+
+pub returns-in_err-settle_at-clause-answers : goal.returns-in_err-settle_at-clause-answers
+returns-in_err-settle_at-clause-answers c = IfOk-from_err _ _ c.from_residual.ensures.0
+
+pub returns-in_err-settle_at-clause-stays : goal.returns-in_err-settle_at-clause-stays
+returns-in_err-settle_at-clause-stays c = IfOk-from_err _ _ c.from_residual.ensures.0

@@ -51,3 +51,9 @@ pub returns-clause-places : goal.returns-clause-places
 returns-clause-places g c =
     let script = c.args.lent.now.script.now in
     subst (λ (ps : List (List ℕ)). ArePlaces script.lines (c.args.before + 1) ps) (sym (search rules)) (placed-next script.lines c.args.before c.args.places.now.items [] c.requires.places)
+
+pub start-requires-clause-playable : goal.start-requires-clause-playable
+start-requires-clause-playable g c κs within = c.requires.playable
+
+pub start-requires-clause-of : goal.start-requires-clause-of
+start-requires-clause-of g c κs within = c.requires.of
