@@ -174,15 +174,22 @@ fn finish<R: Wait, G: Gate>(
 {
     shown_states_fit();
     ask(lent.gate, DISPLAY, number, ASKS);
-    let composed = film.last.compose_next(
+    let Ok(composed) = film.last.compose_next(
         lent.alloc,
         &lent.script.setup,
         frame.ratio(),
         frame.shown(),
         frame.changed(),
         frame.with_view(),
-    )?;
-    film.kept.keep(lent.script, composed)?;
+    )
+    else {
+        drop(frame);
+        return Err(NoMemory);
+    };
+    let Ok(()) = film.kept.keep(lent.script, composed) else {
+        drop(frame);
+        return Err(NoMemory);
+    };
     show_last(&mut film.set, displays, &film.kept);
     let (seat, finished) = frame.done(lent.rt, lent.stage, number);
     film.last.frame = finished;
@@ -266,12 +273,22 @@ fn direct_line<R: Wait, G: Gate>(
         DisplayLine::Done => {
             let frame = hand.into_frame();
             let joined = film.last.take_joined(frame.changed(), frame.ratio());
-            let seat = finish(lent, frame, film, displays, number)?;
-            film.last.joined = joined;
-            Ok(Hand::Idle(seat))
+            match finish(lent, frame, film, displays, number) {
+                Ok(seat) => {
+                    film.last.joined = joined;
+                    Ok(Hand::Idle(seat))
+                }
+                Err(NoMemory) => {
+                    drop(joined);
+                    Err(NoMemory)
+                }
+            }
         }
         DisplayLine::Hit(x, y) => {
-            hit(lent, &mut hand, film, number, x, y)?;
+            let Ok(()) = hit(lent, &mut hand, film, number, x, y) else {
+                drop(hand);
+                return Err(NoMemory);
+            };
             Ok(hand)
         }
         _ => {
@@ -353,7 +370,10 @@ pub fn direct<R: Wait, G: Gate>(
     for place in 0..lent.script.lines.len() {
         let before = film.last.frame;
         hand = direct_next(lent, hand, film, displays, place)?;
-        end_line(lent, film, before, place, published)?;
+        let Ok(()) = end_line(lent, film, before, place, published) else {
+            drop(hand);
+            return Err(NoMemory);
+        };
     }
     Ok(hand.into_seat())
 }

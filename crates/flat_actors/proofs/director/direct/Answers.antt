@@ -49,14 +49,14 @@ loop-place-preserved g c =
     let now_seen : List Entry = history_of (hand_seat c.in_ok-hand.hand).seen in
     let set : c.end_line.new.film.set ≡ c.direct_next.new.film.set = ap (λ (f : Film). f.set) sent.others in
     record {
-      stands = hand_last script c.args.lent.now.stage.now (c.loop-place.place + 1) c.in_ok-hand.hand c.direct_next.new.film c.end_line.new.film sent.others c.in_ok-end_line.ensures.stays now.stands;
+      stands = hand_last script c.args.lent.now.stage.now (c.loop-place.place + 1) c.in_ok-hand.hand c.direct_next.new.film c.end_line.new.film sent.others c.in-Ok.ensures.stays now.stands;
       seen = seen_counted _ _ (finished script.setup now_seen) (finished script.setup now_seen) now_seen now_seen _ _ _ _ _ refl refl (ap (λ (s : Driven). s.lost) set) refl (seen_line _ _ script.setup _ _ was_seen now_seen refl refl _ _ _ _ _ (omega (arith, was.number, was.same, c.requires.few)) now.shown was.seen);
       number = as_long _ _ _ c.direct_next.ensures.kinds ∙ was.number ∙ sym c.direct_next.ensures.same ∙ ap (λ (s : Driven). s.displays) (sym set);
       kinds = c.direct_next.ensures.kinds ∙ was.kinds;
       keeping = ap (λ (f : Film). keeping_of f.kept) sent.others ∙ now.keeping ∙ was.keeping;
       same = ap (λ (s : Driven). s.displays) set ∙ c.direct_next.ensures.same ∙ was.same;
       published = published_more script was_seen now_seen c.loop-place.film.last.frame.0 c.direct_next.new.film.last c.loop-place.published c.end_line.new.published
-          was.stands.kept.answering.number now.stands.kept.answering.number now.stands.kept.answering.showing now.stands.kept.answering.scaling now.finishes c.in_ok-end_line.ensures.publishes was.published;
+          was.stands.kept.answering.number now.stands.kept.answering.number now.stands.kept.answering.showing now.stands.kept.answering.scaling now.finishes c.in-Ok.ensures.publishes was.published;
       home = sent.home ∙ was.home;
     }
 
@@ -88,8 +88,8 @@ returns-clause-kept g c = kept_seen _ _ _ _ _ _ _ _ c.loop-place.invariant.kinds
 pub returns-in_err-hand-clause-kept : goal.returns-in_err-hand-clause-kept
 returns-in_err-hand-clause-kept g c = kept_same _ _ _ _ _ _ (ap (λ v. v.items) c.in_err-hand.ensures.unshown) (kept_seen _ _ _ _ _ _ _ _ c.loop-place.invariant.kinds c.loop-place.invariant.seen)
 
-pub returns-in_err-end_line-clause-kept : goal.returns-in_err-end_line-clause-kept
-returns-in_err-end_line-clause-kept g c =
+pub returns-in_default-clause-kept : goal.returns-in_default-clause-kept
+returns-in_default-clause-kept g c =
     let was = c.loop-place.invariant in
     let now = c.in_ok-hand.ensures in
     kept_seen _ _ _ _ _ _ _ _ (c.direct_next.ensures.kinds ∙ was.kinds) (seen_line _ _ c.args.lent.now.script.now.setup _ _ (history_of (hand_seat c.loop-place.hand).seen) (history_of (hand_seat c.in_ok-hand.hand).seen) refl refl _ _ _ _ _ (omega (arith, was.number, was.same, c.requires.few)) now.shown was.seen)
@@ -98,3 +98,42 @@ pub returns-clause-published : goal.returns-clause-published
 returns-clause-published g c =
     let P : Hand → Type 0 = λ h. PublishedStand c.args.lent.now.script.now (history_of (hand_seat h).seen) c.loop-place.published in
     subst P (sym c.into_seat.ensures) c.loop-place.invariant.published
+
+pub direct_next-requires-clause-playable : goal.direct_next-requires-clause-playable
+direct_next-requires-clause-playable g c κs within = c.requires.playable
+
+pub direct_next-requires-clause-of : goal.direct_next-requires-clause-of
+direct_next-requires-clause-of g c κs within = c.requires.of
+
+pub direct_next-requires-clause-stands : goal.direct_next-requires-clause-stands
+direct_next-requires-clause-stands g c κs within = c.loop-place.invariant.stands
+
+pub direct_next-requires-clause-number : goal.direct_next-requires-clause-number
+direct_next-requires-clause-number g c κs within = c.loop-place.invariant.number
+
+pub returns-in_err-hand-clause-home : goal.returns-in_err-hand-clause-home
+returns-in_err-hand-clause-home g c = c.loop-place.invariant.home
+
+pub returns-in_default-clause-stands : goal.returns-in_default-clause-stands
+returns-in_default-clause-stands g c = tt
+
+pub returns-in_default-clause-film : goal.returns-in_default-clause-film
+returns-in_default-clause-film g c = tt
+
+pub returns-in_default-clause-published : goal.returns-in_default-clause-published
+returns-in_default-clause-published g c = tt
+
+pub returns-in_default-clause-home : goal.returns-in_default-clause-home
+returns-in_default-clause-home g c = c.end_line.ensures.home ∙ c.loop-place.invariant.home
+
+pub returns-in_default-clause-seen : goal.returns-in_default-clause-seen
+returns-in_default-clause-seen g c = tt
+
+pub returns-in_default-clause-keeping : goal.returns-in_default-clause-keeping
+returns-in_default-clause-keeping g c = tt
+
+pub returns-clause-home : goal.returns-clause-home
+returns-clause-home g c = c.loop-place.invariant.home
+
+pub returns-clause-keeping : goal.returns-clause-keeping
+returns-clause-keeping g c = c.loop-place.invariant.keeping

@@ -37,6 +37,7 @@ use Rattle.flat_actors.proofs.Finishing.{finishes_then}
 use Rattle.flat_actors.proofs.Joined.{keeps-joined}
 use Rattle.flat_actors.proofs.HandSteps.{begins_idle, finished_still, finished_then, finishes_open, frames_few, looked_beside, looked_finishes, publishes_still, publishes_then, shown_as, hand_alone, hand_begins, hand_finishes, hand_hits, hand_looks, hand_room, time_fits}
 use Rattle.flat_play.specs.Playing.{is_alone}
+use Rattle.flat_play.specs.Keeping.{keeping_of}
 use Rattle.flat_play.proofs.lemmas.Alone.{ends_none}
 use Rattle.flat_actors.proofs.Held.{looked_there}
 use Rattle.flat_actors.proofs.LinesAlone.{alone_fits}
@@ -139,8 +140,8 @@ returns-in-Begin-clause-stands g c =
     let idle : HandStands script view c.args.place (Idle c.into_seat.result) c.args.film.now = subst (λ (h : Hand). HandStands script view c.args.place h c.args.film.now) (sym c.into_seat.ensures) c.requires.stands in
     hand_begins script view c.args.place x at refl c.requires.of c.in-Begin.time is c.into_seat.result c.begin-frame.result c.args.film.now idle c.begin-frame.ensures.enters c.begin-frame.ensures.shown c.begin-frame.ensures.changed c.begin-frame.ensures.views
 
-pub returns-in_ok-seat-in-Done-clause-stands : goal.returns-in_ok-seat-in-Done-clause-stands
-returns-in_ok-seat-in-Done-clause-stands g c =
+pub returns-in-Ok-clause-stands : goal.returns-in-Ok-clause-stands
+returns-in-Ok-clause-stands g c =
     let script = c.args.lent.now.script.now in
     let view = c.args.lent.now.stage.now in
     let x : ScriptLine = record { number = c.args.number; actor = Display; body = body.Display c.args.text } in
@@ -148,7 +149,7 @@ returns-in_ok-seat-in-Done-clause-stands g c =
     let is : x.body ≡ body.Display (display.Done) = ap (λ t. body.Display t) c.in-Done.is in
     let held : HandStands script view c.args.place (Open c.into_frame-frame.result) c.args.film.now = subst (λ (h : Hand). HandStands script view c.args.place h c.args.film.now) (sym c.into_frame-frame.ensures) c.requires.stands in
     let was = held.kept.answering in
-    let keeps = c.in_ok-seat-in-Done.ensures.keeps in
+    let keeps = c.in-Ok.ensures.keeps in
     let done = c.finish.new.film.last in
     let then : LastFrame = record done { joined = c.take_joined-joined.result } in
     let S : SessionSet → Type 0 = λ changed. AreSame changed c.args.film.now.last.reuse done.reuse in
@@ -159,17 +160,17 @@ returns-in_ok-seat-in-Done-clause-stands g c =
     let J : ℕ → Type 0 = λ r. IsJoined (at_ratio r script.setup) done.reuse then.joined in
     let joined = subst J (scales ∙ sym keeps.scaling) (c.take_joined-joined.ensures.joined script.setup done.reuse was.is_last keeps.is_last.count same) in
     let stays : StaysLast script.setup done then = joined-again script.setup done then keeps.is_last refl refl refl joined in
-    hand_finishes script view c.args.place x at refl c.requires.of is c.into_frame-frame.result c.in_ok-seat-in-Done.seat c.args.film.now (record c.finish.new.film { last = then }) held c.in_ok-seat-in-Done.ensures.enters
+    hand_finishes script view c.args.place x at refl c.requires.of is c.into_frame-frame.result c.in-Ok.seat c.args.film.now (record c.finish.new.film { last = then }) held c.in-Ok.ensures.enters
     (keeps-joined script _ _ c.args.film.now c.take_joined-joined.new.self c.finish.new.film then keeps stays)
 
-pub returns-in_ok-hit-in-Hit-clause-stands : goal.returns-in_ok-hit-in-Hit-clause-stands
-returns-in_ok-hit-in-Hit-clause-stands g c =
+pub returns-in-Ok-hit-clause-stands : goal.returns-in-Ok-hit-clause-stands
+returns-in-Ok-hit-clause-stands g c =
     let script = c.args.lent.now.script.now in
     let view = c.args.lent.now.stage.now in
     let x : ScriptLine = record { number = c.args.number; actor = Display; body = body.Display c.args.text } in
     let at : At script c.args.place x = at_place script c.args.place x c.requires.playable c.requires.line in
     let is : x.body ≡ body.Display (display.Hit c.in-Hit.x c.in-Hit.y) = ap (λ t. body.Display t) c.in-Hit.is in
-    let hits = c.in_ok-hit-in-Hit.ensures in
+    let hits = c.in-Ok-hit.ensures in
     let was = c.args.film.now in
     let entered : DisplayEnters c.args.number (Hit c.in-Hit.x c.in-Hit.y) Done (hand_seat c.args.hand) (hand_seat c.hit.new.hand) = search rules in
     let stays : StaysLast script.setup was.last c.hit.new.film.last = search rules in
@@ -186,24 +187,24 @@ returns-in-Begin-clause-shown g c =
     IsShown.shows_none (finished_still script view c.args.place x at refl c.requires.of (Begin c.in-Begin.time) Done c.into_seat.result c.begin-frame.result.display refl idle.seat c.begin-frame.ensures.enters
     ∙ ap (λ (h : Hand). finished script.setup (history_of (hand_seat h).seen)) c.into_seat.ensures) refl refl
 
-pub returns-in_ok-seat-in-Done-clause-shown : goal.returns-in_ok-seat-in-Done-clause-shown
-returns-in_ok-seat-in-Done-clause-shown g c =
+pub returns-in-Ok-clause-shown : goal.returns-in-Ok-clause-shown
+returns-in-Ok-clause-shown g c =
     let script = c.args.lent.now.script.now in
     let view = c.args.lent.now.stage.now in
     let x : ScriptLine = record { number = c.args.number; actor = Display; body = body.Display c.args.text } in
     let at : At script c.args.place x = at_place script c.args.place x c.requires.playable c.requires.line in
     let held : HandStands script view c.args.place (Open c.into_frame-frame.result) c.args.film.now = subst (λ (h : Hand). HandStands script view c.args.place h c.args.film.now) (sym c.into_frame-frame.ensures) c.requires.stands in
-    let all = finished_then script view c.args.place x at refl c.requires.of c.into_frame-frame.result.display c.in_ok-seat-in-Done.seat held.seat c.in_ok-seat-in-Done.ensures.enters in
-    shown_as _ _ _ _ _ _ _ _ _ _ (ap (λ (h : Hand). finished script.setup (history_of (hand_seat h).seen)) (sym c.into_frame-frame.ensures)) all c.in_ok-seat-in-Done.ensures.shown
+    let all = finished_then script view c.args.place x at refl c.requires.of c.into_frame-frame.result.display c.in-Ok.seat held.seat c.in-Ok.ensures.enters in
+    shown_as _ _ _ _ _ _ _ _ _ _ (ap (λ (h : Hand). finished script.setup (history_of (hand_seat h).seen)) (sym c.into_frame-frame.ensures)) all c.in-Ok.ensures.shown
 
-pub returns-in_ok-hit-in-Hit-clause-shown : goal.returns-in_ok-hit-in-Hit-clause-shown
-returns-in_ok-hit-in-Hit-clause-shown g c =
+pub returns-in-Ok-hit-clause-shown : goal.returns-in-Ok-hit-clause-shown
+returns-in-Ok-hit-clause-shown g c =
     let script = c.args.lent.now.script.now in
     let view = c.args.lent.now.stage.now in
     let x : ScriptLine = record { number = c.args.number; actor = Display; body = body.Display c.args.text } in
     let at : At script c.args.place x = at_place script c.args.place x c.requires.playable c.requires.line in
     let entered : DisplayEnters c.args.number (Hit c.in-Hit.x c.in-Hit.y) Done (hand_seat c.args.hand) (hand_seat c.hit.new.hand) = search rules in
-    IsShown.shows_none (finished_still script view c.args.place x at refl c.requires.of (Hit c.in-Hit.x c.in-Hit.y) Done (hand_seat c.args.hand) (hand_seat c.hit.new.hand) refl c.requires.stands.seat entered) (ap (λ (f : Film). f.set) c.in_ok-hit-in-Hit.ensures.others) refl
+    IsShown.shows_none (finished_still script view c.args.place x at refl c.requires.of (Hit c.in-Hit.x c.in-Hit.y) Done (hand_seat c.args.hand) (hand_seat c.hit.new.hand) refl c.requires.stands.seat entered) (ap (λ (f : Film). f.set) c.in-Ok-hit.ensures.others) refl
 
 pub returns-in-Begin-clause-finishes : goal.returns-in-Begin-clause-finishes
 returns-in-Begin-clause-finishes g c =
@@ -215,18 +216,18 @@ returns-in-Begin-clause-finishes g c =
     subst (λ (h : Hand). FinishesOne script.setup (history_of (hand_seat h).seen) (history_of c.begin-frame.result.display.seen)) c.into_seat.ensures
     (publishes_still script view c.args.place x at refl c.requires.of (Begin c.in-Begin.time) Done c.into_seat.result c.begin-frame.result.display refl idle.seat c.begin-frame.ensures.enters)
 
-pub returns-in_ok-seat-in-Done-clause-finishes : goal.returns-in_ok-seat-in-Done-clause-finishes
-returns-in_ok-seat-in-Done-clause-finishes g c =
+pub returns-in-Ok-clause-finishes : goal.returns-in-Ok-clause-finishes
+returns-in-Ok-clause-finishes g c =
     let script = c.args.lent.now.script.now in
     let view = c.args.lent.now.stage.now in
     let x : ScriptLine = record { number = c.args.number; actor = Display; body = body.Display c.args.text } in
     let at : At script c.args.place x = at_place script c.args.place x c.requires.playable c.requires.line in
     let held : HandStands script view c.args.place (Open c.into_frame-frame.result) c.args.film.now = subst (λ (h : Hand). HandStands script view c.args.place h c.args.film.now) (sym c.into_frame-frame.ensures) c.requires.stands in
-    subst (λ (h : Hand). FinishesOne script.setup (history_of (hand_seat h).seen) (history_of c.in_ok-seat-in-Done.seat.seen)) c.into_frame-frame.ensures
-    (publishes_then script view c.args.place x at refl c.requires.of c.into_frame-frame.result.display c.in_ok-seat-in-Done.seat held.seat c.in_ok-seat-in-Done.ensures.enters)
+    subst (λ (h : Hand). FinishesOne script.setup (history_of (hand_seat h).seen) (history_of c.in-Ok.seat.seen)) c.into_frame-frame.ensures
+    (publishes_then script view c.args.place x at refl c.requires.of c.into_frame-frame.result.display c.in-Ok.seat held.seat c.in-Ok.ensures.enters)
 
-pub returns-in_ok-hit-in-Hit-clause-finishes : goal.returns-in_ok-hit-in-Hit-clause-finishes
-returns-in_ok-hit-in-Hit-clause-finishes g c =
+pub returns-in-Ok-hit-clause-finishes : goal.returns-in-Ok-hit-clause-finishes
+returns-in-Ok-hit-clause-finishes g c =
     let script = c.args.lent.now.script.now in
     let view = c.args.lent.now.stage.now in
     let x : ScriptLine = record { number = c.args.number; actor = Display; body = body.Display c.args.text } in
@@ -306,3 +307,139 @@ returns-in_default-clause-finishes g c =
     finishes_then script.setup (history_of (hand_seat c.args.hand).seen) (history_of (hand_seat e.looked).seen) (history_of (hand_seat c.enter_alone.new.hand).seen)
     (looked_beside script view c.args.place c.args.hand e.looked c.args.film.now there c.requires.stands)
     (publishes_still script view c.args.place x at refl c.requires.of (entry_of_display c.args.text) e.reply (hand_seat e.looked) (hand_seat c.enter_alone.new.hand) (ends_none c.args.text alone) looked.seat e.enters)
+
+pub begin-frame-requires-clause-own : goal.begin-frame-requires-clause-own
+begin-frame-requires-clause-own g c κs within =
+    let script = c.args.lent.now.script.now in
+    let view = c.args.lent.now.stage.now in
+    let idle : HandStands script view c.args.place (Idle c.into_seat.result) c.args.film.now = subst (λ (h : Hand). HandStands script view c.args.place h c.args.film.now) (sym c.into_seat.ensures) c.requires.stands in
+    idle.seat.own
+
+pub finish-requires-clause-own : goal.finish-requires-clause-own
+finish-requires-clause-own g c κs within =
+    let script = c.args.lent.now.script.now in
+    let view = c.args.lent.now.stage.now in
+    let held : HandStands script view c.args.place (Open c.into_frame-frame.result) c.args.film.now = subst (λ (h : Hand). HandStands script view c.args.place h c.args.film.now) (sym c.into_frame-frame.ensures) c.requires.stands in
+    held.seat.own
+
+pub finish-requires-clause-setup : goal.finish-requires-clause-setup
+finish-requires-clause-setup g c κs within = setup_is c.args.lent.now.script.now c.requires.playable
+
+pub finish-requires-clause-of : goal.finish-requires-clause-of
+finish-requires-clause-of g c κs within = c.requires.of.setup
+
+pub finish-requires-clause-legal : goal.finish-requires-clause-legal
+finish-requires-clause-legal g c κs within =
+    let script = c.args.lent.now.script.now in
+    let view = c.args.lent.now.stage.now in
+    let held : HandStands script view c.args.place (Open c.into_frame-frame.result) c.args.film.now = subst (λ (h : Hand). HandStands script view c.args.place h c.args.film.now) (sym c.into_frame-frame.ensures) c.requires.stands in
+    held.seat.legal
+
+pub finish-requires-clause-shows : goal.finish-requires-clause-shows
+finish-requires-clause-shows g c κs within =
+    let script = c.args.lent.now.script.now in
+    let view = c.args.lent.now.stage.now in
+    let held : HandStands script view c.args.place (Open c.into_frame-frame.result) c.args.film.now = subst (λ (h : Hand). HandStands script view c.args.place h c.args.film.now) (sym c.into_frame-frame.ensures) c.requires.stands in
+    held.shows
+
+pub finish-requires-clause-number : goal.finish-requires-clause-number
+finish-requires-clause-number g c κs within = c.requires.number
+
+pub hit-requires-clause-own : goal.hit-requires-clause-own
+hit-requires-clause-own g c κs within = c.requires.stands.seat.own
+
+pub hit-requires-clause-setup : goal.hit-requires-clause-setup
+hit-requires-clause-setup g c κs within = setup_is c.args.lent.now.script.now c.requires.playable
+
+pub hit-requires-clause-last : goal.hit-requires-clause-last
+hit-requires-clause-last g c κs within = c.requires.stands.kept.answering.is_last
+
+pub enter_alone-requires-clause-own : goal.enter_alone-requires-clause-own
+enter_alone-requires-clause-own g c κs within = c.requires.stands.seat.own
+
+pub enter_alone-requires-clause-whole : goal.enter_alone-requires-clause-whole
+enter_alone-requires-clause-whole g c κs within = c.requires.stands.seat.mine
+
+pub returns-in-Begin-clause-keeping : goal.returns-in-Begin-clause-keeping
+returns-in-Begin-clause-keeping g c = refl
+
+pub returns-in-Begin-clause-unshown : goal.returns-in-Begin-clause-unshown
+returns-in-Begin-clause-unshown g c = tt
+
+pub returns-in-Begin-clause-same : goal.returns-in-Begin-clause-same
+returns-in-Begin-clause-same g c = refl
+
+pub returns-in-Begin-clause-kinds : goal.returns-in-Begin-clause-kinds
+returns-in-Begin-clause-kinds g c = refl
+
+pub returns-in_default-clause-keeping : goal.returns-in_default-clause-keeping
+returns-in_default-clause-keeping g c = refl
+
+pub returns-in_default-clause-unshown : goal.returns-in_default-clause-unshown
+returns-in_default-clause-unshown g c = tt
+
+pub returns-in_default-clause-same : goal.returns-in_default-clause-same
+returns-in_default-clause-same g c = refl
+
+pub returns-in_default-clause-kinds : goal.returns-in_default-clause-kinds
+returns-in_default-clause-kinds g c = refl
+
+pub returns-in-Ok-clause-unshown : goal.returns-in-Ok-clause-unshown
+returns-in-Ok-clause-unshown g c = tt
+
+pub returns-in-Ok-clause-same : goal.returns-in-Ok-clause-same
+returns-in-Ok-clause-same g c = c.finish.ensures.same
+
+pub returns-in-Ok-clause-kinds : goal.returns-in-Ok-clause-kinds
+returns-in-Ok-clause-kinds g c = c.finish.ensures.kinds
+
+pub returns-in-Ok-hit-clause-keeping : goal.returns-in-Ok-hit-clause-keeping
+returns-in-Ok-hit-clause-keeping g c = ap (λ (f : Film). keeping_of f.kept) c.hit.ensures.others
+
+pub returns-in-Ok-hit-clause-unshown : goal.returns-in-Ok-hit-clause-unshown
+returns-in-Ok-hit-clause-unshown g c = tt
+
+pub returns-in-Ok-hit-clause-same : goal.returns-in-Ok-hit-clause-same
+returns-in-Ok-hit-clause-same g c = ap (λ (f : Film). f.set.displays) c.hit.ensures.others
+
+pub returns-in-Ok-hit-clause-kinds : goal.returns-in-Ok-hit-clause-kinds
+returns-in-Ok-hit-clause-kinds g c = refl
+
+pub returns-in-Err-clause-stands : goal.returns-in-Err-clause-stands
+returns-in-Err-clause-stands g c = tt
+
+pub returns-in-Err-clause-finishes : goal.returns-in-Err-clause-finishes
+returns-in-Err-clause-finishes g c = tt
+
+pub returns-in-Err-clause-shown : goal.returns-in-Err-clause-shown
+returns-in-Err-clause-shown g c = tt
+
+pub returns-in-Err-clause-keeping : goal.returns-in-Err-clause-keeping
+returns-in-Err-clause-keeping g c = tt
+
+pub returns-in-Err-clause-same : goal.returns-in-Err-clause-same
+returns-in-Err-clause-same g c = c.finish.ensures.same
+
+pub returns-in-Err-clause-kinds : goal.returns-in-Err-clause-kinds
+returns-in-Err-clause-kinds g c = c.finish.ensures.kinds
+
+pub returns-in_default-hit-clause-stands : goal.returns-in_default-hit-clause-stands
+returns-in_default-hit-clause-stands g c = tt
+
+pub returns-in_default-hit-clause-finishes : goal.returns-in_default-hit-clause-finishes
+returns-in_default-hit-clause-finishes g c = tt
+
+pub returns-in_default-hit-clause-shown : goal.returns-in_default-hit-clause-shown
+returns-in_default-hit-clause-shown g c = tt
+
+pub returns-in_default-hit-clause-keeping : goal.returns-in_default-hit-clause-keeping
+returns-in_default-hit-clause-keeping g c = tt
+
+pub returns-in_default-hit-clause-unshown : goal.returns-in_default-hit-clause-unshown
+returns-in_default-hit-clause-unshown g c = refl
+
+pub returns-in_default-hit-clause-same : goal.returns-in_default-hit-clause-same
+returns-in_default-hit-clause-same g c = ap (λ (f : Film). f.set.displays) c.hit.ensures.others
+
+pub returns-in_default-hit-clause-kinds : goal.returns-in_default-hit-clause-kinds
+returns-in_default-hit-clause-kinds g c = refl

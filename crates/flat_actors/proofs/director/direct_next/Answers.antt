@@ -23,3 +23,39 @@ returns-in_default g c =
       same = refl;
       kinds = refl;
     }
+
+pub at-line-requires : goal.at-line-requires
+at-line-requires g c = c.requires.place
+
+pub direct_line-requires-clause-playable : goal.direct_line-requires-clause-playable
+direct_line-requires-clause-playable g c κs within = c.requires.playable
+
+pub direct_line-requires-clause-of : goal.direct_line-requires-clause-of
+direct_line-requires-clause-of g c κs within = c.requires.of
+
+pub direct_line-requires-clause-stands : goal.direct_line-requires-clause-stands
+direct_line-requires-clause-stands g c κs within = c.requires.stands
+
+pub direct_line-requires-clause-number : goal.direct_line-requires-clause-number
+direct_line-requires-clause-number g c κs within = c.requires.number
+
+pub returns-in-Display-clause-stands : goal.returns-in-Display-clause-stands
+returns-in-Display-clause-stands g c = c.direct_line.ensures.stands
+
+pub returns-in-Display-clause-finishes : goal.returns-in-Display-clause-finishes
+returns-in-Display-clause-finishes g c = c.direct_line.ensures.finishes
+
+pub returns-in-Display-clause-shown : goal.returns-in-Display-clause-shown
+returns-in-Display-clause-shown g c = c.direct_line.ensures.shown
+
+pub returns-in-Display-clause-keeping : goal.returns-in-Display-clause-keeping
+returns-in-Display-clause-keeping g c = c.direct_line.ensures.keeping
+
+pub returns-in-Display-clause-unshown : goal.returns-in-Display-clause-unshown
+returns-in-Display-clause-unshown g c = c.direct_line.ensures.unshown
+
+pub returns-in-Display-clause-same : goal.returns-in-Display-clause-same
+returns-in-Display-clause-same g c = c.direct_line.ensures.same
+
+pub returns-in-Display-clause-kinds : goal.returns-in-Display-clause-kinds
+returns-in-Display-clause-kinds g c = c.direct_line.ensures.kinds

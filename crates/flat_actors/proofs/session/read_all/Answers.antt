@@ -54,3 +54,15 @@ finish-requires-clause-stands g c κs asked =
     let none : drop c.loop-i.i c.args.places.now ≡ [] = drop_all c.loop-i.i c.args.places.now (omega (arith, c.loop-i-test.false)) in
     subst (λ (s : SessionNo). SessionStands script view s (length script.lines) c.loop-i.seat) (sym is)
     (all-read script view c.args.seat.now.session c.loop-i.seat c.requires.playable (subst (λ (left : List ℕ). StandsBefore script view c.args.seat.now.session left c.loop-i.seat) none c.loop-i.invariant))
+
+pub read_next-requires-clause-playable : goal.read_next-requires-clause-playable
+read_next-requires-clause-playable g c κs within = c.requires.playable
+
+pub read_next-requires-clause-of : goal.read_next-requires-clause-of
+read_next-requires-clause-of g c κs within = c.requires.of
+
+pub finish-requires-clause-playable : goal.finish-requires-clause-playable
+finish-requires-clause-playable g c κs within = c.requires.playable
+
+pub finish-requires-clause-of : goal.finish-requires-clause-of
+finish-requires-clause-of g c κs within = c.requires.of
