@@ -1,8 +1,8 @@
 -- The steps by which the keys are found that are reached.
-use Rattle.std.proofs.Common.{ℕ, zero, suc, ◌+◌, ◌<◌, ◌≡◌, ◌≢◌, ◌⊎◌, inl, inr, refl, sym, ◌∙◌, ap, subst, Bool, true, false, List, [], ◌∷◌, ◌++◌, length, take, slice_index_or, slice_set, arith, length-set, append_assoc}
+use Rattle.std.proofs.Common.{ℕ, zero, suc, ◌+◌, ◌<◌, ◌≤◌, ◌≡◌, ◌≢◌, ◌⊎◌, inl, inr, refl, sym, ◌∙◌, ap, subst, Bool, true, false, List, [], ◌∷◌, ◌++◌, length, map, take, slice_index_or, slice_set, arith, length-set, append_assoc}
 use Rattle.std.specs.Prelude.{◌==◌}
 use Rattle.std.specs.List.{Contains}
-use Rattle.std.proofs.lemmas.List.{get_or-set_same, get_or-set_other, map-append, take_more}
+use Rattle.std.proofs.lemmas.List.{append-nil, get_or-set_same, get_or-set_other, map-append, take_all, take_more}
 use Rattle.std.proofs.lemmas.List.Elements.{Contains-push, Contains-push_cases, Contains-append_left, Contains-append_right, Contains-append_cases}
 use Rattle.std.proofs.lemmas.Bool.Decides.{eqb_tells}
 use Rattle.flat_graph.specs.declared.names.Named.{Named}
@@ -124,3 +124,22 @@ adds-next-name names i d old mid new low a b =
     let more : keys_of (take (i + 1) names) ≡ keys_of (take i names) ++ (slice_index_or names i d).key ∷ [] =
     ap (λ (ns : List Named). keys_of ns) (take_more names i d low) ∙ map-append (λ (name : Named). name.key) (take i names) (slice_index_or names i d ∷ []) in
     subst (λ (added : List ℕ). Adds added old new) (sym more) (adds-more (keys_of (take i names)) ((slice_index_or names i d).key ∷ []) old mid new a b)
+
+-- nothing is added yet
+pub adds-none : (old : Reached) → IsListed old → Adds [] old old
+adds-none old listed = record {
+  listed = listed;
+  places = refl;
+  later = [];
+  behind = sym (append-nil old.keys.items);
+  kept = λ key marked. marked;
+  there = λ key has. absurd (omega (arith, has.1));
+  only = λ key marked. inl marked;
+}
+
+-- all keys are added, and those of all names
+pub adds-all : (keys : List ℕ) (i : ℕ) (old new : Reached) → length keys ≤ i → Adds (take i keys) old new → Adds keys old new
+adds-all keys i old new whole adds = subst (λ (added : List ℕ). Adds added old new) (take_all i keys whole) adds
+
+pub adds-all-names : (names : List Named) (i : ℕ) (old new : Reached) → length names ≤ i → Adds (map (λ name. name.key) (take i names)) old new → Adds (map (λ name. name.key) names) old new
+adds-all-names names i old new whole adds = subst (λ (ns : List Named). Adds (map (λ name. name.key) ns) old new) (take_all i names whole) adds

@@ -9,7 +9,7 @@ use flat_graph::Graph;
 use std::alloc::Global;
 
 /// How far the search has come with a key.
-#[derive(Clone, Copy, Debug, PartialEq, Eq)]
+#[derive(Clone, Copy)]
 pub enum Mark {
     /// It was not met.
     New,
@@ -20,7 +20,7 @@ pub enum Mark {
 }
 
 /// What a step of the search comes to.
-#[derive(Clone, Copy, Debug, PartialEq, Eq)]
+#[derive(Clone, Copy)]
 pub enum Step {
     /// There is more to do.
     On,

@@ -29,7 +29,7 @@ use flat_graph::Graph;
 use std::alloc::Global;
 
 /// Whether a graph has a tree to present.
-#[derive(Clone, Copy, Debug, PartialEq, Eq)]
+#[derive(Clone, Copy)]
 pub enum Verdict {
     /// It has, of so many nodes: one for each path from the root, and none where
     /// there is no root.

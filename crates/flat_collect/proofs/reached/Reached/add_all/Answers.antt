@@ -1,5 +1,5 @@
 use Rattle.std.proofs.Common.{◌<◌, length, slice_index_or, arith}
-use Rattle.flat_collect.proofs.Marks.{adds-next, item-there}
+use Rattle.flat_collect.proofs.Marks.{adds-all, adds-next, adds-none, item-there}
 use Rattle.flat_collect.proofs.reached.Reached.add_all.Goals as goal
 
 pub add-requires-clause-within : goal.add-requires-clause-within
@@ -9,3 +9,9 @@ add-requires-clause-within c =
 
 pub loop-key-preserved : goal.loop-key-preserved
 loop-key-preserved c = adds-next c.args.keys.now c.loop-key.key-index c.args.self.now c.loop-key.self c.add.new.self c.loop-key-test.true c.loop-key.invariant c.in_ok-add.ensures
+
+pub loop-key-init : goal.loop-key-init
+loop-key-init c = adds-none c.args.self.now c.requires.listed
+
+pub returns : goal.returns
+returns c = adds-all c.args.keys.now c.loop-key.key-index c.args.self.now c.loop-key.self c.loop-key-test.false c.loop-key.invariant
