@@ -3,7 +3,7 @@ ghost use Rattle.std.specs.Prelude.{◌≡◌, ◌+◌, ◌≤◌, length, Some,
 ghost use Rattle.flat_scene.specs.Misuse.{first_reason};
 ghost use Rattle.flat_graph.specs.Names.{key_named};
 
-use crate::limits::is_bad_side;
+use crate::limits::is_bad_size;
 use crate::stored::{Stored, StoredFill, is_fill};
 use crate::table::{ContentTable, put};
 use flat_base::{ContentId, Reason};
@@ -73,7 +73,7 @@ impl ContentTable {
         ensures kept { OnErr result (self.new ≡ self.old) }
     {
         let serial = self.fill(c)?;
-        if is_bad_side(w) || is_bad_side(h) {
+        if is_bad_size(w, h) {
             return Err(Reason::BadSize);
         }
         let solid = StoredFill { rgba, size: (w, h) };

@@ -4,11 +4,11 @@ ghost use Rattle.flat_scene.specs.Draft.{of_serial};
 ghost use Rattle.flat_scene.specs.Misuse.{first_reason};
 ghost use Rattle.flat_graph.specs.Names.{key_named};
 
-use crate::limits::{is_bad_image, is_bad_index, is_bad_side, leaves, whole};
+use crate::limits::{is_bad_image, is_bad_index, is_bad_sample, is_bad_size, whole};
 use crate::stored::{Stored, StoredImage};
 use crate::table::{ContentTable, put};
 use flat_base::{BufferNo, ContentId, IntRect, OPACITY_MAX, Reason};
-use flat_graph::{is_bad_rect, remove_name};
+use flat_graph::remove_name;
 use flat_scene::{BlendMode, GraphFault, ImageFlip};
 
 impl ContentTable {
@@ -96,7 +96,7 @@ impl ContentTable {
         ensures kept { OnErr result (self.new ≡ self.old) }
     {
         let (serial, image) = self.image(c)?;
-        if is_bad_rect(rect) || leaves(rect, image.size.0, image.size.1) {
+        if is_bad_sample(rect, image.size.0, image.size.1) {
             return Err(Reason::BadRect);
         }
         let changed = StoredImage {
@@ -121,7 +121,7 @@ impl ContentTable {
         ensures kept { OnErr result (self.new ≡ self.old) }
     {
         let (serial, image) = self.image(c)?;
-        if is_bad_side(w) || is_bad_side(h) {
+        if is_bad_size(w, h) {
             return Err(Reason::BadSize);
         }
         let changed = StoredImage {

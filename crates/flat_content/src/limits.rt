@@ -1,14 +1,22 @@
-ghost use Rattle.std.specs.Prelude.{◌≡◌, ◌<◌, ◌+ℤ◌, ◌^◌, ◌-◌, pos};
+ghost use Rattle.std.specs.Prelude.{◌≡◌, ◌<◌, ◌+ℤ◌, ◌^◌, ◌-◌, ◌||◌, pos};
 ghost use Rattle.flat_scene.specs.Misuse as misuse;
 
 use flat_base::{IntRect, SIDE_MAX};
+use flat_graph::is_bad_rect;
 use flat_scene::BufferDecl;
 
 /// A side of nothing, or above the limit.
-pub fn is_bad_side(side: u32) -> bool
+fn is_bad_side(side: u32) -> bool
     ensures { result ≡ misuse.is_bad_side side }
 {
     side == 0 || side > SIDE_MAX
+}
+
+/// One of two sides is nothing, or above the limit.
+pub fn is_bad_size(w: u32, h: u32) -> bool
+    ensures { result ≡ misuse.is_bad_side w || misuse.is_bad_side h }
+{
+    is_bad_side(w) || is_bad_side(h)
 }
 
 /// The end of a side is above a limit.
@@ -19,10 +27,17 @@ fn is_beyond(start: i32, side: i32, limit: u32) -> bool
 }
 
 /// The rectangle leaves an image of that size.
-pub fn leaves(rect: IntRect, w: u32, h: u32) -> bool
+fn leaves(rect: IntRect, w: u32, h: u32) -> bool
     ensures { result ≡ misuse.leaves rect (w, h) }
 {
     rect.x < 0 || rect.y < 0 || is_beyond(rect.x, rect.w, w) || is_beyond(rect.y, rect.h, h)
+}
+
+/// The rectangle is empty, or leaves an image of that size.
+pub fn is_bad_sample(rect: IntRect, w: u32, h: u32) -> bool
+    ensures { result ≡ misuse.is_bad_rect rect || misuse.leaves rect (w, h) }
+{
+    is_bad_rect(rect) || leaves(rect, w, h)
 }
 
 /// The index is none of the collection's.

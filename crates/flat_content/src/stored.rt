@@ -8,7 +8,7 @@ use flat_base::{BufferNo, IntRect, PairNo};
 use flat_scene::{BlendMode, Content, ImageFlip, ViewportProps, ViewportUse};
 
 /// An image.
-#[derive(Clone, Copy, Debug, PartialEq, Eq)]
+#[derive(Clone, Copy)]
 pub struct StoredImage {
     pub buffers: BufferNo,
     pub index: u32,
@@ -23,14 +23,14 @@ pub struct StoredImage {
 }
 
 /// The colour (red, green, blue, alpha) and the size of a filled rectangle.
-#[derive(Clone, Copy, Debug, PartialEq, Eq)]
+#[derive(Clone, Copy)]
 pub struct StoredFill {
     pub rgba: [u8; 4],
     pub size: (u32, u32),
 }
 
 /// A content that was made.
-#[derive(Clone, Copy, Debug, PartialEq, Eq)]
+#[derive(Clone, Copy)]
 pub enum Stored {
     Image(StoredImage),
     /// None before its first SetSolidFill.

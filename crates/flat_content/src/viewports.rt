@@ -5,7 +5,7 @@ ghost use Rattle.flat_scene.specs.Draft.{of_serial};
 ghost use Rattle.flat_scene.specs.Misuse.{first_reason};
 ghost use Rattle.flat_graph.specs.Names.{key_named};
 
-use crate::limits::is_bad_side;
+use crate::limits::is_bad_size;
 use crate::stored::Stored;
 use crate::table::{ContentTable, drop_use, put};
 use flat_base::{ContentId, PairNo, Reason};
@@ -33,7 +33,7 @@ impl ContentTable {
         if let Err(reason) = self.unused(c) {
             return Err(GraphFault::Bad(reason));
         }
-        if is_bad_side(w) || is_bad_side(h) {
+        if is_bad_size(w, h) {
             return Err(GraphFault::Bad(Reason::BadSize));
         }
         self.make_room()
@@ -61,7 +61,7 @@ impl ContentTable {
         if let Err(reason) = self.unused(c) {
             return Err(GraphFault::Bad(reason));
         }
-        if is_bad_side(props.w) || is_bad_side(props.h) {
+        if is_bad_size(props.w, props.h) {
             return Err(GraphFault::Bad(Reason::BadSize));
         }
         self.add(c, Stored::Viewport(pair, props))
@@ -120,7 +120,7 @@ impl ContentTable {
         ensures kept { OnErr result (self.new ≡ self.old) }
     {
         let (serial, pair, props) = self.viewport(c)?;
-        if is_bad_side(w) || is_bad_side(h) {
+        if is_bad_size(w, h) {
             return Err(Reason::BadSize);
         }
         let inset = inset.unwrap_or(props.inset);

@@ -4,6 +4,11 @@ use Rattle.flat_graph.specs.Names.{key_named}
 use Rattle.flat_content.specs.declared.stored.Stored.TheVariants.{Image}
 use Rattle.flat_content.specs.Table.{TableState}
 use Rattle.flat_content.proofs.Soundness.{room-same, set-by, table-set}
+use Rattle.std.proofs.Common.{◌≡◌, [], ◌∷◌, sym, ◌∙◌, ◌||◌}
+use Rattle.flat_base.specs.declared.errors.Reason.TheVariants.{BadSize}
+use Rattle.flat_scene.specs.Misuse.{is_image, is_bad_side}
+use Rattle.flat_content.specs.Reasons.{sort_tests}
+use Rattle.flat_content.proofs.Refusals.{allowed_by, refused_by, hands_on}
 use Rattle.flat_content.proofs.table.ContentTable.set_image_destination_size.Goals as goal
 
 pub invariant_of-self : goal.invariant_of-self
@@ -15,3 +20,12 @@ returns-clause-set c =
     let named : key_named table.names c.args.c.0 ≡ Some c.in_ok-serial.serial = search rules in
     let there : of_serial table.contents c.in_ok-serial.serial ≡ Some (Image c.in_ok-serial.image) = search rules in
     rw (← c.self.view_is) (set-by table c.args.c.0 c.in_ok-serial.serial (Image c.in_ok-serial.image) _ _ _ named there refl c.put.ensures.items)
+
+pub returns-in_err-serial-clause-fault : goal.returns-in_err-serial-clause-fault
+returns-in_err-serial-clause-fault c = hands_on c.from_residual.result (sort_tests c.args.self.now is_image c.args.c.0) ((is_bad_side c.args.w || is_bad_side c.args.h, BadSize) ∷ []) c.in_err-serial.field-0.0 c.from_residual.ensures.1 c.in_err-serial.ensures.fault
+
+pub returns-then-is_bad_size-clause-fault : goal.returns-then-is_bad_size-clause-fault
+returns-then-is_bad_size-clause-fault c = refused_by (sort_tests c.args.self.now is_image c.args.c.0) _ _ c.in_ok-serial.ensures.allowed (sym c.is_bad_size.ensures ∙ c.if-is_bad_size.true)
+
+pub returns-clause-allowed : goal.returns-clause-allowed
+returns-clause-allowed c = allowed_by (sort_tests c.args.self.now is_image c.args.c.0) _ _ c.in_ok-serial.ensures.allowed (sym c.is_bad_size.ensures ∙ c.if-is_bad_size.false)

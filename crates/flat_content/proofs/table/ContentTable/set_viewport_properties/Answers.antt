@@ -6,6 +6,11 @@ use Rattle.flat_content.specs.declared.stored.Stored.{Stored}
 use Rattle.flat_content.specs.declared.stored.Stored.TheVariants.{Viewport}
 use Rattle.flat_content.specs.Table.{TableState}
 use Rattle.flat_content.proofs.Soundness.{room-same, set-by, table-set}
+use Rattle.std.proofs.Common.{◌≡◌, [], ◌∷◌, sym, ap, ◌∙◌, ◌||◌}
+use Rattle.flat_base.specs.declared.errors.Reason.TheVariants.{BadSize}
+use Rattle.flat_scene.specs.Misuse.{is_viewport, is_bad_side}
+use Rattle.flat_content.specs.Reasons.{sort_tests}
+use Rattle.flat_content.proofs.Refusals.{allowed_by, refused_by, hands_on}
 use Rattle.flat_content.proofs.table.ContentTable.set_viewport_properties.Goals as goal
 
 pub invariant_of-self : goal.invariant_of-self
@@ -19,3 +24,12 @@ returns-clause-set c =
     let inset : c.unwrap_or-inset.result ≡ unwrap_or c.args.inset c.in_ok-serial.props.inset = search rules in
     let same = ap (λ (i : Inset). let s : Stored = Viewport c.in_ok-serial.pair (record { w = c.args.w; h = c.args.h; inset = i }) in s) inset in
     rw (← c.self.view_is) (set-by table c.args.c.0 c.in_ok-serial.serial (Viewport c.in_ok-serial.pair c.in_ok-serial.props) _ _ _ named there same c.put.ensures.items)
+
+pub returns-in_err-serial-clause-fault : goal.returns-in_err-serial-clause-fault
+returns-in_err-serial-clause-fault c = hands_on c.from_residual.result (sort_tests c.args.self.now is_viewport c.args.c.0) ((is_bad_side c.args.w || is_bad_side c.args.h, BadSize) ∷ []) c.in_err-serial.field-0.0 c.from_residual.ensures.1 c.in_err-serial.ensures.fault
+
+pub returns-then-is_bad_size-clause-fault : goal.returns-then-is_bad_size-clause-fault
+returns-then-is_bad_size-clause-fault c = refused_by (sort_tests c.args.self.now is_viewport c.args.c.0) _ _ c.in_ok-serial.ensures.allowed (sym c.is_bad_size.ensures ∙ c.if-is_bad_size.true)
+
+pub returns-clause-allowed : goal.returns-clause-allowed
+returns-clause-allowed c = allowed_by (sort_tests c.args.self.now is_viewport c.args.c.0) _ _ c.in_ok-serial.ensures.allowed (sym c.is_bad_size.ensures ∙ c.if-is_bad_size.false)
