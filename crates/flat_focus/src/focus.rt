@@ -10,7 +10,7 @@ use std::alloc::Global;
 use std::marker::Model;
 
 /// The answer to a session that asks for the focus of another.
-#[derive(Clone, Copy, Debug, PartialEq, Eq)]
+#[derive(Clone, Copy, PartialEq, Eq)]
 pub enum FocusAnswer {
     /// It stands on the list from the root to that other, which has the focus now.
     Granted,

@@ -18,7 +18,7 @@ use flat_scene::{FrameOut, ViewTree};
 use std::alloc::Global;
 
 /// A line on which a session asks for the focus of another.
-#[derive(Clone, Copy, Debug, PartialEq, Eq)]
+#[derive(Clone, Copy, PartialEq, Eq)]
 pub struct FocusLine {
     /// The number of the line.
     pub number: u32,
