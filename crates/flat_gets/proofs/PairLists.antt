@@ -1,6 +1,6 @@
 -- Lists of pairs by rising numbers.
 use Rattle.std.proofs.Common.{◌≡◌, ◌≢◌, ◌∙◌, sym, subst, ℕ, zero, suc, ◌+◌, ◌-◌, ◌<◌, ◌≤◌, Bool, true, false, List, [], ◌∷◌, ◌++◌, length, filter, take, refl, arith, ap, All, Some, None, slice_get, slice_index_or}
-use Rattle.std.specs.Prelude.{cond, flat_map, ◌&&◌, ◌||◌, ◌==◌, nat_le, nat_lt}
+use Rattle.std.specs.Prelude.{cond, ◌&&◌, ◌||◌, ◌==◌, nat_le, nat_lt}
 use Rattle.std.specs.List.{insert, list_all}
 use Rattle.std.specs.List.Sorted.{IsPartitionedBy}
 use Rattle.std.proofs.lemmas.Bool.Decides.{nat_tests}
@@ -120,15 +120,6 @@ filter-twice a b (q ∷ xs) = by_test (a q) (filter-twice a b xs)
     by_test : (c : Bool) → filter b (filter a xs) ≡ filter (λ r. a r && b r) xs → filter b (cond c (q ∷ filter a xs) (filter a xs)) ≡ cond (c && b q) (q ∷ filter (λ r. a r && b r) xs) (filter (λ r. a r && b r) xs)
     by_test true rest = ap (λ (l : List PairNo). cond (b q) (q ∷ l) l) rest
     by_test false rest = rest
-
--- what the listed ones give is what all give, where the others give nothing
-pub flat-listed : {A : Type 0} (owns some : PairNo → Bool) (f : PairNo → List A) (xs : List PairNo) → list_all owns xs ≡ true → ((q : PairNo) → owns q ≡ true → some q ≡ false → f q ≡ []) → flat_map f (filter some xs) ≡ flat_map f xs
-flat-listed owns some f [] all none = refl
-flat-listed {A = A} owns some f (q ∷ xs) all none = by_test (some q) refl (flat-listed owns some f xs (and-right (owns q) _ all) none)
-  where
-    by_test : (b : Bool) → some q ≡ b → flat_map f (filter some xs) ≡ flat_map f xs → flat_map f (cond b (q ∷ filter some xs) (filter some xs)) ≡ f q ++ flat_map f xs
-    by_test true is rest = ap (λ (l : List A). f q ++ l) rest
-    by_test false is rest = rw (none q (and-left (owns q) _ all) is) rest
 
 -- ---- the pairs of one owner
 

@@ -1,5 +1,5 @@
 -- What the answers of one pair are.
-use Rattle.std.proofs.Common.{◌≡◌, ◌∙◌, sym, ◌+◌, true, List, [], ◌∷◌, ◌++◌, length, map, refl, arith, ap, Some, None, append_assoc}
+use Rattle.std.proofs.Common.{◌≡◌, ◌∙◌, sym, ◌+◌, Bool, true, false, List, [], ◌∷◌, ◌++◌, length, map, refl, arith, ap, Some, None, append_assoc}
 use Rattle.std.specs.Prelude.{Option, cond, not, is_some}
 use Rattle.std.proofs.lemmas.List.{map-append}
 use Rattle.flat_base.specs.declared.ids.PairNo.{PairNo}
@@ -26,6 +26,11 @@ given-count p (Some get) (Some value) = refl
 given-count p (Some get) None = refl
 given-count p None (Some value) = refl
 given-count p None None = refl
+
+-- where no get waits none does afterwards
+pub settled-none : (b : Bool) (now : Option Told) (w : Watching) → is_some w.waits ≡ false → is_some (settled b now w).waits ≡ false
+settled-none true now w none = rw none none
+settled-none false now w none = none
 
 -- a get that waits is answered, or waits on
 pub cell-due : (now : Option Told) (w : Watching) → number_if (is_some (settled true now w).waits) + number_if (is_some (answered_get w.waits (answer now w))) ≡ number_if (is_some w.waits)

@@ -9,7 +9,7 @@ use Rattle.flat_scene.specs.declared.journal.Entry.{Entry}
 use Rattle.flat_scene.specs.declared.setup.Setup.{Setup}
 use Rattle.flat_scene.specs.History.{is_closed}
 use Rattle.flat_scene.specs.declared.journal.Told.{Told}
-use Rattle.flat_watch.specs.Told.{Watching, settled}
+use Rattle.flat_watch.specs.Told.{Watching}
 use Rattle.flat_rules.specs.Ends.{view_owner, viewport_owner, viewport_uses}
 use Rattle.flat_rules.specs.Legal.{Legal, owns_view}
 use Rattle.flat_rules.specs.Watch.{Watcher, layout_of, status_of, child_of, listener, told, watching}
@@ -23,6 +23,7 @@ use Rattle.flat_gets.specs.Pairs.{AreAt, former_gets, still_waiting}
 use Rattle.flat_gets.specs.Watchers.{IsToldAll, reached}
 use Rattle.flat_gets.proofs.FinishSteps.{reached-uses, same-uses, tell-formers, tell-one}
 use Rattle.flat_gets.proofs.GetHistory.{owner-heard, owner-hears}
+use Rattle.flat_gets.proofs.PartSteps.{settled-none}
 use Rattle.flat_gets.proofs.SettledEvents.{no-formers}
 use Rattle.flat_gets.proofs.WatchLists.{view-listed, view-unlisted, viewport-listed, viewport-unlisted, waits-known}
 
@@ -76,10 +77,6 @@ module _ (setup : Setup) (h : List Entry) (line : ℕ) (legal : Legal setup (fin
         }
 
 -- ---- where nothing waited nothing does
-
-settled-none : (b : Bool) (now : Option Told) (w : Watching) → is_some w.waits ≡ false → is_some (settled b now w).waits ≡ false
-settled-none true now w none = rw none none
-settled-none false now w none = none
 
 module _ (now : Watcher → Option Told) (from : KeptGets) (p : PairNo) (old new : PairWatchers) (all : IsToldAll now from p old new) where
   pub settled-views : view_waits old ≡ false → view_waits new ≡ false

@@ -172,3 +172,10 @@ unwaited waits silent pairs none p = by_place (slice_get_cases pairs p.0).1
     by_place : ((x : PairWatchers) × (p.0 < length pairs) × (slice_get pairs p.0 ≡ Some x) × (slice_index_or pairs p.0 x ≡ x)) ⊎ ((length pairs ≤ p.0) × (slice_get pairs p.0 ≡ None)) → waits_at waits pairs p ≡ false
     by_place (inl there) = waits-known waits pairs p there.0 there.1 ∙ silent (slice_index_or pairs p.0 there.0) (none p.0 there.0 there.1)
     by_place (inr past) = waits-past waits pairs p past.0
+
+-- the pairs that a session lists are declared, where its lists stand
+pub views-known : (setup : Setup) (s : SessionNo) (n : ℕ) → length setup.pairs ≡ n → (pairs : List PairWatchers) (one : KeptGets) → AreListed setup s pairs one → All (λ p. p.0 < n) one.views
+views-known setup s n is pairs one lists = list-known (owns_view setup s) (views_test s) setup.pairs view_waits n is pairs one.views lists.views
+
+pub viewports-known : (setup : Setup) (s : SessionNo) (n : ℕ) → length setup.pairs ≡ n → (pairs : List PairWatchers) (one : KeptGets) → AreListed setup s pairs one → All (λ p. p.0 < n) one.viewports
+viewports-known setup s n is pairs one lists = list-known (owns_viewport setup s) (viewports_test s) setup.pairs viewport_waits n is pairs one.viewports lists.viewports

@@ -41,16 +41,13 @@ use Rattle.flat_gets.specs.Watchers.{AreWatched, IsJoin, IsViewTold, TellsView, 
 use Rattle.flat_gets.proofs.GetHistory.{hears-open, owner-hears}
 use Rattle.flat_gets.proofs.GetSteps.{idle-kind, rests-joined, rests-refused}
 use Rattle.flat_gets.proofs.lemmas.GetPosts.{closed-posts, foreign-posts, joined-posts, one-owner, refused-posts}
+use Rattle.flat_gets.proofs.PartSteps.{settled-none}
 use Rattle.flat_gets.proofs.WatchFacts.{apart-view, new-use, other-uses, rests-shut, undeclared-waits}
 use Rattle.flat_gets.proofs.WatchLists.{Fewer, fewer-from, lists-fewer}
 use Rattle.flat_gets.proofs.WatchedAnswers.{answers-joined, answers-rest, answers-shut, answers-unowned, closed-after, closed-not, not-told}
 use Rattle.flat_gets.proofs.WatchedPairs.{at-rested, at-same, at-started}
 
 -- ---- one pair changes
-
--- another one stays at its place
-placed-one : (old : List PairWatchers) (q : ℕ) (then : PairWatchers) → (P Q : ℕ → PairWatchers → Type 0) → ((j : ℕ) (x : PairWatchers) → j ≢ q → P j x → Q j x) → Q q then → AllNumbered P old → AllNumbered Q (slice_set old q then)
-placed-one old q then P Q others here each = changed-one P Q old q then others here each
 
 pub fewer-set : (waits : PairWatchers → Bool) (old : List PairWatchers) (q : ℕ) (was then : PairWatchers) → q < length old → was ≡ slice_index_or old q was → (waits was ≡ false → waits then ≡ false) → Fewer waits old (slice_set old q then)
 fewer-set waits old q was then below at less = fewer-from waits old (slice_set old q then) (length-set old q then) (λ i d within none. by_place i d within none (eqb_tells i q))
@@ -79,7 +76,7 @@ watched-roomy setup h old new q was then below at pairs sessions same are =
         each =
             let A : List PairWatchers → Type 0 = AllNumbered (λ i. AreAt setup h h (pair i)) in
             let here : AreAt setup h h (pair q) was = subst (AreAt setup h h (pair q)) (sym at) (are.each q was below) in
-            subst A (sym pairs) (placed-one old.pairs.items q then (λ i. AreAt setup h h (pair i)) (λ i. AreAt setup h h (pair i)) (λ j x other kept. kept) (at-same setup h h (pair q) was then same here) are.each);
+            subst A (sym pairs) (changed-one (λ i. AreAt setup h h (pair i)) (λ i. AreAt setup h h (pair i)) old.pairs.items q then (λ j x other kept. kept) (at-same setup h h (pair q) was then same here) are.each);
         answered = let A : List KeptGets → Type 0 = AllNumbered (λ i one. one.answers ≡ answers setup (number i) h) in subst A (sym sessions) are.answered;
         listed =
             let L : List PairWatchers → List KeptGets → Type 0 = λ ps ss. AllNumbered (λ i. AreListed setup (number i) ps) ss in
@@ -126,19 +123,11 @@ module _ (old new : PairWatchers) (started : IsStarted old new) where
       let status : number_if (is_some new.status.waits) ≡ number_if (is_some old.status.waits) = ap (λ (w : Watching). number_if (is_some w.waits)) started.status in
       omega (arith, child, former, layout, status)
 
--- answers leave no get waiting that didn't
-settled-none : (now : Option Told) (w : Watching) → is_some w.waits ≡ false → is_some (settled true now w).waits ≡ false
-settled-none now w none = by_waits w.waits none
-  where
-    by_waits : (o : Option Watch) → is_some o ≡ false → is_some (settled true now (record { last = w.last; waits = o })).waits ≡ false
-    by_waits None h = refl
-    by_waits (Some get) h = cc
-
 pub told-views : (now : Watcher → Option Told) {p : PairNo} (old new : PairWatchers) → IsViewTold now p old new → view_waits old ≡ false → view_waits new ≡ false
 told-views now {p} old new told none =
     let first : is_some old.layout.waits ≡ false = none-left (is_some old.layout.waits) _ none in
     let second : is_some old.status.waits ≡ false = none-right (is_some old.layout.waits) _ none in
-    rw (told.layout, told.status, settled-none (now (layout_of p)) old.layout first) (settled-none (now (status_of p)) old.status second)
+    rw (told.layout, told.status, settled-none true (now (layout_of p)) old.layout first) (settled-none true (now (status_of p)) old.status second)
 
 -- ---- an entry that uses a viewport end
 
@@ -186,7 +175,7 @@ module _ (setup : Setup) (h : List Entry) (e : Entry) (legal : Legal setup (h �
 
     started-each : (pairs : List PairWatchers) (mid then : PairWatchers) → AreAt setup (h ▹ e) h q mid → IsStarted mid then → AllNumbered (λ i. AreAt setup h h (pair i)) pairs → AllNumbered (λ i. AreAt setup (h ▹ e) (h ▹ e) (pair i)) (slice_set pairs q.0 then)
     started-each pairs mid then at started each =
-        placed-one pairs q.0 then (λ i. AreAt setup h h (pair i)) (λ i. AreAt setup (h ▹ e) (h ▹ e) (pair i)) other-at
+        changed-one (λ i. AreAt setup h h (pair i)) (λ i. AreAt setup (h ▹ e) (h ▹ e) (pair i)) pairs q.0 then other-at
         (at-started setup h e legal q mid then started (new-use setup h e legal q props is done) children-rest at) each
 
     -- ---- where nobody hears of it

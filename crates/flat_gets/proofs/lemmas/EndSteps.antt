@@ -1,6 +1,6 @@
 -- What entries do to what is kept of all sessions' viewports.
 use Rattle.std.proofs.Common.{◌≡◌, ◌∙◌, sym, ℕ, ◌+◌, ◌-◌, ◌<◌, Bool, true, false, List, [], ◌∷◌, length, refl, arith, ap, subst, All, slice_set, slice_index_or}
-use Rattle.std.specs.Prelude.{IsTrue, Option, Some, None, option_map, unwrap_or, slice_get, ◌++◌, ◌&&◌, ◌==◌, nat_lt, nat_le, sum_by}
+use Rattle.std.specs.Prelude.{IsTrue, Option, Some, None, option_map, unwrap_or, slice_get, ◌++◌, ◌&&◌, nat_lt, nat_le, sum_by}
 use Rattle.std.specs.List.{list_any}
 use Rattle.std.proofs.lemmas.Bool.Decides.{nat_tests}
 use Rattle.std.proofs.lemmas.List.{get_or-set_same, length-set, length-map}

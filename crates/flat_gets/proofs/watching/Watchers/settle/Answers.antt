@@ -1,55 +1,50 @@
-use Rattle.std.proofs.Common.{◌≡◌, ◌∙◌, ◌+◌, ◌<◌, ap, sym, subst, refl, arith, ℕ, List, length, All}
-use Rattle.std.specs.Prelude.{filter}
+use Rattle.std.proofs.Common.{◌≡◌, ◌∙◌, ◌+◌, ◌-◌, ◌<◌, ◌≤◌, ap, sym, subst, refl, arith, ℕ, List, length, All}
+use Rattle.std.specs.Prelude.{filter, slice_index_or}
 use Rattle.flat_base.specs.declared.ids.PairNo.{PairNo}
+use Rattle.flat_base.specs.declared.ids.SessionNo.{SessionNo}
 use Rattle.flat_scene.specs.declared.journal.Entry.{Entry}
+use Rattle.flat_scene.specs.declared.setup.Setup.{Setup}
 use Rattle.flat_rules.specs.Watch.{told}
-use Rattle.flat_rules.specs.Legal.{owns_view, owns_viewport}
 use Rattle.flat_gets.specs.declared.pair.Part.TheVariants as parts
 use Rattle.flat_gets.specs.declared.pair.PairWatchers.{PairWatchers}
 use Rattle.flat_gets.specs.Listed.{AreListed, KeptGets, view_waits, viewport_waits, waits_at}
 use Rattle.flat_gets.specs.Pairs.{watcher_at}
-use Rattle.flat_gets.specs.Watchers.{TellsEach}
+use Rattle.flat_gets.specs.declared.watching.Watchers.{Watchers}
+use Rattle.flat_gets.specs.Watchers.{TellsEach, WatchedUpTo}
 use Rattle.flat_states.proofs.lemmas.Counts.{at-session}
 use Rattle.flat_gets.proofs.SettleSteps.{settled-counted, settled-each, settled-length, settled-posted}
-use Rattle.flat_gets.proofs.WatchLists.{list-known, views_test, viewports_test}
+use Rattle.flat_gets.proofs.WatchLists.{views-known, viewports-known}
 use Rattle.flat_gets.proofs.watching.Watchers.settle.Goals as goal
+
+-- the lists of the session that is told stand by its pairs as they were
+own-lists : (setup : Setup) (n : ℕ) (after before : List Entry) (own : Watchers) → WatchedUpTo setup n after before own → (s : SessionNo) (from : KeptGets) → 0 < s.0 → s.0 ≤ length own.sessions.items → from ≡ slice_index_or own.sessions.items (s.0 - 1) from → AreListed setup s own.pairs.items from
+own-lists setup n after before own are s from some within is = at-session (λ t one. AreListed setup t own.pairs.items one) own.sessions.items s from are.listed some within is
 
 pub tell_each-layouts-requires-clause-known : goal.tell_each-layouts-requires-clause-known
 tell_each-layouts-requires-clause-known g c =
-    let from = c.index_mut-session.result.now in
     let w = c.requires.watched in
-    let setup = w.0 in
-    let s = c.args.s in
-    let are = w.1.1.1.1 in
-    let pairs = c.args.self.now.pairs.items in
-    let lists : AreListed setup s pairs from = at-session (λ t one. AreListed setup t pairs one) c.args.self.now.sessions.items s from are.listed (c.requires.some c.if-closed.false) (c.requires.within c.if-closed.false) c.index_mut-session.ensures.value in
-    let known = list-known (owns_view setup s) (views_test s) setup.pairs view_waits (length pairs) (sym are.count) pairs from.views lists.views in
-    subst (λ (l : List PairNo). All (λ q. q.0 < length pairs) l) (sym c.views.ensures.value) known
+    let own = c.args.self.now in
+    let from = c.index_mut-session.result.now in
+    let lists = own-lists w.0 w.1.0 w.1.1.0 w.1.1.1.0 own w.1.1.1.1 c.args.s from (c.requires.some c.if-closed.false) (c.requires.within c.if-closed.false) c.index_mut-session.ensures.value in
+    subst (λ (l : List PairNo). All (λ q. q.0 < length own.pairs.items) l) (sym c.views.ensures.value) (views-known w.0 c.args.s (length own.pairs.items) (sym w.1.1.1.1.count) own.pairs.items from lists)
 
 pub tell_each-statuses-requires-clause-known : goal.tell_each-statuses-requires-clause-known
 tell_each-statuses-requires-clause-known g c =
-    let from = c.index_mut-session.result.now in
     let w = c.requires.watched in
-    let setup = w.0 in
-    let s = c.args.s in
-    let are = w.1.1.1.1 in
-    let pairs = c.args.self.now.pairs.items in
-    let lists : AreListed setup s pairs from = at-session (λ t one. AreListed setup t pairs one) c.args.self.now.sessions.items s from are.listed (c.requires.some c.if-closed.false) (c.requires.within c.if-closed.false) c.index_mut-session.ensures.value in
-    let known = list-known (owns_view setup s) (views_test s) setup.pairs view_waits (length c.tell_each-layouts.new.pairs.items) (sym are.count ∙ sym c.tell_each-layouts.ensures.count) pairs from.views lists.views in
-    subst (λ (l : List PairNo). All (λ q. q.0 < length c.tell_each-layouts.new.pairs.items) l) (sym c.views-2.ensures.value) known
+    let own = c.args.self.now in
+    let from = c.index_mut-session.result.now in
+    let lists = own-lists w.0 w.1.0 w.1.1.0 w.1.1.1.0 own w.1.1.1.1 c.args.s from (c.requires.some c.if-closed.false) (c.requires.within c.if-closed.false) c.index_mut-session.ensures.value in
+    let n = length c.tell_each-layouts.new.pairs.items in
+    subst (λ (l : List PairNo). All (λ q. q.0 < n) l) (sym c.views-2.ensures.value) (views-known w.0 c.args.s n (sym w.1.1.1.1.count ∙ sym c.tell_each-layouts.ensures.count) own.pairs.items from lists)
 
 pub tell_each-children-requires-clause-known : goal.tell_each-children-requires-clause-known
 tell_each-children-requires-clause-known g c =
-    let from = c.index_mut-session.result.now in
     let w = c.requires.watched in
-    let setup = w.0 in
-    let s = c.args.s in
-    let are = w.1.1.1.1 in
-    let pairs = c.args.self.now.pairs.items in
-    let lists : AreListed setup s pairs from = at-session (λ t one. AreListed setup t pairs one) c.args.self.now.sessions.items s from are.listed (c.requires.some c.if-closed.false) (c.requires.within c.if-closed.false) c.index_mut-session.ensures.value in
-    let count : length setup.pairs ≡ length c.tell_each-statuses.new.pairs.items = sym are.count ∙ sym c.tell_each-layouts.ensures.count ∙ sym c.tell_each-statuses.ensures.count in
-    let known = list-known (owns_viewport setup s) (viewports_test s) setup.pairs viewport_waits (length c.tell_each-statuses.new.pairs.items) count pairs from.viewports lists.viewports in
-    subst (λ (l : List PairNo). All (λ q. q.0 < length c.tell_each-statuses.new.pairs.items) l) (sym c.viewports.ensures.value) known
+    let own = c.args.self.now in
+    let from = c.index_mut-session.result.now in
+    let lists = own-lists w.0 w.1.0 w.1.1.0 w.1.1.1.0 own w.1.1.1.1 c.args.s from (c.requires.some c.if-closed.false) (c.requires.within c.if-closed.false) c.index_mut-session.ensures.value in
+    let n = length c.tell_each-statuses.new.pairs.items in
+    subst (λ (l : List PairNo). All (λ q. q.0 < n) l) (sym c.viewports.ensures.value) (viewports-known w.0 c.args.s n (sym w.1.1.1.1.count ∙ sym c.tell_each-layouts.ensures.count ∙ sym c.tell_each-statuses.ensures.count) own.pairs.items from lists)
 
 pub returns-clause-settled : goal.returns-clause-settled
 returns-clause-settled g c = λ opened setup history stands.
