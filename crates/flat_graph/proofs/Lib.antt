@@ -1,4 +1,6 @@
 pub mod Soundness
+pub mod Refusals
+pub mod Children
 pub mod Standing
 pub mod StandingCalls
 pub mod StandingReasons

@@ -68,6 +68,10 @@ pair_tests graph parent child =
     (parent == 0 || child == 0, ZeroId)
     ∷ (is_none (key_named graph.names parent) || is_none (key_named graph.names child), UnknownTransform) ∷ []
 
+-- what is asked of a key that is to be one of these children
+abbrev pub child_tests : List ℕ → ℕ → List Test
+child_tests children key = (list_any (λ other. other == key) children, AlreadyChild) ∷ (is_full CHILDREN_MAX children, TooManyChildren) ∷ []
+
 abbrev pub add_tests : GraphState → ℕ → ℕ → List Test
 add_tests graph parent child =
     pair_tests graph parent child ++ (is_child graph parent child, AlreadyChild)

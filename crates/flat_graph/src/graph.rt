@@ -8,7 +8,7 @@ ghost use Rattle.flat_graph.specs.State.{GraphState, IsGraph, IsKept, node_at};
 use crate::names::{
     Named, add_name, has_twice, has_unknown, has_zero, key_of, keys_of, remove_name,
 };
-use crate::nodes::{GraphNode, fresh, has_key, keep_marked, take_key};
+use crate::nodes::{GraphNode, add_key, fresh, keep_marked, take_key};
 use flat_base::{CHILDREN_MAX, NAMED_MAX, Reason, TransformId};
 use flat_scene::GraphFault;
 use slab::Slab;
@@ -237,16 +237,7 @@ impl Graph {
         let Some(node) = self.nodes.get_mut(over) else {
             return Err(GraphFault::Bad(Reason::UnknownTransform));
         };
-        if has_key(node.children.as_slice(), under) {
-            return Err(GraphFault::Bad(Reason::AlreadyChild));
-        }
-        if node.children.len() >= CHILDREN_MAX as usize {
-            return Err(GraphFault::Bad(Reason::TooManyChildren));
-        }
-        if node.children.push(under).is_err() {
-            return Err(GraphFault::Memory);
-        }
-        Ok(())
+        add_key(&mut node.children, under)
     }
 
     /// Takes a transform from the children of another.
@@ -269,10 +260,9 @@ impl Graph {
         let Some(node) = self.nodes.get_mut(over) else {
             return Err(GraphFault::Bad(Reason::UnknownTransform));
         };
-        if !has_key(node.children.as_slice(), under) {
+        if !take_key(alloc, &mut node.children, under) {
             return Err(GraphFault::Bad(Reason::NotChild));
         }
-        take_key(alloc, &mut node.children, under);
         Ok(())
     }
 

@@ -10,7 +10,7 @@ use flat_base::{Items, NoMemory, TransformId};
 use std::alloc::Global;
 
 /// An id, and the key of the node that it names.
-#[derive(Clone, Copy, Debug, PartialEq, Eq)]
+#[derive(Clone, Copy)]
 pub struct Named {
     pub id: u64,
     pub key: usize,

@@ -1,12 +1,14 @@
 ghost use Rattle.std.specs.Prelude.{ℕ, ◌≡◌, ◌==◌, ◌+◌, ◌<◌, ◌^◌, cond, not, filter, is_some};
-ghost use Rattle.std.specs.Prelude.{length, map, slice_set, None};
+ghost use Rattle.std.specs.Prelude.{length, map, slice_set, None, [], ◌∷◌, ◌++◌, OnOk, OnErr, IfErr, IsTrue, IsFalse};
 ghost use Rattle.std.specs.List.{list_any};
 ghost use Rattle.std.specs.Option.{option_map};
 ghost use Rattle.slab.specs.Slab.{get, slab_len, ContainsKey};
+ghost use Rattle.flat_scene.specs.Misuse.{first_reason};
+ghost use Rattle.flat_graph.specs.Reasons.{child_tests, IsFault};
 ghost use Rattle.flat_graph.specs.State.{held_but, marked_nodes, new_node, without_content};
 
-use flat_base::{IntRect, Items, ONE, OPACITY_MAX, Orientation};
-use flat_scene::{Held, RegionList};
+use flat_base::{CHILDREN_MAX, IntRect, Items, ONE, OPACITY_MAX, Orientation, Reason};
+use flat_scene::{GraphFault, Held, RegionList};
 use slab::Slab;
 use std::alloc::Global;
 use std::mem;
@@ -56,13 +58,40 @@ pub fn has_key(keys: &[usize], key: usize) -> bool
     keys.iter().any(|other| *other == key)
 }
 
-/// Takes a key from a list. It takes no memory.
-pub fn take_key(alloc: Global, keys: &mut KeyList, key: usize)
-    ensures { keys.new ≡ filter (λ other. not (other == key)) keys.old }
+/// Appends a key to the children of a node, behind the others, or says why it may not.
+///
+/// `Bad` is AlreadyChild or TooManyChildren.
+pub fn add_key(children: &mut KeyList, key: usize) -> Result<(), GraphFault>
+    ensures added { OnOk result (children.new ≡ children.old ++ key ∷ []) }
+    ensures allowed { OnOk result (first_reason (child_tests children.old key) ≡ None) }
+    ensures fault { IfErr result (IsFault (child_tests children.old key)) }
+    ensures kept { OnErr result (children.new ≡ children.old) }
 {
+    if has_key(children.as_slice(), key) {
+        return Err(GraphFault::Bad(Reason::AlreadyChild));
+    }
+    if children.len() >= CHILDREN_MAX as usize {
+        return Err(GraphFault::Bad(Reason::TooManyChildren));
+    }
+    if children.push(key).is_err() {
+        return Err(GraphFault::Memory);
+    }
+    Ok(())
+}
+
+/// Takes a key from a list, and answers whether it stood there. It takes no memory.
+pub fn take_key(alloc: Global, keys: &mut KeyList, key: usize) -> bool
+    ensures found { result ≡ list_any (λ other. other == key) keys.old }
+    ensures taken { IsTrue result → keys.new ≡ filter (λ other. not (other == key)) keys.old }
+    ensures kept { IsFalse result → keys.new ≡ keys.old }
+{
+    if !has_key(keys.as_slice(), key) {
+        return false;
+    }
     let mut inner = mem::replace(keys, Items::new(alloc)).into_vec();
     inner.retain(|other| *other != key);
     *keys = Items::from_vec(inner);
+    true
 }
 
 /// What a node holds, but for the content of that number.

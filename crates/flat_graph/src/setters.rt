@@ -5,7 +5,7 @@ ghost use Rattle.flat_graph.specs.State.{IsKept};
 
 use crate::graph::Graph;
 use crate::nodes::drop_held;
-use crate::shapes::{has_bad_area, is_bad_area, is_bad_scale};
+use crate::shapes::{has_bad_area, has_bad_scale, is_bad_area};
 use flat_base::{HIT_REGIONS_MAX, IntRect, OPACITY_MAX, Orientation, Reason, TransformId};
 use flat_scene::{GraphFault, Held, HitRegion, RegionList};
 
@@ -61,7 +61,7 @@ impl Graph {
         ensures kept { OnErr result (self.new ≡ self.old) }
     {
         let key = self.key(t)?;
-        if is_bad_scale(x) || is_bad_scale(y) {
+        if has_bad_scale(x, y) {
             return Err(GraphFault::Bad(Reason::BadScale));
         }
         if let Some(node) = self.nodes.get_mut(key) {

@@ -1,4 +1,4 @@
-ghost use Rattle.std.specs.Prelude.{◌≡◌, ◌+ℤ◌, ◌^◌, ◌-◌};
+ghost use Rattle.std.specs.Prelude.{◌≡◌, ◌||◌, ◌+ℤ◌, ◌^◌, ◌-◌};
 ghost use Rattle.std.specs.List.{list_any};
 ghost use Rattle.flat_scene.specs.Misuse as misuse;
 
@@ -6,10 +6,17 @@ use flat_base::{IntRect, SCALE_MAX};
 use flat_scene::HitRegion;
 
 /// A scale of nothing, or above the limit.
-pub fn is_bad_scale(scale: u32) -> bool
+fn is_bad_scale(scale: u32) -> bool
     ensures { result ≡ misuse.is_bad_scale scale }
 {
     scale == 0 || scale > SCALE_MAX
+}
+
+/// One of two scales is nothing, or above the limit.
+pub fn has_bad_scale(x: u32, y: u32) -> bool
+    ensures { result ≡ misuse.is_bad_scale x || misuse.is_bad_scale y }
+{
+    is_bad_scale(x) || is_bad_scale(y)
 }
 
 /// The end of a side is above the largest i32.
