@@ -1,7 +1,8 @@
 -- Seats at home.
 use Rattle.std.proofs.Common.{◌≡◌, ℕ, ◌<◌, List, [], ◌∷◌, get_or, set, drop, length, sym, refl, ap, ◌∙◌, subst, ⊎_elim, ◌⊎◌, inl, inr, Option, Some, None, true, false, length-set, zero, suc, arith}
-use Rattle.std.specs.Prelude.{slice_get, IfSome}
-use Rattle.flat_lock.specs.Seats.{LockView, SeatView, BelongsAt, AreInOrder, all_home}
+use Rattle.std.specs.Prelude.{slice_get, IfSome, IfNone}
+use Rattle.std.proofs.lemmas.List.{set-get_or}
+use Rattle.flat_lock.specs.Seats.{LockView, SeatView, SeatsView, BelongsAt, AreInOrder, all_home}
 
 module _ {X : Type 0} where
   pub some-injective : (x y : X) → Some x ≡ Some y → x ≡ y
@@ -22,6 +23,20 @@ module _ {X : Type 0} where
   got_found (y ∷ ys) (suc i) x e = got_found ys i x e
 
 module _ {E F : Type 0} where
+  abbrev with_seats : LockView F → List (Option (SeatView E F)) → SeatsView E F
+  with_seats lock seats = record { lock = lock; seats = seats }
+
+  -- the seats after a change at one place
+  pub seats_with : (lock : LockView F) (seats : List (Option (SeatView E F))) (i : ℕ) (after home : Option (SeatView E F)) → after ≡ home
+      → with_seats lock (set seats i after) ≡ with_seats lock (set seats i home)
+  seats_with lock seats i after home e = ap (λ (o : Option (SeatView E F)). with_seats lock (set seats i o)) e
+
+  -- where no seat was at home, nothing changes
+  pub none_taken : (lock : LockView F) (seats : List (Option (SeatView E F))) (i : ℕ) (home result after : Option (SeatView E F)) → result ≡ home → home ≡ get_or seats i None → after ≡ None
+      → IfNone result (with_seats lock (set seats i after) ≡ with_seats lock seats)
+  none_taken lock seats i home None after same there away = ap (with_seats lock) (ap (set seats i) (away ∙ same ∙ there) ∙ set-get_or seats i None)
+  none_taken lock seats i home (Some s) after same there away = tt
+
   in_order_set : (lock : LockView F) (seats : List (Option (SeatView E F))) (i : ℕ) (o : Option (SeatView E F)) → AreInOrder lock seats
       → ((s : SeatView E F) → o ≡ Some s → BelongsAt lock i s) → AreInOrder lock (set seats i o)
   in_order_set lock seats i o order new = record {
