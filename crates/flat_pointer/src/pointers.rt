@@ -13,7 +13,7 @@ use std::marker::Model;
 pub const POINTERS: u8 = 16;
 
 /// The answer to a line of a pointer.
-#[derive(Clone, Copy, Debug, PartialEq, Eq)]
+#[derive(Clone, Copy, PartialEq, Eq)]
 pub enum PointerAnswer {
     /// The pointer went down, and its stream goes to that session.
     Down(SessionNo),

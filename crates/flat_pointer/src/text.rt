@@ -16,7 +16,7 @@ use flat_scene::{FrameOut, HitList, ViewTree};
 use std::alloc::Global;
 
 /// What a pointer does, at a point of the display in units.
-#[derive(Clone, Copy, Debug, PartialEq, Eq)]
+#[derive(Clone, Copy, PartialEq, Eq)]
 pub enum PointerCall {
     Down { x: i32, y: i32 },
     Move { x: i32, y: i32 },
@@ -24,7 +24,7 @@ pub enum PointerCall {
 }
 
 /// A line of a pointer.
-#[derive(Clone, Copy, Debug, PartialEq, Eq)]
+#[derive(Clone, Copy, PartialEq, Eq)]
 pub struct PointerLine {
     /// The number of the line.
     pub number: u32,
