@@ -1,5 +1,5 @@
 -- The canonical text of a script: the words of each of its lines.
-use Rattle.std.specs.Prelude.{◌≡◌, ℕ, ◌+◌, ◌-◌, ◌==◌, ◌≤◌, Bool, ◌&&◌, List, [], ◌∷◌, ◌++◌, Option, Some, None, map, take, codes, if◌then◌else◌}
+use Rattle.std.specs.Prelude.{◌≡◌, ℕ, ◌+◌, ◌-◌, ◌==◌, ◌≤◌, Bool, true, false, ◌&&◌, List, [], ◌∷◌, ◌++◌, Option, Some, None, map, take, codes, if◌then◌else◌}
 use Rattle.std.specs.List.{flat_map}
 use Rattle.std.specs.Option.{option_map_or}
 use Rattle.std.specs.Fmt.{decimal, signed_decimal}
@@ -140,24 +140,24 @@ call_fields s (call.SetInfiniteHitRegion t i) = numbers (t.0 ∷ interaction_num
 call_fields s (call.SetContent t c) = numbers (t.0 ∷ c.0 ∷ [])
 call_fields s call.Clear = []
 
--- a call's fields, where others than up to three numbers are among them
-abbrev pub longer_fields : Script → Call → List Word
-longer_fields s (call.CreateView p) = pair_word s p ∷ []
-longer_fields s (call.SetTranslation t x y) = decimal t.0 ∷ signed_decimal x ∷ signed_decimal y ∷ []
-longer_fields s (call.SetClipBoundary t r) = decimal t.0 ∷ option_map_or rect_words r []
-longer_fields s (call.ReplaceChildren p ks) = decimal p.0 ∷ map (λ k. decimal k.0) ks
-longer_fields s (call.CreateViewport c p w h i) = decimal c.0 ∷ pair_word s p ∷ numbers (w ∷ h ∷ []) ++ inset_unless_none i
-longer_fields s (call.SetViewportProperties c w h i) = numbers (c.0 ∷ w ∷ h ∷ []) ++ option_map_or inset_words i []
-longer_fields s (call.CreateImage c b i w h) = decimal c.0 ∷ buffers_word s b ∷ numbers (i ∷ w ∷ h ∷ [])
-longer_fields s (call.SetImageSampleRegion c r) = decimal c.0 ∷ rect_words r
-longer_fields s (call.SetSolidFill c r g b a w h) = numbers (c.0 ∷ r ∷ g ∷ b ∷ a ∷ w ∷ h ∷ [])
-longer_fields s (call.SetHitRegions t r) = decimal t.0 ∷ flat_map region_words r
-longer_fields s _ = []
+-- whether a call has others than up to three numbers
+abbrev pub is_longer : Call → Bool
+is_longer (call.CreateView p) = true
+is_longer (call.SetTranslation t x y) = true
+is_longer (call.SetClipBoundary t r) = true
+is_longer (call.ReplaceChildren p ks) = true
+is_longer (call.CreateViewport c p w h i) = true
+is_longer (call.SetViewportProperties c w h i) = true
+is_longer (call.CreateImage c b i w h) = true
+is_longer (call.SetImageSampleRegion c r) = true
+is_longer (call.SetSolidFill c r g b a w h) = true
+is_longer (call.SetHitRegions t r) = true
+is_longer _ = false
 
--- these are a call's fields if so many of three numbers are, and else they are the longer ones
+-- a call that has up to three numbers and no other, so many of these three, or else a longer one
 abbrev pub IsFew : Option (ℕ × ℕ × ℕ × ℕ) → Call → Type 0
 IsFew (Some few) c = (few.0 ≤ 3) × ((s : Script) → call_fields s c ≡ numbers (take few.0 (few.1 ∷ few.2 ∷ few.3 ∷ [])))
-IsFew None c = (s : Script) → call_fields s c ≡ longer_fields s c
+IsFew None c = is_longer c ≡ true
 
 -- the name of a call
 abbrev pub call_name : Call → CallName

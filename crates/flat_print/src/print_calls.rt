@@ -1,11 +1,11 @@
-ghost use Rattle.std.specs.Prelude.{◌≡◌, ◌++◌, ◌∷◌, [], OnOk, map};
+ghost use Rattle.std.specs.Prelude.{◌≡◌, ◌++◌, ◌∷◌, [], OnOk, map, true};
 ghost use Rattle.std.specs.Fmt.{decimal, signed_decimal};
 ghost use Rattle.std.specs.List.{flat_map};
 ghost use Rattle.std.specs.Option.{option_map_or};
 ghost use Rattle.flat_print.specs.Print.{numbers, pair_word, buffers_word};
 ghost use Rattle.flat_print.specs.Print.{rect_words, inset_words, inset_unless_none, region_words};
 ghost use Rattle.flat_print.specs.Print.{Writes, call_name, call_fields, call_words};
-ghost use Rattle.flat_print.specs.Print.{IsFew, longer_fields};
+ghost use Rattle.flat_print.specs.Print.{IsFew, is_longer};
 
 use crate::print_words::{
     blend_number, flip_number, interaction_number, orientation_number, push_inset_if_any,
@@ -115,7 +115,8 @@ fn few_of(call: &Call) -> Option<(usize, u64, u64, u64)>
 
 /// The fields of a call that has others than up to three numbers.
 fn push_longer(out: &mut Vec<u8>, script: &Script, call: &Call) -> Result<(), NoMemory>
-    ensures { OnOk result (Writes (longer_fields script.now call.now) out.old.items out.new.items) }
+    requires { is_longer call.now ≡ true }
+    ensures { OnOk result (Writes (call_fields script.now call.now) out.old.items out.new.items) }
 {
     match call {
         Call::CreateView { pair } => push_word(out, name_at(&script.pairs, pair.0 as usize)),
@@ -148,7 +149,7 @@ fn push_longer(out: &mut Vec<u8>, script: &Script, call: &Call) -> Result<(), No
             h,
         } => push_fill(out, c.0, *r, *g, *b, *a, *w, *h),
         Call::SetHitRegions { t, regions } => push_hit_regions(out, t.0, regions.as_slice()),
-        _ => Ok(()),
+        _ => unreachable!(),
     }
 }
 
