@@ -1,5 +1,5 @@
 -- What contracts see of a probe, and of what is published.
-use Rattle.std.specs.Prelude.{ℕ, ◌+◌, ◌≡◌, ◌⊎◌, List, [], ◌∷◌, ◌++◌, fold}
+use Rattle.std.specs.Prelude.{ℕ, ◌≡◌, ◌⊎◌, List, [], ◌∷◌, ◌++◌, fold}
 use Rattle.logbook.specs.Pages.{Book}
 use Rattle.flat_publish.specs.declared.frame.Frame.{Frame}
 

@@ -1,8 +1,7 @@
 -- The invariants of the public types.
-use Rattle.std.specs.Prelude.{ℕ, ◌≡◌, ◌≤◌, List, [], ◌∷◌, ◌++◌, Option, Some, None, IfSome, length, drop}
+use Rattle.std.specs.Prelude.{◌≡◌, ◌≤◌, Some, IfSome, length, drop}
 use mathlib.Core.List.{IsPrefix}
 use Rattle.left_right.specs.Sides.{view}
-use Rattle.logbook.specs.Pages.{Book}
 use Rattle.flat_publish.specs.declared.probe.Probe.TheInside as probe
 use Rattle.flat_publish.specs.declared.published.Published.TheInside as published
 use Rattle.flat_publish.specs.Frames.{last_number, IsRising}

@@ -127,9 +127,7 @@ fn seat_all(
     let mut all = Vec::new(alloc);
     for _ in 0..probes {
         let probe = seat(writer, seen)?;
-        if all.push(Some(probe)).is_err() {
-            return Err(NoMemory);
-        }
+        all.push(Some(probe))?;
     }
     Ok(all)
 }
