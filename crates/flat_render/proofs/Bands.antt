@@ -1,9 +1,9 @@
 -- Rows of tiles, drawn by the items that are seen there.
 use Rattle.std.proofs.Common.{ℕ, ℤ, ◌+◌, ◌*◌, ◌/◌, ◌%◌, ◌^◌, ◌<◌, ◌≤◌, ◌≡◌, refl, ap, ◌∙◌, sym, true, false, List, [], ◌∷◌, ◌++◌, length, get_or, take, drop, arith}
-use Rattle.std.proofs.lemmas.List.{get_or-map, get_or-take, get_or-drop, length-map, length-take, length-drop}
+use Rattle.std.proofs.lemmas.List.{get_or-map, get_or-take, get_or-drop, length-map, map-append, take_more, length-take, length-drop}
 use Rattle.std.proofs.lemmas.List.Elements.{All-nil, All-cons, All-append}
 use Rattle.std.proofs.lemmas.Grind.{fold-append}
-use Rattle.std.proofs.lemmas.Nat.{div-mul-add, mod-mul-add, div-add-mod', mul-add-lt, mul-le}
+use Rattle.std.proofs.lemmas.Nat.{div-mul-add, mod-mul-add, div-add-mod', mul-add-lt, mul-le, row_fits}
 use Rattle.flat_base.specs.declared.shapes.Rect.{Rect}
 use Rattle.flat_drawable.specs.Drawable.{IsDrawable}
 use Rattle.flat_geom.specs.Rectangles.{has_point}
@@ -59,6 +59,13 @@ rects-count items rects e = ap length e ∙ length-map items (λ it. it.visible)
 rect-there : (items : List DrawItem) (rects : List Rect) (n : ℕ) (d : DrawItem) (r : Rect) → rects ≡ rects_of items → n < length items → get_or rects n r ≡ (get_or items n d).visible
 rect-there items rects n d r e within = ap (λ (rs : List Rect). get_or rs n r) e ∙ get_or-map (λ it. it.visible) items n d r within
 
+-- one rectangle more
+pub rects-more : (items : List DrawItem) (i : ℕ) (d : DrawItem) (rects longer : List Rect) → i < length items → rects ≡ rects_of (take i items) → longer ≡ rects ++ (get_or items i d).visible ∷ []
+    → longer ≡ rects_of (take (i + 1) items)
+rects-more items i d rects longer there so_far more =
+    more ∙ ap (λ (rs : List Rect). rs ++ (get_or items i d).visible ∷ []) so_far ∙ sym (map-append (λ (item : DrawItem). item.visible) (take i items) (get_or items i d ∷ []))
+    ∙ ap rects_of (sym (take_more items i d there))
+
 -- where one misses a point, the item does
 pub rect-misses : (items : List DrawItem) (rects : List Rect) (n : ℕ) (d : DrawItem) (r : Rect) (x y : ℤ) → rects ≡ rects_of items → n < length items
     → has_point (get_or rects n r) x y ≡ false → has_point (get_or items n d).visible x y ≡ false
@@ -100,6 +107,20 @@ whole-bands g = grind arith
 
 pub tile-of-band : (g : Grid) (row n : ℕ) → row < g.down → n < g.across → row * g.across + n < tile_count g
 tile-of-band g row n low column = omega (arith, mul-add-lt row g.across n g.down low column)
+
+-- the bytes of a tile end within those of its row, which a number holds
+pub tile-in-band : (g : Grid) (n s all : ℕ) → IsGrid g → n < g.across → s ≡ tile_bytes g → all ≡ band_bytes g → (n * s + s ≤ all) × (all < 2 ^ 36)
+tile-in-band g n s all is column size whole =
+    let fits : n * s + s ≤ g.across * s = row_fits n s g.across s column (omega arith) in
+    let same : g.across * s ≡ band_bytes g = ap (λ (m : ℕ). g.across * m) size in
+    (omega (arith, fits, same), omega (arith, band-most g is))
+
+-- the same of all that is stored
+pub tile-in-grid : (g : Grid) (n s all : ℕ) → IsGrid g → n < tile_count g → s ≡ tile_bytes g → all ≡ grid_bytes g → (n * s + s ≤ all) × (all < 2 ^ 28)
+tile-in-grid g n s all is there size whole =
+    let fits : n * s + s ≤ tile_count g * s = row_fits n s (tile_count g) s there (omega arith) in
+    let same : tile_count g * s ≡ grid_bytes g = ap (λ (m : ℕ). tile_count g * m) size in
+    (omega (arith, fits, same), omega (arith, is.most))
 
 -- where a chunk begins
 pub chunk-start : (s z start offset i : ℕ) → z ≡ s → start % z ≡ 0 → start + offset ≡ i → start / z * s + offset ≡ i

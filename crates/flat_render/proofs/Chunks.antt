@@ -55,9 +55,26 @@ repainted-more h s old pixels line n z fits zs len so_far tile =
       above = λ i l. put-after (n * s) z pixels line i room size (omega arith) ∙ so_far.above i (omega arith);
     }
 
+-- all tiles
+pub repainted-all : (h : ℕ → ℕ → ℕ) (s : ℕ) (old pixels : List ℕ) (n m : ℕ) → IsRepaintedTo h s old pixels n → n ≡ m → length old ≡ m * s
+    → (i : ℕ) → i < length old → get_or pixels i 0 ≡ h i (get_or old i 0)
+repainted-all h s old pixels n m done same all i small = let e : n * s ≡ m * s = ap (λ (k : ℕ). k * s) same in done.below i (omega (arith, e))
+
 -- a part of a list, read at a place
 pub part-there : (a z : ℕ) (xs : List ℕ) (k : ℕ) → k < z → get_or (take z (drop a xs)) k 0 ≡ get_or xs (a + k) 0
 part-there a z xs k small = get_or-take z (drop a xs) k 0 small ∙ get_or-drop a xs k 0
+
+-- the part that is one tile's
+pub tile-part : (s : ℕ) (pixels : List ℕ) (n z : ℕ) → n * s + s ≤ length pixels → z ≡ s → length (take z (drop (n * s) pixels)) ≡ s
+tile-part s pixels n z fits same = simp (length-take, length-drop) (omega arith)
+
+-- it is black as long as only the tiles before it are changed
+pub tile-part-black : (h : ℕ → ℕ → ℕ) (s : ℕ) (old pixels : List ℕ) (n z : ℕ) → n * s + s ≤ length pixels → z ≡ s → length pixels ≡ length old
+    → IsRepaintedTo h s old pixels n → ((m : ℕ) → m < length old → get_or old m 0 ≡ 0)
+    → (k : ℕ) → k < length (take z (drop (n * s) pixels)) → get_or (take z (drop (n * s) pixels)) k 0 ≡ 0
+tile-part-black h s old pixels n z fits same long so_far black k small =
+    let len : length (take z (drop (n * s) pixels)) ≡ s = tile-part s pixels n z fits same in
+    part-there (n * s) z pixels k (omega (arith, len)) ∙ so_far.above (n * s + k) (omega arith) ∙ black (n * s + k) (omega (arith, len))
 
 -- a byte, drawn anew where a test holds of its pixel
 abbrev pub redrawn : List DrawItem → Grid → (ℕ → ℕ → Bool) → ℕ → ℕ → ℕ

@@ -55,7 +55,8 @@ fn draw_each(items: &[DrawItem], grid: &Grid, row: usize, bytes: &mut [u8])
 {
     let size = bytes_of_tiles(grid);
     for n in 0..grid.across {
-        let bytes_of_tile = &mut bytes[n * size..n * size + size];
+        let start = n * size;
+        let bytes_of_tile = &mut bytes[start..start + size];
         draw(items, tile(grid, row * grid.across + n), bytes_of_tile);
     }
 }
@@ -80,7 +81,8 @@ fn draw_picked(
 {
     let size = bytes_of_tiles(grid);
     for n in 0..grid.across {
-        let bytes_of_tile = &mut bytes[n * size..n * size + size];
+        let start = n * size;
+        let bytes_of_tile = &mut bytes[start..start + size];
         let tile = tile(grid, row * grid.across + n);
         draw_tile(alloc, items, lists[n].as_slice(), tile, bytes_of_tile);
     }

@@ -62,7 +62,8 @@ fn redraw_tiles(items: &[DrawItem], grid: &Grid, window: Area, bytes: &mut [u8])
 {
     let size = bytes_of_tiles(grid);
     for n in 0..count_of_tiles(grid) {
-        let bytes_of_tile = &mut bytes[n * size..n * size + size];
+        let start = n * size;
+        let bytes_of_tile = &mut bytes[start..start + size];
         draw_anew(items, tile(grid, n), window, bytes_of_tile);
     }
 }

@@ -3,9 +3,10 @@ use Rattle.std.proofs.lemmas.List.{length-take, length-drop}
 use Rattle.std.proofs.lemmas.Nat.{row_fits}
 use Rattle.flat_render.specs.Grids.{band_bytes}
 use Rattle.flat_render.specs.Stored.{drawn_in, drawn_at}
+use Rattle.flat_render.specs.Tiles.{pixels_of}
 use Rattle.flat_render.specs.declared.tile.Tile.{Tile}
-use Rattle.flat_render.proofs.Bands.{tile-of-band, tile-of-row}
-use Rattle.flat_render.proofs.Chunks.{repainted-more}
+use Rattle.flat_render.proofs.Bands.{tile-in-band, tile-of-band, tile-of-row}
+use Rattle.flat_render.proofs.Chunks.{repainted-more, tile-part, tile-part-black}
 use Rattle.flat_render.proofs.Places.{count-most}
 use Rattle.flat_render.proofs.band.draw_each.Goals as goal
 
@@ -30,3 +31,28 @@ loop-n-preserved c =
     ∙ ap (λ (t : Tile). drawn_in t c.args.items.now k) c.tile.ensures.value
     ∙ tile-of-row c.args.grid.now c.requires.grid c.args.row n c.loop-n-test.true c.args.items.now k (omega (arith, c.bytes_of_tiles-size.ensures, small))
     ∙ ap (λ (m : ℕ). drawn_at c.args.grid.now c.args.items.now (c.args.row * band_bytes c.args.grid.now + (n * m + k))) (sym c.bytes_of_tiles-size.ensures))
+
+pub overflow_mul-start : goal.overflow_mul-start
+overflow_mul-start c =
+    omega (arith, tile-in-band c.args.grid.now c.loop-n.n c.bytes_of_tiles-size.result _ c.requires.grid c.loop-n-test.true c.bytes_of_tiles-size.ensures c.requires.size)
+
+pub overflow_add-bytes_of_tile : goal.overflow_add-bytes_of_tile
+overflow_add-bytes_of_tile c =
+    omega (arith, tile-in-band c.args.grid.now c.loop-n.n c.bytes_of_tiles-size.result _ c.requires.grid c.loop-n-test.true c.bytes_of_tiles-size.ensures c.requires.size)
+
+pub slice_bounds-bytes_of_tile-end : goal.slice_bounds-bytes_of_tile-end
+slice_bounds-bytes_of_tile-end c =
+    omega (arith, c.loop-n.auto.bytes, tile-in-band c.args.grid.now c.loop-n.n c.bytes_of_tiles-size.result _ c.requires.grid c.loop-n-test.true c.bytes_of_tiles-size.ensures c.requires.size)
+
+pub tile-requires-clause-there : goal.tile-requires-clause-there
+tile-requires-clause-there c = tile-of-band c.args.grid.now c.args.row c.loop-n.n c.requires.row c.loop-n-test.true
+
+pub draw-requires-clause-size : goal.draw-requires-clause-size
+draw-requires-clause-size c =
+    let fits = (tile-in-band c.args.grid.now c.loop-n.n c.bytes_of_tiles-size.result (length c.loop-n.bytes) c.requires.grid c.loop-n-test.true c.bytes_of_tiles-size.ensures (c.loop-n.auto.bytes ∙ c.requires.size)).0 in
+    tile-part c.bytes_of_tiles-size.result c.loop-n.bytes c.loop-n.n _ fits (omega arith) ∙ c.bytes_of_tiles-size.ensures ∙ ap (λ (t : Tile). 3 * pixels_of t) (sym c.tile.ensures.value)
+
+pub draw-requires-clause-black : goal.draw-requires-clause-black
+draw-requires-clause-black c =
+    let fits = (tile-in-band c.args.grid.now c.loop-n.n c.bytes_of_tiles-size.result (length c.loop-n.bytes) c.requires.grid c.loop-n-test.true c.bytes_of_tiles-size.ensures (c.loop-n.auto.bytes ∙ c.requires.size)).0 in
+    tile-part-black _ c.bytes_of_tiles-size.result c.args.bytes.now c.loop-n.bytes c.loop-n.n _ fits (omega arith) c.loop-n.auto.bytes c.loop-n.invariant c.requires.black

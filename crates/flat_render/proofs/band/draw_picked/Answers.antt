@@ -4,11 +4,11 @@ use Rattle.std.proofs.lemmas.List.{length-take, length-drop}
 use Rattle.std.proofs.lemmas.Nat.{row_fits}
 use Rattle.flat_render.specs.Bands.{IsChoice}
 use Rattle.flat_render.specs.Grids.{band_bytes, tile_of}
-use Rattle.flat_render.specs.Tiles.{tile_area}
+use Rattle.flat_render.specs.Tiles.{pixels_of, tile_area}
 use Rattle.flat_render.specs.Stored.{drawn_in, drawn_at}
 use Rattle.flat_render.specs.declared.tile.Tile.{Tile}
-use Rattle.flat_render.proofs.Bands.{tile-of-band, tile-of-row}
-use Rattle.flat_render.proofs.Chunks.{repainted-more}
+use Rattle.flat_render.proofs.Bands.{tile-in-band, tile-of-band, tile-of-row}
+use Rattle.flat_render.proofs.Chunks.{repainted-more, tile-part, tile-part-black}
 use Rattle.flat_render.proofs.Places.{count-most}
 use Rattle.flat_render.proofs.band.draw_picked.Goals as goal
 
@@ -41,3 +41,28 @@ draw_tile-requires-clause-places c =
     (subst (λ (places : List ℕ). IsChoice (tile_area (tile_of c.args.grid.now n)) c.args.items.now places (length c.args.items.now)) (sym c.as_slice.ensures.value)
     (subst (λ (list : Vec ℕ Global). IsChoice (tile_area (tile_of c.args.grid.now n)) c.args.items.now list.items (length c.args.items.now)) (sym c.index-lists-n.is)
     (c.requires.lists.serve c.loop-n.n c.index-lists-n.result c.loop-n-test.true)))
+
+pub overflow_mul-start : goal.overflow_mul-start
+overflow_mul-start c =
+    omega (arith, tile-in-band c.args.grid.now c.loop-n.n c.bytes_of_tiles-size.result _ c.requires.grid c.loop-n-test.true c.bytes_of_tiles-size.ensures c.requires.size)
+
+pub overflow_add-bytes_of_tile : goal.overflow_add-bytes_of_tile
+overflow_add-bytes_of_tile c =
+    omega (arith, tile-in-band c.args.grid.now c.loop-n.n c.bytes_of_tiles-size.result _ c.requires.grid c.loop-n-test.true c.bytes_of_tiles-size.ensures c.requires.size)
+
+pub slice_bounds-bytes_of_tile-end : goal.slice_bounds-bytes_of_tile-end
+slice_bounds-bytes_of_tile-end c =
+    omega (arith, c.loop-n.auto.bytes, tile-in-band c.args.grid.now c.loop-n.n c.bytes_of_tiles-size.result _ c.requires.grid c.loop-n-test.true c.bytes_of_tiles-size.ensures c.requires.size)
+
+pub tile-tile-requires-clause-there : goal.tile-tile-requires-clause-there
+tile-tile-requires-clause-there c = tile-of-band c.args.grid.now c.args.row c.loop-n.n c.requires.row c.loop-n-test.true
+
+pub draw_tile-requires-clause-size : goal.draw_tile-requires-clause-size
+draw_tile-requires-clause-size c =
+    let fits = (tile-in-band c.args.grid.now c.loop-n.n c.bytes_of_tiles-size.result (length c.loop-n.bytes) c.requires.grid c.loop-n-test.true c.bytes_of_tiles-size.ensures (c.loop-n.auto.bytes ∙ c.requires.size)).0 in
+    tile-part c.bytes_of_tiles-size.result c.loop-n.bytes c.loop-n.n _ fits (omega arith) ∙ c.bytes_of_tiles-size.ensures ∙ ap (λ (t : Tile). 3 * pixels_of t) (sym c.tile-tile.ensures.value)
+
+pub draw_tile-requires-clause-black : goal.draw_tile-requires-clause-black
+draw_tile-requires-clause-black c =
+    let fits = (tile-in-band c.args.grid.now c.loop-n.n c.bytes_of_tiles-size.result (length c.loop-n.bytes) c.requires.grid c.loop-n-test.true c.bytes_of_tiles-size.ensures (c.loop-n.auto.bytes ∙ c.requires.size)).0 in
+    tile-part-black _ c.bytes_of_tiles-size.result c.args.bytes.now c.loop-n.bytes c.loop-n.n _ fits (omega arith) c.loop-n.auto.bytes c.loop-n.invariant c.requires.black

@@ -17,3 +17,12 @@ returns-clause-others c = λ n px py small left right above below h.
     sym (c.area_of-area.ensures px py near low)
     ∙ not-left _ _ (beyond-columns c.area_of-area.result.x0 c.area_of-area.result.x1 c.args.grid.now.tile_w c.args.grid.now.across c.min.result n px c.requires.grid.tile_w
     (c.min.ensures ∙ ap (λ (ceil : ℕ). min ceil c.args.grid.now.across) c.div_ceil.ensures) small left right h)
+
+pub overflow_mul-top : goal.overflow_mul-top
+overflow_mul-top c = omega (arith, row_fits c.args.row c.args.grid.now.tile_h c.args.grid.now.down c.args.grid.now.tile_h c.requires.row (omega arith), c.requires.grid.most_bottom)
+
+pub overflow_add-top : goal.overflow_add-top
+overflow_add-top c = omega (arith, row_fits c.args.row c.args.grid.now.tile_h c.args.grid.now.down c.args.grid.now.tile_h c.requires.row (omega arith), c.requires.grid.most_bottom)
+
+pub is_beside-requires-clause-near : goal.is_beside-requires-clause-near
+is_beside-requires-clause-near c = omega (arith, row_fits c.args.row c.args.grid.now.tile_h c.args.grid.now.down c.args.grid.now.tile_h c.requires.row (omega arith), c.requires.grid.most_bottom)

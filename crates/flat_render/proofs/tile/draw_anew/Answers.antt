@@ -1,3 +1,5 @@
+use Rattle.std.proofs.lemmas.List.Elements.{All-drop, All-take}
+use Rattle.flat_drawable.specs.Drawable.{IsDrawable}
 use Rattle.std.proofs.Common.{ℕ, ◌≡◌, ◌<◌, ◌-◌, ◌∙◌, ◌&&◌, Bool, if◌then◌else◌, List, length, length-drop, take, drop, get_or, sym, ap, arith}
 use Rattle.std.proofs.lemmas.List.{take_all}
 use Rattle.flat_scene.specs.declared.frames.DrawItem.{DrawItem}
@@ -47,3 +49,6 @@ returns c = λ m small.
     black (get_or c.paint_all.new.bytes m 0) same
     (c.first_seen-first.ensures.same (channel_at c.args.tile m) px py) (c.blacken.ensures m small)
     (c.paint_all.ensures m there ∙ ap (λ (items : List DrawItem). if has_pixel c.common-cut.result px py then channel_after (channel_at c.args.tile m) items px py black else black) rest)
+
+pub paint_all-requires-clause-items : goal.paint_all-requires-clause-items
+paint_all-requires-clause-items c = All-take IsDrawable _ _ (All-drop IsDrawable c.first_seen-first.result c.args.items.now c.requires.items)

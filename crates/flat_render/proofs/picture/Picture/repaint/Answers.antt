@@ -1,5 +1,6 @@
-use Rattle.std.proofs.Common.{ℕ, ◌<◌, ◌≡◌, ◌∙◌, ap, List, if◌then◌else◌, length, get_or, arith}
+use Rattle.std.proofs.Common.{ℕ, ◌<◌, ◌≡◌, ◌∙◌, All, ap, subst, sym, List, if◌then◌else◌, length, get_or, arith}
 use Rattle.std.specs.Vec.{with_items}
+use Rattle.flat_drawable.specs.Drawable.{IsDrawable}
 use Rattle.std.proofs.lemmas.List.{with_items_is}
 use Rattle.flat_scene.specs.declared.frames.DrawItem.{DrawItem}
 use Rattle.flat_render.specs.Channels.{channel_after}
@@ -26,3 +27,9 @@ returns-clause-pixels c = λ x y hx hy.
     (drawn-place c.args.self.now.grid c.args.self.now.sides n x y low hx hy c.as_slice.result.now ∙ ap (λ (items : List DrawItem). channel_after n items x y 0) c.as_slice.ensures)
     (ap (λ (xs : List ℕ). get_or xs i 0) c.as_mut_slice.ensures.value)) in
     redrawn-channels (is_in_any c.args.rects.now x y) c.args.items.now x y _ _ _ _ _ _ (channel 0 (omega arith)) (channel 1 (omega arith)) (channel 2 (omega arith))
+
+pub redraw_rects-requires-clause-items : goal.redraw_rects-requires-clause-items
+redraw_rects-requires-clause-items c = subst (All IsDrawable) (sym c.as_slice.ensures) c.requires
+
+pub redraw_rects-requires-clause-size : goal.redraw_rects-requires-clause-size
+redraw_rects-requires-clause-size c = c.as_mut_slice.ensures.len ∙ c.args.self.now.filled
