@@ -70,6 +70,11 @@ impl ItemLines {
         }
     }
 
+    /// The room of its text, which may be used again.
+    pub(crate) fn into_room(self) -> Vec<u8> {
+        self.text
+    }
+
     /// The line of the item at a place, where it is this item.
     fn line_of(&self, place: usize, item: &DrawItem) -> Option<&[u8]>
         ensures { (script : Script) → AreLines script self.now →
