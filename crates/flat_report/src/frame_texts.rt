@@ -47,11 +47,7 @@ fn written(
 }
 
 /// Puts a text behind others.
-fn push_text(
-    alloc: Global,
-    texts: &mut VecDeque<Items<u8>>,
-    text: &[u8],
-) -> Result<(), NoMemory>
+fn push_text(alloc: Global, texts: &mut VecDeque<Items<u8>>, text: &[u8]) -> Result<(), NoMemory>
     ensures { OnOk result (texts.new.items ≡ texts.old.items ++ text.now ∷ []) }
 {
     let own = Vec::from_slice(alloc, text)?;

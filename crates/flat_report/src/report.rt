@@ -258,8 +258,12 @@ pub fn print_report(
 {
     let mut texts = frames.texts;
     let mut paged = PagedText::new(alloc);
-    paged.title(script.setup.version)?;
-    push_history(
+    let Ok(()) = paged.title(script.setup.version) else {
+        drop(paged);
+        drop(texts);
+        return Err(NoMemory);
+    };
+    let Ok(()) = push_history(
         &mut paged,
         script,
         journal,
@@ -267,6 +271,10 @@ pub fn print_report(
         lost,
         answers.as_slice(),
         probes,
-    )?;
+    ) else {
+        drop(paged);
+        drop(texts);
+        return Err(NoMemory);
+    };
     paged.into_pieces()
 }
