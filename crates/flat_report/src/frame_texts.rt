@@ -102,6 +102,13 @@ impl FrameTexts {
         Ok(())
     }
 
+    /// The texts alone.
+    pub(crate) fn into_texts(self) -> VecDeque<Items<u8>>
+        ensures { result.items ≡ self.texts.items }
+    {
+        self.texts
+    }
+
     /// The last frame, if there is one.
     pub fn last(&self) -> Option<&FrameOut>
         ensures { (script : Script) (frames : List FrameOut) → AreTexts script frames self.now →

@@ -94,13 +94,23 @@ impl PagedText {
         ensures { OnOk result (self.new ≡ self.old ++ text) }
     {
         if text.len() < PIECE_BYTES {
-            let mut page = mem::replace(&mut self.page, Page::Text(Vec::new(self.alloc)));
-            page.put(text.as_slice())?;
-            self.page = page;
-            return Ok(());
+            return self.copy(text.as_slice());
         }
-        end_page(self.alloc, &mut self.full, &mut self.page)?;
+        let Ok(()) = end_page(self.alloc, &mut self.full, &mut self.page) else {
+            drop(text);
+            return Err(NoMemory);
+        };
         self.full.push(text)?;
+        Ok(())
+    }
+
+    /// Puts a text on the page.
+    fn copy(&mut self, text: &[u8]) -> Result<(), NoMemory>
+        ensures { OnOk result (self.new ≡ self.old ++ text.now) }
+    {
+        let mut page = mem::replace(&mut self.page, Page::Text(Vec::new(self.alloc)));
+        page.put(text)?;
+        self.page = page;
         Ok(())
     }
 

@@ -256,7 +256,7 @@ pub fn print_report(
     ensures { IfOk result (λ text. text ≡ handed_report script.now journal.now.entries.items
         journal.now.posts.items frames.texts.items lost.now answers.now probes.now) }
 {
-    let mut texts = frames.texts;
+    let mut texts = frames.into_texts();
     let mut paged = PagedText::new(alloc);
     let Ok(()) = paged.title(script.setup.version) else {
         drop(paged);
