@@ -17,7 +17,7 @@ use flat_topology::{Placed, Scope};
 use std::alloc::Global;
 
 /// Where the child view of a pair is shown.
-#[derive(Clone, Copy, Debug)]
+#[derive(Clone, Copy)]
 pub struct Link {
     pub pair: usize,
     /// What the viewport hands on.
@@ -27,7 +27,7 @@ pub struct Link {
 }
 
 /// A part of what a session gives.
-#[derive(Clone, Copy, Debug)]
+#[derive(Clone, Copy)]
 pub enum Piece {
     /// An item of its own.
     Drawn(DrawItem),
