@@ -7,7 +7,7 @@ use flat_base::NoMemory;
 use std::alloc::Global;
 
 /// What a run of the load comes to.
-#[derive(Clone, Copy, Debug, PartialEq, Eq)]
+#[derive(Clone, Copy)]
 pub struct Totals {
     /// The load's number, that of the frames it asks for.
     pub load: u32,
