@@ -55,7 +55,7 @@ pub struct Placed {
 pub type PlacedList = Items<Placed>;
 
 /// A session that is connected to the display.
-#[derive(Clone, Copy, Debug, PartialEq, Eq)]
+#[derive(Clone, Copy)]
 pub struct Connected {
     pub session: SessionNo,
     /// The number of the placed viewport node, from 0, below which the session

@@ -17,7 +17,7 @@ use flat_snap::FlatNode;
 use std::alloc::Global;
 
 /// What a node hands on to the nodes below it.
-#[derive(Clone, Copy, Debug)]
+#[derive(Clone, Copy)]
 pub struct Scope {
     pub matrix: Matrix,
     pub clip: Rect,

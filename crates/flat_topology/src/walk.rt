@@ -21,7 +21,7 @@ use std::alloc::Global;
 
 /// Nodes of a session that stand side by side, with all below them, from a number
 /// to before another one.
-#[derive(Clone, Copy, Debug)]
+#[derive(Clone, Copy)]
 pub struct Stretch {
     pub session: SessionNo,
     /// How many views may be below one another there.

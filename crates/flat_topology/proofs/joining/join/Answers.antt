@@ -1,10 +1,15 @@
-use Rattle.std.proofs.Common.{◌≡◌, ◌<◌, ◌≤◌, ◌++◌, List, length, refl, sym, subst, ap, arith, length-append}
+use Rattle.std.proofs.Common.{◌≡◌, ◌<◌, ◌≤◌, ◌++◌, ◌∷◌, [], ◌∙◌, List, Option, length, refl, sym, subst, ap, arith, length-append}
 use Rattle.std.specs.List.{All}
-use Rattle.std.proofs.lemmas.List.{get_or_append_left}
+use Rattle.std.proofs.lemmas.List.{append-nil, get_or_append_left}
 use Rattle.flat_base.specs.declared.limits.TheConstants.{OPACITY_MAX}
 use Rattle.flat_scene.specs.declared.setup.Setup.{Setup}
+use Rattle.flat_base.specs.declared.shapes.Rect.{Rect}
+use Rattle.flat_scene.specs.declared.trees.Tree.{Tree}
+use Rattle.flat_topology.specs.declared.Connected.{Connected}
+use Rattle.flat_topology.specs.declared.Joined.{Joined}
 use Rattle.flat_topology.specs.declared.Placed.{Placed}
-use Rattle.flat_topology.specs.Walking.{still_placed}
+use Rattle.flat_topology.specs.declared.walk.Stretch.{Stretch}
+use Rattle.flat_topology.specs.Walking.{still_connected, still_placed}
 use Rattle.std.proofs.lemmas.List.Elements.{All-weaker}
 use Rattle.flat_topology.specs.declared.walk.Walk.{Walk}
 use Rattle.flat_topology.proofs.Opacities.{HasLowOpacity}
@@ -16,6 +21,28 @@ use Rattle.flat_topology.proofs.joining.join.Goals as goal
 -- what holds of all nodes holds of those that are placed already
 first-nodes : {A : Type 0} (P : A → Type 0) (xs ys all : List A) → xs ++ ys ≡ all → All P all → All P xs
 first-nodes P xs ys all is each = λ k d below. subst P (get_or_append_left xs ys d k below) ((subst (All P) (sym is) each) k d (omega (arith, below, length-append xs ys)))
+
+abbrev joined_of : Rect → List Placed → List Connected → Joined
+joined_of display nodes connected = record { display = display; nodes = nodes; connected = connected }
+
+-- where nothing is left, all is placed
+none_left : {A : Type 0} (xs : List A) → length xs ≡ 0 → xs ≡ []
+none_left [] e = refl
+none_left (x ∷ xs) e = absurd (omega (arith, e))
+
+all_placed : (shown : List (Option Tree)) (display whole : Rect) (nodes all : List Placed) (connected sessions : List Connected) (left : List Stretch) → display ≡ whole → nodes ++ still_placed shown left ≡ all
+    → connected ++ still_connected shown (length nodes) left ≡ sessions → length left ≡ 0
+    → joined_of display nodes connected ≡ joined_of whole all sessions
+all_placed shown display whole nodes all connected sessions left same placed told none =
+    let empty : left ≡ [] = none_left left none in
+    let each : nodes ≡ all = sym (append-nil nodes) ∙ ap (λ (l : List Stretch). nodes ++ still_placed shown l) (sym empty) ∙ placed in
+    let every : connected ≡ sessions = sym (append-nil connected) ∙ ap (λ (l : List Stretch). connected ++ still_connected shown (length nodes) l) (sym empty) ∙ told in
+    λ i. joined_of (same i) (each i) (every i)
+
+pub returns-clause-lists : goal.returns-clause-lists
+returns-clause-lists c =
+    all_placed c.args.shown.now c.whole_display.result _ c.loop-stretch.walk.nodes _ c.loop-stretch.walk.connected _ c.loop-stretch.walk.left.items
+    c.whole_display.ensures c.loop-stretch.invariant.placed c.loop-stretch.invariant.connected (omega (arith, c.in_default.ensures.cases.0, c.loop-stretch.walk.left.ok.0))
 
 pub place-requires-clause-room : goal.place-requires-clause-room
 place-requires-clause-room c =
