@@ -26,6 +26,7 @@ use flat_content::content_laws;
 use flat_core::{Board, EventList};
 use flat_draft::{Draft, draft_laws};
 use flat_scene::{BufferList, Call, CallList, Line, Reply};
+use flat_states::replies::closes;
 use std::alloc::Global;
 use std::mem;
 
@@ -176,7 +177,7 @@ impl Reader {
         match made.enter(board, self.session, number, calls, &mut self.events) {
             Ok(reply) => {
                 make(&mut self.draft, link);
-                self.closed = closes(&reply);
+                self.closed = closes(reply);
                 Ok(reply)
             }
             Err(calls) => {
@@ -224,15 +225,5 @@ fn drop_last(pending: &mut CallList, link: Option<Call>)
 {
     if link.is_some() {
         let _ = pending.pop();
-    }
-}
-
-/// Whether a reply closes its session.
-fn closes(reply: &Reply) -> bool
-    ensures { result ≡ closes reply.now }
-{
-    match reply {
-        Reply::Closed(_, _) => true,
-        _ => false,
     }
 }
