@@ -6,7 +6,7 @@ use std::error::Error;
 use std::fmt;
 
 /// The error with which a session is closed.
-#[derive(Clone, Copy, Debug, PartialEq, Eq)]
+#[derive(Clone, Copy, PartialEq, Eq)]
 pub enum FlatlandError {
     /// A call was misused. A [`Reason`] says how.
     BadOperation,

@@ -11,7 +11,7 @@ pub struct Rect {
 }
 
 /// A rectangle in whole units: its least corner, its width and its height.
-#[derive(Clone, Copy, Debug, PartialEq, Eq)]
+#[derive(Clone, Copy, PartialEq, Eq)]
 pub struct IntRect {
     pub x: i32,
     pub y: i32,

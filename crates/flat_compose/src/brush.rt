@@ -7,7 +7,7 @@ use flat_scene::{BlendMode, Content, Paint};
 use flat_topology::{Placed, through};
 
 /// What a content paints.
-#[derive(Clone, Copy, Debug)]
+#[derive(Clone, Copy)]
 pub struct Brush {
     /// The content's serial number.
     pub serial: u32,

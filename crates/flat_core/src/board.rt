@@ -52,7 +52,7 @@ pub struct Back {
 }
 
 /// A frame that began.
-#[derive(Clone, Copy, Debug)]
+#[derive(Clone, Copy)]
 pub struct Begun {
     /// Its number.
     pub frame: FrameNo,

@@ -12,7 +12,7 @@ use flat_text::{next_piece, word};
 use std::alloc::Global;
 
 /// Which lines are extra: by their second words.
-#[derive(Clone, Copy, Debug, PartialEq, Eq)]
+#[derive(Clone, Copy, PartialEq, Eq)]
 pub enum ExtraSet {
     /// `Focus`.
     Focus,

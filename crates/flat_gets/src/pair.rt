@@ -21,7 +21,7 @@ use std::alloc::Global;
 
 /// What of a pair is watched: the layout or the status of its view, or the child of its
 /// viewport.
-#[derive(Clone, Copy, Debug, PartialEq, Eq)]
+#[derive(Clone, Copy, PartialEq, Eq)]
 pub enum Part {
     Layout,
     Status,
@@ -42,7 +42,7 @@ impl Part {
 }
 
 /// A get of the child of an earlier use, which waits.
-#[derive(Clone, Copy, Debug, PartialEq, Eq)]
+#[derive(Clone, Copy, PartialEq, Eq)]
 pub struct FormerGet {
     pub get: Watch,
     /// What its watcher answered last.

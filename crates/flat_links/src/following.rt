@@ -1,7 +1,7 @@
 use flat_base::PairNo;
 
 /// What the begin of a frame saw of a session.
-#[derive(Clone, Copy, Debug, PartialEq, Eq)]
+#[derive(Clone, Copy, PartialEq, Eq)]
 pub struct Sight {
     pub closed: bool,
     /// How many of its presents frames had taken.
@@ -13,7 +13,7 @@ pub struct Sight {
 }
 
 /// What is kept of a session for the ends that it owns.
-#[derive(Clone, Copy, Debug, PartialEq, Eq)]
+#[derive(Clone, Copy, PartialEq, Eq)]
 pub struct Following {
     /// The pair of the view that its calls leave it.
     pub view: Option<PairNo>,

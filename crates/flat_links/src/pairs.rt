@@ -8,7 +8,7 @@ use flat_facts::views::view_then;
 use flat_scene::{Call, ViewportProps};
 
 /// What is kept of a pair, but for its token.
-#[derive(Clone, Copy, Debug, PartialEq, Eq)]
+#[derive(Clone, Copy, PartialEq, Eq)]
 pub struct PairState {
     /// How many presents the owner of the view end had made when the view ended.
     pub ended: Option<u32>,

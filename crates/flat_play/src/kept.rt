@@ -18,7 +18,7 @@ use flat_texts::FrameDamages;
 use std::alloc::Global;
 
 /// What a run is to keep of the frames that it finishes.
-#[derive(Clone, Copy, Debug)]
+#[derive(Clone, Copy)]
 pub enum Keeping {
     /// The texts of their lines, as a report has them.
     Texts,

@@ -16,7 +16,7 @@ use flat_scene::{DrawItem, FrameOut};
 use std::alloc::Global;
 
 /// A part of a text, from one byte to before another.
-#[derive(Clone, Copy, Debug)]
+#[derive(Clone, Copy)]
 pub(crate) struct Part {
     start: usize,
     end: usize,

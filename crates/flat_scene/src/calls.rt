@@ -1,7 +1,7 @@
 use flat_base::{BufferNo, ContentId, FenceList, IntRect, Items, Orientation, PairNo, TransformId};
 
 /// How a draw item is put over what lies below it.
-#[derive(Clone, Copy, Debug, PartialEq, Eq)]
+#[derive(Clone, Copy, PartialEq, Eq)]
 pub enum BlendMode {
     /// It replaces what is below. Number 1 in a script, `src` in a report.
     Src,
@@ -21,7 +21,7 @@ pub enum ImageFlip {
 }
 
 /// What a hit region tells of itself when it is hit.
-#[derive(Clone, Copy, Debug)]
+#[derive(Clone, Copy)]
 pub enum Interaction {
     /// Number 0.
     Default,
@@ -31,7 +31,7 @@ pub enum Interaction {
 
 /// The width of a border inside a rectangle, in units from each side, each 0 to
 /// [`INSET_MAX`](flat_base::INSET_MAX).
-#[derive(Clone, Copy, Debug, PartialEq, Eq)]
+#[derive(Clone, Copy, PartialEq, Eq)]
 pub struct Inset {
     pub top: u32,
     pub right: u32,
@@ -40,7 +40,7 @@ pub struct Inset {
 }
 
 /// A viewport's logical size, in units, and its inset.
-#[derive(Clone, Copy, Debug, PartialEq, Eq)]
+#[derive(Clone, Copy, PartialEq, Eq)]
 pub struct ViewportProps {
     pub w: u32,
     pub h: u32,
@@ -48,7 +48,7 @@ pub struct ViewportProps {
 }
 
 /// A part of a transform's own space that can be hit.
-#[derive(Clone, Copy, Debug)]
+#[derive(Clone, Copy)]
 pub struct HitRegion {
     /// In units; None is infinite, which means the whole clip of the node.
     pub area: Option<IntRect>,
@@ -77,7 +77,7 @@ pub struct PresentArgs {
 }
 
 /// What a hanging get watches.
-#[derive(Clone, Copy, Debug, PartialEq, Eq)]
+#[derive(Clone, Copy, PartialEq, Eq)]
 pub enum Watch {
     /// The layout of the session's view.
     Layout,

@@ -5,7 +5,7 @@ use crate::calls::{BlendMode, ImageFlip, Interaction};
 use flat_base::{BufferNo, FrameNo, IntRect, Items, Rect, SessionList, SessionNo};
 
 /// What fills the rectangle of a draw item.
-#[derive(Clone, Copy, Debug)]
+#[derive(Clone, Copy)]
 pub enum Paint {
     /// One colour: red, green, blue, alpha.
     Fill {
@@ -22,7 +22,7 @@ pub enum Paint {
 
 /// The matrix of a draw item: (px, py) goes to (a * px + x, b * py + y), or where
 /// `swap` is true to (a * py + x, b * px + y), in fixed point.
-#[derive(Clone, Copy, Debug)]
+#[derive(Clone, Copy)]
 pub struct SceneMatrix {
     pub swap: bool,
     pub a: i64,
@@ -33,7 +33,7 @@ pub struct SceneMatrix {
 
 /// One rectangle to be drawn. Items are drawn in the order of their list, later
 /// ones on top.
-#[derive(Clone, Copy, Debug)]
+#[derive(Clone, Copy)]
 pub struct DrawItem {
     pub session: SessionNo,
     /// The serial number of the content.
@@ -86,7 +86,7 @@ pub fn is_node(nodes: &[ViewNode], session: SessionNo) -> bool
 }
 
 /// A set of sessions: session s is in it where `has[s - 1]` is true.
-#[derive(Clone, Copy, Debug)]
+#[derive(Clone, Copy)]
 pub struct SessionSet {
     pub has: [bool; 16],
 }

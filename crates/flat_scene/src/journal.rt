@@ -3,7 +3,7 @@ use crate::script::Cond;
 use flat_base::{Actor, FenceNo, FlatlandError, Items, PairNo, Reason, SessionNo};
 
 /// The layout that a parent gives to a view.
-#[derive(Clone, Copy, Debug, PartialEq, Eq)]
+#[derive(Clone, Copy, PartialEq, Eq)]
 pub struct Layout {
     /// The logical size, in units.
     pub w: u32,
@@ -14,7 +14,7 @@ pub struct Layout {
 }
 
 /// What a watcher tells.
-#[derive(Clone, Copy, Debug, PartialEq, Eq)]
+#[derive(Clone, Copy, PartialEq, Eq)]
 pub enum Told {
     Layout(Layout),
     /// The view is shown on the display.

@@ -3,7 +3,7 @@ use flat_base::{Boxed, BufferNo, IntRect, Items, Orientation, PairNo, Reason};
 
 /// What a node shows. A serial number counts the contents that a session made,
 /// from 1, and is never used again.
-#[derive(Clone, Copy, Debug, PartialEq, Eq)]
+#[derive(Clone, Copy, PartialEq, Eq)]
 pub enum Content {
     /// A colour (red, green, blue, alpha) and a size in units.
     Fill {

@@ -7,7 +7,7 @@ use flat_scene::{Content, HitRegion};
 
 /// A node of a tree that lies in a list, in preorder: its fields, with regions that
 /// are lent, and where its subtree ends.
-#[derive(Clone, Copy, Debug)]
+#[derive(Clone, Copy)]
 pub struct FlatNode<'a> {
     /// The transform's serial number.
     pub serial: u32,
@@ -24,7 +24,7 @@ pub struct FlatNode<'a> {
 }
 
 /// A part of a list, from one place to before another.
-#[derive(Clone, Copy, Debug)]
+#[derive(Clone, Copy)]
 pub(crate) struct Part {
     pub(crate) start: usize,
     pub(crate) end: usize,
@@ -32,7 +32,7 @@ pub(crate) struct Part {
 
 /// A node as it is kept: its regions are a part of a list of the regions of all
 /// nodes, so that no node has a list of its own.
-#[derive(Clone, Copy, Debug)]
+#[derive(Clone, Copy)]
 pub(crate) struct PackedNode {
     serial: u32,
     scale: (u32, u32),

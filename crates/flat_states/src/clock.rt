@@ -1,7 +1,7 @@
 use crate::ratios::Ratios;
 
 /// Which frame is open, when the last one began, and the display's pixel ratios.
-#[derive(Clone, Copy, Debug, PartialEq, Eq)]
+#[derive(Clone, Copy, PartialEq, Eq)]
 pub struct Clock {
     /// How many are finished.
     pub frames: u32,

@@ -7,7 +7,7 @@ use flat_base::{ONE, RATIO_MIN, SIDE_MAX};
 use flat_scene::{Inset, Setup, ViewportProps};
 
 /// What layouts tell of the display: its pixel ratio, and itself as a viewport.
-#[derive(Clone, Copy, Debug, PartialEq, Eq)]
+#[derive(Clone, Copy, PartialEq, Eq)]
 pub struct DisplayPort {
     pub ratio: u32,
     pub props: ViewportProps,

@@ -10,7 +10,7 @@ ghost use Rattle.flat_facts.specs.Begins.{begun, finished};
 ghost use Rattle.flat_states.specs.Machines.{ratios_of};
 
 /// The display's pixel ratios.
-#[derive(Clone, Copy, Debug, PartialEq, Eq)]
+#[derive(Clone, Copy, PartialEq, Eq)]
 pub struct Ratios {
     /// The one set last, or the head's.
     pub latest: u32,

@@ -14,7 +14,7 @@ use std::alloc::Global;
 use std::sync::Arc;
 
 /// What a session's own entries alone decide.
-#[derive(Clone, Copy, Debug, PartialEq, Eq)]
+#[derive(Clone, Copy, PartialEq, Eq)]
 pub struct Account {
     /// How many presents it made.
     pub presents: u32,

@@ -6,7 +6,7 @@ use flat_scene::{Told, Watch};
 use std::marker::Model;
 
 /// What a get is answered.
-#[derive(Clone, Copy, Debug, PartialEq, Eq)]
+#[derive(Clone, Copy, PartialEq, Eq)]
 pub enum GetAnswer {
     /// The value, at once.
     Now(Told),
@@ -17,7 +17,7 @@ pub enum GetAnswer {
 }
 
 /// The answer to a get that was held.
-#[derive(Clone, Copy, Debug, PartialEq, Eq)]
+#[derive(Clone, Copy, PartialEq, Eq)]
 pub struct Answer {
     pub get: Watch,
     pub value: Told,
@@ -27,7 +27,7 @@ pub struct Answer {
 /// holds. Contracts see just these.
 ///
 /// No call takes memory.
-#[derive(Clone, Copy, Debug)]
+#[derive(Clone, Copy)]
 pub struct Cell {
     last: Option<Told>,
     waits: Option<Watch>,
