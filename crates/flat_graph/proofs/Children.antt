@@ -14,7 +14,8 @@ use Rattle.flat_graph.specs.declared.nodes.GraphNode.{GraphNode}
 use Rattle.flat_graph.specs.Names.{key_named}
 use Rattle.flat_graph.specs.Reasons.{add_tests, child_tests, children_at, children_of, has_key, is_child, links_of, pair_tests, remove_tests, IsFault, IsMisuse}
 use Rattle.flat_graph.specs.State.{GraphState, IsGraph, IsKept, change_at, change_named, changed_node, node_at, with_child, with_node, without_child}
-use Rattle.flat_graph.proofs.Refusals.{passed_on, allowed_by, refused_by, hands_on, hands_fault_on}
+use Rattle.flat_scene.proofs.lemmas.FirstReasons.{passed_on, allowed_by, refused_by}
+use Rattle.flat_graph.proofs.Refusals.{hands_on, hands_fault_on}
 use Rattle.flat_graph.proofs.Soundness.{graph-changed, kept-push}
 
 -- the graph in which a named node is changed

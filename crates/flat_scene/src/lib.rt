@@ -6,7 +6,8 @@
 //!
 //! Other crates may cite the lemmas of proofs/lemmas/: steps of a history (Steps), members
 //! of a family (Members, FamilyLeast), what presents show (Presented) and take
-//! (TakingLemmas), ways that come back (CycleLemmas).
+//! (TakingLemmas), ways that come back (CycleLemmas), the first reason of several tests
+//! (FirstReasons).
 #![tactic(auto)]
 
 mod calls;

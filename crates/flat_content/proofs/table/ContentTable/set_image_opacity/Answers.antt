@@ -9,7 +9,8 @@ use Rattle.std.proofs.lemmas.Bool.{le-ltb, lt-ltb}
 use Rattle.flat_scene.specs.Misuse.{is_image}
 use Rattle.flat_content.specs.Reasons.{sort_tests}
 use Rattle.flat_content.proofs.Soundness.{room-same, set-by, table-set}
-use Rattle.flat_content.proofs.Refusals.{allowed_by, refused_by, hands_on}
+use Rattle.flat_scene.proofs.lemmas.FirstReasons.{allowed_by, refused_by}
+use Rattle.flat_content.proofs.Refusals.{hands_on}
 use Rattle.flat_content.proofs.table.ContentTable.set_image_opacity.Goals as goal
 
 pub invariant_of-self : goal.invariant_of-self

@@ -9,7 +9,8 @@ use Rattle.flat_base.specs.declared.errors.Reason.TheVariants.{BadRect}
 use Rattle.flat_scene.specs.Misuse.{is_image, is_bad_rect, leaves_made}
 use Rattle.flat_content.specs.Reasons.{sort_tests}
 use Rattle.flat_content.specs.Table.{made_named}
-use Rattle.flat_content.proofs.Refusals.{allowed_by, refused_by, hands_on, leaves_stored}
+use Rattle.flat_scene.proofs.lemmas.FirstReasons.{allowed_by, refused_by}
+use Rattle.flat_content.proofs.Refusals.{hands_on, leaves_stored}
 use Rattle.flat_content.proofs.table.ContentTable.set_image_sample_region.Goals as goal
 
 pub invariant_of-self : goal.invariant_of-self

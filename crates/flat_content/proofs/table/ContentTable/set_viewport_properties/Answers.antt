@@ -10,7 +10,8 @@ use Rattle.std.proofs.Common.{◌≡◌, [], ◌∷◌, sym, ap, ◌∙◌, ◌|
 use Rattle.flat_base.specs.declared.errors.Reason.TheVariants.{BadSize}
 use Rattle.flat_scene.specs.Misuse.{is_viewport, is_bad_side}
 use Rattle.flat_content.specs.Reasons.{sort_tests}
-use Rattle.flat_content.proofs.Refusals.{allowed_by, refused_by, hands_on}
+use Rattle.flat_scene.proofs.lemmas.FirstReasons.{allowed_by, refused_by}
+use Rattle.flat_content.proofs.Refusals.{hands_on}
 use Rattle.flat_content.proofs.table.ContentTable.set_viewport_properties.Goals as goal
 
 pub invariant_of-self : goal.invariant_of-self

@@ -5,7 +5,8 @@ use Rattle.std.proofs.Common.{[], ◌∷◌, ◌∙◌}
 use Rattle.flat_base.specs.declared.errors.Reason.TheVariants.{BadRect}
 use Rattle.flat_scene.specs.Misuse.{is_bad_area}
 use Rattle.flat_graph.specs.Reasons.{name_tests}
-use Rattle.flat_graph.proofs.Refusals.{allowed_by, refused_by, hands_on}
+use Rattle.flat_scene.proofs.lemmas.FirstReasons.{allowed_by, refused_by}
+use Rattle.flat_graph.proofs.Refusals.{hands_on}
 use Rattle.flat_graph.proofs.graph.Graph.set_clip.Goals as goal
 
 pub invariant_of-self : goal.invariant_of-self

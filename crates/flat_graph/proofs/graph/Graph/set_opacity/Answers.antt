@@ -6,7 +6,8 @@ use Rattle.std.proofs.lemmas.Bool.{le-ltb, lt-ltb}
 use Rattle.flat_base.specs.declared.limits.TheConstants.{OPACITY_MAX}
 use Rattle.flat_base.specs.declared.errors.Reason.TheVariants.{BadOpacity}
 use Rattle.flat_graph.specs.Reasons.{name_tests}
-use Rattle.flat_graph.proofs.Refusals.{allowed_by, refused_by, hands_on}
+use Rattle.flat_scene.proofs.lemmas.FirstReasons.{allowed_by, refused_by}
+use Rattle.flat_graph.proofs.Refusals.{hands_on}
 use Rattle.flat_graph.proofs.graph.Graph.set_opacity.Goals as goal
 
 pub invariant_of-self : goal.invariant_of-self
