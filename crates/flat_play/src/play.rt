@@ -152,13 +152,12 @@ impl Play {
             (reply_to self.old.board.setup self.old.board.history Display []
             (entry_of_display text)) }
     {
+        let calls = CallList::new(alloc);
         match text {
             DisplayLine::Signal(f) => {
-                let calls = CallList::new(alloc);
                 let _reply = self.board.signal(Actor::Display, number, calls, f);
             }
             DisplayLine::Wait(c) => {
-                let calls = CallList::new(alloc);
                 let _reply = self.board.wait(Actor::Display, number, calls, c);
             }
             DisplayLine::Dpr(ratio) => {

@@ -109,10 +109,7 @@ fn start(alloc: Global, script: &Script, keeping: Keeping) -> Result<Play, NoMem
     let readers = new_readers(alloc, &script.setup)?;
     let shown = Shown::new(alloc, script.setup.sessions)?;
     let last = LastFrame::none(alloc, &script.setup)?;
-    let Ok(board) = open_board(alloc, script) else {
-        drop(last);
-        return Err(NoMemory);
-    };
+    let board = open_board(alloc, script)?;
     Ok(Play {
         board,
         readers,
@@ -324,10 +321,9 @@ pub fn play_touched(
         ratio: _,
         with_view: _,
         kept,
-        last,
+        last: _,
         answers,
     } = play;
-    drop(last);
     let played = Played {
         board,
         kept,

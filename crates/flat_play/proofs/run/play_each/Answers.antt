@@ -16,7 +16,6 @@ use Rattle.flat_play.proofs.lemmas.PlaySteps.{play_stays}
 use Rattle.flat_play.proofs.lemmas.Places.{setup_is}
 use Rattle.flat_play.proofs.lemmas.Steps.{at_place}
 use Rattle.flat_play.proofs.lemmas.Seen.{as_long, kept_same, kept_seen, seen_none, seen_line}
-use Rattle.std.proofs.lemmas.Result.{IfOk-from_err}
 use Rattle.flat_play.proofs.run.play_each.Goals as goal
 
 pub loop-place-init : goal.loop-place-init
@@ -130,90 +129,3 @@ pub returns-clause-in_turn : goal.returns-clause-in_turn
 returns-clause-in_turn g c =
     turns-all c.args.script.now c.loop-place.place c.loop-place.play.board.history c.loop-place.answers.items (omega (arith, c.loop-place.auto.place-end, c.loop-place-test.false))
     c.loop-place.invariant.asked.count c.loop-place.invariant.turns
-
-pub returns-in_err-left-clause-stands : goal.returns-in_err-left-clause-stands
-returns-in_err-left-clause-stands g c = IfOk-from_err _ _ c.from_residual.ensures.0
-
-pub returns-in_err-left-clause-touches : goal.returns-in_err-left-clause-touches
-returns-in_err-left-clause-touches g c = IfOk-from_err _ _ c.from_residual.ensures.0
-
-pub returns-in_err-left-clause-probes : goal.returns-in_err-left-clause-probes
-returns-in_err-left-clause-probes g c = IfOk-from_err _ _ c.from_residual.ensures.0
-
-pub returns-in_err-left-clause-in_turn : goal.returns-in_err-left-clause-in_turn
-returns-in_err-left-clause-in_turn g c = IfOk-from_err _ _ c.from_residual.ensures.0
-
-pub returns-in_err-left-clause-keeping : goal.returns-in_err-left-clause-keeping
-returns-in_err-left-clause-keeping g c = IfOk-from_err _ _ c.from_residual.ensures.0
-
-pub returns-in_err-left-clause-seen : goal.returns-in_err-left-clause-seen
-returns-in_err-left-clause-seen g c = IfOk-from_err _ _ c.from_residual.ensures.0
-
-pub returns-in_err-answer_line-clause-stands : goal.returns-in_err-answer_line-clause-stands
-returns-in_err-answer_line-clause-stands g c = IfOk-from_err _ _ c.from_residual-in_err-answer_line.ensures.0
-
-pub returns-in_err-answer_line-clause-touches : goal.returns-in_err-answer_line-clause-touches
-returns-in_err-answer_line-clause-touches g c = IfOk-from_err _ _ c.from_residual-in_err-answer_line.ensures.0
-
-pub returns-in_err-answer_line-clause-probes : goal.returns-in_err-answer_line-clause-probes
-returns-in_err-answer_line-clause-probes g c = IfOk-from_err _ _ c.from_residual-in_err-answer_line.ensures.0
-
-pub returns-in_err-answer_line-clause-in_turn : goal.returns-in_err-answer_line-clause-in_turn
-returns-in_err-answer_line-clause-in_turn g c = IfOk-from_err _ _ c.from_residual-in_err-answer_line.ensures.0
-
-pub returns-in_err-answer_line-clause-keeping : goal.returns-in_err-answer_line-clause-keeping
-returns-in_err-answer_line-clause-keeping g c = IfOk-from_err _ _ c.from_residual-in_err-answer_line.ensures.0
-
-pub returns-in_err-answer_line-clause-seen : goal.returns-in_err-answer_line-clause-seen
-returns-in_err-answer_line-clause-seen g c = IfOk-from_err _ _ c.from_residual-in_err-answer_line.ensures.0
-
-pub returns-in_err-play_line-clause-stands : goal.returns-in_err-play_line-clause-stands
-returns-in_err-play_line-clause-stands g c = IfOk-from_err _ _ c.from_residual-in_err-play_line.ensures.0
-
-pub returns-in_err-play_line-clause-touches : goal.returns-in_err-play_line-clause-touches
-returns-in_err-play_line-clause-touches g c = IfOk-from_err _ _ c.from_residual-in_err-play_line.ensures.0
-
-pub returns-in_err-play_line-clause-probes : goal.returns-in_err-play_line-clause-probes
-returns-in_err-play_line-clause-probes g c = IfOk-from_err _ _ c.from_residual-in_err-play_line.ensures.0
-
-pub returns-in_err-play_line-clause-in_turn : goal.returns-in_err-play_line-clause-in_turn
-returns-in_err-play_line-clause-in_turn g c = IfOk-from_err _ _ c.from_residual-in_err-play_line.ensures.0
-
-pub returns-in_err-play_line-clause-keeping : goal.returns-in_err-play_line-clause-keeping
-returns-in_err-play_line-clause-keeping g c = IfOk-from_err _ _ c.from_residual-in_err-play_line.ensures.0
-
-pub returns-in_err-play_line-clause-seen : goal.returns-in_err-play_line-clause-seen
-returns-in_err-play_line-clause-seen g c = IfOk-from_err _ _ c.from_residual-in_err-play_line.ensures.0
-
-pub returns-in_err-answer_all-clause-stands : goal.returns-in_err-answer_all-clause-stands
-returns-in_err-answer_all-clause-stands g c = IfOk-from_err _ _ c.from_residual-in_err-answer_all.ensures.0
-
-pub returns-in_err-answer_all-clause-touches : goal.returns-in_err-answer_all-clause-touches
-returns-in_err-answer_all-clause-touches g c = IfOk-from_err _ _ c.from_residual-in_err-answer_all.ensures.0
-
-pub returns-in_err-answer_all-clause-probes : goal.returns-in_err-answer_all-clause-probes
-returns-in_err-answer_all-clause-probes g c = IfOk-from_err _ _ c.from_residual-in_err-answer_all.ensures.0
-
-pub returns-in_err-answer_all-clause-in_turn : goal.returns-in_err-answer_all-clause-in_turn
-returns-in_err-answer_all-clause-in_turn g c = IfOk-from_err _ _ c.from_residual-in_err-answer_all.ensures.0
-
-pub returns-in_err-answer_all-clause-keeping : goal.returns-in_err-answer_all-clause-keeping
-returns-in_err-answer_all-clause-keeping g c = IfOk-from_err _ _ c.from_residual-in_err-answer_all.ensures.0
-
-pub returns-in_err-answer_all-clause-seen : goal.returns-in_err-answer_all-clause-seen
-returns-in_err-answer_all-clause-seen g c = IfOk-from_err _ _ c.from_residual-in_err-answer_all.ensures.0
-
-pub returns-in_err-left-clause-kept : goal.returns-in_err-left-clause-kept
-returns-in_err-left-clause-kept g c = kept_seen _ _ _ _ _ _ _ _ c.loop-place.invariant.kinds c.loop-place.invariant.seen
-
-pub returns-in_err-answer_all-clause-kept : goal.returns-in_err-answer_all-clause-kept
-returns-in_err-answer_all-clause-kept g c = kept_seen _ _ _ _ _ _ _ _ c.loop-place.invariant.kinds c.loop-place.invariant.seen
-
-pub play_line-requires-clause-playable : goal.play_line-requires-clause-playable
-play_line-requires-clause-playable g c = c.requires.playable
-
-pub play_line-requires-clause-number : goal.play_line-requires-clause-number
-play_line-requires-clause-number g c = c.loop-place.invariant.number
-
-pub returns-clause-keeping : goal.returns-clause-keeping
-returns-clause-keeping g c = c.loop-place.invariant.keeping

@@ -29,6 +29,3 @@ loop-before-preserved c = (
 
 pub returns-clause-ends : goal.returns-clause-ends
 returns-clause-ends c = c.loop-before.invariant.3
-
-pub end_next-requires-clause-playable : goal.end_next-requires-clause-playable
-end_next-requires-clause-playable c = c.requires.playable

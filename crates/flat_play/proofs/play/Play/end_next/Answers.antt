@@ -46,9 +46,3 @@ returns-clause-ends c =
 pub returns-clause-frames : goal.returns-clause-frames
 returns-clause-frames c =
     ap (λ m. finished c.args.script.now.setup m.history) c.end-reply.ensures.entry ∙ append-nil (finished c.args.script.now.setup c.args.self.now.board.history)
-
-pub index_mut-reader-requires : goal.index_mut-reader-requires
-index_mut-reader-requires c = omega (arith, c.requires.within, c.requires.stands.count)
-
-pub returns-clause-kept : goal.returns-clause-kept
-returns-clause-kept c = refl

@@ -1,5 +1,5 @@
 use Rattle.flat_play.specs.Last.{IsJoined, IsLast}
-use Rattle.flat_play.specs.Playing.{AsksPoint, is_alone, FramesStand, HasViews}
+use Rattle.flat_play.specs.Playing.{AsksPoint, is_alone}
 use Rattle.flat_play.proofs.lemmas.Alone.{may_alone, quiet_alone, ends_none, keeps_alone}
 use Rattle.flat_play.specs.Showing.{IsShown}
 use Rattle.std.proofs.Common.{rules, ◌≡◌, ℕ, ◌≤◌, ◌+◌, true, length, refl, sym, ap, ◌∙◌, subst, arith}
@@ -9,7 +9,7 @@ use Rattle.flat_scene.specs.declared.script.DisplayLine.TheVariants as display
 use Rattle.flat_scene.specs.declared.script.ScriptLine.{ScriptLine}
 use Rattle.flat_scene.specs.declared.setup.Setup.{Setup}
 use Rattle.flat_base.specs.declared.ids.FrameNo.{FrameNo}
-use Rattle.flat_scene.specs.Setups.{at_ratio, is_setup}
+use Rattle.flat_scene.specs.Setups.{at_ratio}
 use Rattle.flat_rules.specs.Owned.{is_played_display}
 use Rattle.flat_play.proofs.lemmas.DisplaySteps.{display_share, begin_time_ok, done_ok, may_begin, may_finish, may_hit}
 use Rattle.flat_play.proofs.lemmas.PlaySteps.{begin_more, display_finishes, finish_more, beside_more, play_stays, point_more}
@@ -21,11 +21,6 @@ use Rattle.flat_play.proofs.lemmas.Joining.{joined-again}
 use Rattle.flat_play.proofs.lemmas.Starting.{few, by_at_most}
 use Rattle.flat_play.proofs.lemmas.Steps.{At, at_place}
 use Rattle.flat_play.proofs.Touching.{entered-on}
-use Rattle.std.proofs.lemmas.Result.{IfOk-from_err, MatchResult-from_err}
-use Rattle.flat_rules.specs.Ends.{to_begin}
-use Rattle.flat_rules.specs.Shown.{shown_states}
-use Rattle.flat_play.specs.Keeping.{keeping_of}
-use Rattle.flat_play.proofs.lemmas.Places.{setup_is}
 use Rattle.flat_play.proofs.play.Play.play_display.Goals as goal
 
 pub begin-requires-clause-may : goal.begin-requires-clause-may
@@ -113,7 +108,8 @@ returns-in_ok-finish-in-Done-clause-goes_on g c = entered-on _ _ _ _ _ _ _ c.in_
 
 pub returns-in_ok-hit-in-Hit-clause-goes_on : goal.returns-in_ok-hit-in-Hit-clause-goes_on
 returns-in_ok-hit-in-Hit-clause-goes_on g c =
-    entered-on _ _ _ _ _ _ _ c.in_ok-hit-in-Hit.ensures.board
+    let asks : AsksPoint c.args.self.now c.hit.new.self c.args.number c.in-Hit.x c.in-Hit.y = search rules in
+    entered-on _ _ _ _ _ _ _ asks.board
 
 pub returns-in-Begin-clause-shows : goal.returns-in-Begin-clause-shows
 returns-in-Begin-clause-shows g c =
@@ -121,7 +117,8 @@ returns-in-Begin-clause-shows g c =
 
 pub returns-in_ok-hit-in-Hit-clause-shows : goal.returns-in_ok-hit-in-Hit-clause-shows
 returns-in_ok-hit-in-Hit-clause-shows g c =
-    IsShown.shows_none (display_finishes c.args.script.now.setup c.args.self.now.board c.hit.new.self.board _ _ _ refl c.in_ok-hit-in-Hit.ensures.board) refl refl
+    let asks : AsksPoint c.args.self.now c.hit.new.self c.args.number c.in-Hit.x c.in-Hit.y = search rules in
+    IsShown.shows_none (display_finishes c.args.script.now.setup c.args.self.now.board c.hit.new.self.board _ _ _ refl asks.board) refl refl
 
 pub enter_alone-requires-clause-may : goal.enter_alone-requires-clause-may
 enter_alone-requires-clause-may g c =
@@ -147,140 +144,3 @@ pub returns-in_default-clause-shows : goal.returns-in_default-clause-shows
 returns-in_default-clause-shows g c =
     let alone : is_alone c.args.text ≡ true = search rules in
     IsShown.shows_none (display_finishes c.args.script.now.setup c.args.self.now.board c.enter_alone.new.self.board _ _ _ (ends_none c.args.text alone) c.enter_alone.ensures.board) refl refl
-
-pub finish-requires-clause-number : goal.finish-requires-clause-number
-finish-requires-clause-number g c = c.requires.number
-
-pub returns-in_err-finish-in-Done-clause-stands : goal.returns-in_err-finish-in-Done-clause-stands
-returns-in_err-finish-in-Done-clause-stands g c = IfOk-from_err _ _ c.from_residual.ensures.0
-
-pub returns-in_err-finish-in-Done-clause-goes_on : goal.returns-in_err-finish-in-Done-clause-goes_on
-returns-in_err-finish-in-Done-clause-goes_on g c = IfOk-from_err _ _ c.from_residual.ensures.0
-
-pub returns-in_err-finish-in-Done-clause-keeping : goal.returns-in_err-finish-in-Done-clause-keeping
-returns-in_err-finish-in-Done-clause-keeping g c = IfOk-from_err _ _ c.from_residual.ensures.0
-
-pub returns-in_err-finish-in-Done-clause-shows : goal.returns-in_err-finish-in-Done-clause-shows
-returns-in_err-finish-in-Done-clause-shows g c = IfOk-from_err _ _ c.from_residual.ensures.0
-
-pub returns-in_err-hit-in-Hit-clause-stands : goal.returns-in_err-hit-in-Hit-clause-stands
-returns-in_err-hit-in-Hit-clause-stands g c = IfOk-from_err _ _ c.from_residual-in_err-hit-in-Hit.ensures.0
-
-pub returns-in_err-hit-in-Hit-clause-goes_on : goal.returns-in_err-hit-in-Hit-clause-goes_on
-returns-in_err-hit-in-Hit-clause-goes_on g c = IfOk-from_err _ _ c.from_residual-in_err-hit-in-Hit.ensures.0
-
-pub returns-in_err-hit-in-Hit-clause-keeping : goal.returns-in_err-hit-in-Hit-clause-keeping
-returns-in_err-hit-in-Hit-clause-keeping g c = IfOk-from_err _ _ c.from_residual-in_err-hit-in-Hit.ensures.0
-
-pub returns-in_err-hit-in-Hit-clause-shows : goal.returns-in_err-hit-in-Hit-clause-shows
-returns-in_err-hit-in-Hit-clause-shows g c = IfOk-from_err _ _ c.from_residual-in_err-hit-in-Hit.ensures.0
-
-pub returns-in_err-finish-in-Done-clause-same : goal.returns-in_err-finish-in-Done-clause-same
-returns-in_err-finish-in-Done-clause-same g c = c.finish.ensures.same
-
-pub returns-in_err-finish-in-Done-clause-kinds : goal.returns-in_err-finish-in-Done-clause-kinds
-returns-in_err-finish-in-Done-clause-kinds g c = c.finish.ensures.kinds
-
-pub returns-in_err-hit-in-Hit-clause-same : goal.returns-in_err-hit-in-Hit-clause-same
-returns-in_err-hit-in-Hit-clause-same g c = refl
-
-pub returns-in_err-hit-in-Hit-clause-kinds : goal.returns-in_err-hit-in-Hit-clause-kinds
-returns-in_err-hit-in-Hit-clause-kinds g c = refl
-
-pub returns-in-Begin-clause-unshown : goal.returns-in-Begin-clause-unshown
-returns-in-Begin-clause-unshown g c = tt
-
-pub returns-in-Begin-clause-same : goal.returns-in-Begin-clause-same
-returns-in-Begin-clause-same g c = refl
-
-pub returns-in-Begin-clause-kinds : goal.returns-in-Begin-clause-kinds
-returns-in-Begin-clause-kinds g c = refl
-
-pub returns-in_ok-finish-in-Done-clause-shows : goal.returns-in_ok-finish-in-Done-clause-shows
-returns-in_ok-finish-in-Done-clause-shows g c = c.in_ok-finish-in-Done.ensures.shows
-
-pub returns-in_ok-finish-in-Done-clause-unshown : goal.returns-in_ok-finish-in-Done-clause-unshown
-returns-in_ok-finish-in-Done-clause-unshown g c = tt
-
-pub returns-in_ok-finish-in-Done-clause-same : goal.returns-in_ok-finish-in-Done-clause-same
-returns-in_ok-finish-in-Done-clause-same g c = c.finish.ensures.same
-
-pub returns-in_ok-finish-in-Done-clause-kinds : goal.returns-in_ok-finish-in-Done-clause-kinds
-returns-in_ok-finish-in-Done-clause-kinds g c = c.finish.ensures.kinds
-
-pub returns-in_ok-hit-in-Hit-clause-unshown : goal.returns-in_ok-hit-in-Hit-clause-unshown
-returns-in_ok-hit-in-Hit-clause-unshown g c = tt
-
-pub returns-in_ok-hit-in-Hit-clause-same : goal.returns-in_ok-hit-in-Hit-clause-same
-returns-in_ok-hit-in-Hit-clause-same g c = refl
-
-pub returns-in_ok-hit-in-Hit-clause-kinds : goal.returns-in_ok-hit-in-Hit-clause-kinds
-returns-in_ok-hit-in-Hit-clause-kinds g c = refl
-
-pub returns-in_default-clause-unshown : goal.returns-in_default-clause-unshown
-returns-in_default-clause-unshown g c = tt
-
-pub returns-in_default-clause-same : goal.returns-in_default-clause-same
-returns-in_default-clause-same g c = refl
-
-pub returns-in_default-clause-kinds : goal.returns-in_default-clause-kinds
-returns-in_default-clause-kinds g c = refl
-
-pub begin-requires-clause-shown : goal.begin-requires-clause-shown
-begin-requires-clause-shown g c = (
-    let self = c.args.self.now in
-    let P : Setup → Type 0 = λ s. self.shown ≡ shown_states s (to_begin self.board.history) in
-    subst P (sym c.requires.stands.setup) c.requires.stands.shows.showing
-    )
-
-pub finish-requires-clause-setup : goal.finish-requires-clause-setup
-finish-requires-clause-setup g c = (
-    let self = c.args.self.now in
-    let P : Setup → Type 0 = λ s. is_setup s ≡ true in
-    subst P (sym c.requires.stands.setup) (setup_is c.args.script.now c.requires.playable)
-    )
-
-pub finish-requires-clause-stands : goal.finish-requires-clause-stands
-finish-requires-clause-stands g c = (
-    let self = c.args.self.now in
-    let P : Setup → Type 0 = λ s. FramesStand s self.board.history self.shown self.ratio self.with_view in
-    subst P (sym c.requires.stands.setup) c.requires.stands.shows
-    )
-
-pub finish-requires-clause-views : goal.finish-requires-clause-views
-finish-requires-clause-views g c = (
-    let self = c.args.self.now in
-    let P : Setup → Type 0 = λ s. HasViews s self.with_view in
-    subst P (sym c.requires.stands.setup) c.requires.stands.views
-    )
-
-pub finish-requires-clause-of : goal.finish-requires-clause-of
-finish-requires-clause-of g c = c.requires.stands.setup
-
-pub finish-requires-clause-keeps : goal.finish-requires-clause-keeps
-finish-requires-clause-keeps g c = c.requires.stands.keeps
-
-pub hit-requires-clause-setup : goal.hit-requires-clause-setup
-hit-requires-clause-setup g c = (
-    let self = c.args.self.now in
-    let P : Setup → Type 0 = λ s. is_setup s ≡ true in
-    subst P (sym c.requires.stands.setup) (setup_is c.args.script.now c.requires.playable)
-    )
-
-pub returns-in-Begin-clause-keeping : goal.returns-in-Begin-clause-keeping
-returns-in-Begin-clause-keeping g c = ap keeping_of c.begin.ensures.kept
-
-pub returns-in_ok-finish-in-Done-clause-keeping : goal.returns-in_ok-finish-in-Done-clause-keeping
-returns-in_ok-finish-in-Done-clause-keeping g c = c.in_ok-finish-in-Done.ensures.finishes.kept.same
-
-pub returns-in_ok-hit-in-Hit-clause-keeping : goal.returns-in_ok-hit-in-Hit-clause-keeping
-returns-in_ok-hit-in-Hit-clause-keeping g c = ap keeping_of c.in_ok-hit-in-Hit.ensures.kept
-
-pub returns-in_default-clause-keeping : goal.returns-in_default-clause-keeping
-returns-in_default-clause-keeping g c = ap keeping_of c.enter_alone.ensures.kept
-
-pub returns-in_err-finish-in-Done-clause-unshown : goal.returns-in_err-finish-in-Done-clause-unshown
-returns-in_err-finish-in-Done-clause-unshown g c = MatchResult-from_err _ _ _ c.from_residual.ensures.0 (λ y. c.in_err-finish-in-Done.ensures.unshown)
-
-pub returns-in_err-hit-in-Hit-clause-unshown : goal.returns-in_err-hit-in-Hit-clause-unshown
-returns-in_err-hit-in-Hit-clause-unshown g c = MatchResult-from_err _ _ _ c.from_residual-in_err-hit-in-Hit.ensures.0 (λ y. (refl, refl))

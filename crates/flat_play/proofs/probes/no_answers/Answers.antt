@@ -1,6 +1,0 @@
-use Rattle.std.proofs.Common.{[], ◌∷◌, ◌++◌, ◌∙◌}
-use Rattle.std.proofs.lemmas.List.{replicate-append-replicate}
-use Rattle.flat_play.proofs.probes.no_answers.Goals as goal
-
-pub loop-preserved : goal.loop-preserved
-loop-preserved c = c.in_ok-push.ensures.items ∙ (λ i. c.loop.invariant i ++ c.new.ensures i ∷ []) ∙ replicate-append-replicate c.loop.counter 1 []
