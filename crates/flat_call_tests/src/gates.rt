@@ -37,30 +37,34 @@ fn a_gate_is_asked_so_often(rt: HostRuntime) -> Result<(), Fail> {
     Ok(())
 }
 
-#[test]
-fn a_wait_looks_again(rt: HostRuntime) -> Result<(), Fail> {
-    let gate = Looking::new(&WAIT_ORDER, 6, 7);
-    let called = race(&rt, rt.alloc(), WAIT, &gate)?;
-    assert_eq!(rt; called.answer(), (0, WAIT_REPORTED));
-    assert_eq!(rt; gate.looks(), 2);
-    Ok(())
-}
+/// Entries and lines in an order.
+type Order = &'static [(u32, u32)];
+
+/// Scripts with a line that waits, the order of their lines, the line that waits, the line
+/// that it waits for, and the report: the wait looks twice.
+const WAITS: [(&[u8], Order, u32, u32, &[u8]); 3] = [
+    (WAIT, &WAIT_ORDER, 6, 7, WAIT_REPORTED),
+    (
+        DISPLAY_WAIT,
+        &DISPLAY_WAIT_ORDER,
+        7,
+        8,
+        DISPLAY_WAIT_REPORTED,
+    ),
+    (AWAIT, &PROBED_ORDER, 16, 14, AWAIT_REPORTED),
+];
 
 #[test]
-fn a_wait_of_the_display_looks_again(rt: HostRuntime) -> Result<(), Fail> {
-    let gate = Looking::new(&DISPLAY_WAIT_ORDER, 7, 8);
-    let called = race(&rt, rt.alloc(), DISPLAY_WAIT, &gate)?;
-    assert_eq!(rt; called.answer(), (0, DISPLAY_WAIT_REPORTED));
-    assert_eq!(rt; gate.looks(), 2);
-    Ok(())
-}
-
-#[test]
-fn a_probe_awaits_a_frame(rt: HostRuntime) -> Result<(), Fail> {
-    let gate = Looking::new(&PROBED_ORDER, 16, 14);
-    let called = race(&rt, rt.alloc(), AWAIT, &gate)?;
-    assert_eq!(rt; called.answer(), (0, AWAIT_REPORTED));
-    assert_eq!(rt; gate.looks(), 2);
+fn what_waits_looks_again(rt: HostRuntime) -> Result<(), Fail> {
+    for (text, order, waits, held, reported) in WAITS.iter() {
+        let gate = Looking::new(order, *waits, *held);
+        let called = race(&rt, rt.alloc(), text, &gate)?;
+        assert_eq!(rt;
+            (called.answer(), gate.looks()),
+            ((0, *reported), 2),
+            "line {waits}"
+        );
+    }
     Ok(())
 }
 

@@ -1,14 +1,24 @@
 use flat_call_checks::{
     InOrder, Meeting, PROBED, PROBED_ORDER, PROBED_REPORTED, RATIOS, RATIOS_ORDER, RATIOS_REPORTED,
-    SHELL, SHELL_ORDER, SHELL_REPORTED, TWO, TWO_REPORTED, play, race,
+    SHELL, SHELL_ORDER, SHELL_REPORTED, TWO, TWO_REPORTED, race,
 };
 use std::test::Fail;
 
+/// Scripts, an order of their lines that a gate keeps, and the report: of a shell in its
+/// written order, of a probe that sees the frame of its time, of frames at their ratios.
+const ORDERS: [(&[u8], &[(u32, u32)], &[u8]); 3] = [
+    (SHELL, &SHELL_ORDER, SHELL_REPORTED),
+    (PROBED, &PROBED_ORDER, PROBED_REPORTED),
+    (RATIOS, &RATIOS_ORDER, RATIOS_REPORTED),
+];
+
 #[test]
-fn race_in_written_order(rt: HostRuntime) -> Result<(), Fail> {
-    let gate = InOrder::new(&SHELL_ORDER);
-    let called = race(&rt, rt.alloc(), SHELL, &gate)?;
-    assert_eq!(rt; called.answer(), (0, SHELL_REPORTED));
+fn lines_are_raced_in_an_order(rt: HostRuntime) -> Result<(), Fail> {
+    for (text, order, reported) in ORDERS.iter() {
+        let gate = InOrder::new(order);
+        let called = race(&rt, rt.alloc(), text, &gate)?;
+        assert_eq!(rt; called.answer(), (0, *reported));
+    }
     Ok(())
 }
 
@@ -18,28 +28,5 @@ fn race_against_the_written_order(rt: HostRuntime) -> Result<(), Fail> {
     let called = race(&rt, rt.alloc(), TWO, &gate)?;
     assert!(rt; !gate.was_missed());
     assert_eq!(rt; called.answer(), (0, TWO_REPORTED));
-    Ok(())
-}
-
-#[test]
-fn a_probe_sees_the_frame_of_its_time(rt: HostRuntime) -> Result<(), Fail> {
-    let gate = InOrder::new(&PROBED_ORDER);
-    let called = race(&rt, rt.alloc(), PROBED, &gate)?;
-    assert_eq!(rt; called.answer(), (0, PROBED_REPORTED));
-    Ok(())
-}
-
-#[test]
-fn frames_are_played_at_their_ratios(rt: HostRuntime) -> Result<(), Fail> {
-    let called = play(&rt, rt.alloc(), RATIOS)?;
-    assert_eq!(rt; called.answer(), (0, RATIOS_REPORTED));
-    Ok(())
-}
-
-#[test]
-fn frames_are_raced_at_their_ratios(rt: HostRuntime) -> Result<(), Fail> {
-    let gate = InOrder::new(&RATIOS_ORDER);
-    let called = race(&rt, rt.alloc(), RATIOS, &gate)?;
-    assert_eq!(rt; called.answer(), (0, RATIOS_REPORTED));
     Ok(())
 }

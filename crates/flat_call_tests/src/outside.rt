@@ -4,27 +4,24 @@ use flat_call_checks::{
 };
 use std::test::Fail;
 
-#[test]
-fn each_read_fails_in_turn(rt: HostRuntime) -> Result<(), Fail> {
-    let (read, called) = first_spared(&rt, rt.alloc(), Fault::Read, 4, b"")?;
-    assert_eq!(rt; called.answer(), (0, SHELL_REPORTED), "read {read}");
-    assert!(rt; read > 1);
-    Ok(())
-}
+/// Faults, the status where one comes, and what may then have been written of a report.
+const FAULTS: [(Fault, u8, &[u8]); 3] = [
+    (Fault::Read, 4, b""),
+    (Fault::Write, 5, SHELL_REPORTED),
+    (Fault::Stall, 5, SHELL_REPORTED),
+];
 
 #[test]
-fn each_write_fails_in_turn(rt: HostRuntime) -> Result<(), Fail> {
-    let (write, called) = first_spared(&rt, rt.alloc(), Fault::Write, 5, SHELL_REPORTED)?;
-    assert_eq!(rt; called.answer(), (0, SHELL_REPORTED), "write {write}");
-    assert!(rt; write > 1);
-    Ok(())
-}
-
-#[test]
-fn each_write_takes_nothing_in_turn(rt: HostRuntime) -> Result<(), Fail> {
-    let (write, called) = first_spared(&rt, rt.alloc(), Fault::Stall, 5, SHELL_REPORTED)?;
-    assert_eq!(rt; called.answer(), (0, SHELL_REPORTED), "write {write}");
-    assert!(rt; write > 1);
+fn each_read_and_write_fails_in_turn(rt: HostRuntime) -> Result<(), Fail> {
+    for (fault, status, written) in FAULTS.iter() {
+        let (place, called) = first_spared(&rt, rt.alloc(), *fault, *status, written)?;
+        assert_eq!(rt;
+            called.answer(),
+            (0, SHELL_REPORTED),
+            "status {status} at {place}"
+        );
+        assert!(rt; place > 1);
+    }
     Ok(())
 }
 
