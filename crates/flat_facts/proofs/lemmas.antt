@@ -21,3 +21,4 @@ pub mod ViewCalls
 pub mod ViewHistory
 pub mod ViewLaw
 pub mod ViewUses
+pub mod ViewsLeft

@@ -1,15 +1,15 @@
 -- What holds of every legal history: of tokens and viewports, of views, and of the display's pixel ratio.
-use Rattle.std.specs.Prelude.{◌≡◌, ◌≤◌, ◌&&◌, true, false, not, nat_le, List, [], length}
+use Rattle.std.specs.Prelude.{◌≡◌, ◌≤◌, ◌&&◌, Bool, true, false, not, nat_le, List, [], length, Option, Some, None}
 use Rattle.flat_base.specs.declared.ids.PairNo.{PairNo}
 use Rattle.flat_base.specs.declared.ids.SessionNo.{SessionNo}
 use Rattle.flat_scene.specs.declared.journal.Entry.{Entry}
 use Rattle.flat_scene.specs.declared.setup.Setup.{Setup}
-use Rattle.flat_scene.specs.Frames.{ratio, taken}
+use Rattle.flat_scene.specs.Frames.{ratio}
 use Rattle.flat_scene.specs.History.{calls, is_closed}
 use Rattle.flat_scene.specs.Setups.{is_declared, is_ratio}
 use Rattle.flat_facts.specs.Lives.{held_of, lives_after}
-use Rattle.flat_facts.specs.Views.{has_viewed, stood_at}
-use Rattle.flat_rules.specs.Ends.{has_view, to_finished, viewport_uses}
+use Rattle.flat_facts.specs.Views.{last_view}
+use Rattle.flat_rules.specs.Ends.{has_view, is_view_lost, to_finished, viewport_uses}
 use Rattle.flat_rules.specs.Legal.{Legal, has_token, owns_viewport}
 use Rattle.flat_rules.specs.Posts.{releases_seen}
 
@@ -23,10 +23,15 @@ abbrev pub OneViewportLives : Type 0
 OneViewportLives = (setup : Setup) (history : List Entry) → Legal setup history → (s : SessionNo) (p : PairNo) → is_declared setup s ≡ true → owns_viewport setup s p ≡ true → is_closed s history ≡ false
     → held_of p (lives_after [] (calls s history)) ≤ 1
 
--- a session has a view whose end isn't lost exactly where it is open, made one, and frames have taken no more of its presents than stood with the last one
-abbrev pub ViewsStand : Type 0
-ViewsStand = (setup : Setup) (history : List Entry) → Legal setup history
-    → (s : SessionNo) → has_view setup history s ≡ (not (is_closed s history) && has_viewed s history && nat_le (taken setup history s) (stood_at s history))
+-- whether there is a view, and its end isn't lost
+abbrev pub is_standing : Setup → List Entry → Option PairNo → Bool
+is_standing setup history None = false
+is_standing setup history (Some p) = not (is_view_lost setup history p)
+
+-- a session has a view whose end isn't lost exactly where it is open, and the end of the last view that it made isn't lost
+abbrev pub LastViewStands : Type 0
+LastViewStands = (setup : Setup) (history : List Entry) → Legal setup history
+    → (s : SessionNo) → has_view setup history s ≡ (not (is_closed s history) && is_standing setup history (last_view s history))
 
 -- the display's pixel ratio is one that a display may have, where the head gives such a one
 abbrev pub RatiosAreAllowed : Type 0

@@ -1,5 +1,5 @@
 ghost use Rattle.flat_facts.specs.Laws.{TokensFollowReleases, OneViewportLives};
-ghost use Rattle.flat_facts.specs.Laws.{ViewsStand, RatiosAreAllowed};
+ghost use Rattle.flat_facts.specs.Laws.{LastViewStands, RatiosAreAllowed};
 ghost use Rattle.flat_rules.specs.Laws.{ShownStatesFit, BegunStatesFit, EachSessionHasOneState};
 ghost use Rattle.flat_rules.specs.Laws.{NothingIsShownAtFirst, SessionsAreCounted};
 
@@ -28,12 +28,12 @@ pub fn tokens_follow_releases()
     ensures one { OneViewportLives }
 {}
 
-/// A session has a view whose end isn't lost exactly where it is open, made one, and
-/// frames have taken no more of its presents than stood with the last one.
+/// A session has a view whose end isn't lost exactly where it is open, and the end of the
+/// last view that it made isn't lost.
 ///
 /// The call does nothing. Its contract is a law about the definitions.
-pub fn views_stand()
-    ensures { ViewsStand }
+pub fn last_view_stands()
+    ensures { LastViewStands }
 {}
 
 /// The display's pixel ratio is always one that a display may have.

@@ -1,4 +1,4 @@
-//! What legal histories say, by definitions alone: of views and of how long they stand, of
+//! What legal histories say, by definitions alone: of views and of the last that stands, of
 //! viewports that live and tokens that are out, of the serials by which trees show them,
 //! of what trees show, of pixel ratios, and of what entries post. And the walks over an
 //! entry's calls that keep these definitions: the view that calls leave (views), what they
@@ -11,7 +11,8 @@
 //!
 //! Other crates may cite the lemmas of proofs/lemmas/:
 //! - of histories: Between, Earlier, Ratios, SerialSteps, Serials, ShownFits, StampSteps,
-//!   Stamped, TokenLaw, TokensBack, Undeclared, Unwatched, Uses, ViewHistory, ViewLaw, ViewUses;
+//!   Stamped, TokenLaw, TokensBack, Undeclared, Unwatched, Uses, ViewHistory, ViewLaw, ViewUses,
+//!   ViewsLeft;
 //! - of drafts and calls: Foreign, LiveCounts, Lives, ViewCalls;
 //! - of sessions that have a view: HasView;
 //! - of tests: Tests.
@@ -25,4 +26,4 @@ pub mod lives;
 pub mod stamps;
 pub mod views;
 
-pub use laws::{ratios_are_allowed, shown_states_fit, tokens_follow_releases, views_stand};
+pub use laws::{last_view_stands, ratios_are_allowed, shown_states_fit, tokens_follow_releases};

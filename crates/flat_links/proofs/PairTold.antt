@@ -32,54 +32,6 @@ use Rattle.flat_facts.proofs.lemmas.ViewCalls.{times-append, after-refused}
 use Rattle.flat_facts.proofs.lemmas.ViewHistory.{viewing-of}
 use Rattle.flat_facts.proofs.lemmas.ViewLaw.{good-more}
 
--- ---- how calls end a view
-
-call-view : (d : Draft) (call : Call) → (effect d call).view ≡ view_then d.view call
-call-view d (CreateView p) = refl
-call-view d ReleaseView = refl
-call-view d Clear = refl
-call-view d _ = refl
-
-call-ends : (p : PairNo) (d : Draft) (call : Call) → ends_view p d call ≡ ends_it p d.view call
-call-ends p d ReleaseView = refl
-call-ends p d Clear = refl
-call-ends p d _ = refl
-
--- The view after calls without a misuse, and how often they end that of a pair.
-pub record Viewed (setup : Setup) (d : Draft) (calls : List Call) (d' : Draft) : Type 0 where
-  pub view : d'.view ≡ view_after d.view calls
-  pub ends : (p : PairNo) → times setup (ends_view p) (Ok d) calls ≡ ends_of p d.view calls
-
-viewed-more : (setup : Setup) (d : Draft) (call : Call) (calls : List Call) (d' : Draft) → (reason : Option Reason) → misuse setup d call ≡ reason
-    → (after_calls setup (Ok (effect d call)) calls ≡ Ok d' → Viewed setup (effect d call) calls d') → after_calls setup (unless reason (effect d call)) calls ≡ Ok d' → Viewed setup d (call ∷ calls) d'
-viewed-more setup d call calls d' (Some reason) is rest good = let wrong : Err reason ≡ Ok d' = sym (after-refused setup reason calls) ∙ good in cc
-viewed-more setup d call calls d' None is rest good =
-    let later = rest good in
-    record {
-      view = later.view ∙ ap (λ (v : Option PairNo). view_after v calls) (call-view d call);
-      ends = λ p.
-          rw is (ap (λ (n : ℕ). n + times setup (ends_view p) (Ok (effect d call)) calls) (count-is (ends_view p d call) ∙ ap number_if (call-ends p d call))
-          ∙ ap (λ (n : ℕ). number_if (ends_it p d.view call) + n) (later.ends p ∙ ap (λ (v : Option PairNo). ends_of p v calls) (call-view d call)));
-    }
-
-pub viewed : (setup : Setup) (d : Draft) (calls : List Call) (d' : Draft) → after_calls setup (Ok d) calls ≡ Ok d' → Viewed setup d calls d'
-viewed setup d [] d' good = let same : d ≡ d' = cc in record { view = ap (λ (x : Draft). x.view) (sym same); ends = λ p. refl }
-viewed setup d (call ∷ calls) d' good = viewed-more setup d call calls d' (misuse setup d call) refl (λ rest. viewed setup (effect d call) calls d' rest) good
-
-view-append : (view : Option PairNo) (xs ys : List Call) → view_after view (xs ++ ys) ≡ view_after (view_after view xs) ys
-view-append view [] ys = refl
-view-append view (x ∷ xs) ys = view-append (view_then view x) xs ys
-
--- the view that a session's calls leave it, and that of its draft
-pub view-own : (s : SessionNo) (h : List Entry) (e : Entry) → is_session s e.actor ≡ true → view_after None (calls s (h ▹ e)) ≡ view_after (view_after None (calls s h)) e.calls
-view-own s h e mine = rw mine (view-append None (calls s h) e.calls)
-
-pub view-other : (s : SessionNo) (h : List Entry) (e : Entry) → is_session s e.actor ≡ false → view_after None (calls s (h ▹ e)) ≡ view_after None (calls s h)
-view-other s h e other = rw other refl
-
-pub view-drafted : (setup : Setup) (cs : List Call) (d : Draft) → draft_of setup cs ≡ Ok d → d.view ≡ view_after None cs
-view-drafted setup cs d good = (viewed setup empty_draft cs d good).view
-
 -- ---- what an entry does to the stamps of an end
 
 module _ (setup : Setup) (s : SessionNo) (h : List Entry) (e : Entry) (legal : Legal setup (h ▹ e)) (mine : is_session s e.actor ≡ true) where

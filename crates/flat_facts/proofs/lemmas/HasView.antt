@@ -1,6 +1,6 @@
--- A session has a view exactly where it is open, made one, and frames have taken no more presents than stood with the last one.
+-- A session has a view exactly where it is open, and the end of the last that it made isn't lost.
 use Rattle.std.proofs.Common.{◌≡◌, ◌∙◌, sym, subst, ℕ, zero, suc, ◌+◌, ◌<◌, ◌≤◌, Bool, true, false, List, [], ◌∷◌, refl, arith, ap, Some, None, inl, inr, ◌⊎◌, add-zero, zero-add}
-use Rattle.std.specs.Prelude.{cond, not, ◌&&◌, ◌==◌, nat_le, Option, option_map, unwrap_or, slice_get}
+use Rattle.std.specs.Prelude.{cond, not, ◌&&◌, ◌==◌, Option, is_some, option_map, unwrap_or, slice_get}
 use Rattle.std.specs.List.{list_any}
 use Rattle.std.proofs.lemmas.Bool.Decides.{nat_tests}
 use Rattle.flat_base.specs.declared.ids.Actor.TheVariants.{Session}
@@ -15,8 +15,9 @@ use Rattle.flat_scene.proofs.lemmas.TakingLemmas.{taken-made}
 use Rattle.flat_base.proofs.lemmas.Tests.{and-left, and-right, or-cases}
 use Rattle.flat_rules.specs.Ends.{view_owner, views_of, pairs_where, ends_view, is_view_lost, has_view, loses, has_ended}
 use Rattle.flat_rules.specs.Legal.{Legal, owns_view}
-use Rattle.flat_facts.specs.Views.{has_viewed, stood_at}
-use Rattle.flat_facts.proofs.lemmas.Tests.{le-of}
+use Rattle.flat_scene.specs.declared.calls.Call.{Call}
+use Rattle.flat_facts.specs.Laws.{is_standing}
+use Rattle.flat_facts.specs.Views.{last_view}
 use Rattle.flat_facts.proofs.lemmas.ViewHistory.{ViewingOf, viewing-of, used_in}
 use Rattle.flat_facts.proofs.lemmas.ViewLaw.{made_at, ended}
 use Rattle.std.proofs.lemmas.Bool.{not-true, or_right}
@@ -86,16 +87,26 @@ lost-is : (setup : Setup) (h : List Entry) (s : SessionNo) (p : PairNo) → owns
     → is_view_lost setup h p ≡ ended setup p (made_at (presents s h) (taken setup h s))
 lost-is setup h s p owned opened = lost-by setup h s p (view_owner setup p) owned opened
 
-by-order : (m n : ℕ) (b : Bool) → nat_le m n ≡ b → (n < m → false ≡ true) → b ≡ true
-by-order m n true is never = refl
-by-order m n false is never = let less : n < m = grind (arith, nat_tests) in never less
+-- what isn't lost of any view isn't of the last
+lost-by-last : (lost gone : Bool) → (gone ≡ true → lost ≡ true) → lost ≡ false → gone ≡ false
+lost-by-last lost false implies kept = refl
+lost-by-last lost true implies kept = sym (implies refl) ∙ kept
+
+last-there : (last : Option PairNo) → is_some last ≡ true → (q : PairNo) × (last ≡ Some q)
+last-there None is = let wrong : false ≡ true = is in cc
+last-there (Some q) is = (q, refl)
+
+-- the last view, where its end isn't lost
+standing-last : (setup : Setup) (h : List Entry) (last : Option PairNo) → is_standing setup h last ≡ true → (q : PairNo) × (last ≡ Some q) × (not (is_view_lost setup h q) ≡ true)
+standing-last setup h None is = let wrong : false ≡ true = is in cc
+standing-last setup h (Some q) is = (q, refl, is)
 
 opened-view : (setup : Setup) (s : SessionNo) (h : List Entry) → ViewingOf setup s h → is_closed s h ≡ false
-    → list_any (λ p. used_in h p && not (is_view_lost setup h p)) (views_of setup s) ≡ (has_viewed s h && nat_le (taken setup h s) (stood_at s h))
+    → list_any (λ p. used_in h p && not (is_view_lost setup h p)) (views_of setup s) ≡ is_standing setup h (last_view s h)
 opened-view setup s h view opened =
     let f : PairNo → Bool = λ p. used_in h p && not (is_view_lost setup h p) in
     let test : PairDecl → Bool = λ pair. pair.view.0 == s.0 in
-    both_ways (list_any f (views_of setup s)) (has_viewed s h && nat_le (taken setup h s) (stood_at s h))
+    both_ways (list_any f (views_of setup s)) (is_standing setup h (last_view s h))
     (λ any.
     let one = found f test 0 setup.pairs any in
     let p : PairNo = record { 0 = one.0 } in
@@ -104,25 +115,26 @@ opened-view setup s h view opened =
     let is : f p ≡ true = subst F (zero-add one.0) one.2 in
     let used : used_in h p ≡ true = and-left (used_in h p) (not (is_view_lost setup h p)) is in
     let kept : is_view_lost setup h p ≡ false = not-true (is_view_lost setup h p) (and-right (used_in h p) (not (is_view_lost setup h p)) is) in
-    let unended : ended setup p (made_at (presents s h) (taken setup h s)) ≡ false = sym (lost-is setup h s p owned opened) ∙ kept in
-    let few : nat_le (taken setup h s) (stood_at s h) ≡ true =
-    by-order (taken setup h s) (stood_at s h) (nat_le (taken setup h s) (stood_at s h)) refl (λ less. sym unended ∙ view.later p owned used (taken setup h s) less (taken-made setup s h)) in
-    rw (view.known p owned used, few) refl)
-    (λ both.
-    let viewed : has_viewed s h ≡ true = and-left (has_viewed s h) (nat_le (taken setup h s) (stood_at s h)) both in
-    let few : taken setup h s ≤ stood_at s h = le-of (taken setup h s) (stood_at s h) (and-right (has_viewed s h) (nat_le (taken setup h s) (stood_at s h)) both) in
-    let one = view.some viewed in
-    let p : PairNo = one.0 in
-    let kept : is_view_lost setup h p ≡ false = lost-is setup h s p one.1 opened ∙ one.3 (taken setup h s) few in
-    let is : f p ≡ true = rw (one.2, kept) refl in
+    let last = last-there (last_view s h) (view.known p owned used) in
+    let q : PairNo = last.0 in
+    let mine : owns_view setup s q ≡ true = (view.made q last.1).0 in
+    let sees : List Call = made_at (presents s h) (taken setup h s) in
+    let unended : ended setup p sees ≡ false = sym (lost-is setup h s p owned opened) ∙ kept in
+    let stays : ended setup q sees ≡ false = lost-by-last (ended setup p sees) (ended setup q sees) (view.later q p last.1 owned used (taken setup h s) (taken-made setup s h)) unended in
+    ap (is_standing setup h) last.1 ∙ ap not (lost-is setup h s q mine opened ∙ stays))
+    (λ stands.
+    let last = standing-last setup h (last_view s h) stands in
+    let p : PairNo = last.0 in
+    let own = view.made p last.1 in
+    let is : f p ≡ true = rw (own.1, last.2) refl in
     let F : ℕ → Type 0 = λ m. f (record { 0 = m }) ≡ true in
-    any-found f test 0 p.0 setup.pairs (sym (nested s (slice_get setup.pairs p.0)) ∙ one.1) (subst F (sym (zero-add p.0)) is))
+    any-found f test 0 p.0 setup.pairs (sym (nested s (slice_get setup.pairs p.0)) ∙ own.0) (subst F (sym (zero-add p.0)) is))
 
 by-closed : (setup : Setup) (s : SessionNo) (h : List Entry) → Legal setup h → (b : Bool) → is_closed s h ≡ b
-    → has_view setup h s ≡ (not (is_closed s h) && has_viewed s h && nat_le (taken setup h s) (stood_at s h))
+    → has_view setup h s ≡ (not (is_closed s h) && is_standing setup h (last_view s h))
 by-closed setup s h legal true closed = rw closed refl
 by-closed setup s h legal false opened = rw opened (opened-view setup s h (viewing-of setup s h legal opened) opened)
 
 pub has-view : (setup : Setup) (s : SessionNo) (h : List Entry) → Legal setup h
-    → has_view setup h s ≡ (not (is_closed s h) && has_viewed s h && nat_le (taken setup h s) (stood_at s h))
+    → has_view setup h s ≡ (not (is_closed s h) && is_standing setup h (last_view s h))
 has-view setup s h legal = by-closed setup s h legal (is_closed s h) refl

@@ -40,7 +40,7 @@ watched-used setup before carries t get legal may d good q here =
     let view = viewing-of setup t before legal opened in
     let no_link : list_any is_link carries ≡ false = not-true (list_any is_link carries) may.links in
     let none : MadeOf (presents t before) [] (calls t before ++ carries) = λ n past few. let same : length (presents t before ++ []) ≡ length (presents t before) = ap length (append-nil (presents t before)) in absurd (omega (arith, past, few, same)) in
-    let more = viewing-more setup t (used_in before) (calls t before) (presents t before) _ _ _ view carries [] d (no-links-view carries no_link) good none in
+    let more = viewing-more setup t (used_in before) (calls t before) (presents t before) _ view carries [] d (no-links-view carries no_link) good none in
     let same : Ok more.draft ≡ Ok d = sym more.good ∙ good in
     let drafts : more.draft ≡ d = cc in
     (more.held q (ap (λ (x : Draft). is_pair x.view q) drafts ∙ here)).1

@@ -16,7 +16,7 @@ use Rattle.flat_scene.specs.Effect.{effect, after_call, after_calls, unless}
 use Rattle.flat_scene.specs.Misuse.{misuse}
 use Rattle.flat_rules.specs.Ends.{times, count_if, ends_view}
 use Rattle.flat_rules.specs.Legal.{is_link, all_but_last, makes_view, makes_viewport}
-use Rattle.flat_facts.specs.Views.{holds_then, holds_after, is_new_view}
+use Rattle.flat_facts.specs.Views.{is_new_view}
 use Rattle.flat_rules.specs.Shown.{is_pair}
 use Rattle.flat_facts.proofs.lemmas.Tests.{same-pair}
 use Rattle.std.proofs.lemmas.Bool.{or_from, or_parts}
@@ -42,23 +42,10 @@ pub good-one : (setup : Setup) (d d' : Draft) (calls : List Call) (reason : Opti
 good-one setup d d' calls None good = good
 good-one setup d d' calls (Some reason) good = let wrong : Err reason ≡ Ok d' = sym (after-refused setup reason calls) ∙ good in cc
 
--- ---- whether there is a view
-
-effect-holds : (d : Draft) (call : Call) → holds_then (is_some d.view) call ≡ is_some (effect d call).view
-effect-holds d (CreateView p) = refl
-effect-holds d ReleaseView = refl
-effect-holds d Clear = refl
-effect-holds d _ = refl
+-- ---- one pair, while no view is made
 
 same-view : (d d' : Draft) → (let r : Result Draft Reason = Ok d in r) ≡ Ok d' → d.view ≡ d'.view
 same-view d d' same = let drafts : d ≡ d' = cc in ap (λ (x : Draft). x.view) drafts
-
-pub view-holds : (setup : Setup) (calls : List Call) (d d' : Draft) → after_calls setup (Ok d) calls ≡ Ok d' → holds_after (is_some d.view) calls ≡ is_some d'.view
-view-holds setup [] d d' good = ap is_some (same-view d d' good)
-view-holds setup (call ∷ calls) d d' good =
-    ap (λ b. holds_after b calls) (effect-holds d call) ∙ view-holds setup calls (effect d call) d' (good-one setup (effect d call) d' calls (misuse setup d call) good)
-
--- ---- one pair, while no view is made
 
 -- Whether a view is there before and after, and how often calls ended it: a view that isn't there stays so, and one that is there stays or is ended.
 pub record Calm (before after : Bool) (n : ℕ) : Type 0 where

@@ -25,7 +25,7 @@ use Rattle.flat_base.proofs.lemmas.Tests.{and-left}
 use Rattle.flat_facts.specs.Begins.{entry_of}
 use Rattle.flat_rules.specs.Ends.{view_uses, uses_view, is_done, view_owner}
 use Rattle.flat_rules.specs.Legal.{Legal, LegalEntry, MayEnter, reply_to, refused_token, is_link, own_call, all_but_last, owns_view, owns_in_call}
-use Rattle.flat_facts.specs.Views.{holds_then, holds_view, has_viewed, stood_at, makes_it, holds_after, is_new_view}
+use Rattle.flat_facts.specs.Views.{last_view, view_made, is_new_view}
 use Rattle.flat_rules.proofs.lemmas.ShownSteps.{serial-get}
 use Rattle.flat_facts.proofs.lemmas.ViewUses.{viewed-more}
 use Rattle.flat_facts.proofs.lemmas.Tests.{or-false, same-pair}
@@ -38,7 +38,7 @@ abbrev pub used_in : List Entry → PairNo → Bool
 used_in h p = nat_lt 0 (length (view_uses p h))
 
 abbrev pub ViewingOf : Setup → SessionNo → List Entry → Type 0
-ViewingOf setup s h = Viewing setup s (used_in h) (calls s h) (presents s h) (holds_view s h) (has_viewed s h) (stood_at s h)
+ViewingOf setup s h = Viewing setup s (used_in h) (calls s h) (presents s h) (last_view s h)
 
 -- ---- another's entry
 
@@ -66,8 +66,8 @@ same-uses p e h none = viewed-more p e h ∙ ap (λ b. used_in h p || b) none �
 
 viewing-other : (setup : Setup) (s : SessionNo) (h : List Entry) (e : Entry) → LegalEntry setup h e → is_session s e.actor ≡ false → ViewingOf setup s h → ViewingOf setup s (h ▹ e)
 viewing-other setup s h e legal other old =
-    let here : Viewing setup s (used_in (h ▹ e)) (calls s h) (presents s h) (holds_view s h) (has_viewed s h) (stood_at s h) =
-    viewing-same setup s (used_in h) (used_in (h ▹ e)) (calls s h) (presents s h) (holds_view s h) (has_viewed s h) (stood_at s h)
+    let here : Viewing setup s (used_in (h ▹ e)) (calls s h) (presents s h) (last_view s h) =
+    viewing-same setup s (used_in h) (used_in (h ▹ e)) (calls s h) (presents s h) (last_view s h)
     (λ p mine. same-uses p e h (and_left (uses_view p e.kind) (is_done e.reply) (no-use setup h s p e.actor e.calls e.kind legal.may other mine))) old in
     rw other here
 
@@ -98,21 +98,16 @@ or-open false b opened is = is
 
 -- an own entry that makes no view
 own-plain : (setup : Setup) (s : SessionNo) (h : List Entry) (e : Entry) → is_session s e.actor ≡ true → list_any is_new_view e.calls ≡ false → is_some (result_ok (draft_of setup (calls s h ++ e.calls))) ≡ true
-    → makes_it e.kind e.reply ≡ false → ((p : PairNo) → (uses_view p e.kind && is_done e.reply) ≡ false) → ViewingOf setup s h → ViewingOf setup s (h ▹ e)
+    → view_made e.kind e.reply ≡ None → ((p : PairNo) → (uses_view p e.kind && is_done e.reply) ≡ false) → ViewingOf setup s h → ViewingOf setup s (h ▹ e)
 own-plain setup s h e mine no_link drafted no_view no_use old =
     let d' = some-draft (draft_of setup (calls s h ++ e.calls)) drafted in
     let ps : List Published = presents s h in
     let more : List Published = published e.kind e.reply (calls s h ++ e.calls) in
-    let holds : Bool = holds_after (holds_view s h) e.calls in
-    let here : Viewing setup s (used_in (h ▹ e)) (calls s h ++ e.calls) (ps ++ more) holds (has_viewed s h) (cond holds (length (ps ++ more)) (stood_at s h)) =
-    viewing-same setup s (used_in h) (used_in (h ▹ e)) (calls s h ++ e.calls) (ps ++ more) holds (has_viewed s h) (cond holds (length (ps ++ more)) (stood_at s h))
+    let here : Viewing setup s (used_in (h ▹ e)) (calls s h ++ e.calls) (ps ++ more) (last_view s h) =
+    viewing-same setup s (used_in h) (used_in (h ▹ e)) (calls s h ++ e.calls) (ps ++ more) (last_view s h)
     (λ p owned. same-uses p e h (no_use p))
-    (viewing-more setup s (used_in h) (calls s h) ps (holds_view s h) (has_viewed s h) (stood_at s h) old e.calls more d'.0 no_link d'.1 (published-made e.kind e.reply ps (calls s h ++ e.calls))) in
+    (viewing-more setup s (used_in h) (calls s h) ps (last_view s h) old e.calls more d'.0 no_link d'.1 (published-made e.kind e.reply ps (calls s h ++ e.calls))) in
     rw (mine, no_view) here
-
-holds-append : (b : Bool) (xs ys : List Call) → holds_after b (xs ++ ys) ≡ holds_after (holds_after b xs) ys
-holds-append b [] ys = refl
-holds-append b (x ∷ xs) ys = holds-append (holds_then b x) xs ys
 
 -- one that makes a view
 own-view : (setup : Setup) (s : SessionNo) (h : List Entry) (who : Actor) (line : ℕ) (carries : List Call) (q : PairNo) → is_session s who ≡ true → list_any is_new_view (all_but_last carries) ≡ false
@@ -124,13 +119,12 @@ own-view setup s h who line carries q mine no_link last drafted owned unused old
     let split : carries ≡ first ++ CreateView q ∷ [] = split-last carries (CreateView q) (last-made q (slice_get carries (length carries - 1)) last) in
     let d' = some-draft (draft_of setup (calls s h ++ carries)) drafted in
     let good : draft_of setup (calls s h ++ (first ++ CreateView q ∷ [])) ≡ Ok d'.0 = ap (λ (c : List Call). draft_of setup (calls s h ++ c)) (sym split) ∙ d'.1 in
-    let made : Viewing setup s (used_in (h ▹ e)) (calls s h ++ (first ++ CreateView q ∷ [])) (presents s h) true true (length (presents s h)) =
-    viewing-made setup s (used_in h) (calls s h) (presents s h) (holds_view s h) (has_viewed s h) (stood_at s h) old q first d'.0 no_link good owned unused (used_in (h ▹ e))
+    let made : Viewing setup s (used_in (h ▹ e)) (calls s h ++ (first ++ CreateView q ∷ [])) (presents s h) (Some q) =
+    viewing-made setup s (used_in h) (calls s h) (presents s h) (last_view s h) old q first d'.0 no_link good owned unused (used_in (h ▹ e))
     (λ p. viewed-more p e h ∙ ap (λ b. used_in h p || b) (and-true (q.0 == p.0))) in
-    let P : List Call → Type 0 = λ c. Viewing setup s (used_in (h ▹ e)) (calls s h ++ c) (presents s h) true true (length (presents s h)) in
-    let here : Viewing setup s (used_in (h ▹ e)) (calls s h ++ carries) (presents s h) true true (length (presents s h)) = subst P (sym split) made in
-    let holds : holds_after (holds_view s h) carries ≡ true = ap (holds_after (holds_view s h)) split ∙ holds-append (holds_view s h) first (CreateView q ∷ []) in
-    rw (mine, append-nil, holds) here
+    let P : List Call → Type 0 = λ c. Viewing setup s (used_in (h ▹ e)) (calls s h ++ c) (presents s h) (Some q) in
+    let here : Viewing setup s (used_in (h ▹ e)) (calls s h ++ carries) (presents s h) (Some q) = subst P (sym split) made in
+    rw (mine, append-nil) here
 
 view-reply : (setup : Setup) (s : SessionNo) (h : List Entry) (who : Actor) (line : ℕ) (carries : List Call) (q : PairNo) (reply : Reply) (n : ℕ) (b : Bool) → is_session s who ≡ true → MayEnter setup h (Session s) carries (View q)
     → (n == 0) ≡ b → n ≡ length (view_uses q h) → reply ≡ cond b Done refused_token → closes reply ≡ false → is_closed s h ≡ false → ViewingOf setup s h → ViewingOf setup s (h ▹ entry_of who line carries (View q) reply)

@@ -1,4 +1,4 @@
--- Which sessions have a view whose end isn't lost: those that made one, and of which frames have taken no more presents than stood with the last view.
+-- What the presents of a session see of the ends of its views: one that sees the end of the last view sees the end of each.
 use Rattle.std.proofs.Common.{◌≡◌, ◌∙◌, sym, subst, ℕ, ◌+◌, ◌<◌, ◌≤◌, Bool, true, false, List, [], ◌∷◌, ◌++◌, length, refl, arith, ap, Some, None, Ok, inl, inr, ◌⊎◌, length-append}
 use Rattle.std.specs.Prelude.{cond, ◌||◌, ◌==◌, nat_lt, nat_le, Option, Result, option_map, is_some, unwrap_or}
 use Rattle.std.specs.List.{list_any}
@@ -14,10 +14,10 @@ use Rattle.flat_scene.specs.Effect.{after_calls, draft_of}
 use Rattle.flat_scene.specs.History.{Published}
 use Rattle.flat_rules.specs.Ends.{times, ends_view, happens}
 use Rattle.flat_rules.specs.Legal.{owns_view}
-use Rattle.flat_facts.specs.Views.{holds_after, is_new_view}
+use Rattle.flat_facts.specs.Views.{is_new_view}
 use Rattle.flat_rules.specs.Shown.{is_pair}
 use Rattle.flat_rules.proofs.lemmas.ShownSteps.{serial-append}
-use Rattle.flat_facts.proofs.lemmas.ViewCalls.{Calm, calm, creates, after-append, times-append, view-holds}
+use Rattle.flat_facts.proofs.lemmas.ViewCalls.{Calm, calm, creates, after-append, times-append}
 use Rattle.flat_facts.proofs.lemmas.Tests.{same-pair}
 use Rattle.std.proofs.lemmas.Bool.{or_right, or_parts}
 
@@ -28,43 +28,36 @@ made_at ps n = unwrap_or (option_map (λ present. present.made) (of_serial ps n)
 abbrev pub ended : Setup → PairNo → List Call → Bool
 ended setup p cs = happens setup (ends_view p) cs
 
--- What holds of an open session after its calls: which view ends it used, which it holds, and what its presents have seen of their end.
-pub record Viewing (setup : Setup) (s : SessionNo) (used : PairNo → Bool) (cs : List Call) (ps : List Published) (holds viewed : Bool) (stood : ℕ) : Type 0 where
+-- What holds of an open session after its calls: which view ends it used, which it holds, which is the last, and what its presents have seen of their end.
+pub record Viewing (setup : Setup) (s : SessionNo) (used : PairNo → Bool) (cs : List Call) (ps : List Published) (last : Option PairNo) : Type 0 where
   pub draft : Draft
   pub good : draft_of setup cs ≡ Ok draft
-  pub holding : holds ≡ is_some draft.view
   -- each view end that was used is held, or ended
   pub standing : (p : PairNo) → owns_view setup s p ≡ true → used p ≡ true → (is_pair draft.view p ≡ true) ⊎ (ended setup p cs ≡ true)
-  -- what is held is its own, was used, and isn't ended
-  pub held : (p : PairNo) → is_pair draft.view p ≡ true → (owns_view setup s p ≡ true) × (used p ≡ true) × (ended setup p cs ≡ false)
+  -- what is held is its own, was used, isn't ended, and is the last
+  pub held : (p : PairNo) → is_pair draft.view p ≡ true → (owns_view setup s p ≡ true) × (used p ≡ true) × (ended setup p cs ≡ false) × (last ≡ Some p)
   -- what wasn't used isn't ended
   pub fresh : (p : PairNo) → owns_view setup s p ≡ true → used p ≡ false → ended setup p cs ≡ false
   -- no present sees an end that isn't there yet
   pub early : (p : PairNo) → ended setup p cs ≡ false → (n : ℕ) → n ≤ length ps → ended setup p (made_at ps n) ≡ false
-  pub fits : stood ≤ length ps
-  -- the later presents see the end of each view
-  pub later : (p : PairNo) → owns_view setup s p ≡ true → used p ≡ true → (n : ℕ) → stood < n → n ≤ length ps → ended setup p (made_at ps n) ≡ true
-  -- the others don't see the end of one of them
-  pub some : viewed ≡ true → (p : PairNo) × (owns_view setup s p ≡ true) × (used p ≡ true) × ((n : ℕ) → n ≤ stood → ended setup p (made_at ps n) ≡ false)
-  pub known : (p : PairNo) → owns_view setup s p ≡ true → used p ≡ true → viewed ≡ true
+  -- the last is its own, and was used
+  pub made : (q : PairNo) → last ≡ Some q → (owns_view setup s q ≡ true) × (used q ≡ true)
+  -- a present that sees the end of the last sees that of each
+  pub later : (q p : PairNo) → last ≡ Some q → owns_view setup s p ≡ true → used p ≡ true → (n : ℕ) → n ≤ length ps → ended setup q (made_at ps n) ≡ true → ended setup p (made_at ps n) ≡ true
+  pub known : (p : PairNo) → owns_view setup s p ≡ true → used p ≡ true → is_some last ≡ true
 
 -- ---- before any entry
 
-no-pair : (p : PairNo) → is_pair None p ≡ true → false ≡ true
-no-pair p is = is
-
-pub viewing-first : (setup : Setup) (s : SessionNo) → Viewing setup s (λ p. false) [] [] false false 0
+pub viewing-first : (setup : Setup) (s : SessionNo) → Viewing setup s (λ p. false) [] [] None
 viewing-first setup s = record {
   draft = empty_draft;
   good = refl;
-  holding = refl;
   standing = λ p owned is. let wrong : false ≡ true = is in cc;
   held = λ p is. let wrong : false ≡ true = is in cc;
   fresh = λ p owned is. refl;
   early = λ p is n few. refl;
-  fits = omega arith;
-  later = λ p owned is n less few. let wrong : false ≡ true = is in cc;
-  some = λ is. let wrong : false ≡ true = is in cc;
+  made = λ q is. let none : (let o : Option PairNo = None in o) ≡ Some q = is in cc;
+  later = λ q p last owned is n few sees. let wrong : false ≡ true = is in cc;
   known = λ p owned is. is;
 }
 
@@ -92,15 +85,6 @@ ended-append setup p cs more d good =
 pub good-more : (setup : Setup) (cs more : List Call) (d d' : Draft) → draft_of setup cs ≡ Ok d → draft_of setup (cs ++ more) ≡ Ok d' → after_calls setup (Ok d) more ≡ Ok d'
 good-more setup cs more d d' good all =
     ap (λ (r : Result Draft Reason). after_calls setup r more) (sym good) ∙ sym (after-append setup (Ok empty_draft) cs more) ∙ all
-
--- a pair that is there is held by the session
-some-pair : (view : Option PairNo) → is_some view ≡ true → (p : PairNo) × (is_pair view p ≡ true)
-some-pair None is = let wrong : false ≡ true = is in cc
-some-pair (Some q) is = (q, grind (arith, nat_tests))
-
-pair-some : (view : Option PairNo) (p : PairNo) → is_pair view p ≡ true → is_some view ≡ true
-pair-some None p is = is
-pair-some (Some q) p is = refl
 
 -- whether a session has a view after more calls, without a new one
 standing-more : (setup : Setup) (p : PairNo) (cs more : List Call) (d d' : Draft) → draft_of setup cs ≡ Ok d → Calm (is_pair d.view p) (is_pair d'.view p) (times setup (ends_view p) (Ok d) more)
@@ -143,59 +127,48 @@ early-more : (setup : Setup) (p : PairNo) (ps more : List Published) (all : List
 early-more setup p ps more all n made none before few (inl less) = ap (ended setup p) (made-earlier ps more n less) ∙ before less
 early-more setup p ps more all n made none before few (inr past) = ap (ended setup p) (made n past few) ∙ none
 
-later-more : (setup : Setup) (p : PairNo) (ps more : List Published) (all : List Call) (n : ℕ) → MadeOf ps more all → ended setup p all ≡ true → (n ≤ length ps → ended setup p (made_at ps n) ≡ true) → n ≤ length (ps ++ more)
-    → (n ≤ length ps) ⊎ (length ps < n) → ended setup p (made_at (ps ++ more) n) ≡ true
-later-more setup p ps more all n made gone before few (inl less) = ap (ended setup p) (made-earlier ps more n less) ∙ before less
-later-more setup p ps more all n made gone before few (inr past) = ap (ended setup p) (made n past few) ∙ gone
+-- what sees the end of the last sees that of each, where it was the last before
+later-more : (setup : Setup) (q p : PairNo) (ps more : List Published) (all : List Call) (n : ℕ) → MadeOf ps more all → (ended setup q all ≡ true → ended setup p all ≡ true)
+    → (n ≤ length ps → ended setup q (made_at ps n) ≡ true → ended setup p (made_at ps n) ≡ true) → n ≤ length (ps ++ more)
+    → (n ≤ length ps) ⊎ (length ps < n) → ended setup q (made_at (ps ++ more) n) ≡ true → ended setup p (made_at (ps ++ more) n) ≡ true
+later-more setup q p ps more all n made now before few (inl less) sees =
+    let same : (r : PairNo) → ended setup r (made_at (ps ++ more) n) ≡ ended setup r (made_at ps n) = λ r. ap (ended setup r) (made-earlier ps more n less) in
+    same p ∙ before less (sym (same q) ∙ sees)
+later-more setup q p ps more all n made now before few (inr past) sees =
+    let same : (r : PairNo) → ended setup r (made_at (ps ++ more) n) ≡ ended setup r all = λ r. ap (ended setup r) (made n past few) in
+    same p ∙ now (sym (same q) ∙ sees)
 
--- what stands is ended, where nothing is held
-none-held : (view : Option PairNo) (p : PairNo) (gone : Bool) → is_some view ≡ false → (is_pair view p ≡ true) ⊎ (gone ≡ true) → gone ≡ true
-none-held view p gone none (inl here) = let wrong : false ≡ true = sym none ∙ pair-some view p here in cc
-none-held view p gone none (inr is) = is
+-- where the last is ended, so is what stands
+now-ended : (setup : Setup) (q p : PairNo) (all : List Call) (last : Option PairNo) → last ≡ Some q → (last ≡ Some p) ⊎ (ended setup p all ≡ true) → ended setup q all ≡ true → ended setup p all ≡ true
+now-ended setup q p all last is (inr gone) sees = gone
+now-ended setup q p all last is (inl here) sees =
+    let both : Some q ≡ Some p = sym is ∙ here in
+    let same : q ≡ p = cc in
+    ap (λ (r : PairNo). ended setup r all) (sym same) ∙ sees
 
-later-by : (setup : Setup) (p : PairNo) (ps more : List Published) (all : List Call) (view : Option PairNo) (stood n : ℕ) (holds : Bool) → MadeOf ps more all → holds ≡ is_some view
-    → (is_pair view p ≡ true) ⊎ (ended setup p all ≡ true) → (stood < n → n ≤ length ps → ended setup p (made_at ps n) ≡ true)
-    → cond holds (length (ps ++ more)) stood < n → n ≤ length (ps ++ more) → ended setup p (made_at (ps ++ more) n) ≡ true
-later-by setup p ps more all view stood n true made is standing before less few = absurd (omega (arith, less, few))
-later-by setup p ps more all view stood n false made is standing before less few =
-    later-more setup p ps more all n made (none-held view p (ended setup p all) (sym is) standing) (before less) few (le-or-lt n (length ps))
-
-some-by : (setup : Setup) (s : SessionNo) (used : PairNo → Bool) (ps more : List Published) (all : List Call) (view : Option PairNo) (stood : ℕ) (holds : Bool) → MadeOf ps more all → holds ≡ is_some view → stood ≤ length ps
-    → ((p : PairNo) → is_pair view p ≡ true → (owns_view setup s p ≡ true) × (used p ≡ true) × (ended setup p all ≡ false))
-    → ((p : PairNo) → ended setup p all ≡ false → (n : ℕ) → n ≤ length (ps ++ more) → ended setup p (made_at (ps ++ more) n) ≡ false)
-    → ((p : PairNo) × (owns_view setup s p ≡ true) × (used p ≡ true) × ((n : ℕ) → n ≤ stood → ended setup p (made_at ps n) ≡ false))
-    → (p : PairNo) × (owns_view setup s p ≡ true) × (used p ≡ true) × ((n : ℕ) → n ≤ cond holds (length (ps ++ more)) stood → ended setup p (made_at (ps ++ more) n) ≡ false)
-some-by setup s used ps more all view stood true made is fits held early before =
-    let q = some-pair view (sym is) in
-    let here = held q.0 q.1 in
-    (q.0, here.0, here.1, λ n few. early q.0 here.2 n few)
-some-by setup s used ps more all view stood false made is fits held early before =
-    (before.0, before.1, before.2, λ n few. let less : n ≤ length ps = omega (arith, few, fits) in ap (ended setup before.0) (made-earlier ps more n less) ∙ before.3 n few)
-
-fits-by : (ps more : List Published) (stood : ℕ) (holds : Bool) → stood ≤ length ps → cond holds (length (ps ++ more)) stood ≤ length (ps ++ more)
-fits-by ps more stood true fits = omega arith
-fits-by ps more stood false fits = omega (arith, fits, length-append ps more)
+last-or-ended : (is_held gone : Bool) (last : Option PairNo) (p : PairNo) → (is_held ≡ true → last ≡ Some p) → (is_held ≡ true) ⊎ (gone ≡ true) → (last ≡ Some p) ⊎ (gone ≡ true)
+last-or-ended is_held gone last p named (inl here) = inl (named here)
+last-or-ended is_held gone last p named (inr is) = inr is
 
 fresh-by : (a a' b : Bool) (m n : ℕ) → Calm a a' n → a ≡ b → (a ≡ true → b ≡ false) → nat_lt 0 m ≡ false → nat_lt 0 (m + n) ≡ false
 fresh-by a a' true m n quiet is never none = let wrong : true ≡ false = never is in cc
 fresh-by a a' false m n quiet is never none = ended-false m n none (quiet.none is).1
 
 -- an entry of the session that makes no view
-pub viewing-more : (setup : Setup) (s : SessionNo) (used : PairNo → Bool) (cs : List Call) (ps : List Published) (holds viewed : Bool) (stood : ℕ) → Viewing setup s used cs ps holds viewed stood
+pub viewing-more : (setup : Setup) (s : SessionNo) (used : PairNo → Bool) (cs : List Call) (ps : List Published) (last : Option PairNo) → Viewing setup s used cs ps last
     → (carries : List Call) (more : List Published) (d' : Draft) → list_any is_new_view carries ≡ false → draft_of setup (cs ++ carries) ≡ Ok d' → MadeOf ps more (cs ++ carries)
-    → Viewing setup s used (cs ++ carries) (ps ++ more) (holds_after holds carries) viewed (cond (holds_after holds carries) (length (ps ++ more)) stood)
-viewing-more setup s used cs ps holds viewed stood old carries more d' no_link good made =
+    → Viewing setup s used (cs ++ carries) (ps ++ more) last
+viewing-more setup s used cs ps last old carries more d' no_link good made =
     let d = old.draft in
     let after : after_calls setup (Ok d) carries ≡ Ok d' = good-more setup cs carries d d' old.good good in
     let quiet : (p : PairNo) → Calm (is_pair d.view p) (is_pair d'.view p) (times setup (ends_view p) (Ok d) carries) = λ p. calm setup p carries d d' no_link after in
-    let holding : holds_after holds carries ≡ is_some d'.view = ap (λ b. holds_after b carries) old.holding ∙ view-holds setup carries d d' after in
     let standing : (p : PairNo) → owns_view setup s p ≡ true → used p ≡ true → (is_pair d'.view p ≡ true) ⊎ (ended setup p (cs ++ carries) ≡ true) =
     λ p owned is. standing-more setup p cs carries d d' old.good (quiet p) (old.standing p owned is) in
-    let held : (p : PairNo) → is_pair d'.view p ≡ true → (owns_view setup s p ≡ true) × (used p ≡ true) × (ended setup p (cs ++ carries) ≡ false) =
+    let held : (p : PairNo) → is_pair d'.view p ≡ true → (owns_view setup s p ≡ true) × (used p ≡ true) × (ended setup p (cs ++ carries) ≡ false) × (last ≡ Some p) =
     λ p here.
     let was = held-more (is_pair d.view p) (is_pair d'.view p) (times setup (ends_view p) (Ok d) carries) (quiet p) here (is_pair d.view p) refl in
     let before = old.held p was.0 in
-    (before.0, before.1, ended-append setup p cs carries d old.good ∙ ended-false (times setup (ends_view p) (Ok empty_draft) cs) (times setup (ends_view p) (Ok d) carries) before.2 was.1) in
+    (before.0, before.1, ended-append setup p cs carries d old.good ∙ ended-false (times setup (ends_view p) (Ok empty_draft) cs) (times setup (ends_view p) (Ok d) carries) before.2 was.1, before.3) in
     let early : (p : PairNo) → ended setup p (cs ++ carries) ≡ false → (n : ℕ) → n ≤ length (ps ++ more) → ended setup p (made_at (ps ++ more) n) ≡ false =
     λ p none n few.
     let before : ended setup p cs ≡ false = not-ended (times setup (ends_view p) (Ok empty_draft) cs) (times setup (ends_view p) (Ok d) carries) (sym (ended-append setup p cs carries d old.good) ∙ none) in
@@ -203,7 +176,6 @@ viewing-more setup s used cs ps holds viewed stood old carries more d' no_link g
     record {
       draft = d';
       good = good;
-      holding = holding;
       standing = standing;
       held = held;
       fresh = λ p owned unused.
@@ -211,9 +183,11 @@ viewing-more setup s used cs ps holds viewed stood old carries more d' no_link g
           ∙ fresh-by (is_pair d.view p) (is_pair d'.view p) (is_pair d.view p) (times setup (ends_view p) (Ok empty_draft) cs) (times setup (ends_view p) (Ok d) carries) (quiet p) refl
           (λ here. let wrong : true ≡ false = sym (old.held p here).1 ∙ unused in cc) (old.fresh p owned unused);
       early = early;
-      fits = fits-by ps more stood (holds_after holds carries) old.fits;
-      later = λ p owned is n less few. later-by setup p ps more (cs ++ carries) d'.view stood n (holds_after holds carries) made holding (standing p owned is) (λ past n_few. old.later p owned is n past n_few) less few;
-      some = λ is. some-by setup s used ps more (cs ++ carries) d'.view stood (holds_after holds carries) made holding old.fits held early (old.some is);
+      made = old.made;
+      later = λ q p is owned used_p n few sees.
+          later-more setup q p ps more (cs ++ carries) n made
+          (now-ended setup q p (cs ++ carries) last is (last-or-ended (is_pair d'.view p) (ended setup p (cs ++ carries)) last p (λ here. (held p here).3) (standing p owned used_p)))
+          (old.later q p is owned used_p n) few (le-or-lt n (length ps)) sees;
       known = old.known;
     }
 
@@ -240,11 +214,11 @@ stood-or-new : (setup : Setup) (p q : PairNo) (all : List Call) (view : Option P
 stood-or-new setup p q all view true new gone is = inr (gone refl)
 stood-or-new setup p q all view false new gone is = inl (ap (λ (v : Option PairNo). is_pair v p) new ∙ is)
 
-pub viewing-made : (setup : Setup) (s : SessionNo) (used : PairNo → Bool) (cs : List Call) (ps : List Published) (holds viewed : Bool) (stood : ℕ) → Viewing setup s used cs ps holds viewed stood
+pub viewing-made : (setup : Setup) (s : SessionNo) (used : PairNo → Bool) (cs : List Call) (ps : List Published) (last : Option PairNo) → Viewing setup s used cs ps last
     → (q : PairNo) (first : List Call) (d' : Draft) → list_any is_new_view first ≡ false → draft_of setup (cs ++ (first ++ CreateView q ∷ [])) ≡ Ok d' → owns_view setup s q ≡ true → used q ≡ false
     → (used' : PairNo → Bool) → ((p : PairNo) → used' p ≡ (used p || q.0 == p.0))
-    → Viewing setup s used' (cs ++ (first ++ CreateView q ∷ [])) ps true true (length ps)
-viewing-made setup s used cs ps holds viewed stood old q first d' no_link good owned_q unused used' uses =
+    → Viewing setup s used' (cs ++ (first ++ CreateView q ∷ [])) ps (Some q)
+viewing-made setup s used cs ps last old q first d' no_link good owned_q unused used' uses =
     let d = old.draft in
     let carries : List Call = first ++ CreateView q ∷ [] in
     let all : List Call = cs ++ carries in
@@ -261,38 +235,41 @@ viewing-made setup s used cs ps holds viewed stood old q first d' no_link good o
     λ p none k few. old.early p (not-ended (m p) (n p) (sym (counted p) ∙ none)) k few in
     let here : (p : PairNo) → is_pair d'.view p ≡ true → q ≡ p = λ p is. same-pair q p (ap (λ (v : Option PairNo). is_pair v p) (sym made.some) ∙ is) in
     let own_pair : (q.0 == q.0) ≡ true = grind (arith, nat_tests) in
+    let now_used : used' q ≡ true = uses q ∙ or_right (used q) (q.0 == q.0) own_pair in
     record {
       draft = d';
       good = good;
-      holding = ap is_some (sym made.some);
       standing = λ p owned is.
           stood-or-new setup p q all d'.view (used p) made.some (λ before. ended-before (is_pair d.view p) (m p) (n p) (ended setup p all) (quiet p) (counted p) (old.standing p owned before)) (sym (uses p) ∙ is);
       held = λ p is.
           let same : q ≡ p = here p is in
-          let H : PairNo → Type 0 = λ r. (owns_view setup s r ≡ true) × (used' r ≡ true) × (ended setup r all ≡ false) in
-          subst H same (owned_q, uses q ∙ or_right (used q) (q.0 == q.0) own_pair, unended q owned_q unused);
+          let H : PairNo → Type 0 = λ r. (owns_view setup s r ≡ true) × (used' r ≡ true) × (ended setup r all ≡ false) × (Some q ≡ Some r) in
+          subst H same (owned_q, now_used, unended q owned_q unused, refl);
       fresh = λ p owned none. unended p owned (or_parts (used p) (q.0 == p.0) (sym (uses p) ∙ none)).0;
       early = early;
-      fits = omega arith;
-      later = λ p owned is k less few. absurd (omega (arith, less, few));
-      some = λ is. (q, owned_q, uses q ∙ or_right (used q) (q.0 == q.0) own_pair, λ k few. early q (unended q owned_q unused) k few);
+      made = λ r is.
+          let same : q ≡ r = cc in
+          let M : PairNo → Type 0 = λ x. (owns_view setup s x ≡ true) × (used' x ≡ true) in
+          subst M same (owned_q, now_used);
+      later = λ r p is owned used_p k few sees.
+          let same : q ≡ r = cc in
+          let wrong : false ≡ true = sym (early q (unended q owned_q unused) k few) ∙ ap (λ (x : PairNo). ended setup x (made_at ps k)) same ∙ sees in
+          cc;
       known = λ p owned is. refl;
     }
 
 -- ---- the same, with the uses told otherwise
 
-pub viewing-same : (setup : Setup) (s : SessionNo) (used used' : PairNo → Bool) (cs : List Call) (ps : List Published) (holds viewed : Bool) (stood : ℕ)
-    → ((p : PairNo) → owns_view setup s p ≡ true → used' p ≡ used p) → Viewing setup s used cs ps holds viewed stood → Viewing setup s used' cs ps holds viewed stood
-viewing-same setup s used used' cs ps holds viewed stood same old = record {
+pub viewing-same : (setup : Setup) (s : SessionNo) (used used' : PairNo → Bool) (cs : List Call) (ps : List Published) (last : Option PairNo)
+    → ((p : PairNo) → owns_view setup s p ≡ true → used' p ≡ used p) → Viewing setup s used cs ps last → Viewing setup s used' cs ps last
+viewing-same setup s used used' cs ps last same old = record {
   draft = old.draft;
   good = old.good;
-  holding = old.holding;
   standing = λ p owned is. old.standing p owned (sym (same p owned) ∙ is);
-  held = λ p here. let was = old.held p here in (was.0, same p was.0 ∙ was.1, was.2);
+  held = λ p here. let was = old.held p here in (was.0, same p was.0 ∙ was.1, was.2, was.3);
   fresh = λ p owned none. old.fresh p owned (sym (same p owned) ∙ none);
   early = old.early;
-  fits = old.fits;
-  later = λ p owned is n less few. old.later p owned (sym (same p owned) ∙ is) n less few;
-  some = λ is. let was = old.some is in (was.0, was.1, same was.0 was.1 ∙ was.2, was.3);
+  made = λ q is. let was = old.made q is in (was.0, same q was.0 ∙ was.1);
+  later = λ q p is owned used_p n few sees. old.later q p is owned (sym (same p owned) ∙ used_p) n few sees;
   known = λ p owned is. old.known p owned (sym (same p owned) ∙ is);
 }
