@@ -8,4 +8,3 @@ pub mod Ones
 pub mod Opened
 pub mod Steps
 pub mod ViewSteps
-pub mod WithView

@@ -1,5 +1,5 @@
 -- How what is kept of a session stands for what the rules say.
-use Rattle.std.specs.Prelude.{◌≡◌, ℕ, ◌+◌, ◌-◌, Bool, not, ◌&&◌, ◌==◌, nat_le, cond, ◌<◌, ◌≤◌, true, false, List, [], length, map, All, Option, Some, vec_capacity}
+use Rattle.std.specs.Prelude.{◌≡◌, ℕ, ◌+◌, ◌-◌, ◌==◌, cond, ◌<◌, ◌≤◌, true, false, List, [], length, map, All, Option, Some, vec_capacity}
 use Rattle.std.specs.Arc.{arc_value}
 use Rattle.std.specs.declared.sync.Arc.{Arc}
 use Rattle.std.specs.declared.alloc.Global.{Global}
@@ -60,7 +60,3 @@ waiting_in state = cond state.let_go (length state.going.items) (length state.qu
 -- how many it may make
 abbrev pub credits_in : SessionState → ℕ
 credits_in state = cond (taken_in state == 0) FIRST_CREDITS FULL_CREDITS - waiting_in state
-
--- whether it has a view whose end isn't lost: it made one, and frames have taken no more presents than stood with the last one
-abbrev pub has_view_in : SessionState → Bool
-has_view_in state = not state.closed && state.account.viewed && nat_le (taken_in state) state.account.stood

@@ -7,13 +7,11 @@ use Rattle.flat_base.specs.declared.errors.Reason.{Reason}
 use Rattle.flat_base.specs.declared.ids.Actor.{Actor}
 use Rattle.flat_base.specs.declared.ids.Actor.TheVariants.{Session}
 use Rattle.flat_base.specs.declared.ids.FenceNo.{FenceNo}
-use Rattle.flat_scene.specs.declared.calls.Call.{Call}
 use Rattle.flat_scene.specs.declared.calls.PresentArgs.{PresentArgs}
 use Rattle.flat_scene.specs.declared.journal.Entry.{Entry}
 use Rattle.flat_scene.specs.declared.journal.Kind.{Kind}
 use Rattle.flat_scene.specs.declared.journal.Kind.TheVariants.{Present, View}
 use Rattle.flat_scene.specs.declared.journal.Reply.{Reply}
-use Rattle.flat_scene.specs.History.{closes}
 use Rattle.flat_scene.specs.declared.journal.Reply.TheVariants.{Done, Presented, Closed}
 use Rattle.flat_scene.specs.Draft.{changed_at}
 use Rattle.flat_scene.specs.Frames.{up_to_first}
@@ -23,7 +21,6 @@ use Rattle.flat_snap.specs.declared.snapshot.Snapshot.{Snapshot}
 use Rattle.flat_states.specs.declared.state.SessionState.{SessionState}
 use Rattle.flat_rules.specs.Lasts.{last_from}
 use Rattle.flat_rules.specs.Legal.{refused_token}
-use Rattle.flat_states.specs.Seen.{noted}
 
 -- the number of the next present
 abbrev pub next_present : SessionState → ℕ
@@ -34,17 +31,9 @@ abbrev pub present_reply : SessionState → Reply
 present_reply state =
     cond (nat_lt 0 (credits_of state.queue)) (Presented (next_present state) (credits_of state.queue - 1)) (Closed (Some NoPresentsRemaining) None)
 
--- a present joins those that wait
-abbrev pub with_present : SessionState → Arc Snapshot Global → PresentArgs → SessionState
-with_present state snap args = record state { queue = pushed state.queue snap args; account = record state.account { presents = next_present state } }
-
 -- a present joins those that wait, where the session has a credit
 abbrev pub with_waiting : SessionState → Arc Snapshot Global → PresentArgs → SessionState
 with_waiting state snap args = cond (nat_lt 0 (credits_of state.queue)) (record state { queue = pushed state.queue snap args }) state
-
--- a present joins, or closes the session where it has no credit
-abbrev pub after_present : SessionState → Arc Snapshot Global → PresentArgs → SessionState
-after_present state snap args = cond (nat_lt 0 (credits_of state.queue)) (with_present state snap args) (record state { closed = true })
 
 -- how many events may be posted for it
 abbrev pub owed_for : Reply → ℕ
@@ -60,7 +49,7 @@ pub record IsNew (state : SessionState) : Type 0 where
   pub took : state.took ≡ 0
   pub closed : state.closed ≡ false
   pub let_go : state.let_go ≡ false
-  pub account : state.account ≡ record { presents = 0; polled = 0; viewed = false; holds = false; stood = 0 }
+  pub account : state.account ≡ record { presents = 0; polled = 0; view = None }
 
 -- what a frame takes of what is kept: all before the first present that isn't ready, and none after the first unsquashable one
 abbrev pub frame_takes : {T : Type 0} → ℕ → (FenceNo → Bool) → List (WaitingPresent T) → List (WaitingPresent T)
@@ -89,40 +78,23 @@ pub record LetGo (old new : SessionState) : Type 0 where
   pub closed : new.closed ≡ old.closed
   pub account : new.account ≡ old.account
 
--- ---- views, and the calls that entries carry
+-- ---- what a reply decides
 
 -- the reply to the use of an end, where its token is held or not
 abbrev pub use_reply : Bool → Reply
 use_reply true = Done
 use_reply false = refused_token
 
--- what is kept of its session then, but for the calls
-abbrev pub after_view : Bool → SessionState → SessionState
-after_view true state = record state { account = record state.account { viewed = true } }
-after_view false state = record state { closed = true }
-
-abbrev pub after_viewport : Bool → SessionState → SessionState
-after_viewport true state = state
-after_viewport false state = record state { closed = true }
-
--- the same by the reply to a get
-abbrev pub after_get : Reply → SessionState → SessionState
-after_get reply state = cond (closes reply) (record state { closed = true }) state
-
--- a session's state with the calls of one more entry
-abbrev pub with_calls : List Call → SessionState → SessionState
-with_calls calls state = record state { account = noted calls state.account }
-
--- what the reply to an entry decides of what is kept of its session: it is closed, made one more present, or has a view
+-- what the reply to an entry decides of what is kept of its session: it is closed, made one more present, or has that view
 abbrev pub after_reply : Kind → Reply → SessionState → SessionState
 after_reply (Present args) (Presented number credits) state = record state { account = record state.account { presents = number } }
-after_reply (View p) Done state = record state { account = record state.account { viewed = true } }
+after_reply (View p) Done state = record state { account = record state.account { view = Some p } }
 after_reply kind (Closed error reason) state = record state { closed = true }
 after_reply kind reply state = state
 
 -- a session's state after one more entry of its own, for which a present has joined already
 abbrev pub after_entry : Entry → SessionState → SessionState
-after_entry entry state = with_calls entry.calls (after_reply entry.kind entry.reply state)
+after_entry entry = after_reply entry.kind entry.reply
 
 -- all states after an entry of this actor
 abbrev pub entered_by : Actor → Entry → List SessionState → List SessionState
@@ -131,11 +103,6 @@ entered_by who entry states = states
 
 abbrev pub entered_in : Entry → List SessionState → List SessionState
 entered_in entry = entered_by entry.actor entry
-
--- all states, where this actor carries calls
-abbrev pub noted_in : Actor → List Call → List SessionState → List SessionState
-noted_in (Session s) calls states = changed_at s.0 (with_calls calls) states
-noted_in who calls states = states
 
 -- the actor is one of so many sessions, or no session
 abbrev pub IsPlaced : ℕ → Actor → Type 0

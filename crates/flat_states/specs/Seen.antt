@@ -1,7 +1,6 @@
 -- What the rules say of a session, in the parts that a board keeps.
 use Rattle.std.specs.Prelude.{ℕ, Bool, cond, ◌&&◌, List, [], length}
 use Rattle.flat_base.specs.declared.ids.SessionNo.{SessionNo}
-use Rattle.flat_scene.specs.declared.calls.Call.{Call}
 use Rattle.flat_scene.specs.declared.journal.Entry.{Entry}
 use Rattle.flat_scene.specs.declared.setup.Setup.{Setup}
 use Rattle.flat_scene.specs.History.{◌▹◌, is_closed, is_session, presents, Published}
@@ -9,7 +8,7 @@ use Rattle.flat_scene.specs.Frames.{taken, waiting, going}
 use Rattle.flat_states.specs.declared.state.Account.{Account}
 use Rattle.flat_rules.specs.Posts.{posts, frame_took}
 use Rattle.flat_rules.specs.Legal.{is_poll, is_frame_open}
-use Rattle.flat_facts.specs.Views.{holds_after, has_viewed, holds_view, stood_at}
+use Rattle.flat_facts.specs.Views.{last_view}
 
 module _ (setup : Setup) where
   -- how many events were posted before its last poll
@@ -22,9 +21,7 @@ module _ (setup : Setup) where
   account_of history s = record {
     presents = length (presents s history);
     polled = polled_at history s;
-    viewed = has_viewed s history;
-    holds = holds_view s history;
-    stood = stood_at s history;
+    view = last_view s history;
   }
 
 -- All that a board keeps of a session.
@@ -45,11 +42,4 @@ seen_of setup history s = record {
   going = going setup history s;
   took = cond (is_frame_open history) (frame_took setup history s) 0;
   account = account_of setup history s;
-}
-
--- an account with the calls of one more entry
-abbrev pub noted : List Call → Account → Account
-noted calls account = record account {
-  holds = holds_after account.holds calls;
-  stood = cond (holds_after account.holds calls) account.presents account.stood;
 }

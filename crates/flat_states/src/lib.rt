@@ -1,10 +1,10 @@
 //! What a board keeps of its sessions, and its log: the presents that wait and what frames
-//! took of them (state, views), which view ends were used (ends), the clock of frames, the
-//! display's pixel ratios, and the display as a viewport (clock, ratios, port). Each part
-//! stands for a history by a record of its own (specs/).
+//! took of them (state), what a reply decides of its session (replies), which view ends were
+//! used (ends), the clock of frames, the display's pixel ratios, and the display as a viewport
+//! (clock, ratios, port). Each part stands for a history by a record of its own (specs/).
 //!
 //! Other crates may cite the lemmas of proofs/lemmas/:
-//! - of what is kept of one session: Changes, Counts, Heard, Ones, ViewSteps, WithView;
+//! - of what is kept of one session: Changes, Counts, Heard, Ones, ViewSteps;
 //! - of all that is kept: BeginLoop, Entered, Opened, Steps.
 #![tactic(auto)]
 
@@ -15,4 +15,3 @@ pub mod port;
 pub mod ratios;
 pub mod replies;
 pub mod state;
-pub mod views;

@@ -1,9 +1,9 @@
 //! What the reply to an entry says of its session.
 ghost use Rattle.std.specs.Prelude.{◌≡◌};
 ghost use Rattle.flat_scene.specs.History.{closes};
-ghost use Rattle.flat_states.specs.Presents.{after_entry, after_reply, use_reply};
+ghost use Rattle.flat_states.specs.Presents.{after_entry, use_reply};
 
-use crate::state::{SessionState, note};
+use crate::state::SessionState;
 use flat_base::{FlatlandError, Reason};
 use flat_scene::{Entry, Kind, Reply};
 
@@ -31,24 +31,15 @@ pub fn closes(reply: Reply) -> bool
     }
 }
 
-/// The session has this reply to an entry of this kind: it is closed by it, made one
-/// more present, or has a view.
-fn hear(state: &mut SessionState, kind: &Kind, reply: Reply)
-    ensures { state.new ≡ after_reply kind.now reply state.old }
-{
-    match (kind, reply) {
-        (Kind::Present(_), Reply::Presented { number, .. }) => state.account.presents = number,
-        (Kind::View(_), Reply::Done) => state.account.viewed = true,
-        (_, Reply::Closed(..)) => state.closed = true,
-        _ => {}
-    }
-}
-
-/// The session made this entry: its reply is heard, and the calls that it carries are
-/// noted.
+/// The session made this entry: its reply closes it, makes one more present of it, or
+/// gives it a view. The calls that the entry carries change nothing that is kept here.
 pub fn note_entry(state: &mut SessionState, entry: &Entry)
     ensures { state.new ≡ after_entry entry.now state.old }
 {
-    hear(state, &entry.kind, entry.reply);
-    note(&mut state.account, entry.calls.as_slice());
+    match (&entry.kind, entry.reply) {
+        (Kind::Present(_), Reply::Presented { number, .. }) => state.account.presents = number,
+        (Kind::View(p), Reply::Done) => state.account.view = Some(*p),
+        (_, Reply::Closed(..)) => state.closed = true,
+        _ => {}
+    }
 }

@@ -1,14 +1,12 @@
-ghost use Rattle.std.specs.Prelude.{◌≡◌, ℕ, ◌+◌, ◌-◌, ◌^◌, ◌<◌, ◌≤◌, [], length, All, IfOk, cond};
+ghost use Rattle.std.specs.Prelude.{◌≡◌, ℕ, ◌+◌, ◌-◌, ◌^◌, ◌<◌, ◌≤◌, [], length, All, IfOk};
 ghost use Rattle.std.specs.Prelude.{vec_capacity};
 ghost use Rattle.flat_fence.specs.Fences.{has};
 ghost use Rattle.flat_states.specs.Presents.{present_reply, with_waiting, IsNew, TookReady, LetGo};
-ghost use Rattle.flat_states.specs.Seen.{noted};
 
-use flat_base::{FIRST_CREDITS, FULL_CREDITS, FenceList, FlatlandError, NoMemory};
-use flat_facts::views::holds_view;
+use flat_base::{FIRST_CREDITS, FULL_CREDITS, FenceList, FlatlandError, NoMemory, PairNo};
 use flat_fence::FenceSet;
 use flat_queue::{Queue, Queued};
-use flat_scene::{Call, PresentArgs, Reply};
+use flat_scene::{PresentArgs, Reply};
 use flat_snap::Snapshot;
 use std::alloc::Global;
 use std::sync::Arc;
@@ -20,12 +18,8 @@ pub struct Account {
     pub presents: u32,
     /// How many events were posted before its last poll.
     pub polled: usize,
-    /// It made a view that wasn't refused.
-    pub viewed: bool,
-    /// Its calls leave it a view.
-    pub holds: bool,
-    /// How many presents it had made when it held its last view last.
-    pub stood: u32,
+    /// The pair of the last view that it made and that wasn't refused. It may have ended.
+    pub view: Option<PairNo>,
 }
 
 /// What is kept of a session.
@@ -44,7 +38,7 @@ pub struct SessionState {
 }
 
 impl SessionState {
-    ghost use Rattle.flat_states.specs.Kept.{taken_in, credits_in, has_view_in};
+    ghost use Rattle.flat_states.specs.Kept.{taken_in, credits_in};
 
     /// How many presents frames have taken.
     pub fn taken(&self) -> u32
@@ -75,14 +69,6 @@ impl SessionState {
         } else {
             self.queue.credits()
         }
-    }
-
-    /// Whether it has a view whose end isn't lost.
-    pub fn has_view(&self) -> bool
-        requires { length self.now.going.items ≤ 5 }
-        ensures { result ≡ has_view_in self.now }
-    {
-        !self.closed && self.account.viewed && self.taken() <= self.account.stood
     }
 }
 
@@ -146,24 +132,6 @@ pub fn let_go(state: &mut SessionState)
     state.let_go = true;
 }
 
-/// Notes the calls that an entry of the session carries.
-pub fn note(account: &mut Account, calls: &[Call])
-    ensures { account.new ≡ noted calls.now account.old }
-{
-    account.holds = holds_view(account.holds, calls);
-    account.stood = stood(account);
-}
-
-fn stood(account: &Account) -> u32
-    ensures { result ≡ cond account.now.holds account.now.presents account.now.stood }
-{
-    if account.holds {
-        account.presents
-    } else {
-        account.stood
-    }
-}
-
 /// What is kept of sessions before any entry.
 pub fn new_states(alloc: Global, n: u32) -> Result<Vec<SessionState>, NoMemory>
     ensures count { IfOk result (λ states. length states.items ≡ n) }
@@ -190,9 +158,7 @@ fn new_state(alloc: Global) -> Result<SessionState, NoMemory>
         account: Account {
             presents: 0,
             polled: 0,
-            viewed: false,
-            holds: false,
-            stood: 0,
+            view: None,
         },
     })
 }

@@ -1,5 +1,5 @@
 -- What an entry changes of what is kept of a session.
-use Rattle.std.proofs.Common.{◌≡◌, ◌∙◌, ℕ, zero, suc, ◌+◌, ◌-◌, ◌<◌, ◌≢◌, Bool, true, false, List, [], ◌∷◌, length, refl, arith, sym, ap, slice_set, slice_index_or, inl, inr, ◌⊎◌}
+use Rattle.std.proofs.Common.{◌≡◌, ◌∙◌, ℕ, zero, suc, ◌+◌, ◌-◌, ◌<◌, ◌≢◌, Bool, true, false, List, [], ◌∷◌, length, refl, arith, sym, ap, slice_set, slice_index_or, inl, inr, ◌⊎◌, None}
 use Rattle.std.specs.Prelude.{◌==◌, cond, sum_by}
 use Rattle.std.proofs.lemmas.Bool.Decides.{nat_tests, eqb_tells}
 use Rattle.std.proofs.lemmas.List.{get_or-set_other, get_or-set_same, length-set}
@@ -16,8 +16,8 @@ use Rattle.flat_states.specs.declared.state.SessionState.{SessionState}
 use Rattle.flat_rules.specs.Numbers.{number, AllNumbered}
 use Rattle.flat_states.specs.Kept.{IsKept}
 use Rattle.flat_rules.specs.Legal.{is_poll}
-use Rattle.flat_states.specs.Seen.{Seen, seen_of, account_of, noted}
-use Rattle.flat_facts.specs.Views.{makes_it}
+use Rattle.flat_states.specs.Seen.{Seen, seen_of}
+use Rattle.flat_facts.specs.Views.{view_made}
 use Rattle.flat_rules.proofs.lemmas.Quiet.{closed-quiet, presents-quiet, taken-quiet, going-quiet, took-quiet}
 
 -- another's entry changes nothing
@@ -31,18 +31,18 @@ pub record IsPlainOne (e : Entry) : Type 0 where
   pub no_begin : is_begin e.kind ≡ false
   pub no_finish : is_finish e.kind ≡ false
   pub no_poll : is_poll e.kind ≡ false
-  pub no_view : makes_it e.kind e.reply ≡ false
+  pub no_view : view_made e.kind e.reply ≡ None
   pub none : (made : List Call) → published e.kind e.reply made ≡ []
 
--- the session's own entry that closes nothing: its calls are noted
-pub seen-noted : (setup : Setup) (h : List Entry) (e : Entry) (s : SessionNo) → IsPlainOne e → closes e.reply ≡ false → is_session s e.actor ≡ true
-    → seen_of setup (h ▹ e) s ≡ record (seen_of setup h s) { account = noted e.calls (account_of setup h s) }
-seen-noted setup h e s is no_close mine =
+-- nor does the session's own entry that closes nothing
+pub seen-plain : (setup : Setup) (h : List Entry) (e : Entry) (s : SessionNo) → IsPlainOne e → closes e.reply ≡ false → is_session s e.actor ≡ true
+    → seen_of setup (h ▹ e) s ≡ seen_of setup h s
+seen-plain setup h e s is no_close mine =
     rw (closed-quiet h e s no_close, presents-quiet h e s is.none, mine, taken-quiet setup h e s is.no_begin, going-quiet setup h e s is.no_begin, took-quiet setup h e s is.no_begin is.no_finish, is.no_poll, is.no_view) refl
 
 -- and the one that closes it
 pub seen-closed : (setup : Setup) (h : List Entry) (e : Entry) (s : SessionNo) → IsPlainOne e → closes e.reply ≡ true → is_session s e.actor ≡ true
-    → seen_of setup (h ▹ e) s ≡ record (seen_of setup h s) { closed = true; account = noted e.calls (account_of setup h s) }
+    → seen_of setup (h ▹ e) s ≡ record (seen_of setup h s) { closed = true }
 seen-closed setup h e s is closes_it mine =
     rw (presents-quiet h e s is.none, mine, closes_it, taken-quiet setup h e s is.no_begin, going-quiet setup h e s is.no_begin, took-quiet setup h e s is.no_begin is.no_finish, is.no_poll, is.no_view) refl
 
@@ -65,10 +65,6 @@ kept-account setup seen state f same kept = record {
   goes = kept.goes;
   room = kept.room;
 }
-
-pub kept-noted : (setup : Setup) (seen : Seen) (state : SessionState) (calls : List Call) → IsKept setup seen state
-    → IsKept setup (record seen { account = noted calls seen.account }) (record state { account = noted calls state.account })
-kept-noted setup seen state calls kept = kept-account setup seen state (noted calls) (λ a. refl) kept
 
 pub kept-closed : (setup : Setup) (seen : Seen) (state : SessionState) → IsKept setup seen state → IsKept setup (record seen { closed = true }) (record state { closed = true })
 kept-closed setup seen state kept = record {

@@ -1,5 +1,5 @@
 -- An entry of a session that changes only what is kept of that session, and one that only carries calls.
-use Rattle.std.proofs.Common.{◌≡◌, ℕ, suc, ◌+◌, ◌-◌, ◌<◌, Bool, true, false, List, length, refl, arith, sym, ◌∙◌, ap, slice_set, slice_index_or, subst}
+use Rattle.std.proofs.Common.{◌≡◌, ℕ, ◌+◌, ◌-◌, ◌<◌, Bool, true, false, List, length, refl, arith, sym, slice_set, slice_index_or, subst}
 use Rattle.std.specs.Prelude.{sum_by, IsTrue, Option, Some, None}
 use Rattle.std.proofs.lemmas.List.{length-set}
 use Rattle.flat_base.specs.declared.errors.Reason.{Reason}
@@ -15,7 +15,6 @@ use Rattle.flat_scene.specs.declared.journal.Reply.{Reply}
 use Rattle.flat_scene.specs.declared.journal.Reply.TheVariants.{Done}
 use Rattle.flat_scene.specs.declared.script.Cond.{Cond}
 use Rattle.flat_scene.specs.declared.setup.Setup.{Setup}
-use Rattle.flat_scene.specs.Draft.{changed_at}
 use Rattle.flat_scene.specs.History.{◌▹◌, closes, is_begin, is_finish, is_session}
 use Rattle.flat_scene.specs.Setups.{is_declared}
 use Rattle.flat_base.proofs.lemmas.Tests.{and-right}
@@ -27,15 +26,14 @@ use Rattle.flat_rules.specs.Numbers.{number, AllNumbered}
 use Rattle.flat_states.specs.Kept.{IsKept}
 use Rattle.flat_rules.specs.Legal.{reply_to, may_act, session_may}
 use Rattle.flat_states.specs.Logs.{Logged}
-use Rattle.flat_states.specs.Presents.{reply_to_close, noted_in, with_calls, IsPlaced}
+use Rattle.flat_states.specs.Presents.{reply_to_close, IsPlaced}
 use Rattle.flat_states.specs.Seen.{seen_of}
-use Rattle.flat_states.proofs.lemmas.Changes.{IsPlainOne, seen-other, seen-noted, kept-noted, changed-one, changed-set, changed-each, sum-changed, not-session, is-session, sum-same}
+use Rattle.flat_states.proofs.lemmas.Changes.{IsPlainOne, seen-other, seen-plain, changed-one, not-session, sum-same}
 use Rattle.flat_states.proofs.lemmas.Counts.{kept-session, declared-some, same-number}
 use Rattle.flat_facts.proofs.lemmas.Tests.{lt-of}
 use Rattle.flat_facts.proofs.lemmas.Between.{is_viewport}
 use Rattle.flat_states.proofs.lemmas.Entered.{Entered, kept-entered}
 use Rattle.flat_states.proofs.lemmas.Steps.{Changed}
-use Rattle.flat_rules.proofs.lemmas.ListLemmas.{length-changed}
 
 pub declared-of : (setup : Setup) (kind : Kind) (s : SessionNo) → may_act setup kind (Session s) ≡ true → IsTrue (is_declared setup s)
 declared-of setup kind s may = and-right (session_may kind) (is_declared setup s) may
@@ -89,58 +87,25 @@ placed-of setup kind Display n same may = tt
 placed-of setup kind (Probe p) n same may = tt
 placed-of setup kind (Session s) n same may = rw same (declared-some s.0 setup.sessions (declared-of setup kind s may))
 
-not-display : (j : ℕ) → is_session (number j) Display ≡ false
-not-display j = refl
+seen-quiet : (setup : Setup) (h : List Entry) (e : Entry) (s : SessionNo) → IsPlainOne e → closes e.reply ≡ false → (b : Bool) → is_session s e.actor ≡ b → seen_of setup (h ▹ e) s ≡ seen_of setup h s
+seen-quiet setup h e s quiet stays true mine = seen-plain setup h e s quiet stays mine
+seen-quiet setup h e s quiet stays false other = seen-other setup h e s quiet.no_begin quiet.no_finish other
 
-each-noted : (m : Machine) (who : Actor) (line : ℕ) (calls : List Call) (kind : Kind) (reply : Reply) → MayCall m who calls kind → IsPlainOne (entry_of who line calls kind reply) → closes reply ≡ false
-    → (clock : Clock) (fences views : List Bool) (sessions : List SessionState) → Stands m.setup m.history clock fences views sessions
-    → AllNumbered (λ i. IsKept m.setup (seen_of m.setup (m.history ▹ entry_of who line calls kind reply) (number i))) (noted_in who calls sessions)
-each-noted m Display line calls kind reply call quiet stays clock fences views sessions old i d below =
-    rw (seen-other m.setup m.history (entry_of Display line calls kind reply) (number i) quiet.no_begin quiet.no_finish refl) (old.each i d below)
-each-noted m (Probe p) line calls kind reply call quiet stays clock fences views sessions old i d below =
-    rw (seen-other m.setup m.history (entry_of (Probe p) line calls kind reply) (number i) quiet.no_begin quiet.no_finish refl) (old.each i d below)
-each-noted m (Session s) line calls kind reply call quiet stays clock fences views sessions old i d within =
-    let e : Entry = entry_of (Session s) line calls kind reply in
-    let declared : IsTrue (is_declared m.setup s) = declared-of m.setup kind s call.may.acts in
-    let here = declared-some s.0 m.setup.sessions declared in
-    let some : 0 < s.0 = here.0 in
-    let count : length sessions ≡ m.setup.sessions = old.count in
-    let below : s.0 - 1 < length sessions = omega (arith, here.0, here.1, count) in
-    let P : ℕ → SessionState → Type 0 = λ i. IsKept m.setup (seen_of m.setup m.history (number i)) in
-    let Q : ℕ → SessionState → Type 0 = λ i. IsKept m.setup (seen_of m.setup (m.history ▹ e) (number i)) in
-    let M : SessionNo → Type 0 = λ t. is_session t (Session s) ≡ true in
-    let mine : is_session (number (s.0 - 1)) (Session s) ≡ true = subst M (sym (same-number s some)) (is-session s) in
-    let all : AllNumbered Q (changed_at (suc (s.0 - 1)) (with_calls calls) sessions) =
-    changed-each P Q (with_calls calls) sessions (s.0 - 1) below
-    (λ j x other kept. rw (seen-other m.setup m.history e (number j) quiet.no_begin quiet.no_finish (not-session s j some other)) kept)
-    (λ x kept. rw (seen-noted m.setup m.history e (number (s.0 - 1)) quiet stays mine) (kept-noted m.setup (seen_of m.setup m.history (number (s.0 - 1))) x calls kept))
-    old.each in
-    let place : suc (s.0 - 1) ≡ s.0 = omega arith in
-    let R : ℕ → Type 0 = λ n. AllNumbered Q (changed_at n (with_calls calls) sessions) in
-    subst R place all i d within
-
-length-noted : (who : Actor) (calls : List Call) (sessions : List SessionState) → length (noted_in who calls sessions) ≡ length sessions
-length-noted Display calls sessions = refl
-length-noted (Probe p) calls sessions = refl
-length-noted (Session s) calls sessions = length-changed (with_calls calls) s.0 sessions
-
-sum-noted : (who : Actor) (calls : List Call) (sessions : List SessionState) → sum_by due (noted_in who calls sessions) ≡ sum_by due sessions
-sum-noted Display calls sessions = refl
-sum-noted (Probe p) calls sessions = refl
-sum-noted (Session s) calls sessions = sum-changed due (with_calls calls) s.0 sessions (λ x. refl)
-
--- all that is kept, after an entry that only carries calls
+-- all that is kept, after an entry that only carries calls: the sessions are as they were
 pub kept-quiet : (m : Machine) (who : Actor) (line : ℕ) (calls : List Call) (kind : Kind) (reply : Reply) → MayCall m who calls kind → reply ≡ reply_to m.setup m.history who calls kind
     → IsPlainOne (entry_of who line calls kind reply) → closes reply ≡ false → is_viewport kind ≡ false
     → (clock : Clock) (fences fences_now views views_now : List Bool) (sessions after : List SessionState) (log then : Logged) (owed : ℕ) {due_back due_back_now : ℕ} → log.history ≡ m.history
     → Stands m.setup log.history clock fences views sessions → HasRoom m.setup m.shares log owed (sum_by due sessions + due_back)
-    → Changed m (entry_of who line calls kind reply) fences fences_now views views_now → after ≡ noted_in who calls sessions → due_back_now ≡ due_back → Entered log then (entry_of who line calls kind reply)
+    → Changed m (entry_of who line calls kind reply) fences fences_now views views_now → after ≡ sessions → due_back_now ≡ due_back → Entered log then (entry_of who line calls kind reply)
     → Stands m.setup then.history (clock_then kind clock) fences_now views_now after × HasRoom m.setup m.shares then owed (sum_by due after + due_back_now)
 kept-quiet m who line calls kind reply call replied quiet stays no_viewport clock fences fences_now views views_now sessions after log then owed {due_back} {due_back_now} same stands room changed noted comes entered =
+    let e : Entry = entry_of who line calls kind reply in
     let old : Stands m.setup m.history clock fences views sessions = rw (← same) stands in
+    let each : AllNumbered (λ i. IsKept m.setup (seen_of m.setup (m.history ▹ e) (number i))) sessions =
+    λ i d below. rw (seen-quiet m.setup m.history e (number i) quiet stays (is_session (number i) who) refl) (old.each i d below) in
     rw noted
-    (kept-entered m who line calls kind reply call replied quiet.no_begin quiet.no_finish no_viewport clock fences fences_now views views_now sessions (noted_in who calls sessions) log then owed (sum_by due sessions + due_back) (sum_by due (noted_in who calls sessions) + due_back_now) same stands room changed
-    (length-noted who calls sessions) (each-noted m who line calls kind reply call quiet stays clock fences views sessions old) (both-same (sum-noted who calls sessions) comes) entered)
+    (kept-entered m who line calls kind reply call replied quiet.no_begin quiet.no_finish no_viewport clock fences fences_now views views_now sessions sessions log then owed (sum_by due sessions + due_back) (sum_by due sessions + due_back_now) same stands room changed
+    refl each (both-same refl comes) entered)
 
 -- a fence that may be signalled is declared
 pub signal-below : (m : Machine) (who : Actor) (calls : List Call) (f : FenceNo) → MayCall m who calls (Signal f) → {n : ℕ} → n ≡ length m.setup.fences → f.0 < n

@@ -1,5 +1,5 @@
 -- A view, made or refused.
-use Rattle.std.proofs.Common.{◌≡◌, ℕ, zero, suc, ◌<◌, Bool, true, false, List, [], ◌∷◌, length, refl, arith, ◌∙◌, ap, subst}
+use Rattle.std.proofs.Common.{◌≡◌, ℕ, zero, suc, ◌<◌, Bool, true, false, List, [], ◌∷◌, length, refl, arith, ◌∙◌, ap, subst, Some}
 use Rattle.std.specs.Prelude.{cond, not, ◌&&◌, ◌||◌, ◌==◌, nat_lt, slice_get, option_map, unwrap_or}
 use Rattle.std.specs.List.{list_all}
 use Rattle.std.proofs.lemmas.Bool.Decides.{nat_tests}
@@ -21,9 +21,10 @@ use Rattle.flat_rules.specs.Ends.{view_uses, is_done}
 use Rattle.flat_states.specs.Flags.{has_end}
 use Rattle.flat_states.specs.Kept.{IsKept}
 use Rattle.flat_rules.specs.Legal.{refused_token, reply_to, owns_in_kind, owns_in_call}
-use Rattle.flat_states.specs.Presents.{use_reply, after_view, with_calls}
-use Rattle.flat_states.specs.Seen.{seen_of, account_of, noted}
-use Rattle.flat_states.proofs.lemmas.Changes.{IsPlainOne, seen-closed, kept-account, kept-closed, kept-noted, is-session}
+use Rattle.flat_states.specs.Presents.{use_reply}
+use Rattle.flat_states.proofs.lemmas.Heard.{after_view}
+use Rattle.flat_states.specs.Seen.{seen_of, account_of}
+use Rattle.flat_states.proofs.lemmas.Changes.{IsPlainOne, seen-closed, kept-account, kept-closed, is-session}
 use Rattle.flat_rules.proofs.lemmas.Quiet.{closed-quiet, presents-quiet, taken-quiet, going-quiet, took-quiet}
 use Rattle.flat_facts.proofs.lemmas.Tests.{same-pair}
 
@@ -71,7 +72,7 @@ view-below m s calls p n call same =
 -- ---- what is kept of the session
 
 seen-viewed : (setup : Setup) (h : List Entry) (s : SessionNo) (line : ℕ) (calls : List Call) (p : PairNo)
-    → seen_of setup (h ▹ entry_of (Session s) line calls (View p) Done) s ≡ record (seen_of setup h s) { account = noted calls (record (account_of setup h s) { viewed = true }) }
+    → seen_of setup (h ▹ entry_of (Session s) line calls (View p) Done) s ≡ record (seen_of setup h s) { account = record (account_of setup h s) { view = Some p } }
 seen-viewed setup h s line calls p =
     let e : Entry = entry_of (Session s) line calls (View p) Done in
     rw (closed-quiet h e s refl, presents-quiet h e s (λ made. refl), is-session s, taken-quiet setup h e s refl, going-quiet setup h e s refl, took-quiet setup h e s refl refl) refl
@@ -80,13 +81,13 @@ plain-view : (s : SessionNo) (line : ℕ) (calls : List Call) (p : PairNo) → I
 plain-view s line calls p = record { no_begin = refl; no_finish = refl; no_poll = refl; no_view = refl; none = λ made. refl }
 
 pub view-kept : (setup : Setup) (h : List Entry) (s : SessionNo) (line : ℕ) (calls : List Call) (p : PairNo) (is_held : Bool) (state : SessionState) → IsKept setup (seen_of setup h s) state
-    → IsKept setup (seen_of setup (h ▹ entry_of (Session s) line calls (View p) (use_reply is_held)) s) (with_calls calls (after_view is_held state))
+    → IsKept setup (seen_of setup (h ▹ entry_of (Session s) line calls (View p) (use_reply is_held)) s) (after_view p is_held state)
 view-kept setup h s line calls p true state kept =
-    rw (seen-viewed setup h s line calls p) (kept-account setup (seen_of setup h s) state (λ (a : Account). noted calls (record a { viewed = true })) (λ a. refl) kept)
+    rw (seen-viewed setup h s line calls p) (kept-account setup (seen_of setup h s) state (λ (a : Account). let b : Account = record a { view = Some p } in b) (λ a. refl) kept)
 view-kept setup h s line calls p false state kept =
     rw (seen-closed setup h (entry_of (Session s) line calls (View p) refused_token) s (plain-view s line calls p) refl (is-session s))
-    (kept-noted setup _ (record state { closed = true }) calls (kept-closed setup (seen_of setup h s) state kept))
+    (kept-closed setup (seen_of setup h s) state kept)
 
-pub view-due : (calls : List Call) (is_held : Bool) (state : SessionState) → due (with_calls calls (after_view is_held state)) ≡ due state
-view-due calls true state = refl
-view-due calls false state = refl
+pub view-due : (p : PairNo) (is_held : Bool) (state : SessionState) → due (after_view p is_held state) ≡ due state
+view-due p true state = refl
+view-due p false state = refl
