@@ -1,6 +1,7 @@
 pub mod Backs
 pub mod ClearMarks
 pub mod Followed
+pub mod EndedViews
 pub mod FrameSees
 pub mod Marks
 pub mod NewTies

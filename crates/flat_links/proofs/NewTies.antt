@@ -39,7 +39,7 @@ nothing-seen : (setup : Setup) (s : SessionNo) → nothing ≡ sight_of setup []
 nothing-seen setup s = ap (λ (b : Bool). let g : Sight = record { closed = false; taken = 0; view = None; connected = b } in g) (sym (not-connected setup s))
 
 new-followed : (setup : Setup) (s : SessionNo) → IsFollowed setup [] s new_following
-new-followed setup s = record { view = λ o. refl; contents = λ o. refl; begun = nothing-seen setup s; finished = nothing-seen setup s }
+new-followed setup s = record { contents = λ o. refl; begun = nothing-seen setup s; finished = nothing-seen setup s }
 
 no-use : (n : ℕ) → n < n → ⊥
 no-use n h = omega (arith, h)

@@ -1,5 +1,5 @@
 -- What the ends of a pair tell, by what is kept: stamps, what finished frames had taken, and what they showed.
-use Rattle.std.proofs.Common.{◌≡◌, ◌∙◌, sym, ℕ, ◌+◌, Bool, true, false, List, [], ◌∷◌, ◌++◌, length, refl, arith, ap, Some, None, Ok, Err}
+use Rattle.std.proofs.Common.{◌≡◌, ◌∙◌, sym, ℕ, ◌+◌, Bool, true, false, List, [], ◌++◌, length, refl, arith, ap, Some, None, Ok}
 use Rattle.std.specs.Prelude.{◌&&◌, ◌||◌, nat_lt, Option, Result, is_some, option_map, unwrap_or}
 use Rattle.std.proofs.lemmas.Bool.Decides.{nat_tests}
 use Rattle.flat_base.specs.declared.errors.Reason.{Reason}
@@ -7,30 +7,29 @@ use Rattle.flat_base.specs.declared.ids.Actor.TheVariants.{Display, Session}
 use Rattle.flat_base.specs.declared.ids.PairNo.{PairNo}
 use Rattle.flat_base.specs.declared.ids.SessionNo.{SessionNo}
 use Rattle.flat_scene.specs.declared.calls.Call.{Call}
-use Rattle.flat_scene.specs.declared.calls.Call.TheVariants.{CreateView, ReleaseView, Clear}
 use Rattle.flat_scene.specs.declared.journal.Entry.{Entry}
 use Rattle.flat_scene.specs.declared.setup.Setup.{Setup}
 use Rattle.flat_scene.specs.Draft.{Draft, empty_draft}
-use Rattle.flat_scene.specs.Effect.{effect, after_calls, unless, draft_of}
+use Rattle.flat_scene.specs.Effect.{draft_of}
 use Rattle.flat_scene.specs.Frames.{taken}
 use Rattle.flat_scene.specs.History.{◌▹◌, calls, closes, is_closed, is_session, presents}
-use Rattle.flat_scene.specs.Misuse.{misuse}
 use Rattle.flat_facts.specs.declared.live.Live.{Live}
 use Rattle.flat_rules.specs.Ends.{times, happens, ends_view, clears_viewport, loses, is_viewport_lost, is_view_lost, viewport_owner, view_owner, to_finished}
-use Rattle.flat_rules.specs.Legal.{Legal, number_if}
+use Rattle.flat_rules.specs.Legal.{Legal}
 use Rattle.flat_facts.specs.Lives.{lives_after, clears_live, count_of}
 use Rattle.flat_rules.specs.Shown.{is_pair, shown_view, is_connected}
 use Rattle.flat_rules.specs.Stamps.{IsStamp, is_seen, stamp_then}
-use Rattle.flat_facts.specs.Views.{view_then, view_after, ends_it, ends_of}
+use Rattle.flat_facts.specs.Views.{view_after, ends_of}
 use Rattle.flat_links.specs.Views.{layout_by, status_by, child_by}
 use Rattle.flat_rules.specs.Watch.{told, layout_of, status_of, child_of, are_joined, props_told, ratio_told}
 use Rattle.flat_facts.proofs.lemmas.Earlier.{finished-earlier}
-use Rattle.flat_facts.proofs.lemmas.LiveCounts.{lived-all, lived, Lived, count-is}
+use Rattle.flat_facts.proofs.lemmas.LiveCounts.{lived-all, lived, Lived}
 use Rattle.flat_facts.proofs.lemmas.StampSteps.{own-stamp, stamp-ended}
 use Rattle.flat_facts.proofs.lemmas.Stamped.{stamped, happening-lasts}
-use Rattle.flat_facts.proofs.lemmas.ViewCalls.{times-append, after-refused}
+use Rattle.flat_facts.proofs.lemmas.ViewCalls.{times-append}
 use Rattle.flat_facts.proofs.lemmas.ViewHistory.{viewing-of}
 use Rattle.flat_facts.proofs.lemmas.ViewLaw.{good-more}
+use Rattle.flat_facts.proofs.lemmas.ViewsLeft.{viewed}
 
 -- ---- what an entry does to the stamps of an end
 

@@ -21,6 +21,7 @@ use Rattle.flat_scene.specs.History.{◌▹◌, calls, closes, is_finish, is_ses
 use Rattle.flat_base.proofs.lemmas.Tests.{and-left}
 use Rattle.flat_facts.specs.declared.live.Live.{Live}
 use Rattle.flat_links.specs.declared.pairs.PairState.{PairState}
+use Rattle.flat_states.specs.declared.state.Account.{Account}
 use Rattle.flat_facts.specs.Clears.{clears_pair}
 use Rattle.flat_links.specs.Clears.{cleared_if}
 use Rattle.flat_rules.specs.Ends.{is_done, live_props, props_of, serials_of, taken_calls, to_begin, uses_viewport, viewport_uses}
@@ -86,16 +87,16 @@ unseen setup p v n (h ▹ e) few =
 below-cap : (n m cap : ℕ) → n ≡ m → m < cap → min (n + 1) cap ≡ m + 1
 below-cap n m cap same below = rw same (grind arith)
 
-pub pair-used : (setup : Setup) (s : SessionNo) (h : List Entry) (e : Entry) (carries : List Call) (made : ℕ) (live : List Live) → IsOwnEntry setup h e s carries made live → length h < 2 ^ 32 - 1
+pub pair-used : (setup : Setup) (s : SessionNo) (h : List Entry) (e : Entry) (carries : List Call) (account : Account) (live : List Live) → IsOwnEntry setup h e s carries account live → length h < 2 ^ 32 - 1
     → (p : PairNo) (props : ViewportProps) → IsUse e p props → (serial : ℕ) → serial ≡ capped (length (contents_made (calls s h ++ carries)))
     → (view : Option PairNo) → view ≡ view_after None (calls s h) → (i : ℕ) (state : PairState) → IsPairKept setup h (pair i) state
     → IsPairKept setup (h ▹ e) (pair i)
-    (cond (p.0 == i) (used_by serial props (cleared_if (clears_pair (pair i) live carries) made (ended_by i view carries made state)))
-    (cleared_if (clears_pair (pair i) live carries) made (ended_by i view carries made state)))
-pair-used setup s h e carries made live entry small p props used serial counted view is i state kept = by_pair (p.0 == i) refl
+    (cond (p.0 == i) (used_by serial props (cleared_if (clears_pair (pair i) live carries) account.presents (ended_by i view carries account.presents state)))
+    (cleared_if (clears_pair (pair i) live carries) account.presents (ended_by i view carries account.presents state)))
+pair-used setup s h e carries account live entry small p props used serial counted view is i state kept = by_pair (p.0 == i) refl
   where
     state_now : PairState
-    state_now = cleared_if (clears_pair (pair i) live carries) made (ended_by i view carries made state)
+    state_now = cleared_if (clears_pair (pair i) live carries) account.presents (ended_by i view carries account.presents state)
 
     owns : owns_viewport setup s p ≡ true
     owns =
@@ -105,7 +106,7 @@ pair-used setup s h e carries made live entry small p props used serial counted 
     by_pair : (b : Bool) → (p.0 == i) ≡ b → IsPairKept setup (h ▹ e) (pair i) (cond b (used_by serial props state_now) state_now)
     by_pair false other =
         let none : (uses_viewport (pair i) e.kind && is_done e.reply) ≡ false = ap (λ (k : Kind). uses_viewport (pair i) k && is_done e.reply) used.kind ∙ rw other refl in
-        pair-own setup s h e carries made live entry view is i none state kept
+        pair-own setup s h e carries account live entry view is i none state kept
     by_pair true this =
         let mine : p ≡ pair i = (let number : p.0 ≡ i = grind (arith, nat_tests) in ap pair number) in
         let it : (uses_viewport (pair i) e.kind && is_done e.reply) ≡ true = ap (λ (k : Kind). uses_viewport (pair i) k && is_done e.reply) used.kind ∙ ap (λ (r : Reply). (p.0 == i) && is_done r) used.reply ∙ rw this refl in
@@ -118,8 +119,8 @@ pair-used setup s h e carries made live entry small p props used serial counted 
         subst (λ (q : PairNo). makes_viewport q props (slice_get e.calls (length e.calls - 1)) ≡ true) mine (sym (ap (λ (k : Kind). own_call k (slice_get e.calls (length e.calls - 1))) used.kind) ∙ entry.legal.1.may.calls) in
         record {
           uses = below-cap state.uses (length (viewport_uses (pair i) h)) (2 ^ 32 - 1) kept.uses (omega (arith, small, uses-few (pair i) h)) ∙ sym count;
-          ended = λ w owner. ended-own setup s h e carries made live entry (pair i) view is w owner state.ended (kept.ended w owner);
-          cleared = λ v owner. cleared-own setup s h e carries made live entry (pair i) v owner state.cleared (kept.cleared v owner);
+          ended = λ w owner. ended-own setup s h e carries account live entry (pair i) view is w owner state.ended (kept.ended w owner);
+          cleared = λ v owner. cleared-own setup s h e carries account live entry (pair i) v owner state.cleared (kept.cleared v owner);
           serial = λ v owner some.
               let same : v ≡ s = session-is s v (sym (ap (λ (o : Option Actor). unwrap_or (option_map (is_session s) o) false) owner) ∙ ours) in
               record {

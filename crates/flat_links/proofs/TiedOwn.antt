@@ -18,19 +18,20 @@ use Rattle.flat_links.proofs.lemmas.TiesSteps.{tied-idle}
 
 -- of one that is open
 pub own-entry : (setup : Setup) (h : List Entry) (e : Entry) (s : SessionNo) (carries : List Call) (state : SessionState) (ends : Viewports) → IsOwn setup h e s carries state ends → is_closed s h ≡ false → (live : List Live) → live ≡ ends.live.items
-    → IsOwnEntry setup h e s carries state.account.presents live
+    → IsOwnEntry setup h e s carries state.account live
 own-entry setup h e s carries state ends own opened live is = record {
   legal = own.legal;
   mine = ap (is_session s) own.actor ∙ is-session s;
   opened = opened;
   carried = own.carried;
   counted = own.counted;
+  viewed = own.viewed;
   living = is ∙ own.living opened;
 }
 
 -- where the session is open, its calls are noted
 pub noted-open : (s : SessionNo) (carries : List Call) (state : SessionState) (ends : Viewports) (old new : Ties) (live : List Live) → live ≡ ends.live.items → state.closed ≡ false
-    → ((setup : Setup) (h : List Entry) (e : Entry) → IsOwnEntry setup h e s carries state.account.presents live → UsesNone e → AreTied setup h old.followings.items old.pairs.items → AreTied setup (h ▹ e) new.followings.items new.pairs.items)
+    → ((setup : Setup) (h : List Entry) (e : Entry) → IsOwnEntry setup h e s carries state.account live → UsesNone e → AreTied setup h old.followings.items old.pairs.items → AreTied setup (h ▹ e) new.followings.items new.pairs.items)
     → TiesNoted s carries state ends old new
 noted-open s carries state ends old new live is opened note setup h e own uses tied = note setup h e (own-entry setup h e s carries state ends own (sym own.closed ∙ opened) live is) uses tied
 

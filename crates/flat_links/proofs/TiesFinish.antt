@@ -44,7 +44,7 @@ module _ (setup : Setup) (h : List Entry) (line : ℕ) (legal : Legal setup (fin
   finished-on i followings was below is each =
       let old : IsFollowed setup h (number i) was = followed-here setup h (finished h line) i followings was each below is in
       let new : Following = record was { finished = was.begun } in
-      followed-on setup h (finished h line) i followings new each (followed-still setup (number i) h (finish_entry line) (λ mine. let wrong : false ≡ true = mine in cc) was new refl refl old.begun old.begun old)
+      followed-on setup h (finished h line) i followings new each (followed-still setup (number i) h (finish_entry line) (λ mine. let wrong : false ≡ true = mine in cc) was new refl old.begun old.begun old)
 
   -- all of them
   pub tied-finished : (old followings : List Following) (pairs new : List PairState) → AreTied setup h old pairs → length followings ≡ setup.sessions → AllNumbered (FollowedUpTo setup h (finished h line) setup.sessions) followings

@@ -2,3 +2,4 @@
 pub mod PairIdle
 pub mod PairSteps
 pub mod TiesSteps
+pub mod WithView

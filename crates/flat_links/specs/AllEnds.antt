@@ -18,6 +18,7 @@ use Rattle.flat_links.specs.declared.ties.Ties.{Ties}
 use Rattle.flat_links.specs.Following.{AreTied, UsesNone}
 use Rattle.flat_rules.specs.Legal.{Legal, number_if}
 use Rattle.flat_facts.specs.Lives.{lives_after}
+use Rattle.flat_facts.specs.Views.{last_view}
 use Rattle.flat_states.specs.Presents.{use_reply}
 
 -- how many events may be posted to a session for its tokens that are out
@@ -57,6 +58,7 @@ pub record IsOwn (setup : Setup) (history : List Entry) (entry : Entry) (s : Ses
   pub carried : entry.calls ≡ carries
   pub closed : state.closed ≡ is_closed s history
   pub counted : state.account.presents ≡ length (presents s history)
+  pub viewed : state.account.view ≡ last_view s history
   pub living : is_closed s history ≡ false → ends.live.items ≡ lives_after [] (calls s history)
   pub no_begin : is_begin entry.kind ≡ false
   pub no_finish : is_finish entry.kind ≡ false

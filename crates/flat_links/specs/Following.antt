@@ -13,6 +13,7 @@ use Rattle.flat_links.specs.declared.following.Following.{Following}
 use Rattle.flat_links.specs.declared.following.Sight.{Sight}
 use Rattle.flat_facts.specs.declared.live.Live.{Live}
 use Rattle.flat_links.specs.declared.pairs.PairState.{PairState}
+use Rattle.flat_states.specs.declared.state.Account.{Account}
 use Rattle.flat_states.specs.declared.state.SessionState.{SessionState}
 use Rattle.flat_facts.specs.Begins.{begun, finished}
 use Rattle.flat_facts.specs.Contents.{capped}
@@ -25,7 +26,7 @@ use Rattle.flat_states.specs.Seen.{seen_of}
 use Rattle.flat_rules.specs.Serials.{IsUseSerial, contents_made}
 use Rattle.flat_rules.specs.Shown.{is_connected, is_pair, shown_states, shown_view}
 use Rattle.flat_rules.specs.Stamps.{IsStamp}
-use Rattle.flat_facts.specs.Views.{view_after}
+use Rattle.flat_facts.specs.Views.{last_view}
 use Rattle.flat_rules.specs.Watch.{props_given, props_seen}
 use Rattle.flat_topology.specs.Join.{is_joined}
 use Rattle.flat_topology.specs.Shown.{Shown, state_of}
@@ -41,7 +42,7 @@ nothing = record { closed = false; taken = 0; view = None; connected = false }
 
 -- what is kept of a session to which nothing happened
 abbrev pub new_following : Following
-new_following = record { view = None; contents = 0; begun = nothing; finished = nothing }
+new_following = record { contents = 0; begun = nothing; finished = nothing }
 
 -- what a history says of a session, where it ends with the begin of a frame
 abbrev pub sight_of : Setup → List Entry → SessionNo → Sight
@@ -52,9 +53,8 @@ sight_of setup history s = record {
   connected = is_connected setup history s;
 }
 
--- What is kept of a session stands for what a history says of it. What its calls leave it is known while it is open.
+-- What is kept of a session stands for what a history says of it. How many contents its calls made is known while it is open.
 pub record IsFollowed (setup : Setup) (history : List Entry) (s : SessionNo) (following : Following) : Type 0 where
-  pub view : is_closed s history ≡ false → following.view ≡ view_after None (calls s history)
   pub contents : is_closed s history ≡ false → following.contents ≡ capped (length (contents_made (calls s history)))
   pub begun : following.begun ≡ sight_of setup (to_begin history) s
   pub finished : following.finished ≡ sight_of setup (to_finished history) s
@@ -91,13 +91,14 @@ pub record AreTied (setup : Setup) (history : List Entry) (followings : List Fol
   pub each_session : AllNumbered (λ i. IsFollowed setup history (number i)) followings
   pub each_pair : AllNumbered (λ i. IsPairKept setup history (pair i)) pairs
 
--- An entry of a session that was open, which carries these calls. Before it the session had made so many presents, and had these viewports.
-pub record IsOwnEntry (setup : Setup) (history : List Entry) (entry : Entry) (s : SessionNo) (carries : List Call) (made : ℕ) (live : List Live) : Type 0 where
+-- An entry of a session that was open, which carries these calls. Before it the session had this account, by which it made so many presents and its last view is of that pair, and these viewports.
+pub record IsOwnEntry (setup : Setup) (history : List Entry) (entry : Entry) (s : SessionNo) (carries : List Call) (account : Account) (live : List Live) : Type 0 where
   pub legal : Legal setup (history ▹ entry)
   pub mine : is_session s entry.actor ≡ true
   pub opened : is_closed s history ≡ false
   pub carried : entry.calls ≡ carries
-  pub counted : made ≡ length (presents s history)
+  pub counted : account.presents ≡ length (presents s history)
+  pub viewed : account.view ≡ last_view s history
   pub living : live ≡ lives_after [] (calls s history)
 
 -- an entry that uses no viewport end

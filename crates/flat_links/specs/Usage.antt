@@ -16,8 +16,9 @@ use Rattle.flat_facts.specs.Clears.{clears_pair}
 use Rattle.flat_links.specs.Clears.{cleared_if}
 use Rattle.flat_facts.specs.Contents.{capped}
 use Rattle.flat_rules.specs.Serials.{contents_made}
-use Rattle.flat_links.specs.Views.{ended_by}
-use Rattle.flat_facts.specs.Views.{view_after}
+use Rattle.flat_links.specs.Views.{ended_by, is_ended}
+use Rattle.flat_facts.specs.Views.{if_unended}
+use Rattle.flat_states.specs.declared.state.Account.{Account}
 use Rattle.flat_watch.specs.Told.{or_else}
 
 -- a pair's state after a use with these properties, whose viewport has that serial
@@ -76,16 +77,16 @@ pub record IsUse (entry : Entry) (p : PairNo) (props : ViewportProps) : Type 0 w
   pub kind : entry.kind ≡ Viewport p props
   pub reply : entry.reply ≡ Done
 
--- what is kept of a session after its calls, which leave it so many contents
-abbrev pub followed_by : List Call → ℕ → Following → Following
-followed_by calls contents following = record following { view = view_after following.view calls; contents = contents }
+-- what is kept of a session whose calls made so many contents
+abbrev pub followed_by : ℕ → Following → Following
+followed_by contents following = record following { contents = contents }
 
--- What is kept after calls of a session that had made so many presents, and of which these viewports lived.
-pub record NotesCalls (s : SessionNo) (calls : List Call) (presents : ℕ) (live : List Live) (contents : ℕ) (old new : List Following) (pairs after : List PairState) : Type 0 where
+-- What is kept after calls of a session that had this account, and of which these viewports lived.
+pub record NotesCalls (s : SessionNo) (calls : List Call) (account : Account) (live : List Live) (contents : ℕ) (old new : List Following) (pairs after : List PairState) : Type 0 where
   pub was : Following
   pub at : was ≡ slice_index_or old (s.0 - 1) was
-  pub session : new ≡ slice_set old (s.0 - 1) (followed_by calls contents was)
+  pub session : new ≡ slice_set old (s.0 - 1) (followed_by contents was)
   pub contents_are : (n : ℕ) → was.contents ≡ capped n → contents ≡ capped (n + length (contents_made calls))
   pub count : length after ≡ length pairs
   pub each : (i : ℕ) (d : PairState) → i < length pairs
-      → slice_index_or after i d ≡ cleared_if (clears_pair (record { 0 = i }) live calls) presents (ended_by i was.view calls presents (slice_index_or pairs i d))
+      → slice_index_or after i d ≡ cleared_if (clears_pair (record { 0 = i }) live calls) account.presents (ended_by i (if_unended account.view (is_ended pairs)) calls account.presents (slice_index_or pairs i d))

@@ -1,5 +1,5 @@
 -- What the ends of a pair tell, and the stamps of views.
-use Rattle.std.specs.Prelude.{◌≡◌, ◌<◌, nat_lt, length, slice_index_or, ℕ, Bool, cond, List, Option, Some, None, option_map}
+use Rattle.std.specs.Prelude.{◌≡◌, ◌<◌, ◌&&◌, nat_lt, not, false, length, slice_get, slice_index_or, ℕ, Bool, cond, List, Option, Some, None, is_some, option_and_then, option_map}
 use Rattle.flat_base.specs.declared.ids.PairNo.{PairNo}
 use Rattle.flat_scene.specs.declared.calls.Call.{Call}
 use Rattle.flat_scene.specs.declared.journal.Told.{Told}
@@ -7,7 +7,9 @@ use Rattle.flat_scene.specs.declared.journal.Told.TheVariants as tell
 use Rattle.flat_scene.specs.declared.calls.ViewportProps.{ViewportProps}
 use Rattle.flat_links.specs.declared.pairs.PairState.{PairState}
 use Rattle.flat_rules.specs.Shown.{is_pair}
-use Rattle.flat_rules.specs.Stamps.{stamp_then}
+use Rattle.flat_rules.specs.Stamps.{is_seen, stamp_then}
+use Rattle.flat_states.specs.declared.state.SessionState.{SessionState}
+use Rattle.flat_states.specs.Kept.{taken_in}
 use Rattle.flat_rules.specs.Watch.{layout_in}
 use Rattle.flat_facts.specs.Views.{ends_of}
 
@@ -22,6 +24,25 @@ status_by lost joined connected = cond lost (Some tell.Gone) (cond joined (Some 
 -- the child, by whether the view end is lost, and whether its session shows the view
 abbrev pub child_by : Bool → Bool → Option Told
 child_by lost shown = cond lost (Some tell.Gone) (cond shown (Some tell.HasPresented) None)
+
+-- ---- which views have ended
+
+-- the stamp of the end of a pair's view, where there is such a pair
+abbrev pub end_stamp : List PairState → PairNo → Option ℕ
+end_stamp pairs p = option_and_then (λ state. state.ended) (slice_get pairs p.0)
+
+-- whether the view of a pair has ended
+abbrev pub is_ended : List PairState → PairNo → Bool
+is_ended pairs p = is_some (end_stamp pairs p)
+
+-- whether there is a view, and so many presents haven't seen its end
+abbrev pub is_unseen : List PairState → ℕ → Option PairNo → Bool
+is_unseen pairs taken None = false
+is_unseen pairs taken (Some p) = not (is_seen (end_stamp pairs p) taken)
+
+-- whether a session has a view whose end isn't lost: it is open, and frames haven't seen the end of the last that it made
+abbrev pub has_view_in : List PairState → SessionState → Bool
+has_view_in pairs state = not state.closed && is_unseen pairs (taken_in state) state.account.view
 
 -- ---- the stamps of views, pair by pair
 

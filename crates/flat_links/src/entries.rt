@@ -40,7 +40,7 @@ fn note_ties(state: &SessionState, ends: &Viewports, ties: &mut Ties, s: Session
     if state.closed {
         return;
     }
-    ties.note(s, calls, state.account.presents, ends.live.as_slice());
+    ties.note(s, calls, state.account, ends.live.as_slice());
 }
 
 /// Notes the calls of an entry by its session's viewports, unless it closes the session.
@@ -95,13 +95,13 @@ pub fn use_ends(
     ensures used { IsUsed p calls.now state.now.account.presents result ends.old ends.new }
     ensures ties { TiesUsed s calls.now p props result state.now ends.old ties.old ties.new }
 {
-    let presents = state.account.presents;
+    let account = state.account;
     if is_out(ends.out.as_slice(), p) {
-        ties.note(s, calls, presents, ends.live.as_slice());
+        ties.note(s, calls, account, ends.live.as_slice());
         return false;
     }
-    ties.use_viewport(s, calls, presents, ends.live.as_slice(), p, props);
-    ends.use_end(calls, p, presents);
+    ties.use_viewport(s, calls, account, ends.live.as_slice(), p, props);
+    ends.use_end(calls, p, account.presents);
     true
 }
 

@@ -15,8 +15,6 @@ pub struct Sight {
 /// What is kept of a session for the ends that it owns.
 #[derive(Clone, Copy, PartialEq, Eq)]
 pub struct Following {
-    /// The pair of the view that its calls leave it.
-    pub view: Option<PairNo>,
     /// How many contents its calls made; a count at its end stays there.
     pub contents: u64,
     /// By the begin of the last frame.

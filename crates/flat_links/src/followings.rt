@@ -20,7 +20,6 @@ pub const NOTHING: Sight = Sight {
 };
 
 const NEW_FOLLOWING: Following = Following {
-    view: None,
     contents: 0,
     begun: NOTHING,
     finished: NOTHING,

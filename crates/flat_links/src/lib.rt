@@ -19,3 +19,4 @@ pub mod tokens;
 pub mod told;
 mod usage;
 pub mod viewports;
+pub mod with_view;

@@ -1,7 +1,8 @@
 ghost use Rattle.std.specs.Prelude.{◌≡◌, ◌<◌, [], ◌∷◌, length, replicate, slice_index_or, IfOk};
 ghost use Rattle.flat_links.specs.Noted.{AreNoted, KeptPairs, ListsPair, NotesPairs, new_pair};
 ghost use Rattle.flat_links.specs.Usage.{SeesUses, SettlesPairs, UsesPair};
-ghost use Rattle.flat_facts.specs.Views.{view_after};
+ghost use Rattle.flat_facts.specs.Views.{if_unended};
+ghost use Rattle.flat_links.specs.Views.{end_stamp, is_ended};
 
 use crate::clears::note_clears;
 use crate::pairs::{PairState, note_views};
@@ -9,6 +10,7 @@ use crate::usage::{see_use, settle_pairs, use_pair};
 use flat_base::{NoMemory, PairNo, Roomy};
 use flat_facts::live::Live;
 use flat_scene::{Call, ViewportProps, ViewportUse};
+use flat_states::state::Account;
 use std::alloc::Global;
 use std::marker::Model;
 
@@ -72,22 +74,41 @@ impl PairStates {
         self.states[p.0 as usize]
     }
 
-    /// Notes the calls of an entry, where its session had this view, had made so
-    /// many presents, and these viewports of it lived, before. Answers the view
-    /// after them. It takes no memory.
-    pub fn note(
-        &mut self,
-        view: Option<PairNo>,
-        calls: &[Call],
-        presents: u32,
-        live: &[Live],
-    ) -> Option<PairNo>
-        ensures view { result ≡ view_after view calls.now }
-        ensures notes { NotesPairs view calls.now presents live.now self.old.items self.new.items }
+    /// The stamp of the end of a pair's view: how many presents its owner had made then.
+    /// None where the view hasn't ended, and where there is no such pair.
+    pub fn end_stamp(&self, p: PairNo) -> Option<u32>
+        ensures { result ≡ end_stamp self.now.items p }
     {
-        let after = note_views(self.states.as_mut_slice(), view, calls, presents);
-        note_clears(self.states.as_mut_slice(), live, calls, presents);
-        after
+        match self.states.get(p.0 as usize) {
+            Some(state) => state.ended,
+            None => None,
+        }
+    }
+
+    /// The last view of a session, where it hasn't ended.
+    fn unended(&self, last: Option<PairNo>) -> Option<PairNo>
+        ensures { result ≡ if_unended last (is_ended self.now.items) }
+    {
+        match last {
+            Some(p) => {
+                if self.end_stamp(p).is_some() {
+                    return None;
+                }
+                last
+            }
+            None => None,
+        }
+    }
+
+    /// Notes the calls of an entry, where its session had this account, and these
+    /// viewports of it lived, before. It takes no memory.
+    pub fn note(&mut self, account: Account, calls: &[Call], live: &[Live])
+        ensures { NotesPairs (if_unended account.view (is_ended self.old.items)) calls.now
+            account.presents live.now self.old.items self.new.items }
+    {
+        let view = self.unended(account.view);
+        note_views(self.states.as_mut_slice(), view, calls, account.presents);
+        note_clears(self.states.as_mut_slice(), live, calls, account.presents);
     }
 
     /// The viewport end of a pair is used; the viewport has that serial. It takes no

@@ -1,5 +1,4 @@
 ghost use Rattle.std.specs.Prelude.{◌≡◌, Some, [], ◌∷◌};
-ghost use Rattle.flat_facts.specs.Views.{view_after};
 ghost use Rattle.flat_links.specs.Views.{EndsViews, EndsOne};
 
 use flat_base::PairNo;
@@ -60,20 +59,13 @@ fn note_one(pairs: &mut [PairState], view: Option<PairNo>, call: &Call, presents
 }
 
 /// Notes the calls of an entry, where its session had this view and had made so
-/// many presents before. Answers the view after them. It takes no memory.
-pub fn note_views(
-    pairs: &mut [PairState],
-    view: Option<PairNo>,
-    calls: &[Call],
-    presents: u32,
-) -> Option<PairNo>
-    ensures view { result ≡ view_after view calls.now }
-    ensures ends { EndsViews view calls.now presents pairs.old pairs.new }
+/// many presents before. It takes no memory.
+pub fn note_views(pairs: &mut [PairState], view: Option<PairNo>, calls: &[Call], presents: u32)
+    ensures { EndsViews view calls.now presents pairs.old pairs.new }
 {
     let mut now = view;
     for call in calls {
         note_one(pairs, now, call, presents);
         now = view_then(now, call);
     }
-    now
 }

@@ -18,7 +18,7 @@ use flat_base::{NoMemory, PairNo, SessionNo};
 use flat_facts::contents::count_contents;
 use flat_facts::live::Live;
 use flat_scene::{Call, Setup, ViewportProps};
-use flat_states::state::SessionState;
+use flat_states::state::{Account, SessionState};
 use flat_topology::Shown;
 use std::alloc::Global;
 
@@ -48,7 +48,6 @@ fn begun_by(old: Following, sight: Sight) -> Following
     ensures { result ≡ record old { begun = sight } }
 {
     Following {
-        view: old.view,
         contents: old.contents,
         begun: sight,
         finished: old.finished,
@@ -60,7 +59,6 @@ fn finished_by(old: Following) -> Following
     ensures { result ≡ record old { finished = old.begun } }
 {
     Following {
-        view: old.view,
         contents: old.contents,
         begun: old.begun,
         finished: old.begun,
@@ -102,20 +100,19 @@ impl Ties {
         Ok(Ties { followings, pairs })
     }
 
-    /// Notes the calls of an entry of a session that is open, where the session had
-    /// made so many presents, and these viewports of it lived, before. It takes no
-    /// memory.
-    pub fn note(&mut self, s: SessionNo, calls: &[Call], presents: u32, live: &[Live])
+    /// Notes the calls of an entry of a session that is open, where the session had this
+    /// account, and these viewports of it lived, before. It takes no memory.
+    pub fn note(&mut self, s: SessionNo, calls: &[Call], account: Account, live: &[Live])
         requires some { 0 < s.0 }
         requires few { s.0 ≤ length self.old.followings.items }
         ensures sessions { length self.new.followings.items ≡ length self.old.followings.items }
         ensures count { length self.new.pairs.items ≡ length self.old.pairs.items }
         ensures tied { (setup : Setup) (h : List Entry) (e : Entry) →
-            IsOwnEntry setup h e s calls.now presents live.now → UsesNone e →
+            IsOwnEntry setup h e s calls.now account live.now → UsesNone e →
             AreTied setup h self.old.followings.items self.old.pairs.items →
             AreTied setup (h ▹ e) self.new.followings.items self.new.pairs.items }
     {
-        self.note_calls(s, calls, presents, live);
+        self.note_calls(s, calls, account, live);
     }
 
     /// Notes a use of the viewport end of a pair, which was done. It takes no memory.
@@ -123,7 +120,7 @@ impl Ties {
         &mut self,
         s: SessionNo,
         calls: &[Call],
-        presents: u32,
+        account: Account,
         live: &[Live],
         p: PairNo,
         props: ViewportProps,
@@ -133,11 +130,11 @@ impl Ties {
         ensures sessions { length self.new.followings.items ≡ length self.old.followings.items }
         ensures count { length self.new.pairs.items ≡ length self.old.pairs.items }
         ensures tied { (setup : Setup) (h : List Entry) (e : Entry) →
-            IsOwnEntry setup h e s calls.now presents live.now → IsUse e p props →
+            IsOwnEntry setup h e s calls.now account live.now → IsUse e p props →
             length h < 2 ^ 32 - 1 → AreTied setup h self.old.followings.items self.old.pairs.items →
             AreTied setup (h ▹ e) self.new.followings.items self.new.pairs.items }
     {
-        let serial = self.note_calls(s, calls, presents, live);
+        let serial = self.note_calls(s, calls, account, live);
         self.pairs.use_pair(p, serial, props);
     }
 
@@ -187,18 +184,17 @@ impl Ties {
     }
 
     /// The same but for uses. Answers how many contents the session's calls made.
-    fn note_calls(&mut self, s: SessionNo, calls: &[Call], presents: u32, live: &[Live]) -> u64
+    fn note_calls(&mut self, s: SessionNo, calls: &[Call], account: Account, live: &[Live]) -> u64
         requires some { 0 < s.0 }
         requires few { s.0 ≤ length self.old.followings.items }
-        ensures { NotesCalls s calls.now presents live.now result self.old.followings.items
+        ensures { NotesCalls s calls.now account live.now result self.old.followings.items
             self.new.followings.items self.old.pairs.items self.new.pairs.items }
     {
         let place = s.0 as usize - 1;
         let old = self.followings.at(place);
-        let view = self.pairs.note(old.view, calls, presents, live);
+        self.pairs.note(account, calls, live);
         let contents = count_contents(old.contents, calls);
         let new = Following {
-            view,
             contents,
             begun: old.begun,
             finished: old.finished,

@@ -19,8 +19,7 @@ use Rattle.flat_rules.specs.Shown.{is_pair}
 use Rattle.flat_facts.specs.Views.{view_then, view_after, ends_it, ends_of, if_unended, last_view}
 use Rattle.flat_facts.proofs.lemmas.LiveCounts.{count-is}
 use Rattle.flat_facts.proofs.lemmas.ViewCalls.{after-refused}
-use Rattle.flat_facts.proofs.lemmas.ViewHistory.{ViewingOf, viewing-of}
-use Rattle.flat_facts.proofs.lemmas.ViewLaw.{ended}
+use Rattle.flat_facts.proofs.lemmas.ViewHistory.{viewing-of}
 
 -- ---- how calls end a view
 
@@ -85,14 +84,16 @@ left-by setup s h None (Some q) is_ended held standing = by_case (standing q ref
     by_case (inl wrong) = cc
     by_case (inr gone) = sym (ap (λ b. cond b None (Some q)) gone)
 
-left-of : (setup : Setup) (s : SessionNo) (h : List Entry) → ViewingOf setup s h → view_after None (calls s h) ≡ if_unended (last_view s h) (λ p. happens setup (ends_view p) (calls s h))
-left-of setup s h view =
-    sym (view-drafted setup (calls s h) view.draft view.good)
-    ∙ left-by setup s h view.draft.view (last_view s h) (λ p. happens setup (ends_view p) (calls s h))
-    (λ p here. let was = view.held p here in (was.2, was.3))
-    (λ q is. let own = view.made q is in view.standing q own.0 own.1)
-
--- of a session that is open
+-- of a session that is open, where it is known which of its views have ended
 pub view-left : (setup : Setup) (s : SessionNo) (h : List Entry) → Legal setup h → is_closed s h ≡ false
-    → view_after None (calls s h) ≡ if_unended (last_view s h) (λ p. happens setup (ends_view p) (calls s h))
-view-left setup s h legal opened = left-of setup s h (viewing-of setup s h legal opened)
+    → (is_ended : PairNo → Bool) → ((p : PairNo) → owns_view setup s p ≡ true → is_ended p ≡ happens setup (ends_view p) (calls s h)) → view_after None (calls s h) ≡ if_unended (last_view s h) is_ended
+view-left setup s h legal opened is_ended knows =
+    let view = viewing-of setup s h legal opened in
+    sym (view-drafted setup (calls s h) view.draft view.good)
+    ∙ left-by setup s h view.draft.view (last_view s h) is_ended
+    (λ p here. let was = view.held p here in (knows p was.0 ∙ was.2, was.3))
+    (λ q is. let own = view.made q is in by_case view.draft.view q own.0 (view.standing q own.0 own.1))
+  where
+    by_case : (left : Option PairNo) (q : PairNo) → owns_view setup s q ≡ true → (is_pair left q ≡ true) ⊎ (happens setup (ends_view q) (calls s h) ≡ true) → (is_pair left q ≡ true) ⊎ (is_ended q ≡ true)
+    by_case left q own (inl here) = inl here
+    by_case left q own (inr gone) = inr (knows q own ∙ gone)

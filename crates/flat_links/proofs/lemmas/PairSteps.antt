@@ -17,6 +17,7 @@ use Rattle.flat_scene.specs.History.{◌▹◌, calls, closes, is_begin, is_clos
 use Rattle.flat_base.proofs.lemmas.Tests.{and-left, and-right}
 use Rattle.flat_facts.specs.declared.live.Live.{Live}
 use Rattle.flat_links.specs.declared.pairs.PairState.{PairState}
+use Rattle.flat_states.specs.declared.state.Account.{Account}
 use Rattle.flat_facts.specs.Clears.{clears_pair}
 use Rattle.flat_links.specs.Clears.{cleared_if}
 use Rattle.flat_rules.specs.Ends.{clears_viewport, ends_view, happens, is_done, uses_viewport, view_owner, viewport_owner, viewport_uses}
@@ -81,7 +82,7 @@ owner-owns setup v p owner = let same : (v.0 == v.0) ≡ true = grind (arith, na
 
 -- ---- stamps
 
-module _ (setup : Setup) (s : SessionNo) (h : List Entry) (e : Entry) (carries : List Call) (made : ℕ) (live : List Live) (entry : IsOwnEntry setup h e s carries made live) (p : PairNo) where
+module _ (setup : Setup) (s : SessionNo) (h : List Entry) (e : Entry) (carries : List Call) (account : Account) (live : List Live) (entry : IsOwnEntry setup h e s carries account live) (p : PairNo) where
   all-owned : list_all (owns_in_call setup s) (calls s h) && list_all (owns_in_call setup s) e.calls ≡ true
   all-owned = sym (list_all-append (owns_in_call setup s) (calls s h) e.calls) ∙ all-calls-owned setup h e entry.legal s entry.mine
 
@@ -92,29 +93,29 @@ module _ (setup : Setup) (s : SessionNo) (h : List Entry) (e : Entry) (carries :
   owned-now = and-right (list_all (owns_in_call setup s) (calls s h)) _ all-owned
 
   pub ended-own : (view : Option PairNo) → view ≡ view_after None (calls s h) → (w : SessionNo) → view_owner setup p ≡ Some w → (stamp : Option ℕ) → IsStamp (happens setup (ends_view p)) w h stamp
-      → IsStamp (happens setup (ends_view p)) w (h ▹ e) (stamp_then stamp (nat_lt 0 (ends_of p view carries)) made)
+      → IsStamp (happens setup (ends_view p)) w (h ▹ e) (stamp_then stamp (nat_lt 0 (ends_of p view carries)) account.presents)
   ended-own view is w owner stamp old = by_actor (is_session w e.actor) refl
     where
       next : SessionNo → ℕ → ℕ → Type 0
       next t n k = IsStamp (happens setup (ends_view p)) t (h ▹ e) (stamp_then stamp (nat_lt 0 n) k)
 
-      by_actor : (b : Bool) → is_session w e.actor ≡ b → IsStamp (happens setup (ends_view p)) w (h ▹ e) (stamp_then stamp (nat_lt 0 (ends_of p view carries)) made)
+      by_actor : (b : Bool) → is_session w e.actor ≡ b → IsStamp (happens setup (ends_view p)) w (h ▹ e) (stamp_then stamp (nat_lt 0 (ends_of p view carries)) account.presents)
       by_actor true theirs =
           let same : w ≡ s = one-session s w e.actor entry.mine theirs in
           let was : IsStamp (happens setup (ends_view p)) s h stamp = subst (λ (t : SessionNo). IsStamp (happens setup (ends_view p)) t h stamp) same old in
           let now = view-stamp setup s h e entry.legal entry.mine entry.opened p view is stamp was in
           let F : List Call → ℕ → SessionNo → Type 0 = λ cs k t. IsStamp (happens setup (ends_view p)) t (h ▹ e) (stamp_then stamp (nat_lt 0 (ends_of p view cs)) k) in
-          subst (λ (t : SessionNo). F carries made t) (sym same) (subst (λ (k : ℕ). F carries k s) (sym entry.counted) (subst (λ (cs : List Call). F cs (length (presents s h)) s) entry.carried now))
+          subst (λ (t : SessionNo). F carries account.presents t) (sym same) (subst (λ (k : ℕ). F carries k s) (sym entry.counted) (subst (λ (cs : List Call). F cs (length (presents s h)) s) entry.carried now))
       by_actor false other =
           let foreign : owns_view setup s p ≡ false = rw owner (another s w e.actor entry.mine other) in
           let before = foreign-view setup s p foreign None (calls s h) refl owned-before in
           let elsewhere : is_pair view p ≡ false = ap (λ (v : Option PairNo). is_pair v p) is ∙ before.after in
           let none : ends_of p view carries ≡ 0 = ap (ends_of p view) (sym entry.carried) ∙ (foreign-view setup s p foreign view e.calls elsewhere owned-now).ends in
-          let stays : stamp_then stamp (nat_lt 0 (ends_of p view carries)) made ≡ stamp = ap (λ (n : ℕ). stamp_then stamp (nat_lt 0 n) made) none ∙ stamp-none stamp made in
+          let stays : stamp_then stamp (nat_lt 0 (ends_of p view carries)) account.presents ≡ stamp = ap (λ (n : ℕ). stamp_then stamp (nat_lt 0 n) account.presents) none ∙ stamp-none stamp account.presents in
           subst (IsStamp (happens setup (ends_view p)) w (h ▹ e)) (sym stays) (other-stamp (happens setup (ends_view p)) (happening-lasts setup (ends_view p)) w h e stamp other old)
 
   pub cleared-own : (v : SessionNo) → viewport_owner setup p ≡ Some (Session v) → (stamp : Option ℕ) → IsStamp (happens setup (clears_viewport p)) v h stamp
-      → IsStamp (happens setup (clears_viewport p)) v (h ▹ e) (stamp_then stamp (clears_pair p live carries) made)
+      → IsStamp (happens setup (clears_viewport p)) v (h ▹ e) (stamp_then stamp (clears_pair p live carries) account.presents)
   cleared-own v owner stamp old = by_actor (is_session v e.actor) refl
     where
       tame : AreTame e.calls
@@ -123,19 +124,19 @@ module _ (setup : Setup) (s : SessionNo) (h : List Entry) (e : Entry) (carries :
       counts : clears_pair p live carries ≡ nat_lt 0 (count_of (clears_live p) live e.calls)
       counts = ap (clears_pair p live) (sym entry.carried) ∙ clears-count p live e.calls tame
 
-      by_actor : (b : Bool) → is_session v e.actor ≡ b → IsStamp (happens setup (clears_viewport p)) v (h ▹ e) (stamp_then stamp (clears_pair p live carries) made)
+      by_actor : (b : Bool) → is_session v e.actor ≡ b → IsStamp (happens setup (clears_viewport p)) v (h ▹ e) (stamp_then stamp (clears_pair p live carries) account.presents)
       by_actor true theirs =
           let same : v ≡ s = one-session s v e.actor entry.mine theirs in
           let was : IsStamp (happens setup (clears_viewport p)) s h stamp = subst (λ (t : SessionNo). IsStamp (happens setup (clears_viewport p)) t h stamp) same old in
           let now = clear-stamp setup s h e entry.legal entry.mine entry.opened p live entry.living stamp was in
           let F : Bool → ℕ → SessionNo → Type 0 = λ b k t. IsStamp (happens setup (clears_viewport p)) t (h ▹ e) (stamp_then stamp b k) in
-          subst (λ (t : SessionNo). F (clears_pair p live carries) made t) (sym same) (subst (λ (k : ℕ). F (clears_pair p live carries) k s) (sym entry.counted) (subst (λ (b : Bool). F b (length (presents s h)) s) (sym counts) now))
+          subst (λ (t : SessionNo). F (clears_pair p live carries) account.presents t) (sym same) (subst (λ (k : ℕ). F (clears_pair p live carries) k s) (sym entry.counted) (subst (λ (b : Bool). F b (length (presents s h)) s) (sym counts) now))
       by_actor false other =
           let foreign : owns_viewport setup s p ≡ false = rw owner (ap (is_session s) (sym (same-owner v)) ∙ another s v e.actor entry.mine other) in
           let before = foreign-live setup s p foreign [] (calls s h) refl owned-before in
           let elsewhere : list_any (λ (l : Live). l.pair.0 == p.0) live ≡ false = ap (list_any (λ (l : Live). l.pair.0 == p.0)) entry.living ∙ before.after in
           let none : count_of (clears_live p) live e.calls ≡ 0 = (foreign-live setup s p foreign live e.calls elsewhere owned-now).clears in
-          let stays : stamp_then stamp (clears_pair p live carries) made ≡ stamp = ap (λ b. stamp_then stamp b made) (counts ∙ ap (nat_lt 0) none) ∙ stamp-none stamp made in
+          let stays : stamp_then stamp (clears_pair p live carries) account.presents ≡ stamp = ap (λ b. stamp_then stamp b account.presents) (counts ∙ ap (nat_lt 0) none) ∙ stamp-none stamp account.presents in
           subst (IsStamp (happens setup (clears_viewport p)) v (h ▹ e)) (sym stays) (other-stamp (happens setup (clears_viewport p)) (happening-lasts setup (clears_viewport p)) v h e stamp other old)
         where
           same-owner : (t : SessionNo) → Session t ≡ Session t
@@ -160,14 +161,14 @@ pub pending-step : (setup : Setup) (p : PairNo) (n : ℕ) (v : SessionNo) (h : L
 pending-step setup p n v h e no_begin no_finish = rw (no_begin, no_finish) refl
 
 -- its own entry that doesn't use the pair's viewport end
-pub pair-own : (setup : Setup) (s : SessionNo) (h : List Entry) (e : Entry) (carries : List Call) (made : ℕ) (live : List Live) → IsOwnEntry setup h e s carries made live
+pub pair-own : (setup : Setup) (s : SessionNo) (h : List Entry) (e : Entry) (carries : List Call) (account : Account) (live : List Live) → IsOwnEntry setup h e s carries account live
     → (view : Option PairNo) → view ≡ view_after None (calls s h) → (i : ℕ) → (uses_viewport (pair i) e.kind && is_done e.reply) ≡ false → (state : PairState) → IsPairKept setup h (pair i) state
-    → IsPairKept setup (h ▹ e) (pair i) (cleared_if (clears_pair (pair i) live carries) made (ended_by i view carries made state))
-pair-own setup s h e carries made live entry view is i no_use state kept = record {
+    → IsPairKept setup (h ▹ e) (pair i) (cleared_if (clears_pair (pair i) live carries) account.presents (ended_by i view carries account.presents state))
+pair-own setup s h e carries account live entry view is i no_use state kept = record {
   uses = kept.uses ∙ ap (length {A = Entry}) (sym same);
-  ended = λ w owner. ended-own setup s h e carries made live entry (pair i) view is w owner state.ended (kept.ended w owner);
-  cleared = λ v owner. cleared-own setup s h e carries made live entry (pair i) v owner state.cleared (kept.cleared v owner);
-  serial = λ v owner some. serial-kept setup s h e carries made live entry (pair i) no_use v owner state.serial (kept.serial v owner (subst (λ (us : List Entry). 0 < length us) same some));
+  ended = λ w owner. ended-own setup s h e carries account live entry (pair i) view is w owner state.ended (kept.ended w owner);
+  cleared = λ v owner. cleared-own setup s h e carries account live entry (pair i) v owner state.cleared (kept.cleared v owner);
+  serial = λ v owner some. serial-kept setup s h e carries account live entry (pair i) no_use v owner state.serial (kept.serial v owner (subst (λ (us : List Entry). 0 < length us) same some));
   unused = λ none. kept.unused (ap (length {A = Entry}) (sym same) ∙ none);
   given = kept.given ∙ ap (props_given setup) (sym same);
   seen = λ v owner. kept.seen v owner ∙ seen-same v;

@@ -12,6 +12,7 @@ use Rattle.flat_scene.specs.History.{◌▹◌, calls, is_session}
 use Rattle.flat_links.specs.declared.following.Following.{Following}
 use Rattle.flat_facts.specs.declared.live.Live.{Live}
 use Rattle.flat_links.specs.declared.pairs.PairState.{PairState}
+use Rattle.flat_states.specs.declared.state.Account.{Account}
 use Rattle.flat_rules.specs.Numbers.{number, AllNumbered}
 use Rattle.flat_facts.specs.Clears.{clears_pair}
 use Rattle.flat_links.specs.Clears.{cleared_if}
@@ -19,8 +20,8 @@ use Rattle.flat_facts.specs.Contents.{capped}
 use Rattle.flat_links.specs.Following.{AreTied, IsFollowed, IsIdle, IsOwnEntry, IsPairKept, UsesNone, pair}
 use Rattle.flat_rules.specs.Serials.{contents_made}
 use Rattle.flat_links.specs.Usage.{IsUse, NotesCalls, UsesPair, followed_by, used_by}
-use Rattle.flat_links.specs.Views.{ended_by}
-use Rattle.flat_facts.specs.Views.{view_after}
+use Rattle.flat_links.specs.Views.{ended_by, is_ended}
+use Rattle.flat_facts.specs.Views.{if_unended, view_after}
 use Rattle.flat_states.proofs.lemmas.Changes.{changed-one, not-session}
 use Rattle.flat_states.proofs.lemmas.Counts.{at-session}
 use Rattle.flat_links.proofs.Followed.{followed-idle, followed-own}
@@ -29,24 +30,30 @@ use Rattle.flat_links.proofs.lemmas.PairSteps.{no-begin, no-finish, pair-own}
 use Rattle.flat_links.proofs.PairUses.{pair-used}
 use Rattle.flat_facts.proofs.lemmas.Serials.{contents-append}
 use Rattle.flat_facts.proofs.lemmas.ViewHistory.{same-session}
+use Rattle.flat_facts.proofs.lemmas.ViewsLeft.{view-left}
+use Rattle.flat_links.proofs.EndedViews.{ended-is}
 use Rattle.std.proofs.Common.{length-append}
 
-module _ (setup : Setup) (s : SessionNo) (h : List Entry) (e : Entry) (carries : List Call) (made : ℕ) (live : List Live) (entry : IsOwnEntry setup h e s carries made live) (some : 0 < s.0)
-    (contents : ℕ) (old new : List Following) (few : s.0 ≤ length old) (pairs after : List PairState) (notes : NotesCalls s carries made live contents old new pairs after) (tied : AreTied setup h old pairs) where
+module _ (setup : Setup) (s : SessionNo) (h : List Entry) (e : Entry) (carries : List Call) (account : Account) (live : List Live) (entry : IsOwnEntry setup h e s carries account live) (some : 0 < s.0)
+    (contents : ℕ) (old new : List Following) (few : s.0 ≤ length old) (pairs after : List PairState) (notes : NotesCalls s carries account live contents old new pairs after) (tied : AreTied setup h old pairs) where
   was-followed : IsFollowed setup h s notes.was
   was-followed = at-session (IsFollowed setup h) old s notes.was tied.each_session some few notes.at
 
-  view-is : notes.was.view ≡ view_after None (calls s h)
-  view-is = was-followed.view entry.opened
+  -- the last view, where it hasn't ended, is what the calls leave
+  abbrev view : Option PairNo
+  view = if_unended account.view (is_ended pairs)
+
+  view-is : view ≡ view_after None (calls s h)
+  view-is = ap (λ (v : Option PairNo). if_unended v (is_ended pairs)) entry.viewed ∙ sym (view-left setup s h entry.legal.0 entry.opened (is_ended pairs) (λ p owned. ended-is setup s h pairs tied entry.opened p owned))
 
   followed : AllNumbered (λ i. IsFollowed setup (h ▹ e) (number i)) new
   followed =
-      let now : IsFollowed setup (h ▹ e) s (followed_by carries contents notes.was) =
-      followed-own setup s h e entry.mine (no-begin setup s h e entry.legal entry.mine) (no-finish setup s h e entry.legal entry.mine) carries entry.carried notes.was (followed_by carries contents notes.was) refl notes.contents_are refl refl was-followed in
+      let now : IsFollowed setup (h ▹ e) s (followed_by contents notes.was) =
+      followed-own setup s h e entry.mine (no-begin setup s h e entry.legal entry.mine) (no-finish setup s h e entry.legal entry.mine) carries entry.carried notes.was (followed_by contents notes.was) notes.contents_are refl refl was-followed in
       let place : number (s.0 - 1) ≡ s = ap (λ (n : ℕ). let r : SessionNo = record { 0 = n } in r) (omega (arith, some)) in
-      let here : IsFollowed setup (h ▹ e) (number (s.0 - 1)) (followed_by carries contents notes.was) = subst (λ (t : SessionNo). IsFollowed setup (h ▹ e) t (followed_by carries contents notes.was)) (sym place) now in
+      let here : IsFollowed setup (h ▹ e) (number (s.0 - 1)) (followed_by contents notes.was) = subst (λ (t : SessionNo). IsFollowed setup (h ▹ e) t (followed_by contents notes.was)) (sym place) now in
       subst (AllNumbered (λ i. IsFollowed setup (h ▹ e) (number i))) (sym notes.session)
-      (changed-one (λ i. IsFollowed setup h (number i)) (λ i. IsFollowed setup (h ▹ e) (number i)) old (s.0 - 1) (followed_by carries contents notes.was) (λ j x other kept. elsewhere j x other kept) here tied.each_session)
+      (changed-one (λ i. IsFollowed setup h (number i)) (λ i. IsFollowed setup (h ▹ e) (number i)) old (s.0 - 1) (followed_by contents notes.was) (λ j x other kept. elsewhere j x other kept) here tied.each_session)
     where
       elsewhere : (j : ℕ) (x : Following) → j ≢ s.0 - 1 → IsFollowed setup h (number j) x → IsFollowed setup (h ▹ e) (number j) x
       elsewhere j x other kept =
@@ -54,7 +61,7 @@ module _ (setup : Setup) (s : SessionNo) (h : List Entry) (e : Entry) (carries :
           followed-idle setup (number j) h e (λ mine. let wrong : true ≡ false = sym mine ∙ theirs in cc) (no-begin setup s h e entry.legal entry.mine) (no-finish setup s h e entry.legal entry.mine) x kept
 
   session-count : length new ≡ setup.sessions
-  session-count = ap (length {A = Following}) notes.session ∙ length-set old (s.0 - 1) (followed_by carries contents notes.was) ∙ tied.sessions
+  session-count = ap (length {A = Following}) notes.session ∙ length-set old (s.0 - 1) (followed_by contents notes.was) ∙ tied.sessions
 
   -- an entry that uses no viewport end
   pub tied-noted : UsesNone e → AreTied setup (h ▹ e) new after
@@ -65,7 +72,7 @@ module _ (setup : Setup) (s : SessionNo) (h : List Entry) (e : Entry) (carries :
     each_pair = λ i d below.
         let within : i < length pairs = omega (arith, below, notes.count) in
         subst (IsPairKept setup (h ▹ e) (pair i)) (sym (notes.each i d within))
-        (pair-own setup s h e carries made live entry notes.was.view view-is i (no_use (pair i)) (slice_index_or pairs i d) (tied.each_pair i d within));
+        (pair-own setup s h e carries account live entry view view-is i (no_use (pair i)) (slice_index_or pairs i d) (tied.each_pair i d within));
   }
 
   -- a use of a viewport end
@@ -78,10 +85,10 @@ module _ (setup : Setup) (s : SessionNo) (h : List Entry) (e : Entry) (carries :
         let inside : i < length after = omega (arith, below, uses.count) in
         let within : i < length pairs = omega (arith, inside, notes.count) in
         let state : PairState = slice_index_or pairs i d in
-        let noted : PairState = cleared_if (clears_pair (pair i) live carries) made (ended_by i notes.was.view carries made state) in
+        let noted : PairState = cleared_if (clears_pair (pair i) live carries) account.presents (ended_by i view carries account.presents state) in
         let is : slice_index_or last i d ≡ cond (p.0 == i) (used_by contents props noted) noted = uses.each i d inside ∙ ap (λ (x : PairState). cond (p.0 == i) (used_by contents props x) x) (notes.each i d within) in
         subst (IsPairKept setup (h ▹ e) (pair i)) (sym is)
-        (pair-used setup s h e carries made live entry small p props used contents contents-now notes.was.view view-is i state (tied.each_pair i d within));
+        (pair-used setup s h e carries account live entry small p props used contents contents-now view view-is i state (tied.each_pair i d within));
   }
     where
       contents-now : contents ≡ capped (length (contents_made (calls s h ++ carries)))

@@ -1,6 +1,6 @@
 -- The sessions that have a view, as flags.
-use Rattle.std.proofs.Common.{◌≡◌, ◌≢◌, ◌∙◌, sym, ℕ, zero, suc, ◌+◌, ◌-◌, ◌<◌, ◌≤◌, Bool, true, false, List, [], ◌∷◌, length, refl, arith, ap, All, slice_index_or, slice_set, inl, inr, ◌⊎◌}
-use Rattle.std.specs.Prelude.{◌==◌, ◌&&◌, not, nat_le, IsTrue}
+use Rattle.std.proofs.Common.{◌≡◌, ◌≢◌, ◌∙◌, sym, ℕ, zero, suc, ◌+◌, ◌-◌, ◌<◌, ◌≤◌, Bool, true, false, List, [], ◌∷◌, length, refl, arith, ap, All, slice_index_or, slice_set, inl, inr, ◌⊎◌, Some, None}
+use Rattle.std.specs.Prelude.{◌==◌, ◌&&◌, ◌||◌, not, IsTrue, Option, option_map}
 use Rattle.std.proofs.lemmas.Bool.Decides.{eqb_tells}
 use Rattle.std.proofs.lemmas.List.{get_or_default, get_or-set_other, get_or-set_same}
 use Rattle.flat_base.specs.declared.ids.SessionNo.{SessionNo}
@@ -14,11 +14,24 @@ use Rattle.flat_topology.specs.Views.{is_member}
 use Rattle.flat_states.specs.declared.clock.Clock.{Clock}
 use Rattle.flat_states.specs.declared.state.SessionState.{SessionState}
 use Rattle.flat_states.specs.Machines.{Stands, HasRoom}
-use Rattle.flat_rules.specs.Ends.{has_view}
-use Rattle.flat_states.specs.Kept.{IsKept, has_view_in}
+use Rattle.flat_rules.specs.Ends.{ends_view, has_view, loses}
+use Rattle.flat_states.specs.Kept.{IsKept}
 use Rattle.flat_states.specs.Logs.{Logged}
 use Rattle.flat_states.specs.Seen.{seen_of}
-use Rattle.flat_facts.specs.Views.{has_viewed, stood_at}
+use Rattle.flat_base.specs.declared.ids.Actor.TheVariants.{Session}
+use Rattle.flat_base.specs.declared.ids.PairNo.{PairNo}
+use Rattle.flat_facts.specs.Laws.{is_standing}
+use Rattle.flat_facts.specs.Views.{last_view}
+use Rattle.flat_facts.proofs.lemmas.Earlier.{itself}
+use Rattle.flat_facts.proofs.lemmas.StampSteps.{stamp-ended}
+use Rattle.flat_facts.proofs.lemmas.ViewHistory.{viewing-of}
+use Rattle.flat_rules.specs.Legal.{Legal, owns_view}
+use Rattle.flat_rules.specs.Stamps.{is_seen}
+use Rattle.flat_links.specs.declared.following.Following.{Following}
+use Rattle.flat_links.specs.declared.pairs.PairState.{PairState}
+use Rattle.flat_links.specs.Following.{AreTied}
+use Rattle.flat_links.specs.Views.{end_stamp, has_view_in, is_unseen}
+use Rattle.flat_links.proofs.EndedViews.{end-of}
 use Rattle.flat_states.proofs.lemmas.Counts.{declared-some, kept-session, seen-count, taken-kept}
 use Rattle.flat_facts.proofs.lemmas.HasView.{has-view}
 use Rattle.flat_states.proofs.lemmas.Opened.{few-declared}
@@ -44,32 +57,48 @@ flag-next f xs bs i x e fits within is each k d below = at-last f xs bs i k x d 
 
 -- ---- the flags of all sessions
 
-view-kept : (setup : Setup) (h : List Entry) (s : SessionNo) (state : SessionState) → IsKept setup (seen_of setup h s) state
-    → has_view_in state ≡ (not (is_closed s h) && has_viewed s h && nat_le (taken setup h s) (stood_at s h))
-view-kept setup h s state kept = rw (kept.closed, taken-kept setup (seen_of setup h s) state kept (seen-count setup h s), kept.account) refl
+-- the presents that frames took haven't seen the end of the last view exactly where it isn't lost
+unseen-is : (setup : Setup) (h : List Entry) (s : SessionNo) {followings : List Following} (pairs : List PairState) → AreTied setup h followings pairs → is_closed s h ≡ false
+    → (last : Option PairNo) → ((q : PairNo) → last ≡ Some q → owns_view setup s q ≡ true) → is_unseen pairs (taken setup h s) last ≡ is_standing setup h last
+unseen-is setup h s pairs tied opened None owns = refl
+unseen-is setup h s pairs tied opened (Some q) owns =
+    let end = end-of setup s h pairs tied q (owns q refl) in
+    ap not
+    (sym
+    (ap (λ (o : Option SessionNo). loses setup (ends_view q) h (option_map Session o)) end.owner ∙ stamp-ended setup (ends_view q) s h h (end_stamp pairs q) (itself h) end.stamp
+    ∙ ap (λ b. b || is_seen (end_stamp pairs q) (taken setup h s)) opened))
+
+view-kept : (setup : Setup) (h : List Entry) (s : SessionNo) (state : SessionState) {followings : List Following} (pairs : List PairState) → Legal setup h → AreTied setup h followings pairs → IsKept setup (seen_of setup h s) state
+    → has_view_in pairs state ≡ has_view setup h s
+view-kept setup h s state pairs legal tied kept =
+    rw (kept.closed, taken-kept setup (seen_of setup h s) state kept (seen-count setup h s), kept.account) (by_closed (is_closed s h) refl) ∙ sym (has-view setup s h legal)
+  where
+    by_closed : (b : Bool) → is_closed s h ≡ b → (not (is_closed s h) && is_unseen pairs (taken setup h s) (last_view s h)) ≡ (not (is_closed s h) && is_standing setup h (last_view s h))
+    by_closed true shut = rw shut refl
+    by_closed false opened = rw opened (unseen-is setup h s pairs tied opened (last_view s h) (λ q is. ((viewing-of setup s h legal opened).made q is).0))
 
 member-at : (set : SessionSet) (n : ℕ) → 0 < n → is_member set n ≡ slice_index_or set.has (n - 1) false
 member-at set zero some = absurd (omega (arith, some))
 member-at set (suc n) some = let less : suc n - 1 ≡ n = omega arith in ap (λ (k : ℕ). slice_index_or set.has k false) (sym less)
 
-at-session : (setup : Setup) (h : List Entry) (clock : Clock) (fences views : List Bool) (sessions : List SessionState) (s : SessionNo) (state : SessionState) → Stands setup h clock fences views sessions
-    → IsTrue (is_declared setup s) → state ≡ slice_index_or sessions (s.0 - 1) state → has_view_in state ≡ has_view setup h s
-at-session setup h clock fences views sessions s state stands declared is =
-    view-kept setup h s state (kept-session setup h clock fences views sessions s state stands declared is) ∙ sym (has-view setup s h stands.legal)
+at-session : (setup : Setup) (h : List Entry) (clock : Clock) (fences views : List Bool) (sessions : List SessionState) (s : SessionNo) (state : SessionState) {followings : List Following} (pairs : List PairState) → Stands setup h clock fences views sessions
+    → AreTied setup h followings pairs → IsTrue (is_declared setup s) → state ≡ slice_index_or sessions (s.0 - 1) state → has_view_in pairs state ≡ has_view setup h s
+at-session setup h clock fences views sessions s state pairs stands tied declared is =
+    view-kept setup h s state pairs stands.legal tied (kept-session setup h clock fences views sessions s state stands declared is)
 
 some-state : {A : Type 0} (xs : List A) (i : ℕ) → i < length xs → (x : A) × (x ≡ slice_index_or xs i x)
 some-state [] i below = absurd (omega (arith, below))
 some-state (y ∷ xs) i below = (slice_index_or (y ∷ xs) i y, get_or_default (y ∷ xs) i y (slice_index_or (y ∷ xs) i y) below)
 
-pub members : (setup : Setup) (h : List Entry) (clock : Clock) (fences views : List Bool) (sessions : List SessionState) (set : SessionSet) → Stands setup h clock fences views sessions
-    → ((i : ℕ) (d : SessionState) → i < length sessions → slice_index_or set.has i false ≡ has_view_in (slice_index_or sessions i d))
+pub members : (setup : Setup) (h : List Entry) (clock : Clock) (fences views : List Bool) (sessions : List SessionState) {followings : List Following} (pairs : List PairState) (set : SessionSet) → Stands setup h clock fences views sessions → AreTied setup h followings pairs
+    → ((i : ℕ) (d : SessionState) → i < length sessions → slice_index_or set.has i false ≡ has_view_in pairs (slice_index_or sessions i d))
     → (s : SessionNo) → is_declared setup s ≡ true → is_member set s.0 ≡ has_view setup h s
-members setup h clock fences views sessions set stands each s declared =
+members setup h clock fences views sessions pairs set stands tied each s declared =
     let here = declared-some s.0 setup.sessions declared in
     let count : length sessions ≡ setup.sessions = stands.count in
     let below : s.0 - 1 < length sessions = omega (arith, here.0, here.1, count) in
     let one = some-state sessions (s.0 - 1) below in
-    member-at set s.0 here.0 ∙ each (s.0 - 1) one.0 below ∙ ap has_view_in (sym one.1) ∙ at-session setup h clock fences views sessions s one.0 stands declared one.1
+    member-at set s.0 here.0 ∙ each (s.0 - 1) one.0 below ∙ ap (has_view_in pairs) (sym one.1) ∙ at-session setup h clock fences views sessions s one.0 pairs stands tied declared one.1
 
 pub few-states : (setup : Setup) (h : List Entry) (clock : Clock) (fences views : List Bool) (sessions : List SessionState) (shares : List ℕ) (log : Logged) (owed : ℕ) {dues : ℕ} → Stands setup h clock fences views sessions
     → HasRoom setup shares log owed dues → length sessions ≤ 16
