@@ -46,7 +46,6 @@ no-use n h = omega (arith, h)
 
 new-kept : (setup : Setup) (i : ℕ) → IsPairKept setup [] (pair i) new_pair
 new-kept setup i = record {
-  uses = refl;
   ended = λ w owner. record { tells = λ n few. refl; opened = λ o. refl };
   cleared = λ v owner. record { tells = λ n few. refl; opened = λ o. refl };
   serial = λ v owner some. absurd (no-use 0 some);

@@ -1,5 +1,5 @@
 -- What a use of its viewport end does to what is kept of a pair.
-use Rattle.std.proofs.Common.{◌≡◌, ◌∙◌, sym, subst, ℕ, ◌+◌, ◌-◌, ◌^◌, ◌<◌, ◌≤◌, Bool, true, false, List, [], ◌++◌, length, min, refl, arith, ap, None, Ok, Err}
+use Rattle.std.proofs.Common.{◌≡◌, ◌∙◌, sym, subst, ℕ, ◌+◌, ◌-◌, ◌<◌, ◌≤◌, Bool, true, false, List, [], ◌++◌, length, refl, arith, ap, None, Ok, Err}
 use Rattle.std.specs.Prelude.{Option, Result, cond, ◌&&◌, ◌==◌, option_and_then, option_map, unwrap_or, slice_get}
 use Rattle.std.specs.Result.{result_ok}
 use Rattle.std.specs.List.{list_all}
@@ -42,7 +42,7 @@ use Rattle.flat_facts.proofs.lemmas.LiveCounts.{made-append}
 use Rattle.flat_links.proofs.lemmas.PairSteps.{cleared-own, ended-own, no-begin, no-finish, pair-own, pending-step}
 use Rattle.flat_facts.proofs.lemmas.SerialSteps.{made-begins, serial-new}
 use Rattle.flat_facts.proofs.lemmas.Serials.{draft-contents, serials-are, serials-count}
-use Rattle.flat_facts.proofs.lemmas.Uses.{uses-made, uses-few}
+use Rattle.flat_facts.proofs.lemmas.Uses.{uses-made}
 use Rattle.flat_rules.proofs.lemmas.ListLemmas.{serial-beyond}
 use Rattle.flat_rules.proofs.lemmas.Locality.{same-session as session-is}
 use Rattle.flat_facts.proofs.lemmas.ViewHistory.{same-session}
@@ -84,16 +84,13 @@ unseen setup p v n (h ▹ e) few =
 
 -- ---- a use
 
-below-cap : (n m cap : ℕ) → n ≡ m → m < cap → min (n + 1) cap ≡ m + 1
-below-cap n m cap same below = rw same (grind arith)
-
-pub pair-used : (setup : Setup) (s : SessionNo) (h : List Entry) (e : Entry) (carries : List Call) (account : Account) (live : List Live) → IsOwnEntry setup h e s carries account live → length h < 2 ^ 32 - 1
+pub pair-used : (setup : Setup) (s : SessionNo) (h : List Entry) (e : Entry) (carries : List Call) (account : Account) (live : List Live) → IsOwnEntry setup h e s carries account live
     → (p : PairNo) (props : ViewportProps) → IsUse e p props → (serial : ℕ) → serial ≡ capped (length (contents_made (calls s h ++ carries)))
     → (view : Option PairNo) → view ≡ view_after None (calls s h) → (i : ℕ) (state : PairState) → IsPairKept setup h (pair i) state
     → IsPairKept setup (h ▹ e) (pair i)
     (cond (p.0 == i) (used_by serial props (cleared_if (clears_pair (pair i) live carries) account.presents (ended_by i view carries account.presents state)))
     (cleared_if (clears_pair (pair i) live carries) account.presents (ended_by i view carries account.presents state)))
-pair-used setup s h e carries account live entry small p props used serial counted view is i state kept = by_pair (p.0 == i) refl
+pair-used setup s h e carries account live entry p props used serial counted view is i state kept = by_pair (p.0 == i) refl
   where
     state_now : PairState
     state_now = cleared_if (clears_pair (pair i) live carries) account.presents (ended_by i view carries account.presents state)
@@ -118,7 +115,6 @@ pair-used setup s h e carries account live entry small p props used serial count
         let last : makes_viewport (pair i) props (slice_get e.calls (length e.calls - 1)) ≡ true =
         subst (λ (q : PairNo). makes_viewport q props (slice_get e.calls (length e.calls - 1)) ≡ true) mine (sym (ap (λ (k : Kind). own_call k (slice_get e.calls (length e.calls - 1))) used.kind) ∙ entry.legal.1.may.calls) in
         record {
-          uses = below-cap state.uses (length (viewport_uses (pair i) h)) (2 ^ 32 - 1) kept.uses (omega (arith, small, uses-few (pair i) h)) ∙ sym count;
           ended = λ w owner. ended-own setup s h e carries account live entry (pair i) view is w owner state.ended (kept.ended w owner);
           cleared = λ v owner. cleared-own setup s h e carries account live entry (pair i) v owner state.cleared (kept.cleared v owner);
           serial = λ v owner some.

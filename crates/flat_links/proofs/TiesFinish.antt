@@ -34,7 +34,7 @@ module _ (setup : Setup) (h : List Entry) (line : ℕ) (legal : Legal setup (fin
   pair-settled : (p : PairNo) (state new : PairState) → new ≡ settled state → IsPairKept setup h p state → IsPairKept setup (finished h line) p new
   pair-settled p state new is kept =
       pair-still setup h (finish_entry line) legal (λ s mine. let wrong : false ≡ true = mine in cc) p refl state new
-      (ap (λ (x : PairState). x.uses) is) (ap (λ (x : PairState). x.ended) is) (ap (λ (x : PairState). x.cleared) is) (ap (λ (x : PairState). x.serial) is) (ap (λ (x : PairState). x.given) is)
+      (ap (λ (x : PairState). x.ended) is) (ap (λ (x : PairState). x.cleared) is) (ap (λ (x : PairState). x.serial) is) (ap (λ (x : PairState). x.given) is)
       (λ v owner. ap (λ (x : PairState). x.seen) is ∙ kept.pending v owner)
       (λ v owner. ap (λ (x : PairState). x.pending) is ∙ kept.pending v owner ∙ pending-stays setup p (length (viewport_uses p h)) v h line) kept
 

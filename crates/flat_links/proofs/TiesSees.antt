@@ -239,7 +239,7 @@ module _ (setup : Setup) (h : List Entry) (line time : ℕ) (states : List Sessi
   pairs-end pairs each j d below =
       let it = each j d below in
       pair-still setup h (begin_entry line time) begins.legal nobody (pair j) refl it.was (slice_index_or pairs j d)
-      (ap (λ (x : PairState). x.uses) it.same) (ap (λ (x : PairState). x.ended) it.same) (ap (λ (x : PairState). x.cleared) it.same) (ap (λ (x : PairState). x.serial) it.same) (ap (λ (x : PairState). x.given) it.same)
+      (ap (λ (x : PairState). x.ended) it.same) (ap (λ (x : PairState). x.cleared) it.same) (ap (λ (x : PairState). x.serial) it.same) (ap (λ (x : PairState). x.given) it.same)
       (λ v owner. ap (λ (x : PairState). x.seen) it.same ∙ it.kept.seen v owner)
       (λ v owner. by_declared v (it.pending v owner) (is_declared setup v) refl) it.kept
     where

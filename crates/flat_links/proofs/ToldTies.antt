@@ -1,10 +1,10 @@
 -- What is told, by what is kept of sessions and pairs.
-use Rattle.std.proofs.Common.{◌≡◌, ◌≢◌, ◌∙◌, sym, subst, ℕ, ◌-◌, ◌<◌, ◌≤◌, Bool, true, false, List, [], length, refl, arith, ap, Some, None, slice_get, slice_index_or}
-use Rattle.std.specs.Prelude.{Option, cond, ◌&&◌, ◌||◌, option_and_then}
+use Rattle.std.proofs.Common.{◌≡◌, ◌≢◌, ◌∙◌, sym, subst, ℕ, suc, ◌-◌, ◌<◌, ◌≤◌, Bool, true, false, List, [], length, refl, arith, ap, Some, None, slice_get, slice_index_or}
+use Rattle.std.specs.Prelude.{Option, cond, ◌&&◌, ◌||◌, is_some, nat_lt, option_and_then}
 use Rattle.std.specs.List.{list_any}
 use Rattle.std.proofs.lemmas.Bool.Decides.{nat_tests}
 use Rattle.flat_base.specs.declared.ids.Actor.{Actor}
-use Rattle.flat_base.specs.declared.ids.Actor.TheVariants.{Session}
+use Rattle.flat_base.specs.declared.ids.Actor.TheVariants.{Display, Probe, Session}
 use Rattle.flat_base.specs.declared.ids.PairNo.{PairNo}
 use Rattle.flat_base.specs.declared.ids.SessionNo.{SessionNo}
 use Rattle.flat_scene.specs.declared.calls.ViewportProps.{ViewportProps}
@@ -13,13 +13,13 @@ use Rattle.flat_scene.specs.declared.setup.PairDecl.{PairDecl}
 use Rattle.flat_scene.specs.declared.setup.Setup.{Setup}
 use Rattle.flat_scene.specs.declared.trees.Tree.{Tree}
 use Rattle.flat_scene.specs.Frames.{taken}
-use Rattle.flat_scene.specs.History.{closes, is_closed, own, presents, published_all, Published}
+use Rattle.flat_scene.specs.History.{◌▹◌, closes, is_closed, own, presents, published_all, Published}
 use Rattle.flat_scene.specs.Setups.{is_declared}
 use Rattle.flat_scene.proofs.lemmas.TakingLemmas.{taken-made}
 use Rattle.flat_links.specs.declared.following.Following.{Following}
 use Rattle.flat_links.specs.declared.following.Sight.{Sight}
 use Rattle.flat_links.specs.declared.pairs.PairState.{PairState}
-use Rattle.flat_rules.specs.Ends.{is_viewport_lost, to_finished, view_owner, viewport_owner, viewport_uses}
+use Rattle.flat_rules.specs.Ends.{is_done, is_viewport_lost, to_finished, uses_viewport, view_owner, view_uses, viewport_owner, viewport_uses}
 use Rattle.flat_links.specs.Following.{AreTied, IsFollowed, IsLastSight, IsPairKept, nothing}
 use Rattle.flat_rules.specs.Numbers.{AllNumbered, number}
 use Rattle.flat_states.proofs.lemmas.Counts.{at-session}
@@ -27,9 +27,12 @@ use Rattle.flat_rules.specs.Legal.{Legal}
 use Rattle.flat_rules.specs.Shown.{is_pair, shown_view, tree_of}
 use Rattle.flat_rules.specs.Stamps.{is_seen}
 use Rattle.flat_links.specs.Views.{child_by}
-use Rattle.flat_rules.specs.Watch.{child_of, props_seen, props_told, told}
+use Rattle.flat_rules.specs.Watch.{are_joined, child_of, is_used, props_at, props_given, props_seen, props_told, told}
+use Rattle.flat_scene.specs.declared.journal.Kind.{Kind}
+use Rattle.flat_scene.specs.declared.journal.Kind.TheVariants.{Viewport}
 use Rattle.flat_watch.specs.Told.{or_else}
 use Rattle.flat_facts.proofs.lemmas.Earlier.{finished-earlier, legal-earlier}
+use Rattle.flat_base.proofs.lemmas.Tests.{and-left}
 use Rattle.flat_links.proofs.PairTold.{child-told, view-lost, viewport-lost}
 use Rattle.flat_facts.proofs.lemmas.Undeclared.{none-taken, own-none}
 
@@ -90,7 +93,34 @@ pair-of setup h followings pairs p state tied below is = subst (IsPairKept setup
 owner-at : (setup : Setup) (p : PairNo) (decl : PairDecl) → slice_get setup.pairs p.0 ≡ Some decl → viewport_owner setup p ≡ Some decl.viewport
 owner-at setup p decl at = rw at refl
 
+-- a use has properties, so they are there exactly where the viewport end was used
+use-props : (p : PairNo) (kind : Kind) → uses_viewport p kind ≡ true → is_some (props_at kind) ≡ true
+use-props p (Viewport q props) is = refl
+use-props p kind is = cc
+
+pub given-used : (setup : Setup) (p : PairNo) (h : List Entry) → is_some (props_given setup (viewport_uses p h)) ≡ nat_lt 0 (length (viewport_uses p h))
+given-used setup p [] = refl
+given-used setup p (h ▹ e) = by_entry (uses_viewport p e.kind && is_done e.reply) refl (given-used setup p h)
+  where
+    by_entry : (b : Bool) → (uses_viewport p e.kind && is_done e.reply) ≡ b → is_some (props_given setup (viewport_uses p h)) ≡ nat_lt 0 (length (viewport_uses p h)) → is_some (props_given setup (viewport_uses p (h ▹ e))) ≡ nat_lt 0 (length (viewport_uses p (h ▹ e)))
+    by_entry false is before = rw is before
+    by_entry true is before =
+        let some : nat_lt 0 (suc (length (viewport_uses p h))) ≡ true = grind (arith, nat_tests) in
+        rw is (use-props p e.kind (and-left (uses_viewport p e.kind) (is_done e.reply) is) ∙ sym some)
+
+-- an end that isn't the display's is used where a use is kept of it
+used-by : (setup : Setup) (a : Actor) (p : PairNo) (h : List Entry) → (a ≡ Display → ⊥) → is_used setup (Some a) p h ≡ nat_lt 0 (length (viewport_uses p h))
+used-by setup Display p h not = absurd (not refl)
+used-by setup (Session s) p h not = refl
+used-by setup (Probe n) p h not = refl
+
 module _ (setup : Setup) (h : List Entry) (p : PairNo) where
+  pub joined-told : (decl : PairDecl) → slice_get setup.pairs p.0 ≡ Some decl → (decl.viewport ≡ Display → ⊥) → nat_lt 0 (length (view_uses p h)) ≡ true → (state : PairState) → IsPairKept setup h p state
+      → is_some state.given ≡ are_joined setup h p
+  joined-told decl at not viewed state kept =
+      let used : is_some state.given ≡ nat_lt 0 (length (viewport_uses p h)) = ap is_some kept.given ∙ given-used setup p h in
+      used ∙ sym (used-by setup decl.viewport p h not) ∙ sym (ap (λ (o : Option Actor). is_used setup o p h) (owner-at setup p decl at)) ∙ sym (ap (λ b. b && is_used setup (viewport_owner setup p) p h) viewed)
+
   pub lost-told : (v : SessionNo) (decl : PairDecl) → slice_get setup.pairs p.0 ≡ Some decl → decl.viewport ≡ Session v → (state : PairState) → IsPairKept setup h p state → (owner : Sight) → IsLastSight setup h v owner
       → (owner.closed || is_seen state.cleared owner.taken) ≡ is_viewport_lost setup (to_finished h) p
   lost-told v decl at is state kept owner sight =

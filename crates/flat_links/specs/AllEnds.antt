@@ -1,5 +1,5 @@
 -- What is kept of the viewports of all sessions, and what entries do to it and to ties.
-use Rattle.std.specs.Prelude.{◌≡◌, ℕ, List, length, ◌<◌, Bool, false, [], ◌+◌, ◌-◌, ◌^◌, true, map, slice_index_or, slice_set, None}
+use Rattle.std.specs.Prelude.{◌≡◌, ℕ, List, length, Bool, false, [], ◌+◌, ◌-◌, true, map, slice_index_or, slice_set, None}
 use Rattle.flat_scene.specs.declared.journal.Entry.{Entry}
 use Rattle.flat_scene.specs.declared.setup.Setup.{Setup}
 use Rattle.flat_links.specs.declared.viewports.Viewports.{Viewports}
@@ -73,7 +73,7 @@ TiesNoted s carries state ends old new =
 abbrev pub TiesUsed : SessionNo → List Call → PairNo → ViewportProps → Bool → SessionState → Viewports → Ties → Ties → Type 0
 TiesUsed s carries p props is_held state ends old new =
     (setup : Setup) (history : List Entry) (entry : Entry) → IsOwn setup history entry s carries state ends → is_closed s history ≡ false → entry.kind ≡ Viewport p props → entry.reply ≡ use_reply is_held
-    → length history < 2 ^ 32 - 1 → AreTied setup history old.followings.items old.pairs.items → AreTied setup (history ▹ entry) new.followings.items new.pairs.items
+    → AreTied setup history old.followings.items old.pairs.items → AreTied setup (history ▹ entry) new.followings.items new.pairs.items
 
 -- The same of all sessions' viewports, where this one made the entry.
 pub record EnteredAt (s : SessionNo) (entry : Entry) (states : List SessionState) (old new : List Viewports) (tied now : Ties) : Type 0 where

@@ -71,7 +71,6 @@ props_pending setup p n s history = props_seen setup p n s (finished history 0)
 
 -- What is kept of a pair stands for what a history says of its ends.
 pub record IsPairKept (setup : Setup) (history : List Entry) (p : PairNo) (state : PairState) : Type 0 where
-  pub uses : state.uses ≡ length (viewport_uses p history)
   pub ended : (w : SessionNo) → view_owner setup p ≡ Some w → IsStamp (happens setup (ends_view p)) w history state.ended
   pub cleared : (v : SessionNo) → viewport_owner setup p ≡ Some (Session v) → IsStamp (happens setup (clears_viewport p)) v history state.cleared
   pub serial : (v : SessionNo) → viewport_owner setup p ≡ Some (Session v) → 0 < length (viewport_uses p history) → IsSerialKept p v history state.serial

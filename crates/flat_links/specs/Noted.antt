@@ -14,7 +14,7 @@ pub record KeptPairs : Type 0 where
 
 -- a pair to which nothing happened
 abbrev pub new_pair : PairState
-new_pair = record { ended = None; uses = 0; cleared = None; serial = 0; given = None; seen = None; pending = None }
+new_pair = record { ended = None; cleared = None; serial = 0; given = None; seen = None; pending = None }
 
 -- whether the pair at a place is listed
 abbrev pub is_noted : ℕ → List PairNo → Bool

@@ -1,5 +1,5 @@
 -- What a use of a viewport end, a frame that begins with viewports, and its end do to what is kept of pairs.
-use Rattle.std.specs.Prelude.{◌≡◌, ◌<◌, ℕ, ◌+◌, ◌-◌, ◌^◌, min, Bool, cond, ◌&&◌, ◌==◌, List, [], ◌∷◌, length, Option, Some, None, slice_index_or, slice_set}
+use Rattle.std.specs.Prelude.{◌≡◌, ◌<◌, ℕ, ◌+◌, ◌-◌, Bool, cond, ◌&&◌, ◌==◌, List, [], ◌∷◌, length, Option, Some, None, slice_index_or, slice_set}
 use Rattle.flat_base.specs.declared.ids.PairNo.{PairNo}
 use Rattle.flat_base.specs.declared.ids.SessionNo.{SessionNo}
 use Rattle.flat_scene.specs.declared.calls.Call.{Call}
@@ -23,7 +23,7 @@ use Rattle.flat_watch.specs.Told.{or_else}
 
 -- a pair's state after a use with these properties, whose viewport has that serial
 abbrev pub used_by : ℕ → ViewportProps → PairState → PairState
-used_by serial props state = record state { uses = min (state.uses + 1) (2 ^ 32 - 1); serial = serial; given = Some props; seen = None; pending = None }
+used_by serial props state = record state { serial = serial; given = Some props; seen = None; pending = None }
 
 -- The states of all pairs after a use of one.
 pub record UsesPair (p : PairNo) (serial : ℕ) (props : ViewportProps) (old new : List PairState) : Type 0 where

@@ -16,7 +16,6 @@ use std::marker::Model;
 
 const NEW_PAIR: PairState = PairState {
     ended: None,
-    uses: 0,
     cleared: None,
     serial: 0,
     given: None,

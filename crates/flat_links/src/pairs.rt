@@ -11,15 +11,13 @@ use flat_scene::{Call, ViewportProps};
 pub struct PairState {
     /// How many presents the owner of the view end had made when the view ended.
     pub ended: Option<u32>,
-    /// How often the viewport end was used.
-    pub uses: u32,
     /// How many presents its owner had made at the first Clear while a viewport of
     /// the pair lived.
     pub cleared: Option<u32>,
     /// The serial of the viewport that the last use made, as far as a count goes.
     pub serial: u64,
-    /// The properties of the last use, as they were given, and as a finished frame
-    /// has seen them last.
+    /// The properties of the last use, as they were given, where the viewport end was
+    /// used, and as a finished frame has seen them last.
     pub given: Option<ViewportProps>,
     pub seen: Option<ViewportProps>,
     /// What will be seen of it once the frame begun last has ended.

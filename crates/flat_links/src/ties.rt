@@ -1,4 +1,4 @@
-ghost use Rattle.std.specs.Prelude.{◌≡◌, ℕ, ◌-◌, ◌^◌, ◌<◌, ◌≤◌, [], All, IfOk, List, length};
+ghost use Rattle.std.specs.Prelude.{◌≡◌, ℕ, ◌-◌, ◌<◌, ◌≤◌, [], All, IfOk, List, length};
 ghost use Rattle.flat_scene.specs.declared.setup.Setup.{Setup};
 ghost use Rattle.flat_scene.specs.declared.journal.Entry.{Entry};
 ghost use Rattle.flat_scene.specs.History.{◌▹◌};
@@ -131,7 +131,7 @@ impl Ties {
         ensures count { length self.new.pairs.items ≡ length self.old.pairs.items }
         ensures tied { (setup : Setup) (h : List Entry) (e : Entry) →
             IsOwnEntry setup h e s calls.now account live.now → IsUse e p props →
-            length h < 2 ^ 32 - 1 → AreTied setup h self.old.followings.items self.old.pairs.items →
+            AreTied setup h self.old.followings.items self.old.pairs.items →
             AreTied setup (h ▹ e) self.new.followings.items self.new.pairs.items }
     {
         let serial = self.note_calls(s, calls, account, live);

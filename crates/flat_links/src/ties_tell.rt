@@ -89,7 +89,7 @@ impl Ties {
         is_viewed
             && match setup.pairs.at(p.0 as usize).viewport {
                 Actor::Display => true,
-                _ => 0 < self.pairs.state(p).uses,
+                _ => self.pairs.state(p).given.is_some(),
             }
     }
 

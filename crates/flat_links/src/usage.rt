@@ -15,7 +15,6 @@ pub fn use_pair(pairs: &mut Vec<PairState>, p: PairNo, serial: u64, props: Viewp
         let state = pairs[place];
         pairs[place] = PairState {
             ended: state.ended,
-            uses: state.uses.saturating_add(1),
             cleared: state.cleared,
             serial,
             given: Some(props),

@@ -85,12 +85,11 @@ module _ (setup : Setup) (h : List Entry) (e : Entry) (legal : Legal setup (h �
 
   -- all but what frames have seen of the last use or will have seen, where none was made
   pub pair-still : (p : PairNo) → (uses_viewport p e.kind && is_done e.reply) ≡ false → (state new : PairState)
-      → new.uses ≡ state.uses → new.ended ≡ state.ended → new.cleared ≡ state.cleared → new.serial ≡ state.serial → new.given ≡ state.given
+      → new.ended ≡ state.ended → new.cleared ≡ state.cleared → new.serial ≡ state.serial → new.given ≡ state.given
       → ((v : SessionNo) → viewport_owner setup p ≡ Some (Session v) → new.seen ≡ props_seen setup p (length (viewport_uses p h)) v (h ▹ e))
       → ((v : SessionNo) → viewport_owner setup p ≡ Some (Session v) → new.pending ≡ props_pending setup p (length (viewport_uses p h)) v (h ▹ e))
       → IsPairKept setup h p state → IsPairKept setup (h ▹ e) p new
-  pair-still p no_use state new uses ended cleared serial given seen pending kept = record {
-    uses = uses ∙ kept.uses ∙ ap (length {A = Entry}) (sym same);
+  pair-still p no_use state new ended cleared serial given seen pending kept = record {
     ended = λ w owner. subst (IsStamp (happens setup (ends_view p)) w (h ▹ e)) (sym ended) (idle-stamp (happens setup (ends_view p)) (happening-lasts setup (ends_view p)) w state.ended (kept.ended w owner));
     cleared = λ v owner. subst (IsStamp (happens setup (clears_viewport p)) v (h ▹ e)) (sym cleared) (idle-stamp (happens setup (clears_viewport p)) (happening-lasts setup (clears_viewport p)) v state.cleared (kept.cleared v owner));
     serial = λ v owner some. subst (IsSerialKept p v (h ▹ e)) (sym serial) (idle-serial p no_use v owner state.serial (kept.serial v owner (subst (λ (us : List Entry). 0 < length us) same some)));
@@ -106,5 +105,5 @@ module _ (setup : Setup) (h : List Entry) (e : Entry) (legal : Legal setup (h �
   -- an entry of no frame
   pub pair-idle : (p : PairNo) → (uses_viewport p e.kind && is_done e.reply) ≡ false → is_begin e.kind ≡ false → is_finish e.kind ≡ false → (state : PairState) → IsPairKept setup h p state → IsPairKept setup (h ▹ e) p state
   pair-idle p no_use no_begin no_finish state kept =
-      pair-still p no_use state state refl refl refl refl refl (λ v owner. kept.seen v owner ∙ sym (rw no_finish refl))
+      pair-still p no_use state state refl refl refl refl (λ v owner. kept.seen v owner ∙ sym (rw no_finish refl))
       (λ v owner. kept.pending v owner ∙ sym (pending-step setup p (length (viewport_uses p h)) v h e no_begin no_finish)) kept

@@ -165,7 +165,6 @@ pub pair-own : (setup : Setup) (s : SessionNo) (h : List Entry) (e : Entry) (car
     → (view : Option PairNo) → view ≡ view_after None (calls s h) → (i : ℕ) → (uses_viewport (pair i) e.kind && is_done e.reply) ≡ false → (state : PairState) → IsPairKept setup h (pair i) state
     → IsPairKept setup (h ▹ e) (pair i) (cleared_if (clears_pair (pair i) live carries) account.presents (ended_by i view carries account.presents state))
 pair-own setup s h e carries account live entry view is i no_use state kept = record {
-  uses = kept.uses ∙ ap (length {A = Entry}) (sym same);
   ended = λ w owner. ended-own setup s h e carries account live entry (pair i) view is w owner state.ended (kept.ended w owner);
   cleared = λ v owner. cleared-own setup s h e carries account live entry (pair i) v owner state.cleared (kept.cleared v owner);
   serial = λ v owner some. serial-kept setup s h e carries account live entry (pair i) no_use v owner state.serial (kept.serial v owner (subst (λ (us : List Entry). 0 < length us) same some));

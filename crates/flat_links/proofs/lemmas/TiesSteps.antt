@@ -1,5 +1,5 @@
 -- What an entry does to what is kept of all sessions and pairs.
-use Rattle.std.proofs.Common.{◌≡◌, ◌≢◌, ◌∙◌, sym, subst, ℕ, ◌-◌, ◌^◌, ◌<◌, ◌≤◌, true, false, List, ◌++◌, length, refl, arith, ap, None, slice_index_or}
+use Rattle.std.proofs.Common.{◌≡◌, ◌≢◌, ◌∙◌, sym, subst, ℕ, ◌-◌, ◌<◌, ◌≤◌, true, false, List, ◌++◌, length, refl, arith, ap, None, slice_index_or}
 use Rattle.std.specs.Prelude.{Option, cond, ◌==◌}
 use Rattle.std.proofs.lemmas.List.{length-set}
 use Rattle.flat_base.specs.declared.ids.PairNo.{PairNo}
@@ -76,8 +76,8 @@ module _ (setup : Setup) (s : SessionNo) (h : List Entry) (e : Entry) (carries :
   }
 
   -- a use of a viewport end
-  pub tied-used : (p : PairNo) (props : ViewportProps) → IsUse e p props → length h < 2 ^ 32 - 1 → (last : List PairState) → UsesPair p contents props after last → AreTied setup (h ▹ e) new last
-  tied-used p props used small last uses = record {
+  pub tied-used : (p : PairNo) (props : ViewportProps) → IsUse e p props → (last : List PairState) → UsesPair p contents props after last → AreTied setup (h ▹ e) new last
+  tied-used p props used last uses = record {
     sessions = session-count;
     count = uses.count ∙ notes.count ∙ tied.count;
     each_session = followed;
@@ -88,7 +88,7 @@ module _ (setup : Setup) (s : SessionNo) (h : List Entry) (e : Entry) (carries :
         let noted : PairState = cleared_if (clears_pair (pair i) live carries) account.presents (ended_by i view carries account.presents state) in
         let is : slice_index_or last i d ≡ cond (p.0 == i) (used_by contents props noted) noted = uses.each i d inside ∙ ap (λ (x : PairState). cond (p.0 == i) (used_by contents props x) x) (notes.each i d within) in
         subst (IsPairKept setup (h ▹ e) (pair i)) (sym is)
-        (pair-used setup s h e carries account live entry small p props used contents contents-now view view-is i state (tied.each_pair i d within));
+        (pair-used setup s h e carries account live entry p props used contents contents-now view view-is i state (tied.each_pair i d within));
   }
     where
       contents-now : contents ≡ capped (length (contents_made (calls s h ++ carries)))
