@@ -20,11 +20,11 @@ use Rattle.flat_states.specs.Kept.{IsKept}
 use Rattle.flat_rules.specs.Legal.{number_if, reply_to}
 use Rattle.flat_states.specs.Logs.{Logged}
 use Rattle.flat_rules.specs.Posts.{posts}
-use Rattle.flat_states.specs.Presents.{after_get, with_calls}
+use Rattle.flat_states.proofs.lemmas.Heard.{after_get}
 use Rattle.flat_states.specs.Seen.{seen_of}
 use Rattle.flat_gets.specs.Watchers.{is_held}
 use Rattle.flat_facts.proofs.lemmas.Between.{posted-between}
-use Rattle.flat_states.proofs.lemmas.Changes.{IsPlainOne, is-session, kept-closed, kept-noted, seen-closed, seen-noted, sum-same}
+use Rattle.flat_states.proofs.lemmas.Changes.{IsPlainOne, is-session, kept-closed, seen-closed, seen-plain, sum-same}
 use Rattle.flat_states.proofs.lemmas.Counts.{declared-some, few-if}
 use Rattle.flat_states.proofs.lemmas.Ones.{declared-of, each-one}
 use Rattle.flat_states.proofs.lemmas.Steps.{legal-entered, posts-none, room-entered, stands-entered, unchanged}
@@ -34,26 +34,26 @@ plain-get s line calls get reply = record { no_begin = refl; no_finish = refl; n
 
 -- what is kept of its session
 get-kept : (setup : Setup) (h : List Entry) (s : SessionNo) (line : ℕ) (calls : List Call) (get : Watch) (reply : Reply) (state : SessionState) (b : Bool) → closes reply ≡ b → IsKept setup (seen_of setup h s) state
-    → IsKept setup (seen_of setup (h ▹ entry_of (Session s) line calls (Get get) reply) s) (with_calls calls (cond b (let shut : SessionState = record state { closed = true } in shut) state))
+    → IsKept setup (seen_of setup (h ▹ entry_of (Session s) line calls (Get get) reply) s) (cond b (let shut : SessionState = record state { closed = true } in shut) state)
 get-kept setup h s line calls get reply state false stays kept =
-    rw (seen-noted setup h (entry_of (Session s) line calls (Get get) reply) s (plain-get s line calls get reply) stays (is-session s)) (kept-noted setup (seen_of setup h s) state calls kept)
+    rw (seen-plain setup h (entry_of (Session s) line calls (Get get) reply) s (plain-get s line calls get reply) stays (is-session s)) kept
 get-kept setup h s line calls get reply state true closing kept =
     rw (seen-closed setup h (entry_of (Session s) line calls (Get get) reply) s (plain-get s line calls get reply) closing (is-session s))
-    (kept-noted setup _ (record state { closed = true }) calls (kept-closed setup (seen_of setup h s) state kept))
+    (kept-closed setup (seen_of setup h s) state kept)
 
-get-due : (calls : List Call) (b : Bool) (state : SessionState) → due (with_calls calls (cond b (let shut : SessionState = record state { closed = true } in shut) state)) ≡ due state
-get-due calls true state = refl
-get-due calls false state = refl
+get-due : (b : Bool) (state : SessionState) → due (cond b (let shut : SessionState = record state { closed = true } in shut) state) ≡ due state
+get-due true state = refl
+get-due false state = refl
 
 module _ (m : Machine) (s : SessionNo) (line : ℕ) (calls : List Call) (get : Watch) (call : MayCall m (Session s) calls (Get get)) (reply : Reply) (replied : reply ≡ reply_to m.setup m.history (Session s) calls (Get get)) where
   -- the parts after it
   pub kept-got : (clock : Clock) (fences views : List Bool) (sessions : List SessionState) (state : SessionState) → state ≡ slice_index_or sessions (s.0 - 1) state → Stands m.setup m.history clock fences views sessions
-      → Stands m.setup (m.history ▹ entry_of (Session s) line calls (Get get) reply) clock fences views (slice_set sessions (s.0 - 1) (with_calls calls (after_get reply state)))
-      × (sum_by due (slice_set sessions (s.0 - 1) (with_calls calls (after_get reply state))) ≡ sum_by due sessions)
+      → Stands m.setup (m.history ▹ entry_of (Session s) line calls (Get get) reply) clock fences views (slice_set sessions (s.0 - 1) (after_get reply state))
+      × (sum_by due (slice_set sessions (s.0 - 1) (after_get reply state)) ≡ sum_by due sessions)
   kept-got clock fences views sessions state of_state old =
       let h : List Entry = m.history in
       let e : Entry = entry_of (Session s) line calls (Get get) reply in
-      let new : SessionState = with_calls calls (after_get reply state) in
+      let new : SessionState = after_get reply state in
       let declared : IsTrue (is_declared m.setup s) = declared-of m.setup (Get get) s call.may.acts in
       let here = declared-some s.0 m.setup.sessions declared in
       let count : length sessions ≡ m.setup.sessions = old.count in
@@ -61,7 +61,7 @@ module _ (m : Machine) (s : SessionNo) (line : ℕ) (calls : List Call) (get : W
       let each = each-one m s line calls (Get get) reply call refl refl clock fences views sessions state new of_state old (λ k. get-kept m.setup h s line calls get reply state (closes reply) refl k) in (
         stands-entered m (Session s) line calls (Get get) reply call replied refl refl clock fences fences views views sessions (slice_set sessions (s.0 - 1) new) old
             (unchanged m e fences views (λ sessions g f. refl) (λ p. refl)) (length-set sessions (s.0 - 1) new) each,
-        sum-same due sessions (s.0 - 1) new state below of_state (get-due calls (closes reply) state),
+        sum-same due sessions (s.0 - 1) new state below of_state (get-due (closes reply) state),
       )
 
   -- and the journal

@@ -23,8 +23,7 @@ use Rattle.flat_states.specs.Kept.{IsKept}
 use Rattle.flat_rules.specs.Legal.{is_poll, unread, unread_events}
 use Rattle.flat_core.specs.Polls.{events_for}
 use Rattle.flat_rules.specs.Posts.{events_to, posts}
-use Rattle.flat_states.specs.Presents.{with_calls}
-use Rattle.flat_states.specs.Seen.{seen_of, account_of, noted, polled_at}
+use Rattle.flat_states.specs.Seen.{seen_of, account_of, polled_at}
 use Rattle.flat_states.proofs.lemmas.BeginLoop.{flat-on}
 use Rattle.flat_gets.proofs.lemmas.BoardBegins.{posts-all}
 use Rattle.flat_states.proofs.lemmas.Changes.{is-session, kept-account}
@@ -112,16 +111,16 @@ unread-posts setup (h ▹ e) s some few =
     ∙ ap (λ (ps : List Post). events_for s (drop (cond polled (length (posts setup h)) (polled_at setup h s)) ps)) (sym (posts-all setup h e))
 
 pub seen-polled : (setup : Setup) (h : List Entry) (s : SessionNo) (line : ℕ) (carries : List Call) (n : ℕ)
-    → seen_of setup (h ▹ entry_of (Session s) line carries Poll (Polled n)) s ≡ record (seen_of setup h s) { account = noted carries (record (account_of setup h s) { polled = length (posts setup h) }) }
+    → seen_of setup (h ▹ entry_of (Session s) line carries Poll (Polled n)) s ≡ record (seen_of setup h s) { account = record (account_of setup h s) { polled = length (posts setup h) } }
 seen-polled setup h s line carries n =
     let e : Entry = entry_of (Session s) line carries Poll (Polled n) in
     rw (closed-quiet h e s refl, presents-quiet h e s (λ made. refl), is-session s, taken-quiet setup h e s refl, going-quiet setup h e s refl, took-quiet setup h e s refl refl) refl
 
 pub kept-polled : (setup : Setup) (h : List Entry) (s : SessionNo) (line : ℕ) (carries : List Call) (n place : ℕ) (state : SessionState) → place ≡ length (posts setup h) → IsKept setup (seen_of setup h s) state
-    → IsKept setup (seen_of setup (h ▹ entry_of (Session s) line carries Poll (Polled n)) s) (with_calls carries (record state { account = record state.account { polled = place } }))
+    → IsKept setup (seen_of setup (h ▹ entry_of (Session s) line carries Poll (Polled n)) s) (record state { account = record state.account { polled = place } })
 kept-polled setup h s line carries n place state same kept =
     rw (seen-polled setup h s line carries n, same)
-    (kept-account setup (seen_of setup h s) state (λ (a : Account). noted carries (record a { polled = length (posts setup h) })) (λ a. refl) kept)
+    (kept-account setup (seen_of setup h s) state (λ (a : Account). let b : Account = record a { polled = length (posts setup h) } in b) (λ a. refl) kept)
 
 pub handed-over : (setup : Setup) (h : List Entry) (s : SessionNo) (into list : List Event) (from : ℕ) (all : List Post) → 0 < s.0 → s.0 ≤ setup.sessions
     → list ≡ into ++ events_for s (drop from all) → from ≡ polled_at setup h s → all ≡ posts setup h → list ≡ into ++ unread_events setup s h

@@ -36,10 +36,11 @@ use Rattle.flat_states.specs.Kept.{IsKept, Below}
 use Rattle.flat_rules.specs.Legal.{goes_on, owns_fence, owns_in_kind, owns_in_call, reply_to}
 use Rattle.flat_states.specs.Logs.{Logged}
 use Rattle.flat_rules.specs.Posts.{posts}
-use Rattle.flat_states.specs.Presents.{with_present, next_present, present_reply, after_present, with_calls, owed_for}
+use Rattle.flat_states.specs.Presents.{next_present, present_reply, owed_for}
+use Rattle.flat_states.proofs.lemmas.Heard.{with_present, after_present}
 use Rattle.flat_states.specs.Seen.{Seen, seen_of}
 use Rattle.flat_rules.specs.Shown.{tree_of}
-use Rattle.flat_states.proofs.lemmas.Changes.{IsPlainOne, is-session, seen-closed, kept-closed, kept-noted}
+use Rattle.flat_states.proofs.lemmas.Changes.{IsPlainOne, is-session, seen-closed, kept-closed}
 use Rattle.flat_states.proofs.lemmas.Counts.{kept-waiting, kept-session, declared-some}
 use Rattle.flat_facts.proofs.lemmas.Between.{posted-between}
 use Rattle.flat_states.proofs.lemmas.Ones.{declared-of, each-one}
@@ -90,17 +91,16 @@ pub present-kept : (setup : Setup) (h : List Entry) (s : SessionNo) (line : ℕ)
     → nat_lt 0 (credits_of state.queue) ≡ accepted → is_closed s h ≡ false → owns_in_kind setup s (Present args) ≡ true → Some (arc_value snap) ≡ tree_of setup (present_of h s carries args)
     → IsKept setup (seen_of setup h s) state
     → IsKept setup (seen_of setup (h ▹ entry_of (Session s) line carries (Present args) (cond accepted (Presented (next_present state) k) (Closed (Some NoPresentsRemaining) None))) s)
-    (with_calls carries (cond accepted (with_present state snap args) (record state { closed = true })))
+    (cond accepted (with_present state snap args) (record state { closed = true }))
 present-kept setup h s line carries args snap state k true has opened owned tree kept =
     rw (seen-presented setup h s line carries args (next_present state) k)
-    (kept-noted setup _ (with_present state snap args) carries
     (kept-presented setup (seen_of setup h s) state snap args (present_of h s carries args) kept (stays setup (seen_of setup h s) state kept opened)
     (few-than (state.queue.taken == 0) (length state.queue.waiting) has) refl tree
     (owned-below setup s args.acquire (and-left (list_all (owns_fence setup s) args.acquire) (list_all (owns_fence setup s) args.release) owned))
-    (owned-below setup s args.release (and-right (list_all (owns_fence setup s) args.acquire) (list_all (owns_fence setup s) args.release) owned))))
+    (owned-below setup s args.release (and-right (list_all (owns_fence setup s) args.acquire) (list_all (owns_fence setup s) args.release) owned)))
 present-kept setup h s line carries args snap state k false has opened owned tree kept =
     rw (seen-closed setup h (entry_of (Session s) line carries (Present args) (Closed (Some NoPresentsRemaining) None)) s (plain-refused s line carries args) refl (is-session s))
-    (kept-noted setup _ (record state { closed = true }) carries (kept-closed setup (seen_of setup h s) state kept))
+    (kept-closed setup (seen_of setup h s) state kept)
 
 present-due : (state : SessionState) (snap : Arc Snapshot Global) (args : PresentArgs) (n k : ℕ) (accepted : Bool)
     → due (cond accepted (with_present state snap args) (record state { closed = true })) ≡ due state + owed_for (cond accepted (Presented n k) (Closed (Some NoPresentsRemaining) None))
@@ -117,12 +117,12 @@ pub kept-after-present : (m : Machine) (s : SessionNo) (line : ℕ) (calls : Lis
     → (clock : Clock) (fences views : List Bool) (sessions : List SessionState) (log then : Logged) (owed : ℕ) {due_back due_back_now : ℕ} (state : SessionState) → state ≡ slice_index_or sessions (s.0 - 1) state → log.history ≡ m.history
     → Stands m.setup log.history clock fences views sessions → HasRoom m.setup m.shares log owed (sum_by due sessions + due_back) → due_back_now ≡ due_back
     → then.history ≡ (log.history ▹ entry_of (Session s) line calls (Present args) (present_reply state)) → then.posts ≡ log.posts → then.room + 1 ≡ log.room → owed + 2 ≤ then.post_room
-    → Stands m.setup then.history clock fences views (slice_set sessions (s.0 - 1) (with_calls calls (after_present state snap args)))
-    × HasRoom m.setup m.shares then (owed + owed_for (present_reply state)) (sum_by due (slice_set sessions (s.0 - 1) (with_calls calls (after_present state snap args))) + due_back_now)
+    → Stands m.setup then.history clock fences views (slice_set sessions (s.0 - 1) (after_present state snap args))
+    × HasRoom m.setup m.shares then (owed + owed_for (present_reply state)) (sum_by due (slice_set sessions (s.0 - 1) (after_present state snap args)) + due_back_now)
 kept-after-present m s line calls args snap call tree clock fences views sessions log then owed {due_back} {due_back_now} state is same stands room comes history posted spent reserved =
     let old : Stands m.setup m.history clock fences views sessions = rw (← same) stands in
     let e : Entry = entry_of (Session s) line calls (Present args) (present_reply state) in
-    let new : SessionState = with_calls calls (after_present state snap args) in
+    let new : SessionState = after_present state snap args in
     let now : then.history ≡ (m.history ▹ e) = rw history (rw same refl) in
     let declared : IsTrue (is_declared m.setup s) = declared-of m.setup (Present args) s call.may.acts in
     let opened : is_closed s m.history ≡ false = opened-session m.history s args call.may.lasts in

@@ -24,8 +24,8 @@ use Rattle.flat_states.specs.declared.state.SessionState.{SessionState}
 use Rattle.flat_facts.specs.Begins.{entry_of}
 use Rattle.flat_states.specs.Machines.{present_of}
 use Rattle.flat_states.specs.Kept.{IsKept, Below, kept_of, meant}
-use Rattle.flat_states.specs.Presents.{with_present}
-use Rattle.flat_states.specs.Seen.{Seen, seen_of, account_of, noted}
+use Rattle.flat_states.proofs.lemmas.Heard.{with_present}
+use Rattle.flat_states.specs.Seen.{Seen, seen_of, account_of}
 use Rattle.std.proofs.lemmas.List.Elements.{All-push}
 use Rattle.flat_rules.proofs.lemmas.Quiet.{taken-quiet}
 use Rattle.flat_states.proofs.lemmas.Changes.{is-session}
@@ -44,10 +44,10 @@ pub presents-few : (s : SessionNo) (h : List Entry) → length (presents s h) �
 presents-few s [] = omega arith
 presents-few s (h ▹ e) = omega (arith, presents-few s h, own-publishes (is_session s e.actor) e (own s h))
 
--- an accepted present joins those that wait, and its calls are noted
+-- an accepted present joins those that wait
 pub seen-presented : (setup : Setup) (h : List Entry) (s : SessionNo) (line : ℕ) (carries : List Call) (args : PresentArgs) (n k : ℕ)
     → seen_of setup (h ▹ entry_of (Session s) line carries (Present args) (Presented n k)) s
-    ≡ record (seen_of setup h s) { waiting = waiting setup h s ++ present_of h s carries args ∷ []; account = noted carries (record (account_of setup h s) { presents = length (presents s h) + 1 }) }
+    ≡ record (seen_of setup h s) { waiting = waiting setup h s ++ present_of h s carries args ∷ []; account = record (account_of setup h s) { presents = length (presents s h) + 1 } }
 seen-presented setup h s line carries args n k =
     rw (taken-quiet setup h (entry_of (Session s) line carries (Present args) (Presented n k)) s refl, is-session s)
     (rw (drop-append-le (taken setup h s) (presents s h) (present_of h s carries args ∷ []) (taken-made setup s h), length-append) refl)

@@ -1,5 +1,5 @@
 -- A viewport, made or refused.
-use Rattle.std.proofs.Common.{◌^◌, ◌≡◌, ◌≢◌, ◌∙◌, sym, ℕ, ◌+◌, ◌-◌, ◌*◌, ◌<◌, ◌≤◌, Bool, true, false, List, [], ◌∷◌, length, refl, arith, ap, subst, None, slice_set, slice_index_or, zero-add, inl, inr, ◌⊎◌}
+use Rattle.std.proofs.Common.{◌≡◌, ◌≢◌, ◌∙◌, sym, ℕ, ◌+◌, ◌-◌, ◌*◌, ◌<◌, ◌≤◌, Bool, true, false, List, [], ◌∷◌, length, refl, arith, ap, subst, None, slice_set, slice_index_or, zero-add, inl, inr, ◌⊎◌}
 use Rattle.std.specs.Prelude.{IsTrue, cond, not, ◌&&◌, ◌==◌, nat_le, nat_lt, Option, Some, option_map, unwrap_or, slice_get, sum_by}
 use Rattle.std.specs.List.{list_any, list_all}
 use Rattle.std.proofs.lemmas.Bool.Decides.{nat_tests}
@@ -7,7 +7,6 @@ use Rattle.std.proofs.lemmas.List.{length-set}
 use Rattle.std.proofs.lemmas.List.Sums.{sum_by-set}
 use Rattle.std.proofs.lemmas.Option.{get_or_from_slice_get, slice_get_cases, slice_get_within}
 use Rattle.flat_base.specs.declared.ids.Actor.TheVariants.{Session}
-use Rattle.flat_base.specs.declared.errors.Reason.{Reason}
 use Rattle.flat_base.specs.declared.ids.PairNo.{PairNo}
 use Rattle.flat_base.specs.declared.ids.SessionNo.{SessionNo}
 use Rattle.flat_scene.specs.declared.calls.Call.{Call}
@@ -15,7 +14,7 @@ use Rattle.flat_scene.specs.declared.calls.Call.TheVariants.{CreateViewport}
 use Rattle.flat_scene.specs.declared.calls.ViewportProps.{ViewportProps}
 use Rattle.flat_scene.specs.declared.journal.Entry.{Entry}
 use Rattle.flat_scene.specs.declared.journal.Kind.{Kind}
-use Rattle.flat_scene.specs.declared.journal.Kind.TheVariants.{Close, Viewport}
+use Rattle.flat_scene.specs.declared.journal.Kind.TheVariants.{Viewport}
 use Rattle.flat_scene.specs.declared.journal.Reply.{Reply}
 use Rattle.flat_scene.specs.declared.journal.Reply.TheVariants.{Done}
 use Rattle.flat_scene.specs.declared.setup.PairDecl.{PairDecl}
@@ -40,14 +39,15 @@ use Rattle.flat_facts.specs.Lives.{makes_one, uses_last, is_new_viewport}
 use Rattle.flat_states.specs.Logs.{Logged}
 use Rattle.flat_rules.specs.Posts.{posts}
 use Rattle.flat_links.specs.Following.{AreTied}
-use Rattle.flat_states.specs.Presents.{after_viewport, use_reply, with_calls}
+use Rattle.flat_states.specs.Presents.{use_reply}
+use Rattle.flat_states.proofs.lemmas.Heard.{after_viewport}
 use Rattle.flat_states.specs.Seen.{seen_of}
 use Rattle.flat_links.specs.Viewports.{AreViewports, out_of, outs_of}
 use Rattle.flat_gets.specs.Watchers.{IsJoin, IsTelling, is_shut}
 use Rattle.flat_states.specs.declared.port.DisplayPort.{DisplayPort}
 use Rattle.flat_states.specs.Ports.{port_of}
 use Rattle.flat_core.proofs.DisplayRatios.{port-kept, ratios-kept}
-use Rattle.flat_states.proofs.lemmas.Changes.{IsPlainOne, is-session, kept-closed, kept-noted, seen-closed, seen-noted}
+use Rattle.flat_states.proofs.lemmas.Changes.{IsPlainOne, is-session, kept-closed, seen-closed, seen-plain}
 use Rattle.flat_states.proofs.lemmas.Counts.{at-session, declared-some, kept-session, few-if}
 use Rattle.flat_gets.proofs.lemmas.EndSteps.{ends-one, links-made, viewports-closed}
 use Rattle.flat_facts.proofs.lemmas.HasView.{found, any-found}
@@ -154,16 +154,16 @@ pub plain-viewport : (s : SessionNo) (line : ℕ) (calls : List Call) (p : PairN
 plain-viewport s line calls p props reply = record { no_begin = refl; no_finish = refl; no_poll = refl; no_view = refl; none = λ made. refl }
 
 pub viewport-kept : (setup : Setup) (h : List Entry) (s : SessionNo) (line : ℕ) (calls : List Call) (p : PairNo) (props : ViewportProps) (is_held : Bool) (state : SessionState) → IsKept setup (seen_of setup h s) state
-    → IsKept setup (seen_of setup (h ▹ entry_of (Session s) line calls (Viewport p props) (use_reply is_held)) s) (with_calls calls (after_viewport is_held state))
+    → IsKept setup (seen_of setup (h ▹ entry_of (Session s) line calls (Viewport p props) (use_reply is_held)) s) (after_viewport is_held state)
 viewport-kept setup h s line calls p props true state kept =
-    rw (seen-noted setup h (entry_of (Session s) line calls (Viewport p props) Done) s (plain-viewport s line calls p props Done) refl (is-session s)) (kept-noted setup (seen_of setup h s) state calls kept)
+    rw (seen-plain setup h (entry_of (Session s) line calls (Viewport p props) Done) s (plain-viewport s line calls p props Done) refl (is-session s)) kept
 viewport-kept setup h s line calls p props false state kept =
     rw (seen-closed setup h (entry_of (Session s) line calls (Viewport p props) refused_token) s (plain-viewport s line calls p props refused_token) refl (is-session s))
-    (kept-noted setup _ (record state { closed = true }) calls (kept-closed setup (seen_of setup h s) state kept))
+    (kept-closed setup (seen_of setup h s) state kept)
 
-viewport-due : (calls : List Call) (is_held : Bool) (state : SessionState) → due (with_calls calls (after_viewport is_held state)) ≡ due state
-viewport-due calls true state = refl
-viewport-due calls false state = refl
+viewport-due : (is_held : Bool) (state : SessionState) → due (after_viewport is_held state) ≡ due state
+viewport-due true state = refl
+viewport-due false state = refl
 
 by-token : (is_held : Bool) → use_reply is_held ≡ cond is_held Done refused_token
 by-token true = refl
@@ -212,17 +212,17 @@ module _ (m : Machine) (s : SessionNo) (line : ℕ) (calls : List Call) (p : Pai
       → (clock : Clock) (fences views : List Bool) (sessions : List SessionState) (ends : List Viewports) (state : SessionState) (before after : Viewports)
       → state ≡ slice_index_or sessions (s.0 - 1) state → before ≡ slice_index_or ends (s.0 - 1) before
       → Stands m.setup m.history clock fences views sessions → AreEnds m.setup m.history ends → IsUsed p calls state.account.presents is_held before after
-      → (tied now : Ties) → AreTied m.setup m.history tied.followings.items tied.pairs.items → TiesUsed s calls p props is_held state before tied now → length m.history < 2 ^ 32 - 1
+      → (tied now : Ties) → AreTied m.setup m.history tied.followings.items tied.pairs.items → TiesUsed s calls p props is_held state before tied now
       → Legal m.setup (m.history ▹ used_entry is_held)
-      × Stands m.setup (m.history ▹ used_entry is_held) clock fences views (slice_set sessions (s.0 - 1) (with_calls calls (after_viewport is_held state)))
+      × Stands m.setup (m.history ▹ used_entry is_held) clock fences views (slice_set sessions (s.0 - 1) (after_viewport is_held state))
       × AreEnds m.setup (m.history ▹ used_entry is_held) (slice_set ends (s.0 - 1) after)
       × AreTied m.setup (m.history ▹ used_entry is_held) now.followings.items now.pairs.items
-      × ((told : ℕ) → sum_by due (slice_set sessions (s.0 - 1) (with_calls calls (after_viewport is_held state))) + (sum_by due_back (slice_set ends (s.0 - 1) after) + told) ≡ sum_by due sessions + (sum_by due_back ends + told) + number_if is_held)
-  kept-used is_held is clock fences views sessions ends state before after of_state of_before old are used tied now ties uses small_enough =
+      × ((told : ℕ) → sum_by due (slice_set sessions (s.0 - 1) (after_viewport is_held state)) + (sum_by due_back (slice_set ends (s.0 - 1) after) + told) ≡ sum_by due sessions + (sum_by due_back ends + told) + number_if is_held)
+  kept-used is_held is clock fences views sessions ends state before after of_state of_before old are used tied now ties uses =
       let h : List Entry = m.history in
       let kind : Kind = Viewport p props in
       let e : Entry = used_entry is_held in
-      let new : SessionState = with_calls calls (after_viewport is_held state) in
+      let new : SessionState = after_viewport is_held state in
       let says = replied is_held is in
       let legal : Legal m.setup (h ▹ e) = (old.legal, legal-entered m (Session s) line calls kind (use_reply is_held) call says) in
       let here = declared-some s.0 m.setup.sessions declared in
@@ -233,19 +233,19 @@ module _ (m : Machine) (s : SessionNo) (line : ℕ) (calls : List Call) (p : Pai
       let kept : IsKept m.setup (seen_of m.setup h s) state = kept-session m.setup h clock fences views sessions s state old declared of_state in
       let counts : state.account.presents ≡ length (presents s h) = ap (λ (a : Account). a.presents) kept.account in
       let sums = sum_by-set due sessions (s.0 - 1) new state below in
-      let due_new : due new ≡ due state = viewport-due calls is_held state in
+      let due_new : due new ≡ due state = viewport-due is_held state in
       let backs = sum_by-set due_back ends (s.0 - 1) after before within in
       let back_new : due_back after ≡ due_back before + number_if is_held = used.count in
       let each : AllNumbered (λ i. IsKept m.setup (seen_of m.setup (h ▹ e) (number i))) (slice_set sessions (s.0 - 1) new) =
       each-one m s line calls kind (use_reply is_held) call refl refl clock fences views sessions state new of_state old (λ k. viewport-kept m.setup h s line calls p props is_held state k) in
       let own : AreViewports m.setup h s before.live.items before.out.items = at-session (λ t x. AreViewports m.setup h t x.live.items x.out.items) ends s before are.each here.0 (omega (arith, here.1, ends_count)) of_before in
-      let own_entry : IsOwn m.setup h e s calls state before = record { legal = legal; actor = refl; carried = refl; closed = kept.closed; counted = counts; living = own.lives; no_begin = refl; no_finish = refl } in
+      let own_entry : IsOwn m.setup h e s calls state before = record { legal = legal; actor = refl; carried = refl; closed = kept.closed; counted = counts; viewed = ap (λ (a : Account). a.view) kept.account; living = own.lives; no_begin = refl; no_finish = refl } in
       let all : AreEnds m.setup (h ▹ e) (slice_set ends (s.0 - 1) after) = ends-one m.setup h e legal refl ends s refl declared before after of_before (λ own. by_held is_held refl legal own counts) are in (
         legal,
         stands-entered m (Session s) line calls kind (use_reply is_held) call says refl refl clock fences fences views views sessions (slice_set sessions (s.0 - 1) new) old
             (unchanged m e fences views (λ sessions g f. refl) (λ p. refl)) (length-set sessions (s.0 - 1) new) each,
         all,
-        uses m.setup h e own_entry opened refl refl small_enough ties,
+        uses m.setup h e own_entry opened refl refl ties,
         λ told. omega (arith, sums, due_new, backs, back_new, ap due of_state, ap due_back of_before),
       )
     where

@@ -30,6 +30,7 @@ use flat_gets::watching::Watchers;
 use flat_links::entries::new_ends;
 use flat_links::ties::Ties;
 use flat_links::viewports::Viewports;
+use flat_links::with_view::with_view;
 use flat_rules::{families_are_alone, glimpses_decide_outcomes};
 use flat_scene::{CallList, Journal, PresentArgs, SessionSet, Setup};
 use flat_snap::Snapshot;
@@ -38,7 +39,6 @@ use flat_states::ends::EndSet;
 use flat_states::log::Log;
 use flat_states::ratios::Ratios;
 use flat_states::state::{SessionState, new_states};
-use flat_states::views::with_view;
 use std::alloc::Global;
 use std::marker::Model;
 use std::sync::Arc;
@@ -150,7 +150,7 @@ impl Board {
             is_member result s.0 ≡ has_view self.now.setup self.now.history s }
         ensures others { (s : ℕ) → self.now.setup.sessions < s → is_member result s ≡ false }
     {
-        with_view(self.sessions.as_slice())
+        with_view(self.sessions.as_slice(), &self.ties.pairs)
     }
 
     /// All that was entered and posted, the oldest first: the one legal history

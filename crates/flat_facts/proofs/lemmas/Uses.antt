@@ -140,9 +140,3 @@ module _ (setup : Setup) (s : SessionNo) (p : PairNo) (owned : owns_viewport set
           let here : length (viewport_uses p (h ▹ e)) ≡ made_of_pair p (calls s h ++ e.calls) = omega (arith, uses-own h e legal.1 mine (stays mine), before, all) in
           here ∙ rw mine refl
       by_owner before stays false other = ap (length {A = Entry}) (uses-other h e legal.1 other) ∙ before ∙ rw other refl
-
--- a viewport end was used at most once an entry
-pub uses-few : (p : PairNo) (h : List Entry) → length (viewport_uses p h) ≤ length h
-uses-few p h =
-    let test : Entry → Bool = λ entry. uses_viewport p entry.kind && is_done entry.reply in
-    omega (arith, length-filter test h, count_by-le-length test h)

@@ -39,6 +39,7 @@ use Rattle.flat_rules.specs.Legal.{Legal, all_but_last, is_link, links_alone, ma
 use Rattle.flat_links.specs.Following.{AreTied, UsesNone}
 use Rattle.flat_facts.specs.Lives.{is_new_viewport}
 use Rattle.flat_states.specs.Seen.{seen_of}
+use Rattle.flat_facts.specs.Views.{last_view}
 use Rattle.flat_links.specs.Viewports.{AreViewports, marked, out_of, outs_of}
 use Rattle.flat_states.proofs.lemmas.Changes.{changed-one, not-session, is-session, sum-same}
 use Rattle.flat_states.proofs.lemmas.Counts.{at-session, declared-some, kept-session, same-number}
@@ -191,9 +192,15 @@ none-used kind reply p quiet = by_reply (closes reply) refl
     by_reply true shut = no-use-closing kind reply p shut
     by_reply false opened = no-use kind reply p (quiet opened)
 
--- what is kept of the actor's session says whether it is closed and how many presents it made
+-- What is kept of a session says whether it is closed, how many presents it made, and which view was its last.
+pub record IsStood (s : SessionNo) (history : List Entry) (state : SessionState) : Type 0 where
+  pub closed : state.closed ≡ is_closed s history
+  pub counted : state.account.presents ≡ length (presents s history)
+  pub viewed : state.account.view ≡ last_view s history
+
+-- the same of the actor, where that is a session
 abbrev pub IsStanding : Actor → List SessionState → List Entry → Type 0
-IsStanding (Session s) states history = (state : SessionState) → state ≡ slice_index_or states (s.0 - 1) state → (state.closed ≡ is_closed s history) × (state.account.presents ≡ length (presents s history))
+IsStanding (Session s) states history = (state : SessionState) → state ≡ slice_index_or states (s.0 - 1) state → IsStood s history state
 IsStanding who states history = Unit {0}
 
 pub standing : (m : Machine) (who : Actor) (calls : List Call) (kind : Kind) → MayCall m who calls kind → (clock : Clock) (fences views : List Bool) (sessions : List SessionState) → Stands m.setup m.history clock fences views sessions
@@ -202,15 +209,19 @@ standing m Display calls kind call clock fences views sessions old = tt
 standing m (Probe p) calls kind call clock fences views sessions old = tt
 standing m (Session s) calls kind call clock fences views sessions old = λ state is.
     let kept : IsKept m.setup (seen_of m.setup m.history s) state = kept-session m.setup m.history clock fences views sessions s state old (declared-of m.setup kind s call.may.acts) is in
-    (kept.closed, ap (λ (a : Account). a.presents) kept.account)
+    record { closed = kept.closed; counted = ap (λ (a : Account). a.presents) kept.account; viewed = ap (λ (a : Account). a.view) kept.account }
 
 -- also where something else of that session was changed
-pub standing-set : (s : SessionNo) (states : List SessionState) (history : List Entry) (state new : SessionState) → s.0 - 1 < length states → state ≡ slice_index_or states (s.0 - 1) state → new.closed ≡ state.closed → new.account.presents ≡ state.account.presents
+pub standing-set : (s : SessionNo) (states : List SessionState) (history : List Entry) (state new : SessionState) → s.0 - 1 < length states → state ≡ slice_index_or states (s.0 - 1) state → new.closed ≡ state.closed → new.account.presents ≡ state.account.presents → new.account.view ≡ state.account.view
     → IsStanding (Session s) states history → IsStanding (Session s) (slice_set states (s.0 - 1) new) history
-standing-set s states history state new below is closed counts stands = λ one at.
+standing-set s states history state new below is closed counts views stands = λ one at.
     let same : one ≡ new = at ∙ get_or-set_same states (s.0 - 1) new one below in
     let stood = stands state is in
-    (ap (λ (x : SessionState). x.closed) same ∙ closed ∙ stood.0, ap (λ (x : SessionState). x.account.presents) same ∙ counts ∙ stood.1)
+    record {
+      closed = ap (λ (x : SessionState). x.closed) same ∙ closed ∙ stood.closed;
+      counted = ap (λ (x : SessionState). x.account.presents) same ∙ counts ∙ stood.counted;
+      viewed = ap (λ (x : SessionState). x.account.view) same ∙ views ∙ stood.viewed;
+    }
 
 -- all sessions' viewports after an entry that uses no viewport end, or closes its session
 pub ends-after : (m : Machine) (who : Actor) (line : ℕ) (calls : List Call) (kind : Kind) (reply : Reply) → MayCall m who calls kind → reply ≡ reply_to m.setup m.history who calls kind
@@ -249,14 +260,15 @@ ends-after m (Session s) line calls kind reply call replied no_begin no_finish q
       legal = legal;
       actor = refl;
       carried = refl;
-      closed = stood.0;
-      counted = stood.1;
+      closed = stood.closed;
+      counted = stood.counted;
+      viewed = stood.viewed;
       living = own.lives;
       no_begin = no_begin;
       no_finish = no_finish;
     } in
     let uses : UsesNone e = λ p. none-used kind reply p quiet in
-    let both = by_reply legal declared below stood.1 uses (closes reply) refl in
+    let both = by_reply legal declared below stood.counted uses (closes reply) refl in
     rw n.new_is (both.0, both.1, n.ties m.setup h e made uses ties)
   where
     e : Entry

@@ -110,12 +110,6 @@ changed-set f (x ∷ xs) (suc i) d below =
     let more : i < length xs = omega (arith, below) in
     rw (not_first, less) (ap (λ ys. x ∷ ys) (changed-set f xs i d more))
 
-pub changed-each : {A : Type 0} (P Q : ℕ → A → Type 0) (f : A → A) (xs : List A) (i : ℕ) → i < length xs → ((j : ℕ) (x : A) → j ≢ i → P j x → Q j x) → ((x : A) → P i x → Q i (f x))
-    → AllNumbered P xs → AllNumbered Q (changed_at (suc i) f xs)
-changed-each P Q f xs i within others here each j d below =
-    let is : changed_at (suc i) f xs ≡ slice_set xs i (f (slice_index_or xs i d)) = changed-set f xs i d within in
-    rw is (changed-one P Q xs i (f (slice_index_or xs i d)) others (here (slice_index_or xs i d) (each i d within)) each j d (rw is at below))
-
 -- a session that isn't the actor, and one that is
 pub not-session : (s : SessionNo) (j : ℕ) → 0 < s.0 → j ≢ s.0 - 1 → is_session (number j) (Session s) ≡ false
 not-session s j some other = let differ : s.0 ≢ j + 1 = λ h. other (omega arith) in grind (arith, nat_tests)
@@ -126,11 +120,3 @@ is-session s = grind (arith, nat_tests)
 -- what is owed, where one of them owes as before
 pub sum-same : {A : Type 0} (f : A → ℕ) (xs : List A) (i : ℕ) (y x : A) → i < length xs → x ≡ slice_index_or xs i x → f y ≡ f x → sum_by f (slice_set xs i y) ≡ sum_by f xs
 sum-same f xs i y x below is same = omega (arith, sum_by-set f xs i y x below, same, ap f is)
-
-sum-first : {A : Type 0} (f : A → ℕ) (g : A → A) (b : Bool) (x : A) (xs ys : List A) → f (g x) ≡ f x → sum_by f ys ≡ sum_by f xs → sum_by f (cond b (g x ∷ xs) (x ∷ ys)) ≡ sum_by f (x ∷ xs)
-sum-first f g true x xs ys same rest = sum_by-cons f (g x) xs ∙ ap (λ (n : ℕ). n + sum_by f xs) same ∙ sym (sum_by-cons f x xs)
-sum-first f g false x xs ys same rest = sum_by-cons f x ys ∙ ap (λ (n : ℕ). f x + n) rest ∙ sym (sum_by-cons f x xs)
-
-pub sum-changed : {A : Type 0} (f : A → ℕ) (g : A → A) (n : ℕ) (xs : List A) → ((x : A) → f (g x) ≡ f x) → sum_by f (changed_at n g xs) ≡ sum_by f xs
-sum-changed f g n [] same = refl
-sum-changed f g n (x ∷ xs) same = sum-first f g (n == 1) x xs (changed_at (n - 1) g xs) (same x) (sum-changed f g (n - 1) xs same)

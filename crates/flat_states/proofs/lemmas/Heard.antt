@@ -118,10 +118,10 @@ entered-changed s line calls kind reply sessions new placed =
     ∙ set-twice sessions (s.0 - 1) new (after_reply kind reply new)
 
 -- what waits more changes nothing else
-pub waiting-alone : (state : SessionState) (snap : Arc Snapshot Global) (args : PresentArgs) → ((with_waiting state snap args).closed ≡ state.closed) × ((with_waiting state snap args).account.presents ≡ state.account.presents)
+pub waiting-alone : (state : SessionState) (snap : Arc Snapshot Global) (args : PresentArgs) → ((with_waiting state snap args).closed ≡ state.closed) × ((with_waiting state snap args).account ≡ state.account)
 waiting-alone state snap args = by_test (nat_lt 0 (credits_of state.queue)) refl
   where
-    by_test : (b : Bool) → nat_lt 0 (credits_of state.queue) ≡ b → ((with_waiting state snap args).closed ≡ state.closed) × ((with_waiting state snap args).account.presents ≡ state.account.presents)
+    by_test : (b : Bool) → nat_lt 0 (credits_of state.queue) ≡ b → ((with_waiting state snap args).closed ≡ state.closed) × ((with_waiting state snap args).account ≡ state.account)
     by_test true is = rw is (refl, refl)
     by_test false is = rw is (refl, refl)
 

@@ -6,8 +6,8 @@ use Rattle.flat_scene.specs.History.{closes}
 use Rattle.flat_states.specs.declared.state.SessionState.{SessionState}
 use Rattle.flat_facts.specs.Begins.{entry_of}
 use Rattle.flat_states.specs.Machines.{Machine}
-use Rattle.flat_states.specs.Presents.{after_reply, with_calls}
-use Rattle.flat_states.proofs.lemmas.Changes.{seen-closed, kept-closed, kept-noted, is-session}
+use Rattle.flat_states.specs.Presents.{after_reply}
+use Rattle.flat_states.proofs.lemmas.Changes.{seen-closed, kept-closed, is-session}
 use Rattle.flat_states.proofs.lemmas.Heard.{entered-set, heard-close}
 use Rattle.flat_gets.proofs.lemmas.EndSteps.{ends-after, standing}
 use Rattle.flat_states.proofs.lemmas.Ones.{kept-one, placed-of, plain-close, reply-close, closes-close}
@@ -44,12 +44,12 @@ invariant_of-self c =
     let ends = ends-after m (Session c.args.s) c.args.line c.args.calls (Close c.args.why) reply call is refl refl (λ opened. let wrong : true ≡ false = sym shut ∙ opened in absurd (cc)) c.self.invariant.0.legal states inside.viewports.items c.enter.new.ends.items inside.ties c.enter.new.ties stands at c.self.invariant.2 c.self.invariant.3 in
     let placed = placed-of setup (Close c.args.why) (Session c.args.s) _ c.self.invariant.0.count call.may.acts in
     let closed : SessionState = record at.state { closed = true } in
-    let sessions : c.enter.new.sessions.items ≡ slice_set states (c.args.s.0 - 1) (with_calls c.args.calls closed) =
+    let sessions : c.enter.new.sessions.items ≡ slice_set states (c.args.s.0 - 1) closed =
     did.sessions ∙ entered-set c.args.s c.args.line c.args.calls (Close c.args.why) reply states at.state placed at.of_state
-    ∙ ap (λ (x : SessionState). slice_set states (c.args.s.0 - 1) (with_calls c.args.calls x)) (ap (λ (r : Reply). after_reply (Close c.args.why) r at.state) replied ∙ heard-close c.args.why at.state) in
+    ∙ ap (slice_set states (c.args.s.0 - 1)) (ap (λ (r : Reply). after_reply (Close c.args.why) r at.state) replied ∙ heard-close c.args.why at.state) in
     let kept = kept-one m c.args.s c.args.line c.args.calls (Close c.args.why) reply call is refl refl refl _ _ _ _ _ _ _ _ _
-    at.state (with_calls c.args.calls closed) at.of_state refl c.self.invariant.0 c.self.invariant.1 (unchanged _ _ _ _ (λ sessions g f. refl) (λ p. refl))
+    at.state closed at.of_state refl c.self.invariant.0 c.self.invariant.1 (unchanged _ _ _ _ (λ sessions g f. refl) (λ p. refl))
     (λ kept. rw (seen-closed setup h (entry_of (Session c.args.s) c.args.line c.args.calls (Close c.args.why) reply) c.args.s (plain-close _ _ _ _ _) shut (is-session c.args.s))
-    (kept-noted setup _ _ c.args.calls (kept-closed setup _ _ kept)))
+    (kept-closed setup _ _ kept))
     refl (told-too inside.watchers ends.1) (record { history = did.history; posts = did.posts; room = did.room; post_room = did.post_room }) in
     rw sessions (kept.0, kept.1, rw did.history ends.0, rw did.history ends.2, rw did.history (watched-after m (Session c.args.s) c.args.line c.args.calls (Close c.args.why) reply call is refl refl refl c.self.invariant.0.legal inside.watchers c.self.invariant.4))

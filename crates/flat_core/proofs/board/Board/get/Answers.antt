@@ -1,21 +1,15 @@
-use Rattle.std.proofs.Common.{◌≡◌, ◌-◌, sym, slice_set, ◌+◌, ◌<◌, ◌≤◌, ◌^◌, refl, ◌∙◌, ap, arith, List, subst}
-use Rattle.std.specs.List.{list_any}
+use Rattle.std.proofs.Common.{◌≡◌, ◌-◌, sym, slice_set, ◌+◌, ◌<◌, ◌≤◌, ◌^◌, refl, ◌∙◌, ap, arith, subst}
 use Rattle.flat_base.specs.declared.ids.Actor.TheVariants.{Session}
-use Rattle.flat_scene.specs.declared.calls.Call.{Call}
 use Rattle.flat_scene.specs.declared.journal.Entry.{Entry}
 use Rattle.flat_scene.specs.declared.journal.Kind.TheVariants.{Get}
 use Rattle.flat_scene.specs.History.{◌▹◌}
 use Rattle.flat_states.specs.Machines.{Machine}
 use Rattle.flat_facts.specs.Begins.{entry_of}
 use Rattle.flat_rules.specs.Legal.{Legal, reply_to}
-use Rattle.flat_links.specs.AllEnds.{TiesNoted}
-use Rattle.flat_facts.specs.Lives.{is_new_viewport}
-use Rattle.flat_states.specs.Seen.{noted}
 use Rattle.flat_gets.specs.Watchers.{IsTelling}
 use Rattle.flat_gets.proofs.lemmas.EndSteps.{ends-after, none-new, standing}
-use Rattle.flat_states.proofs.lemmas.Heard.{entered-set, heard-get}
+use Rattle.flat_states.proofs.lemmas.Heard.{after_get, entered-set, heard-get}
 use Rattle.flat_states.specs.declared.state.SessionState.{SessionState}
-use Rattle.flat_states.specs.Presents.{after_get, with_calls}
 use Rattle.flat_core.proofs.GetCalls.{kept-got, room-got}
 use Rattle.flat_states.proofs.lemmas.Ones.{declared-of, placed-of}
 use Rattle.flat_states.proofs.lemmas.Steps.{has-room, legal-entered, owed-small, room-more, short-history}
@@ -92,9 +86,9 @@ invariant_of-self-2 c =
     let stands = standing m (Session c.args.s) c.args.calls (Get c.args.get) call inside.clock inside.fences inside.view_ends states c.self.invariant.0 in
     let ends = ends-after m (Session c.args.s) c.args.line c.args.calls (Get c.args.get) reply call replied refl refl (λ opened. refl) c.self.invariant.0.legal states inside.viewports.items c.enter.new.ends.items inside.ties c.enter.new.ties stands at c.self.invariant.2 c.self.invariant.3 in
     let placed = placed-of inside.setup (Get c.args.get) (Session c.args.s) _ c.self.invariant.0.count call.may.acts in
-    let sessions : c.enter.new.sessions.items ≡ slice_set states (c.args.s.0 - 1) (with_calls c.args.calls (after_get reply at.state)) =
+    let sessions : c.enter.new.sessions.items ≡ slice_set states (c.args.s.0 - 1) (after_get reply at.state) =
     did.sessions ∙ entered-set c.args.s c.args.line c.args.calls (Get c.args.get) reply states at.state placed at.of_state
-    ∙ ap (λ (x : SessionState). slice_set states (c.args.s.0 - 1) (with_calls c.args.calls x)) (heard-get c.args.get reply at.state) in
+    ∙ ap (λ (x : SessionState). slice_set states (c.args.s.0 - 1) x) (heard-get c.args.get reply at.state) in
     let e : Entry = entry_of (Session c.args.s) c.args.line c.args.calls (Get c.args.get) reply in
     let legal : Legal inside.setup (h ▹ e) = (c.self.invariant.0.legal, legal-entered m (Session c.args.s) c.args.line c.args.calls (Get c.args.get) reply call replied) in
     let watched = watched-asked inside.setup h e legal c.args.s refl c.args.get refl c.args.p means declared known _ _ asked c.self.invariant.4 in

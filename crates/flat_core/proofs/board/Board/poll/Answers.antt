@@ -1,21 +1,14 @@
-use Rattle.std.proofs.Common.{◌≡◌, ◌-◌, ◌<◌, ◌^◌, ◌++◌, length, refl, sym, ◌∙◌, ap, arith, slice_set, subst, List}
+use Rattle.std.proofs.Common.{◌≡◌, ◌-◌, ◌<◌, ◌^◌, ◌++◌, length, refl, sym, ◌∙◌, ap, arith, slice_set, subst}
 use Rattle.flat_base.specs.declared.ids.Actor.TheVariants.{Session}
-use Rattle.std.specs.List.{list_any}
-use Rattle.flat_scene.specs.declared.calls.Call.{Call}
 use Rattle.flat_scene.specs.declared.journal.Kind.TheVariants.{Poll}
 use Rattle.flat_scene.specs.declared.journal.Reply.TheVariants.{Polled}
-use Rattle.flat_states.specs.declared.state.Account.{Account}
 use Rattle.flat_states.specs.Machines.{Machine}
 use Rattle.flat_rules.specs.Legal.{reply_to, unread_events}
-use Rattle.flat_links.specs.AllEnds.{TiesNoted}
-use Rattle.flat_facts.specs.Lives.{is_new_viewport}
-use Rattle.flat_states.specs.Seen.{noted}
 use Rattle.flat_gets.proofs.lemmas.EndSteps.{ends-after, none-new, standing, standing-set}
 use Rattle.flat_states.proofs.lemmas.Heard.{entered-changed}
 use Rattle.std.proofs.lemmas.List.{length-set}
 use Rattle.flat_states.specs.declared.state.SessionState.{SessionState}
 use Rattle.flat_scene.specs.declared.journal.Reply.{Reply}
-use Rattle.flat_states.specs.Presents.{with_calls}
 use Rattle.flat_states.proofs.lemmas.Ones.{kept-one, placed-of}
 use Rattle.flat_core.proofs.Polled.{kept-polled}
 use Rattle.flat_core.proofs.PollSteps.{polled-within, handed}
@@ -69,11 +62,11 @@ invariant_of-self-2 c =
     let reply : Reply = Polled (c.len.result - c.len-before.result) in
     let placed = placed-of setup Poll (Session c.args.s) _ c.self.invariant.0.count call.may.acts in
     let below : place < length states = omega (arith, placed.0, placed.1) in
-    let stands = standing-set c.args.s states h state polled below of_state refl refl (standing m (Session c.args.s) c.args.calls Poll call inside.clock inside.fences inside.view_ends states c.self.invariant.0) in
+    let stands = standing-set c.args.s states h state polled below of_state refl refl refl (standing m (Session c.args.s) c.args.calls Poll call inside.clock inside.fences inside.view_ends states c.self.invariant.0) in
     let ends = ends-after m (Session c.args.s) c.args.line c.args.calls Poll reply call (ap Polled over.as_many) refl refl (λ opened. refl) c.self.invariant.0.legal (slice_set states place polled) inside.viewports.items c.enter.new.ends.items inside.ties c.enter.new.ties stands did.ends c.self.invariant.2 c.self.invariant.3 in
-    let sessions : c.enter.new.sessions.items ≡ slice_set states place (with_calls c.args.calls polled) = did.sessions ∙ entered-changed c.args.s c.args.line c.args.calls Poll reply states polled placed in
+    let sessions : c.enter.new.sessions.items ≡ slice_set states place polled = did.sessions ∙ entered-changed c.args.s c.args.line c.args.calls Poll reply states polled placed in
     let kept = kept-one m c.args.s c.args.line c.args.calls Poll reply call (ap Polled over.as_many) refl refl refl _ _ _ _ _ _ _ _ _
-    state (with_calls c.args.calls polled) of_state refl c.self.invariant.0 c.self.invariant.1 (unchanged _ _ _ _ (λ sessions g f. refl) (λ p. refl))
+    state polled of_state refl c.self.invariant.0 c.self.invariant.1 (unchanged _ _ _ _ (λ sessions g f. refl) (λ p. refl))
     (λ kept. kept-polled setup h c.args.s c.args.line c.args.calls (c.len.result - c.len-before.result) (length c.posts-posts.result.now) state over.place kept)
     refl (told-too inside.watchers ends.1) (record { history = did.history; posts = did.posts; room = did.room; post_room = did.post_room }) in
     rw sessions (kept.0, kept.1, rw did.history ends.0, rw did.history ends.2, rw did.history (watched-after m (Session c.args.s) c.args.line c.args.calls Poll reply call (ap Polled over.as_many) refl refl refl c.self.invariant.0.legal inside.watchers c.self.invariant.4))

@@ -1,6 +1,5 @@
 use Rattle.std.proofs.Common.{◌≡◌, refl, sym, ◌∙◌, ap, arith, ◌+◌, ◌-◌, ◌≤◌, ◌<◌, ◌^◌, length, slice_set, subst, List}
 use Rattle.std.specs.Prelude.{Some}
-use Rattle.std.specs.List.{list_any}
 use Rattle.std.specs.Arc.{arc_value}
 use Rattle.flat_base.specs.declared.ids.Actor.TheVariants.{Session}
 use Rattle.flat_rules.specs.Shown.{tree_of}
@@ -11,18 +10,15 @@ use Rattle.flat_rules.specs.Legal.{reply_to}
 use Rattle.flat_scene.specs.declared.journal.Kind.TheVariants.{Present}
 use Rattle.flat_states.specs.Machines.{Machine, present_of}
 use Rattle.flat_facts.specs.Begins.{entry_of}
-use Rattle.flat_states.specs.Presents.{after_present, after_reply, present_reply, with_calls, with_waiting}
+use Rattle.flat_states.specs.Presents.{after_reply, present_reply, with_waiting}
+use Rattle.flat_states.proofs.lemmas.Heard.{after_present, entered-changed, heard-present, waiting-alone}
+use Rattle.flat_states.specs.declared.state.Account.{Account}
 use Rattle.flat_states.specs.declared.state.SessionState.{SessionState}
 use Rattle.flat_scene.specs.declared.journal.Entry.{Entry}
 use Rattle.flat_scene.specs.declared.journal.Reply.{Reply}
 use Rattle.std.proofs.lemmas.List.{length-set}
-use Rattle.flat_states.proofs.lemmas.Heard.{entered-changed, heard-present, waiting-alone}
 use Rattle.flat_states.proofs.lemmas.Ones.{placed-of}
-use Rattle.flat_links.specs.AllEnds.{TiesNoted}
-use Rattle.flat_facts.specs.Lives.{is_new_viewport}
-use Rattle.flat_states.specs.Seen.{noted}
 use Rattle.flat_gets.proofs.lemmas.EndSteps.{ends-after, none-new, standing, standing-set}
-use Rattle.flat_scene.specs.declared.calls.Call.{Call}
 use Rattle.flat_gets.proofs.lemmas.WatchingSteps.{told-too, watched-after}
 use Rattle.flat_core.proofs.board.Board.present.Goals as goal
 
@@ -77,13 +73,13 @@ invariant_of-self-2 c =
     let replied : c.present_in-reply.result ≡ reply_to inside.setup inside.log.history (Session c.args.s) c.args.calls (Present c.args.args) = reply ∙ present-reply m c.args.s c.args.calls c.args.args may _ _ _ _ _ of_state c.self.invariant.0 in
     let placed = placed-of inside.setup (Present c.args.args) (Session c.args.s) _ c.self.invariant.0.count may.may.acts in
     let below : place < length states = omega (arith, placed.0, placed.1) in
-    let stands = standing-set c.args.s states inside.log.history state joined below of_state (ap (λ (x : SessionState). x.closed) joins ∙ alone.0) (ap (λ (x : SessionState). x.account.presents) joins ∙ alone.1)
+    let stands = standing-set c.args.s states inside.log.history state joined below of_state (ap (λ (x : SessionState). x.closed) joins ∙ alone.0) (ap (λ (x : SessionState). x.account.presents) joins ∙ ap (λ (a : Account). a.presents) alone.1) (ap (λ (x : SessionState). x.account.view) joins ∙ ap (λ (a : Account). a.view) alone.1)
     (standing m (Session c.args.s) c.args.calls (Present c.args.args) may inside.clock inside.fences inside.view_ends states c.self.invariant.0) in
     let ends = ends-after m (Session c.args.s) c.args.line c.args.calls (Present c.args.args) c.present_in-reply.result may replied refl refl (λ opened. refl) c.self.invariant.0.legal (slice_set states place joined) inside.viewports.items c.enter.new.ends.items inside.ties c.enter.new.ties stands did.ends c.self.invariant.2 c.self.invariant.3 in
     let after : after_reply (Present c.args.args) c.present_in-reply.result joined ≡ after_present state c.args.snap c.args.args =
     ap (λ (r : Reply). after_reply (Present c.args.args) r joined) reply ∙ ap (after_reply (Present c.args.args) (present_reply state)) joins ∙ heard-present c.args.args c.args.args c.args.snap state in
-    let sessions : c.enter.new.sessions.items ≡ slice_set states place (with_calls c.args.calls (after_present state c.args.snap c.args.args)) =
-    did.sessions ∙ entered-changed c.args.s c.args.line c.args.calls (Present c.args.args) c.present_in-reply.result states joined placed ∙ ap (λ (x : SessionState). slice_set states place (with_calls c.args.calls x)) after in
+    let sessions : c.enter.new.sessions.items ≡ slice_set states place (after_present state c.args.snap c.args.args) =
+    did.sessions ∙ entered-changed c.args.s c.args.line c.args.calls (Present c.args.args) c.present_in-reply.result states joined placed ∙ ap (slice_set states place) after in
     let room : inside.owed + 2 ≤ c.reserve.new.self.post_room = c.in-Ok-reserve.ensures.ok in
     let e : Entry = entry_of (Session c.args.s) c.args.line c.args.calls (Present c.args.args) c.present_in-reply.result in
     let history : c.enter.new.log.history ≡ (inside.log.history ▹ e) = did.history ∙ ap (λ (h : List Entry). h ▹ e) c.reserve.ensures.history in

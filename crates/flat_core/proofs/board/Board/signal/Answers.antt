@@ -3,7 +3,7 @@ use Rattle.flat_scene.specs.declared.journal.Kind.TheVariants.{Signal}
 use Rattle.flat_scene.specs.declared.journal.Reply.TheVariants.{Done}
 use Rattle.flat_states.specs.Machines.{Machine}
 use Rattle.flat_gets.proofs.lemmas.EndSteps.{ends-after, none-new, standing}
-use Rattle.flat_states.proofs.lemmas.Heard.{entered-noted}
+use Rattle.flat_states.proofs.lemmas.Heard.{entered-none}
 use Rattle.flat_states.proofs.lemmas.Ones.{kept-quiet, plain-signal, placed-of, signal-below}
 use Rattle.flat_states.proofs.lemmas.Steps.{has-room, signalled}
 use Rattle.flat_gets.proofs.lemmas.WatchingSteps.{told-too, watched-after}
@@ -35,6 +35,6 @@ invariant_of-self c =
     let stands = standing m c.args.who c.args.calls (Signal c.args.f) call inside.clock inside.fences inside.view_ends states c.self.invariant.0 in
     let ends = ends-after m c.args.who c.args.line c.args.calls (Signal c.args.f) Done call refl refl refl (λ opened. refl) c.self.invariant.0.legal states inside.viewports.items c.enter.new.ends.items inside.ties c.enter.new.ties stands did.ends c.self.invariant.2 c.self.invariant.3 in
     let kept = kept-quiet m c.args.who c.args.line c.args.calls (Signal c.args.f) Done call refl (plain-signal _ _ _ _) refl refl _ _ _ _ _ _ _ _ _ _ refl c.self.invariant.0 c.self.invariant.1
-    (signalled _ _ _ _ _ c.args.f c.signal.ensures.size c.signal.ensures.members) (did.sessions ∙ entered-noted c.args.who c.args.line c.args.calls (Signal c.args.f) Done states (λ state. refl)) (told-too inside.watchers ends.1)
+    (signalled _ _ _ _ _ c.args.f c.signal.ensures.size c.signal.ensures.members) (did.sessions ∙ entered-none c.args.who c.args.line c.args.calls (Signal c.args.f) Done states (λ state. refl)) (told-too inside.watchers ends.1)
     (record { history = did.history; posts = did.posts; room = did.room; post_room = did.post_room }) in
     (kept.0, kept.1, rw did.history ends.0, rw did.history ends.2, rw did.history (watched-after m c.args.who c.args.line c.args.calls (Signal c.args.f) Done call refl refl refl refl c.self.invariant.0.legal inside.watchers c.self.invariant.4))

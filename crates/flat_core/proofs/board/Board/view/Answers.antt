@@ -3,12 +3,11 @@ use Rattle.std.specs.Prelude.{not}
 use Rattle.flat_base.specs.declared.ids.Actor.TheVariants.{Session}
 use Rattle.flat_scene.specs.declared.journal.Kind.TheVariants.{View}
 use Rattle.flat_scene.specs.declared.journal.Reply.{Reply}
-use Rattle.flat_states.specs.declared.state.SessionState.{SessionState}
 use Rattle.flat_states.specs.Machines.{Machine}
-use Rattle.flat_states.specs.Presents.{after_reply, after_view, use_reply, with_calls}
+use Rattle.flat_states.specs.Presents.{after_reply}
+use Rattle.flat_states.proofs.lemmas.Heard.{after_view, entered-set, heard-view}
 use Rattle.flat_rules.specs.Legal.{reply_to}
 use Rattle.flat_gets.proofs.lemmas.EndSteps.{ends-after, none-new, standing}
-use Rattle.flat_states.proofs.lemmas.Heard.{entered-set, heard-view}
 use Rattle.flat_states.proofs.lemmas.Ones.{kept-one, placed-of}
 use Rattle.flat_states.proofs.lemmas.Steps.{has-room}
 use Rattle.flat_facts.proofs.lemmas.Tests.{or-false}
@@ -48,13 +47,13 @@ invariant_of-self c =
     let stands = standing m (Session c.args.s) c.args.calls (View c.args.p) call inside.clock inside.fences inside.view_ends states c.self.invariant.0 in
     let ends = ends-after m (Session c.args.s) c.args.line c.args.calls (View c.args.p) reply call is refl refl (λ opened. refl) c.self.invariant.0.legal states inside.viewports.items c.enter.new.ends.items inside.ties c.enter.new.ties stands at c.self.invariant.2 c.self.invariant.3 in
     let placed = placed-of inside.setup (View c.args.p) (Session c.args.s) _ c.self.invariant.0.count call.may.acts in
-    let sessions : c.enter.new.sessions.items ≡ slice_set states (c.args.s.0 - 1) (with_calls c.args.calls (after_view held at.state)) =
+    let sessions : c.enter.new.sessions.items ≡ slice_set states (c.args.s.0 - 1) (after_view c.args.p held at.state) =
     did.sessions ∙ entered-set c.args.s c.args.line c.args.calls (View c.args.p) reply states at.state placed at.of_state
-    ∙ ap (λ (x : SessionState). slice_set states (c.args.s.0 - 1) (with_calls c.args.calls x)) (ap (λ (r : Reply). after_reply (View c.args.p) r at.state) replied ∙ heard-view c.args.p held at.state) in
+    ∙ ap (slice_set states (c.args.s.0 - 1)) (ap (λ (r : Reply). after_reply (View c.args.p) r at.state) replied ∙ heard-view c.args.p held at.state) in
     let kept = kept-one m c.args.s c.args.line c.args.calls (View c.args.p) reply call is refl refl refl _ _ _ _ _ _ _ _ _
-    at.state (with_calls c.args.calls (after_view held at.state)) at.of_state refl c.self.invariant.0 c.self.invariant.1
+    at.state (after_view c.args.p held at.state) at.of_state refl c.self.invariant.0 c.self.invariant.1
     (record { fence_size = refl; signalled = λ f. or-false _; view_size = c.set.ensures.size; viewed = rw replied (view-changed _ _ c.args.p c.is_used-is_held.result (sym c.is_used-is_held.ensures) c.set.ensures.members) })
-    (λ kept. rw replied (view-kept inside.setup inside.log.history c.args.s c.args.line c.args.calls c.args.p held at.state kept)) (view-due c.args.calls held at.state) (told-too inside.watchers ends.1)
+    (λ kept. rw replied (view-kept inside.setup inside.log.history c.args.s c.args.line c.args.calls c.args.p held at.state kept)) (view-due c.args.p held at.state) (told-too inside.watchers ends.1)
     (record { history = did.history; posts = did.posts; room = did.room; post_room = did.post_room }) in
     rw sessions (kept.0, kept.1, rw did.history ends.0, rw did.history ends.2, rw did.history (watched-after m (Session c.args.s) c.args.line c.args.calls (View c.args.p) reply call is refl refl refl c.self.invariant.0.legal inside.watchers c.self.invariant.4))
 

@@ -13,11 +13,10 @@ use Rattle.flat_states.specs.declared.state.SessionState.{SessionState}
 use Rattle.flat_core.proofs.UseSteps.{shut-known}
 use Rattle.std.proofs.lemmas.Option.{slice_get_within}
 use Rattle.flat_rules.specs.Legal.{has_token, reply_to}
-use Rattle.flat_states.specs.Presents.{after_reply, after_viewport, use_reply, with_calls}
+use Rattle.flat_states.specs.Presents.{after_reply, use_reply}
+use Rattle.flat_states.proofs.lemmas.Heard.{after_viewport, heard-viewport}
 use Rattle.flat_scene.specs.declared.journal.Reply.{Reply}
-use Rattle.flat_states.proofs.lemmas.Heard.{heard-viewport}
 use Rattle.flat_links.specs.AllEnds.{IsUsed, TiesUsed}
-use Rattle.flat_states.specs.Seen.{noted}
 use Rattle.flat_states.proofs.lemmas.Counts.{declared-some, few-if}
 use Rattle.flat_gets.proofs.lemmas.EndSteps.{ends-same}
 use Rattle.flat_states.proofs.lemmas.Ones.{declared-of}
@@ -121,10 +120,9 @@ invariant_of-self-2 c =
     let is : held ≡ has_token inside.setup c.args.p h = held-told m c.args.s c.args.line c.args.calls c.args.p c.args.props call roomy c.index_mut-ends-2.result.now c.index_mut-ends-2.ensures.value same.0 held did.held in
     let used_by = subst (λ (calls : List Call). IsUsed c.args.p calls state.account.presents held c.index_mut-ends-2.result.now c.use_ends-is_held.new.ends) c.as_slice-2.ensures did.used in
     let ties = subst (λ (calls : List Call). TiesUsed c.args.s calls c.args.p c.args.props held state c.index_mut-ends-2.result.now inside.ties c.use_ends-is_held.new.ties) c.as_slice-2.ensures did.ties in
-    let short = (short-history m _ _ _ call c.self.invariant.0.legal _ _ _ refl c.self.invariant.1) in
     let e : Entry = entry_of (Session c.args.s) c.args.line c.args.calls (Viewport c.args.p c.args.props) (use_reply held) in
     let used = kept-used m c.args.s c.args.line c.args.calls c.args.p c.args.props call held is inside.clock inside.fences inside.view_ends inside.sessions.items roomy state c.index_mut-ends-2.result.now c.use_ends-is_held.new.ends
-    c.index_mut-state.ensures.value c.index_mut-ends-2.ensures.value c.self.invariant.0 same.0 used_by inside.ties c.use_ends-is_held.new.ties c.self.invariant.3 ties short in
+    c.index_mut-state.ensures.value c.index_mut-ends-2.ensures.value c.self.invariant.0 same.0 used_by inside.ties c.use_ends-is_held.new.ties c.self.invariant.3 ties in
     let telling = telling-used m c.args.s c.args.line c.args.calls c.args.p c.args.props call held inside.clock inside.fences inside.view_ends inside.sessions.items c.port_of.result c.use_ends-is_held.new.ties c.port_of.ensures c.self.invariant.0 used.0 used.3 in
     let room : HasRoom inside.setup inside.shares c.make_room.new.log inside.owed (all_due inside.sessions.items roomy c.make_room.new.watchers) =
     room-more inside.setup inside.shares inside.log c.make_room.new.log inside.owed _ (all_due inside.sessions.items roomy c.make_room.new.watchers) c.self.invariant.1 took.history took.posts took.room took.post_room (omega (arith, same.1, c.make_room.ensures.told)) in
@@ -135,10 +133,10 @@ invariant_of-self-2 c =
     let log = c.enter.ensures in
     let replied = c.use_reply-reply.ensures in
     let history : c.enter.new.self.history ≡ (h ▹ e) = log.history ∙ rw (c.join-told.ensures.history, took.history, replied) refl in
-    let noted : c.note_entry.new.state ≡ with_calls c.args.calls (after_viewport held state) =
-    c.note_entry.ensures ∙ ap (λ (r : Reply). with_calls c.args.calls (after_reply (Viewport c.args.p c.args.props) r state)) replied ∙ ap (with_calls c.args.calls) (heard-viewport c.args.p c.args.props held state) in
+    let heard : c.note_entry.new.state ≡ after_viewport held state =
+    c.note_entry.ensures ∙ ap (λ (r : Reply). after_reply (Viewport c.args.p c.args.props) r state) replied ∙ heard-viewport c.args.p c.args.props held state in
     let dues = used.4 (due_told c.join-told.new.self) in
-    rw (noted, c.number_if.ensures) (
+    rw (heard, c.number_if.ensures) (
       rw history used.1,
       room-used m c.args.s c.args.line c.args.calls c.args.p c.args.props call held c.make_room.new.log c.enter.new.self inside.owed (all_due inside.sessions.items roomy c.make_room.new.watchers) _ c.join-told.result took.history room
           (history ∙ rw took.history refl) (log.posts ∙ told.1) (omega (arith, ap length log.posts, c.join-told.ensures.count)) (omega (arith, log.room, c.join-told.ensures.room)) (omega (arith, log.post_room, c.join-told.ensures.post_room)) c.in-Ok.ensures.reserved

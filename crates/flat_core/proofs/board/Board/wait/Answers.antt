@@ -1,12 +1,11 @@
 use Rattle.std.proofs.Common.{◌≡◌, refl, sym, ◌∙◌, ap}
 use Rattle.flat_scene.specs.declared.journal.Kind.TheVariants.{Wait}
 use Rattle.flat_scene.specs.declared.journal.Reply.{Reply}
-use Rattle.flat_states.specs.declared.state.SessionState.{SessionState}
 use Rattle.flat_states.specs.Machines.{Machine}
 use Rattle.flat_states.specs.Presents.{after_reply}
 use Rattle.flat_rules.specs.Legal.{reply_to}
 use Rattle.flat_gets.proofs.lemmas.EndSteps.{ends-after, none-new, standing}
-use Rattle.flat_states.proofs.lemmas.Heard.{entered-noted, heard-wait}
+use Rattle.flat_states.proofs.lemmas.Heard.{entered-none, heard-wait}
 use Rattle.flat_states.proofs.lemmas.Ones.{kept-quiet, plain-wait, placed-of}
 use Rattle.flat_states.proofs.lemmas.Steps.{has-room, unchanged}
 use Rattle.flat_gets.proofs.lemmas.WatchingSteps.{told-too, watched-after}
@@ -41,6 +40,6 @@ invariant_of-self c =
     let kept = kept-quiet m c.args.who c.args.line c.args.calls (Wait c.args.c) reply call is (plain-wait _ _ _ _ _)
     (rw replied (closes-waited c.asked.result c.value-value.result)) refl _ _ _ _ _ _ _ _ _ _ refl c.self.invariant.0 c.self.invariant.1
     (unchanged _ _ _ _ (λ sessions g f. refl) (λ p. refl))
-    (did.sessions ∙ entered-noted c.args.who c.args.line c.args.calls (Wait c.args.c) reply states (λ state. ap (λ (r : Reply). after_reply (Wait c.args.c) r state) replied ∙ heard-wait c.args.c c.asked.result c.value-value.result state)) (told-too inside.watchers ends.1)
+    (did.sessions ∙ entered-none c.args.who c.args.line c.args.calls (Wait c.args.c) reply states (λ state. ap (λ (r : Reply). after_reply (Wait c.args.c) r state) replied ∙ heard-wait c.args.c c.asked.result c.value-value.result state)) (told-too inside.watchers ends.1)
     (record { history = did.history; posts = did.posts; room = did.room; post_room = did.post_room }) in
     (kept.0, kept.1, rw did.history ends.0, rw did.history ends.2, rw did.history (watched-after m c.args.who c.args.line c.args.calls (Wait c.args.c) reply call is refl refl refl c.self.invariant.0.legal inside.watchers c.self.invariant.4))
