@@ -5,6 +5,7 @@ pub mod Foreign
 pub mod HasView
 pub mod LiveCounts
 pub mod Lives
+pub mod Losses
 pub mod Ratios
 pub mod SerialSteps
 pub mod Serials

@@ -45,6 +45,12 @@ abbrev pub view_after : Option PairNo → List Call → Option PairNo
 view_after view [] = view
 view_after view (call ∷ calls) = view_after (view_then view call) calls
 
+-- a call that may lose an end: it releases the view, or clears the viewports too
+abbrev pub is_loss : Call → Bool
+is_loss ReleaseView = true
+is_loss Clear = true
+is_loss _ = false
+
 -- whether a call ends the view of a pair, and at how many calls that is so
 abbrev pub ends_it : PairNo → Option PairNo → Call → Bool
 ends_it p view ReleaseView = is_pair view p

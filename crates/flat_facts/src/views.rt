@@ -1,6 +1,7 @@
-//! The view that calls leave a session.
+//! The view that calls leave a session, and whether they may lose an end.
 ghost use Rattle.std.specs.Prelude.{◌≡◌};
-ghost use Rattle.flat_facts.specs.Views.{view_then};
+ghost use Rattle.std.specs.List.{list_any};
+ghost use Rattle.flat_facts.specs.Views.{is_loss, view_then};
 
 use flat_base::PairNo;
 use flat_scene::Call;
@@ -15,4 +16,22 @@ pub fn view_then(view: Option<PairNo>, call: &Call) -> Option<PairNo>
         Call::Clear => None,
         _ => view,
     }
+}
+
+/// Whether a call may lose an end that its session owns.
+fn is_loss(call: &Call) -> bool
+    ensures { result ≡ is_loss call.now }
+{
+    match call {
+        Call::ReleaseView => true,
+        Call::Clear => true,
+        _ => false,
+    }
+}
+
+/// Whether one of these calls may lose an end that their session owns.
+pub fn may_lose(calls: &[Call]) -> bool
+    ensures { result ≡ list_any is_loss calls.now }
+{
+    calls.iter().any(|call| is_loss(call))
 }

@@ -1,17 +1,19 @@
 -- What an entry does to what is kept of a session for the ends that it owns.
-use Rattle.std.proofs.Common.{◌≡◌, ◌∙◌, sym, ℕ, ◌+◌, Bool, true, false, List, ◌++◌, length, refl, ap, length-append}
+use Rattle.std.proofs.Common.{◌≡◌, ◌∙◌, sym, ℕ, ◌+◌, Bool, true, false, List, ◌++◌, length, refl, ap, Some, length-append}
 use Rattle.std.specs.Prelude.{Option}
 use Rattle.flat_base.specs.declared.ids.PairNo.{PairNo}
 use Rattle.flat_base.specs.declared.ids.SessionNo.{SessionNo}
 use Rattle.flat_scene.specs.declared.calls.Call.{Call}
 use Rattle.flat_scene.specs.declared.journal.Entry.{Entry}
 use Rattle.flat_scene.specs.declared.setup.Setup.{Setup}
-use Rattle.flat_scene.specs.History.{◌▹◌, own, calls, is_begin, is_closed, is_finish, is_session}
+use Rattle.flat_scene.specs.History.{◌▹◌, own, calls, is_begin, is_closed, is_finish, is_session, presents}
 use Rattle.flat_links.specs.declared.following.Following.{Following}
 use Rattle.flat_rules.specs.Ends.{to_begin, to_finished}
 use Rattle.flat_facts.specs.Contents.{capped}
 use Rattle.flat_links.specs.Following.{IsFollowed, sight_of}
 use Rattle.flat_rules.specs.Serials.{contents_made}
+use Rattle.flat_links.specs.Hearing.{is_within}
+use Rattle.flat_links.proofs.Risen.{losing-stays}
 use Rattle.flat_links.proofs.lemmas.PairIdle.{shut-stays}
 use Rattle.flat_facts.proofs.lemmas.Serials.{contents-append}
 use Rattle.flat_rules.proofs.lemmas.ShownSteps.{closed-before}
@@ -34,8 +36,9 @@ module _ (setup : Setup) (s : SessionNo) (h : List Entry) (e : Entry) where
   -- its own entry, of no frame
   pub followed-own : is_session s e.actor ≡ true → is_begin e.kind ≡ false → is_finish e.kind ≡ false → (carries : List Call) → e.calls ≡ carries → (state new : Following)
       → ((n : ℕ) → state.contents ≡ capped n → new.contents ≡ capped (n + length (contents_made carries)))
-      → new.begun ≡ state.begun → new.finished ≡ state.finished → IsFollowed setup h s state → IsFollowed setup (h ▹ e) s new
-  followed-own mine no_begin no_finish carries carried state new contents begun finished old = record {
+      → is_within new.losing (Some (length (presents s h))) ≡ true → new.begun ≡ state.begun → new.finished ≡ state.finished → IsFollowed setup h s state → IsFollowed setup (h ▹ e) s new
+  followed-own mine no_begin no_finish carries carried state new contents losing begun finished old = record {
+    losing = losing-stays s h e new.losing losing;
     contents = λ o.
         contents (length (contents_made (calls s h))) (old.contents (before-open o)) ∙ ap (λ (cs : List Call). capped (length (contents_made (calls s h)) + length (contents_made cs))) (sym carried)
         ∙ ap capped (sym (contents-own mine));
@@ -44,9 +47,10 @@ module _ (setup : Setup) (s : SessionNo) (h : List Entry) (e : Entry) where
   }
 
   -- another's, and its own once it was closed: the calls that count stay
-  pub followed-still : (is_session s e.actor ≡ true → is_closed s h ≡ true) → (state new : Following) → new.contents ≡ state.contents
+  pub followed-still : (is_session s e.actor ≡ true → is_closed s h ≡ true) → (state new : Following) → new.contents ≡ state.contents → new.losing ≡ state.losing
       → new.begun ≡ sight_of setup (to_begin (h ▹ e)) s → new.finished ≡ sight_of setup (to_finished (h ▹ e)) s → IsFollowed setup h s state → IsFollowed setup (h ▹ e) s new
-  followed-still shut state new contents begun finished old = record {
+  followed-still shut state new contents losing begun finished old = record {
+    losing = rw losing (losing-stays s h e state.losing old.losing);
     contents = λ o. contents ∙ old.contents (before-open o) ∙ ap (λ (cs : List Call). capped (length (contents_made cs))) (sym (same o));
     begun = begun;
     finished = finished;
@@ -61,4 +65,4 @@ module _ (setup : Setup) (s : SessionNo) (h : List Entry) (e : Entry) where
 
   pub followed-idle : (is_session s e.actor ≡ true → is_closed s h ≡ true) → is_begin e.kind ≡ false → is_finish e.kind ≡ false → (state : Following) → IsFollowed setup h s state → IsFollowed setup (h ▹ e) s state
   followed-idle shut no_begin no_finish state old =
-      followed-still shut state state refl (old.begun ∙ ap (λ (k : List Entry). sight_of setup k s) (sym (begin-same no_begin))) (old.finished ∙ ap (λ (k : List Entry). sight_of setup k s) (sym (finished-same no_finish))) old
+      followed-still shut state state refl refl (old.begun ∙ ap (λ (k : List Entry). sight_of setup k s) (sym (begin-same no_begin))) (old.finished ∙ ap (λ (k : List Entry). sight_of setup k s) (sym (finished-same no_finish))) old

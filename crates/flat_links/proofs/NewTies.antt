@@ -10,6 +10,7 @@ use Rattle.flat_links.specs.declared.following.Following.{Following}
 use Rattle.flat_links.specs.declared.following.Sight.{Sight}
 use Rattle.flat_links.specs.declared.pairs.PairState.{PairState}
 use Rattle.flat_rules.specs.Numbers.{number}
+use Rattle.flat_links.specs.Hearing.{IsBound, losings}
 use Rattle.flat_links.specs.Noted.{new_pair}
 use Rattle.flat_links.specs.Following.{AreTied, IsFollowed, IsPairKept, new_following, nothing, sight_of, pair}
 use Rattle.flat_rules.specs.Shown.{shown, shown_states, is_connected}
@@ -39,7 +40,7 @@ nothing-seen : (setup : Setup) (s : SessionNo) → nothing ≡ sight_of setup []
 nothing-seen setup s = ap (λ (b : Bool). let g : Sight = record { closed = false; taken = 0; view = None; connected = b } in g) (sym (not-connected setup s))
 
 new-followed : (setup : Setup) (s : SessionNo) → IsFollowed setup [] s new_following
-new-followed setup s = record { contents = λ o. refl; begun = nothing-seen setup s; finished = nothing-seen setup s }
+new-followed setup s = record { contents = λ o. refl; losing = refl; begun = nothing-seen setup s; finished = nothing-seen setup s }
 
 no-use : (n : ℕ) → n < n → ⊥
 no-use n h = omega (arith, h)
@@ -68,4 +69,7 @@ new-tied setup followings pairs n all each count =
       each_pair = λ i d below.
           let is : slice_index_or pairs i d ≡ new_pair = ap (λ (xs : List PairState). slice_index_or xs i d) each ∙ get_or-replicate n i new_pair d (omega (arith, below, long)) in
           subst (IsPairKept setup [] (pair i)) (sym is) (new-kept setup i);
+      bound = λ i d below.
+          let is : slice_index_or pairs i d ≡ new_pair = ap (λ (xs : List PairState). slice_index_or xs i d) each ∙ get_or-replicate n i new_pair d (omega (arith, below, long)) in
+          subst (IsBound setup (losings followings) (pair i)) (sym is) (record { ended = λ w owner. refl; cleared = λ v owner. refl });
     }

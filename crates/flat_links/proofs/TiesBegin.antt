@@ -69,5 +69,5 @@ module _ (setup : Setup) (h : List Entry) (line time : ℕ) (states : List Sessi
       let old : IsFollowed setup h (number i) was = followed-here setup h (begun h line time) i followings was each (omega (arith, below, count)) is in
       let new : Following = record was { begun = sight_of_state setup shows state (number i) } in
       let now : IsFollowed setup (begun h line time) (number i) new =
-      followed-still setup (number i) h (begin_entry line time) (λ mine. let wrong : false ≡ true = mine in cc) was new refl (sight-is i state below kept) old.finished old in
+      followed-still setup (number i) h (begin_entry line time) (λ mine. let wrong : false ≡ true = mine in cc) was new refl refl (sight-is i state below kept) old.finished old in
       followed-on setup h (begun h line time) i followings new each now

@@ -13,6 +13,8 @@ use Rattle.flat_links.specs.declared.pairs.PairState.{PairState}
 use Rattle.flat_facts.specs.Begins.{finished, finish_entry}
 use Rattle.flat_rules.specs.Numbers.{number, AllNumbered}
 use Rattle.flat_rules.specs.Ends.{props_of, taken_calls, to_begin, viewport_uses}
+use Rattle.flat_links.specs.Hearing.{losings}
+use Rattle.flat_links.proofs.Bounds.{bounds-settled}
 use Rattle.flat_links.specs.Following.{AreTied, IsFollowed, IsPairKept, pair, props_pending}
 use Rattle.flat_rules.specs.Legal.{Legal}
 use Rattle.flat_links.specs.Usage.{SettlesPairs, settled}
@@ -31,7 +33,7 @@ pending-stays setup p n v h line = once (option_and_then (props_of p n) (result_
     once None y = refl
 
 module _ (setup : Setup) (h : List Entry) (line : ℕ) (legal : Legal setup (finished h line)) where
-  pair-settled : (p : PairNo) (state new : PairState) → new ≡ settled state → IsPairKept setup h p state → IsPairKept setup (finished h line) p new
+  pub pair-settled : (p : PairNo) (state new : PairState) → new ≡ settled state → IsPairKept setup h p state → IsPairKept setup (finished h line) p new
   pair-settled p state new is kept =
       pair-still setup h (finish_entry line) legal (λ s mine. let wrong : false ≡ true = mine in cc) p refl state new
       (ap (λ (x : PairState). x.ended) is) (ap (λ (x : PairState). x.cleared) is) (ap (λ (x : PairState). x.serial) is) (ap (λ (x : PairState). x.given) is)
@@ -44,12 +46,13 @@ module _ (setup : Setup) (h : List Entry) (line : ℕ) (legal : Legal setup (fin
   finished-on i followings was below is each =
       let old : IsFollowed setup h (number i) was = followed-here setup h (finished h line) i followings was each below is in
       let new : Following = record was { finished = was.begun } in
-      followed-on setup h (finished h line) i followings new each (followed-still setup (number i) h (finish_entry line) (λ mine. let wrong : false ≡ true = mine in cc) was new refl old.begun old.begun old)
+      followed-on setup h (finished h line) i followings new each (followed-still setup (number i) h (finish_entry line) (λ mine. let wrong : false ≡ true = mine in cc) was new refl refl old.begun old.begun old)
 
   -- all of them
   pub tied-finished : (old followings : List Following) (pairs new : List PairState) → AreTied setup h old pairs → length followings ≡ setup.sessions → AllNumbered (FollowedUpTo setup h (finished h line) setup.sessions) followings
-      → SettlesPairs pairs new → AreTied setup (finished h line) followings new
-  tied-finished old followings pairs new tied count each settles = record {
+      → losings followings ≡ losings old → SettlesPairs pairs new → AreTied setup (finished h line) followings new
+  tied-finished old followings pairs new tied count each same settles = record {
+    bound = bounds-settled setup (losings old) (losings followings) pairs new same settles tied.bound;
     sessions = count;
     count = settles.count ∙ tied.count;
     each_session = followed-end setup h (finished h line) setup.sessions followings count each;

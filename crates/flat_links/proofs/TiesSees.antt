@@ -26,6 +26,7 @@ use Rattle.flat_facts.specs.Begins.{begun, begin_entry}
 use Rattle.flat_rules.specs.Numbers.{number, AllNumbered}
 use Rattle.flat_rules.specs.Ends.{live_props, props_of, serials_of, taken_calls, to_begin, to_finished, viewport_owner, viewport_uses}
 use Rattle.flat_facts.specs.Contents.{capped}
+use Rattle.flat_links.specs.Hearing.{IsBound, losings}
 use Rattle.flat_links.specs.Following.{AreTied, IsBegun, IsFollowed, IsPairKept, pair, props_pending, sight_of}
 use Rattle.flat_rules.specs.Legal.{Legal, begin_time, is_frame_open, owns_viewport}
 use Rattle.flat_rules.specs.Shown.{last_taken, shown, tree_of}
@@ -268,10 +269,12 @@ module _ (setup : Setup) (h : List Entry) (line time : ℕ) (states : List Sessi
 
   -- all of them
   pub tied-begun : (followings : List Following) (pairs : List PairState) → length followings ≡ setup.sessions → length pairs ≡ length setup.pairs → AllNumbered (FollowedUpTo setup h (begun h line time) setup.sessions) followings
-      → AllNumbered (λ j. PairUpTo setup h (begun h line time) setup.sessions (pair j)) pairs → AreTied setup (begun h line time) followings pairs
-  tied-begun followings pairs count many each all = record {
+      → AllNumbered (λ j. PairUpTo setup h (begun h line time) setup.sessions (pair j)) pairs → AllNumbered (λ j. IsBound setup (losings followings) (pair j)) pairs
+      → AreTied setup (begun h line time) followings pairs
+  tied-begun followings pairs count many each all bound = record {
     sessions = count;
     count = many;
     each_session = followed-end setup h (begun h line time) setup.sessions followings count each;
     each_pair = pairs-end pairs all;
+    bound = bound;
   }

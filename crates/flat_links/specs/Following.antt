@@ -28,6 +28,7 @@ use Rattle.flat_rules.specs.Shown.{is_connected, is_pair, shown_states, shown_vi
 use Rattle.flat_rules.specs.Stamps.{IsStamp}
 use Rattle.flat_facts.specs.Views.{last_view}
 use Rattle.flat_rules.specs.Watch.{props_given, props_seen}
+use Rattle.flat_links.specs.Hearing.{IsBound, is_within, losings}
 use Rattle.flat_topology.specs.Join.{is_joined}
 use Rattle.flat_topology.specs.Shown.{Shown, state_of}
 
@@ -42,7 +43,7 @@ nothing = record { closed = false; taken = 0; view = None; connected = false }
 
 -- what is kept of a session to which nothing happened
 abbrev pub new_following : Following
-new_following = record { contents = 0; begun = nothing; finished = nothing }
+new_following = record { contents = 0; losing = None; begun = nothing; finished = nothing }
 
 -- what a history says of a session, where it ends with the begin of a frame
 abbrev pub sight_of : Setup → List Entry → SessionNo → Sight
@@ -53,9 +54,10 @@ sight_of setup history s = record {
   connected = is_connected setup history s;
 }
 
--- What is kept of a session stands for what a history says of it. How many contents its calls made is known while it is open.
+-- What is kept of a session stands for what a history says of it. How many contents its calls made is known while it is open. It lost no end after its last present.
 pub record IsFollowed (setup : Setup) (history : List Entry) (s : SessionNo) (following : Following) : Type 0 where
   pub contents : is_closed s history ≡ false → following.contents ≡ capped (length (contents_made (calls s history)))
+  pub losing : is_within following.losing (Some (length (presents s history))) ≡ true
   pub begun : following.begun ≡ sight_of setup (to_begin history) s
   pub finished : following.finished ≡ sight_of setup (to_finished history) s
 
@@ -89,6 +91,7 @@ pub record AreTied (setup : Setup) (history : List Entry) (followings : List Fol
   pub count : length pairs ≡ length setup.pairs
   pub each_session : AllNumbered (λ i. IsFollowed setup history (number i)) followings
   pub each_pair : AllNumbered (λ i. IsPairKept setup history (pair i)) pairs
+  pub bound : AllNumbered (λ i. IsBound setup (losings followings) (pair i)) pairs
 
 -- An entry of a session that was open, which carries these calls. Before it the session had this account, by which it made so many presents and its last view is of that pair, and these viewports.
 pub record IsOwnEntry (setup : Setup) (history : List Entry) (entry : Entry) (s : SessionNo) (carries : List Call) (account : Account) (live : List Live) : Type 0 where

@@ -1,6 +1,7 @@
 pub mod AllEnds
 pub mod Clears
 pub mod Following
+pub mod Hearing
 pub mod Noted
 pub mod Usage
 pub mod Viewports

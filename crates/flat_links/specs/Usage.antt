@@ -17,7 +17,8 @@ use Rattle.flat_links.specs.Clears.{cleared_if}
 use Rattle.flat_facts.specs.Contents.{capped}
 use Rattle.flat_rules.specs.Serials.{contents_made}
 use Rattle.flat_links.specs.Views.{ended_by, is_ended}
-use Rattle.flat_facts.specs.Views.{if_unended}
+use Rattle.std.specs.List.{list_any}
+use Rattle.flat_facts.specs.Views.{if_unended, is_loss}
 use Rattle.flat_states.specs.declared.state.Account.{Account}
 use Rattle.flat_watch.specs.Told.{or_else}
 
@@ -77,15 +78,19 @@ pub record IsUse (entry : Entry) (p : PairNo) (props : ViewportProps) : Type 0 w
   pub kind : entry.kind ≡ Viewport p props
   pub reply : entry.reply ≡ Done
 
--- what is kept of a session whose calls made so many contents
-abbrev pub followed_by : ℕ → Following → Following
-followed_by contents following = record following { contents = contents }
+-- the stamp of the last entry of a session that may have lost an end, after calls before which it had made so many presents
+abbrev pub losing_then : List Call → ℕ → Option ℕ → Option ℕ
+losing_then calls presents losing = cond (list_any is_loss calls) (Some presents) losing
+
+-- what is kept of a session after calls before which it had made so many presents, and which leave it so many contents
+abbrev pub followed_by : List Call → ℕ → ℕ → Following → Following
+followed_by calls presents contents following = record following { contents = contents; losing = losing_then calls presents following.losing }
 
 -- What is kept after calls of a session that had this account, and of which these viewports lived.
 pub record NotesCalls (s : SessionNo) (calls : List Call) (account : Account) (live : List Live) (contents : ℕ) (old new : List Following) (pairs after : List PairState) : Type 0 where
   pub was : Following
   pub at : was ≡ slice_index_or old (s.0 - 1) was
-  pub session : new ≡ slice_set old (s.0 - 1) (followed_by contents was)
+  pub session : new ≡ slice_set old (s.0 - 1) (followed_by calls account.presents contents was)
   pub contents_are : (n : ℕ) → was.contents ≡ capped n → contents ≡ capped (n + length (contents_made calls))
   pub count : length after ≡ length pairs
   pub each : (i : ℕ) (d : PairState) → i < length pairs

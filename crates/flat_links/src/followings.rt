@@ -1,8 +1,9 @@
-ghost use Rattle.std.specs.Prelude.{◌≡◌, ◌+◌, ◌<◌, ℕ, IfOk, None, is_some, length, replicate};
+ghost use Rattle.std.specs.Prelude.{◌≡◌, ◌+◌, ◌<◌, ℕ, All, false, IfOk, None, is_some, length, replicate};
 ghost use Rattle.std.specs.Prelude.{slice_index_or, slice_set};
 ghost use Rattle.flat_topology.specs.Fit.{FitsSetup};
 ghost use Rattle.flat_topology.specs.Join.{is_joined};
 ghost use Rattle.flat_links.specs.Following.{KeptFollowings, new_following};
+ghost use Rattle.flat_links.specs.Hearing.{IsCalm};
 
 use crate::following::{Following, Sight};
 use flat_base::NoMemory;
@@ -21,6 +22,7 @@ pub const NOTHING: Sight = Sight {
 
 const NEW_FOLLOWING: Following = Following {
     contents: 0,
+    losing: None,
     begun: NOTHING,
     finished: NOTHING,
 };
@@ -92,6 +94,13 @@ impl Followings {
     {
         let display = pair_of_display(setup);
         shown.find_connected(setup, display, self.distances.as_mut_slice());
+    }
+
+    /// Whether what the begun frame saw of one of them tells others something anew.
+    pub fn may_tell(&self) -> bool
+        ensures { result ≡ false → All IsCalm self.now.items }
+    {
+        self.each.iter().any(|one| one.may_tell())
     }
 
     /// Whether the session at a place was found to be connected.

@@ -1,5 +1,6 @@
 ghost use Rattle.std.specs.Prelude.{◌≡◌, ◌<◌, [], ◌∷◌, length, replicate, slice_index_or, IfOk};
 ghost use Rattle.flat_links.specs.Noted.{AreNoted, KeptPairs, ListsPair, NotesPairs, new_pair};
+ghost use Rattle.flat_links.specs.Hearing.{AreSettledBut, HearsOne};
 ghost use Rattle.flat_links.specs.Usage.{SeesUses, SettlesPairs, UsesPair};
 ghost use Rattle.flat_facts.specs.Views.{if_unended};
 ghost use Rattle.flat_links.specs.Views.{end_stamp, is_ended};
@@ -7,9 +8,9 @@ ghost use Rattle.flat_links.specs.Views.{end_stamp, is_ended};
 use crate::clears::note_clears;
 use crate::pairs::{PairState, note_views};
 use crate::usage::{see_use, settle_pairs, use_pair};
-use flat_base::{NoMemory, PairNo, Roomy};
+use flat_base::{NoMemory, PairNo, Roomy, SESSIONS_MAX};
 use flat_facts::live::Live;
-use flat_scene::{Call, ViewportProps, ViewportUse};
+use flat_scene::{Call, SessionSet, Setup, ViewportProps, ViewportUse};
 use flat_states::state::Account;
 use std::alloc::Global;
 use std::marker::Model;
@@ -135,6 +136,22 @@ impl PairStates {
         see_use(&mut self.states, one);
     }
 
+    /// The owners of the views of those pairs of which the frame begun last has other
+    /// properties than those seen before. Where more pairs were noted than the list has
+    /// room for, all sessions.
+    pub fn heard(&self, setup: &Setup) -> SessionSet
+        ensures { AreSettledBut result setup.now self.now.items }
+    {
+        if self.overflows {
+            return SessionSet { has: [true; 16] };
+        }
+        let mut heard = SessionSet { has: [false; 16] };
+        for p in self.noted.as_slice() {
+            hear_one(self.states.as_slice(), setup, *p, &mut heard);
+        }
+        heard
+    }
+
     /// The frame begun last ends: what was pending is seen. It looks at no pair that
     /// nothing was noted of, and takes no memory.
     pub fn settle(&mut self)
@@ -144,6 +161,24 @@ impl PairStates {
         self.noted.clear();
         self.overflows = false;
     }
+}
+
+/// The owner of a pair's view hears that it has other properties, where it has.
+fn hear_one(pairs: &[PairState], setup: &Setup, p: PairNo, heard: &mut SessionSet)
+    ensures { HearsOne setup.now p pairs.now heard.old heard.new }
+{
+    let place = p.0 as usize;
+    if place >= pairs.len() || place >= setup.pairs.len() {
+        return;
+    }
+    if pairs[place].pending == pairs[place].seen {
+        return;
+    }
+    let owner = setup.pairs.at(place).view;
+    if owner.0 == 0 || owner.0 > SESSIONS_MAX {
+        return;
+    }
+    heard.has[owner.0 as usize - 1] = true;
 }
 
 /// Lists a pair, where there is room. Answers whether more were noted than the list

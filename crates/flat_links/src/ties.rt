@@ -1,4 +1,6 @@
-ghost use Rattle.std.specs.Prelude.{◌≡◌, ℕ, ◌-◌, ◌<◌, ◌≤◌, [], All, IfOk, List, length};
+ghost use Rattle.std.specs.Prelude.{◌≡◌, ℕ, ◌-◌, ◌<◌, ◌≤◌, [], All, IfOk, List, length, true, false};
+ghost use Rattle.flat_base.specs.declared.ids.SessionNo.{SessionNo};
+ghost use Rattle.flat_base.specs.declared.limits.TheConstants.{SESSIONS_MAX};
 ghost use Rattle.flat_scene.specs.declared.setup.Setup.{Setup};
 ghost use Rattle.flat_scene.specs.declared.journal.Entry.{Entry};
 ghost use Rattle.flat_scene.specs.History.{◌▹◌};
@@ -9,7 +11,10 @@ ghost use Rattle.flat_facts.specs.Begins.{begun, finished};
 ghost use Rattle.flat_links.specs.Following.{AreTied, IsBegun, IsOwnEntry, UsesNone};
 ghost use Rattle.flat_links.specs.Following.{sight_of_state};
 ghost use Rattle.flat_rules.specs.Legal.{Legal};
-ghost use Rattle.flat_links.specs.Usage.{IsUse, NotesCalls, SeesUses, uses_if};
+ghost use Rattle.flat_links.specs.Hearing.{TellsTheSame};
+ghost use Rattle.flat_links.specs.Usage.{IsUse, NotesCalls, SeesUses, losing_then, uses_if};
+ghost use Rattle.flat_rules.specs.Watch.{ratio_told};
+ghost use Rattle.flat_topology.specs.Views.{is_member};
 
 use crate::following::{Following, Sight};
 use crate::followings::Followings;
@@ -17,7 +22,8 @@ use crate::noted::PairStates;
 use flat_base::{NoMemory, PairNo, SessionNo};
 use flat_facts::contents::count_contents;
 use flat_facts::live::Live;
-use flat_scene::{Call, Setup, ViewportProps};
+use flat_facts::views::may_lose;
+use flat_scene::{Call, SessionSet, Setup, ViewportProps};
 use flat_states::state::{Account, SessionState};
 use flat_topology::Shown;
 use std::alloc::Global;
@@ -49,6 +55,7 @@ fn begun_by(old: Following, sight: Sight) -> Following
 {
     Following {
         contents: old.contents,
+        losing: old.losing,
         begun: sight,
         finished: old.finished,
     }
@@ -60,9 +67,32 @@ fn finished_by(old: Following) -> Following
 {
     Following {
         contents: old.contents,
+        losing: old.losing,
         begun: old.begun,
         finished: old.begun,
     }
+}
+
+/// The stamp of the last entry of a session that may have lost an end, after these calls.
+fn losing_then(calls: &[Call], presents: u32, losing: Option<u32>) -> Option<u32>
+    ensures { result ≡ losing_then calls.now presents losing }
+{
+    if may_lose(calls) {
+        return Some(presents);
+    }
+    losing
+}
+
+/// Whom the end of a frame tells something: everybody, or those that are heard.
+fn hearers(everybody: bool, heard: SessionSet) -> SessionSet
+    ensures all { (n : ℕ) → everybody ≡ true → 0 < n → n ≤ SESSIONS_MAX →
+        is_member result n ≡ true }
+    ensures heard { everybody ≡ false → result ≡ heard }
+{
+    if everybody {
+        return SessionSet { has: [true; 16] };
+    }
+    heard
 }
 
 /// A frame that begins has what is shown of a session, if it took something from it.
@@ -167,8 +197,30 @@ impl Ties {
 
     /// Notes the end of a frame: what its begin saw is that of the last finished
     /// frame from now on. Of the pairs it looks at those that the begin noted. It takes
-    /// no memory.
-    pub fn finish(&mut self, setup: &Setup)
+    /// no memory. Answers the sessions to which something may be told anew, where it is
+    /// known whether the pixel ratio that is told is another.
+    pub fn finish(&mut self, setup: &Setup, ratio_changes: bool) -> SessionSet
+        requires { length self.old.followings.items ≡ setup.now.sessions }
+        ensures sessions { length self.new.followings.items ≡ length self.old.followings.items }
+        ensures count { length self.new.pairs.items ≡ length self.old.pairs.items }
+        ensures tied { (h : List Entry) (line : ℕ) → Legal setup.now (finished h line) →
+            AreTied setup.now h self.old.followings.items self.old.pairs.items →
+            AreTied setup.now (finished h line) self.new.followings.items self.new.pairs.items }
+        ensures others { (h : List Entry) (line : ℕ) (s : SessionNo) →
+            Legal setup.now (finished h line) →
+            AreTied setup.now h self.old.followings.items self.old.pairs.items →
+            (ratio_changes ≡ false → ratio_told setup.now (finished h line)
+            ≡ ratio_told setup.now h) → 0 < s.0 → s.0 ≤ SESSIONS_MAX →
+            is_member result s.0 ≡ false → TellsTheSame setup.now h (finished h line) s }
+    {
+        let tells = self.followings.may_tell();
+        let heard = self.pairs.heard(setup);
+        self.settle(setup);
+        hearers(ratio_changes || tells, heard)
+    }
+
+    /// What the begun frame saw is that of the last finished frame.
+    fn settle(&mut self, setup: &Setup)
         requires { length self.old.followings.items ≡ setup.now.sessions }
         ensures sessions { length self.new.followings.items ≡ length self.old.followings.items }
         ensures count { length self.new.pairs.items ≡ length self.old.pairs.items }
@@ -196,6 +248,7 @@ impl Ties {
         let contents = count_contents(old.contents, calls);
         let new = Following {
             contents,
+            losing: losing_then(calls, account.presents, old.losing),
             begun: old.begun,
             finished: old.finished,
         };

@@ -92,6 +92,27 @@ module _ (setup : Setup) (s : SessionNo) (h : List Entry) (e : Entry) (carries :
   owned-now : list_all (owns_in_call setup s) e.calls ≡ true
   owned-now = and-right (list_all (owns_in_call setup s) (calls s h)) _ all-owned
 
+  -- its calls end no view and clear no viewport of a pair whose end another session owns
+  pub ends-elsewhere : (view : Option PairNo) → view ≡ view_after None (calls s h) → (w : SessionNo) → view_owner setup p ≡ Some w → is_session w e.actor ≡ false → ends_of p view carries ≡ 0
+  ends-elsewhere view is w owner other =
+      let foreign : owns_view setup s p ≡ false = rw owner (another s w e.actor entry.mine other) in
+      let before = foreign-view setup s p foreign None (calls s h) refl owned-before in
+      let elsewhere : is_pair view p ≡ false = ap (λ (v : Option PairNo). is_pair v p) is ∙ before.after in
+      ap (ends_of p view) (sym entry.carried) ∙ (foreign-view setup s p foreign view e.calls elsewhere owned-now).ends
+
+  tame : AreTame e.calls
+  tame = tame-kind e.kind e.calls entry.legal.1.may.links
+
+  counts : clears_pair p live carries ≡ nat_lt 0 (count_of (clears_live p) live e.calls)
+  counts = ap (clears_pair p live) (sym entry.carried) ∙ clears-count p live e.calls tame
+
+  pub clears-elsewhere : (v : SessionNo) → viewport_owner setup p ≡ Some (Session v) → is_session v e.actor ≡ false → clears_pair p live carries ≡ false
+  clears-elsewhere v owner other =
+      let foreign : owns_viewport setup s p ≡ false = rw owner (another s v e.actor entry.mine other) in
+      let before = foreign-live setup s p foreign [] (calls s h) refl owned-before in
+      let elsewhere : list_any (λ (l : Live). l.pair.0 == p.0) live ≡ false = ap (list_any (λ (l : Live). l.pair.0 == p.0)) entry.living ∙ before.after in
+      counts ∙ ap (nat_lt 0) ((foreign-live setup s p foreign live e.calls elsewhere owned-now).clears)
+
   pub ended-own : (view : Option PairNo) → view ≡ view_after None (calls s h) → (w : SessionNo) → view_owner setup p ≡ Some w → (stamp : Option ℕ) → IsStamp (happens setup (ends_view p)) w h stamp
       → IsStamp (happens setup (ends_view p)) w (h ▹ e) (stamp_then stamp (nat_lt 0 (ends_of p view carries)) account.presents)
   ended-own view is w owner stamp old = by_actor (is_session w e.actor) refl
@@ -107,10 +128,7 @@ module _ (setup : Setup) (s : SessionNo) (h : List Entry) (e : Entry) (carries :
           let F : List Call → ℕ → SessionNo → Type 0 = λ cs k t. IsStamp (happens setup (ends_view p)) t (h ▹ e) (stamp_then stamp (nat_lt 0 (ends_of p view cs)) k) in
           subst (λ (t : SessionNo). F carries account.presents t) (sym same) (subst (λ (k : ℕ). F carries k s) (sym entry.counted) (subst (λ (cs : List Call). F cs (length (presents s h)) s) entry.carried now))
       by_actor false other =
-          let foreign : owns_view setup s p ≡ false = rw owner (another s w e.actor entry.mine other) in
-          let before = foreign-view setup s p foreign None (calls s h) refl owned-before in
-          let elsewhere : is_pair view p ≡ false = ap (λ (v : Option PairNo). is_pair v p) is ∙ before.after in
-          let none : ends_of p view carries ≡ 0 = ap (ends_of p view) (sym entry.carried) ∙ (foreign-view setup s p foreign view e.calls elsewhere owned-now).ends in
+          let none : ends_of p view carries ≡ 0 = ends-elsewhere view is w owner other in
           let stays : stamp_then stamp (nat_lt 0 (ends_of p view carries)) account.presents ≡ stamp = ap (λ (n : ℕ). stamp_then stamp (nat_lt 0 n) account.presents) none ∙ stamp-none stamp account.presents in
           subst (IsStamp (happens setup (ends_view p)) w (h ▹ e)) (sym stays) (other-stamp (happens setup (ends_view p)) (happening-lasts setup (ends_view p)) w h e stamp other old)
 
@@ -118,12 +136,6 @@ module _ (setup : Setup) (s : SessionNo) (h : List Entry) (e : Entry) (carries :
       → IsStamp (happens setup (clears_viewport p)) v (h ▹ e) (stamp_then stamp (clears_pair p live carries) account.presents)
   cleared-own v owner stamp old = by_actor (is_session v e.actor) refl
     where
-      tame : AreTame e.calls
-      tame = tame-kind e.kind e.calls entry.legal.1.may.links
-
-      counts : clears_pair p live carries ≡ nat_lt 0 (count_of (clears_live p) live e.calls)
-      counts = ap (clears_pair p live) (sym entry.carried) ∙ clears-count p live e.calls tame
-
       by_actor : (b : Bool) → is_session v e.actor ≡ b → IsStamp (happens setup (clears_viewport p)) v (h ▹ e) (stamp_then stamp (clears_pair p live carries) account.presents)
       by_actor true theirs =
           let same : v ≡ s = one-session s v e.actor entry.mine theirs in
@@ -132,15 +144,9 @@ module _ (setup : Setup) (s : SessionNo) (h : List Entry) (e : Entry) (carries :
           let F : Bool → ℕ → SessionNo → Type 0 = λ b k t. IsStamp (happens setup (clears_viewport p)) t (h ▹ e) (stamp_then stamp b k) in
           subst (λ (t : SessionNo). F (clears_pair p live carries) account.presents t) (sym same) (subst (λ (k : ℕ). F (clears_pair p live carries) k s) (sym entry.counted) (subst (λ (b : Bool). F b (length (presents s h)) s) (sym counts) now))
       by_actor false other =
-          let foreign : owns_viewport setup s p ≡ false = rw owner (ap (is_session s) (sym (same-owner v)) ∙ another s v e.actor entry.mine other) in
-          let before = foreign-live setup s p foreign [] (calls s h) refl owned-before in
-          let elsewhere : list_any (λ (l : Live). l.pair.0 == p.0) live ≡ false = ap (list_any (λ (l : Live). l.pair.0 == p.0)) entry.living ∙ before.after in
-          let none : count_of (clears_live p) live e.calls ≡ 0 = (foreign-live setup s p foreign live e.calls elsewhere owned-now).clears in
-          let stays : stamp_then stamp (clears_pair p live carries) account.presents ≡ stamp = ap (λ b. stamp_then stamp b account.presents) (counts ∙ ap (nat_lt 0) none) ∙ stamp-none stamp account.presents in
+          let none : clears_pair p live carries ≡ false = clears-elsewhere v owner other in
+          let stays : stamp_then stamp (clears_pair p live carries) account.presents ≡ stamp = ap (λ b. stamp_then stamp b account.presents) none ∙ stamp-none stamp account.presents in
           subst (IsStamp (happens setup (clears_viewport p)) v (h ▹ e)) (sym stays) (other-stamp (happens setup (clears_viewport p)) (happening-lasts setup (clears_viewport p)) v h e stamp other old)
-        where
-          same-owner : (t : SessionNo) → Session t ≡ Session t
-          same-owner t = refl
 
   -- the serial of the last use, where the entry is none
   pub serial-kept : (uses_viewport p e.kind && is_done e.reply) ≡ false → (v : SessionNo) → viewport_owner setup p ≡ Some (Session v) → (kept : ℕ) → IsSerialKept p v h kept → IsSerialKept p v (h ▹ e) kept

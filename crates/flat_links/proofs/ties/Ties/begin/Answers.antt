@@ -6,6 +6,8 @@ use Rattle.flat_links.specs.declared.following.Following.{Following}
 use Rattle.flat_links.specs.declared.following.Sight.{Sight}
 use Rattle.flat_facts.specs.Begins.{begun}
 use Rattle.flat_links.specs.Following.{pair}
+use Rattle.flat_links.specs.Hearing.{IsBound, losings}
+use Rattle.flat_links.proofs.Bounds.{bounds-seen, losings-same}
 use Rattle.flat_links.specs.Usage.{SeesUses}
 use Rattle.flat_rules.specs.Numbers.{AllNumbered}
 use Rattle.flat_links.proofs.TiesBegin.{FollowedUpTo, begun-on, followed-start, sight-at}
@@ -16,6 +18,8 @@ pub loop-i-init : goal.loop-i-init
 loop-i-init c = record {
   count = ap (length {A = Following}) c.find_connected.ensures.items ∙ c.requires.count;
   many = refl;
+  losing = ap losings c.find_connected.ensures.items;
+  bound = λ h tied. tied.bound;
   connected = c.find_connected.ensures.connected;
   followed = λ h line time begins tied. rw c.find_connected.ensures.items (followed-start c.args.setup.now h (begun h line time) c.args.self.now.followings.items tied.each_session);
   each = λ h line time begins tied. pairs-start c.args.setup.now h line time c.args.sessions.now c.args.shown.now begins c.args.self.now.pairs.items tied.each_pair;
@@ -33,6 +37,8 @@ loop-i-preserved c =
     record {
       count = ap (length {A = Following}) items ∙ length-set c.loop-i.self.followings.items i new ∙ inv.count;
       many = c.see_taken.ensures.count ∙ inv.many;
+      losing = ap losings items ∙ losings-same c.loop-i.self.followings.items i was new c.at-one.ensures refl ∙ inv.losing;
+      bound = λ h tied. bounds-seen c.args.setup.now (losings c.args.self.now.followings.items) _ c.loop-i.self.pairs.items c.see_taken.new.pairs.items c.see_taken.ensures (inv.bound h tied);
       connected = λ j. ap (λ (known : List (Option ℕ)). is_some (slice_index_or known j None)) c.set.ensures.distances ∙ inv.connected j;
       followed = λ h line time begins tied.
           let on = begun-on c.args.setup.now h line time c.args.sessions.now c.args.shown.now begins i c.loop-i.self.followings.items was c.index-sessions-i.result c.loop-i-test.true c.requires.all inv.count c.index-sessions-i.is c.at-one.ensures (inv.followed h line time begins tied) in
@@ -52,3 +58,4 @@ returns-clause-tied c h line time begins tied =
     tied-begun c.args.setup.now h line time c.args.sessions.now c.args.shown.now begins c.loop-i.self.followings.items c.loop-i.self.pairs.items inv.count (inv.many ∙ tied.count)
     (subst (λ (n : ℕ). AllNumbered (FollowedUpTo c.args.setup.now h (begun h line time) n) c.loop-i.self.followings.items) all (inv.followed h line time begins tied))
     (subst (λ (n : ℕ). AllNumbered (λ j. PairUpTo c.args.setup.now h (begun h line time) n (pair j)) c.loop-i.self.pairs.items) all (inv.each h line time begins tied))
+    (subst (λ (l : List (Option ℕ)). AllNumbered (λ j. IsBound c.args.setup.now l (pair j)) c.loop-i.self.pairs.items) (sym inv.losing) (inv.bound h tied))

@@ -3,6 +3,7 @@ use Rattle.std.specs.Prelude.{is_some}
 use Rattle.flat_scene.specs.declared.journal.Entry.{Entry}
 use Rattle.flat_facts.specs.Begins.{begun}
 use Rattle.flat_links.specs.Following.{AreTied, IsBegun, pair}
+use Rattle.flat_links.specs.Hearing.{IsBound, losings}
 use Rattle.flat_rules.specs.Numbers.{AllNumbered}
 use Rattle.flat_links.proofs.TiesBegin.{FollowedUpTo}
 use Rattle.flat_links.proofs.TiesSees.{PairUpTo}
@@ -14,6 +15,8 @@ invariant-loop-i l = record {
   count : length l.self.followings.items ≡ l.setup.sessions;
   many : length l.self.pairs.items ≡ length l.fn.self.pairs.items;
   followed : (h : List Entry) (line time : ℕ) → IsBegun l.setup h line time l.sessions l.shown → AreTied l.setup h l.fn.self.followings.items l.fn.self.pairs.items → AllNumbered (FollowedUpTo l.setup h (begun h line time) l.i) l.self.followings.items;
+  losing : losings l.self.followings.items ≡ losings l.fn.self.followings.items;
+  bound : (h : List Entry) → AreTied l.setup h l.fn.self.followings.items l.fn.self.pairs.items → AllNumbered (λ j. IsBound l.setup (losings l.fn.self.followings.items) (pair j)) l.self.pairs.items;
   connected : (i : ℕ) → is_some (slice_index_or l.self.followings.distances i None) ≡ is_joined l.setup l.shown (i + 1);
   each : (h : List Entry) (line time : ℕ) → IsBegun l.setup h line time l.sessions l.shown → AreTied l.setup h l.fn.self.followings.items l.fn.self.pairs.items → AllNumbered (λ j. PairUpTo l.setup h (begun h line time) l.i (pair j)) l.self.pairs.items;
 }

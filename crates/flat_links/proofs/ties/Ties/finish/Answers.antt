@@ -1,40 +1,15 @@
-use Rattle.std.proofs.Common.{◌≡◌, ◌∙◌, ap, sym, subst, ℕ, ◌+◌, ◌<◌, arith, length, List, refl, slice_set}
-use Rattle.std.proofs.lemmas.List.{length-set}
-use Rattle.flat_links.specs.declared.following.Following.{Following}
-use Rattle.flat_links.specs.declared.pairs.PairState.{PairState}
+use Rattle.std.proofs.Common.{◌≡◌, ◌∙◌, sym, ap, true, false, Bool}
+use Rattle.flat_scene.specs.declared.frames.SessionSet.{SessionSet}
+use Rattle.flat_topology.specs.Views.{is_member}
+use Rattle.flat_links.specs.Hearing.{TellsTheSame}
 use Rattle.flat_facts.specs.Begins.{finished}
-use Rattle.flat_links.specs.Usage.{SettlesPairs}
-use Rattle.flat_rules.specs.Numbers.{AllNumbered}
-use Rattle.flat_links.proofs.TiesBegin.{FollowedUpTo, followed-start}
-use Rattle.flat_links.proofs.TiesFinish.{finished-on, tied-finished}
+use Rattle.flat_links.proofs.Untold.{tells-the-same}
 use Rattle.flat_links.proofs.ties.Ties.finish.Goals as goal
+use Rattle.flat_links.proofs.ties.Ties.finish.Goals.{then-ratio_changes, else-ratio_changes}
 
-pub loop-i-init : goal.loop-i-init
-loop-i-init c = record {
-  count = c.requires;
-  pairs = refl;
-  followed = λ h line legal tied. followed-start c.args.setup.now h (finished h line) c.args.self.now.followings.items tied.each_session;
-}
-
-pub loop-i-preserved : goal.loop-i-preserved
-loop-i-preserved c =
-    let inv = c.loop-i.invariant in
-    let was : Following = c.at-one.result in
-    let new : Following = record was { finished = was.begun } in
-    let items : c.set.new.self.items ≡ slice_set c.loop-i.self.followings.items c.loop-i.i new = c.set.ensures.items ∙ ap (slice_set c.loop-i.self.followings.items c.loop-i.i) c.finished_by.ensures in
-    let below : c.loop-i.i < length c.loop-i.self.followings.items = omega (arith, inv.count, c.loop-i-test.true) in
-    record {
-      count = ap (length {A = Following}) items ∙ length-set c.loop-i.self.followings.items c.loop-i.i new ∙ inv.count;
-      pairs = inv.pairs;
-      followed = λ h line legal tied.
-          subst (λ (fs : List Following). AllNumbered (FollowedUpTo c.args.setup.now h (finished h line) (c.loop-i.i + 1)) fs) (sym items)
-          (finished-on c.args.setup.now h line legal c.loop-i.i c.loop-i.self.followings.items was below c.at-one.ensures (inv.followed h line legal tied));
-    }
-
-pub returns-clause-tied : goal.returns-clause-tied
-returns-clause-tied c h line legal tied =
-    let inv = c.loop-i.invariant in
-    let all : c.loop-i.i ≡ c.args.setup.now.sessions = omega (arith, c.loop-i.auto.i-end, c.loop-i-test.false) in
-    let settles = subst (λ (pairs : List PairState). SettlesPairs pairs c.settle.new.self.items) inv.pairs c.settle.ensures in
-    tied-finished c.args.setup.now h line legal c.args.self.now.followings.items c.loop-i.self.followings.items c.args.self.now.pairs.items c.settle.new.self.items tied inv.count
-    (subst (λ (n : ℕ). AllNumbered (FollowedUpTo c.args.setup.now h (finished h line) n) c.loop-i.self.followings.items) all (inv.followed h line legal tied)) settles
+pub returns-clause-others : goal.returns-clause-others
+returns-clause-others c h line s legal tied ratio some few out = by_all c.if-ratio_changes.hearers refl
+  where
+    by_all : (b : Bool) → c.if-ratio_changes.hearers ≡ b → TellsTheSame c.args.setup.now h (finished h line) s
+    by_all true all = let wrong : true ≡ false = sym (c.hearers.ensures.all s.0 all some few) ∙ out in cc
+    by_all false none = elim c.if-ratio_changes.branch [ then-ratio_changes w ↦ (let wrong : false ≡ true = sym none ∙ w.hearers-is ∙ w.if-ratio_changes in cc) | else-ratio_changes w ↦ (let unheard : is_member c.heard-heard.result s.0 ≡ false = sym (ap (λ (set : SessionSet). is_member set s.0) (c.hearers.ensures.heard none)) ∙ out in tells-the-same c.args.setup.now h line legal c.args.self.now.followings.items c.args.self.now.pairs.items tied (c.may_tell-tells.ensures (sym w.hearers-is ∙ none)) (ratio w.if-ratio_changes) s (λ i d below owner. c.heard-heard.ensures i d s below owner some few unheard)) ]

@@ -2,14 +2,16 @@ use Rattle.std.proofs.Common.{◌≡◌, ℕ, List, length}
 use Rattle.flat_scene.specs.declared.journal.Entry.{Entry}
 use Rattle.flat_facts.specs.Begins.{finished}
 use Rattle.flat_links.specs.Following.{AreTied}
+use Rattle.flat_links.specs.Hearing.{losings}
 use Rattle.flat_rules.specs.Legal.{Legal}
 use Rattle.flat_rules.specs.Numbers.{AllNumbered}
 use Rattle.flat_links.proofs.TiesBegin.{FollowedUpTo}
-use Rattle.flat_links.proofs.ties.Ties.finish.Given as goal
+use Rattle.flat_links.proofs.ties.Ties.settle.Given as goal
 
 abbrev pub invariant-loop-i : goal.invariant-loop-i
 invariant-loop-i l = record {
   count : length l.self.followings.items ≡ l.setup.sessions;
   pairs : l.self.pairs.items ≡ l.fn.self.pairs.items;
+  losing : losings l.self.followings.items ≡ losings l.fn.self.followings.items;
   followed : (h : List Entry) (line : ℕ) → Legal l.setup (finished h line) → AreTied l.setup h l.fn.self.followings.items l.fn.self.pairs.items → AllNumbered (FollowedUpTo l.setup h (finished h line) l.i) l.self.followings.items;
 }
