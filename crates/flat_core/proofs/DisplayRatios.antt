@@ -1,5 +1,7 @@
 -- The display's pixel ratios that a board keeps: what is told of the display, and what it asks for.
-use Rattle.std.proofs.Common.{◌≡◌, ◌∙◌, ◌≤◌, Bool, List, ap, subst, sym}
+use Rattle.std.proofs.Common.{◌≡◌, ◌∙◌, ℕ, ◌≤◌, Bool, false, List, ap, arith, subst, sym}
+use Rattle.std.specs.Prelude.{◌==◌, not}
+use Rattle.std.proofs.lemmas.Bool.Decides.{nat_tests}
 use Rattle.flat_base.specs.declared.limits.TheConstants.{RATIO_MIN}
 use Rattle.flat_scene.specs.declared.journal.Entry.{Entry}
 use Rattle.flat_scene.specs.declared.setup.Setup.{Setup}
@@ -24,3 +26,7 @@ port-kept setup h ratios port kept is = is ∙ ap (λ (r : Ratios). port_of r.fi
 -- the ratio that is told isn't too small
 pub finished-least : (setup : Setup) (h : List Entry) (ratios : Ratios) → ratios ≡ ratios_of setup h → Legal setup h → HasDisplay setup → RATIO_MIN ≤ ratios.finished
 finished-least setup h ratios kept legal display = subst (λ (r : Ratios). RATIO_MIN ≤ r.finished) (sym kept) (told-least setup h legal display)
+
+-- a number that doesn't differ is the same
+pub same-number : (m n : ℕ) → not (m == n) ≡ false → m ≡ n
+same-number m n same = grind (arith, nat_tests)

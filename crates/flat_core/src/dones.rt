@@ -1,8 +1,12 @@
-ghost use Rattle.std.specs.Prelude.{◌≡◌, true, ◌+◌, ◌-◌, ◌^◌, ◌<◌, ◌≤◌, ◌||◌, ◌++◌, [], cond};
-ghost use Rattle.std.specs.Prelude.{nat_lt, length, map, sum_by, All};
+ghost use Rattle.std.specs.Prelude.{◌≡◌, true, false, ◌+◌, ◌-◌, ◌^◌, ◌<◌, ◌≤◌, ◌||◌, ◌++◌, [], cond};
+ghost use Rattle.std.specs.Prelude.{nat_lt, not, length, map, sum_by, All};
 ghost use Rattle.std.specs.List.{list_any};
 ghost use Rattle.flat_base.specs.declared.ids.Actor.TheVariants.{Display};
 ghost use Rattle.flat_base.specs.declared.ids.FenceNo.{FenceNo};
+ghost use Rattle.flat_base.specs.declared.ids.SessionNo.{SessionNo};
+ghost use Rattle.flat_base.specs.declared.limits.TheConstants.{SESSIONS_MAX};
+ghost use Rattle.flat_topology.specs.Views.{is_member};
+ghost use Rattle.flat_links.specs.Hearing.{TellsTheSame};
 ghost use Rattle.flat_fence.specs.Fences.{has};
 ghost use Rattle.flat_scene.specs.declared.journal.Kind.TheVariants.{Finish};
 ghost use Rattle.flat_scene.specs.Frames.{going, is_among, is_released_by, sessions_to, taken};
@@ -25,7 +29,7 @@ use flat_fence::FenceSet;
 use flat_gets::telling::Tells;
 use flat_gets::watching::Watchers;
 use flat_links::viewports::Viewports;
-use flat_scene::{Event, Post, Setup};
+use flat_scene::{Event, Post, SessionSet, Setup};
 use flat_states::log::Log;
 use flat_states::state::SessionState;
 
@@ -121,12 +125,22 @@ fn done_one(
     presented + back
 }
 
-/// What the end of a frame does for one session: its gets are answered, and then it
-/// hears of the frame and of its tokens. Answers how many events it posts.
+/// Whether a session is passed over when gets are answered: it is closed, or hears nothing
+/// anew.
+fn is_passed(closed: bool, hears: bool) -> bool
+    ensures { result ≡ (closed || not hears) }
+{
+    closed || !hears
+}
+
+/// What the end of a frame does for one session: its gets are answered, where it may hear
+/// something anew, and then it hears of the frame and of its tokens. Answers how many
+/// events it posts.
 fn finish_one<T: Tells>(
     setup: &Setup,
     line: u32,
     s: SessionNo,
+    hears: bool,
     state: &mut SessionState,
     ends: &mut Viewports,
     fences: &mut FenceSet,
@@ -137,6 +151,8 @@ fn finish_one<T: Tells>(
     requires legal { Legal setup.now log.old.history }
     requires may { MayEnter setup.now log.old.history Display [] Finish }
     requires tells { T.stands tells.now setup.now (finished log.old.history line) }
+    requires others { hears ≡ false → TellsTheSame setup.now log.old.history
+        (finished log.old.history line) s }
     requires some { 0 < s.0 }
     requires few { s.0 ≤ setup.now.sessions }
     requires place { length log.old.history < 2 ^ 32 - 1 }
@@ -169,14 +185,17 @@ fn finish_one<T: Tells>(
     ensures due { due state.new + due_back ends.new + due_told watchers.new
         + result ≤ due state.old + due_back ends.old + due_told watchers.old }
 {
-    let told = watchers.settle(s, state.closed, tells, log);
+    let passed = is_passed(state.closed, hears);
+    let told = watchers.settle(s, passed, tells, log);
     told + done_one(setup, line, s, state, ends, fences, log)
 }
 
-/// What the end of a frame does for all sessions. Answers how many events it posts.
+/// What the end of a frame does for all sessions, of which these may hear something anew.
+/// Answers how many events it posts.
 pub fn done_all<T: Tells>(
     setup: &Setup,
     line: u32,
+    heard: SessionSet,
     fences: &mut FenceSet,
     sessions: &mut Vec<SessionState>,
     ends: &mut Vec<Viewports>,
@@ -185,6 +204,9 @@ pub fn done_all<T: Tells>(
     log: &mut Log,
 ) -> usize
     requires tells { T.stands tells.now setup.now (finished log.old.history line) }
+    requires within { setup.now.sessions ≤ SESSIONS_MAX }
+    requires others { (s : SessionNo) → is_declared setup.now s ≡ true → is_member heard s.0 ≡ false
+        → TellsTheSame setup.now log.old.history (finished log.old.history line) s }
     requires watched { AreWatched setup.now log.old.history watchers.old }
     requires legal { Legal setup.now log.old.history }
     requires may { MayEnter setup.now log.old.history Display [] Finish }
@@ -224,6 +246,7 @@ pub fn done_all<T: Tells>(
             setup,
             line,
             SessionNo(i + 1),
+            heard.has[i as usize],
             state,
             one,
             fences,

@@ -21,6 +21,9 @@ use Rattle.flat_gets.specs.declared.pair.PairWatchers.{PairWatchers}
 use Rattle.flat_gets.specs.Gets.{hears}
 use Rattle.flat_gets.specs.Pairs.{AreAt, former_gets, still_waiting}
 use Rattle.flat_gets.specs.Watchers.{reached}
+use Rattle.flat_facts.proofs.lemmas.ViewHistory.{same-session}
+use Rattle.flat_links.specs.Hearing.{TellsTheSame}
+use Rattle.flat_rules.proofs.lemmas.Still.{rests}
 use Rattle.flat_gets.proofs.GetHistory.{hears-open}
 use Rattle.flat_gets.proofs.GetSteps.{idle-kind}
 use Rattle.flat_gets.proofs.WatchFacts.{heard-shut, no-use, rests-shut, undeclared-waits}
@@ -72,6 +75,14 @@ module _ (setup : Setup) (h : List Entry) (line : ℕ) (legal : Legal setup (fin
   pub same-uses : (p : PairNo) → length (viewport_uses p k) ≡ length (viewport_uses p h)
   same-uses p = no-use setup h (finish_entry line) legal refl p
 
+  -- a watcher that is told nothing anew stays as it is
+  pub rests-told : (s : SessionNo) → TellsTheSame setup h k s → (w : Watcher) → hears setup s w ≡ true → watching setup w k ≡ watching setup w h
+  rests-told s same w heard = rests setup w h (finish_entry line) (same w (heard-by s (listener setup w) heard)) (idle w)
+    where
+      heard-by : (s : SessionNo) (o : Option Actor) → unwrap_or (option_map (is_session s) o) false ≡ true → o ≡ Some (Session s)
+      heard-by s None is = let wrong : false ≡ true = is in cc
+      heard-by s (Some who) is = ap (λ (a : Actor). Some a) (same-session s who is)
+
   -- ---- all were told
 
   reach-last : (w : Watcher) (o : Option Actor) → listener setup w ≡ o → watching setup w (reached setup.sessions o k h) ≡ watching setup w k
@@ -110,6 +121,21 @@ module _ (setup : Setup) (h : List Entry) (line : ℕ) (legal : Legal setup (fin
     at-passed closed p x is =
         at-moved setup (reached n (listener setup (layout_of p)) k h) (reached n (viewport_owner setup p) k h) (reached (n + 1) (listener setup (layout_of p)) k h) (reached (n + 1) (viewport_owner setup p) k h) p x
         (pass-one closed (layout_of p)) (pass-one closed (status_of p)) (λ j. pass-one closed (child_of p j))
+        (reached-uses setup n (viewport_owner setup p) k h p (same-uses p) ∙ sym (reached-uses setup (n + 1) (viewport_owner setup p) k h p (same-uses p))) is
+
+    -- or is told nothing anew
+    keep-one : TellsTheSame setup h k s → (w : Watcher) → watching setup w (reached n (listener setup w) k h) ≡ watching setup w (reached (n + 1) (listener setup w) k h)
+    keep-one same w = by_heard (hears setup s w) refl
+      where
+        by_heard : (b : Bool) → hears setup s w ≡ b → watching setup w (reached n (listener setup w) k h) ≡ watching setup w (reached (n + 1) (listener setup w) k h)
+        by_heard true heard = ap (watching setup w) (reach-before n s next k h (listener setup w) heard) ∙ sym (rests-told s same w heard) ∙ ap (watching setup w) (sym (reach-after n s next k h (listener setup w) heard))
+        by_heard false other = ap (watching setup w) (reach-other n s next k h (listener setup w) other)
+
+    pub at-kept : TellsTheSame setup h k s → (p : PairNo) (x : PairWatchers) → AreAt setup (reached n (listener setup (layout_of p)) k h) (reached n (viewport_owner setup p) k h) p x
+        → AreAt setup (reached (n + 1) (listener setup (layout_of p)) k h) (reached (n + 1) (viewport_owner setup p) k h) p x
+    at-kept same p x is =
+        at-moved setup (reached n (listener setup (layout_of p)) k h) (reached n (viewport_owner setup p) k h) (reached (n + 1) (listener setup (layout_of p)) k h) (reached (n + 1) (viewport_owner setup p) k h) p x
+        (keep-one same (layout_of p)) (keep-one same (status_of p)) (λ j. keep-one same (child_of p j))
         (reached-uses setup n (viewport_owner setup p) k h p (same-uses p) ∙ sym (reached-uses setup (n + 1) (viewport_owner setup p) k h p (same-uses p))) is
 
     -- or open, and is told

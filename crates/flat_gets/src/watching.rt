@@ -262,34 +262,34 @@ impl Watchers {
     }
 
     /// Answers the gets of a session that wait and for which there is news, unless it is
-    /// closed. It looks at the pairs that are listed alone. Answers how many. It takes no
-    /// memory.
+    /// passed over. It looks at the pairs that are listed alone. Answers how many. It
+    /// takes no memory.
     pub fn settle<T: Tells>(
         &mut self,
         s: SessionNo,
-        closed: bool,
+        is_passed: bool,
         tells: &T,
         log: &mut Log,
     ) -> usize
         requires watched { (setup : Setup) × ((n : ℕ) × ((after : List Entry)
             × ((before : List Entry) × WatchedUpTo setup n after before self.old))) }
-        requires some { closed ≡ false → 0 < s.0 }
-        requires within { closed ≡ false → s.0 ≤ length self.old.sessions.items }
+        requires some { is_passed ≡ false → 0 < s.0 }
+        requires within { is_passed ≡ false → s.0 ≤ length self.old.sessions.items }
         requires place { length log.old.history < 2 ^ 32 }
         requires room { due_told self.old ≤ log.old.post_room }
         requires few { told_and_due self.old < 2 ^ 32 - 1 }
-        ensures settled { closed ≡ false → (setup : Setup) (history : List Entry) →
+        ensures settled { is_passed ≡ false → (setup : Setup) (history : List Entry) →
             T.stands tells.now setup history → IsSettled (told setup history)
             (length log.old.history) s self.old self.new log.old.posts log.new.posts result }
-        ensures same { closed ≡ true → self.new ≡ self.old }
-        ensures none { closed ≡ true → (result ≡ 0) × (log.new.posts ≡ log.old.posts) }
+        ensures same { is_passed ≡ true → self.new ≡ self.old }
+        ensures none { is_passed ≡ true → (result ≡ 0) × (log.new.posts ≡ log.old.posts) }
         ensures due { due_told self.new + result ≡ due_told self.old }
         ensures count { length log.new.posts ≡ length log.old.posts + result }
         ensures history { log.new.history ≡ log.old.history }
         ensures room { log.new.room ≡ log.old.room }
         ensures post_room { log.new.post_room + result ≡ log.old.post_room }
     {
-        if closed {
+        if is_passed {
             return 0;
         }
         let place = s.0 as usize - 1;

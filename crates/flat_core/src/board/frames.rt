@@ -101,8 +101,9 @@ impl Board {
         ensures entry { self.new ≡ entered self.old Display line [] Finish Done }
         ensures frame { result.0 ≡ frames self.new.history }
     {
-        self.ties.finish(&self.setup);
+        let before = self.clock.ratios.finished;
         let ratios = self.clock.ratios.finish();
+        let heard = self.ties.finish(&self.setup, ratios.finished != before);
         let telling = Telling {
             setup: &self.setup,
             port: port_of(ratios.finished, &self.setup),
@@ -112,6 +113,7 @@ impl Board {
         let count = done_all(
             &self.setup,
             line,
+            heard,
             &mut self.fences,
             &mut self.sessions,
             &mut self.viewports,

@@ -1,5 +1,5 @@
 -- What is kept of all gets, entry by entry.
-use Rattle.std.proofs.Common.{◌≡◌, ◌≢◌, ◌∙◌, sym, subst, ℕ, ◌+◌, ◌-◌, ◌<◌, ◌≤◌, ◌^◌, true, false, List, [], ◌∷◌, ◌++◌, length, map, refl, arith, ap, All, slice_index_or, inl, inr, ◌⊎◌}
+use Rattle.std.proofs.Common.{◌≡◌, ◌≢◌, ◌∙◌, sym, subst, ℕ, ◌+◌, ◌-◌, ◌<◌, ◌≤◌, ◌^◌, true, false, List, [], ◌∷◌, ◌++◌, length, map, refl, arith, ap, All, slice_index_or, inl, inr, ◌⊎◌, None}
 use Rattle.std.specs.Prelude.{cond, nat_lt, sum_by, ◌==◌}
 use Rattle.std.proofs.lemmas.Bool.Decides.{eqb_tells}
 use Rattle.std.proofs.lemmas.List.{length-set}
@@ -22,7 +22,7 @@ use Rattle.flat_states.specs.Machines.{Machine, MayCall}
 use Rattle.flat_facts.proofs.lemmas.Between.{is_viewport}
 use Rattle.flat_states.proofs.lemmas.Steps.{legal-entered}
 use Rattle.flat_rules.specs.Ends.{viewport_owner, viewports_of, views_of}
-use Rattle.flat_rules.specs.Watch.{layout_of, listener, told}
+use Rattle.flat_rules.specs.Watch.{Watcher, asked, layout_of, listener, told, watching}
 use Rattle.flat_watch.specs.Cells.{new_cell}
 use Rattle.flat_states.proofs.lemmas.BeginLoop.{not-below, same-side, this-side}
 use Rattle.flat_states.proofs.lemmas.Counts.{at-session, same-number}
@@ -32,14 +32,15 @@ use Rattle.flat_rules.specs.Numbers.{number, AllNumbered}
 use Rattle.flat_gets.specs.declared.pair.PairWatchers.{PairWatchers}
 use Rattle.flat_gets.specs.declared.watching.Watchers.{Watchers}
 use Rattle.flat_gets.specs.Dues.{due_told}
-use Rattle.flat_gets.specs.Gets.{answers_to, helds_of}
+use Rattle.flat_gets.specs.Gets.{answers_to, hears, helds_of}
+use Rattle.flat_links.specs.Hearing.{TellsTheSame}
 use Rattle.flat_gets.specs.Listed.{AreListed, IsList, KeptGets, no_gets, view_waits, viewport_waits}
 use Rattle.flat_gets.specs.Pairs.{AreAt, IsUnasked, waiting_in}
 use Rattle.flat_gets.specs.Watchers.{AreWatched, IsSettled, WatchedUpTo, all_answers, answers_in, reached, told_and_due}
-use Rattle.flat_gets.proofs.FinishSteps.{at-last, at-passed, reached-none}
+use Rattle.flat_gets.proofs.FinishSteps.{at-kept, at-last, at-passed, reached-none, rests-told}
 use Rattle.flat_gets.proofs.SettledAt.{settled-at, settled-views, settled-viewports}
 use Rattle.flat_gets.proofs.SettledEvents.{settled-events}
-use Rattle.flat_gets.proofs.GetSteps.{answers-more, idle-kind, rests-between}
+use Rattle.flat_gets.proofs.GetSteps.{answers-more, idle-kind, quiet-all, rests-between}
 use Rattle.flat_gets.proofs.WatchFacts.{no-use}
 use Rattle.flat_gets.proofs.WatchLists.{Fewer, fewer-from, list-left, list-none, lists-fewer, unwaited}
 use Rattle.flat_states.proofs.lemmas.Changes.{changed-one}
@@ -171,6 +172,37 @@ module _ (setup : Setup) (h : List Entry) (line : ℕ) (legal : Legal setup (fin
           let shut : is_closed (number i) K ≡ true = ap (λ (t : SessionNo). is_closed t h) it ∙ closed in
           let within : nat_lt i (n + 1) ≡ true = ap (λ (m : ℕ). nat_lt i (m + 1)) (sym here.1) ∙ this-side i in
           rw within (was ∙ sym (answers-shut setup h (finish_entry line) legal (number i) shut refl))
+      by_place i d below (inr other) = rw (← same-side (s.0 - 1) i other.1) (are.answered i d below)
+
+  -- where it is told nothing anew: what is kept stays, and nothing is posted
+  pub watched-kept : (s : SessionNo) → 0 < s.0 → s.0 ≤ setup.sessions → is_closed s h ≡ false → TellsTheSame setup h K s → (watchers : Watchers) → WatchedUpTo setup (s.0 - 1) K h watchers
+      → WatchedUpTo setup s.0 K h watchers × (answers_to (told setup K) (helds_of setup h s) ≡ [])
+  watched-kept s some few opened same watchers are =
+      let n : ℕ = s.0 - 1 in
+      let next : s.0 ≡ n + 1 = omega (arith, some) in
+      let back : n + 1 ≡ s.0 = omega (arith, some) in (
+        subst (λ (m : ℕ). WatchedUpTo setup m K h watchers) back (record {
+          count = are.count;
+          sessions = are.sessions;
+          each = λ i d below. at-kept setup h line legal n s next same (pair i) (slice_index_or watchers.pairs.items i d) (are.each i d below);
+          answered = λ i d below. by_place i d below (eqb_tells i n);
+          listed = are.listed;
+          few = are.few;
+        }),
+        quiet-all setup h (finish_entry line) s opened rest,
+      )
+    where
+      rest : (w : Watcher) → hears setup s w ≡ true → (asked setup w h (finish_entry line) ≡ None) × (watching setup w K ≡ watching setup w h)
+      rest w heard = (idle-kind setup h (finish_entry line) refl w, rests-told setup h line legal s same w heard)
+
+      by_place : (i : ℕ) (d : KeptGets) → i < length watchers.sessions.items → ((i == (s.0 - 1)) ≡ true) × (i ≡ (s.0 - 1)) ⊎ ((i == (s.0 - 1)) ≡ false) × (i ≢ (s.0 - 1)) → Had (cond (nat_lt i (s.0 - 1 + 1)) K h) i (slice_index_or watchers.sessions.items i d)
+      by_place i d below (inl here) =
+          let n : ℕ = s.0 - 1 in
+          let was : Had h i (slice_index_or watchers.sessions.items i d) = rw (ap (nat_lt i) (sym here.1) ∙ not-below i) at (are.answered i d below) in
+          let it : number i ≡ s = ap number here.1 ∙ same-number s some in
+          let within : nat_lt i (n + 1) ≡ true = ap (λ (m : ℕ). nat_lt i (m + 1)) (sym here.1) ∙ this-side i in
+          let mine : answers setup s K ≡ answers setup s h = answers-rest setup h (finish_entry line) legal s refl rest in
+          rw within (was ∙ ap (λ (t : SessionNo). answers setup t h) it ∙ sym mine ∙ ap (λ (t : SessionNo). answers setup t K) (sym it))
       by_place i d below (inr other) = rw (← same-side (s.0 - 1) i other.1) (are.answered i d below)
 
   -- and where it is open, and was told: what is kept then, and the posts

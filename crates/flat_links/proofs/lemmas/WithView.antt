@@ -77,7 +77,7 @@ view-kept setup h s state pairs legal tied kept =
     by_closed true shut = rw shut refl
     by_closed false opened = rw opened (unseen-is setup h s pairs tied opened (last_view s h) (λ q is. ((viewing-of setup s h legal opened).made q is).0))
 
-member-at : (set : SessionSet) (n : ℕ) → 0 < n → is_member set n ≡ slice_index_or set.has (n - 1) false
+pub member-at : (set : SessionSet) (n : ℕ) → 0 < n → is_member set n ≡ slice_index_or set.has (n - 1) false
 member-at set zero some = absurd (omega (arith, some))
 member-at set (suc n) some = let less : suc n - 1 ≡ n = omega arith in ap (λ (k : ℕ). slice_index_or set.has k false) (sym less)
 

@@ -64,7 +64,7 @@ module _ (setup : Setup) where
   -- ---- watchers
 
   -- a watcher that isn't asked and hears nothing new stays as it is
-  rests : (watcher : Watcher) (before : List Entry) (e : Entry) → told setup (before ▹ e) watcher ≡ told setup before watcher → asked setup watcher before e ≡ None
+  pub rests : (watcher : Watcher) (before : List Entry) (e : Entry) → told setup (before ▹ e) watcher ≡ told setup before watcher → asked setup watcher before e ≡ None
       → watching setup watcher (before ▹ e) ≡ watching setup watcher before
   rests watcher before e same unasked =
       let w : Watching = watching setup watcher before in

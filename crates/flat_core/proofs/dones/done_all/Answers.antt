@@ -1,4 +1,11 @@
-use Rattle.std.proofs.Common.{◌≡◌, refl, ℕ, ◌+◌, ◌<◌, List, length, arith, ◌∙◌, ap, subst}
+use Rattle.std.proofs.Common.{◌≡◌, refl, ℕ, ◌+◌, ◌-◌, ◌<◌, List, length, arith, ◌∙◌, ap, subst, sym, true, false, slice_index_or}
+use Rattle.std.specs.Prelude.{nat_lt, nat_le}
+use Rattle.std.proofs.lemmas.Bool.Decides.{nat_tests}
+use Rattle.flat_base.specs.declared.ids.SessionNo.{SessionNo}
+use Rattle.flat_scene.specs.Setups.{is_declared}
+use Rattle.flat_topology.specs.Views.{is_member}
+use Rattle.flat_links.specs.Hearing.{TellsTheSame}
+use Rattle.flat_links.proofs.lemmas.WithView.{member-at}
 use Rattle.flat_scene.specs.declared.journal.Entry.{Entry}
 use Rattle.std.proofs.lemmas.List.{length-set}
 use Rattle.std.proofs.lemmas.List.Sums.{sum_by-set}
@@ -12,6 +19,20 @@ use Rattle.flat_states.proofs.lemmas.BeginLoop.{posts-next}
 use Rattle.flat_gets.proofs.lemmas.DoneSteps.{EndsOf, done-next, members-next, up-next}
 use Rattle.flat_gets.proofs.lemmas.WatchingSteps.{watched-last}
 use Rattle.flat_core.proofs.dones.done_all.Goals as goal
+
+pub finish_one-count-requires-clause-others : goal.finish_one-count-requires-clause-others
+finish_one-count-requires-clause-others g c out =
+    let setup = c.args.setup.now in
+    let i = c.loop-i.i in
+    let s : SessionNo = record { 0 = i + 1 } in
+    let below : i < setup.sessions = c.loop-i-test.true in
+    let first : nat_lt 0 (i + 1) ≡ true = grind (arith, nat_tests) in
+    let last : nat_le (i + 1) setup.sessions ≡ true = grind (arith, nat_tests) in
+    let declared : is_declared setup s ≡ true = rw (first, last) refl in
+    let some : 0 < i + 1 = omega arith in
+    let place : i + 1 - 1 ≡ i = omega arith in
+    let unheard : is_member c.args.heard s.0 ≡ false = member-at c.args.heard (i + 1) some ∙ ap (λ (n : ℕ). slice_index_or c.args.heard.has n false) place ∙ out in
+    subst (λ (h : List Entry). TellsTheSame setup h (finished h c.args.line) s) (sym c.loop-i.invariant.history) (c.requires.others s declared unheard)
 
 pub loop-i-preserved : goal.loop-i-preserved
 loop-i-preserved g c =

@@ -25,7 +25,7 @@ tell_each-layouts-requires-clause-known g c =
     let w = c.requires.watched in
     let own = c.args.self.now in
     let from = c.index_mut-session.result.now in
-    let lists = own-lists w.0 w.1.0 w.1.1.0 w.1.1.1.0 own w.1.1.1.1 c.args.s from (c.requires.some c.if-closed.false) (c.requires.within c.if-closed.false) c.index_mut-session.ensures.value in
+    let lists = own-lists w.0 w.1.0 w.1.1.0 w.1.1.1.0 own w.1.1.1.1 c.args.s from (c.requires.some c.if-is_passed.false) (c.requires.within c.if-is_passed.false) c.index_mut-session.ensures.value in
     subst (λ (l : List PairNo). All (λ q. q.0 < length own.pairs.items) l) (sym c.views.ensures.value) (views-known w.0 c.args.s (length own.pairs.items) (sym w.1.1.1.1.count) own.pairs.items from lists)
 
 pub tell_each-statuses-requires-clause-known : goal.tell_each-statuses-requires-clause-known
@@ -33,7 +33,7 @@ tell_each-statuses-requires-clause-known g c =
     let w = c.requires.watched in
     let own = c.args.self.now in
     let from = c.index_mut-session.result.now in
-    let lists = own-lists w.0 w.1.0 w.1.1.0 w.1.1.1.0 own w.1.1.1.1 c.args.s from (c.requires.some c.if-closed.false) (c.requires.within c.if-closed.false) c.index_mut-session.ensures.value in
+    let lists = own-lists w.0 w.1.0 w.1.1.0 w.1.1.1.0 own w.1.1.1.1 c.args.s from (c.requires.some c.if-is_passed.false) (c.requires.within c.if-is_passed.false) c.index_mut-session.ensures.value in
     let n = length c.tell_each-layouts.new.pairs.items in
     subst (λ (l : List PairNo). All (λ q. q.0 < n) l) (sym c.views-2.ensures.value) (views-known w.0 c.args.s n (sym w.1.1.1.1.count ∙ sym c.tell_each-layouts.ensures.count) own.pairs.items from lists)
 
@@ -42,7 +42,7 @@ tell_each-children-requires-clause-known g c =
     let w = c.requires.watched in
     let own = c.args.self.now in
     let from = c.index_mut-session.result.now in
-    let lists = own-lists w.0 w.1.0 w.1.1.0 w.1.1.1.0 own w.1.1.1.1 c.args.s from (c.requires.some c.if-closed.false) (c.requires.within c.if-closed.false) c.index_mut-session.ensures.value in
+    let lists = own-lists w.0 w.1.0 w.1.1.0 w.1.1.1.0 own w.1.1.1.1 c.args.s from (c.requires.some c.if-is_passed.false) (c.requires.within c.if-is_passed.false) c.index_mut-session.ensures.value in
     let n = length c.tell_each-statuses.new.pairs.items in
     subst (λ (l : List PairNo). All (λ q. q.0 < n) l) (sym c.viewports.ensures.value) (viewports-known w.0 c.args.s n (sym w.1.1.1.1.count ∙ sym c.tell_each-layouts.ensures.count ∙ sym c.tell_each-statuses.ensures.count) own.pairs.items from lists)
 
