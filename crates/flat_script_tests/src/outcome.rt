@@ -39,7 +39,8 @@ pub fn outcome_of(
     Ok(outcome(alloc, text.as_slice()))
 }
 
-fn push_times(text: &mut Vec<u8>, rest: &str, times: u32) -> Result<(), AllocError> {
+/// So many times the same text more.
+pub fn push_times(text: &mut Vec<u8>, rest: &str, times: u32) -> Result<(), AllocError> {
     for _ in 0..times {
         text.extend_from_slice(rest.as_bytes())?;
     }

@@ -1,8 +1,16 @@
-//! Tests of the stage: seats on threads of their own, and the pixel ratios of frames.
+//! Tests of what runs on threads below the program: the lock, published frames with probes
+//! beside them, and the stage with its seats. They ask what no contract says, and what no
+//! worked case on the program reaches.
 #![tactic(auto)]
 
 #[cfg(test)]
 mod cast;
+#[cfg(test)]
+mod journal;
+#[cfg(test)]
+mod lock;
+#[cfg(test)]
+mod probes;
 #[cfg(test)]
 mod ratios;
 #[cfg(test)]

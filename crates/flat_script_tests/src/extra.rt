@@ -1,3 +1,4 @@
+use crate::outcome::push_times;
 use flat_base::{NoMemory, SCRIPT_BYTES_MAX};
 use flat_extra::{ExtraSet, parse_focus, parse_pointers, split_text};
 use flat_pointer::{PointerCall, PointerLine};
@@ -93,13 +94,6 @@ fn outcome_of(
     push_times(&mut text, before, 1)?;
     push_times(&mut text, rest, times)?;
     Ok(outcome(alloc, set, text.as_slice()))
-}
-
-fn push_times(text: &mut Vec<u8>, rest: &str, times: u32) -> Result<(), AllocError> {
-    for _ in 0..times {
-        text.extend_from_slice(rest.as_bytes())?;
-    }
-    Ok(())
 }
 
 /// The first of the cases that has another outcome, and which.
