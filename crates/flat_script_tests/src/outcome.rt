@@ -10,7 +10,9 @@ pub type Case = (&'static str, u32, u32);
 
 fn count_of(alloc: Global, text: &[u8]) -> Result<u32, ScriptError> {
     let script = parse(alloc, text)?;
-    Ok(script.count)
+    let count = script.count;
+    drop(script);
+    Ok(count)
 }
 
 /// What follows a head, and the outcome of the text.

@@ -1,4 +1,4 @@
-ghost use Rattle.std.specs.Prelude.{◌≡◌, IfOk};
+ghost use Rattle.std.specs.Prelude.{◌≡◌};
 
 use crate::frames::{frame, tree, two_names};
 use flat_base::{Items, NoMemory, SessionNo};
@@ -138,28 +138,27 @@ fn text_without_lines(rt: HostRuntime) -> Result<(), Fail> {
 }
 
 /// A line of pointer 3, and whom its point hits.
-fn touch(alloc: Global, number: u32, call: PointerCall, sessions: &[u32]) -> Result<Touch, NoMemory>
-    ensures { IfOk result (λ touch. touch.line.pointer ≡ 3) }
+fn touch(number: u32, call: PointerCall, hits: HitList) -> Touch
+    ensures { result.line.pointer ≡ 3 }
 {
     let line = PointerLine {
         number,
         pointer: 3,
         call,
     };
-    Ok(Touch {
-        line,
-        hits: hits(alloc, sessions)?,
-    })
+    Touch { line, hits }
 }
 
 /// The pointer text of four lines, and of two frames that were finished behind the seventh
 /// line and the eleventh.
 fn text_of_four(alloc: Global, names: &NameList, frames: &[FrameOut]) -> Result<Vec<u8>, NoMemory> {
+    let both = hits(alloc, &[2, 1])?;
+    let one = hits(alloc, &[1])?;
     let touches = [
-        touch(alloc, 8, PointerCall::Down { x: 5, y: 5 }, &[2, 1])?,
-        touch(alloc, 9, PointerCall::Move { x: 3, y: -4 }, &[])?,
-        touch(alloc, 10, PointerCall::Down { x: 1, y: 1 }, &[1])?,
-        touch(alloc, 12, PointerCall::Up, &[])?,
+        touch(8, PointerCall::Down { x: 5, y: 5 }, both),
+        touch(9, PointerCall::Move { x: 3, y: -4 }, Items::new(alloc)),
+        touch(10, PointerCall::Down { x: 1, y: 1 }, one),
+        touch(12, PointerCall::Up, Items::new(alloc)),
     ];
     print_pointers(alloc, names, &[7, 11], frames, &touches)
 }

@@ -70,7 +70,9 @@ fn is_reprinted(
     canonical: &str,
 ) -> Result<Result<bool, NoMemory>, ScriptError> {
     let script = parse(alloc, text.as_bytes())?;
-    Ok(is_printed(alloc, &script, canonical))
+    let is_printed = is_printed(alloc, &script, canonical);
+    drop(script);
+    Ok(is_printed)
 }
 
 /// The first of the texts of which something else is printed.

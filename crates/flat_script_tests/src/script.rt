@@ -39,7 +39,9 @@ fn told(script: &Script) -> ([u32; 4], [usize; 3], bool) {
 
 fn told_of(alloc: Global, text: &str) -> Result<([u32; 4], [usize; 3], bool), ScriptError> {
     let script = parse(alloc, text.as_bytes())?;
-    Ok(told(&script))
+    let told = told(&script);
+    drop(script);
+    Ok(told)
 }
 
 #[test]
