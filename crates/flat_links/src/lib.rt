@@ -1,10 +1,11 @@
 //! What a board keeps of the pairs that link its sessions: the viewports that live and the
-//! tokens that are out (viewports), and by what the ends of pairs are told (ties). What an
+//! tokens that are out (viewports), and by what the ends of pairs are told (ties);
+//! and which sessions have a view (with_view). What an
 //! entry of a session does to both stands in entries.rt. Each part stands for a history by
 //! a record of its own (specs/).
 //!
-//! Other crates may cite the lemmas of proofs/lemmas/, which are of pairs and ties:
-//! PairIdle, PairSteps, TiesSteps.
+//! Other crates may cite the lemmas of proofs/lemmas/, which are of pairs and ties
+//! (PairIdle, PairSteps, TiesSteps) and of sessions that have a view (WithView).
 #![tactic(auto)]
 
 mod clears;
