@@ -6,7 +6,7 @@ ghost use Rattle.flat_damage.specs.Damage.{IsDamage};
 ghost use Rattle.flat_scene.specs.declared.frames.FrameOut.{FrameOut};
 ghost use Rattle.flat_page.specs.Pages.{Writes, WritesLines};
 ghost use Rattle.flat_page.specs.Words.{number};
-ghost use Rattle.flat_texts.specs.Damages.{IsDamageText, IsFound, damaged_lines, damaged_text};
+ghost use Rattle.flat_texts.specs.Damages.{AreDamaged, IsDamageText, IsFound, damaged_lines, damaged_text};
 ghost use Rattle.flat_texts.specs.Damages.{end_line, rect_line};
 ghost use Rattle.flat_texts.specs.Pictures.{list_of};
 
@@ -63,17 +63,25 @@ impl FrameDamages {
         }
     }
 
+    /// Finds what changes with the next frame.
+    fn note(&mut self, frame: &FrameOut) -> Result<(), NoMemory>
+        ensures { (frames : List FrameOut) → IsFound frames self.old →
+            OnOk result (AreDamaged [] (frames ++ frame.now ∷ []) self.new.damaged.items) }
+    {
+        let rects = damage_since(self.alloc, self.last.as_ref(), frame)?;
+        self.damaged.push(Damaged {
+            frame: frame.frame,
+            rects,
+        })?;
+        Ok(())
+    }
+
     /// Finds what changes with the next frame, which is kept until the one after it.
     pub fn push(&mut self, frame: FrameOut) -> Result<(), NoMemory>
         ensures { (frames : List FrameOut) → IsFound frames self.old →
             OnOk result (IsFound (frames ++ frame ∷ []) self.new) }
     {
-        let rects = damage_since(self.alloc, self.last.as_ref(), &frame)?;
-        let frame_no = frame.frame;
-        self.damaged.push(Damaged {
-            frame: frame_no,
-            rects,
-        })?;
+        self.note(&frame)?;
         self.last = Some(frame);
         Ok(())
     }
