@@ -162,6 +162,20 @@ viewport_owned s a w p is =
     let owns = owned_owns s.pairs s.setup.pairs (λ d. is_actor (Session a) d.viewport) w n.a n.given in
     ap (owns_viewport s.setup a) (sym n.value) ∙ viewport_owner_is a (slice_get s.setup.pairs n.a) owns
 
+-- what five steps made, each of which gave what the one before it made one word more
+gathered : {A B C D E F : Type 0} (f : A → B → C → D → E → F) (a : A) (g : B → C → D → E → F) (b : B) (h : C → D → E → F) (c : C) (k : D → E → F) (d : D) (l : E → F) (e : E) (made : F)
+    → f a ≡ g → g b ≡ h → h c ≡ k → k d ≡ l → l e ≡ made → f a b c d e ≡ made
+gathered f a g b h c k d l e made first second third fourth fifth =
+    ap (λ x. x b c d e) first ∙ ap (λ x. x c d e) second ∙ ap (λ x. x d e) third ∙ ap (λ x. x e) fourth ∙ fifth
+
+-- a call that stands for another in a line is it
+line_of : (made given : Call) (read : Line) → made ≡ given → line.Call given ≡ read → line.Call made ≡ read
+line_of made given read same is = ap line.Call same ∙ is
+
+viewport_from : (setup : Setup) (a : SessionNo) (c d : ContentId) (p q : PairNo) (w h k n : ℕ) (i j : Inset) → line.Call (call.CreateViewport d q k n j) ≡ line.Call (call.CreateViewport c p w h i)
+    → owns_viewport setup a q ≡ true → owns_viewport setup a p ≡ true
+viewport_from setup a c d p q w h k n i j same owns = let e : q ≡ p = cc in ap (owns_viewport setup a) (sym e) ∙ owns
+
 viewport_played : (s : Script) (a : SessionNo) (c : ContentId) (p : PairNo) (w h : ℕ) (i : Inset) (words : List Word)
     → mapped line.Call (whole (call_form s a CreateViewport) words) ≡ Ok (line.Call (call.CreateViewport c p w h i)) → owns_viewport s.setup a p ≡ true
 viewport_played s a c p w h i words is =
@@ -172,11 +186,10 @@ viewport_played s a c p w h i words is =
     let p3 = apply_ok (g <$> content <*> viewport_end s a) u32 words p4.g p4.mid p4.first in
     let p2 = apply_ok (g <$> content) (viewport_end s a) words p3.g p3.mid p3.first in
     let p1 = map_ok g content words p2.g p2.mid p2.first in
-    let q = place_ok _ _ p2.a p3.mid p2.second in
-    let made : g p1.a p2.a p3.a p4.a p5.a ≡ m.a = ap (λ f. f p2.a p3.a p4.a p5.a) p1.value ∙ ap (λ f. f p3.a p4.a p5.a) p2.value ∙ ap (λ f. f p4.a p5.a) p3.value ∙ ap (λ f. f p5.a) p4.value ∙ p5.value in
-    let l : line.Call m.a ≡ line.Call (call.CreateViewport c p w h i) = m.value in
-    let e : p2.a ≡ p = cc in
-    ap (owns_viewport s.setup a) (sym e) ∙ viewport_owned s a q.word p2.a q.passes
+    let q = place_ok _ p2.mid p2.a p3.mid p2.second in
+    let made : g p1.a p2.a p3.a p4.a p5.a ≡ m.a = gathered g p1.a p2.g p2.a p3.g p3.a p4.g p4.a p5.g p5.a m.a p1.value p2.value p3.value p4.value p5.value in
+    viewport_from s.setup a c p1.a p p2.a w h p3.a p4.a i (inset_or_none p5.a)
+    (line_of (g p1.a p2.a p3.a p4.a p5.a) m.a (line.Call (call.CreateViewport c p w h i)) made m.value) (viewport_owned s a q.word p2.a q.passes)
 
 buffers_owner_is : (a : SessionNo) (o : Option BufferDecl) → option_map_or (λ d. is_actor (Session a) (Session d.owner)) o false ≡ true → unwrap_or (option_map (λ d. d.owner.0 == a.0) o) false ≡ true
 buffers_owner_is a None is = absurd (cc)
@@ -189,6 +202,10 @@ collection_owned s a w b is =
     let owns = owned_owns s.buffers s.setup.buffers (λ d. is_actor (Session a) (Session d.owner)) w n.a n.given in
     ap (owns_buffers s.setup a) (sym n.value) ∙ buffers_owner_is a (slice_get s.setup.buffers n.a) owns
 
+image_from : (setup : Setup) (a : SessionNo) (c d : ContentId) (b q : BufferNo) (i w h j k n : ℕ) → line.Call (call.CreateImage d q j k n) ≡ line.Call (call.CreateImage c b i w h)
+    → owns_buffers setup a q ≡ true → owns_buffers setup a b ≡ true
+image_from setup a c d b q i w h j k n same owns = let e : q ≡ b = cc in ap (owns_buffers setup a) (sym e) ∙ owns
+
 image_played : (s : Script) (a : SessionNo) (c : ContentId) (b : BufferNo) (i w h : ℕ) (words : List Word)
     → mapped line.Call (whole (call_form s a CreateImage) words) ≡ Ok (line.Call (call.CreateImage c b i w h)) → owns_buffers s.setup a b ≡ true
 image_played s a c b i w h words is =
@@ -199,11 +216,10 @@ image_played s a c b i w h words is =
     let p3 = apply_ok (g <$> content <*> collection s a) u32 words p4.g p4.mid p4.first in
     let p2 = apply_ok (g <$> content) (collection s a) words p3.g p3.mid p3.first in
     let p1 = map_ok g content words p2.g p2.mid p2.first in
-    let q = place_ok _ _ p2.a p3.mid p2.second in
-    let made : g p1.a p2.a p3.a p4.a p5.a ≡ m.a = ap (λ f. f p2.a p3.a p4.a p5.a) p1.value ∙ ap (λ f. f p3.a p4.a p5.a) p2.value ∙ ap (λ f. f p4.a p5.a) p3.value ∙ ap (λ f. f p5.a) p4.value ∙ p5.value in
-    let l : line.Call m.a ≡ line.Call (call.CreateImage c b i w h) = m.value in
-    let e : p2.a ≡ b = cc in
-    ap (owns_buffers s.setup a) (sym e) ∙ collection_owned s a q.word p2.a q.passes
+    let q = place_ok _ p2.mid p2.a p3.mid p2.second in
+    let made : g p1.a p2.a p3.a p4.a p5.a ≡ m.a = gathered g p1.a p2.g p2.a p3.g p3.a p4.g p4.a p5.g p5.a m.a p1.value p2.value p3.value p4.value p5.value in
+    image_from s.setup a c p1.a b p2.a i w h p3.a p4.a p5.a
+    (line_of (g p1.a p2.a p3.a p4.a p5.a) m.a (line.Call (call.CreateImage c b i w h)) made m.value) (collection_owned s a q.word p2.a q.passes)
 
 call_played : (s : Script) (a : SessionNo) (c : Call) → session_line s a (call_words s c) ≡ Ok (line.Call c) → is_played_call s.setup a c ≡ true
 call_played s a (call.CreateView p) is = view_played s a p is
@@ -296,6 +312,14 @@ fence_given s who h words v is =
 
 -- the other lines of a session
 
+-- what three steps made
+collected : {A B C D : Type 0} (f : A → B → C → D) (a : A) (g : B → C → D) (b : B) (h : C → D) (c : C) (made : D) → f a ≡ g → g b ≡ h → h c ≡ made → f a b c ≡ made
+collected f a g b h c made first second third = ap (λ x. x b c) first ∙ ap (λ x. x c) second ∙ third
+
+present_from : (setup : Setup) (a : SessionNo) (made given p : PresentArgs) → made ≡ given → line.Present given ≡ line.Present p → is_played_line setup a (line.Present made) ≡ true
+    → is_played_line setup a (line.Present p) ≡ true
+present_from setup a made given p same is owned = ap (is_played_line setup a) (sym (ap line.Present same ∙ is)) ∙ owned
+
 present_by : (s : Script) (a : SessionNo) (p : PresentArgs) (words : List Word) → whole (line.Present <$> present s a) words ≡ Ok (line.Present p) → is_played_line s.setup a (line.Present p) ≡ true
 present_by s a p words is =
     let lists : Form (List FenceNo × List FenceNo) = λ ws. (fence_lists (fence_word s (Session a)) ws, []) in
@@ -306,8 +330,8 @@ present_by s a p words is =
     let second = apply_ok (h <$> time) alone words third.g third.mid third.first in
     let first = map_ok h time words second.g second.mid second.first in
     let owned = lists_owned s a third.mid third.a third.second.value in
-    let args : h first.a second.a third.a ≡ whole_line.a = ap (λ g. g second.a third.a) first.value ∙ ap (λ g. g third.a) second.value ∙ third.value in
-    ap (is_played_line s.setup a) (sym (ap line.Present args ∙ whole_line.value)) ∙ owned
+    let args : h first.a second.a third.a ≡ whole_line.a = collected h first.a second.g second.a third.g third.a whole_line.a first.value second.value third.value in
+    present_from s.setup a (h first.a second.a third.a) whole_line.a p args whole_line.value owned
 
 signal_played : (s : Script) (a : SessionNo) (f : FenceNo) (words : List Word) → whole (line.Signal <$> fence s (Session a)) words ≡ Ok (line.Signal f) → owns_fence s.setup a f ≡ true
 signal_played s a f words is =
