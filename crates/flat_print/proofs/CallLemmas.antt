@@ -233,6 +233,22 @@ fence_words s a = record {
       p.begins ∙ ap (λ w. w ∷ rest) (fence_spelt s a p.word v p.passes);
 }
 
+-- what some steps made, each of which gave what the one before it made one argument more
+steps_2 : {A B C : Type 0} (f0 : A → B → C) (a0 : A) (f1 : B → C) (a1 : B) (made : C) → f0 a0 ≡ f1 → f1 a1 ≡ made → f0 a0 a1 ≡ made
+steps_2 f0 a0 f1 a1 made e0 e1 = ap (λ g. g a1) e0 ∙ e1
+
+steps_3 : {A B C D : Type 0} (f0 : A → B → C → D) (a0 : A) (f1 : B → C → D) (a1 : B) (f2 : C → D) (a2 : C) (made : D) → f0 a0 ≡ f1 → f1 a1 ≡ f2 → f2 a2 ≡ made → f0 a0 a1 a2 ≡ made
+steps_3 f0 a0 f1 a1 f2 a2 made e0 e1 e2 = ap (λ g. g a1 a2) e0 ∙ ap (λ g. g a2) e1 ∙ e2
+
+steps_4 : {A B C D E : Type 0} (f0 : A → B → C → D → E) (a0 : A) (f1 : B → C → D → E) (a1 : B) (f2 : C → D → E) (a2 : C) (f3 : D → E) (a3 : D) (made : E) → f0 a0 ≡ f1 → f1 a1 ≡ f2 → f2 a2 ≡ f3 → f3 a3 ≡ made → f0 a0 a1 a2 a3 ≡ made
+steps_4 f0 a0 f1 a1 f2 a2 f3 a3 made e0 e1 e2 e3 = ap (λ g. g a1 a2 a3) e0 ∙ ap (λ g. g a2 a3) e1 ∙ ap (λ g. g a3) e2 ∙ e3
+
+steps_5 : {A B C D E F : Type 0} (f0 : A → B → C → D → E → F) (a0 : A) (f1 : B → C → D → E → F) (a1 : B) (f2 : C → D → E → F) (a2 : C) (f3 : D → E → F) (a3 : D) (f4 : E → F) (a4 : E) (made : F) → f0 a0 ≡ f1 → f1 a1 ≡ f2 → f2 a2 ≡ f3 → f3 a3 ≡ f4 → f4 a4 ≡ made → f0 a0 a1 a2 a3 a4 ≡ made
+steps_5 f0 a0 f1 a1 f2 a2 f3 a3 f4 a4 made e0 e1 e2 e3 e4 = ap (λ g. g a1 a2 a3 a4) e0 ∙ ap (λ g. g a2 a3 a4) e1 ∙ ap (λ g. g a3 a4) e2 ∙ ap (λ g. g a4) e3 ∙ e4
+
+steps_7 : {A B C D E F G H : Type 0} (f0 : A → B → C → D → E → F → G → H) (a0 : A) (f1 : B → C → D → E → F → G → H) (a1 : B) (f2 : C → D → E → F → G → H) (a2 : C) (f3 : D → E → F → G → H) (a3 : D) (f4 : E → F → G → H) (a4 : E) (f5 : F → G → H) (a5 : F) (f6 : G → H) (a6 : G) (made : H) → f0 a0 ≡ f1 → f1 a1 ≡ f2 → f2 a2 ≡ f3 → f3 a3 ≡ f4 → f4 a4 ≡ f5 → f5 a5 ≡ f6 → f6 a6 ≡ made → f0 a0 a1 a2 a3 a4 a5 a6 ≡ made
+steps_7 f0 a0 f1 a1 f2 a2 f3 a3 f4 a4 f5 a5 f6 a6 made e0 e1 e2 e3 e4 e5 e6 = ap (λ g. g a1 a2 a3 a4 a5 a6) e0 ∙ ap (λ g. g a2 a3 a4 a5 a6) e1 ∙ ap (λ g. g a3 a4 a5 a6) e2 ∙ ap (λ g. g a4 a5 a6) e3 ∙ ap (λ g. g a5 a6) e4 ∙ ap (λ g. g a6) e5 ∙ e6
+
 int_rect_words : Spells int_rect rect_words
 int_rect_words = record {
   takes = λ words v rest given.
@@ -242,7 +258,7 @@ int_rect_words = record {
       let c = split (h <$> i32 <*> i32) i32 spell words d.g d.mid i32_words d.first in
       let b = split (h <$> i32) i32 spell words c.g c.mid i32_words c.first in
       let a = map_ok h i32 words b.g b.mid b.first in
-      let value : h a.a b.a c.a d.a ≡ v = ap (λ g. g b.a c.a d.a) a.value ∙ ap (λ g. g c.a d.a) b.value ∙ ap (λ g. g d.a) c.value ∙ d.value in
+      let value : h a.a b.a c.a d.a ≡ v = steps_4 h a.a b.g b.a c.g c.a d.g d.a v a.value b.value c.value d.value in
       i32_words.takes words a.a b.mid a.given ∙ ap (λ t. signed_decimal a.a ∷ t) (b.behind ∙ ap (λ t. signed_decimal b.a ∷ t) (c.behind ∙ ap (λ t. signed_decimal c.a ∷ t) d.behind))
       ∙ ap (λ r. rect_words r ++ rest) value;
 }
@@ -253,7 +269,7 @@ region_spelled = record {
       let h : IntRect → Interaction → HitRegion = λ r i. record { area = Some r; interaction = i } in
       let b = split (h <$> int_rect) interaction (λ i. decimal (interaction_number i) ∷ []) words v rest interaction_words given in
       let a = map_ok h int_rect words b.g b.mid b.first in
-      let value : h a.a b.a ≡ v = ap (λ g. g b.a) a.value ∙ b.value in
+      let value : h a.a b.a ≡ v = steps_2 h a.a b.g b.a v a.value b.value in
       int_rect_words.takes words a.a b.mid a.given ∙ ap (λ t. rect_words a.a ++ t) b.behind ∙ ap (λ r. region_words r ++ rest) value;
 }
 
@@ -329,7 +345,7 @@ spelt-SetTranslation s o words c is =
     let p3 = split (h <$> transform <*> i32) i32 (λ z. signed_decimal z ∷ []) words c [] i32_words given in
     let p2 = split (h <$> transform) i32 (λ z. signed_decimal z ∷ []) words p3.g p3.mid i32_words p3.first in
     let p1 = map_ok h transform words p2.g p2.mid p2.first in
-    let value : h p1.a p2.a p3.a ≡ c = ap (λ g. g p2.a p3.a) p1.value ∙ ap (λ g. g p3.a) p2.value ∙ p3.value in
+    let value : h p1.a p2.a p3.a ≡ c = steps_3 h p1.a p2.g p2.a p3.g p3.a c p1.value p2.value p3.value in
     let taken : words ≡ call_fields s (h p1.a p2.a p3.a) = transform_words.takes words p1.a p2.mid p1.given ∙ ap (λ t. decimal p1.a.0 ∷ t) (p2.behind ∙ ap (λ t. signed_decimal p2.a ∷ t) (p3.behind)) in
     record { fields = ap (call_fields s) (sym value) ∙ sym taken; named = ap call_name (sym value) }
 
@@ -339,7 +355,7 @@ spelt-AddChild s o words c is =
     let given = whole_ok (call_form s o AddChild) words c is in
     let p2 = split (h <$> transform) transform (λ t. decimal t.0 ∷ []) words c [] transform_words given in
     let p1 = map_ok h transform words p2.g p2.mid p2.first in
-    let value : h p1.a p2.a ≡ c = ap (λ g. g p2.a) p1.value ∙ p2.value in
+    let value : h p1.a p2.a ≡ c = steps_2 h p1.a p2.g p2.a c p1.value p2.value in
     let taken : words ≡ call_fields s (h p1.a p2.a) = transform_words.takes words p1.a p2.mid p1.given ∙ ap (λ t. decimal p1.a.0 ∷ t) (p2.behind) in
     record { fields = ap (call_fields s) (sym value) ∙ sym taken; named = ap call_name (sym value) }
 
@@ -349,7 +365,7 @@ spelt-RemoveChild s o words c is =
     let given = whole_ok (call_form s o RemoveChild) words c is in
     let p2 = split (h <$> transform) transform (λ t. decimal t.0 ∷ []) words c [] transform_words given in
     let p1 = map_ok h transform words p2.g p2.mid p2.first in
-    let value : h p1.a p2.a ≡ c = ap (λ g. g p2.a) p1.value ∙ p2.value in
+    let value : h p1.a p2.a ≡ c = steps_2 h p1.a p2.g p2.a c p1.value p2.value in
     let taken : words ≡ call_fields s (h p1.a p2.a) = transform_words.takes words p1.a p2.mid p1.given ∙ ap (λ t. decimal p1.a.0 ∷ t) (p2.behind) in
     record { fields = ap (call_fields s) (sym value) ∙ sym taken; named = ap call_name (sym value) }
 
@@ -360,7 +376,7 @@ spelt-ReplaceChildren s o words c is =
     let given = whole_ok (call_form s o ReplaceChildren) words c is in
     let p2 = split (h <$> transform) (λ ws. (transforms ws, [])) spell words c [] transforms_words given in
     let p1 = map_ok h transform words p2.g p2.mid p2.first in
-    let value : h p1.a p2.a ≡ c = ap (λ g. g p2.a) p1.value ∙ p2.value in
+    let value : h p1.a p2.a ≡ c = steps_2 h p1.a p2.g p2.a c p1.value p2.value in
     let last : p2.mid ≡ spell p2.a = p2.behind ∙ append-nil (spell p2.a) in
     let taken : words ≡ call_fields s (h p1.a p2.a) = transform_words.takes words p1.a p2.mid p1.given ∙ ap (λ t. decimal p1.a.0 ∷ t) last in
     record { fields = ap (call_fields s) (sym value) ∙ sym taken; named = ap call_name (sym value) }
@@ -394,7 +410,7 @@ spelt-SetSolidFill s o words c is =
     let p3 = split (h <$> content <*> colour) colour (λ n. decimal n ∷ []) words p4.g p4.mid (number_words 256) p4.first in
     let p2 = split (h <$> content) colour (λ n. decimal n ∷ []) words p3.g p3.mid (number_words 256) p3.first in
     let p1 = map_ok h content words p2.g p2.mid p2.first in
-    let value : h p1.a p2.a p3.a p4.a p5.a p6.a p7.a ≡ c = ap (λ g. g p2.a p3.a p4.a p5.a p6.a p7.a) p1.value ∙ ap (λ g. g p3.a p4.a p5.a p6.a p7.a) p2.value ∙ ap (λ g. g p4.a p5.a p6.a p7.a) p3.value ∙ ap (λ g. g p5.a p6.a p7.a) p4.value ∙ ap (λ g. g p6.a p7.a) p5.value ∙ ap (λ g. g p7.a) p6.value ∙ p7.value in
+    let value : h p1.a p2.a p3.a p4.a p5.a p6.a p7.a ≡ c = steps_7 h p1.a p2.g p2.a p3.g p3.a p4.g p4.a p5.g p5.a p6.g p6.a p7.g p7.a c p1.value p2.value p3.value p4.value p5.value p6.value p7.value in
     let taken : words ≡ call_fields s (h p1.a p2.a p3.a p4.a p5.a p6.a p7.a) = content_words.takes words p1.a p2.mid p1.given ∙ ap (λ t. decimal p1.a.0 ∷ t) (p2.behind ∙ ap (λ t. decimal p2.a ∷ t) (p3.behind ∙ ap (λ t. decimal p3.a ∷ t) (p4.behind ∙ ap (λ t. decimal p4.a ∷ t) (p5.behind ∙ ap (λ t. decimal p5.a ∷ t) (p6.behind ∙ ap (λ t. decimal p6.a ∷ t) (p7.behind)))))) in
     record { fields = ap (call_fields s) (sym value) ∙ sym taken; named = ap call_name (sym value) }
 
@@ -413,7 +429,7 @@ spelt-SetHitRegions s o words c is =
     let given = whole_ok (call_form s o SetHitRegions) words c is in
     let p2 = split (h <$> transform) (λ ws. (regions ws, [])) (λ rs. flat_map region_words rs) words c [] regions_words given in
     let p1 = map_ok h transform words p2.g p2.mid p2.first in
-    let value : h p1.a p2.a ≡ c = ap (λ g. g p2.a) p1.value ∙ p2.value in
+    let value : h p1.a p2.a ≡ c = steps_2 h p1.a p2.g p2.a c p1.value p2.value in
     let taken : words ≡ call_fields s (h p1.a p2.a) = transform_words.takes words p1.a p2.mid p1.given ∙ ap (λ t. decimal p1.a.0 ∷ t) (p2.behind) ∙ ap (λ t. decimal p1.a.0 ∷ t) (append-nil (flat_map region_words p2.a)) in
     record { fields = ap (call_fields s) (sym value) ∙ sym taken; named = ap call_name (sym value) }
 
@@ -423,7 +439,7 @@ spelt-SetInfiniteHitRegion s o words c is =
     let given = whole_ok (call_form s o SetInfiniteHitRegion) words c is in
     let p2 = split (h <$> transform) interaction (λ i. decimal (interaction_number i) ∷ []) words c [] interaction_words given in
     let p1 = map_ok h transform words p2.g p2.mid p2.first in
-    let value : h p1.a p2.a ≡ c = ap (λ g. g p2.a) p1.value ∙ p2.value in
+    let value : h p1.a p2.a ≡ c = steps_2 h p1.a p2.g p2.a c p1.value p2.value in
     let taken : words ≡ call_fields s (h p1.a p2.a) = transform_words.takes words p1.a p2.mid p1.given ∙ ap (λ t. decimal p1.a.0 ∷ t) (p2.behind) in
     record { fields = ap (call_fields s) (sym value) ∙ sym taken; named = ap call_name (sym value) }
 
@@ -433,7 +449,7 @@ spelt-SetContent s o words c is =
     let given = whole_ok (call_form s o SetContent) words c is in
     let p2 = split (h <$> transform) content (λ t. decimal t.0 ∷ []) words c [] content_words given in
     let p1 = map_ok h transform words p2.g p2.mid p2.first in
-    let value : h p1.a p2.a ≡ c = ap (λ g. g p2.a) p1.value ∙ p2.value in
+    let value : h p1.a p2.a ≡ c = steps_2 h p1.a p2.g p2.a c p1.value p2.value in
     let taken : words ≡ call_fields s (h p1.a p2.a) = transform_words.takes words p1.a p2.mid p1.given ∙ ap (λ t. decimal p1.a.0 ∷ t) (p2.behind) in
     record { fields = ap (call_fields s) (sym value) ∙ sym taken; named = ap call_name (sym value) }
 
@@ -457,7 +473,7 @@ spelt-SetOrientation s o words c is =
     let given = whole_ok (call_form s o SetOrientation) words c is in
     let p2 = split (h <$> transform) orientation (λ o. decimal (orientation_number o) ∷ []) words c [] orientation_words given in
     let p1 = map_ok h transform words p2.g p2.mid p2.first in
-    let value : h p1.a p2.a ≡ c = ap (λ g. g p2.a) p1.value ∙ p2.value in
+    let value : h p1.a p2.a ≡ c = steps_2 h p1.a p2.g p2.a c p1.value p2.value in
     let taken : words ≡ call_fields s (h p1.a p2.a) = transform_words.takes words p1.a p2.mid p1.given ∙ ap (λ t. decimal p1.a.0 ∷ t) (p2.behind) in
     record { fields = ap (call_fields s) (sym value) ∙ sym taken; named = ap call_name (sym value) }
 
@@ -468,7 +484,7 @@ spelt-SetScale s o words c is =
     let p3 = split (h <$> transform <*> u32) u32 (λ n. decimal n ∷ []) words c [] (number_words (2 ^ 32)) given in
     let p2 = split (h <$> transform) u32 (λ n. decimal n ∷ []) words p3.g p3.mid (number_words (2 ^ 32)) p3.first in
     let p1 = map_ok h transform words p2.g p2.mid p2.first in
-    let value : h p1.a p2.a p3.a ≡ c = ap (λ g. g p2.a p3.a) p1.value ∙ ap (λ g. g p3.a) p2.value ∙ p3.value in
+    let value : h p1.a p2.a p3.a ≡ c = steps_3 h p1.a p2.g p2.a p3.g p3.a c p1.value p2.value p3.value in
     let taken : words ≡ call_fields s (h p1.a p2.a p3.a) = transform_words.takes words p1.a p2.mid p1.given ∙ ap (λ t. decimal p1.a.0 ∷ t) (p2.behind ∙ ap (λ t. decimal p2.a ∷ t) (p3.behind)) in
     record { fields = ap (call_fields s) (sym value) ∙ sym taken; named = ap call_name (sym value) }
 
@@ -478,7 +494,7 @@ spelt-SetOpacity s o words c is =
     let given = whole_ok (call_form s o SetOpacity) words c is in
     let p2 = split (h <$> transform) u32 (λ n. decimal n ∷ []) words c [] (number_words (2 ^ 32)) given in
     let p1 = map_ok h transform words p2.g p2.mid p2.first in
-    let value : h p1.a p2.a ≡ c = ap (λ g. g p2.a) p1.value ∙ p2.value in
+    let value : h p1.a p2.a ≡ c = steps_2 h p1.a p2.g p2.a c p1.value p2.value in
     let taken : words ≡ call_fields s (h p1.a p2.a) = transform_words.takes words p1.a p2.mid p1.given ∙ ap (λ t. decimal p1.a.0 ∷ t) (p2.behind) in
     record { fields = ap (call_fields s) (sym value) ∙ sym taken; named = ap call_name (sym value) }
 
@@ -488,7 +504,7 @@ spelt-SetClipBoundary s o words c is =
     let given = whole_ok (call_form s o SetClipBoundary) words c is in
     let p2 = split (h <$> transform) (optional int_rect) (λ r. option_map_or rect_words r []) words c [] (optional_words int_rect rect_words int_rect_words) given in
     let p1 = map_ok h transform words p2.g p2.mid p2.first in
-    let value : h p1.a p2.a ≡ c = ap (λ g. g p2.a) p1.value ∙ p2.value in
+    let value : h p1.a p2.a ≡ c = steps_2 h p1.a p2.g p2.a c p1.value p2.value in
     let taken : words ≡ call_fields s (h p1.a p2.a) = transform_words.takes words p1.a p2.mid p1.given ∙ ap (λ t. decimal p1.a.0 ∷ t) (p2.behind) ∙ ap (λ t. decimal p1.a.0 ∷ t) (append-nil (option_map_or rect_words p2.a [])) in
     record { fields = ap (call_fields s) (sym value) ∙ sym taken; named = ap call_name (sym value) }
 
@@ -501,7 +517,7 @@ spelt-CreateImage s o words c is =
     let p3 = split (h <$> content <*> (collection s o)) u32 (λ n. decimal n ∷ []) words p4.g p4.mid (number_words (2 ^ 32)) p4.first in
     let p2 = split (h <$> content) (collection s o) (λ b. buffers_word s b ∷ []) words p3.g p3.mid (collection_words s o) p3.first in
     let p1 = map_ok h content words p2.g p2.mid p2.first in
-    let value : h p1.a p2.a p3.a p4.a p5.a ≡ c = ap (λ g. g p2.a p3.a p4.a p5.a) p1.value ∙ ap (λ g. g p3.a p4.a p5.a) p2.value ∙ ap (λ g. g p4.a p5.a) p3.value ∙ ap (λ g. g p5.a) p4.value ∙ p5.value in
+    let value : h p1.a p2.a p3.a p4.a p5.a ≡ c = steps_5 h p1.a p2.g p2.a p3.g p3.a p4.g p4.a p5.g p5.a c p1.value p2.value p3.value p4.value p5.value in
     let taken : words ≡ call_fields s (h p1.a p2.a p3.a p4.a p5.a) = content_words.takes words p1.a p2.mid p1.given ∙ ap (λ t. decimal p1.a.0 ∷ t) (p2.behind ∙ ap (λ t. buffers_word s p2.a ∷ t) (p3.behind ∙ ap (λ t. decimal p3.a ∷ t) (p4.behind ∙ ap (λ t. decimal p4.a ∷ t) (p5.behind)))) in
     record { fields = ap (call_fields s) (sym value) ∙ sym taken; named = ap call_name (sym value) }
 
@@ -511,7 +527,7 @@ spelt-SetImageSampleRegion s o words c is =
     let given = whole_ok (call_form s o SetImageSampleRegion) words c is in
     let p2 = split (h <$> content) int_rect rect_words words c [] int_rect_words given in
     let p1 = map_ok h content words p2.g p2.mid p2.first in
-    let value : h p1.a p2.a ≡ c = ap (λ g. g p2.a) p1.value ∙ p2.value in
+    let value : h p1.a p2.a ≡ c = steps_2 h p1.a p2.g p2.a c p1.value p2.value in
     let taken : words ≡ call_fields s (h p1.a p2.a) = content_words.takes words p1.a p2.mid p1.given ∙ ap (λ t. decimal p1.a.0 ∷ t) (p2.behind) ∙ ap (λ t. decimal p1.a.0 ∷ t) (append-nil (rect_words p2.a)) in
     record { fields = ap (call_fields s) (sym value) ∙ sym taken; named = ap call_name (sym value) }
 
@@ -522,7 +538,7 @@ spelt-SetImageDestinationSize s o words c is =
     let p3 = split (h <$> content <*> u32) u32 (λ n. decimal n ∷ []) words c [] (number_words (2 ^ 32)) given in
     let p2 = split (h <$> content) u32 (λ n. decimal n ∷ []) words p3.g p3.mid (number_words (2 ^ 32)) p3.first in
     let p1 = map_ok h content words p2.g p2.mid p2.first in
-    let value : h p1.a p2.a p3.a ≡ c = ap (λ g. g p2.a p3.a) p1.value ∙ ap (λ g. g p3.a) p2.value ∙ p3.value in
+    let value : h p1.a p2.a p3.a ≡ c = steps_3 h p1.a p2.g p2.a p3.g p3.a c p1.value p2.value p3.value in
     let taken : words ≡ call_fields s (h p1.a p2.a p3.a) = content_words.takes words p1.a p2.mid p1.given ∙ ap (λ t. decimal p1.a.0 ∷ t) (p2.behind ∙ ap (λ t. decimal p2.a ∷ t) (p3.behind)) in
     record { fields = ap (call_fields s) (sym value) ∙ sym taken; named = ap call_name (sym value) }
 
@@ -532,7 +548,7 @@ spelt-SetImageBlendingFunction s o words c is =
     let given = whole_ok (call_form s o SetImageBlendingFunction) words c is in
     let p2 = split (h <$> content) blend (λ m. decimal (blend_number m) ∷ []) words c [] blend_words given in
     let p1 = map_ok h content words p2.g p2.mid p2.first in
-    let value : h p1.a p2.a ≡ c = ap (λ g. g p2.a) p1.value ∙ p2.value in
+    let value : h p1.a p2.a ≡ c = steps_2 h p1.a p2.g p2.a c p1.value p2.value in
     let taken : words ≡ call_fields s (h p1.a p2.a) = content_words.takes words p1.a p2.mid p1.given ∙ ap (λ t. decimal p1.a.0 ∷ t) (p2.behind) in
     record { fields = ap (call_fields s) (sym value) ∙ sym taken; named = ap call_name (sym value) }
 
@@ -542,7 +558,7 @@ spelt-SetImageFlip s o words c is =
     let given = whole_ok (call_form s o SetImageFlip) words c is in
     let p2 = split (h <$> content) flip (λ f. decimal (flip_number f) ∷ []) words c [] flip_words given in
     let p1 = map_ok h content words p2.g p2.mid p2.first in
-    let value : h p1.a p2.a ≡ c = ap (λ g. g p2.a) p1.value ∙ p2.value in
+    let value : h p1.a p2.a ≡ c = steps_2 h p1.a p2.g p2.a c p1.value p2.value in
     let taken : words ≡ call_fields s (h p1.a p2.a) = content_words.takes words p1.a p2.mid p1.given ∙ ap (λ t. decimal p1.a.0 ∷ t) (p2.behind) in
     record { fields = ap (call_fields s) (sym value) ∙ sym taken; named = ap call_name (sym value) }
 
@@ -552,7 +568,7 @@ spelt-SetImageOpacity s o words c is =
     let given = whole_ok (call_form s o SetImageOpacity) words c is in
     let p2 = split (h <$> content) u32 (λ n. decimal n ∷ []) words c [] (number_words (2 ^ 32)) given in
     let p1 = map_ok h content words p2.g p2.mid p2.first in
-    let value : h p1.a p2.a ≡ c = ap (λ g. g p2.a) p1.value ∙ p2.value in
+    let value : h p1.a p2.a ≡ c = steps_2 h p1.a p2.g p2.a c p1.value p2.value in
     let taken : words ≡ call_fields s (h p1.a p2.a) = content_words.takes words p1.a p2.mid p1.given ∙ ap (λ t. decimal p1.a.0 ∷ t) (p2.behind) in
     record { fields = ap (call_fields s) (sym value) ∙ sym taken; named = ap call_name (sym value) }
 
@@ -577,7 +593,7 @@ inset_spelled = record {
       let c = split (h <$> side <*> side) side spell words d.g d.mid (number_words 65537) d.first in
       let b = split (h <$> side) side spell words c.g c.mid (number_words 65537) c.first in
       let a = map_ok h side words b.g b.mid b.first in
-      let value : h a.a b.a c.a d.a ≡ v = ap (λ g. g b.a c.a d.a) a.value ∙ ap (λ g. g c.a d.a) b.value ∙ ap (λ g. g d.a) c.value ∙ d.value in
+      let value : h a.a b.a c.a d.a ≡ v = steps_4 h a.a b.g b.a c.g c.a d.g d.a v a.value b.value c.value d.value in
       (number_words 65537).takes words a.a b.mid a.given ∙ ap (λ t. decimal a.a ∷ t) (b.behind ∙ ap (λ t. decimal b.a ∷ t) (c.behind ∙ ap (λ t. decimal c.a ∷ t) d.behind))
       ∙ ap (λ r. inset_words r ++ rest) value;
 }
@@ -590,7 +606,7 @@ spelt-SetViewportProperties s o words c is =
     let p3 = split (h <$> content <*> u32) u32 (λ n. decimal n ∷ []) words p4.g p4.mid (number_words (2 ^ 32)) p4.first in
     let p2 = split (h <$> content) u32 (λ n. decimal n ∷ []) words p3.g p3.mid (number_words (2 ^ 32)) p3.first in
     let p1 = map_ok h content words p2.g p2.mid p2.first in
-    let value : h p1.a p2.a p3.a p4.a ≡ c = ap (λ g. g p2.a p3.a p4.a) p1.value ∙ ap (λ g. g p3.a p4.a) p2.value ∙ ap (λ g. g p4.a) p3.value ∙ p4.value in
+    let value : h p1.a p2.a p3.a p4.a ≡ c = steps_4 h p1.a p2.g p2.a p3.g p3.a p4.g p4.a c p1.value p2.value p3.value p4.value in
     let last : p4.mid ≡ option_map_or inset_words p4.a [] = p4.behind ∙ append-nil (option_map_or inset_words p4.a []) in
     let taken : words ≡ call_fields s (h p1.a p2.a p3.a p4.a) = content_words.takes words p1.a p2.mid p1.given ∙ ap (λ t. decimal p1.a.0 ∷ t) (p2.behind ∙ ap (λ t. decimal p2.a ∷ t) (p3.behind ∙ ap (λ t. decimal p3.a ∷ t) last)) in
     record { fields = ap (call_fields s) (sym value) ∙ sym taken; named = ap call_name (sym value) }
