@@ -1,4 +1,4 @@
-use Rattle.std.proofs.Common.{◌≡◌, ◌∙◌, drop, ap, sym, Option, Some, Result, Ok, Err, OnOk}
+use Rattle.std.proofs.Common.{◌≡◌, ◌∙◌, drop, ap, sym, Some, Result, Ok, Err, OnOk}
 use Rattle.left_right.specs.Sides.{view}
 use Rattle.flat_publish.specs.State.{Seen, upcoming}
 use Rattle.flat_publish.proofs.Homes.{upcoming_last}
