@@ -21,4 +21,4 @@ pub use film::Film;
 pub use gate::{ASKS, Gate, LOOKS, OpenGate};
 pub use lent::Lent;
 pub use probe::{Asking, ProbeBack, run_probe};
-pub use session::{SessionBack, run_session};
+pub use session::{SessionBack, both, run_session};

@@ -1,7 +1,7 @@
 //! A session. All that its lines ask for follows from its own entries, which its seat knows
 //! whatever the others do.
 ghost use Rattle.std.specs.Prelude.{◌≡◌, ◌+◌, ◌<◌, ◌≤◌, ◌^◌, ℕ, List, [], ◌∷◌, ◌++◌, Bool, true};
-ghost use Rattle.std.specs.Prelude.{false, length, Some, slice_get, IsTrue, OnOk};
+ghost use Rattle.std.specs.Prelude.{◌&&◌, false, length, Some, slice_get, IsTrue, OnOk};
 ghost use Rattle.flat_base.specs.declared.ids.Actor.TheVariants.{Session};
 ghost use Rattle.flat_scene.specs.declared.script.Line.{Line};
 ghost use Rattle.flat_scene.specs.declared.script.ScriptLine.{ScriptLine};
@@ -30,6 +30,13 @@ use std::thread;
 pub struct SessionBack {
     pub seat: SessionSeat,
     pub is_whole: bool,
+}
+
+/// Whether two came to their End.
+pub fn both(first: bool, second: bool) -> bool
+    ensures { result ≡ (first && second) }
+{
+    first && second
 }
 
 /// The number that a condition asks for.

@@ -1,7 +1,7 @@
 //! The sessions' threads. A promise is plain data, the stage, the script and the session,
 //! and is kept by the seat that comes back. Where no thread can be started, the session is
 //! run here with the same promise.
-ghost use Rattle.std.specs.Prelude.{◌≡◌, ◌+◌, ◌<◌, ◌&&◌, true, length, IfOk};
+ghost use Rattle.std.specs.Prelude.{◌≡◌, ◌+◌, ◌<◌, true, length, IfOk};
 ghost use Rattle.flat_playable.specs.Playable.{is_playable};
 ghost use Rattle.flat_stage.specs.Homes.{AreFresh, fresh_view};
 ghost use Rattle.flat_actors.specs.OwnLines.{own_places};
@@ -10,7 +10,7 @@ ghost use Rattle.flat_race.specs.PlaceLists.{ArePlaces};
 ghost use Rattle.flat_race.specs.SessionThreads.{AreBack, AreLeft, AreOut, IsOut};
 
 use crate::own_lines::{PlaceList, places_by_session};
-use flat_actors::{Gate, Lent, SessionBack, run_session};
+use flat_actors::{Gate, Lent, SessionBack, both, run_session};
 use flat_base::{NoMemory, SessionNo};
 use flat_places::Script;
 use flat_stage::{SessionSeat, SessionSeats, Stage};
@@ -165,12 +165,6 @@ pub(crate) fn start_each<'s, E, R: Threads + Wait + Sync, G: Gate>(
         out.push_reserved(started);
     }
     Ok(out)
-}
-
-fn both(first: bool, second: bool) -> bool
-    ensures { result ≡ (first && second) }
-{
-    first && second
 }
 
 /// Waits for each session, the last first, and puts its seat back. Whether all came
