@@ -7,6 +7,7 @@ use flat_io::{MemSink, MemSource};
 use flat_race::{Gate, OpenGate};
 use flat_run::flatland;
 use std::alloc::Global;
+use std::slice;
 use std::sync::Wait;
 use std::thread::Threads;
 
@@ -44,7 +45,37 @@ impl Called {
     }
 }
 
-/// Calls the service with one word.
+/// A source of a text, which fails as it is said.
+fn source_of(alloc: Global, text: &[u8], faults: Faults) -> Result<MemSource, NoMemory> {
+    let text = text.to_vec(alloc)?;
+    Ok(MemSource::new(text, vec![in alloc; faults.read]?))
+}
+
+/// A sink with room for a report, which fails as it is said.
+fn sink_of(alloc: Global, faults: Faults) -> Result<MemSink, NoMemory> {
+    let write = vec![in alloc; faults.write]?;
+    let stall = vec![in alloc; faults.stall]?;
+    Ok(MemSink::new(alloc, ROOM, write, stall)?)
+}
+
+/// Calls the service with one word, and answers its status.
+fn serve<T: Threads + Wait + Sync, G: Gate>(
+    rt: &T,
+    alloc: Global,
+    word: &str,
+    source: &mut MemSource,
+    sink: &mut MemSink,
+    displays: &mut Vec<Box<dyn Display>>,
+    gate: &G,
+) -> Result<u8, NoMemory>
+    requires { length displays.old.items < 2 ^ 32 }
+{
+    let word = String::from_str(alloc, word)?;
+    let words = slice::from_ref(&word);
+    Ok(flatland(rt, alloc, words, source, sink, displays, gate))
+}
+
+/// Calls the service with one word on a text, and hands out what it wrote.
 pub(crate) fn call<T: Threads + Wait + Sync, G: Gate>(
     rt: &T,
     alloc: Global,
@@ -56,16 +87,20 @@ pub(crate) fn call<T: Threads + Wait + Sync, G: Gate>(
 ) -> Result<Called, NoMemory>
     requires { length displays.old.items < 2 ^ 32 }
 {
-    let words = [String::from_str(alloc, word)?];
-    let mut source = MemSource::new(text.to_vec(alloc)?, vec![in alloc; faults.read]?);
-    let mut sink = MemSink::new(
-        alloc,
-        ROOM,
-        vec![in alloc; faults.write]?,
-        vec![in alloc; faults.stall]?,
-    )?;
-    let status = flatland(rt, alloc, &words, &mut source, &mut sink, displays, gate);
-    Ok(Called { status, sink })
+    let mut source = source_of(alloc, text, faults)?;
+    let Ok(mut sink) = sink_of(alloc, faults) else {
+        drop(source);
+        return Err(NoMemory);
+    };
+    let served = serve(rt, alloc, word, &mut source, &mut sink, displays, gate);
+    drop(source);
+    match served {
+        Ok(status) => Ok(Called { status, sink }),
+        Err(NoMemory) => {
+            drop(sink);
+            Err(NoMemory)
+        }
+    }
 }
 
 /// Plays a script, in written order, on no display.

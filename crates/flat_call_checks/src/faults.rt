@@ -12,7 +12,7 @@ use std::thread::Threads;
 const CALLS: u32 = 1000;
 
 /// What fails in a play.
-#[derive(Clone, Copy, Debug)]
+#[derive(Clone, Copy)]
 pub enum Fault {
     /// A read fails.
     Read,
