@@ -1,5 +1,5 @@
 -- A session has a view exactly where it is open, and the end of the last that it made isn't lost.
-use Rattle.std.proofs.Common.{◌≡◌, ◌∙◌, sym, subst, ℕ, zero, suc, ◌+◌, ◌<◌, ◌≤◌, Bool, true, false, List, [], ◌∷◌, refl, arith, ap, Some, None, inl, inr, ◌⊎◌, add-zero, zero-add}
+use Rattle.std.proofs.Common.{◌≡◌, ◌∙◌, sym, subst, ℕ, zero, suc, ◌+◌, Bool, true, false, List, [], ◌∷◌, refl, arith, ap, Some, None, inl, inr, ◌⊎◌, add-zero, zero-add}
 use Rattle.std.specs.Prelude.{cond, not, ◌&&◌, ◌==◌, Option, is_some, option_map, unwrap_or, slice_get}
 use Rattle.std.specs.List.{list_any}
 use Rattle.std.proofs.lemmas.Bool.Decides.{nat_tests}

@@ -1,5 +1,5 @@
 -- The uses of a viewport end are the calls of its owner that made viewports of the pair, while the owner is open.
-use Rattle.std.proofs.Common.{◌≡◌, ◌∙◌, sym, subst, ℕ, ◌+◌, ◌-◌, Bool, true, false, List, [], ◌∷◌, ◌++◌, length, refl, arith, ap, Some, None, ◌≤◌}
+use Rattle.std.proofs.Common.{◌≡◌, ◌∙◌, sym, subst, ℕ, ◌+◌, ◌-◌, Bool, true, false, List, [], ◌∷◌, ◌++◌, length, refl, arith, ap, Some, None}
 use Rattle.std.specs.Prelude.{cond, ◌&&◌, ◌==◌, Option, option_map, unwrap_or, slice_get}
 use Rattle.std.specs.List.{list_any, list_all}
 use Rattle.std.proofs.lemmas.Bool.Decides.{nat_tests}
@@ -26,7 +26,6 @@ use Rattle.flat_facts.proofs.lemmas.ViewCalls.{split-last}
 use Rattle.flat_facts.proofs.lemmas.ViewHistory.{same-session, closes-first}
 use Rattle.std.proofs.lemmas.Bool.{not-true, or_parts}
 use Rattle.flat_facts.proofs.lemmas.Tests.{same-pair}
-use Rattle.std.proofs.lemmas.List.Sums.{length-filter, count_by-le-length}
 
 -- ---- calls that use no end, and those that a viewport's or a view's entry carries
 

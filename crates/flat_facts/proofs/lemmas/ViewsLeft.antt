@@ -1,6 +1,6 @@
 -- The view that a session's calls leave it: that of its draft, and its last one, where that isn't ended.
 use Rattle.std.proofs.Common.{◌≡◌, ◌∙◌, sym, ℕ, ◌+◌, Bool, true, false, List, [], ◌∷◌, ◌++◌, refl, ap, Some, None, Ok, Err, inl, inr, ◌⊎◌, arith}
-use Rattle.std.specs.Prelude.{cond, ◌==◌, Option, Result}
+use Rattle.std.specs.Prelude.{cond, Option}
 use Rattle.std.proofs.lemmas.Bool.Decides.{nat_tests}
 use Rattle.flat_base.specs.declared.errors.Reason.{Reason}
 use Rattle.flat_base.specs.declared.ids.PairNo.{PairNo}
