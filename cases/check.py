@@ -34,7 +34,7 @@ import sys
 
 STAGES = ["first_path", "graph", "contents", "presents", "links", "views_and_hits", "stress",
           "stage", "race", "flat_snapshots", "probes", "reuse", "hostile", "family",
-          "version_2", "version_3", "render", "damage", "focus", "pointer"]
+          "version_2", "version_3", "render", "damage", "focus", "pointer", "why"]
 ROOT = os.path.dirname(os.path.abspath(__file__))
 
 

@@ -10,3 +10,4 @@ pub mod Points
 pub mod ProbeLines
 pub mod ReadLines
 pub mod SessionSteps
+pub mod Stopping

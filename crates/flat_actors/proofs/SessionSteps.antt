@@ -16,7 +16,7 @@ use Rattle.flat_scene.specs.declared.script.ScriptLine.{ScriptLine}
 use Rattle.flat_scene.specs.declared.setup.Setup.{Setup}
 use Rattle.flat_scene.specs.declared.journal.Entry.{Entry}
 use Rattle.flat_scene.specs.History.{history_of, is_session, seat_number}
-use Rattle.flat_scene.specs.Interleave.{IsReading, session_lines, session_line}
+use Rattle.flat_scene.specs.Interleave.{Follows, IsReading, session_lines, session_line}
 use Rattle.flat_scene.specs.Setups.{is_declared}
 use Rattle.flat_rules.specs.Owned.{is_played_line}
 use Rattle.flat_places.specs.declared.script.Script.{Script}
@@ -26,6 +26,7 @@ use Rattle.flat_stage.specs.Readings.{NewSeatsHaveRead, Rise, SeatHasRead}
 use Rattle.flat_stage.specs.Seats as stage
 use Rattle.flat_stage.specs.Seats.{SessionView, StageView, GoesOn, HasRoom, setup_of}
 use Rattle.flat_play.specs.Playing.{last_number, lines_by, shares_of}
+use Rattle.flat_play.proofs.lemmas.Begun.{follows-so-far}
 use Rattle.flat_play.proofs.lemmas.PlaySteps.{share_is, below_declared}
 use Rattle.flat_play.proofs.lemmas.Steps.{At, at_place}
 use Rattle.flat_play.proofs.lemmas.Places.{counted, few_lines, rises, split_at}
@@ -164,6 +165,16 @@ module _ (script : Script) (view : StageView) (seat : SessionView) where
   end_reads playable of stands mine reading =
       let I : Setup → Type 0 = λ setup. IsReading setup script.count (session_lines seat.session script.lines) (history_of mine) in
       subst I (ap setup_of stands.own ∙ of.setup) (reading (session_lines seat.session script.lines) script.count refl (session_rise seat.session 0 script.lines (rises script playable)) (all_given stands))
+
+-- ---- wherever it stopped
+
+-- the entries of a seat that stands at a place are the reading of its lines so far
+pub begun_at : (script : Script) (view : StageView) (s : SessionNo) (place : ℕ) (seat : SessionView) → is_playable script ≡ true → IsStageOf view script → SessionStands script view s place seat → (mine : List Entry) → mine ≡ seat.mine
+    → Follows script.setup script.count (session_lines s script.lines) (history_of mine)
+begun_at script view s place seat playable of stands mine same =
+    let F : Setup → Type 0 = λ setup. (count : ℕ) (later : List (ℕ × Line)) → Rise 0 (session_lines s (take place script.lines) ++ later) → Follows setup count (session_lines s (take place script.lines) ++ later) (history_of seat.mine) in
+    let M : List Entry → Type 0 = λ es. Follows script.setup script.count (session_lines s script.lines) (history_of es) in
+    subst M (sym same) (follows-so-far script playable s place (history_of seat.mine) (subst F (ap setup_of stands.own ∙ of.setup) stands.reads.follows))
 
 -- ---- before the first line
 

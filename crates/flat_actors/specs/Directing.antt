@@ -1,5 +1,7 @@
 -- The compositor of a race: how its seat stands at a place of the script.
-use Rattle.std.specs.Prelude.{◌≡◌, ℕ, ◌+◌, ◌≤◌, Bool, true, false, List, [], ◌∷◌, ◌++◌, length, drop}
+use Rattle.std.specs.Prelude.{◌≡◌, ℕ, ◌+◌, ◌≤◌, Bool, true, false, List, [], ◌∷◌, ◌++◌, length, drop, Option}
+use Rattle.flat_scene.specs.declared.frames.FrameOut.{FrameOut}
+use Rattle.flat_scene.specs.declared.frames.Lost.{Lost}
 use Rattle.flat_scene.specs.declared.journal.Entry.{Entry}
 use Rattle.flat_scene.specs.declared.journal.Reply.{Reply}
 use Rattle.flat_scene.specs.declared.script.DisplayLine.{DisplayLine}
@@ -14,6 +16,7 @@ use Rattle.flat_topology.specs.Changes.{AreSame}
 use Rattle.flat_topology.specs.Shown.{Shown}
 use Rattle.flat_report.specs.Report.{finished, frame_at}
 use Rattle.flat_places.specs.declared.script.Script.{Script}
+use Rattle.flat_display.specs.Had.{AreDriven}
 use Rattle.flat_stage.specs.Displays.{AreViewed, DisplayEnters, DisplaySees, DisplayView}
 use Rattle.flat_stage.specs.Seats.{StageView, entries_of_seat}
 use Rattle.flat_play.specs.Keeping.{Keeps, KeepsMore}
@@ -68,6 +71,13 @@ pub record HandStands (script : Script) (view : StageView) (place : ℕ) (hand :
   pub shows : ShowsBegin script.setup (history_of (hand_seat hand).seen) hand
   pub changes : KnowsChanges film.last.reuse hand
   pub kept : FilmStands script (history_of (hand_seat hand).seen) film
+
+-- The compositor stopped somewhere in its lines. Displays of a type tell these frames, and have these counts of faults: they have had the frames of the history that it has seen.
+pub record HasStopped {D : Type 0} (told : D → Option (List FrameOut)) (count : D → ℕ) (script : Script) (view : StageView) (seat : DisplayView) (olds news : List D) : Type 0 where
+  pub place : ℕ
+  pub stands : SeatStands script view place seat
+  pub lost : List Lost
+  pub driven : AreDriven told count lost (finished script.setup (history_of seat.seen)) olds news
 
 -- ---- what one line does
 

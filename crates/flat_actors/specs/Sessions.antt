@@ -4,7 +4,7 @@ use Rattle.flat_base.specs.declared.ids.SessionNo.{SessionNo}
 use Rattle.flat_scene.specs.declared.script.Line.{Line}
 use Rattle.flat_scene.specs.declared.script.Line.TheVariants as line
 use Rattle.flat_scene.specs.History.{history_of}
-use Rattle.flat_scene.specs.Interleave.{IsReading, session_lines}
+use Rattle.flat_scene.specs.Interleave.{Follows, IsReading, session_lines}
 use Rattle.flat_rules.specs.Legal.{is_link}
 use Rattle.flat_places.specs.declared.script.Script.{Script}
 use Rattle.flat_stage.specs.Readings.{SeatHasRead}
@@ -38,8 +38,9 @@ pub record SessionStands (script : Script) (view : StageView) (s : SessionNo) (p
   pub few : seat.refused ≤ last_number 0 (take place script.lines)
   pub reads : SeatHasRead (session_lines s (take place script.lines)) seat
 
--- A seat comes back from its session. Where this came to its End, its entries are the reading of all its lines.
+-- A seat comes back from its session, whose entries are the reading of its lines so far. If this came to its End, they are the reading of all its lines.
 pub record HasRun (view : StageView) (script : Script) (s : SessionNo) (back : SessionBack) : Type 0 where
   pub own : back.seat.stage ≡ view
   pub session : back.seat.session ≡ s
+  pub begun : Follows script.setup script.count (session_lines s script.lines) (history_of back.seat.mine)
   pub read : back.is_whole ≡ true → IsReading script.setup script.count (session_lines s script.lines) (history_of back.seat.mine)

@@ -1,7 +1,7 @@
 //! The compositor. It composes, keeps and shows a frame outside the lock, while the sessions
 //! go on: nothing that they enter changes what an open frame shows.
 ghost use Rattle.std.specs.Prelude.{◌≡◌, ◌≤◌, ◌<◌, ◌+◌, ◌^◌, [], ◌∷◌, ◌++◌, true, length, map};
-ghost use Rattle.std.specs.Prelude.{slice_get, Some, IfOk, IsTrue, OnErr, OnOk};
+ghost use Rattle.std.specs.Prelude.{slice_get, Some, IfErr, IfOk, IsTrue, OnErr, OnOk};
 ghost use Rattle.flat_base.specs.declared.ids.Actor.TheVariants.{Display};
 ghost use Rattle.flat_scene.specs.declared.journal.Kind.TheVariants.{Begin, Finish, Hit};
 ghost use Rattle.flat_scene.specs.declared.journal.Reply.TheVariants.{Done};
@@ -19,7 +19,6 @@ ghost use Rattle.flat_rules.specs.Shown.{shown_states};
 ghost use Rattle.flat_topology.specs.Changes.{AreSame};
 ghost use Rattle.flat_topology.specs.Hits.{hit_list};
 ghost use Rattle.flat_playable.specs.Playable.{is_playable};
-ghost use Rattle.flat_display.specs.Had.{AreKept};
 ghost use Rattle.flat_stage.specs.Displays.{AreViewed, DisplayEnters, HasDisplayRoom};
 ghost use Rattle.flat_stage.specs.Seats.{entries_of_seat, setup_of};
 ghost use Rattle.flat_report.specs.Report.{finished, frame_at};
@@ -30,7 +29,7 @@ ghost use Rattle.flat_play.specs.Showing.{HaveSeen, IsShown};
 ghost use Rattle.flat_actors.specs.declared.hand.Hand.TheVariants.{Open};
 ghost use Rattle.flat_actors.specs.Directing.{hand_seat, is_open, KeepsFrame, HasLooked, KeepsNext};
 ghost use Rattle.flat_actors.specs.Directing.{ShowsBegin, FilmStands, HandStands, SeatStands};
-ghost use Rattle.flat_actors.specs.Directing.{EntersAlone};
+ghost use Rattle.flat_actors.specs.Directing.{EntersAlone, HasStopped};
 ghost use Rattle.flat_actors.specs.Publishing.{FinishesOne, PublishedStand};
 ghost use Rattle.flat_actors.specs.Sessions.{IsStageOf};
 
@@ -137,14 +136,15 @@ fn begin<R: Wait, G: Gate>(
 
 /// Ends the open frame: it is composed of what it shows, kept, and shown to the
 /// displays that aren't lost, all while the sessions go on; then it is entered. The gate
-/// hears of it from [`end_line`].
+/// hears of it from [`end_line`]. Out of memory, nothing was shown, and the frame comes
+/// back as it was.
 fn finish<R: Wait, G: Gate>(
     lent: &Lent<R, G>,
     frame: OpenFrame,
     film: &mut Film,
     displays: &mut Vec<Box<dyn Display>>,
     number: u32,
-) -> Result<CompositorSeat, NoMemory>
+) -> Result<CompositorSeat, OpenFrame>
     requires own { frame.display.stage ≡ lent.now.stage.now }
     requires setup { is_setup lent.now.script.now.setup ≡ true }
     requires of { setup_of lent.now.stage.now ≡ lent.now.script.now.setup }
@@ -168,6 +168,8 @@ fn finish<R: Wait, G: Gate>(
         (to_begin (history_of frame.display.seen)) ∷ [])
         film.old.set film.new.set displays.old.items displays.new.items) }
     ensures unshown { OnErr result (displays.new ≡ displays.old) }
+    ensures unlost { OnErr result (film.new.set ≡ film.old.set) }
+    ensures back { IfErr result (λ back. back ≡ frame) }
     ensures same { film.new.set.displays ≡ film.old.set.displays }
     ensures kinds { map (λ d. d.vtable) displays.new.items
         ≡ map (λ d. d.vtable) displays.old.items }
@@ -183,12 +185,10 @@ fn finish<R: Wait, G: Gate>(
         frame.with_view(),
     )
     else {
-        drop(frame);
-        return Err(NoMemory);
+        return Err(frame);
     };
     let Ok(()) = film.kept.keep(lent.script, composed) else {
-        drop(frame);
-        return Err(NoMemory);
+        return Err(frame);
     };
     show_last(&mut film.set, displays, &film.kept);
     let (seat, finished) = frame.done(lent.rt, lent.stage, number);
@@ -216,6 +216,7 @@ fn hit<R: Wait, G: Gate>(
     ensures answers { OnOk result (film.new.answers ≡ film.old.answers
         ++ point_answer lent.now.script.now.setup film.old.last number x y ∷ []) }
     ensures stays { OnOk result (StaysLast lent.now.script.now.setup film.old.last film.new.last) }
+    ensures unmoved { OnErr result (hand.new ≡ hand.old) }
     ensures others { film.new
         ≡ record film.old { last = film.new.last; answers = film.new.answers } }
 {
@@ -232,7 +233,8 @@ fn hit<R: Wait, G: Gate>(
     Ok(())
 }
 
-/// Goes through one line of the display.
+/// Goes through one line of the display. Out of memory, it makes no entry, and what the
+/// compositor holds comes back as it was.
 fn direct_line<R: Wait, G: Gate>(
     lent: &Lent<R, G>,
     mut hand: Hand,
@@ -241,7 +243,7 @@ fn direct_line<R: Wait, G: Gate>(
     place: usize,
     number: u32,
     text: DisplayLine,
-) -> Result<Hand, NoMemory>
+) -> Result<Hand, Hand>
     requires line { slice_get lent.now.script.now.lines place
         ≡ Some (record { number = number; actor = Display; body = body.Display text }) }
     requires playable { is_playable lent.now.script.now ≡ true }
@@ -258,6 +260,8 @@ fn direct_line<R: Wait, G: Gate>(
         film.new.set displays.old.items displays.new.items) }
     ensures keeping { OnOk result (keeping_of film.new.kept ≡ keeping_of film.old.kept) }
     ensures unshown { OnErr result (displays.new ≡ displays.old) }
+    ensures unlost { OnErr result (film.new.set ≡ film.old.set) }
+    ensures back { IfErr result (λ back. back ≡ hand) }
     ensures same { film.new.set.displays ≡ film.old.set.displays }
     ensures kinds { map (λ d. d.vtable) displays.new.items
         ≡ map (λ d. d.vtable) displays.old.items }
@@ -278,16 +282,15 @@ fn direct_line<R: Wait, G: Gate>(
                     film.last.joined = joined;
                     Ok(Hand::Idle(seat))
                 }
-                Err(NoMemory) => {
+                Err(frame) => {
                     drop(joined);
-                    Err(NoMemory)
+                    Err(Hand::Open(frame))
                 }
             }
         }
         DisplayLine::Hit(x, y) => {
             let Ok(()) = hit(lent, &mut hand, film, number, x, y) else {
-                drop(hand);
-                return Err(NoMemory);
+                return Err(hand);
             };
             Ok(hand)
         }
@@ -298,14 +301,15 @@ fn direct_line<R: Wait, G: Gate>(
     }
 }
 
-/// Goes through the line at a place of the script, where it is the display's.
+/// Goes through the line at a place of the script, where it is the display's, as
+/// [`direct_line`] does.
 fn direct_next<R: Wait, G: Gate>(
     lent: &Lent<R, G>,
     hand: Hand,
     film: &mut Film,
     displays: &mut Vec<Box<dyn Display>>,
     place: usize,
-) -> Result<Hand, NoMemory>
+) -> Result<Hand, Hand>
     requires place { place < length lent.now.script.now.lines }
     requires playable { is_playable lent.now.script.now ≡ true }
     requires of { IsStageOf lent.now.stage.now lent.now.script.now }
@@ -321,6 +325,8 @@ fn direct_next<R: Wait, G: Gate>(
         film.new.set displays.old.items displays.new.items) }
     ensures keeping { OnOk result (keeping_of film.new.kept ≡ keeping_of film.old.kept) }
     ensures unshown { OnErr result (displays.new ≡ displays.old) }
+    ensures unlost { OnErr result (film.new.set ≡ film.old.set) }
+    ensures back { IfErr result (λ back. back ≡ hand) }
     ensures same { film.new.set.displays ≡ film.old.set.displays }
     ensures kinds { map (λ d. d.vtable) displays.new.items
         ≡ map (λ d. d.vtable) displays.old.items }
@@ -334,15 +340,15 @@ fn direct_next<R: Wait, G: Gate>(
 
 /// Goes through all lines of the display, beside the sessions. Each frame is shown to the
 /// displays that aren't lost, entered, and then published where the script has probes.
-/// Where it finds no memory, it makes no further entry, and lets the seat go, so that the
-/// stage can't be closed any more. Which displays there are stays as it is.
+/// Out of memory, it makes no further entry, and what it holds comes back. Which displays
+/// there are stays as it is.
 pub fn direct<R: Wait, G: Gate>(
     lent: &Lent<R, G>,
     seat: CompositorSeat,
     film: &mut Film,
     displays: &mut Vec<Box<dyn Display>>,
     published: &mut Published,
-) -> Result<CompositorSeat, NoMemory>
+) -> Result<CompositorSeat, Hand>
     requires playable { is_playable lent.now.script.now ≡ true }
     requires of { IsStageOf lent.now.stage.now lent.now.script.now }
     requires fresh { seat ≡ record { stage = lent.now.stage.now; seen = []; mine = [] } }
@@ -363,16 +369,21 @@ pub fn direct<R: Wait, G: Gate>(
         (finished lent.now.script.now.setup (history_of seat.seen)) (history_of seat.seen)
         film.new.set.lost displays.old.items displays.new.items) }
     ensures keeping { OnOk result (keeping_of film.new.kept ≡ keeping_of film.old.kept) }
-    ensures kept { AreKept (λ d. shown d) (λ d. faults d) displays.old.items displays.new.items
-        (λ d. d.vtable) }
+    ensures stopped { IfErr result (λ hand. HasStopped (λ d. shown d) (λ d. faults d)
+        lent.now.script.now lent.now.stage.now (hand_seat hand) displays.old.items
+        displays.new.items) }
+    ensures kinds { map (λ d. d.vtable) displays.new.items
+        ≡ map (λ d. d.vtable) displays.old.items }
 {
     let mut hand = Hand::Idle(seat);
     for place in 0..lent.script.lines.len() {
         let before = film.last.frame;
-        hand = direct_next(lent, hand, film, displays, place)?;
+        match direct_next(lent, hand, film, displays, place) {
+            Ok(next) => hand = next,
+            Err(back) => return Err(back),
+        }
         let Ok(()) = end_line(lent, film, before, place, published) else {
-            drop(hand);
-            return Err(NoMemory);
+            return Err(hand);
         };
     }
     Ok(hand.into_seat())

@@ -20,7 +20,7 @@ use std::sync::Wait;
 
 /// What the compositor holds: its seat, or the frame that is open.
 #[derive(Drop)]
-pub(crate) enum Hand {
+pub enum Hand {
     Idle(CompositorSeat),
     Open(OpenFrame),
 }

@@ -19,6 +19,7 @@ mod session;
 pub use director::direct;
 pub use film::Film;
 pub use gate::{ASKS, Gate, LOOKS, OpenGate};
+pub use hand::Hand;
 pub use lent::Lent;
 pub use probe::{Asking, ProbeBack, run_probe};
 pub use session::{SessionBack, both, run_session};

@@ -1,12 +1,12 @@
 //! A session. All that its lines ask for follows from its own entries, which its seat knows
 //! whatever the others do.
 ghost use Rattle.std.specs.Prelude.{◌≡◌, ◌+◌, ◌<◌, ◌≤◌, ◌^◌, ℕ, List, [], ◌∷◌, ◌++◌, Bool, true};
-ghost use Rattle.std.specs.Prelude.{◌&&◌, false, length, Some, slice_get, IsTrue, OnOk};
+ghost use Rattle.std.specs.Prelude.{◌&&◌, false, length, Some, slice_get, IsTrue, OnErr, OnOk};
 ghost use Rattle.flat_base.specs.declared.ids.Actor.TheVariants.{Session};
 ghost use Rattle.flat_scene.specs.declared.script.Line.{Line};
 ghost use Rattle.flat_scene.specs.declared.script.ScriptLine.{ScriptLine};
 ghost use Rattle.flat_scene.specs.History.{history_of, closes, is_session};
-ghost use Rattle.flat_scene.specs.Interleave.{IsReading, session_lines};
+ghost use Rattle.flat_scene.specs.Interleave.{Follows, IsReading, session_lines};
 ghost use Rattle.flat_rules.specs.Legal.{asked_of, value_of};
 ghost use Rattle.flat_rules.specs.Owned.{is_played_line, is_played_condition};
 ghost use Rattle.flat_playable.specs.Playable.{is_playable};
@@ -124,6 +124,7 @@ fn read_line<R: Wait, G: Gate>(
     requires room { HasRoom seat.old }
     requires few { seat.old.refused + 1 < 2 ^ 32 }
     ensures goes_on { GoesOn seat.old seat.new }
+    ensures kept { OnErr result (seat.new.mine ≡ seat.old.mine) }
     ensures follows { (given : List (ℕ × Line)) → SeatHasRead given seat.old →
         OnOk result (SeatHasRead (given ++ (number, text.now) ∷ []) seat.new) }
 {
@@ -155,6 +156,7 @@ fn read_next<R: Wait, G: Gate>(
         seat.old }
     ensures stands { OnOk result (SessionStands lent.now.script.now lent.now.stage.now
         seat.old.session (place + 1) seat.new) }
+    ensures kept { OnErr result (seat.new.mine ≡ seat.old.mine) }
     ensures same { (seat.new.stage ≡ seat.old.stage) × (seat.new.session ≡ seat.old.session) }
 {
     let line = lent.script.lines.at(place);
@@ -197,6 +199,8 @@ fn read_all<R: Wait, G: Gate>(
     ensures same { (seat.new.stage ≡ seat.old.stage) × (seat.new.session ≡ seat.old.session) }
     ensures read { OnOk result (IsReading lent.now.script.now.setup lent.now.script.now.count
         (session_lines seat.old.session lent.now.script.now.lines) (history_of seat.new.mine)) }
+    ensures begun { Follows lent.now.script.now.setup lent.now.script.now.count
+        (session_lines seat.old.session lent.now.script.now.lines) (history_of seat.new.mine) }
 {
     lines_are_read();
     for i in 0..places.len() {

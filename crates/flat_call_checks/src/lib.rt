@@ -1,7 +1,9 @@
 //! Scripts, plays, races, gates, displays and faults of which tests of `flatland` are made.
 #![tactic(auto)]
 
+mod asking;
 mod call;
+mod composing;
 mod counting;
 mod displays;
 mod faults;
@@ -16,10 +18,13 @@ mod ratios;
 mod reports;
 mod shell;
 mod six;
+mod slices;
 mod sorts;
 mod texts;
 
+pub use asking::race_asked;
 pub use call::{Called, play, race};
+pub use composing::presents_while_composed;
 pub use counting::asked_for;
 pub use displays::{FRAMES, frames_before, play_six, report_with};
 pub use faults::{Fault, first_spared};
@@ -32,9 +37,10 @@ pub use order::InOrder;
 pub use ratios::{RATIOS, RATIOS_ORDER, RATIOS_REPORTED};
 pub use reports::{has_line, is_fault, is_report};
 pub use shell::{SHELL, SHELL_ORDER, SHELL_REPORTED};
+pub use slices::play_slice;
 pub use sorts::{SORTS, SORTS_REPORTED, SORTS_TOLD};
 pub use texts::{
     AWAIT, AWAIT_REPORTED, DISPLAY_WAIT, DISPLAY_WAIT_ORDER, DISPLAY_WAIT_REPORTED, FILL,
-    FILL_REPORTED, NEVER, PROBED, PROBED_ORDER, PROBED_REPORTED, TWO, TWO_REPORTED, WAIT,
-    WAIT_ORDER, WAIT_REPORTED,
+    FILL_REPORTED, NEVER, PROBED, PROBED_AT_ONCE, PROBED_EARLY, PROBED_ORDER, PROBED_REPORTED, TWO,
+    TWO_REPORTED, WAIT, WAIT_ORDER, WAIT_REPORTED,
 };

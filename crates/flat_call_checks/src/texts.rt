@@ -160,6 +160,37 @@ P 16 hit 5 5 frame 1 A 0
 report ends entries 7 frames 2
 ";
 
+/// The order in which the probe is answered right behind the first frame: it sees that one.
+pub const PROBED_AT_ONCE: [(u32, u32); 8] = [
+    (1, 7),
+    (1, 13),
+    (0, 14),
+    (0, 15),
+    (2, 16),
+    (0, 17),
+    (0, 18),
+    (1, 19),
+];
+
+/// The report where the probe is answered before any frame is published.
+pub const PROBED_EARLY: &[u8] = b"report flatland 1
+A 7 CreateView ok
+A 13 Present 1 credits 0
+display 14 begin 1000 frame 1
+> A credits 5
+display 15 done frame 1
+item A 1 fill 255 0 0 255 10 10 m 0 65536 65536 0 0 v 0 0 655360 655360 o 65536 src
+view A - 0 0 6553600 6553600
+> A framepresented 1
+display 17 begin 2000 frame 2
+display 18 done frame 2
+item A 1 fill 255 0 0 255 10 10 m 0 65536 65536 0 0 v 0 0 655360 655360 o 65536 src
+view A - 0 0 6553600 6553600
+A end 0
+P 16 hit 5 5 frame 0
+report ends entries 7 frames 2
+";
+
 /// The same frames, and a probe that awaits the first.
 pub const AWAIT: &[u8] = b"flatland 1
 display 100 100

@@ -1,7 +1,8 @@
 use flat_call_checks::{
     AWAIT, AWAIT_REPORTED, DISPLAY_WAIT, DISPLAY_WAIT_ORDER, DISPLAY_WAIT_REPORTED, FILL,
     FILL_REPORTED, Hearing, HearsBegin, Looking, NEVER, PROBED_ORDER, SORTS, SORTS_REPORTED,
-    SORTS_TOLD, WAIT, WAIT_ORDER, WAIT_REPORTED, asked_for, race, race_held,
+    SORTS_TOLD, WAIT, WAIT_ORDER, WAIT_REPORTED, asked_for, presents_while_composed, race,
+    race_held,
 };
 use std::test::Fail;
 
@@ -97,5 +98,11 @@ fn present_while_a_display_shows(rt: HostRuntime) -> Result<(), Fail> {
         (true, false)
     );
     assert_eq!(rt; called.answer(), (0, FILL_REPORTED));
+    Ok(())
+}
+
+#[test]
+fn present_while_a_frame_is_composed(rt: HostRuntime) -> Result<(), Fail> {
+    assert!(rt; presents_while_composed(&rt, rt.alloc())?);
     Ok(())
 }

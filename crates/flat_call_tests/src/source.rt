@@ -1,3 +1,4 @@
+use flat_call_checks::play_slice;
 use flat_display::{Display, Tally};
 use flat_io::{StdSource, SteadySink};
 use flat_race::OpenGate;
@@ -50,5 +51,12 @@ fn a_source_that_tells_nothing_is_played(rt: HostRuntime) -> Result<(), Fail> {
     );
     assert_eq!(rt; status, 0);
     assert_eq!(rt; sink.bytes(), THREE_REPORTED);
+    Ok(())
+}
+
+#[test]
+fn a_slice_is_played_into_a_vector(rt: HostRuntime) -> Result<(), Fail> {
+    let (status, held) = play_slice(&rt, rt.alloc(), THREE_FRAMES)?;
+    assert_eq!(rt; (status, held.as_slice()), (0, THREE_REPORTED));
     Ok(())
 }

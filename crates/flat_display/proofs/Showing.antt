@@ -12,16 +12,16 @@ use Rattle.flat_display.specs.Shows.Shows.{none, passed, took, failed}
 use Rattle.flat_display.proofs.Losses.{lost-append}
 
 module _ {D : Type 0} {told : D → Option (List FrameOut)} {count : D → ℕ} {frame : FrameOut} {old new : D} where
-  took_it : Gains (frame ∷ []) (told old) (told new) → count old ≤ count new → Takes told count frame old new
-  took_it gains grows = record { gains = gains; grows = grows }
+  took_it : Gains (frame ∷ []) (told old) (told new) → count new ≡ count old → Takes told count frame old new
+  took_it gains steady = record { gains = gains; steady = steady }
 
   failed_it : told new ≡ told old → count old ≤ count new → IsTrue (has_risen (count old) (count new)) → Fails told count frame old new
   failed_it same grows risen = record { same = same; grows = grows; risen = risen }
 
 -- what a show says of its two answers is what is said of it by a test
-pub shown_by_answer : {D A E : Type 0} (told : D → Option (List FrameOut)) (count : D → ℕ) (frame : FrameOut) (r : Result A E) (old new : D) → OnOk r (Gains (frame ∷ []) (told old) (told new)) → OnErr r (IsTrue (has_risen (count old) (count new))) → OnErr r (told new ≡ told old) → count old ≤ count new → (b : Bool) → b ≡ is_ok r → IsShown told count frame b old new
-shown_by_answer told count frame (Ok a) old new gains risen same grows b e = subst (λ t. IsShown told count frame t old new) (sym e) (took_it gains grows)
-shown_by_answer told count frame (Err x) old new gains risen same grows b e = subst (λ t. IsShown told count frame t old new) (sym e) (failed_it same grows risen)
+pub shown_by_answer : {D A E : Type 0} (told : D → Option (List FrameOut)) (count : D → ℕ) (frame : FrameOut) (r : Result A E) (old new : D) → OnOk r (Gains (frame ∷ []) (told old) (told new)) → OnErr r (IsTrue (has_risen (count old) (count new))) → OnErr r (told new ≡ told old) → count old ≤ count new → OnOk r (count new ≡ count old) → (b : Bool) → b ≡ is_ok r → IsShown told count frame b old new
+shown_by_answer told count frame (Ok a) old new gains risen same grows steady b e = subst (λ t. IsShown told count frame t old new) (sym e) (took_it gains steady)
+shown_by_answer told count frame (Err x) old new gains risen same grows steady b e = subst (λ t. IsShown told count frame t old new) (sym e) (failed_it same grows risen)
 
 pub at_place : {X : Type 0} (xs : List X) (place : ℕ) (x : X) → place < length xs → x ≡ get_or xs place x → slice_get xs place ≡ Some x
 at_place xs place x within is = slice_get_read xs (length xs) place x refl within is

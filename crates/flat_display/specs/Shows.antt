@@ -8,10 +8,10 @@ use Rattle.flat_display.specs.Told.{Gains}
 
 -- Displays of this type tell these frames, and have these counts of faults.
 module _ {D : Type 0} (told : D → Option (List FrameOut)) (count : D → ℕ) (frame : FrameOut) where
-  -- A display took the frame.
+  -- A display took the frame: its count of faults is as it was.
   pub record Takes (old new : D) : Type 0 where
     pub gains : Gains (frame ∷ []) (told old) (told new)
-    pub grows : count old ≤ count new
+    pub steady : count new ≡ count old
 
   -- A display failed to take the frame: its count of faults rose, and what it was shown is as before.
   pub record Fails (old new : D) : Type 0 where

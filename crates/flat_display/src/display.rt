@@ -16,10 +16,11 @@ pub trait Display: Drop {
 
     /// Takes a frame. `Failed` comes only where the count of faults rose in this
     /// call (a count that stands at its end counts as risen); then what was shown
-    /// is as before.
+    /// is as before. A show that doesn't fail leaves that count as it was.
     fn show(&mut self, frame: &FrameOut) -> Result<(), Failed>
         ensures shown { OnOk result (Gains (frame.now ∷ []) (shown self.old) (shown self.new)) }
         ensures failed { OnErr result (IsTrue (has_risen (faults self.old) (faults self.new))) }
         ensures same { OnErr result (shown self.new ≡ shown self.old) }
-        ensures faults { faults self.old ≤ faults self.new };
+        ensures faults { faults self.old ≤ faults self.new }
+        ensures steady { OnOk result (faults self.new ≡ faults self.old) };
 }

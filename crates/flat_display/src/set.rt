@@ -134,6 +134,7 @@ fn show_one(display: &mut Box<dyn Display>, frame: &FrameOut) -> Result<(), Fail
     ensures failed { OnErr result (IsTrue (has_risen (faults display.old) (faults display.new))) }
     ensures same { OnErr result (shown display.new ≡ shown display.old) }
     ensures faults { faults display.old ≤ faults display.new }
+    ensures steady { OnOk result (faults display.new ≡ faults display.old) }
     ensures kind { display.new.vtable ≡ display.old.vtable }
 {
     display.show(frame)

@@ -13,12 +13,12 @@ pub record Reading (left left' : Option (List ℕ)) (text : List ℕ) (limit fai
   pub reads : made' ≤ made + length text
   pub room : 0 < buffer
 
--- a text is being written: so many bytes of it stand behind what was held, each write took one at least
+-- a text is being written: so many bytes of it stand behind what was held, each write took one at least, and none failed
 pub record Writing (held held' : Option (List ℕ)) (text : List ℕ) (done failed failed' stalled stalled' made made' : ℕ) : Type 0 where
   pub short : done ≤ length text
   pub written : WhereTold held held' (λ before after. after ≡ before ++ take done text)
-  pub faults : failed ≤ failed'
-  pub stalls : stalled ≤ stalled'
+  pub faults : failed' ≡ failed
+  pub stalls : stalled' ≡ stalled
   pub writes : made' ≤ made + done
 
 -- one read more: what it took stands behind what was given before

@@ -50,8 +50,3 @@ after_write sink piece =
     cond (is_next_among sink.zero sink.calls)
     (record sink { calls = counted sink.calls; stalls = stalls_after sink.stalls piece })
     (record sink { kept = with_piece sink.kept piece; calls = counted sink.calls })
-
--- what a sink over the system counts
-pub record Troubles : Type 0 where
-  pub faults : ℕ
-  pub stalls : ℕ

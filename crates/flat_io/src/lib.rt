@@ -17,5 +17,5 @@ pub use memory::{MemSink, MemSource};
 pub use sink::Sink;
 pub use source::{Failed, Source};
 pub use steady::{SteadySink, SteadySource};
-pub use system::{StdSink, StdSource};
+pub use system::{StdSink, StdSource, TellingRead, TellingWrite};
 pub use whole::{ReadAll, WriteAll, read_all, write_all};

@@ -1,5 +1,5 @@
 ghost use Rattle.std.specs.Prelude.{◌≡◌, ℕ, ◌+◌, ◌<◌, ◌≤◌, length, take, List, Option, None};
-ghost use Rattle.std.specs.Prelude.{IsTrue, IfOk, OnErr};
+ghost use Rattle.std.specs.Prelude.{IsTrue, IfOk, OnOk, OnErr};
 ghost use Rattle.flat_io.specs.Counts.{has_risen};
 ghost use Rattle.flat_io.specs.Told.{Appends};
 
@@ -24,7 +24,9 @@ pub trait Sink {
     /// this call.
     ///
     /// `Failed` comes only where the count of faults rose in this call; then what
-    /// is held is as before. A count that stands at its end counts as risen.
+    /// is held is as before. A count that stands at its end counts as risen. A write that
+    /// doesn't fail leaves the count of faults as it was, and one that takes bytes leaves
+    /// that of stalls too.
     fn write(&mut self, piece: &[u8]) -> Result<usize, Failed>
         ensures within { IfOk result (λ count. count ≤ length piece.now) }
         ensures taken { IfOk result (λ count. Appends (take count piece.now) (held self.old)
@@ -35,5 +37,7 @@ pub trait Sink {
         ensures same { OnErr result (held self.new ≡ held self.old) }
         ensures faults { faults self.old ≤ faults self.new }
         ensures stalls { stalls self.old ≤ stalls self.new }
+        ensures steady { OnOk result (faults self.new ≡ faults self.old) }
+        ensures flows { IfOk result (λ count. 0 < count → stalls self.new ≡ stalls self.old) }
         ensures writes { writes self.new ≤ writes self.old + 1 };
 }

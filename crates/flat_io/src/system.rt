@@ -1,38 +1,101 @@
-ghost use Rattle.std.specs.Prelude.{◌≡◌};
+ghost use Rattle.std.specs.Prelude.{◌≡◌, Bool, true, false, is_some, refl};
 
 use crate::counts::counted;
 use crate::sink::Sink;
 use crate::source::{Failed, Source};
-use std::io::{Read, Write};
-use std::marker::Model;
+use std::alloc::Allocator;
+use std::io::{Cursor, Print, Printer, Read, StdinLock, Write};
 
-/// A reader of the system, as a source that counts its failures and tells no
-/// bytes. Contracts see the count.
+/// A reader of std that tells the bytes that it has left at any time, or never: its type
+/// says which.
+pub trait TellingRead: Read {
+    // Whether it tells them.
+    ghost tells: { Bool };
+
+    ghost always: { (reader : Self) → is_some (Self.remaining reader) ≡ tells };
+}
+
+impl TellingRead for &[u8] {
+    ghost tells = { true };
+
+    ghost always = { λ _. refl };
+}
+
+impl TellingRead for Cursor<&[u8]> {
+    ghost tells = { true };
+
+    ghost always = { λ _. refl };
+}
+
+impl<R: TellingRead> TellingRead for &mut R {
+    ghost tells = { R.tells };
+
+    ghost always = { λ reader. R.always reader.now };
+}
+
+/// Of standard input std tells nothing.
+impl TellingRead for StdinLock<'_> {
+    ghost tells = { false };
+
+    ghost always = { λ _. refl };
+}
+
+/// A writer of std that tells the bytes that it holds at any time, or never: its type says
+/// which.
+pub trait TellingWrite: Write {
+    // Whether it tells them.
+    ghost tells: { Bool };
+
+    ghost always: { (writer : Self) → is_some (Self.contents writer) ≡ tells };
+}
+
+impl<A: Allocator> TellingWrite for Vec<u8, A> {
+    ghost tells = { true };
+
+    ghost always = { λ _. refl };
+}
+
+impl<W: TellingWrite> TellingWrite for &mut W {
+    ghost tells = { W.tells };
+
+    ghost always = { λ writer. W.always writer.now };
+}
+
+/// Of standard output std tells nothing.
+impl<P: Print> TellingWrite for Printer<'_, P> {
+    ghost tells = { false };
+
+    ghost always = { λ _. refl };
+}
+
+/// A reader of std, as a source that tells the bytes that the reader tells, and counts its
+/// failures.
 #[derive(Drop)]
-pub struct StdSource<R: Read> {
+pub struct StdSource<R: TellingRead> {
     inner: R,
     failures: u64,
 }
 
-impl<R: Read> Model for StdSource<R> {
-    ghost use Rattle.std.specs.Prelude.{ℕ};
-
-    ghost Value = { ℕ };
-
-    ghost view = { λ s. s.failures };
-}
-
-impl<R: Read> StdSource<R> {
+impl<R: TellingRead> StdSource<R> {
     /// A source over a reader. Nothing has failed yet.
     pub fn new(inner: R) -> StdSource<R>
-        ensures { result ≡ 0 }
+        ensures { result ≡ record { inner = inner; failures = 0 } }
     {
         StdSource { inner, failures: 0 }
     }
+
+    /// The reader.
+    pub fn into_inner(self) -> R
+        ensures { result ≡ self.inner }
+    {
+        self.inner
+    }
 }
 
-impl<R: Read> Source for StdSource<R> {
-    ghost faults = { λ failures. failures };
+impl<R: TellingRead> Source for StdSource<R> {
+    ghost left = { λ s. R.remaining s.inner };
+
+    ghost faults = { λ s. s.failures };
 
     /// Whatever error the reader answers is a failure.
     fn read(&mut self, into: &mut [u8]) -> Result<usize, Failed> {
@@ -46,27 +109,19 @@ impl<R: Read> Source for StdSource<R> {
     }
 }
 
-/// A writer of the system, as a sink that counts its failures and its stalls and
-/// tells no bytes. Contracts see the counts.
+/// A writer of std, as a sink that tells the bytes that the writer tells, and counts its
+/// failures and its stalls.
 #[derive(Drop)]
-pub struct StdSink<W: Write> {
+pub struct StdSink<W: TellingWrite> {
     inner: W,
     failures: u64,
     stalls: u64,
 }
 
-impl<W: Write> Model for StdSink<W> {
-    ghost use Rattle.flat_io.specs.Kept.{Troubles};
-
-    ghost Value = { Troubles };
-
-    ghost view = { λ s. record { faults = s.failures; stalls = s.stalls } };
-}
-
-impl<W: Write> StdSink<W> {
+impl<W: TellingWrite> StdSink<W> {
     /// A sink over a writer. Nothing has failed yet.
     pub fn new(inner: W) -> StdSink<W>
-        ensures { result ≡ record { faults = 0; stalls = 0 } }
+        ensures { result ≡ record { inner = inner; failures = 0; stalls = 0 } }
     {
         StdSink {
             inner,
@@ -74,10 +129,19 @@ impl<W: Write> StdSink<W> {
             stalls: 0,
         }
     }
+
+    /// The writer.
+    pub fn into_inner(self) -> W
+        ensures { result ≡ self.inner }
+    {
+        self.inner
+    }
 }
 
-impl<W: Write> Sink for StdSink<W> {
-    ghost faults = { λ s. s.faults };
+impl<W: TellingWrite> Sink for StdSink<W> {
+    ghost held = { λ s. W.contents s.inner };
+
+    ghost faults = { λ s. s.failures };
 
     ghost stalls = { λ s. s.stalls };
 

@@ -90,7 +90,8 @@ fn zeros(alloc: Global, count: usize) -> Result<Vec<u8>, NoMemory>
 ///
 /// After an Ok the sink holds the text behind what it held. `Fault` comes only
 /// where the count of faults or the count of stalls of the sink rose in this
-/// call, and then the sink holds a prefix of the text behind what it held.
+/// call, and then the sink holds a prefix of the text behind what it held. After an Ok
+/// both counts are as they were.
 pub fn write_all<W: Sink>(sink: &mut W, text: &[u8]) -> Result<(), WriteAll>
     ensures whole { OnOk result (Appends text.now (W.held sink.old) (W.held sink.new)) }
     ensures part { OnErr result (AppendsPrefix text.now (W.held sink.old) (W.held sink.new)) }
@@ -98,6 +99,8 @@ pub fn write_all<W: Sink>(sink: &mut W, text: &[u8]) -> Result<(), WriteAll>
         has_risen (W.stalls sink.old) (W.stalls sink.new))) }
     ensures faults { W.faults sink.old ≤ W.faults sink.new }
     ensures stalls { W.stalls sink.old ≤ W.stalls sink.new }
+    ensures steady { OnOk result (W.faults sink.new ≡ W.faults sink.old) }
+    ensures flows { OnOk result (W.stalls sink.new ≡ W.stalls sink.old) }
     ensures writes { W.writes sink.new ≤ W.writes sink.old + length text.now }
 {
     let mut written = 0;

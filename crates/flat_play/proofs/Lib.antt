@@ -2,6 +2,7 @@ pub mod Composing
 pub mod Displayed
 pub mod Ending
 pub mod Examples
+pub mod Explained
 pub mod Growing
 pub mod InOrder
 pub mod InTurn

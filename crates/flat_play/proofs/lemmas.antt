@@ -1,5 +1,6 @@
 -- Lemmas that other crates may cite.
 pub mod Alone
+pub mod Begun
 pub mod DisplaySteps
 pub mod FewViews
 pub mod FramesShown

@@ -1,3 +1,5 @@
+pub mod Beginning
+pub mod Explaining
 pub mod Keeping
 pub mod Last
 pub mod Playing

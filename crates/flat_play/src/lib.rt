@@ -11,6 +11,7 @@
 //! item is set (Slots).
 #![tactic(auto)]
 
+mod explaining;
 mod frame;
 mod kept;
 mod play;
@@ -22,4 +23,4 @@ mod trees;
 pub use frame::{LastFrame, show_last};
 pub use kept::{Keeping, Kept};
 pub use play::Play;
-pub use run::{Played, let_go, open_board, play_script, play_touched};
+pub use run::{Played, let_go, open_board, play_explained, play_script, play_touched};

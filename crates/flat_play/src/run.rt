@@ -9,14 +9,18 @@ ghost use Rattle.flat_scene.specs.Setups.{is_setup};
 ghost use Rattle.flat_playable.specs.Playable.{is_playable};
 ghost use Rattle.flat_report.specs.Probes.{ProbesAnswered, frames_seen};
 ghost use Rattle.flat_play.specs.Probing.{seen_in_turn};
+ghost use Rattle.flat_play.specs.Beginning.{AreBegun};
 ghost use Rattle.flat_play.specs.Playing.{with_one_more, shares_of, AreNew, PlayStands, HasPlayed};
 ghost use Rattle.flat_report.specs.Report.{finished};
+ghost use Rattle.flat_why.specs.Text.{why_text};
+ghost use Rattle.flat_play.specs.Explaining.{StandsExplained, ToldExplained, is_on};
 ghost use Rattle.flat_play.specs.Keeping.{keeping_of};
 ghost use Rattle.flat_display.specs.Had.{AreKept};
 ghost use Rattle.flat_play.specs.Touches.{touch_of};
 ghost use Rattle.flat_pointer.specs.Lines.{rise_after};
 ghost use Rattle.flat_play.specs.Showing.{HaveSeen};
 
+use crate::explaining::Explaining;
 use crate::frame::LastFrame;
 use crate::kept::{Keeping, Kept};
 use crate::play::Play;
@@ -133,6 +137,7 @@ fn play_each(
     lines: &[PointerLine],
     found: &mut Vec<Touch>,
     answers: &mut Vec<ProbeAnswers>,
+    explaining: &mut Explaining,
     set: &mut DisplaySet,
     displays: &mut Vec<Box<dyn Display>>,
 ) -> Result<(), NoMemory>
@@ -142,6 +147,7 @@ fn play_each(
     requires no_answer { found.old.items ≡ [] }
     requires unasked { answers.old.items ≡ replicate script.now.setup.probes [] }
     requires rise { rise_after 0 lines.now ≡ true }
+    requires unexplained { StandsExplained script.now [] explaining.old }
     requires number { length displays.old.items ≡ set.old.displays }
     requires few { set.old.displays < 2 ^ 32 }
     requires none { set.old.lost ≡ [] }
@@ -152,21 +158,32 @@ fn play_each(
         answers.new.items) }
     ensures in_turn { OnOk result (frames_seen answers.new.items
         ≡ seen_in_turn script.now play.new.board.history) }
+    ensures explained { OnOk result (StandsExplained script.now play.new.board.history
+        explaining.new) }
+    ensures on { OnOk result (is_on explaining.new ≡ is_on explaining.old) }
     ensures keeping { OnOk result (keeping_of play.new.kept ≡ keeping_of play.old.kept) }
     ensures seen { OnOk result (HaveSeen (λ d. shown d) (λ d. faults d)
         (finished script.now.setup play.new.board.history) play.new.board.history set.new.lost
         displays.old.items displays.new.items) }
-    ensures kept { AreKept (λ d. shown d) (λ d. faults d) displays.old.items displays.new.items
-        (λ d. d.vtable) }
+    ensures kept { AreKept (λ d. shown d) (λ d. faults d) (AreBegun script.now)
+        displays.old.items displays.new.items (λ d. d.vtable) }
 {
     let setup = &script.setup;
     let mut left = lines;
     for place in 0..script.lines.len() {
+        // proof: the entries so far are legal.
+        let _journal = play.board.journal();
         let line = script.lines.at(place);
         left = answer_upto(alloc, setup, &mut play.last, left, line.number, found)?;
         answer_line(alloc, setup, &mut play.last, line, answers)?;
+        let entries = play.board.journal().entries.len();
         play.play_line(alloc, script, place, set, displays)?;
+        // proof: and so are they with those of the line.
+        let _journal = play.board.journal();
+        explaining.note(alloc, script, play, entries)?;
     }
+    // proof: so are all of them.
+    let _journal = play.board.journal();
     answer_all(alloc, setup, &mut play.last, left, found)?;
     Ok(())
 }
@@ -178,6 +195,7 @@ struct LinesPlayed {
     play: Play,
     touches: Vec<Touch>,
     probes: Vec<ProbeAnswers>,
+    explaining: Explaining,
 }
 
 /// Plays a script to the end of its lines.
@@ -186,6 +204,7 @@ fn play_lines(
     script: &Script,
     keeping: Keeping,
     lines: &[PointerLine],
+    asked: bool,
     set: &mut DisplaySet,
     displays: &mut Vec<Box<dyn Display>>,
 ) -> Result<LinesPlayed, NoMemory>
@@ -201,15 +220,19 @@ fn play_lines(
         ran.probes.items) }
     ensures in_turn { IfOk result (λ ran. frames_seen ran.probes.items
         ≡ seen_in_turn script.now ran.play.board.history) }
+    ensures explained { IfOk result (λ ran. StandsExplained script.now ran.play.board.history
+        ran.explaining) }
+    ensures on { IfOk result (λ ran. is_on ran.explaining ≡ asked) }
     ensures keeping { IfOk result (λ ran. keeping_of ran.play.kept ≡ keeping) }
     ensures seen { IfOk result (λ ran. HaveSeen (λ d. shown d) (λ d. faults d)
         (finished script.now.setup ran.play.board.history) ran.play.board.history set.new.lost
         displays.old.items displays.new.items) }
-    ensures kept { AreKept (λ d. shown d) (λ d. faults d) displays.old.items displays.new.items
-        (λ d. d.vtable) }
+    ensures kept { AreKept (λ d. shown d) (λ d. faults d) (AreBegun script.now)
+        displays.old.items displays.new.items (λ d. d.vtable) }
 {
     let mut probes = no_answers(alloc, script.setup.probes)?;
     let mut touches = Vec::new(alloc);
+    let mut explaining = Explaining::new(alloc, script, asked)?;
     let mut play = start(alloc, script, keeping)?;
     let ended = play_each(
         alloc,
@@ -218,6 +241,7 @@ fn play_lines(
         lines,
         &mut touches,
         &mut probes,
+        &mut explaining,
         set,
         displays,
     );
@@ -226,6 +250,7 @@ fn play_lines(
             play,
             touches,
             probes,
+            explaining,
         }),
         Err(NoMemory) => {
             drop(play);
@@ -277,6 +302,71 @@ pub fn let_go(board: Board) {
     drop(board);
 }
 
+/// What is asked of a play beside its report.
+type Asked = (Played, Vec<Touch>, Explaining);
+
+/// Plays a script to its end, and answers lines of pointers on the way: whom one that goes
+/// down hits, in the frame that was finished last before its line. Where it is asked for,
+/// it notes why sessions are on the display, or aren't.
+fn play_whole(
+    alloc: Global,
+    script: &Script,
+    keeping: Keeping,
+    lines: &[PointerLine],
+    asked: bool,
+    displays: &mut Vec<Box<dyn Display>>,
+) -> Result<Asked, NoMemory>
+    requires playable { is_playable script.now ≡ true }
+    requires rise { rise_after 0 lines.now ≡ true }
+    requires few { length displays.old.items < 2 ^ 32 }
+    ensures played { IfOk result (λ ran. HasPlayed script.now ran.0.board ran.0.kept
+        ran.0.answers) }
+    ensures touches { IfOk result (λ ran. ran.1.items
+        ≡ map (touch_of script.now.setup ran.0.board.history) lines.now) }
+    ensures probes { IfOk result (λ ran. ProbesAnswered script.now ran.0.board.history
+        ran.0.probes.items) }
+    ensures in_turn { IfOk result (λ ran. frames_seen ran.0.probes.items
+        ≡ seen_in_turn script.now ran.0.board.history) }
+    ensures explained { IfOk result (λ ran. ToldExplained script.now ran.0.board.history
+        ran.2) }
+    ensures on { IfOk result (λ ran. is_on ran.2 ≡ asked) }
+    ensures written { IfOk result (λ ran. IsWritten script.now.setup ran.0.board.history) }
+    ensures keeping { IfOk result (λ ran. keeping_of ran.0.kept ≡ keeping) }
+    ensures seen { IfOk result (λ ran. HaveSeen (λ d. shown d) (λ d. faults d)
+        (finished script.now.setup ran.0.board.history) ran.0.board.history ran.0.set.lost
+        displays.old.items displays.new.items) }
+    ensures kept { AreKept (λ d. shown d) (λ d. faults d) (AreBegun script.now)
+        displays.old.items displays.new.items (λ d. d.vtable) }
+{
+    let mut set = DisplaySet::new(alloc, displays.len() as u32)?;
+    let LinesPlayed {
+        mut play,
+        touches,
+        probes,
+        explaining,
+    } = play_lines(alloc, script, keeping, lines, asked, &mut set, displays)?;
+    play.end_all(script);
+    let Play {
+        board,
+        readers: _,
+        shown: _,
+        changed: _,
+        ratio: _,
+        with_view: _,
+        kept,
+        last: _,
+        answers,
+    } = play;
+    let played = Played {
+        board,
+        kept,
+        answers,
+        probes,
+        set,
+    };
+    Ok((played, touches, explaining))
+}
+
 /// Plays a script to its end, as [`play_script`] does, and answers lines of pointers
 /// on the way: whom one that goes down hits, in the frame that was finished last
 /// before its line.
@@ -303,34 +393,12 @@ pub fn play_touched(
     ensures seen { IfOk result (λ ran. HaveSeen (λ d. shown d) (λ d. faults d)
         (finished script.now.setup ran.0.board.history) ran.0.board.history ran.0.set.lost
         displays.old.items displays.new.items) }
-    ensures kept { AreKept (λ d. shown d) (λ d. faults d) displays.old.items displays.new.items
-        (λ d. d.vtable) }
+    ensures kept { AreKept (λ d. shown d) (λ d. faults d) (AreBegun script.now)
+        displays.old.items displays.new.items (λ d. d.vtable) }
 {
-    let mut set = DisplaySet::new(alloc, displays.len() as u32)?;
-    let LinesPlayed {
-        mut play,
-        touches,
-        probes,
-    } = play_lines(alloc, script, keeping, lines, &mut set, displays)?;
-    play.end_all(script);
-    let Play {
-        board,
-        readers: _,
-        shown: _,
-        changed: _,
-        ratio: _,
-        with_view: _,
-        kept,
-        last: _,
-        answers,
-    } = play;
-    let played = Played {
-        board,
-        kept,
-        answers,
-        probes,
-        set,
-    };
+    let (played, touches, _explaining) = play_whole(
+        alloc, script, keeping, lines, false, displays,
+    )?;
     Ok((played, touches))
 }
 
@@ -355,9 +423,49 @@ pub fn play_script(
     ensures seen { IfOk result (λ played. HaveSeen (λ d. shown d) (λ d. faults d)
         (finished script.now.setup played.board.history) played.board.history played.set.lost
         displays.old.items displays.new.items) }
-    ensures kept { AreKept (λ d. shown d) (λ d. faults d) displays.old.items displays.new.items
-        (λ d. d.vtable) }
+    ensures kept { AreKept (λ d. shown d) (λ d. faults d) (AreBegun script.now)
+        displays.old.items displays.new.items (λ d. d.vtable) }
 {
     let (played, _touches) = play_touched(alloc, script, keeping, &[], displays)?;
     Ok(played)
+}
+
+/// Plays a script to its end, as [`play_script`] does, and writes of each finished frame why
+/// each session is on the display, or isn't.
+pub fn play_explained(
+    alloc: Global,
+    script: &Script,
+    displays: &mut Vec<Box<dyn Display>>,
+) -> Result<(Played, Vec<u8>), NoMemory>
+    requires playable { is_playable script.now ≡ true }
+    requires few { length displays.old.items < 2 ^ 32 }
+    ensures played { IfOk result (λ ran. HasPlayed script.now ran.0.board ran.0.kept
+        ran.0.answers) }
+    ensures text { IfOk result (λ ran. ran.1.items ≡ why_text script.now ran.0.board.history) }
+    ensures probes { IfOk result (λ ran. ProbesAnswered script.now ran.0.board.history
+        ran.0.probes.items) }
+    ensures in_turn { IfOk result (λ ran. frames_seen ran.0.probes.items
+        ≡ seen_in_turn script.now ran.0.board.history) }
+    ensures written { IfOk result (λ ran. IsWritten script.now.setup ran.0.board.history) }
+    ensures seen { IfOk result (λ ran. HaveSeen (λ d. shown d) (λ d. faults d)
+        (finished script.now.setup ran.0.board.history) ran.0.board.history ran.0.set.lost
+        displays.old.items displays.new.items) }
+    ensures kept { AreKept (λ d. shown d) (λ d. faults d) (AreBegun script.now)
+        displays.old.items displays.new.items (λ d. d.vtable) }
+{
+    let (played, _touches, explaining) = play_whole(
+        alloc,
+        script,
+        Keeping::Last,
+        &[],
+        true,
+        displays,
+    )?;
+    match explaining.into_text() {
+        Ok(text) => Ok((played, text)),
+        Err(NoMemory) => {
+            played.let_go();
+            Err(NoMemory)
+        }
+    }
 }

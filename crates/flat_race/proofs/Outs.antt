@@ -3,7 +3,7 @@ use Rattle.std.proofs.Common.{◌≡◌, ◌⊎◌, inl, inr, ℕ, zero, suc, �
 use Rattle.std.proofs.lemmas.Bool.Decides.{nat_tests}
 use Rattle.flat_base.specs.declared.ids.SessionNo.{SessionNo}
 use Rattle.flat_scene.specs.History.{history_of}
-use Rattle.flat_scene.specs.Interleave.{IsReading, session_lines}
+use Rattle.flat_scene.specs.Interleave.{Follows, IsReading, session_lines}
 use Rattle.flat_places.specs.declared.script.Script.{Script}
 use Rattle.flat_play.proofs.lemmas.Slots.{got-other, got-same, set-length}
 use Rattle.flat_stage.specs.Homes.{AreFresh, fresh_view, seats_without, session_at}
@@ -62,6 +62,13 @@ module _ (view : StageView) (script : Script) where
         home = λ s low high. elim (eq-or-lt_of_le low) [
           | inl e ↦ subst (λ (j : ℕ). (seat : SessionView) × (slice_get seats' j ≡ Some (Some seat)) × (seat.session.0 ≡ j + 1)) e (back.seat, here, n)
           | inr l ↦ let h = was.home s (omega (arith, l)) high in (h.0, other s l ∙ h.1, h.2)
+        ];
+        begun = λ s seat low high got. elim (eq-or-lt_of_le low) [
+          | inl e ↦
+              let same : seat ≡ back.seat = (let both : Some (Some seat) ≡ Some (Some back.seat) = sym got ∙ ap (slice_get seats') (sym e) ∙ here in cc) in
+              subst (λ (j : ℕ). Follows script.setup script.count (session_lines (record { 0 = j + 1 }) script.lines) (history_of seat.mine)) e
+              (subst (λ (v : SessionView). Follows script.setup script.count (session_lines (record { 0 = k + 1 }) script.lines) (history_of v.mine)) (sym same) run.begun)
+          | inr l ↦ was.begun s seat (omega (arith, l)) high (sym (other s l) ∙ got)
         ];
         read = λ s seat low high got whole. elim (eq-or-lt_of_le low) [
           | inl e ↦

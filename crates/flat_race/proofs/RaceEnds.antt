@@ -1,6 +1,5 @@
 -- What is known of a race once its threads have ended.
-use Rattle.std.proofs.Common.{◌≡◌, ℕ, List, Option, Result, Ok, IfOk, subst}
-use Rattle.flat_base.specs.declared.errors.NoMemory.{NoMemory}
+use Rattle.std.proofs.Common.{◌≡◌, ℕ, List, map, Option, None, Some, Result, Ok, Err, IfErr, IfOk, refl, sym, subst}
 use Rattle.flat_scene.specs.declared.frames.FrameOut.{FrameOut}
 use Rattle.flat_scene.specs.declared.setup.Setup.{Setup}
 use Rattle.flat_scene.specs.History.{history_of}
@@ -11,15 +10,36 @@ use Rattle.flat_play.specs.declared.kept.Keeping.{Keeping}
 use Rattle.flat_play.specs.Keeping.{keeping_of}
 use Rattle.flat_play.specs.Showing.{HaveSeen}
 use Rattle.flat_race.specs.declared.running.Ended.{Ended}
-use Rattle.flat_race.specs.Ends.{HaveEnded}
+use Rattle.flat_race.specs.declared.running.Stopped.{Stopped}
+use Rattle.flat_display.specs.Had.{AreKept}
+use Rattle.flat_play.specs.Beginning.{AreBegun}
+use Rattle.flat_play.proofs.lemmas.Begun.{none-begun}
+use Rattle.flat_play.proofs.lemmas.Seen.{kept_none}
+use Rattle.flat_actors.specs.Directing.{hand_seat}
+use Rattle.flat_race.specs.Ends.{HaveEnded, IsStopped}
 
-module _ (r : Result Ended NoMemory) (e : Ended) (is : r ≡ Ok e) where
+module _ (r : Result Ended (Option Stopped)) (e : Ended) (is : r ≡ Ok e) where
   pub ok_ended : (view : StageView) (script : Script) → IfOk r (λ e. HaveEnded view script e.compositor e.seats e.film) → HaveEnded view script e.compositor e.seats e.film
-  ok_ended view script holds = let P : Result Ended NoMemory → Type 0 = λ r. IfOk r (λ e. HaveEnded view script e.compositor e.seats e.film) in subst P is holds
+  ok_ended view script holds = let P : Result Ended (Option Stopped) → Type 0 = λ r. IfOk r (λ e. HaveEnded view script e.compositor e.seats e.film) in subst P is holds
 
   pub ok_seen : {D : Type 0} (told : D → Option (List FrameOut)) (count : D → ℕ) (setup : Setup) (olds news : List D) → IfOk r (λ e. HaveSeen told count (finished setup (history_of e.compositor.seen)) (history_of e.compositor.seen) e.film.set.lost olds news)
       → HaveSeen told count (finished setup (history_of e.compositor.seen)) (history_of e.compositor.seen) e.film.set.lost olds news
-  ok_seen told count setup olds news holds = let P : Result Ended NoMemory → Type 0 = λ r. IfOk r (λ e. HaveSeen told count (finished setup (history_of e.compositor.seen)) (history_of e.compositor.seen) e.film.set.lost olds news) in subst P is holds
+  ok_seen told count setup olds news holds = let P : Result Ended (Option Stopped) → Type 0 = λ r. IfOk r (λ e. HaveSeen told count (finished setup (history_of e.compositor.seen)) (history_of e.compositor.seen) e.film.set.lost olds news) in subst P is holds
 
   pub ok_kept : (keeping : Keeping) → IfOk r (λ e. keeping_of e.film.kept ≡ keeping) → keeping_of e.film.kept ≡ keeping
-  ok_kept keeping holds = let P : Result Ended NoMemory → Type 0 = λ r. IfOk r (λ e. keeping_of e.film.kept ≡ keeping) in subst P is holds
+  ok_kept keeping holds = let P : Result Ended (Option Stopped) → Type 0 = λ r. IfOk r (λ e. keeping_of e.film.kept ≡ keeping) in subst P is holds
+
+-- What is known where an actor found no memory.
+module _ {D K : Type 0} (told : D → Option (List FrameOut)) (count : D → ℕ) (kind : D → K) (view : StageView) (script : Script) (olds news : List D) where
+  kept_where : (why : Option Stopped) → IsStopped told count view script olds news why → map kind news ≡ map kind olds → ((one : Stopped) → why ≡ Some one → AreBegun script (finished script.setup (history_of (hand_seat one.hand).seen))) → AreKept told count (AreBegun script) olds news kind
+  kept_where (Some stopped) stops kinds begun = record { kinds = kinds; some = (stops.stopped.lost, finished script.setup (history_of (hand_seat stopped.hand).seen), begun stopped refl, stops.stopped.driven) }
+  kept_where None same kinds begun =
+      let K : List D → Type 0 = λ ds. AreKept told count (AreBegun script) olds ds kind in
+      subst K (sym same) (kept_none told count (AreBegun script) kind olds (none-begun script))
+
+  pub kept_stopped : (r : Result Ended (Option Stopped)) → IfErr r (λ stopped. IsStopped told count view script olds news stopped) → (why : Option Stopped) → r ≡ Err why → map kind news ≡ map kind olds → ((one : Stopped) → why ≡ Some one → AreBegun script (finished script.setup (history_of (hand_seat one.hand).seen)))
+      → AreKept told count (AreBegun script) olds news kind
+  kept_stopped r holds why is kinds begun =
+      let P : Result Ended (Option Stopped) → Type 0 = λ r. IfErr r (λ stopped. IsStopped told count view script olds news stopped) in
+      let stops : IsStopped told count view script olds news why = subst P is holds in
+      kept_where why stops kinds begun

@@ -1,5 +1,6 @@
--- What all seats are once all actors came to their end.
-use Rattle.std.specs.Prelude.{◌≡◌, true, length}
+-- What all seats are once all actors came to their end, or stopped on the way.
+use Rattle.std.specs.Prelude.{◌≡◌, ℕ, Bool, true, List, length, Option, Some, None}
+use Rattle.flat_scene.specs.declared.frames.FrameOut.{FrameOut}
 use Rattle.flat_scene.specs.History.{history_of}
 use Rattle.flat_places.specs.declared.script.Script.{Script}
 use Rattle.flat_stage.specs.Displays.{DisplayView}
@@ -7,7 +8,9 @@ use Rattle.flat_stage.specs.Homes.{SeatsView}
 use Rattle.flat_stage.specs.Seats.{StageView}
 use Rattle.flat_actors.specs.declared.film.Film.{Film}
 use Rattle.flat_report.specs.Probes.{ProbesAnswered}
-use Rattle.flat_actors.specs.Directing.{SeatStands, FilmStands}
+use Rattle.flat_actors.specs.declared.hand.Hand.{Hand}
+use Rattle.flat_actors.specs.Directing.{HasStopped, SeatStands, FilmStands, hand_seat}
+use Rattle.flat_race.specs.declared.running.Stopped.{Stopped}
 use Rattle.flat_race.specs.SessionThreads.{AreBack}
 
 -- The compositor has read all its lines, and so has each session, which ended; and the lines of all probes are answered.
@@ -17,3 +20,28 @@ pub record HaveEnded (view : StageView) (script : Script) (compositor : DisplayV
   pub own : seats.stage ≡ view
   pub back : AreBack view script 0 true seats.seats
   pub probed : ProbesAnswered script (history_of compositor.seen) film.probes.items
+
+-- The compositor stands somewhere in its lines, and each session is back, from its End or from before it.
+pub record AreAtRest (view : StageView) (script : Script) (compositor : DisplayView) (seats : SeatsView) : Type 0 where
+  pub place : ℕ
+  pub directed : SeatStands script view place compositor
+  pub own : seats.stage ≡ view
+  pub are_whole : Bool
+  pub back : AreBack view script 0 are_whole seats.seats
+
+-- Displays of a type tell these frames, and have these counts of faults.
+module _ {D : Type 0} (told : D → Option (List FrameOut)) (count : D → ℕ) (view : StageView) (script : Script) (olds news : List D) where
+  -- All actors stopped, and the displays have had the frames of the history that the compositor has seen.
+  pub record HaveStopped (compositor : DisplayView) (seats : SeatsView) : Type 0 where
+    pub rest : AreAtRest view script compositor seats
+    pub stopped : HasStopped told count script view compositor olds news
+
+  -- Where the compositor holds something, all actors stopped so; else nothing was shown.
+  abbrev pub StopsWith : SeatsView → Option Hand → Type 0
+  StopsWith seats None = news ≡ olds
+  StopsWith seats (Some hand) = HaveStopped (hand_seat hand) seats
+
+  -- the same of what they leave
+  abbrev pub IsStopped : Option Stopped → Type 0
+  IsStopped None = news ≡ olds
+  IsStopped (Some stopped) = HaveStopped (hand_seat stopped.hand) stopped.seats

@@ -2,7 +2,7 @@
 use Rattle.std.specs.Prelude.{◌≡◌, ℕ, ◌+◌, ◌<◌, ◌≤◌, Bool, true, List, length, Option, Some, slice_get}
 use Rattle.flat_base.specs.declared.ids.SessionNo.{SessionNo}
 use Rattle.flat_scene.specs.History.{history_of}
-use Rattle.flat_scene.specs.Interleave.{IsReading, session_lines}
+use Rattle.flat_scene.specs.Interleave.{Follows, IsReading, session_lines}
 use Rattle.flat_places.specs.declared.script.Script.{Script}
 use Rattle.flat_stage.specs.Homes.{fresh_view}
 use Rattle.flat_stage.specs.Seats.{SessionView, StageView}
@@ -25,9 +25,11 @@ pub record AreLeft (view : StageView) (sessions taken : ℕ) (seats : List (Opti
   pub count : length seats ≡ sessions
   pub each : (k : ℕ) → taken ≤ k → k < sessions → slice_get seats k ≡ Some (Some (fresh_view view (record { 0 = k + 1 })))
 
--- The seats of the sessions past the first ones are back. Where all of these came to their End, the entries of each are the reading of its lines.
+-- The seats of the sessions past the first ones are back. The entries of each are the reading of its lines so far, and of all of them if all sessions came to their End.
 pub record AreBack (view : StageView) (script : Script) (first : ℕ) (are_whole : Bool) (seats : List (Option SessionView)) : Type 0 where
   pub count : length seats ≡ script.setup.sessions
   pub home : (k : ℕ) → first ≤ k → k < script.setup.sessions → (seat : SessionView) × (slice_get seats k ≡ Some (Some seat)) × (seat.session.0 ≡ k + 1)
+  pub begun : (k : ℕ) (seat : SessionView) → first ≤ k → k < script.setup.sessions → slice_get seats k ≡ Some (Some seat)
+      → Follows script.setup script.count (session_lines (record { 0 = k + 1 }) script.lines) (history_of seat.mine)
   pub read : (k : ℕ) (seat : SessionView) → first ≤ k → k < script.setup.sessions → slice_get seats k ≡ Some (Some seat) → are_whole ≡ true
       → IsReading script.setup script.count (session_lines (record { 0 = k + 1 }) script.lines) (history_of seat.mine)

@@ -1,26 +1,34 @@
 //! A race. Each seat knows its own part of the history, and what others did only to the
 //! point that it has seen; the whole is known when all seats are home (`close`).
-ghost use Rattle.std.specs.Prelude.{◌≡◌, ◌<◌, ◌^◌, [], true, length, IfOk};
+ghost use Rattle.std.specs.Prelude.{◌≡◌, ◌<◌, ◌^◌, ℕ, [], true, length, reverse, slice_get, Some};
+ghost use Rattle.std.specs.Prelude.{IfOk};
+ghost use Rattle.std.specs.List.{list_all};
+ghost use Rattle.std.specs.Option.{is_some};
 ghost use Rattle.flat_playable.specs.Playable.{is_playable};
 ghost use Rattle.flat_display.specs.Had.{AreKept};
 ghost use Rattle.flat_scene.specs.History.{history_of};
-ghost use Rattle.flat_rules.specs.Legal.{frames};
+ghost use Rattle.flat_lock.specs.History.{StartsWith};
+ghost use Rattle.flat_rules.specs.Legal.{frames, Legal};
 ghost use Rattle.flat_stage.specs.Homes.{AreFresh};
+ghost use Rattle.flat_stage.specs.Seats.{SessionView, entries_of_seat, setup_of};
 ghost use Rattle.flat_report.specs.Report.{finished};
+ghost use Rattle.flat_play.specs.Beginning.{AreBegun};
 ghost use Rattle.flat_play.specs.Keeping.{keeping_of};
 ghost use Rattle.flat_play.specs.Playing.{HasPlayed};
 ghost use Rattle.flat_play.specs.Showing.{HaveSeen};
-ghost use Rattle.flat_actors.specs.Directing.{FilmStands};
-ghost use Rattle.flat_race.specs.Ends.{HaveEnded};
+ghost use Rattle.flat_actors.specs.Directing.{FilmStands, hand_seat};
+ghost use Rattle.flat_race.specs.declared.running.Stopped.{Stopped};
+ghost use Rattle.flat_race.specs.Ends.{AreAtRest, HaveEnded};
 ghost use Rattle.flat_report.specs.Probes.{ProbesAnswered};
 ghost use Rattle.flat_actors.specs.Sessions.{IsStageOf};
 
-use crate::running::{Ended, on_threads};
-use flat_actors::{Film, Gate};
+use crate::running::{Ended, Raced, Stopped, on_threads};
+use flat_actors::{Film, Gate, Hand};
 use flat_base::NoMemory;
+use flat_core::Board;
 use flat_display::{Display, DisplaySet};
 use flat_places::Script;
-use flat_play::{Keeping, Kept, LastFrame, Played, open_board};
+use flat_play::{Keeping, Kept, LastFrame, Played, let_go, open_board};
 use flat_report::HitAnswers;
 use flat_rules::{journals_keep_seats, seats_tell_actors};
 use flat_stage::{CompositorSeat, SessionSeats, Stage};
@@ -80,6 +88,8 @@ fn close(stage: Stage, script: &Script, ended: Ended) -> Played
     ensures set { result.set ≡ ended.film.set }
     ensures as_many { frames result.board.history ≡ frames (history_of ended.compositor.seen) }
     ensures probes { ProbesAnswered script.now result.board.history result.probes.items }
+    ensures begun { AreBegun script.now (finished script.now.setup
+        (history_of ended.compositor.seen)) }
 {
     seats_tell_actors();
     journals_keep_seats();
@@ -103,6 +113,43 @@ fn close(stage: Stage, script: &Script, ended: Ended) -> Played
         probes,
         set,
     }
+}
+
+/// The board of a stage whose compositor holds its seat or an open frame.
+fn close_with(stage: Stage, hand: Hand, seats: SessionSeats) -> Board
+    requires compositor { (hand_seat hand).stage ≡ stage }
+    requires sessions { seats.stage ≡ stage }
+    requires home { list_all is_some seats.seats ≡ true }
+    ensures compositor { StartsWith (reverse result.history) (hand_seat hand).seen
+        × ((hand_seat hand).mine ≡ entries_of_seat 0 (reverse result.history)) }
+    ensures sessions { (k : ℕ) (s : SessionView) → slice_get seats.seats k ≡ Some (Some s) →
+        StartsWith (reverse result.history) s.seen
+        × (s.mine ≡ entries_of_seat s.session.0 (reverse result.history)) }
+    ensures fixed { result.setup ≡ setup_of stage }
+    ensures legal { Legal result.setup result.history }
+{
+    match hand {
+        Hand::Idle(seat) => stage.close(seat, seats),
+        Hand::Open(frame) => stage.close_in_frame(frame, seats),
+    }
+}
+
+/// Ends a race in which an actor found no memory. What was done by then begins the script.
+fn close_stopped(stage: Stage, script: &Script, stopped: Option<Stopped>)
+    requires playable { is_playable script.now ≡ true }
+    requires of { IsStageOf stage script.now }
+    requires rest { (one : Stopped) → stopped ≡ Some one →
+        AreAtRest stage script.now (hand_seat one.hand) one.seats }
+    ensures { (one : Stopped) → stopped ≡ Some one → AreBegun script.now
+        (finished script.now.setup (history_of (hand_seat one.hand).seen)) }
+{
+    seats_tell_actors();
+    journals_keep_seats();
+    let Some(Stopped { hand, seats }) = stopped else {
+        return;
+    };
+    // proof: what each actor did is known of a stage that is closed.
+    let_go(close_with(stage, hand, seats));
 }
 
 /// Runs a race on a stage before any entry, and hands out what it leaves.
@@ -134,16 +181,24 @@ fn race_on<T: Threads + Wait + Sync, G: Gate>(
     ensures seen { IfOk result (λ played. HaveSeen (λ d. shown d) (λ d. faults d)
         (finished script.now.setup played.board.history) played.board.history played.set.lost
         displays.old.items displays.new.items) }
-    ensures kept { AreKept (λ d. shown d) (λ d. faults d) displays.old.items displays.new.items
-        (λ d. d.vtable) }
+    ensures kept { AreKept (λ d. shown d) (λ d. faults d) (AreBegun script.now)
+        displays.old.items displays.new.items (λ d. d.vtable) }
 {
     let shown_here = mem::replace(displays, Vec::new(alloc));
-    let raced = on_threads(
+    let Raced {
+        displays: shown,
+        ended,
+    } = on_threads(
         rt, alloc, &stage, script, gate, compositor, seats, film, shown_here,
     );
-    *displays = raced.displays;
-    let ended = raced.ended?;
-    Ok(close(stage, script, ended))
+    *displays = shown;
+    match ended {
+        Ok(ended) => Ok(close(stage, script, ended)),
+        Err(stopped) => {
+            close_stopped(stage, script, stopped);
+            Err(NoMemory)
+        }
+    }
 }
 
 /// Runs a script with each session on a thread of its own beside the compositor, which
@@ -175,8 +230,8 @@ pub fn race_script<T: Threads + Wait + Sync, G: Gate>(
     ensures seen { IfOk result (λ played. HaveSeen (λ d. shown d) (λ d. faults d)
         (finished script.now.setup played.board.history) played.board.history played.set.lost
         displays.old.items displays.new.items) }
-    ensures kept { AreKept (λ d. shown d) (λ d. faults d) displays.old.items displays.new.items
-        (λ d. d.vtable) }
+    ensures kept { AreKept (λ d. shown d) (λ d. faults d) (AreBegun script.now)
+        displays.old.items displays.new.items (λ d. d.vtable) }
 {
     let film = new_film(alloc, script, keeping, displays.len() as u32)?;
     let Ok((stage, compositor, seats)) = new_stage(alloc, script) else {

@@ -1,8 +1,8 @@
 //! All actors of a race at once: the sessions and the probes on their threads, and the
 //! compositor on this one.
-ghost use Rattle.std.specs.Prelude.{◌≡◌, ◌<◌, ◌^◌, [], true, length, replicate, Some, IfOk, OnOk};
+ghost use Rattle.std.specs.Prelude.{◌≡◌, ◌<◌, ◌^◌, [], true, length, map, replicate, Some};
+ghost use Rattle.std.specs.Prelude.{IfErr, IfOk, OnOk};
 ghost use Rattle.flat_playable.specs.Playable.{is_playable};
-ghost use Rattle.flat_display.specs.Had.{AreKept};
 ghost use Rattle.flat_scene.specs.History.{history_of};
 ghost use Rattle.flat_stage.specs.Homes.{AreFresh};
 ghost use Rattle.flat_report.specs.Report.{finished};
@@ -10,13 +10,12 @@ ghost use Rattle.flat_publish.specs.State.{newcomer};
 ghost use Rattle.flat_play.specs.Keeping.{keeping_of};
 ghost use Rattle.flat_play.specs.Showing.{HaveSeen};
 ghost use Rattle.flat_actors.specs.Directing.{FilmStands};
-ghost use Rattle.flat_race.specs.Ends.{HaveEnded};
+ghost use Rattle.flat_race.specs.Ends.{HaveEnded, IsStopped, StopsWith};
 ghost use Rattle.flat_actors.specs.Sessions.{IsStageOf};
 
 use crate::probe_threads::{meet_each, start_probes};
 use crate::threads::{put_back, start_each};
-use flat_actors::{Film, Gate, Lent, direct};
-use flat_base::NoMemory;
+use flat_actors::{Film, Gate, Hand, Lent, direct};
 use flat_display::Display;
 use flat_places::Script;
 use flat_publish::{ProbeSeats, Published};
@@ -34,15 +33,23 @@ pub(crate) struct Ended {
     pub(crate) film: Film,
 }
 
-/// The displays that come back from a race, and what its actors leave.
+/// What they leave where one of them found no memory.
+#[derive(Drop)]
+pub(crate) struct Stopped {
+    pub(crate) hand: Hand,
+    pub(crate) seats: SessionSeats,
+}
+
+/// The displays that come back from a race, and what its actors leave. Where not even the
+/// compositor began, they leave nothing.
 #[derive(Drop)]
 pub(crate) struct Raced {
     pub(crate) displays: Vec<Box<dyn Display>>,
-    pub(crate) ended: Result<Ended, NoMemory>,
+    pub(crate) ended: Result<Ended, Option<Stopped>>,
 }
 
 /// Runs the sessions and the probes beside the compositor, and puts the seats of all
-/// sessions back.
+/// sessions back. Out of memory, what the compositor holds comes back, if it began.
 fn run_beside<'s, E, T: Threads + Wait + Sync, G: Gate>(
     scope: &Scope<'s, E>,
     lent: &Lent<'s, T, G>,
@@ -52,7 +59,7 @@ fn run_beside<'s, E, T: Threads + Wait + Sync, G: Gate>(
     displays: &mut Vec<Box<dyn Display>>,
     published: &mut Published,
     probes: &mut ProbeSeats,
-) -> Result<CompositorSeat, NoMemory>
+) -> Result<CompositorSeat, Option<Hand>>
     requires playable { is_playable lent.now.script.now ≡ true }
     requires of { IsStageOf lent.now.stage.now lent.now.script.now }
     requires compositor { compositor ≡ record { stage = lent.now.stage.now; seen = []; mine = [] } }
@@ -73,28 +80,34 @@ fn run_beside<'s, E, T: Threads + Wait + Sync, G: Gate>(
         (finished lent.now.script.now.setup (history_of compositor.seen))
         (history_of compositor.seen) film.new.set.lost displays.old.items displays.new.items) }
     ensures keeping { OnOk result (keeping_of film.new.kept ≡ keeping_of film.old.kept) }
-    ensures kept { AreKept (λ d. shown d) (λ d. faults d) displays.old.items displays.new.items
-        (λ d. d.vtable) }
+    ensures stopped { IfErr result (λ hand. StopsWith (λ d. shown d) (λ d. faults d)
+        lent.now.stage.now lent.now.script.now displays.old.items displays.new.items seats.new
+        hand) }
+    ensures kinds { map (λ d. d.vtable) displays.new.items
+        ≡ map (λ d. d.vtable) displays.old.items }
 {
     let Ok(out) = start_each(scope, lent, seats) else {
         drop(compositor);
-        return Err(NoMemory);
+        return Err(None);
     };
     let Ok(asked) = start_probes(scope, lent, published, probes) else {
         drop(out);
         drop(compositor);
-        return Err(NoMemory);
+        return Err(None);
     };
     let directed = direct(lent, compositor, film, displays, published);
-    if !put_back(lent, seats, out) {
-        drop(asked);
-        drop(directed);
-        return Err(NoMemory);
-    }
-    let Ok(compositor) = directed else {
-        drop(asked);
-        return Err(NoMemory);
+    let are_whole = put_back(lent, seats, out);
+    let compositor = match directed {
+        Ok(compositor) => compositor,
+        Err(hand) => {
+            drop(asked);
+            return Err(Some(hand));
+        }
     };
+    if !are_whole {
+        drop(asked);
+        return Err(Some(Hand::Idle(compositor)));
+    }
     let Ok(answers) = meet_each(
         lent.rt,
         lent.alloc,
@@ -103,8 +116,7 @@ fn run_beside<'s, E, T: Threads + Wait + Sync, G: Gate>(
         &mut film.last,
         asked,
     ) else {
-        drop(compositor);
-        return Err(NoMemory);
+        return Err(Some(Hand::Idle(compositor)));
     };
     film.probes = answers;
     Ok(compositor)
@@ -119,7 +131,7 @@ fn run_all<'s, E, T: Threads + Wait + Sync, G: Gate>(
     seats: &mut SessionSeats,
     film: &mut Film,
     displays: &mut Vec<Box<dyn Display>>,
-) -> Result<CompositorSeat, NoMemory>
+) -> Result<CompositorSeat, Option<Hand>>
     requires playable { is_playable lent.now.script.now ≡ true }
     requires of { IsStageOf lent.now.stage.now lent.now.script.now }
     requires compositor { compositor ≡ record { stage = lent.now.stage.now; seen = []; mine = [] } }
@@ -136,8 +148,11 @@ fn run_all<'s, E, T: Threads + Wait + Sync, G: Gate>(
         (finished lent.now.script.now.setup (history_of compositor.seen))
         (history_of compositor.seen) film.new.set.lost displays.old.items displays.new.items) }
     ensures keeping { OnOk result (keeping_of film.new.kept ≡ keeping_of film.old.kept) }
-    ensures kept { AreKept (λ d. shown d) (λ d. faults d) displays.old.items displays.new.items
-        (λ d. d.vtable) }
+    ensures stopped { IfErr result (λ hand. StopsWith (λ d. shown d) (λ d. faults d)
+        lent.now.stage.now lent.now.script.now displays.old.items displays.new.items seats.new
+        hand) }
+    ensures kinds { map (λ d. d.vtable) displays.new.items
+        ≡ map (λ d. d.vtable) displays.old.items }
 {
     let Ok((mut published, mut probes)) = Published::new(
         lent.rt,
@@ -145,7 +160,7 @@ fn run_all<'s, E, T: Threads + Wait + Sync, G: Gate>(
         lent.script.setup.probes,
     ) else {
         drop(compositor);
-        return Err(NoMemory);
+        return Err(None);
     };
     let run = run_beside(
         scope,
@@ -185,8 +200,10 @@ fn run_in<'s, E, T: Threads + Wait + Sync, G: Gate>(
         (finished lent.now.script.now.setup (history_of e.compositor.seen))
         (history_of e.compositor.seen) e.film.set.lost displays.items result.displays.items) }
     ensures keeping { IfOk result.ended (λ e. keeping_of e.film.kept ≡ keeping_of film.kept) }
-    ensures kept { AreKept (λ d. shown d) (λ d. faults d) displays.items result.displays.items
-        (λ d. d.vtable) }
+    ensures stopped { IfErr result.ended (λ stopped. IsStopped (λ d. shown d) (λ d. faults d)
+        lent.now.stage.now lent.now.script.now displays.items result.displays.items stopped) }
+    ensures kinds { map (λ d. d.vtable) result.displays.items
+        ≡ map (λ d. d.vtable) displays.items }
 {
     match run_all(
         scope,
@@ -204,12 +221,19 @@ fn run_in<'s, E, T: Threads + Wait + Sync, G: Gate>(
                 film,
             }),
         },
-        Err(NoMemory) => {
+        Err(Some(hand)) => {
+            drop(film);
+            Raced {
+                displays,
+                ended: Err(Some(Stopped { hand, seats })),
+            }
+        }
+        Err(None) => {
             drop(seats);
             drop(film);
             Raced {
                 displays,
-                ended: Err(NoMemory),
+                ended: Err(None),
             }
         }
     }
@@ -242,8 +266,10 @@ pub(crate) fn on_threads<T: Threads + Wait + Sync, G: Gate>(
         (finished script.now.setup (history_of e.compositor.seen)) (history_of e.compositor.seen)
         e.film.set.lost displays.items result.displays.items) }
     ensures keeping { IfOk result.ended (λ e. keeping_of e.film.kept ≡ keeping_of film.kept) }
-    ensures kept { AreKept (λ d. shown d) (λ d. faults d) displays.items result.displays.items
-        (λ d. d.vtable) }
+    ensures stopped { IfErr result.ended (λ stopped. IsStopped (λ d. shown d) (λ d. faults d)
+        stage.now script.now displays.items result.displays.items stopped) }
+    ensures kinds { map (λ d. d.vtable) result.displays.items
+        ≡ map (λ d. d.vtable) displays.items }
 {
     thread::scope(
         thread::scope_env(),
@@ -262,8 +288,10 @@ pub(crate) fn on_threads<T: Threads + Wait + Sync, G: Gate>(
                 (history_of e.compositor.seen) e.film.set.lost displays.items
                 result.displays.items)
                 × IfOk result.ended (λ e. keeping_of e.film.kept ≡ keeping_of film.kept)
-                × AreKept (λ d. shown d) (λ d. faults d) displays.items result.displays.items
-                (λ d. d.vtable) }
+                × IfErr result.ended (λ stopped. IsStopped (λ d. shown d) (λ d. faults d)
+                stage.entry.now script.entry.now displays.items result.displays.items stopped)
+                × (map (λ d. d.vtable) result.displays.items ≡ map (λ d. d.vtable)
+                displays.items) }
         {
             let lent = Lent {
                 rt,

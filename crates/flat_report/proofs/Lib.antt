@@ -1,5 +1,6 @@
 pub mod Answered
 pub mod Determined
+pub mod DueLemmas
 pub mod Examples
 pub mod FewFrames
 pub mod ItemLines
@@ -20,4 +21,5 @@ pub mod Texting
 pub mod Turns
 pub mod WholeReport
 pub mod Written
+pub mod WrittenOnce
 pub mod lemmas

@@ -38,7 +38,7 @@ abbrev pub tail : {A : Type 0} → (List Entry → Entry → List A) → List En
 tail step before [] = []
 tail step before (entry ∷ later) = step before entry ++ tail step (before ▹ entry) later
 
-onto-append : (before xs ys : List Entry) → onto before (xs ++ ys) ≡ onto (onto before xs) ys
+pub onto-append : (before xs ys : List Entry) → onto before (xs ++ ys) ≡ onto (onto before xs) ys
 onto-append before [] ys = refl
 onto-append before (x ∷ xs) ys = onto-append (before ▹ x) xs ys
 

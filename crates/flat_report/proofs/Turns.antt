@@ -24,7 +24,7 @@ listed : (P : SessionNo → Type 0) (xs : List SessionNo) (last : SessionNo) →
 listed P [] last all = (tt, all.0)
 listed P (x ∷ xs) last all = let later = listed P xs last all.1 in ((all.0, later.0), later.1)
 
-session-at : (P : SessionNo → Type 0) (n k : ℕ) → 1 ≤ k → k ≤ n → AllByRecursion P (sessions_to n) → P (record { 0 = k })
+pub session-at : (P : SessionNo → Type 0) (n k : ℕ) → 1 ≤ k → k ≤ n → AllByRecursion P (sessions_to n) → P (record { 0 = k })
 session-at P zero k some few all = absurd (omega arith)
 session-at P (suc n) k some few all = by_last (nat_le k n) refl (listed P (sessions_to n) (record { 0 = suc n }) all) (λ below rest. session-at P n k some below rest)
   where
@@ -63,21 +63,21 @@ module _ (setup : Setup) (count : ℕ) (lines : List ScriptLine) where
   same-next : (next : Next) (e e' : Entry) → IsNext next e → IsNext next e' → (e.line ≡ e'.line) × (e.calls ≡ e'.calls) × (e.kind ≡ e'.kind)
   same-next next e e' is is' = (is.line ∙ sym is'.line, is.carried ∙ sym is'.carried, is.kind ∙ sym is'.kind)
 
-  session-next : (s : SessionNo) (before : List Entry) (e : Entry) → is_session s e.actor ≡ true → Follows setup count (session_lines s lines) (own s (before ▹ e)) → IsNext (next_of setup count (own s before) (session_lines s lines)) e
+  pub session-next : (s : SessionNo) (before : List Entry) (e : Entry) → is_session s e.actor ≡ true → Follows setup count (session_lines s lines) (own s (before ▹ e)) → IsNext (next_of setup count (own s before) (session_lines s lines)) e
   session-next s before e mine follows = (subst (λ b. Follows setup count (session_lines s lines) (cond b (own s before ▹ e) (own s before))) mine follows).1
 
-  same-first : (ls : List (ℕ × DisplayLine)) (e e' : Entry) → IsFirstLine ls e → IsFirstLine ls e' → (e.line ≡ e'.line) × (e.calls ≡ e'.calls) × (e.kind ≡ e'.kind)
+  pub same-first : (ls : List (ℕ × DisplayLine)) (e e' : Entry) → IsFirstLine ls e → IsFirstLine ls e' → (e.line ≡ e'.line) × (e.calls ≡ e'.calls) × (e.kind ≡ e'.kind)
   same-first [] e e' is is' = absurd is
   same-first ((number, text) ∷ later) e e' is is' = same-next _ e e' is is'
 
   pub display-next : (before : List Entry) (e : Entry) → e.actor ≡ Display → FollowsDisplay (display_lines lines) (by_display (before ▹ e)) → IsFirstLine (unread_lines (by_display before) (display_lines lines)) e
   display-next before e is follows = (subst (λ (a : Actor). FollowsDisplay (display_lines lines) (cond (is_display a) (by_display before ▹ e) (by_display before))) is follows).1
 
-  no-probe : (kind : Kind) (p : ℕ) → may_act setup kind (Probe p) ≡ true → ⊥
+  pub no-probe : (kind : Kind) (p : ℕ) → may_act setup kind (Probe p) ≡ true → ⊥
   no-probe kind p acts = cc
 
   -- who acts is the display or a declared session
-  acts-at : (actor : Actor) (e : Entry) → e.actor ≡ actor → may_act setup e.kind e.actor ≡ true → may_act setup e.kind actor ≡ true
+  pub acts-at : (actor : Actor) (e : Entry) → e.actor ≡ actor → may_act setup e.kind e.actor ≡ true → may_act setup e.kind actor ≡ true
   acts-at actor e is acts = subst (λ (a : Actor). may_act setup e.kind a ≡ true) is acts
 
   -- the next entry of an actor

@@ -4,8 +4,10 @@ use Rattle.std.specs.List.{list_all}
 use Rattle.flat_scene.specs.declared.frames.Lost.{Lost}
 use Rattle.flat_scene.specs.declared.journal.Entry.{Entry}
 use Rattle.flat_scene.specs.declared.journal.Post.{Post}
+use Rattle.flat_scene.specs.declared.script.ScriptLine.{ScriptLine}
+use Rattle.flat_scene.specs.declared.setup.Setup.{Setup}
 use Rattle.flat_scene.specs.History.{history_of}
-use Rattle.flat_scene.specs.Interleave.{Interleaves}
+use Rattle.flat_scene.specs.Interleave.{Interleaves, IsWritten}
 use Rattle.flat_rules.specs.Legal.{Legal}
 use Rattle.flat_rules.specs.Posts.{posts}
 use Rattle.flat_places.specs.declared.script.Script.{Script}
@@ -42,3 +44,8 @@ HandedIsReport = (script : Script) (entries : List Entry) (sent : List Post) (te
 -- the frames by which probes are answered are such as probes may have seen
 abbrev pub FramesAreSeen : Type 0
 FramesAreSeen = (script : Script) (history : List Entry) (probes : List (List ProbeAnswer)) → ProbesAnswered script history probes → is_seeing script history (frames_seen probes) ≡ true
+
+-- two legal histories in written order that interleave the same lines are one
+abbrev pub WrittenHistoriesAreOne : Type 0
+WrittenHistoriesAreOne = (setup : Setup) (count : ℕ) (lines : List ScriptLine) (history history' : List Entry) → Legal setup history → Legal setup history'
+    → Interleaves setup count lines history → Interleaves setup count lines history' → IsWritten setup history → IsWritten setup history' → history ≡ history'

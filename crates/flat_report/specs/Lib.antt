@@ -1,3 +1,4 @@
+pub mod Due
 pub mod FrameTexts
 pub mod Handed
 pub mod ItemLines

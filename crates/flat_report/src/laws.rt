@@ -1,5 +1,7 @@
 //! What the report says of a run (specs/Laws).
 ghost use Rattle.flat_report.specs.Laws.{FramesAreSeen, HandedIsReport, ReportsDetermineHistories};
+ghost use Rattle.flat_report.specs.Laws.{WrittenHistoriesAreOne};
+ghost use Rattle.flat_report.specs.Due.{DuePresentsAreTaken};
 
 /// Of a script that is read from a text, the report says which history it is of,
 /// which displays were lost, and which frames the probes saw.
@@ -23,4 +25,21 @@ pub fn handed_is_report()
 /// The call does nothing. Its contract is a law about the definitions.
 pub fn frames_are_seen()
     ensures { FramesAreSeen }
+{}
+
+/// A script has one legal history in written order: who does what, and when, is known of
+/// the script alone.
+///
+/// The call does nothing. Its contract is a law about the definitions.
+pub fn written_histories_are_one()
+    ensures { WrittenHistoriesAreOne }
+{}
+
+/// A frame takes at its begin each present that is due: one of an open session that waits,
+/// where it and all that wait before it have come to their times with their acquire fences
+/// signalled, and none of these has to be shown by a frame of its own.
+///
+/// The call does nothing. Its contract is a law about the definitions.
+pub fn due_presents_are_taken()
+    ensures { DuePresentsAreTaken }
 {}

@@ -21,7 +21,10 @@ mod probes;
 mod report;
 
 pub use frame_texts::FrameTexts;
-pub use laws::{frames_are_seen, handed_is_report, reports_determine_histories};
+pub use laws::{
+    due_presents_are_taken, frames_are_seen, handed_is_report, reports_determine_histories,
+    written_histories_are_one,
+};
 pub use pieces::Pieces;
 pub use probes::{ProbeAnswer, ProbeAnswers};
 pub use report::{HitAnswer, HitAnswers, print_report};

@@ -12,12 +12,14 @@ use Rattle.flat_scene.specs.declared.setup.Setup.{Setup}
 use Rattle.flat_script.specs.declared.script.ScriptFault.{ScriptFault}
 use Rattle.flat_stress.specs.Load.{load_text}
 use Rattle.flat_words.specs.declared.form.Form.{Form}
-use Rattle.flat_words.specs.declared.form.Form.TheVariants.{Play, Race, Stress, Render, Damage, Focus, Pointer}
+use Rattle.flat_words.specs.declared.form.Form.TheVariants.{Play, Race, Stress, Render, Damage, Focus, Pointer, Why}
 use Rattle.flat_words.specs.Forms.{CallFor}
 use Rattle.flat_run.specs.declared.reading.Reading.{Reading}
-use Rattle.flat_run.specs.Answering.{IsReply}
+use Rattle.flat_run.specs.declared.given.Given.TheVariants as given
+use Rattle.flat_run.specs.declared.given.Given as gave
+use Rattle.flat_run.specs.Answering.{IsDenied, IsGiven, IsRead, IsScriptFor, IsTurnedAway}
 use Rattle.flat_run.specs.Forms.{is_read, form_read, Fits}
-use Rattle.flat_run.specs.Promise.{fault_line, CallForNothing, AreTextOf, AreGiven, AreAll, AreTooMany, Refuses, IsRefused, IsTooLarge, Tells, IsTold, IsAnswer, IsWhole, IsCutOff, Gives, IsThere, IsThereTooLarge}
+use Rattle.flat_run.specs.Promise.{fault_line, large_line, CallForNothing, AreTextOf, AreGiven, AreAll, AreTooLarge, AreTooMany, Refuses, IsRefused, IsTooLarge, Tells, IsTold, IsAnswer, IsWhole, IsCutOff, Gives, IsThere, IsThereTooLarge}
 use Rattle.flat_places.specs.declared.kinds.FaultKind.TheVariants.{TooLong}
 
 -- the form that was found is that of the words
@@ -43,6 +45,7 @@ too_long Render bytes long = rw (is_long bytes long) refl
 too_long Damage bytes long = rw (is_long bytes long) refl
 too_long Focus bytes long = rw (is_long bytes long) refl
 too_long Pointer bytes long = rw (is_long bytes long) refl
+too_long Why bytes long = rw (is_long bytes long) refl
 
 -- a text that is longer than a limit
 longer : (limit : ℕ) → (bytes : List ℕ) × (limit < length bytes)
@@ -160,6 +163,7 @@ gives_of Render left left' failed failed' read there = there
 gives_of Damage left left' failed failed' read there = there
 gives_of Focus left left' failed failed' read there = there
 gives_of Pointer left left' failed failed' read there = there
+gives_of Why left left' failed failed' read there = there
 
 -- no read failed, where one was made
 pub there_no_read_fault : (form form' : Form) (left left' : Option (List ℕ)) (failed failed' : ℕ) → form' ≡ form → IsThere form left left' failed failed' → is_read form' ≡ true → IsTrue (has_risen failed failed') → ⊥
@@ -173,7 +177,7 @@ large_no_read_fault left left' failed failed' there risen = let both : true ≡ 
 -- ---- what is answered
 
 -- the text of a script that is read is all that was read
-text_of : (form : Form) → is_read form ≡ true → (left left' : Option (List ℕ)) (bytes : List ℕ) → AreAll bytes left left' → AreTextOf form left left' bytes
+pub text_of : (form : Form) → is_read form ≡ true → (left left' : Option (List ℕ)) (bytes : List ℕ) → AreAll bytes left left' → AreTextOf form left left' bytes
 text_of (Stress asked) read left left' bytes all = absurd (let wrong : false ≡ true = read in cc)
 text_of Play read left left' bytes all = all
 text_of Race read left left' bytes all = all
@@ -181,34 +185,52 @@ text_of Render read left left' bytes all = all
 text_of Damage read left left' bytes all = all
 text_of Focus read left left' bytes all = all
 text_of Pointer read left left' bytes all = all
+text_of Why read left left' bytes all = all
+
+-- ---- what is refused
+
+-- a text with a fault
+pub denied : (form : Form) (bytes : List ℕ) (fault : ScriptFault) → form_read form bytes ≡ Err fault → (status : ℕ) (text : List ℕ) → status ≡ 3 → text ≡ fault_line fault → IsDenied form bytes status text
+denied form bytes fault read status text is_3 is = subst (λ n. IsDenied form bytes n text) (sym is_3) (IsDenied.refusal (record { fault = fault; read = read; is = is }))
+
+-- a script whose display is too large
+pub denied_large : (form : Form) (bytes : List ℕ) (reading : Reading) → form_read form bytes ≡ Ok reading → (form ≡ Render) × IsTooLarge reading.script.setup → (status : ℕ) (text : List ℕ) → status ≡ 7 → text ≡ large_line → IsDenied form bytes status text
+denied_large form bytes reading read is status text is_7 text_is =
+    let large : AreTooLarge bytes = record { reading = reading; read = subst (λ f. form_read f bytes ≡ Ok reading) is.0 read; large = is.1 } in
+    subst (λ n. IsDenied form bytes n text) (sym is_7) (subst (λ t. IsDenied form bytes 7 t) (sym text_is) (IsDenied.too_large is.0 large))
+
+-- what was read whole is all that a source gave
+pub whole_is_given : (form : Form) (left left' : Option (List ℕ)) (bytes bytes' : List ℕ) (given : gave.Given) → bytes ≡ bytes' → Given left left' (λ given after. (given ≡ bytes') × (after ≡ [])) → IsRead form bytes given → IsGiven form left left' given
+whole_is_given form left left' bytes bytes' (given.Script reading) same it read =
+    let P : List ℕ → Type 0 = λ b. IsScriptFor form b reading in
+    (bytes', all_read left left' bytes' it, subst P same read)
+whole_is_given form left left' bytes bytes' (given.Refused answer) same it read =
+    let P : List ℕ → Type 0 = λ b. IsDenied form b answer.status answer.text in
+    by answer.status answer.text (subst P same read)
+  where
+    by : (status : ℕ) (text : List ℕ) → IsDenied form bytes' status text → IsTurnedAway form left left' status text
+    by status text (IsDenied.refusal refuses) = IsTurnedAway.refusal (record { bytes = bytes'; given = inl (all_read left left' bytes' it); refuses = refuses })
+    by status text (IsDenied.too_large is large) = IsTurnedAway.too_large bytes' is (all_read left left' bytes' it) large
+
+-- more bytes than a script may have
+pub long_is_refused : (form : Form) (left left' : Option (List ℕ)) → Given left left' (λ given after. SCRIPT_BYTES_MAX < length given) → (status : ℕ) (text : List ℕ) → status ≡ 3 → text ≡ fault_line (record { line = 0; kind = TooLong }) → IsTurnedAway form left left' status text
+long_is_refused form left left' it status text is_3 is =
+    let many = too_many left left' it in
+    subst (λ n. IsTurnedAway form left left' n text) (sym is_3)
+    (IsTurnedAway.refusal (record { bytes = many.0; given = inr many.1; refuses = record { fault = record { line = 0; kind = TooLong }; read = too_long form many.0 many.1.0; is = is } }))
 
 -- What displays tell, and how a call found and left them.
 module _ {D : Type 0} (shown : D → Option (List FrameOut)) (faults : D → ℕ) (olds news : List D) where
-  -- a status and a text of a refusal
-  pub refused : (form : Form) (bytes : List ℕ) (fault : ScriptFault) → form_read form bytes ≡ Err fault → (status : ℕ) (text : List ℕ) → status ≡ 3 → text ≡ fault_line fault → news ≡ olds → IsReply shown faults olds news form bytes status text
-  refused form bytes fault read status text is_3 is same =
-      subst (λ n. IsReply shown faults olds news form bytes n text) (sym is_3) (IsReply.refusal (record { fault = fault; read = read; is = is }) same)
-
-  -- the same bytes
-  pub reply_same : (form : Form) (bytes bytes' : List ℕ) (status : ℕ) (text : List ℕ) → bytes ≡ bytes' → IsReply shown faults olds news form bytes status text → IsReply shown faults olds news form bytes' status text
-  reply_same form bytes bytes' status text same reply = subst (λ b. IsReply shown faults olds news form b status text) same reply
-
   module _ (words : List (List ℕ)) (left left' : Option (List ℕ)) where
-    -- bytes that were read whole
-    pub read_text : (form : Form) → is_read form ≡ true → CallFor words form → (bytes : List ℕ) → Given left left' (λ given after. (given ≡ bytes) × (after ≡ [])) → (status : ℕ) (text : List ℕ) → IsReply shown faults olds news form bytes status text
-        → IsAnswer shown faults olds news words left left' status text
-    read_text form read calls bytes it status text (IsReply.told told) = IsAnswer.told form bytes calls (text_of form read left left' bytes (all_read left left' bytes it)) told
-    read_text form read calls bytes it status text (IsReply.too_large is large same) =
-        IsAnswer.too_large bytes (subst (CallFor words) is calls) (all_read left left' bytes it) large same
-    read_text form read calls bytes it status text (IsReply.refusal refuses same) = IsAnswer.refusal form calls read (record { bytes = bytes; given = inl (all_read left left' bytes it); refuses = refuses }) same
+    -- what a source gave was refused
+    pub turned_away : (form : Form) → is_read form ≡ true → CallFor words form → (status : ℕ) (text : List ℕ) → news ≡ olds → IsTurnedAway form left left' status text → IsAnswer shown faults olds news words left left' status text
+    turned_away form read calls status text same (IsTurnedAway.refusal refused) = IsAnswer.refusal form calls read refused same
+    turned_away form read calls status text same (IsTurnedAway.too_large bytes is all large) = IsAnswer.too_large bytes (subst (CallFor words) is calls) all large same
 
-    -- more bytes than a script may have
-    pub long_text : (form : Form) → is_read form ≡ true → CallFor words form → Given left left' (λ given after. SCRIPT_BYTES_MAX < length given) → (status : ℕ) (text : List ℕ) → status ≡ 3 → text ≡ fault_line (record { line = 0; kind = TooLong }) → news ≡ olds
-        → IsAnswer shown faults olds news words left left' status text
-    long_text form read calls it status text is_3 is same =
-        let many = too_many left left' it in
-        subst (λ n. IsAnswer shown faults olds news words left left' n text) (sym is_3)
-        (IsAnswer.refusal form calls read (record { bytes = many.0; given = inr many.1; refuses = record { fault = record { line = 0; kind = TooLong }; read = too_long form many.0 many.1.0; is = is } }) same)
+    -- what it gave was run
+    pub read_told : (form : Form) → is_read form ≡ true → CallFor words form → (bytes : List ℕ) → AreAll bytes left left' → (status : ℕ) (text : List ℕ) → status ≡ 0 → IsTold shown faults olds news form bytes text → IsAnswer shown faults olds news words left left' status text
+    read_told form read calls bytes all status text is_0 told =
+        subst (λ n. IsAnswer shown faults olds news words left left' n text) (sym is_0) (IsAnswer.told form bytes calls (text_of form read left left' bytes all) told)
 
     -- a load
     pub load_told : (asked status : ℕ) (text : List ℕ) → CallFor words (Stress asked) → status ≡ 0 → IsTold shown faults olds news (Stress asked) (load_text asked) text → IsAnswer shown faults olds news words left left' status text

@@ -1,5 +1,5 @@
--- What was written of a script has one history.
-use Rattle.std.proofs.Common.{◌≡◌, ℕ, List, Result, Ok, Err, refl, subst, sym, ap, ◌∙◌}
+-- A report of a script has one run.
+use Rattle.std.proofs.Common.{◌≡◌, ℕ, true, false, List, Result, Ok, Err, refl, subst, sym, ap, ◌∙◌}
 use Rattle.flat_scene.specs.declared.frames.Lost.{Lost}
 use Rattle.flat_scene.specs.declared.journal.Entry.{Entry}
 use Rattle.flat_places.specs.declared.script.Script.{Script}
@@ -8,10 +8,11 @@ use Rattle.flat_script.specs.Grammar.{text_read}
 use Rattle.flat_report.specs.Laws.{IsRun, ReportsDetermineHistories}
 use Rattle.flat_report.specs.Report.{report}
 use Rattle.flat_run.specs.declared.reading.Reading.{Reading}
-use Rattle.flat_run.specs.Laws.{PlaysHaveOneHistory}
+use Rattle.flat_words.specs.declared.form.Form.TheVariants.{Play, Race, Stress, Render, Damage, Focus, Pointer, Why}
+use Rattle.flat_run.specs.Laws.{ReportsHaveOneRun}
 use Rattle.flat_run.specs.Forms.{Ran, plain, read_as}
 
-same-read : {A : Type 0} (r : Result A ScriptFault) (a b : A) → r ≡ Ok a → r ≡ Ok b → a ≡ b
+pub same-read : {A : Type 0} (r : Result A ScriptFault) (a b : A) → r ≡ Ok a → r ≡ Ok b → a ≡ b
 same-read r a b is is' = cc
 
 -- a script that was read without extra lines
@@ -32,7 +33,16 @@ one-of determine bytes text reading reading' read same h h' l l' n n' run is =
     let P : Reading → Type 0 = λ r. IsRun r.script h' l' n' → text ≡ report r.script h' l' n' → made reading h l n ≡ made r h' l' n' in
     subst P same (λ run' is'. (let one = determine bytes reading.script read h h' l l' n n' run run' (sym is ∙ is') in same-made reading h h' l l' n n' one.0 one.1 one.2))
 
-pub one-history : ReportsDetermineHistories → PlaysHaveOneHistory
-one-history determine bytes text first second =
+pub one-run : ReportsDetermineHistories → ReportsHaveOneRun
+one-run determine Play reports bytes text first second =
     one-of determine bytes text first.ran.reading second.ran.reading (plain-read (text_read bytes) first.ran.reading first.read) (same-read _ first.ran.reading second.ran.reading first.read second.read)
     first.ran.history second.ran.history first.ran.lost second.ran.lost first.ran.seen second.ran.seen first.has_run.run first.is second.has_run.run second.is
+one-run determine Race reports bytes text first second =
+    one-of determine bytes text first.ran.reading second.ran.reading (plain-read (text_read bytes) first.ran.reading first.read) (same-read _ first.ran.reading second.ran.reading first.read second.read)
+    first.ran.history second.ran.history first.ran.lost second.ran.lost first.ran.seen second.ran.seen first.has_run.run first.is second.has_run.run second.is
+one-run determine (Stress asked) reports bytes text first second = absurd (let wrong : false ≡ true = reports in cc)
+one-run determine Render reports bytes text first second = absurd (let wrong : false ≡ true = reports in cc)
+one-run determine Damage reports bytes text first second = absurd (let wrong : false ≡ true = reports in cc)
+one-run determine Focus reports bytes text first second = absurd (let wrong : false ≡ true = reports in cc)
+one-run determine Pointer reports bytes text first second = absurd (let wrong : false ≡ true = reports in cc)
+one-run determine Why reports bytes text first second = absurd (let wrong : false ≡ true = reports in cc)

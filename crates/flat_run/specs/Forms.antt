@@ -18,8 +18,9 @@ use Rattle.flat_stress.specs.Summary.{summary_line}
 use Rattle.flat_texts.specs.Damages.{IsDamageText}
 use Rattle.flat_texts.specs.Lines.{finish_lines}
 use Rattle.flat_texts.specs.Pictures.{picture_text}
+use Rattle.flat_why.specs.Text.{why_text}
 use Rattle.flat_words.specs.declared.form.Form.{Form}
-use Rattle.flat_words.specs.declared.form.Form.TheVariants.{Play, Race, Stress, Render, Damage, Focus, Pointer}
+use Rattle.flat_words.specs.declared.form.Form.TheVariants.{Play, Race, Stress, Render, Damage, Focus, Pointer, Why}
 use Rattle.flat_run.specs.declared.reading.Reading.{Reading}
 use Rattle.flat_run.specs.Totals.{totals_of}
 
@@ -77,7 +78,7 @@ AreAsked _ finished_frames = ⊤
 abbrev pub report_of : Ran → List ℕ
 report_of ran = report ran.reading.script ran.history ran.lost ran.seen
 
--- The text is what a form writes of what ran: the report, the line that sums a load up, the picture of the last frame, what changed from frame to frame, who had the focus, or to whom the pointers' lines went.
+-- The text is what a form writes of what ran: the report, the line that sums a load up, the picture of the last frame, what changed from frame to frame, who had the focus, to whom the pointers' lines went, or why each session was on the display or not.
 abbrev pub IsTextOf : Form → Ran → List ℕ → Type 0
 IsTextOf Play ran text = text ≡ report_of ran
 IsTextOf Race ran text = text ≡ report_of ran
@@ -89,3 +90,4 @@ IsTextOf Focus ran text =
 IsTextOf Pointer ran text =
     text ≡ pointer_text ran.reading.script.sessions (finish_lines (reverse ran.history)) (finished ran.reading.script.setup ran.history)
     (map (touch_of ran.reading.script.setup ran.history) ran.reading.pointers)
+IsTextOf Why ran text = text ≡ why_text ran.reading.script ran.history

@@ -2,4 +2,6 @@ pub mod Answering
 pub mod Forms
 pub mod Laws
 pub mod Promise
+pub mod Serving
 pub mod Totals
+pub mod Writing

@@ -9,11 +9,13 @@ use Rattle.flat_base.specs.declared.limits.TheConstants.{SCRIPT_BYTES_MAX}
 use Rattle.flat_scene.specs.declared.frames.FrameOut.{FrameOut}
 use Rattle.flat_scene.specs.Interleave.{IsWritten}
 use Rattle.flat_scene.specs.Family.{family}
+use Rattle.flat_report.specs.Due.{TakesDue}
 use Rattle.flat_rules.specs.Laws.{IsFamilyLaw}
 use Rattle.flat_rules.specs.Legal.{frames}
 use Rattle.flat_script.specs.declared.script.ScriptFault.{ScriptFault}
 use Rattle.flat_display.specs.Had.{AreDriven}
 use Rattle.flat_report.specs.Report.{finished}
+use Rattle.flat_play.specs.Beginning.{AreBegun}
 use Rattle.flat_play.specs.Probing.{seen_in_turn}
 use Rattle.flat_report.specs.Laws.{IsRun}
 use Rattle.flat_stress.specs.Load.{load_text}
@@ -34,7 +36,7 @@ CallForNothing words = (form : Form) → CallFor words form → ⊥
 
 -- what is written where the words call for no form
 abbrev pub usage_line : List ℕ
-usage_line = codes "usage: flatland play | race | stress N | render | damage | focus | pointer" ++ 10 ∷ []
+usage_line = codes "usage: flatland play | race | stress N | render | damage | focus | pointer | why" ++ 10 ∷ []
 
 -- ---- the bytes
 
@@ -89,7 +91,7 @@ pub record AreTooLarge (bytes : List ℕ) : Type 0 where
 
 -- ---- what ran
 
--- It ran for a form: the history is a legal one, which interleaves the script's actors, in written order but in a race, and a load's has as many frames as were asked for. But in a race each line of a probe saw the frame that was finished last before it. The display isn't too large for the form. Of each session's family, its entries with the frames alone are legal too, with the same replies, and post it the same events at the same entries; no other entry posts it any.
+-- It ran for a form: the history is a legal one, which interleaves the script's actors, in written order but in a race, and a load's has as many frames as were asked for. But in a race each line of a probe saw the frame that was finished last before it. The display isn't too large for the form. Of each session's family, its entries with the frames alone are legal too, with the same replies, and post it the same events at the same entries; no other entry posts it any. Each frame takes at its begin each present that is due.
 pub record HasRun (form : Form) (ran : Ran) : Type 0 where
   pub run : IsRun ran.reading.script ran.history ran.lost ran.seen
   pub written : form ≢ Race → IsWritten ran.reading.script.setup ran.history
@@ -97,6 +99,7 @@ pub record HasRun (form : Form) (ran : Ran) : Type 0 where
   pub asked : AreAsked form (frames ran.history)
   pub fits : Fits form ran.reading.script.setup
   pub families : (s : SessionNo) → IsFamilyLaw ran.reading.script.setup (family ran.reading.script.setup s) ran.history
+  pub due : TakesDue ran.reading.script.setup ran.history
 
 -- These bytes are a script, which ran for the form, and the text is what is written of it.
 pub record Tells (form : Form) (bytes text : List ℕ) : Type 0 where
@@ -132,6 +135,18 @@ module _ {D : Type 0} (shown : D → Option (List FrameOut)) (faults : D → ℕ
     pub text : List ℕ
     pub is : IsAnswer words left left' status text
     pub part : AppendsPrefix text held held'
+
+-- ---- what displays were shown, however far a run came
+
+-- These are the frames of a run of a form's script as far as it came; where nothing ran there are none.
+pub data AreFramesOf (form : Form) (bytes : List ℕ) : List FrameOut → Type 0 where
+  none : AreFramesOf form bytes []
+  some : (reading : Reading) {frames : List FrameOut} → form_read form bytes ≡ Ok reading → AreBegun reading.script frames → AreFramesOf form bytes frames
+
+-- They are those of a form that the words call for, and the bytes are the text of its script.
+pub data AreFramesFor (words : List (List ℕ)) (left left' : Option (List ℕ)) : List FrameOut → Type 0 where
+  none : AreFramesFor words left left' []
+  some : (form : Form) (bytes : List ℕ) {frames : List FrameOut} → CallFor words form → AreTextOf form left left' bytes → AreFramesOf form bytes frames → AreFramesFor words left left' frames
 
 -- whether a sink's count of faults rose, or its count of stalls
 abbrev pub either_rose : ℕ → ℕ → ℕ → ℕ → Bool

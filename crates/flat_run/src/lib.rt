@@ -7,11 +7,15 @@
 #![tactic(auto)]
 
 mod answers;
+mod given;
 mod laws;
 mod load;
 mod reading;
+mod runs;
 mod texts;
 mod top;
+mod why;
+mod writing;
 
-pub use laws::plays_have_one_history;
-pub use top::flatland;
+pub use laws::{reports_have_one_run, runs_are_one};
+pub use top::{flatland, serve};

@@ -11,7 +11,8 @@ ghost use Rattle.flat_script.specs.Grammar.{text_read};
 ghost use Rattle.flat_stress.specs.Load.{load_text};
 ghost use Rattle.flat_words.specs.declared.form.Form.TheVariants.{Stress};
 ghost use Rattle.flat_display.specs.Had.{AreKept};
-ghost use Rattle.flat_run.specs.Promise.{IsTold};
+ghost use Rattle.flat_play.specs.Beginning.{AreBegun};
+ghost use Rattle.flat_run.specs.Promise.{AreFramesOf, IsTold};
 ghost use Rattle.flat_run.specs.Totals.{is_present, items_of, totals_of};
 
 use crate::answers::{Answer, DONE};
@@ -20,7 +21,7 @@ use flat_display::Display;
 use flat_places::Script;
 use flat_play::{Keeping, play_script};
 use flat_playable::scripts_are_playable;
-use flat_report::{Pieces, frames_are_seen};
+use flat_report::{Pieces, due_presents_are_taken, frames_are_seen};
 use flat_rules::families_are_alone;
 use flat_scene::{Entry, FrameOut, Journal, Kind, Setup};
 use flat_script::{ScriptError, parse};
@@ -96,10 +97,11 @@ fn summed(
     requires few { length displays.old.items < 2 ^ 32 }
     ensures told { IfOk result (λ text. IsTold (λ d. shown d) (λ d. faults d)
         displays.old.items displays.new.items (Stress frames) (load_text frames) text.items) }
-    ensures kept { AreKept (λ d. shown d) (λ d. faults d) displays.old.items displays.new.items
-        (λ d. d.vtable) }
+    ensures kept { AreKept (λ d. shown d) (λ d. faults d) (AreBegun script.now)
+        displays.old.items displays.new.items (λ d. d.vtable) }
 {
     families_are_alone();
+    due_presents_are_taken();
     frames_are_seen();
     scripts_are_playable();
     loads_have_their_frames();
@@ -136,8 +138,8 @@ fn load_summary(
     requires few { length displays.old.items < 2 ^ 32 }
     ensures told { IfOk result (λ text. IsTold (λ d. shown d) (λ d. faults d)
         displays.old.items displays.new.items (Stress frames) (load_text frames) text.items) }
-    ensures kept { AreKept (λ d. shown d) (λ d. faults d) displays.old.items displays.new.items
-        (λ d. d.vtable) }
+    ensures kept { AreKept (λ d. shown d) (λ d. faults d) (AreFramesOf (Stress frames)
+        (load_text frames)) displays.old.items displays.new.items (λ d. d.vtable) }
 {
     let script = load_script(alloc, frames)?;
     let text = summed(alloc, frames, &script, displays);
@@ -157,8 +159,8 @@ pub fn stress(
     ensures status { IfOk result (λ answer. answer.status ≡ DONE) }
     ensures told { IfOk result (λ answer. IsTold (λ d. shown d) (λ d. faults d)
         displays.old.items displays.new.items (Stress frames) (load_text frames) answer.text) }
-    ensures kept { AreKept (λ d. shown d) (λ d. faults d) displays.old.items displays.new.items
-        (λ d. d.vtable) }
+    ensures kept { AreKept (λ d. shown d) (λ d. faults d) (AreFramesOf (Stress frames)
+        (load_text frames)) displays.old.items displays.new.items (λ d. d.vtable) }
 {
     let text = load_summary(alloc, frames, displays)?;
     Ok(Answer {

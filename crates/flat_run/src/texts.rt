@@ -13,7 +13,7 @@ ghost use Rattle.flat_report.specs.Report.{finished, report};
 ghost use Rattle.flat_rules.specs.Legal.{Legal};
 ghost use Rattle.flat_play.specs.declared.kept.Keeping.TheVariants as keeping;
 ghost use Rattle.flat_play.specs.Keeping.{keeping_of};
-ghost use Rattle.flat_words.specs.declared.form.Form.TheVariants.{Render, Pointer};
+ghost use Rattle.flat_words.specs.declared.form.Form.TheVariants.{Render, Pointer, Why};
 ghost use Rattle.flat_texts.specs.Damages.{IsDamageText};
 ghost use Rattle.flat_texts.specs.Lines.{finish_lines};
 ghost use Rattle.flat_texts.specs.Pictures.{picture_text};
@@ -44,7 +44,7 @@ pub(crate) fn keeping_for(form: Form) -> Keeping
         Form::Play | Form::Race => Keeping::Texts,
         Form::Damage => Keeping::Damages,
         Form::Focus | Form::Pointer => Keeping::Trees,
-        Form::Render | Form::Stress(_) => Keeping::Last,
+        Form::Render | Form::Stress(_) | Form::Why => Keeping::Last,
     }
 }
 
@@ -191,6 +191,7 @@ fn picture_or_lines<T: Threads + Sync>(
     touches: &[Touch],
 ) -> Result<Vec<u8>, NoMemory>
     requires read { is_read form ≡ true }
+    requires other { form ≢ Why }
     requires keeping { keeping_of played.kept ≡ keeping_for form }
     requires lines { keeping_for form ≢ keeping.Texts }
     requires runnable { IsRunnable reading.now }
@@ -202,7 +203,7 @@ fn picture_or_lines<T: Threads + Sync>(
         played.set.lost (frames_seen played.probes.items)) text.items) }
 {
     match form {
-        Form::Play | Form::Race | Form::Stress(_) => unreachable!(),
+        Form::Play | Form::Race | Form::Stress(_) | Form::Why => unreachable!(),
         Form::Render => {
             let text = last_picture(rt, alloc, &reading.script, &played);
             played.let_go();
@@ -224,6 +225,7 @@ pub(crate) fn text_of<T: Threads + Sync>(
     touches: &[Touch],
 ) -> Result<Pieces, NoMemory>
     requires read { is_read form ≡ true }
+    requires other { form ≢ Why }
     requires keeping { keeping_of played.kept ≡ keeping_for form }
     requires runnable { IsRunnable reading.now }
     requires fits { Fits form reading.now.script.setup }

@@ -144,6 +144,7 @@ impl SessionSeat {
             (Session self.old.session) c }
         ensures legal { Legal (setup_of self.old.stage) (history_of self.new.seen) }
         ensures sees { SeesMore self.old self.new }
+        ensures whole { self.new.mine ≡ entries_of_seat self.new.session.0 self.new.seen }
     {
         let who = Actor::Session(self.reader.session);
         look(rt, stage, &mut self.seat, who, c)

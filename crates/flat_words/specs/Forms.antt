@@ -3,7 +3,7 @@ use Rattle.std.specs.Prelude.{◌≡◌, ◌==◌, ⊤, ℕ, ◌≤◌, Bool, fa
 use Rattle.std.specs.Fmt.{decimal}
 use Rattle.flat_base.specs.declared.limits.TheConstants.{LOAD_FRAMES_MAX}
 use Rattle.flat_words.specs.declared.form.Form.{Form}
-use Rattle.flat_words.specs.declared.form.Form.TheVariants.{Play, Race, Stress, Render, Damage, Focus, Pointer}
+use Rattle.flat_words.specs.declared.form.Form.TheVariants.{Play, Race, Stress, Render, Damage, Focus, Pointer, Why}
 
 -- how a form is written
 abbrev pub words_of : Form → List (List ℕ)
@@ -14,6 +14,7 @@ words_of Render = codes "render" ∷ []
 words_of Damage = codes "damage" ∷ []
 words_of Focus = codes "focus" ∷ []
 words_of Pointer = codes "pointer" ∷ []
+words_of Why = codes "why" ∷ []
 
 -- A load has at least one frame, and no more than are allowed.
 abbrev pub IsAllowed : Form → Type 0

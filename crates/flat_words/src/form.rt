@@ -34,6 +34,8 @@ pub enum Form {
     Focus,
     /// To which sessions the pointers' lines went while a script was played.
     Pointer,
+    /// Why the sessions of a played script were on the display, or not.
+    Why,
 }
 
 /// The form for which the words call: None exactly where they call for none. The
@@ -135,7 +137,10 @@ fn service<'a>(alloc: Global) -> Result<Command<'a>, NoMemory>
     let Ok(command) = with_two(alloc, command, "render", "damage") else {
         return Err(NoMemory);
     };
-    with_two(alloc, command, "focus", "pointer")
+    let Ok(command) = with_two(alloc, command, "focus", "pointer") else {
+        return Err(NoMemory);
+    };
+    with_form(alloc, command, "why")
 }
 
 // What the words give the command, or None where it refuses them.
@@ -175,6 +180,7 @@ fn named_form(matches: &ArgMatches) -> Option<Form>
         "damage" => Some(Form::Damage),
         "focus" => Some(Form::Focus),
         "pointer" => Some(Form::Pointer),
+        "why" => Some(Form::Why),
         _ => None,
     }
 }

@@ -146,7 +146,12 @@ module _ {D : Type 0} (told : D → Option (List FrameOut)) (count : D → ℕ) 
       let found = at_of_lost frames lost n at is in
       let all : frames_before (lost_at whole n) (frames ++ frame ∷ []) ≡ frames_before (lost_at lost n) frames = rw (same, found.1) (until-kept found.0 frames (frame ∷ []) found.2) in
       let P : List FrameOut → Type 0 = λ xs. Gains xs (told old) (told mid) in
-      record { gains = subst P (sym all) had.gains; grows = had.grows; risen = λ _. had.risen is }
+      record {
+        gains = subst P (sym all) had.gains;
+        grows = had.grows;
+        risen = λ _. had.risen is;
+        steady = λ free. absurd (no_both _ (not_lost lost n (sym same ∙ not_lost_at whole n free)) is);
+      }
 
   took_one : (lost whole : List Lost) (frames : List FrameOut) (n : ℕ) (old mid new : D) → is_lost lost n ≡ false → lost_at whole n ≡ None → is_lost whole n ≡ false → Takes told count frame mid new → HasHad told count lost frames n old mid → HasHad told count whole (frames ++ frame ∷ []) n old new
   took_one lost whole frames n old mid new is same kept t had =
@@ -155,8 +160,9 @@ module _ {D : Type 0} (told : D → Option (List FrameOut)) (count : D → ℕ) 
       let all : Gains frames (told old) (told mid) = subst G (not_lost_at lost n is) had.gains in
       record {
         gains = subst G' (sym same) (gains_more frames (frame ∷ []) (told old) (told mid) (told new) all t.gains);
-        grows = omega (arith, had.grows, t.grows);
+        grows = omega (arith, had.grows, t.steady);
         risen = λ lost. absurd (no_both _ kept lost);
+        steady = λ _. t.steady ∙ had.steady is;
       }
 
   failed_one : (lost whole : List Lost) (frames : List FrameOut) (n : ℕ) (old mid new : D) → is_among frames frame.frame ≡ false → is_lost lost n ≡ false → lost_at whole n ≡ Some frame.frame → Fails told count frame mid new → HasHad told count lost frames n old mid → HasHad told count whole (frames ++ frame ∷ []) n old new
@@ -170,6 +176,7 @@ module _ {D : Type 0} (told : D → Option (List FrameOut)) (count : D → ℕ) 
         gains = subst G' (sym same) (subst F (sym (until-new frames frame fresh)) (subst T (sym t.same) all));
         grows = omega (arith, had.grows, t.grows);
         risen = λ _. risen_after (count old) (count mid) (count new) had.grows t.risen;
+        steady = λ free. absurd (some_none (sym same ∙ not_lost_at whole n free));
       }
 
   have_more : (lost whole more : List Lost) (frames : List FrameOut) (n : ℕ) (olds mids news : List D) → AreLostAt frames lost → is_among frames frame.frame ≡ false → ((k : ℕ) → n ≤ k → lost_at whole k ≡ lost_at (lost ++ more) k) → Shows told count frame lost n mids news more → HaveHad told count lost frames n olds mids → HaveHad told count whole (frames ++ frame ∷ []) n olds news
@@ -203,7 +210,7 @@ had_length told count lost frames n (d ∷ ds) (d' ∷ ds') (first, had) = ap su
 
 have_none : {D : Type 0} (told : D → Option (List FrameOut)) (count : D → ℕ) (n : ℕ) (ds : List D) → HaveHad told count [] [] n ds ds
 have_none told count n [] = tt
-have_none told count n (d ∷ ds) = (record { gains = gains_none (told d); grows = omega arith; risen = λ lost. absurd (grind arith) }, have_none told count (suc n) ds)
+have_none told count n (d ∷ ds) = (record { gains = gains_none (told d); grows = omega arith; risen = λ lost. absurd (grind arith); steady = λ _. refl }, have_none told count (suc n) ds)
 
 -- Before any frame was shown.
 pub driven_none : {D : Type 0} (told : D → Option (List FrameOut)) (count : D → ℕ) (lost : List Lost) (ds : List D) → lost ≡ [] → AreDriven told count lost [] ds ds

@@ -96,17 +96,22 @@ pub as_long : {A B : Type 0} (f : A → B) (xs ys : List A) → map f xs ≡ map
 as_long f xs ys same = sym (length-map xs f) ∙ ap length same ∙ length-map ys f
 
 -- displays that were shown nothing are kept
-pub kept_none : {D K : Type 0} (told : D → Option (List FrameOut)) (count : D → ℕ) (kind : D → K) (ds : List D) → AreKept told count ds ds kind
-kept_none told count kind ds = record { kinds = refl; some = ([], [], driven_none told count [] ds refl) }
+pub kept_none : {D K : Type 0} (told : D → Option (List FrameOut)) (count : D → ℕ) (AreOfSort : List FrameOut → Type 0) (kind : D → K) (ds : List D) → AreOfSort [] → AreKept told count AreOfSort ds ds kind
+kept_none told count AreOfSort kind ds none = record { kinds = refl; some = ([], [], none, driven_none told count [] ds refl) }
 
 -- so are those that have had the frames of a run
-pub kept_seen : {D K : Type 0} (told : D → Option (List FrameOut)) (count : D → ℕ) (kind : D → K) (shown : List FrameOut) (history : List Entry) (lost : List Lost) (olds news : List D) → map kind news ≡ map kind olds
-    → HaveSeen told count shown history lost olds news → AreKept told count olds news kind
-kept_seen told count kind shown history lost olds news kinds seen = record { kinds = kinds; some = (lost, shown, seen.driven) }
+pub kept_seen : {D K : Type 0} (told : D → Option (List FrameOut)) (count : D → ℕ) (AreOfSort : List FrameOut → Type 0) (kind : D → K) (shown : List FrameOut) (history : List Entry) (lost : List Lost) (olds news : List D) → map kind news ≡ map kind olds
+    → AreOfSort shown → HaveSeen told count shown history lost olds news → AreKept told count AreOfSort olds news kind
+kept_seen told count AreOfSort kind shown history lost olds news kinds are seen = record { kinds = kinds; some = (lost, shown, are, seen.driven) }
 
 -- the same displays, by another name
-pub kept_same : {D K : Type 0} (told : D → Option (List FrameOut)) (count : D → ℕ) (kind : D → K) (olds news news' : List D) → news' ≡ news → AreKept told count olds news kind → AreKept told count olds news' kind
-kept_same {D} told count kind olds news news' same kept = let P : List D → Type 0 = λ ds. AreKept told count olds ds kind in subst P (sym same) kept
+pub kept_same : {D K : Type 0} (told : D → Option (List FrameOut)) (count : D → ℕ) (AreOfSort : List FrameOut → Type 0) (kind : D → K) (olds news news' : List D) → news' ≡ news → AreKept told count AreOfSort olds news kind → AreKept told count AreOfSort olds news' kind
+kept_same {D} told count AreOfSort kind olds news news' same kept = let P : List D → Type 0 = λ ds. AreKept told count AreOfSort olds ds kind in subst P (sym same) kept
+
+-- frames of a sort are of each wider one
+pub kept_as : {D K : Type 0} (told : D → Option (List FrameOut)) (count : D → ℕ) (AreOfSort AreOfOther : List FrameOut → Type 0) (kind : D → K) (olds news : List D) → ((shown : List FrameOut) → AreOfSort shown → AreOfOther shown)
+    → AreKept told count AreOfSort olds news kind → AreKept told count AreOfOther olds news kind
+kept_as told count AreOfSort AreOfOther kind olds news wider kept = record { kinds = kept.kinds; some = (kept.some.0, kept.some.1, wider kept.some.1 kept.some.2, kept.some.3) }
 
 -- by other names, where as many frames are finished
 pub seen_counted : {D : Type 0} (told : D → Option (List FrameOut)) (count : D → ℕ) (all all' : List FrameOut) (old new : List Entry) (lost lost' : List Lost) (olds olds' news : List D) → all' ≡ all → frames new ≡ frames old → lost' ≡ lost → olds' ≡ olds
@@ -117,8 +122,8 @@ seen_counted {D} told count all all' old new lost lost' olds olds' news all_is n
     let O : List D → Type 0 = λ ds. HaveSeen told count all new lost ds news in
     subst F (sym all_is) (subst L (sym lost_is) (subst O (sym olds_is) (record { driven = seen.driven; loss = loss_same old new lost number seen.loss; numbered = seen.numbered })))
 
-pub kept_from : {D K : Type 0} (told : D → Option (List FrameOut)) (count : D → ℕ) (kind : D → K) (olds olds' news : List D) → olds' ≡ olds → AreKept told count olds news kind → AreKept told count olds' news kind
-kept_from {D} told count kind olds olds' news same kept = let P : List D → Type 0 = λ ds. AreKept told count ds news kind in subst P (sym same) kept
+pub kept_from : {D K : Type 0} (told : D → Option (List FrameOut)) (count : D → ℕ) (AreOfSort : List FrameOut → Type 0) (kind : D → K) (olds olds' news : List D) → olds' ≡ olds → AreKept told count AreOfSort olds news kind → AreKept told count AreOfSort olds' news kind
+kept_from {D} told count AreOfSort kind olds olds' news same kept = let P : List D → Type 0 = λ ds. AreKept told count AreOfSort ds news kind in subst P (sym same) kept
 
 module _ {D : Type 0} (told : D → Option (List FrameOut)) (count : D → ℕ) where
   -- before any line

@@ -3,7 +3,7 @@ use Rattle.flat_scene.specs.declared.journal.Entry.{Entry}
 use Rattle.flat_scene.specs.History.{history_of}
 use Rattle.flat_report.specs.Report.{finished}
 use Rattle.flat_stage.specs.Displays.{DisplayView}
-use Rattle.flat_play.proofs.lemmas.Seen.{as_long, kept_same, kept_seen, seen_counted, seen_none, seen_line}
+use Rattle.flat_play.proofs.lemmas.Seen.{as_long, seen_counted, seen_none, seen_line}
 use Rattle.flat_play.proofs.lemmas.Places.{setup_is}
 use Rattle.flat_play.specs.Keeping.{keeping_of}
 use Rattle.flat_display.specs.Lost.{Driven}
@@ -13,6 +13,7 @@ use Rattle.flat_actors.specs.Directing.{HandStands, hand_seat}
 use Rattle.flat_actors.specs.Publishing.{PublishedStand}
 use Rattle.flat_actors.proofs.Finishing.{published_more, published_none}
 use Rattle.flat_actors.proofs.HandSteps.{hand_ends, hand_last, hand_starts, seen_there}
+use Rattle.flat_actors.proofs.Stopping.{stopped_at}
 use Rattle.flat_actors.proofs.director.direct.Goals as goal
 
 pub loop-place-init : goal.loop-place-init
@@ -31,7 +32,7 @@ pub end_line-requires-clause-setup : goal.end_line-requires-clause-setup
 end_line-requires-clause-setup g c κs asked = setup_is c.args.lent.now.script.now c.requires.playable
 
 pub end_line-requires-clause-last : goal.end_line-requires-clause-last
-end_line-requires-clause-last g c κs asked = c.in_ok-hand.ensures.stands.kept.answering.is_last
+end_line-requires-clause-last g c κs asked = c.in-Ok.ensures.stands.kept.answering.is_last
 
 pub end_line-requires-clause-given : goal.end_line-requires-clause-given
 end_line-requires-clause-given g c κs asked =
@@ -43,20 +44,20 @@ pub loop-place-preserved : goal.loop-place-preserved
 loop-place-preserved g c =
     let script = c.args.lent.now.script.now in
     let was = c.loop-place.invariant in
-    let now = c.in_ok-hand.ensures in
+    let now = c.in-Ok.ensures in
     let sent = c.end_line.ensures in
     let was_seen : List Entry = history_of (hand_seat c.loop-place.hand).seen in
-    let now_seen : List Entry = history_of (hand_seat c.in_ok-hand.hand).seen in
+    let now_seen : List Entry = history_of (hand_seat c.in-Ok.next).seen in
     let set : c.end_line.new.film.set ≡ c.direct_next.new.film.set = ap (λ (f : Film). f.set) sent.others in
     record {
-      stands = hand_last script c.args.lent.now.stage.now (c.loop-place.place + 1) c.in_ok-hand.hand c.direct_next.new.film c.end_line.new.film sent.others c.in-Ok.ensures.stays now.stands;
+      stands = hand_last script c.args.lent.now.stage.now (c.loop-place.place + 1) c.in-Ok.next c.direct_next.new.film c.end_line.new.film sent.others c.in-Ok-end_line.ensures.stays now.stands;
       seen = seen_counted _ _ (finished script.setup now_seen) (finished script.setup now_seen) now_seen now_seen _ _ _ _ _ refl refl (ap (λ (s : Driven). s.lost) set) refl (seen_line _ _ script.setup _ _ was_seen now_seen refl refl _ _ _ _ _ (omega (arith, was.number, was.same, c.requires.few)) now.shown was.seen);
       number = as_long _ _ _ c.direct_next.ensures.kinds ∙ was.number ∙ sym c.direct_next.ensures.same ∙ ap (λ (s : Driven). s.displays) (sym set);
       kinds = c.direct_next.ensures.kinds ∙ was.kinds;
       keeping = ap (λ (f : Film). keeping_of f.kept) sent.others ∙ now.keeping ∙ was.keeping;
       same = ap (λ (s : Driven). s.displays) set ∙ c.direct_next.ensures.same ∙ was.same;
       published = published_more script was_seen now_seen c.loop-place.film.last.frame.0 c.direct_next.new.film.last c.loop-place.published c.end_line.new.published
-          was.stands.kept.answering.number now.stands.kept.answering.number now.stands.kept.answering.showing now.stands.kept.answering.scaling now.finishes c.in-Ok.ensures.publishes was.published;
+          was.stands.kept.answering.number now.stands.kept.answering.number now.stands.kept.answering.showing now.stands.kept.answering.scaling now.finishes c.in-Ok-end_line.ensures.publishes was.published;
       home = sent.home ∙ was.home;
     }
 
@@ -82,17 +83,17 @@ returns-clause-film g c =
 pub returns-clause-seen : goal.returns-clause-seen
 returns-clause-seen g c = seen_there _ _ c.args.lent.now.script.now.setup _ _ _ _ _ (ap (λ (h : Hand). history_of (hand_seat h).seen) (sym c.into_seat.ensures)) c.loop-place.invariant.seen
 
-pub returns-clause-kept : goal.returns-clause-kept
-returns-clause-kept g c = kept_seen _ _ _ _ _ _ _ _ c.loop-place.invariant.kinds c.loop-place.invariant.seen
-
-pub returns-in_err-hand-clause-kept : goal.returns-in_err-hand-clause-kept
-returns-in_err-hand-clause-kept g c = kept_same _ _ _ _ _ _ (ap (λ v. v.items) c.in_err-hand.ensures.unshown) (kept_seen _ _ _ _ _ _ _ _ c.loop-place.invariant.kinds c.loop-place.invariant.seen)
-
-pub returns-in_default-clause-kept : goal.returns-in_default-clause-kept
-returns-in_default-clause-kept g c =
+pub returns-in-Err-clause-stopped : goal.returns-in-Err-clause-stopped
+returns-in-Err-clause-stopped g c =
     let was = c.loop-place.invariant in
-    let now = c.in_ok-hand.ensures in
-    kept_seen _ _ _ _ _ _ _ _ (c.direct_next.ensures.kinds ∙ was.kinds) (seen_line _ _ c.args.lent.now.script.now.setup _ _ (history_of (hand_seat c.loop-place.hand).seen) (history_of (hand_seat c.in_ok-hand.hand).seen) refl refl _ _ _ _ _ (omega (arith, was.number, was.same, c.requires.few)) now.shown was.seen)
+    stopped_at _ _ c.args.lent.now.script.now c.args.lent.now.stage.now c.loop-place.place c.loop-place.hand c.in-Err.back c.in-Err.ensures.back c.loop-place.film was.stands _ _ _ _ (ap (λ v. v.items) c.in-Err.ensures.unshown) was.seen
+
+pub returns-in_default-clause-stopped : goal.returns-in_default-clause-stopped
+returns-in_default-clause-stopped g c =
+    let was = c.loop-place.invariant in
+    let now = c.in-Ok.ensures in
+    stopped_at _ _ c.args.lent.now.script.now c.args.lent.now.stage.now (c.loop-place.place + 1) c.in-Ok.next c.in-Ok.next refl c.direct_next.new.film now.stands _ _ _ _ refl
+    (seen_line _ _ c.args.lent.now.script.now.setup _ _ (history_of (hand_seat c.loop-place.hand).seen) (history_of (hand_seat c.in-Ok.next).seen) refl refl _ _ _ _ _ (omega (arith, was.number, was.same, c.requires.few)) now.shown was.seen)
 
 pub returns-clause-published : goal.returns-clause-published
 returns-clause-published g c =
@@ -111,8 +112,8 @@ direct_next-requires-clause-stands g c κs within = c.loop-place.invariant.stand
 pub direct_next-requires-clause-number : goal.direct_next-requires-clause-number
 direct_next-requires-clause-number g c κs within = c.loop-place.invariant.number
 
-pub returns-in_err-hand-clause-home : goal.returns-in_err-hand-clause-home
-returns-in_err-hand-clause-home g c = c.loop-place.invariant.home
+pub returns-in-Err-clause-home : goal.returns-in-Err-clause-home
+returns-in-Err-clause-home g c = c.loop-place.invariant.home
 
 pub returns-in_default-clause-stands : goal.returns-in_default-clause-stands
 returns-in_default-clause-stands g c = tt

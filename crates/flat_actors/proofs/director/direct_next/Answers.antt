@@ -20,6 +20,8 @@ returns-in_default g c =
       shown = IsShown.shows_none refl refl refl;
       keeping = refl;
       unshown = tt;
+      unlost = tt;
+      back = tt;
       same = refl;
       kinds = refl;
     }
@@ -59,3 +61,9 @@ returns-in-Display-clause-same g c = c.direct_line.ensures.same
 
 pub returns-in-Display-clause-kinds : goal.returns-in-Display-clause-kinds
 returns-in-Display-clause-kinds g c = c.direct_line.ensures.kinds
+
+pub returns-in-Display-clause-unlost : goal.returns-in-Display-clause-unlost
+returns-in-Display-clause-unlost g c = c.direct_line.ensures.unlost
+
+pub returns-in-Display-clause-back : goal.returns-in-Display-clause-back
+returns-in-Display-clause-back g c = c.direct_line.ensures.back

@@ -3,11 +3,12 @@ use Rattle.std.proofs.Math.Seq.{drop-cons}
 use Rattle.std.proofs.lemmas.List.{drop_all}
 use Rattle.flat_base.specs.declared.ids.SessionNo.{SessionNo}
 use Rattle.flat_scene.specs.declared.script.ScriptLine.{ScriptLine}
-use Rattle.flat_scene.specs.History.{is_session}
+use Rattle.flat_scene.specs.History.{history_of, is_session}
+use Rattle.flat_scene.specs.Interleave.{IsReading, session_lines}
 use Rattle.flat_actors.specs.OwnLines.{StandsBefore}
 use Rattle.flat_actors.specs.Sessions.{SessionStands}
 use Rattle.flat_actors.proofs.ReadLines.{all-read, line-here, line-mine, line-read, line-within, next-line, stands-at}
-use Rattle.flat_actors.proofs.SessionSteps.{fresh_stands}
+use Rattle.flat_actors.proofs.SessionSteps.{begun_at, fresh_stands}
 use Rattle.flat_actors.proofs.session.read_all.Goals as goal
 
 pub loop-i-init : goal.loop-i-init
@@ -66,3 +67,14 @@ finish-requires-clause-playable g c κs within = c.requires.playable
 
 pub finish-requires-clause-of : goal.finish-requires-clause-of
 finish-requires-clause-of g c κs within = c.requires.of
+
+pub returns-clause-begun : goal.returns-clause-begun
+returns-clause-begun g c =
+    let script = c.args.lent.now.script.now in
+    let is : c.loop-i.seat.session ≡ c.args.seat.now.session = c.loop-i.invariant.stands.session in
+    (subst (λ (s : SessionNo). IsReading script.setup script.count (session_lines s script.lines) (history_of c.finish.new.seat.mine)) is c.finish.ensures.read).follows
+
+pub returns-in_err-read_next-clause-begun : goal.returns-in_err-read_next-clause-begun
+returns-in_err-read_next-clause-begun g c =
+    let stands = c.loop-i.invariant.stands in
+    begun_at c.args.lent.now.script.now c.args.lent.now.stage.now c.args.seat.now.session c.loop-i.invariant.place c.loop-i.seat c.requires.playable c.requires.of stands c.read_next.new.seat.mine c.in_err-read_next.ensures.kept

@@ -4,6 +4,9 @@ use Rattle.flat_report.specs.Report.{finished}
 use Rattle.flat_base.specs.declared.ids.FrameNo.{FrameNo}
 use Rattle.flat_rules.specs.Ends.{to_finished}
 use Rattle.flat_rules.specs.Legal.{frames}
+use Rattle.flat_play.specs.Beginning.{AreBegun}
+use Rattle.flat_play.specs.Explaining.{StandsExplained}
+use Rattle.flat_play.proofs.Explained.{entered_so_far}
 use Rattle.flat_play.specs.Playing.{PlayStands, last_number}
 use Rattle.flat_play.specs.Touches.{AreAnswered}
 use Rattle.flat_play.specs.Probing.{ProbesStand}
@@ -14,6 +17,7 @@ use Rattle.flat_scene.specs.Setups.{at_ratio}
 use Rattle.flat_play.proofs.lemmas.FramesShown.{scaled}
 use Rattle.flat_play.proofs.lemmas.PlaySteps.{play_stays}
 use Rattle.flat_play.proofs.lemmas.Places.{setup_is}
+use Rattle.flat_play.proofs.lemmas.Begun.{play-begins}
 use Rattle.flat_play.proofs.lemmas.Steps.{at_place}
 use Rattle.flat_play.proofs.lemmas.Seen.{as_long, kept_same, kept_seen, seen_none, seen_line}
 use Rattle.flat_play.proofs.run.play_each.Goals as goal
@@ -29,6 +33,8 @@ loop-place-init g c = record {
   answered = answered-none _ _ _ _ c.requires.no_entry c.requires.no_answer c.requires.rise;
   asked = (let P : List Entry → Type 0 = λ h. ProbesStand c.args.script.now 0 h c.args.answers.now.items in subst P (sym c.requires.no_entry) (probes-unasked c.args.script.now c.args.answers.now.items c.requires.unasked));
   turns = turns-none c.args.script.now.setup.probes c.args.play.now.board.history c.args.answers.now.items c.requires.unasked;
+  explained = (let P : List Entry → Type 0 = λ h. StandsExplained c.args.script.now h c.args.explaining.now in subst P (sym c.requires.no_entry) c.requires.unexplained);
+  on = refl;
 }
 
 pub answer_upto-requires-clause-setup : goal.answer_upto-requires-clause-setup
@@ -92,6 +98,8 @@ loop-place-preserved g c =
       asked =
           probes-on script (place + 1) x.number old new c.answer_line.new.answers.items on
           (probes-more script place x at old (at_ratio last.ratio script.setup) last.reuse last.frame.0 number (scaled script.setup (to_finished old) last.ratio (stays.ratio ∙ was.stands.answers.scaling)) showing c.loop-place.answers.items c.answer_line.new.answers.items asks was.asked);
+      explained = c.in_ok-note.ensures.stands;
+      on = c.in_ok-note.ensures.on ∙ was.on;
       turns =
           turns-on script place x at old new c.answer_line.new.answers.items on
           (turns-more script place x at old (last_number 0 (take place script.lines)) at.above was.answered.entries (at_ratio last.ratio script.setup) last.reuse last.frame.0 number c.loop-place.answers.items c.answer_line.new.answers.items was.asked.count asks was.turns);
@@ -117,15 +125,60 @@ pub returns-clause-seen : goal.returns-clause-seen
 returns-clause-seen g c = c.loop-place.invariant.seen
 
 pub returns-clause-kept : goal.returns-clause-kept
-returns-clause-kept g c = kept_seen _ _ _ _ _ _ _ _ c.loop-place.invariant.kinds c.loop-place.invariant.seen
+returns-clause-kept g c = kept_seen _ _ (AreBegun c.args.script.now) _ _ _ _ _ _ c.loop-place.invariant.kinds (play-begins c.args.script.now c.requires.playable c.loop-place.place c.loop-place.play c.loop-place.invariant.stands c.journal-journal-2.ensures.legal) c.loop-place.invariant.seen
 
 pub returns-in_err-play_line-clause-kept : goal.returns-in_err-play_line-clause-kept
-returns-in_err-play_line-clause-kept g c = kept_same _ _ _ _ _ _ (ap (λ v. v.items) c.in_err-play_line.ensures.unshown.1) (kept_seen _ _ _ _ _ _ _ _ c.loop-place.invariant.kinds c.loop-place.invariant.seen)
+returns-in_err-play_line-clause-kept g c =
+    let begun = play-begins c.args.script.now c.requires.playable c.loop-place.place c.loop-place.play c.loop-place.invariant.stands c.journal-journal.ensures.legal in
+    kept_same _ _ (AreBegun c.args.script.now) _ _ _ _ (ap (λ v. v.items) c.in_err-play_line.ensures.unshown.1) (kept_seen _ _ (AreBegun c.args.script.now) _ _ _ _ _ _ c.loop-place.invariant.kinds begun c.loop-place.invariant.seen)
 
 pub returns-in_err-answer_line-clause-kept : goal.returns-in_err-answer_line-clause-kept
-returns-in_err-answer_line-clause-kept g c = kept_seen _ _ _ _ _ _ _ _ c.loop-place.invariant.kinds c.loop-place.invariant.seen
+returns-in_err-answer_line-clause-kept g c = kept_seen _ _ (AreBegun c.args.script.now) _ _ _ _ _ _ c.loop-place.invariant.kinds (play-begins c.args.script.now c.requires.playable c.loop-place.place c.loop-place.play c.loop-place.invariant.stands c.journal-journal.ensures.legal) c.loop-place.invariant.seen
 
 pub returns-clause-in_turn : goal.returns-clause-in_turn
 returns-clause-in_turn g c =
     turns-all c.args.script.now c.loop-place.place c.loop-place.play.board.history c.loop-place.answers.items (omega (arith, c.loop-place.auto.place-end, c.loop-place-test.false))
     c.loop-place.invariant.asked.count c.loop-place.invariant.turns
+
+pub returns-in_err-left-clause-kept : goal.returns-in_err-left-clause-kept
+returns-in_err-left-clause-kept g c = kept_seen _ _ (AreBegun c.args.script.now) _ _ _ _ _ _ c.loop-place.invariant.kinds (play-begins c.args.script.now c.requires.playable c.loop-place.place c.loop-place.play c.loop-place.invariant.stands c.journal-journal.ensures.legal) c.loop-place.invariant.seen
+
+pub returns-in_err-answer_all-clause-kept : goal.returns-in_err-answer_all-clause-kept
+returns-in_err-answer_all-clause-kept g c = kept_seen _ _ (AreBegun c.args.script.now) _ _ _ _ _ _ c.loop-place.invariant.kinds (play-begins c.args.script.now c.requires.playable c.loop-place.place c.loop-place.play c.loop-place.invariant.stands c.journal-journal-2.ensures.legal) c.loop-place.invariant.seen
+
+-- ---- what is noted of why sessions are on the display, or aren't
+
+pub note-requires-clause-setup : goal.note-requires-clause-setup
+note-requires-clause-setup g c = setup_is c.args.script.now c.requires.playable
+
+pub note-requires-clause-of : goal.note-requires-clause-of
+note-requires-clause-of g c = c.in_ok-play_line.ensures.stands.setup
+
+pub note-requires-clause-shows : goal.note-requires-clause-shows
+note-requires-clause-shows g c = c.in_ok-play_line.ensures.stands.shows
+
+pub note-requires-clause-keeps : goal.note-requires-clause-keeps
+note-requires-clause-keeps g c = c.in_ok-play_line.ensures.stands.keeps
+
+pub note-requires-clause-before : goal.note-requires-clause-before
+note-requires-clause-before g c =
+    let old = c.loop-place.play.board.history in
+    let x = c.at-line.result.now in
+    let entries = c.journal.result.now.entries in
+    let whole = entries.ok in
+    let long = entered_so_far entries.items old c.journal.ensures.entries in
+    let many = c.len-entries.ensures in
+    (old, x.number, (let all : length old ≡ c.len-entries.result = omega (arith, long, whole, many) in all), c.in_ok-play_line.ensures.goes_on x c.at-line.ensures, c.loop-place.invariant.explained)
+
+pub returns-in_err-note-clause-kept : goal.returns-in_err-note-clause-kept
+returns-in_err-note-clause-kept g c =
+    let was = c.loop-place.invariant in
+    let now = c.in_ok-play_line.ensures in
+    kept_seen _ _ (AreBegun c.args.script.now) _ _ _ _ _ _ (c.play_line.ensures.kinds ∙ was.kinds) (play-begins c.args.script.now c.requires.playable (c.loop-place.place + 1) c.play_line.new.self now.stands c.journal-journal-in-loop-place.ensures.legal)
+    (seen_line _ _ c.args.script.now.setup _ _ c.loop-place.play.board.history c.play_line.new.self.board.history refl refl _ _ _ _ _ (omega (arith, was.number, was.same, c.requires.few)) now.shows was.seen)
+
+pub returns-clause-explained : goal.returns-clause-explained
+returns-clause-explained g c = c.loop-place.invariant.explained
+
+pub returns-clause-on : goal.returns-clause-on
+returns-clause-on g c = c.loop-place.invariant.on

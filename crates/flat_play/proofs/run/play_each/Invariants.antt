@@ -1,5 +1,6 @@
 use Rattle.std.proofs.Common.{◌≡◌, length, map, take}
 use Rattle.flat_report.specs.Report.{finished}
+use Rattle.flat_play.specs.Explaining.{StandsExplained, is_on}
 use Rattle.flat_play.specs.Keeping.{keeping_of}
 use Rattle.flat_play.specs.Playing.{PlayStands, last_number}
 use Rattle.flat_play.specs.Probing.{ProbesStand, SeeInTurn}
@@ -18,4 +19,6 @@ invariant-loop-place g l = record {
   answered : AreAnswered l.script.setup l.play.board.history (last_number 0 (take l.place l.script.lines)) l.lines l.left l.found.items;
   asked : ProbesStand l.script l.place l.play.board.history l.answers.items;
   turns : SeeInTurn (take l.place l.script.lines) l.play.board.history l.answers.items;
+  explained : StandsExplained l.script l.play.board.history l.explaining;
+  on : is_on l.explaining ≡ is_on l.initial.explaining;
 }

@@ -1,8 +1,4 @@
-use Rattle.flat_play.proofs.lemmas.Seen.{kept_none}
 use Rattle.flat_race.proofs.running.run_all.Goals as goal
-
-pub returns-in_default-clause-kept : goal.returns-in_default-clause-kept
-returns-in_default-clause-kept g c = kept_none _ _ _ _
 
 pub returns-in_default-clause-ended : goal.returns-in_default-clause-ended
 returns-in_default-clause-ended g c = tt
@@ -48,6 +44,3 @@ returns-clause-seen g c = c.run_beside-run.ensures.seen
 
 pub returns-clause-keeping : goal.returns-clause-keeping
 returns-clause-keeping g c = c.run_beside-run.ensures.keeping
-
-pub returns-clause-kept : goal.returns-clause-kept
-returns-clause-kept g c = c.run_beside-run.ensures.kept

@@ -1,16 +1,9 @@
 use Rattle.std.proofs.Common.{rules, refl}
 use Rattle.flat_scene.specs.History.{history_of}
 use Rattle.flat_play.proofs.lemmas.DisplaySteps.{answers_stay}
-use Rattle.flat_play.proofs.lemmas.Seen.{kept_none}
 use Rattle.flat_race.proofs.Probed.{answered-all}
 use Rattle.flat_race.proofs.Settled.{last-published-is}
 use Rattle.flat_race.proofs.running.run_beside.Goals as goal
-
-pub returns-in_default-clause-kept : goal.returns-in_default-clause-kept
-returns-in_default-clause-kept g c = kept_none _ _ _ _
-
-pub returns-in_default-start_probes-clause-kept : goal.returns-in_default-start_probes-clause-kept
-returns-in_default-start_probes-clause-kept g c = kept_none _ _ _ _
 
 pub meet_each-requires-clause-is : goal.meet_each-requires-clause-is
 meet_each-requires-clause-is g c = c.in-Ok-directed.ensures.film.answering.is_last
@@ -95,33 +88,6 @@ direct-directed-requires-clause-fresh g c κs within = c.requires.compositor
 pub direct-directed-requires-clause-unpublished : goal.direct-directed-requires-clause-unpublished
 direct-directed-requires-clause-unpublished g c κs within = c.requires.unpublished
 
-pub put_back-requires-clause-playable : goal.put_back-requires-clause-playable
-put_back-requires-clause-playable g c = c.requires.playable
-
-pub returns-then-not-put_back-clause-ended : goal.returns-then-not-put_back-clause-ended
-returns-then-not-put_back-clause-ended g c = tt
-
-pub returns-then-not-put_back-clause-seen : goal.returns-then-not-put_back-clause-seen
-returns-then-not-put_back-clause-seen g c = tt
-
-pub returns-then-not-put_back-clause-keeping : goal.returns-then-not-put_back-clause-keeping
-returns-then-not-put_back-clause-keeping g c = tt
-
-pub returns-then-not-put_back-clause-kept : goal.returns-then-not-put_back-clause-kept
-returns-then-not-put_back-clause-kept g c = c.direct-directed.ensures.kept
-
-pub returns-in_default-directed-clause-ended : goal.returns-in_default-directed-clause-ended
-returns-in_default-directed-clause-ended g c = tt
-
-pub returns-in_default-directed-clause-seen : goal.returns-in_default-directed-clause-seen
-returns-in_default-directed-clause-seen g c = tt
-
-pub returns-in_default-directed-clause-keeping : goal.returns-in_default-directed-clause-keeping
-returns-in_default-directed-clause-keeping g c = tt
-
-pub returns-in_default-directed-clause-kept : goal.returns-in_default-directed-clause-kept
-returns-in_default-directed-clause-kept g c = c.direct-directed.ensures.kept
-
 pub meet_each-requires-clause-playable : goal.meet_each-requires-clause-playable
 meet_each-requires-clause-playable g c = c.requires.playable
 
@@ -134,11 +100,5 @@ returns-in_default-meet_each-clause-seen g c = tt
 pub returns-in_default-meet_each-clause-keeping : goal.returns-in_default-meet_each-clause-keeping
 returns-in_default-meet_each-clause-keeping g c = tt
 
-pub returns-in_default-meet_each-clause-kept : goal.returns-in_default-meet_each-clause-kept
-returns-in_default-meet_each-clause-kept g c = c.direct-directed.ensures.kept
-
 pub returns-clause-seen : goal.returns-clause-seen
 returns-clause-seen g c = c.in-Ok-directed.ensures.seen
-
-pub returns-clause-kept : goal.returns-clause-kept
-returns-clause-kept g c = c.direct-directed.ensures.kept

@@ -26,7 +26,7 @@ returns-clause-told g c =
     let asked = load_asked (plain script) board _ _ playable played c.args.frames journal.legal (c.loads_have_their_frames.ensures c.args.frames script c.requires.first c.requires.last c.requires.read) in
     let probes = c.in_ok-played.played.probes.items in
     let seeing = c.frames_are_seen.ensures script board.history probes c.in_ok-played.ensures.probes in
-    let ran = has_run (plain script) board _ _ playable played _ _ (Stress c.args.frames) lost (frames_seen probes) _ _ (λ no_race. c.in_ok-played.ensures.written) (λ no_race. c.in_ok-played.ensures.in_turn) c.in_ok-played.ensures.seen c.families_are_alone.ensures journal.legal asked tt seeing in
+    let ran = has_run (plain script) board _ _ playable played _ _ (Stress c.args.frames) lost (frames_seen probes) _ _ (λ no_race. c.in_ok-played.ensures.written) (λ no_race. c.in_ok-played.ensures.in_turn) c.in_ok-played.ensures.seen c.families_are_alone.ensures c.due_presents_are_taken.ensures journal.legal asked tt seeing in
     let had = have_had (plain script) board _ _ playable played _ _ lost _ _ c.in_ok-played.ensures.seen in
     if_ok (λ text. text.items ≡ summary_line c.totals_of-totals.result) _ c.summary.result
     (λ text is. (

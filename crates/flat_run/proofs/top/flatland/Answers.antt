@@ -1,71 +1,35 @@
-use Rattle.std.proofs.Common.{◌≡◌, ◌∙◌, true, false, map, refl, sym, ap, Ok, Err}
-use Rattle.std.specs.String.{string_bytes}
-use Rattle.flat_words.specs.declared.form.Form.{Form}
-use Rattle.flat_words.specs.Forms.{CallFor}
-use Rattle.flat_words.specs.declared.form.Form.TheVariants.{Render}
-use Rattle.flat_run.specs.Promise.{IsAnswer}
-use Rattle.flat_run.proofs.Answering.{called_for, none_called, text_whole, text_cut_off, one_form, only_told, only_large, there_no_read_fault, large_no_read_fault, answered_or_fault}
-use Rattle.flat_play.proofs.lemmas.Seen.{kept_none}
+use Rattle.std.proofs.Common.{◌≡◌, ◌∙◌, ap, sym}
+use Rattle.flat_words.specs.declared.form.Form.TheVariants.{Race}
+use Rattle.flat_run.specs.Serving.{SinkState, SourceState}
+use Rattle.flat_run.proofs.lemmas.Serving.{serves_by, serves_from, untouched_by, unwritten_by}
 use Rattle.flat_run.proofs.top.flatland.Goals as goal
 
-pub returns-in-Ok-None-clause-whole : goal.returns-in-Ok-None-clause-whole
-returns-in-Ok-None-clause-whole g c = λ not_4 not_5 not_6.
-    text_whole _ _ _ _ _ _ _ _ _ _ _ _ (IsAnswer.usage (none_called _ c.read.result (c.in-Ok-None.is ∙ ap Ok c.in-Ok-None.field-0-is) c.read.ensures.only) refl) c.write_text.ensures.whole c.write_text.ensures.either not_5
+pub returns-in-None-clause-serves : goal.returns-in-None-clause-serves
+returns-in-None-clause-serves g c =
+    let race = c.serve.ensures.race c.in-None.is in
+    let same = c.serve.ensures.nothing c.in-None.is in
+    let wrote = c.write_answer.ensures in
+    serves_from _ _ _ _ _ _ _ _ _ _ _ _ _ _
+    (ap (λ s. let r : SourceState = record { left = g.R.Source.left s; faults = g.R.Source.faults s } in r) same.0)
+    (ap (λ s. let r : SinkState = record { held = g.W.Sink.held s; faults = g.W.Sink.faults s; stalls = g.W.Sink.stalls s } in r) same.1) (ap (λ v. v.items) same.2)
+    (serves_by _ _ _ _ _ _ _ _ _ _ Race race.0 race.1 c.answer_race-answer.result c.write_answer.result c.answer_race-answer.ensures.answers wrote.writes
+    (λ is. let both = wrote.fault is in (both.0, ap (λ s. let r : SinkState = record { held = g.W.Sink.held s; faults = g.W.Sink.faults s; stalls = g.W.Sink.stalls s } in r) both.1))
+    (λ is. let both = wrote.memory is in (both.0, ap (λ s. let r : SinkState = record { held = g.W.Sink.held s; faults = g.W.Sink.faults s; stalls = g.W.Sink.stalls s } in r) both.1)))
 
-pub returns-in-Ok-None-clause-cut_off : goal.returns-in-Ok-None-clause-cut_off
-returns-in-Ok-None-clause-cut_off g c = λ is_5.
-    text_cut_off _ _ _ _ _ _ _ _ _ 2 c.write_text.result _ (IsAnswer.usage (none_called _ c.read.result (c.in-Ok-None.is ∙ ap Ok c.in-Ok-None.field-0-is) c.read.ensures.only) refl) (c.write_text.ensures.part is_5)
+pub returns-in-None-clause-untouched : goal.returns-in-None-clause-untouched
+returns-in-None-clause-untouched g c =
+    let same = c.serve.ensures.nothing c.in-None.is in
+    let wrote = c.write_answer.ensures in
+    let made = c.answer_race-answer.ensures in
+    λ among. untouched_by c.answer_race-answer.result c.write_answer.result _ _ wrote.writes (λ is. (wrote.memory is).0) made.untouched made.failed among ∙ same.2
 
-pub returns-in-Ok-None-clause-complete : goal.returns-in-Ok-None-clause-complete
-returns-in-Ok-None-clause-complete g c = λ form calls there steady. absurd (none_called _ c.read.result (c.in-Ok-None.is ∙ ap Ok c.in-Ok-None.field-0-is) c.read.ensures.only form calls)
+pub returns-in-None-clause-unwritten : goal.returns-in-None-clause-unwritten
+returns-in-None-clause-unwritten g c =
+    let same = c.serve.ensures.nothing c.in-None.is in
+    let wrote = c.write_answer.ensures in
+    λ among. unwritten_by c.answer_race-answer.result c.write_answer.result _ _ wrote.writes c.answer_race-answer.ensures.answers.statuses (λ is. (wrote.fault is).1) (λ is. (wrote.memory is).1) among ∙ same.1
 
-pub returns-in-Ok-clause-whole : goal.returns-in-Ok-clause-whole
-returns-in-Ok-clause-whole g c = λ not_4 not_5 not_6.
-    let calls = called_for _ c.in-Ok-Some.field-0 c.in-Ok-Some.form c.in-Ok-Some.field-0-is c.in-Ok-Some.ensures.form in
-    text_whole _ _ _ _ _ _ _ _ _ _ _ _ (c.in-Ok.ensures.answer _ calls) c.write_pieces.ensures.whole c.write_pieces.ensures.either not_5
-
-pub returns-in-Ok-clause-cut_off : goal.returns-in-Ok-clause-cut_off
-returns-in-Ok-clause-cut_off g c = λ is_5.
-    let calls = called_for _ c.in-Ok-Some.field-0 c.in-Ok-Some.form c.in-Ok-Some.field-0-is c.in-Ok-Some.ensures.form in
-    text_cut_off _ _ _ _ _ _ _ _ _ _ c.write_pieces.result _ (c.in-Ok.ensures.answer _ calls) (c.write_pieces.ensures.part is_5)
-
-pub returns-in-Ok-clause-complete : goal.returns-in-Ok-clause-complete
-returns-in-Ok-clause-complete g c = λ form calls there steady.
-    let x = c.in-Ok.answer in
-    let mine = called_for _ c.in-Ok-Some.field-0 c.in-Ok-Some.form c.in-Ok-Some.field-0-is c.in-Ok-Some.ensures.form in
-    let one : (f : Form) → CallFor (map string_bytes c.args.words.now) f → f ≡ form = λ f called. one_form c.in-Ok-Some.field-0 form f (c.in-Ok-Some.ensures.only form calls) (c.in-Ok-Some.ensures.only f called) in
-    let is : x.status ≡ 0 = only_told _ _ _ _ _ _ _ form _ _ calls one there x.status x.text (c.in-Ok.ensures.answer _ mine) in
-    answered_or_fault c.write_pieces.result x.status 0 c.write_pieces.ensures.either is
-    (λ is_5. let rose = c.write_pieces.ensures.fault is_5 in let both : true ≡ false = sym rose ∙ steady in cc)
-
-pub returns-in-Ok-clause-too_large : goal.returns-in-Ok-clause-too_large
-returns-in-Ok-clause-too_large g c = λ calls there steady.
-    let x = c.in-Ok.answer in
-    let mine = called_for _ c.in-Ok-Some.field-0 c.in-Ok-Some.form c.in-Ok-Some.field-0-is c.in-Ok-Some.ensures.form in
-    let one : (f : Form) → CallFor (map string_bytes c.args.words.now) f → f ≡ Render = λ f called. one_form c.in-Ok-Some.field-0 Render f (c.in-Ok-Some.ensures.only Render calls) (c.in-Ok-Some.ensures.only f called) in
-    let is : x.status ≡ 7 = only_large _ _ _ _ _ _ _ _ _ calls one there x.status x.text (c.in-Ok.ensures.answer _ mine) in
-    answered_or_fault c.write_pieces.result x.status 7 c.write_pieces.ensures.either is
-    (λ is_5. let rose = c.write_pieces.ensures.fault is_5 in let both : true ≡ false = sym rose ∙ steady in cc)
-
-pub returns-in-Ok-None-clause-too_large : goal.returns-in-Ok-None-clause-too_large
-returns-in-Ok-None-clause-too_large g c = λ calls there steady. absurd (none_called _ c.read.result (c.in-Ok-None.is ∙ ap Ok c.in-Ok-None.field-0-is) c.read.ensures.only Render calls)
-
-pub returns-in-Err-Fault-clause-complete : goal.returns-in-Err-Fault-clause-complete
-returns-in-Err-Fault-clause-complete g c = λ form calls there steady.
-    let why = ap Err c.in-Err-Fault.field-0-is in
-    let one = one_form c.in-Ok-Some.field-0 form c.in-Ok-Some.form (c.in-Ok-Some.ensures.only form calls) c.in-Ok-Some.field-0-is in
-    absurd (there_no_read_fault form c.in-Ok-Some.form _ _ _ _ one there (c.in-Err-Fault.ensures.reads why) (c.in-Err-Fault.ensures.fault why))
-
-pub returns-in-Err-Fault-clause-too_large : goal.returns-in-Err-Fault-clause-too_large
-returns-in-Err-Fault-clause-too_large g c = λ calls there steady. absurd (large_no_read_fault _ _ _ _ there (c.in-Err-Fault.ensures.fault (ap Err c.in-Err-Fault.field-0-is)))
-
-pub returns-in-Ok-None-clause-kept : goal.returns-in-Ok-None-clause-kept
-returns-in-Ok-None-clause-kept g c = kept_none _ _ _ _
-
-pub returns-in-Err-clause-kept : goal.returns-in-Err-clause-kept
-returns-in-Err-clause-kept g c = kept_none _ _ _ _
-
-pub returns-in-Ok-clause-unread : goal.returns-in-Ok-clause-unread
-returns-in-Ok-clause-unread g c = λ unread.
-    let calls = called_for _ c.in-Ok-Some.field-0 c.in-Ok-Some.form c.in-Ok-Some.field-0-is c.in-Ok-Some.ensures.form in
-    c.answer_form.ensures.unread (unread c.in-Ok-Some.form calls)
+pub returns-in-None-clause-unread : goal.returns-in-None-clause-unread
+returns-in-None-clause-unread g c = λ unread.
+    let race = c.serve.ensures.race c.in-None.is in
+    absurd (let wrong = unread Race race.0 in cc)

@@ -6,9 +6,11 @@ use Rattle.flat_words.proofs.form.service.Goals as goal
 
 pub returns : goal.returns
 returns c =
-    let with_two = λ (first second : List ℕ) (a : App). with_subcommand (with_subcommand a (new_app first).top) (new_app second).top in
+    let with_one = λ (name : List ℕ) (a : App). with_subcommand a (new_app name).top in
+    let with_two = λ (first second : List ℕ) (a : App). with_one second (with_one first a) in
     let with_load = λ (a : App). with_subcommand a (with_rule (new_app (codes "stress")) frames).top in
     let played = c.in-Ok.ensures ∙ ap (with_two (codes "play") (codes "race")) c.bare.ensures in
     let loaded = c.in-Ok-with_load.ensures ∙ ap with_load played in
     let shown = c.in-Ok-with_two.ensures ∙ ap (with_two (codes "render") (codes "damage")) loaded in
-    if_ok _ (λ command. app_of command ≡ service) c.with_two-3.result (λ more is. is ∙ ap (with_two (codes "focus") (codes "pointer")) shown) c.with_two-3.ensures
+    let pointed = c.in-Ok-with_two-2.ensures ∙ ap (with_two (codes "focus") (codes "pointer")) shown in
+    if_ok _ (λ command. app_of command ≡ service) c.with_form.result (λ more is. is ∙ ap (with_one (codes "why")) pointed) c.with_form.ensures

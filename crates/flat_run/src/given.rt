@@ -1,0 +1,98 @@
+//! What a source gives for a form: the whole text is read, and is a script that can be run
+//! for it, or is refused before anything runs.
+ghost use Rattle.std.specs.Prelude.{◌≡◌, ◌≢◌, ◌≤◌, ℕ, List, IfOk, IsFalse, IsTrue, Err, Ok, true};
+ghost use Rattle.flat_io.specs.Counts.{has_risen};
+ghost use Rattle.flat_words.specs.declared.form.Form.TheVariants.{Render};
+ghost use Rattle.flat_run.specs.Answering.{IsGiven, IsRead, IsRunnable};
+ghost use Rattle.flat_run.specs.Forms.{Fits, form_read, is_read};
+ghost use Rattle.flat_run.specs.Promise.{AreGiven, IsTooLarge};
+
+use crate::answers::{Answer, Unanswered, large, refusal};
+use crate::reading::{Reading, read_text};
+use flat_base::{NoMemory, SCRIPT_BYTES_MAX};
+use flat_extra::{extra_laws, pointers_rise, rests_are_read};
+use flat_io::{ReadAll, Source, read_all};
+use flat_places::{FaultKind, Script};
+use flat_playable::scripts_are_playable;
+use flat_render::is_too_large;
+use flat_script::{ScriptError, ScriptFault};
+use flat_words::Form;
+use std::alloc::Global;
+
+/// What a source gave for a form.
+#[derive(Drop)]
+pub(crate) enum Given {
+    /// A script that can be run.
+    Script(Reading),
+    /// None; this is the answer.
+    Refused(Answer),
+}
+
+/// Whether a form writes a picture that would have too many pixels.
+fn is_too_large_for(form: Form, script: &Script) -> bool
+    ensures large { IsTrue result → (form ≡ Render) × IsTooLarge script.now.setup }
+    ensures fits { IsFalse result → Fits form script.now.setup }
+{
+    match form {
+        Form::Render => is_too_large(script.setup.width, script.setup.height),
+        _ => false,
+    }
+}
+
+/// What was read, unless its display is too large for the form.
+fn fitting(alloc: Global, form: Form, reading: Reading) -> Result<Given, NoMemory>
+    requires runnable { IsRunnable reading }
+    ensures { (bytes : List ℕ) → form_read form bytes ≡ Ok reading →
+        IfOk result (λ given. IsRead form bytes given) }
+{
+    if is_too_large_for(form, &reading.script) {
+        drop(reading);
+        let answer = large(alloc)?;
+        return Ok(Given::Refused(answer));
+    }
+    Ok(Given::Script(reading))
+}
+
+/// What a whole text is for a form.
+fn read_bytes(alloc: Global, form: Form, bytes: &[u8]) -> Result<Given, NoMemory>
+    ensures { IfOk result (λ given. IsRead form bytes.now given) }
+{
+    scripts_are_playable();
+    rests_are_read();
+    pointers_rise();
+    extra_laws();
+    match read_text(alloc, form, bytes) {
+        Ok(reading) => fitting(alloc, form, reading),
+        Err(ScriptError::Fault(fault)) => Ok(Given::Refused(refusal(alloc, fault)?)),
+        Err(ScriptError::Memory) => Err(NoMemory),
+    }
+}
+
+/// Reads a source to its end, for a form whose script is read.
+pub(crate) fn read_source<R: Source>(
+    alloc: Global,
+    form: Form,
+    source: &mut R,
+) -> Result<Given, Unanswered>
+    requires { is_read form ≡ true }
+    ensures is { IfOk result (λ given. IsGiven form (R.left source.old) (R.left source.new)
+        given) }
+    ensures fault { result ≡ Err Unanswered.Fault →
+        IsTrue (has_risen (R.faults source.old) (R.faults source.new)) }
+    ensures given { (given : List ℕ) × AreGiven given (R.left source.old) (R.left source.new) }
+    ensures counts { R.faults source.old ≤ R.faults source.new }
+    ensures steady { result ≢ Err Unanswered.Fault → R.faults source.new ≡ R.faults source.old }
+{
+    match read_all(alloc, source, SCRIPT_BYTES_MAX) {
+        Ok(bytes) => Ok(read_bytes(alloc, form, bytes.as_slice())?),
+        Err(ReadAll::TooLong) => {
+            let fault = ScriptFault {
+                line: 0,
+                kind: FaultKind::TooLong,
+            };
+            Ok(Given::Refused(refusal(alloc, fault)?))
+        }
+        Err(ReadAll::Fault) => Err(Unanswered::Fault),
+        Err(ReadAll::Memory) => Err(Unanswered::Memory),
+    }
+}

@@ -1,0 +1,247 @@
+//! A script that was read is run, in written order or in a race, and what its form writes of
+//! the run is made whole before its first byte is written, so that want of memory is never met
+//! halfway through a report.
+ghost use Rattle.std.specs.Prelude.{◌≡◌, ◌≢◌, ◌<◌, ◌^◌, [], ℕ, List, true, false, map};
+ghost use Rattle.std.specs.Prelude.{length, IfOk, Ok, Err};
+ghost use Rattle.flat_scene.specs.Interleave.{IsWritten};
+ghost use Rattle.flat_words.specs.declared.form.Form.TheVariants.{Pointer, Race, Why};
+ghost use Rattle.flat_words.specs.Forms.{IsAllowed};
+ghost use Rattle.flat_display.specs.Had.{AreKept};
+ghost use Rattle.flat_report.specs.Probes.{ProbesAnswered, frames_seen};
+ghost use Rattle.flat_report.specs.Report.{finished};
+ghost use Rattle.flat_play.specs.Beginning.{AreBegun};
+ghost use Rattle.flat_play.specs.Keeping.{keeping_of};
+ghost use Rattle.flat_play.specs.Playing.{HasPlayed};
+ghost use Rattle.flat_play.specs.Probing.{seen_in_turn};
+ghost use Rattle.flat_play.specs.Showing.{HaveSeen};
+ghost use Rattle.flat_play.specs.Touches.{touch_of};
+ghost use Rattle.flat_run.specs.Answering.{Answers, IsRunnable};
+ghost use Rattle.flat_run.specs.Forms.{Fits, form_read, is_read, keeping_for};
+ghost use Rattle.flat_run.specs.Promise.{IsTold};
+
+use crate::answers::{Answer, DONE, Unanswered};
+use crate::given::{Given, read_source};
+use crate::load::stress;
+use crate::reading::Reading;
+use crate::texts::{keeping_for, text_of};
+use crate::why::why_told;
+use flat_base::NoMemory;
+use flat_display::Display;
+use flat_io::Source;
+use flat_play::{Keeping, Played, play_script, play_touched};
+use flat_pointer::Touch;
+use flat_race::{Gate, race_script};
+use flat_report::{Pieces, due_presents_are_taken, frames_are_seen};
+use flat_rules::families_are_alone;
+use flat_words::Form;
+use std::alloc::Global;
+use std::sync::Wait;
+use std::thread::Threads;
+
+/// Plays what was read, in written order. Pointers' lines are answered on the way.
+fn play_reading(
+    alloc: Global,
+    form: Form,
+    reading: &Reading,
+    displays: &mut Vec<Box<dyn Display>>,
+) -> Result<(Played, Vec<Touch>), NoMemory>
+    requires runnable { IsRunnable reading.now }
+    requires few { length displays.old.items < 2 ^ 32 }
+    ensures played { IfOk result
+        (λ ran. HasPlayed reading.now.script ran.0.board ran.0.kept ran.0.answers) }
+    ensures probes { IfOk result
+        (λ ran. ProbesAnswered reading.now.script ran.0.board.history ran.0.probes.items) }
+    ensures keeping { IfOk result (λ ran. keeping_of ran.0.kept ≡ keeping_for form) }
+    ensures touches { form ≡ Pointer → IfOk result (λ ran. ran.1.items ≡
+        map (touch_of reading.now.script.setup ran.0.board.history) reading.now.pointers) }
+    ensures written { IfOk result
+        (λ ran. IsWritten reading.now.script.setup ran.0.board.history) }
+    ensures in_turn { IfOk result (λ ran. frames_seen ran.0.probes.items ≡
+        seen_in_turn reading.now.script ran.0.board.history) }
+    ensures seen { IfOk result (λ ran. HaveSeen (λ d. shown d) (λ d. faults d)
+        (finished reading.now.script.setup ran.0.board.history) ran.0.board.history ran.0.set.lost
+        displays.old.items displays.new.items) }
+    ensures kept { AreKept (λ d. shown d) (λ d. faults d) (AreBegun reading.now.script)
+        displays.old.items displays.new.items (λ d. d.vtable) }
+{
+    let keeping = keeping_for(form);
+    match form {
+        Form::Pointer => {
+            let lines = reading.pointers.as_slice();
+            play_touched(alloc, &reading.script, keeping, lines, displays)
+        }
+        _ => {
+            let played = play_script(alloc, &reading.script, keeping, displays)?;
+            Ok((played, Vec::new(alloc)))
+        }
+    }
+}
+
+/// Plays what was read, and makes what its form writes of the run.
+fn told<T: Threads + Sync>(
+    rt: &T,
+    alloc: Global,
+    form: Form,
+    reading: &Reading,
+    displays: &mut Vec<Box<dyn Display>>,
+) -> Result<Pieces, NoMemory>
+    requires read { is_read form ≡ true }
+    requires of_run { form ≢ Why }
+    requires runnable { IsRunnable reading.now }
+    requires fits { Fits form reading.now.script.setup }
+    requires few { length displays.old.items < 2 ^ 32 }
+    ensures told { (bytes : List ℕ) → form_read form bytes ≡ Ok reading.now →
+        IfOk result (λ text. IsTold (λ d. shown d) (λ d. faults d)
+        displays.old.items displays.new.items form bytes text) }
+    ensures kept { AreKept (λ d. shown d) (λ d. faults d) (AreBegun reading.now.script)
+        displays.old.items displays.new.items (λ d. d.vtable) }
+{
+    families_are_alone();
+    due_presents_are_taken();
+    frames_are_seen();
+    let (played, touches) = play_reading(alloc, form, reading, displays)?;
+    let _journal = played.board.journal();
+    text_of(rt, alloc, form, reading, played, touches.as_slice())
+}
+
+/// Plays what was read, and makes what its form writes.
+fn told_for<T: Threads + Sync>(
+    rt: &T,
+    alloc: Global,
+    form: Form,
+    reading: &Reading,
+    displays: &mut Vec<Box<dyn Display>>,
+) -> Result<Pieces, NoMemory>
+    requires read { is_read form ≡ true }
+    requires runnable { IsRunnable reading.now }
+    requires fits { Fits form reading.now.script.setup }
+    requires few { length displays.old.items < 2 ^ 32 }
+    ensures told { (bytes : List ℕ) → form_read form bytes ≡ Ok reading.now →
+        IfOk result (λ text. IsTold (λ d. shown d) (λ d. faults d)
+        displays.old.items displays.new.items form bytes text) }
+    ensures kept { AreKept (λ d. shown d) (λ d. faults d) (AreBegun reading.now.script)
+        displays.old.items displays.new.items (λ d. d.vtable) }
+{
+    match form {
+        Form::Why => why_told(alloc, reading, displays),
+        _ => told(rt, alloc, form, reading, displays),
+    }
+}
+
+/// Races what was read, and makes its report.
+fn raced<T: Threads + Wait + Sync, G: Gate>(
+    rt: &T,
+    alloc: Global,
+    reading: &Reading,
+    displays: &mut Vec<Box<dyn Display>>,
+    gate: &G,
+) -> Result<Pieces, NoMemory>
+    requires runnable { IsRunnable reading.now }
+    requires few { length displays.old.items < 2 ^ 32 }
+    ensures told { (bytes : List ℕ) → form_read Race bytes ≡ Ok reading.now →
+        IfOk result (λ text. IsTold (λ d. shown d) (λ d. faults d)
+        displays.old.items displays.new.items Race bytes text) }
+    ensures kept { AreKept (λ d. shown d) (λ d. faults d) (AreBegun reading.now.script)
+        displays.old.items displays.new.items (λ d. d.vtable) }
+{
+    families_are_alone();
+    due_presents_are_taken();
+    frames_are_seen();
+    let played = race_script(rt, alloc, &reading.script, Keeping::Texts, displays, gate)?;
+    let _journal = played.board.journal();
+    text_of(rt, alloc, Form::Race, reading, played, &[])
+}
+
+/// Reads a source, and plays what it gives.
+fn answer_read<T: Threads + Sync, R: Source>(
+    rt: &T,
+    alloc: Global,
+    form: Form,
+    source: &mut R,
+    displays: &mut Vec<Box<dyn Display>>,
+) -> Result<Answer, Unanswered>
+    requires read { is_read form ≡ true }
+    requires in_order { form ≢ Race }
+    requires few { length displays.old.items < 2 ^ 32 }
+    ensures answers { Answers (λ d. shown d) (λ d. (Display-box d).faults d.value)
+        (λ d. d.vtable) form
+        (record { left = R.left source.old; faults = R.faults source.old })
+        (record { left = R.left source.new; faults = R.faults source.new })
+        displays.old.items displays.new.items result }
+    ensures untouched { IfOk result
+        (λ answer. answer.status ≢ DONE → displays.new ≡ displays.old) }
+    ensures failed { result ≡ Err Unanswered.Fault → displays.new ≡ displays.old }
+{
+    let reading = match read_source(alloc, form, source) {
+        Ok(Given::Script(reading)) => reading,
+        Ok(Given::Refused(answer)) => return Ok(answer),
+        Err(why) => return Err(why),
+    };
+    let text = told_for(rt, alloc, form, &reading, displays);
+    drop(reading);
+    match text {
+        Ok(text) => Ok(Answer { status: DONE, text }),
+        Err(NoMemory) => Err(Unanswered::Memory),
+    }
+}
+
+/// Answers a form in written order: reads its script, or makes that of a load, and plays it.
+pub(crate) fn answer_in_order<T: Threads + Sync, R: Source>(
+    rt: &T,
+    alloc: Global,
+    form: Form,
+    source: &mut R,
+    displays: &mut Vec<Box<dyn Display>>,
+) -> Result<Answer, Unanswered>
+    requires allowed { IsAllowed form }
+    requires in_order { form ≢ Race }
+    requires few { length displays.old.items < 2 ^ 32 }
+    ensures answers { Answers (λ d. shown d) (λ d. (Display-box d).faults d.value)
+        (λ d. d.vtable) form
+        (record { left = R.left source.old; faults = R.faults source.old })
+        (record { left = R.left source.new; faults = R.faults source.new })
+        displays.old.items displays.new.items result }
+    ensures untouched { IfOk result
+        (λ answer. answer.status ≢ DONE → displays.new ≡ displays.old) }
+    ensures failed { result ≡ Err Unanswered.Fault → displays.new ≡ displays.old }
+    ensures unread { is_read form ≡ false → source.new ≡ source.old }
+{
+    match form {
+        Form::Stress(frames) => match stress(alloc, frames, displays) {
+            Ok(answer) => Ok(answer),
+            Err(NoMemory) => Err(Unanswered::Memory),
+        },
+        _ => answer_read(rt, alloc, form, source, displays),
+    }
+}
+
+/// Reads a source, and races what it gives.
+pub(crate) fn answer_race<T: Threads + Wait + Sync, R: Source, G: Gate>(
+    rt: &T,
+    alloc: Global,
+    source: &mut R,
+    displays: &mut Vec<Box<dyn Display>>,
+    gate: &G,
+) -> Result<Answer, Unanswered>
+    requires few { length displays.old.items < 2 ^ 32 }
+    ensures answers { Answers (λ d. shown d) (λ d. (Display-box d).faults d.value)
+        (λ d. d.vtable) Race
+        (record { left = R.left source.old; faults = R.faults source.old })
+        (record { left = R.left source.new; faults = R.faults source.new })
+        displays.old.items displays.new.items result }
+    ensures untouched { IfOk result
+        (λ answer. answer.status ≢ DONE → displays.new ≡ displays.old) }
+    ensures failed { result ≡ Err Unanswered.Fault → displays.new ≡ displays.old }
+{
+    let reading = match read_source(alloc, Form::Race, source) {
+        Ok(Given::Script(reading)) => reading,
+        Ok(Given::Refused(answer)) => return Ok(answer),
+        Err(why) => return Err(why),
+    };
+    let text = raced(rt, alloc, &reading, displays, gate);
+    drop(reading);
+    match text {
+        Ok(text) => Ok(Answer { status: DONE, text }),
+        Err(NoMemory) => Err(Unanswered::Memory),
+    }
+}

@@ -1,0 +1,15 @@
+mod Above
+mod Counting
+mod Cycles
+mod Decide
+mod Examples
+mod FrameEntries
+mod Hiding
+mod Noting
+mod OverSessions
+mod Owners
+mod Searching
+mod SessionEntries
+mod ShownPairs
+mod Untaken
+mod Waits

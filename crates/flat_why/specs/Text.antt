@@ -1,0 +1,133 @@
+-- The text that says of each finished frame and each session whether it is shown, or why it isn't.
+use Rattle.std.specs.Prelude.{ℕ, zero, suc, cond, ◌==◌, List, [], ◌∷◌, ◌++◌, map, count_by, Option, Some, None, codes}
+use Rattle.flat_base.specs.declared.ids.FenceNo.{FenceNo}
+use Rattle.flat_base.specs.declared.ids.SessionNo.{SessionNo}
+use Rattle.flat_lines.specs.EntryLines.{closing_words}
+use Rattle.flat_lines.specs.FrameLines.{rect_words}
+use Rattle.flat_lines.specs.Names.{pair_name}
+use Rattle.flat_page.specs.Words.{Word, name_at, number, session_name, text_of}
+use Rattle.flat_places.specs.declared.script.Script.{Script}
+use Rattle.flat_report.specs.Report.{frame_at}
+use Rattle.flat_rules.specs.Ends.{to_begin}
+use Rattle.flat_rules.specs.Legal.{frames}
+use Rattle.flat_rules.specs.Shown.{shown_states}
+use Rattle.flat_scene.specs.declared.frames.FrameOut.{FrameOut}
+use Rattle.flat_scene.specs.declared.frames.ViewNode.{ViewNode}
+use Rattle.flat_scene.specs.declared.journal.Entry.{Entry}
+use Rattle.flat_scene.specs.Frames.{sessions_to, setup_at}
+use Rattle.flat_scene.specs.History.{◌▹◌, is_finish}
+use Rattle.flat_topology.specs.Place.{placed_nodes}
+use Rattle.flat_topology.specs.Shown.{state_of}
+use Rattle.flat_why.specs.declared.causes.Blank.{Blank}
+use Rattle.flat_why.specs.declared.causes.Blank.TheVariants.{Rootless, Contentless, Transparent, Sizeless, Clipped}
+use Rattle.flat_why.specs.declared.causes.Cause.{Cause}
+use Rattle.flat_why.specs.declared.causes.Cause.TheVariants.{Closed, Unpresented, Held, Viewless, Parted}
+use Rattle.flat_why.specs.declared.causes.Hold.{Hold}
+use Rattle.flat_why.specs.declared.causes.Hold.TheVariants.{Time, Fence, Behind, Unsquashable}
+use Rattle.flat_why.specs.declared.causes.Parting.{Parting}
+use Rattle.flat_why.specs.declared.causes.Parting.TheVariants.{Unmade, Unshown, Ended, Loose}
+use Rattle.flat_why.specs.declared.causes.Drawn.{Drawn}
+use Rattle.flat_why.specs.declared.causes.Hidden.{Hidden}
+use Rattle.flat_why.specs.declared.causes.Hidden.TheVariants.{Unhung, Parent, Cycle}
+use Rattle.flat_why.specs.declared.causes.Waiting.{Waiting}
+use Rattle.flat_why.specs.Blanks.{blank_of}
+use Rattle.flat_why.specs.Causes.{waits_at}
+use Rattle.flat_why.specs.Hidden.{hidden_of, node_of}
+
+-- ---- words
+
+abbrev pub fence_name : Script → FenceNo → Word
+fence_name script f = name_at script.fences f.0
+
+abbrev pub hold_words : Script → Hold → List Word
+hold_words script (Time time) = codes "time" ∷ number time ∷ []
+hold_words script (Fence f) = codes "fence" ∷ fence_name script f ∷ []
+hold_words script Behind = codes "behind" ∷ []
+hold_words script Unsquashable = codes "unsquashable" ∷ []
+
+abbrev pub parting_word : Parting → Word
+parting_word Unmade = codes "unmade"
+parting_word Unshown = codes "unshown"
+parting_word Ended = codes "ended"
+parting_word Loose = codes "loose"
+
+abbrev pub cause_words : Script → Cause → List Word
+cause_words script (Closed closing) = codes "closed" ∷ number closing.line ∷ closing_words closing.error closing.reason
+cause_words script Unpresented = codes "unpresented" ∷ []
+cause_words script (Held hold) = codes "waits" ∷ hold_words script hold
+cause_words script Viewless = codes "viewless" ∷ []
+cause_words script (Parted parent pair why) = codes "viewport" ∷ pair_name script pair ∷ session_name script.sessions parent ∷ parting_word why ∷ []
+
+abbrev pub hidden_words : Script → Hidden → List Word
+hidden_words script (Unhung cause) = cause_words script cause
+hidden_words script (Parent parent) = codes "parent" ∷ session_name script.sessions parent ∷ []
+hidden_words script Cycle = codes "cycle" ∷ []
+
+abbrev pub why_words : Script → Option Hidden → List Word
+why_words script None = []
+why_words script (Some hidden) = hidden_words script hidden
+
+abbrev pub blank_word : Blank → Word
+blank_word Rootless = codes "rootless"
+blank_word Contentless = codes "contentless"
+blank_word Transparent = codes "transparent"
+blank_word Sizeless = codes "sizeless"
+blank_word Clipped = codes "clipped"
+
+-- how many items are drawn; where there is none, also why
+abbrev pub drawn_words : ℕ → Blank → List Word
+drawn_words zero blank = number 0 ∷ blank_word blank ∷ []
+drawn_words (suc n) blank = number (suc n) ∷ []
+
+-- ---- lines
+
+-- a session that is shown in the frame of a number: its view's rectangle, and how many items are its own
+abbrev pub shown_line : Script → ℕ → SessionNo → Drawn → List Word
+shown_line script n s drawn = codes "shown" ∷ number n ∷ session_name script.sessions s ∷ rect_words drawn.bounds ++ drawn_words drawn.items drawn.blank
+
+-- a session that isn't, and why
+abbrev pub hidden_line : Script → ℕ → SessionNo → Option Hidden → List Word
+hidden_line script n s hidden = codes "hidden" ∷ number n ∷ session_name script.sessions s ∷ why_words script hidden
+
+-- a present that the frame left waiting
+abbrev pub wait_line : Script → ℕ → Waiting → List Word
+wait_line script n waiting = codes "waits" ∷ number n ∷ session_name script.sessions waiting.session ∷ number waiting.number ∷ hold_words script waiting.hold
+
+-- how many of a frame's items are a session's own
+abbrev pub own_items : SessionNo → FrameOut → ℕ
+own_items s frame = count_by (λ item. item.session.0 == s.0) frame.items
+
+-- the line of a session: by its node in the view tree, if it is one
+abbrev pub line_by : Script → FrameOut → SessionNo → Option Hidden → Blank → Option ViewNode → List Word
+line_by script frame s hidden blank (Some node) = shown_line script frame.frame.0 s (record { bounds = node.bounds; items = own_items s frame; blank = blank })
+line_by script frame s hidden blank None = hidden_line script frame.frame.0 s hidden
+
+-- The lines of a frame: of each session, and then of each present that it left waiting. It is known why each session is hidden, if it is, and why it draws nothing, if it does.
+abbrev pub frame_whys : Script → FrameOut → (SessionNo → Option Hidden) → (SessionNo → Blank) → List Waiting → List (List Word)
+frame_whys script frame hidden blank waits =
+    map (λ s. line_by script frame s (hidden s) (blank s) (node_of s frame.tree.nodes)) (sessions_to script.setup.sessions)
+    ++ map (wait_line script frame.frame.0) waits
+
+-- why a session draws nothing in the frame of a begin, if it does
+abbrev pub blank_at : Script → List Entry → SessionNo → Blank
+blank_at script begun s =
+    blank_of (state_of (shown_states script.setup begun) s.0) s (placed_nodes (setup_at script.setup begun) (shown_states script.setup begun))
+
+-- the lines of the frame of a number, with whose begin the history ends
+abbrev pub whys_at : Script → ℕ → List Entry → List (List Word)
+whys_at script n begun =
+    frame_whys script (frame_at script.setup n begun) (hidden_of script.setup begun (frame_at script.setup n begun).tree.nodes) (blank_at script begun) (waits_at script.setup begun)
+
+-- ---- the whole
+
+-- the lines of all finished frames
+abbrev pub why_lines : Script → List Entry → List (List Word)
+why_lines script [] = []
+why_lines script (before ▹ entry) = why_lines script before ++ cond (is_finish entry.kind) (whys_at script (suc (frames before)) (to_begin before)) []
+
+-- the last line
+abbrev pub end_line : ℕ → List Word
+end_line n = codes "why" ∷ codes "ends" ∷ codes "frames" ∷ number n ∷ []
+
+abbrev pub why_text : Script → List Entry → List ℕ
+why_text script history = text_of (why_lines script history ++ end_line (frames history) ∷ [])

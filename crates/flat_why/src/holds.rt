@@ -1,0 +1,101 @@
+//! Which presents wait, and what holds them back (specs/Causes).
+ghost use Rattle.std.specs.Prelude.{◌≡◌, ◌==◌, ◌<◌, suc, true, not, All, None, length, find};
+ghost use Rattle.flat_rules.specs.Legal.{begin_time};
+ghost use Rattle.flat_scene.specs.Frames.{is_signalled};
+ghost use Rattle.flat_scene.specs.History.{is_closed};
+ghost use Rattle.flat_scene.specs.Setups.{is_declared};
+ghost use Rattle.flat_why.specs.Causes.{closing_of, hold_of, is_waiting, waiting_of};
+ghost use Rattle.flat_why.specs.Noted.{closings_in, IsKnown};
+
+use crate::causes::{Closing, Due, Hold, Waiting};
+use crate::standings::taken;
+use flat_base::{Actor, FenceNo, SessionNo};
+use flat_core::Board;
+use flat_scene::Cond;
+
+/// Whether a fence is signalled.
+fn is_signalled(board: &Board, f: FenceNo) -> bool
+    requires { f.0 < length board.now.setup.fences }
+    ensures { result ≡ is_signalled board.now.setup board.now.history f }
+{
+    board.value(Actor::Display, Cond::Fence(f)) > 0
+}
+
+/// The first of some fences that isn't signalled.
+fn first_unsignalled(board: &Board, acquire: &[FenceNo]) -> Option<FenceNo>
+    requires { All (λ f. f.0 < length board.now.setup.fences) acquire.now }
+    ensures { result
+        ≡ find (λ f. not (is_signalled board.now.setup board.now.history f)) acquire.now }
+{
+    for f in acquire {
+        if !is_signalled(board, *f) {
+            return Some(*f);
+        }
+    }
+    None
+}
+
+/// What holds a present back at a time.
+fn hold_of(board: &Board, now: u64, is_first: bool, due: &Due) -> Hold
+    requires { All (λ f. f.0 < length board.now.setup.fences) due.now.acquire }
+    ensures { result
+        ≡ hold_of now (is_signalled board.now.setup board.now.history) is_first due.now }
+{
+    if now < due.time {
+        return Hold::Time(due.time);
+    }
+    if let Some(f) = first_unsignalled(board, due.acquire.as_slice()) {
+        return Hold::Fence(f);
+    }
+    if is_first {
+        return Hold::Unsquashable;
+    }
+    Hold::Behind
+}
+
+/// Whether a session was closed.
+fn is_closed(closings: &[Option<Closing>], board: &Board, s: SessionNo) -> bool
+    requires declared { is_declared board.now.setup s ≡ true }
+    requires sessions { length closings.now ≡ board.now.setup.sessions }
+    requires closed { (s : SessionNo) → is_declared board.now.setup s ≡ true →
+        closings_in closings.now s ≡ closing_of s board.now.history }
+    ensures { result ≡ is_closed s board.now.history }
+{
+    closings[s.0 as usize - 1].is_some()
+}
+
+/// Whether a present waits.
+pub fn is_waiting(closings: &[Option<Closing>], board: &Board, due: &Due) -> bool
+    requires known { IsKnown board.now.setup due.now }
+    requires sessions { length closings.now ≡ board.now.setup.sessions }
+    requires closed { (s : SessionNo) → is_declared board.now.setup s ≡ true →
+        closings_in closings.now s ≡ closing_of s board.now.history }
+    ensures { result ≡ is_waiting board.now.setup board.now.history due.now }
+{
+    let s = due.session;
+    if is_closed(closings, board, s) {
+        return false;
+    }
+    taken(board, s) < due.number
+}
+
+/// Whether a number is the next one after another.
+fn is_next(number: u32, before: u32) -> bool
+    ensures { result ≡ (number == suc before) }
+{
+    before < number && number - before == 1
+}
+
+/// A present that waits, with what holds it.
+pub fn waiting_of(board: &Board, time: u64, due: &Due) -> Waiting
+    requires time { time ≡ begin_time board.now.history }
+    requires known { IsKnown board.now.setup due.now }
+    ensures { result ≡ waiting_of board.now.setup board.now.history due.now }
+{
+    let is_first = is_next(due.number, taken(board, due.session));
+    Waiting {
+        session: due.session,
+        number: due.number,
+        hold: hold_of(board, time, is_first, due),
+    }
+}
