@@ -1,6 +1,6 @@
-//! A script that was read is run, in written order or in a race, and what its form writes of
-//! the run is made whole before its first byte is written, so that want of memory is never met
-//! halfway through a report.
+//! Runs a script in written order or in a race, and makes the whole text of its form before
+//! the first byte is written. So the program never runs out of memory halfway through a
+//! report.
 ghost use Rattle.std.specs.Prelude.{◌≡◌, ◌≢◌, ◌<◌, ◌^◌, [], ℕ, List, true, false, map};
 ghost use Rattle.std.specs.Prelude.{length, IfOk, Ok, Err};
 ghost use Rattle.flat_scene.specs.Interleave.{IsWritten};

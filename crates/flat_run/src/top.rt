@@ -68,29 +68,28 @@ pub fn serve<T: Threads + Sync, R: Source, W: Sink>(
     }
 }
 
-/// A call of the service, with the words after the program's name: what is to be
-/// read is read from the source, and what is answered is written to the sink. Each
-/// frame is shown to the displays when it is finished; one that fails is shown no
-/// more, and the report says so. It answers the status.
+/// Answers a call of the service: reads what the words after the program's name ask for
+/// from the source, writes the text to the sink, and answers the status. The displays are
+/// shown each frame when it is finished. A display that fails is shown no more, the report
+/// says so, and the status stays as it is.
 ///
-/// Statuses 0, 2, 3 and 7 come only where the whole text was written: what the form
-/// writes of a run, the usage, the fault of a script, or that a picture would be too
-/// large. Status 5 comes only where a count of the sink rose, and then the first bytes of
-/// such a text were written; with any other status both its counts are as they were. 4
-/// comes only where the count of the source rose, and with any other status that count is
-/// as it was. With 4 and with 6, want of memory, nothing was written. Where a script or a
-/// load was asked for and no count rose, the status is 0 or 6, or 7 where a picture is
-/// asked for of a display that is too large. A display that fails changes no status.
+/// - 0, 2, 3, 7: the whole text was written. It is what the form writes of a run, the usage,
+///   the script's fault, or that a picture would be too large.
+/// - 4: a read failed, and nothing was written. The source's count rose.
+/// - 5: a write failed or took nothing, and a count of the sink rose. The first bytes of a
+///   text of 0, 2, 3 or 7 were written.
+/// - 6: memory ran out, and nothing was written.
 ///
-/// With status 0, and with 5 where there is a script, each display that tells its
-/// frames has had those of the history, in order and once, or those before the frame
-/// at which it was lost. With 2, 3, 4 and 7 the displays are left as they were, and
-/// with 5 where the text was that of 2, 3 or 7. With 6 they have had some frames in the
-/// same way, and it isn't said which.
+/// With any other status these counts are as they were. If the source tells a script and no
+/// count rose, the status is 0 or 6; for `render` of a display that is too large, 7 or 6.
 ///
-/// Whatever the status, the source has lost bytes from its front alone, the sink has
-/// only gained some, no count of faults or stalls has fallen, and each display stands
-/// at its place.
+/// With 0, and with 5 if the text was that of 0, each display that tells its frames has had
+/// those of the history, in order and once, or those before the frame at which it was lost.
+/// With 6 it has had frames of a legal history that the script's actors began, or none. With
+/// any other status, the displays are as they were.
+///
+/// Whatever the status, the source has lost bytes from its front alone, the sink has only
+/// gained some, no count has fallen, and each display stands at its place.
 pub fn flatland<T: Threads + Wait + Sync, R: Source, W: Sink, G: Gate>(
     rt: &T,
     alloc: Global,
