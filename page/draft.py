@@ -1,4 +1,4 @@
-"""A session's draft: what its calls made so far, and why the next call is a misuse (docs/SERVICE.md, Drafts).
+"""A session's draft: what its calls made so far, and why the next call is a misuse (docs/DRAFTS.md).
 
 The program judges the calls. This draft is made again from the script, so that a close can be explained with the ids, the
 lines that made them, and what the call wanted of them.

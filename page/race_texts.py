@@ -1,6 +1,6 @@
 """Damage, the focus chain and pointer streams of a race, which the program's words give for plays alone.
 
-They follow the rules of docs/SERVICE.md, applied to what the report of the race shows. The display's lines are made
+They follow the rules of docs/INPUT.md and docs/SHOWN.md, applied to what the report of the race shows. The display's lines are made
 in order by one thread, so a frame has the line of its `done` here too, and an extra line sees the last frame that
 was done at an earlier line. A pointer's Down is raced as a `hit` of the display: the report says who was hit.
 """

@@ -1,4 +1,4 @@
-"""Reads the texts of the words `damage`, `focus` and `pointer` (docs/SERVICE.md), and of `why` (docs/PAGE.md)."""
+"""Reads the texts of the words `damage`, `focus`, `pointer` and `why` (docs/RUN.md)."""
 from __future__ import annotations
 
 from collections.abc import Iterable
