@@ -38,7 +38,8 @@ is_open (Open frame) = true
 -- an open frame shows its begin
 abbrev pub ShowsBegin : Setup → List Entry → Hand → Type 0
 ShowsBegin setup history (Idle seat) = Unit {0}
-ShowsBegin setup history (Open frame) = (frame.shown ≡ shown_states setup (to_begin history)) × AreViewed setup (to_begin history) frame.with_view
+ShowsBegin setup history (Open frame) =
+    (frame.shown ≡ shown_states setup (to_begin history)) × AreViewed setup (to_begin history) frame.with_view
 
 -- an open frame knows of which sessions it may show another state than the last one
 abbrev pub KnowsChanges : Shown → Hand → Type 0
@@ -48,7 +49,8 @@ KnowsChanges last (Open frame) = AreSame frame.changed last frame.shown
 -- an open frame stays as it was
 abbrev pub KeepsFrame : Hand → Hand → Type 0
 KeepsFrame (Idle old) (Idle new) = Unit {0}
-KeepsFrame (Open old) (Open new) = (new.shown ≡ old.shown) × (new.with_view ≡ old.with_view) × (new.changed ≡ old.changed)
+KeepsFrame (Open old) (Open new) =
+    (new.shown ≡ old.shown) × (new.with_view ≡ old.with_view) × (new.changed ≡ old.changed)
 KeepsFrame _ _ = ⊥
 
 -- The seat knows its own entries in what it has seen, and these are the reading of the display's lines before a place.
@@ -59,7 +61,8 @@ pub record SeatStands (script : Script) (view : StageView) (place : ℕ) (seat :
   pub display : DisplayStands script place (history_of seat.seen)
   pub spent : length seat.mine + lines_by 0 (drop place script.lines) ≤ lines_by 0 script.lines
 
--- What is kept of frames is that of the history seen: of the finished ones, the last of them, and the answers to points.
+-- What is kept of frames is that of the history seen: of the finished ones, the last of them, and the answers
+-- to points.
 pub record FilmStands (script : Script) (history : List Entry) (film : Film) : Type 0 where
   pub keeps : Keeps script film.kept (finished script.setup history)
   pub answering : AnswersStand script.setup history film.last film.answers
@@ -72,8 +75,10 @@ pub record HandStands (script : Script) (view : StageView) (place : ℕ) (hand :
   pub changes : KnowsChanges film.last.reuse hand
   pub kept : FilmStands script (history_of (hand_seat hand).seen) film
 
--- The compositor stopped somewhere in its lines. Displays of a type tell these frames, and have these counts of faults: they have had the frames of the history that it has seen.
-pub record HasStopped {D : Type 0} (told : D → Option (List FrameOut)) (count : D → ℕ) (script : Script) (view : StageView) (seat : DisplayView) (olds news : List D) : Type 0 where
+-- The compositor stopped somewhere in its lines. Displays of a type tell these frames, and have these counts
+-- of faults: they have had the frames of the history that it has seen.
+pub record HasStopped {D : Type 0} (told : D → Option (List FrameOut)) (count : D → ℕ) (script : Script)
+    (view : StageView) (seat : DisplayView) (olds news : List D) : Type 0 where
   pub place : ℕ
   pub stands : SeatStands script view place seat
   pub lost : List Lost

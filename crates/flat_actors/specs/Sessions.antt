@@ -30,7 +30,8 @@ abbrev pub IsSame : SessionView → SessionView → Type 0
 IsSame old new = new ≡ record old { seen = new.seen }
 
 -- A session's seat stands at a place of the script: its entries are the reading of its lines before that place.
-pub record SessionStands (script : Script) (view : StageView) (s : SessionNo) (place : ℕ) (seat : SessionView) : Type 0 where
+pub record SessionStands (script : Script) (view : StageView) (s : SessionNo) (place : ℕ)
+    (seat : SessionView) : Type 0 where
   pub own : seat.stage ≡ view
   pub session : seat.session ≡ s
   pub unended : is_ended seat.mine ≡ false
@@ -38,9 +39,11 @@ pub record SessionStands (script : Script) (view : StageView) (s : SessionNo) (p
   pub few : seat.refused ≤ last_number 0 (take place script.lines)
   pub reads : SeatHasRead (session_lines s (take place script.lines)) seat
 
--- A seat comes back from its session, whose entries are the reading of its lines so far. If this came to its End, they are the reading of all its lines.
+-- A seat comes back from its session, whose entries are the reading of its lines so far. If this came to its
+-- End, they are the reading of all its lines.
 pub record HasRun (view : StageView) (script : Script) (s : SessionNo) (back : SessionBack) : Type 0 where
   pub own : back.seat.stage ≡ view
   pub session : back.seat.session ≡ s
   pub begun : Follows script.setup script.count (session_lines s script.lines) (history_of back.seat.mine)
-  pub read : back.is_whole ≡ true → IsReading script.setup script.count (session_lines s script.lines) (history_of back.seat.mine)
+  pub read : back.is_whole ≡ true
+      → IsReading script.setup script.count (session_lines s script.lines) (history_of back.seat.mine)

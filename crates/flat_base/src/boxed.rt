@@ -40,7 +40,7 @@ impl<T> Boxed<T> {
 }
 
 impl<T: Drop> Boxed<T> {
-    /// Puts a value into a box. On want of memory the value is dropped.
+    /// Puts a value into a box. If memory runs out, the value is dropped.
     pub fn new(alloc: Global, value: T) -> Result<Boxed<T>, NoMemory>
         ensures { IfOk result (λ b. b ≡ value) }
     {

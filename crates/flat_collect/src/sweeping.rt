@@ -11,7 +11,7 @@ use std::alloc::Global;
 ///
 /// Where there are as many nodes as names, it looks at none. Otherwise it takes a mark
 /// for each place, goes once through what is reached and its links, and through the
-/// places of the nodes only where it drops some. On want of memory the graph is as it
+/// places of the nodes only where it drops some. If memory runs out, the graph is as it
 /// was.
 pub fn sweep(alloc: Global, graph: &mut Graph) -> Result<u32, NoMemory>
     ensures swept { OnOk result (IsSwept graph.old graph.new) }

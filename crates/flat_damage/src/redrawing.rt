@@ -10,7 +10,7 @@ use flat_scene::ItemList;
 use std::alloc::Global;
 
 /// Turns the picture of a draw list into that of another, by drawing anew what
-/// is in the damage between them. On want of memory the picture is as it was.
+/// is in the damage between them. If memory runs out, the picture is as it was.
 pub fn redraw(
     alloc: Global,
     picture: &mut Picture,

@@ -1,5 +1,6 @@
 -- what each display has had after a list of frames was shown to all, one after another
-use Rattle.std.specs.Prelude.{if◌then◌else◌, ◌≡◌, ⊤, ℕ, suc, ◌≤◌, ◌==◌, Bool, true, false, List, [], ◌∷◌, length, map, Option, None, Some, IsTrue}
+use Rattle.std.specs.Prelude.{if◌then◌else◌, ◌≡◌, ⊤, ℕ, suc, ◌≤◌, ◌==◌, Bool, true, false, List, [], ◌∷◌, length, map}
+use Rattle.std.specs.Prelude.{Option, None, Some, IsTrue}
 use Rattle.std.specs.List.{list_any}
 use Rattle.flat_io.specs.Counts.{has_risen}
 use Rattle.flat_base.specs.declared.ids.FrameNo.{FrameNo}
@@ -31,8 +32,10 @@ abbrev pub AreLostAt : List FrameOut → List Lost → Type 0
 AreLostAt frames [] = ⊤
 AreLostAt frames (l ∷ ls) = (is_among frames l.frame ≡ true) × AreLostAt frames ls
 
-module _ {D : Type 0} (told : D → Option (List FrameOut)) (count : D → ℕ) (lost : List Lost) (frames : List FrameOut) where
-  -- A display has had the frames in order, each once: all of them, or those before the one at which it was lost. Where it was lost its count of faults rose, and else that is as it was.
+module _ {D : Type 0} (told : D → Option (List FrameOut)) (count : D → ℕ) (lost : List Lost)
+    (frames : List FrameOut) where
+  -- A display has had the frames in order, each once: all of them, or those before the one at which it was
+  -- lost. Where it was lost its count of faults rose, and else that is as it was.
   pub record HasHad (number : ℕ) (old new : D) : Type 0 where
     pub gains : Gains (frames_before (lost_at lost number) frames) (told old) (told new)
     pub grows : count old ≤ count new
@@ -53,10 +56,14 @@ module _ {D : Type 0} (told : D → Option (List FrameOut)) (count : D → ℕ) 
     pub lost_displays : AreWithin (length olds) lost
 
 -- Frames of this sort were shown to these displays, and left them so.
-abbrev pub AreShownSome : {D : Type 0} → (D → Option (List FrameOut)) → (D → ℕ) → (List FrameOut → Type 0) → List D → List D → Type 0
-AreShownSome told count AreOfSort olds news = (lost : List Lost) × (frames : List FrameOut) × AreOfSort frames × AreDriven told count lost frames olds news
+abbrev pub AreShownSome : {D : Type 0} → (D → Option (List FrameOut)) → (D → ℕ) → (List FrameOut → Type 0) → List D
+    → List D → Type 0
+AreShownSome told count AreOfSort olds news =
+    (lost : List Lost) × (frames : List FrameOut) × AreOfSort frames × AreDriven told count lost frames olds news
 
--- Whatever came of a call, as many displays stand there, each of the kind that it was at its place. They were shown frames of this sort.
-pub record AreKept {D : Type 0} (told : D → Option (List FrameOut)) (count : D → ℕ) (AreOfSort : List FrameOut → Type 0) (olds news : List D) {K : Type 0} (kind : D → K) : Type 0 where
+-- Whatever came of a call, as many displays stand there, each of the kind that it was at its place. They were
+-- shown frames of this sort.
+pub record AreKept {D : Type 0} (told : D → Option (List FrameOut)) (count : D → ℕ)
+    (AreOfSort : List FrameOut → Type 0) (olds news : List D) {K : Type 0} (kind : D → K) : Type 0 where
   pub kinds : map kind news ≡ map kind olds
   pub some : AreShownSome told count AreOfSort olds news

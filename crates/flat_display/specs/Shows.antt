@@ -24,9 +24,14 @@ module _ {D : Type 0} (told : D → Option (List FrameOut)) (count : D → ℕ) 
   IsShown true old new = Takes old new
   IsShown false old new = Fails old new
 
-  -- The displays from this number on, of which some were lost before, are shown the frame: each that isn't lost, once. Those that fail are lost, at this frame, in their order.
+  -- The displays from this number on, of which some were lost before, are shown the frame: each that isn't
+  -- lost, once. Those that fail are lost, at this frame, in their order.
   pub data Shows (lost : List Lost) : ℕ → List D → List D → List Lost → Type 0 where
     none : {number : ℕ} → Shows lost number [] [] []
-    passed : {number : ℕ} {d : D} {ds ds' : List D} {more : List Lost} → is_lost lost number ≡ true → Shows lost (suc number) ds ds' more → Shows lost number (d ∷ ds) (d ∷ ds') more
-    took : {number : ℕ} {d d' : D} {ds ds' : List D} {more : List Lost} → is_lost lost number ≡ false → Takes d d' → Shows lost (suc number) ds ds' more → Shows lost number (d ∷ ds) (d' ∷ ds') more
-    failed : {number : ℕ} {d d' : D} {ds ds' : List D} {more : List Lost} → is_lost lost number ≡ false → Fails d d' → Shows lost (suc number) ds ds' more → Shows lost number (d ∷ ds) (d' ∷ ds') (record { display = number; frame = frame.frame } ∷ more)
+    passed : {number : ℕ} {d : D} {ds ds' : List D} {more : List Lost} → is_lost lost number ≡ true
+        → Shows lost (suc number) ds ds' more → Shows lost number (d ∷ ds) (d ∷ ds') more
+    took : {number : ℕ} {d d' : D} {ds ds' : List D} {more : List Lost} → is_lost lost number ≡ false → Takes d d'
+        → Shows lost (suc number) ds ds' more → Shows lost number (d ∷ ds) (d' ∷ ds') more
+    failed : {number : ℕ} {d d' : D} {ds ds' : List D} {more : List Lost} → is_lost lost number ≡ false → Fails d d'
+        → Shows lost (suc number) ds ds' more
+        → Shows lost number (d ∷ ds) (d' ∷ ds') (record { display = number; frame = frame.frame } ∷ more)

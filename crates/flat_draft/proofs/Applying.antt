@@ -31,7 +31,7 @@ use Rattle.flat_draft.specs.Parts.{content_tests, done, made, without_named}
 use Rattle.flat_draft.specs.Stands.{StandsFor}
 use Rattle.flat_draft.specs.State.{DraftState, emptied}
 
--- a refusal, which may be for want of memory or not
+-- a refusal, whether memory ran out or not
 abbrev pub IsFaultOf : Bool → List Test → GraphFault → Type 0
 IsFaultOf true tests = IsFault tests
 IsFaultOf false tests = IsMisuse tests

@@ -189,7 +189,7 @@ impl Draft {
     }
 
     /// The snapshot of a tree of so many nodes. What may be refused comes before the
-    /// sweep, so that want of memory leaves all as it was.
+    /// sweep, so that all is as it was if memory runs out.
     fn snapshot(&mut self, nodes: u32) -> Result<Arc<Snapshot>, NoMemory>
         requires tree { HasTree self.old.graph }
         requires counted { nodes ≡ size (graph_tree self.old.graph) }

@@ -118,7 +118,7 @@ fn take_focus(
 }
 
 /// The values of focus lines; or the first line with a fault, and the lowest kind of
-/// its faults. On want of memory all that was read is dropped.
+/// its faults. If memory runs out, all that was read is dropped.
 pub fn read_focus(
     alloc: Global,
     script: &Script,
@@ -277,7 +277,7 @@ fn take_pointer(
 }
 
 /// The values of pointers' lines; or the first line with a fault, and the lowest kind
-/// of its faults. On want of memory all that was read is dropped.
+/// of its faults. If memory runs out, all that was read is dropped.
 pub fn read_pointers(alloc: Global, lines: &ExtraList) -> Result<PointerLines, ScriptError>
     ensures { Reads result (all_read pointer_line 0 lines.now) }
 {

@@ -353,7 +353,7 @@ impl Parser {
         self.paired
     }
 
-    /// Reads the words of the line of that number. A line at fault, or want of memory,
+    /// Reads the words of the line of that number. A line at fault, or no memory,
     /// ends the reading: nothing is said of the parser then.
     pub fn words(&mut self, alloc: Global, number: u32, words: &[u8]) -> Result<(), LineError>
         requires kept { Kept self.old }

@@ -91,12 +91,12 @@ replace_tests graph parent children =
 abbrev pub root_tests : GraphState → ℕ → List Test
 root_tests graph id = (not (id == 0) && is_none (key_named graph.names id), UnknownTransform) ∷ []
 
--- a call is refused for a reason, and never for want of memory
+-- a call is refused for a reason, and never because memory ran out
 abbrev pub IsMisuse : List Test → GraphFault → Type 0
 IsMisuse tests (Bad reason) = first_reason tests ≡ Some reason
 IsMisuse tests Memory = ⊥
 
--- a call is refused for a reason, or for want of memory where there is no reason
+-- a call is refused for a reason, or because memory ran out where there is no reason
 abbrev pub IsFault : List Test → GraphFault → Type 0
 IsFault tests (Bad reason) = first_reason tests ≡ Some reason
 IsFault tests Memory = first_reason tests ≡ None

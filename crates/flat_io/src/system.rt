@@ -34,7 +34,7 @@ impl<R: TellingRead> TellingRead for &mut R {
 }
 
 /// Of standard input std tells nothing.
-impl TellingRead for StdinLock<'_> {
+impl TellingRead for StdinLock<'static> {
     ghost tells = { false };
 
     ghost always = { λ _. refl };

@@ -53,7 +53,7 @@ impl<'a> Places<'a> {
         }
     }
 
-    /// Owners to the end of the line, one at least. Its only refusal is want of memory.
+    /// Owners to the end of the line, one at least. Fails only if memory runs out.
     pub fn owners(&mut self, alloc: Global, script: &Indexed) -> Result<ActorList, NoMemory>
         requires { IsIndexed script.now }
         ensures { IfOk result (λ v. Reads (owners script.now.script) self.old self.new v) }

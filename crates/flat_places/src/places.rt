@@ -124,7 +124,7 @@ impl<'a> Places<'a> {
         TransformId(self.number_to(u64::MAX))
     }
 
-    /// Ids of transforms to the end of the line. Its only refusal is want of memory.
+    /// Ids of transforms to the end of the line. Fails only if memory runs out.
     pub fn transforms(&mut self, alloc: Global) -> Result<TransformList, NoMemory>
         ensures { IfOk result (λ v. Reads (λ words. (transforms words, [])) self.old self.new v) }
     {
@@ -291,7 +291,7 @@ impl<'a> Places<'a> {
         }
     }
 
-    /// Hit regions to the end of the line. Its only refusal is want of memory.
+    /// Hit regions to the end of the line. Fails only if memory runs out.
     pub fn regions(&mut self, alloc: Global) -> Result<RegionList, NoMemory>
         ensures { IfOk result (λ v. Reads (λ words. (regions words, [])) self.old self.new v) }
     {

@@ -13,7 +13,8 @@ use Rattle.flat_places.specs.declared.script.Script.{Script}
 -- A history begins a script: it is legal, and each actor's entries are the reading of its lines so far.
 pub record Begins (script : Script) (history : List Entry) : Type 0 where
   pub legal : Legal script.setup history
-  pub sessions : AllByRecursion (λ s. Follows script.setup script.count (session_lines s script.lines) (own s history)) (sessions_to script.setup.sessions)
+  pub sessions : AllByRecursion (λ s. Follows script.setup script.count (session_lines s script.lines) (own s history))
+      (sessions_to script.setup.sessions)
   pub display : FollowsDisplay (display_lines script.lines) (by_display history)
 
 -- These are the frames that such a history finished.

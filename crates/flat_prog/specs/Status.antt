@@ -11,6 +11,9 @@ words_given items (Ok given) = drop 1 (items given)
 words_given items (Err error) = []
 
 -- The promise of the service, with one display that tells nothing and counts no fault, and is never lost.
-pub record Says (words : List (List ℕ)) (source source' : SourceState) (sink sink' : SinkState) (status : ℕ) : Type 0 where
-  pub serves : Serves {D = ⊤} (λ _. None) (λ _. 0) {K = ⊤} (λ _. tt) words source source' sink sink' (tt ∷ []) (tt ∷ []) status
-  pub unlost : (lost : List Lost) (frames : List FrameOut) → AreDriven {D = ⊤} (λ _. None) (λ _. 0) lost frames (tt ∷ []) (tt ∷ []) → lost ≡ []
+pub record Says (words : List (List ℕ)) (source source' : SourceState) (sink sink' : SinkState)
+    (status : ℕ) : Type 0 where
+  pub serves : Serves {D = ⊤} (λ _. None) (λ _. 0) {K = ⊤} (λ _. tt) words source source' sink sink' (tt ∷ [])
+      (tt ∷ []) status
+  pub unlost : (lost : List Lost) (frames : List FrameOut)
+      → AreDriven {D = ⊤} (λ _. None) (λ _. 0) lost frames (tt ∷ []) (tt ∷ []) → lost ≡ []

@@ -76,7 +76,7 @@ impl Probe {
     }
 
     /// Looks, and answers the number of the last frame seen, 0 where there was none. It
-    /// waits for nobody and takes no lock. On want of memory it may have seen more.
+    /// waits for nobody and takes no lock. If memory runs out, it may have seen more.
     pub fn frame(&mut self) -> Result<FrameNo, NoMemory>
         ensures home { self.new.home ≡ self.old.home }
         ensures grows { IsPrefix self.old.frames self.new.frames }
@@ -90,8 +90,8 @@ impl Probe {
     }
 
     /// Looks, and answers what a point of the display hits in the last frame seen, in
-    /// units, with the number of that frame. It waits for nobody and takes no lock. On
-    /// want of memory it may have seen more.
+    /// units, with the number of that frame. It waits for nobody and takes no lock. If
+    /// memory runs out, it may have seen more.
     pub fn hit(&mut self, alloc: Global, x: i32, y: i32) -> Result<(FrameNo, HitList), NoMemory>
         ensures home { self.new.home ≡ self.old.home }
         ensures grows { IsPrefix self.old.frames self.new.frames }

@@ -225,7 +225,7 @@ impl Published {
 
     /// Publishes a frame, whose number is above those given before: probes that look from
     /// now on answer by it. It waits for those that still read the frame before the last
-    /// one, and costs the same however large frames are. On want of memory probes go on
+    /// one, and costs the same however large frames are. If memory runs out, probes go on
     /// answering by the frame before.
     pub fn publish<R: Wait>(
         &mut self,

@@ -13,8 +13,10 @@ use Rattle.flat_actors.specs.Directing.{HasStopped, SeatStands, FilmStands, hand
 use Rattle.flat_race.specs.declared.running.Stopped.{Stopped}
 use Rattle.flat_race.specs.SessionThreads.{AreBack}
 
--- The compositor has read all its lines, and so has each session, which ended; and the lines of all probes are answered.
-pub record HaveEnded (view : StageView) (script : Script) (compositor : DisplayView) (seats : SeatsView) (film : Film) : Type 0 where
+-- The compositor has read all its lines, and so has each session, which ended; and the lines of all probes
+-- are answered.
+pub record HaveEnded (view : StageView) (script : Script) (compositor : DisplayView) (seats : SeatsView)
+    (film : Film) : Type 0 where
   pub directed : SeatStands script view (length script.lines) compositor
   pub kept : FilmStands script (history_of compositor.seen) film
   pub own : seats.stage ≡ view
@@ -30,7 +32,8 @@ pub record AreAtRest (view : StageView) (script : Script) (compositor : DisplayV
   pub back : AreBack view script 0 are_whole seats.seats
 
 -- Displays of a type tell these frames, and have these counts of faults.
-module _ {D : Type 0} (told : D → Option (List FrameOut)) (count : D → ℕ) (view : StageView) (script : Script) (olds news : List D) where
+module _ {D : Type 0} (told : D → Option (List FrameOut)) (count : D → ℕ) (view : StageView) (script : Script)
+    (olds news : List D) where
   -- All actors stopped, and the displays have had the frames of the history that the compositor has seen.
   pub record HaveStopped (compositor : DisplayView) (seats : SeatsView) : Type 0 where
     pub rest : AreAtRest view script compositor seats

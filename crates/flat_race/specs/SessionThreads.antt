@@ -12,7 +12,8 @@ use Rattle.flat_actors.specs.Sessions.{HasRun}
 
 -- a session's seat is out: with a thread that promises to hand it back, or it came back here
 abbrev pub IsOut : StageView → Script → SessionNo → Out → Type 0
-IsOut view script s (Thread handle) = (handle.promise.stage.now ≡ view) × (handle.promise.script.now ≡ script) × (handle.promise.session ≡ s)
+IsOut view script s (Thread handle) =
+    (handle.promise.stage.now ≡ view) × (handle.promise.script.now ≡ script) × (handle.promise.session ≡ s)
 IsOut view script s (Here back) = HasRun view script s back
 
 -- the first sessions are out, in order
@@ -23,13 +24,19 @@ pub record AreOut (view : StageView) (script : Script) (count : ℕ) (out : List
 -- The seats of the first sessions are away, and those of the others at home, and read no line.
 pub record AreLeft (view : StageView) (sessions taken : ℕ) (seats : List (Option SessionView)) : Type 0 where
   pub count : length seats ≡ sessions
-  pub each : (k : ℕ) → taken ≤ k → k < sessions → slice_get seats k ≡ Some (Some (fresh_view view (record { 0 = k + 1 })))
+  pub each : (k : ℕ) → taken ≤ k → k < sessions
+      → slice_get seats k ≡ Some (Some (fresh_view view (record { 0 = k + 1 })))
 
--- The seats of the sessions past the first ones are back. The entries of each are the reading of its lines so far, and of all of them if all sessions came to their End.
-pub record AreBack (view : StageView) (script : Script) (first : ℕ) (are_whole : Bool) (seats : List (Option SessionView)) : Type 0 where
+-- The seats of the sessions past the first ones are back. The entries of each are the reading of its lines so
+-- far, and of all of them if all sessions came to their End.
+pub record AreBack (view : StageView) (script : Script) (first : ℕ) (are_whole : Bool)
+    (seats : List (Option SessionView)) : Type 0 where
   pub count : length seats ≡ script.setup.sessions
-  pub home : (k : ℕ) → first ≤ k → k < script.setup.sessions → (seat : SessionView) × (slice_get seats k ≡ Some (Some seat)) × (seat.session.0 ≡ k + 1)
-  pub begun : (k : ℕ) (seat : SessionView) → first ≤ k → k < script.setup.sessions → slice_get seats k ≡ Some (Some seat)
+  pub home : (k : ℕ) → first ≤ k → k < script.setup.sessions → (seat : SessionView)
+      × (slice_get seats k ≡ Some (Some seat)) × (seat.session.0 ≡ k + 1)
+  pub begun : (k : ℕ) (seat : SessionView) → first ≤ k → k < script.setup.sessions
+      → slice_get seats k ≡ Some (Some seat)
       → Follows script.setup script.count (session_lines (record { 0 = k + 1 }) script.lines) (history_of seat.mine)
-  pub read : (k : ℕ) (seat : SessionView) → first ≤ k → k < script.setup.sessions → slice_get seats k ≡ Some (Some seat) → are_whole ≡ true
+  pub read : (k : ℕ) (seat : SessionView) → first ≤ k → k < script.setup.sessions
+      → slice_get seats k ≡ Some (Some seat) → are_whole ≡ true
       → IsReading script.setup script.count (session_lines (record { 0 = k + 1 }) script.lines) (history_of seat.mine)

@@ -8,8 +8,10 @@ use Rattle.flat_scene.specs.declared.setup.Setup.{Setup}
 use Rattle.flat_scene.specs.Frames.{is_ready, is_signalled, is_unsquashable, taken, waiting}
 use Rattle.flat_scene.specs.History.{◌▹◌, is_closed, Published}
 
--- A present of an open session is due at a time: it waits, it and those that wait before it are ready by then, and none of those has to be shown by the frame that takes it.
-pub record IsDue (setup : Setup) (before : List Entry) (time : ℕ) (s : SessionNo) (earlier : List Published) (present : Published) : Type 0 where
+-- A present of an open session is due at a time: it waits, it and those that wait before it are ready by
+-- then, and none of those has to be shown by the frame that takes it.
+pub record IsDue (setup : Setup) (before : List Entry) (time : ℕ) (s : SessionNo) (earlier : List Published)
+    (present : Published) : Type 0 where
   pub is_open : is_closed s before ≡ false
   pub later : List Published
   pub waits : waiting setup before s ≡ earlier ++ present ∷ later
@@ -19,7 +21,10 @@ pub record IsDue (setup : Setup) (before : List Entry) (time : ℕ) (s : Session
 -- each begin of a history takes more presents of a session than wait before one that is due then, so that one too
 abbrev pub TakesDue : Setup → List Entry → Type 0
 TakesDue setup [] = ⊤
-TakesDue setup (before ▹ entry) = TakesDue setup before × ((time : ℕ) (s : SessionNo) (earlier : List Published) (present : Published) → entry.kind ≡ Begin time → IsDue setup before time s earlier present
+TakesDue setup (before ▹ entry) =
+    TakesDue setup before
+    × ((time : ℕ) (s : SessionNo) (earlier : List Published) (present : Published)
+    → entry.kind ≡ Begin time → IsDue setup before time s earlier present
     → taken setup before s + length earlier < taken setup (before ▹ entry) s)
 
 -- in each history frames take what is due

@@ -19,7 +19,8 @@ use Rattle.flat_run.specs.declared.given.Given.{Given}
 use Rattle.flat_run.specs.declared.given.Given.TheVariants.{Script, Refused}
 use Rattle.flat_run.specs.declared.reading.Reading.{Reading}
 use Rattle.flat_run.specs.Forms.{Fits, Ran, form_read, is_read}
-use Rattle.flat_run.specs.Promise.{AreAll, AreFramesFor, AreGiven, AreTooLarge, IsAnswer, IsRefused, Refuses, large_line}
+use Rattle.flat_run.specs.Promise.{AreAll, AreFramesFor, AreGiven, AreTooLarge, IsAnswer, IsRefused, Refuses}
+use Rattle.flat_run.specs.Promise.{large_line}
 use Rattle.flat_run.specs.Serving.{SourceState}
 
 -- What was read can be run: its script is played, its pointers' lines rise, and each is of one of the sixteen.
@@ -40,7 +41,8 @@ pub record IsScriptFor (form : Form) (bytes : List ℕ) (reading : Reading) : Ty
   pub runnable : IsRunnable reading
   pub fits : Fits form reading.script.setup
 
--- They are none, and the text says where and why; or their script's display is too large for a picture. That has a status.
+-- They are none, and the text says where and why; or their script's display is too large for a picture. That
+-- has a status.
 pub data IsDenied (form : Form) (bytes : List ℕ) : ℕ → List ℕ → Type 0 where
   refusal : {text : List ℕ} → Refuses form bytes text → IsDenied form bytes 3 text
   too_large : form ≡ Render → AreTooLarge bytes → IsDenied form bytes 7 large_line
@@ -52,7 +54,8 @@ IsRead form bytes (Refused answer) = IsDenied form bytes answer.status answer.te
 -- So it is with what a source gave. A refusal may be of a text that is too long.
 pub data IsTurnedAway (form : Form) (left left' : Option (List ℕ)) : ℕ → List ℕ → Type 0 where
   refusal : {text : List ℕ} → IsRefused form left left' text → IsTurnedAway form left left' 3 text
-  too_large : (bytes : List ℕ) → form ≡ Render → AreAll bytes left left' → AreTooLarge bytes → IsTurnedAway form left left' 7 large_line
+  too_large : (bytes : List ℕ) → form ≡ Render → AreAll bytes left left' → AreTooLarge bytes
+      → IsTurnedAway form left left' 7 large_line
 
 abbrev pub IsGiven : Form → Option (List ℕ) → Option (List ℕ) → Given → Type 0
 IsGiven form left left' (Script reading) = (bytes : List ℕ) × AreAll bytes left left' × IsScriptFor form bytes reading
@@ -61,12 +64,17 @@ IsGiven form left left' (Refused answer) = IsTurnedAway form left left' answer.s
 -- ---- what is answered
 
 -- Displays of a type tell these frames, and have these counts of faults.
-module _ {D : Type 0} (shown : D → Option (List FrameOut)) (faults : D → ℕ) {K : Type 0} (kind : D → K) (form : Form) where
-  -- A source was read for a form, and what it gave was run: this is to be written. Nothing is where a read failed, or out of memory.
-  pub record Answers (source source' : SourceState) (olds news : List D) (result : Result Answer Unanswered) : Type 0 where
-    pub answer : (words : List (List ℕ)) → CallFor words form → IfOk result (λ a. IsAnswer shown faults olds news words source.left source'.left a.status a.text)
+module _ {D : Type 0} (shown : D → Option (List FrameOut)) (faults : D → ℕ) {K : Type 0} (kind : D → K)
+    (form : Form) where
+  -- A source was read for a form, and what it gave was run: this is to be written. Nothing is where a read
+  -- failed, or out of memory.
+  pub record Answers (source source' : SourceState) (olds news : List D)
+      (result : Result Answer Unanswered) : Type 0 where
+    pub answer : (words : List (List ℕ)) → CallFor words form
+        → IfOk result (λ a. IsAnswer shown faults olds news words source.left source'.left a.status a.text)
     pub statuses : IfOk result (λ a. IsTrue (a.status == 0 || a.status == 3 || a.status == 7))
-    pub kept : (words : List (List ℕ)) → CallFor words form → AreKept shown faults (AreFramesFor words source.left source'.left) olds news kind
+    pub kept : (words : List (List ℕ)) → CallFor words form
+        → AreKept shown faults (AreFramesFor words source.left source'.left) olds news kind
     pub given : (given : List ℕ) × AreGiven given source.left source'.left
     pub counts : source.faults ≤ source'.faults
     pub steady : result ≢ Err Fault → source'.faults ≡ source.faults

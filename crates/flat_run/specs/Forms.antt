@@ -41,8 +41,10 @@ read_as reading (Err fault) = Err fault
 
 -- what a form reads of a text: its script, and the values of the extra lines that the form knows
 abbrev pub form_read : Form → List ℕ → Result Reading ScriptFault
-form_read Focus bytes = read_as (λ both. record { script = both.script; focus = both.lines; pointers = [] }) (focus_read bytes)
-form_read Pointer bytes = read_as (λ both. record { script = both.script; focus = []; pointers = both.lines }) (pointers_read bytes)
+form_read Focus bytes =
+    read_as (λ both. record { script = both.script; focus = both.lines; pointers = [] }) (focus_read bytes)
+form_read Pointer bytes =
+    read_as (λ both. record { script = both.script; focus = []; pointers = both.lines }) (pointers_read bytes)
 form_read _ bytes = read_as plain (text_read bytes)
 
 -- the display isn't too large for what a form writes: a picture has only so many pixels
@@ -78,7 +80,9 @@ AreAsked _ finished_frames = ⊤
 abbrev pub report_of : Ran → List ℕ
 report_of ran = report ran.reading.script ran.history ran.lost ran.seen
 
--- The text is what a form writes of what ran: the report, the line that sums a load up, the picture of the last frame, what changed from frame to frame, who had the focus, to whom the pointers' lines went, or why each session was on the display or not.
+-- The text is what a form writes of what ran: the report, the line that sums a load up, the picture of the
+-- last frame, what changed from frame to frame, who had the focus, to whom the pointers' lines went, or why
+-- each session was on the display or not.
 abbrev pub IsTextOf : Form → Ran → List ℕ → Type 0
 IsTextOf Play ran text = text ≡ report_of ran
 IsTextOf Race ran text = text ≡ report_of ran
@@ -86,8 +90,10 @@ IsTextOf (Stress asked) ran text = text ≡ summary_line (totals_of asked ran.re
 IsTextOf Render ran text = text ≡ picture_text ran.reading.script.setup (finished ran.reading.script.setup ran.history)
 IsTextOf Damage ran text = IsDamageText (finished ran.reading.script.setup ran.history) text
 IsTextOf Focus ran text =
-    text ≡ focus_text ran.reading.script.sessions (finish_lines (reverse ran.history)) (finished ran.reading.script.setup ran.history) ran.reading.focus
+    text ≡ focus_text ran.reading.script.sessions (finish_lines (reverse ran.history))
+    (finished ran.reading.script.setup ran.history) ran.reading.focus
 IsTextOf Pointer ran text =
-    text ≡ pointer_text ran.reading.script.sessions (finish_lines (reverse ran.history)) (finished ran.reading.script.setup ran.history)
+    text ≡ pointer_text ran.reading.script.sessions (finish_lines (reverse ran.history))
+    (finished ran.reading.script.setup ran.history)
     (map (touch_of ran.reading.script.setup ran.history) ran.reading.pointers)
 IsTextOf Why ran text = text ≡ why_text ran.reading.script ran.history

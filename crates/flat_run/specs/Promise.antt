@@ -1,5 +1,6 @@
 -- What a call of the service answers, writes and shows.
-use Rattle.std.specs.Prelude.{◌≡◌, ◌≢◌, ◌⊎◌, ⊤, ℕ, ◌*◌, ◌<◌, Bool, ◌||◌, true, false, List, [], ◌∷◌, ◌++◌, length, map, Option, Some, Ok, Err, codes}
+use Rattle.std.specs.Prelude.{◌≡◌, ◌≢◌, ◌⊎◌, ⊤, ℕ, ◌*◌, ◌<◌, Bool, ◌||◌, true, false, List, [], ◌∷◌, ◌++◌, length, map}
+use Rattle.std.specs.Prelude.{Option, Some, Ok, Err, codes}
 use Rattle.std.specs.Fmt.{decimal}
 use Rattle.flat_io.specs.Counts.{has_risen}
 use Rattle.flat_io.specs.Told.{WhereTold, Appends}
@@ -59,7 +60,8 @@ AreTextOf _ left left' bytes = AreAll bytes left left'
 
 -- what is written of a script with a fault
 abbrev pub fault_line : ScriptFault → List ℕ
-fault_line fault = codes "script line " ++ decimal fault.line ++ codes " kind " ++ decimal (number fault.kind) ++ 10 ∷ []
+fault_line fault =
+    codes "script line " ++ decimal fault.line ++ codes " kind " ++ decimal (number fault.kind) ++ 10 ∷ []
 
 -- A form can't read these bytes, and the text says where and why.
 pub record Refuses (form : Form) (bytes text : List ℕ) : Type 0 where
@@ -91,7 +93,12 @@ pub record AreTooLarge (bytes : List ℕ) : Type 0 where
 
 -- ---- what ran
 
--- It ran for a form: the history is a legal one, which interleaves the script's actors, in written order but in a race, and a load's has as many frames as were asked for. But in a race each line of a probe saw the frame that was finished last before it. The display isn't too large for the form. Of each session's family, its entries with the frames alone are legal too, with the same replies, and post it the same events at the same entries; no other entry posts it any. Each frame takes at its begin each present that is due.
+-- The script ran for a form. The history is legal and interleaves the script's actors, in written order
+-- unless it is a race. A load's history has as many frames as were asked for. Unless it is a race, each line of
+-- a probe saw the last frame that was finished before it. The display isn't too large for the form. The entries
+-- of each session's family and the frames alone are legal too, with the same replies. They send the family the
+-- same events at the same entries; no other entry sends the family an event. Each frame takes at its begin
+-- every present that is due.
 pub record HasRun (form : Form) (ran : Ran) : Type 0 where
   pub run : IsRun ran.reading.script ran.history ran.lost ran.seen
   pub written : form ≢ Race → IsWritten ran.reading.script.setup ran.history
@@ -114,14 +121,20 @@ pub record Tells (form : Form) (bytes text : List ℕ) : Type 0 where
 module _ {D : Type 0} (shown : D → Option (List FrameOut)) (faults : D → ℕ) (olds news : List D) where
   -- The displays have had the frames of what is told, but for those of them that were lost.
   abbrev pub IsTold : Form → List ℕ → List ℕ → Type 0
-  IsTold form bytes text = (tells : Tells form bytes text) × AreDriven shown faults tells.ran.lost (finished tells.ran.reading.script.setup tells.ran.history) olds news
+  IsTold form bytes text =
+      (tells : Tells form bytes text)
+      × AreDriven shown faults tells.ran.lost (finished tells.ran.reading.script.setup tells.ran.history) olds news
 
-  -- What is to be written of the words, with a status: the usage, a refusal, that a picture would be too large, or what their form tells of what ran.
+  -- What is to be written of the words, with a status: the usage, a refusal, that a picture would be too
+  -- large, or what their form tells of what ran.
   pub data IsAnswer (words : List (List ℕ)) (left left' : Option (List ℕ)) : ℕ → List ℕ → Type 0 where
     usage : CallForNothing words → news ≡ olds → IsAnswer words left left' 2 usage_line
-    refusal : (form : Form) {text : List ℕ} → CallFor words form → is_read form ≡ true → IsRefused form left left' text → news ≡ olds → IsAnswer words left left' 3 text
-    too_large : (bytes : List ℕ) → CallFor words Render → AreAll bytes left left' → AreTooLarge bytes → news ≡ olds → IsAnswer words left left' 7 large_line
-    told : (form : Form) (bytes : List ℕ) {text : List ℕ} → CallFor words form → AreTextOf form left left' bytes → IsTold form bytes text → IsAnswer words left left' 0 text
+    refusal : (form : Form) {text : List ℕ} → CallFor words form → is_read form ≡ true → IsRefused form left left' text
+        → news ≡ olds → IsAnswer words left left' 3 text
+    too_large : (bytes : List ℕ) → CallFor words Render → AreAll bytes left left' → AreTooLarge bytes → news ≡ olds
+        → IsAnswer words left left' 7 large_line
+    told : (form : Form) (bytes : List ℕ) {text : List ℕ} → CallFor words form → AreTextOf form left left' bytes
+        → IsTold form bytes text → IsAnswer words left left' 0 text
 
   -- The whole text of a status was written.
   pub record IsWhole (words : List (List ℕ)) (left left' held held' : Option (List ℕ)) (status : ℕ) : Type 0 where
@@ -141,12 +154,14 @@ module _ {D : Type 0} (shown : D → Option (List FrameOut)) (faults : D → ℕ
 -- These are the frames of a run of a form's script as far as it came; where nothing ran there are none.
 pub data AreFramesOf (form : Form) (bytes : List ℕ) : List FrameOut → Type 0 where
   none : AreFramesOf form bytes []
-  some : (reading : Reading) {frames : List FrameOut} → form_read form bytes ≡ Ok reading → AreBegun reading.script frames → AreFramesOf form bytes frames
+  some : (reading : Reading) {frames : List FrameOut} → form_read form bytes ≡ Ok reading
+      → AreBegun reading.script frames → AreFramesOf form bytes frames
 
 -- They are those of a form that the words call for, and the bytes are the text of its script.
 pub data AreFramesFor (words : List (List ℕ)) (left left' : Option (List ℕ)) : List FrameOut → Type 0 where
   none : AreFramesFor words left left' []
-  some : (form : Form) (bytes : List ℕ) {frames : List FrameOut} → CallFor words form → AreTextOf form left left' bytes → AreFramesOf form bytes frames → AreFramesFor words left left' frames
+  some : (form : Form) (bytes : List ℕ) {frames : List FrameOut} → CallFor words form → AreTextOf form left left' bytes
+      → AreFramesOf form bytes frames → AreFramesFor words left left' frames
 
 -- whether a sink's count of faults rose, or its count of stalls
 abbrev pub either_rose : ℕ → ℕ → ℕ → ℕ → Bool
@@ -155,7 +170,8 @@ either_rose failed failed' stalled stalled' = has_risen failed failed' || has_ri
 -- ---- where a script is given
 
 -- The source tells its bytes, what it gave is a script for the form, of a setup of this sort, and no read of it failed.
-pub record Gives (form : Form) (IsOfSort : Setup → Type 0) (left left' : Option (List ℕ)) (failed failed' : ℕ) : Type 0 where
+pub record Gives (form : Form) (IsOfSort : Setup → Type 0) (left left' : Option (List ℕ))
+    (failed failed' : ℕ) : Type 0 where
   pub given : List ℕ
   pub after : List ℕ
   pub reading : Reading

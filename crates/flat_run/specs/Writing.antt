@@ -5,7 +5,8 @@ use Rattle.flat_io.specs.Whole.{AppendsPrefix}
 use Rattle.flat_run.specs.Promise.{either_rose}
 use Rattle.flat_run.specs.Serving.{SinkState}
 
--- A text was to be written under a status. With that status it stands whole behind what was held; else the status is 5, its first bytes stand there, and a count rose.
+-- A text was to be written under a status. With that status it stands whole behind what was held; else the
+-- status is 5, its first bytes stand there, and a count rose.
 pub record Writes (text : List ℕ) (status : ℕ) (old new : SinkState) (result : ℕ) : Type 0 where
   pub either : IsTrue (result == status || result == 5)
   pub whole : result ≡ status → Appends text old.held new.held

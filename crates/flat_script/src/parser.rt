@@ -16,7 +16,7 @@ use flat_text::line;
 use std::alloc::Global;
 
 /// The script of the text; or the first line with a fault, and the lowest kind of
-/// that line's faults, in one pass over the text. On want of memory all that was
+/// that line's faults, in one pass over the text. If memory runs out, all that was
 /// read is dropped.
 ///
 /// What a script is, docs/SCRIPT.md says line by line.

@@ -91,7 +91,7 @@ impl SnapshotBuilder {
 
     /// Adds a node, which is open from now on: its children come by later calls, and
     /// its end, whatever it says, by `leave`. It takes memory for its hit regions and
-    /// for the number of a viewport alone. On want of memory no node is added.
+    /// for the number of a viewport alone. If memory runs out, no node is added.
     pub fn enter(&mut self, node: &FlatNode<'_>) -> Result<(), NoMemory>
         requires { 0 < self.old.room }
         ensures ok { OnOk result (self.new ≡ entered self.old (as_node (lent node.now) Empty)) }

@@ -14,7 +14,7 @@ use flat_draft::{Draft, DraftFault};
 use flat_scene::{Call, PresentArgs, ViewportProps, Watch};
 
 /// What a draft makes of a call: its entry, or none. A viewport's call is only
-/// tested, and its room taken. On want of memory the draft is as it was.
+/// tested, and its room taken. If memory runs out, the draft is as it was.
 pub fn called(draft: &mut Draft, call: &Call) -> Result<Option<Made>, NoMemory>
     requires stands { HasDraft draft.old }
     requires opened { draft.old.closed ≡ false }

@@ -70,7 +70,7 @@ impl Reader {
     /// Reads a line: it makes its entry, or its call waits for the next one. A misuse
     /// closes the session, and each line after that is answered so and counted.
     ///
-    /// On want of memory the line is dropped and makes no entry.
+    /// If memory runs out, the line is dropped and makes no entry.
     pub fn call(&mut self, board: &mut Board, number: u32, text: Line) -> Result<Reply, NoMemory>
         requires owned { is_played_line board.old.setup self.old.session text ≡ true }
         requires share { HasShare board.old (Session self.old.session) }
@@ -158,7 +158,7 @@ impl Reader {
         }
     }
 
-    /// Makes the entry that the session is about to make. On want of memory it can
+    /// Makes the entry that the session is about to make. If memory runs out, it can
     /// still be made, but for the call of a viewport, which doesn't wait any more.
     pub fn enter(&mut self, board: &mut Board, number: u32, made: Made) -> Result<Reply, NoMemory>
         requires ready { IsReady board.old.setup (own self.old.session board.old.history) self.old

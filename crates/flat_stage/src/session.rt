@@ -80,7 +80,7 @@ impl SessionSeat {
     /// other line makes its entry, for which it may wait. A misuse closes the
     /// session, and each line after that is answered so.
     ///
-    /// On want of memory the line is dropped and makes no entry.
+    /// If memory runs out, the line is dropped and makes no entry.
     pub fn call<R: Wait>(
         &mut self,
         rt: &R,

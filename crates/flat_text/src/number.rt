@@ -6,7 +6,7 @@ ghost use Rattle.flat_text.specs.Number.{digits_after, positive, natural, signed
 use flat_base::NoMemory;
 use itoa::Buffer;
 
-/// Appends the decimal text of a number. On want of memory nothing is appended.
+/// Appends the decimal text of a number. If memory runs out, nothing is appended.
 pub fn push_number(out: &mut Vec<u8>, v: i128) -> Result<(), NoMemory>
     ensures ok { OnOk result (out.new.items ≡ out.old.items ++ signed_decimal v) }
     ensures err { OnErr result (out.new.items ≡ out.old.items) }

@@ -45,4 +45,5 @@ unseen_of s nodes = cond (some_node s is_seen nodes) (cond (some_node s has_size
 abbrev pub blank_of : Option Tree → SessionNo → List Placed → Blank
 blank_of None s nodes = Rootless
 blank_of (Some tree) s nodes =
-    cond (length (flat_nodes tree) == 0) Rootless (cond (list_any (λ n. paints n.content) (flat_nodes tree)) (unseen_of s nodes) Contentless)
+    cond (length (flat_nodes tree) == 0) Rootless
+    (cond (list_any (λ n. paints n.content) (flat_nodes tree)) (unseen_of s nodes) Contentless)

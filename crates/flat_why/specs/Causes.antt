@@ -1,5 +1,7 @@
--- Why a session is not on the display: the first of these causes that holds at the begin of a frame, with which the history ends.
-use Rattle.std.specs.Prelude.{ℕ, suc, Bool, true, false, cond, not, ◌&&◌, ◌==◌, nat_lt, List, [], ◌∷◌, ◌++◌, length, map, filter, find, Option, Some, None}
+-- Why a session is not on the display: the first of these causes that holds at the begin of a frame, with
+-- which the history ends.
+use Rattle.std.specs.Prelude.{ℕ, suc, Bool, true, false, cond, not, ◌&&◌, ◌==◌, nat_lt, List, [], ◌∷◌, ◌++◌, length}
+use Rattle.std.specs.Prelude.{map, filter, find, Option, Some, None}
 use Rattle.std.specs.List.{list_any}
 use Rattle.flat_base.specs.declared.ids.Actor.{Actor}
 use Rattle.flat_base.specs.declared.ids.Actor.TheVariants.{Display, Session}
@@ -47,11 +49,13 @@ or_before None before = before
 -- how a session was closed, if it was
 abbrev pub closing_of : SessionNo → List Entry → Option Closing
 closing_of s [] = None
-closing_of s (before ▹ entry) = or_before (cond (is_session s entry.actor) (closing_by entry.line entry.reply) None) (closing_of s before)
+closing_of s (before ▹ entry) =
+    or_before (cond (is_session s entry.actor) (closing_by entry.line entry.reply) None) (closing_of s before)
 
 -- the present that an entry makes
 abbrev pub dues_by : Actor → Kind → Reply → List Due
-dues_by (Session s) (kind.Present args) (reply.Presented number credits) = record { session = s; number = number; time = args.time; acquire = args.acquire } ∷ []
+dues_by (Session s) (kind.Present args) (reply.Presented number credits) =
+    record { session = s; number = number; time = args.time; acquire = args.acquire } ∷ []
 dues_by _ _ _ = []
 
 -- all presents, in the order in which they were made
@@ -72,11 +76,13 @@ used_by _ _ = None
 -- how many presents its owner had made when the viewport end of a pair was used last, if it was
 abbrev pub last_use : PairNo → List Entry → Option ℕ
 last_use p [] = None
-last_use p (before ▹ entry) = cond (is_pair (used_by entry.kind entry.reply) p) (Some (made_by entry.actor (before ▹ entry))) (last_use p before)
+last_use p (before ▹ entry) =
+    cond (is_pair (used_by entry.kind entry.reply) p) (Some (made_by entry.actor (before ▹ entry))) (last_use p before)
 
 -- ---- presents that wait
 
--- what holds a present back whose time has come: a fence, if one isn't signalled; else those before it. Before the first that waits there is only an unsquashable one that was taken.
+-- what holds a present back whose time has come: a fence, if one isn't signalled; else those before it.
+-- Before the first that waits there is only an unsquashable one that was taken.
 abbrev pub held_by : Option FenceNo → Bool → Hold
 held_by (Some f) first = Fence f
 held_by None true = Unsquashable
@@ -84,7 +90,8 @@ held_by None false = Behind
 
 -- what holds a present back: its time, or else its fences in their order, or else those before it
 abbrev pub hold_of : ℕ → (FenceNo → Bool) → Bool → Due → Hold
-hold_of now is_signalled first due = cond (nat_lt now due.time) (Time due.time) (held_by (find (λ f. not (is_signalled f)) due.acquire) first)
+hold_of now is_signalled first due =
+    cond (nat_lt now due.time) (Time due.time) (held_by (find (λ f. not (is_signalled f)) due.acquire) first)
 
 module _ (setup : Setup) where
   -- whether a present waits: no frame has taken it, and its session is open
@@ -95,7 +102,8 @@ module _ (setup : Setup) where
   waiting_of begun due = record {
     session = due.session;
     number = due.number;
-    hold = hold_of (begin_time begun) (is_signalled setup begun) (due.number == suc (taken setup begun due.session)) due;
+    hold = hold_of (begin_time begun) (is_signalled setup begun)
+        (due.number == suc (taken setup begun due.session)) due;
   }
 
   -- the presents that a begin left waiting, in the order in which they were made
@@ -118,19 +126,22 @@ nothing_by None None = Unpresented
 abbrev pub has_viewport : PairNo → Tree → Bool
 has_viewport p tree = list_any (λ one. one.pair.0 == p.0) tree.viewports
 
--- why a viewport is on no node of what its owner shows: by what is shown, by how many of the owner's presents were taken, and by how many it had made when the viewport was
+-- why a viewport is on no node of what its owner shows: by what is shown, by how many of the owner's presents
+-- were taken, and by how many it had made when the viewport was
 abbrev pub parting_of : PairNo → Option Tree → ℕ → Option ℕ → Parting
 parting_of p state taken None = Unmade
 parting_of p None taken (Some made) = Unshown
 parting_of p (Some tree) taken (Some made) = cond (has_viewport p tree) Loose (cond (nat_lt made taken) Ended Unshown)
 
--- What is shown of all sessions is known, how many presents of each were taken, and how many its owner had made at the last use of each viewport end.
+-- What is shown of all sessions is known, how many presents of each were taken, and how many its owner had
+-- made at the last use of each viewport end.
 module _ (setup : Setup) (shown : Shown) (taken : SessionNo → ℕ) (last_use : PairNo → Option ℕ) where
   -- a view hangs where the viewport of its pair is
   abbrev pub hanging_by : PairNo → Option Actor → Standing
   hanging_by p (Some Display) = OnDisplay
   hanging_by p (Some (Session q)) =
-      cond (is_shown_by shown p.0 q.0) (Below q) (Nowhere (Parted q p (parting_of p (state_of shown q.0) (taken q) (last_use p))))
+      cond (is_shown_by shown p.0 q.0) (Below q)
+      (Nowhere (Parted q p (parting_of p (state_of shown q.0) (taken q) (last_use p))))
   hanging_by p _ = Nowhere Viewless
 
   abbrev pub viewed_by : Option PairNo → Standing
@@ -152,4 +163,5 @@ module _ (setup : Setup) (begun : List Entry) where
 
   -- where a session hangs in a frame, or why it hangs nowhere
   abbrev pub standing_of : SessionNo → Standing
-  standing_of s = standing_in setup (shown_states setup begun) (taken setup begun) (λ p. last_use p begun) (nothing_of s) s
+  standing_of s = standing_in setup (shown_states setup begun) (taken setup begun) (λ p. last_use p begun)
+      (nothing_of s) s

@@ -25,7 +25,8 @@ ancestors stands (suc steps) _ = []
 abbrev pub is_cyclic : ℕ → (SessionNo → Standing) → SessionNo → Bool
 is_cyclic sessions stands s = list_any (λ above. above.0 == s.0) (ancestors stands sessions (stands s))
 
--- Why a session that stands so isn't on the display, if it isn't: it hangs nowhere, or below itself, or below a session that isn't on it.
+-- Why a session that stands so isn't on the display, if it isn't: it hangs nowhere, or below itself, or below
+-- a session that isn't on it.
 abbrev pub hidden_by : ℕ → (SessionNo → Standing) → List ViewNode → SessionNo → Standing → Option Hidden
 hidden_by sessions stands nodes s OnDisplay = None
 hidden_by sessions stands nodes s (Nowhere cause) = Some (Unhung cause)

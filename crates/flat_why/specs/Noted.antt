@@ -1,5 +1,6 @@
 -- How what a run keeps for its causes stands for the history.
-use Rattle.std.specs.Prelude.{◌≡◌, ℕ, ◌<◌, ◌+◌, ◌-◌, ◌&&◌, cond, nat_lt, nat_le, true, false, List, [], ◌∷◌, length, map, filter, slice_index_or, slice_set, Option, Some, None}
+use Rattle.std.specs.Prelude.{◌≡◌, ℕ, ◌<◌, ◌+◌, ◌-◌, ◌&&◌, cond, nat_lt, nat_le, true, false, List, [], ◌∷◌, length}
+use Rattle.std.specs.Prelude.{map, filter, slice_index_or, slice_set, Option, Some, None}
 use Rattle.std.specs.List.{All}
 use Rattle.flat_base.specs.declared.ids.PairNo.{PairNo}
 use Rattle.flat_base.specs.declared.ids.SessionNo.{SessionNo}
@@ -45,7 +46,8 @@ counts_in counts s = slice_index_or counts (s.0 - 1) 0
 
 -- one item more of a session, where it is one of those that are counted
 abbrev pub with_item : SessionNo → List ℕ → List ℕ
-with_item s counts = cond (nat_lt 0 s.0 && nat_le s.0 (length counts)) (slice_set counts (s.0 - 1) (counts_in counts s + 1)) counts
+with_item s counts =
+    cond (nat_lt 0 s.0 && nat_le s.0 (length counts)) (slice_set counts (s.0 - 1) (counts_in counts s + 1)) counts
 
 -- the line of a session of a frame, by the states and the ratio of which it is composed and by where all sessions hang
 abbrev pub session_line : Script → ℕ → Shown → FrameOut → List Standing → SessionNo → List Word
@@ -90,15 +92,19 @@ pub record WhysTell (script : Script) (history : List Entry) (whys : Whys) : Typ
   pub sort : is_counting whys.page ≡ false
   pub text : IsText whys.page (text_of (why_lines script history))
 
--- What is kept is what the rules say of the history: how sessions were closed, the last uses of viewport ends, and the presents that may still wait; and of the frame begun last, while it is open, where sessions hang and what waits.
+-- What is kept is what the rules say of the history: how sessions were closed, the last uses of viewport
+-- ends, and the presents that may still wait; and of the frame begun last, while it is open, where sessions
+-- hang and what waits.
 pub record WhysStand (script : Script) (history : List Entry) (whys : Whys) : Type 0 where
   pub sessions : length whys.closings.items ≡ script.setup.sessions
   pub pairs : length whys.last_uses.items ≡ length script.setup.pairs
   pub count : length whys.standings.items ≡ script.setup.sessions
-  pub closed : (s : SessionNo) → is_declared script.setup s ≡ true → closings_in whys.closings.items s ≡ closing_of s history
+  pub closed : (s : SessionNo) → is_declared script.setup s ≡ true
+      → closings_in whys.closings.items s ≡ closing_of s history
   pub used : (p : PairNo) → p.0 < length script.setup.pairs → uses_in whys.last_uses.items p ≡ last_use p history
   pub dues : whys.dues.items ≡ filter (is_waiting script.setup (to_begin history)) (dues history)
   pub known : All (IsKnown script.setup) whys.dues.items
-  pub standings : is_frame_open history ≡ true → whys.standings.items ≡ map (standing_of script.setup (to_begin history)) (sessions_to script.setup.sessions)
+  pub standings : is_frame_open history ≡ true
+      → whys.standings.items ≡ map (standing_of script.setup (to_begin history)) (sessions_to script.setup.sessions)
   pub waits : is_frame_open history ≡ true → whys.waits.items ≡ waits_at script.setup (to_begin history)
   pub tells : WhysTell script history whys

@@ -56,7 +56,8 @@ cause_words script (Closed closing) = codes "closed" ∷ number closing.line ∷
 cause_words script Unpresented = codes "unpresented" ∷ []
 cause_words script (Held hold) = codes "waits" ∷ hold_words script hold
 cause_words script Viewless = codes "viewless" ∷ []
-cause_words script (Parted parent pair why) = codes "viewport" ∷ pair_name script pair ∷ session_name script.sessions parent ∷ parting_word why ∷ []
+cause_words script (Parted parent pair why) =
+    codes "viewport" ∷ pair_name script pair ∷ session_name script.sessions parent ∷ parting_word why ∷ []
 
 abbrev pub hidden_words : Script → Hidden → List Word
 hidden_words script (Unhung cause) = cause_words script cause
@@ -83,7 +84,9 @@ drawn_words (suc n) blank = number (suc n) ∷ []
 
 -- a session that is shown in the frame of a number: its view's rectangle, and how many items are its own
 abbrev pub shown_line : Script → ℕ → SessionNo → Drawn → List Word
-shown_line script n s drawn = codes "shown" ∷ number n ∷ session_name script.sessions s ∷ rect_words drawn.bounds ++ drawn_words drawn.items drawn.blank
+shown_line script n s drawn =
+    codes "shown" ∷ number n ∷ session_name script.sessions s ∷ rect_words drawn.bounds
+    ++ drawn_words drawn.items drawn.blank
 
 -- a session that isn't, and why
 abbrev pub hidden_line : Script → ℕ → SessionNo → Option Hidden → List Word
@@ -91,7 +94,9 @@ hidden_line script n s hidden = codes "hidden" ∷ number n ∷ session_name scr
 
 -- a present that the frame left waiting
 abbrev pub wait_line : Script → ℕ → Waiting → List Word
-wait_line script n waiting = codes "waits" ∷ number n ∷ session_name script.sessions waiting.session ∷ number waiting.number ∷ hold_words script waiting.hold
+wait_line script n waiting =
+    codes "waits" ∷ number n ∷ session_name script.sessions waiting.session ∷ number waiting.number
+    ∷ hold_words script waiting.hold
 
 -- how many of a frame's items are a session's own
 abbrev pub own_items : SessionNo → FrameOut → ℕ
@@ -99,31 +104,39 @@ own_items s frame = count_by (λ item. item.session.0 == s.0) frame.items
 
 -- the line of a session: by its node in the view tree, if it is one
 abbrev pub line_by : Script → FrameOut → SessionNo → Option Hidden → Blank → Option ViewNode → List Word
-line_by script frame s hidden blank (Some node) = shown_line script frame.frame.0 s (record { bounds = node.bounds; items = own_items s frame; blank = blank })
+line_by script frame s hidden blank (Some node) =
+    shown_line script frame.frame.0 s (record { bounds = node.bounds; items = own_items s frame; blank = blank })
 line_by script frame s hidden blank None = hidden_line script frame.frame.0 s hidden
 
--- The lines of a frame: of each session, and then of each present that it left waiting. It is known why each session is hidden, if it is, and why it draws nothing, if it does.
-abbrev pub frame_whys : Script → FrameOut → (SessionNo → Option Hidden) → (SessionNo → Blank) → List Waiting → List (List Word)
+-- The lines of a frame: of each session, and then of each present that it left waiting. It is known why each
+-- session is hidden, if it is, and why it draws nothing, if it does.
+abbrev pub frame_whys : Script → FrameOut → (SessionNo → Option Hidden) → (SessionNo → Blank) → List Waiting
+    → List (List Word)
 frame_whys script frame hidden blank waits =
-    map (λ s. line_by script frame s (hidden s) (blank s) (node_of s frame.tree.nodes)) (sessions_to script.setup.sessions)
+    map (λ s. line_by script frame s (hidden s) (blank s) (node_of s frame.tree.nodes))
+    (sessions_to script.setup.sessions)
     ++ map (wait_line script frame.frame.0) waits
 
 -- why a session draws nothing in the frame of a begin, if it does
 abbrev pub blank_at : Script → List Entry → SessionNo → Blank
 blank_at script begun s =
-    blank_of (state_of (shown_states script.setup begun) s.0) s (placed_nodes (setup_at script.setup begun) (shown_states script.setup begun))
+    blank_of (state_of (shown_states script.setup begun) s.0) s
+    (placed_nodes (setup_at script.setup begun) (shown_states script.setup begun))
 
 -- the lines of the frame of a number, with whose begin the history ends
 abbrev pub whys_at : Script → ℕ → List Entry → List (List Word)
 whys_at script n begun =
-    frame_whys script (frame_at script.setup n begun) (hidden_of script.setup begun (frame_at script.setup n begun).tree.nodes) (blank_at script begun) (waits_at script.setup begun)
+    frame_whys script (frame_at script.setup n begun)
+    (hidden_of script.setup begun (frame_at script.setup n begun).tree.nodes) (blank_at script begun)
+    (waits_at script.setup begun)
 
 -- ---- the whole
 
 -- the lines of all finished frames
 abbrev pub why_lines : Script → List Entry → List (List Word)
 why_lines script [] = []
-why_lines script (before ▹ entry) = why_lines script before ++ cond (is_finish entry.kind) (whys_at script (suc (frames before)) (to_begin before)) []
+why_lines script (before ▹ entry) =
+    why_lines script before ++ cond (is_finish entry.kind) (whys_at script (suc (frames before)) (to_begin before)) []
 
 -- the last line
 abbrev pub end_line : ℕ → List Word

@@ -38,8 +38,8 @@ pub enum Form {
     Why,
 }
 
-/// The form for which the words call: None exactly where they call for none. The
-/// only refusal is want of memory.
+/// The form for which the words call: None if they call for none. Fails
+/// only if memory runs out.
 pub fn read(alloc: Global, words: &[String]) -> Result<Option<Form>, NoMemory>
     ensures form { IfOk result (λ found. IfSome found (λ form. CallFor (map string_bytes words.now)
         form)) }
