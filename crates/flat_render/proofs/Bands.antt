@@ -127,3 +127,10 @@ pub chunk-start : (s z start offset i : ℕ) → z ≡ s → start % z ≡ 0 →
 chunk-start s z start offset i e whole place =
     let at : start / z * z + start % z ≡ start = div-add-mod' start z in
     ap (λ (n : ℕ). start / z * n + offset) (sym e) ∙ omega (arith, at, whole, place)
+
+-- the bytes of a row of tiles end within those that are stored, which a number holds
+pub band-in-grid : (g : Grid) (row size all : ℕ) → IsGrid g → row < g.down → size ≡ band_bytes g → all ≡ grid_bytes g → (row * size + size ≤ all) × (all < 2 ^ 28)
+band-in-grid g row size all is there size_is whole =
+    let fits : row * size + size ≤ g.down * size = row_fits row size g.down size there (omega arith) in
+    let same : g.down * size ≡ grid_bytes g = ap (λ (m : ℕ). g.down * m) size_is ∙ sym (whole-bands g) in
+    (omega (arith, fits, same, whole), omega (arith, is.most, whole))

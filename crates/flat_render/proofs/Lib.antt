@@ -20,4 +20,5 @@ pub mod Runs
 pub mod Wholes
 pub mod Steps
 pub mod Choices
+pub mod Colours
 mod Examples

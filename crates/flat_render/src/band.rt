@@ -20,7 +20,7 @@ const FEW: usize = 32;
 pub fn visible_rects(alloc: Global, items: &[DrawItem]) -> Result<Vec<Rect>, NoMemory>
     ensures { IfOk result (λ rects. rects.items ≡ rects_of items.now) }
 {
-    let mut rects = Vec::new(alloc);
+    let mut rects = Vec::with_capacity(alloc, items.len())?;
     for item in items {
         rects.push(item.visible)?;
     }

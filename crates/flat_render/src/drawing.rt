@@ -17,6 +17,42 @@ use rayon::prelude::*;
 use std::alloc::Global;
 use std::thread::Threads;
 
+/// So much work is done by the caller sooner than threads are started.
+const LIGHT: usize = 2_000_000;
+
+/// What an item is as work beside its pixels, in pixels.
+const ITEM_WORK: usize = 512;
+
+/// What there is to draw, in pixels, about.
+fn work_of(rects: &[Rect]) -> usize {
+    let mut work: usize = 0;
+    for rect in rects {
+        let area = area_of(*rect);
+        let across = area.x1.saturating_sub(area.x0);
+        let pixels = across.saturating_mul(area.y1.saturating_sub(area.y0));
+        work = work.saturating_add(pixels.saturating_add(ITEM_WORK));
+    }
+    work
+}
+
+/// Draws all tiles, which are black, one row of tiles after another.
+fn draw_here(alloc: Global, items: &[DrawItem], rects: &[Rect], grid: &Grid, bytes: &mut [u8])
+    requires items { All IsDrawable items.now }
+    requires rects { rects.now ≡ rects_of items.now }
+    requires grid { IsGrid grid.now }
+    requires size { length bytes.old ≡ grid_bytes grid.now }
+    requires black { (i : ℕ) → i < length bytes.old → slice_index bytes.old i ≡ 0 }
+    ensures { (i : ℕ) → i < length bytes.old → slice_index bytes.new i
+        ≡ drawn_at grid.now items.now i }
+{
+    let size = bytes_of_bands(grid);
+    for row in 0..grid.down {
+        let start = row * size;
+        let band = &mut bytes[start..start + size];
+        draw_band(alloc, items, rects, grid, row, band);
+    }
+}
+
 /// Draws all tiles, which are black, in as many threads as serve.
 pub fn draw_tiles(
     rt: &(impl Threads + Sync),
@@ -34,6 +70,9 @@ pub fn draw_tiles(
     ensures { (i : ℕ) → i < length bytes.old → slice_index bytes.new i
         ≡ drawn_at grid.now items.now i }
 {
+    if work_of(rects) <= LIGHT {
+        return draw_here(alloc, items, rects, grid, bytes);
+    }
     let size = bytes_of_bands(grid);
     par_chunks_mut_for_each(
         rt,

@@ -1,19 +1,43 @@
 ghost use Rattle.std.specs.Prelude.{◌≡◌, ◌+◌, ◌*◌, ◌<◌, ◌≤◌, ◌++◌, ℕ, List, [], ◌∷◌, IfOk, OnOk};
-ghost use Rattle.std.specs.Prelude.{length, slice_index};
+ghost use Rattle.std.specs.Prelude.{length, slice_index, take};
 ghost use Rattle.std.specs.List.{flat_map, range_with_len};
 ghost use Rattle.flat_render.specs.Pictures.{Shows, width_of, height_of, pixel_of};
 ghost use Rattle.flat_render.specs.Ppm.{header, row_bytes, ppm_bytes};
 
 use crate::grid::{run_start, size_of_tiles};
 use crate::picture::Picture;
+use crate::tile::TILE_SIDE;
 use flat_base::NoMemory;
 use std::alloc::Global;
 
-fn start(alloc: Global, w: u32, h: u32) -> Result<Vec<u8>, NoMemory>
+/// How many bytes the colours of a tile's row have at most.
+const COLOUR_BYTES: usize = 3 * TILE_SIDE;
+
+/// The text before the colours, with room behind it for so many bytes.
+fn start(alloc: Global, w: u32, h: u32, room: usize) -> Result<Vec<u8>, NoMemory>
     ensures { IfOk result (λ out. out.items ≡ header w h) }
 {
     let text = format!(in alloc; "P6\n{w} {h}\n255\n")?;
-    Ok(Vec::from_slice(alloc, text.as_bytes())?)
+    let mut out = Vec::with_capacity(alloc, room)?;
+    out.extend_from_slice(text.as_bytes())?;
+    Ok(out)
+}
+
+/// Puts the reds, greens and blues of so many pixels in turn at the front of a line. The
+/// others of its bytes play no part.
+fn interleave(reds: &[u8], greens: &[u8], blues: &[u8], count: usize, line: &mut [u8; COLOUR_BYTES])
+    requires few { count ≤ 64 }
+    requires reds { count ≤ length reds.now }
+    requires greens { count ≤ length greens.now }
+    requires blues { count ≤ length blues.now }
+    ensures { take (3 * count) line.new ≡ flat_map (λ i. slice_index reds.now i ∷ slice_index
+        greens.now i ∷ slice_index blues.now i ∷ []) (range_with_len 0 count) }
+{
+    for i in 0..count {
+        line[3 * i] = reds[i];
+        line[3 * i + 1] = greens[i];
+        line[3 * i + 2] = blues[i];
+    }
 }
 
 /// Appends the colours of so many pixels whose reds stand side by side, and their
@@ -25,20 +49,22 @@ fn push_run(
     size: usize,
     count: usize,
 ) -> Result<(), NoMemory>
-    requires { first + 2 * size + count ≤ length bytes.now }
+    requires few { count ≤ 64 }
+    requires there { first + 2 * size + count ≤ length bytes.now }
     ensures { OnOk result (out.new.items
         ≡ out.old.items ++ flat_map (λ i. slice_index bytes.now (first + i) ∷ slice_index bytes.now
         (first + size + i) ∷ slice_index bytes.now (first + 2 * size + i) ∷ []) (range_with_len 0
         count)) }
 {
-    for i in 0..count {
-        let colour = [
-            bytes[first + i],
-            bytes[first + size + i],
-            bytes[first + 2 * size + i],
-        ];
-        out.extend_from_slice(colour.as_slice())?;
-    }
+    let mut line = [0; COLOUR_BYTES];
+    interleave(
+        &bytes[first..],
+        &bytes[first + size..],
+        &bytes[first + 2 * size..],
+        count,
+        &mut line,
+    );
+    out.extend_from_slice(&line[..3 * count])?;
     Ok(())
 }
 
@@ -66,7 +92,8 @@ pub fn ppm_of(alloc: Global, picture: &Picture) -> Result<Vec<u8>, NoMemory>
     ensures shown { (w h : ℕ) (colour : ℕ → ℕ → List ℕ) → Shows picture.now w h colour →
         IfOk result (λ out. out.items ≡ ppm_bytes w h colour) }
 {
-    let mut out = start(alloc, picture.width(), picture.height())?;
+    let room = picture.bytes.len().saturating_add(64);
+    let mut out = start(alloc, picture.width(), picture.height(), room)?;
     for y in 0..picture.height() {
         push_row(&mut out, picture, y)?;
     }

@@ -46,7 +46,7 @@ fn columns_of(grid: &Grid, row: usize, r: Rect) -> Columns
 fn empties(alloc: Global, count: usize) -> Result<Vec<Vec<usize>>, NoMemory>
     ensures { IfOk result (λ lists. AreEmpty count lists.items) }
 {
-    let mut lists = Vec::new(alloc);
+    let mut lists = Vec::with_capacity(alloc, count)?;
     for _ in 0..count {
         lists.push(Vec::new(alloc))?;
     }
@@ -100,7 +100,7 @@ pub fn choose(
     requires { All (λ p. p < length items.now) places.now }
     ensures { IfOk result (λ seen. seen.items ≡ chosen items.now places.now) }
 {
-    let mut seen = Vec::new(alloc);
+    let mut seen = Vec::with_capacity(alloc, places.len())?;
     for place in places {
         seen.push(items[*place])?;
     }

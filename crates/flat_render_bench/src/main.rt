@@ -1,12 +1,13 @@
 //! Times the renderer: `flat_render_bench KIND COUNT WIDTH HEIGHT ROUNDS` draws a
 //! picture of 1920 by 1080 so many times, with so many items of those sides: opaque
 //! fills (kind 0), fills of alpha 128 (1), opaque images (2) or images at half
-//! opacity (3). It prints the sum of the reds in the middle.
+//! opacity (3); kind 4 is as 2, and makes the bytes of each picture too. It prints the
+//! sum of the reds in the middle, and of those lengths.
 #![tactic(auto)]
 
 use flat_base::{BufferNo, IntRect, Items, NoMemory, SessionNo};
 use flat_drawable::{are_drawable, full_rect};
-use flat_render::render;
+use flat_render::{ppm_of, render};
 use flat_scene::{BlendMode, DrawItem, ImageFlip, ItemList, Paint, SceneMatrix};
 use std::alloc::Global;
 use std::process::ExitCode;
@@ -97,6 +98,9 @@ fn draw(rt: &(impl Threads + Sync), alloc: Global, load: &Load) -> Result<u64, N
     for _round in 0..load.rounds {
         let picture = render(rt, alloc, &items, WIDTH, HEIGHT)?;
         sum = sum.wrapping_add(picture.pixel(WIDTH / 2, HEIGHT / 2)[0] as u64);
+        if load.kind > 3 {
+            sum = sum.wrapping_add(ppm_of(alloc, &picture)?.len() as u64);
+        }
     }
     Ok(sum)
 }
