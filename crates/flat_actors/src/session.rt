@@ -19,8 +19,8 @@ ghost use Rattle.flat_actors.specs.Sessions.{makes_entry, HasRun, IsSame, IsStag
 use crate::gate::{ASKS, Gate, LOOKS, ask};
 use crate::lent::Lent;
 use flat_base::{NoMemory, SessionNo, TryCopy};
-use flat_scene::{Body, Call, Cond, Line, Reply};
-use flat_stage::{SessionSeat, lines_are_read};
+use flat_scene::{Body, Call, Cond, Line};
+use flat_stage::{Edit, SessionSeat, lines_are_read};
 use std::sync::Wait;
 use std::thread;
 
@@ -111,7 +111,30 @@ fn pause<R: Wait, G: Gate>(lent: &Lent<R, G>, seat: &mut SessionSeat, number: u3
     }
 }
 
-/// Reads one line of the session. The gate hears of the entry, where one is made.
+/// Reads a line of the session that may make an entry. The gate hears of the entry.
+fn enter_line<R: Wait, G: Gate>(
+    lent: &Lent<R, G>,
+    seat: &mut SessionSeat,
+    number: u32,
+    text: Line,
+) -> Result<(), NoMemory>
+    requires own { seat.old.stage ≡ lent.now.stage.now }
+    requires unended { is_ended seat.old.mine ≡ false }
+    requires owned { is_played_line (setup_of seat.old.stage) seat.old.session text ≡ true }
+    requires room { HasRoom seat.old }
+    requires few { seat.old.refused + 1 < 2 ^ 32 }
+    ensures goes_on { GoesOn seat.old seat.new }
+    ensures kept { OnErr result (seat.new.mine ≡ seat.old.mine) }
+    ensures follows { (given : List (ℕ × Line)) → SeatHasRead given seat.old →
+        OnOk result (SeatHasRead (given ++ (number, text) ∷ []) seat.new) }
+{
+    pause(lent, seat, number, &text);
+    let reply = seat.call(lent.rt, lent.stage, number, text)?;
+    lent.gate.passed(seat.session().0, number, &reply);
+    Ok(())
+}
+
+/// Reads one line of the session. It waits only before a line that makes an entry.
 fn read_line<R: Wait, G: Gate>(
     lent: &Lent<R, G>,
     seat: &mut SessionSeat,
@@ -129,16 +152,10 @@ fn read_line<R: Wait, G: Gate>(
         OnOk result (SeatHasRead (given ++ (number, text.now) ∷ []) seat.new) }
 {
     let line = text.copy(lent.alloc)?;
-    if seat.is_closed() {
-        let _ = seat.call(lent.rt, lent.stage, number, line)?;
-        return Ok(());
+    match seat.edit(line)? {
+        Edit::Read(_) => Ok(()),
+        Edit::Unread(line) => enter_line(lent, seat, number, line),
     }
-    pause(lent, seat, number, text);
-    let reply = seat.call(lent.rt, lent.stage, number, line)?;
-    if makes_entry(text) || matches!(reply, Reply::Closed(..)) {
-        lent.gate.passed(seat.session().0, number, &reply);
-    }
-    Ok(())
 }
 
 /// Reads the session's line at a place of the script.

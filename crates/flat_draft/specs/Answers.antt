@@ -43,6 +43,11 @@ module _ (setup : Setup) (draft : Draft) (call : Call) (old new : DraftState) wh
   IsAnswer (Err Closed) = (old.closed ≡ true) × (new ≡ old)
   IsAnswer (Err Memory) = (old.closed ≡ false) × (misuse setup draft call ≡ None) × (takes_memory call ≡ true) × (new ≡ old)
 
+  -- The answer where a misuse leaves the draft as it was.
+  abbrev pub IsTried : Result Unit DraftFault → Type 0
+  IsTried (Err (Bad reason)) = (old.closed ≡ false) × (misuse setup draft call ≡ Some reason) × (new ≡ old)
+  IsTried other = IsAnswer other
+
   -- What the parts of an open draft make of a call. A refusal leaves them as they were.
   abbrev pub IsApplied : Result Unit GraphFault → Type 0
   IsApplied (Ok done) = (misuse setup draft call ≡ None) × StandsFor setup new (effect draft call) × (new.closed ≡ old.closed)

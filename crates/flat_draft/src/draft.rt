@@ -2,7 +2,8 @@ ghost use Rattle.std.specs.Prelude.{◌≡◌, ◌≢◌, ◌||◌, IsTrue, true
 ghost use Rattle.std.specs.Arc.{arc_value};
 ghost use Rattle.flat_scene.specs.declared.setup.Setup.{Setup};
 ghost use Rattle.flat_scene.specs.Draft as scene;
-ghost use Rattle.flat_draft.specs.Answers.{IsAnswer, IsApplied, IsReadied, IsTested, uses_an_end};
+ghost use Rattle.flat_draft.specs.Answers.{IsAnswer, IsApplied, IsReadied, IsTested, IsTried};
+ghost use Rattle.flat_draft.specs.Answers.{uses_an_end};
 ghost use Rattle.flat_draft.specs.Answers.{has_room_for, IsRefused, IsWatched, Presents};
 ghost use Rattle.flat_draft.specs.Kinds.{is_of_contents_alone, is_of_images, is_of_one_part};
 ghost use Rattle.flat_draft.specs.Stands.{StandsFor};
@@ -131,12 +132,28 @@ impl Draft {
         ensures ended { self.old.closed ≡ true → IsErrOf result Closed × (self.new ≡ self.old) }
         ensures room { has_room_for c.now self.old ≡ true → result ≢ Err DraftFault.Memory }
     {
+        match self.try_call(c) {
+            Ok(()) => Ok(()),
+            Err(DraftFault::Bad(reason)) => Err(self.close(reason)),
+            Err(DraftFault::Memory) => Err(DraftFault::Memory),
+            Err(DraftFault::Closed) => Err(DraftFault::Closed),
+        }
+    }
+
+    /// Makes a call as `call` does, but a misuse doesn't close the draft: it leaves it as
+    /// it was.
+    pub fn try_call(&mut self, c: &Call) -> Result<(), DraftFault>
+        ensures tried { (setup : Setup) (draft : scene.Draft) → StandsFor setup self.old draft →
+            IsTried setup draft c.now self.old self.new result }
+        ensures ended { self.old.closed ≡ true → IsErrOf result Closed × (self.new ≡ self.old) }
+        ensures room { has_room_for c.now self.old ≡ true → result ≢ Err DraftFault.Memory }
+    {
         if self.closed {
             return Err(DraftFault::Closed);
         }
         match self.apply(c) {
             Ok(()) => Ok(()),
-            Err(GraphFault::Bad(reason)) => Err(self.close(reason)),
+            Err(GraphFault::Bad(reason)) => Err(DraftFault::Bad(reason)),
             Err(GraphFault::Memory) => Err(DraftFault::Memory),
         }
     }

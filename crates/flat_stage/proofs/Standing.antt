@@ -219,7 +219,7 @@ module _ (setup : Setup) (history : List Entry) (number : ℕ) (reader : Reader)
 
 -- ---- an entry that couldn't be made
 
-all_but_one : (before : List Call) (call : Call) → take (length (before ++ call ∷ []) - 1) (before ++ call ∷ []) ≡ before
+pub all_but_one : (before : List Call) (call : Call) → take (length (before ++ call ∷ []) - 1) (before ++ call ∷ []) ≡ before
 all_but_one before call = grind (arith, common_steps)
 
 -- the calls that waited wait still

@@ -1,5 +1,5 @@
 -- How a session stands between two of its lines, and what a line does.
-use Rattle.std.specs.Prelude.{◌≡◌, ℕ, ◌+◌, ◌-◌, Bool, true, false, ◌&&◌, ◌⊎◌, List, [], ◌∷◌, ◌++◌, length, take, Option, Some, None, Ok, option_map, unwrap_or}
+use Rattle.std.specs.Prelude.{◌≡◌, ℕ, ◌+◌, ◌-◌, Bool, true, false, ◌&&◌, ◌⊎◌, List, [], ◌∷◌, ◌++◌, length, take, Option, Some, None, Ok, option_map, is_some, unwrap_or}
 use Rattle.std.specs.Arc.{arc_value}
 use Rattle.std.specs.List.{list_any, list_all}
 use Rattle.std.specs.Result.{result_ok}
@@ -29,6 +29,8 @@ use Rattle.flat_draft.specs.Stands.{StandsFor}
 use Rattle.flat_rules.specs.Owned.{is_private, is_played_call, is_played_condition}
 use Rattle.flat_stage.specs.declared.made.Made.{Made}
 use Rattle.flat_stage.specs.declared.made.Made.TheVariants as made
+use Rattle.flat_stage.specs.declared.reader.Edit.{Edit}
+use Rattle.flat_stage.specs.declared.reader.Edit.TheVariants.{Read, Unread}
 use Rattle.flat_stage.specs.declared.reader.Reader.{Reader}
 use Rattle.flat_stage.specs.Made.{kind_of, handed_over}
 
@@ -123,6 +125,13 @@ Leaves setup s draft text before pending after (Some made) = IsPrepared setup s 
 pub record Tells (setup : Setup) (s : SessionNo) (draft : Draft) (text : Line) (after : DraftState) (made : Option Made) : Type 0 where
   pub kind : option_map kind_of made ≡ entry_of_line setup draft text
   pub leaves : (waiting : List Call) → Leaves setup s draft text waiting (waiting ++ calls_of_line text) after made
+
+-- What came of a line that may make no entry. If it makes none, its call waits; else it comes back, and nothing changed.
+abbrev pub Edits : Setup → Draft → Line → Reader → Reader → Edit → Type 0
+Edits setup draft text old new (Read reply) =
+    (reply ≡ Done) × (new ≡ with_line text old new.draft) × Tells setup old.session draft text new.draft None
+Edits setup draft text old new (Unread line) =
+    (line ≡ text) × (new ≡ old) × (is_some (entry_of_line setup draft text) ≡ true)
 
 -- the view that a call makes, if it makes one
 abbrev pub view_made : Call → Option Made

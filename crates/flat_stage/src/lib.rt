@@ -18,7 +18,7 @@ mod stage;
 pub use compositor::{CompositorSeat, OpenFrame};
 pub use laws::lines_are_read;
 pub use made::Made;
-pub use reader::Reader;
+pub use reader::{Edit, Reader};
 pub use seats::SessionSeats;
 pub use session::SessionSeat;
 pub use stage::Stage;

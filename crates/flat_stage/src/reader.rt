@@ -1,6 +1,7 @@
 ghost use Rattle.std.specs.Prelude.{◌≡◌, ◌+◌, ◌-◌, ◌<◌, ◌≢◌, ◌^◌, [], ◌∷◌, ◌++◌, true, false};
-ghost use Rattle.std.specs.Prelude.{length, slice_get, Some, None, IfOk, IfErr, OnErr, IsTrue};
+ghost use Rattle.std.specs.Prelude.{length, slice_get, take, Some, None, IfOk, IfErr, OnErr, IsTrue};
 ghost use Rattle.std.specs.Prelude.{IfSome};
+ghost use Rattle.flat_base.specs.Last.{last_item};
 ghost use Rattle.flat_base.specs.declared.ids.Actor.TheVariants.{Session};
 ghost use Rattle.flat_scene.specs.declared.script.Line.TheVariants as line;
 ghost use Rattle.flat_scene.specs.declared.setup.Setup.{Setup};
@@ -17,18 +18,27 @@ ghost use Rattle.flat_scene.specs.Setups.{is_declared, is_setup};
 ghost use Rattle.flat_rules.specs.Owned.{is_played_line};
 ghost use Rattle.flat_stage.specs.Made.{kind_of, takes_memory};
 ghost use Rattle.flat_stage.specs.Reads.{HasDraft, IsNew, Stands, IsReady, Tells, Enters, Reads};
-ghost use Rattle.flat_stage.specs.Reads.{kept_calls, with_line, viewport_call, CanMake, IsMade};
+ghost use Rattle.flat_stage.specs.Reads.{kept_calls, with_line, viewport_call, CanMake, Edits, IsMade};
 
 use crate::judging::{asked, called, presented};
 use crate::made::Made;
 use flat_base::{NoMemory, SessionNo};
 use flat_content::content_laws;
 use flat_core::{Board, EventList};
-use flat_draft::{Draft, draft_laws};
+use flat_draft::{Draft, DraftFault, draft_laws};
 use flat_scene::{BufferList, Call, CallList, Line, Reply};
 use flat_states::replies::closes;
 use std::alloc::Global;
 use std::mem;
+
+/// What came of a line that may make no entry.
+#[derive(Drop)]
+pub enum Edit {
+    /// It was read, with this reply.
+    Read(Reply),
+    /// It makes an entry, so it comes back unread.
+    Unread(Line),
+}
 
 /// A session that reads its lines: what it has beside its entries.
 #[derive(Drop)]
@@ -158,6 +168,47 @@ impl Reader {
         }
     }
 
+    /// Reads a line that makes no entry: its call waits for the next entry. Any other
+    /// line comes back, and nothing changed.
+    pub fn edit(&mut self, text: Line) -> Result<Edit, NoMemory>
+        requires stands { HasDraft self.old.draft }
+        requires opened { self.old.draft.closed ≡ false }
+        ensures edits { (setup : Setup) (draft : scene.Draft) →
+            StandsFor setup self.old.draft draft → is_played_line setup self.old.session text
+            ≡ true → IfOk result (Edits setup draft text self.old self.new) }
+        ensures same { OnErr result (self.new ≡ self.old) }
+    {
+        match text {
+            Line::Call(call) => self.edit_call(call),
+            other => Ok(Edit::Unread(other)),
+        }
+    }
+
+    fn edit_call(&mut self, call: Call) -> Result<Edit, NoMemory>
+        requires stands { HasDraft self.old.draft }
+        requires opened { self.old.draft.closed ≡ false }
+        ensures edits { (setup : Setup) (draft : scene.Draft) →
+            StandsFor setup self.old.draft draft →
+            is_played_line setup self.old.session (line.Call call) ≡ true →
+            IfOk result (Edits setup draft (line.Call call) self.old self.new) }
+        ensures same { OnErr result (self.new ≡ self.old) }
+    {
+        if uses_an_end(&call) {
+            return Ok(Edit::Unread(Line::Call(call)));
+        }
+        self.pending.push(call)?;
+        let place = self.pending.len() - 1;
+        match self.draft.try_call(self.pending.at(place)) {
+            Ok(()) => Ok(Edit::Read(Reply::Done)),
+            Err(DraftFault::Bad(_)) => Ok(Edit::Unread(Line::Call(take_last(&mut self.pending)))),
+            Err(DraftFault::Memory) => {
+                let _ = self.pending.pop();
+                Err(NoMemory)
+            }
+            Err(DraftFault::Closed) => unreachable!(),
+        }
+    }
+
     /// Makes the entry that the session is about to make. If memory runs out, it can
     /// still be made, but for the call of a viewport, which doesn't wait any more.
     pub fn enter(&mut self, board: &mut Board, number: u32, made: Made) -> Result<Reply, NoMemory>
@@ -186,6 +237,25 @@ impl Reader {
                 Err(NoMemory)
             }
         }
+    }
+}
+
+/// Whether a call uses an end of a pair, so that it makes an entry.
+fn uses_an_end(call: &Call) -> bool
+    ensures { result ≡ uses_an_end call.now }
+{
+    matches!(call, Call::CreateView { .. } | Call::CreateViewport { .. })
+}
+
+/// Takes the last of the calls that wait.
+fn take_last(pending: &mut CallList) -> Call
+    requires { [] ≢ pending.old }
+    ensures last { last_item pending.old ≡ Some result }
+    ensures rest { pending.new ≡ take (length pending.old - 1) pending.old }
+{
+    match pending.pop() {
+        Some(call) => call,
+        None => unreachable!(),
     }
 }
 

@@ -6,7 +6,7 @@ ghost use Rattle.flat_core.specs.Machines.{MayLook};
 ghost use Rattle.flat_rules.specs.Legal.{value_of, Legal};
 ghost use Rattle.flat_stage.specs.Homes.{lock_seat};
 ghost use Rattle.flat_scene.specs.declared.script.Line.{Line};
-ghost use Rattle.flat_stage.specs.Readings.{Rise, SeatHasRead};
+ghost use Rattle.flat_stage.specs.Readings.{Rise, SeatEdits, SeatHasRead};
 ghost use Rattle.flat_rules.specs.Owned.{is_played_line};
 ghost use Rattle.flat_stage.specs.Made.{kind_of, takes_memory};
 ghost use Rattle.flat_stage.specs.Reads.{kept_calls, viewport_call, IsReady};
@@ -18,7 +18,7 @@ ghost use Rattle.flat_stage.specs.Seats.{AreAtOne, AreOne, GoesOn, HasRoom, Seat
 ghost use Rattle.flat_stage.specs.Seats.{SessionEnds, SessionEnters, SessionReads, SeesMore};
 
 use crate::made::Made;
-use crate::reader::Reader;
+use crate::reader::{Edit, Reader};
 use crate::shared::Shared;
 use crate::stage::Stage;
 use flat_base::{Actor, NoMemory, SessionNo};
@@ -109,6 +109,27 @@ impl SessionSeat {
             None => Ok(Reply::Done),
             Some(made) => enter(rt, stage, &mut self.seat, &mut self.reader, number, made),
         }
+    }
+
+    /// Reads a line that makes no entry, without waiting: a private call that is no
+    /// misuse, or any line of a closed session. Any other line comes back unread, for
+    /// `call`.
+    ///
+    /// If memory runs out, the line is dropped.
+    pub fn edit(&mut self, text: Line) -> Result<Edit, NoMemory>
+        requires unended { is_ended self.old.mine ≡ false }
+        requires owned { is_played_line (setup_of self.old.stage) self.old.session text ≡ true }
+        requires few { self.old.refused + 1 < 2 ^ 32 }
+        ensures edits { IfOk result (SeatEdits text self.old self.new) }
+        ensures kept { OnErr result (self.new ≡ self.old) }
+        ensures goes_on { GoesOn self.old self.new }
+    {
+        if self.reader.closed {
+            drop(text);
+            self.reader.refused += 1;
+            return Ok(Edit::Read(Reply::Closed(None, None)));
+        }
+        self.reader.edit(text)
     }
 
     /// Ends the session's entries; after that it reads no line. It may wait, and takes
