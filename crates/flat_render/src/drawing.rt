@@ -17,13 +17,14 @@ use rayon::prelude::*;
 use std::alloc::Global;
 use std::thread::Threads;
 
-/// So much work is done by the caller sooner than threads are started.
+/// The most work, in pixels, that the caller draws alone: for so little, starting threads
+/// costs more than it saves.
 const LIGHT: usize = 2_000_000;
 
-/// What an item is as work beside its pixels, in pixels.
+/// What an item costs beside its pixels, counted in pixels.
 const ITEM_WORK: usize = 512;
 
-/// What there is to draw, in pixels, about.
+/// How much work it is to draw items with these rectangles, in pixels.
 fn work_of(rects: &[Rect]) -> usize {
     let mut work: usize = 0;
     for rect in rects {
@@ -35,7 +36,7 @@ fn work_of(rects: &[Rect]) -> usize {
     work
 }
 
-/// Draws all tiles, which are black, one row of tiles after another.
+/// Draws all tiles, which are black, on the calling thread.
 fn draw_here(alloc: Global, items: &[DrawItem], rects: &[Rect], grid: &Grid, bytes: &mut [u8])
     requires items { All IsDrawable items.now }
     requires rects { rects.now ≡ rects_of items.now }

@@ -10,8 +10,11 @@ use crate::tile::TILE_SIDE;
 use flat_base::NoMemory;
 use std::alloc::Global;
 
-/// How many bytes the colours of a tile's row have at most.
+/// The most bytes that the colours of a row of a tile have.
 const COLOUR_BYTES: usize = 3 * TILE_SIDE;
+
+/// More bytes than stand before the colours.
+const HEAD_BYTES: usize = 64;
 
 /// The text before the colours, with room behind it for so many bytes.
 fn start(alloc: Global, w: u32, h: u32, room: usize) -> Result<Vec<u8>, NoMemory>
@@ -23,8 +26,7 @@ fn start(alloc: Global, w: u32, h: u32, room: usize) -> Result<Vec<u8>, NoMemory
     Ok(out)
 }
 
-/// Puts the reds, greens and blues of so many pixels in turn at the front of a line. The
-/// others of its bytes play no part.
+/// Writes the colours of the first `count` pixels to the front of a line, three bytes each.
 fn interleave(reds: &[u8], greens: &[u8], blues: &[u8], count: usize, line: &mut [u8; COLOUR_BYTES])
     requires few { count ≤ 64 }
     requires reds { count ≤ length reds.now }
@@ -92,7 +94,7 @@ pub fn ppm_of(alloc: Global, picture: &Picture) -> Result<Vec<u8>, NoMemory>
     ensures shown { (w h : ℕ) (colour : ℕ → ℕ → List ℕ) → Shows picture.now w h colour →
         IfOk result (λ out. out.items ≡ ppm_bytes w h colour) }
 {
-    let room = picture.bytes.len().saturating_add(64);
+    let room = picture.bytes.len().saturating_add(HEAD_BYTES);
     let mut out = start(alloc, picture.width(), picture.height(), room)?;
     for y in 0..picture.height() {
         push_row(&mut out, picture, y)?;
