@@ -1,0 +1,11 @@
+pub mod DisplayLines
+pub mod Examples
+pub mod Fitting
+pub mod LineCuts
+pub mod NoTitles
+pub mod Partings
+pub mod RunSteps
+pub mod Seats
+pub mod Shows
+pub mod ProbePlaces
+pub mod WholeRuns

@@ -1,0 +1,27 @@
+use Rattle.std.proofs.Common.{◌≡◌, ℕ, List, sym, ap, ◌∙◌}
+use Rattle.flat_judge.specs.Parting.{line_of, parts_from}
+use Rattle.flat_judge.proofs.Partings.{parts-none}
+use Rattle.flat_judge.proofs.judging.judge.Goals as goal
+
+pub returns-in-None : goal.returns-in-None
+returns-in-None c =
+    let legal = c.in_ok-written.ensures in
+    record {
+      sound = record {
+        run = legal.run;
+        is = parts-none 1 c.args.text.now c.in_ok-written.written.report (sym c.parts_at.ensures ∙ c.in-None.is) ∙ legal.is;
+        entries_are = legal.entries_are;
+        frames_are = legal.frames_are;
+      };
+    }
+
+pub returns : goal.returns
+returns c =
+    let legal = c.in_ok-written.ensures in
+    record {
+      sound = record {
+        run = legal.run;
+        parts = ap (λ (r : List ℕ). parts_from 1 c.args.text.now r) (sym legal.is) ∙ sym c.parts_at.ensures ∙ c.in-Some.is;
+        wants = c.in_ok-want-in-Some.ensures ∙ ap (λ (r : List ℕ). line_of c.in-Some.line r) legal.is;
+      };
+    }

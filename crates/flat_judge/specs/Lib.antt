@@ -1,0 +1,4 @@
+pub mod Cuts
+pub mod Parting
+pub mod GuidedRuns
+pub mod Verdicts

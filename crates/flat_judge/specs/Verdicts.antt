@@ -1,0 +1,42 @@
+-- What a judge says of a text: that it is the report of a run of the script, or the line in which it is wrong.
+use Rattle.std.specs.Prelude.{◌≡◌, ◌≤◌, ℕ, List, length, Option, Some}
+use Rattle.flat_scene.specs.declared.frames.Lost.{Lost}
+use Rattle.flat_scene.specs.declared.journal.Entry.{Entry}
+use Rattle.flat_rules.specs.Legal.{frames}
+use Rattle.flat_places.specs.declared.script.Script.{Script}
+use Rattle.flat_report.specs.Laws.{IsRun}
+use Rattle.flat_report.specs.Report.{report}
+use Rattle.flat_judge.specs.declared.judging.Verdict.{Verdict}
+use Rattle.flat_judge.specs.declared.judging.Verdict.TheVariants.{Legal, Wrong}
+use Rattle.flat_judge.specs.Parting.{line_of, parts_from}
+
+-- A run of a script: a legal history that interleaves its actors, the displays that were lost, and the frames
+-- that its probes saw.
+pub record Run (script : Script) : Type 0 where
+  pub history : List Entry
+  pub lost : List Lost
+  pub seen : List ℕ
+  pub is : IsRun script history lost seen
+
+-- its report
+abbrev pub report_of : (script : Script) → Run script → List ℕ
+report_of script run = report script run.history run.lost run.seen
+
+-- A text is the report of a run, which has so many entries and finished frames.
+pub record IsLegal (script : Script) (text : List ℕ) (entries finished : ℕ) : Type 0 where
+  pub run : Run script
+  pub is : text ≡ report_of script run
+  pub entries_are : entries ≡ length run.history
+  pub frames_are : finished ≡ frames run.history
+
+-- A text parts in this line from the report of some run, which has this line there; none, where its report ends before.
+pub record PartsAt (script : Script) (text : List ℕ) (line : ℕ) (want : Option (List ℕ)) : Type 0 where
+  pub run : Run script
+  pub parts : parts_from 1 text (report_of script run) ≡ Some line
+  pub wants : want ≡ line_of line (report_of script run)
+
+-- What is said of a text is sound: what is legal is the report of a run, and what is wrong parts from the report
+-- of a run in the line that is said. That no run has the text as its report is not claimed.
+abbrev pub IsSound : Script → List ℕ → Verdict → Type 0
+IsSound script text (Legal entries finished) = IsLegal script text entries finished
+IsSound script text (Wrong line want) = PartsAt script text line want

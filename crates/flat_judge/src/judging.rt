@@ -1,0 +1,120 @@
+//! A text is compared with the report of the run that follows its guide.
+ghost use Rattle.std.specs.Prelude.{◌≡◌, true, IfOk};
+ghost use Rattle.flat_playable.specs.Playable.{is_playable};
+ghost use Rattle.flat_judge.specs.GuidedRuns.{IsWhole};
+ghost use Rattle.flat_judge.specs.Verdicts.{IsLegal, IsSound};
+
+use crate::guide::Guide;
+use crate::guided_run::GuidedRun;
+use crate::losses::fitting;
+use crate::parting::{line_of, parts_at};
+use flat_base::{Items, NoMemory};
+use flat_places::Script;
+use flat_play::{Play, let_go};
+use flat_report::{Pieces, frames_are_seen, handed_is_report, print_report};
+use std::alloc::Global;
+
+/// What is said of a text.
+#[derive(Drop)]
+pub enum Verdict {
+    /// It is the report of a run with so many entries and finished frames.
+    Legal(usize, u32),
+    /// It is wrong in this line, counted from 1, where the report of a run has this one; none,
+    /// where that report ends before.
+    Wrong(u64, Option<Items<u8>>),
+}
+
+/// A report, and how many entries and frames its run has.
+#[derive(Drop)]
+struct Written {
+    report: Pieces,
+    entries: usize,
+    frames: u32,
+}
+
+/// The report of a run that followed a guide. Displays are lost as the guide says, as far as
+/// the run may lose them.
+fn report_of(
+    alloc: Global,
+    script: &Script,
+    guide: &Guide,
+    guided: GuidedRun,
+) -> Result<Written, NoMemory>
+    requires playable { is_playable script.now ≡ true }
+    requires whole { IsWhole script.now guided }
+    ensures { IfOk result
+        (λ written. IsLegal script.now written.report written.entries written.frames) }
+{
+    handed_is_report();
+    frames_are_seen();
+    let GuidedRun {
+        play,
+        seats: _,
+        place: _,
+        places: _,
+        answers: probes,
+    } = guided;
+    let Play {
+        board,
+        readers: _,
+        shown: _,
+        changed: _,
+        ratio: _,
+        with_view: _,
+        kept,
+        last,
+        answers,
+    } = play;
+    let frames = last.frame.0;
+    let entries = board.journal().entries.len();
+    let Ok(lost) = fitting(alloc, guide.losses.as_slice(), frames) else {
+        let_go(board);
+        return Err(NoMemory);
+    };
+    let report = print_report(
+        alloc,
+        script,
+        board.journal(),
+        kept.into_texts(),
+        lost.as_slice(),
+        &answers,
+        probes.as_slice(),
+    );
+    let_go(board);
+    Ok(Written {
+        report: report?,
+        entries,
+        frames,
+    })
+}
+
+/// The run that follows a guide, to its end.
+fn run_guided(alloc: Global, script: &Script, guide: &Guide) -> Result<GuidedRun, NoMemory>
+    requires { is_playable script.now ≡ true }
+    ensures { IfOk result (IsWhole script.now) }
+{
+    let mut guided = GuidedRun::new(alloc, script)?;
+    let Ok(()) = guided.follow(alloc, script, guide) else {
+        drop(guided);
+        return Err(NoMemory);
+    };
+    Ok(guided)
+}
+
+/// Judges a text: whether it is the report of a run of the script, and else in which line
+/// it parts from the report of a run, and what that report has there.
+pub fn judge(alloc: Global, script: &Script, text: &[u8]) -> Result<Verdict, NoMemory>
+    requires { is_playable script.now ≡ true }
+    ensures sound { IfOk result (IsSound script.now text.now) }
+{
+    let guide = Guide::read(alloc, script, text)?;
+    let guided = run_guided(alloc, script, &guide)?;
+    let written = report_of(alloc, script, &guide, guided)?;
+    match parts_at(text, &written.report) {
+        None => Ok(Verdict::Legal(written.entries, written.frames)),
+        Some(line) => {
+            let want = line_of(alloc, &written.report, line)?;
+            Ok(Verdict::Wrong(line, want))
+        }
+    }
+}

@@ -1,0 +1,5 @@
+//! Tests of what is said of a script with a report behind it.
+#![tactic(auto)]
+
+#[cfg(test)]
+mod reports;
