@@ -18,6 +18,10 @@ const CHILDREN: u32 = 32;
 /// How many frames it is shown in, moved before each.
 const FRAMES: u32 = 16;
 
+/// How many races are tried: on a busy machine the small session may not run while a frame
+/// is composed.
+const TRIES: u32 = 40;
+
 /// The lines before the first frame's: the head, the view, and three for each node.
 const LINES_BEFORE: u32 = 6 + 4 + 3 * NODES - 1;
 
@@ -118,12 +122,22 @@ impl Display for Counting {
     }
 }
 
-/// Whether a session presented between the done of a frame and its show, while the frame
-/// was composed.
+/// Whether in one of some races a session presented between the done of a frame and its
+/// show, while the frame was composed.
 pub fn presents_while_composed<T: Threads + Wait + Sync>(
     rt: &T,
     alloc: Global,
 ) -> Result<bool, NoMemory> {
+    for _ in 0..TRIES {
+        if presents_in_race(rt, alloc)? {
+            return Ok(true);
+        }
+    }
+    Ok(false)
+}
+
+/// The same of one race.
+fn presents_in_race<T: Threads + Wait + Sync>(rt: &T, alloc: Global) -> Result<bool, NoMemory> {
     let composing = Composing {
         asked: Count::new(),
         shown: Count::new(),
