@@ -2,7 +2,7 @@
 """Runs a program on the cases beside this file and compares its bytes and status.
 
 check.py PROGRAM [case ..] [--only GLOB] [--skip GLOB] [--stage LABEL] [--up-to LABEL]
-                           [--at LABEL] [--time SECONDS] [--list]
+                           [--at LABEL] [--time SECONDS] [--judge] [--list]
 
 A case is a folder with
   words            the command words on one line, or
@@ -23,6 +23,9 @@ A case is a folder with
                  on `until` and `stdout.from.L`; by default the stage of --up-to, else those
                  that the file `reached` beside this one names: the first word a stage with
                  all before it, and each word after it one stage more
+--judge          of each case of `play` or `race` with a report, has the program judge that report,
+                 and the same without the line in its middle: it must find the one legal, and
+                 the other wrong
 --list runs none, and prints for each case its stage, its name and what it shows. A case
 that is named is run whatever its stage. Standard error must stay empty.
 Large files are made by make_large.py first.
@@ -34,8 +37,11 @@ import sys
 
 STAGES = ["first_path", "graph", "contents", "presents", "links", "views_and_hits", "stress",
           "stage", "race", "flat_snapshots", "probes", "reuse", "hostile", "family",
-          "version_2", "version_3", "render", "damage", "focus", "pointer", "why"]
+          "version_2", "version_3", "render", "damage", "focus", "pointer", "why",
+          "film", "judge"]
 ROOT = os.path.dirname(os.path.abspath(__file__))
+# the status of `judge` for a wrong report
+WRONG = 8
 
 
 def stage_number(label):
@@ -84,15 +90,21 @@ def first_difference(want, got):
     return "no difference"
 
 
+def wanted(case, at):
+    """The bytes that a case expects at these stages, if it says all of them"""
+    want = read(case, "stdout")
+    for n in sorted(at):
+        newer = read(case, "stdout.from." + STAGES[n])
+        want = want if newer is None else newer
+    return want
+
+
 def run(program, case, at, limit):
     """None where the case passes, else what is wrong, on one line"""
     exact = read(case, "words.exact")
     words = (text(case, "words") or "").split() if exact is None else exact.split(b"\0")[:-1]
     stdin = read(case, "stdin")
-    want = read(case, "stdout")
-    for n in sorted(at):
-        newer = read(case, "stdout.from." + STAGES[n])
-        want = want if newer is None else newer
+    want = wanted(case, at)
     contains = read(case, "stdout.contains")
     if stdin is None or (want is None and contains is None):
         return "a file is missing; run make_large.py first"
@@ -123,11 +135,33 @@ def run(program, case, at, limit):
     return "; ".join(wrong) if wrong else None
 
 
+def misjudged(program, case, at, limit):
+    """What is wrong with what the program says of a case's report, or None"""
+    script, report = read(case, "stdin"), wanted(case, at)
+    script += b"" if script.endswith(b"\n") else b"\n"
+    lines = report.splitlines(keepends=True)
+    middle = len(lines) // 2
+    for part, status in ((lines, 0), (lines[:middle] + lines[middle + 1:], WRONG)):
+        text = script + b"".join(part)
+        try:
+            done = subprocess.run([program, "judge"], input=text, stdout=subprocess.PIPE, timeout=limit)
+        except subprocess.TimeoutExpired:
+            return "no verdict after %d seconds" % limit
+        if done.returncode != status:
+            what = "its report" if status == 0 else "its report without line %d" % (middle + 1)
+            return "judge says of %s: status %d, %s" % (what, done.returncode, show(done.stdout))
+    return None
+
+
+def has_report(case, at):
+    return text(case, "words") in ("play", "race") and text(case, "status") == "0" and wanted(case, at) is not None
+
+
 def main():
     args = sys.argv[1:]
     plain, only, skip, stages = [], [], [], []
     up_to = at = None
-    limit, listing = 120, False
+    limit, listing, judging = 120, False, False
     i = 0
     while i < len(args):
         a = args[i]
@@ -150,6 +184,8 @@ def main():
                 limit = int(v)
         elif a == "--list":
             listing = True
+        elif a == "--judge":
+            judging = True
         elif a.startswith("--"):
             sys.exit("unknown option %s\n\n%s" % (a, __doc__))
         else:
@@ -186,6 +222,8 @@ def main():
             print("%-14s %-52s %s" % (STAGES[n], c, " ".join((text(c, "note") or "").split())))
             continue
         wrong = run(program, c, at, limit)
+        if wrong is None and judging and has_report(c, at):
+            wrong = misjudged(program, c, at, limit)
         if wrong is None:
             passed += 1
         else:

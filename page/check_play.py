@@ -1,5 +1,6 @@
 #!/usr/bin/env python3
-"""Tries the script `play`: its statuses, its help, and what it says of faults and closes. page/check_play.py PLAY
+"""Tries the script `play`: its statuses, its help, what it says of faults and closes, and (check_play_files) names and
+streams that are odd. page/check_play.py PLAY
 
 It prints what is wrong, and the status is then 1.
 """
@@ -11,9 +12,11 @@ import sys
 import tempfile
 from typing import NamedTuple
 
+from check_play_files import FILE_USES, check_files
+
 ROOT = os.path.dirname(os.path.dirname(os.path.abspath(__file__)))
 SECONDS = 120
-WORDS = ("play", "race", "render", "damage", "focus", "pointer", "why")
+WORDS = ("play", "race", "render", "damage", "focus", "pointer", "why", "film")
 
 
 class Row(NamedTuple):
@@ -30,6 +33,11 @@ def case(name: str) -> str:
     return os.path.join(ROOT, "cases", name, "stdin")
 
 
+def report(name: str) -> str:
+    """The report of a case."""
+    return os.path.join(ROOT, "cases", name, "stdout")
+
+
 SHELL = case("shell_with_two_apps")
 ROWS = [
     Row(["--help"], 0, "usage: ./play FILE", ""),
@@ -44,6 +52,12 @@ ROWS = [
     Row([case("fault_bad_number")], 3, "script line 9 kind 7\n", "line 9, column 20: `x` is no number"),
     Row(["focus", case("fault_focus_on_no_session")], 3, "script line 6 kind 9\n", "no session is called `Z`"),
     Row(["render", case("picture_too_large")], 7, "picture too large", ""),
+    Row(["film", case("film_of_too_many_pixels")], 7, "picture too large", ""),
+    Row(["judge", SHELL, report("shell_with_two_apps")], 0, "legal entries 26 frames 3\n", ""),
+    Row(["judge", SHELL, report("one_fill_one_frame")], 8, "wrong line 2\nwant ", ""),
+    Row(["judge", SHELL], 64, "", "usage: ./play FILE"),
+    Row(["judge", SHELL, "/nowhere"], 66, "", "/nowhere can't be read"),
+    Row(["judge", case("fault_bad_number"), report("one_fill_one_frame")], 3, "script line 9 kind 7\n", "`x` is no number"),
     Row(["--explain", case("misuse_b17_cycle")], 0, "the path from the root is 1 › 1", ""),
     Row(["--explain", "race", case("misuse_b17_cycle")], 0, "B17 Cycle", ""),
     Row(["--explain", case("fault_bad_number")], 3, "`x` is no number", ""),
@@ -86,7 +100,8 @@ def check_others(play: str) -> list[str]:
     if piped.returncode != 3 or b"`x` is no number" not in piped.stderr:
         wrong.append("a fault in a text from a pipe gives status %d: %s" % (piped.returncode, piped.stderr.decode()))
     with tempfile.TemporaryDirectory() as room:
-        for option, name, begins in (("--page", "page.html", b"<!DOCTYPE html>"), ("--picture", "picture.png", b"\x89PNG")):
+        for option, name, begins in (("--page", "page.html", b"<!DOCTYPE html>"), ("--picture", "picture.png", b"\x89PNG"),
+                                     ("--film", "film.png", b"\x89PNG")):
             path = os.path.join(room, name)
             done = run(play, [option, path, SHELL])
             if done.returncode != 0 or not begins_with(path, begins):
@@ -100,7 +115,8 @@ def main() -> int:
     play = os.path.abspath(sys.argv[1])
     wrong = ["%s: %s" % (" ".join(row.words), what) for row in ROWS if (what := check_row(play, row)) is not None]
     wrong += check_others(play)
-    print("\n".join([*wrong, "play: %d uses, %d wrong" % (len(ROWS) + 4, len(wrong))]))
+    wrong += check_files(play)
+    print("\n".join([*wrong, "play: %d uses, %d wrong" % (len(ROWS) + 5 + FILE_USES, len(wrong))]))
     return 1 if wrong else 0
 
 

@@ -16,7 +16,7 @@ from word_texts import WordTexts
 
 ROOT = os.path.dirname(os.path.dirname(os.path.abspath(__file__)))
 CASES = os.path.join(ROOT, "cases")
-SCRIPT_WORDS = ("play", "race", "render", "damage", "focus", "pointer", "why")
+SCRIPT_WORDS = ("play", "race", "render", "damage", "focus", "pointer", "why", "film")
 HEAD = """flatland 2
 display 100 100
 session mail

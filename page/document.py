@@ -36,10 +36,13 @@ def write_page(path: str, title: str, main: dict[str, object], groups: list[str]
     code = "\n".join(view_file(name) for name in SCRIPTS)
     if "</script" in code.lower() or "</style" in top.lower().split("<style>")[1].split("</style>")[0]:
         raise ValueError("a file of the folder view would end its own block")
-    with open(path + ".new", "w", encoding="utf-8") as page:
+    # what isn't a file, such as a device, must not be replaced by one
+    is_replaced = os.path.isfile(path) or not os.path.exists(path)
+    with open(path + ".new" if is_replaced else path, "w", encoding="utf-8") as page:
         page.write(top)
         page.write(data_block("main", packed_json(main)))
         for number, group in enumerate(groups):
             page.write(data_block("items-%d" % number, group))
         page.write(bottom.replace("/* code */", code))
-    os.replace(page.name, path)
+    if is_replaced:
+        os.replace(page.name, path)

@@ -5,10 +5,13 @@ page/explain.py fault WORD FILE [LINE]   the fault of a text that the program re
                                          wrote, such as `script line 9 kind 7`
 page/explain.py closes PLAY WORD FILE    runs WORD, play or race, by PLAY (`./play`), and explains each close; the status
                                          is the run's
+
+The status is 5 if standard output can't be written, and 66 if the file can't be read.
 """
 from __future__ import annotations
 
 import io
+import os
 import sys
 import tempfile
 
@@ -16,7 +19,7 @@ from faults import Fault, explain, find_fault
 from history import History
 from line_reader import Finding
 from reasons import FAULT_KINDS
-from runs import ALL_EXTRA, FAULT, REFUSED, Runs, history_of
+from runs import ALL_EXTRA, FAULT, NOT_READ, NOT_WRITTEN, REFUSED, Runs, history_of
 from script import extra_numbers, lines_of, without_lines
 
 EXCERPT = 100  # how much of a long line is shown
@@ -93,9 +96,8 @@ def explain_closes_of(play: str, word: str, path: str) -> int:
     return status
 
 
-def main() -> int:
-    if isinstance(sys.stdout, io.TextIOWrapper):
-        sys.stdout.reconfigure(encoding="utf-8")
+def said() -> int:
+    """What the words after the script's name call for."""
     match sys.argv[1:]:
         case ["fault", word, path]:
             return explain_fault(word, path, "")
@@ -104,6 +106,23 @@ def main() -> int:
         case ["closes", play, ("play" | "race") as word, path]:
             return explain_closes_of(play, word, path)
     sys.exit(__doc__)
+
+
+def main() -> int:
+    if not isinstance(sys.stdout, io.TextIOWrapper):
+        return NOT_WRITTEN
+    sys.stdout.reconfigure(encoding="utf-8")
+    try:
+        status = said()
+        sys.stdout.flush()
+        return status
+    except OSError as wrong:
+        if wrong.filename is not None:
+            print(wrong, file=sys.stderr)
+            return NOT_READ
+        # so that Python doesn't write again when it ends
+        os.dup2(os.open(os.devnull, os.O_WRONLY), sys.stdout.fileno())
+        return NOT_WRITTEN
 
 
 if __name__ == "__main__":

@@ -18,6 +18,8 @@ from word_texts import WordTexts
 FAULT = re.compile(r"script line (\d+) kind (\d+)\n?")
 FAULT_MOST = 64  # more bytes than a fault's line has
 REFUSED = 3
+NOT_WRITTEN = 5
+NOT_READ = 66
 ALL_EXTRA = FOCUS_CALLS | POINTER_CALLS
 
 

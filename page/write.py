@@ -6,7 +6,7 @@ page/write.py [--report REPORT] [--why WHY] [--watch] OUT.html PLAY WORD FILE
 PLAY is the command that runs the program (`./play`), and WORD is play or race. The script is run without its extra
 lines. Of a play the page also has the damage, and the focus and pointer texts if the script has lines for them; of a
 race these are found from its report. The status is the run's. A text that is no script (status 3) has a page too,
-which shows the fault.
+which shows the fault. The status is 5 if the page can't be written, and 66 if the script can't be read.
 
 --report  a report that was written before is shown, and nothing is run
 --why     the text of the word `why` for that report
@@ -21,7 +21,7 @@ import tempfile
 
 from document import write_page
 from page_data import page_json
-from runs import Recorded, Runs, PageContent, content_of_run
+from runs import NOT_READ, NOT_WRITTEN, Recorded, Runs, PageContent, content_of_run
 from watch import follow
 
 
@@ -60,7 +60,8 @@ def main() -> int:
             return follow(given.file, given.out, lambda stamp: write_run(given, stamp))
         return write_run(given, None)
     except OSError as wrong:
-        sys.exit("no page is written: %s" % wrong)
+        print("no page is written: %s" % wrong, file=sys.stderr)
+        return NOT_READ if wrong.filename == given.file else NOT_WRITTEN
 
 
 if __name__ == "__main__":
