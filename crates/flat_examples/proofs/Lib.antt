@@ -1,0 +1,11 @@
+pub mod Ends
+pub mod Families
+pub mod Insets
+pub mod MoreReasons
+pub mod Presents
+pub mod ReasonRows
+pub mod Readings
+pub mod RefusedEntries
+pub mod Scenes
+pub mod Setups
+pub mod Turns

@@ -1,0 +1,4 @@
+pub mod Misread
+pub mod Reasons
+pub mod Refused
+pub mod Words

@@ -1,0 +1,32 @@
+//! What is over stays over (specs/Ends).
+ghost use Rattle.flat_laws.specs.Ends.{LostViewsStayLost, LostViewportsStayLost, GoneStaysGone};
+ghost use Rattle.flat_laws.specs.Ends.{GoneIsTheLastAnswer, ClosedStaysClosed};
+ghost use Rattle.flat_laws.specs.Ends.{ViewEndsAreUsedOnce, ThreeKindsPostEvents, ClosedHearNothing};
+
+/// An end that is lost stays lost, a session that is closed stays closed, and gone is the
+/// last answer of a watcher.
+///
+/// The call does nothing. Its contract is a law about the definitions.
+pub fn what_is_over_stays_over()
+    ensures views { LostViewsStayLost }
+    ensures viewports { LostViewportsStayLost }
+    ensures sessions { ClosedStaysClosed }
+    ensures gone { GoneStaysGone }
+    ensures last { GoneIsTheLastAnswer }
+{}
+
+/// Each view end is used at most once.
+///
+/// The call does nothing. Its contract is a law about the definitions.
+pub fn view_ends_are_used_once()
+    ensures { ViewEndsAreUsedOnce }
+{}
+
+/// Events are posted by the begins and ends of frames and by each CreateViewport that was
+/// done, and never to a session that closed.
+///
+/// The call does nothing. Its contract is a law about the definitions.
+pub fn events_have_three_sources()
+    ensures three { ThreeKindsPostEvents }
+    ensures closed { ClosedHearNothing }
+{}
