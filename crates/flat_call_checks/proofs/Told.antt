@@ -3,7 +3,7 @@ use Rattle.std.proofs.Common.{◌≡◌, ◌==◌, ℕ, Bool, true, false, List,
 use Rattle.flat_io.specs.Told.{Appends}
 use Rattle.flat_scene.specs.declared.frames.FrameOut.{FrameOut}
 use Rattle.flat_words.specs.declared.form.Form.{Form}
-use Rattle.flat_words.specs.declared.form.Form.TheVariants.{Play, Race, Stress, Render, Damage, Focus, Pointer, Why}
+use Rattle.flat_words.specs.declared.form.Form.TheVariants.{Play, Race, Stress, Render, Damage, Focus, Pointer, Judge, Why, Film}
 use Rattle.flat_words.specs.Forms.{CallFor, words_of}
 use Rattle.flat_run.specs.Promise.{AreTextOf, IsAnswer, IsWhole, Tells}
 
@@ -23,13 +23,17 @@ play_alone Render same = absurd (let wrong : true ≡ false = ap (λ ws. second 
 play_alone Damage same = absurd (let wrong : true ≡ false = ap (λ ws. second ws == 108) same in cc)
 play_alone Focus same = absurd (let wrong : true ≡ false = ap (λ ws. second ws == 108) same in cc)
 play_alone Pointer same = absurd (let wrong : true ≡ false = ap (λ ws. second ws == 108) same in cc)
+play_alone Judge same = absurd (let wrong : true ≡ false = ap (λ ws. second ws == 108) same in cc)
 play_alone Why same = absurd (let wrong : true ≡ false = ap (λ ws. second ws == 108) same in cc)
+play_alone Film same = absurd (let wrong : true ≡ false = ap (λ ws. second ws == 108) same in cc)
 
 module _ {D : Type 0} (shown : D → Option (List FrameOut)) (faults : D → ℕ) (olds news : List D) (bytes after : List ℕ) where
   answer_told : (words : List (List ℕ)) → words ≡ words_of Play → (status : ℕ) → status ≡ 0 → (text : List ℕ) → IsAnswer shown faults olds news words (Some bytes) (Some after) status text → Tells Play bytes text
   answer_told words play status is_0 text (IsAnswer.usage nothing same) = absurd (omega (arith, is_0))
   answer_told words play status is_0 text (IsAnswer.refusal form calls read refused same) = absurd (omega (arith, is_0))
-  answer_told words play status is_0 text (IsAnswer.too_large read calls all large same) = absurd (omega (arith, is_0))
+  answer_told words play status is_0 text (IsAnswer.too_large form read calls all large same) = absurd (omega (arith, is_0))
+  answer_told words play status is_0 text (IsAnswer.judged read calls all is same) =
+      absurd (let wrong : Judge ≡ Play = play_alone Judge (sym play ∙ calls.0) in cc)
   answer_told words play status is_0 text (IsAnswer.told form read calls of told) =
       let is : form ≡ Play = play_alone form (sym play ∙ calls.0) in
       let all : AreTextOf Play (Some bytes) (Some after) read = subst (λ (f : Form). AreTextOf f (Some bytes) (Some after) read) is of in

@@ -1,5 +1,5 @@
-//! Tests of `flatland`: races under gates, and plays where what is around them fails; and
-//! of its displays and its command words.
+//! Tests of `flatland`: races under gates, and plays where what is around them fails; of
+//! its displays and its command words; and of the judge.
 #![tactic(auto)]
 
 #[cfg(test)]
@@ -10,6 +10,8 @@ mod gates;
 mod orders;
 #[cfg(test)]
 mod outside;
+#[cfg(test)]
+mod reports;
 #[cfg(test)]
 mod source;
 #[cfg(test)]

@@ -1,11 +1,14 @@
 use flat_words::{Form, read};
 use std::test::Fail;
 
-const CALLS: [(&[&str], Option<Form>); 25] = [
+const CALLS: [(&[&str], Option<Form>); 28] = [
     (&["play"], Some(Form::Play)),
     (&["race"], Some(Form::Race)),
+    (&["judge"], Some(Form::Judge)),
     (&["stress", "1"], Some(Form::Stress(1))),
     (&["stress", "500"], Some(Form::Stress(500))),
+    (&["film"], Some(Form::Film)),
+    (&["film", "film"], None),
     (&[], None),
     (&[""], None),
     (&["-h"], None),

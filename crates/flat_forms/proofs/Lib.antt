@@ -1,4 +1,5 @@
 mod Times
+mod AheadLemmas
 pub mod DeclareLemmas
 pub mod Naming
 pub mod lemmas

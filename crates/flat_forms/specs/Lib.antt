@@ -5,3 +5,4 @@ pub mod Lists
 pub mod Steps
 pub mod Lines
 pub mod Progress
+pub mod Ahead

@@ -1,4 +1,4 @@
-ghost use Rattle.std.specs.Prelude.{◌≡◌, ◌<◌, ◌≤◌, length, find};
+ghost use Rattle.std.specs.Prelude.{◌≡◌, ◌<◌, ◌≤◌, ◌∷◌, [], length, find};
 ghost use Rattle.std.specs.Str.{bytes_eq};
 ghost use Rattle.flat_forms.specs.Calls.{call_named, call_written, text};
 
@@ -103,33 +103,27 @@ fn short_call_named(word: &[u8]) -> Option<CallName>
     ensures { result ≡ call_written word.now }
 {
     match word.len() {
-        5 => one_of(word, &[CallName::Clear]),
-        8 => one_of(word, &[CallName::SetScale, CallName::AddChild]),
-        10 => one_of(
+        5 => lone(word, CallName::Clear),
+        8 => of_two(word, CallName::SetScale, CallName::AddChild),
+        10 => of_three(
             word,
-            &[
-                CallName::CreateView,
-                CallName::SetOpacity,
-                CallName::SetContent,
-            ],
+            CallName::CreateView,
+            CallName::SetOpacity,
+            CallName::SetContent,
         ),
-        11 => one_of(
+        11 => of_three(
             word,
-            &[
-                CallName::ReleaseView,
-                CallName::RemoveChild,
-                CallName::CreateImage,
-            ],
+            CallName::ReleaseView,
+            CallName::RemoveChild,
+            CallName::CreateImage,
         ),
-        12 => one_of(
+        12 => of_three(
             word,
-            &[
-                CallName::SetImageFlip,
-                CallName::ReleaseImage,
-                CallName::SetSolidFill,
-            ],
+            CallName::SetImageFlip,
+            CallName::ReleaseImage,
+            CallName::SetSolidFill,
         ),
-        13 => one_of(word, &[CallName::SetHitRegions]),
+        13 => lone(word, CallName::SetHitRegions),
         _ => None,
     }
 }
@@ -140,13 +134,11 @@ fn long_call_named(word: &[u8]) -> Option<CallName>
     ensures { result ≡ call_written word.now }
 {
     match word.len() {
-        14 => one_of(
+        14 => of_three(
             word,
-            &[
-                CallName::SetTranslation,
-                CallName::SetOrientation,
-                CallName::CreateViewport,
-            ],
+            CallName::SetTranslation,
+            CallName::SetOrientation,
+            CallName::CreateViewport,
         ),
         15 => one_of(
             word,
@@ -158,27 +150,54 @@ fn long_call_named(word: &[u8]) -> Option<CallName>
                 CallName::SetImageOpacity,
             ],
         ),
-        16 => one_of(
+        16 => of_three(
             word,
-            &[
-                CallName::ReleaseTransform,
-                CallName::SetRootTransform,
-                CallName::CreateFilledRect,
-            ],
+            CallName::ReleaseTransform,
+            CallName::SetRootTransform,
+            CallName::CreateFilledRect,
         ),
-        17 => one_of(word, &[CallName::ReleaseFilledRect]),
-        20 => one_of(
+        17 => lone(word, CallName::ReleaseFilledRect),
+        20 => of_two(
             word,
-            &[
-                CallName::SetImageSampleRegion,
-                CallName::SetInfiniteHitRegion,
-            ],
+            CallName::SetImageSampleRegion,
+            CallName::SetInfiniteHitRegion,
         ),
-        21 => one_of(word, &[CallName::SetViewportProperties]),
-        23 => one_of(word, &[CallName::SetImageDestinationSize]),
-        24 => one_of(word, &[CallName::SetImageBlendingFunction]),
+        21 => lone(word, CallName::SetViewportProperties),
+        23 => lone(word, CallName::SetImageDestinationSize),
+        24 => lone(word, CallName::SetImageBlendingFunction),
         _ => None,
     }
+}
+
+/// The call, where the word names it.
+fn lone(word: &[u8], name: CallName) -> Option<CallName>
+    ensures { result ≡ find (λ n. bytes_eq word.now (text n)) (name ∷ []) }
+{
+    if is_word(word, name.text()) {
+        Some(name)
+    } else {
+        None
+    }
+}
+
+/// The one of two calls that the word names.
+fn of_two(word: &[u8], first: CallName, other: CallName) -> Option<CallName>
+    ensures { result ≡ find (λ n. bytes_eq word.now (text n)) (first ∷ other ∷ []) }
+{
+    if is_word(word, first.text()) {
+        return Some(first);
+    }
+    lone(word, other)
+}
+
+/// The one of three calls that the word names.
+fn of_three(word: &[u8], first: CallName, second: CallName, third: CallName) -> Option<CallName>
+    ensures { result ≡ find (λ n. bytes_eq word.now (text n)) (first ∷ second ∷ third ∷ []) }
+{
+    if is_word(word, first.text()) {
+        return Some(first);
+    }
+    of_two(word, second, third)
 }
 
 /// The one of these calls that the word names.

@@ -1,6 +1,6 @@
 ghost use Rattle.std.specs.Prelude.{◌≡◌, ◌++◌, ◌∷◌, [], OnOk, Some, List, ℕ, cond, true};
 ghost use Rattle.std.specs.Str.{bytes_eq};
-ghost use Rattle.flat_places.specs.Index.{OnlyNames, meaning_at};
+ghost use Rattle.flat_places.specs.Index.{IsCache, meaning_at};
 ghost use Rattle.flat_places.specs.Names.{is_name};
 ghost use Rattle.flat_forms.specs.Head.{empty};
 
@@ -37,19 +37,18 @@ pub fn empty(alloc: Global) -> Script
 
 /// Puts the name at the end of its list, and gives it its meaning.
 pub fn add_name(
-    alloc: Global,
     list: &mut NameList,
     names: &mut Names,
     name: &[u8],
     meaning: Meaning,
 ) -> Result<(), NoMemory>
-    requires only { OnlyNames names.old }
+    requires cache { IsCache names.old }
     requires name { is_name name.now ≡ true }
     ensures list { OnOk result (list.new ≡ list.old ++ name.now ∷ []) }
     ensures found { OnOk result ((w : List ℕ) → meaning_at names.new w
         ≡ cond (bytes_eq w name.now) (Some meaning) (meaning_at names.old w)) }
-    ensures only { OnOk result (OnlyNames names.new) }
+    ensures cache { OnOk result (IsCache names.new) }
 {
     list.push(Name::new(name))?;
-    names.declare(alloc, name, meaning)
+    names.declare(name, meaning)
 }

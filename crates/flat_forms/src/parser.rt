@@ -89,7 +89,7 @@ impl Parser {
         Ok(())
     }
 
-    fn session(&mut self, alloc: Global, words: Option<&[u8]>) -> Result<(), LineError>
+    fn session(&mut self, words: Option<&[u8]>) -> Result<(), LineError>
         requires { Kept self.old }
         ensures steps { Steps result (session_line self.old.text.script
             (pieces_left is_space words.entry)) self.new.text.script }
@@ -100,7 +100,6 @@ impl Parser {
         let name = forms::lone_name(&self.text, number < SESSIONS_MAX, words)?;
         self.text.script.setup.sessions += 1;
         add_name(
-            alloc,
             &mut self.text.script.sessions,
             &mut self.text.names,
             name,
@@ -109,7 +108,7 @@ impl Parser {
         Ok(())
     }
 
-    fn probe(&mut self, alloc: Global, words: Option<&[u8]>) -> Result<(), LineError>
+    fn probe(&mut self, words: Option<&[u8]>) -> Result<(), LineError>
         requires { Kept self.old }
         ensures steps { Steps result (probe_line self.old.text.script
             (pieces_left is_space words.entry)) self.new.text.script }
@@ -120,7 +119,6 @@ impl Parser {
         let name = forms::lone_name(&self.text, number < PROBES_MAX, words)?;
         self.text.script.setup.probes += 1;
         add_name(
-            alloc,
             &mut self.text.script.probes,
             &mut self.text.names,
             name,
@@ -129,7 +127,7 @@ impl Parser {
         Ok(())
     }
 
-    fn buffers(&mut self, alloc: Global, words: Option<&[u8]>) -> Result<(), LineError>
+    fn buffers(&mut self, words: Option<&[u8]>) -> Result<(), LineError>
         requires { Kept self.old }
         ensures steps { Steps result (buffers_line self.old.text.script
             (pieces_left is_space words.entry)) self.new.text.script }
@@ -140,7 +138,6 @@ impl Parser {
         let (name, decl) = forms::buffers(&self.text, number < BUFFER_COLLECTIONS_MAX, words)?;
         self.text.script.setup.buffers.push(decl)?;
         add_name(
-            alloc,
             &mut self.text.script.buffers,
             &mut self.text.names,
             name,
@@ -149,7 +146,7 @@ impl Parser {
         Ok(())
     }
 
-    fn pair(&mut self, alloc: Global, words: Option<&[u8]>) -> Result<(), LineError>
+    fn pair(&mut self, words: Option<&[u8]>) -> Result<(), LineError>
         requires { Kept self.old }
         ensures steps { Steps result (pair_line self.old.text.script
             (pieces_left is_space words.entry)) self.new.text.script }
@@ -161,7 +158,6 @@ impl Parser {
         self.paired = or_display(self.paired, decl.viewport);
         self.text.script.setup.pairs.push(decl)?;
         add_name(
-            alloc,
             &mut self.text.script.pairs,
             &mut self.text.names,
             name,
@@ -181,7 +177,6 @@ impl Parser {
         let (name, decl) = forms::fence(alloc, &self.text, number < FENCES_MAX, words)?;
         self.text.script.setup.fences.push(decl)?;
         add_name(
-            alloc,
             &mut self.text.script.fences,
             &mut self.text.names,
             name,
@@ -202,16 +197,16 @@ impl Parser {
             return self.display(rest);
         }
         if is_word(word, "session") {
-            return self.session(alloc, rest);
+            return self.session(rest);
         }
         if is_word(word, "probe") {
-            return self.probe(alloc, rest);
+            return self.probe(rest);
         }
         if is_word(word, "buffers") {
-            return self.buffers(alloc, rest);
+            return self.buffers(rest);
         }
         if is_word(word, "pair") {
-            return self.pair(alloc, rest);
+            return self.pair(rest);
         }
         if is_word(word, "fence") {
             return self.fence(alloc, rest);
@@ -254,7 +249,7 @@ impl Parser {
     }
 
     /// Whether the actor may have one more line.
-    fn has_room(&self, actor: Actor) -> bool
+    pub(crate) fn has_room(&self, actor: Actor) -> bool
         requires kept { Kept self.now }
         requires counted { IsCounted actor }
         ensures { result ≡ nat_lt (lines_of_actor self.now.text.script actor) LINES_PER_ACTOR_MAX }
@@ -263,7 +258,7 @@ impl Parser {
     }
 
     /// Puts the line at the script's end.
-    fn take(&mut self, number: u32, actor: Actor, body: Body) -> Result<(), LineError>
+    pub(crate) fn take(&mut self, number: u32, actor: Actor, body: Body) -> Result<(), LineError>
         requires kept { Kept self.old }
         requires counted { IsCounted actor }
         requires room { lines_of_actor self.old.text.script actor < LINES_PER_ACTOR_MAX }

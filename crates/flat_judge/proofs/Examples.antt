@@ -1,7 +1,12 @@
--- Small texts, computed: where they part, which line is which, and where a report begins.
+-- Small texts, computed: where they part, which line is which, where a report begins, and what it says of probes.
 use Rattle.std.proofs.Common.{◌≡◌, ℕ, List, [], ◌∷◌, ◌++◌, true, false, Some, None, inl, inr, refl}
 use Rattle.std.specs.Prelude.{codes}
 use Rattle.flat_judge.specs.Cuts.{IsCut, is_title}
+use Rattle.flat_text.specs.Pieces.{words_of}
+use Rattle.flat_places.specs.declared.script.Script.{Script}
+use Rattle.flat_forms.specs.Head.{empty}
+use Rattle.flat_judge.specs.Heeding.{is_reached}
+use Rattle.flat_judge.specs.Hints.{frame_told, last_lines, probe_by}
 use Rattle.flat_judge.specs.Parting.{line_of, parts_from}
 
 -- ---- where two texts part
@@ -60,3 +65,34 @@ cut_at_the_end = record { whole = refl; lines = refl; none = refl; titled = inl 
 -- no cut within a line
 not_within_a_line : IsCut (codes "x" ++ report_part) (codes "x") report_part → ⊥
 not_within_a_line cut = let wrong = cut.lines in cc
+
+-- ---- what a report says of probes
+
+the_frame_of_a_hit : frame_told (words_of (codes "P 9 hit 10 20 frame 2 A 0")) ≡ 2
+the_frame_of_a_hit = refl
+
+the_frame_of_an_await : frame_told (words_of (codes "P 9 await frame 7")) ≡ 7
+the_frame_of_an_await = refl
+
+-- no number, or a greater one than any frame has
+no_frame : frame_told (words_of (codes "P 9 await frame x")) ≡ 0
+no_frame = refl
+
+no_frame_of_more_bits : frame_told (words_of (codes "P 9 await frame 4294967296")) ≡ 0
+no_frame_of_more_bits = refl
+
+the_last_two_lines : last_lines 2 (codes "A end 0" ++ 10 ∷ codes "P 9 await frame 7" ++ 10 ∷ codes "report ends" ++ 10 ∷ []) ≡ codes "P 9 await frame 7" ∷ codes "report ends" ∷ []
+the_last_two_lines = refl
+
+abbrev asked_script : Script
+asked_script = record empty { probes = codes "P" ∷ codes "view" ∷ [] }
+
+the_first_probe : probe_by asked_script (Some (codes "P")) (Some (codes "9")) ≡ Some 0
+the_first_probe = refl
+
+-- a line of a view names a session in the second place
+not_of_a_probe_named_view : probe_by asked_script (Some (codes "view")) (Some (codes "A")) ≡ None
+not_of_a_probe_named_view = refl
+
+a_line_waits_for_its_frame : is_reached (Some 2) 1 ≡ false
+a_line_waits_for_its_frame = refl

@@ -7,7 +7,7 @@ use Rattle.flat_rules.specs.Legal.{frames}
 use Rattle.flat_report.specs.Report.{is_loss, is_lost_before}
 use Rattle.flat_base.proofs.lemmas.Tests.{and-left, and-right, and-true, all-more}
 
-abbrev goes_before : Lost → Lost → Bool
+abbrev pub goes_before : Lost → Lost → Bool
 goes_before a b = is_lost_before a b && not (b.display == a.display)
 
 pub loss-more : (history : List Entry) (lost : List Lost) (next : Lost) → nat_lt 0 next.frame.0 ≡ true → nat_le next.frame.0 (frames history) ≡ true → list_all (λ one. is_lost_before one next && not (next.display == one.display)) lost ≡ true

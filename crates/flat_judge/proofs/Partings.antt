@@ -1,6 +1,8 @@
 -- Two texts, byte by byte.
-use Rattle.std.proofs.Common.{◌≡◌, ℕ, zero, suc, ◌+◌, ◌<◌, ◌≤◌, ◌==◌, Bool, true, false, cond, List, [], ◌∷◌, ◌++◌, length, get_or, drop, refl, sym, ap, ◌∙◌, arith, Option, Some, None}
+use Rattle.std.proofs.Common.{◌≡◌, ℕ, zero, suc, ◌+◌, ◌<◌, ◌≤◌, ◌==◌, Bool, true, false, cond, List, [], ◌∷◌, ◌++◌, length, get_or, take, drop, refl, sym, ap, ◌∙◌, arith, append_assoc, Option, Some, None}
 use Rattle.std.proofs.Math.Seq.{drop-cons}
+use Rattle.std.proofs.lemmas.List.{append-nil}
+use Rattle.std.specs.List.{concat}
 use Rattle.std.proofs.lemmas.Bool.{eq-eqb, eqb-true}
 use Rattle.flat_judge.specs.Parting.{parts_from}
 
@@ -57,3 +59,9 @@ all-past [] zero upto = refl
 all-past [] (suc i) upto = refl
 all-past (x ∷ xs) zero upto = absurd (omega (arith, upto))
 all-past (x ∷ xs) (suc i) upto = all-past xs i (omega (arith, upto))
+
+-- the pieces up to one more of them, one behind the other
+pub concat-next : (pieces : List (List ℕ)) (k : ℕ) (d : List ℕ) → k < length pieces → concat (take (suc k) pieces) ≡ concat (take k pieces) ++ get_or pieces k d
+concat-next [] k d inside = absurd (omega (arith, inside))
+concat-next (p ∷ pieces) zero d inside = append-nil p
+concat-next (p ∷ pieces) (suc k) d inside = ap (λ (t : List ℕ). p ++ t) (concat-next pieces k d (omega (arith, inside))) ∙ sym (append_assoc p (concat (take k pieces)) (get_or pieces k d))

@@ -30,7 +30,7 @@ use Rattle.flat_stage.specs.declared.reader.Reader.{Reader}
 use Rattle.flat_stage.specs.Readings.{EndsAreRead, HasRead, NoneIsRead, OneMoreIsRead, Rise}
 use Rattle.flat_stage.specs.Reads.{IsNew, Reads, Stands}
 use Rattle.flat_play.specs.Playing.{ReaderStands, lines_by, session_text, shares_of}
-use Rattle.flat_play.proofs.Growing.{Grows, is_quiet}
+use Rattle.flat_play.proofs.lemmas.Growing.{Grows, is_quiet}
 use Rattle.flat_play.proofs.lemmas.Places.{Here, counted, few_lines, rises}
 use Rattle.flat_base.proofs.lemmas.Tests.{all-at}
 use Rattle.flat_play.proofs.lemmas.PlaySteps.{below_declared, has_room, not_same}

@@ -7,7 +7,7 @@ use Rattle.flat_places.specs.declared.script.Script.{Script}
 use Rattle.flat_script.specs.Grammar.{IsScript, IsFault}
 use Rattle.flat_judge.specs.declared.cutting.Judged.{Judged}
 use Rattle.flat_judge.specs.declared.cutting.Judged.TheVariants.{Said, Refused}
-use Rattle.flat_judge.specs.Verdicts.{IsSound}
+use Rattle.flat_judge.specs.Verdicts.{IsVerdict}
 
 -- a line that begins a report
 abbrev pub is_title : List ℕ → Bool
@@ -29,7 +29,7 @@ ScriptsHaveNoTitle =
 
 -- What is said of a text that is cut so: its first part is a script, of which the rest is judged; or it has this fault.
 abbrev pub SaysSo : List ℕ → List ℕ → Judged → Type 0
-SaysSo first rest (Said verdict) = (script : Script) × IsScript first script × IsSound script rest verdict
+SaysSo first rest (Said verdict) = (script : Script) × IsScript first script × IsVerdict script rest verdict
 SaysSo first rest (Refused fault) = IsFault first fault
 
 pub record IsSaid (text : List ℕ) (judged : Judged) : Type 0 where

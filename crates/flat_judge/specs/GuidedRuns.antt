@@ -1,5 +1,5 @@
 -- How a run stands while it follows a guide: each actor at its own place of the script.
-use Rattle.std.specs.Prelude.{◌≡◌, ◌≢◌, ℕ, ◌+◌, ◌<◌, ◌≤◌, ◌==◌, Bool, true, false, List, [], length, take, drop}
+use Rattle.std.specs.Prelude.{◌≡◌, ◌≢◌, ℕ, ◌+◌, ◌<◌, ◌≤◌, ◌==◌, Bool, true, false, List, [], ◌++◌, length, take, drop}
 use Rattle.std.specs.Prelude.{slice_get, slice_index_or, Option, Some, None, cond}
 use Rattle.flat_base.specs.declared.ids.Actor.{Actor}
 use Rattle.flat_base.specs.declared.ids.Actor.TheVariants.{Display, Probe}
@@ -60,6 +60,16 @@ pub data Goes (who : Actor) (old new : Machine) : Bool → Type 0 where
 abbrev pub HasEntered : ℕ → Kind → Machine → Machine → Type 0
 HasEntered number kind old new =
     new ≡ entered old Display number [] kind (reply_to old.setup old.history Display [] kind)
+
+-- A board stays, or has one entry more of the display.
+pub data DisplayGoes (old new : Machine) : Bool → Type 0 where
+  stays : new ≡ old → DisplayGoes old new false
+  enters : (number : ℕ) (kind : Kind) → HasEntered number kind old new → DisplayGoes old new true
+
+-- A history has these entries before others.
+pub record Grown (old new : List Entry) : Type 0 where
+  pub more : List Entry
+  pub is : new ≡ more ++ old
 
 -- ---- a session
 

@@ -1,9 +1,10 @@
 -- What a judge says of a text: that it is the report of a run of the script, or the line in which it is wrong.
-use Rattle.std.specs.Prelude.{◌≡◌, ◌≤◌, ℕ, List, length, Option, Some}
+use Rattle.std.specs.Prelude.{◌≡◌, ℕ, List, length, Option, Some}
 use Rattle.flat_scene.specs.declared.frames.Lost.{Lost}
 use Rattle.flat_scene.specs.declared.journal.Entry.{Entry}
 use Rattle.flat_rules.specs.Legal.{frames}
 use Rattle.flat_places.specs.declared.script.Script.{Script}
+use Rattle.flat_script.specs.Grammar.{IsScript}
 use Rattle.flat_report.specs.Laws.{IsRun}
 use Rattle.flat_report.specs.Report.{report}
 use Rattle.flat_judge.specs.declared.judging.Verdict.{Verdict}
@@ -22,6 +23,14 @@ pub record Run (script : Script) : Type 0 where
 abbrev pub report_of : (script : Script) → Run script → List ℕ
 report_of script run = report script run.history run.lost run.seen
 
+-- The script is read from some text, so that its names are words, and each names one.
+abbrev pub IsRead : Script → Type 0
+IsRead script = (bytes : List ℕ) × IsScript bytes script
+
+-- No run of a script that is read from a text has this report.
+abbrev pub NoRun : Script → List ℕ → Type 0
+NoRun script text = IsRead script → (run : Run script) → text ≡ report_of script run → ⊥
+
 -- A text is the report of a run, which has so many entries and finished frames.
 pub record IsLegal (script : Script) (text : List ℕ) (entries finished : ℕ) : Type 0 where
   pub run : Run script
@@ -35,8 +44,18 @@ pub record PartsAt (script : Script) (text : List ℕ) (line : ℕ) (want : Opti
   pub parts : parts_from 1 text (report_of script run) ≡ Some line
   pub wants : want ≡ line_of line (report_of script run)
 
--- What is said of a text is sound: what is legal is the report of a run, and what is wrong parts from the report
--- of a run in the line that is said. That no run has the text as its report is not claimed.
-abbrev pub IsSound : Script → List ℕ → Verdict → Type 0
-IsSound script text (Legal entries finished) = IsLegal script text entries finished
-IsSound script text (Wrong line want) = PartsAt script text line want
+-- A text is no run's report, and parts in this line from that of some run, which has this line there.
+pub record IsWrong (script : Script) (text : List ℕ) (line : ℕ) (want : Option (List ℕ)) : Type 0 where
+  pub none : NoRun script text
+  pub parts : PartsAt script text line want
+
+-- What is said of a text is so: what is legal is the report of a run, and what is wrong is that of none.
+abbrev pub IsVerdict : Script → List ℕ → Verdict → Type 0
+IsVerdict script text (Legal entries finished) = IsLegal script text entries finished
+IsVerdict script text (Wrong line want) = IsWrong script text line want
+
+-- A text was written as the report of a run, which has so many entries and finished frames. If a text is the
+-- report of any run, it is this one.
+pub record IsReported (script : Script) (text report : List ℕ) (entries finished : ℕ) : Type 0 where
+  pub legal : IsLegal script report entries finished
+  pub only : IsRead script → (run : Run script) → text ≡ report_of script run → text ≡ report

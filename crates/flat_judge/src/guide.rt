@@ -1,105 +1,225 @@
-//! The guide of a report: in which order a run made its entries. It is read line by line.
-use crate::line_kinds::{LineKind, kind_of_line};
-use flat_base::{Actor, FrameNo, Items, NoMemory};
-use flat_places::Script;
-use flat_scene::Lost;
-use flat_text::line;
+//! The frames that the lines of probes saw, as a report says. Probes are asked while a run
+//! goes on, but their answers stand behind all entries: so the end of the text is looked
+//! through for them first.
+ghost use Rattle.std.specs.Prelude.{◌≡◌, ◌+◌, ◌-◌, drop, length, replicate, slice_get, Some, IfOk, OnOk};
+ghost use Rattle.std.specs.Prelude.{List, ℕ, [], false};
+ghost use Rattle.std.specs.Char.{is_ascii_digit};
+ghost use Rattle.std.specs.List.{list_all};
+ghost use Rattle.flat_text.specs.Number.{natural};
+ghost use Rattle.flat_text.specs.Pieces.{lines_of, words_of};
+ghost use Rattle.flat_places.specs.Names.{place_of};
+ghost use Rattle.flat_report.specs.Report.{is_probe, probe_lines, probe_lines_of};
+ghost use Rattle.flat_judge.specs.Heeding.{is_reached};
+ghost use Rattle.flat_judge.specs.Hints.{AreHints, AreNamed, NotesLine, frame_told, low_number};
+ghost use Rattle.flat_judge.specs.Hints.{probe_answered};
+
+use flat_base::{Actor, Items, NoMemory};
+use flat_places::{Script, is_word};
+use flat_text::{line, read_natural, word};
 use std::alloc::Global;
 
-/// The order of a run, as a report shows it. No contract says that it was read right: a run
-/// follows it as far as it can.
+/// The places of the frame's number among the words of an answer: `P 9 await frame 2` and
+/// `P 9 hit 10 20 frame 2`.
+const FRAME_OF_AWAIT: usize = 4;
+
+const FRAME_OF_HIT: usize = 6;
+
+/// The frames that the lines of each probe saw, in their order.
 #[derive(Drop)]
-pub(crate) struct Guide {
-    /// Whose turn it was, entry by entry.
-    pub turns: Items<Actor>,
-    /// The displays that were lost, each behind the end of its frame.
-    pub losses: Items<Lost>,
-    /// The frames that the lines of each probe saw.
+pub struct Guide {
     pub seen: Vec<Items<u32>>,
-    /// How many frames ended so far.
-    dones: u32,
-    /// Whether the last line belongs to a frame: only there a display may be lost.
-    is_in_frame: bool,
+}
+
+/// How many lines a text has.
+fn count_lines(text: &[u8]) -> usize
+    ensures { result ≡ length (lines_of text.now) }
+{
+    let mut rest = text;
+    for count in 0..text.len() {
+        let Some((_, later)) = line(rest) else {
+            return count;
+        };
+        rest = later;
+    }
+    text.len()
+}
+
+/// What stands behind so many lines of a text.
+fn behind_lines(text: &[u8], count: usize) -> &[u8]
+    ensures { lines_of result.now ≡ drop count (lines_of text.now) }
+{
+    let mut rest = text;
+    for _ in 0..count {
+        let Some((_, later)) = line(rest) else {
+            return rest;
+        };
+        rest = later;
+    }
+    rest
+}
+
+/// Whether an actor is the probe of a number.
+fn is_probe(probe: u32, actor: Actor) -> bool
+    ensures { result ≡ is_probe probe actor }
+{
+    match actor {
+        Actor::Probe(p) => p == probe,
+        _ => false,
+    }
+}
+
+/// How many lines of the script are a probe's.
+fn count_asked(script: &Script, probe: u32) -> usize
+    ensures { result ≡ length (probe_lines_of probe script.now.lines) }
+{
+    let lines = script.lines.as_slice();
+    lines
+        .iter()
+        .filter(|line| is_probe(probe, line.actor))
+        .count()
+}
+
+/// How many lines of a text stand before those that may answer probes.
+fn lines_before(script: &Script, text: &[u8]) -> usize
+    ensures { result ≡ length (lines_of text.now) - (length (probe_lines script.now) + 1) }
+{
+    let mut before = count_lines(text).saturating_sub(1);
+    for probe in 0..script.setup.probes {
+        before = before.saturating_sub(count_asked(script, probe));
+    }
+    before
+}
+
+/// The place of a probe's name.
+fn place_of(script: &Script, name: &[u8]) -> Option<usize>
+    ensures { result ≡ place_of script.now.probes name.now }
+{
+    let names = script.probes.as_slice();
+    names.iter().position(|known| known.as_slice() == name)
+}
+
+/// Whether all bytes of a word are digits.
+fn are_digits(word: &[u8]) -> bool
+    ensures { result ≡ list_all is_ascii_digit word.now }
+{
+    word.iter().all(|byte| byte.is_ascii_digit())
+}
+
+/// The probe that a line of a report answers. Such a line begins with the probe's name and
+/// the number of a line of the script.
+fn probe_answered(script: &Script, answer: &[u8]) -> Option<usize>
+    ensures { result ≡ probe_answered script.now (words_of answer.now) }
+{
+    let name = word(answer, 0)?;
+    let number = word(answer, 1)?;
+    if are_digits(number) {
+        place_of(script, name)
+    } else {
+        None
+    }
+}
+
+/// The frame whose number a word is; 0, if it is none.
+fn frame_in(word: &[u8]) -> u32
+    ensures { result ≡ low_number (natural word.now) }
+{
+    match read_natural(word) {
+        Some(frame) if frame <= u32::MAX as u128 => frame as u32,
+        _ => 0,
+    }
+}
+
+/// The frame by which an answer says that its probe was answered; 0, where it says of none.
+fn frame_told(answer: &[u8]) -> u32
+    ensures { result ≡ frame_told (words_of answer.now) }
+{
+    let place = match word(answer, 2) {
+        Some(asked) if is_word(asked, "hit") => FRAME_OF_HIT,
+        _ => FRAME_OF_AWAIT,
+    };
+    match word(answer, place) {
+        Some(found) => frame_in(found),
+        None => 0,
+    }
 }
 
 impl Guide {
-    fn new(alloc: Global, probes: u32) -> Result<Guide, NoMemory> {
+    /// No answer yet, of so many probes.
+    fn new(alloc: Global, probes: u32) -> Result<Guide, NoMemory>
+        ensures { IfOk result (λ guide. guide.seen.items ≡ replicate probes []) }
+    {
         let mut seen = Vec::new(alloc);
         for _ in 0..probes {
             seen.push(Items::new(alloc))?;
         }
-        Ok(Guide {
-            turns: Items::new(alloc),
-            losses: Items::new(alloc),
-            seen,
-            dones: 0,
-            is_in_frame: false,
-        })
+        Ok(Guide { seen })
     }
 
-    /// Notes the loss of a display, where it stands behind the end of its frame.
-    fn note_loss(&mut self, display: u32, frame: u32) -> Result<(), NoMemory> {
-        if !self.is_in_frame || frame != self.dones {
+    /// Notes the frame of a line, if the line answers a probe.
+    fn note(&mut self, script: &Script, line: &[u8]) -> Result<(), NoMemory>
+        ensures { OnOk result (NotesLine script.now line.now self.old.seen.items
+            self.new.seen.items) }
+    {
+        let Some(probe) = probe_answered(script, line) else {
+            return Ok(());
+        };
+        if self.seen.len() <= probe {
             return Ok(());
         }
-        self.losses.push(Lost {
-            display,
-            frame: FrameNo(frame),
-        })
+        self.seen[probe].push(frame_told(line))
     }
 
-    fn note_seen(&mut self, probe: u32, frame: u32) -> Result<(), NoMemory> {
-        let place = probe as usize;
-        if place >= self.seen.len() {
-            return Ok(());
-        }
-        self.seen[place].push(frame)
-    }
-
-    /// Notes a line.
-    fn note(&mut self, guided: LineKind) -> Result<(), NoMemory> {
-        match guided {
-            LineKind::Turn(actor) => {
-                self.is_in_frame = false;
-                self.turns.push(actor)
-            }
-            LineKind::Done => {
-                self.is_in_frame = true;
-                self.dones = self.dones.saturating_add(1);
-                self.turns.push(Actor::Display)
-            }
-            LineKind::Loss(display, frame) => self.note_loss(display, frame),
-            LineKind::Probe(probe, frame) => self.note_seen(probe, frame),
-            LineKind::Event => {
-                self.is_in_frame = false;
-                Ok(())
-            }
-            LineKind::Nothing => Ok(()),
-        }
-    }
-
-    fn note_all(&mut self, script: &Script, text: &[u8]) -> Result<(), NoMemory> {
+    /// Reads the answers of all probes among the lines of a text.
+    fn of_lines(alloc: Global, script: &Script, text: &[u8]) -> Result<Guide, NoMemory>
+        ensures { IfOk result (λ guide. AreNamed script.now (lines_of text.now) guide.seen.items) }
+    {
+        let mut guide = Guide::new(alloc, script.setup.probes)?;
         let mut rest = text;
         for _ in 0..text.len() {
             let Some((first, later)) = line(rest) else {
-                return Ok(());
+                return Ok(guide);
             };
-            self.note(kind_of_line(script, first))?;
+            guide.note(script, first)?;
             rest = later;
         }
-        Ok(())
-    }
-
-    /// Reads the guide of a text.
-    pub(crate) fn read(alloc: Global, script: &Script, text: &[u8]) -> Result<Guide, NoMemory> {
-        let mut guide = Guide::new(alloc, script.setup.probes)?;
-        guide.note_all(script, text)?;
         Ok(guide)
     }
 
+    /// Whether each line of a probe has an answer.
+    fn is_whole(&self, script: &Script) -> bool
+        requires { length self.now.seen.items ≡ script.now.setup.probes }
+        ensures { result ≡ false → ((probe : ℕ) (one : List ℕ) →
+            slice_get self.now.seen.items probe ≡ Some one →
+            length one ≡ length (probe_lines_of probe script.now.lines)) → ⊥ }
+    {
+        for probe in 0..script.setup.probes {
+            if self.seen[probe as usize].len() != count_asked(script, probe) {
+                return false;
+            }
+        }
+        true
+    }
+
+    /// Reads the answers of all probes in a report. They are its last lines but one. If these
+    /// aren't all there, the text is no report, and answers are looked for in all of it.
+    pub fn read(alloc: Global, script: &Script, text: &[u8]) -> Result<Guide, NoMemory>
+        ensures { IfOk result (λ guide. AreHints script.now text.now guide.seen.items) }
+    {
+        let end = behind_lines(text, lines_before(script, text));
+        let last = Guide::of_lines(alloc, script, end)?;
+        if last.is_whole(script) {
+            return Ok(last);
+        }
+        drop(last);
+        Guide::of_lines(alloc, script, text)
+    }
+
     /// Whether a probe's line, with so many lines of the probe before it, saw a frame up to
-    /// this number. So is each line that the report doesn't have.
-    pub(crate) fn is_due(&self, probe: usize, before: usize, frame: u32) -> bool {
+    /// this number. So is each line of which nothing was read.
+    pub fn is_due(&self, probe: usize, before: usize, frame: u32) -> bool
+        ensures { (named : List ℕ) → slice_get self.now.seen.items probe ≡ Some named → result
+            ≡ is_reached (slice_get named before) frame }
+    {
         if probe >= self.seen.len() {
             return true;
         }

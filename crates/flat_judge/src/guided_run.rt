@@ -1,24 +1,31 @@
-//! A run that follows the guide of a report. Each actor of the guide makes its next entry, if
-//! it has one; at the end the others make theirs, so that each run comes to its end.
-ghost use Rattle.std.specs.Prelude.{◌≡◌, ◌⊎◌, ◌+◌, ◌<◌, ◌≤◌, ℕ, [], true, length, replicate};
-ghost use Rattle.std.specs.Prelude.{slice_get, Some, IfOk, OnOk};
+//! A run in which each actor makes its next entry when it is told to. At the end all make
+//! those that are left, so that each run comes to its end.
+ghost use Rattle.std.specs.Prelude.{◌≡◌, ◌≢◌, ◌⊎◌, ◌||◌, ◌+◌, ◌<◌, ◌≤◌, ℕ, suc, [], List, true, false};
+ghost use Rattle.std.specs.Prelude.{length, map, replicate, slice_get, Some, IfOk, OnOk};
 ghost use Rattle.flat_scene.specs.Setups.{at_ratio, is_setup};
+ghost use Rattle.flat_rules.specs.Legal.{frames};
 ghost use Rattle.flat_playable.specs.Playable.{is_playable};
+ghost use Rattle.flat_report.specs.declared.probes.ProbeAnswer.{ProbeAnswer};
+ghost use Rattle.flat_report.specs.Probes.{frame_seen};
 ghost use Rattle.flat_play.specs.Last.{IsLast, StaysLast};
 ghost use Rattle.flat_play.specs.Playing.{display_text};
 ghost use Rattle.flat_play.specs.Probing.{answer_of, with_answer};
-ghost use Rattle.flat_judge.specs.GuidedRuns.{AreBehind, GoesOn, HaveEnded, SeatsStand, ProbeGoes};
-ghost use Rattle.flat_judge.specs.GuidedRuns.{ProbeGoesOn, asked_here};
+ghost use Rattle.flat_base.specs.declared.ids.Actor.TheVariants.{Session};
+ghost use Rattle.flat_judge.specs.declared.seat.Seat.{Seat};
+ghost use Rattle.flat_judge.specs.GuidedRuns.{AreBehind, DisplayGoes, Goes, GoesOn, Grown, HaveEnded};
+ghost use Rattle.flat_judge.specs.GuidedRuns.{ProbeGoes, ProbeGoesOn, asked_here};
+ghost use Rattle.flat_judge.specs.Heeding.{AllHeed, CouldSee, HasSeen, Heeds, SeenBehind};
+ghost use Rattle.flat_judge.specs.Heeding.{is_reached};
 
 use crate::directing::{direct, start};
 use crate::guide::Guide;
+use crate::opening::{first_places, new_seats, no_answers};
 use crate::seat::Seat;
 use flat_base::{Actor, Items, NoMemory, SessionNo};
 use flat_places::Script;
 use flat_play::Play;
 use flat_report::ProbeAnswers;
 use flat_scene::{Body, DisplayLine, ProbeLine, ScriptLine};
-use flat_stage::{Reader, lines_are_read};
 use std::alloc::Global;
 
 /// A run that follows a guide.
@@ -58,53 +65,16 @@ fn asked_here(probe: usize, line: &ScriptLine) -> Option<ProbeLine>
     }
 }
 
-/// Sessions that have read no line.
-fn new_seats(alloc: Global, script: &Script) -> Result<Vec<Seat>, NoMemory>
-    requires { is_playable script.now ≡ true }
-    ensures { IfOk result (λ seats. SeatsStand script.now [] seats.items) }
-{
-    lines_are_read();
-    let mut seats = Vec::new(alloc);
-    for before in 0..script.setup.sessions {
-        let reader = Reader::new(alloc, SessionNo(before + 1), &script.setup.buffers)?;
-        seats.push(Seat {
-            reader,
-            place: 0,
-            has_ended: false,
-        })?;
-    }
-    Ok(seats)
-}
-
-/// So many probes, none of which was asked anything.
-fn no_answers(alloc: Global, probes: u32) -> Result<Vec<ProbeAnswers>, NoMemory>
-    ensures { IfOk result (λ answers. answers.items ≡ replicate probes []) }
-{
-    let mut answers = Vec::new(alloc);
-    for _ in 0..probes {
-        answers.push(ProbeAnswers::new(alloc))?;
-    }
-    Ok(answers)
-}
-
-/// So many places, each before the first line.
-fn first_places(alloc: Global, probes: u32) -> Result<Items<usize>, NoMemory>
-    ensures { IfOk result (λ places. places ≡ replicate probes 0) }
-{
-    let mut places = Items::new(alloc);
-    for _ in 0..probes {
-        places.push(0)?;
-    }
-    Ok(places)
-}
-
 impl GuidedRun {
     ghost use Rattle.flat_judge.specs.GuidedRuns.{IsWhole, RunStands};
 
     /// A run of which no line is read.
     pub fn new(alloc: Global, script: &Script) -> Result<GuidedRun, NoMemory>
         requires { is_playable script.now ≡ true }
-        ensures { IfOk result (RunStands script.now) }
+        ensures stands { IfOk result (RunStands script.now) }
+        ensures no_entry { IfOk result (λ run. run.play.board.history ≡ []) }
+        ensures no_answer { IfOk result (λ run. run.answers.items
+            ≡ replicate script.now.setup.probes []) }
     {
         let seats = new_seats(alloc, script)?;
         let places = first_places(alloc, script.setup.probes)?;
@@ -119,18 +89,20 @@ impl GuidedRun {
         })
     }
 
-    /// Makes the next entry of a session, if it hasn't ended.
-    fn session_turn(&mut self, alloc: Global, script: &Script, k: usize) -> Result<(), NoMemory>
+    /// Makes the next entry of a session that hasn't ended.
+    pub fn session_turn(&mut self, alloc: Global, script: &Script, k: usize) -> Result<(), NoMemory>
         requires playable { is_playable script.now ≡ true }
         requires within { k < length self.old.seats.items }
+        requires open { (seat : Seat) → slice_get self.old.seats.items k ≡ Some seat →
+            seat.has_ended ≡ false }
         requires stands { RunStands script.now self.old }
         ensures stands { OnOk result (RunStands script.now self.new) }
         ensures on { OnOk result (GoesOn k self.old.seats.items self.new.seats.items) }
+        ensures goes { OnOk result (Goes (Session (record { 0 = k + 1 }))
+            self.old.play.board self.new.play.board true) }
         ensures place { OnOk result (self.new.place ≡ self.old.place) }
+        ensures answers { self.new.answers ≡ self.old.answers }
     {
-        if self.seats[k].has_ended {
-            return Ok(());
-        }
         let seat = &mut self.seats[k];
         seat.turn(alloc, script, &mut self.play.board, SessionNo(k as u32 + 1))?;
         Ok(())
@@ -145,6 +117,8 @@ impl GuidedRun {
         ensures stands { OnOk result (RunStands script.now self.new) }
         ensures place { OnOk result (self.new.place ≡ self.old.place + 1) }
         ensures seats { OnOk result (self.new.seats ≡ self.old.seats) }
+        ensures goes { IfOk result (DisplayGoes self.old.play.board self.new.play.board) }
+        ensures answers { self.new.answers ≡ self.old.answers }
     {
         let _journal = self.play.board.journal();
         let line = script.lines.at(self.place);
@@ -161,28 +135,37 @@ impl GuidedRun {
         }
     }
 
-    /// Makes the next entry of the display, if there is a line left for one.
-    fn display_turn(&mut self, alloc: Global, script: &Script) -> Result<(), NoMemory>
+    /// Makes the next entry of the display, if there is a line left for one, and says so.
+    pub fn display_turn(&mut self, alloc: Global, script: &Script) -> Result<bool, NoMemory>
         requires playable { is_playable script.now ≡ true }
         requires stands { RunStands script.now self.old }
         ensures stands { OnOk result (RunStands script.now self.new) }
         ensures place { OnOk result ((self.new.place ≡ length script.now.lines)
             ⊎ (self.old.place < self.new.place)) }
+        ensures last { IfOk result (λ made. made ≡ false →
+            self.new.place ≡ length script.now.lines) }
         ensures seats { OnOk result (self.new.seats ≡ self.old.seats) }
+        ensures goes { IfOk result (DisplayGoes self.old.play.board self.new.play.board) }
+        ensures answers { OnOk result (self.new.answers ≡ self.old.answers) }
     {
         for _ in self.place..script.lines.len() {
             if self.display_step(alloc, script)? {
-                return Ok(());
+                return Ok(true);
             }
         }
-        Ok(())
+        Ok(false)
     }
 
     /// Whether the next line of a probe is answered by the last frame. If the guide names a
     /// later frame it waits for that one, unless no frame comes any more.
     fn is_due(&self, guide: &Guide, probe: usize, is_last: bool) -> bool
         requires { probe < length self.now.answers.items }
-        ensures { is_last ≡ true → result ≡ true }
+        ensures last { is_last ≡ true → result ≡ true }
+        ensures heeds { (named : List ℕ) (one : List ProbeAnswer) →
+            slice_get guide.now.seen.items probe ≡ Some named →
+            slice_get self.now.answers.items probe ≡ Some one →
+            result ≡ (is_last || is_reached (slice_get named (length one))
+            self.now.play.last.frame.0) }
     {
         let before = self.answers[probe].len();
         is_last || guide.is_due(probe, before, self.play.last.frame.0)
@@ -236,6 +219,16 @@ impl GuidedRun {
         ensures seats { self.new.seats ≡ self.old.seats }
         ensures goes { IfOk result (λ on. ProbeGoes probe is_due on self.old.places
             self.new.places) }
+        ensures board { self.new.play.board ≡ self.old.play.board }
+        ensures others { OnOk result ((n : ℕ) → n ≢ probe → slice_get self.new.answers.items n
+            ≡ slice_get self.old.answers.items n) }
+        ensures heeds { (last : ℕ) (named : List ℕ) (one : List ProbeAnswer) →
+            CouldSee script.now last probe named →
+            slice_get self.old.answers.items probe ≡ Some one →
+            is_due ≡ is_reached (slice_get named (length one)) (frames self.old.play.board.history) →
+            HasSeen (frames self.old.play.board.history) named (map frame_seen one) →
+            IfOk result (SeenBehind probe (frames self.old.play.board.history) named
+            self.new.answers.items) }
     {
         let place = *self.places.at(probe);
         let line = script.lines.at(place);
@@ -272,6 +265,15 @@ impl GuidedRun {
         ensures seats { self.new.seats ≡ self.old.seats }
         ensures go { OnOk result (ProbeGoesOn script.now probe is_last self.old.places
             self.new.places) }
+        ensures board { OnOk result (self.new.play.board ≡ self.old.play.board) }
+        ensures others { OnOk result ((n : ℕ) → n ≢ probe → slice_get self.new.answers.items n
+            ≡ slice_get self.old.answers.items n) }
+        ensures heeds { OnOk result ((last : ℕ) →
+            (is_last ≡ true → last ≡ frames self.old.play.board.history) →
+            Heeds script.now guide.now.seen.items last (frames self.old.play.board.history) probe
+            self.old.answers.items →
+            Heeds script.now guide.now.seen.items last (suc (frames self.old.play.board.history)) probe
+            self.new.answers.items) }
     {
         for _ in *self.places.at(probe)..script.lines.len() {
             let is_due = self.is_due(guide, probe, is_last);
@@ -283,7 +285,7 @@ impl GuidedRun {
     }
 
     /// Answers the lines of all probes that are due.
-    fn answer_probes(
+    pub fn answer_probes(
         &mut self,
         alloc: Global,
         script: &Script,
@@ -297,39 +299,18 @@ impl GuidedRun {
         ensures seats { self.new.seats ≡ self.old.seats }
         ensures behind { is_last ≡ true → OnOk result (AreBehind script.now
             script.now.setup.probes self.new.places) }
+        ensures board { OnOk result (self.new.play.board ≡ self.old.play.board) }
+        ensures heeds { OnOk result ((last : ℕ) →
+            (is_last ≡ true → last ≡ frames self.old.play.board.history) →
+            AllHeed script.now guide.now.seen.items last (frames self.old.play.board.history)
+            self.old.answers.items →
+            AllHeed script.now guide.now.seen.items last (suc (frames self.old.play.board.history))
+            self.new.answers.items) }
     {
         for probe in 0..self.places.len() {
             self.answer_probe(alloc, script, guide, probe, is_last)?;
         }
         Ok(())
-    }
-
-    /// Makes the next entry of an actor that the guide names, if there is one.
-    fn turn(
-        &mut self,
-        alloc: Global,
-        script: &Script,
-        guide: &Guide,
-        who: Actor,
-    ) -> Result<(), NoMemory>
-        requires playable { is_playable script.now ≡ true }
-        requires stands { RunStands script.now self.old }
-        ensures stands { OnOk result (RunStands script.now self.new) }
-    {
-        match who {
-            Actor::Display => {
-                self.display_turn(alloc, script)?;
-                self.answer_probes(alloc, script, guide, false)
-            }
-            Actor::Session(s) => {
-                let number = s.0 as usize;
-                if number == 0 || self.seats.len() < number {
-                    return Ok(());
-                }
-                self.session_turn(alloc, script, number - 1)
-            }
-            Actor::Probe(_) => Ok(()),
-        }
     }
 
     /// Makes all entries of a session that are left.
@@ -341,6 +322,9 @@ impl GuidedRun {
         ensures stands { OnOk result (RunStands script.now self.new) }
         ensures ended { OnOk result (HaveEnded (k + 1) self.new.seats.items) }
         ensures place { OnOk result (self.new.place ≡ self.old.place) }
+        ensures grown { OnOk result
+            (Grown self.old.play.board.history self.new.play.board.history) }
+        ensures answers { OnOk result (self.new.answers ≡ self.old.answers) }
     {
         for _ in self.seats[k].place..script.lines.len() + 1 {
             if self.seats[k].has_ended {
@@ -358,6 +342,9 @@ impl GuidedRun {
         ensures stands { OnOk result (RunStands script.now self.new) }
         ensures ended { OnOk result (HaveEnded script.now.setup.sessions self.new.seats.items) }
         ensures place { OnOk result (self.new.place ≡ self.old.place) }
+        ensures grown { OnOk result
+            (Grown self.old.play.board.history self.new.play.board.history) }
+        ensures answers { OnOk result (self.new.answers ≡ self.old.answers) }
     {
         for k in 0..self.seats.len() {
             self.end_session(alloc, script, k)?;
@@ -371,23 +358,31 @@ impl GuidedRun {
         requires stands { RunStands script.now self.old }
         ensures stands { OnOk result (RunStands script.now self.new) }
         ensures place { OnOk result (self.new.place ≡ length script.now.lines) }
+        ensures grown { OnOk result
+            (Grown self.old.play.board.history self.new.play.board.history) }
+        ensures answers { OnOk result (self.new.answers ≡ self.old.answers) }
     {
         for _ in self.place..script.lines.len() {
-            self.display_turn(alloc, script)?;
+            if !self.display_turn(alloc, script)? {
+                return Ok(());
+            }
         }
         Ok(())
     }
 
-    /// Makes the whole run.
-    pub fn follow(&mut self, alloc: Global, script: &Script, guide: &Guide) -> Result<(), NoMemory>
+    /// Makes all entries that are left, and answers all lines of probes that are left.
+    pub fn end(&mut self, alloc: Global, script: &Script, guide: &Guide) -> Result<(), NoMemory>
         requires playable { is_playable script.now ≡ true }
         requires stands { RunStands script.now self.old }
-        ensures { OnOk result (IsWhole script.now self.new) }
+        ensures whole { OnOk result (IsWhole script.now self.new) }
+        ensures grown { OnOk result
+            (Grown self.old.play.board.history self.new.play.board.history) }
+        ensures heeds { OnOk result (self.old.play.board.history ≡ self.new.play.board.history →
+            AllHeed script.now guide.now.seen.items (frames self.old.play.board.history)
+            (suc (frames self.old.play.board.history)) self.old.answers.items →
+            AllHeed script.now guide.now.seen.items (frames self.old.play.board.history)
+            (suc (frames self.old.play.board.history)) self.new.answers.items) }
     {
-        self.answer_probes(alloc, script, guide, false)?;
-        for place in 0..guide.turns.len() {
-            self.turn(alloc, script, guide, *guide.turns.at(place))?;
-        }
         self.end_display(alloc, script)?;
         self.end_sessions(alloc, script)?;
         self.answer_probes(alloc, script, guide, true)?;

@@ -2,11 +2,13 @@
 ghost use Rattle.std.specs.Prelude.{◌≡◌, true, IfOk};
 ghost use Rattle.flat_playable.specs.Playable.{is_playable};
 ghost use Rattle.flat_judge.specs.GuidedRuns.{IsWhole};
-ghost use Rattle.flat_judge.specs.Verdicts.{IsLegal, IsSound};
+ghost use Rattle.flat_judge.specs.Following.{StoppedBefore};
+ghost use Rattle.flat_judge.specs.Heeding.{SeesAsTold};
+ghost use Rattle.flat_judge.specs.Verdicts.{IsReported, IsVerdict};
 
+use crate::following::Followed;
 use crate::guide::Guide;
 use crate::guided_run::GuidedRun;
-use crate::losses::fitting;
 use crate::parting::{line_of, parts_at};
 use flat_base::{Items, NoMemory};
 use flat_places::Script;
@@ -32,28 +34,31 @@ struct Written {
     frames: u32,
 }
 
-/// The report of a run that followed a guide. Displays are lost as the guide says, as far as
-/// the run may lose them.
+/// The report of a run that followed a text to its end.
 fn report_of(
     alloc: Global,
     script: &Script,
-    guide: &Guide,
-    guided: GuidedRun,
+    text: &[u8],
+    followed: Followed,
 ) -> Result<Written, NoMemory>
     requires playable { is_playable script.now ≡ true }
-    requires whole { IsWhole script.now guided }
-    ensures { IfOk result
-        (λ written. IsLegal script.now written.report written.entries written.frames) }
+    requires whole { IsWhole script.now followed.run }
+    requires stopped { StoppedBefore script.now text.now followed.run.play.board.history
+        followed.along }
+    requires sees { SeesAsTold script.now text.now followed.run }
+    ensures { IfOk result (λ written. IsReported script.now text.now written.report
+        written.entries written.frames) }
 {
     handed_is_report();
     frames_are_seen();
+    let Followed { run, along } = followed;
     let GuidedRun {
         play,
         seats: _,
         place: _,
         places: _,
         answers: probes,
-    } = guided;
+    } = run;
     let Play {
         board,
         readers: _,
@@ -67,16 +72,12 @@ fn report_of(
     } = play;
     let frames = last.frame.0;
     let entries = board.journal().entries.len();
-    let Ok(lost) = fitting(alloc, guide.losses.as_slice(), frames) else {
-        let_go(board);
-        return Err(NoMemory);
-    };
     let report = print_report(
         alloc,
         script,
         board.journal(),
         kept.into_texts(),
-        lost.as_slice(),
+        along.lost.as_slice(),
         &answers,
         probes.as_slice(),
     );
@@ -88,28 +89,31 @@ fn report_of(
     })
 }
 
-/// The run that follows a guide, to its end.
-fn run_guided(alloc: Global, script: &Script, guide: &Guide) -> Result<GuidedRun, NoMemory>
+/// The run that follows a text, to its end.
+fn run_followed(alloc: Global, script: &Script, text: &[u8]) -> Result<Followed, NoMemory>
     requires { is_playable script.now ≡ true }
-    ensures { IfOk result (IsWhole script.now) }
+    ensures whole { IfOk result (λ followed. IsWhole script.now followed.run) }
+    ensures stopped { IfOk result (λ followed. StoppedBefore script.now text.now
+        followed.run.play.board.history followed.along) }
+    ensures sees { IfOk result (λ followed. SeesAsTold script.now text.now followed.run) }
 {
-    let mut guided = GuidedRun::new(alloc, script)?;
-    let Ok(()) = guided.follow(alloc, script, guide) else {
-        drop(guided);
+    let guide = Guide::read(alloc, script, text)?;
+    let mut followed = Followed::new(alloc, script)?;
+    let Ok(()) = followed.run_all(alloc, script, text, &guide) else {
+        drop(followed);
         return Err(NoMemory);
     };
-    Ok(guided)
+    Ok(followed)
 }
 
 /// Judges a text: whether it is the report of a run of the script, and else in which line
 /// it parts from the report of a run, and what that report has there.
 pub fn judge(alloc: Global, script: &Script, text: &[u8]) -> Result<Verdict, NoMemory>
     requires { is_playable script.now ≡ true }
-    ensures sound { IfOk result (IsSound script.now text.now) }
+    ensures { IfOk result (IsVerdict script.now text.now) }
 {
-    let guide = Guide::read(alloc, script, text)?;
-    let guided = run_guided(alloc, script, &guide)?;
-    let written = report_of(alloc, script, &guide, guided)?;
+    let followed = run_followed(alloc, script, text)?;
+    let written = report_of(alloc, script, text, followed)?;
     match parts_at(text, &written.report) {
         None => Ok(Verdict::Legal(written.entries, written.frames)),
         Some(line) => {

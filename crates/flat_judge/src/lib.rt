@@ -1,26 +1,31 @@
 //! The judge of reports: whether a text is the report of some run of a script, and else the
 //! line in which it parts from the report of one. Begin at `judge_text`; what it says is
-//! sound (`IsSound`, specs/Verdicts): a legal text has its run. That each report of a run is
-//! found legal isn't proved yet.
+//! `IsVerdict` (specs/Verdicts): a legal text has its run, and a wrong one has none.
 //!
-//! The lines of a report show whose turn each entry was. guide.rt collects these turns line
-//! by line (line_kinds.rt), with the displays that were lost and the frames that probes saw.
-//! guided_run.rt runs the script by this guide, with each session (seat.rt) and the display
-//! (directing.rt) at a place of its own. judging.rt writes the report of that run and
-//! compares the text with it (parting.rt). Nothing rests on the guide: turns that can't be
-//! taken are left out, and what is left of the script is run at the end.
+//! The text decides whose entry is next (reading.rt): following.rt lets that actor make its next
+//! entry, holds what the report says of it against the text (telling.rt), and reads on behind
+//! it. guided_run.rt is the run, with each session (seat.rt) and the display (directing.rt) at a
+//! place of its own; a probe's line waits there for the frame that the end of the text names for
+//! it (guide.rt, specs/Hints). Where the text parts from the run's report or says of nobody that
+//! it is next, what is left of the script is run, and judging.rt compares the text with the
+//! report of the whole (parting.rt).
 #![tactic(auto)]
 
 mod cutting;
 mod directing;
+mod entry_texts;
+mod following;
 mod guide;
 mod guided_run;
 mod judging;
-mod line_kinds;
 mod losses;
+mod opening;
 mod parting;
+mod passing;
+mod reading;
 mod screen;
 mod seat;
+mod telling;
 
 pub use cutting::{Judged, judge_text, scripts_have_no_title};
 pub use judging::{Verdict, judge};

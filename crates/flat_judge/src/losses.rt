@@ -1,12 +1,13 @@
-//! Which displays a run may have lost, of those that a report tells.
-ghost use Rattle.std.specs.Prelude.{◌≡◌, ◌<◌, ◌&&◌, ◌||◌, ◌==◌, ◌^◌, not, nat_le, nat_lt, List, true};
-ghost use Rattle.std.specs.Prelude.{IfOk, OnOk};
-ghost use Rattle.std.specs.List.{list_all};
-ghost use Rattle.flat_scene.specs.declared.journal.Entry.{Entry};
-ghost use Rattle.flat_rules.specs.Legal as legal;
-ghost use Rattle.flat_report.specs.Report.{is_loss, is_lost_before};
+//! The displays that were lost at a frame, as a text says line by line.
+ghost use Rattle.std.specs.Prelude.{◌≡◌, ◌<◌, ◌≤◌, ◌&&◌, ◌==◌, not, drop, length, IfOk, IfSome, None, OnOk};
+ghost use Rattle.flat_report.specs.Report.{is_lost_before};
+ghost use Rattle.flat_judge.specs.Following.{NoMoreLost, ReadsLoss, ReadsLosses};
+ghost use Rattle.flat_judge.specs.Following.{fits_behind};
 
-use flat_base::{Items, NoMemory};
+use crate::entry_texts::loss_text;
+use crate::passing::pass;
+use crate::reading::next_display;
+use flat_base::{FrameNo, Items, NoMemory};
 use flat_scene::Lost;
 use std::alloc::Global;
 
@@ -21,46 +22,58 @@ fn is_before(one: Lost, next: Lost) -> bool
 
 /// Whether a display may be lost behind all of these.
 fn is_behind(lost: &[Lost], next: Lost) -> bool
-    ensures { result
-        ≡ list_all (λ one. is_lost_before one next && not (next.display == one.display)) lost.now }
+    ensures { result ≡ fits_behind lost.now next }
 {
     lost.iter().all(|one| is_before(*one, next))
 }
 
-/// Whether a display was lost at one of so many frames.
-fn is_within(next: Lost, frames: u32) -> bool
-    ensures { result ≡ (nat_lt 0 next.frame.0 && nat_le next.frame.0 frames) }
+/// Reads the next display that was lost at a frame, and answers the place behind its line.
+fn read_loss(
+    alloc: Global,
+    lost: &mut Items<Lost>,
+    text: &[u8],
+    at: usize,
+    frame: FrameNo,
+) -> Result<Option<usize>, NoMemory>
+    requires { at ≤ length text.now }
+    ensures some { IfOk result (λ found. IfSome found (λ next.
+        (next ≤ length text.now) × ReadsLoss frame.0 lost.old lost.new text.now at next)) }
+    ensures none { IfOk result (λ found. found ≡ None → (lost.new ≡ lost.old)
+        × NoMoreLost frame.0 lost.old (drop at text.now)) }
 {
-    0 < next.frame.0 && next.frame.0 <= frames
+    let Some(display) = next_display(&text[at..]) else {
+        return Ok(None);
+    };
+    let one = Lost { display, frame };
+    if !is_behind(lost.as_slice(), one) {
+        return Ok(None);
+    }
+    let line = loss_text(alloc, one)?;
+    let Some(next) = pass(text, at, line.as_slice()) else {
+        return Ok(None);
+    };
+    lost.push(one)?;
+    Ok(Some(next))
 }
 
-/// Puts a display behind others that were lost, where it may be lost behind them.
-fn push_fitting(lost: &mut Items<Lost>, next: Lost, frames: u32) -> Result<(), NoMemory>
-    ensures loss { (history : List Entry) → legal.frames history ≡ frames → is_loss history lost.old
-        ≡ true → OnOk result (is_loss history lost.new ≡ true) }
-    ensures numbered { list_all (λ one. nat_lt one.display (2 ^ 32)) lost.old ≡ true →
-        OnOk result (list_all (λ one. nat_lt one.display (2 ^ 32)) lost.new ≡ true) }
+/// Reads the displays that were lost at a frame, and answers the place behind their lines.
+pub(crate) fn read_losses(
+    alloc: Global,
+    lost: &mut Items<Lost>,
+    text: &[u8],
+    at: usize,
+    frame: FrameNo,
+) -> Result<usize, NoMemory>
+    requires within { at ≤ length text.now }
+    ensures within { IfOk result (λ next. next ≤ length text.now) }
+    ensures reads { IfOk result (ReadsLosses frame.0 lost.old lost.new text.now at) }
 {
-    if !is_within(next, frames) {
-        return Ok(());
+    let mut place = at;
+    for _ in at..text.len() {
+        match read_loss(alloc, lost, text, place, frame)? {
+            Some(next) => place = next,
+            None => return Ok(place),
+        }
     }
-    if !is_behind(lost.as_slice(), next) {
-        return Ok(());
-    }
-    lost.push(next)?;
-    Ok(())
-}
-
-/// Those of some losses, from the first, that a run with so many finished frames may have.
-pub(crate) fn fitting(alloc: Global, guided: &[Lost], frames: u32) -> Result<Items<Lost>, NoMemory>
-    ensures loss { (history : List Entry) → legal.frames history ≡ frames →
-        IfOk result (λ lost. is_loss history lost ≡ true) }
-    ensures numbered { IfOk result
-        (λ lost. list_all (λ one. nat_lt one.display (2 ^ 32)) lost ≡ true) }
-{
-    let mut lost = Items::new(alloc);
-    for next in guided {
-        push_fitting(&mut lost, *next, frames)?;
-    }
-    Ok(lost)
+    Ok(place)
 }

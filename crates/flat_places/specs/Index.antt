@@ -1,22 +1,51 @@
--- The names of a script, found by a map.
-use Rattle.std.specs.Prelude.{◌≡◌, ◌≤◌, ℕ, false, length, Option, Some, None}
-use Rattle.std.specs.BTreeMap.{get_by_text}
-use Rattle.flat_base.specs.declared.limits.TheConstants.{BUFFER_COLLECTIONS_MAX, FENCES_MAX, PAIRS_MAX, PROBES_MAX, SESSIONS_MAX}
+-- The names of a script, found by a map and a cache in front of it.
+use Rattle.std.specs.Prelude.{◌≡◌, ◌<◌, ◌≤◌, ◌==◌, ◌+◌, ◌*◌, ◌%◌, ◌^◌, ℕ, [], ◌∷◌, length, slice_index}
+use Rattle.std.specs.Prelude.{slice_index_or, Option, Some, None, IfSome, if◌then◌else◌}
+use Rattle.std.specs.BTreeMap as tree
+use Rattle.std.specs.Ordering.{nat_cmp}
+use Rattle.flat_base.specs.declared.limits.TheConstants.{BUFFER_COLLECTIONS_MAX, FENCES_MAX}
+use Rattle.flat_base.specs.declared.limits.TheConstants.{PAIRS_MAX, PROBES_MAX, SESSIONS_MAX}
 use Rattle.flat_places.specs.declared.names.Meaning.{Meaning}
 use Rattle.flat_places.specs.declared.names.Meaning.TheVariants.{Session, Probe, Buffers, Pair, Fence}
 use Rattle.flat_places.specs.declared.names.Names.{Names}
+use Rattle.flat_places.specs.declared.names.Cached.{Cached}
+use Rattle.flat_places.specs.declared.names.TheConstants.{CACHE_SLOTS}
 use Rattle.flat_places.specs.declared.names.Indexed.{Indexed}
 use Rattle.flat_places.specs.declared.script.Script.{Script}
 use Rattle.flat_places.specs.Forms.{Word}
 use Rattle.flat_places.specs.Names.{place_of, is_name}
 
--- what the map has for a word
-abbrev pub meaning_at : Names → Word → Option Meaning
-meaning_at names w = get_by_text names.map w
+-- the bytes of a name as the digits of a number, the first one the lowest
+abbrev pub key_of : Word → ℕ
+key_of [] = 0
+key_of (b ∷ bs) = b + 256 * key_of bs
 
--- what is no name has no meaning
-abbrev pub OnlyNames : Names → Type 0
-OnlyNames names = (w : Word) → is_name w ≡ false → meaning_at names w ≡ None
+-- what the map has for a word, where that is a name
+abbrev pub meaning_at : Names → Word → Option Meaning
+meaning_at names w = if is_name w then tree.get nat_cmp names.map (key_of w) else None
+
+-- the slot into which a key falls
+abbrev pub slot_of : ℕ → ℕ
+slot_of key = key % 2 ^ 64 % CACHE_SLOTS
+
+-- each is a byte
+abbrev pub AreBytes : Word → Type 0
+AreBytes w = (i : ℕ) → slice_index w i < 256
+
+-- what a slot holds fell into it, and the one word of its length and key means that
+pub record IsCached (names : Names) (slot : ℕ) (e : Cached) : Type 0 where
+  pub own : slot_of e.key ≡ slot
+  pub means : (w : Word) → AreBytes w → length w ≡ e.len → key_of w ≡ e.key →
+      meaning_at names w ≡ Some e.meaning
+
+-- so does each slot
+abbrev pub IsCache : Names → Type 0
+IsCache names = (slot : ℕ) → slot < CACHE_SLOTS → IfSome (slice_index_or names.cache slot None) (IsCached names slot)
+
+-- what a slot holds once a further name falls into it: the first key stays
+abbrev pub first_cached : Option Cached → Cached → Cached
+first_cached None new = new
+first_cached (Some old) new = if old.key == new.key then new else old
 
 -- the place of a session
 abbrev pub session_place : Option Meaning → Option ℕ
@@ -53,7 +82,7 @@ pub record Means (o : Option Meaning) (s : Script) (w : Word) : Type 0 where
 
 -- the map finds each word of the script, and the script is within its limits
 pub record IsIndexed (x : Indexed) : Type 0 where
-  pub only : OnlyNames x.names
+  pub cache : IsCache x.names
   pub finds : (w : Word) → Means (meaning_at x.names w) x.script w
   pub sessions : length x.script.sessions ≤ SESSIONS_MAX
   pub probes : length x.script.probes ≤ PROBES_MAX

@@ -2,6 +2,7 @@ ghost use Rattle.std.specs.Prelude.{◌≡◌, ◌<◌, ◌≤◌, ℕ, List, tr
 ghost use Rattle.std.specs.Prelude.{IfSome, IsTrue};
 ghost use Rattle.std.specs.List.{list_all};
 ghost use Rattle.std.specs.Str.{bytes_eq};
+ghost use Rattle.flat_places.specs.Index.{key_of, slot_of, first_cached};
 ghost use Rattle.flat_places.specs.Names.{place_of, session_named, owner_named, actor_named};
 ghost use Rattle.flat_places.specs.Names.{is_name, is_name_byte, is_reserved, is_declared};
 
@@ -26,64 +27,120 @@ pub enum Meaning {
     Fence(u32),
 }
 
+/// How many names the cache can hold. It is a prime, so that names that differ in one letter
+/// fall into different slots.
+const CACHE_SLOTS: usize = 61;
+
+/// A name in the cache, by its key and its length, and its meaning.
+#[derive(Clone, Copy)]
+pub struct Cached {
+    pub key: u128,
+    pub len: usize,
+    pub meaning: Meaning,
+}
+
 /// Names and their meanings.
 #[derive(Drop)]
 pub struct Names {
-    /// The meaning of each name, by its text.
-    pub map: BTreeMap<String, Meaning>,
+    /// The meaning of each name, by its key.
+    pub map: BTreeMap<u128, Meaning>,
+    /// Some of the names, each in the slot of its key, where it is found without a search.
+    pub cache: [Option<Cached>; CACHE_SLOTS],
 }
 
 impl Names {
-    ghost use Rattle.flat_places.specs.Index.{meaning_at, OnlyNames};
+    ghost use Rattle.flat_places.specs.Index.{meaning_at, IsCache};
 
     /// No name yet. It takes no memory.
     pub fn new(alloc: Global) -> Names
         ensures empty { (w : List ℕ) → meaning_at result w ≡ None }
-        ensures only { OnlyNames result }
+        ensures cache { IsCache result }
     {
         Names {
             map: BTreeMap::new(alloc),
+            cache: [None; CACHE_SLOTS],
         }
     }
 
     /// The meaning of a word, where it is a name that was declared.
     fn find(&self, word: &[u8]) -> Option<Meaning>
-        requires { OnlyNames self.now }
+        requires { IsCache self.now }
+        ensures { result ≡ meaning_at self.now word.now }
+    {
+        if word.len() > NAME_BYTES_MAX {
+            return None;
+        }
+        let key = key_of(word);
+        let cached = self.cache[slot_of(key)];
+        match cached {
+            Some(found) if found.key == key && found.len == word.len() => Some(found.meaning),
+            _ => self.find_in_map(word, key),
+        }
+    }
+
+    /// The meaning of a word with this key, by a search in the map.
+    fn find_in_map(&self, word: &[u8], key: u128) -> Option<Meaning>
+        requires { key ≡ key_of word.now }
         ensures { result ≡ meaning_at self.now word.now }
     {
         if !is_name(word) {
             return None;
         }
-        match std::str::from_utf8(word) {
-            Ok(name) => self.map.get(name).copied(),
-            Err(_) => None,
-        }
+        self.map.get(&key).copied()
     }
 
-    #[tactic(auto, using(std::proofs::lemmas::Map::Text::text_keys))]
-    fn insert(&mut self, alloc: Global, name: &str, meaning: Meaning) -> Result<(), NoMemory>
-        ensures { OnOk result ((w : List ℕ) → meaning_at self.new w
-            ≡ cond (bytes_eq w name.now) (Some meaning) (meaning_at self.old w)) }
-    {
-        let key = String::from_str(alloc, name)?;
-        self.map.insert(key, meaning)?;
-        Ok(())
-    }
-
-    /// Gives a name its meaning, in place of one that it had. Its only refusal is want
-    /// of memory.
-    pub fn declare(&mut self, alloc: Global, name: &[u8], meaning: Meaning) -> Result<(), NoMemory>
-        requires only { OnlyNames self.old }
+    /// Gives a name its meaning, in place of one that it had. It fails only if memory runs
+    /// out.
+    pub fn declare(&mut self, name: &[u8], meaning: Meaning) -> Result<(), NoMemory>
+        requires cache { IsCache self.old }
         requires name { is_name name.now ≡ true }
         ensures found { OnOk result ((w : List ℕ) → meaning_at self.new w
             ≡ cond (bytes_eq w name.now) (Some meaning) (meaning_at self.old w)) }
-        ensures only { OnOk result (OnlyNames self.new) }
+        ensures cache { OnOk result (IsCache self.new) }
     {
-        match std::str::from_utf8(name) {
-            Ok(text) => self.insert(alloc, text, meaning),
-            Err(_) => Ok(()),
-        }
+        let key = key_of(name);
+        self.map.insert(key, meaning)?;
+        let slot = slot_of(key);
+        let new = Cached {
+            key,
+            len: name.len(),
+            meaning,
+        };
+        self.cache[slot] = Some(first_cached(self.cache[slot], new));
+        Ok(())
     }
+}
+
+/// What a slot holds once a further name falls into it: the first name keeps it.
+fn first_cached(old: Option<Cached>, new: Cached) -> Cached
+    ensures { result ≡ first_cached old new }
+{
+    match old {
+        Some(first) if first.key != new.key => first,
+        _ => new,
+    }
+}
+
+/// The slot into which a key falls.
+fn slot_of(key: u128) -> usize
+    ensures slot { result ≡ slot_of key }
+    ensures within { result < CACHE_SLOTS }
+{
+    ((key % (1 << 64)) as u64 % CACHE_SLOTS as u64) as usize
+}
+
+/// The bytes of a name as the digits of one number, which tells names apart.
+fn key_of(name: &[u8]) -> u128
+    requires { length name.now ≤ NAME_BYTES_MAX }
+    ensures { result ≡ key_of name.now }
+{
+    let mut key = 0u128;
+    let mut place = name.len();
+    while place > 0 {
+        place -= 1;
+        key = key * 256 + name[place] as u128;
+    }
+    key
 }
 
 /// A script, and where its names are found. Whoever adds a name to one of the script's

@@ -3,7 +3,6 @@ pub mod Displayed
 pub mod Ending
 pub mod Examples
 pub mod Explained
-pub mod Growing
 pub mod InOrder
 pub mod InTurn
 pub mod Losses

@@ -30,8 +30,8 @@ use Rattle.flat_scene.specs.declared.journal.Reply.{Reply}
 use Rattle.flat_scene.specs.declared.script.ScriptLine.{ScriptLine}
 use Rattle.flat_core.specs.Machines.{Machine, entered, entry_of}
 use Rattle.flat_play.proofs.lemmas.Seen.{last-begin}
-use Rattle.flat_play.proofs.Growing.{Grows}
-use Rattle.flat_play.proofs.Growing as grow
+use Rattle.flat_play.proofs.lemmas.Growing.{Grows}
+use Rattle.flat_play.proofs.lemmas.Growing as grow
 use Rattle.flat_pointer.specs.Lines.{rise_after}
 use Rattle.flat_play.specs.Touches.{frames_before, call_hits, touch_of, hits_in, touch_in, GoesOnAt, stays, enters, GoesOnByEnds, AnswersUpto, AreAnswered}
 

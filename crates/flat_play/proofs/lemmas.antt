@@ -4,6 +4,7 @@ pub mod Begun
 pub mod DisplaySteps
 pub mod FewViews
 pub mod FramesShown
+pub mod Growing
 pub mod Joining
 pub mod Places
 pub mod PlaySteps

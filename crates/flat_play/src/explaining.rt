@@ -1,19 +1,24 @@
-//! Why content is not on the display is looked at while a script is played: what a begin
-//! shows and leaves waiting is known only then.
-ghost use Rattle.std.specs.Prelude.{◌≡◌, ℕ, true, [], List, length, IfOk, OnOk};
+//! What is noted line by line while a script is played: why content is not on the display,
+//! since what a begin shows and leaves waiting is known only then; and the picture of each
+//! frame, so that no frame's items are kept for it.
+ghost use Rattle.std.specs.Prelude.{◌≡◌, ℕ, true, List, length, IfOk, OnOk};
 ghost use Rattle.flat_places.specs.declared.script.Script.{Script};
 ghost use Rattle.flat_scene.specs.declared.journal.Entry.{Entry};
 ghost use Rattle.flat_scene.specs.Setups.{is_setup};
+ghost use Rattle.flat_rules.specs.Legal.{frames};
 ghost use Rattle.flat_report.specs.Report.{finished};
 ghost use Rattle.flat_why.specs.Text.{why_text};
-ghost use Rattle.flat_play.specs.Explaining.{StandsExplained, ToldExplained, is_on};
+ghost use Rattle.flat_play.specs.Explaining.{StandsExplained, ToldExplained, is_film, is_on};
+ghost use Rattle.flat_play.specs.declared.explaining.Explaining.TheVariants as explaining;
 ghost use Rattle.flat_play.specs.Keeping.{Keeps};
 ghost use Rattle.flat_play.specs.Playing.{FramesStand};
 ghost use Rattle.flat_play.specs.Touches.{GoesOnAt};
 
 use crate::play::Play;
-use flat_base::NoMemory;
+use flat_base::{FrameNo, NoMemory};
 use flat_places::Script;
+use flat_rules::items_are_drawable;
+use flat_texts::Film;
 use flat_why::Whys;
 use std::alloc::Global;
 
@@ -24,29 +29,20 @@ pub enum Explaining {
     Off,
     /// Why each of them is on the display, or isn't.
     On(Whys),
+    /// The pictures of its frames.
+    Film(Film),
 }
 
 impl Explaining {
-    /// Before any line.
-    pub fn new(alloc: Global, script: &Script, asked: bool) -> Result<Explaining, NoMemory>
-        requires { is_setup script.now.setup ≡ true }
-        ensures stands { IfOk result (StandsExplained script.now []) }
-        ensures on { IfOk result (λ explaining. is_on explaining ≡ asked) }
-    {
-        if asked {
-            let whys = Whys::new(alloc, script)?;
-            return Ok(Explaining::On(whys));
-        }
-        Ok(Explaining::Off)
-    }
-
-    /// Notes the entry that a line made, if it made one: there were so many before it.
+    /// Notes the entry that a line made, if it made one: there were so many before it, and
+    /// this frame was the last one.
     pub fn note(
         &mut self,
         alloc: Global,
         script: &Script,
         play: &Play,
         entries: usize,
+        frame: FrameNo,
     ) -> Result<(), NoMemory>
         requires setup { is_setup script.now.setup ≡ true }
         requires of { play.now.board.setup ≡ script.now.setup }
@@ -56,10 +52,12 @@ impl Explaining {
             (finished script.now.setup play.now.board.history) }
         requires before { (old : List Entry) × (number : ℕ) × (length old ≡ entries)
             × GoesOnAt number old play.now.board.history
-            × StandsExplained script.now old self.old }
+            × StandsExplained script.now old self.old × (frames old ≡ frame.0) }
+        requires number { play.now.last.frame.0 ≡ frames play.now.board.history }
         ensures stands { OnOk result (StandsExplained script.now play.now.board.history
             self.new) }
         ensures on { OnOk result (is_on self.new ≡ is_on self.old) }
+        ensures film { OnOk result (is_film self.new ≡ is_film self.old) }
     {
         match self {
             Explaining::Off => Ok(()),
@@ -69,6 +67,16 @@ impl Explaining {
                 }
                 let frame = play.kept.last();
                 whys.note(alloc, script, &play.board, play.ratio, &play.shown, frame)
+            }
+            Explaining::Film(film) => {
+                if play.last.frame.0 == frame.0 {
+                    return Ok(());
+                }
+                items_are_drawable();
+                match play.kept.last() {
+                    Some(frame) => film.push(frame),
+                    None => unreachable!(),
+                }
             }
         }
     }
@@ -84,7 +92,18 @@ impl Explaining {
     {
         match self {
             Explaining::On(whys) => whys.into_text(),
-            Explaining::Off => unreachable!(),
+            Explaining::Off | Explaining::Film(_) => unreachable!(),
+        }
+    }
+
+    /// The pictures of a run's frames, where these were asked for.
+    pub fn into_film(self) -> Film
+        requires { is_film self ≡ true }
+        ensures { explaining.Film result ≡ self }
+    {
+        match self {
+            Explaining::Film(film) => film,
+            Explaining::Off | Explaining::On(_) => unreachable!(),
         }
     }
 }

@@ -1,10 +1,11 @@
 //! What a run keeps of its frames: what its word writes of them, and no more. The last one
 //! is kept whole, since displays are shown it, and the next one's lines and damage are told
 //! by it.
-ghost use Rattle.std.specs.Prelude.{◌≡◌, ◌∷◌, ◌++◌, [], List, OnOk};
+ghost use Rattle.std.specs.Prelude.{◌≡◌, ◌∷◌, ◌++◌, [], List, map, option_map, OnOk};
 ghost use Rattle.std.specs.Option.{option_copied};
 ghost use Rattle.flat_base.specs.Last.{last_item};
 ghost use Rattle.flat_scene.specs.declared.frames.FrameOut.{FrameOut};
+ghost use Rattle.flat_report.specs.FrameTexts.{frame_text};
 ghost use Rattle.flat_play.specs.Keeping.{Keeps, KeepsMore, keeping_of};
 ghost use Rattle.flat_play.specs.declared.kept.Kept.TheVariants as kept;
 ghost use Rattle.flat_play.specs.declared.kept.Keeping.TheVariants as keeping;
@@ -79,6 +80,18 @@ impl Kept {
             Kept::Damages(damages) => damages.last(),
             Kept::Trees(trees) => trees.last(),
             Kept::Last(last) => last.as_ref(),
+        }
+    }
+
+    /// The text of the last frame, if there is one and texts are kept.
+    pub fn last_text(&self) -> Option<&[u8]>
+        ensures { (script : Script) (frames : List FrameOut) → Keeps script self.now frames →
+            keeping_of self.now ≡ keeping.Texts → option_map (λ text. text.now) result
+            ≡ last_item (map (frame_text script) frames) }
+    {
+        match self {
+            Kept::Texts(texts) => texts.last_text(),
+            Kept::Damages(_) | Kept::Trees(_) | Kept::Last(_) => None,
         }
     }
 

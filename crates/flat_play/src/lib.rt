@@ -12,6 +12,7 @@
 #![tactic(auto)]
 
 mod explaining;
+mod filming;
 mod frame;
 mod kept;
 mod play;
@@ -20,6 +21,7 @@ mod run;
 mod touches;
 mod trees;
 
+pub use filming::play_filmed;
 pub use frame::{LastFrame, show_last};
 pub use kept::{Keeping, Kept};
 pub use play::Play;

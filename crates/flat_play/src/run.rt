@@ -13,7 +13,7 @@ ghost use Rattle.flat_play.specs.Beginning.{AreBegun};
 ghost use Rattle.flat_play.specs.Playing.{with_one_more, shares_of, AreNew, PlayStands, HasPlayed};
 ghost use Rattle.flat_report.specs.Report.{finished};
 ghost use Rattle.flat_why.specs.Text.{why_text};
-ghost use Rattle.flat_play.specs.Explaining.{StandsExplained, ToldExplained, is_on};
+ghost use Rattle.flat_play.specs.Explaining.{StandsExplained, ToldExplained, is_film, is_on};
 ghost use Rattle.flat_play.specs.Keeping.{keeping_of};
 ghost use Rattle.flat_display.specs.Had.{AreKept};
 ghost use Rattle.flat_play.specs.Touches.{touch_of};
@@ -35,6 +35,7 @@ use flat_report::{HitAnswers, ProbeAnswers};
 use flat_scene::{SessionSet, Setup};
 use flat_stage::{Reader, lines_are_read};
 use flat_topology::Shown;
+use flat_why::Whys;
 use std::alloc::Global;
 
 /// The number of an actor's seat.
@@ -161,6 +162,7 @@ fn play_each(
     ensures explained { OnOk result (StandsExplained script.now play.new.board.history
         explaining.new) }
     ensures on { OnOk result (is_on explaining.new ≡ is_on explaining.old) }
+    ensures film { OnOk result (is_film explaining.new ≡ is_film explaining.old) }
     ensures keeping { OnOk result (keeping_of play.new.kept ≡ keeping_of play.old.kept) }
     ensures seen { OnOk result (HaveSeen (λ d. shown d) (λ d. faults d)
         (finished script.now.setup play.new.board.history) play.new.board.history set.new.lost
@@ -177,10 +179,11 @@ fn play_each(
         left = answer_upto(alloc, setup, &mut play.last, left, line.number, found)?;
         answer_line(alloc, setup, &mut play.last, line, answers)?;
         let entries = play.board.journal().entries.len();
+        let frame = play.last.frame;
         play.play_line(alloc, script, place, set, displays)?;
         // proof: and so are they with those of the line.
         let _journal = play.board.journal();
-        explaining.note(alloc, script, play, entries)?;
+        explaining.note(alloc, script, play, entries, frame)?;
     }
     // proof: so are all of them.
     let _journal = play.board.journal();
@@ -195,7 +198,6 @@ struct LinesPlayed {
     play: Play,
     touches: Vec<Touch>,
     probes: Vec<ProbeAnswers>,
-    explaining: Explaining,
 }
 
 /// Plays a script to the end of its lines.
@@ -204,12 +206,13 @@ fn play_lines(
     script: &Script,
     keeping: Keeping,
     lines: &[PointerLine],
-    asked: bool,
+    explaining: &mut Explaining,
     set: &mut DisplaySet,
     displays: &mut Vec<Box<dyn Display>>,
 ) -> Result<LinesPlayed, NoMemory>
     requires playable { is_playable script.now ≡ true }
     requires rise { rise_after 0 lines.now ≡ true }
+    requires unexplained { StandsExplained script.now [] explaining.old }
     requires number { length displays.old.items ≡ set.old.displays }
     requires few { set.old.displays < 2 ^ 32 }
     requires none { set.old.lost ≡ [] }
@@ -221,8 +224,9 @@ fn play_lines(
     ensures in_turn { IfOk result (λ ran. frames_seen ran.probes.items
         ≡ seen_in_turn script.now ran.play.board.history) }
     ensures explained { IfOk result (λ ran. StandsExplained script.now ran.play.board.history
-        ran.explaining) }
-    ensures on { IfOk result (λ ran. is_on ran.explaining ≡ asked) }
+        explaining.new) }
+    ensures on { OnOk result (is_on explaining.new ≡ is_on explaining.old) }
+    ensures film { OnOk result (is_film explaining.new ≡ is_film explaining.old) }
     ensures keeping { IfOk result (λ ran. keeping_of ran.play.kept ≡ keeping) }
     ensures seen { IfOk result (λ ran. HaveSeen (λ d. shown d) (λ d. faults d)
         (finished script.now.setup ran.play.board.history) ran.play.board.history set.new.lost
@@ -232,7 +236,6 @@ fn play_lines(
 {
     let mut probes = no_answers(alloc, script.setup.probes)?;
     let mut touches = Vec::new(alloc);
-    let mut explaining = Explaining::new(alloc, script, asked)?;
     let mut play = start(alloc, script, keeping)?;
     let ended = play_each(
         alloc,
@@ -241,7 +244,7 @@ fn play_lines(
         lines,
         &mut touches,
         &mut probes,
-        &mut explaining,
+        explaining,
         set,
         displays,
     );
@@ -250,7 +253,6 @@ fn play_lines(
             play,
             touches,
             probes,
-            explaining,
         }),
         Err(NoMemory) => {
             drop(play);
@@ -302,22 +304,20 @@ pub fn let_go(board: Board) {
     drop(board);
 }
 
-/// What is asked of a play beside its report.
-type Asked = (Played, Vec<Touch>, Explaining);
-
 /// Plays a script to its end, and answers lines of pointers on the way: whom one that goes
-/// down hits, in the frame that was finished last before its line. Where it is asked for,
-/// it notes why sessions are on the display, or aren't.
-fn play_whole(
+/// down hits, in the frame that was finished last before its line. Beside, it notes what is
+/// asked for.
+pub(crate) fn play_whole(
     alloc: Global,
     script: &Script,
     keeping: Keeping,
     lines: &[PointerLine],
-    asked: bool,
+    explaining: &mut Explaining,
     displays: &mut Vec<Box<dyn Display>>,
-) -> Result<Asked, NoMemory>
+) -> Result<(Played, Vec<Touch>), NoMemory>
     requires playable { is_playable script.now ≡ true }
     requires rise { rise_after 0 lines.now ≡ true }
+    requires unexplained { StandsExplained script.now [] explaining.old }
     requires few { length displays.old.items < 2 ^ 32 }
     ensures played { IfOk result (λ ran. HasPlayed script.now ran.0.board ran.0.kept
         ran.0.answers) }
@@ -328,8 +328,9 @@ fn play_whole(
     ensures in_turn { IfOk result (λ ran. frames_seen ran.0.probes.items
         ≡ seen_in_turn script.now ran.0.board.history) }
     ensures explained { IfOk result (λ ran. ToldExplained script.now ran.0.board.history
-        ran.2) }
-    ensures on { IfOk result (λ ran. is_on ran.2 ≡ asked) }
+        explaining.new) }
+    ensures on { OnOk result (is_on explaining.new ≡ is_on explaining.old) }
+    ensures film { OnOk result (is_film explaining.new ≡ is_film explaining.old) }
     ensures written { IfOk result (λ ran. IsWritten script.now.setup ran.0.board.history) }
     ensures keeping { IfOk result (λ ran. keeping_of ran.0.kept ≡ keeping) }
     ensures seen { IfOk result (λ ran. HaveSeen (λ d. shown d) (λ d. faults d)
@@ -343,8 +344,9 @@ fn play_whole(
         mut play,
         touches,
         probes,
-        explaining,
-    } = play_lines(alloc, script, keeping, lines, asked, &mut set, displays)?;
+    } = play_lines(
+        alloc, script, keeping, lines, explaining, &mut set, displays,
+    )?;
     play.end_all(script);
     let Play {
         board,
@@ -364,7 +366,7 @@ fn play_whole(
         probes,
         set,
     };
-    Ok((played, touches, explaining))
+    Ok((played, touches))
 }
 
 /// Plays a script to its end, as [`play_script`] does, and answers lines of pointers
@@ -396,10 +398,14 @@ pub fn play_touched(
     ensures kept { AreKept (λ d. shown d) (λ d. faults d) (AreBegun script.now)
         displays.old.items displays.new.items (λ d. d.vtable) }
 {
-    let (played, touches, _explaining) = play_whole(
-        alloc, script, keeping, lines, false, displays,
-    )?;
-    Ok((played, touches))
+    play_whole(
+        alloc,
+        script,
+        keeping,
+        lines,
+        &mut Explaining::Off,
+        displays,
+    )
 }
 
 /// Plays a script to its end: its lines in written order, and then an End of each
@@ -453,15 +459,9 @@ pub fn play_explained(
     ensures kept { AreKept (λ d. shown d) (λ d. faults d) (AreBegun script.now)
         displays.old.items displays.new.items (λ d. d.vtable) }
 {
-    let (played, _touches, explaining) = play_whole(
-        alloc,
-        script,
-        Keeping::Last,
-        &[],
-        true,
-        displays,
-    )?;
-    match explaining.into_text() {
+    let mut whys = Explaining::On(Whys::new(alloc, script)?);
+    let (played, _touches) = play_whole(alloc, script, Keeping::Last, &[], &mut whys, displays)?;
+    match whys.into_text() {
         Ok(text) => Ok((played, text)),
         Err(NoMemory) => {
             played.let_go();

@@ -47,7 +47,8 @@ module _ {D : Type 0} (shown : D → Option (List FrameOut)) (faults : D → ℕ
     quiet_answer : (status : ℕ) (text : List ℕ) → IsAnswer shown faults (d ∷ []) (d' ∷ []) words left left' status text → IsAnswer {D = ⊤} (λ _. None) (λ _. 0) (tt ∷ []) (tt ∷ []) words left left' status text
     quiet_answer status text (IsAnswer.usage nothing same) = IsAnswer.usage nothing refl
     quiet_answer status text (IsAnswer.refusal form calls read refused same) = IsAnswer.refusal form calls read refused refl
-    quiet_answer status text (IsAnswer.too_large bytes calls all large same) = IsAnswer.too_large bytes calls all large refl
+    quiet_answer status text (IsAnswer.too_large form bytes calls all large same) = IsAnswer.too_large form bytes calls all large refl
+    quiet_answer status text (IsAnswer.judged bytes calls all is same) = IsAnswer.judged bytes calls all is refl
     quiet_answer status text (IsAnswer.told form bytes calls of told) = IsAnswer.told form bytes calls of (told.0, quiet_driven _ _ told.1)
 
   quiet_kept : {K : Type 0} (AreOfSort : List FrameOut → Type 0) (kind : D → K) → AreKept shown faults AreOfSort (d ∷ []) (d' ∷ []) kind → AreKept {D = ⊤} (λ _. None) (λ _. 0) AreOfSort (tt ∷ []) (tt ∷ []) {K = ⊤} (λ _. tt)

@@ -20,7 +20,7 @@ use Rattle.flat_report.specs.Handed.{answer_line, answers_text, probe_words}
 use Rattle.flat_report.specs.Laws.{FramesAreSeen}
 use Rattle.flat_report.specs.Probes.{AreAnsweredBy, ProbesAnswered, ProbesAsk, answer_by, asked_by, asked_hits, frame_seen, frames_seen, hits_in_frame, is_asking, never_fall_from}
 use Rattle.flat_report.specs.Report.{is_probe, never_falls, numbers_from, probe_lines, probe_lines_of, same_probe, seen_line, seen_words}
-use Rattle.flat_report.proofs.Tails.{text-append}
+use Rattle.flat_report.proofs.lemmas.Tails.{text-append}
 
 -- ---- a list beside another
 

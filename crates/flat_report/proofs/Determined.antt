@@ -13,12 +13,12 @@ use Rattle.flat_lines.specs.EntryLines.{entry_line, event_line}
 use Rattle.flat_lines.specs.FrameLines.{frame_lines, lost_line, lost_at}
 use Rattle.flat_report.specs.Report.{frame_at, hits_at, shown_lines, entry_lines}
 use Rattle.flat_page.specs.Words.{Word}
-use Rattle.flat_report.proofs.Losses.{AgreeTo, is_small, losses-told, all-at}
-use Rattle.flat_report.proofs.Named.{IsNamed, Acts, acts, same-actor}
-use Rattle.flat_report.proofs.Openings.{NoEntry, NoLoss, entry-no-loss, entry-actors, event-no-loss}
-use Rattle.flat_report.proofs.Sheets.{line_on, sheet, sheet-append, line-same, sheet-same}
-use Rattle.flat_report.proofs.Tails.{onto, tail}
-use Rattle.flat_report.proofs.Turns.{Stands, stood, one-more}
+use Rattle.flat_report.proofs.lemmas.Losses.{AgreeTo, is_small, losses-told, all-at}
+use Rattle.flat_report.proofs.lemmas.Named.{IsNamed, Acts, acts, same-actor}
+use Rattle.flat_report.proofs.lemmas.Openings.{NoEntry, NoLoss, entry-no-loss, entry-actors, event-no-loss}
+use Rattle.flat_report.proofs.lemmas.Sheets.{line_on, sheet, sheet-append, line-same, sheet-same}
+use Rattle.flat_report.proofs.lemmas.Tails.{onto, tail}
+use Rattle.flat_report.proofs.lemmas.Turns.{Stands, stood, one-more}
 
 -- What two texts of later entries tell: the entries, the displays lost at their frames, and what stands behind.
 pub record Tells (before later later' : List Entry) (lost lost' : List Lost) (rest rest' : List ℕ) : Type 0 where

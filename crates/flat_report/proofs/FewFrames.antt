@@ -14,7 +14,7 @@ use Rattle.flat_scene.specs.declared.setup.Setup.{Setup}
 use Rattle.flat_scene.specs.History.{◌▹◌, is_finish, is_display}
 use Rattle.flat_scene.specs.Interleave.{FollowsDisplay, IsFirstLine, by_display, display_line, display_lines, last_line, unread_lines}
 use Rattle.flat_rules.specs.Legal.{Legal, may_act, frames}
-use Rattle.flat_report.proofs.Turns.{Stands}
+use Rattle.flat_report.proofs.lemmas.Turns.{Stands}
 
 -- ---- filters
 

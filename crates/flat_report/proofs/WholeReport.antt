@@ -12,13 +12,13 @@ use Rattle.flat_report.specs.Report.{entry_lines, history_lines, never_falls, pr
 use Rattle.flat_page.specs.Words.{Word, number}
 use Rattle.flat_report.proofs.Determined.{Tells, later-told}
 use Rattle.flat_report.proofs.FewFrames.{few-frames}
-use Rattle.flat_report.proofs.Losses.{losses-same}
-use Rattle.flat_report.proofs.Openings.{NoEntry, NoLoss, end-no-entry, end-no-loss}
-use Rattle.flat_report.proofs.Reading.{Kept, read-kept}
-use Rattle.flat_report.proofs.SeenTold.{probe-lines-are, seen-no-entry, seen-no-loss, seen-told}
-use Rattle.flat_report.proofs.Sheets.{line_on, sheet, sheet-append, line-same, text-is}
-use Rattle.flat_report.proofs.Tails.{onto, onto-reverse, tail, grows}
-use Rattle.flat_report.proofs.Turns.{Stands, stands}
+use Rattle.flat_report.proofs.lemmas.Losses.{losses-same}
+use Rattle.flat_report.proofs.lemmas.Openings.{NoEntry, NoLoss, end-no-entry, end-no-loss}
+use Rattle.flat_report.proofs.lemmas.Reading.{Kept, read-kept}
+use Rattle.flat_report.proofs.lemmas.SeenTold.{probe-lines-are, seen-no-entry, seen-no-loss, seen-told}
+use Rattle.flat_report.proofs.lemmas.Sheets.{line_on, sheet, sheet-append, line-same, text-is}
+use Rattle.flat_report.proofs.lemmas.Tails.{onto, onto-reverse, tail, grows}
+use Rattle.flat_report.proofs.lemmas.Turns.{Stands, stands}
 use Rattle.std.proofs.lemmas.Bool.{and_parts}
 
 -- a history is its entries, from the oldest on

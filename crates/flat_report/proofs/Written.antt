@@ -20,7 +20,7 @@ use Rattle.flat_report.specs.Probes.{frames_seen}
 use Rattle.flat_report.specs.Report.{finished, history_lines, entry_lines, seen_line, probe_lines}
 use Rattle.flat_page.specs.Words.{Word, text_of}
 use Rattle.flat_report.proofs.Answered.{probes-text}
-use Rattle.flat_report.proofs.Tails.{onto, tail, post_step, frame_step, answer_step, onto-reverse, grows, next_posts, next_text, later_texts, later_answers, finished_one, text-append}
+use Rattle.flat_report.proofs.lemmas.Tails.{onto, tail, post_step, frame_step, answer_step, onto-reverse, grows, next_posts, next_text, later_texts, later_answers, finished_one, text-append}
 
 -- How far the loop has come: so many entries were written, and with what is left they make up the whole text.
 pub record Written (script : Script) (lost : List Lost) (probes : List (List ProbeAnswer)) (all : List Entry) (ps0 : List Post) (ts0 : List (List ℕ)) (hs0 : List HitAnswer) (old new : List ℕ) (place : ℕ) (posts : List Post) (texts : List (List ℕ)) (answers : List HitAnswer) (finished : ℕ) : Type 0 where

@@ -18,8 +18,8 @@ use Rattle.flat_scene.specs.Interleave.{Interleaves, IsFirstLine, IsNext, IsRead
 use Rattle.flat_scene.specs.Setups.{is_declared}
 use Rattle.flat_rules.specs.Legal.{Legal, session_may}
 use Rattle.flat_report.specs.Laws.{WrittenHistoriesAreOne}
-use Rattle.flat_report.proofs.Tails.{onto, onto-append, onto-reverse}
-use Rattle.flat_report.proofs.Turns.{Stands, stands, stood, one-more, session-at, session-next, display-next, same-first, acts-at, no-probe}
+use Rattle.flat_report.proofs.lemmas.Tails.{onto, onto-append, onto-reverse}
+use Rattle.flat_report.proofs.lemmas.Turns.{Stands, stands, stood, one-more, session-at, session-next, display-next, same-first, acts-at, no-probe}
 
 no_both : {P : Type 0} (b : Bool) → b ≡ false → b ≡ true → P
 no_both b false_it_is true_it_is = absurd (let wrong : false ≡ true = sym false_it_is ∙ true_it_is in cc)

@@ -1,7 +1,7 @@
 //! The text of each finished frame, written when it is finished: of a frame its lines are
 //! kept and not its items, which are let go once the frame after it is written. The texts
 //! carry no number: the n-th `done` has the n-th.
-ghost use Rattle.std.specs.Prelude.{◌≡◌, ◌∷◌, ◌++◌, [], List, IfOk, OnOk};
+ghost use Rattle.std.specs.Prelude.{◌≡◌, ◌∷◌, ◌++◌, [], List, map, option_map, IfOk, OnOk};
 ghost use Rattle.std.specs.Option.{option_copied};
 ghost use Rattle.flat_base.specs.Last.{last_item};
 ghost use Rattle.flat_scene.specs.declared.frames.FrameOut.{FrameOut};
@@ -115,5 +115,16 @@ impl FrameTexts {
             option_copied result ≡ last_item frames }
     {
         self.last.frame.as_ref()
+    }
+
+    /// The text of the last frame, if there is one.
+    pub fn last_text(&self) -> Option<&[u8]>
+        ensures { (script : Script) (frames : List FrameOut) → AreTexts script frames self.now →
+            option_map (λ text. text.now) result ≡ last_item (map (frame_text script) frames) }
+    {
+        match self.texts.back() {
+            Some(text) => Some(text.as_slice()),
+            None => None,
+        }
     }
 }

@@ -7,8 +7,10 @@
 //! are kept in frame_texts.rt, with the lines of draw items copied from frame to frame in
 //! item_lines.rt, and the report's own text is put together in paged_text.rt.
 //!
-//! Other crates may cite the lemmas of proofs/lemmas/: what answers to probes are after
-//! one answer more, and after more entries (ProbeSteps).
+//! Other crates may cite the lemmas of proofs/lemmas/: what answers to probes are after one
+//! answer more, and after more entries (ProbeSteps); how the text of an entry, of a frame and
+//! of its events begins (Named, Openings, Sheets); which entry a report's text goes on with
+//! (Turns, Tails, Reading, SeenTold), and which displays it says were lost (Losses).
 #![tactic(auto)]
 
 mod frame_texts;

@@ -8,18 +8,21 @@ use Rattle.flat_io.specs.Told.{Appends}
 use Rattle.flat_io.specs.Whole.{Given, AppendsPrefix}
 use Rattle.flat_scene.specs.declared.frames.FrameOut.{FrameOut}
 use Rattle.flat_render.specs.declared.grid.TheConstants.{PIXELS_MAX}
-use Rattle.flat_scene.specs.declared.setup.Setup.{Setup}
+use Rattle.flat_places.specs.declared.script.Script.{Script}
 use Rattle.flat_script.specs.declared.script.ScriptFault.{ScriptFault}
 use Rattle.flat_stress.specs.Load.{load_text}
 use Rattle.flat_words.specs.declared.form.Form.{Form}
-use Rattle.flat_words.specs.declared.form.Form.TheVariants.{Play, Race, Stress, Render, Damage, Focus, Pointer, Why}
+use Rattle.flat_words.specs.declared.form.Form.TheVariants.{Play, Race, Stress, Render, Damage, Focus, Pointer, Judge, Why, Film}
 use Rattle.flat_words.specs.Forms.{CallFor}
 use Rattle.flat_run.specs.declared.reading.Reading.{Reading}
 use Rattle.flat_run.specs.declared.given.Given.TheVariants as given
 use Rattle.flat_run.specs.declared.given.Given as gave
 use Rattle.flat_run.specs.Answering.{IsDenied, IsGiven, IsRead, IsScriptFor, IsTurnedAway}
-use Rattle.flat_run.specs.Forms.{is_read, form_read, Fits}
-use Rattle.flat_run.specs.Promise.{fault_line, large_line, CallForNothing, AreTextOf, AreGiven, AreAll, AreTooLarge, AreTooMany, Refuses, IsRefused, IsTooLarge, Tells, IsTold, IsAnswer, IsWhole, IsCutOff, Gives, IsThere, IsThereTooLarge}
+use Rattle.flat_forms.specs.Body.{dones}
+use Rattle.flat_run.specs.declared.given.TheConstants.{FILM_PIXELS_MAX}
+use Rattle.flat_run.specs.Forms.{is_read, form_read, pixels, Fits}
+use Rattle.flat_run.specs.Judging.{fault_line}
+use Rattle.flat_run.specs.Promise.{large_line, CallForNothing, AreTextOf, AreGiven, AreAll, AreTooLarge, AreTooMany, Refuses, IsRefused, IsTooLarge, Tells, IsTold, IsAnswer, IsWhole, IsCutOff, Gives, IsThere, IsThereTooLarge}
 use Rattle.flat_places.specs.declared.kinds.FaultKind.TheVariants.{TooLong}
 
 -- the form that was found is that of the words
@@ -45,7 +48,9 @@ too_long Render bytes long = rw (is_long bytes long) refl
 too_long Damage bytes long = rw (is_long bytes long) refl
 too_long Focus bytes long = rw (is_long bytes long) refl
 too_long Pointer bytes long = rw (is_long bytes long) refl
+too_long Judge bytes long = rw (is_long bytes long) refl
 too_long Why bytes long = rw (is_long bytes long) refl
+too_long Film bytes long = rw (is_long bytes long) refl
 
 -- a text that is longer than a limit
 longer : (limit : ℕ) → (bytes : List ℕ) × (limit < length bytes)
@@ -120,7 +125,7 @@ refuses_none form bytes bytes' text reading read same refuses =
     let both : Ok reading ≡ Err refuses.fault = sym read ∙ ap (form_read form) same ∙ refuses.read in
     cc
 
-module _ (form : Form) (IsOfSort : Setup → Type 0) (left left' : Option (List ℕ)) (failed failed' : ℕ) (gives : Gives form IsOfSort left left' failed failed') where
+module _ (form : Form) (IsOfSort : Script → Type 0) (left left' : Option (List ℕ)) (failed failed' : ℕ) (gives : Gives form IsOfSort left left' failed failed') where
   -- what it gave is all that was read
   gives_all : (bytes : List ℕ) → AreAll bytes left left' → gives.given ≡ bytes
   gives_all bytes all =
@@ -151,8 +156,34 @@ module _ (form : Form) (IsOfSort : Setup → Type 0) (left left' : Option (List 
       let both : Ok gives.reading ≡ Ok reading = sym gives.read ∙ ap (form_read form) (gives_all bytes all) ∙ read in
       cc
 
-too_large_to_fit : (setup : Setup) → Fits Render setup → IsTooLarge setup → ⊥
-too_large_to_fit setup fits large = let size : ℕ = setup.width * setup.height in let most : size ≤ PIXELS_MAX = fits in let more : PIXELS_MAX < size = large in omega (arith, most, more)
+over : (limit size : ℕ) → size ≤ limit → limit < size → ⊥
+over limit size most more = omega (arith, most, more)
+
+too_large_to_fit : (form : Form) (script : Script) → Fits form script → IsTooLarge form script → ⊥
+too_large_to_fit Render script fits large = over PIXELS_MAX (pixels script) fits large
+too_large_to_fit Film script fits (inl large) = over PIXELS_MAX (pixels script) fits.0 large
+too_large_to_fit Film script fits (inr large) = over FILM_PIXELS_MAX (dones script * pixels script) fits.1 large
+too_large_to_fit Play script fits large = large
+too_large_to_fit Race script fits large = large
+too_large_to_fit (Stress asked) script fits large = large
+too_large_to_fit Damage script fits large = large
+too_large_to_fit Focus script fits large = large
+too_large_to_fit Pointer script fits large = large
+too_large_to_fit Judge script fits large = large
+too_large_to_fit Why script fits large = large
+
+-- a form that writes pictures reads a script
+large_is_read : (form : Form) (script : Script) → IsTooLarge form script → is_read form ≡ true
+large_is_read (Stress asked) script large = absurd large
+large_is_read Play script large = refl
+large_is_read Race script large = refl
+large_is_read Render script large = refl
+large_is_read Damage script large = refl
+large_is_read Focus script large = refl
+large_is_read Pointer script large = refl
+large_is_read Judge script large = refl
+large_is_read Why script large = refl
+large_is_read Film script large = refl
 
 -- what a form whose script is read has there
 gives_of : (form : Form) (left left' : Option (List ℕ)) (failed failed' : ℕ) → is_read form ≡ true → IsThere form left left' failed failed' → Gives form (Fits form) left left' failed failed'
@@ -163,7 +194,9 @@ gives_of Render left left' failed failed' read there = there
 gives_of Damage left left' failed failed' read there = there
 gives_of Focus left left' failed failed' read there = there
 gives_of Pointer left left' failed failed' read there = there
+gives_of Judge left left' failed failed' read there = absurd there
 gives_of Why left left' failed failed' read there = there
+gives_of Film left left' failed failed' read there = there
 
 -- no read failed, where one was made
 pub there_no_read_fault : (form form' : Form) (left left' : Option (List ℕ)) (failed failed' : ℕ) → form' ≡ form → IsThere form left left' failed failed' → is_read form' ≡ true → IsTrue (has_risen failed failed') → ⊥
@@ -171,8 +204,8 @@ there_no_read_fault form form' left left' failed failed' same there read risen =
     let gives = gives_of form left left' failed failed' (sym (ap is_read same) ∙ read) there in
     let both : true ≡ false = sym risen ∙ gives.steady in cc
 
-pub large_no_read_fault : (left left' : Option (List ℕ)) (failed failed' : ℕ) → IsThereTooLarge left left' failed failed' → IsTrue (has_risen failed failed') → ⊥
-large_no_read_fault left left' failed failed' there risen = let both : true ≡ false = sym risen ∙ there.steady in cc
+pub large_no_read_fault : (form : Form) (left left' : Option (List ℕ)) (failed failed' : ℕ) → IsThereTooLarge form left left' failed failed' → IsTrue (has_risen failed failed') → ⊥
+large_no_read_fault form left left' failed failed' there risen = let both : true ≡ false = sym risen ∙ there.steady in cc
 
 -- ---- what is answered
 
@@ -185,7 +218,9 @@ text_of Render read left left' bytes all = all
 text_of Damage read left left' bytes all = all
 text_of Focus read left left' bytes all = all
 text_of Pointer read left left' bytes all = all
+text_of Judge read left left' bytes all = all
 text_of Why read left left' bytes all = all
+text_of Film read left left' bytes all = all
 
 -- ---- what is refused
 
@@ -194,10 +229,10 @@ pub denied : (form : Form) (bytes : List ℕ) (fault : ScriptFault) → form_rea
 denied form bytes fault read status text is_3 is = subst (λ n. IsDenied form bytes n text) (sym is_3) (IsDenied.refusal (record { fault = fault; read = read; is = is }))
 
 -- a script whose display is too large
-pub denied_large : (form : Form) (bytes : List ℕ) (reading : Reading) → form_read form bytes ≡ Ok reading → (form ≡ Render) × IsTooLarge reading.script.setup → (status : ℕ) (text : List ℕ) → status ≡ 7 → text ≡ large_line → IsDenied form bytes status text
+pub denied_large : (form : Form) (bytes : List ℕ) (reading : Reading) → form_read form bytes ≡ Ok reading → IsTooLarge form reading.script → (status : ℕ) (text : List ℕ) → status ≡ 7 → text ≡ large_line → IsDenied form bytes status text
 denied_large form bytes reading read is status text is_7 text_is =
-    let large : AreTooLarge bytes = record { reading = reading; read = subst (λ f. form_read f bytes ≡ Ok reading) is.0 read; large = is.1 } in
-    subst (λ n. IsDenied form bytes n text) (sym is_7) (subst (λ t. IsDenied form bytes 7 t) (sym text_is) (IsDenied.too_large is.0 large))
+    let large : AreTooLarge form bytes = record { reading = reading; read = read; large = is } in
+    subst (λ n. IsDenied form bytes n text) (sym is_7) (subst (λ t. IsDenied form bytes 7 t) (sym text_is) (IsDenied.too_large large))
 
 -- what was read whole is all that a source gave
 pub whole_is_given : (form : Form) (left left' : Option (List ℕ)) (bytes bytes' : List ℕ) (given : gave.Given) → bytes ≡ bytes' → Given left left' (λ given after. (given ≡ bytes') × (after ≡ [])) → IsRead form bytes given → IsGiven form left left' given
@@ -210,7 +245,7 @@ whole_is_given form left left' bytes bytes' (given.Refused answer) same it read 
   where
     by : (status : ℕ) (text : List ℕ) → IsDenied form bytes' status text → IsTurnedAway form left left' status text
     by status text (IsDenied.refusal refuses) = IsTurnedAway.refusal (record { bytes = bytes'; given = inl (all_read left left' bytes' it); refuses = refuses })
-    by status text (IsDenied.too_large is large) = IsTurnedAway.too_large bytes' is (all_read left left' bytes' it) large
+    by status text (IsDenied.too_large large) = IsTurnedAway.too_large bytes' (all_read left left' bytes' it) large
 
 -- more bytes than a script may have
 pub long_is_refused : (form : Form) (left left' : Option (List ℕ)) → Given left left' (λ given after. SCRIPT_BYTES_MAX < length given) → (status : ℕ) (text : List ℕ) → status ≡ 3 → text ≡ fault_line (record { line = 0; kind = TooLong }) → IsTurnedAway form left left' status text
@@ -225,7 +260,7 @@ module _ {D : Type 0} (shown : D → Option (List FrameOut)) (faults : D → ℕ
     -- what a source gave was refused
     pub turned_away : (form : Form) → is_read form ≡ true → CallFor words form → (status : ℕ) (text : List ℕ) → news ≡ olds → IsTurnedAway form left left' status text → IsAnswer shown faults olds news words left left' status text
     turned_away form read calls status text same (IsTurnedAway.refusal refused) = IsAnswer.refusal form calls read refused same
-    turned_away form read calls status text same (IsTurnedAway.too_large bytes is all large) = IsAnswer.too_large bytes (subst (CallFor words) is calls) all large same
+    turned_away form read calls status text same (IsTurnedAway.too_large bytes all large) = IsAnswer.too_large form bytes calls all large same
 
     -- what it gave was run
     pub read_told : (form : Form) → is_read form ≡ true → CallFor words form → (bytes : List ℕ) → AreAll bytes left left' → (status : ℕ) (text : List ℕ) → status ≡ 0 → IsTold shown faults olds news form bytes text → IsAnswer shown faults olds news words left left' status text
@@ -257,24 +292,42 @@ module _ {D : Type 0} (shown : D → Option (List FrameOut)) (faults : D → ℕ
         let is : form' ≡ form = one form' calls' in
         absurd (gives_no_fault form (Fits form) left left' failed failed' (gives_of form left left' failed failed' (sym (ap is_read is) ∙ read) there) text
         (subst (λ f. IsRefused f left left' text) is refused))
-    only_told form failed failed' calls one there status text (IsAnswer.too_large bytes calls' all large same) =
-        let here : IsThere Render left left' failed failed' = subst (λ f. IsThere f left left' failed failed') (sym (one Render calls')) there in
-        let reads : here.reading ≡ large.reading = reads_it Render (Fits Render) left left' failed failed' here bytes large.reading all large.read in
-        let fits : Fits Render large.reading.script.setup = subst (λ (r : Reading). Fits Render r.script.setup) reads here.sort in
-        absurd (too_large_to_fit large.reading.script.setup fits large.large)
+    only_told form failed failed' calls one there status text (IsAnswer.too_large form' bytes calls' all large same) =
+        let here : IsThere form' left left' failed failed' = subst (λ f. IsThere f left left' failed failed') (sym (one form' calls')) there in
+        let gives : Gives form' (Fits form') left left' failed failed' = gives_of form' left left' failed failed' (large_is_read form' large.reading.script large.large) here in
+        let reads : gives.reading ≡ large.reading = reads_it form' (Fits form') left left' failed failed' gives bytes large.reading all large.read in
+        let fits : Fits form' large.reading.script = subst (λ (r : Reading). Fits form' r.script) reads gives.sort in
+        absurd (too_large_to_fit form' large.reading.script fits large.large)
+    only_told form failed failed' calls one there status text (IsAnswer.judged bytes calls' all is same) =
+        absurd (subst (λ f. IsThere f left left' failed failed') (sym (one Judge calls')) there)
     only_told form failed failed' calls one there status text (IsAnswer.told form' bytes calls' of told) = refl
 
     -- or that a picture would be too large
-    pub only_large : (failed failed' : ℕ) → CallFor words Render → ((f : Form) → CallFor words f → f ≡ Render) → IsThereTooLarge left left' failed failed'
+    pub only_large : (form : Form) (failed failed' : ℕ) → CallFor words form → ((f : Form) → CallFor words f → f ≡ form) → IsThereTooLarge form left left' failed failed'
         → (status : ℕ) (text : List ℕ) → IsAnswer shown faults olds news words left left' status text → status ≡ 7
-    only_large failed failed' calls one there status text (IsAnswer.usage nothing same) = absurd (nothing Render calls)
-    only_large failed failed' calls one there status text (IsAnswer.refusal form' calls' read refused same) =
-        absurd (gives_no_fault Render IsTooLarge left left' failed failed' there text (subst (λ f. IsRefused f left left' text) (one form' calls') refused))
-    only_large failed failed' calls one there status text (IsAnswer.too_large bytes calls' all large same) = refl
-    only_large failed failed' calls one there status text (IsAnswer.told form' bytes calls' of told) =
-        let is : form' ≡ Render = one form' calls' in
-        let all : AreTextOf Render left left' bytes = subst (λ f. AreTextOf f left left' bytes) is of in
-        let tells : Tells Render bytes text = subst (λ f. Tells f bytes text) is told.0 in
-        let reads : there.reading ≡ tells.ran.reading = reads_it Render IsTooLarge left left' failed failed' there bytes tells.ran.reading all tells.read in
-        let large : IsTooLarge tells.ran.reading.script.setup = subst (λ (r : Reading). IsTooLarge r.script.setup) reads there.sort in
-        absurd (too_large_to_fit tells.ran.reading.script.setup tells.has_run.fits large)
+    only_large form failed failed' calls one there status text (IsAnswer.usage nothing same) = absurd (nothing form calls)
+    only_large form failed failed' calls one there status text (IsAnswer.refusal form' calls' read refused same) =
+        absurd (gives_no_fault form (IsTooLarge form) left left' failed failed' there text (subst (λ f. IsRefused f left left' text) (one form' calls') refused))
+    only_large form failed failed' calls one there status text (IsAnswer.too_large form' bytes calls' all large same) = refl
+    only_large form failed failed' calls one there status text (IsAnswer.judged bytes calls' all is same) =
+        absurd (subst (λ f. IsTooLarge f there.reading.script) (sym (one Judge calls')) there.sort)
+    only_large form failed failed' calls one there status text (IsAnswer.told form' bytes calls' of told) =
+        let is : form' ≡ form = one form' calls' in
+        let of_form : AreTextOf form left left' bytes = subst (λ f. AreTextOf f left left' bytes) is of in
+        let all : AreAll bytes left left' = all_of form (large_is_read form there.reading.script there.sort) bytes of_form in
+        let tells : Tells form bytes text = subst (λ f. Tells f bytes text) is told.0 in
+        let reads : there.reading ≡ tells.ran.reading = reads_it form (IsTooLarge form) left left' failed failed' there bytes tells.ran.reading all tells.read in
+        let large : IsTooLarge form tells.ran.reading.script = subst (λ (r : Reading). IsTooLarge form r.script) reads there.sort in
+        absurd (too_large_to_fit form tells.ran.reading.script tells.has_run.fits large)
+      where
+        all_of : (f : Form) → is_read f ≡ true → (bs : List ℕ) → AreTextOf f left left' bs → AreAll bs left left'
+        all_of (Stress asked) read bs it = absurd (let wrong : false ≡ true = read in cc)
+        all_of Play read bs it = it
+        all_of Race read bs it = it
+        all_of Render read bs it = it
+        all_of Damage read bs it = it
+        all_of Focus read bs it = it
+        all_of Pointer read bs it = it
+        all_of Judge read bs it = it
+        all_of Why read bs it = it
+        all_of Film read bs it = it

@@ -1,5 +1,5 @@
 pub mod Answering
-mod ForWhy
+mod ForForm
 pub mod FramesDone
 pub mod Loads
 pub mod lemmas

@@ -8,7 +8,7 @@ use Rattle.flat_script.specs.Grammar.{text_read}
 use Rattle.flat_report.specs.Laws.{IsRun, ReportsDetermineHistories}
 use Rattle.flat_report.specs.Report.{report}
 use Rattle.flat_run.specs.declared.reading.Reading.{Reading}
-use Rattle.flat_words.specs.declared.form.Form.TheVariants.{Play, Race, Stress, Render, Damage, Focus, Pointer, Why}
+use Rattle.flat_words.specs.declared.form.Form.TheVariants.{Play, Race, Stress, Render, Damage, Focus, Pointer, Judge, Why, Film}
 use Rattle.flat_run.specs.Laws.{ReportsHaveOneRun}
 use Rattle.flat_run.specs.Forms.{Ran, plain, read_as}
 
@@ -45,4 +45,6 @@ one-run determine Render reports bytes text first second = absurd (let wrong : f
 one-run determine Damage reports bytes text first second = absurd (let wrong : false ≡ true = reports in cc)
 one-run determine Focus reports bytes text first second = absurd (let wrong : false ≡ true = reports in cc)
 one-run determine Pointer reports bytes text first second = absurd (let wrong : false ≡ true = reports in cc)
+one-run determine Judge reports bytes text first second = absurd (let wrong : false ≡ true = reports in cc)
 one-run determine Why reports bytes text first second = absurd (let wrong : false ≡ true = reports in cc)
+one-run determine Film reports bytes text first second = absurd (let wrong : false ≡ true = reports in cc)

@@ -3,7 +3,7 @@ use Rattle.std.proofs.Common.{◌≡◌, ◌≢◌, ℕ, List, [], ◌∷◌, ma
 use Rattle.flat_scene.specs.declared.frames.Lost.{Lost}
 use Rattle.flat_scene.specs.declared.journal.Entry.{Entry}
 use Rattle.flat_words.specs.declared.form.Form.{Form}
-use Rattle.flat_words.specs.declared.form.Form.TheVariants.{Play, Race, Stress, Render, Damage, Focus, Pointer, Why}
+use Rattle.flat_words.specs.declared.form.Form.TheVariants.{Play, Race, Stress, Render, Damage, Focus, Pointer, Judge, Why, Film}
 use Rattle.flat_damage.specs.Unchanged.{DamageIsOne}
 use Rattle.flat_focus.specs.Text.{focus_text}
 use Rattle.flat_pointer.specs.Text.{pointer_text}
@@ -14,6 +14,7 @@ use Rattle.flat_stress.specs.Summary.{summary_line}
 use Rattle.flat_texts.specs.declared.damage.Damaged.{Damaged}
 use Rattle.flat_texts.specs.Damages.{AreDamaged, damaged_text}
 use Rattle.flat_texts.specs.Lines.{finish_lines}
+use Rattle.flat_texts.specs.Films.{film_text}
 use Rattle.flat_texts.specs.Pictures.{picture_text}
 use Rattle.flat_why.specs.Text.{why_text}
 use Rattle.flat_play.specs.Touches.{touch_of}
@@ -66,7 +67,9 @@ text-one damage Focus no_race ran ran' reading history seen lost text text' is i
     is ∙ (λ i. focus_text (reading i).script.sessions (finish_lines (reverse (history i))) (finished (reading i).script.setup (history i)) (reading i).focus) ∙ sym is'
 text-one damage Pointer no_race ran ran' reading history seen lost text text' is is' =
     is ∙ (λ i. pointer_text (reading i).script.sessions (finish_lines (reverse (history i))) (finished (reading i).script.setup (history i)) (map (touch_of (reading i).script.setup (history i)) (reading i).pointers)) ∙ sym is'
+text-one damage Judge no_race ran ran' reading history seen lost text text' is is' = absurd is
 text-one damage Why no_race ran ran' reading history seen lost text text' is is' = is ∙ (λ i. why_text (reading i).script (history i)) ∙ sym is'
+text-one damage Film no_race ran ran' reading history seen lost text text' is is' = is ∙ (λ i. film_text (reading i).script.setup (finished (reading i).script.setup (history i))) ∙ sym is'
 
 pub texts-are-one : WrittenHistoriesAreOne → DamageIsOne → TextsAreOne
 texts-are-one law damage form no_race bytes text text' first second lost =

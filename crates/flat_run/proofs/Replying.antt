@@ -5,7 +5,7 @@ use Rattle.flat_display.specs.Had.{AreKept}
 use Rattle.flat_scene.specs.declared.frames.FrameOut.{FrameOut}
 use Rattle.flat_stress.specs.Load.{load_text}
 use Rattle.flat_words.specs.declared.form.Form.{Form}
-use Rattle.flat_words.specs.declared.form.Form.TheVariants.{Stress}
+use Rattle.flat_words.specs.declared.form.Form.TheVariants.{Judge, Stress}
 use Rattle.flat_words.specs.Forms.{CallFor}
 use Rattle.flat_play.specs.Beginning.{AreBegun}
 use Rattle.flat_play.proofs.lemmas.Seen.{kept_as, kept_none}
@@ -15,6 +15,10 @@ use Rattle.flat_run.specs.declared.answers.Unanswered.TheVariants.{Fault, Memory
 use Rattle.flat_run.specs.declared.given.Given.{Given}
 use Rattle.flat_run.specs.declared.given.Given.TheVariants.{Script}
 use Rattle.flat_run.specs.declared.reading.Reading.{Reading}
+use Rattle.flat_judge.specs.declared.cutting.Judged.{Judged}
+use Rattle.flat_judge.specs.declared.cutting.Judged.TheVariants.{Said, Refused}
+use Rattle.flat_judge.specs.declared.judging.Verdict.TheVariants.{Legal, Wrong}
+use Rattle.flat_run.specs.Judging.{IsJudged, judged_status}
 use Rattle.flat_run.specs.Answering.{Answers, IsGiven, IsScriptFor, IsTurnedAway}
 use Rattle.flat_run.specs.Forms.{form_read, is_read}
 use Rattle.flat_run.specs.Promise.{AreAll, AreFramesFor, AreFramesOf, AreGiven, IsAnswer, IsTold}
@@ -35,9 +39,9 @@ module _ {D : Type 0} (shown : D → Option (List FrameOut)) (faults : D → ℕ
       let P : List D → Type 0 = λ ds. AreKept shown faults (AreFramesFor words source.left source'.left) olds ds kind in
       subst P (sym same) (kept_none shown faults (AreFramesFor words source.left source'.left) kind olds AreFramesFor.none)
 
-  away_statuses : (status : ℕ) (text : List ℕ) → IsTurnedAway form source.left source'.left status text → IsTrue (status == 0 || status == 3 || status == 7)
+  away_statuses : (status : ℕ) (text : List ℕ) → IsTurnedAway form source.left source'.left status text → IsTrue (status == 0 || status == 3 || status == 7 || status == 8)
   away_statuses status text (IsTurnedAway.refusal refused) = refl
-  away_statuses status text (IsTurnedAway.too_large bytes is all large) = refl
+  away_statuses status text (IsTurnedAway.too_large bytes all large) = refl
 
   -- what it gave was refused
   pub answers_refused : is_read form ≡ true → (answer : Answer) → IsTurnedAway form source.left source'.left answer.status answer.text → (given : List ℕ) × AreGiven given source.left source'.left → source.faults ≤ source'.faults → source'.faults ≡ source.faults → news ≡ olds
@@ -106,7 +110,7 @@ module _ {D : Type 0} (shown : D → Option (List FrameOut)) (faults : D → ℕ
 
   pub load_answers : (form : Form) → form ≡ Stress asked → (answer : Answer) → answer.status ≡ 0 → IsTold shown faults olds news (Stress asked) (load_text asked) answer.text → Answers shown faults kind form source source olds news (Ok answer)
   load_answers form is answer is_0 told =
-      let among : ℕ → Type 0 = λ n. IsTrue (n == 0 || n == 3 || n == 7) in
+      let among : ℕ → Type 0 = λ n. IsTrue (n == 0 || n == 3 || n == 7 || n == 8) in
       let F : Form → Type 0 = λ f. Answers shown faults kind f source source olds news (Ok answer) in
       subst F (sym is) (record {
         answer = λ words calls. load_told shown faults olds news words source.left source.left asked answer.status answer.text calls is_0 told;
@@ -132,3 +136,40 @@ module _ {D : Type 0} (shown : D → Option (List FrameOut)) (faults : D → ℕ
         fault = λ same. absurd (let wrong : ◌≡◌ {A = Result Answer Unanswered} (Err Memory) (Err Fault) = same in cc);
         reads = λ same. absurd (let wrong : ◌≡◌ {A = Result Answer Unanswered} (Err Memory) (Err Fault) = same in cc);
       })
+
+-- A text was judged, or could not be: displays had no part in it.
+module _ {D : Type 0} (shown : D → Option (List FrameOut)) (faults : D → ℕ) {K : Type 0} (kind : D → K) (source source' : SourceState) (displays : List D) where
+  judged_statuses : (bytes : List ℕ) (status : ℕ) (text : List ℕ) → IsJudged bytes status text → IsTrue (status == 0 || status == 3 || status == 7 || status == 8)
+  judged_statuses bytes status text is = let P : ℕ → Type 0 = λ n. IsTrue (n == 0 || n == 3 || n == 7 || n == 8) in subst P (sym is.status_is) (by is.judged)
+    where
+      by : (judged : Judged) → IsTrue (judged_status judged == 0 || judged_status judged == 3 || judged_status judged == 7 || judged_status judged == 8)
+      by (Said (Legal entries finished)) = refl
+      by (Said (Wrong line want)) = refl
+      by (Refused fault) = refl
+
+  pub judged_answers : (form : Form) → form ≡ Judge → (result : Result Answer Unanswered) → IfOk result (λ a. (bytes : List ℕ) × AreAll bytes source.left source'.left × IsJudged bytes a.status a.text)
+      → (given : List ℕ) × AreGiven given source.left source'.left → source.faults ≤ source'.faults → (◌≢◌ {A = Result Answer Unanswered} result (Err Fault) → source'.faults ≡ source.faults)
+      → (◌≡◌ {A = Result Answer Unanswered} result (Err Fault) → IsTrue (has_risen source.faults source'.faults)) → Answers shown faults kind form source source' displays displays result
+  judged_answers form is result judged given counts steady fault =
+      let F : Form → Type 0 = λ f. Answers shown faults kind f source source' displays displays result in
+      subst F (sym is) (record {
+        answer = λ words calls. by_result words calls result judged;
+        statuses = by_status result judged;
+        kept = λ words calls. kept_none shown faults (AreFramesFor words source.left source'.left) kind displays AreFramesFor.none;
+        given = given;
+        counts = counts;
+        steady = steady;
+        fault = fault;
+        reads = λ same. refl;
+      })
+    where
+      Fine : Answer → Type 0
+      Fine a = (bytes : List ℕ) × AreAll bytes source.left source'.left × IsJudged bytes a.status a.text
+
+      by_result : (words : List (List ℕ)) → CallFor words Judge → (result : Result Answer Unanswered) → IfOk result Fine → IfOk result (λ a. IsAnswer shown faults displays displays words source.left source'.left a.status a.text)
+      by_result words calls (Ok a) fine = IsAnswer.judged fine.0 calls fine.1 fine.2 refl
+      by_result words calls (Err why) fine = tt
+
+      by_status : (result : Result Answer Unanswered) → IfOk result Fine → IfOk result (λ a. IsTrue (a.status == 0 || a.status == 3 || a.status == 7 || a.status == 8))
+      by_status (Ok a) fine = judged_statuses fine.0 a.status a.text fine.2
+      by_status (Err why) fine = tt

@@ -37,7 +37,7 @@ use Rattle.flat_play.specs.declared.kept.Kept.TheVariants as kept
 use Rattle.flat_play.specs.Keeping.{Keeps}
 use Rattle.flat_play.specs.Playing.{HasPlayed}
 use Rattle.flat_words.specs.declared.form.Form.{Form}
-use Rattle.flat_words.specs.declared.form.Form.TheVariants.{Play, Race, Stress, Render, Damage, Focus, Pointer, Why}
+use Rattle.flat_words.specs.declared.form.Form.TheVariants.{Play, Race, Stress, Render, Damage, Focus, Pointer, Judge, Why, Film}
 use Rattle.flat_run.specs.declared.reading.Reading.{Reading}
 use Rattle.flat_run.specs.Answering.{ran_of}
 use Rattle.flat_run.specs.Forms.{AreAsked, Fits, is_read}
@@ -79,7 +79,9 @@ none_asked Render n read = tt
 none_asked Damage n read = tt
 none_asked Focus n read = tt
 none_asked Pointer n read = tt
+none_asked Judge n read = tt
 none_asked Why n read = tt
+none_asked Film n read = tt
 
 module _ (reading : Reading) (board : Machine) (kept_frames : Kept) (answers : List HitAnswer) (playable : is_playable reading.script ≡ true) (played : HasPlayed reading.script board kept_frames answers) where
   abbrev script : Script
@@ -90,7 +92,7 @@ module _ (reading : Reading) (board : Machine) (kept_frames : Kept) (answers : L
 
   -- a run that came to its end, and what displays have had of it
   pub has_run : {D : Type 0} (shown : D → Option (List FrameOut)) (faults : D → ℕ) (form : Form) (lost : List Lost) (seen : List ℕ) (olds news : List D) → (form ≢ Race → IsWritten script.setup board.history) → (form ≢ Race → seen ≡ seen_in_turn script board.history)
-      → HaveSeen shown faults (finished script.setup board.history) board.history lost olds news → FamiliesAreAlone → DuePresentsAreTaken → Legal board.setup board.history → AreAsked form (frames board.history) → Fits form script.setup → is_seeing script board.history seen ≡ true → HasRun form (ran_of reading board.history lost seen)
+      → HaveSeen shown faults (finished script.setup board.history) board.history lost olds news → FamiliesAreAlone → DuePresentsAreTaken → Legal board.setup board.history → AreAsked form (frames board.history) → Fits form script → is_seeing script board.history seen ≡ true → HasRun form (ran_of reading board.history lost seen)
   has_run shown faults form lost seen olds news written in_turn had alone due legal asked fits seeing = record {
     run = record { legal = legal_here legal; interleaves = played.interleaves; loss = had.loss; numbered = had.numbered; seeing = seeing };
     written = written;

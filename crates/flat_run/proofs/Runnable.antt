@@ -13,7 +13,7 @@ use Rattle.flat_playable.specs.Playable.{is_playable}
 use Rattle.flat_script.specs.declared.script.ScriptFault.{ScriptFault}
 use Rattle.flat_script.specs.Grammar.{text_read}
 use Rattle.flat_words.specs.declared.form.Form.{Form}
-use Rattle.flat_words.specs.declared.form.Form.TheVariants.{Play, Race, Stress, Render, Damage, Focus, Pointer, Why}
+use Rattle.flat_words.specs.declared.form.Form.TheVariants.{Play, Race, Stress, Render, Damage, Focus, Pointer, Judge, Why, Film}
 use Rattle.flat_run.specs.declared.reading.Reading.{Reading}
 use Rattle.flat_run.specs.Answering.{IsRunnable}
 use Rattle.flat_run.specs.Forms.{form_read, plain, read_as}
@@ -34,7 +34,9 @@ module _ (playable : (bytes : List ℕ) (script : Script) → text_read bytes �
   runnable focus pointers rise known (Stress asked) bytes reading is = plain-runs bytes reading is
   runnable focus pointers rise known Render bytes reading is = plain-runs bytes reading is
   runnable focus pointers rise known Damage bytes reading is = plain-runs bytes reading is
+  runnable focus pointers rise known Judge bytes reading is = plain-runs bytes reading is
   runnable focus pointers rise known Why bytes reading is = plain-runs bytes reading is
+  runnable focus pointers rise known Film bytes reading is = plain-runs bytes reading is
   runnable focus pointers rise known Focus bytes reading is =
       let from = read-from (λ (both : WithFocus). record { script = both.script; focus = both.lines; pointers = [] }) (focus_read bytes) reading is in
       subst IsRunnable from.2 (record { playable = playable (rest_of set.Focus bytes) from.0.script (focus bytes from.0 from.1); rise = refl; pointers = refl })

@@ -7,7 +7,6 @@ use Rattle.flat_scene.specs.declared.frames.FrameOut.{FrameOut}
 use Rattle.flat_scene.specs.declared.frames.Lost.{Lost}
 use Rattle.flat_scene.specs.declared.journal.Entry.{Entry}
 use Rattle.flat_words.specs.declared.form.Form.{Form}
-use Rattle.flat_words.specs.declared.form.Form.TheVariants.{Render}
 use Rattle.flat_words.specs.Forms.{CallFor}
 use Rattle.flat_playable.specs.Playable.{is_playable}
 use Rattle.flat_pointer.specs.declared.pointers.TheConstants.{POINTERS}
@@ -39,13 +38,13 @@ ran_of reading history lost seen = record { reading = reading; history = history
 pub record IsScriptFor (form : Form) (bytes : List ℕ) (reading : Reading) : Type 0 where
   pub read : form_read form bytes ≡ Ok reading
   pub runnable : IsRunnable reading
-  pub fits : Fits form reading.script.setup
+  pub fits : Fits form reading.script
 
 -- They are none, and the text says where and why; or their script's display is too large for a picture. That
 -- has a status.
 pub data IsDenied (form : Form) (bytes : List ℕ) : ℕ → List ℕ → Type 0 where
   refusal : {text : List ℕ} → Refuses form bytes text → IsDenied form bytes 3 text
-  too_large : form ≡ Render → AreTooLarge bytes → IsDenied form bytes 7 large_line
+  too_large : AreTooLarge form bytes → IsDenied form bytes 7 large_line
 
 abbrev pub IsRead : Form → List ℕ → Given → Type 0
 IsRead form bytes (Script reading) = IsScriptFor form bytes reading
@@ -54,7 +53,7 @@ IsRead form bytes (Refused answer) = IsDenied form bytes answer.status answer.te
 -- So it is with what a source gave. A refusal may be of a text that is too long.
 pub data IsTurnedAway (form : Form) (left left' : Option (List ℕ)) : ℕ → List ℕ → Type 0 where
   refusal : {text : List ℕ} → IsRefused form left left' text → IsTurnedAway form left left' 3 text
-  too_large : (bytes : List ℕ) → form ≡ Render → AreAll bytes left left' → AreTooLarge bytes
+  too_large : (bytes : List ℕ) → AreAll bytes left left' → AreTooLarge form bytes
       → IsTurnedAway form left left' 7 large_line
 
 abbrev pub IsGiven : Form → Option (List ℕ) → Option (List ℕ) → Given → Type 0
@@ -72,7 +71,7 @@ module _ {D : Type 0} (shown : D → Option (List FrameOut)) (faults : D → ℕ
       (result : Result Answer Unanswered) : Type 0 where
     pub answer : (words : List (List ℕ)) → CallFor words form
         → IfOk result (λ a. IsAnswer shown faults olds news words source.left source'.left a.status a.text)
-    pub statuses : IfOk result (λ a. IsTrue (a.status == 0 || a.status == 3 || a.status == 7))
+    pub statuses : IfOk result (λ a. IsTrue (a.status == 0 || a.status == 3 || a.status == 7 || a.status == 8))
     pub kept : (words : List (List ℕ)) → CallFor words form
         → AreKept shown faults (AreFramesFor words source.left source'.left) olds news kind
     pub given : (given : List ℕ) × AreGiven given source.left source'.left

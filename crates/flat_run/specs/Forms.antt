@@ -4,6 +4,7 @@ use Rattle.flat_play.specs.declared.kept.Keeping.{Keeping}
 use Rattle.flat_play.specs.declared.kept.Keeping.TheVariants as keeping
 use Rattle.flat_extra.specs.Whole.{focus_read, pointers_read}
 use Rattle.flat_focus.specs.Text.{focus_text}
+use Rattle.flat_forms.specs.Body.{dones}
 use Rattle.flat_pointer.specs.Text.{pointer_text}
 use Rattle.flat_places.specs.declared.script.Script.{Script}
 use Rattle.flat_play.specs.Touches.{touch_of}
@@ -11,16 +12,18 @@ use Rattle.flat_render.specs.declared.grid.TheConstants.{PIXELS_MAX}
 use Rattle.flat_report.specs.Report.{report, finished}
 use Rattle.flat_scene.specs.declared.frames.Lost.{Lost}
 use Rattle.flat_scene.specs.declared.journal.Entry.{Entry}
-use Rattle.flat_scene.specs.declared.setup.Setup.{Setup}
 use Rattle.flat_script.specs.declared.script.ScriptFault.{ScriptFault}
 use Rattle.flat_script.specs.Grammar.{text_read}
 use Rattle.flat_stress.specs.Summary.{summary_line}
 use Rattle.flat_texts.specs.Damages.{IsDamageText}
+use Rattle.flat_texts.specs.Films.{film_text}
 use Rattle.flat_texts.specs.Lines.{finish_lines}
 use Rattle.flat_texts.specs.Pictures.{picture_text}
 use Rattle.flat_why.specs.Text.{why_text}
 use Rattle.flat_words.specs.declared.form.Form.{Form}
-use Rattle.flat_words.specs.declared.form.Form.TheVariants.{Play, Race, Stress, Render, Damage, Focus, Pointer, Why}
+use Rattle.flat_words.specs.declared.form.Form.TheVariants.{Play, Race, Stress, Render, Damage, Focus}
+use Rattle.flat_words.specs.declared.form.Form.TheVariants.{Pointer, Judge, Why, Film}
+use Rattle.flat_run.specs.declared.given.TheConstants.{FILM_PIXELS_MAX}
 use Rattle.flat_run.specs.declared.reading.Reading.{Reading}
 use Rattle.flat_run.specs.Totals.{totals_of}
 
@@ -47,10 +50,16 @@ form_read Pointer bytes =
     read_as (λ both. record { script = both.script; focus = []; pointers = both.lines }) (pointers_read bytes)
 form_read _ bytes = read_as plain (text_read bytes)
 
--- the display isn't too large for what a form writes: a picture has only so many pixels
-abbrev pub Fits : Form → Setup → Type 0
-Fits Render setup = setup.width * setup.height ≤ PIXELS_MAX
-Fits _ setup = ⊤
+-- how many pixels a display has
+abbrev pub pixels : Script → ℕ
+pixels script = script.setup.width * script.setup.height
+
+-- the display isn't too large for what a form writes: a picture has only so many pixels, and so have the pictures
+-- of all frames together
+abbrev pub Fits : Form → Script → Type 0
+Fits Render script = pixels script ≤ PIXELS_MAX
+Fits Film script = (pixels script ≤ PIXELS_MAX) × (dones script * pixels script ≤ FILM_PIXELS_MAX)
+Fits _ script = ⊤
 
 -- what a run keeps of its frames for what a form writes
 abbrev pub keeping_for : Form → Keeping
@@ -81,8 +90,9 @@ abbrev pub report_of : Ran → List ℕ
 report_of ran = report ran.reading.script ran.history ran.lost ran.seen
 
 -- The text is what a form writes of what ran: the report, the line that sums a load up, the picture of the
--- last frame, what changed from frame to frame, who had the focus, to whom the pointers' lines went, or why
--- each session was on the display or not.
+-- last frame, what changed from frame to frame, who had the focus, to whom the pointers' lines went, why
+-- each session was on the display or not, or the pictures of all frames. A judge runs nothing that it
+-- writes of.
 abbrev pub IsTextOf : Form → Ran → List ℕ → Type 0
 IsTextOf Play ran text = text ≡ report_of ran
 IsTextOf Race ran text = text ≡ report_of ran
@@ -96,4 +106,6 @@ IsTextOf Pointer ran text =
     text ≡ pointer_text ran.reading.script.sessions (finish_lines (reverse ran.history))
     (finished ran.reading.script.setup ran.history)
     (map (touch_of ran.reading.script.setup ran.history) ran.reading.pointers)
+IsTextOf Judge ran text = ⊥
 IsTextOf Why ran text = text ≡ why_text ran.reading.script ran.history
+IsTextOf Film ran text = text ≡ film_text ran.reading.script.setup (finished ran.reading.script.setup ran.history)

@@ -1,4 +1,5 @@
 pub mod Answering
+pub mod Judging
 pub mod Forms
 pub mod Laws
 pub mod Promise

@@ -1,7 +1,6 @@
 -- What a call of the service answers, writes and shows.
 use Rattle.std.specs.Prelude.{◌≡◌, ◌≢◌, ◌⊎◌, ⊤, ℕ, ◌*◌, ◌<◌, Bool, ◌||◌, true, false, List, [], ◌∷◌, ◌++◌, length, map}
 use Rattle.std.specs.Prelude.{Option, Some, Ok, Err, codes}
-use Rattle.std.specs.Fmt.{decimal}
 use Rattle.flat_io.specs.Counts.{has_risen}
 use Rattle.flat_io.specs.Told.{WhereTold, Appends}
 use Rattle.flat_io.specs.Whole.{AppendsPrefix}
@@ -21,12 +20,15 @@ use Rattle.flat_play.specs.Probing.{seen_in_turn}
 use Rattle.flat_report.specs.Laws.{IsRun}
 use Rattle.flat_stress.specs.Load.{load_text}
 use Rattle.flat_words.specs.declared.form.Form.{Form}
-use Rattle.flat_words.specs.declared.form.Form.TheVariants.{Race, Stress, Render}
+use Rattle.flat_words.specs.declared.form.Form.TheVariants.{Race, Stress, Render, Judge, Film}
 use Rattle.flat_words.specs.Forms.{CallFor}
 use Rattle.flat_render.specs.declared.grid.TheConstants.{PIXELS_MAX}
-use Rattle.flat_scene.specs.declared.setup.Setup.{Setup}
+use Rattle.flat_places.specs.declared.script.Script.{Script}
+use Rattle.flat_forms.specs.Body.{dones}
+use Rattle.flat_run.specs.declared.given.TheConstants.{FILM_PIXELS_MAX}
 use Rattle.flat_run.specs.declared.reading.Reading.{Reading}
-use Rattle.flat_run.specs.Forms.{is_read, form_read, Fits, Ran, AreAsked, IsTextOf}
+use Rattle.flat_run.specs.Judging.{IsJudged, fault_line}
+use Rattle.flat_run.specs.Forms.{is_read, form_read, pixels, Fits, Ran, AreAsked, IsTextOf}
 use Rattle.flat_places.specs.Kinds.{number}
 
 -- ---- the words
@@ -37,7 +39,8 @@ CallForNothing words = (form : Form) → CallFor words form → ⊥
 
 -- what is written where the words call for no form
 abbrev pub usage_line : List ℕ
-usage_line = codes "usage: flatland play | race | stress N | render | damage | focus | pointer | why" ++ 10 ∷ []
+usage_line =
+    codes "usage: flatland play | race | stress N | render | damage | focus | pointer | judge | why | film" ++ 10 ∷ []
 
 -- ---- the bytes
 
@@ -58,11 +61,6 @@ abbrev pub AreTextOf : Form → Option (List ℕ) → Option (List ℕ) → List
 AreTextOf (Stress asked) left left' bytes = bytes ≡ load_text asked
 AreTextOf _ left left' bytes = AreAll bytes left left'
 
--- what is written of a script with a fault
-abbrev pub fault_line : ScriptFault → List ℕ
-fault_line fault =
-    codes "script line " ++ decimal fault.line ++ codes " kind " ++ decimal (number fault.kind) ++ 10 ∷ []
-
 -- A form can't read these bytes, and the text says where and why.
 pub record Refuses (form : Form) (bytes text : List ℕ) : Type 0 where
   pub fault : ScriptFault
@@ -77,19 +75,21 @@ pub record IsRefused (form : Form) (left left' : Option (List ℕ)) (text : List
 
 -- ---- pictures
 
--- A display has more pixels than a picture may have.
-abbrev pub IsTooLarge : Setup → Type 0
-IsTooLarge setup = PIXELS_MAX < setup.width * setup.height
+-- A script's display has more pixels than a picture may have, or the pictures of all its frames have too many.
+abbrev pub IsTooLarge : Form → Script → Type 0
+IsTooLarge Render script = PIXELS_MAX < pixels script
+IsTooLarge Film script = (PIXELS_MAX < pixels script) ⊎ (FILM_PIXELS_MAX < dones script * pixels script)
+IsTooLarge _ script = ⊥
 
 -- what is written where a picture is asked for of such a display
 abbrev pub large_line : List ℕ
 large_line = codes "picture too large" ++ 10 ∷ []
 
--- These bytes are a script for such a display.
-pub record AreTooLarge (bytes : List ℕ) : Type 0 where
+-- These bytes are a script of which a form would write too large a picture.
+pub record AreTooLarge (form : Form) (bytes : List ℕ) : Type 0 where
   pub reading : Reading
-  pub read : form_read Render bytes ≡ Ok reading
-  pub large : IsTooLarge reading.script.setup
+  pub read : form_read form bytes ≡ Ok reading
+  pub large : IsTooLarge form reading.script
 
 -- ---- what ran
 
@@ -104,7 +104,7 @@ pub record HasRun (form : Form) (ran : Ran) : Type 0 where
   pub written : form ≢ Race → IsWritten ran.reading.script.setup ran.history
   pub in_turn : form ≢ Race → ran.seen ≡ seen_in_turn ran.reading.script ran.history
   pub asked : AreAsked form (frames ran.history)
-  pub fits : Fits form ran.reading.script.setup
+  pub fits : Fits form ran.reading.script
   pub families : (s : SessionNo) → IsFamilyLaw ran.reading.script.setup (family ran.reading.script.setup s) ran.history
   pub due : TakesDue ran.reading.script.setup ran.history
 
@@ -126,13 +126,15 @@ module _ {D : Type 0} (shown : D → Option (List FrameOut)) (faults : D → ℕ
       × AreDriven shown faults tells.ran.lost (finished tells.ran.reading.script.setup tells.ran.history) olds news
 
   -- What is to be written of the words, with a status: the usage, a refusal, that a picture would be too
-  -- large, or what their form tells of what ran.
+  -- large, what is said of a script with a report behind it, or what their form tells of what ran.
   pub data IsAnswer (words : List (List ℕ)) (left left' : Option (List ℕ)) : ℕ → List ℕ → Type 0 where
     usage : CallForNothing words → news ≡ olds → IsAnswer words left left' 2 usage_line
     refusal : (form : Form) {text : List ℕ} → CallFor words form → is_read form ≡ true → IsRefused form left left' text
         → news ≡ olds → IsAnswer words left left' 3 text
-    too_large : (bytes : List ℕ) → CallFor words Render → AreAll bytes left left' → AreTooLarge bytes → news ≡ olds
-        → IsAnswer words left left' 7 large_line
+    too_large : (form : Form) (bytes : List ℕ) → CallFor words form → AreAll bytes left left' → AreTooLarge form bytes
+        → news ≡ olds → IsAnswer words left left' 7 large_line
+    judged : (bytes : List ℕ) {status : ℕ} {text : List ℕ} → CallFor words Judge → AreAll bytes left left'
+        → IsJudged bytes status text → news ≡ olds → IsAnswer words left left' status text
     told : (form : Form) (bytes : List ℕ) {text : List ℕ} → CallFor words form → AreTextOf form left left' bytes
         → IsTold form bytes text → IsAnswer words left left' 0 text
 
@@ -169,8 +171,8 @@ either_rose failed failed' stalled stalled' = has_risen failed failed' || has_ri
 
 -- ---- where a script is given
 
--- The source tells its bytes, what it gave is a script for the form, of a setup of this sort, and no read of it failed.
-pub record Gives (form : Form) (IsOfSort : Setup → Type 0) (left left' : Option (List ℕ))
+-- The source tells its bytes, what it gave is a script for the form, of this sort, and no read of it failed.
+pub record Gives (form : Form) (IsOfSort : Script → Type 0) (left left' : Option (List ℕ))
     (failed failed' : ℕ) : Type 0 where
   pub given : List ℕ
   pub after : List ℕ
@@ -178,14 +180,16 @@ pub record Gives (form : Form) (IsOfSort : Setup → Type 0) (left left' : Optio
   pub before_is : left ≡ Some (given ++ after)
   pub after_is : left' ≡ Some after
   pub read : form_read form given ≡ Ok reading
-  pub sort : IsOfSort reading.script.setup
+  pub sort : IsOfSort reading.script
   pub steady : has_risen failed failed' ≡ false
 
--- The script of a form is there, and its display isn't too large: that of a load always is.
+-- The script of a form is there, and its display isn't too large: that of a load always is. A judge is promised
+-- no status 0, whatever it reads.
 abbrev pub IsThere : Form → Option (List ℕ) → Option (List ℕ) → ℕ → ℕ → Type 0
 IsThere (Stress asked) left left' failed failed' = ⊤
+IsThere Judge left left' failed failed' = ⊥
 IsThere form left left' failed failed' = Gives form (Fits form) left left' failed failed'
 
--- A script is there, and its display is too large for a picture.
-abbrev pub IsThereTooLarge : Option (List ℕ) → Option (List ℕ) → ℕ → ℕ → Type 0
-IsThereTooLarge left left' failed failed' = Gives Render IsTooLarge left left' failed failed'
+-- A script is there, and what the form would write of it is too large.
+abbrev pub IsThereTooLarge : Form → Option (List ℕ) → Option (List ℕ) → ℕ → ℕ → Type 0
+IsThereTooLarge form left left' failed failed' = Gives form (IsTooLarge form) left left' failed failed'

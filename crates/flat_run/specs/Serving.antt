@@ -5,7 +5,6 @@ use Rattle.flat_io.specs.Told.{Appends}
 use Rattle.flat_display.specs.Had.{AreKept}
 use Rattle.flat_scene.specs.declared.frames.FrameOut.{FrameOut}
 use Rattle.flat_words.specs.declared.form.Form.{Form}
-use Rattle.flat_words.specs.declared.form.Form.TheVariants.{Render}
 use Rattle.flat_words.specs.Forms.{CallFor}
 use Rattle.flat_run.specs.Promise.{AreFramesFor, AreGiven, CallForNothing, IsCutOff, IsThere, IsThereTooLarge, IsWhole}
 use Rattle.flat_run.specs.Promise.{either_rose}
@@ -50,7 +49,9 @@ module _ {D : Type 0} (shown : D → Option (List FrameOut)) (faults : D → ℕ
     pub complete : (form : Form) → CallFor words form
         → IsThere form source.left source'.left source.faults source'.faults
         → either_rose sink.faults sink'.faults sink.stalls sink'.stalls ≡ false → IsTrue (status == 0 || status == 6)
-    pub too_large : CallFor words Render → IsThereTooLarge source.left source'.left source.faults source'.faults
+    pub too_large : (form : Form) → CallFor words form
+        → IsThereTooLarge form source.left source'.left source.faults source'.faults
         → either_rose sink.faults sink'.faults sink.stalls sink'.stalls ≡ false → IsTrue (status == 7 || status == 6)
     pub statuses : IsTrue
-        (status == 0 || status == 2 || status == 3 || status == 4 || status == 5 || status == 6 || status == 7)
+        (status == 0 || status == 2 || status == 3 || status == 4 || status == 5 || status == 6 || status == 7
+        || status == 8)

@@ -1,6 +1,7 @@
 //! What is to be written, and the statuses that say so.
 ghost use Rattle.std.specs.Prelude.{◌≡◌, IfOk};
-ghost use Rattle.flat_run.specs.Promise.{fault_line, large_line};
+ghost use Rattle.flat_run.specs.Judging.{fault_line};
+ghost use Rattle.flat_run.specs.Promise.{large_line};
 
 use flat_base::NoMemory;
 use flat_report::Pieces;
@@ -16,6 +17,9 @@ pub const REFUSED: u8 = 3;
 
 /// The status where a picture would have too many pixels.
 pub const TOO_LARGE: u8 = 7;
+
+/// The status where a report is wrong.
+pub const WRONG: u8 = 8;
 
 /// The status where the words call for no form.
 pub const USED_WRONGLY: u8 = 2;

@@ -1,10 +1,11 @@
 //! What a source gives for a form: the whole text is read, and is a script that can be run
 //! for it, or is refused before anything runs.
-ghost use Rattle.std.specs.Prelude.{◌≡◌, ◌≢◌, ◌≤◌, ℕ, List, IfOk, IsFalse, IsTrue, Err, Ok, true};
+ghost use Rattle.std.specs.Prelude.{◌≡◌, ◌≢◌, ◌≤◌, ◌<◌, ◌*◌, ◌↔◌, ℕ, List, IfOk, IsFalse, IsTrue, Err, Ok, true};
 ghost use Rattle.flat_io.specs.Counts.{has_risen};
-ghost use Rattle.flat_words.specs.declared.form.Form.TheVariants.{Render};
+ghost use Rattle.flat_forms.specs.Body.{dones, ends_frame};
+ghost use Rattle.flat_render.specs.declared.grid.TheConstants.{PIXELS_MAX};
 ghost use Rattle.flat_run.specs.Answering.{IsGiven, IsRead, IsRunnable};
-ghost use Rattle.flat_run.specs.Forms.{Fits, form_read, is_read};
+ghost use Rattle.flat_run.specs.Forms.{Fits, form_read, is_read, pixels};
 ghost use Rattle.flat_run.specs.Promise.{AreGiven, IsTooLarge};
 
 use crate::answers::{Answer, Unanswered, large, refusal};
@@ -15,9 +16,11 @@ use flat_io::{ReadAll, Source, read_all};
 use flat_places::{FaultKind, Script};
 use flat_playable::scripts_are_playable;
 use flat_render::is_too_large;
+use flat_scene::{Body, DisplayLine};
 use flat_script::{ScriptError, ScriptFault};
 use flat_words::Form;
 use std::alloc::Global;
+use std::thread::Threads;
 
 /// What a source gave for a form.
 #[derive(Drop)]
@@ -28,13 +31,45 @@ pub(crate) enum Given {
     Refused(Answer),
 }
 
+/// The pictures of all frames together have no more pixels than these.
+pub const FILM_PIXELS_MAX: u64 = 67_108_864;
+
+/// Whether a line of a script ends a frame.
+fn ends_frame(body: &Body) -> bool
+    ensures { result ≡ ends_frame body.now }
+{
+    matches!(body, Body::Display(DisplayLine::Done))
+}
+
+/// How many frames a script finishes.
+fn frames_of(script: &Script) -> usize
+    ensures { result ≡ dones script.now }
+{
+    let mut frames = 0;
+    for line in script.lines.as_slice() {
+        frames += usize::from(ends_frame(&line.body));
+    }
+    frames
+}
+
+/// Whether the pictures of all frames would have too many pixels.
+fn is_film_too_large(script: &Script) -> bool
+    ensures { IsTrue result ↔ FILM_PIXELS_MAX < dones script.now * pixels script.now }
+{
+    let pixels = script.setup.width as u64 * script.setup.height as u64;
+    frames_of(script) as u128 * pixels as u128 > FILM_PIXELS_MAX as u128
+}
+
 /// Whether a form writes a picture that would have too many pixels.
 fn is_too_large_for(form: Form, script: &Script) -> bool
-    ensures large { IsTrue result → (form ≡ Render) × IsTooLarge script.now.setup }
-    ensures fits { IsFalse result → Fits form script.now.setup }
+    ensures large { IsTrue result → IsTooLarge form script.now }
+    ensures fits { IsFalse result → Fits form script.now }
 {
     match form {
         Form::Render => is_too_large(script.setup.width, script.setup.height),
+        Form::Film => {
+            is_too_large(script.setup.width, script.setup.height) || is_film_too_large(script)
+        }
         _ => false,
     }
 }
@@ -54,14 +89,19 @@ fn fitting(alloc: Global, form: Form, reading: Reading) -> Result<Given, NoMemor
 }
 
 /// What a whole text is for a form.
-fn read_bytes(alloc: Global, form: Form, bytes: &[u8]) -> Result<Given, NoMemory>
+fn read_bytes<T: Threads + Sync>(
+    rt: &T,
+    alloc: Global,
+    form: Form,
+    bytes: &[u8],
+) -> Result<Given, NoMemory>
     ensures { IfOk result (λ given. IsRead form bytes.now given) }
 {
     scripts_are_playable();
     rests_are_read();
     pointers_rise();
     extra_laws();
-    match read_text(alloc, form, bytes) {
+    match read_text(rt, alloc, form, bytes) {
         Ok(reading) => fitting(alloc, form, reading),
         Err(ScriptError::Fault(fault)) => Ok(Given::Refused(refusal(alloc, fault)?)),
         Err(ScriptError::Memory) => Err(NoMemory),
@@ -69,7 +109,8 @@ fn read_bytes(alloc: Global, form: Form, bytes: &[u8]) -> Result<Given, NoMemory
 }
 
 /// Reads a source to its end, for a form whose script is read.
-pub(crate) fn read_source<R: Source>(
+pub(crate) fn read_source<T: Threads + Sync, R: Source>(
+    rt: &T,
     alloc: Global,
     form: Form,
     source: &mut R,
@@ -84,7 +125,7 @@ pub(crate) fn read_source<R: Source>(
     ensures steady { result ≢ Err Unanswered.Fault → R.faults source.new ≡ R.faults source.old }
 {
     match read_all(alloc, source, SCRIPT_BYTES_MAX) {
-        Ok(bytes) => Ok(read_bytes(alloc, form, bytes.as_slice())?),
+        Ok(bytes) => Ok(read_bytes(rt, alloc, form, bytes.as_slice())?),
         Err(ReadAll::TooLong) => {
             let fault = ScriptFault {
                 line: 0,

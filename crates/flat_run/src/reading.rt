@@ -8,9 +8,10 @@ use flat_extra::{WithFocus, WithPointers, parse_focus, parse_pointers};
 use flat_focus::FocusLines;
 use flat_places::Script;
 use flat_pointer::PointerLines;
-use flat_script::{ScriptError, parse};
+use flat_script::{ScriptError, parse_on};
 use flat_words::Form;
 use std::alloc::Global;
+use std::thread::Threads;
 
 /// What a form reads of a text: its script, and the values of the extra lines that the
 /// form knows.
@@ -49,11 +50,15 @@ fn read_pointers(alloc: Global, bytes: &[u8]) -> Result<Reading, ScriptError>
     }
 }
 
-/// A text without extra lines.
-fn read_plain(alloc: Global, bytes: &[u8]) -> Result<Reading, ScriptError>
+/// A text without extra lines. Several threads read it, if it is long.
+fn read_plain<T: Threads + Sync>(
+    rt: &T,
+    alloc: Global,
+    bytes: &[u8],
+) -> Result<Reading, ScriptError>
     ensures { Reads result (form_read Play bytes.now) }
 {
-    match parse(alloc, bytes) {
+    match parse_on(rt, alloc, bytes) {
         Ok(script) => Ok(Reading {
             script,
             focus: FocusLines::new(alloc),
@@ -64,12 +69,17 @@ fn read_plain(alloc: Global, bytes: &[u8]) -> Result<Reading, ScriptError>
 }
 
 /// What a form reads of a text, or the text's fault.
-pub(crate) fn read_text(alloc: Global, form: Form, bytes: &[u8]) -> Result<Reading, ScriptError>
+pub(crate) fn read_text<T: Threads + Sync>(
+    rt: &T,
+    alloc: Global,
+    form: Form,
+    bytes: &[u8],
+) -> Result<Reading, ScriptError>
     ensures { Reads result (form_read form bytes.now) }
 {
     match form {
         Form::Focus => read_focus(alloc, bytes),
         Form::Pointer => read_pointers(alloc, bytes),
-        _ => read_plain(alloc, bytes),
+        _ => read_plain(rt, alloc, bytes),
     }
 }

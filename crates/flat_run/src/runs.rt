@@ -4,7 +4,7 @@
 ghost use Rattle.std.specs.Prelude.{◌≡◌, ◌≢◌, ◌<◌, ◌^◌, [], ℕ, List, true, false, map};
 ghost use Rattle.std.specs.Prelude.{length, IfOk, Ok, Err};
 ghost use Rattle.flat_scene.specs.Interleave.{IsWritten};
-ghost use Rattle.flat_words.specs.declared.form.Form.TheVariants.{Pointer, Race, Why};
+ghost use Rattle.flat_words.specs.declared.form.Form.TheVariants.{Film, Judge, Pointer, Race, Why};
 ghost use Rattle.flat_words.specs.Forms.{IsAllowed};
 ghost use Rattle.flat_display.specs.Had.{AreKept};
 ghost use Rattle.flat_report.specs.Probes.{ProbesAnswered, frames_seen};
@@ -20,7 +20,9 @@ ghost use Rattle.flat_run.specs.Forms.{Fits, form_read, is_read, keeping_for};
 ghost use Rattle.flat_run.specs.Promise.{IsTold};
 
 use crate::answers::{Answer, DONE, Unanswered};
+use crate::film::film_told;
 use crate::given::{Given, read_source};
+use crate::judging::answer_judged;
 use crate::load::stress;
 use crate::reading::Reading;
 use crate::texts::{keeping_for, text_of};
@@ -87,8 +89,10 @@ fn told<T: Threads + Sync>(
 ) -> Result<Pieces, NoMemory>
     requires read { is_read form ≡ true }
     requires of_run { form ≢ Why }
+    requires no_judge { form ≢ Judge }
+    requires unfilmed { form ≢ Film }
     requires runnable { IsRunnable reading.now }
-    requires fits { Fits form reading.now.script.setup }
+    requires fits { Fits form reading.now.script }
     requires few { length displays.old.items < 2 ^ 32 }
     ensures told { (bytes : List ℕ) → form_read form bytes ≡ Ok reading.now →
         IfOk result (λ text. IsTold (λ d. shown d) (λ d. faults d)
@@ -113,8 +117,9 @@ fn told_for<T: Threads + Sync>(
     displays: &mut Vec<Box<dyn Display>>,
 ) -> Result<Pieces, NoMemory>
     requires read { is_read form ≡ true }
+    requires no_judge { form ≢ Judge }
     requires runnable { IsRunnable reading.now }
-    requires fits { Fits form reading.now.script.setup }
+    requires fits { Fits form reading.now.script }
     requires few { length displays.old.items < 2 ^ 32 }
     ensures told { (bytes : List ℕ) → form_read form bytes ≡ Ok reading.now →
         IfOk result (λ text. IsTold (λ d. shown d) (λ d. faults d)
@@ -124,6 +129,7 @@ fn told_for<T: Threads + Sync>(
 {
     match form {
         Form::Why => why_told(alloc, reading, displays),
+        Form::Film => film_told(rt, alloc, reading, displays),
         _ => told(rt, alloc, form, reading, displays),
     }
 }
@@ -162,6 +168,7 @@ fn answer_read<T: Threads + Sync, R: Source>(
 ) -> Result<Answer, Unanswered>
     requires read { is_read form ≡ true }
     requires in_order { form ≢ Race }
+    requires no_judge { form ≢ Judge }
     requires few { length displays.old.items < 2 ^ 32 }
     ensures answers { Answers (λ d. shown d) (λ d. (Display-box d).faults d.value)
         (λ d. d.vtable) form
@@ -172,7 +179,7 @@ fn answer_read<T: Threads + Sync, R: Source>(
         (λ answer. answer.status ≢ DONE → displays.new ≡ displays.old) }
     ensures failed { result ≡ Err Unanswered.Fault → displays.new ≡ displays.old }
 {
-    let reading = match read_source(alloc, form, source) {
+    let reading = match read_source(rt, alloc, form, source) {
         Ok(Given::Script(reading)) => reading,
         Ok(Given::Refused(answer)) => return Ok(answer),
         Err(why) => return Err(why),
@@ -211,6 +218,7 @@ pub(crate) fn answer_in_order<T: Threads + Sync, R: Source>(
             Ok(answer) => Ok(answer),
             Err(NoMemory) => Err(Unanswered::Memory),
         },
+        Form::Judge => answer_judged(alloc, source),
         _ => answer_read(rt, alloc, form, source, displays),
     }
 }
@@ -233,7 +241,7 @@ pub(crate) fn answer_race<T: Threads + Wait + Sync, R: Source, G: Gate>(
         (λ answer. answer.status ≢ DONE → displays.new ≡ displays.old) }
     ensures failed { result ≡ Err Unanswered.Fault → displays.new ≡ displays.old }
 {
-    let reading = match read_source(alloc, Form::Race, source) {
+    let reading = match read_source(rt, alloc, Form::Race, source) {
         Ok(Given::Script(reading)) => reading,
         Ok(Given::Refused(answer)) => return Ok(answer),
         Err(why) => return Err(why),

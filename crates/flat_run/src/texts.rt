@@ -13,7 +13,7 @@ ghost use Rattle.flat_report.specs.Report.{finished, report};
 ghost use Rattle.flat_rules.specs.Legal.{Legal};
 ghost use Rattle.flat_play.specs.declared.kept.Keeping.TheVariants as keeping;
 ghost use Rattle.flat_play.specs.Keeping.{keeping_of};
-ghost use Rattle.flat_words.specs.declared.form.Form.TheVariants.{Render, Pointer, Why};
+ghost use Rattle.flat_words.specs.declared.form.Form.TheVariants.{Film, Judge, Pointer, Render, Why};
 ghost use Rattle.flat_texts.specs.Damages.{IsDamageText};
 ghost use Rattle.flat_texts.specs.Lines.{finish_lines};
 ghost use Rattle.flat_texts.specs.Pictures.{picture_text};
@@ -44,7 +44,7 @@ pub(crate) fn keeping_for(form: Form) -> Keeping
         Form::Play | Form::Race => Keeping::Texts,
         Form::Damage => Keeping::Damages,
         Form::Focus | Form::Pointer => Keeping::Trees,
-        Form::Render | Form::Stress(_) | Form::Why => Keeping::Last,
+        Form::Render | Form::Stress(_) | Form::Judge | Form::Why | Form::Film => Keeping::Last,
     }
 }
 
@@ -90,7 +90,7 @@ fn last_picture<T: Threads + Sync>(
 ) -> Result<Vec<u8>, NoMemory>
     requires playable { is_playable script.now ≡ true }
     requires played { HasPlayed script.now played.now.board played.now.kept played.now.answers }
-    requires fits { Fits Render script.now.setup }
+    requires fits { Fits Render script.now }
     ensures { IfOk result (λ text. text.items ≡
         picture_text script.now.setup (finished script.now.setup played.now.board.history)) }
 {
@@ -192,10 +192,12 @@ fn picture_or_lines<T: Threads + Sync>(
 ) -> Result<Vec<u8>, NoMemory>
     requires read { is_read form ≡ true }
     requires other { form ≢ Why }
+    requires no_judge { form ≢ Judge }
+    requires unfilmed { form ≢ Film }
     requires keeping { keeping_of played.kept ≡ keeping_for form }
     requires lines { keeping_for form ≢ keeping.Texts }
     requires runnable { IsRunnable reading.now }
-    requires fits { Fits form reading.now.script.setup }
+    requires fits { Fits form reading.now.script }
     requires played { HasPlayed reading.now.script played.board played.kept played.answers }
     requires touches { form ≡ Pointer → touches.now ≡
         map (touch_of reading.now.script.setup played.board.history) reading.now.pointers }
@@ -203,7 +205,8 @@ fn picture_or_lines<T: Threads + Sync>(
         played.set.lost (frames_seen played.probes.items)) text.items) }
 {
     match form {
-        Form::Play | Form::Race | Form::Stress(_) | Form::Why => unreachable!(),
+        Form::Play | Form::Race | Form::Stress(_) | Form::Judge | Form::Why | Form::Film =>
+            unreachable!(),
         Form::Render => {
             let text = last_picture(rt, alloc, &reading.script, &played);
             played.let_go();
@@ -226,9 +229,11 @@ pub(crate) fn text_of<T: Threads + Sync>(
 ) -> Result<Pieces, NoMemory>
     requires read { is_read form ≡ true }
     requires other { form ≢ Why }
+    requires no_judge { form ≢ Judge }
+    requires unfilmed { form ≢ Film }
     requires keeping { keeping_of played.kept ≡ keeping_for form }
     requires runnable { IsRunnable reading.now }
-    requires fits { Fits form reading.now.script.setup }
+    requires fits { Fits form reading.now.script }
     requires played { HasPlayed reading.now.script played.board played.kept played.answers }
     requires probes { ProbesAnswered reading.now.script played.board.history played.probes.items }
     requires touches { form ≡ Pointer → touches.now ≡

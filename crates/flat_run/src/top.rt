@@ -11,7 +11,7 @@ ghost use Rattle.flat_words.specs.Forms.{CallFor};
 ghost use Rattle.flat_run.specs.Forms.{is_read};
 ghost use Rattle.flat_run.specs.Serving.{Serves};
 
-use crate::answers::{NO_MEMORY, READ_FAULT, REFUSED, TOO_LARGE, USED_WRONGLY};
+use crate::answers::{NO_MEMORY, READ_FAULT, REFUSED, TOO_LARGE, USED_WRONGLY, WRONG};
 use crate::runs::{answer_in_order, answer_race};
 use crate::writing::{write_answer, write_text};
 use flat_display::Display;
@@ -24,7 +24,7 @@ use std::thread::Threads;
 
 /// What is written where the words call for no form.
 const USAGE: &[u8] =
-    b"usage: flatland play | race | stress N | render | damage | focus | pointer | why\n";
+    b"usage: flatland play | race | stress N | render | damage | focus | pointer | judge | why | film\n";
 
 /// Serves a call as [`flatland`] does, unless its words are `race`: then nothing is done, and
 /// None is answered. It waits for nobody, so it always returns.
@@ -49,7 +49,7 @@ pub fn serve<T: Threads + Sync, R: Source, W: Sink>(
         (record { held = W.held sink.new; faults = W.faults sink.new; stalls = W.stalls sink.new })
         displays.old.items displays.new.items) }
     ensures untouched { IfSome result (λ status. IsTrue (status == USED_WRONGLY
-        || status == REFUSED || status == READ_FAULT || status == TOO_LARGE) →
+        || status == REFUSED || status == READ_FAULT || status == TOO_LARGE || status == WRONG) →
         displays.new ≡ displays.old) }
     ensures unwritten { IfSome result (λ status. IsTrue (status == READ_FAULT
         || status == NO_MEMORY) → sink.new ≡ sink.old) }
@@ -73,17 +73,17 @@ pub fn serve<T: Threads + Sync, R: Source, W: Sink>(
 /// shown each frame when it is finished. A display that fails is shown no more, the report
 /// says so, and the status stays as it is.
 ///
-/// - 0, 2, 3, 7: the whole text was written. It is what the form writes of a run, the usage,
-///   the script's fault, or that a picture would be too large.
+/// - 0, 2, 3, 7, 8: the whole text was written. It is what the form writes of a run, the usage,
+///   the script's fault, that a picture would be too large, or where a report is wrong.
 /// - 4: a read failed, and nothing was written. The source's count rose.
 /// - 5: a write failed or took nothing, and a count of the sink rose. The first bytes of a
-///   text of 0, 2, 3 or 7 were written.
+///   text of 0, 2, 3, 7 or 8 were written.
 /// - 6: memory ran out, and nothing was written.
 ///
 /// With any other status these counts are as they were. If the source tells a script and no
-/// count rose, the status is 0 or 6; for `render` of a display that is too large, 7 or 6.
+/// count rose, the status is 0 or 6; for `render` or `film` of what is too large, 7 or 6.
 ///
-/// With 0, and with 5 if the text was that of 0, each display that tells its frames has had
+/// With 0 for any word but `judge`, and with 5 if the text was that of 0, each display that tells its frames has had
 /// those of the history, in order and once, or those before the frame at which it was lost.
 /// With 6 it has had frames of a legal history that the script's actors began, or none. With
 /// any other status, the displays are as they were.
@@ -108,7 +108,7 @@ pub fn flatland<T: Threads + Wait + Sync, R: Source, W: Sink, G: Gate>(
         (record { held = W.held sink.new; faults = W.faults sink.new; stalls = W.stalls sink.new })
         displays.old.items displays.new.items result }
     ensures untouched { IsTrue (result == USED_WRONGLY || result == REFUSED
-        || result == READ_FAULT || result == TOO_LARGE) →
+        || result == READ_FAULT || result == TOO_LARGE || result == WRONG) →
         displays.new ≡ displays.old }
     ensures unwritten { IsTrue (result == READ_FAULT || result == NO_MEMORY) → sink.new ≡ sink.old }
     ensures unread { ((form : Form) → CallFor (map string_bytes words.now) form →

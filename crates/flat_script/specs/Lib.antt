@@ -1,2 +1,4 @@
 pub mod Grammar
+pub mod Plain
 pub mod Answers
+pub mod Ahead

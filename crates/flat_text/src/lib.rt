@@ -7,11 +7,11 @@
 //! `number` reads and writes by specs/Number, `pieces` cuts by specs/Pieces.
 //!
 //! Other crates may cite the lemmas of proofs/lemmas/: numbers and their spellings
-//! (NumberLemmas).
+//! (NumberLemmas), and how many lines a text has (LineLemmas).
 #![tactic(auto)]
 
 mod number;
 mod pieces;
 
 pub use number::{push_number, read_natural, read_number};
-pub use pieces::{line, next_piece, word};
+pub use pieces::{cut_lines, line, next_piece, word};

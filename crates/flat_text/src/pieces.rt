@@ -1,7 +1,9 @@
-ghost use Rattle.std.specs.Prelude.{◌≡◌, ◌==◌, ◌<◌, ◌≤◌, ◌↔◌, ◌∷◌, [], MatchOption, length};
+ghost use Rattle.std.specs.Prelude.{◌≡◌, ◌==◌, ◌<◌, ◌≤◌, ◌↔◌, ◌∷◌, ◌++◌, [], MatchOption, length};
 ghost use Rattle.std.specs.Prelude.{slice_get, option_map, IfSome, IsNone};
 ghost use Rattle.std.specs.List.{position_or_len, before_first, after_first, slice_split};
 ghost use Rattle.flat_text.specs.Pieces.{is_feed, lines_of, words_of, pieces_left};
+
+use memchr::memchr;
 
 /// The first line of the text without its line feed, and what follows that line
 /// feed; where the text has no line feed, the whole text and nothing. None exactly
@@ -21,7 +23,25 @@ pub fn line(text: &[u8]) -> Option<(&[u8], &[u8])>
     if text.is_empty() {
         return None;
     }
-    Some(cut(text, b'\n'))
+    Some(cut(text))
+}
+
+/// A front of the text that ends behind the first line feed from a place on, and what
+/// follows it; where there is none, the whole text and nothing. So a text is cut into
+/// pieces that have its lines.
+pub fn cut_lines(text: &[u8], from: usize) -> (&[u8], &[u8])
+    ensures lines { lines_of text.now ≡ lines_of result.0.now ++ lines_of result.1.now }
+    ensures shorter { 0 < length text.now → length result.1.now < length text.now }
+{
+    if from >= text.len() {
+        return (text, &[]);
+    }
+    let end = from + place_of_feed(&text[from..]);
+    if end < text.len() {
+        (&text[..end + 1], &text[end + 1..])
+    } else {
+        (text, &[])
+    }
 }
 
 /// Word `i` of the line, from 0. None exactly where the line has no such word.
@@ -41,17 +61,25 @@ fn word_at(line: &[u8], i: usize) -> Option<&[u8]>
     line.split(|b| *b == b' ').nth(i)
 }
 
-fn cut(text: &[u8], separator: u8) -> (&[u8], &[u8])
-    ensures before { result.0.now ≡ before_first (λ b. b == separator) text.now }
-    ensures after { result.1.now ≡ after_first (λ b. b == separator) text.now }
+fn cut(text: &[u8]) -> (&[u8], &[u8])
+    ensures before { result.0.now ≡ before_first is_feed text.now }
+    ensures after { result.1.now ≡ after_first is_feed text.now }
     ensures shorter { 0 < length text.now → length result.1.now < length text.now }
 {
-    let end = place_of(text, separator);
+    let end = place_of_feed(text);
     if end < text.len() {
         (&text[..end], &text[end + 1..])
     } else {
         (text, &[])
     }
+}
+
+/// The place of the first line feed; the length, where there is none.
+fn place_of_feed(text: &[u8]) -> usize
+    ensures place { result ≡ position_or_len is_feed text.now }
+    ensures within { result ≤ length text.now }
+{
+    memchr(b'\n', text).unwrap_or(text.len())
 }
 
 fn place_of(text: &[u8], separator: u8) -> usize

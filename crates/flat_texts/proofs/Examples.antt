@@ -1,6 +1,6 @@
 -- Worked cases, computed.
-use Rattle.std.proofs.Common.{ℕ, ◌+◌, ◌*◌, ◌≡◌, refl, false, List, [], ◌∷◌}
-use Rattle.std.specs.Prelude.{codes, pos}
+use Rattle.std.proofs.Common.{ℕ, ◌+◌, ◌*◌, ◌≡◌, refl, ap, arith, false, length, List, [], ◌∷◌, ◌++◌}
+use Rattle.std.specs.Prelude.{Some, codes, pos}
 use Rattle.std.specs.Fmt.{digits}
 use Rattle.flat_base.specs.declared.ids.Actor.TheVariants.{Display}
 use Rattle.flat_base.specs.declared.shapes.Rect.{Rect}
@@ -14,9 +14,12 @@ use Rattle.flat_scene.specs.declared.journal.Kind.TheVariants.{Begin, Finish}
 use Rattle.flat_scene.specs.declared.journal.Reply.TheVariants.{Done}
 use Rattle.flat_texts.specs.declared.damage.Damaged.{Damaged}
 use Rattle.flat_texts.specs.Damages.{IsDamageText, damaged_text, none}
+use Rattle.flat_render.specs.Ppm.{header}
+use Rattle.flat_scene.specs.declared.setup.Setup.{Setup}
+use Rattle.flat_texts.specs.Films.{film_text}
 use Rattle.flat_texts.specs.Lines.{finish_lines}
 use Rattle.flat_base.specs.Last.{last_item}
-use Rattle.flat_texts.specs.Pictures.{list_of}
+use Rattle.flat_texts.specs.Pictures.{list_of, picture_of}
 
 abbrev square : Rect
 square = record { x0 = pos 0; y0 = pos 0; x1 = pos 655360; y1 = pos 655360 }
@@ -44,6 +47,30 @@ the_last_frame_is_shown = refl
 
 nothing_is_shown_before_the_first : list_of (last_item []) ≡ []
 nothing_is_shown_before_the_first = refl
+
+-- ---- films
+
+abbrev two_pixels : Setup
+two_pixels = record { width = 2; height = 1; sessions = 0; probes = 0; pairs = []; buffers = []; fences = []; version = 1; ratio = 65536 }
+
+-- the fill over the left pixel alone
+abbrev left_pixel : DrawItem
+left_pixel = record (fill 1) { w = 1; h = 1; visible = record square { x1 = pos 65536; y1 = pos 65536 } }
+
+abbrev black_picture : List ℕ
+black_picture = header 2 1 ++ (0 ∷ 0 ∷ 0 ∷ 0 ∷ 0 ∷ 0 ∷ [])
+
+a_film_without_frames_is_black : film_text two_pixels [] ≡ black_picture
+a_film_without_frames_is_black = refl
+
+each_frame_has_its_picture : film_text two_pixels (frame_with 1 (left_pixel ∷ []) ∷ frame_with 2 [] ∷ []) ≡ picture_of two_pixels (Some (frame_with 1 (left_pixel ∷ []))) ++ black_picture
+unfolding digits
+each_frame_has_its_picture = refl
+
+-- equal frames are two pictures, and not one
+frames_are_not_left_out : film_text two_pixels (frame_with 1 [] ∷ frame_with 2 [] ∷ []) ≡ black_picture → ⊥
+unfolding digits
+frames_are_not_left_out same = absurd (let fewer : 34 ≡ 17 = ap length same in omega (arith, fewer))
 
 -- ---- damage
 

@@ -1,3 +1,4 @@
 pub mod Damaging
 pub mod Examples
+pub mod Filming
 pub mod Printing

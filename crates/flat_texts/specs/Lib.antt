@@ -1,3 +1,4 @@
 pub mod Damages
+pub mod Films
 pub mod Lines
 pub mod Pictures

@@ -30,7 +30,7 @@ fn picture_of_list(
 }
 
 /// The picture of a frame, or where there is none a black one.
-fn picture_after(
+pub(crate) fn picture_after(
     rt: &(impl Threads + Sync),
     alloc: Global,
     setup: &Setup,

@@ -12,7 +12,7 @@ use Rattle.clap.proofs.OnLiterals.{clap_on_literals}
 use Rattle.clap.proofs.FaultLemmas.{stopped_fault}
 use Rattle.clap.proofs.WalkLemmas.{walk_stopped}
 use Rattle.flat_words.specs.declared.form.Form.{Form}
-use Rattle.flat_words.specs.declared.form.Form.TheVariants.{Play, Race, Stress, Render, Damage, Focus, Pointer, Why}
+use Rattle.flat_words.specs.declared.form.Form.TheVariants.{Play, Race, Stress, Render, Damage, Focus, Pointer, Judge, Why, Film}
 use Rattle.flat_words.specs.Command.{IsNamed, frames, service}
 use Rattle.flat_words.specs.Forms.{is_option}
 
@@ -116,9 +116,17 @@ pointer_fault : (rest : List Text) → fault_of service (codes "pointer" ∷ res
 unfolding clap_on_literals
 pointer_fault rest = ap₂ fault_at (stopped_fault (built service).top names start (codes "pointer", []) rest) (sym (walk_stopped [] names start (codes "pointer") [] rest))
 
+judge_fault : (rest : List Text) → fault_of service (codes "judge" ∷ rest) ≡ fault_at [] (met (codes "judge") rest)
+unfolding clap_on_literals
+judge_fault rest = ap₂ fault_at (stopped_fault (built service).top names start (codes "judge", []) rest) (sym (walk_stopped [] names start (codes "judge") [] rest))
+
 why_fault : (rest : List Text) → fault_of service (codes "why" ∷ rest) ≡ fault_at [] (met (codes "why") rest)
 unfolding clap_on_literals
 why_fault rest = ap₂ fault_at (stopped_fault (built service).top names start (codes "why", []) rest) (sym (walk_stopped [] names start (codes "why") [] rest))
+
+film_fault : (rest : List Text) → fault_of service (codes "film" ∷ rest) ≡ fault_at [] (met (codes "film") rest)
+unfolding clap_on_literals
+film_fault rest = ap₂ fault_at (stopped_fault (built service).top names start (codes "film", []) rest) (sym (walk_stopped [] names start (codes "film") [] rest))
 
 stress_fault : (rest : List Text) → fault_of service (codes "stress" ∷ rest) ≡ fault_at [] (met (codes "stress") rest)
 unfolding clap_on_literals
@@ -210,17 +218,33 @@ pub pointer_alone : fault_of service (codes "pointer" ∷ []) ≡ []
 unfolding clap_on_literals
 pointer_alone = refl
 
+pub judge_alone : fault_of service (codes "judge" ∷ []) ≡ []
+unfolding clap_on_literals
+judge_alone = refl
+
 pub why_alone : fault_of service (codes "why" ∷ []) ≡ []
 unfolding clap_on_literals
 why_alone = refl
+
+pub film_alone : fault_of service (codes "film" ∷ []) ≡ []
+unfolding clap_on_literals
+film_alone = refl
 
 pub pointer_more : (word : Text) (rest : List Text) → is_option word ≡ false → fault_of service (codes "pointer" ∷ word ∷ rest) ≡ UnknownArgument ∷ []
 unfolding walk_fault defaults_fault
 pointer_more word rest plain = pointer_fault (word ∷ rest) ∙ ap (λ k. or_else k []) (bare_more (codes "pointer") word rest plain)
 
+pub judge_more : (word : Text) (rest : List Text) → is_option word ≡ false → fault_of service (codes "judge" ∷ word ∷ rest) ≡ UnknownArgument ∷ []
+unfolding walk_fault defaults_fault
+judge_more word rest plain = judge_fault (word ∷ rest) ∙ ap (λ k. or_else k []) (bare_more (codes "judge") word rest plain)
+
 pub why_more : (word : Text) (rest : List Text) → is_option word ≡ false → fault_of service (codes "why" ∷ word ∷ rest) ≡ UnknownArgument ∷ []
 unfolding walk_fault defaults_fault
 why_more word rest plain = why_fault (word ∷ rest) ∙ ap (λ k. or_else k []) (bare_more (codes "why") word rest plain)
+
+pub film_more : (word : Text) (rest : List Text) → is_option word ≡ false → fault_of service (codes "film" ∷ word ∷ rest) ≡ UnknownArgument ∷ []
+unfolding walk_fault defaults_fault
+film_more word rest plain = film_fault (word ∷ rest) ∙ ap (λ k. or_else k []) (bare_more (codes "film") word rest plain)
 
 pub stress_alone : fault_of service (codes "stress" ∷ []) ≡ MissingRequiredArgument ∷ []
 unfolding clap_on_literals
@@ -265,9 +289,17 @@ pub pointer_called : subcommand_of service (codes "pointer" ∷ []) ≡ Some (co
 unfolding clap_on_literals
 pointer_called = refl
 
+pub judge_called : subcommand_of service (codes "judge" ∷ []) ≡ Some (codes "judge", [])
+unfolding clap_on_literals
+judge_called = refl
+
 pub why_called : subcommand_of service (codes "why" ∷ []) ≡ Some (codes "why", [])
 unfolding clap_on_literals
 why_called = refl
+
+pub film_called : subcommand_of service (codes "film" ∷ []) ≡ Some (codes "film", [])
+unfolding clap_on_literals
+film_called = refl
 
 abbrev pub load_rows : Text → List Row
 load_rows word = finished load.rules (one word).held
@@ -303,7 +335,9 @@ load_only found rows word is read form named = go form (subst (λ o. IsSomeAnd o
     go Damage e = absurd (true≢false (ap (bytes_eq (codes "stress")) e))
     go Focus e = absurd (true≢false (ap (bytes_eq (codes "stress")) e))
     go Pointer e = absurd (true≢false (ap (bytes_eq (codes "stress")) e))
+    go Judge e = absurd (true≢false (ap (bytes_eq (codes "stress")) e))
     go Why e = absurd (true≢false (ap (bytes_eq (codes "stress")) e))
+    go Film e = absurd (true≢false (ap (bytes_eq (codes "stress")) e))
     go (Stress n) e = (n, refl, sym read ∙ e.1, e.2, e.3)
 
 pub load_form : (found : Option (Text × List Row)) (rows : List Row) (word : Text) (n : ℕ) → found ≡ Some (codes "stress", rows)

@@ -7,11 +7,11 @@ use Rattle.clap.proofs.CountText.{decimal-count_text}
 use Rattle.clap.specs.Words.{Row, Text, count_text, fault_of, subcommand_of}
 use Rattle.clap.specs.Walk.{idle, subcommand_met}
 use Rattle.flat_words.specs.declared.form.Form.{Form}
-use Rattle.flat_words.specs.declared.form.Form.TheVariants.{Play, Race, Stress, Render, Damage, Focus, Pointer, Why}
+use Rattle.flat_words.specs.declared.form.Form.TheVariants.{Play, Race, Stress, Render, Damage, Focus, Pointer, Judge, Why, Film}
 use Rattle.flat_words.specs.Command.{IsNamed, service}
 use Rattle.flat_words.specs.Forms.{CallFor, IsAllowed, is_option, words_of}
 use Rattle.clap.specs.declared.error.kind.ErrorKind.TheVariants.{UnknownArgument}
-use Rattle.flat_words.proofs.Calls.{load_only, load_read, load_rows, names, nothing, play_alone, play_called, play_more, race_alone, race_called, race_more, render_alone, render_called, render_more, damage_alone, damage_called, damage_more, focus_alone, focus_called, focus_more, pointer_alone, pointer_called, pointer_more, why_alone, why_called, why_more, stray, stress_alone, stress_called, stress_more, stress_one}
+use Rattle.flat_words.proofs.Calls.{load_only, load_read, load_rows, names, nothing, play_alone, play_called, play_more, race_alone, race_called, race_more, render_alone, render_called, render_more, damage_alone, damage_called, damage_more, focus_alone, focus_called, focus_more, pointer_alone, pointer_called, pointer_more, judge_alone, judge_called, judge_more, why_alone, why_called, why_more, film_alone, film_called, film_more, stray, stress_alone, stress_called, stress_more, stress_one}
 
 abbrev is_filled : {X : Type 0} → List X → Bool
 is_filled [] = false
@@ -42,7 +42,9 @@ play_only Render e = absurd (true≢false (ap (bytes_eq (codes "play")) e))
 play_only Damage e = absurd (true≢false (ap (bytes_eq (codes "play")) e))
 play_only Focus e = absurd (true≢false (ap (bytes_eq (codes "play")) e))
 play_only Pointer e = absurd (true≢false (ap (bytes_eq (codes "play")) e))
+play_only Judge e = absurd (true≢false (ap (bytes_eq (codes "play")) e))
 play_only Why e = absurd (true≢false (ap (bytes_eq (codes "play")) e))
+play_only Film e = absurd (true≢false (ap (bytes_eq (codes "play")) e))
 
 play : Lone (codes "play") Play
 play = record { words = refl; allowed = tt; alone = play_alone; more = play_more; called = play_called; only = play_only }
@@ -55,7 +57,9 @@ race_only Render e = absurd (true≢false (ap (bytes_eq (codes "race")) e))
 race_only Damage e = absurd (true≢false (ap (bytes_eq (codes "race")) e))
 race_only Focus e = absurd (true≢false (ap (bytes_eq (codes "race")) e))
 race_only Pointer e = absurd (true≢false (ap (bytes_eq (codes "race")) e))
+race_only Judge e = absurd (true≢false (ap (bytes_eq (codes "race")) e))
 race_only Why e = absurd (true≢false (ap (bytes_eq (codes "race")) e))
+race_only Film e = absurd (true≢false (ap (bytes_eq (codes "race")) e))
 
 race : Lone (codes "race") Race
 race = record { words = refl; allowed = tt; alone = race_alone; more = race_more; called = race_called; only = race_only }
@@ -68,7 +72,9 @@ render_only Render e = refl
 render_only Damage e = absurd (true≢false (ap (bytes_eq (codes "render")) e))
 render_only Focus e = absurd (true≢false (ap (bytes_eq (codes "render")) e))
 render_only Pointer e = absurd (true≢false (ap (bytes_eq (codes "render")) e))
+render_only Judge e = absurd (true≢false (ap (bytes_eq (codes "render")) e))
 render_only Why e = absurd (true≢false (ap (bytes_eq (codes "render")) e))
+render_only Film e = absurd (true≢false (ap (bytes_eq (codes "render")) e))
 
 render : Lone (codes "render") Render
 render = record { words = refl; allowed = tt; alone = render_alone; more = render_more; called = render_called; only = render_only }
@@ -81,7 +87,9 @@ damage_only Render e = absurd (true≢false (ap (bytes_eq (codes "damage")) e))
 damage_only Damage e = refl
 damage_only Focus e = absurd (true≢false (ap (bytes_eq (codes "damage")) e))
 damage_only Pointer e = absurd (true≢false (ap (bytes_eq (codes "damage")) e))
+damage_only Judge e = absurd (true≢false (ap (bytes_eq (codes "damage")) e))
 damage_only Why e = absurd (true≢false (ap (bytes_eq (codes "damage")) e))
+damage_only Film e = absurd (true≢false (ap (bytes_eq (codes "damage")) e))
 
 damage : Lone (codes "damage") Damage
 damage = record { words = refl; allowed = tt; alone = damage_alone; more = damage_more; called = damage_called; only = damage_only }
@@ -94,7 +102,9 @@ focus_only Render e = absurd (true≢false (ap (bytes_eq (codes "focus")) e))
 focus_only Damage e = absurd (true≢false (ap (bytes_eq (codes "focus")) e))
 focus_only Focus e = refl
 focus_only Pointer e = absurd (true≢false (ap (bytes_eq (codes "focus")) e))
+focus_only Judge e = absurd (true≢false (ap (bytes_eq (codes "focus")) e))
 focus_only Why e = absurd (true≢false (ap (bytes_eq (codes "focus")) e))
+focus_only Film e = absurd (true≢false (ap (bytes_eq (codes "focus")) e))
 
 focus : Lone (codes "focus") Focus
 focus = record { words = refl; allowed = tt; alone = focus_alone; more = focus_more; called = focus_called; only = focus_only }
@@ -107,10 +117,27 @@ pointer_only Render e = absurd (true≢false (ap (bytes_eq (codes "pointer")) e)
 pointer_only Damage e = absurd (true≢false (ap (bytes_eq (codes "pointer")) e))
 pointer_only Focus e = absurd (true≢false (ap (bytes_eq (codes "pointer")) e))
 pointer_only Pointer e = refl
+pointer_only Judge e = absurd (true≢false (ap (bytes_eq (codes "pointer")) e))
 pointer_only Why e = absurd (true≢false (ap (bytes_eq (codes "pointer")) e))
+pointer_only Film e = absurd (true≢false (ap (bytes_eq (codes "pointer")) e))
 
 pointer : Lone (codes "pointer") Pointer
 pointer = record { words = refl; allowed = tt; alone = pointer_alone; more = pointer_more; called = pointer_called; only = pointer_only }
+
+judge_only : (other : Form) → IsNamed (codes "judge", []) other → other ≡ Judge
+judge_only Play e = absurd (true≢false (ap (bytes_eq (codes "judge")) e))
+judge_only Race e = absurd (true≢false (ap (bytes_eq (codes "judge")) e))
+judge_only (Stress n) e = absurd (true≢false (ap (bytes_eq (codes "judge")) e.0))
+judge_only Render e = absurd (true≢false (ap (bytes_eq (codes "judge")) e))
+judge_only Damage e = absurd (true≢false (ap (bytes_eq (codes "judge")) e))
+judge_only Focus e = absurd (true≢false (ap (bytes_eq (codes "judge")) e))
+judge_only Pointer e = absurd (true≢false (ap (bytes_eq (codes "judge")) e))
+judge_only Why e = absurd (true≢false (ap (bytes_eq (codes "judge")) e))
+judge_only Film e = absurd (true≢false (ap (bytes_eq (codes "judge")) e))
+judge_only Judge e = refl
+
+judge : Lone (codes "judge") Judge
+judge = record { words = refl; allowed = tt; alone = judge_alone; more = judge_more; called = judge_called; only = judge_only }
 
 why_only : (other : Form) → IsNamed (codes "why", []) other → other ≡ Why
 why_only Play e = absurd (true≢false (ap (bytes_eq (codes "why")) e))
@@ -120,10 +147,27 @@ why_only Render e = absurd (true≢false (ap (bytes_eq (codes "why")) e))
 why_only Damage e = absurd (true≢false (ap (bytes_eq (codes "why")) e))
 why_only Focus e = absurd (true≢false (ap (bytes_eq (codes "why")) e))
 why_only Pointer e = absurd (true≢false (ap (bytes_eq (codes "why")) e))
+why_only Judge e = absurd (true≢false (ap (bytes_eq (codes "why")) e))
 why_only Why e = refl
+why_only Film e = absurd (true≢false (ap (bytes_eq (codes "why")) e))
 
 why : Lone (codes "why") Why
 why = record { words = refl; allowed = tt; alone = why_alone; more = why_more; called = why_called; only = why_only }
+
+film_only : (other : Form) → IsNamed (codes "film", []) other → other ≡ Film
+film_only Play e = absurd (true≢false (ap (bytes_eq (codes "film")) e))
+film_only Race e = absurd (true≢false (ap (bytes_eq (codes "film")) e))
+film_only (Stress n) e = absurd (true≢false (ap (bytes_eq (codes "film")) e.0))
+film_only Render e = absurd (true≢false (ap (bytes_eq (codes "film")) e))
+film_only Damage e = absurd (true≢false (ap (bytes_eq (codes "film")) e))
+film_only Focus e = absurd (true≢false (ap (bytes_eq (codes "film")) e))
+film_only Pointer e = absurd (true≢false (ap (bytes_eq (codes "film")) e))
+film_only Judge e = absurd (true≢false (ap (bytes_eq (codes "film")) e))
+film_only Why e = absurd (true≢false (ap (bytes_eq (codes "film")) e))
+film_only Film e = refl
+
+film : Lone (codes "film") Film
+film = record { words = refl; allowed = tt; alone = film_alone; more = film_more; called = film_called; only = film_only }
 
 after_lone : {name : Text} {lone : Form} → Lone name lone → (rest : List Text) → list_any is_option rest ≡ false → fault_of service (name ∷ rest) ≡ [] → (form : Form)
     → Names (subcommand_of service (name ∷ rest)) form → CallFor (name ∷ rest) form
@@ -141,10 +185,10 @@ after_stress (word ∷ last ∷ rest) plain ok form named =
     let first = or_parts (is_option word) _ plain in
     absurd (filled (sym (stress_more word last rest first.0 (or_parts (is_option last) _ first.1).0) ∙ ok))
 
-unknown : (word : Text) → bytes_eq (codes "play") word ≡ false → bytes_eq (codes "race") word ≡ false → bytes_eq (codes "stress") word ≡ false → bytes_eq (codes "render") word ≡ false → bytes_eq (codes "damage") word ≡ false → bytes_eq (codes "focus") word ≡ false → bytes_eq (codes "pointer") word ≡ false → bytes_eq (codes "why") word ≡ false
+unknown : (word : Text) → bytes_eq (codes "play") word ≡ false → bytes_eq (codes "race") word ≡ false → bytes_eq (codes "stress") word ≡ false → bytes_eq (codes "render") word ≡ false → bytes_eq (codes "damage") word ≡ false → bytes_eq (codes "focus") word ≡ false → bytes_eq (codes "pointer") word ≡ false → bytes_eq (codes "judge") word ≡ false → bytes_eq (codes "why") word ≡ false → bytes_eq (codes "film") word ≡ false
     → subcommand_met names idle word ≡ None
-unknown word play race stress render damage focus pointer why =
-    λ i. option_map (λ (s : Text × List Text). s.0) (cond (play i || false) (Some (codes "play", [])) (cond (race i || false) (Some (codes "race", [])) (cond (stress i || false) (Some (codes "stress", [])) (cond (render i || false) (Some (codes "render", [])) (cond (damage i || false) (Some (codes "damage", [])) (cond (focus i || false) (Some (codes "focus", [])) (cond (pointer i || false) (Some (codes "pointer", [])) (cond (why i || false) (Some (codes "why", [])) None))))))))
+unknown word play race stress render damage focus pointer judge why film =
+    λ i. option_map (λ (s : Text × List Text). s.0) (cond (play i || false) (Some (codes "play", [])) (cond (race i || false) (Some (codes "race", [])) (cond (stress i || false) (Some (codes "stress", [])) (cond (render i || false) (Some (codes "render", [])) (cond (damage i || false) (Some (codes "damage", [])) (cond (focus i || false) (Some (codes "focus", [])) (cond (pointer i || false) (Some (codes "pointer", [])) (cond (judge i || false) (Some (codes "judge", [])) (cond (why i || false) (Some (codes "why", [])) (cond (film i || false) (Some (codes "film", [])) None))))))))))
 
 -- where no word begins with a hyphen, and the command takes them all, they call for the form that they name
 pub called : (words : List Text) → list_any is_option words ≡ false → fault_of service words ≡ [] → (form : Form)
@@ -152,8 +196,8 @@ pub called : (words : List Text) → list_any is_option words ≡ false → faul
 called [] plain ok form named = absurd (filled (sym nothing ∙ ok))
 called (word ∷ rest) plain ok form named =
     by_lone play (λ no_play. by_lone race (λ no_race. by_stress (λ no_stress. by_lone render (λ no_render. by_lone damage (λ no_damage.
-    by_lone focus (λ no_focus. by_lone pointer (λ no_pointer. by_lone why (λ no_why.
-    absurd (filled (sym (stray word rest parts.0 (unknown word no_play no_race no_stress no_render no_damage no_focus no_pointer no_why)) ∙ ok))))))))))
+    by_lone focus (λ no_focus. by_lone pointer (λ no_pointer. by_lone judge (λ no_judge. by_lone why (λ no_why. by_lone film (λ no_film.
+    absurd (filled (sym (stray word rest parts.0 (unknown word no_play no_race no_stress no_render no_damage no_focus no_pointer no_judge no_why no_film)) ∙ ok))))))))))))
   where
     parts : (is_option word ≡ false) × (list_any is_option rest ≡ false)
     parts = or_parts (is_option word) _ plain
@@ -201,7 +245,9 @@ taken words Render call = subst (Taken Render) (sym call.0) (refl, render_alone,
 taken words Damage call = subst (Taken Damage) (sym call.0) (refl, damage_alone, subst (λ o. Names o Damage) (sym damage_called) refl)
 taken words Focus call = subst (Taken Focus) (sym call.0) (refl, focus_alone, subst (λ o. Names o Focus) (sym focus_called) refl)
 taken words Pointer call = subst (Taken Pointer) (sym call.0) (refl, pointer_alone, subst (λ o. Names o Pointer) (sym pointer_called) refl)
+taken words Judge call = subst (Taken Judge) (sym call.0) (refl, judge_alone, subst (λ o. Names o Judge) (sym judge_called) refl)
 taken words Why call = subst (Taken Why) (sym call.0) (refl, why_alone, subst (λ o. Names o Why) (sym why_called) refl)
+taken words Film call = subst (Taken Film) (sym call.0) (refl, film_alone, subst (λ o. Names o Film) (sym film_called) refl)
 taken words (Stress n) call =
     let plain = decimal_plain n call.1.1 in
     subst (Taken (Stress n)) (sym call.0) (

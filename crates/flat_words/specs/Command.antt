@@ -5,7 +5,8 @@ use Rattle.clap.specs.Words.{App, Row, Rule, Text, first_of, new_app, new_rule, 
 use Rattle.clap.specs.Simple.{Shape, on_top}
 use Rattle.flat_base.specs.declared.limits.TheConstants.{LOAD_FRAMES_MAX}
 use Rattle.flat_words.specs.declared.form.Form.{Form}
-use Rattle.flat_words.specs.declared.form.Form.TheVariants.{Play, Race, Stress, Render, Damage, Focus, Pointer, Why}
+use Rattle.flat_words.specs.declared.form.Form.TheVariants.{Play, Race, Stress, Render, Damage, Focus}
+use Rattle.flat_words.specs.declared.form.Form.TheVariants.{Pointer, Judge, Why, Film}
 
 -- the word after `stress`: the number of frames
 abbrev pub frames : Rule
@@ -31,6 +32,8 @@ service =
     (with_subcommand
     (with_subcommand
     (with_subcommand
+    (with_subcommand
+    (with_subcommand
     (with_subcommand (on_top asking (new_app (codes "flatland"))) (new_app (codes "play")).top)
     (new_app (codes "race")).top)
     (with_rule (new_app (codes "stress")) frames).top)
@@ -38,7 +41,9 @@ service =
     (new_app (codes "damage")).top)
     (new_app (codes "focus")).top)
     (new_app (codes "pointer")).top)
-    (new_app (codes "why")).top
+    (new_app (codes "judge")).top)
+    (new_app (codes "why")).top)
+    (new_app (codes "film")).top
 
 -- A subcommand, with its name and its own words, is that of a form.
 abbrev pub IsNamed : Text × List Row → Form → Type 0
@@ -51,4 +56,6 @@ IsNamed call Render = call.0 ≡ codes "render"
 IsNamed call Damage = call.0 ≡ codes "damage"
 IsNamed call Focus = call.0 ≡ codes "focus"
 IsNamed call Pointer = call.0 ≡ codes "pointer"
+IsNamed call Judge = call.0 ≡ codes "judge"
 IsNamed call Why = call.0 ≡ codes "why"
+IsNamed call Film = call.0 ≡ codes "film"

@@ -3,7 +3,8 @@ use Rattle.std.specs.Prelude.{◌≡◌, ◌==◌, ⊤, ℕ, ◌≤◌, Bool, fa
 use Rattle.std.specs.Fmt.{decimal}
 use Rattle.flat_base.specs.declared.limits.TheConstants.{LOAD_FRAMES_MAX}
 use Rattle.flat_words.specs.declared.form.Form.{Form}
-use Rattle.flat_words.specs.declared.form.Form.TheVariants.{Play, Race, Stress, Render, Damage, Focus, Pointer, Why}
+use Rattle.flat_words.specs.declared.form.Form.TheVariants.{Play, Race, Stress, Render, Damage, Focus}
+use Rattle.flat_words.specs.declared.form.Form.TheVariants.{Pointer, Judge, Why, Film}
 
 -- how a form is written
 abbrev pub words_of : Form → List (List ℕ)
@@ -14,7 +15,9 @@ words_of Render = codes "render" ∷ []
 words_of Damage = codes "damage" ∷ []
 words_of Focus = codes "focus" ∷ []
 words_of Pointer = codes "pointer" ∷ []
+words_of Judge = codes "judge" ∷ []
 words_of Why = codes "why" ∷ []
+words_of Film = codes "film" ∷ []
 
 -- A load has at least one frame, and no more than are allowed.
 abbrev pub IsAllowed : Form → Type 0

@@ -34,8 +34,12 @@ pub enum Form {
     Focus,
     /// To which sessions the pointers' lines went while a script was played.
     Pointer,
+    /// Whether a report is that of a run of the script before it.
+    Judge,
     /// Why the sessions of a played script were on the display, or not.
     Why,
+    /// The pictures of all frames of a played script.
+    Film,
 }
 
 /// The form for which the words call: None if they call for none. Fails
@@ -140,7 +144,10 @@ fn service<'a>(alloc: Global) -> Result<Command<'a>, NoMemory>
     let Ok(command) = with_two(alloc, command, "focus", "pointer") else {
         return Err(NoMemory);
     };
-    with_form(alloc, command, "why")
+    let Ok(command) = with_two(alloc, command, "judge", "why") else {
+        return Err(NoMemory);
+    };
+    with_form(alloc, command, "film")
 }
 
 // What the words give the command, or None where it refuses them.
@@ -180,7 +187,9 @@ fn named_form(matches: &ArgMatches) -> Option<Form>
         "damage" => Some(Form::Damage),
         "focus" => Some(Form::Focus),
         "pointer" => Some(Form::Pointer),
+        "judge" => Some(Form::Judge),
         "why" => Some(Form::Why),
+        "film" => Some(Form::Film),
         _ => None,
     }
 }

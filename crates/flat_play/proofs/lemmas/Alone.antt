@@ -10,7 +10,7 @@ use Rattle.flat_core.specs.Machines.{Machine, MayCall, HasShare}
 use Rattle.flat_rules.specs.Owned.{is_played_display}
 use Rattle.flat_playable.specs.Playable.{keeps_frames}
 use Rattle.flat_play.specs.Playing.{is_alone}
-use Rattle.flat_play.proofs.Growing.{is_quiet}
+use Rattle.flat_play.proofs.lemmas.Growing.{is_quiet}
 use Rattle.flat_play.proofs.lemmas.DisplaySteps.{may_dpr, may_signal_fence, may_wait_for}
 
 pub may_alone : (m : Machine) (text : DisplayLine) → is_alone text ≡ true → HasShare m Display → is_played_display m.setup text ≡ true → MayCall m Display [] (entry_of_display text)

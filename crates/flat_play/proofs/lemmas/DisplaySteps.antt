@@ -43,7 +43,7 @@ use Rattle.flat_play.specs.Playing.{DisplayStands, FramesStand, IsSpent, lines_b
 use Rattle.flat_play.specs.declared.frame.LastFrame.{LastFrame}
 use Rattle.flat_play.specs.Last.{IsLast, StaysLast}
 use Rattle.flat_play.proofs.Displayed.{display_more}
-use Rattle.flat_play.proofs.Growing.{is_quiet}
+use Rattle.flat_play.proofs.lemmas.Growing.{is_quiet}
 use Rattle.flat_play.proofs.lemmas.Steps.{At}
 use Rattle.flat_base.proofs.lemmas.Tests.{and-left, and-right}
 use Rattle.flat_play.proofs.lemmas.Unread.{unread_after, Numbered}

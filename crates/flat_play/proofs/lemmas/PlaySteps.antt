@@ -44,7 +44,7 @@ use Rattle.flat_report.specs.declared.report.HitAnswer.{HitAnswer}
 use Rattle.flat_stage.specs.declared.reader.Reader.{Reader}
 use Rattle.flat_playable.specs.Playable.{is_played, keeps_frames}
 use Rattle.flat_play.specs.Playing.{IsSpent, lines_by, shares_of, ReaderStands, ReadersStand, DisplayStands, FramesStand, PlayStands, BeginsFrame, FinishesFrame, EntersBeside, AsksPoint, AnswersStand, HasViews, session_text, display_text}
-use Rattle.flat_play.proofs.Growing.{Grows, grows, stays, is_quiet}
+use Rattle.flat_play.proofs.lemmas.Growing.{Grows, grows, stays, is_quiet}
 use Rattle.flat_play.proofs.lemmas.FramesShown.{all-finished}
 use Rattle.flat_play.proofs.lemmas.DisplaySteps.{QuietStep, begin_time_ok, quiet_begin, quiet_finish, quiet_end, quiet_answers, answers_session, answers_beside, answers_done, answers_point, answers_stay, display_session, display_probe, display_begin, display_done, display_beside, finished-beside, finished-session, frames_session, frames_beside, frames_begin, frames_done}
 use Rattle.flat_play.proofs.lemmas.DisplaySteps as quiet

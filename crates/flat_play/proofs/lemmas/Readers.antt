@@ -27,7 +27,7 @@ use Rattle.flat_stage.specs.Readings.{HasRead, NoneIsRead, OneMoreIsRead, Rise}
 use Rattle.flat_stage.specs.Reads.{IsNew, Makes, Reads, Stands, draft_so_far, made_by_line}
 use Rattle.flat_playable.specs.Playable.{rise_from}
 use Rattle.flat_play.specs.Playing.{ReaderStands}
-use Rattle.flat_play.proofs.Growing.{Grows, grows, stays, is_quiet}
+use Rattle.flat_play.proofs.lemmas.Growing.{Grows, grows, stays, is_quiet}
 use Rattle.flat_play.proofs.lemmas.Places.{Here}
 use Rattle.flat_play.proofs.lemmas.Unread.{rise_first, rise_later}
 

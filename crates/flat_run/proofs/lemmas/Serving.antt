@@ -6,7 +6,6 @@ use Rattle.flat_io.specs.Told.{Appends}
 use Rattle.flat_display.specs.Had.{AreKept}
 use Rattle.flat_scene.specs.declared.frames.FrameOut.{FrameOut}
 use Rattle.flat_words.specs.declared.form.Form.{Form}
-use Rattle.flat_words.specs.declared.form.Form.TheVariants.{Render}
 use Rattle.flat_words.specs.Forms.{CallFor}
 use Rattle.flat_play.proofs.lemmas.Seen.{kept_none}
 use Rattle.flat_run.specs.declared.answers.Answer.{Answer}
@@ -29,13 +28,16 @@ or_either true b is = inl refl
 or_either false b is = inr is
 
 -- which status an answer has, and which one its call has
-one_of_three : (n : ℕ) → IsTrue (n == 0 || n == 3 || n == 7) → (n ≡ 0) ⊎ (n ≡ 3) ⊎ (n ≡ 7)
-one_of_three n among = elim (or_either (n == 0 || n == 3) (n == 7) among) [
-  | inl first ↦ elim (or_either (n == 0) (n == 3) first) [
-    | inl is ↦ inl (eqb-true n 0 is)
-    | inr is ↦ inr (inl (eqb-true n 3 is))
+one_of_four : (n : ℕ) → IsTrue (n == 0 || n == 3 || n == 7 || n == 8) → (n ≡ 0) ⊎ (n ≡ 3) ⊎ (n ≡ 7) ⊎ (n ≡ 8)
+one_of_four n among = elim (or_either (n == 0 || n == 3 || n == 7) (n == 8) among) [
+  | inl three ↦ elim (or_either (n == 0 || n == 3) (n == 7) three) [
+    | inl first ↦ elim (or_either (n == 0) (n == 3) first) [
+      | inl is ↦ inl (eqb-true n 0 is)
+      | inr is ↦ inr (inl (eqb-true n 3 is))
+    ]
+    | inr is ↦ inr (inr (inl (eqb-true n 7 is)))
   ]
-  | inr is ↦ inr (inr (eqb-true n 7 is))
+  | inr is ↦ inr (inr (inr (eqb-true n 8 is)))
 ]
 
 one_or_fault : (result status : ℕ) → IsTrue (result == status || result == 5) → (result ≡ status) ⊎ (result ≡ 5)
@@ -45,29 +47,35 @@ one_or_fault result status either = elim (or_either (result == status) (result =
 ]
 
 abbrev is_any : ℕ → Bool
-is_any n = n == 0 || n == 2 || n == 3 || n == 4 || n == 5 || n == 6 || n == 7
+is_any n = n == 0 || n == 2 || n == 3 || n == 4 || n == 5 || n == 6 || n == 7 || n == 8
 
-among_all : (status result : ℕ) → IsTrue (status == 0 || status == 3 || status == 7) → IsTrue (result == status || result == 5) → IsTrue (is_any result)
+among_all : (status result : ℕ) → IsTrue (status == 0 || status == 3 || status == 7 || status == 8) → IsTrue (result == status || result == 5) → IsTrue (is_any result)
 among_all status result among either =
     let P : ℕ → Type 0 = λ n. IsTrue (is_any n) in
     elim (one_or_fault result status either) [
-      | inl same ↦ elim (one_of_three status among) [
+      | inl same ↦ elim (one_of_four status among) [
         | inl is ↦ subst P (sym (same ∙ is)) refl
         | inr rest ↦ elim rest [
           | inl is ↦ subst P (sym (same ∙ is)) refl
-          | inr is ↦ subst P (sym (same ∙ is)) refl
+          | inr last ↦ elim last [
+            | inl is ↦ subst P (sym (same ∙ is)) refl
+            | inr is ↦ subst P (sym (same ∙ is)) refl
+          ]
         ]
       ]
       | inr is ↦ subst P (sym is) refl
     ]
 
-not_read : (status result : ℕ) → IsTrue (status == 0 || status == 3 || status == 7) → IsTrue (result == status || result == 5) → result ≡ 4 → ⊥
+not_read : (status result : ℕ) → IsTrue (status == 0 || status == 3 || status == 7 || status == 8) → IsTrue (result == status || result == 5) → result ≡ 4 → ⊥
 not_read status result among either is_4 = elim (one_or_fault result status either) [
-  | inl same ↦ elim (one_of_three status among) [
+  | inl same ↦ elim (one_of_four status among) [
     | inl is ↦ omega (arith, is_4, same, is)
     | inr rest ↦ elim rest [
       | inl is ↦ omega (arith, is_4, same, is)
-      | inr is ↦ omega (arith, is_4, same, is)
+      | inr last ↦ elim last [
+        | inl is ↦ omega (arith, is_4, same, is)
+        | inr is ↦ omega (arith, is_4, same, is)
+      ]
     ]
   ]
   | inr is ↦ omega (arith, is_4, is)
@@ -76,14 +84,14 @@ not_read status result among either is_4 = elim (one_or_fault result status eith
 -- ---- what stays as it was
 
 abbrev is_untouched : ℕ → Bool
-is_untouched n = n == 2 || n == 3 || n == 4 || n == 7
+is_untouched n = n == 2 || n == 3 || n == 4 || n == 7 || n == 8
 
 other_status : (test : ℕ → Bool) (n m : ℕ) {P : Type 0} → test m ≡ false → test n ≡ true → n ≡ m → P
 other_status test n m not_m is_n same = absurd (let both : true ≡ false = sym is_n ∙ ap test same ∙ not_m in cc)
 
 -- what holds where nothing was shown, by the status
 pub untouched_by : {X : Type 0} (answer : Result Answer Unanswered) (result : ℕ) (sink sink' : SinkState) → ((one : Answer) → answer ≡ Ok one → Writes one.text one.status sink sink' result) → (answer ≡ Err Memory → result ≡ 6) → IfOk answer (λ one. one.status ≢ 0 → X) → (answer ≡ Err Fault → X)
-    → IsTrue (result == 2 || result == 3 || result == 4 || result == 7) → X
+    → IsTrue (result == 2 || result == 3 || result == 4 || result == 7 || result == 8) → X
 untouched_by (Ok one) result sink sink' writes memory unshown failed among =
     let wrote = writes one refl in
     elim (one_or_fault result one.status wrote.either) [
@@ -94,17 +102,20 @@ untouched_by (Err Fault) result sink sink' writes memory unshown failed among = 
 untouched_by (Err Memory) result sink sink' writes memory unshown failed among = other_status is_untouched result 6 refl among (memory refl)
 
 -- what holds where nothing was written
-pub unwritten_by : {X : Type 0} (answer : Result Answer Unanswered) (result : ℕ) (sink sink' : SinkState) → ((one : Answer) → answer ≡ Ok one → Writes one.text one.status sink sink' result) → IfOk answer (λ one. IsTrue (one.status == 0 || one.status == 3 || one.status == 7)) → (answer ≡ Err Fault → X) → (answer ≡ Err Memory → X)
+pub unwritten_by : {X : Type 0} (answer : Result Answer Unanswered) (result : ℕ) (sink sink' : SinkState) → ((one : Answer) → answer ≡ Ok one → Writes one.text one.status sink sink' result) → IfOk answer (λ one. IsTrue (one.status == 0 || one.status == 3 || one.status == 7 || one.status == 8)) → (answer ≡ Err Fault → X) → (answer ≡ Err Memory → X)
     → IsTrue (result == 4 || result == 6) → X
 unwritten_by (Ok one) result sink sink' writes statuses failed memory among =
     let wrote = writes one refl in
     let test : ℕ → Bool = λ n. n == 4 || n == 6 in
     elim (one_or_fault result one.status wrote.either) [
-      | inl same ↦ elim (one_of_three one.status statuses) [
+      | inl same ↦ elim (one_of_four one.status statuses) [
         | inl is ↦ other_status test result 0 refl among (same ∙ is)
         | inr rest ↦ elim rest [
           | inl is ↦ other_status test result 3 refl among (same ∙ is)
-          | inr is ↦ other_status test result 7 refl among (same ∙ is)
+          | inr last ↦ elim last [
+            | inl is ↦ other_status test result 7 refl among (same ∙ is)
+            | inr is ↦ other_status test result 8 refl among (same ∙ is)
+          ]
         ]
       ]
       | inr is_5 ↦ other_status test result 5 refl among is_5
@@ -116,7 +127,7 @@ unwritten_by (Err Memory) result sink sink' writes statuses failed memory among 
 module _ {D : Type 0} (shown : D → Option (List FrameOut)) (faults : D → ℕ) {K : Type 0} (kind : D → K) (words : List (List ℕ)) where
   module _ (source source' : SourceState) (sink sink' : SinkState) (olds news : List D) where
     -- an answer was written
-    written : (form : Form) → CallFor words form → ((f : Form) → CallFor words f → f ≡ form) → (status result : ℕ) (text : List ℕ) → IsAnswer shown faults olds news words source.left source'.left status text → IsTrue (status == 0 || status == 3 || status == 7)
+    written : (form : Form) → CallFor words form → ((f : Form) → CallFor words f → f ≡ form) → (status result : ℕ) (text : List ℕ) → IsAnswer shown faults olds news words source.left source'.left status text → IsTrue (status == 0 || status == 3 || status == 7 || status == 8)
         → AreKept shown faults (AreFramesFor words source.left source'.left) olds news kind → (given : List ℕ) × AreGiven given source.left source'.left → source'.faults ≡ source.faults → Writes text status sink sink' result → Serves shown faults kind words source source' sink sink' olds news result
     written form calls one status result text is among kept given steady wrote = record {
       whole = λ not_4 not_5 not_6. text_whole shown faults olds news words source.left source'.left sink.held sink'.held status result text is wrote.whole wrote.either not_5;
@@ -133,8 +144,8 @@ module _ {D : Type 0} (shown : D → Option (List FrameOut)) (faults : D → ℕ
       complete = λ f called there none_rose.
           (let told : status ≡ 0 = only_told shown faults olds news words source.left source'.left f source.faults source'.faults called (λ g calls_g. one g calls_g ∙ sym (one f called)) there status text is in
           answered_or_fault result status 0 wrote.either told (λ is_5. let rose = wrote.fault is_5 in let both : true ≡ false = sym rose ∙ none_rose in cc));
-      too_large = λ called there none_rose.
-          (let large : status ≡ 7 = only_large shown faults olds news words source.left source'.left source.faults source'.faults called (λ g calls_g. one g calls_g ∙ sym (one Render called)) there status text is in
+      too_large = λ f called there none_rose.
+          (let large : status ≡ 7 = only_large shown faults olds news words source.left source'.left f source.faults source'.faults called (λ g calls_g. one g calls_g ∙ sym (one f called)) there status text is in
           answered_or_fault result status 7 wrote.either large (λ is_5. let rose = wrote.fault is_5 in let both : true ≡ false = sym rose ∙ none_rose in cc));
       statuses = among_all status result among wrote.either;
     }
@@ -159,7 +170,7 @@ module _ {D : Type 0} (shown : D → Option (List FrameOut)) (faults : D → ℕ
           counts = (grows, omega arith, omega arith);
           usage = λ nothing. absurd (nothing form calls);
           complete = λ f called there none_rose. absurd (there_no_read_fault f form source.left source'.left source.faults source'.faults (sym (one f called)) there read risen);
-          too_large = λ called there none_rose. absurd (large_no_read_fault source.left source'.left source.faults source'.faults there risen);
+          too_large = λ f called there none_rose. absurd (large_no_read_fault f source.left source'.left source.faults source'.faults there risen);
           statuses = refl;
         }))
 
@@ -183,7 +194,7 @@ module _ {D : Type 0} (shown : D → Option (List FrameOut)) (faults : D → ℕ
           counts = (omega (arith, steady), omega arith, omega arith);
           usage = λ nothing. refl;
           complete = λ f called there none_rose. refl;
-          too_large = λ called there none_rose. refl;
+          too_large = λ f called there none_rose. refl;
           statuses = refl;
         }))
 
@@ -218,7 +229,7 @@ module _ {D : Type 0} (shown : D → Option (List FrameOut)) (faults : D → ℕ
           counts = (omega arith, wrote.counts.0, wrote.counts.1);
           usage = λ _. by_two (λ n. IsTrue (n == 2 || n == 5 || n == 6)) refl refl;
           complete = λ form calls there none_rose. absurd (nothing form calls);
-          too_large = λ calls there none_rose. absurd (nothing Render calls);
+          too_large = λ form calls there none_rose. absurd (nothing form calls);
           statuses = by_two (λ n. IsTrue (is_any n)) refl refl;
         }
       where

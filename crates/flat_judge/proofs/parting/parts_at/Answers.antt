@@ -1,8 +1,14 @@
 use Rattle.std.proofs.Common.{◌≡◌, ◌≤◌, ℕ, List, [], length, drop, Some, sym, ap, ◌∙◌, arith}
 use Rattle.std.specs.List.{concat}
 use Rattle.flat_judge.specs.Parting.{parts_from}
-use Rattle.flat_judge.proofs.Partings.{all-past, parts-longer}
+use Rattle.flat_judge.proofs.Partings.{all-past, parts-longer, parts-same}
 use Rattle.flat_judge.proofs.parting.parts_at.Goals as goal
+
+pub returns-then-is_report : goal.returns-then-is_report
+returns-then-is_report c =
+    let report = c.args.report.now in
+    let same = c.is_report.ensures c.if-is_report.true in
+    sym (ap (λ (text : List ℕ). parts_from 1 text report) same ∙ parts-same 1 report)
 
 pub returns-then-at-text : goal.returns-then-at-text
 returns-then-at-text c =

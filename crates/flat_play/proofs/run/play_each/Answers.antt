@@ -35,6 +35,7 @@ loop-place-init g c = record {
   turns = turns-none c.args.script.now.setup.probes c.args.play.now.board.history c.args.answers.now.items c.requires.unasked;
   explained = (let P : List Entry → Type 0 = λ h. StandsExplained c.args.script.now h c.args.explaining.now in subst P (sym c.requires.no_entry) c.requires.unexplained);
   on = refl;
+  film = refl;
 }
 
 pub answer_upto-requires-clause-setup : goal.answer_upto-requires-clause-setup
@@ -100,6 +101,7 @@ loop-place-preserved g c =
           (probes-more script place x at old (at_ratio last.ratio script.setup) last.reuse last.frame.0 number (scaled script.setup (to_finished old) last.ratio (stays.ratio ∙ was.stands.answers.scaling)) showing c.loop-place.answers.items c.answer_line.new.answers.items asks was.asked);
       explained = c.in_ok-note.ensures.stands;
       on = c.in_ok-note.ensures.on ∙ was.on;
+      film = c.in_ok-note.ensures.film ∙ was.film;
       turns =
           turns-on script place x at old new c.answer_line.new.answers.items on
           (turns-more script place x at old (last_number 0 (take place script.lines)) at.above was.answered.entries (at_ratio last.ratio script.setup) last.reuse last.frame.0 number c.loop-place.answers.items c.answer_line.new.answers.items was.asked.count asks was.turns);
@@ -168,7 +170,12 @@ note-requires-clause-before g c =
     let whole = entries.ok in
     let long = entered_so_far entries.items old c.journal.ensures.entries in
     let many = c.len-entries.ensures in
-    (old, x.number, (let all : length old ≡ c.len-entries.result = omega (arith, long, whole, many) in all), c.in_ok-play_line.ensures.goes_on x c.at-line.ensures, c.loop-place.invariant.explained)
+    let number : frames old ≡ c.answer_line.new.last.frame.0 =
+    sym (ap (λ (n : FrameNo). n.0) (c.in_ok-answer_line.ensures.stays.frame ∙ c.in_ok-left.ensures.stays.frame) ∙ c.loop-place.invariant.stands.answers.number) in
+    (old, x.number, (let all : length old ≡ c.len-entries.result = omega (arith, long, whole, many) in all), c.in_ok-play_line.ensures.goes_on x c.at-line.ensures, c.loop-place.invariant.explained, number)
+
+pub note-requires-clause-number : goal.note-requires-clause-number
+note-requires-clause-number g c = c.in_ok-play_line.ensures.stands.answers.number
 
 pub returns-in_err-note-clause-kept : goal.returns-in_err-note-clause-kept
 returns-in_err-note-clause-kept g c =
@@ -182,3 +189,6 @@ returns-clause-explained g c = c.loop-place.invariant.explained
 
 pub returns-clause-on : goal.returns-clause-on
 returns-clause-on g c = c.loop-place.invariant.on
+
+pub returns-clause-film : goal.returns-clause-film
+returns-clause-film g c = c.loop-place.invariant.film

@@ -1,6 +1,6 @@
 use Rattle.std.proofs.Common.{◌≡◌, length, map, take}
 use Rattle.flat_report.specs.Report.{finished}
-use Rattle.flat_play.specs.Explaining.{StandsExplained, is_on}
+use Rattle.flat_play.specs.Explaining.{StandsExplained, is_film, is_on}
 use Rattle.flat_play.specs.Keeping.{keeping_of}
 use Rattle.flat_play.specs.Playing.{PlayStands, last_number}
 use Rattle.flat_play.specs.Probing.{ProbesStand, SeeInTurn}
@@ -21,4 +21,5 @@ invariant-loop-place g l = record {
   turns : SeeInTurn (take l.place l.script.lines) l.play.board.history l.answers.items;
   explained : StandsExplained l.script l.play.board.history l.explaining;
   on : is_on l.explaining ≡ is_on l.initial.explaining;
+  film : is_film l.explaining ≡ is_film l.initial.explaining;
 }

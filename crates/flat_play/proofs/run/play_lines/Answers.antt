@@ -7,6 +7,3 @@ returns-in_err-play-clause-kept g c = kept_none _ _ _ _ _ (none-begun c.args.scr
 
 pub returns-in_err-probes-clause-kept : goal.returns-in_err-probes-clause-kept
 returns-in_err-probes-clause-kept g c = kept_none _ _ _ _ _ (none-begun c.args.script.now)
-
-pub returns-in_err-explaining-clause-kept : goal.returns-in_err-explaining-clause-kept
-returns-in_err-explaining-clause-kept g c = kept_none _ _ _ _ _ (none-begun c.args.script.now)

@@ -7,20 +7,20 @@ use Rattle.flat_script.specs.declared.script.ScriptError.TheVariants as error
 use Rattle.flat_extra.specs.Reading.{Reads}
 use Rattle.flat_run.specs.declared.reading.Reading.{Reading}
 use Rattle.flat_run.specs.Forms.{form_read}
-use Rattle.flat_run.specs.Promise.{fault_line}
+use Rattle.flat_run.specs.Judging.{fault_line}
 use Rattle.flat_run.proofs.Answering.{denied}
 use Rattle.flat_run.proofs.Runnable.{runnable}
 use Rattle.flat_run.proofs.given.read_bytes.Goals as goal
 
 pub fitting-requires : goal.fitting-requires
-fitting-requires c =
+fitting-requires g c =
     record {
       runnable = runnable c.scripts_are_playable.ensures.playable c.rests_are_read.ensures.focus c.rests_are_read.ensures.pointers c.pointers_rise.ensures c.extra_laws.ensures.pointers_are_known
           c.args.form c.args.bytes.now c.in-Ok.reading c.in-Ok.ensures;
     }
 
 pub returns-in_ok-refusal-in-Err-Fault : goal.returns-in_ok-refusal-in-Err-Fault
-returns-in_ok-refusal-in-Err-Fault c =
+returns-in_ok-refusal-in-Err-Fault g c =
     let whole = c.in-Err-Fault.is in
     let why = c.in-Err-Fault.field-0-is in
     let is : c.in-Err-Fault.field-0 ≡ error.Fault c.in-Err-Fault.fault = cc in

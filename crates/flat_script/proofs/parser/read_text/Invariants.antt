@@ -1,6 +1,8 @@
-use Rattle.std.proofs.Common.{◌≡◌, ◌<◌, ◌≤◌, ◌+◌, length}
+use Rattle.std.proofs.Common.{◌≡◌, ◌<◌, ◌≤◌, ◌+◌, true, length}
+use Rattle.std.specs.List.{list_all}
 use Rattle.flat_text.specs.Pieces.{lines_of}
 use Rattle.flat_script.specs.Grammar.{lines_read, text_read}
+use Rattle.flat_script.specs.Plain.{is_text_byte}
 use Rattle.flat_forms.specs.Progress.{Kept, sofar_of}
 use Rattle.flat_script.proofs.parser.read_text.Given as goal
 
@@ -11,6 +13,7 @@ invariant-loop-first l = record {
   some : 0 < l.number;
   begins : l.parser.begins < l.number;
   dones : l.parser.dones < l.number;
+  known : l.plain ≡ true → list_all is_text_byte l.text ≡ true;
   same : lines_read l.number (sofar_of l.parser) (lines_of l.text) ≡ text_read l.fn.bytes;
 }
 

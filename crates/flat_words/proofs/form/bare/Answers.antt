@@ -1,5 +1,4 @@
-use Rattle.std.proofs.Common.{◌≡◌, ◌∙◌, ap, rules, codes, true}
-use Rattle.clap.specs.Words.{app_of, new_app}
+use Rattle.std.proofs.Common.{◌≡◌, ◌∙◌, ap, rules, true}
 use Rattle.clap.specs.Simple.{app_of_fields, on_top}
 use Rattle.clap.specs.declared.builder.command.Command.TheViews.{out-Command}
 use Rattle.flat_words.specs.Command.{asking}

@@ -13,4 +13,5 @@ returns c =
     let loaded = c.in-Ok-with_load.ensures ∙ ap with_load played in
     let shown = c.in-Ok-with_two.ensures ∙ ap (with_two (codes "render") (codes "damage")) loaded in
     let pointed = c.in-Ok-with_two-2.ensures ∙ ap (with_two (codes "focus") (codes "pointer")) shown in
-    if_ok _ (λ command. app_of command ≡ service) c.with_form.result (λ more is. is ∙ ap (with_one (codes "why")) pointed) c.with_form.ensures
+    let judged = c.in-Ok-with_two-3.ensures ∙ ap (with_two (codes "judge") (codes "why")) pointed in
+    if_ok _ (λ command. app_of command ≡ service) c.with_form.result (λ more is. is ∙ ap (with_one (codes "film")) judged) c.with_form.ensures

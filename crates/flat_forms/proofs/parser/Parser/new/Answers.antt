@@ -8,7 +8,7 @@ pub returns-clause-kept : goal.returns-clause-kept
 returns-clause-kept c =
     rw c.empty.ensures (record {
       indexed = record {
-        only = c.new.ensures.only;
+        cache = c.new.ensures.cache;
         finds = λ w. nothing_found _ w (c.new.ensures.empty w);
         sessions = lit≤ tt;
         probes = lit≤ tt;

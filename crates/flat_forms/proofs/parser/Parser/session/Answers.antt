@@ -13,7 +13,7 @@ returns-clause-kept c =
     let read = name_declares c.args.self.now.text.script (pieces_left is_space c.args.words) (nat_lt c.len-number.result 16) c.in_ok-name.name.now c.in_ok-name.ensures in
     record {
       indexed = record {
-        only = c.in_ok-add_name.ensures.only;
+        cache = c.in_ok-add_name.ensures.cache;
         finds = λ w.
             sessions_found old _ c.in_ok-name.name.now c.in_ok-name.name.now w c.len-number.result _ _ c.in_ok-add_name.ensures.list refl refl refl refl refl c.len-number.ensures read.fresh (c.in_ok-add_name.ensures.found w) (had.finds w);
         sessions = one_longer old.sessions c.add_name.new.list c.in_ok-name.name.now c.len-number.result 16 c.in_ok-add_name.ensures.list c.len-number.ensures read.allowed;

@@ -12,7 +12,7 @@ returns-clause-kept c =
     let lines = old.text.script.lines in
     record {
       indexed = record {
-        only = kept.indexed.only;
+        cache = kept.indexed.cache;
         finds = λ w. means_at old.text.script _ _ w refl refl refl refl refl (kept.indexed.finds w);
         sessions = kept.indexed.sessions;
         probes = kept.indexed.probes;

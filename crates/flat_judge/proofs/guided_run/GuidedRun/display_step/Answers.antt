@@ -3,6 +3,8 @@ use Rattle.flat_play.proofs.lemmas.Starting.{few}
 use Rattle.flat_play.proofs.lemmas.Steps.{at_place}
 use Rattle.flat_judge.proofs.DisplayLines.{display_room, displays, frames_below, may_enter}
 use Rattle.flat_judge.proofs.RunSteps.{line_enters, line_passes}
+use Rattle.flat_scene.specs.Interleave.{entry_of_display}
+use Rattle.flat_judge.specs.GuidedRuns.{DisplayGoes}
 use Rattle.flat_judge.proofs.guided_run.GuidedRun.display_step.Goals as goal
 
 pub direct-requires-clause-may : goal.direct-requires-clause-may
@@ -41,3 +43,9 @@ returns-in-None-clause-stands c =
     let x = c.at-line.result.now in
     let at = at_place script guided.place x c.requires.playable c.at-line.ensures in
     line_passes script guided _ x at c.requires.within c.requires.stands refl (sym c.display_text.ensures ∙ c.in-None.is) refl refl refl refl
+
+pub returns-in_ok-direct-in-Some-clause-goes : goal.returns-in_ok-direct-in-Some-clause-goes
+returns-in_ok-direct-in-Some-clause-goes c = DisplayGoes.enters c.at-line.result.now.number (entry_of_display c.in-Some.text) c.in_ok-direct-in-Some.ensures.enters
+
+pub returns-in-None-clause-goes : goal.returns-in-None-clause-goes
+returns-in-None-clause-goes c = DisplayGoes.stays refl

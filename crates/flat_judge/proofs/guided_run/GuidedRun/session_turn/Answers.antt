@@ -1,7 +1,8 @@
-use Rattle.std.proofs.Common.{rules, ◌≡◌, ◌+◌, ℕ, false, get_or, ap, ◌∙◌, refl, arith}
+use Rattle.std.proofs.Common.{◌≡◌, ◌+◌, ℕ, false, Some, slice_get, refl, sym, ◌∙◌, arith}
+use Rattle.std.proofs.lemmas.Option.{slice_get-get_or}
 use Rattle.flat_judge.specs.declared.seat.Seat.{Seat}
 use Rattle.flat_play.proofs.lemmas.Starting.{is_numbered}
-use Rattle.flat_judge.proofs.RunSteps.{goes_on, same_seat, seat_open, seat_sits, session_goes}
+use Rattle.flat_judge.proofs.RunSteps.{goes_on, seat_open, seat_sits, session_goes}
 use Rattle.flat_judge.proofs.guided_run.GuidedRun.session_turn.Goals as goal
 
 pub turn-requires-clause-declared : goal.turn-requires-clause-declared
@@ -13,10 +14,8 @@ pub turn-requires-clause-sits : goal.turn-requires-clause-sits
 turn-requires-clause-sits c =
     let guided = c.args.self.now in
     let seat = c.index_mut-seat.result.now in
-    let looked = c.index.result.now in
-    let found : looked ≡ get_or guided.seats.items c.args.k looked = search rules in
-    let not_ended : looked.has_ended ≡ false = search rules in
-    let unended : seat.has_ended ≡ false = ap (λ (p : Seat). p.has_ended) (same_seat guided.seats.items c.args.k seat looked c.requires.within c.index_mut-seat.ensures.value found) ∙ not_ended in
+    let at : slice_get guided.seats.items c.args.k ≡ Some seat = slice_get-get_or guided.seats.items c.args.k seat c.requires.within ∙ (let found = sym c.index_mut-seat.ensures.value in λ i. Some (found i)) in
+    let unended : seat.has_ended ≡ false = c.requires.open seat at in
     seat_open c.args.script.now (record { 0 = c.args.k + 1 }) guided.play.board.history seat unended (seat_sits c.args.script.now guided c.args.k seat c.requires.stands c.requires.within c.index_mut-seat.ensures.value)
 
 pub returns-clause-stands : goal.returns-clause-stands
@@ -27,3 +26,6 @@ returns-clause-stands c =
 pub returns-clause-on : goal.returns-clause-on
 returns-clause-on c =
     goes_on c.args.self.now.seats.items c.args.k c.index_mut-seat.result.now c.turn.new.self c.requires.within c.index_mut-seat.ensures.value c.in_ok-turn.ensures.later
+
+pub returns-clause-goes : goal.returns-clause-goes
+returns-clause-goes c = c.in_ok-turn.ensures.goes

@@ -1,5 +1,4 @@
 use Rattle.std.proofs.Common.{◌∙◌, sym, ap}
-use Rattle.flat_places.specs.Places.{ratio, first_ratio}
 use Rattle.flat_places.specs.Reads.{lower, sofar, left}
 use Rattle.flat_places.proofs.lemmas.ReadsLemmas.{first_ratio_some, some_left}
 use Rattle.flat_places.proofs.places.Places.first_ratio.Goals as goal

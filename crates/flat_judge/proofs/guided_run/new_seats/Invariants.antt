@@ -1,5 +1,0 @@
-use Rattle.flat_judge.proofs.Seats.{SeatsTo}
-use Rattle.flat_judge.proofs.guided_run.new_seats.Given as goal
-
-abbrev pub invariant-loop-before : goal.invariant-loop-before
-invariant-loop-before l = SeatsTo l.script l.before l.seats.items

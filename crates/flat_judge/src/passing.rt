@@ -1,0 +1,18 @@
+//! Whether a text goes on as a run's report does, from a place on.
+ghost use Rattle.std.specs.Prelude.{◌≤◌, length};
+ghost use Rattle.flat_judge.specs.Following.{Passes};
+
+/// The place of a text behind these bytes, if it has them at a place.
+pub(crate) fn pass(text: &[u8], at: usize, bytes: &[u8]) -> Option<usize>
+    requires { at ≤ length text.now }
+    ensures { Passes text.now at bytes.now result }
+{
+    if text.len() - at < bytes.len() {
+        return None;
+    }
+    if &text[at..at + bytes.len()] == bytes {
+        Some(at + bytes.len())
+    } else {
+        None
+    }
+}

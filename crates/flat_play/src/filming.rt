@@ -1,0 +1,52 @@
+//! A play of which the picture of each frame is gathered.
+ghost use Rattle.std.specs.Prelude.{◌≡◌, ◌<◌, ◌^◌, [], true, length, IfOk};
+ghost use Rattle.flat_display.specs.Had.{AreKept};
+ghost use Rattle.flat_play.specs.Beginning.{AreBegun};
+ghost use Rattle.flat_play.specs.Playing.{HasPlayed};
+ghost use Rattle.flat_play.specs.Probing.{seen_in_turn};
+ghost use Rattle.flat_play.specs.Showing.{HaveSeen};
+ghost use Rattle.flat_playable.specs.Playable.{is_playable};
+ghost use Rattle.flat_report.specs.Probes.{ProbesAnswered, frames_seen};
+ghost use Rattle.flat_report.specs.Report.{finished};
+ghost use Rattle.flat_scene.specs.Interleave.{IsWritten};
+ghost use Rattle.flat_texts.specs.Films.{IsFilm};
+
+use crate::explaining::Explaining;
+use crate::kept::Keeping;
+use crate::run::{Played, play_whole};
+use flat_base::NoMemory;
+use flat_display::Display;
+use flat_places::Script;
+use flat_texts::Film;
+use std::alloc::Global;
+
+/// Plays a script to its end, as [`play_script`] does, and gathers the picture of each finished
+/// frame in a film that has none.
+pub fn play_filmed(
+    alloc: Global,
+    script: &Script,
+    film: Film,
+    displays: &mut Vec<Box<dyn Display>>,
+) -> Result<(Played, Film), NoMemory>
+    requires playable { is_playable script.now ≡ true }
+    requires empty { IsFilm script.now.setup [] film }
+    requires few { length displays.old.items < 2 ^ 32 }
+    ensures played { IfOk result (λ ran. HasPlayed script.now ran.0.board ran.0.kept
+        ran.0.answers) }
+    ensures film { IfOk result (λ ran. IsFilm script.now.setup
+        (finished script.now.setup ran.0.board.history) ran.1) }
+    ensures probes { IfOk result (λ ran. ProbesAnswered script.now ran.0.board.history
+        ran.0.probes.items) }
+    ensures in_turn { IfOk result (λ ran. frames_seen ran.0.probes.items
+        ≡ seen_in_turn script.now ran.0.board.history) }
+    ensures written { IfOk result (λ ran. IsWritten script.now.setup ran.0.board.history) }
+    ensures seen { IfOk result (λ ran. HaveSeen (λ d. shown d) (λ d. faults d)
+        (finished script.now.setup ran.0.board.history) ran.0.board.history ran.0.set.lost
+        displays.old.items displays.new.items) }
+    ensures kept { AreKept (λ d. shown d) (λ d. faults d) (AreBegun script.now)
+        displays.old.items displays.new.items (λ d. d.vtable) }
+{
+    let mut noted = Explaining::Film(film);
+    let (played, _touches) = play_whole(alloc, script, Keeping::Last, &[], &mut noted, displays)?;
+    Ok((played, noted.into_film()))
+}

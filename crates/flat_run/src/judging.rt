@@ -1,0 +1,103 @@
+//! The word `judge`: whether a report is that of a run of the script before it. Nothing is
+//! run for displays, and they are shown nothing.
+ghost use Rattle.std.specs.Prelude.{◌≡◌, ◌≢◌, ◌≤◌, ◌++◌, ℕ, List, IfOk, OnOk, IsTrue, Err};
+ghost use Rattle.flat_io.specs.Counts.{has_risen};
+ghost use Rattle.flat_judge.specs.declared.cutting.Judged.TheVariants.{Said};
+ghost use Rattle.flat_run.specs.Judging.{IsJudged, judged_status, judged_text, legal_line};
+ghost use Rattle.flat_run.specs.Judging.{want_line, wrong_lines};
+ghost use Rattle.flat_run.specs.Promise.{AreAll, AreGiven};
+
+use crate::answers::{Answer, DONE, Unanswered, WRONG, refusal};
+use flat_base::{Items, NoMemory};
+use flat_io::{ReadAll, Source, read_all};
+use flat_judge::{Judged, Verdict, judge_text};
+use flat_report::Pieces;
+use itoa::Buffer;
+use std::alloc::Global;
+
+/// The most bytes that are judged: for a script with more of them behind it, memory would run
+/// out.
+const JUDGED_BYTES_MAX: usize = 1_099_511_627_776;
+
+/// The line of a legal report.
+fn legal_text(alloc: Global, entries: usize, frames: u32) -> Result<Vec<u8>, NoMemory>
+    ensures { IfOk result (λ text. text.items ≡ legal_line entries frames) }
+{
+    let mut count = Buffer::new();
+    let mut finished = Buffer::new();
+    let mut text = Vec::new(alloc);
+    text.extend_from_slice(b"legal entries ")?;
+    text.extend_from_slice(count.format(entries as u64).as_bytes())?;
+    text.extend_from_slice(b" frames ")?;
+    text.extend_from_slice(finished.format(frames).as_bytes())?;
+    text.extend_from_slice(b"\n")?;
+    Ok(text)
+}
+
+/// Puts the line that the report of the run has there, if it has one.
+fn push_want(text: &mut Vec<u8>, want: &Option<Items<u8>>) -> Result<(), NoMemory>
+    ensures { OnOk result (text.new.items ≡ text.old.items ++ want_line want.now) }
+{
+    if let Some(line) = want {
+        text.extend_from_slice(b"want ")?;
+        text.extend_from_slice(line.as_slice())?;
+        text.extend_from_slice(b"\n")?;
+    }
+    Ok(())
+}
+
+/// The lines of a wrong report.
+fn wrong_text(alloc: Global, number: u64, want: &Option<Items<u8>>) -> Result<Vec<u8>, NoMemory>
+    ensures { IfOk result (λ text. text.items ≡ wrong_lines number want.now) }
+{
+    let mut line = Buffer::new();
+    let mut text = Vec::new(alloc);
+    text.extend_from_slice(b"wrong line ")?;
+    text.extend_from_slice(line.format(number).as_bytes())?;
+    text.extend_from_slice(b"\n")?;
+    push_want(&mut text, want)?;
+    Ok(text)
+}
+
+/// What is written of a verdict.
+fn verdict_answer(alloc: Global, verdict: &Verdict) -> Result<Answer, NoMemory>
+    ensures status { IfOk result (λ answer. answer.status ≡ judged_status (Said verdict.now)) }
+    ensures text { IfOk result (λ answer. answer.text ≡ judged_text (Said verdict.now)) }
+{
+    let (status, text) = match verdict {
+        Verdict::Legal(entries, frames) => (DONE, legal_text(alloc, *entries, *frames)?),
+        Verdict::Wrong(line, want) => (WRONG, wrong_text(alloc, *line, want)?),
+    };
+    Ok(Answer {
+        status,
+        text: Pieces::one(alloc, text)?,
+    })
+}
+
+/// What is written of a text.
+fn judged_answer(alloc: Global, bytes: &[u8]) -> Result<Answer, NoMemory>
+    ensures { IfOk result (λ answer. IsJudged bytes.now answer.status answer.text) }
+{
+    match judge_text(alloc, bytes)? {
+        Judged::Said(verdict) => verdict_answer(alloc, &verdict),
+        Judged::Refused(fault) => refusal(alloc, fault),
+    }
+}
+
+/// Reads a source to its end, and judges it.
+pub(crate) fn answer_judged<R: Source>(alloc: Global, source: &mut R) -> Result<Answer, Unanswered>
+    ensures judged { IfOk result (λ answer. (bytes : List ℕ)
+        × AreAll bytes (R.left source.old) (R.left source.new)
+        × IsJudged bytes answer.status answer.text) }
+    ensures fault { result ≡ Err Unanswered.Fault →
+        IsTrue (has_risen (R.faults source.old) (R.faults source.new)) }
+    ensures given { (given : List ℕ) × AreGiven given (R.left source.old) (R.left source.new) }
+    ensures counts { R.faults source.old ≤ R.faults source.new }
+    ensures steady { result ≢ Err Unanswered.Fault → R.faults source.new ≡ R.faults source.old }
+{
+    match read_all(alloc, source, JUDGED_BYTES_MAX) {
+        Ok(bytes) => Ok(judged_answer(alloc, bytes.as_slice())?),
+        Err(ReadAll::Fault) => Err(Unanswered::Fault),
+        Err(ReadAll::TooLong | ReadAll::Memory) => Err(Unanswered::Memory),
+    }
+}

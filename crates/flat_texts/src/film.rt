@@ -1,0 +1,87 @@
+//! A film: the pictures of all frames of a run. One picture is kept over all of them, of which
+//! each frame repaints what changed, and its bytes are gathered frame by frame.
+ghost use Rattle.std.specs.Prelude.{◌≡◌, ◌*◌, ◌<◌, ◌≤◌, ◌∷◌, ◌++◌, [], List, All, IfOk, OnOk};
+ghost use Rattle.flat_drawable.specs.Drawable.{IsDrawable};
+ghost use Rattle.flat_render.specs.declared.grid.TheConstants.{PIXELS_MAX};
+ghost use Rattle.flat_scene.specs.declared.frames.FrameOut.{FrameOut};
+ghost use Rattle.flat_scene.specs.declared.setup.Setup.{Setup};
+ghost use Rattle.flat_texts.specs.Films.{IsFilm, film_text};
+
+use crate::picture::picture_after;
+use flat_base::{Items, NoMemory};
+use flat_damage::redraw;
+use flat_render::{Picture, ppm_of};
+use flat_report::Pieces;
+use flat_scene::{FrameOut, ItemList, Setup};
+use std::alloc::Global;
+use std::thread::Threads;
+
+/// The pictures of some frames, and the last of them to go on from.
+#[derive(Drop)]
+pub struct Film {
+    alloc: Global,
+    /// What the display shows after these frames, black before the first.
+    picture: Picture,
+    /// The draw list of that picture.
+    shown: ItemList,
+    /// The bytes of each frame's picture.
+    pictures: Pieces,
+    /// Whether there was a frame.
+    any: bool,
+}
+
+impl Film {
+    /// Before the first frame. The black picture is drawn in as many threads as serve.
+    pub fn new(rt: &(impl Threads + Sync), alloc: Global, setup: &Setup) -> Result<Film, NoMemory>
+        requires width { 0 < setup.now.width }
+        requires height { 0 < setup.now.height }
+        requires size { setup.now.width * setup.now.height ≤ PIXELS_MAX }
+        ensures { IfOk result (IsFilm setup.now []) }
+    {
+        let picture = picture_after(rt, alloc, setup, None)?;
+        Ok(Film {
+            alloc,
+            picture,
+            shown: ItemList::new(alloc),
+            pictures: Pieces::new(alloc),
+            any: false,
+        })
+    }
+
+    /// Appends the picture of the next frame, which has to be drawable as those of a run are.
+    pub fn push(&mut self, frame: &FrameOut) -> Result<(), NoMemory>
+        requires items { All IsDrawable frame.now.items }
+        requires film { (setup : Setup) × (frames : List FrameOut) × IsFilm setup frames self.old }
+        ensures { (setup : Setup) (frames : List FrameOut) → IsFilm setup frames self.old →
+            OnOk result (IsFilm setup (frames ++ frame.now ∷ []) self.new) }
+    {
+        let next = frame.items.copy(self.alloc)?;
+        redraw(self.alloc, &mut self.picture, &self.shown, &next)?;
+        self.shown = next;
+        let bytes = ppm_of(self.alloc, &self.picture)?;
+        self.pictures.push(Items::from_vec(bytes))?;
+        self.any = true;
+        Ok(())
+    }
+
+    /// The pictures of all frames, one behind the other, each as `P6`; where there was no
+    /// frame, a black one.
+    pub fn into_text(self) -> Result<Pieces, NoMemory>
+        ensures { (setup : Setup) (frames : List FrameOut) → IsFilm setup frames self →
+            IfOk result (λ text. text ≡ film_text setup frames) }
+    {
+        let Film {
+            alloc,
+            picture,
+            shown: _,
+            pictures,
+            any,
+        } = self;
+        if any {
+            return Ok(pictures);
+        }
+        let bytes = ppm_of(alloc, &picture)?;
+        let black = Pieces::one(alloc, bytes)?;
+        Ok(black)
+    }
+}
