@@ -1,22 +1,24 @@
 -- The definitions of the laws, computed on a shell with two applications, and on a session that closes.
-use Rattle.std.proofs.Common.{◌≡◌, List, [], ◌∷◌, length, map, refl, true, false, None, lit≤}
+use Rattle.std.proofs.Common.{◌≡◌, List, [], ◌∷◌, length, map, refl, true, false, Some, None, lit≤}
 use Rattle.std.specs.List.{list_any}
 use Rattle.flat_base.specs.declared.ids.Actor.TheVariants.{Display, Session}
 use Rattle.flat_scene.specs.declared.calls.Call.TheVariants as call
 use Rattle.flat_scene.specs.declared.journal.Entry.{Entry}
 use Rattle.flat_scene.specs.declared.journal.Kind.TheVariants as kind
 use Rattle.flat_scene.specs.declared.journal.Reply.TheVariants as reply
+use Rattle.flat_scene.specs.declared.journal.Told.TheVariants as tell
 use Rattle.flat_scene.specs.declared.setup.Setup.{Setup}
 use Rattle.flat_scene.specs.Frames.{credits, is_signalled, taken}
 use Rattle.flat_scene.specs.History.{◌▹◌}
 use Rattle.flat_scene.specs.ViewTrees.{is_node}
 use Rattle.flat_rules.specs.Ends.{to_finished}
 use Rattle.flat_rules.specs.Shown.{shown_states}
-use Rattle.flat_rules.proofs.lemmas.Samples.{by, f, p, present, s}
+use Rattle.flat_rules.specs.Watch.{layout_of, no_inset, told}
+use Rattle.flat_rules.proofs.lemmas.Samples.{by, f, layout, p, present, s}
 use Rattle.flat_rules.proofs.lemmas.ShellRun.{shell_with_two_apps-history, shell_with_two_apps-setup}
 use Rattle.flat_laws.specs.Places.{NodeInViewports, nodes_in_viewports}
 use Rattle.flat_laws.specs.Presents.{added_up, credited_by, is_signal_of, presented_by, Takes}
-use Rattle.flat_laws.specs.Shows.{views_at}
+use Rattle.flat_laws.specs.Shows.{props_shown, views_at}
 
 abbrev history : List Entry
 history = shell_with_two_apps-history
@@ -50,6 +52,17 @@ framed = refl
 -- each of the three has a view
 viewed : map (is_node (views_at shell_with_two_apps-setup begun)) (s 1 ∷ s 2 ∷ s 3 ∷ s 4 ∷ []) ≡ true ∷ true ∷ true ∷ false ∷ []
 viewed = refl
+
+-- the application in the pair 1 was told a layout, which is that of the viewport that the frame shows
+told_layout : told shell_with_two_apps-setup history (layout_of (p 1)) ≡ Some (tell.Layout (layout 640 760 0 0 0 0))
+told_layout = refl
+
+shown_props : props_shown shell_with_two_apps-setup begun (s 1) (p 1) 1 ≡ Some (record { w = 640; h = 760; inset = no_inset })
+shown_props = refl
+
+-- the shell has no second viewport of that pair
+no_props : props_shown shell_with_two_apps-setup begun (s 1) (p 1) 2 ≡ None
+no_props = refl
 
 -- ---- a session alone, that closes while a present waits
 

@@ -5,6 +5,7 @@ mod Examples
 pub mod Hanging
 pub mod Insides
 pub mod Later
+pub mod Layouts
 pub mod Lost
 pub mod Releasing
 pub mod Seen

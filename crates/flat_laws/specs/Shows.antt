@@ -1,16 +1,22 @@
--- What frames show: of presents that they took, of sessions that closed, and in what order views hang.
-use Rattle.std.specs.Prelude.{ℤ, ◌≡◌, ◌≢◌, false, true, List, ◌++◌, Some}
+-- What frames show: of presents that they took, of sessions that closed, in what order views hang, and what clients are
+-- told of them.
+use Rattle.std.specs.Prelude.{ℕ, ℤ, ◌≡◌, ◌≢◌, false, true, List, ◌++◌, length, Option, Some, option_and_then}
 use Rattle.std.specs.List.{All}
+use Rattle.std.specs.Result.{result_ok}
+use Rattle.flat_base.specs.declared.ids.Actor.TheVariants.{Display, Session}
 use Rattle.flat_base.specs.declared.ids.PairNo.{PairNo}
 use Rattle.flat_base.specs.declared.ids.SessionNo.{SessionNo}
+use Rattle.flat_scene.specs.declared.calls.ViewportProps.{ViewportProps}
 use Rattle.flat_scene.specs.declared.frames.DrawItem.{DrawItem}
 use Rattle.flat_scene.specs.declared.frames.Hit.{Hit}
 use Rattle.flat_scene.specs.declared.frames.ViewNode.{ViewNode}
 use Rattle.flat_scene.specs.declared.journal.Entry.{Entry}
+use Rattle.flat_scene.specs.declared.journal.Layout.{Layout}
 use Rattle.flat_scene.specs.declared.journal.Told.TheVariants as tell
 use Rattle.flat_scene.specs.declared.setup.Setup.{Setup}
 use Rattle.flat_scene.specs.declared.trees.Tree.{Tree}
 use Rattle.flat_scene.specs.Draft.{of_serial}
+use Rattle.flat_scene.specs.Effect.{draft_of}
 use Rattle.flat_scene.specs.Frames.{ratio, setup_at, taken}
 use Rattle.flat_scene.specs.History.{is_closed, presents, Published}
 use Rattle.flat_scene.specs.ViewTrees.{is_node, is_tree}
@@ -18,10 +24,10 @@ use Rattle.flat_topology.specs.Draw.{draw_list}
 use Rattle.flat_topology.specs.Hits.{hit_list}
 use Rattle.flat_topology.specs.Links.{IsChild}
 use Rattle.flat_topology.specs.Views.{view_nodes}
-use Rattle.flat_rules.specs.Ends.{to_finished, view_owner}
+use Rattle.flat_rules.specs.Ends.{props_of, taken_calls, to_finished, view_owner, viewport_owner, viewport_uses}
 use Rattle.flat_rules.specs.Legal.{Legal}
 use Rattle.flat_rules.specs.Shown.{shown, shown_states, tree_of}
-use Rattle.flat_rules.specs.Watch.{status_of, told}
+use Rattle.flat_rules.specs.Watch.{display_props, layout_in, layout_of, status_of, told}
 
 -- ---- presents that were taken
 
@@ -96,3 +102,25 @@ abbrev pub ConnectedHaveViews : Type 0
 ConnectedHaveViews = (setup : Setup) (history : List Entry) (p : PairNo) (s : SessionNo)
     → view_owner setup p ≡ Some s → told setup history (status_of p) ≡ Some tell.Connected
     → is_node (views_at setup (to_finished history)) s ≡ true
+
+-- ---- what is told
+
+-- the properties of a session's n-th viewport of a pair, in the state that a frame shows; none where that has no such
+-- viewport
+abbrev pub props_shown : Setup → List Entry → SessionNo → PairNo → ℕ → Option ViewportProps
+props_shown setup begun s p n = option_and_then (props_of p n) (result_ok (draft_of setup (taken_calls setup begun s)))
+
+-- A layout is that of a frame: it has the frame's pixel ratio, and the size and insets that the frame gives the last
+-- viewport of the pair. The display's are its own, at that ratio.
+pub record IsLayoutAt (setup : Setup) (begun : List Entry) (p : PairNo) (uses : ℕ) (layout : Layout) : Type 0 where
+  pub at_ratio : layout.ratio ≡ ratio setup begun
+  pub of_display : viewport_owner setup p ≡ Some Display
+      → tell.Layout layout ≡ layout_in layout.ratio (display_props layout.ratio setup)
+  pub of_session : (s : SessionNo) (props : ViewportProps) → viewport_owner setup p ≡ Some (Session s)
+      → props_shown setup begun s p uses ≡ Some props → tell.Layout layout ≡ layout_in layout.ratio props
+
+-- A layout that is told is that of the last finished frame.
+abbrev pub LayoutsAreOfFrames : Type 0
+LayoutsAreOfFrames = (setup : Setup) (history : List Entry) (p : PairNo) (layout : Layout)
+    → told setup history (layout_of p) ≡ Some (tell.Layout layout)
+    → IsLayoutAt setup (to_finished history) p (length (viewport_uses p history)) layout

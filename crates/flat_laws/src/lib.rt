@@ -17,6 +17,6 @@ pub use presents::{
     events_add_up, frames_release_fences, frames_show_the_last, frames_take_what_is_due,
 };
 pub use shows::{
-    closed_sessions_are_absent, frames_have_view_trees, idle_frames_are_alike, presents_stay_shown,
-    seen_sessions_have_views,
+    closed_sessions_are_absent, frames_have_view_trees, idle_frames_are_alike,
+    layouts_are_of_frames, presents_stay_shown, seen_sessions_have_views,
 };

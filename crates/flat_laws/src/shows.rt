@@ -1,7 +1,7 @@
 //! What frames show (specs/Shows).
 ghost use Rattle.flat_laws.specs.Shows.{TakenStaysShown, ClosedAreAbsent};
 ghost use Rattle.flat_laws.specs.Shows.{IdleFramesShowTheSame, FramesHaveViewTrees};
-ghost use Rattle.flat_laws.specs.Shows.{SeenHaveViews, ConnectedHaveViews};
+ghost use Rattle.flat_laws.specs.Shows.{SeenHaveViews, ConnectedHaveViews, LayoutsAreOfFrames};
 
 use flat_facts::shown_states_fit;
 use flat_topology::views_follow_links;
@@ -54,3 +54,11 @@ pub fn seen_sessions_have_views()
     // proof: the views are the sessions of the joined tree
     views_follow_links();
 }
+
+/// A layout that was told has the pixel ratio of the last finished frame, and the size and
+/// insets that the viewport has in it.
+///
+/// The call does nothing. Its contract is a law about the definitions.
+pub fn layouts_are_of_frames()
+    ensures { LayoutsAreOfFrames }
+{}
