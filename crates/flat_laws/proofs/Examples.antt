@@ -11,11 +11,12 @@ use Rattle.flat_scene.specs.declared.setup.Setup.{Setup}
 use Rattle.flat_scene.specs.Frames.{credits, is_signalled, taken}
 use Rattle.flat_scene.specs.History.{◌▹◌}
 use Rattle.flat_scene.specs.ViewTrees.{is_node}
-use Rattle.flat_rules.specs.Ends.{to_finished}
+use Rattle.flat_rules.specs.Ends.{to_finished, viewport_uses}
 use Rattle.flat_rules.specs.Shown.{shown_states}
 use Rattle.flat_rules.specs.Watch.{layout_of, no_inset, told}
 use Rattle.flat_rules.proofs.lemmas.Samples.{by, f, layout, p, present, s}
 use Rattle.flat_rules.proofs.lemmas.ShellRun.{shell_with_two_apps-history, shell_with_two_apps-setup}
+use Rattle.flat_laws.specs.Ends.{times_back}
 use Rattle.flat_laws.specs.Places.{NodeInViewports, nodes_in_viewports}
 use Rattle.flat_laws.specs.Presents.{added_up, credited_by, is_signal_of, presented_by, Takes}
 use Rattle.flat_laws.specs.Shows.{props_shown, views_at}
@@ -63,6 +64,13 @@ shown_props = refl
 -- the shell has no second viewport of that pair
 no_props : props_shown shell_with_two_apps-setup begun (s 1) (p 1) 2 ≡ None
 no_props = refl
+
+-- the shell used the viewport end of the pair 1 once, and its token didn't come back
+used : length (viewport_uses (p 1) history) ≡ 1
+used = refl
+
+not_back : times_back shell_with_two_apps-setup (p 1) history ≡ 0
+not_back = refl
 
 -- ---- a session alone, that closes while a present waits
 

@@ -1,6 +1,6 @@
 -- Ends that are lost stay so.
 use Rattle.std.proofs.Common.{◌≡◌, ◌∙◌, sym, subst, ap, refl, ℕ, ◌<◌, ◌≤◌, ◌⊎◌, inl, inr, Bool, true, false, List, [], ◌∷◌, ◌++◌, length, arith, Option, Some, None, Ok}
-use Rattle.std.specs.Prelude.{cond, ◌&&◌, ◌==◌, option_map}
+use Rattle.std.specs.Prelude.{cond, ◌+◌, ◌&&◌, ◌||◌, ◌==◌, not, option_map}
 use Rattle.std.proofs.lemmas.Bool.{and_parts, or_cases, or_left, or_right, ltb-true, lt-ltb, eqb-true}
 use Rattle.flat_base.specs.declared.ids.Actor.{Actor}
 use Rattle.flat_base.specs.declared.ids.Actor.TheVariants.{Display, Probe, Session}
@@ -10,7 +10,7 @@ use Rattle.flat_scene.specs.declared.calls.Call.{Call}
 use Rattle.flat_scene.specs.declared.calls.ViewportProps.{ViewportProps}
 use Rattle.flat_scene.specs.declared.journal.Entry.{Entry}
 use Rattle.flat_scene.specs.declared.journal.Kind.{Kind}
-use Rattle.flat_scene.specs.declared.journal.Kind.TheVariants.{View}
+use Rattle.flat_scene.specs.declared.journal.Kind.TheVariants.{View, Viewport}
 use Rattle.flat_scene.specs.declared.journal.Reply.{Reply}
 use Rattle.flat_scene.specs.declared.journal.Reply.TheVariants.{Done}
 use Rattle.flat_scene.specs.declared.journal.Told.{Told}
@@ -20,13 +20,13 @@ use Rattle.flat_scene.specs.Draft.{Draft, empty_draft}
 use Rattle.flat_scene.specs.Frames.{taken}
 use Rattle.flat_scene.specs.History.{◌▹◌, is_closed, presents}
 use Rattle.flat_scene.proofs.lemmas.TakingLemmas.{taken-made}
-use Rattle.flat_rules.specs.Ends.{clears_viewport, ends_view, happens, has_ended, is_done, loses, taken_calls, times, to_finished, uses_view, view_owner, view_uses, viewport_owner}
-use Rattle.flat_rules.specs.Legal.{reply_to, refused_token}
+use Rattle.flat_rules.specs.Ends.{clears_viewport, ends_view, happens, has_ended, is_done, loses, taken_calls, times, to_finished, uses_view, uses_viewport, view_owner, view_uses, viewport_owner, viewport_uses}
+use Rattle.flat_rules.specs.Legal.{has_token, Legal, reply_to, refused_token}
 use Rattle.flat_rules.specs.Watch.{are_joined, child_of, is_connected_by, layout_in, layout_of, props_told, ratio_told, shows_view, status_of}
 use Rattle.flat_facts.proofs.lemmas.Earlier.{IsEarlier, calls-taken, itself, taken-earlier, times-rise}
 use Rattle.flat_facts.proofs.lemmas.Tests.{same-pair}
 use Rattle.flat_facts.proofs.lemmas.ViewLaw.{made_at}
-use Rattle.flat_laws.specs.Ends.{GoneStaysGone, LostViewportsStayLost, LostViewsStayLost, ViewEndsAreUsedOnce}
+use Rattle.flat_laws.specs.Ends.{GoneStaysGone, LostViewportsStayLost, LostViewsStayLost, times_back, ViewEndsAreUsedOnce, ViewportEndsAreUsedInTurn, gives_back}
 use Rattle.flat_laws.proofs.Later.{closed-earlier, finished-later}
 
 -- ---- lost
@@ -125,3 +125,39 @@ used-once setup (h ▹ e) legal p = by_use (used-once setup h legal.0 p) (uses_v
     by_use : length (view_uses p h) ≤ 1 → (b : Bool) → (uses_view p e.kind && is_done e.reply) ≡ b → length (cond b (e ∷ view_uses p h) (view_uses p h)) ≤ 1
     by_use few false is = few
     by_use few true is = let none = first-use setup h e p e.kind legal.1.reply is in omega (arith, none)
+
+-- ---- viewport ends
+
+has-token : (b : Bool) (reply : Reply) → reply ≡ cond b Done refused_token → is_done reply ≡ true → b ≡ true
+has-token true reply replied done = refl
+has-token false reply replied done = absurd (let wrong : false ≡ true = sym (ap is_done replied) ∙ done in cc)
+
+-- a use that isn't refused has the token
+used-token : (setup : Setup) (h : List Entry) (e : Entry) (p : PairNo) (kind : Kind) → e.reply ≡ reply_to setup h e.actor e.calls kind
+    → (uses_viewport p kind && is_done e.reply) ≡ true → has_token setup p h ≡ true
+used-token setup h e p (Viewport q props) replied used =
+    let parts = and_parts (q.0 == p.0) (is_done e.reply) used in
+    let there : has_token setup q h ≡ true = has-token (has_token setup q h) e.reply replied parts.1 in
+    subst (λ (r : PairNo). has_token setup r h ≡ true) (same-pair q p parts.0) there
+used-token setup h e p _ replied used = absurd (let wrong : false ≡ true = used in cc)
+
+-- the token that is there may be used once more
+with-token : (setup : Setup) (h : List Entry) → Legal setup h → (p : PairNo)
+    → length (viewport_uses p h) + cond (has_token setup p h) 1 0 ≤ 1 + times_back setup p h
+with-token setup [] legal p = omega arith
+with-token setup (h ▹ e) legal p =
+    by_use (uses_viewport p e.kind && is_done e.reply) refl (has_token setup p h) refl (with-token setup h legal.0 p) (gives_back setup p h e)
+  where
+    by_use : (used : Bool) → (uses_viewport p e.kind && is_done e.reply) ≡ used → (there : Bool) → has_token setup p h ≡ there
+        → length (viewport_uses p h) + cond there 1 0 ≤ 1 + times_back setup p h → (back : Bool)
+        → length (cond used (e ∷ viewport_uses p h) (viewport_uses p h)) + cond (not used && (there || back)) 1 0 ≤ 1 + (cond back 1 0 + times_back setup p h)
+    by_use true is true has few true = omega (arith, few)
+    by_use true is true has few false = omega (arith, few)
+    by_use true is false has few back = absurd (let wrong : false ≡ true = sym has ∙ used-token setup h e p e.kind legal.1.reply is in cc)
+    by_use false is true has few true = omega (arith, few)
+    by_use false is true has few false = omega (arith, few)
+    by_use false is false has few true = omega (arith, few)
+    by_use false is false has few false = omega (arith, few)
+
+pub used-in-turn : ViewportEndsAreUsedInTurn
+used-in-turn setup h legal p = let few = with-token setup h legal p in omega (arith, few)

@@ -1,5 +1,6 @@
 -- What is over stays over: ends that are lost, watchers that told gone, tokens that were used, sessions that closed.
-use Rattle.std.specs.Prelude.{◌≤◌, ◌≡◌, Bool, false, true, ◌&&◌, List, [], ◌++◌, length, Some, None}
+use Rattle.std.specs.Prelude.{ℕ, ◌≤◌, ◌≡◌, ◌+◌, Bool, false, true, cond, ◌&&◌, List, [], ◌++◌, length, Some, None}
+use Rattle.std.specs.List.{list_any}
 use Rattle.flat_base.specs.declared.ids.PairNo.{PairNo}
 use Rattle.flat_base.specs.declared.ids.SessionNo.{SessionNo}
 use Rattle.flat_scene.specs.declared.journal.Entry.{Entry}
@@ -9,9 +10,9 @@ use Rattle.flat_scene.specs.declared.journal.Told.TheVariants as tell
 use Rattle.flat_scene.specs.declared.setup.Setup.{Setup}
 use Rattle.flat_scene.specs.History.{◌▹◌, is_begin, is_closed, is_finish}
 use Rattle.flat_watch.specs.Told.{news}
-use Rattle.flat_rules.specs.Ends.{is_done, is_view_lost, is_viewport_lost, view_uses}
-use Rattle.flat_rules.specs.Legal.{Legal}
-use Rattle.flat_rules.specs.Posts.{events_to, told_event}
+use Rattle.flat_rules.specs.Ends.{is_done, is_view_lost, is_viewport_lost, view_uses, viewport_uses}
+use Rattle.flat_rules.specs.Legal.{is_token_back, Legal}
+use Rattle.flat_rules.specs.Posts.{events_to, posted, told_event}
 use Rattle.flat_rules.specs.Watch.{Watcher, told, watching}
 
 -- A view end that is lost stays lost.
@@ -43,6 +44,20 @@ GoneIsTheLastAnswer = (setup : Setup) (before later : List Entry) (watcher : Wat
 abbrev pub ViewEndsAreUsedOnce : Type 0
 ViewEndsAreUsedOnce = (setup : Setup) (history : List Entry) → Legal setup history
     → (p : PairNo) → length (view_uses p history) ≤ 1
+
+-- whether an entry gives the token of a pair's viewport end back
+abbrev pub gives_back : Setup → PairNo → List Entry → Entry → Bool
+gives_back setup p before entry = list_any (λ sent. is_token_back p sent.event) (posted setup before entry)
+
+-- how many entries of a history do so
+abbrev pub times_back : Setup → PairNo → List Entry → ℕ
+times_back setup p [] = 0
+times_back setup p (before ▹ entry) = cond (gives_back setup p before entry) 1 0 + times_back setup p before
+
+-- Each viewport end is used at most once, and once more each time that its token came back.
+abbrev pub ViewportEndsAreUsedInTurn : Type 0
+ViewportEndsAreUsedInTurn = (setup : Setup) (history : List Entry) → Legal setup history
+    → (p : PairNo) → length (viewport_uses p history) ≤ 1 + times_back setup p history
 
 -- ---- events
 

@@ -11,7 +11,7 @@ mod places;
 mod presents;
 mod shows;
 
-pub use ends::{events_have_three_sources, view_ends_are_used_once, what_is_over_stays_over};
+pub use ends::{ends_are_used_in_turn, events_have_three_sources, what_is_over_stays_over};
 pub use places::{nothing_leaves_its_viewports, sessions_stay_in_bounds};
 pub use presents::{
     events_add_up, frames_release_fences, frames_show_the_last, frames_take_what_is_due,
