@@ -66,6 +66,9 @@ MOST_PIXELS = 4194304
 MOST_FILM_PIXELS = 67108864
 MOST_LINES = 10000
 SHARE = 50
+# what takes long is done with few scripts: pictures with more pixels than this, and races with a Wait that isn't met
+MANY_PIXELS = 262144
+FEW = 0.02
 
 
 def load(name):
@@ -139,8 +142,7 @@ class Checks:
         self.report(own, out, maker)
         if lines is not None:
             self.others(lines, out, maker)
-        # a race looks long for what doesn't come
-        if not (b" Wait unmet " in out or b" await 7" in text) or self.has(0.1):
+        if not (b" Wait unmet " in out or b" await 7" in text) or self.has(FEW):
             self.race(text, out)
         for word in WORDS if self.is_all else self.rng.sample(WORDS, 2):
             self.word(word, text, own, out)
@@ -198,10 +200,14 @@ class Checks:
 
     def word(self, word, text, lines, report):
         """What another word writes of the script."""
-        status, out = self.run(word, text)
         size = [int(w) for w in next(line for line in lines if line.startswith("display ")).split(" ")[1:3]]
-        most = {"render": MOST_PIXELS, "film": min(MOST_PIXELS, MOST_FILM_PIXELS // max(1, lines.count("display done")))}
-        if size[0] * size[1] > most.get(word, size[0] * size[1]):
+        pixels = size[0] * size[1]
+        pictures = {"render": 1, "film": max(1, lines.count("display done"))}.get(word, 0)
+        is_too_large = pictures > 0 and (pixels > MOST_PIXELS or pixels * pictures > MOST_FILM_PIXELS)
+        if pixels * pictures > MANY_PIXELS and not is_too_large and not self.has(FEW):
+            return
+        status, out = self.run(word, text)
+        if is_too_large:
             ensure((status, out) == (7, b"picture too large\n"), "a picture that is too large", status, out[:100])
             return
         ensure(status == 0, word + " ends with", status)

@@ -18,6 +18,20 @@ def too_long(number, frame):
     raise TookTooLong("no end after %d seconds" % SECONDS)
 
 
+def started(words, streams):
+    """Starts a program in the fastest way. Gives its number, and a call that waits for its status."""
+    moved = [(os.POSIX_SPAWN_DUP2, stream, number) for number, stream in enumerate(streams)]
+    child = os.posix_spawn(words[0], words, os.environ, file_actions=moved)
+    return child, lambda: os.waitstatus_to_exitcode(os.waitpid(child, 0)[1])
+
+
+def limited(words, streams, memory):
+    """The same, with so much memory at most."""
+    limit = functools.partial(resource.setrlimit, resource.RLIMIT_AS, (memory, memory))
+    child = subprocess.Popen(words, stdin=streams[0], stdout=streams[1], stderr=streams[2], preexec_fn=limit)
+    return child.pid, child.wait
+
+
 class Program:
     """The program, with memory files for its streams, which are faster than pipes."""
 
@@ -47,14 +61,14 @@ class Program:
 
     def wait(self, words, from_, to, memory=None):
         """The status of a run with these streams, and with so much memory at most."""
-        before = (lambda: resource.setrlimit(resource.RLIMIT_AS, (memory, memory))) if memory else None
-        child = subprocess.Popen([self.path, *words], stdin=from_, stdout=to, stderr=self.error, preexec_fn=before)
+        words, streams = [self.path, *words], (from_, to, self.error)
+        child, wait = started(words, streams) if memory is None else limited(words, streams, memory)
         signal.alarm(SECONDS)
         try:
-            return child.wait()
+            return wait()
         except TookTooLong:
-            child.kill()
-            child.wait()
+            os.kill(child, signal.SIGKILL)
+            wait()
             raise
         finally:
             signal.alarm(0)
@@ -73,7 +87,7 @@ class Program:
         self.give(text)
         os.lseek(self.input, 0, os.SEEK_SET)
         with open("/dev/full", "wb") as full:
-            return self.wait(words, self.input, full)
+            return self.wait(words, self.input, full.fileno())
 
     @functools.cache
     def least_memory(self):
