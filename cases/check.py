@@ -186,6 +186,9 @@ def main():
             listing = True
         elif a == "--judge":
             judging = True
+        elif a == "--help":
+            print(__doc__.strip())
+            return
         elif a.startswith("--"):
             sys.exit("unknown option %s\n\n%s" % (a, __doc__))
         else:

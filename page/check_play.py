@@ -110,7 +110,7 @@ def check_others(play: str) -> list[str]:
 
 
 def main() -> int:
-    if len(sys.argv) != 2:
+    if len(sys.argv) != 2 or sys.argv[1] == "--help":
         sys.exit(__doc__)
     play = os.path.abspath(sys.argv[1])
     wrong = ["%s: %s" % (" ".join(row.words), what) for row in ROWS if (what := check_row(play, row)) is not None]
