@@ -21,7 +21,7 @@ def too_long(number, frame):
 def started(words, streams):
     """Starts a program in the fastest way. Gives its number, and a call that waits for its status."""
     moved = [(os.POSIX_SPAWN_DUP2, stream, number) for number, stream in enumerate(streams)]
-    child = os.posix_spawn(words[0], words, os.environ, file_actions=moved)
+    child = os.posix_spawn(words[0], words, {}, file_actions=moved)
     return child, lambda: os.waitstatus_to_exitcode(os.waitpid(child, 0)[1])
 
 
