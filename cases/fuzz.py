@@ -65,6 +65,7 @@ BAD_WORDS = ([], ["fly"], ["play", "race"], ["stress"], ["stress", "0"], ["stres
 MOST_PIXELS = 4194304
 MOST_FILM_PIXELS = 67108864
 MOST_LINES = 10000
+MOST_OF_ACTOR = 65536
 SHARE = 50
 # what takes long is done with few scripts: pictures with more pixels than this, and races with a Wait that isn't met
 MANY_PIXELS = 262144
@@ -250,6 +251,9 @@ class Checks:
             self.seen["fault for " + word if is_extra else "fault", str(fault[1])] += 1
             return
         rest = rest_of(lines, EXTRA[word]) if word == "focus" else asking_hits(lines)
+        # with a point for each Down, the display may have more lines than an actor may
+        if sum(line.startswith("display ") for line in rest[rest.index("run"):]) > MOST_OF_ACTOR:
+            return
         report, refused = self.played(joined(rest))
         ensure(not refused, "the rest of a text is refused", report)
         wanted = expected_focus(lines, report) if word == "focus" else expected_pointers(lines, report)
