@@ -1,7 +1,7 @@
 #!/usr/bin/env python3
 """Plays random scripts, and checks what the rules promise of every run.
 
-fuzz.py PROGRAM [--count N] [--seed S] [--jobs J] [--script K] [--keep FOLDER] [--covered]
+fuzz.py PROGRAM [--count N] [--seed S] [--jobs J] [--script K] [--keep FOLDER] [--covered] [--quick]
 
 Scripts of all versions are made at random (fuzz_scripts): sessions that link, present, get, poll, wait and leave, some
 of them with misuses, frames beside them, probes that ask, and lines for focus and pointers. A few go to a limit or one
@@ -26,7 +26,7 @@ above it (fuzz_limits). Every third is spoilt, in a line or a byte. No second se
     write fits the report, and pixels change only where there is damage; a fault is the same for every word;
   the other statuses come with what they promise: bad words, a read and a write that fail, and little memory.
 
-Each script has some of these checks, at random. It prints how many scripts it played, each that broke a promise, which
+Each script is played and its report checked, and it has some of the other checks, at random; with --quick, a third as many. It prints how many scripts it played, each that broke a promise, which
 is kept in FOLDER where one is given, and a table of what the runs met, rule by rule; the status is 1 where a promise was
 broken, and with --covered also where a row of the table is met by nothing. Seed and number make a script and its checks;
 --script K plays that one alone. cases/shrink.py makes a script smaller that broke a promise.
@@ -100,13 +100,17 @@ def word_for(text):
 
 
 class Checks:
-    """The checks of one script: those that `rng` chooses, or all."""
+    """The checks of one script: those that `rng` chooses, or all. Only a part of them is chosen, if that is below 1."""
 
-    def __init__(self, program, rng, seen, is_all=False):
-        self.program, self.rng, self.seen, self.is_all = program, rng, seen, is_all
+    def __init__(self, program, rng, seen, is_all=False, part=1):
+        self.program, self.rng, self.seen, self.is_all, self.part = program, rng, seen, is_all, part
 
     def has(self, share):
-        return self.rng.random() < share or self.is_all
+        return self.rng.random() < share * self.part or self.is_all
+
+    def does(self):
+        """Whether a check that each script has is done."""
+        return self.part == 1 or self.has(1)
 
     def run(self, word, text, memory=None):
         status, out, error = self.program.run([word], text, memory)
@@ -143,10 +147,11 @@ class Checks:
         self.report(own, out, maker)
         if lines is not None:
             self.others(lines, out, maker)
-        if not (b" Wait unmet " in out or b" await 7" in text) or self.has(FEW):
+        if (not (b" Wait unmet " in out or b" await 7" in text) or self.has(FEW)) and self.does():
             self.race(text, out)
         for word in WORDS if self.is_all else self.rng.sample(WORDS, 2):
-            self.word(word, text, own, out)
+            if self.does():
+                self.word(word, text, own, out)
 
     def report(self, lines, out, maker):
         """What a report tells: counted, and at a limit looked for."""
@@ -306,12 +311,12 @@ def check_text(program, text, rng, seen, is_all=False):
     return None
 
 
-def check_script(program, rng, seen):
+def check_script(program, rng, seen, part=1):
     """The text of a random script, and what is wrong with its runs, or None."""
     maker = Maker(rng)
     lines = maker.script()
     kind = rng.random()
-    checks = Checks(program, rng, seen)
+    checks = Checks(program, rng, seen, part=part)
     text = joined(lines)
     try:
         if kind < 0.3:
@@ -340,11 +345,11 @@ def opened(path):
 
 def work(job):
     """Plays a share of the scripts."""
-    path, seed, first, count = job
+    path, seed, first, count, part = job
     program = opened(path)
     bad, seen = [], Counter()
     for k in range(first, first + count):
-        text, why = check_script(program, random.Random("%d %d" % (seed, k)), seen)
+        text, why = check_script(program, random.Random("%d %d" % (seed, k)), seen, part)
         if why:
             bad.append((k, why, text))
     return count, bad, seen
@@ -359,6 +364,7 @@ def arguments():
     parser.add_argument("--script", type=int)
     parser.add_argument("--keep")
     parser.add_argument("--covered", action="store_true")
+    parser.add_argument("--quick", dest="part", action="store_const", const=1 / 3, default=1)
     return parser.parse_args()
 
 
@@ -371,9 +377,9 @@ def keep(folder, name, text):
 def main():
     args = arguments()
     program = os.path.abspath(args.program)
-    jobs = [(program, args.seed, first, min(SHARE, args.count - first)) for first in range(0, args.count, SHARE)]
+    jobs = [(program, args.seed, first, min(SHARE, args.count - first), args.part) for first in range(0, args.count, SHARE)]
     if args.script is not None:
-        jobs = [(program, args.seed, args.script, 1)]
+        jobs = [(program, args.seed, args.script, 1, args.part)]
     done, broken, seen = 0, 0, Counter()
     with concurrent.futures.ProcessPoolExecutor(args.jobs) as pool:
         for count, bad, met in pool.map(work, jobs):
