@@ -105,16 +105,17 @@ gone-stays setup before later (child_of p n) is =
 
 -- ---- view ends
 
-unused : (n : ℕ) (b : Bool) (reply : Reply) → (n == 0) ≡ b → reply ≡ cond b Done refused_token → is_done reply ≡ true → n ≡ 0
-unused n true reply is replied done = eqb-true n 0 is
-unused n false reply is replied done = absurd (let wrong : false ≡ true = sym (ap is_done replied) ∙ done in cc)
+-- what is answered done, and refused otherwise, is so
+done-then : (b : Bool) (reply : Reply) → reply ≡ cond b Done refused_token → is_done reply ≡ true → b ≡ true
+done-then true reply replied done = refl
+done-then false reply replied done = absurd (let wrong : false ≡ true = sym (ap is_done replied) ∙ done in cc)
 
 -- a use that isn't refused is the first of its end
 first-use : (setup : Setup) (h : List Entry) (e : Entry) (p : PairNo) (kind : Kind) → e.reply ≡ reply_to setup h e.actor e.calls kind
     → (uses_view p kind && is_done e.reply) ≡ true → length (view_uses p h) ≡ 0
 first-use setup h e p (View q) replied used =
     let parts = and_parts (q.0 == p.0) (is_done e.reply) used in
-    let none : length (view_uses q h) ≡ 0 = unused (length (view_uses q h)) (length (view_uses q h) == 0) e.reply refl replied parts.1 in
+    let none : length (view_uses q h) ≡ 0 = eqb-true (length (view_uses q h)) 0 (done-then (length (view_uses q h) == 0) e.reply replied parts.1) in
     subst (λ (r : PairNo). length (view_uses r h) ≡ 0) (same-pair q p parts.0) none
 first-use setup h e p _ replied used = absurd (let wrong : false ≡ true = used in cc)
 
@@ -128,16 +129,12 @@ used-once setup (h ▹ e) legal p = by_use (used-once setup h legal.0 p) (uses_v
 
 -- ---- viewport ends
 
-has-token : (b : Bool) (reply : Reply) → reply ≡ cond b Done refused_token → is_done reply ≡ true → b ≡ true
-has-token true reply replied done = refl
-has-token false reply replied done = absurd (let wrong : false ≡ true = sym (ap is_done replied) ∙ done in cc)
-
 -- a use that isn't refused has the token
 used-token : (setup : Setup) (h : List Entry) (e : Entry) (p : PairNo) (kind : Kind) → e.reply ≡ reply_to setup h e.actor e.calls kind
     → (uses_viewport p kind && is_done e.reply) ≡ true → has_token setup p h ≡ true
 used-token setup h e p (Viewport q props) replied used =
     let parts = and_parts (q.0 == p.0) (is_done e.reply) used in
-    let there : has_token setup q h ≡ true = has-token (has_token setup q h) e.reply replied parts.1 in
+    let there : has_token setup q h ≡ true = done-then (has_token setup q h) e.reply replied parts.1 in
     subst (λ (r : PairNo). has_token setup r h ≡ true) (same-pair q p parts.0) there
 used-token setup h e p _ replied used = absurd (let wrong : false ≡ true = used in cc)
 
