@@ -12,7 +12,8 @@ use Rattle.flat_scene.specs.declared.script.DisplayLine.{DisplayLine}
 use Rattle.flat_scene.specs.declared.script.DisplayLine.TheVariants as display
 use Rattle.flat_scene.specs.declared.script.ScriptLine.{ScriptLine}
 use Rattle.flat_scene.specs.declared.setup.Setup.{Setup}
-use Rattle.flat_scene.specs.History.{◌▹◌, history_of, is_begin, is_finish}
+use Rattle.flat_scene.specs.History.{◌▹◌, is_begin, is_finish}
+use Rattle.flat_scene.specs.Journals.{history_of}
 use Rattle.flat_scene.specs.Interleave.{entry_of_display}
 use Rattle.flat_core.specs.Machines.{entry_of}
 use Rattle.flat_places.specs.declared.script.Script.{Script}

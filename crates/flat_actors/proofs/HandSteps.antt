@@ -21,7 +21,8 @@ use Rattle.flat_scene.specs.declared.script.DisplayLine.{DisplayLine}
 use Rattle.flat_scene.specs.declared.script.DisplayLine.TheVariants as display
 use Rattle.flat_scene.specs.declared.script.ScriptLine.{ScriptLine}
 use Rattle.flat_scene.specs.declared.setup.Setup.{Setup}
-use Rattle.flat_scene.specs.History.{◌▹◌, history_of, is_begin, is_finish, seat_number}
+use Rattle.flat_scene.specs.History.{◌▹◌, is_begin, is_finish}
+use Rattle.flat_scene.specs.Journals.{history_of, seat_number}
 use Rattle.flat_scene.specs.Interleave.{entry_of_display}
 use Rattle.flat_scene.specs.Setups.{at_ratio}
 use Rattle.flat_core.specs.Machines.{entry_of, made}

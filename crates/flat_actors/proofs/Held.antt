@@ -6,7 +6,7 @@ use Rattle.flat_scene.specs.declared.frames.SessionSet.{SessionSet}
 use Rattle.flat_scene.specs.declared.journal.Entry.{Entry}
 use Rattle.flat_scene.specs.declared.script.Cond.{Cond}
 use Rattle.flat_scene.specs.declared.setup.Setup.{Setup}
-use Rattle.flat_scene.specs.History.{history_of}
+use Rattle.flat_scene.specs.Journals.{history_of}
 use Rattle.flat_core.specs.Machines.{MayLook}
 use Rattle.flat_rules.specs.Ends.{to_begin}
 use Rattle.flat_rules.specs.Legal.{Legal}

@@ -6,7 +6,8 @@ use Rattle.flat_scene.specs.declared.journal.Entry.{Entry}
 use Rattle.flat_scene.specs.declared.journal.Kind.TheVariants.{Hit}
 use Rattle.flat_scene.specs.declared.journal.Reply.{Reply}
 use Rattle.flat_scene.specs.declared.journal.Reply.TheVariants.{Done}
-use Rattle.flat_scene.specs.History.{◌▹◌, history_of}
+use Rattle.flat_scene.specs.History.{◌▹◌}
+use Rattle.flat_scene.specs.Journals.{history_of}
 use Rattle.flat_core.specs.Machines.{entry_of}
 use Rattle.flat_rules.specs.Legal.{Legal}
 use Rattle.flat_stage.specs.Displays.{DisplayEnters, DisplayView}

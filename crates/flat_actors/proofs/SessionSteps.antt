@@ -15,7 +15,8 @@ use Rattle.flat_scene.specs.declared.script.Line.{Line}
 use Rattle.flat_scene.specs.declared.script.ScriptLine.{ScriptLine}
 use Rattle.flat_scene.specs.declared.setup.Setup.{Setup}
 use Rattle.flat_scene.specs.declared.journal.Entry.{Entry}
-use Rattle.flat_scene.specs.History.{history_of, is_session, seat_number}
+use Rattle.flat_scene.specs.History.{is_session}
+use Rattle.flat_scene.specs.Journals.{history_of, seat_number}
 use Rattle.flat_scene.specs.Interleave.{Follows, IsReading, session_lines, session_line}
 use Rattle.flat_scene.specs.Setups.{is_declared}
 use Rattle.flat_rules.specs.Owned.{is_played_line}

@@ -3,7 +3,7 @@ use Rattle.std.specs.Prelude.{◌≡◌, ℕ, ◌≤◌, Bool, true, false, leng
 use Rattle.flat_base.specs.declared.ids.SessionNo.{SessionNo}
 use Rattle.flat_scene.specs.declared.script.Line.{Line}
 use Rattle.flat_scene.specs.declared.script.Line.TheVariants as line
-use Rattle.flat_scene.specs.History.{history_of}
+use Rattle.flat_scene.specs.Journals.{history_of}
 use Rattle.flat_scene.specs.Interleave.{Follows, IsReading, session_lines}
 use Rattle.flat_rules.specs.Legal.{is_link}
 use Rattle.flat_places.specs.declared.script.Script.{Script}

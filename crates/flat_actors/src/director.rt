@@ -1,20 +1,18 @@
 //! The compositor. It composes, keeps and shows a frame outside the lock, while the sessions
 //! go on: nothing that they enter changes what an open frame shows.
-ghost use Rattle.std.specs.Prelude.{◌≡◌, ◌≤◌, ◌<◌, ◌+◌, ◌^◌, [], ◌∷◌, ◌++◌, true, length, map};
-ghost use Rattle.std.specs.Prelude.{slice_get, Some, IfErr, IfOk, IsTrue, OnErr, OnOk};
+ghost use Rattle.std.specs.Prelude.{◌≡◌, ◌≤◌, ◌<◌, ◌+◌, ◌^◌, [], ◌∷◌, ◌++◌, true, length, map, slice_get, Some, IfErr, IfOk, IsTrue, OnErr, OnOk};
 ghost use Rattle.flat_base.specs.declared.ids.Actor.TheVariants.{Display};
 ghost use Rattle.flat_scene.specs.declared.journal.Kind.TheVariants.{Begin, Finish, Hit};
 ghost use Rattle.flat_scene.specs.declared.journal.Reply.TheVariants.{Done};
 ghost use Rattle.flat_scene.specs.declared.script.Body.TheVariants as body;
 ghost use Rattle.flat_scene.specs.declared.script.Cond.{Cond};
 ghost use Rattle.flat_scene.specs.declared.script.DisplayLine.TheVariants as display;
-ghost use Rattle.flat_scene.specs.History.{history_of};
+ghost use Rattle.flat_scene.specs.Journals.{history_of};
 ghost use Rattle.flat_scene.specs.Interleave.{entry_of_display};
-ghost use Rattle.flat_scene.specs.Setups.{is_setup};
+ghost use Rattle.flat_scene.specs.Heads.{is_setup};
 ghost use Rattle.flat_core.specs.Machines.{MayLook};
 ghost use Rattle.flat_rules.specs.Ends.{to_begin};
-ghost use Rattle.flat_rules.specs.Legal.{asked_of, begin_time, frames, value_of, Legal};
-ghost use Rattle.flat_rules.specs.Legal.{display_may, names_declared};
+ghost use Rattle.flat_rules.specs.Legal.{asked_of, begin_time, frames, value_of, Legal, display_may, names_declared};
 ghost use Rattle.flat_rules.specs.Shown.{shown_states};
 ghost use Rattle.flat_topology.specs.Changes.{AreSame};
 ghost use Rattle.flat_topology.specs.Hits.{hit_list};
@@ -27,9 +25,7 @@ ghost use Rattle.flat_play.specs.Last.{IsLast, StaysLast};
 ghost use Rattle.flat_play.specs.Playing.{is_alone, point_answer};
 ghost use Rattle.flat_play.specs.Showing.{HaveSeen, IsShown};
 ghost use Rattle.flat_actors.specs.declared.hand.Hand.TheVariants.{Open};
-ghost use Rattle.flat_actors.specs.Directing.{hand_seat, is_open, KeepsFrame, HasLooked, KeepsNext};
-ghost use Rattle.flat_actors.specs.Directing.{ShowsBegin, FilmStands, HandStands, SeatStands};
-ghost use Rattle.flat_actors.specs.Directing.{EntersAlone, HasStopped};
+ghost use Rattle.flat_actors.specs.Directing.{hand_seat, is_open, KeepsFrame, HasLooked, KeepsNext, ShowsBegin, FilmStands, HandStands, SeatStands, EntersAlone, HasStopped};
 ghost use Rattle.flat_actors.specs.Publishing.{FinishesOne, PublishedStand};
 ghost use Rattle.flat_actors.specs.Sessions.{IsStageOf};
 

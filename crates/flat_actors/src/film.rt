@@ -1,7 +1,7 @@
 //! What is kept of a race's frames, and what of them is published: a frame is published
 //! behind its entry, so that probes see finished frames alone.
 ghost use Rattle.std.specs.Prelude.{◌≡◌, ◌≤◌, ◌<◌, true, length, OnOk};
-ghost use Rattle.flat_scene.specs.Setups.{is_setup};
+ghost use Rattle.flat_scene.specs.Heads.{is_setup};
 ghost use Rattle.flat_play.specs.Last.{IsLast, StaysLast};
 ghost use Rattle.flat_actors.specs.Publishing.{PublishesLast};
 

@@ -1,11 +1,11 @@
 //! A session. All that its lines ask for follows from its own entries, which its seat knows
 //! whatever the others do.
-ghost use Rattle.std.specs.Prelude.{◌≡◌, ◌+◌, ◌<◌, ◌≤◌, ◌^◌, ℕ, List, [], ◌∷◌, ◌++◌, Bool, true};
-ghost use Rattle.std.specs.Prelude.{◌&&◌, false, length, Some, slice_get, IsTrue, OnErr, OnOk};
+ghost use Rattle.std.specs.Prelude.{◌≡◌, ◌+◌, ◌<◌, ◌≤◌, ◌^◌, ℕ, List, [], ◌∷◌, ◌++◌, Bool, true, ◌&&◌, false, length, Some, slice_get, IsTrue, OnErr, OnOk};
 ghost use Rattle.flat_base.specs.declared.ids.Actor.TheVariants.{Session};
 ghost use Rattle.flat_scene.specs.declared.script.Line.{Line};
 ghost use Rattle.flat_scene.specs.declared.script.ScriptLine.{ScriptLine};
-ghost use Rattle.flat_scene.specs.History.{history_of, closes, is_session};
+ghost use Rattle.flat_scene.specs.History.{closes, is_session};
+ghost use Rattle.flat_scene.specs.Journals.{history_of};
 ghost use Rattle.flat_scene.specs.Interleave.{Follows, IsReading, session_lines};
 ghost use Rattle.flat_rules.specs.Legal.{asked_of, value_of};
 ghost use Rattle.flat_rules.specs.Owned.{is_played_line, is_played_condition};

@@ -1,5 +1,6 @@
-pub mod formers
+pub mod ErrorNumber
+pub mod Fixed
 pub mod Last
 pub mod Number
 pub mod Room
-pub mod Fixed
+pub mod formers

@@ -1,14 +1,7 @@
 -- the numbers by which the report names errors and reasons
 use Rattle.std.specs.Prelude.{ℕ}
-use Rattle.flat_base.specs.declared.errors.FlatlandError.{FlatlandError}
-use Rattle.flat_base.specs.declared.errors.FlatlandError.TheVariants.{BadOperation, NoPresentsRemaining, BadHangingGet}
 use Rattle.flat_base.specs.declared.errors.Reason.{Reason}
 use Rattle.flat_base.specs.declared.errors.Reason.TheVariants.{ZeroId, IdInUse, UnknownTransform, UnknownContent, WrongContent, AlreadyChild, NotChild, BadScale, BadOpacity, BadRect, BadSize, BadBuffer, TooManyRegions, HasView, NoView, TokenNotHeld, Cycle, TreeTooLarge, ViewportTwice, TooManyNamed, TooManyChildren, TooManyFences}
-
-abbrev pub error_number : FlatlandError → ℕ
-error_number BadOperation = 1
-error_number NoPresentsRemaining = 2
-error_number BadHangingGet = 3
 
 abbrev pub reason_number : Reason → ℕ
 reason_number ZeroId = 1

@@ -1,5 +1,6 @@
 ghost use Rattle.std.specs.Prelude.{◌≡◌};
-ghost use Rattle.flat_base.specs.Number.{error_number, reason_number};
+ghost use Rattle.flat_base.specs.Number.{reason_number};
+ghost use Rattle.flat_base.specs.ErrorNumber.{error_number};
 
 use std::alloc::{AllocError, AllocFailed};
 use std::error::Error;

@@ -5,7 +5,8 @@ use Rattle.std.specs.List.{list_all}
 use Rattle.flat_base.specs.declared.limits.TheConstants.{SIDE_MAX, BUFFERS_PER_COLLECTION_MAX}
 use Rattle.flat_scene.specs.declared.setup.BufferDecl.{BufferDecl}
 use Rattle.flat_scene.specs.declared.setup.Setup.{Setup}
-use Rattle.flat_scene.specs.Setups.{is_buffer_declared, is_fence_declared, is_pair_declared, is_declared, is_within, is_within_limits, has_one_display_pair, owners_declared}
+use Rattle.flat_scene.specs.Setups.{is_declared, is_within}
+use Rattle.flat_scene.specs.Heads.{is_buffer_declared, is_fence_declared, is_pair_declared, is_within_limits, has_one_display_pair, owners_declared}
 use Rattle.flat_content.specs.Limits.{are_sides, SidesAreDeclared}
 use Rattle.std.proofs.lemmas.Bool.{and_from, and_parts}
 

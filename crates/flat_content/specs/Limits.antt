@@ -4,7 +4,7 @@ use Rattle.std.specs.List.{list_all}
 use Rattle.flat_base.specs.declared.limits.TheConstants.{SIDE_MAX}
 use Rattle.flat_scene.specs.declared.setup.BufferDecl.{BufferDecl}
 use Rattle.flat_scene.specs.declared.setup.Setup.{Setup}
-use Rattle.flat_scene.specs.Setups.{is_setup}
+use Rattle.flat_scene.specs.Heads.{is_setup}
 
 -- a collection's buffers have sides within the limit
 abbrev pub are_sides : BufferDecl → Bool

@@ -19,7 +19,8 @@ use Rattle.flat_scene.specs.History.{◌▹◌, is_begin, is_closed, is_finish, 
 use Rattle.flat_scene.specs.Frames.{credits, taken}
 use Rattle.flat_base.proofs.lemmas.Tests.{and-left, and-right}
 use Rattle.flat_rules.specs.Ends.{is_done, pairs_where, to_begin, to_finished, uses_viewport, viewport_uses, viewports_of, views_of}
-use Rattle.flat_rules.specs.Legal.{Legal, answers, is_get, is_now, is_poll, is_told, number_if, owns_viewport, is_frame_open, keeps_time, unread, unread_events}
+use Rattle.flat_rules.specs.Legal.{Legal, answers, is_now, is_poll, is_told, number_if, owns_viewport, is_frame_open, keeps_time, unread, unread_events}
+use Rattle.flat_rules.specs.Kinds.{is_get}
 use Rattle.flat_rules.specs.Posts.{at_begin, at_finish, event_of, events_to, frame_took, news_for, releases_seen, told_event, tokens_back, up_to}
 use Rattle.flat_rules.specs.Watch.{child_of, layout_of, status_of}
 use Rattle.flat_rules.proofs.lemmas.EventsLocal.{viewports-owned}

@@ -30,7 +30,6 @@ setup = record {
   pairs = (record { viewport = Display; view = s 1 }) ∷ [];
   buffers = [];
   fences = (record { owners = Session (s 1) ∷ [] }) ∷ (record { owners = Session (s 1) ∷ [] }) ∷ (record { owners = Session (s 1) ∷ [] }) ∷ [];
-  version = 2;
   ratio = 65536;
 }
 

@@ -19,7 +19,7 @@ use Rattle.flat_facts.specs.Begins.{entry_of}
 use Rattle.flat_states.specs.Kept.{IsKept}
 use Rattle.flat_rules.specs.Legal.{number_if, reply_to}
 use Rattle.flat_states.specs.Logs.{Logged}
-use Rattle.flat_rules.specs.Posts.{posts}
+use Rattle.flat_rules.specs.AllPosts.{posts}
 use Rattle.flat_states.proofs.lemmas.Heard.{after_get}
 use Rattle.flat_states.specs.Seen.{seen_of}
 use Rattle.flat_gets.specs.Watchers.{is_held}

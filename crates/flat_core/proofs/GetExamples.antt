@@ -14,7 +14,8 @@ use Rattle.flat_gets.specs.Gets.{HeldGet, answers_to, helds_of}
 use Rattle.flat_gets.specs.declared.pair.PairWatchers.{PairWatchers}
 use Rattle.flat_gets.specs.Pairs.{AreAt}
 use Rattle.flat_rules.specs.Legal.{answers}
-use Rattle.flat_rules.specs.Watch.{layout_of, status_of, child_of, no_inset, told}
+use Rattle.flat_rules.specs.Watch.{layout_of, status_of, child_of, told}
+use Rattle.flat_scene.specs.Draft.{no_inset}
 use Rattle.flat_rules.proofs.lemmas.Samples.{s, p, c, by, layout, present}
 
 -- session 2 has a view in a viewport of session 1
@@ -27,7 +28,6 @@ setup = record {
   pairs = (record { viewport = Display; view = s 1 } ∷ record { viewport = Session (s 1); view = s 2 } ∷ []);
   buffers = [];
   fences = [];
-  version = 1;
   ratio = 65536;
 }
 

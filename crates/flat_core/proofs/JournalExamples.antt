@@ -11,7 +11,7 @@ use Rattle.flat_scene.specs.declared.journal.Reply.TheVariants as reply
 use Rattle.flat_scene.specs.declared.setup.Setup.{Setup}
 use Rattle.flat_scene.specs.History.{◌▹◌}
 use Rattle.flat_rules.specs.Laws.{glimpses, outcomes}
-use Rattle.flat_rules.specs.Watch.{no_inset}
+use Rattle.flat_scene.specs.Draft.{no_inset}
 use Rattle.flat_facts.specs.Begins.{entry_of}
 use Rattle.flat_core.specs.Journals.{IsQuietBeside}
 
@@ -34,7 +34,6 @@ setup = record {
   pairs = (record { viewport = Display; view = session 1 } ∷ record { viewport = Session (session 1); view = session 2 } ∷ []);
   buffers = [];
   fences = [];
-  version = 1;
   ratio = 65536;
 }
 

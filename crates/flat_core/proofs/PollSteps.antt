@@ -28,7 +28,7 @@ use Rattle.flat_states.specs.Kept.{IsKept}
 use Rattle.flat_rules.specs.Legal.{answers, goes_on, unread, unread_events}
 use Rattle.flat_states.specs.Logs.{Logged}
 use Rattle.flat_core.specs.Polls.{events_for}
-use Rattle.flat_rules.specs.Posts.{posts}
+use Rattle.flat_rules.specs.AllPosts.{posts}
 use Rattle.flat_states.specs.Seen.{seen_of}
 use Rattle.flat_states.proofs.lemmas.Counts.{at-session, kept-session, declared-some}
 use Rattle.flat_states.proofs.lemmas.Ones.{declared-of}

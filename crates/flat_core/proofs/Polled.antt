@@ -22,7 +22,8 @@ use Rattle.flat_facts.specs.Begins.{post_of, posts_to, entry_of}
 use Rattle.flat_states.specs.Kept.{IsKept}
 use Rattle.flat_rules.specs.Legal.{is_poll, unread, unread_events}
 use Rattle.flat_core.specs.Polls.{events_for}
-use Rattle.flat_rules.specs.Posts.{events_to, posts}
+use Rattle.flat_rules.specs.Posts.{events_to}
+use Rattle.flat_rules.specs.AllPosts.{posts}
 use Rattle.flat_states.specs.Seen.{seen_of, account_of, polled_at}
 use Rattle.flat_states.proofs.lemmas.BeginLoop.{flat-on}
 use Rattle.flat_gets.proofs.lemmas.BoardBegins.{posts-all}

@@ -35,7 +35,7 @@ use Rattle.flat_rules.specs.Numbers.{number, AllNumbered}
 use Rattle.flat_states.specs.Kept.{IsKept, Below}
 use Rattle.flat_rules.specs.Legal.{goes_on, owns_fence, owns_in_kind, owns_in_call, reply_to}
 use Rattle.flat_states.specs.Logs.{Logged}
-use Rattle.flat_rules.specs.Posts.{posts}
+use Rattle.flat_rules.specs.AllPosts.{posts}
 use Rattle.flat_states.specs.Presents.{next_present, present_reply, owed_for}
 use Rattle.flat_states.proofs.lemmas.Heard.{with_present, after_present}
 use Rattle.flat_states.specs.Seen.{Seen, seen_of}

@@ -8,7 +8,8 @@ use Rattle.flat_links.specs.Following.{props_pending, sight_of}
 use Rattle.flat_rules.specs.Serials.{contents_made}
 use Rattle.flat_rules.specs.Stamps.{first_at}
 use Rattle.flat_links.specs.Usage.{props_among}
-use Rattle.flat_rules.specs.Watch.{no_inset, props_seen}
+use Rattle.flat_rules.specs.Watch.{props_seen}
+use Rattle.flat_scene.specs.Draft.{no_inset}
 use Rattle.flat_rules.proofs.lemmas.Samples.{s, p, c}
 use Rattle.flat_rules.proofs.lemmas.ShellRun.{shell_with_two_apps-setup, shell_with_two_apps-history}
 use Rattle.flat_scene.specs.History.{calls}

@@ -37,7 +37,7 @@ use Rattle.flat_states.specs.Kept.{IsKept}
 use Rattle.flat_rules.specs.Legal.{Legal, all_but_last, goes_on, has_token, links_alone, makes_viewport, number_if, owns_in_call, owns_in_kind, owns_viewport, own_call, refused_token, reply_to}
 use Rattle.flat_facts.specs.Lives.{makes_one, uses_last, is_new_viewport}
 use Rattle.flat_states.specs.Logs.{Logged}
-use Rattle.flat_rules.specs.Posts.{posts}
+use Rattle.flat_rules.specs.AllPosts.{posts}
 use Rattle.flat_links.specs.Following.{AreTied}
 use Rattle.flat_states.specs.Presents.{use_reply}
 use Rattle.flat_states.proofs.lemmas.Heard.{after_viewport}

@@ -5,8 +5,9 @@ use Rattle.flat_scene.specs.declared.journal.Entry.{Entry}
 use Rattle.flat_scene.specs.declared.setup.Setup.{Setup}
 use Rattle.flat_scene.specs.Family.{family}
 use Rattle.flat_scene.specs.History.{◌▹◌}
-use Rattle.flat_scene.specs.Setups.{owners_declared}
-use Rattle.flat_rules.specs.Laws.{IsFamilyLaw, is_beside, glimpses, own_events, outcomes}
+use Rattle.flat_scene.specs.Heads.{owners_declared}
+use Rattle.flat_rules.specs.Laws.{is_beside, glimpses, own_events, outcomes}
+use Rattle.flat_rules.specs.FamilyLaw.{IsFamilyLaw}
 use Rattle.flat_rules.specs.Legal.{Legal}
 
 -- Where all owners are declared, the family of each session is alone: its entries with the frames are legal by themselves, with the

@@ -1,11 +1,11 @@
-ghost use Rattle.std.specs.Prelude.{◌≡◌, IsTrue, true, ◌+◌, ◌<◌, ◌^◌, false, [], length, sum, IfOk};
-ghost use Rattle.std.specs.Prelude.{All, ℕ};
+ghost use Rattle.std.specs.Prelude.{◌≡◌, IsTrue, true, ◌+◌, ◌<◌, ◌^◌, false, [], length, sum, IfOk, All, ℕ};
 ghost use Rattle.flat_base.specs.declared.ids.FenceNo.{FenceNo};
 ghost use Rattle.flat_base.specs.declared.ids.PairNo.{PairNo};
 ghost use Rattle.flat_base.specs.declared.ids.SessionNo.{SessionNo};
-ghost use Rattle.flat_scene.specs.History.{history_of};
-ghost use Rattle.flat_scene.specs.Setups.{is_declared, is_within_limits};
-ghost use Rattle.flat_topology.specs.Views.{is_member};
+ghost use Rattle.flat_scene.specs.Journals.{history_of};
+ghost use Rattle.flat_scene.specs.Setups.{is_declared};
+ghost use Rattle.flat_scene.specs.Heads.{is_within_limits};
+ghost use Rattle.flat_topology.specs.Members.{is_member};
 ghost use Rattle.flat_fence.specs.Fences.{has};
 ghost use Rattle.flat_gets.specs.Dues.{due_told};
 ghost use Rattle.flat_gets.specs.Watchers.{AreWatched};
@@ -16,7 +16,7 @@ ghost use Rattle.flat_states.specs.Presents.{IsNew};
 ghost use Rattle.flat_core.specs.Journals.{FamiliesStandAlone, IsDecidedByGlimpses, IsQuietBeside};
 ghost use Rattle.flat_rules.specs.Ends.{has_view};
 ghost use Rattle.flat_rules.specs.Legal.{number_if, Legal};
-ghost use Rattle.flat_rules.specs.Posts.{posts};
+ghost use Rattle.flat_rules.specs.AllPosts.{posts};
 
 mod closes;
 mod frames;

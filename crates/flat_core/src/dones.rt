@@ -1,11 +1,10 @@
-ghost use Rattle.std.specs.Prelude.{◌≡◌, true, false, ◌+◌, ◌-◌, ◌^◌, ◌<◌, ◌≤◌, ◌||◌, ◌++◌, [], cond};
-ghost use Rattle.std.specs.Prelude.{nat_lt, not, length, map, sum_by, All};
+ghost use Rattle.std.specs.Prelude.{◌≡◌, true, false, ◌+◌, ◌-◌, ◌^◌, ◌<◌, ◌≤◌, ◌||◌, ◌++◌, [], cond, nat_lt, not, length, map, sum_by, All};
 ghost use Rattle.std.specs.List.{list_any};
 ghost use Rattle.flat_base.specs.declared.ids.Actor.TheVariants.{Display};
 ghost use Rattle.flat_base.specs.declared.ids.FenceNo.{FenceNo};
 ghost use Rattle.flat_base.specs.declared.ids.SessionNo.{SessionNo};
 ghost use Rattle.flat_base.specs.declared.limits.TheConstants.{SESSIONS_MAX};
-ghost use Rattle.flat_topology.specs.Views.{is_member};
+ghost use Rattle.flat_topology.specs.Members.{is_member};
 ghost use Rattle.flat_links.specs.Hearing.{TellsTheSame};
 ghost use Rattle.flat_fence.specs.Fences.{has};
 ghost use Rattle.flat_scene.specs.declared.journal.Kind.TheVariants.{Finish};

@@ -4,12 +4,14 @@
 //! pixels, and `redraw` (redrawing) repaints by it.
 #![tactic(auto)]
 
+mod area;
 mod common;
 mod difference;
 mod laws;
 mod rects;
 mod redrawing;
 
+pub use area::area_of;
 pub use difference::{RECTS_MAX, damage};
 pub use laws::damage_laws;
 pub use redrawing::redraw;

@@ -4,7 +4,8 @@ use Rattle.std.specs.List.{list_any, IsDistinct, AllByRecursion}
 use Rattle.std.proofs.lemmas.List.Folds.{list_any-append}
 use Rattle.std.proofs.lemmas.Map.Steps.{length-le_from_distinct_below}
 use Rattle.flat_scene.specs.declared.frames.Lost.{Lost}
-use Rattle.flat_display.specs.Lost.{is_lost, IsOnce, AreWithin}
+use Rattle.flat_display.specs.Lost.{is_lost, AreWithin}
+use Rattle.flat_display.specs.Shows.{IsOnce}
 use Rattle.std.proofs.lemmas.Bool.{or_from}
 
 pub within-more : (n : ℕ) (ls : List Lost) (l : Lost) → AreWithin n ls → 1 ≤ l.display → l.display ≤ n → AreWithin n (ls ++ l ∷ [])

@@ -5,21 +5,21 @@ use Rattle.std.proofs.lemmas.List.{take_more_set, set-get_or, length-take-le, ta
 use Rattle.flat_io.specs.Counts.{has_risen}
 use Rattle.flat_scene.specs.declared.frames.FrameOut.{FrameOut}
 use Rattle.flat_scene.specs.declared.frames.Lost.{Lost}
-use Rattle.flat_display.specs.Told.{Gains}
+use Rattle.flat_io.specs.Told.{Appends}
 use Rattle.flat_display.specs.Lost.{Driven, is_lost}
 use Rattle.flat_display.specs.Shows.{IsShown, Takes, Fails, Shows}
 use Rattle.flat_display.specs.Shows.Shows.{none, passed, took, failed}
 use Rattle.flat_display.proofs.Losses.{lost-append}
 
 module _ {D : Type 0} {told : D → Option (List FrameOut)} {count : D → ℕ} {frame : FrameOut} {old new : D} where
-  took_it : Gains (frame ∷ []) (told old) (told new) → count new ≡ count old → Takes told count frame old new
+  took_it : Appends (frame ∷ []) (told old) (told new) → count new ≡ count old → Takes told count frame old new
   took_it gains steady = record { gains = gains; steady = steady }
 
   failed_it : told new ≡ told old → count old ≤ count new → IsTrue (has_risen (count old) (count new)) → Fails told count frame old new
   failed_it same grows risen = record { same = same; grows = grows; risen = risen }
 
 -- what a show says of its two answers is what is said of it by a test
-pub shown_by_answer : {D A E : Type 0} (told : D → Option (List FrameOut)) (count : D → ℕ) (frame : FrameOut) (r : Result A E) (old new : D) → OnOk r (Gains (frame ∷ []) (told old) (told new)) → OnErr r (IsTrue (has_risen (count old) (count new))) → OnErr r (told new ≡ told old) → count old ≤ count new → OnOk r (count new ≡ count old) → (b : Bool) → b ≡ is_ok r → IsShown told count frame b old new
+pub shown_by_answer : {D A E : Type 0} (told : D → Option (List FrameOut)) (count : D → ℕ) (frame : FrameOut) (r : Result A E) (old new : D) → OnOk r (Appends (frame ∷ []) (told old) (told new)) → OnErr r (IsTrue (has_risen (count old) (count new))) → OnErr r (told new ≡ told old) → count old ≤ count new → OnOk r (count new ≡ count old) → (b : Bool) → b ≡ is_ok r → IsShown told count frame b old new
 shown_by_answer told count frame (Ok a) old new gains risen same grows steady b e = subst (λ t. IsShown told count frame t old new) (sym e) (took_it gains steady)
 shown_by_answer told count frame (Err x) old new gains risen same grows steady b e = subst (λ t. IsShown told count frame t old new) (sym e) (failed_it same grows risen)
 

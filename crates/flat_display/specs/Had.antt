@@ -1,13 +1,12 @@
 -- what each display has had after a list of frames was shown to all, one after another
-use Rattle.std.specs.Prelude.{if◌then◌else◌, ◌≡◌, ⊤, ℕ, suc, ◌≤◌, ◌==◌, Bool, true, false, List, [], ◌∷◌, length, map}
-use Rattle.std.specs.Prelude.{Option, None, Some, IsTrue}
+use Rattle.std.specs.Prelude.{if◌then◌else◌, ◌≡◌, ⊤, ℕ, suc, ◌≤◌, ◌==◌, Bool, true, false, List, [], ◌∷◌, length, map, Option, None, Some, IsTrue}
 use Rattle.std.specs.List.{list_any}
 use Rattle.flat_io.specs.Counts.{has_risen}
 use Rattle.flat_base.specs.declared.ids.FrameNo.{FrameNo}
 use Rattle.flat_scene.specs.declared.frames.FrameOut.{FrameOut}
 use Rattle.flat_scene.specs.declared.frames.Lost.{Lost}
 use Rattle.flat_display.specs.Lost.{is_lost, lost_at, AreWithin}
-use Rattle.flat_display.specs.Told.{Gains}
+use Rattle.flat_io.specs.Told.{Appends}
 
 -- whether this is the frame of that number
 abbrev pub is_numbered : FrameNo → FrameOut → Bool
@@ -37,7 +36,7 @@ module _ {D : Type 0} (told : D → Option (List FrameOut)) (count : D → ℕ) 
   -- A display has had the frames in order, each once: all of them, or those before the one at which it was
   -- lost. Where it was lost its count of faults rose, and else that is as it was.
   pub record HasHad (number : ℕ) (old new : D) : Type 0 where
-    pub gains : Gains (frames_before (lost_at lost number) frames) (told old) (told new)
+    pub gains : Appends (frames_before (lost_at lost number) frames) (told old) (told new)
     pub grows : count old ≤ count new
     pub risen : is_lost lost number ≡ true → IsTrue (has_risen (count old) (count new))
     pub steady : is_lost lost number ≡ false → count new ≡ count old

@@ -1,6 +1,6 @@
 -- what the displays over memory keep
 use Rattle.std.specs.Prelude.{ℕ, Bool, false, List, [], ◌∷◌, ◌++◌, Option, None, Some, cond}
-use Rattle.flat_io.specs.Counts.{counted}
+use Rattle.flat_io.specs.Kept.{counted}
 use Rattle.flat_scene.specs.declared.frames.FrameOut.{FrameOut}
 
 -- a display that fails at the listed calls

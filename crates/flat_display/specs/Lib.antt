@@ -2,4 +2,3 @@ pub mod Had
 pub mod Kept
 pub mod Lost
 pub mod Shows
-pub mod Told

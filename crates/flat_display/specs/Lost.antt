@@ -1,5 +1,5 @@
 -- the displays that were lost, the first loss first
-use Rattle.std.specs.Prelude.{◌≡◌, ⊤, ℕ, ◌≤◌, ◌==◌, Bool, false, List, [], ◌∷◌, Option, None, Some, if◌then◌else◌}
+use Rattle.std.specs.Prelude.{⊤, ℕ, ◌≤◌, ◌==◌, Bool, List, [], ◌∷◌, Option, None, Some, if◌then◌else◌}
 use Rattle.std.specs.List.{list_any}
 use Rattle.flat_base.specs.declared.ids.FrameNo.{FrameNo}
 use Rattle.flat_scene.specs.declared.frames.Lost.{Lost}
@@ -17,11 +17,6 @@ is_lost lost number = list_any (λ l. l.display == number) lost
 abbrev pub lost_at : List Lost → ℕ → Option FrameNo
 lost_at [] number = None
 lost_at (l ∷ ls) number = if l.display == number then Some l.frame else lost_at ls number
-
--- Each display is lost once.
-abbrev pub IsOnce : List Lost → Type 0
-IsOnce [] = ⊤
-IsOnce (l ∷ ls) = (is_lost ls l.display ≡ false) × IsOnce ls
 
 -- Those that are lost have numbers from 1 to this one.
 abbrev pub AreWithin : ℕ → List Lost → Type 0

@@ -1,16 +1,16 @@
 -- what a show of a frame does to each of the displays, and which of them it loses
-use Rattle.std.specs.Prelude.{◌≡◌, ℕ, suc, ◌≤◌, Bool, true, false, List, [], ◌∷◌, Option, IsTrue}
+use Rattle.std.specs.Prelude.{◌≡◌, ℕ, suc, ◌≤◌, Bool, true, false, List, [], ◌∷◌, Option, IsTrue, ⊤}
 use Rattle.flat_io.specs.Counts.{has_risen}
 use Rattle.flat_scene.specs.declared.frames.FrameOut.{FrameOut}
 use Rattle.flat_scene.specs.declared.frames.Lost.{Lost}
 use Rattle.flat_display.specs.Lost.{is_lost}
-use Rattle.flat_display.specs.Told.{Gains}
+use Rattle.flat_io.specs.Told.{Appends}
 
 -- Displays of this type tell these frames, and have these counts of faults.
 module _ {D : Type 0} (told : D → Option (List FrameOut)) (count : D → ℕ) (frame : FrameOut) where
   -- A display took the frame: its count of faults is as it was.
   pub record Takes (old new : D) : Type 0 where
-    pub gains : Gains (frame ∷ []) (told old) (told new)
+    pub gains : Appends (frame ∷ []) (told old) (told new)
     pub steady : count new ≡ count old
 
   -- A display failed to take the frame: its count of faults rose, and what it was shown is as before.
@@ -35,3 +35,8 @@ module _ {D : Type 0} (told : D → Option (List FrameOut)) (count : D → ℕ) 
     failed : {number : ℕ} {d d' : D} {ds ds' : List D} {more : List Lost} → is_lost lost number ≡ false → Fails d d'
         → Shows lost (suc number) ds ds' more
         → Shows lost number (d ∷ ds) (d' ∷ ds') (record { display = number; frame = frame.frame } ∷ more)
+
+-- Each display is lost once.
+abbrev pub IsOnce : List Lost → Type 0
+IsOnce [] = ⊤
+IsOnce (l ∷ ls) = (is_lost ls l.display ≡ false) × IsOnce ls

@@ -1,6 +1,6 @@
 ghost use Rattle.std.specs.Prelude.{◌≡◌, ℕ, ◌≤◌, ◌∷◌, [], List, Option, None, IsTrue, OnOk, OnErr};
 ghost use Rattle.flat_io.specs.Counts.{has_risen};
-ghost use Rattle.flat_display.specs.Told.{Gains};
+ghost use Rattle.flat_io.specs.Told.{Appends};
 ghost use Rattle.flat_scene.specs.declared.frames.FrameOut.{FrameOut};
 
 use flat_io::Failed;
@@ -18,7 +18,7 @@ pub trait Display: Drop {
     /// call (a count that stands at its end counts as risen); then what was shown
     /// is as before. A show that doesn't fail leaves that count as it was.
     fn show(&mut self, frame: &FrameOut) -> Result<(), Failed>
-        ensures shown { OnOk result (Gains (frame.now ∷ []) (shown self.old) (shown self.new)) }
+        ensures shown { OnOk result (Appends (frame.now ∷ []) (shown self.old) (shown self.new)) }
         ensures failed { OnErr result (IsTrue (has_risen (faults self.old) (faults self.new))) }
         ensures same { OnErr result (shown self.new ≡ shown self.old) }
         ensures faults { faults self.old ≤ faults self.new }

@@ -1,9 +1,6 @@
-ghost use Rattle.std.specs.Prelude.{◌≡◌, ◌⊎◌, ◌==◌, [], ◌∷◌, ◌++◌, true, false, OnOk, OnErr};
-ghost use Rattle.std.specs.Prelude.{IsTrue, is_err};
-ghost use Rattle.flat_io.specs.Counts.{counted};
-ghost use Rattle.flat_io.specs.Kept.{is_next_among};
-ghost use Rattle.flat_display.specs.Kept.{FailingDisplay, told_frames, after_fault, after_keeping};
-ghost use Rattle.flat_display.specs.Kept.{after_silence};
+ghost use Rattle.std.specs.Prelude.{◌≡◌, ◌⊎◌, ◌==◌, [], ◌∷◌, ◌++◌, true, false, OnOk, OnErr, IsTrue, is_err};
+ghost use Rattle.flat_io.specs.Kept.{counted, is_next_among};
+ghost use Rattle.flat_display.specs.Kept.{FailingDisplay, told_frames, after_fault, after_keeping, after_silence};
 
 use crate::display::Display;
 use flat_base::{Items, NoMemory, TryCopy};

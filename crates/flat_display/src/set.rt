@@ -1,9 +1,7 @@
-ghost use Rattle.std.specs.Prelude.{◌≡◌, ℕ, suc, ◌+◌, ◌^◌, ◌<◌, ◌≤◌, ◌++◌, ◌∷◌, [], List, IfOk};
-ghost use Rattle.std.specs.Prelude.{OnOk, OnErr, IsTrue, Some, false, length, map, slice_get};
-ghost use Rattle.std.specs.Prelude.{slice_set};
+ghost use Rattle.std.specs.Prelude.{◌≡◌, ℕ, suc, ◌+◌, ◌^◌, ◌<◌, ◌≤◌, ◌++◌, ◌∷◌, [], List, IfOk, OnOk, OnErr, IsTrue, Some, false, length, map, slice_get, slice_set};
 ghost use Rattle.flat_scene.specs.declared.frames.Lost.{Lost};
 ghost use Rattle.flat_io.specs.Counts.{has_risen};
-ghost use Rattle.flat_display.specs.Told.{Gains};
+ghost use Rattle.flat_io.specs.Told.{Appends};
 ghost use Rattle.flat_display.specs.Lost.{Driven, is_lost};
 ghost use Rattle.flat_display.specs.Shows.{IsShown, Shows};
 
@@ -24,7 +22,8 @@ pub struct DisplaySet {
 
 impl Model for DisplaySet {
     ghost use Rattle.std.specs.Prelude.{◌+◌, ◌≤◌, length};
-    ghost use Rattle.flat_display.specs.Lost.{Driven, IsOnce, AreWithin};
+    ghost use Rattle.flat_display.specs.Lost.{Driven, AreWithin};
+    ghost use Rattle.flat_display.specs.Shows.{IsOnce};
 
     ghost Value = { Driven };
 
@@ -130,7 +129,7 @@ fn show_at(displays: &mut Vec<Box<dyn Display>>, place: usize, frame: &FrameOut)
 }
 
 fn show_one(display: &mut Box<dyn Display>, frame: &FrameOut) -> Result<(), Failed>
-    ensures shown { OnOk result (Gains (frame.now ∷ []) (shown display.old) (shown display.new)) }
+    ensures shown { OnOk result (Appends (frame.now ∷ []) (shown display.old) (shown display.new)) }
     ensures failed { OnErr result (IsTrue (has_risen (faults display.old) (faults display.new))) }
     ensures same { OnErr result (shown display.new ≡ shown display.old) }
     ensures faults { faults display.old ≤ faults display.new }

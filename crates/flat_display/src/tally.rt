@@ -1,5 +1,5 @@
 ghost use Rattle.std.specs.Prelude.{◌≡◌, Ok};
-ghost use Rattle.flat_io.specs.Counts.{counted};
+ghost use Rattle.flat_io.specs.Kept.{counted};
 
 use crate::display::Display;
 use flat_io::{Failed, counted};

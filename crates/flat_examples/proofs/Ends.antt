@@ -13,7 +13,8 @@ use Rattle.flat_scene.specs.History.{◌▹◌}
 use Rattle.flat_rules.specs.Ends.{is_view_lost, is_viewport_lost, has_view}
 use Rattle.flat_rules.specs.Legal.{has_token, reply_to, refused_token}
 use Rattle.flat_rules.specs.Posts.{tokens_back}
-use Rattle.flat_rules.specs.Watch.{told, status_of, child_of, no_inset}
+use Rattle.flat_rules.specs.Watch.{told, status_of, child_of}
+use Rattle.flat_scene.specs.Draft.{no_inset}
 use Rattle.flat_examples.specs.Words.{s, p, t, c, by_session, by_display, present}
 use Rattle.flat_examples.specs.Refused.{home, left}
 

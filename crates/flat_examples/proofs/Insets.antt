@@ -15,7 +15,8 @@ use Rattle.flat_topology.specs.Draw.{draw_list}
 use Rattle.flat_topology.specs.Hits.{hit_list}
 use Rattle.flat_topology.specs.Shown.{Shown}
 use Rattle.flat_topology.specs.Views.{view_nodes}
-use Rattle.flat_rules.specs.Watch.{layout_of, told, logical_side, no_inset}
+use Rattle.flat_rules.specs.Watch.{layout_of, told, logical_side}
+use Rattle.flat_scene.specs.Draft.{no_inset}
 use Rattle.flat_examples.specs.Words.{s, p, c, by_session, by_display, present}
 use Rattle.flat_examples.proofs.Scenes.{shown_by, units, fill_view, viewport_view, nested}
 

@@ -64,12 +64,12 @@ one_unit_early = refl
 in_time : taken home ([] ▹ presents 1 at_20 (reply.Presented 1 0) ▹ by_display 2 (kind.Begin 20)) (s 1) ≡ 1
 in_time = refl
 
--- a fence that is signalled inside a frame comes too late for that frame
+-- a fence that its session signals inside a frame comes too late for that frame
 abbrev late : List Entry
 late = []
     ▹ presents 1 (present (f 0 ∷ []) []) (reply.Presented 1 0)
     ▹ by_display 2 (kind.Begin 10)
-    ▹ by_display 3 (kind.Signal (f 0))
+    ▹ by_session 1 3 [] (kind.Signal (f 0)) reply.Done
     ▹ by_display 4 kind.Finish
 
 too_late : taken home late (s 1) ≡ 0

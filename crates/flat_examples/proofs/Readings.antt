@@ -3,7 +3,7 @@ use Rattle.std.proofs.Common.{◌≡◌, ◌<◌, ◌+◌, ◌-◌, ℕ, zero, s
 use Rattle.std.specs.Prelude.{Some, None, slice_index, slice_index_or}
 use Rattle.std.specs.List.{AllByRecursion}
 use Rattle.std.specs.List.Sorted.{IsStrictlyIncreasing}
-use Rattle.flat_base.specs.declared.errors.Reason.TheVariants.{ZeroId, TooManyFences}
+use Rattle.flat_base.specs.declared.errors.Reason.TheVariants.{ZeroId}
 use Rattle.flat_base.specs.declared.ids.Actor.{Actor}
 use Rattle.flat_base.specs.declared.ids.Actor.TheVariants.{Session}
 use Rattle.flat_scene.specs.declared.journal.Entry.{Entry}
@@ -11,11 +11,12 @@ use Rattle.flat_scene.specs.declared.journal.Kind.{Kind}
 use Rattle.flat_scene.specs.declared.journal.Kind.TheVariants as kind
 use Rattle.flat_scene.specs.declared.journal.Reply.{Reply}
 use Rattle.flat_scene.specs.Frames.{sessions_to}
-use Rattle.flat_scene.specs.History.{is_end, seat_number}
+use Rattle.flat_scene.specs.History.{is_end}
+use Rattle.flat_scene.specs.Journals.{seat_number}
 use Rattle.flat_scene.specs.Interleave.{Next, IsNext, Interleaves}
 use Rattle.flat_rules.specs.Legal.{Legal, time_of}
 use Rattle.flat_examples.specs.Refused.{home}
-use Rattle.flat_examples.specs.Misread.{ended, view_then_poll, in_order, begin_then_done, frame, fences_17, two_polls, backwards, skipped, half_ended, miscounted, left_at, closed_for, good_call, bad_call, accepted_17, half_framed, written, crossed, swapped, LinesGoBack, LineIsSkipped, EndIsMissing, OtherCount, CloseWithoutMisuse, MisuseIsHidden, FencesAreTooMany, DisplayStopsEarly, OtherTime, OthersComeFirst, EndsCross}
+use Rattle.flat_examples.specs.Misread.{ended, view_then_poll, in_order, begin_then_done, frame, two_polls, backwards, skipped, half_ended, miscounted, left_with, closed_for, good_call, call_then_leave, half_framed, written, crossed, swapped, LinesGoBack, LineIsSkipped, EndIsMissing, OtherCount, CloseWithoutMisuse, DisplayStopsEarly, OtherTime, OthersComeFirst, EndsCross}
 use Rattle.flat_examples.proofs.RefusedEntries.{all-entered}
 
 -- an entry is the next one, whatever its reply
@@ -44,9 +45,6 @@ other-end a b is was same = cc
 
 other-close : (a b : Kind) → a ≡ kind.Close (Some ZeroId) → b ≡ kind.Close None → a ≡ b → ⊥
 other-close a b is was same = cc
-
-no-close : (a b : Kind) → a ≡ kind.Present fences_17 → b ≡ kind.Close (Some TooManyFences) → a ≡ b → ⊥
-no-close a b is was same = cc
 
 other-begin : (a b : Kind) → a ≡ kind.Begin 11 → b ≡ kind.Begin 10 → a ≡ b → ⊥
 other-begin a b is was same = eleven (ap time_of same)
@@ -109,48 +107,30 @@ end-is-missing = record {
   refused = λ reads. no-true false reads.sessions.1.0.ended refl;
 }
 
-pub other-count : OtherCount
-other-count = record {
-  right_legal = in-order-legal;
-  reads = in-order-reads;
-  wrong_legal = all-entered home miscounted ((((tt, refl, refl), refl, refl), refl, refl), refl, refl);
-  refused = λ reads. other-end _ _ refl refl reads.sessions.0.follows.1.kind;
+left-legal : Legal home (left_with good_call)
+left-legal = all-entered home (left_with good_call) (((tt, refl, refl), refl, refl), refl, refl)
+
+left-reads : Interleaves home 2 call_then_leave (left_with good_call)
+left-reads = record {
+  sessions = (record { follows = ((tt, next _ _ _), next _ _ _); ended = refl }, (record { follows = (tt, next _ _ _); ended = refl }, tt));
+  display = tt;
+  all_read = refl;
 }
 
 pub close-without-misuse : CloseWithoutMisuse
 close-without-misuse = record {
-  right_legal = all-entered home (left_at 2 good_call) (((tt, refl, refl), refl, refl), refl, refl);
-  reads = record {
-    sessions = (record { follows = ((tt, next _ _ _), next _ _ _); ended = refl }, (record { follows = (tt, next _ _ _); ended = refl }, tt));
-    display = tt;
-    all_read = refl;
-  };
-  wrong_legal = all-entered home (closed_for ZeroId 2 good_call) (((tt, refl, refl), refl, refl), refl, refl);
+  right_legal = left-legal;
+  reads = left-reads;
+  wrong_legal = all-entered home (closed_for ZeroId good_call) (((tt, refl, refl), refl, refl), refl, refl);
   refused = λ reads. other-close _ _ refl refl reads.sessions.0.follows.0.1.kind;
 }
 
-pub misuse-is-hidden : MisuseIsHidden
-misuse-is-hidden = record {
-  right_legal = all-entered home (closed_for ZeroId 1 bad_call) (((tt, refl, refl), refl, refl), refl, refl);
-  reads = record {
-    sessions = (record { follows = ((tt, next _ _ _), next _ _ _); ended = refl }, (record { follows = (tt, next _ _ _); ended = refl }, tt));
-    display = tt;
-    all_read = refl;
-  };
-  wrong_legal = all-entered home (left_at 1 bad_call) (((tt, refl, refl), refl, refl), refl, refl);
-  refused = λ reads. other-close _ _ refl refl (sym reads.sessions.0.follows.0.1.kind);
-}
-
-pub fences-are-too-many : FencesAreTooMany
-fences-are-too-many = record {
-  right_legal = all-entered home (closed_for TooManyFences 1 []) (((tt, refl, refl), refl, refl), refl, refl);
-  reads = record {
-    sessions = (record { follows = ((tt, next _ _ _), next _ _ _); ended = refl }, (record { follows = (tt, next _ _ _); ended = refl }, tt));
-    display = tt;
-    all_read = refl;
-  };
-  wrong_legal = all-entered home accepted_17 (((tt, refl, refl), refl, refl), refl, refl);
-  refused = λ reads. no-close _ _ refl refl reads.sessions.0.follows.0.1.kind;
+pub other-count : OtherCount
+other-count = record {
+  right_legal = left-legal;
+  reads = left-reads;
+  wrong_legal = all-entered home miscounted (((tt, refl, refl), refl, refl), refl, refl);
+  refused = λ reads. other-end _ _ refl refl reads.sessions.0.follows.1.kind;
 }
 
 pub display-stops-early : DisplayStopsEarly

@@ -2,7 +2,7 @@
 use Rattle.std.proofs.Common.{◌≡◌, true, false, [], ◌∷◌, refl}
 use Rattle.flat_base.specs.declared.ids.Actor.TheVariants.{Display, Session, Probe}
 use Rattle.flat_scene.specs.declared.setup.Setup.{Setup}
-use Rattle.flat_scene.specs.Setups.{is_setup}
+use Rattle.flat_scene.specs.Heads.{is_setup}
 use Rattle.flat_examples.specs.Words.{s, display_over, over, fence_of, setup_of}
 
 -- two sessions with a pair each, a fence and a buffer collection
@@ -46,28 +46,21 @@ no_buffer = refl
 buffers_65 : is_setup (record good { buffers = (record { owner = s 1; count = 65; w = 8; h = 8 }) ∷ [] }) ≡ false
 buffers_65 = refl
 
--- sizes, ratios, versions and counts are within their limits
+-- sizes, ratios and counts are within their limits
 no_width : is_setup (record good { width = 0 }) ≡ false
 no_width = refl
 
 height_65537 : is_setup (record good { height = 65537 }) ≡ false
 height_65537 = refl
 
-least_ratio : is_setup (record good { version = 3; ratio = 16384 }) ≡ true
+least_ratio : is_setup (record good { ratio = 16384 }) ≡ true
 least_ratio = refl
 
-ratio_too_small : is_setup (record good { version = 3; ratio = 16383 }) ≡ false
+ratio_too_small : is_setup (record good { ratio = 16383 }) ≡ false
 ratio_too_small = refl
 
-ratio_too_great : is_setup (record good { version = 3; ratio = 1048577 }) ≡ false
+ratio_too_great : is_setup (record good { ratio = 1048577 }) ≡ false
 ratio_too_great = refl
-
-version_4 : is_setup (record good { version = 4 }) ≡ false
-version_4 = refl
-
--- an earlier version has no word for a ratio, and yet this test lets it have one
-ratio_in_version_1 : is_setup (record good { ratio = 131072 }) ≡ true
-ratio_in_version_1 = refl
 
 sessions_17 : is_setup (record good { sessions = 17 }) ≡ false
 sessions_17 = refl

@@ -1,12 +1,10 @@
 -- Histories that are legal and yet no reading of a script, and readings that are not in written order.
-use Rattle.std.specs.Prelude.{ℕ, List, [], ◌∷◌, replicate, None, Some}
+use Rattle.std.specs.Prelude.{ℕ, List, [], ◌∷◌}
 use Rattle.flat_base.specs.declared.ids.Actor.TheVariants.{Display, Session}
-use Rattle.flat_base.specs.declared.errors.FlatlandError.TheVariants.{BadOperation}
 use Rattle.flat_base.specs.declared.errors.Reason.{Reason}
-use Rattle.flat_base.specs.declared.errors.Reason.TheVariants.{ZeroId, TooManyFences}
+use Rattle.flat_base.specs.declared.errors.Reason.TheVariants.{ZeroId}
 use Rattle.flat_scene.specs.declared.calls.Call.{Call}
 use Rattle.flat_scene.specs.declared.calls.Call.TheVariants as call
-use Rattle.flat_scene.specs.declared.calls.PresentArgs.{PresentArgs}
 use Rattle.flat_scene.specs.declared.journal.Entry.{Entry}
 use Rattle.flat_scene.specs.declared.journal.Kind.TheVariants as kind
 use Rattle.flat_scene.specs.declared.journal.Reply.TheVariants as reply
@@ -20,8 +18,8 @@ use Rattle.flat_scene.specs.declared.setup.Setup.{Setup}
 use Rattle.flat_scene.specs.History.{◌▹◌}
 use Rattle.flat_scene.specs.Interleave.{Interleaves, IsWritten}
 use Rattle.flat_rules.specs.Legal.{Legal}
-use Rattle.flat_examples.specs.Words.{s, f, p, t, present, by_session, by_display}
-use Rattle.flat_examples.specs.Refused.{home, views, polls}
+use Rattle.flat_examples.specs.Words.{s, p, t, by_session, by_display}
+use Rattle.flat_examples.specs.Refused.{home, views, polls, closes, leaves, ends}
 
 -- Two histories are legal; the first interleaves the script, and the second does not.
 pub record Misreads (setup : Setup) (count : ℕ) (lines : List ScriptLine) (right wrong : List Entry) : Type 0 where
@@ -83,24 +81,16 @@ half_ended = in_order ▹ by_session 1 3 [] (kind.End 0) reply.Done
 abbrev pub EndIsMissing : Type 0
 EndIsMissing = Misreads home 2 view_then_poll (ended in_order) half_ended
 
--- an End counts a line that isn't there
-abbrev pub miscounted : List Entry
-miscounted = in_order ▹ by_session 1 3 [] (kind.End 1) reply.Done ▹ by_session 2 3 [] (kind.End 0) reply.Done
+-- ---- closes: the script decides whether there is one, and how many lines are refused after it
 
-abbrev pub OtherCount : Type 0
-OtherCount = Misreads home 2 view_then_poll (ended in_order) miscounted
+-- session 1 closes at line 2, by its own wish or for a reason
+abbrev pub left_with : List Call → List Entry
+left_with carried = ended ([] ▹ leaves 2 carried)
 
--- ---- closes, whose reason the script decides
+abbrev pub closed_for : Reason → List Call → List Entry
+closed_for why carried = ended ([] ▹ closes 2 carried why)
 
--- session 1 closes at a line, by its own wish or for a reason
-abbrev pub left_at : ℕ → List Call → List Entry
-left_at line carried = ended ([] ▹ by_session 1 line carried (kind.Close None) (reply.Closed None None))
-
-abbrev pub closed_for : Reason → ℕ → List Call → List Entry
-closed_for reason line carried =
-    ended ([] ▹ by_session 1 line carried (kind.Close (Some reason)) (reply.Closed (Some BadOperation) (Some reason)))
-
--- a session leaves, and is closed for a misuse that there wasn't
+-- a session leaves, and is closed for a get of content 0 that it didn't make
 abbrev pub good_call : List Call
 good_call = call.CreateTransform (t 1) ∷ []
 
@@ -108,30 +98,14 @@ abbrev pub call_then_leave : List ScriptLine
 call_then_leave = of_session 1 1 (line.Call (call.CreateTransform (t 1))) ∷ of_session 2 1 line.Disconnect ∷ []
 
 abbrev pub CloseWithoutMisuse : Type 0
-CloseWithoutMisuse = Misreads home 2 call_then_leave (left_at 2 good_call) (closed_for ZeroId 2 good_call)
+CloseWithoutMisuse = Misreads home 2 call_then_leave (left_with good_call) (closed_for ZeroId good_call)
 
--- a call is a misuse, and is entered as the session's own wish to leave
-abbrev pub bad_call : List Call
-bad_call = call.CreateTransform (t 0) ∷ []
+-- the End after a close counts a line that isn't there
+abbrev pub miscounted : List Entry
+miscounted = [] ▹ leaves 2 good_call ▹ ends 3 1 [] ▹ by_session 2 3 [] (kind.End 0) reply.Done
 
-abbrev pub misuse : List ScriptLine
-misuse = of_session 1 1 (line.Call (call.CreateTransform (t 0))) ∷ []
-
-abbrev pub MisuseIsHidden : Type 0
-MisuseIsHidden = Misreads home 2 misuse (closed_for ZeroId 1 bad_call) (left_at 1 bad_call)
-
--- a present with 17 acquire fences is accepted
-abbrev pub fences_17 : PresentArgs
-fences_17 = present (replicate 17 (f 0)) []
-
-abbrev pub present_17 : List ScriptLine
-present_17 = of_session 1 1 (line.Present fences_17) ∷ []
-
-abbrev pub accepted_17 : List Entry
-accepted_17 = ended ([] ▹ by_session 1 1 [] (kind.Present fences_17) (reply.Presented 1 0))
-
-abbrev pub FencesAreTooMany : Type 0
-FencesAreTooMany = Misreads home 2 present_17 (closed_for TooManyFences 1 []) accepted_17
+abbrev pub OtherCount : Type 0
+OtherCount = Misreads home 2 call_then_leave (left_with good_call) miscounted
 
 -- ---- the display's lines
 

@@ -1,14 +1,8 @@
 -- For each reason, a line that is refused for it, and the nearest line that is not.
-use Rattle.std.specs.Prelude.{◌≡◌, ℕ, zero, suc, pos, List, [], ◌∷◌, ◌++◌, ◌-◌, replicate, Option, Some, None}
-use Rattle.std.specs.Prelude.{option_and_then, unwrap_or}
+use Rattle.std.specs.Prelude.{◌≡◌, ℕ, zero, suc, pos, List, [], ◌∷◌, ◌++◌, ◌-◌, replicate, Option, Some, None, option_and_then, unwrap_or}
 use Rattle.std.specs.Result.{result_ok}
 use Rattle.flat_base.specs.declared.errors.Reason.{Reason}
-use Rattle.flat_base.specs.declared.errors.Reason.TheVariants.{ZeroId, IdInUse, UnknownTransform, UnknownContent}
-use Rattle.flat_base.specs.declared.errors.Reason.TheVariants.{WrongContent, AlreadyChild, NotChild, BadScale}
-use Rattle.flat_base.specs.declared.errors.Reason.TheVariants.{BadOpacity, BadRect, BadSize, BadBuffer}
-use Rattle.flat_base.specs.declared.errors.Reason.TheVariants.{TooManyRegions, HasView, NoView, TokenNotHeld, Cycle}
-use Rattle.flat_base.specs.declared.errors.Reason.TheVariants.{TreeTooLarge, ViewportTwice, TooManyNamed}
-use Rattle.flat_base.specs.declared.errors.Reason.TheVariants.{TooManyChildren, TooManyFences}
+use Rattle.flat_base.specs.declared.errors.Reason.TheVariants.{ZeroId, IdInUse, UnknownTransform, UnknownContent, WrongContent, AlreadyChild, NotChild, BadScale, BadOpacity, BadRect, BadSize, BadBuffer, TooManyRegions, HasView, NoView, TokenNotHeld, Cycle, TreeTooLarge, ViewportTwice, TooManyNamed, TooManyChildren, TooManyFences}
 use Rattle.flat_base.specs.declared.ids.Actor.TheVariants.{Session}
 use Rattle.flat_base.specs.declared.shapes.IntRect.{IntRect}
 use Rattle.flat_scene.specs.declared.calls.Call.{Call}
@@ -23,12 +17,11 @@ use Rattle.flat_scene.specs.declared.journal.Reply.TheVariants as reply
 use Rattle.flat_scene.specs.declared.script.Line.{Line}
 use Rattle.flat_scene.specs.declared.script.Line.TheVariants as line
 use Rattle.flat_scene.specs.declared.setup.Setup.{Setup}
-use Rattle.flat_scene.specs.Draft.{Draft, Name, empty_draft}
+use Rattle.flat_scene.specs.Draft.{Draft, Name, empty_draft, no_inset}
 use Rattle.flat_scene.specs.Effect.{draft_of}
 use Rattle.flat_scene.specs.History.{◌▹◌, calls}
 use Rattle.flat_scene.specs.Interleave.{entry_of_line}
 use Rattle.flat_rules.specs.Legal.{reply_to}
-use Rattle.flat_rules.specs.Watch.{no_inset}
 use Rattle.flat_examples.specs.Words.{s, f, p, t, c, display_over, over, setup_of, by_session, present}
 
 -- One session owns everything: the view of the display's pair, both ends of another pair, and two buffers of 8 by 8.

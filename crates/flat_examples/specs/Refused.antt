@@ -1,6 +1,8 @@
 -- Entries that a history refuses, each beside an entry that it accepts.
-use Rattle.std.specs.Prelude.{ℕ, ◌≡◌, ◌↔◌, ◌-◌, Bool, cond, List, [], ◌∷◌, ◌++◌, length, slice_get, Some, None}
-use Rattle.flat_base.specs.declared.errors.FlatlandError.TheVariants.{BadHangingGet}
+use Rattle.std.specs.Prelude.{ℕ, ◌≡◌, ◌↔◌, ◌-◌, Bool, cond, List, [], ◌∷◌, ◌++◌, length, replicate, slice_get, Some, None}
+use Rattle.flat_base.specs.declared.errors.FlatlandError.TheVariants.{BadHangingGet, BadOperation}
+use Rattle.flat_base.specs.declared.errors.Reason.{Reason}
+use Rattle.flat_base.specs.declared.errors.Reason.TheVariants.{ZeroId, IdInUse, BadScale, NoView, Cycle}
 use Rattle.flat_scene.specs.declared.calls.Call.{Call}
 use Rattle.flat_scene.specs.declared.calls.Call.TheVariants as call
 use Rattle.flat_scene.specs.declared.calls.Watch.TheVariants as watch
@@ -12,11 +14,9 @@ use Rattle.flat_scene.specs.declared.journal.Told.{Told}
 use Rattle.flat_scene.specs.declared.journal.Told.TheVariants as tell
 use Rattle.flat_scene.specs.declared.setup.Setup.{Setup}
 use Rattle.flat_scene.specs.History.{◌▹◌}
-use Rattle.flat_rules.specs.Legal.{Legal, MayEnter, may_act, goes_on, keeps_time, has_draft, draft_with, own_call}
-use Rattle.flat_rules.specs.Legal.{links_alone, owns_all, names_declared, has_tree, has_watcher, refused_token}
-use Rattle.flat_rules.specs.Legal.{reply_to}
-use Rattle.flat_rules.specs.Watch.{no_inset}
-use Rattle.flat_examples.specs.Words.{f, p, t, display_over, over, fence_of, setup_of, by_session, by_display, present}
+use Rattle.flat_rules.specs.Legal.{Legal, MayEnter, may_act, goes_on, keeps_time, has_draft, draft_with, own_call, links_alone, owns_all, may_name, has_tree, has_watcher, refused_token, reply_to}
+use Rattle.flat_scene.specs.Draft.{no_inset}
+use Rattle.flat_examples.specs.Words.{f, p, t, display_over, over, fence_of, display_fence, setup_of, by_session, by_display, present}
 
 -- What an entry must meet, by the names of `MayEnter`.
 pub data Rule : Type 0 where
@@ -41,7 +41,7 @@ rules_met setup before entry =
     ∷ (own_call entry.kind (slice_get entry.calls (length entry.calls - 1)), calls)
     ∷ (links_alone entry.kind entry.calls, links)
     ∷ (owns_all setup entry.actor entry.calls entry.kind, owned)
-    ∷ (names_declared setup entry.kind, named)
+    ∷ (may_name setup entry.actor entry.kind, named)
     ∷ (has_tree setup (draft_with setup before entry.actor entry.calls) entry.kind, tree)
     ∷ (has_watcher setup before entry.actor entry.calls entry.kind, watcher)
     ∷ []
@@ -76,9 +76,10 @@ pub record RefusesEntry (setup : Setup) (before : List Entry) (right wrong : Ent
 
 -- ---- the histories
 
--- session 1 has the view of the display's pair, fence 0 and the viewport end of session 2's view; session 2 has fence 1
+-- session 1 has the view of the display's pair, fence 0 and the viewport end of session 2's view; session 2 has
+-- fence 1, and the display fence 2
 abbrev pub home : Setup
-home = setup_of 2 (display_over 1 ∷ over 1 2 ∷ []) (fence_of 1 ∷ fence_of 2 ∷ [])
+home = setup_of 2 (display_over 1 ∷ over 1 2 ∷ []) (fence_of 1 ∷ fence_of 2 ∷ display_fence ∷ [])
 
 -- session 1 makes its view
 abbrev pub views : ℕ → List Call → Reply → Entry
@@ -92,6 +93,18 @@ polls who line carried = by_session who line carried kind.Poll (reply.Polled 0)
 abbrev pub presents : ℕ → List Call → Entry
 presents line carried = by_session 1 line carried (kind.Present (present [] [])) (reply.Presented 1 0)
 
+-- session 1 is closed, for a reason or by its own wish
+abbrev pub closes : ℕ → List Call → Reason → Entry
+closes line carried why =
+    by_session 1 line carried (kind.Close (Some why)) (reply.Closed (Some BadOperation) (Some why))
+
+abbrev pub leaves : ℕ → List Call → Entry
+leaves line carried = by_session 1 line carried (kind.Close None) (reply.Closed None None)
+
+-- session 1 ends, so many of its lines being refused
+abbrev pub ends : ℕ → ℕ → List Call → Entry
+ends line refused carried = by_session 1 line carried (kind.End refused) reply.Done
+
 abbrev pub viewed : List Entry
 viewed = [] ▹ views 1 (call.CreateView (p 0) ∷ []) reply.Done
 
@@ -102,7 +115,7 @@ abbrev pub finished : List Entry
 finished = begun ▹ by_display 4 kind.Finish
 
 abbrev pub left : List Entry
-left = viewed ▹ by_session 1 2 [] (kind.Close None) (reply.Closed None None)
+left = viewed ▹ leaves 2 []
 
 -- ---- wrong replies
 
@@ -147,7 +160,7 @@ UndeclaredSession = RefusesEntry home [] (polls 2 1 []) (polls 3 1 []) acts
 
 -- an entry of a closed session, other than its End
 abbrev pub EntryAfterClose : Type 0
-EntryAfterClose = RefusesEntry home left (by_session 1 3 [] (kind.End 0) reply.Done) (polls 1 3 []) lasts
+EntryAfterClose = RefusesEntry home left (ends 3 0 []) (polls 1 3 []) lasts
 
 -- a begin inside a frame, a done outside of one, and a begin whose time is before the last one's
 abbrev pub BeginInsideFrame : Type 0
@@ -164,6 +177,46 @@ abbrev pub MisuseIsCarried : Type 0
 MisuseIsCarried = RefusesEntry home viewed (polls 1 2 (call.CreateTransform (t 1) ∷ []))
     (polls 1 2 (call.CreateTransform (t 0) ∷ [])) drafted
 
+-- a close for the misuse of its last call says another reason, or none
+abbrev pub bad_call : List Call
+bad_call = call.CreateTransform (t 0) ∷ []
+
+abbrev pub OtherReason : Type 0
+OtherReason = RefusesEntry home viewed (closes 2 bad_call ZeroId) (closes 2 bad_call IdInUse) drafted
+
+abbrev pub MisuseIsHidden : Type 0
+MisuseIsHidden = RefusesEntry home viewed (closes 2 bad_call ZeroId) (leaves 2 bad_call) drafted
+
+-- a close carries calls after the misuse
+abbrev pub CallAfterMisuse : Type 0
+CallAfterMisuse =
+    RefusesEntry home viewed (closes 2 bad_call ZeroId) (closes 2 (bad_call ++ call.Clear ∷ []) ZeroId) drafted
+
+-- a close for a cycle that a draft has, and that it hasn't; for no view, and there is one
+abbrev pub cycle : List Call
+cycle = call.CreateTransform (t 1) ∷ call.SetRootTransform (t 1) ∷ call.AddChild (t 1) (t 1) ∷ []
+
+abbrev pub CloseWithoutCycle : Type 0
+CloseWithoutCycle = RefusesEntry home viewed (closes 2 cycle Cycle) (closes 2 [] Cycle) drafted
+
+abbrev pub CloseDespiteView : Type 0
+CloseDespiteView = RefusesEntry home viewed (closes 2 (call.ReleaseView ∷ []) NoView) (closes 2 [] NoView) drafted
+
+-- a close for a reason that no line of any draft has
+abbrev pub CloseWithoutMisuse : Type 0
+CloseWithoutMisuse = RefusesEntry home viewed (leaves 2 []) (closes 2 [] BadScale) drafted
+
+-- a session leaves with a call that uses an end
+abbrev pub LeavesWithView : Type 0
+LeavesWithView = RefusesEntry home [] (leaves 1 []) (leaves 1 (call.CreateView (p 0) ∷ [])) drafted
+
+-- the End of an open session counts a refused line, and that of a closed one carries a call
+abbrev pub OpenEndCounts : Type 0
+OpenEndCounts = RefusesEntry home viewed (ends 2 0 []) (ends 2 1 []) drafted
+
+abbrev pub ClosedEndCarries : Type 0
+ClosedEndCarries = RefusesEntry home left (ends 3 1 []) (ends 3 1 (call.Clear ∷ [])) drafted
+
 -- a View that doesn't carry its call
 abbrev pub ViewWithoutCall : Type 0
 ViewWithoutCall = RefusesEntry home [] (views 1 (call.CreateView (p 0) ∷ []) reply.Done) (views 1 [] reply.Done) calls
@@ -178,9 +231,12 @@ abbrev pub FenceOfAnother : Type 0
 FenceOfAnother = RefusesEntry home [] (by_session 1 1 [] (kind.Signal (f 0)) reply.Done)
     (by_session 1 1 [] (kind.Signal (f 1)) reply.Done) owned
 
--- the compositor's signal of a fence that isn't declared
+-- the compositor's signal of a fence that isn't declared, and of one that isn't the display's
 abbrev pub UndeclaredFence : Type 0
-UndeclaredFence = RefusesEntry home [] (by_display 1 (kind.Signal (f 1))) (by_display 1 (kind.Signal (f 2))) named
+UndeclaredFence = RefusesEntry home [] (by_display 1 (kind.Signal (f 2))) (by_display 1 (kind.Signal (f 3))) named
+
+abbrev pub FenceOfASession : Type 0
+FenceOfASession = RefusesEntry home [] (by_display 1 (kind.Signal (f 2))) (by_display 1 (kind.Signal (f 1))) named
 
 -- a present of a root below itself
 abbrev pub root : List Call
@@ -188,6 +244,13 @@ root = call.CreateTransform (t 1) ∷ call.SetRootTransform (t 1) ∷ []
 
 abbrev pub PresentOfCycle : Type 0
 PresentOfCycle = RefusesEntry home viewed (presents 2 root) (presents 2 (root ++ call.AddChild (t 1) (t 1) ∷ [])) tree
+
+-- a present with 17 acquire fences
+abbrev pub with_fences : ℕ → Entry
+with_fences n = by_session 1 2 [] (kind.Present (present (replicate n (f 0)) [])) (reply.Presented 1 0)
+
+abbrev pub FencesAreTooMany : Type 0
+FencesAreTooMany = RefusesEntry home viewed (with_fences 16) (with_fences 17) tree
 
 -- a get of the layout without a view
 abbrev pub GetWithoutView : Type 0

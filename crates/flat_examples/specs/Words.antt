@@ -42,6 +42,10 @@ over parent child = record { viewport = Session (s parent); view = s child }
 abbrev pub fence_of : ℕ → FenceDecl
 fence_of owner = record { owners = Session (s owner) ∷ [] }
 
+-- a fence of the display
+abbrev pub display_fence : FenceDecl
+display_fence = record { owners = Display ∷ [] }
+
 -- a display of 100 by 100 units, with so many sessions
 abbrev pub setup_of : ℕ → List PairDecl → List FenceDecl → Setup
 setup_of sessions pairs fences = record {
@@ -52,7 +56,6 @@ setup_of sessions pairs fences = record {
   pairs = pairs;
   buffers = [];
   fences = fences;
-  version = 1;
   ratio = 65536;
 }
 

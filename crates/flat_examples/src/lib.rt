@@ -8,7 +8,7 @@
 #![tactic(auto)]
 
 ghost use Rattle.flat_examples.specs.Misread.{LinesGoBack, LineIsSkipped, EndIsMissing, OtherCount};
-ghost use Rattle.flat_examples.specs.Misread.{CloseWithoutMisuse, MisuseIsHidden, FencesAreTooMany};
+ghost use Rattle.flat_examples.specs.Misread as misread;
 ghost use Rattle.flat_examples.specs.Misread.{DisplayStopsEarly, OtherTime, OthersComeFirst};
 ghost use Rattle.flat_examples.specs.Misread.{EndsCross};
 ghost use Rattle.flat_examples.specs.Reasons.{EachReasonIsGiven};
@@ -17,7 +17,12 @@ ghost use Rattle.flat_examples.specs.Refused.{SecondGet, UndeclaredSession, Entr
 ghost use Rattle.flat_examples.specs.Refused.{NoneIsBroken, BeginInsideFrame, DoneOutsideFrame};
 ghost use Rattle.flat_examples.specs.Refused.{TimeGoesBack, MisuseIsCarried};
 ghost use Rattle.flat_examples.specs.Refused.{ViewWithoutCall, LinkIsCarried, FenceOfAnother};
-ghost use Rattle.flat_examples.specs.Refused.{UndeclaredFence, PresentOfCycle, GetWithoutView};
+ghost use Rattle.flat_examples.specs.Refused.{OtherReason, MisuseIsHidden, CallAfterMisuse};
+ghost use Rattle.flat_examples.specs.Refused.{CloseWithoutCycle, CloseDespiteView};
+ghost use Rattle.flat_examples.specs.Refused.{CloseWithoutMisuse, LeavesWithView};
+ghost use Rattle.flat_examples.specs.Refused.{OpenEndCounts, ClosedEndCarries};
+ghost use Rattle.flat_examples.specs.Refused.{UndeclaredFence, FenceOfASession, PresentOfCycle};
+ghost use Rattle.flat_examples.specs.Refused.{FencesAreTooMany, GetWithoutView};
 
 /// Each of the 22 reasons refuses a line, and not the line nearest to it.
 ///
@@ -43,11 +48,22 @@ pub fn histories_are_refused()
     ensures done_outside_frame { DoneOutsideFrame }
     ensures time_goes_back { TimeGoesBack }
     ensures misuse_is_carried { MisuseIsCarried }
+    ensures other_reason { OtherReason }
+    ensures misuse_is_hidden { MisuseIsHidden }
+    ensures call_after_misuse { CallAfterMisuse }
+    ensures close_without_cycle { CloseWithoutCycle }
+    ensures close_despite_view { CloseDespiteView }
+    ensures close_without_misuse { CloseWithoutMisuse }
+    ensures leaves_with_view { LeavesWithView }
+    ensures open_end_counts { OpenEndCounts }
+    ensures closed_end_carries { ClosedEndCarries }
     ensures view_without_call { ViewWithoutCall }
     ensures link_is_carried { LinkIsCarried }
     ensures fence_of_another { FenceOfAnother }
     ensures undeclared_fence { UndeclaredFence }
+    ensures fence_of_a_session { FenceOfASession }
     ensures present_of_cycle { PresentOfCycle }
+    ensures fences_are_too_many { FencesAreTooMany }
     ensures get_without_view { GetWithoutView }
 {}
 
@@ -60,9 +76,7 @@ pub fn readings_are_refused()
     ensures line_is_skipped { LineIsSkipped }
     ensures end_is_missing { EndIsMissing }
     ensures other_count { OtherCount }
-    ensures close_without_misuse { CloseWithoutMisuse }
-    ensures misuse_is_hidden { MisuseIsHidden }
-    ensures fences_are_too_many { FencesAreTooMany }
+    ensures close_without_misuse { misread.CloseWithoutMisuse }
     ensures display_stops_early { DisplayStopsEarly }
     ensures other_time { OtherTime }
 {}

@@ -7,7 +7,8 @@ use Rattle.flat_script.specs.declared.script.ScriptFault.{ScriptFault}
 use Rattle.flat_script.specs.declared.script.ScriptError.{ScriptError}
 use Rattle.flat_script.specs.declared.script.ScriptError.TheVariants.{Fault, Memory}
 use Rattle.flat_extra.specs.declared.split.ExtraLine.{ExtraLine}
-use Rattle.flat_extra.specs.Reading.{then_read, all_read, Reads, Takes}
+use Rattle.flat_extra.specs.Reading.{then_read, all_read}
+use Rattle.flat_extra.specs.Readers.{Reads, Takes}
 use Rattle.flat_places.specs.declared.kinds.FaultKind.{FaultKind}
 
 -- values read already, before those of a reading

@@ -1,5 +1,5 @@
 -- Extra lines read as values: each line's value, or the lowest kind of its faults; the first line with a fault decides.
-use Rattle.std.specs.Prelude.{◌≡◌, ℕ, ◌+◌, ◌==◌, ℤ, pos, nat_lt, Bool, false, not, ◌&&◌, ◌||◌, if◌then◌else◌, List, [], ◌∷◌, ◌++◌, length, Option, Some, None, is_some, option_and_then, unwrap_or, slice_get, codes, Result, Ok, Err}
+use Rattle.std.specs.Prelude.{ℕ, ◌+◌, ◌==◌, ℤ, pos, nat_lt, Bool, false, not, ◌&&◌, ◌||◌, if◌then◌else◌, List, [], ◌∷◌, length, Option, Some, None, is_some, option_and_then, unwrap_or, slice_get, codes, Result, Ok, Err}
 use Rattle.std.specs.Option.{option_map_or}
 use Rattle.std.specs.Str.{bytes_eq}
 use Rattle.flat_base.specs.declared.ids.SessionNo.{SessionNo}
@@ -9,8 +9,6 @@ use Rattle.flat_places.specs.declared.kinds.FaultKind.{FaultKind}
 use Rattle.flat_places.specs.declared.kinds.FaultKind.TheVariants.{UnknownActor, BadNumber, WrongCount, UnknownName, Limit}
 use Rattle.flat_places.specs.declared.script.Script.{Script}
 use Rattle.flat_script.specs.declared.script.ScriptFault.{ScriptFault}
-use Rattle.flat_script.specs.declared.script.ScriptError.{ScriptError}
-use Rattle.flat_script.specs.declared.script.ScriptError.TheVariants.{Fault, Memory}
 use Rattle.flat_places.specs.Names.{session_named}
 use Rattle.flat_places.specs.Places.{fits_i32}
 use Rattle.flat_focus.specs.declared.text.FocusLine.{FocusLine}
@@ -118,17 +116,3 @@ then_read n (Ok value) (Err fault) = Err fault
 abbrev pub all_read : {A : Type 0} → (ℕ → ExtraLine → Result A FaultKind) → ℕ → List ExtraLine → Result (List A) ScriptFault
 all_read read before [] = Ok []
 all_read read before (line ∷ lines) = then_read line.number (read before line) (all_read read (before + 1) lines)
-
--- the answer is the reading, unless memory ran out
-abbrev pub Reads : {A : Type 0} → Result A ScriptError → Result A ScriptFault → Type 0
-Reads (Ok values) read = read ≡ Ok values
-Reads (Err (Fault fault)) read = read ≡ Err fault
-Reads (Err Memory) read = Unit {0}
-
--- one line was read: its value stands behind the others, or its kind was answered
-abbrev pub Takes : {A : Type 0} → Result (Unit {0}) ScriptError → Result A FaultKind → ℕ → List A → List A → Type 0
-Takes (Ok done) (Ok value) n old new = new ≡ old ++ value ∷ []
-Takes (Ok done) (Err kind) n old new = ⊥
-Takes (Err (Fault fault)) (Ok value) n old new = ⊥
-Takes (Err (Fault fault)) (Err kind) n old new = fault ≡ record { line = n; kind = kind }
-Takes (Err Memory) read n old new = Unit {0}

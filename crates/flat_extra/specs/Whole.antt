@@ -1,9 +1,7 @@
 -- A text with extra lines: its script and the values of those lines, or its fault.
-use Rattle.std.specs.Prelude.{◌≡◌, ℕ, ◌<◌, nat_lt, if◌then◌else◌, List, length, Result, Ok, Err}
+use Rattle.std.specs.Prelude.{ℕ, nat_lt, if◌then◌else◌, List, length, Result, Ok, Err}
 use Rattle.flat_base.specs.declared.limits.TheConstants.{SCRIPT_BYTES_MAX}
 use Rattle.flat_places.specs.declared.kinds.FaultKind.TheVariants.{TooLong}
-use Rattle.flat_script.specs.declared.script.ScriptError.{ScriptError}
-use Rattle.flat_script.specs.declared.script.ScriptError.TheVariants.{Fault, Memory}
 use Rattle.flat_script.specs.declared.script.ScriptFault.{ScriptFault}
 use Rattle.flat_script.specs.Grammar.{text_read}
 use Rattle.flat_extra.specs.declared.split.ExtraLine.{ExtraLine}
@@ -22,11 +20,6 @@ and_then (Err fault) next = Err fault
 -- a text that is too long is at fault as a whole
 abbrev pub unless_long : {A : Type 0} → List ℕ → Result A ScriptFault → Result A ScriptFault
 unless_long bytes read = if nat_lt SCRIPT_BYTES_MAX (length bytes) then Err (record { line = 0; kind = TooLong }) else read
-
--- an error says that a text is too long, unless memory ran out
-abbrev pub IsLong : ScriptError → List ℕ → Type 0
-IsLong Memory bytes = Unit {0}
-IsLong (Fault fault) bytes = (SCRIPT_BYTES_MAX < length bytes) × (fault ≡ record { line = 0; kind = TooLong })
 
 -- ---- both sets: the script of a text without its extra lines, and then what is read of these
 

@@ -1,12 +1,9 @@
-ghost use Rattle.std.specs.Prelude.{◌≡◌, ◌≤◌, ◌==◌, ◌<◌, ◌∷◌, [], ◌++◌, length, pos, is_some};
-ghost use Rattle.std.specs.Prelude.{unwrap_or, slice_get, Err, OnOk, OnErr, IfSome};
+ghost use Rattle.std.specs.Prelude.{◌≡◌, ◌≤◌, ◌==◌, ◌<◌, ◌∷◌, [], ◌++◌, length, pos, is_some, unwrap_or, slice_get, Err, OnOk, OnErr, IfSome};
 ghost use Rattle.flat_text.specs.Pieces.{words_of};
 ghost use Rattle.flat_places.specs.Names.{place_of, session_named};
 ghost use Rattle.flat_script.specs.declared.script.ScriptError.TheVariants.{Memory};
-ghost use Rattle.flat_extra.specs.Reading.{has_room, session_at, focus_line, all_read, Reads};
-ghost use Rattle.flat_extra.specs.Reading.{Takes, is_word_at, pointer_in, pointer_at, units_in};
-ghost use Rattle.flat_extra.specs.Reading.{units_at, may_be, has_numbers, word_count, pointer_call};
-ghost use Rattle.flat_extra.specs.Reading.{pointer_line};
+ghost use Rattle.flat_extra.specs.Reading.{has_room, session_at, focus_line, all_read, is_word_at, pointer_in, pointer_at, units_in, units_at, may_be, has_numbers, word_count, pointer_call, pointer_line};
+ghost use Rattle.flat_extra.specs.Readers.{Reads, Takes};
 
 use crate::split::{ExtraLine, ExtraList};
 use flat_base::{Items, SESSIONS_MAX, SessionNo};

@@ -2,8 +2,8 @@ ghost use Rattle.std.specs.Prelude.{◌≡◌, ◌≤◌, IfErr, IfOk, length};
 ghost use Rattle.flat_base.specs.declared.limits.TheConstants.{SCRIPT_BYTES_MAX};
 ghost use Rattle.flat_script.specs.Answers.{Answers};
 ghost use Rattle.flat_extra.specs.Extra.{extra_of, rest_of};
-ghost use Rattle.flat_extra.specs.Reading.{Reads};
-ghost use Rattle.flat_extra.specs.Whole.{IsLong, focus_of, focus_read, pointers_of, pointers_read};
+ghost use Rattle.flat_extra.specs.Readers.{Reads, IsLong};
+ghost use Rattle.flat_extra.specs.Whole.{focus_of, focus_read, pointers_of, pointers_read};
 
 use crate::reading::{read_focus, read_pointers};
 use crate::split::{ExtraSet, Split, split_text};

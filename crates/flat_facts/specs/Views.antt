@@ -12,7 +12,7 @@ use Rattle.flat_scene.specs.History.{◌▹◌, is_session}
 use Rattle.flat_base.specs.declared.ids.PairNo.{PairNo}
 use Rattle.flat_rules.specs.Legal.{number_if}
 use Rattle.flat_rules.specs.Shown.{is_pair}
-use Rattle.flat_watch.specs.Told.{or_else}
+use Rattle.std.specs.Option.{option_or}
 
 -- a call that makes a view
 abbrev pub is_new_view : Call → Bool
@@ -27,7 +27,7 @@ view_made _ _ = None
 -- the pair of the last view that a session made
 abbrev pub last_view : SessionNo → List Entry → Option PairNo
 last_view s [] = None
-last_view s (before ▹ entry) = cond (is_session s entry.actor) (or_else (view_made entry.kind entry.reply) (last_view s before)) (last_view s before)
+last_view s (before ▹ entry) = cond (is_session s entry.actor) (option_or (view_made entry.kind entry.reply) (last_view s before)) (last_view s before)
 
 -- the last view, where it still stands: a session's calls leave it no other
 abbrev pub if_unended : Option PairNo → (PairNo → Bool) → Option PairNo

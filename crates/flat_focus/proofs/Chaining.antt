@@ -7,8 +7,10 @@ use Rattle.std.proofs.lemmas.List.Folds.{list_any-append}
 use Rattle.std.proofs.Math.Bool.{or-true}
 use Rattle.flat_base.specs.declared.ids.SessionNo.{SessionNo}
 use Rattle.flat_scene.specs.declared.frames.ViewNode.{ViewNode}
-use Rattle.flat_scene.specs.ViewTrees.{is_node, is_tree}
-use Rattle.flat_focus.specs.Chains.{root_of, path_in, path_to, chain_in, stands_on, is_granted, framed, asked}
+use Rattle.flat_scene.specs.ViewTrees.{is_node}
+use Rattle.flat_scene.specs.ViewShapes.{is_tree}
+use Rattle.flat_focus.specs.Chains.{root_of, path_in, path_to, chain_in, stands_on, is_granted}
+use Rattle.flat_focus.specs.Steps.{framed, asked}
 use Rattle.flat_focus.specs.Events.{FocusEvent, frame, ask, nodes_after, chain_after}
 use Rattle.flat_focus.specs.Laws.{CallsFollow, IsChain, ChainsArePaths, are_trees, NodesGive}
 use Rattle.flat_focus.proofs.Climbing.{any-reverse}

@@ -9,7 +9,8 @@ use Rattle.std.proofs.lemmas.List.Sorted.{list_any-IsPermutation, IsPermutation-
 use Rattle.flat_base.specs.Last.{last_item}
 use Rattle.flat_base.specs.declared.ids.SessionNo.{SessionNo}
 use Rattle.flat_scene.specs.declared.frames.ViewNode.{ViewNode}
-use Rattle.flat_focus.specs.Chains.{path_in, on_the_way, way_on}
+use Rattle.flat_focus.specs.Chains.{path_in}
+use Rattle.flat_focus.specs.Steps.{on_the_way, way_on}
 
 -- the list from the root to the next session, if there is one
 abbrev pub path_for : List ViewNode → Option SessionNo → List SessionNo

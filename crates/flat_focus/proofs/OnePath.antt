@@ -6,7 +6,8 @@ use Rattle.std.proofs.Math.Bool.{or-true}
 use Rattle.std.proofs.lemmas.List.{reverse-append}
 use Rattle.flat_base.specs.declared.ids.SessionNo.{SessionNo}
 use Rattle.flat_scene.specs.declared.frames.ViewNode.{ViewNode}
-use Rattle.flat_scene.specs.ViewTrees.{is_node, is_below, is_tree_in}
+use Rattle.flat_scene.specs.ViewTrees.{is_node}
+use Rattle.flat_scene.specs.ViewShapes.{is_below, is_tree_in}
 use Rattle.flat_focus.specs.Chains.{path_in}
 use Rattle.flat_focus.specs.Laws.{same_session, is_child, is_path_below, first_of, last_of, PathsAreOne}
 use Rattle.flat_focus.proofs.Paths.{numbered, path-turned}

@@ -1,14 +1,16 @@
 -- The text by what is kept is the text by the events.
 use Rattle.std.proofs.Common.{ℕ, ◌≡◌, refl, ap, ◌∙◌, Bool, true, List, [], ◌∷◌, ◌++◌, length}
 use Rattle.std.specs.List.{list_all}
-use Rattle.flat_page.specs.Happenings.{Happening, finished, said, after_all, all_lines, without_items}
+use Rattle.flat_page.specs.Happenings.{Happening, finished, said, all_lines}
+use Rattle.flat_page.specs.Steps.{after_all, without_items}
 use Rattle.flat_page.specs.Words.{Word, text_of}
 use Rattle.flat_page.proofs.lemmas.Telling as told
 use Rattle.flat_focus.specs.declared.text.FocusLine.{FocusLine}
-use Rattle.flat_focus.specs.Chains.{Focusing, framed, asked}
+use Rattle.flat_focus.specs.Chains.{Focusing}
+use Rattle.flat_focus.specs.Steps.{framed, asked, after, lines_with}
 use Rattle.flat_focus.specs.Events.{FocusEvent, nodes_after, chain_after}
 use Rattle.flat_focus.specs.Laws.{ItemsPlayNoPart, kept_after}
-use Rattle.flat_focus.specs.Text.{event_of, lines_at, end_line, after, lines_with}
+use Rattle.flat_focus.specs.Text.{event_of, lines_at, end_line}
 use Rattle.flat_focus.proofs.Chaining.{calls-follow}
 
 -- nobody changes for how many sessions there is room

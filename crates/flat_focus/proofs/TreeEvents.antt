@@ -4,8 +4,9 @@ use Rattle.std.specs.List.{list_all}
 use Rattle.std.proofs.lemmas.List.Folds.{list_all-append}
 use Rattle.flat_base.proofs.lemmas.Tests.{and-left, and-right, and-true}
 use Rattle.flat_scene.specs.declared.frames.FrameOut.{FrameOut}
-use Rattle.flat_scene.specs.ViewTrees.{is_tree}
-use Rattle.flat_page.specs.Happenings.{Happening, finished, said, count_before, merged, after_all}
+use Rattle.flat_scene.specs.ViewShapes.{is_tree}
+use Rattle.flat_page.specs.Happenings.{Happening, finished, said, count_before, merged}
+use Rattle.flat_page.specs.Steps.{after_all}
 use Rattle.flat_focus.specs.declared.text.FocusLine.{FocusLine}
 use Rattle.flat_focus.specs.Events.{FocusEvent, frame, ask}
 use Rattle.flat_focus.specs.Laws.{ChainsInTexts, are_trees, events_of}

@@ -24,15 +24,6 @@ path_in (node ∷ earlier) s = if node.session.0 == s.0 then option_map_or (λ p
 abbrev pub path_to : List ViewNode → SessionNo → List SessionNo
 path_to nodes s = path_in (reverse nodes) s
 
--- on the way up to the root the next session is looked for: the session of a node, if it is the next one, and who is the next one then
-abbrev pub on_the_way : ViewNode → Option SessionNo → List SessionNo
-on_the_way node None = []
-on_the_way node (Some s) = if node.session.0 == s.0 then node.session ∷ [] else []
-
-abbrev pub way_on : ViewNode → Option SessionNo → Option SessionNo
-way_on node None = None
-way_on node (Some s) = if node.session.0 == s.0 then node.parent else Some s
-
 -- ---- the chain
 
 -- who has the focus after a frame: the last session of the old chain that is a node, or the root where there is none
@@ -59,18 +50,6 @@ pub record Focusing : Type 0 where
   pub nodes : List ViewNode
   pub chain : List SessionNo
 
--- before the first frame
-abbrev pub unfocused : ℕ → Focusing
-unfocused sessions = record { sessions = sessions; nodes = []; chain = [] }
-
--- after a frame with these nodes
-abbrev pub framed : List ViewNode → Focusing → Focusing
-framed nodes focus = record focus { nodes = nodes; chain = chain_in nodes focus.chain }
-
 -- the answer to a session that asks for the focus of another
 abbrev pub answer_to : List ViewNode → SessionNo → SessionNo → FocusAnswer
 answer_to nodes by of = if is_granted nodes by of then Granted else Denied
-
--- after it asked
-abbrev pub asked : SessionNo → SessionNo → Focusing → Focusing
-asked by of focus = record focus { chain = if is_granted focus.nodes by of then path_to focus.nodes of else focus.chain }

@@ -4,11 +4,14 @@ use Rattle.std.specs.List.{list_all, list_any}
 use Rattle.flat_base.specs.declared.ids.SessionNo.{SessionNo}
 use Rattle.flat_scene.specs.declared.frames.FrameOut.{FrameOut}
 use Rattle.flat_scene.specs.declared.frames.ViewNode.{ViewNode}
-use Rattle.flat_scene.specs.ViewTrees.{is_node, is_tree}
-use Rattle.flat_page.specs.Happenings.{Happening, merged, after_all, without_items}
+use Rattle.flat_scene.specs.ViewTrees.{is_node}
+use Rattle.flat_scene.specs.ViewShapes.{is_tree}
+use Rattle.flat_page.specs.Happenings.{Happening, merged}
+use Rattle.flat_page.specs.Steps.{after_all, without_items}
 use Rattle.flat_page.specs.Words.{Word}
 use Rattle.flat_focus.specs.declared.text.FocusLine.{FocusLine}
-use Rattle.flat_focus.specs.Chains.{Focusing, root_of, path_to, is_granted, unfocused, framed, asked}
+use Rattle.flat_focus.specs.Chains.{Focusing, root_of, path_to, is_granted}
+use Rattle.flat_focus.specs.Steps.{unfocused, framed, asked}
 use Rattle.flat_focus.specs.Events.{FocusEvent, frame, ask, nodes_after, chain_after}
 use Rattle.flat_focus.specs.Text.{event_of, focus_text}
 

@@ -7,7 +7,7 @@ use Rattle.flat_page.specs.Words.{Word, number, session_name, text_of}
 use Rattle.flat_focus.specs.declared.focus.FocusAnswer.{FocusAnswer}
 use Rattle.flat_focus.specs.declared.focus.FocusAnswer.TheVariants.{Granted, Denied}
 use Rattle.flat_focus.specs.declared.text.FocusLine.{FocusLine}
-use Rattle.flat_focus.specs.Chains.{Focusing, answer_to, framed, asked}
+use Rattle.flat_focus.specs.Chains.{answer_to}
 use Rattle.flat_focus.specs.Events.{FocusEvent, frame, ask, nodes_after, chain_after}
 
 -- the names of a chain's sessions, behind the word
@@ -47,13 +47,3 @@ focus_text names dones frames lines =
     text_of (all_lines (lines_at names) (λ one before. event_of one ∷ before) [] (merged (λ line. line.number) dones frames lines) ++ end_line (length lines) ∷ [])
 
 -- ---- over what is kept
-
--- what is kept after one thing more
-abbrev pub after : Happening FocusLine → Focusing → Focusing
-after (finished out) focus = framed out.tree.nodes focus
-after (said line) focus = asked line.by line.of focus
-
--- what is written of it
-abbrev pub lines_with : List Word → Focusing → Happening FocusLine → List (List Word)
-lines_with names focus (finished out) = frame_line names out.frame.0 (framed out.tree.nodes focus).chain ∷ []
-lines_with names focus (said line) = ask_line names line (answer_to focus.nodes line.by line.of) (asked line.by line.of focus).chain ∷ []

@@ -1,8 +1,7 @@
-ghost use Rattle.std.specs.Prelude.{◌≡◌, ◌+◌, ◌-◌, ◌<◌, ◌≤◌, [], ◌++◌, length, reverse, find, IfOk};
-ghost use Rattle.std.specs.Prelude.{slice_get, Some};
+ghost use Rattle.std.specs.Prelude.{◌≡◌, ◌+◌, ◌-◌, ◌<◌, ◌≤◌, [], ◌++◌, length, reverse, find, IfOk, slice_get, Some};
 ghost use Rattle.flat_scene.specs.ViewTrees.{is_node};
-ghost use Rattle.flat_focus.specs.Chains.{root_of, path_to, focus_in, stands_on, is_granted};
-ghost use Rattle.flat_focus.specs.Chains.{unfocused, framed, answer_to, asked, on_the_way, way_on};
+ghost use Rattle.flat_focus.specs.Chains.{root_of, path_to, focus_in, stands_on, is_granted, answer_to};
+ghost use Rattle.flat_focus.specs.Steps.{unfocused, framed, asked, on_the_way, way_on};
 
 use flat_base::{NoMemory, Roomy, SessionNo};
 use flat_scene::{ViewNode, ViewTree, is_node};

@@ -1,13 +1,12 @@
-ghost use Rattle.std.specs.Prelude.{◌≡◌, ◌≤◌, ◌<◌, [], ◌∷◌, ◌++◌, length, map, nat_lt, take_while};
-ghost use Rattle.std.specs.Prelude.{OnOk, IfOk};
+ghost use Rattle.std.specs.Prelude.{◌≡◌, ◌≤◌, ◌<◌, [], ◌∷◌, ◌++◌, length, map, nat_lt, take_while, OnOk, IfOk};
 ghost use Rattle.std.specs.List.{list_all};
-ghost use Rattle.flat_page.specs.Happenings.{finished, said, count_before, merged, after_all};
-ghost use Rattle.flat_page.specs.Happenings.{all_lines};
+ghost use Rattle.flat_page.specs.Happenings.{finished, said, count_before, merged, all_lines};
+ghost use Rattle.flat_page.specs.Steps.{after_all};
 ghost use Rattle.flat_page.specs.Pages.{Writes, WritesLines};
 ghost use Rattle.flat_page.specs.Words.{number, session_name};
-ghost use Rattle.flat_focus.specs.Chains.{unfocused, framed, answer_to, asked};
-ghost use Rattle.flat_focus.specs.Text.{chain_words, frame_line, answer_word, ask_line, end_line};
-ghost use Rattle.flat_focus.specs.Text.{lines_with, after, focus_text};
+ghost use Rattle.flat_focus.specs.Chains.{answer_to};
+ghost use Rattle.flat_focus.specs.Steps.{unfocused, framed, asked, lines_with, after};
+ghost use Rattle.flat_focus.specs.Text.{chain_words, frame_line, answer_word, ask_line, end_line, focus_text};
 ghost use Rattle.flat_focus.specs.Room.{AreFew};
 
 use crate::focus::{Focus, FocusAnswer};

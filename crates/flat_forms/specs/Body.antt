@@ -42,13 +42,13 @@ fence_lists test (w ∷ words) =
 abbrev pub present : Script → SessionNo → Form PresentArgs
 present s a =
     (λ t u lists. record { time = t; acquire = lists.0; release = lists.1; unsquashable = u })
-    <$> time <*> unsquashable s.setup.version <*> (λ words. (fence_lists (fence_word s (Session a)) words, []))
+    <$> time <*> unsquashable s.version <*> (λ words. (fence_lists (fence_word s (Session a)) words, []))
 
 -- Wait
 
 -- what a session may wait for
 abbrev pub session_condition : Script → SessionNo → List Word → Reading Cond
-session_condition s a = named s.setup.version UnknownCall (
+session_condition s a = named s.version UnknownCall (
     (codes "frames", whole (cond.Frames <$> u32)) ∷ (codes "credits", whole (cond.Credits <$> u32)) ∷
     (codes "taken", whole (cond.Taken <$> u32)) ∷ (codes "answers", whole (cond.Answers <$> u32)) ∷
     (codes "fence", whole (cond.Fence <$> fence s (Session a))) ∷ [])
@@ -59,7 +59,7 @@ presents_asked s = (λ x n. cond.Presents x n) <$> session s <*> u32
 
 -- what the display may wait for
 abbrev pub display_condition : Script → List Word → Reading Cond
-display_condition s = named s.setup.version UnknownCall (
+display_condition s = named s.version UnknownCall (
     (codes "presents", whole (presents_asked s)) ∷ (codes "fence", whole (cond.Fence <$> fence s Display)) ∷ [])
 
 -- sessions
@@ -70,7 +70,7 @@ child_asked = (λ c. line.Get (watch.Child c)) <$> content
 
 -- a line of a session that is no call
 abbrev pub other_line : Script → SessionNo → List Word → Reading Line
-other_line s a = named s.setup.version UnknownCall (
+other_line s a = named s.version UnknownCall (
     (codes "Present", whole (line.Present <$> present s a)) ∷
     (codes "GetLayout", whole (give (line.Get watch.Layout))) ∷
     (codes "GetStatus", whole (give (line.Get watch.Status))) ∷
@@ -83,7 +83,7 @@ other_line s a = named s.setup.version UnknownCall (
 -- a line of a session: a call, or one of the other lines
 abbrev pub session_line : Script → SessionNo → List Word → Reading Line
 session_line s a [] = Err UnknownCall
-session_line s a (w ∷ words) = option_map_or (λ n. mapped line.Call (whole (call_form s a n) words)) (call_named s.setup.version w) (other_line s a (w ∷ words))
+session_line s a (w ∷ words) = option_map_or (λ n. mapped line.Call (whole (call_form s a n) words)) (call_named s.version w) (other_line s a (w ∷ words))
 
 -- the display
 
@@ -136,7 +136,7 @@ ratio_line = display.Dpr <$> ratio
 
 -- a line of the display
 abbrev pub display_line : Script → List Word → Reading DisplayLine
-display_line s = named s.setup.version UnknownCall (
+display_line s = named s.version UnknownCall (
     (codes "begin", (λ rest. mapped display.Begin (unless_kind Limit (nat_lt (length (begin_times s)) FRAMES_MAX) (unless_kind BadOrder (not (is_open s)) (whole (begin_place s) rest))))) ∷
     (codes "done", (λ rest. unless_kind BadOrder (is_open s) (whole (give display.Done) rest))) ∷
     (codes "Signal", whole (display.Signal <$> fence s Display)) ∷
@@ -157,7 +157,7 @@ probe_line version = named version UnknownCall (
 abbrev pub actor_line : Script → Actor → List Word → Reading Body
 actor_line s Display words = mapped body.Display (display_line s words)
 actor_line s (Session a) words = mapped body.Session (session_line s a words)
-actor_line s (Probe p) words = mapped body.Probe (probe_line s.setup.version words)
+actor_line s (Probe p) words = mapped body.Probe (probe_line s.version words)
 
 -- how many lines of the actor there are
 abbrev pub lines_of_actor : Script → Actor → ℕ

@@ -1,11 +1,12 @@
 -- The calls of a session: how each is written, and the form of what follows.
-use Rattle.std.specs.Prelude.{ℕ, Bool, true, false, List, [], ◌∷◌, Option, None, codes, find, if◌then◌else◌}
+use Rattle.std.specs.Prelude.{ℕ, List, [], ◌∷◌, Option, None, codes, find, if◌then◌else◌}
 use Rattle.std.specs.Option.{option_map_or}
 use Rattle.std.specs.Str.{bytes_eq}
 use Rattle.flat_base.specs.declared.ids.SessionNo.{SessionNo}
 use Rattle.flat_scene.specs.declared.calls.Call.{Call}
 use Rattle.flat_scene.specs.declared.calls.Call.TheVariants as call
 use Rattle.flat_scene.specs.declared.calls.Inset.{Inset}
+use Rattle.flat_scene.specs.Draft.{no_inset}
 use Rattle.flat_forms.specs.declared.calls.CallName.{CallName}
 use Rattle.flat_forms.specs.declared.calls.CallName.TheVariants.{CreateView, ReleaseView, CreateTransform, ReleaseTransform, SetTranslation, SetOrientation, SetScale, SetOpacity, SetClipBoundary, AddChild, RemoveChild, ReplaceChildren, SetRootTransform, CreateViewport, SetViewportProperties, ReleaseViewport, CreateImage, SetImageSampleRegion, SetImageDestinationSize, SetImageBlendingFunction, SetImageFlip, SetImageOpacity, ReleaseImage, CreateFilledRect, SetSolidFill, ReleaseFilledRect, SetHitRegions, SetInfiniteHitRegion, SetContent, Clear}
 use Rattle.flat_places.specs.declared.script.Script.{Script}
@@ -60,27 +61,6 @@ call_written w = find (λ n. bytes_eq w (text n)) call_names
 -- the same, where scripts of that version may use the word
 abbrev pub call_named : ℕ → Word → Option CallName
 call_named version w = if knows version w then call_written w else None
-
--- the call makes, changes or releases a content
-abbrev pub is_of_contents : CallName → Bool
-is_of_contents CreateViewport = true
-is_of_contents SetViewportProperties = true
-is_of_contents ReleaseViewport = true
-is_of_contents CreateImage = true
-is_of_contents SetImageSampleRegion = true
-is_of_contents SetImageDestinationSize = true
-is_of_contents SetImageBlendingFunction = true
-is_of_contents SetImageFlip = true
-is_of_contents SetImageOpacity = true
-is_of_contents ReleaseImage = true
-is_of_contents CreateFilledRect = true
-is_of_contents SetSolidFill = true
-is_of_contents ReleaseFilledRect = true
-is_of_contents other = false
-
--- the inset of a viewport where none is given
-abbrev pub no_inset : Inset
-no_inset = record { top = 0; right = 0; bottom = 0; left = 0 }
 
 -- the inset that is given, or 0 on all sides
 abbrev pub inset_or_none : Option Inset → Inset

@@ -13,7 +13,8 @@ use Rattle.flat_places.specs.Places.{number_from, first_ratio, session, version,
 -- nothing declared yet; a width of 0 says that no display line was read
 abbrev pub empty : Script
 empty = record {
-  setup = record { width = 0; height = 0; sessions = 0; probes = 0; pairs = []; buffers = []; fences = []; version = 0; ratio = ONE };
+  version = 0;
+  setup = record { width = 0; height = 0; sessions = 0; probes = 0; pairs = []; buffers = []; fences = []; ratio = ONE };
   sessions = [];
   probes = [];
   buffers = [];
@@ -34,7 +35,7 @@ side = number_from 1 SIDE_MAX
 -- the script with what a line declares
 
 abbrev pub with_version : Script → ℕ → Script
-with_version s v = record s { setup = record s.setup { version = v } }
+with_version s v = record s { version = v }
 
 abbrev pub with_display : Script → ℕ → ℕ → ℕ → Script
 with_display s w h q = record s { setup = record s.setup { width = w; height = h; ratio = q } }
@@ -77,7 +78,7 @@ abbrev pub declared : {A : Type 0} → ℕ → List Word → (A → Script) → 
 declared most names with form words = mapped with (unless_kind Limit (nat_lt (length names) most) (whole form words))
 
 abbrev pub display_line : Script → List Word → Reading Script
-display_line s words = mapped (λ d. with_display s d.0 d.1 d.2) (unless_kind BadHead (not (has_display s)) (whole (size s.setup.version) words))
+display_line s words = mapped (λ d. with_display s d.0 d.1 d.2) (unless_kind BadHead (not (has_display s)) (whole (size s.version) words))
 
 abbrev pub session_line : Script → List Word → Reading Script
 session_line s = declared SESSIONS_MAX s.sessions (with_session s) (new_name s)
@@ -96,7 +97,7 @@ fence_line s = declared FENCES_MAX s.fences (λ d. with_fence s d.0 d.1) (fence 
 
 -- a line of the head, but for the first and the last
 abbrev pub head_line : Script → List Word → Reading Script
-head_line s = named s.setup.version BadHead (
+head_line s = named s.version BadHead (
     (codes "display", display_line s) ∷
     (codes "session", session_line s) ∷
     (codes "probe", probe_line s) ∷

@@ -1,8 +1,9 @@
-pub mod Calls
-pub mod Head
-pub mod Body
-pub mod Lists
-pub mod Steps
-pub mod Lines
-pub mod Progress
 pub mod Ahead
+pub mod Body
+pub mod Calls
+pub mod Contents
+pub mod Head
+pub mod Lines
+pub mod Lists
+pub mod Progress
+pub mod Steps

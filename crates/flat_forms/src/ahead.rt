@@ -1,7 +1,8 @@
 //! What is read of a line of the body before the lines before it are read: of sessions and
 //! probes all, since what they say hangs on the head alone; of the display nothing.
 ghost use Rattle.std.specs.Prelude.{◌≡◌, ◌<◌, ◌≤◌, ◌+◌, ◌^◌, IfSome, OnOk};
-ghost use Rattle.flat_text.specs.Pieces.{is_space, pieces_left, words_of};
+ghost use Rattle.flat_text.specs.Pieces.{is_space, words_of};
+ghost use Rattle.flat_text.specs.Left.{pieces_left};
 ghost use Rattle.flat_places.specs.Index.{IsIndexed};
 ghost use Rattle.flat_places.specs.Slots.{IsCounted};
 ghost use Rattle.flat_forms.specs.Ahead.{IsSaid, SaysAhead, taken_line};

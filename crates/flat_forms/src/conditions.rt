@@ -1,5 +1,6 @@
 ghost use Rattle.std.specs.Prelude.{◌≡◌};
-ghost use Rattle.flat_text.specs.Pieces.{is_space, pieces_left};
+ghost use Rattle.flat_text.specs.Pieces.{is_space};
+ghost use Rattle.flat_text.specs.Left.{pieces_left};
 ghost use Rattle.flat_forms.specs.Body.{session_condition, display_condition, presents_asked};
 ghost use Rattle.flat_places.specs.Forms.{whole};
 ghost use Rattle.flat_places.specs.Index.{IsIndexed};

@@ -14,6 +14,7 @@ pub fn empty(alloc: Global) -> Script
     ensures { result ≡ empty }
 {
     Script {
+        version: 0,
         setup: Setup {
             width: 0,
             height: 0,
@@ -22,7 +23,6 @@ pub fn empty(alloc: Global) -> Script
             pairs: Items::new(alloc),
             buffers: Items::new(alloc),
             fences: Items::new(alloc),
-            version: 0,
             ratio: ONE,
         },
         sessions: Items::new(alloc),

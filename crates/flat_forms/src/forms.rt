@@ -1,13 +1,13 @@
 ghost use Rattle.std.specs.Prelude.{◌≡◌, ◌≤◌, [], ◌∷◌, ℕ, false, length, nat_lt, not, codes, IsTrue, IfOk};
 ghost use Rattle.std.specs.Str.{bytes_eq};
-ghost use Rattle.flat_text.specs.Pieces.{is_space, pieces_left, words_of};
+ghost use Rattle.flat_text.specs.Pieces.{is_space, words_of};
+ghost use Rattle.flat_text.specs.Left.{pieces_left};
 ghost use Rattle.flat_places.specs.declared.kinds.FaultKind.TheVariants.{BadHead, Limit, BadOrder};
 ghost use Rattle.flat_places.specs.Forms.{whole, give, unless_kind, mapped};
 ghost use Rattle.flat_forms.specs.Head as head;
 ghost use Rattle.flat_forms.specs.Head.{size, buffers, pair, run_line, first_line};
 ghost use Rattle.flat_places.specs.Places.{new_name, has_display_pair, fence, point, time, version};
-ghost use Rattle.flat_forms.specs.Body.{begin_place, begin_times, dones, greatest, display_line, in_order};
-ghost use Rattle.flat_forms.specs.Body.{probe_line, ratio_line};
+ghost use Rattle.flat_forms.specs.Body.{begin_place, begin_times, dones, greatest, display_line, in_order, probe_line, ratio_line};
 ghost use Rattle.flat_places.specs.Index.{IsIndexed};
 ghost use Rattle.flat_places.specs.Reads.{Reads};
 ghost use Rattle.flat_forms.specs.Steps.{ReachesBy};
@@ -289,7 +289,7 @@ fn timeless_line(
     if is_word(word, "hit") {
         return hit(words);
     }
-    if is_word(word, "dpr") && knows(script.script.setup.version, word) {
+    if is_word(word, "dpr") && knows(script.script.version, word) {
         return dpr(words);
     }
     Err(FaultKind::UnknownCall)

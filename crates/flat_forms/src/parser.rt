@@ -1,13 +1,11 @@
 ghost use Rattle.std.specs.Prelude.{◌≡◌, ◌<◌, ◌≤◌, ◌+◌, ◌^◌, OnOk, OnErr, Ok, Err, nat_lt};
-ghost use Rattle.flat_text.specs.Pieces.{is_space, pieces_left, words_of};
+ghost use Rattle.flat_text.specs.Pieces.{is_space, words_of};
+ghost use Rattle.flat_text.specs.Left.{pieces_left};
 ghost use Rattle.flat_forms.specs.declared.lines.LineError.TheVariants.{Memory};
 ghost use Rattle.flat_forms.specs.declared.lines.Part.TheVariants.{Start};
 ghost use Rattle.flat_places.specs.Forms.{Reading, mapped};
-ghost use Rattle.flat_forms.specs.Head.{has_display, display_line, session_line, probe_line};
-ghost use Rattle.flat_forms.specs.Head.{buffers_line, pair_line, fence_line, head_line, is_ready};
-ghost use Rattle.flat_forms.specs.Head.{empty};
-ghost use Rattle.flat_forms.specs.Body.{with_line, counted_line, body_line, actor_line};
-ghost use Rattle.flat_forms.specs.Body.{lines_of_actor};
+ghost use Rattle.flat_forms.specs.Head.{has_display, display_line, session_line, probe_line, buffers_line, pair_line, fence_line, head_line, is_ready, empty};
+ghost use Rattle.flat_forms.specs.Body.{with_line, counted_line, body_line, actor_line, lines_of_actor};
 ghost use Rattle.flat_forms.specs.Lines.{words_read};
 ghost use Rattle.flat_places.specs.Slots.{IsCounted};
 ghost use Rattle.flat_forms.specs.Steps.{Steps, Reaches};
@@ -81,7 +79,7 @@ impl Parser {
         ensures kept { OnOk result (Kept self.new) }
         ensures same { SameFrames self.old self.new }
     {
-        let version = self.text.script.setup.version;
+        let version = self.text.script.version;
         let (width, height, ratio) = forms::size(!self.has_display(), version, words)?;
         self.text.script.setup.width = width;
         self.text.script.setup.height = height;
@@ -362,7 +360,7 @@ impl Parser {
     {
         match self.part {
             Part::Start => {
-                self.text.script.setup.version = forms::first_line(words)?;
+                self.text.script.version = forms::first_line(words)?;
                 self.part = Part::Head;
                 Ok(())
             }

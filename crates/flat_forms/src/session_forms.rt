@@ -1,6 +1,7 @@
 ghost use Rattle.std.specs.Prelude.{◌≡◌, ◌∷◌, false, codes};
 ghost use Rattle.std.specs.Str.{bytes_eq};
-ghost use Rattle.flat_text.specs.Pieces.{is_space, pieces_left};
+ghost use Rattle.flat_text.specs.Pieces.{is_space};
+ghost use Rattle.flat_text.specs.Left.{pieces_left};
 ghost use Rattle.flat_places.specs.Forms.{whole, give};
 ghost use Rattle.flat_places.specs.Index.{IsIndexed};
 ghost use Rattle.flat_forms.specs.Body.{session_line, other_line, child_asked, present};
@@ -33,7 +34,7 @@ pub fn session_line(
         return Err(LineError::Kind(FaultKind::UnknownCall));
     };
     let (word, rest) = next_piece(words, b' ');
-    match call_named(script.script.setup.version, word) {
+    match call_named(script.script.version, word) {
         Some(name) => match call(alloc, script, session, name, rest) {
             Ok(found) => Ok(Line::Call(found)),
             Err(e) => Err(e),
@@ -122,7 +123,7 @@ fn present(
 {
     let mut places = Places::new(words);
     let time = places.time();
-    let unsquashable = places.unsquashable(script.script.setup.version);
+    let unsquashable = places.unsquashable(script.script.version);
     let (acquire, release) = fence_lists(&mut places, alloc, script, session)?;
     match places.finish(PresentArgs {
         time,

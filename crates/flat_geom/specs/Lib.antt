@@ -1,2 +1,3 @@
+pub mod Identity
 pub mod Matrices
 pub mod Rectangles

@@ -14,10 +14,6 @@ unit = pos ONE
 abbrev pub scaling_matrix : ℕ → Matrix
 scaling_matrix ratio = record { swap = false; a = pos ratio; b = pos ratio; x = pos 0; y = pos 0 }
 
--- the matrix that takes each place to itself
-abbrev pub identity_matrix : Matrix
-identity_matrix = scaling_matrix ONE
-
 -- along one axis: the number, scaled and moved
 abbrev pub scaled_and_moved : ℤ → ℤ → ℤ → ℤ
 scaled_and_moved scale number offset = place_of (fixed_product scale number +ℤ offset)

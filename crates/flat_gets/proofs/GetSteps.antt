@@ -25,7 +25,8 @@ use Rattle.flat_scene.specs.History.{◌▹◌, is_closed, is_finish, is_begin, 
 use Rattle.flat_watch.specs.Told.{Watching, answer, settled}
 use Rattle.flat_rules.specs.Ends.{is_done, to_begin, uses_view, uses_viewport, view_uses, viewports_of}
 use Rattle.flat_gets.specs.Gets.{HeldGet, held_of, helds_of, hears, watchers_of, news_of, answers_to}
-use Rattle.flat_rules.specs.Legal.{Legal, answers, asked_of, has_token, is_now, is_told, number_if, refused_token, reply_to, reply_to_present, value_of, is_get}
+use Rattle.flat_rules.specs.Legal.{Legal, answers, asked_of, has_token, is_now, is_told, number_if, refused_token, reply_to, reply_to_present, value_of}
+use Rattle.flat_rules.specs.Kinds.{is_get}
 use Rattle.flat_rules.specs.Local.{pair_watched}
 use Rattle.flat_rules.specs.Posts.{releases_seen, event_of, events_to, at_finish, at_begin, frame_took, tokens_back}
 use Rattle.flat_rules.specs.Watch.{Watcher, layout_of, status_of, child_of, watching, told, asked, asked_in, is_open, listener, same_watcher}

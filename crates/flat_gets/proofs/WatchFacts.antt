@@ -18,7 +18,8 @@ use Rattle.flat_base.proofs.lemmas.Tests.{and-right}
 use Rattle.flat_watch.specs.Told.{Watching, settled}
 use Rattle.flat_rules.specs.Ends.{is_done, uses_viewport, viewport_owner, viewport_uses}
 use Rattle.flat_gets.specs.Gets.{hears}
-use Rattle.flat_rules.specs.Legal.{Legal, may_act, session_may, is_get}
+use Rattle.flat_rules.specs.Legal.{Legal, may_act, session_may}
+use Rattle.flat_rules.specs.Kinds.{is_get}
 use Rattle.flat_rules.specs.Local.{pair_watched}
 use Rattle.flat_rules.specs.Watch.{Watcher, layout_of, status_of, child_of, watching, told, asked, is_open, listener, same_watcher, watcher_of, is_watcher}
 use Rattle.flat_rules.proofs.lemmas.SameWatchers.{nothing-settled}

@@ -17,7 +17,8 @@ use Rattle.flat_scene.specs.declared.journal.Reply.TheVariants.{Now}
 use Rattle.flat_scene.specs.declared.journal.Told.{Told}
 use Rattle.flat_scene.specs.declared.setup.Setup.{Setup}
 use Rattle.flat_scene.specs.History.{◌▹◌, closes, is_closed, is_session}
-use Rattle.flat_rules.specs.Legal.{Legal, answers, is_get, is_now, is_told, number_if, owns_view, sent_to}
+use Rattle.flat_rules.specs.Legal.{Legal, answers, is_now, is_told, number_if, owns_view, sent_to}
+use Rattle.flat_rules.specs.Kinds.{is_get}
 use Rattle.flat_rules.specs.Posts.{event_of, events_to, news_for, told_event}
 use Rattle.flat_rules.specs.Watch.{Watcher, layout_of, status_of, asked, told, watching}
 use Rattle.flat_facts.proofs.lemmas.Between.{events-joined}

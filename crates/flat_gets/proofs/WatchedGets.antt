@@ -23,7 +23,8 @@ use Rattle.flat_facts.proofs.lemmas.Between.{is_viewport}
 use Rattle.flat_states.proofs.lemmas.Changes.{changed-one, not-session}
 use Rattle.flat_states.proofs.lemmas.Counts.{at-session, declared-some, same-number}
 use Rattle.flat_rules.specs.Ends.{viewport_uses, viewport_owner, view_owner, viewports_of, views_of}
-use Rattle.flat_rules.specs.Legal.{Legal, answers, is_get, is_now, number_if, owns_view, owns_viewport}
+use Rattle.flat_rules.specs.Legal.{Legal, answers, is_now, number_if, owns_view, owns_viewport}
+use Rattle.flat_rules.specs.Kinds.{is_get}
 use Rattle.flat_rules.specs.Local.{pair_watched}
 use Rattle.flat_rules.specs.Numbers.{number, AllNumbered}
 use Rattle.flat_rules.specs.Watch.{Watcher, layout_of, status_of, child_of, watching, told, asked, same_watcher, watcher_of}

@@ -26,9 +26,11 @@ use Rattle.flat_states.proofs.lemmas.Counts.{at-session, declared-some, same-num
 use Rattle.flat_rules.specs.Ends.{is_done, uses_viewport, view_owner, viewport_uses}
 use Rattle.std.proofs.lemmas.Bool.{and_right}
 use Rattle.flat_gets.proofs.lemmas.EndSteps.{number-declared}
-use Rattle.flat_rules.specs.Legal.{Legal, answers, is_get, number_if, owns_view}
+use Rattle.flat_rules.specs.Legal.{Legal, answers, number_if, owns_view}
+use Rattle.flat_rules.specs.Kinds.{is_get}
 use Rattle.flat_rules.specs.Numbers.{number, AllNumbered}
-use Rattle.flat_rules.specs.Posts.{event_of, posts, told_event}
+use Rattle.flat_rules.specs.Posts.{event_of, told_event}
+use Rattle.flat_rules.specs.AllPosts.{posts}
 use Rattle.flat_rules.specs.Watch.{Watcher, layout_of, status_of, child_of, is_open, told, watching}
 use Rattle.flat_rules.proofs.lemmas.Watchers.{settled-now, unheld-stays}
 use Rattle.flat_gets.specs.declared.pair.PairWatchers.{PairWatchers}

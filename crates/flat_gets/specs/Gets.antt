@@ -9,7 +9,8 @@ use Rattle.flat_scene.specs.declared.setup.Setup.{Setup}
 use Rattle.flat_scene.specs.History.{◌▹◌, is_session}
 use Rattle.flat_watch.specs.Told.{Watching, news}
 use Rattle.flat_rules.specs.Ends.{views_of, viewports_of, viewport_uses}
-use Rattle.flat_rules.specs.Legal.{is_get, number_if}
+use Rattle.flat_rules.specs.Legal.{number_if}
+use Rattle.flat_rules.specs.Kinds.{is_get}
 use Rattle.flat_rules.specs.Local.{pair_watched}
 use Rattle.flat_rules.specs.Posts.{event_of, up_to}
 use Rattle.flat_rules.specs.Watch.{Watcher, layout_of, status_of, child_of, watching, listener}

@@ -2,8 +2,8 @@
 use Rattle.std.proofs.Common.{◌≡◌, ℕ, ◌+◌, ◌-◌, ◌<◌, ◌≤◌, List, ◌++◌, Option, None, Some, length, take, drop, sym, ◌∙◌, ap, append_assoc}
 use Rattle.std.proofs.Math.Seq.{take-add, take-length}
 use Rattle.std.proofs.lemmas.List.{length-drop}
-use Rattle.flat_io.specs.Told.{WhereTold, Takes, Appends}
-use Rattle.flat_io.specs.Whole.{Given}
+use Rattle.flat_io.specs.Told.{WhereTold, Appends}
+use Rattle.flat_io.specs.Reads.{Takes, Given}
 
 -- a text is being read: the bytes so far are what was given, each by one read at most, of which none failed
 pub record Reading (left left' : Option (List ℕ)) (text : List ℕ) (limit failed failed' made made' buffer : ℕ) : Type 0 where

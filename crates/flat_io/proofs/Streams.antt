@@ -1,9 +1,9 @@
 -- what std says of a stream's bytes, where they are told at any time or never
 use Rattle.std.proofs.Common.{◌≡◌, ℕ, Bool, true, false, List, [], take, Option, None, Some, refl, sym, ap, ◌∙◌}
 use Rattle.std.specs.Prelude.{is_some}
-use Rattle.std.specs.Io.KnownBytes.{Keeps, Consumes, IsAtEnd}
-use Rattle.std.specs.Io.KnownBytes.{Appends as Grows}
-use Rattle.flat_io.specs.Told.{WhereTold, Takes, Appends}
+use Rattle.std.specs.Io.KnownBytes.{Keeps, Consumes, IsAtEnd, Appends as Grows}
+use Rattle.flat_io.specs.Told.{WhereTold, Appends}
+use Rattle.flat_io.specs.Reads.{Takes}
 
 no_both : {P : Type 0} (tells : Bool) → false ≡ tells → true ≡ tells → P
 no_both tells never always = absurd (let wrong : false ≡ true = never ∙ sym always in cc)

@@ -1,8 +1,11 @@
 -- what the sources and sinks over memory keep
-use Rattle.std.specs.Prelude.{ℕ, Bool, true, false, ◌-◌, ◌==◌, ◌&&◌, List, ◌++◌, Option, None, Some, cond, length}
-use Rattle.std.specs.Prelude.{nat_le}
+use Rattle.std.specs.Prelude.{ℕ, Bool, true, false, ◌-◌, ◌==◌, ◌&&◌, List, ◌++◌, Option, None, Some, cond, length, nat_le, ◌+◌, nat_lt}
 use Rattle.std.specs.List.{list_any}
-use Rattle.flat_io.specs.Counts.{counted}
+use Rattle.flat_io.specs.Counts.{count_end}
+
+-- one more, but for a count at its end
+abbrev pub counted : ℕ → ℕ
+counted n = cond (nat_lt n count_end) (n + 1) n
 
 -- the bytes that a sink took, the room that is left, and whether it tells them still
 pub record KeptBytes : Type 0 where

@@ -1,4 +1,5 @@
 pub mod Counts
-pub mod Told
 pub mod Kept
+pub mod Reads
+pub mod Told
 pub mod Whole

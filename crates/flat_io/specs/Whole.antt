@@ -1,18 +1,6 @@
 -- what is said of a whole text that is read or written
-use Rattle.std.specs.Prelude.{◌≡◌, ℕ, ◌<◌, ◌≤◌, List, ◌++◌, Option, take}
-use Rattle.flat_io.specs.declared.whole.ReadAll.{ReadAll}
-use Rattle.flat_io.specs.declared.whole.ReadAll.TheVariants.{Fault, TooLong, Memory}
+use Rattle.std.specs.Prelude.{◌≡◌, ℕ, List, ◌++◌, Option, take}
 use Rattle.flat_io.specs.Told.{WhereTold}
-
--- Of so many bytes given: too long is more than the limit, and nothing else is.
-abbrev pub IsTooLong : ℕ → ℕ → ReadAll → Type 0
-IsTooLong limit given TooLong = limit < given
-IsTooLong limit given Fault = given ≤ limit
-IsTooLong limit given Memory = given ≤ limit
-
--- Some bytes were given from the front of what was left, and they have this property.
-abbrev pub Given : Option (List ℕ) → Option (List ℕ) → (List ℕ → List ℕ → Type 0) → Type 0
-Given left left' P = WhereTold left left' (λ before after. (given : List ℕ) × (before ≡ given ++ after) × P given after)
 
 -- A sink holds what it held before, and then the first bytes of a text.
 abbrev pub AppendsPrefix : List ℕ → Option (List ℕ) → Option (List ℕ) → Type 0

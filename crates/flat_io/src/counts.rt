@@ -1,6 +1,5 @@
 ghost use Rattle.std.specs.Prelude.{◌≡◌};
-ghost use Rattle.flat_io.specs.Counts.{counted};
-ghost use Rattle.flat_io.specs.Kept.{is_next_among};
+ghost use Rattle.flat_io.specs.Kept.{counted, is_next_among};
 
 /// One more, but for a count that stands at the end of its type.
 pub fn counted(count: u64) -> u64

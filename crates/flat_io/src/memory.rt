@@ -1,9 +1,5 @@
-ghost use Rattle.std.specs.Prelude.{◌≡◌, ◌+◌, ◌<◌, ◌≤◌, ◌++◌, ◌==◌, ◌||◌, [], length, take, drop};
-ghost use Rattle.std.specs.Prelude.{min, cond, true, nat_lt, Some, Ok, Err, IfOk, IfErr, IsTrue};
-ghost use Rattle.std.specs.Prelude.{is_err};
-ghost use Rattle.flat_io.specs.Counts.{counted};
-ghost use Rattle.flat_io.specs.Kept.{FailingSource, FailingSink, told_bytes, is_next_among};
-ghost use Rattle.flat_io.specs.Kept.{stalls_after, after_write};
+ghost use Rattle.std.specs.Prelude.{◌≡◌, ◌+◌, ◌<◌, ◌≤◌, ◌++◌, ◌==◌, ◌||◌, [], length, take, drop, min, cond, true, nat_lt, Some, Ok, Err, IfOk, IfErr, IsTrue, is_err};
+ghost use Rattle.flat_io.specs.Kept.{counted, FailingSource, FailingSink, told_bytes, is_next_among, stalls_after, after_write};
 
 use crate::counts::{counted, is_next_among};
 use crate::sink::Sink;
@@ -24,7 +20,7 @@ pub struct MemSource {
 }
 
 impl Model for MemSource {
-    ghost use Rattle.flat_io.specs.Kept.{FailingSource};
+    ghost use Rattle.flat_io.specs.Kept.{FailingSource, FailingSink};
 
     ghost Value = { FailingSource };
 
@@ -96,8 +92,6 @@ pub struct MemSink {
 }
 
 impl Model for MemSink {
-    ghost use Rattle.flat_io.specs.Kept.{FailingSink};
-
     ghost Value = { FailingSink };
 
     ghost view = { λ s. record {

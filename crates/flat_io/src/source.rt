@@ -1,7 +1,7 @@
-ghost use Rattle.std.specs.Prelude.{◌≡◌, ℕ, ◌+◌, ◌<◌, ◌≤◌, [], length, List, Option, None, IsTrue};
-ghost use Rattle.std.specs.Prelude.{IfOk, OnOk, OnErr};
+ghost use Rattle.std.specs.Prelude.{◌≡◌, ℕ, ◌+◌, ◌<◌, ◌≤◌, [], length, List, Option, None, IsTrue, IfOk, OnOk, OnErr};
 ghost use Rattle.flat_io.specs.Counts.{has_risen};
-ghost use Rattle.flat_io.specs.Told.{WhereTold, Takes};
+ghost use Rattle.flat_io.specs.Told.{WhereTold};
+ghost use Rattle.flat_io.specs.Reads.{Takes};
 
 /// A read or a write failed. The count of faults of the source or the sink rose.
 #[derive(Clone, Copy, Debug, PartialEq, Eq)]

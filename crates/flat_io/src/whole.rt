@@ -1,8 +1,8 @@
-ghost use Rattle.std.specs.Prelude.{◌≡◌, ◌≢◌, ◌+◌, ◌≤◌, [], length, IfOk, IfErr, OnOk, OnErr};
-ghost use Rattle.std.specs.Prelude.{IsTrue, MatchResult, ◌||◌};
+ghost use Rattle.std.specs.Prelude.{◌≡◌, ◌≢◌, ◌+◌, ◌≤◌, [], length, IfOk, IfErr, OnOk, OnErr, IsTrue, MatchResult, ◌||◌};
 ghost use Rattle.flat_io.specs.Counts.{has_risen};
 ghost use Rattle.flat_io.specs.Told.{Appends};
-ghost use Rattle.flat_io.specs.Whole.{Given, AppendsPrefix, IsTooLong};
+ghost use Rattle.flat_io.specs.Whole.{AppendsPrefix};
+ghost use Rattle.flat_io.specs.Reads.{Given, IsTooLong};
 
 use crate::sink::Sink;
 use crate::source::Source;

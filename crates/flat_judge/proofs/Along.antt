@@ -67,7 +67,7 @@ history-agrees script lost lost' (before ▹ entry) agree = by (is_finish entry.
         λ i. earlier i ++ (own ∷ here i ++ events)
 
 pub told-agrees : (script : Script) (lost lost' : List Lost) (history : List Entry) → AgreeTo 0 (frames history) lost lost' → told script lost history ≡ told script lost' history
-told-agrees script lost lost' history agree = ap (λ (ls : List (List Word)). text_of (title_line script.setup.version ∷ ls)) (history-agrees script lost lost' history agree)
+told-agrees script lost lost' history agree = ap (λ (ls : List (List Word)). text_of (title_line script.version ∷ ls)) (history-agrees script lost lost' history agree)
 
 pub lost-append : (n : ℕ) (xs ys : List Lost) → lost_at n (xs ++ ys) ≡ lost_at n xs ++ lost_at n ys
 lost-append n [] ys = refl
@@ -113,7 +113,7 @@ module _ {script : Script} (run : Run script) where
 
   pub run-text : (before later : List Entry) → run.history ≡ and_then before later → report_of script run ≡ told script run.lost before ++ later_text before later
   run-text before later is =
-      let title = title_line script.setup.version in
+      let title = title_line script.version in
       let first = history_lines script run.lost before in
       let next = tail (entry_lines script run.lost) before later in
       let all : history_lines script run.lost run.history ≡ first ++ next =
@@ -139,7 +139,7 @@ module _ (script : Script) (lost : List Lost) (before : List Entry) (entry : Ent
 
   pub told-more : told script lost (before ▹ entry) ≡ told script lost before ++ (text_of (own_line ∷ []) ++ (text_of shown_here ++ text_of events_here))
   told-more =
-      text-append (title_line script.setup.version ∷ history_lines script lost before) (entry_lines script lost before entry)
+      text-append (title_line script.version ∷ history_lines script lost before) (entry_lines script lost before entry)
       ∙ ap (λ (t : List ℕ). told script lost before ++ t) entry-parts
 
   pub tail-parts : (later : List Entry) (rest : List ℕ)

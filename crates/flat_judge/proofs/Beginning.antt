@@ -36,7 +36,7 @@ module _ (script : Script) (text : List ℕ) (along : Along) (lost : along.lost 
   first-led read run report = record { later = reverse run.history; entries = from-oldest run.history; more = run.lost; losses = refl; behind = all-behind run.history run.lost run.is.loss }
 
   -- the text has the first line
-  pub first-along : (at : ℕ) → along.posted ≡ 0 → Passes text 0 (text_of (title_line script.setup.version ∷ [])) (Some at) → IsAlong script text [] (record along { at = at })
+  pub first-along : (at : ℕ) → along.posted ≡ 0 → Passes text 0 (text_of (title_line script.version ∷ [])) (Some at) → IsAlong script text [] (record along { at = at })
   first-along at posted passes =
       let start : Begins text [] 0 = record { long = refl; is = refl } in
       let B : List Lost → Type 0 = λ ls. Begins text (told script ls []) at in
@@ -51,7 +51,7 @@ module _ (script : Script) (text : List ℕ) (along : Along) (lost : along.lost 
       }
 
   -- it has another one
-  pub first-parts : Passes text 0 (text_of (title_line script.setup.version ∷ [])) None → HasStopped script text [] along
+  pub first-parts : Passes text 0 (text_of (title_line script.version ∷ [])) None → HasStopped script text [] along
   first-parts parts =
       let start : Begins text [] 0 = record { long = refl; is = refl } in
       let A : List Lost → Type 0 = λ ls. AreLosses 0 ls in

@@ -12,7 +12,8 @@ use Rattle.flat_scene.specs.declared.script.DisplayLine.{DisplayLine}
 use Rattle.flat_scene.specs.declared.script.DisplayLine.TheVariants as display
 use Rattle.flat_scene.specs.declared.script.ScriptLine.{ScriptLine}
 use Rattle.flat_scene.specs.declared.setup.Setup.{Setup}
-use Rattle.flat_scene.specs.History.{◌▹◌, seat_number}
+use Rattle.flat_scene.specs.History.{◌▹◌}
+use Rattle.flat_scene.specs.Journals.{seat_number}
 use Rattle.flat_scene.specs.Interleave.{entry_of_display}
 use Rattle.flat_core.specs.Machines.{Machine, HasShare, MayCall, entered, entry_of, made}
 use Rattle.flat_rules.specs.Legal.{Legal, frames, reply_to}

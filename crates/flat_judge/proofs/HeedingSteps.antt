@@ -1,6 +1,6 @@
 -- A run that heeds what a text says of its probes, after a step more.
 use Rattle.std.proofs.Common.{◌≡◌, ◌≢◌, ◌⊎◌, inl, inr, ℕ, zero, suc, ◌+◌, ◌<◌, ◌≤◌, ◌^◌, ◌||◌, ◌==◌, nat_le, nat_lt, Bool, true, false, cond, List, [], ◌∷◌, ◌++◌, length, map, filter, take, drop, replicate, append_assoc, append-nil, length-append, refl, sym, ap, ◌∙◌, subst, arith, Option, Some, None, Result, Ok, Err, slice_get, slice_index_or, slice_set, true≢false}
-use Rattle.std.specs.List.{flat_map, list_all, zip}
+use Rattle.std.specs.List.{flat_map, list_all, zip, range_with_len}
 use Rattle.std.proofs.lemmas.Bool.{and_parts, eq-eqb, eqb-true}
 use Rattle.std.proofs.lemmas.Bool.Decides.{nat_tests}
 use Rattle.std.proofs.lemmas.List.{length-map, map-append, take-append-drop}
@@ -17,7 +17,7 @@ use Rattle.flat_places.specs.declared.script.Script.{Script}
 use Rattle.flat_playable.specs.Playable.{is_playable}
 use Rattle.flat_report.specs.declared.probes.ProbeAnswer.{ProbeAnswer}
 use Rattle.flat_report.specs.Probes.{frame_seen, frames_seen}
-use Rattle.flat_report.specs.Report.{is_probe, numbers_from, probe_lines, probe_lines_of}
+use Rattle.flat_report.specs.Report.{is_probe, probe_lines, probe_lines_of}
 use Rattle.flat_report.proofs.lemmas.Reading.{Kept, read-kept}
 use Rattle.flat_report.proofs.lemmas.SeenTold.{probe-lines-are}
 use Rattle.flat_play.specs.Probing.{answer_of, with_answer}
@@ -265,7 +265,7 @@ module _ (script : Script) (text : List ℕ) (hints : List (List ℕ)) (last : �
 
 -- ---- a whole run
 
-agree : (f : ℕ → List ℕ) (k : ℕ) (answers : List (List ProbeAnswer)) → ((n : ℕ) (one : List ProbeAnswer) → slice_get answers n ≡ Some one → map frame_seen one ≡ f (k + n)) → frames_seen answers ≡ flat_map f (numbers_from k (length answers))
+agree : (f : ℕ → List ℕ) (k : ℕ) (answers : List (List ProbeAnswer)) → ((n : ℕ) (one : List ProbeAnswer) → slice_get answers n ≡ Some one → map frame_seen one ≡ f (k + n)) → frames_seen answers ≡ flat_map f (range_with_len k (length answers))
 agree f k [] each = refl
 agree f k (one ∷ answers) each =
     let here : map frame_seen one ≡ f k = each 0 one refl ∙ ap f (let same : k + 0 ≡ k = omega arith in same) in
@@ -305,4 +305,4 @@ saw-all script text hints answers are many read run is few heeds =
     let C : List ℕ → Type 0 = CouldSee script (frames run.history) n in
     let could = subst C (sym hint_is) (share-seen script kept.named run.history run.seen n seeing (omega (arith, below, many))) in
     sym (seen-end (frames run.history) hint.one (map frame_seen one) could.within (heeds n hint.one one hint.at could got)) ∙ hint_is ∙ ap (share script kept.named run.seen) (let same : n ≡ 0 + n = omega arith in same))) in
-    sym (shares-all script kept.named run.history run.seen seeing) ∙ ap (λ (k : ℕ). flat_map (share script kept.named run.seen) (numbers_from 0 k)) (sym many) ∙ sym (agree (share script kept.named run.seen) 0 answers each)
+    sym (shares-all script kept.named run.history run.seen seeing) ∙ ap (λ (k : ℕ). flat_map (share script kept.named run.seen) (range_with_len 0 k)) (sym many) ∙ sym (agree (share script kept.named run.seen) 0 answers each)

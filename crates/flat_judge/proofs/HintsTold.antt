@@ -2,7 +2,7 @@
 use Rattle.std.proofs.Common.{◌≡◌, ◌≢◌, ℕ, zero, suc, ◌+◌, ◌-◌, ◌<◌, ◌≤◌, ◌^◌, ◌||◌, ◌&&◌, ◌==◌, not, ℤ, pos, negsuc, nat_le, nat_lt, Bool, true, false, cond, List, [], ◌∷◌, ◌++◌, length, map, filter, drop, codes, unwrap_or, append_assoc, length-append, refl, sym, ap, ◌∙◌, subst, arith, Option, Some, None, slice_get}
 use Rattle.std.specs.Char.{is_ascii_digit}
 use Rattle.std.specs.Fmt.{signed_decimal}
-use Rattle.std.specs.List.{flat_map, list_all, zip}
+use Rattle.std.specs.List.{flat_map, list_all, zip, range_with_len}
 use Rattle.std.proofs.lemmas.Bool.{and_parts, and_from, eq-eqb, eqb-true}
 use Rattle.std.proofs.lemmas.Bool.Decides.{nat_tests}
 use Rattle.std.proofs.lemmas.List.{length-map, map-append}
@@ -29,7 +29,7 @@ use Rattle.flat_page.specs.Words.{Word, actor_name, line_of, name_at, number, te
 use Rattle.flat_lines.specs.Ends.{end_line, title_line}
 use Rattle.flat_lines.specs.EntryLines.{hit_words}
 use Rattle.flat_report.specs.Probes.{is_asking, never_fall_from}
-use Rattle.flat_report.specs.Report.{begin_of, history_lines, hits_at, is_probe, is_seeing, never_falls, numbers_from, probe_lines, probe_lines_of, report, same_probe, seen_line, seen_words}
+use Rattle.flat_report.specs.Report.{begin_of, history_lines, hits_at, is_probe, is_seeing, never_falls, probe_lines, probe_lines_of, report, same_probe, seen_line, seen_words}
 use Rattle.flat_report.proofs.lemmas.Named.{AreNames, IsNamed, name-word}
 use Rattle.flat_report.proofs.lemmas.SeenTold.{is_of_probe}
 use Rattle.flat_report.proofs.lemmas.Sheets.{is_digit, is_word, number-digits, number-word}
@@ -194,11 +194,11 @@ module _ (script : Script) (named : IsNamed script) where
   lines-are : (history : List Entry) (lost : List Lost) (seen : List ℕ) → length seen ≡ length (probe_lines script)
       → answer_lines script (report script history lost seen) ≡ map line_of (map (seen_line script history) (zip (probe_lines script) seen) ++ end_line (length history) (frames history) ∷ [])
   lines-are history lost seen many =
-      let front : List (List Word) = title_line script.setup.version ∷ history_lines script lost history in
+      let front : List (List Word) = title_line script.version ∷ history_lines script lost history in
       let back : List (List Word) = map (seen_line script history) (zip (probe_lines script) seen) ++ end_line (length history) (frames history) ∷ [] in
       let said : List (List Word) = map (seen_line script history) (zip (probe_lines script) seen) in
       let split : report script history lost seen ≡ text_of front ++ text_of back =
-      ap (λ (ls : List (List Word)). text_of (title_line script.setup.version ∷ ls)) (append_assoc (history_lines script lost history) said (end_line (length history) (frames history) ∷ [])) ∙ text-append front back in
+      ap (λ (ls : List (List Word)). text_of (title_line script.version ∷ ls)) (append_assoc (history_lines script lost history) said (end_line (length history) (frames history) ∷ [])) ∙ text-append front back in
       let lines : lines_of (report script history lost seen) ≡ lines_of (text_of front) ++ map line_of back =
       ap lines_of split ∙ text-ends front (text_of back) ∙ ap (λ (ls : List (List ℕ)). lines_of (text_of front) ++ ls) (lines-back back (all-fine history (length history) (frames history) (probe_lines script) seen)) in
       let pairs = zip (probe_lines script) seen in
@@ -307,5 +307,5 @@ module _ (script : Script) (named : IsNamed script) where
       }
 
   -- and all probes together saw what was seen
-  pub shares-all : (history : List Entry) (seen : List ℕ) → is_seeing script history seen ≡ true → flat_map (share seen) (numbers_from 0 script.setup.probes) ≡ seen
+  pub shares-all : (history : List Entry) (seen : List ℕ) → is_seeing script history seen ≡ true → flat_map (share seen) (range_with_len 0 script.setup.probes) ≡ seen
   shares-all history seen seeing = selected of_probe one-probe 0 script.setup.probes script.lines seen (sees history seen seeing).many

@@ -8,15 +8,18 @@ use Rattle.flat_scene.specs.declared.journal.Kind.TheVariants as kind
 use Rattle.flat_scene.specs.declared.journal.Post.{Post}
 use Rattle.flat_scene.specs.declared.journal.Reply.{Reply}
 use Rattle.flat_scene.specs.declared.setup.Setup.{Setup}
-use Rattle.flat_scene.specs.History.{◌▹◌, history_of, is_finish}
+use Rattle.flat_scene.specs.History.{◌▹◌, is_finish}
+use Rattle.flat_scene.specs.Journals.{history_of}
 use Rattle.std.proofs.lemmas.List.{map-append, reverse-append, reverse-reverse}
 use Rattle.flat_base.specs.Last.{last_item}
 use Rattle.flat_rules.specs.Ends.{to_begin, to_finished}
 use Rattle.flat_rules.specs.Legal.{frames}
-use Rattle.flat_rules.specs.Posts.{Sent, posted, posts}
+use Rattle.flat_rules.specs.Posts.{Sent, posted}
+use Rattle.flat_rules.specs.AllPosts.{posts}
 use Rattle.flat_places.specs.declared.script.Script.{Script}
 use Rattle.flat_page.specs.Words.{Word, number, text_of, actor_name}
-use Rattle.flat_lines.specs.EntryLines.{entry_line, event_line, point_words, post_line, said_words}
+use Rattle.flat_lines.specs.EntryLines.{entry_line, event_line, point_words, said_words}
+use Rattle.flat_lines.specs.PostLines.{post_line}
 use Rattle.flat_report.specs.FrameTexts.{frame_text}
 use Rattle.flat_report.specs.Report.{finished, frame_at, hits_at}
 use Rattle.std.proofs.Math.Seq.{drop-append_seam}

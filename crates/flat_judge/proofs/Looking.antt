@@ -1,14 +1,14 @@
 -- Looking through the lines that may answer probes.
 use Rattle.std.proofs.Common.{◌≡◌, ℕ, zero, suc, ◌+◌, ◌-◌, ◌<◌, ◌≤◌, ◌==◌, Bool, true, false, cond, List, [], ◌∷◌, ◌++◌, length, drop, replicate, append_assoc, append-nil, length-append, refl, sym, ap, ◌∙◌, subst, arith, Option, Some, None, Result, Ok, Err, slice_get, slice_index_or, slice_set}
 use Rattle.std.specs.Prelude.{IfOk, OnOk}
-use Rattle.std.specs.List.{flat_map}
+use Rattle.std.specs.List.{flat_map, range_with_len}
 use Rattle.std.proofs.lemmas.Bool.{eq-eqb, eqb-true}
 use Rattle.std.proofs.lemmas.Bool.Decides.{nat_tests}
 use Rattle.std.proofs.lemmas.Option.{slice_get-get_or}
 use Rattle.flat_scene.specs.declared.script.ScriptLine.{ScriptLine}
 use Rattle.flat_places.specs.declared.script.Script.{Script}
 use Rattle.flat_text.specs.Pieces.{lines_of, words_of}
-use Rattle.flat_report.specs.Report.{numbers_from, probe_lines, probe_lines_of}
+use Rattle.flat_report.specs.Report.{probe_lines, probe_lines_of}
 use Rattle.flat_judge.specs.Hints.{AreHints, AreNamed, NotesLine, answer_lines, frame_told, hint_in, hints_of, is_this, probe_answered}
 
 -- ---- lines that are passed
@@ -31,15 +31,15 @@ drop-more (suc n) (y ∷ xs) x later is = ap (λ (k : ℕ). drop k (y ∷ xs)) (
 
 -- ---- lines that are counted
 
-numbers-more : {A : Type 0} (f : ℕ → List A) (n count : ℕ) → flat_map f (numbers_from n (suc count)) ≡ flat_map f (numbers_from n count) ++ f (n + count)
+numbers-more : {A : Type 0} (f : ℕ → List A) (n count : ℕ) → flat_map f (range_with_len n (suc count)) ≡ flat_map f (range_with_len n count) ++ f (n + count)
 numbers-more f n zero = append-nil (f n) ∙ ap f (let same : n ≡ n + 0 = omega arith in same)
 numbers-more f n (suc count) =
-    ap (λ xs. f n ++ xs) (numbers-more f (n + 1) count ∙ ap (λ (k : ℕ). flat_map f (numbers_from (n + 1) count) ++ f k) (let same : n + 1 + count ≡ n + suc count = omega arith in same))
-    ∙ sym (append_assoc (f n) (flat_map f (numbers_from (n + 1) count)) (f (n + suc count)))
+    ap (λ xs. f n ++ xs) (numbers-more f (n + 1) count ∙ ap (λ (k : ℕ). flat_map f (range_with_len (n + 1) count) ++ f k) (let same : n + 1 + count ≡ n + suc count = omega arith in same))
+    ∙ sym (append_assoc (f n) (flat_map f (range_with_len (n + 1) count)) (f (n + suc count)))
 
 -- the lines of the first probes
 abbrev pub lines_to : ℕ → List ScriptLine → List ScriptLine
-lines_to probes lines = flat_map (λ n. probe_lines_of n lines) (numbers_from 0 probes)
+lines_to probes lines = flat_map (λ n. probe_lines_of n lines) (range_with_len 0 probes)
 
 pub lines-more : (probe : ℕ) (lines : List ScriptLine) → length (lines_to (probe + 1) lines) ≡ length (lines_to probe lines) + length (probe_lines_of probe lines)
 lines-more probe lines =

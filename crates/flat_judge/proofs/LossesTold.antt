@@ -15,6 +15,7 @@ use Rattle.flat_report.specs.Report.{is_loss, is_lost_before}
 use Rattle.flat_report.proofs.lemmas.Losses.{is_at, is_small}
 use Rattle.flat_report.proofs.lemmas.Openings.{NoLoss, lost_words}
 use Rattle.flat_report.proofs.lemmas.Sheets.{laid, laid-same, line_on, number-word, sheet, text-sheet, told-next}
+use Rattle.flat_report.specs.Runs.{is_display_number}
 use Rattle.std.proofs.lemmas.Fmt.{decimal_injective}
 use Rattle.std.proofs.lemmas.List.{append_cancel_left}
 use Rattle.flat_page.specs.Words.{Word, number, text_of}
@@ -101,15 +102,24 @@ fits-there history (a ∷ before) x after loss =
 
 -- ---- what was read is what a run's report tells
 
+-- what a display's number says
+pub above-none : (n : ℕ) → is_display_number n ≡ true → 0 < n
+above-none n is = let some : nat_lt 0 n ≡ true = and-left (nat_lt 0 n) (nat_lt n (2 ^ 32)) is in grind (arith, nat_tests)
+
+pub of-32-bits : (n : ℕ) → is_display_number n ≡ true → n < 2 ^ 32
+of-32-bits n is =
+    let few : nat_lt n (2 ^ 32) ≡ true = and-right (nat_lt 0 n) (nat_lt n (2 ^ 32)) is in
+    let less : n < 4294967296 = grind (arith, nat_tests) in omega (arith, less)
+
+small : (one : Lost) → is_small one ≡ true → one.display < 2 ^ 64
+small one fits = let few = of-32-bits one.display fits in omega (arith, few)
+
 -- the line of a display that was lost tells which
-pub next-is : (one : Lost) (text rest : List ℕ) → one.display < 2 ^ 32 → text ≡ text_of (lost_line one ∷ []) ++ rest → next_display text ≡ Some one.display
-next-is one text rest low is = ap next_display (is ∙ text-sheet (lost_line one ∷ []) rest) ∙ loss-next one rest (natural-decimal one.display (omega (arith, low)))
+pub next-is : (one : Lost) (text rest : List ℕ) → is_display_number one.display ≡ true → text ≡ text_of (lost_line one ∷ []) ++ rest → next_display text ≡ Some one.display
+next-is one text rest low is = ap next_display (is ∙ text-sheet (lost_line one ∷ []) rest) ∙ loss-next one rest (natural-decimal one.display (let less = small one low in omega (arith, less)))
 
 same-loss : (x y : Lost) → x.display ≡ y.display → x.frame.0 ≡ y.frame.0 → x ≡ y
 same-loss x y display frame = λ i. record { display = display i; frame = record { 0 = frame i } }
-
-small : (one : Lost) → is_small one ≡ true → one.display < 2 ^ 64
-small one fits = let less : one.display < 4294967296 = grind (arith, nat_tests) in omega (arith, less)
 
 first-loss : (n : ℕ) (x y : Lost) (a b : List ℕ) → is_at n x ≡ true → is_at n y ≡ true → line_on (lost_line x) a ≡ line_on (lost_line y) b → (x ≡ y) × (a ≡ b)
 first-loss n x y a b at_x at_y is =
@@ -130,9 +140,8 @@ same-losses frame history before [] (y ∷ here) later x a of_new of_here loss s
     let of_y : is_at frame y ≡ true = and-left (is_at frame y) (list_all (is_at frame) here) of_here in
     let small : is_small y ≡ true = and-right (y.frame.0 == frame) (is_small y) of_y in
     let at : y.frame.0 ≡ frame = eqb-true y.frame.0 frame (and-left (y.frame.0 == frame) (is_small y) of_y) in
-    let low : y.display < 2 ^ 32 = (let less : y.display < 4294967296 = grind (arith, nat_tests) in omega (arith, less)) in
     let fits : fits_behind (before ++ []) y ≡ true = ap (λ (ls : List Lost). fits_behind ls y) (append-nil before) ∙ fits-there history before y (here ++ later) loss in
-    absurd (stops y (sheet (map lost_line here) a) at low fits (is ∙ sym (text-sheet (lost_line y ∷ []) (sheet (map lost_line here) a))))
+    absurd (stops y (sheet (map lost_line here) a) at small fits (is ∙ sym (text-sheet (lost_line y ∷ []) (sheet (map lost_line here) a))))
 same-losses frame history before (n ∷ new) [] later x a of_new of_here loss stops none is = absurd (none n (sheet (map lost_line new) x) (sym is))
 same-losses frame history before (n ∷ new) (y ∷ here) later x a of_new of_here loss stops none is =
     let of_n : is_at frame n ≡ true = and-left (is_at frame n) (list_all (is_at frame) new) of_new in
@@ -180,17 +189,17 @@ pub stops-at-end : (frame : ℕ) (lost : List Lost) (text : List ℕ) → text �
 stops-at-end frame lost text end one rest at low fits is = let wrong : text_of (lost_line one ∷ []) ++ rest ≡ [] = sym is ∙ end in let long : length (text_of (lost_line one ∷ []) ++ rest) ≡ 0 = ap length wrong in absurd (omega (arith, long))
 
 -- one more may be lost
-losses-more : (frame : ℕ) (lost : List Lost) (one : Lost) → 0 < frame → one.frame.0 ≡ frame → nat_lt one.display (2 ^ 32) ≡ true → fits_behind lost one ≡ true → AreLosses frame lost → AreLosses frame (lost ++ one ∷ [])
+losses-more : (frame : ℕ) (lost : List Lost) (one : Lost) → 0 < frame → one.frame.0 ≡ frame → is_display_number one.display ≡ true → fits_behind lost one ≡ true → AreLosses frame lost → AreLosses frame (lost ++ one ∷ [])
 losses-more frame lost one some at small fits losses = (
   (λ history many. loss-more history lost one (let above : nat_lt 0 one.frame.0 ≡ true = grind (arith, nat_tests) in above) (let low : nat_le one.frame.0 (frames history) ≡ true = grind (arith, nat_tests) in low) fits (losses.0 history many)),
-  all-more (λ (l : Lost). nat_lt l.display (2 ^ 32)) lost one losses.1 small,
+  all-more (λ (l : Lost). is_display_number l.display) lost one losses.1 small,
 )
 
 -- some displays that were read, and one more
 pub record Reading (frame : ℕ) (old new : List Lost) (text : List ℕ) (at next : ℕ) : Type 0 where
   pub more : List Lost
   pub is : new ≡ old ++ more
-  pub are_at : list_all (λ one. (one.frame.0 == frame) && nat_lt one.display (2 ^ 32)) more ≡ true
+  pub are_at : list_all (λ one. (one.frame.0 == frame) && is_display_number one.display) more ≡ true
   pub passes : Passes text at (text_of (map lost_line more)) (Some next)
   pub losses : 0 < frame → AreLosses frame old → AreLosses frame new
 
@@ -207,7 +216,7 @@ pub reading-more : (frame : ℕ) (old lost new : List Lost) (text : List ℕ) (a
 reading-more frame old lost new text at place next so one = record {
   more = so.more ++ one.one ∷ [];
   is = one.is ∙ ap (λ (ls : List Lost). ls ++ one.one ∷ []) so.is ∙ append_assoc old so.more (one.one ∷ []);
-  are_at = all-more (λ (l : Lost). (l.frame.0 == frame) && nat_lt l.display (2 ^ 32)) so.more one.one so.are_at one.is_at;
+  are_at = all-more (λ (l : Lost). (l.frame.0 == frame) && is_display_number l.display) so.more one.one so.are_at one.is_at;
   passes = (
     one.passes.0,
     λ before begins.
@@ -218,7 +227,7 @@ reading-more frame old lost new text at place next so one = record {
   );
   losses = λ some losses.
       (let L : List Lost → Type 0 = AreLosses frame in
-      subst L (sym one.is) (losses-more frame lost one.one some (eqb-true one.one.frame.0 frame (and-left (one.one.frame.0 == frame) (nat_lt one.one.display (2 ^ 32)) one.is_at)) (and-right (one.one.frame.0 == frame) (nat_lt one.one.display (2 ^ 32)) one.is_at) one.fits (so.losses some losses)));
+      subst L (sym one.is) (losses-more frame lost one.one some (eqb-true one.one.frame.0 frame (and-left (one.one.frame.0 == frame) (is_display_number one.one.display) one.is_at)) (and-right (one.one.frame.0 == frame) (is_display_number one.one.display) one.is_at) one.fits (so.losses some losses)));
 }
 
 pub reading-ends : (frame : ℕ) (old new : List Lost) (text : List ℕ) (at next : ℕ) → Reading frame old new text at next → NoMoreLost frame new (drop next text) → ReadsLosses frame old new text at next

@@ -21,7 +21,8 @@ use Rattle.flat_forms.specs.Lines.{Sofar, words_read}
 use Rattle.flat_script.specs.declared.script.ScriptFault.{ScriptFault}
 use Rattle.flat_script.specs.Grammar.{line_read, lines_read}
 use Rattle.flat_text.specs.Pieces.{lines_of}
-use Rattle.flat_judge.specs.Cuts.{ScriptsHaveNoTitle, is_title}
+use Rattle.flat_judge.specs.Cuts.{is_title}
+use Rattle.flat_judge.specs.Titles.{ScriptsHaveNoTitle}
 
 -- the words of a line that begins a report, with its digit
 abbrev title : ℕ → List Word
@@ -29,7 +30,7 @@ title digit = codes "report" ∷ codes "flatland" ∷ (digit ∷ []) ∷ []
 
 -- nobody has a line that begins with `flatland`
 no_display : (s : Script) (digit : ℕ) → display_line s (codes "flatland" ∷ (digit ∷ []) ∷ []) ≡ Err UnknownCall
-no_display s digit = by (knows s.setup.version (codes "dpr"))
+no_display s digit = by (knows s.version (codes "dpr"))
   where
     by : (late : Bool) → at_word UnknownCall (cond late ((codes "dpr", whole ratio_line) ∷ []) []) (codes "flatland") ((digit ∷ []) ∷ []) ≡ Err UnknownCall
     by true = refl

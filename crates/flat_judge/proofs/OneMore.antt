@@ -9,7 +9,8 @@ use Rattle.flat_scene.specs.declared.journal.Entry.{Entry}
 use Rattle.flat_scene.specs.History.{◌▹◌, is_finish}
 use Rattle.flat_rules.specs.Ends.{to_begin, to_finished}
 use Rattle.flat_rules.specs.Legal.{frames}
-use Rattle.flat_rules.specs.Posts.{Sent, posted, posts}
+use Rattle.flat_rules.specs.Posts.{Sent, posted}
+use Rattle.flat_rules.specs.AllPosts.{posts}
 use Rattle.flat_places.specs.declared.script.Script.{Script}
 use Rattle.flat_page.specs.Words.{Word, line_of, number, text_of}
 use Rattle.flat_lines.specs.Ends.{end_line}
@@ -31,6 +32,7 @@ use Rattle.flat_judge.proofs.Along.{ending, events_here, frames-one, later_text,
 use Rattle.flat_judge.proofs.LossesTold.{Parted, are_at, at-here, loss-parts, part, same-losses}
 use Rattle.flat_judge.proofs.Fitting.{goes_before}
 use Rattle.flat_report.proofs.lemmas.Losses.{is_at, is_small}
+use Rattle.flat_report.specs.Runs.{is_display_number}
 
 -- ---- losses, and frames that pass
 
@@ -172,16 +174,16 @@ none-later history n (x ∷ lost) less loss =
     let other : (x.frame.0 == n) ≡ false = grind (arith, nat_tests) in
     rw other (none-later history n lost less (loss-parts history x lost loss).1)
 
-small-behind : (xs ys : List Lost) → list_all (λ (one : Lost). nat_lt one.display (2 ^ 32)) (xs ++ ys) ≡ true → list_all (λ (one : Lost). nat_lt one.display (2 ^ 32)) ys ≡ true
+small-behind : (xs ys : List Lost) → list_all (λ (one : Lost). is_display_number one.display) (xs ++ ys) ≡ true → list_all (λ (one : Lost). is_display_number one.display) ys ≡ true
 small-behind [] ys all = all
-small-behind (x ∷ xs) ys all = small-behind xs ys (and-right (nat_lt x.display (2 ^ 32)) (list_all (λ (one : Lost). nat_lt one.display (2 ^ 32)) (xs ++ ys)) all)
+small-behind (x ∷ xs) ys all = small-behind xs ys (and-right (is_display_number x.display) (list_all (λ (one : Lost). is_display_number one.display) (xs ++ ys)) all)
 
-at-small : (n : ℕ) (xs ys : List Lost) → are_at n xs ≡ true → list_all (λ (one : Lost). nat_lt one.display (2 ^ 32)) (xs ++ ys) ≡ true → list_all (is_at n) xs ≡ true
+at-small : (n : ℕ) (xs ys : List Lost) → are_at n xs ≡ true → list_all (λ (one : Lost). is_display_number one.display) (xs ++ ys) ≡ true → list_all (is_at n) xs ≡ true
 at-small n [] ys at all = refl
 at-small n (x ∷ xs) ys at all =
-    let rest = λ (zs : List Lost). list_all (λ (one : Lost). nat_lt one.display (2 ^ 32)) zs in
-    and-true (and-true (and-left (x.frame.0 == n) (are_at n xs) at) (and-left (nat_lt x.display (2 ^ 32)) (rest (xs ++ ys)) all))
-    (at-small n xs ys (and-right (x.frame.0 == n) (are_at n xs) at) (and-right (nat_lt x.display (2 ^ 32)) (rest (xs ++ ys)) all))
+    let rest = λ (zs : List Lost). list_all (λ (one : Lost). is_display_number one.display) zs in
+    and-true (and-true (and-left (x.frame.0 == n) (are_at n xs) at) (and-left (is_display_number x.display) (rest (xs ++ ys)) all))
+    (at-small n xs ys (and-right (x.frame.0 == n) (are_at n xs) at) (and-right (is_display_number x.display) (rest (xs ++ ys)) all))
 
 are-there : (n : ℕ) (xs : List Lost) → list_all (is_at n) xs ≡ true → are_at n xs ≡ true
 are-there n [] at = refl
@@ -262,10 +264,10 @@ module _ (script : Script) (text : List ℕ) (before : List Entry) (entry : Entr
         let goes = is.led read run report in
         let kept : Kept (2 ^ 32) script = read-kept read.0 script read.1 in
         let L : List Lost → Type 0 = λ ls. is_loss run.history ls ≡ true in
-        let N : List Lost → Type 0 = λ ls. list_all (λ (one : Lost). nat_lt one.display (2 ^ 32)) ls ≡ true in
+        let N : List Lost → Type 0 = λ ls. list_all (λ (one : Lost). is_display_number one.display) ls ≡ true in
         let M : List Lost → Type 0 = λ ls. NoMoreLost (suc (frames before)) ls (drop next text) in
         let loss : is_loss run.history (along.lost ++ goes.more) ≡ true = subst L goes.losses run.is.loss in
-        let numbered : list_all (λ (one : Lost). nat_lt one.display (2 ^ 32)) (along.lost ++ goes.more) ≡ true = subst N goes.losses run.is.numbered in
+        let numbered : list_all (λ (one : Lost). is_display_number one.display) (along.lost ++ goes.more) ≡ true = subst N goes.losses run.is.numbered in
         let two = part run.history (frames before) goes.more goes.behind (loss-behind run.history along.lost goes.more loss) in
         let here_at : lost_at (suc (frames before)) run.lost ≡ two.here =
         ap (lost_at (suc (frames before))) (goes.losses ∙ ap (λ (ls : List Lost). along.lost ++ ls) two.is) ∙ lost-append (suc (frames before)) along.lost (two.here ++ two.later)

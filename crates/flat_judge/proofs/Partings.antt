@@ -65,3 +65,10 @@ pub concat-next : (pieces : List (List ℕ)) (k : ℕ) (d : List ℕ) → k < le
 concat-next [] k d inside = absurd (omega (arith, inside))
 concat-next (p ∷ pieces) zero d inside = append-nil p
 concat-next (p ∷ pieces) (suc k) d inside = ap (λ (t : List ℕ). p ++ t) (concat-next pieces k d (omega (arith, inside))) ∙ sym (append_assoc p (concat (take k pieces)) (get_or pieces k d))
+
+-- the pieces before a place, the one at it, and those behind
+pub concat-split : (pieces : List (List ℕ)) (k : ℕ) (d : List ℕ) → k < length pieces → concat pieces ≡ concat (take k pieces) ++ (get_or pieces k d ++ concat (drop (suc k) pieces))
+concat-split [] k d inside = absurd (omega (arith, inside))
+concat-split (p ∷ pieces) zero d inside = refl
+concat-split (p ∷ pieces) (suc k) d inside =
+    ap (λ (t : List ℕ). p ++ t) (concat-split pieces k d (omega (arith, inside))) ∙ sym (append_assoc p (concat (take k pieces)) (get_or pieces k d ++ concat (drop (suc k) pieces)))

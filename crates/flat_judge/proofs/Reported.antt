@@ -2,7 +2,7 @@
 use Rattle.std.proofs.Common.{◌≡◌, ℕ, true, List, ◌∙◌}
 use Rattle.flat_scene.specs.declared.journal.Entry.{Entry}
 use Rattle.flat_places.specs.declared.script.Script.{Script}
-use Rattle.flat_report.specs.Laws.{IsRun}
+use Rattle.flat_report.specs.Runs.{IsRun}
 use Rattle.flat_report.specs.Report.{is_loss, report}
 use Rattle.flat_judge.specs.declared.following.Along.{Along}
 use Rattle.flat_judge.specs.Following.{StoppedBefore}

@@ -13,7 +13,8 @@ use Rattle.flat_scene.specs.declared.journal.Reply.{Reply}
 use Rattle.flat_scene.specs.declared.script.DisplayLine.{DisplayLine}
 use Rattle.flat_scene.specs.declared.script.ProbeLine.{ProbeLine}
 use Rattle.flat_scene.specs.declared.script.ScriptLine.{ScriptLine}
-use Rattle.flat_scene.specs.History.{◌▹◌, is_display, seat_number}
+use Rattle.flat_scene.specs.History.{◌▹◌, is_display}
+use Rattle.flat_scene.specs.Journals.{seat_number}
 use Rattle.flat_scene.specs.Interleave.{FollowsDisplay, by_display, display_line, display_lines, entry_of_display, unread_lines}
 use Rattle.flat_scene.specs.Setups.{at_ratio}
 use Rattle.flat_core.specs.Machines.{Machine, entered, entry_of, made}

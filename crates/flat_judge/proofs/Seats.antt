@@ -20,7 +20,8 @@ use Rattle.flat_scene.specs.declared.script.Body.TheVariants as body
 use Rattle.flat_scene.specs.declared.script.Line.{Line}
 use Rattle.flat_scene.specs.declared.script.ScriptLine.{ScriptLine}
 use Rattle.flat_scene.specs.declared.setup.Setup.{Setup}
-use Rattle.flat_scene.specs.History.{◌▹◌, own, is_session, seat_number}
+use Rattle.flat_scene.specs.History.{◌▹◌, own, is_session}
+use Rattle.flat_scene.specs.Journals.{seat_number}
 use Rattle.flat_scene.specs.Interleave.{IsReading, session_lines}
 use Rattle.flat_scene.specs.Setups.{is_declared}
 use Rattle.flat_core.specs.Machines.{Machine, HasShare, entered, entry_of, made}

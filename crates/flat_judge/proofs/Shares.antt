@@ -1,14 +1,13 @@
 -- What the lines of all probes saw, sorted by probe.
 use Rattle.std.proofs.Common.{◌≡◌, ◌≢◌, ℕ, zero, suc, ◌+◌, ◌-◌, ◌<◌, ◌≤◌, ◌||◌, ◌&&◌, ◌==◌, nat_le, Bool, true, false, cond, List, [], ◌∷◌, ◌++◌, length, map, filter, take, drop, append_assoc, append-nil, length-append, refl, sym, ap, ◌∙◌, subst, arith, Some, slice_get}
-use Rattle.std.specs.List.{flat_map, list_all, list_any, zip}
+use Rattle.std.specs.List.{flat_map, list_all, list_any, zip, range_with_len}
 use Rattle.std.proofs.lemmas.Bool.{and_parts, and_from, eq-eqb, eqb-true}
 use Rattle.std.proofs.lemmas.Bool.Decides.{nat_tests}
 use Rattle.std.proofs.lemmas.List.{take-append-drop}
 use Rattle.std.proofs.lemmas.List.Concat.{flat_map-append}
 use Rattle.std.proofs.lemmas.Grind.{common_steps}
-use Rattle.flat_report.specs.Report.{numbers_from}
 
-agree : (f g : ℕ → List ℕ) (k count : ℕ) → ((n : ℕ) → k ≤ n → f n ≡ g n) → flat_map f (numbers_from k count) ≡ flat_map g (numbers_from k count)
+agree : (f g : ℕ → List ℕ) (k count : ℕ) → ((n : ℕ) → k ≤ n → f n ≡ g n) → flat_map f (range_with_len k count) ≡ flat_map g (range_with_len k count)
 agree f g k zero same = refl
 agree f g k (suc count) same =
     let here = same k (omega arith) in
@@ -34,7 +33,7 @@ module _ {X : Type 0} (is : ℕ → X → Bool) where
   select n pairs = flat_map (λ pair. cond (is n pair.0) (pair.1 ∷ []) []) pairs
 
   abbrev pub all_of : ℕ → ℕ → List X → List X
-  all_of k count lines = flat_map (λ n. filter (is n) lines) (numbers_from k count)
+  all_of k count lines = flat_map (λ n. filter (is n) lines) (range_with_len k count)
 
   select-none : (n : ℕ) (lines : List X) (seen : List ℕ) → list_any (is n) lines ≡ false → select n (zip lines seen) ≡ []
   select-none n [] seen none = refl
@@ -114,7 +113,7 @@ module _ {X : Type 0} (is : ℕ → X → Bool) where
       select-many = ap length select-here ∙ first-many
 
     -- what all lines saw is what those of each saw, one after the other
-    pub selected : (k count : ℕ) (lines : List X) (seen : List ℕ) → length seen ≡ length (all_of k count lines) → flat_map (λ n. select n (zip (all_of k count lines) seen)) (numbers_from k count) ≡ seen
+    pub selected : (k count : ℕ) (lines : List X) (seen : List ℕ) → length seen ≡ length (all_of k count lines) → flat_map (λ n. select n (zip (all_of k count lines) seen)) (range_with_len k count) ≡ seen
     selected k zero lines [] many = refl
     selected k zero lines (f ∷ seen) many = absurd (omega (arith, many))
     selected k (suc count) lines seen many =

@@ -13,11 +13,12 @@ use Rattle.flat_scene.specs.declared.script.Body.{Body}
 use Rattle.flat_scene.specs.declared.script.Body.TheVariants as body
 use Rattle.flat_scene.specs.declared.script.ScriptLine.{ScriptLine}
 use Rattle.flat_scene.specs.declared.setup.Setup.{Setup}
-use Rattle.flat_scene.specs.History.{history_of, own}
+use Rattle.flat_scene.specs.History.{own}
+use Rattle.flat_scene.specs.Journals.{history_of}
 use Rattle.flat_scene.specs.Interleave.{Interleaves, IsReading, display_lines, session_lines}
 use Rattle.flat_core.specs.Machines.{Machine}
 use Rattle.flat_rules.specs.Legal.{Legal, frames}
-use Rattle.flat_rules.specs.Posts.{posts}
+use Rattle.flat_rules.specs.AllPosts.{posts}
 use Rattle.flat_places.specs.declared.script.Script.{Script}
 use Rattle.flat_playable.specs.Playable.{is_playable, is_played}
 use Rattle.flat_report.specs.declared.frame_texts.FrameTexts.{FrameTexts}
@@ -25,9 +26,11 @@ use Rattle.flat_report.specs.declared.probes.ProbeAnswer.{ProbeAnswer}
 use Rattle.flat_report.specs.declared.report.HitAnswer.{HitAnswer}
 use Rattle.flat_report.specs.FrameTexts.{AreTexts, frame_text}
 use Rattle.flat_report.specs.Handed.{answers_of, handed_report}
-use Rattle.flat_report.specs.Laws.{FramesAreSeen, HandedIsReport, IsRun}
+use Rattle.flat_report.specs.Laws.{FramesAreSeen, HandedIsReport}
+use Rattle.flat_report.specs.Runs.{IsRun}
 use Rattle.flat_report.specs.Probes.{ProbesAnswered, frames_seen, is_asking}
 use Rattle.flat_report.specs.Report.{finished, is_loss, report}
+use Rattle.flat_report.specs.Runs.{is_display_number}
 use Rattle.flat_play.specs.declared.kept.Kept.{Kept}
 use Rattle.flat_play.specs.declared.kept.Kept.TheVariants as kept
 use Rattle.flat_play.specs.Keeping.{Keeps}
@@ -98,7 +101,7 @@ module _ (script : Script) (playable : is_playable script ≡ true) (guided : Gu
       (λ n one got. let below = within guided.answers.items n one got in let a = probes.count in let b = probes.as_many in omega (arith, below, a, b))
 
   -- the run, with losses that fit it
-  abbrev pub run : FramesAreSeen → Legal guided.play.board.setup history → (lost : List Lost) → is_loss history lost ≡ true → list_all (λ (one : Lost). nat_lt one.display (2 ^ 32)) lost ≡ true → Run script
+  abbrev pub run : FramesAreSeen → Legal guided.play.board.setup history → (lost : List Lost) → is_loss history lost ≡ true → list_all (λ (one : Lost). is_display_number one.display) lost ≡ true → Run script
   run seen legal lost loss numbered = record {
     history = history;
     lost = lost;

@@ -22,11 +22,6 @@ pub record IsCut (text first rest : List ℕ) : Type 0 where
   pub none : list_any is_title (lines_of first) ≡ false
   pub titled : (rest ≡ []) ⊎ (is_title (before_first is_feed rest) ≡ true)
 
--- no line of a script begins a report: so each script with a report behind it is cut where the report begins
-abbrev pub ScriptsHaveNoTitle : Type 0
-ScriptsHaveNoTitle =
-    (bytes : List ℕ) (script : Script) → IsScript bytes script → list_any is_title (lines_of bytes) ≡ false
-
 -- What is said of a text that is cut so: its first part is a script, of which the rest is judged; or it has this fault.
 abbrev pub SaysSo : List ℕ → List ℕ → Judged → Type 0
 SaysSo first rest (Said verdict) = (script : Script) × IsScript first script × IsVerdict script rest verdict

@@ -1,6 +1,5 @@
 -- A run that follows a text: after each entry, the text so far is the run's own, and says whose entry is next.
-use Rattle.std.specs.Prelude.{◌≡◌, ℕ, ◌+◌, ◌<◌, ◌≤◌, ◌^◌, ◌&&◌, ◌==◌, not, Bool, true, false, List, [], ◌∷◌, ◌++◌}
-use Rattle.std.specs.Prelude.{length, drop, take_while, Option, Some, None, cond, map, nat_lt, codes, if◌then◌else◌}
+use Rattle.std.specs.Prelude.{◌≡◌, ℕ, ◌+◌, ◌<◌, ◌≤◌, ◌^◌, ◌&&◌, ◌==◌, not, Bool, true, false, List, [], ◌∷◌, ◌++◌, length, drop, take_while, Option, Some, None, cond, map, nat_lt, codes, if◌then◌else◌}
 use Rattle.std.specs.List.{list_all}
 use Rattle.std.specs.Str.{bytes_eq}
 use Rattle.flat_base.specs.declared.ids.Actor.{Actor}
@@ -10,7 +9,8 @@ use Rattle.flat_scene.specs.declared.journal.Entry.{Entry}
 use Rattle.flat_scene.specs.History.{◌▹◌, is_finish}
 use Rattle.flat_rules.specs.Legal.{frames}
 use Rattle.flat_rules.specs.Ends.{to_finished}
-use Rattle.flat_rules.specs.Posts.{posted, posts}
+use Rattle.flat_rules.specs.Posts.{posted}
+use Rattle.flat_rules.specs.AllPosts.{posts}
 use Rattle.flat_text.specs.Number.{natural}
 use Rattle.flat_places.specs.declared.script.Script.{Script}
 use Rattle.flat_places.specs.Names.{place_of}
@@ -19,6 +19,7 @@ use Rattle.flat_lines.specs.Ends.{title_line}
 use Rattle.flat_lines.specs.EntryLines.{entry_line, event_line}
 use Rattle.flat_lines.specs.FrameLines.{lost_line}
 use Rattle.flat_report.specs.Report.{history_lines, hits_at, is_loss, is_lost_before, shown_lines}
+use Rattle.flat_report.specs.Runs.{is_display_number}
 use Rattle.flat_judge.specs.declared.following.Along.{Along}
 use Rattle.flat_judge.specs.GuidedRuns.{Grown}
 use Rattle.flat_judge.specs.Verdicts.{IsRead, NoRun, Run, report_of}
@@ -27,7 +28,7 @@ use Rattle.flat_judge.specs.Verdicts.{IsRead, NoRun, Run, report_of}
 
 -- the first line of a report, and the lines of these entries
 abbrev pub told : Script → List Lost → List Entry → List ℕ
-told script lost history = text_of (title_line script.setup.version ∷ history_lines script lost history)
+told script lost history = text_of (title_line script.version ∷ history_lines script lost history)
 
 -- A text begins with these bytes, and goes on at this place.
 pub record Begins (text bytes : List ℕ) (at : ℕ) : Type 0 where
@@ -81,19 +82,19 @@ fits_behind lost next = list_all (λ one. is_lost_before one next && not (next.d
 
 -- The next line doesn't say of a display that it was lost at a frame behind these.
 abbrev pub NoMoreLost : ℕ → List Lost → List ℕ → Type 0
-NoMoreLost frame lost text = (one : Lost) (rest : List ℕ) → one.frame.0 ≡ frame → one.display < 2 ^ 32
+NoMoreLost frame lost text = (one : Lost) (rest : List ℕ) → one.frame.0 ≡ frame → is_display_number one.display ≡ true
     → fits_behind lost one ≡ true → text ≡ text_of (lost_line one ∷ []) ++ rest → ⊥
 
 -- The losses may be those of each run that has as many frames, or more.
 abbrev pub AreLosses : ℕ → List Lost → Type 0
 AreLosses frame lost = ((history : List Entry) → frame ≤ frames history → is_loss history lost ≡ true)
-    × (list_all (λ one. nat_lt one.display (2 ^ 32)) lost ≡ true)
+    × (list_all (λ one. is_display_number one.display) lost ≡ true)
 
 -- One display more is lost at a frame behind others, as a text says from a place on.
 pub record ReadsLoss (frame : ℕ) (old new : List Lost) (text : List ℕ) (at next : ℕ) : Type 0 where
   pub one : Lost
   pub is : new ≡ old ++ one ∷ []
-  pub is_at : ((one.frame.0 == frame) && nat_lt one.display (2 ^ 32)) ≡ true
+  pub is_at : ((one.frame.0 == frame) && is_display_number one.display) ≡ true
   pub fits : fits_behind old one ≡ true
   pub passes : Passes text at (text_of (lost_line one ∷ [])) (Some next)
   pub further : at < next
@@ -102,7 +103,7 @@ pub record ReadsLoss (frame : ℕ) (old new : List Lost) (text : List ℕ) (at n
 pub record ReadsLosses (frame : ℕ) (old new : List Lost) (text : List ℕ) (at next : ℕ) : Type 0 where
   pub more : List Lost
   pub is : new ≡ old ++ more
-  pub are_at : list_all (λ one. (one.frame.0 == frame) && nat_lt one.display (2 ^ 32)) more ≡ true
+  pub are_at : list_all (λ one. (one.frame.0 == frame) && is_display_number one.display) more ≡ true
   pub passes : Passes text at (text_of (map lost_line more)) (Some next)
   pub stops : NoMoreLost frame new (drop next text)
   pub losses : 0 < frame → AreLosses frame old → AreLosses frame new

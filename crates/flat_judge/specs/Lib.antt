@@ -1,8 +1,11 @@
 pub mod Cuts
-pub mod Parting
-pub mod GuidedRuns
-pub mod Verdicts
-pub mod Following
 pub mod FollowedRuns
-pub mod Hints
+pub mod Following
+pub mod GuidedRuns
 pub mod Heeding
+pub mod Hints
+pub mod Parting
+pub mod Passing
+pub mod Reported
+pub mod Titles
+pub mod Verdicts

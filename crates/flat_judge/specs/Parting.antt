@@ -1,9 +1,7 @@
 -- Where two texts part.
-use Rattle.std.specs.Prelude.{◌≡◌, ◌≤◌, ℕ, ◌+◌, ◌-◌, ◌==◌, cond, List, [], ◌∷◌, ◌++◌, length, drop, slice_get, Option}
+use Rattle.std.specs.Prelude.{ℕ, ◌+◌, ◌-◌, ◌==◌, cond, List, [], ◌∷◌, slice_get, Option}
 use Rattle.std.specs.Prelude.{Some, None}
 use Rattle.flat_text.specs.Pieces.{lines_of}
-use Rattle.flat_judge.specs.declared.parting.Passed.{Passed}
-use Rattle.flat_judge.specs.declared.parting.Passed.TheVariants.{To, Parts}
 
 -- the line, counted on from this one, in which a text parts from another; none where the two are one
 abbrev pub parts_from : ℕ → List ℕ → List ℕ → Option ℕ
@@ -14,12 +12,3 @@ parts_from line _ _ = Some line
 -- the line of a number of a text, counted from 1; none where the text has no such line
 abbrev pub line_of : ℕ → List ℕ → Option (List ℕ)
 line_of number text = slice_get (lines_of text) (number - 1)
-
--- A text goes on as a piece does, from a place on and in this line, to the line of a number; or it parts.
-abbrev pub PassesPiece : List ℕ → ℕ → List ℕ → ℕ → Passed → Type 0
-PassesPiece text at piece line (To next) =
-    (at + length piece ≤ length text) × (next ≤ line + length piece)
-    × ((later : List ℕ) → parts_from line (drop at text) (piece ++ later)
-    ≡ parts_from next (drop (at + length piece) text) later)
-PassesPiece text at piece line (Parts parted) =
-    (later : List ℕ) → parts_from line (drop at text) (piece ++ later) ≡ Some parted

@@ -5,7 +5,7 @@ use Rattle.flat_scene.specs.declared.journal.Entry.{Entry}
 use Rattle.flat_rules.specs.Legal.{frames}
 use Rattle.flat_places.specs.declared.script.Script.{Script}
 use Rattle.flat_script.specs.Grammar.{IsScript}
-use Rattle.flat_report.specs.Laws.{IsRun}
+use Rattle.flat_report.specs.Runs.{IsRun}
 use Rattle.flat_report.specs.Report.{report}
 use Rattle.flat_judge.specs.declared.judging.Verdict.{Verdict}
 use Rattle.flat_judge.specs.declared.judging.Verdict.TheVariants.{Legal, Wrong}
@@ -53,9 +53,3 @@ pub record IsWrong (script : Script) (text : List ℕ) (line : ℕ) (want : Opti
 abbrev pub IsVerdict : Script → List ℕ → Verdict → Type 0
 IsVerdict script text (Legal entries finished) = IsLegal script text entries finished
 IsVerdict script text (Wrong line want) = IsWrong script text line want
-
--- A text was written as the report of a run, which has so many entries and finished frames. If a text is the
--- report of any run, it is this one.
-pub record IsReported (script : Script) (text report : List ℕ) (entries finished : ℕ) : Type 0 where
-  pub legal : IsLegal script report entries finished
-  pub only : IsRead script → (run : Run script) → text ≡ report_of script run → text ≡ report

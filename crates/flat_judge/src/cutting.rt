@@ -1,6 +1,7 @@
 //! A script with a report behind it, in one text.
 ghost use Rattle.std.specs.Prelude.{◌≡◌, ◌≤◌, length, take, drop, IfOk};
-ghost use Rattle.flat_judge.specs.Cuts.{IsCut, IsSaid, ScriptsHaveNoTitle, is_title};
+ghost use Rattle.flat_judge.specs.Cuts.{IsCut, IsSaid, is_title};
+ghost use Rattle.flat_judge.specs.Titles.{ScriptsHaveNoTitle};
 
 use crate::judging::{Verdict, judge};
 use flat_base::NoMemory;

@@ -3,7 +3,8 @@
 ghost use Rattle.std.specs.Prelude.{◌≡◌, ◌∷◌, ◌<◌, ◌-◌, ◌^◌, [], map, IfOk};
 ghost use Rattle.flat_page.specs.Words.{text_of};
 ghost use Rattle.flat_lines.specs.Ends.{title_line};
-ghost use Rattle.flat_lines.specs.EntryLines.{entry_line, post_line};
+ghost use Rattle.flat_lines.specs.EntryLines.{entry_line};
+ghost use Rattle.flat_lines.specs.PostLines.{post_line};
 ghost use Rattle.flat_lines.specs.FrameLines.{lost_line};
 
 use flat_base::NoMemory;

@@ -345,7 +345,7 @@ impl Followed {
             HeedsSo script.now text.now guide.now.seen.items last self.new.run) }
     {
         self.run.answer_probes(alloc, script, guide, false)?;
-        let title = title_text(alloc, script.setup.version)?;
+        let title = title_text(alloc, script.version)?;
         match pass(text, 0, title.as_slice()) {
             Some(at) => {
                 self.along.at = at;

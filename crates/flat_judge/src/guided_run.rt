@@ -1,8 +1,8 @@
 //! A run in which each actor makes its next entry when it is told to. At the end all make
 //! those that are left, so that each run comes to its end.
-ghost use Rattle.std.specs.Prelude.{◌≡◌, ◌≢◌, ◌⊎◌, ◌||◌, ◌+◌, ◌<◌, ◌≤◌, ℕ, suc, [], List, true, false};
-ghost use Rattle.std.specs.Prelude.{length, map, replicate, slice_get, Some, IfOk, OnOk};
-ghost use Rattle.flat_scene.specs.Setups.{at_ratio, is_setup};
+ghost use Rattle.std.specs.Prelude.{◌≡◌, ◌≢◌, ◌⊎◌, ◌||◌, ◌+◌, ◌<◌, ◌≤◌, ℕ, suc, [], List, true, false, length, map, replicate, slice_get, Some, IfOk, OnOk};
+ghost use Rattle.flat_scene.specs.Setups.{at_ratio};
+ghost use Rattle.flat_scene.specs.Heads.{is_setup};
 ghost use Rattle.flat_rules.specs.Legal.{frames};
 ghost use Rattle.flat_playable.specs.Playable.{is_playable};
 ghost use Rattle.flat_report.specs.declared.probes.ProbeAnswer.{ProbeAnswer};
@@ -12,10 +12,8 @@ ghost use Rattle.flat_play.specs.Playing.{display_text};
 ghost use Rattle.flat_play.specs.Probing.{answer_of, with_answer};
 ghost use Rattle.flat_base.specs.declared.ids.Actor.TheVariants.{Session};
 ghost use Rattle.flat_judge.specs.declared.seat.Seat.{Seat};
-ghost use Rattle.flat_judge.specs.GuidedRuns.{AreBehind, DisplayGoes, Goes, GoesOn, Grown, HaveEnded};
-ghost use Rattle.flat_judge.specs.GuidedRuns.{ProbeGoes, ProbeGoesOn, asked_here};
-ghost use Rattle.flat_judge.specs.Heeding.{AllHeed, CouldSee, HasSeen, Heeds, SeenBehind};
-ghost use Rattle.flat_judge.specs.Heeding.{is_reached};
+ghost use Rattle.flat_judge.specs.GuidedRuns.{AreBehind, DisplayGoes, Goes, GoesOn, Grown, HaveEnded, ProbeGoes, ProbeGoesOn, asked_here};
+ghost use Rattle.flat_judge.specs.Heeding.{AllHeed, CouldSee, HasSeen, Heeds, SeenBehind, is_reached};
 
 use crate::directing::{direct, start};
 use crate::guide::Guide;

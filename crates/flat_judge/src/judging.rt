@@ -4,7 +4,8 @@ ghost use Rattle.flat_playable.specs.Playable.{is_playable};
 ghost use Rattle.flat_judge.specs.GuidedRuns.{IsWhole};
 ghost use Rattle.flat_judge.specs.Following.{StoppedBefore};
 ghost use Rattle.flat_judge.specs.Heeding.{SeesAsTold};
-ghost use Rattle.flat_judge.specs.Verdicts.{IsReported, IsVerdict};
+ghost use Rattle.flat_judge.specs.Verdicts.{IsVerdict};
+ghost use Rattle.flat_judge.specs.Reported.{IsReported};
 
 use crate::following::Followed;
 use crate::guide::Guide;

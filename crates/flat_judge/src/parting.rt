@@ -1,9 +1,9 @@
 //! Where a text parts from a report.
-ghost use Rattle.std.specs.Prelude.{◌≡◌, ◌==◌, ◌+◌, ◌<◌, ◌≤◌, ◌^◌, cond, length, option_map, true};
-ghost use Rattle.std.specs.Prelude.{IfOk};
-ghost use Rattle.flat_judge.specs.Parting.{line_of, parts_from, PassesPiece};
+ghost use Rattle.std.specs.Prelude.{◌≡◌, ◌==◌, ◌+◌, ◌<◌, ◌≤◌, ◌^◌, cond, length, option_map, true, IfOk};
+ghost use Rattle.flat_judge.specs.Parting.{line_of, parts_from};
+ghost use Rattle.flat_judge.specs.Passing.{PassesPiece};
 
-use crate::passing::pass;
+use crate::passing::pass_pieces;
 use flat_base::{Items, NoMemory};
 use flat_report::Pieces;
 use flat_text::line;
@@ -45,19 +45,14 @@ fn pass_piece(text: &[u8], at: usize, piece: &[u8], line: u64) -> Passed
     Passed::To(reached)
 }
 
-/// Whether a text is a report. It compares piece by piece, which is faster than byte by byte.
+/// Whether a text is a report. It compares run by run, which is faster than byte by byte.
 fn is_report(text: &[u8], report: &Pieces) -> bool
     ensures { result ≡ true → text.now ≡ report.now }
 {
-    let mut at = 0;
-    let pieces = report.as_slice();
-    for place in 0..pieces.len() {
-        match pass(text, at, pieces[place].as_slice()) {
-            Some(next) => at = next,
-            None => return false,
-        }
+    match pass_pieces(text, 0, report) {
+        Some(end) => end == text.len(),
+        None => false,
     }
-    at == text.len()
 }
 
 /// The line in which a text parts from a report, counted from 1; none where it is the report.
@@ -69,9 +64,9 @@ pub(crate) fn parts_at(text: &[u8], report: &Pieces) -> Option<u64>
     }
     let mut at = 0;
     let mut line = 1;
-    let pieces = report.as_slice();
-    for place in 0..pieces.len() {
-        let piece = pieces[place].as_slice();
+    let runs = report.as_slice();
+    for run in runs {
+        let piece = run.as_slice();
         match pass_piece(text, at, piece, line) {
             Passed::To(next) => {
                 at += piece.len();
@@ -91,9 +86,9 @@ fn joined(alloc: Global, report: &Pieces) -> Result<Items<u8>, NoMemory>
     ensures { IfOk result (λ joined. joined ≡ report.now) }
 {
     let mut joined = Items::new(alloc);
-    let pieces = report.as_slice();
-    for place in 0..pieces.len() {
-        joined.extend_from_slice(pieces[place].as_slice())?;
+    let runs = report.as_slice();
+    for run in runs {
+        joined.extend_from_slice(run.as_slice())?;
     }
     Ok(joined)
 }

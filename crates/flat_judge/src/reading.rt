@@ -75,14 +75,15 @@ pub(crate) fn next_actor(script: &Script, text: &[u8]) -> Option<Actor>
 /// The display that the next line of a text says was lost, if it says so of one.
 pub(crate) fn next_display(text: &[u8]) -> Option<u32>
     ensures some { IfSome result (λ display. next_display text.now ≡ Some display) }
-    ensures none { result ≡ None → (display : ℕ) → display < 2 ^ 32 →
+    ensures above { IfSome result (λ display. 0 < display) }
+    ensures none { result ≡ None → (display : ℕ) → 0 < display → display < 2 ^ 32 →
         next_display text.now ≡ Some display → ⊥ }
 {
     if !is_word(first_word(text), "display") {
         return None;
     }
     let number = read_natural(first_word(behind_word(text)))?;
-    if number <= u32::MAX as u128 {
+    if 1 <= number && number <= u32::MAX as u128 {
         Some(number as u32)
     } else {
         None

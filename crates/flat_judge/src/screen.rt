@@ -5,7 +5,7 @@ ghost use Rattle.std.specs.Prelude.{◌≡◌, ◌+◌, ◌<◌, ◌^◌, [], tr
 ghost use Rattle.flat_base.specs.declared.ids.Actor.TheVariants.{Display};
 ghost use Rattle.flat_scene.specs.declared.journal.Kind.TheVariants.{Begin, Finish, Hit};
 ghost use Rattle.flat_scene.specs.Interleave.{entry_of_display};
-ghost use Rattle.flat_scene.specs.Setups.{is_setup};
+ghost use Rattle.flat_scene.specs.Heads.{is_setup};
 ghost use Rattle.flat_core.specs.Machines.{MayCall};
 ghost use Rattle.flat_rules.specs.Ends.{to_begin};
 ghost use Rattle.flat_rules.specs.Legal.{frames, reply_to};
@@ -13,8 +13,7 @@ ghost use Rattle.flat_rules.specs.Shown.{shown_states};
 ghost use Rattle.flat_topology.specs.Changes.{AreSame};
 ghost use Rattle.flat_report.specs.Report.{frame_at};
 ghost use Rattle.flat_play.specs.Last.{IsLast};
-ghost use Rattle.flat_play.specs.Playing.{AsksPoint, BeginsFrame, EntersBeside, FinishesFrame};
-ghost use Rattle.flat_play.specs.Playing.{FramesStand, HasViews, is_alone};
+ghost use Rattle.flat_play.specs.Playing.{AsksPoint, BeginsFrame, EntersBeside, FinishesFrame, FramesStand, HasViews, is_alone};
 
 use flat_base::{Actor, NoMemory};
 use flat_core::shown_states_fit;

@@ -1,14 +1,13 @@
 //! The parts of the report of a run's last entry, each held against a text that the run
 //! follows.
-ghost use Rattle.std.specs.Prelude.{◌≡◌, ◌≤◌, ◌++◌, ℕ, ℤ, suc, List, length, true};
-ghost use Rattle.std.specs.Prelude.{IfOk, IfSome, ◌<◌, ◌^◌};
+ghost use Rattle.std.specs.Prelude.{◌≡◌, ◌≤◌, ◌++◌, ℕ, ℤ, suc, List, length, true, IfOk, IfSome, ◌<◌, ◌^◌};
 ghost use Rattle.flat_scene.specs.declared.frames.Hit.{Hit};
 ghost use Rattle.flat_scene.specs.declared.journal.Entry.{Entry};
 ghost use Rattle.flat_scene.specs.declared.journal.Kind.TheVariants as kind;
 ghost use Rattle.flat_scene.specs.History.{◌▹◌, is_finish};
 ghost use Rattle.flat_rules.specs.Ends.{to_begin};
 ghost use Rattle.flat_rules.specs.Legal.{frames};
-ghost use Rattle.flat_rules.specs.Posts.{posts};
+ghost use Rattle.flat_rules.specs.AllPosts.{posts};
 ghost use Rattle.flat_report.specs.declared.report.HitAnswer.{HitAnswer};
 ghost use Rattle.flat_places.specs.declared.script.Script.{Script};
 ghost use Rattle.flat_report.specs.FrameTexts.{frame_text};
@@ -18,7 +17,7 @@ ghost use Rattle.flat_judge.specs.Following.{Passes, events_text, own_text};
 ghost use Rattle.flat_judge.specs.GuidedRuns.{ShowStands};
 
 use crate::entry_texts::{line_text, posts_text};
-use crate::passing::pass;
+use crate::passing::{pass, pass_pieces};
 use flat_base::NoMemory;
 use flat_places::Script;
 use flat_play::Play;
@@ -81,7 +80,7 @@ pub(crate) fn pass_frame(text: &[u8], at: usize, play: &Play) -> Option<usize>
         (frame_at script.setup (suc (frames before)) (to_begin before))) result }
 {
     match play.kept.last_text() {
-        Some(lines) => pass(text, at, lines),
+        Some(lines) => pass_pieces(text, at, lines),
         None => Some(at),
     }
 }

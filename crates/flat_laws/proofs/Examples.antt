@@ -13,7 +13,8 @@ use Rattle.flat_scene.specs.History.{◌▹◌}
 use Rattle.flat_scene.specs.ViewTrees.{is_node}
 use Rattle.flat_rules.specs.Ends.{to_finished, viewport_uses}
 use Rattle.flat_rules.specs.Shown.{shown_states}
-use Rattle.flat_rules.specs.Watch.{layout_of, no_inset, told}
+use Rattle.flat_rules.specs.Watch.{layout_of, told}
+use Rattle.flat_scene.specs.Draft.{no_inset}
 use Rattle.flat_rules.proofs.lemmas.Samples.{by, f, layout, p, present, s}
 use Rattle.flat_rules.proofs.lemmas.ShellRun.{shell_with_two_apps-history, shell_with_two_apps-setup}
 use Rattle.flat_laws.specs.Ends.{times_back}
@@ -83,7 +84,6 @@ alone = record {
   pairs = (record { viewport = Display; view = s 1 }) ∷ [];
   buffers = [];
   fences = (record { owners = Session (s 1) ∷ [] }) ∷ [];
-  version = 1;
   ratio = 65536;
 }
 

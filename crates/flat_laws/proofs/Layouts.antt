@@ -13,7 +13,7 @@ use Rattle.flat_scene.specs.declared.setup.Setup.{Setup}
 use Rattle.flat_scene.specs.Effect.{draft_of}
 use Rattle.flat_scene.specs.Frames.{ratio}
 use Rattle.flat_scene.specs.History.{◌▹◌, is_finish}
-use Rattle.flat_watch.specs.Told.{or_else}
+use Rattle.std.specs.Option.{option_or}
 use Rattle.flat_rules.specs.Ends.{is_viewport_lost, props_of, taken_calls, to_begin, to_finished, viewport_owner, viewport_uses}
 use Rattle.flat_rules.specs.Watch.{are_joined, display_props, layout_in, props_given, props_seen, props_told}
 use Rattle.flat_laws.specs.Shows.{LayoutsAreOfFrames, props_shown}
@@ -26,9 +26,9 @@ shown-seen setup p n s props (before ▹ entry) is = by_kind (is_finish entry.ki
   where
     by_kind : (b : Bool) → (props_shown setup (to_finished before) s p n ≡ Some props → props_seen setup p n s before ≡ Some props)
         → props_shown setup (cond b (to_begin before) (to_finished before)) s p n ≡ Some props
-        → or_else (cond b (option_and_then (props_of p n) (result_ok (draft_of setup (taken_calls setup (to_begin before) s)))) None) (props_seen setup p n s before)
+        → option_or (cond b (option_and_then (props_of p n) (result_ok (draft_of setup (taken_calls setup (to_begin before) s)))) None) (props_seen setup p n s before)
         ≡ Some props
-    by_kind true earlier here = ap (λ o. or_else o (props_seen setup p n s before)) here
+    by_kind true earlier here = ap (λ o. option_or o (props_seen setup p n s before)) here
     by_kind false earlier here = earlier here
 
 -- the properties that a layout was told by
@@ -63,7 +63,7 @@ layouts-of-frames setup history p layout is =
           (ap (λ o. props_told setup o history p) owner ∙ ap (λ r. Some (display_props r setup)) (sym same));
       of_session = λ s props owner there. given props
           (ap (λ o. props_told setup o history p) owner
-          ∙ ap (λ o. or_else o (props_given setup (viewport_uses p history))) (shown-seen setup p uses s props history there));
+          ∙ ap (λ o. option_or o (props_given setup (viewport_uses p history))) (shown-seen setup p uses s props history there));
     }
   where
     by_props : {at : ℕ} {found : ViewportProps} (props : ViewportProps) → Some found ≡ Some props

@@ -19,7 +19,8 @@ use Rattle.flat_scene.specs.Draft.{of_serial}
 use Rattle.flat_scene.specs.Effect.{draft_of}
 use Rattle.flat_scene.specs.Frames.{ratio, setup_at, taken}
 use Rattle.flat_scene.specs.History.{is_closed, presents, Published}
-use Rattle.flat_scene.specs.ViewTrees.{is_node, is_tree}
+use Rattle.flat_scene.specs.ViewTrees.{is_node}
+use Rattle.flat_scene.specs.ViewShapes.{is_tree}
 use Rattle.flat_topology.specs.Draw.{draw_list}
 use Rattle.flat_topology.specs.Hits.{hit_list}
 use Rattle.flat_topology.specs.Links.{IsChild}

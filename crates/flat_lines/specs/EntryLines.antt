@@ -16,14 +16,13 @@ use Rattle.flat_scene.specs.declared.journal.Event.TheVariants as event
 use Rattle.flat_scene.specs.declared.journal.Kind.{Kind}
 use Rattle.flat_scene.specs.declared.journal.Kind.TheVariants as kind
 use Rattle.flat_scene.specs.declared.journal.Layout.{Layout}
-use Rattle.flat_scene.specs.declared.journal.Post.{Post}
 use Rattle.flat_scene.specs.declared.journal.Reply.{Reply}
 use Rattle.flat_scene.specs.declared.journal.Reply.TheVariants as reply
 use Rattle.flat_scene.specs.declared.journal.Told.{Told}
 use Rattle.flat_scene.specs.declared.journal.Told.TheVariants as told
 use Rattle.flat_places.specs.declared.script.Script.{Script}
 use Rattle.flat_page.specs.Words.{Word, numbers, number, session_name, actor_name}
-use Rattle.flat_print.specs.Print.{interaction_number}
+use Rattle.flat_print.specs.Choices.{interaction_number}
 use Rattle.flat_lines.specs.Names.{pair_name}
 
 -- ---- what watchers tell
@@ -56,10 +55,6 @@ event_words script (event.Credits count) = codes "credits" ∷ number count ∷ 
 -- the line of an event that is posted to a session
 abbrev pub event_line : Script → SessionNo → Event → List Word
 event_line script s posted = codes ">" ∷ session_name script.sessions s ∷ event_words script posted
-
--- the line of an event that was posted
-abbrev pub post_line : Script → Post → List Word
-post_line script post = event_line script post.session post.event
 
 -- ---- entries
 

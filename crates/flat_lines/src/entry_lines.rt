@@ -1,11 +1,10 @@
 //! The lines of entries and of events (specs/EntryLines).
-ghost use Rattle.std.specs.Prelude.{◌≡◌, ◌++◌, ◌∷◌, [], ℤ, pos, suc, List, OnOk, codes, map, ◌<◌};
-ghost use Rattle.std.specs.Prelude.{◌-◌, ◌^◌};
+ghost use Rattle.std.specs.Prelude.{◌≡◌, ◌++◌, ◌∷◌, [], ℤ, pos, suc, List, OnOk, codes, map, ◌<◌, ◌-◌, ◌^◌};
 ghost use Rattle.flat_page.specs.Words.{number, numbers, session_name};
 ghost use Rattle.flat_page.specs.Pages.{Writes, WritesLines};
-ghost use Rattle.flat_print.specs.Print.{interaction_number};
-ghost use Rattle.flat_lines.specs.EntryLines.{answer_words, said_words, entry_line, event_words};
-ghost use Rattle.flat_lines.specs.EntryLines.{hit_words, point_words, post_line};
+ghost use Rattle.flat_print.specs.Choices.{interaction_number};
+ghost use Rattle.flat_lines.specs.EntryLines.{answer_words, said_words, entry_line, event_words, hit_words, point_words};
+ghost use Rattle.flat_lines.specs.PostLines.{post_line};
 
 use crate::entry_words::{push_event, push_reply};
 use flat_base::NoMemory;

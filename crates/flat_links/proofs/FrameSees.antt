@@ -28,7 +28,7 @@ use Rattle.flat_rules.specs.Serials.{IsUseSerial, contents_made, props_at_serial
 use Rattle.flat_rules.specs.Shown.{last_taken, tree_of}
 use Rattle.flat_links.specs.Usage.{props_among, uses_in}
 use Rattle.flat_rules.specs.Watch.{props_seen}
-use Rattle.flat_watch.specs.Told.{or_else}
+use Rattle.std.specs.Option.{option_or}
 use Rattle.flat_facts.proofs.lemmas.Earlier.{IsEarlier, calls-taken, legal-earlier, taken-fits}
 use Rattle.flat_facts.proofs.lemmas.Foreign.{owned-differs}
 use Rattle.flat_facts.proofs.lemmas.Lives.{pair_made}
@@ -45,11 +45,11 @@ use Rattle.flat_rules.proofs.lemmas.ListLemmas.{serial-within}
 
 -- ---- the viewports of a draft
 
-or-none : (o : Option ViewportProps) → or_else o None ≡ o
+or-none : (o : Option ViewportProps) → option_or o None ≡ o
 or-none (Some x) = refl
 or-none None = refl
 
-or-same : (b : Bool) (x : ViewportProps) → or_else (cond b (Some x) None) (Some x) ≡ Some x
+or-same : (b : Bool) (x : ViewportProps) → option_or (cond b (Some x) None) (Some x) ≡ Some x
 or-same true x = refl
 or-same false x = refl
 
@@ -80,13 +80,13 @@ among-uses p d serial fits (v ∷ vs) = by_made (among-uses p d serial fits vs) 
     by_made later (Some (a_fill x)) at b is = rw at (later ∙ skipped (Some (a_fill x)) at refl b is)
     by_made later (Some (a_viewport q props)) at false is =
         let off : (q.0 == p.0 && v == serial) ≡ false = and_right (q.0 == p.0) (v == serial) is in
-        rw at (ap (λ (b : Bool). or_else (props_among p (filter_map (use_of d) vs) serial) (cond b (Some props) None)) off ∙ or-none (props_among p (filter_map (use_of d) vs) serial) ∙ later)
+        rw at (ap (λ (b : Bool). option_or (props_among p (filter_map (use_of d) vs) serial) (cond b (Some props) None)) off ∙ or-none (props_among p (filter_map (use_of d) vs) serial) ∙ later)
     by_made later (Some (a_viewport q props)) at true is =
         let found : of_serial d.contents serial ≡ Some (a_viewport q props) = here (a_viewport q props) at is in
         let mine : (q.0 == p.0) ≡ true = fits (a_viewport q props) found in
         let props_are : option_and_then props_in (of_serial d.contents serial) ≡ Some props = ap (option_and_then props_in) found in
         let before : props_among p (filter_map (use_of d) vs) serial ≡ cond (list_any (λ live. live == serial) vs) (Some props) None = later ∙ ap (λ (o : Option ViewportProps). cond (list_any (λ live. live == serial) vs) o None) props_are in
-        rw at (rw (mine, is) (ap (λ (o : Option ViewportProps). or_else o (Some props)) before ∙ or-same (list_any (λ live. live == serial) vs) props) ∙ sym props_are)
+        rw at (rw (mine, is) (ap (λ (o : Option ViewportProps). option_or o (Some props)) before ∙ or-same (list_any (λ live. live == serial) vs) props) ∙ sym props_are)
 
 -- of a pair that isn't owned there is none
 among-foreign : (setup : Setup) (s : SessionNo) (p : PairNo) → owns_viewport setup s p ≡ false → (d : Draft) → list_all (made_owned setup s) d.contents ≡ true → (n : ℕ) (vs : List ℕ) → props_among p (filter_map (use_of d) vs) n ≡ None
@@ -222,19 +222,19 @@ module _ (setup : Setup) (v : SessionNo) (k h : List Entry) (legal : Legal setup
 module _ (setup : Setup) (v : SessionNo) where
   -- what the last finished frame had is seen already
   pub seen-already : (p : PairNo) (n : ℕ) (h : List Entry)
-      → or_else (option_and_then (props_of p n) (result_ok (draft_of setup (taken_calls setup (to_finished h) v)))) (props_seen setup p n v h) ≡ props_seen setup p n v h
+      → option_or (option_and_then (props_of p n) (result_ok (draft_of setup (taken_calls setup (to_finished h) v)))) (props_seen setup p n v h) ≡ props_seen setup p n v h
   seen-already p n [] = refl
   seen-already p n (h ▹ e) = by_kind (seen-already p n h) (is_finish e.kind) refl
     where
       had : List Entry → Option ViewportProps
       had k = option_and_then (props_of p n) (result_ok (draft_of setup (taken_calls setup k v)))
 
-      twice : (x y : Option ViewportProps) → or_else x (or_else x y) ≡ or_else x y
+      twice : (x y : Option ViewportProps) → option_or x (option_or x y) ≡ option_or x y
       twice (Some a) y = refl
       twice None y = refl
 
-      by_kind : or_else (had (to_finished h)) (props_seen setup p n v h) ≡ props_seen setup p n v h → (b : Bool) → is_finish e.kind ≡ b
-          → or_else (had (cond b (to_begin h) (to_finished h))) (or_else (cond b (had (to_begin h)) None) (props_seen setup p n v h)) ≡ or_else (cond b (had (to_begin h)) None) (props_seen setup p n v h)
+      by_kind : option_or (had (to_finished h)) (props_seen setup p n v h) ≡ props_seen setup p n v h → (b : Bool) → is_finish e.kind ≡ b
+          → option_or (had (cond b (to_begin h) (to_finished h))) (option_or (cond b (had (to_begin h)) None) (props_seen setup p n v h)) ≡ option_or (cond b (had (to_begin h)) None) (props_seen setup p n v h)
       by_kind before true is = twice (had (to_begin h)) (props_seen setup p n v h)
       by_kind before false is = before
 

@@ -7,7 +7,7 @@ use Rattle.flat_base.specs.declared.ids.SessionNo.{SessionNo}
 use Rattle.flat_base.specs.declared.limits.TheConstants.{SESSIONS_MAX}
 use Rattle.flat_scene.specs.declared.frames.SessionSet.{SessionSet}
 use Rattle.flat_scene.specs.declared.setup.Setup.{Setup}
-use Rattle.flat_topology.specs.Views.{is_member}
+use Rattle.flat_topology.specs.Members.{is_member}
 use Rattle.flat_rules.specs.Ends.{view_owner}
 use Rattle.flat_links.specs.declared.pairs.PairState.{PairState}
 use Rattle.flat_links.specs.Following.{pair}

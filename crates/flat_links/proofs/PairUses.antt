@@ -36,7 +36,7 @@ use Rattle.flat_links.specs.Usage.{IsUse, used_by}
 use Rattle.flat_links.specs.Views.{ended_by}
 use Rattle.flat_facts.specs.Views.{view_after}
 use Rattle.flat_rules.specs.Watch.{props_at, props_given, props_seen}
-use Rattle.flat_watch.specs.Told.{or_else}
+use Rattle.std.specs.Option.{option_or}
 use Rattle.flat_facts.proofs.lemmas.Earlier.{begin-earlier, calls-taken, taken-fits}
 use Rattle.flat_facts.proofs.lemmas.LiveCounts.{made-append}
 use Rattle.flat_links.proofs.lemmas.PairSteps.{cleared-own, ended-own, no-begin, no-finish, pair-own, pending-step}
@@ -78,7 +78,7 @@ unseen setup p v n (h ▹ e) few =
     by_kind (is_finish e.kind) (unseen setup p v n h before) none
   where
     by_kind : (b : Bool) → props_seen setup p n v h ≡ None → option_and_then (props_of p n) (result_ok (draft_of setup (taken_calls setup (to_begin h) v))) ≡ None
-        → or_else (cond b (option_and_then (props_of p n) (result_ok (draft_of setup (taken_calls setup (to_begin h) v)))) None) (props_seen setup p n v h) ≡ None
+        → option_or (cond b (option_and_then (props_of p n) (result_ok (draft_of setup (taken_calls setup (to_begin h) v)))) None) (props_seen setup p n v h) ≡ None
     by_kind true rest none = rw none rest
     by_kind false rest none = rest
 

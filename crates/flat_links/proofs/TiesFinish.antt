@@ -19,7 +19,7 @@ use Rattle.flat_links.specs.Following.{AreTied, IsFollowed, IsPairKept, pair, pr
 use Rattle.flat_rules.specs.Legal.{Legal}
 use Rattle.flat_links.specs.Usage.{SettlesPairs, settled}
 use Rattle.flat_rules.specs.Watch.{props_seen}
-use Rattle.flat_watch.specs.Told.{or_else}
+use Rattle.std.specs.Option.{option_or}
 use Rattle.flat_links.proofs.Followed.{followed-still}
 use Rattle.flat_links.proofs.lemmas.PairIdle.{pair-still}
 use Rattle.flat_links.proofs.TiesBegin.{FollowedUpTo, followed-end, followed-here, followed-on}
@@ -28,7 +28,7 @@ use Rattle.flat_links.proofs.TiesBegin.{FollowedUpTo, followed-end, followed-her
 pending-stays : (setup : Setup) (p : PairNo) (n : ℕ) (v : SessionNo) (h : List Entry) (line : ℕ) → props_pending setup p n v h ≡ props_pending setup p n v (finished h line)
 pending-stays setup p n v h line = once (option_and_then (props_of p n) (result_ok (draft_of setup (taken_calls setup (to_begin h) v)))) (props_seen setup p n v h)
   where
-    once : (x y : Option ViewportProps) → or_else x y ≡ or_else x (or_else x y)
+    once : (x y : Option ViewportProps) → option_or x y ≡ option_or x (option_or x y)
     once (Some a) y = refl
     once None y = refl
 

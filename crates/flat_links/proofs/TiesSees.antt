@@ -32,7 +32,7 @@ use Rattle.flat_rules.specs.Legal.{Legal, begin_time, is_frame_open, owns_viewpo
 use Rattle.flat_rules.specs.Shown.{last_taken, shown, tree_of}
 use Rattle.flat_links.specs.Usage.{SeesOne, SeesUses, props_among, uses_if, uses_in, with_pending}
 use Rattle.flat_rules.specs.Watch.{props_seen}
-use Rattle.flat_watch.specs.Told.{or_else}
+use Rattle.std.specs.Option.{option_or}
 use Rattle.flat_facts.proofs.lemmas.Earlier.{IsEarlier, begin-earlier, calls-taken, finished-earlier, itself, one-earlier, taken-begin, taken-earlier, taken-finished}
 use Rattle.flat_links.proofs.FrameSees.{closed-took, foreign-uses, last-uses, no-uses, seen-already}
 use Rattle.flat_links.proofs.lemmas.PairIdle.{idle-serial, pair-still}
@@ -134,40 +134,40 @@ module _ (setup : Setup) (h : List Entry) (line time : ℕ) (states : List Sessi
       let count : taken setup (to_begin h) v ≡ taken setup (to_finished h) v = sym (taken-begin setup v h) ∙ taken-finished setup v h shut_frame in
       let same : taken_calls setup (to_begin h) v ≡ taken_calls setup (to_finished h) v =
       calls-taken setup v (to_begin h) h (begin-earlier h) ∙ ap (made_at (presents v h)) count ∙ sym (calls-taken setup v (to_finished h) h (finished-earlier h)) in
-      ap (λ (cs : List Call). or_else (option_and_then (props_of p (length (viewport_uses p h))) (result_ok (draft_of setup cs))) (seen p v)) same
+      ap (λ (cs : List Call). option_or (option_and_then (props_of p (length (viewport_uses p h))) (result_ok (draft_of setup cs))) (seen p v)) same
       ∙ seen-already setup v p (length (viewport_uses p h)) h
 
   -- the owner's session, from which the frame took something
   pending-new : (p : PairNo) (v : SessionNo) → viewport_owner setup p ≡ Some (Session v) → took v ≡ true → (was state new : PairState) → IsPairKept setup h p was → state.serial ≡ was.serial
-      → SeesOne p (uses_in (shown setup (begun h line time) v)) state new → new.pending ≡ or_else (had p v) state.pending
+      → SeesOne p (uses_in (shown setup (begun h line time) v)) state new → new.pending ≡ option_or (had p v) state.pending
   pending-new p v owner some was state new kept same sees = by_use (nat_lt 0 (length (viewport_uses p h))) refl
     where
       tree_is : shown setup (begun h line time) v ≡ option_and_then (tree_of setup) (last_taken setup (begun h line time) v)
       tree_is = rw (opened-took v some) refl
 
-      by_use : (b : Bool) → nat_lt 0 (length (viewport_uses p h)) ≡ b → new.pending ≡ or_else (had p v) state.pending
+      by_use : (b : Bool) → nat_lt 0 (length (viewport_uses p h)) ≡ b → new.pending ≡ option_or (had p v) state.pending
       by_use true used =
           let more : 0 < length (viewport_uses p h) = grind (arith, nat_tests) in
           let serial = idle-serial setup h (begin_entry line time) begins.legal nobody p refl v owner was.serial (kept.serial v owner more) in
           sees.pending serial.serial (same ∙ serial.is)
-          ∙ ap (λ (t : Option Tree). or_else (props_among p (uses_in t) serial.serial) state.pending) tree_is
-          ∙ ap (λ (o : Option ViewportProps). or_else o state.pending)
+          ∙ ap (λ (t : Option Tree). option_or (props_among p (uses_in t) serial.serial) state.pending) tree_is
+          ∙ ap (λ (o : Option ViewportProps). option_or o state.pending)
           (last-uses setup v (begun h line time) (begun h line time) begins.legal (itself (begun h line time)) p serial.serial more serial.tells)
       by_use false none =
           let zero_uses : length (viewport_uses p h) ≡ 0 = grind (arith, nat_tests) in
           sees.pending 0 (same ∙ kept.unused zero_uses)
-          ∙ ap (λ (t : Option Tree). or_else (props_among p (uses_in t) 0) state.pending) tree_is
-          ∙ ap (λ (o : Option ViewportProps). or_else o state.pending)
+          ∙ ap (λ (t : Option Tree). option_or (props_among p (uses_in t) 0) state.pending) tree_is
+          ∙ ap (λ (o : Option ViewportProps). option_or o state.pending)
           (no-uses setup v (begun h line time) (begun h line time) begins.legal (itself (begun h line time)) p
           ∙ sym (ap (λ (n : ℕ). option_and_then (props_of p n) (result_ok (draft_of setup (taken_calls setup (begun h line time) v)))) zero_uses ∙ nothing-of-none p (result_ok (draft_of setup (taken_calls setup (begun h line time) v)))))
 
   -- the owner's session, from which it took nothing
-  pending-old : (p : PairNo) (v : SessionNo) → took v ≡ false → props_pending setup p (length (viewport_uses p h)) v h ≡ or_else (had p v) (seen p v)
+  pending-old : (p : PairNo) (v : SessionNo) → took v ≡ false → props_pending setup p (length (viewport_uses p h)) v h ≡ option_or (had p v) (seen p v)
   pending-old p v none =
       let same : taken_calls setup (to_begin h) v ≡ taken_calls setup (begun h line time) v =
       calls-taken setup v (to_begin h) (begun h line time) begin_before ∙ ap (made_at (presents v (begun h line time))) (sym (taken-same v none))
       ∙ sym (calls-taken setup v (begun h line time) (begun h line time) (itself (begun h line time))) in
-      ap (λ (cs : List Call). or_else (option_and_then (props_of p (length (viewport_uses p h))) (result_ok (draft_of setup cs))) (seen p v)) same
+      ap (λ (cs : List Call). option_or (option_and_then (props_of p (length (viewport_uses p h))) (result_ok (draft_of setup cs))) (seen p v)) same
 
   -- another session shows no viewport of the pair
   shown-foreign : (p : PairNo) (s : SessionNo) → owns_viewport setup s p ≡ false → (n : ℕ) → props_among p (uses_in (shown setup (begun h line time) s)) n ≡ None
@@ -195,7 +195,7 @@ module _ (setup : Setup) (h : List Entry) (line time : ℕ) (states : List Sessi
       kept_apart : (v : SessionNo) → viewport_owner setup p ≡ Some (Session v) → ((n : ℕ) → props_among p (uses_if (took (number i)) (shown setup (begun h line time) (number i))) n ≡ None) → new.pending ≡ state.pending
       kept_apart v owner none =
           let n = some-serial setup h p old.was old.kept v owner in
-          sees.pending n.0 (serial_same ∙ n.1) ∙ ap (λ (o : Option ViewportProps). or_else o state.pending) (none n.0)
+          sees.pending n.0 (serial_same ∙ n.1) ∙ ap (λ (o : Option ViewportProps). option_or o state.pending) (none n.0)
 
       foreign_if : (b : Bool) → owns_viewport setup (number i) p ≡ false → (n : ℕ) → props_among p (uses_if b (shown setup (begun h line time) (number i))) n ≡ None
       foreign_if true foreign n = shown-foreign p (number i) foreign n
@@ -204,7 +204,7 @@ module _ (setup : Setup) (h : List Entry) (line time : ℕ) (states : List Sessi
       by_took : viewport_owner setup p ≡ Some (Session (number i)) → state.pending ≡ told (number i) false → (b : Bool) → took (number i) ≡ b → new.pending ≡ told (number i) true
       by_took owner before true some =
           let looked : SeesOne p (uses_in (shown setup (begun h line time) (number i))) state new = subst (λ (b : Bool). SeesOne p (uses_if b (shown setup (begun h line time) (number i))) state new) some sees in
-          pending-new p (number i) owner some old.was state new old.kept serial_same looked ∙ ap (or_else (had p (number i))) (before ∙ pending-before p (number i))
+          pending-new p (number i) owner some old.was state new old.kept serial_same looked ∙ ap (option_or (had p (number i))) (before ∙ pending-before p (number i))
       by_took owner before false none =
           kept_apart (number i) owner (λ n. ap (λ (b : Bool). props_among p (uses_if b (shown setup (begun h line time) (number i))) n) none) ∙ before ∙ pending-old p (number i) none
 
@@ -253,7 +253,7 @@ module _ (setup : Setup) (h : List Entry) (line time : ℕ) (states : List Sessi
           let none : last_taken setup (begun h line time) v ≡ None = none-taken setup v is (begun h line time) begins.legal in
           let had_none : had (pair j) v ≡ None =
           ap (λ (o : Option Published). option_and_then (props_of (pair j) (length (viewport_uses (pair j) h))) (result_ok (draft_of setup (unwrap_or (option_map (λ (present : Published). present.made) o) [])))) none in
-          pending ∙ ap (told v) is ∙ pending-before (pair j) v ∙ ap (λ (o : Option ViewportProps). or_else o (seen (pair j) v)) (sym had_none)
+          pending ∙ ap (told v) is ∙ pending-before (pair j) v ∙ ap (λ (o : Option ViewportProps). option_or o (seen (pair j) v)) (sym had_none)
 
   -- what is looked at
   pub looked-at : (i : ℕ) (followings : List Following) (was : Following) (sight : Sight) → i < length followings → i < setup.sessions → was ≡ slice_index_or followings i was → AllNumbered (FollowedUpTo setup h (begun h line time) i) followings

@@ -30,7 +30,7 @@ use Rattle.flat_links.specs.Views.{child_by}
 use Rattle.flat_rules.specs.Watch.{are_joined, child_of, is_used, props_at, props_given, props_seen, props_told, told}
 use Rattle.flat_scene.specs.declared.journal.Kind.{Kind}
 use Rattle.flat_scene.specs.declared.journal.Kind.TheVariants.{Viewport}
-use Rattle.flat_watch.specs.Told.{or_else}
+use Rattle.std.specs.Option.{option_or}
 use Rattle.flat_facts.proofs.lemmas.Earlier.{finished-earlier, legal-earlier}
 use Rattle.flat_base.proofs.lemmas.Tests.{and-left}
 use Rattle.flat_links.proofs.PairTold.{child-told, view-lost, viewport-lost}
@@ -129,10 +129,10 @@ module _ (setup : Setup) (h : List Entry) (p : PairNo) where
       ∙ sym (viewport-lost setup h p v owned state.cleared (kept.cleared v owned))
 
   pub props-kept : (v : SessionNo) (decl : PairDecl) → slice_get setup.pairs p.0 ≡ Some decl → decl.viewport ≡ Session v → (state : PairState) → IsPairKept setup h p state
-      → or_else state.seen state.given ≡ props_told setup (viewport_owner setup p) h p
+      → option_or state.seen state.given ≡ props_told setup (viewport_owner setup p) h p
   props-kept v decl at is state kept =
       let owned : viewport_owner setup p ≡ Some (Session v) = owner-at setup p decl at ∙ ap (λ (a : Actor). Some a) is in
-      ap (λ (o : Option ViewportProps). or_else o state.given) (kept.seen v owned) ∙ ap (or_else (props_seen setup p (length (viewport_uses p h)) v h)) kept.given
+      ap (λ (o : Option ViewportProps). option_or o state.given) (kept.seen v owned) ∙ ap (option_or (props_seen setup p (length (viewport_uses p h)) v h)) kept.given
       ∙ sym (ap (λ (o : Option Actor). props_told setup o h p) owned)
 
   pub child-kept : (n : ℕ) (decl : PairDecl) → slice_get setup.pairs p.0 ≡ Some decl → (state : PairState) → IsPairKept setup h p state → (owner : Sight) → IsLastSight setup h decl.view owner

@@ -19,7 +19,7 @@ use Rattle.flat_rules.specs.Legal.{Legal}
 use Rattle.flat_rules.specs.Shown.{is_connected, is_pair, shown_view}
 use Rattle.flat_rules.specs.Stamps.{is_seen}
 use Rattle.flat_rules.specs.Watch.{Watcher, are_joined, child_of, layout_of, listener, props_given, props_seen, props_told, ratio_told, status_of, told}
-use Rattle.flat_watch.specs.Told.{or_else}
+use Rattle.std.specs.Option.{option_or}
 use Rattle.flat_states.proofs.lemmas.Counts.{at-session}
 use Rattle.flat_links.specs.declared.following.Following.{Following}
 use Rattle.flat_links.specs.declared.following.Sight.{Sight}
@@ -156,7 +156,7 @@ module _ (setup : Setup) (h : List Entry) (line : ℕ) (legal : Legal setup (fin
         by_owner (Probe n) viewport = rw (owner-is, viewport) refl
         by_owner (Session v) viewport =
             let owned : viewport_owner setup p ≡ Some (Session v) = owner-is ∙ ap (λ (a : Actor). Some a) viewport in
-            sym (props-kept setup k p v decl at viewport (settled was) kept_then) ∙ ap (λ (o : Option ViewportProps). or_else o was.given) same ∙ props-kept setup h p v decl at viewport was kept
+            sym (props-kept setup k p v decl at viewport (settled was) kept_then) ∙ ap (λ (o : Option ViewportProps). option_or o was.given) same ∙ props-kept setup h p v decl at viewport was kept
 
     layout-same : was.pending ≡ was.seen → told setup k (layout_of p) ≡ told setup h (layout_of p)
     layout-same same =

@@ -11,9 +11,9 @@ use Rattle.flat_rules.specs.Numbers.{AllNumbered}
 use Rattle.flat_links.specs.Usage.{SeesUses, SettlesPairs, props_among, settled, with_pending}
 use Rattle.flat_states.proofs.lemmas.BeginLoop.{none-below, not-below, same-side, this-side}
 use Rattle.flat_states.proofs.lemmas.Changes.{changed-one}
-use Rattle.flat_watch.specs.Told.{or_else}
+use Rattle.std.specs.Option.{option_or}
 
-or-three : (x y z : Option ViewportProps) → or_else x (or_else y z) ≡ or_else (or_else x y) z
+or-three : (x y z : Option ViewportProps) → option_or x (option_or y z) ≡ option_or (option_or x y) z
 or-three (Some a) y z = refl
 or-three None y z = refl
 
@@ -34,7 +34,7 @@ sees-more one rest a b c first later = record {
         same = rest_step.same ∙ ap (λ (s : PairState). with_pending s z.pending) one_step.same;
         pending = λ n is.
             let one_by : Option ViewportProps = cond (one.pair.0 == p.0 && one.serial == n) (Some one.props) None in
-            rest_step.pending n (ap (λ (s : PairState). s.serial) one_step.same ∙ is) ∙ ap (or_else (props_among p rest n)) (one_step.pending n is) ∙ or-three (props_among p rest n) one_by x.pending;
+            rest_step.pending n (ap (λ (s : PairState). s.serial) one_step.same ∙ is) ∙ ap (option_or (props_among p rest n)) (one_step.pending n is) ∙ or-three (props_among p rest n) one_by x.pending;
       };
 }
 

@@ -20,7 +20,7 @@ use Rattle.flat_links.specs.Views.{ended_by, is_ended}
 use Rattle.std.specs.List.{list_any}
 use Rattle.flat_facts.specs.Views.{if_unended, is_loss}
 use Rattle.flat_states.specs.declared.state.Account.{Account}
-use Rattle.flat_watch.specs.Told.{or_else}
+use Rattle.std.specs.Option.{option_or}
 
 -- a pair's state after a use with these properties, whose viewport has that serial
 abbrev pub used_by : ℕ → ViewportProps → PairState → PairState
@@ -34,7 +34,7 @@ pub record UsesPair (p : PairNo) (serial : ℕ) (props : ViewportProps) (old new
 -- the properties of the last of these viewports that is of a pair and has a serial
 abbrev pub props_among : PairNo → List ViewportUse → ℕ → Option ViewportProps
 props_among p [] serial = None
-props_among p (one ∷ more) serial = or_else (props_among p more serial) (cond (one.pair.0 == p.0 && one.serial == serial) (Some one.props) None)
+props_among p (one ∷ more) serial = option_or (props_among p more serial) (cond (one.pair.0 == p.0 && one.serial == serial) (Some one.props) None)
 
 -- a pair's state with other properties pending
 abbrev pub with_pending : PairState → Option ViewportProps → PairState
@@ -43,7 +43,7 @@ with_pending state props = record state { pending = props }
 -- The state of a pair after a frame began with these viewports: what is pending of the last use changes where one of them has its serial.
 pub record SeesOne (p : PairNo) (uses : List ViewportUse) (old new : PairState) : Type 0 where
   pub same : new ≡ with_pending old new.pending
-  pub pending : (n : ℕ) → old.serial ≡ capped n → new.pending ≡ or_else (props_among p uses n) old.pending
+  pub pending : (n : ℕ) → old.serial ≡ capped n → new.pending ≡ option_or (props_among p uses n) old.pending
 
 -- The states of all pairs after that.
 pub record SeesUses (uses : List ViewportUse) (old new : List PairState) : Type 0 where

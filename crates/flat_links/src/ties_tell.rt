@@ -1,16 +1,14 @@
 //! What the ends of a pair tell, by what is kept of it and of its owners.
-ghost use Rattle.std.specs.Prelude.{◌≡◌, ℕ, ◌<◌, ◌||◌, length, nat_lt};
+ghost use Rattle.std.specs.Prelude.{◌≡◌, ℕ, ◌<◌, ◌||◌, length, nat_lt, List};
 ghost use Rattle.flat_scene.specs.declared.setup.Setup.{Setup};
 ghost use Rattle.flat_scene.specs.declared.journal.Entry.{Entry};
-ghost use Rattle.std.specs.Prelude.{List};
 ghost use Rattle.flat_rules.specs.Ends.{is_viewport_lost, to_finished, view_uses, viewport_owner};
 ghost use Rattle.flat_links.specs.Following.{AreTied, IsLastSight};
 ghost use Rattle.flat_rules.specs.Legal.{Legal};
 ghost use Rattle.flat_rules.specs.Stamps.{is_seen};
 ghost use Rattle.flat_rules.specs.Shown.{is_pair};
-ghost use Rattle.flat_watch.specs.Told.{or_else};
-ghost use Rattle.flat_rules.specs.Watch.{are_joined, props_told, told, layout_of, status_of};
-ghost use Rattle.flat_rules.specs.Watch.{child_of, ratio_told};
+ghost use Rattle.std.specs.Option.{option_or};
+ghost use Rattle.flat_rules.specs.Watch.{are_joined, props_told, told, layout_of, status_of, child_of, ratio_told};
 ghost use Rattle.flat_states.specs.Ports.{port_of};
 
 use crate::following::Sight;
@@ -40,7 +38,7 @@ fn is_pair(pair: Option<PairNo>, p: PairNo) -> bool
 
 /// The properties that were seen last, or else those given.
 fn latest(seen: Option<ViewportProps>, given: Option<ViewportProps>) -> Option<ViewportProps>
-    ensures { result ≡ or_else seen given }
+    ensures { result ≡ option_or seen given }
 {
     match seen {
         Some(props) => Some(props),

@@ -20,16 +20,7 @@ merged number (done ∷ dones) (frame ∷ frames) lines =
     map said (take (count_before number done lines) lines) ++ finished frame ∷ merged number dones frames (drop (count_before number done lines) lines)
 merged number _ _ lines = map said lines
 
--- a frame without its draw items
-abbrev pub without_items : FrameOut → FrameOut
-without_items out = record out { items = [] }
-
 -- ---- one after another
-
--- what is kept after all that happens, by what is kept after one thing
-abbrev pub after_all : {A S : Type 0} → (Happening A → S → S) → List (Happening A) → S → S
-after_all after [] now = now
-after_all after (one ∷ later) now = after_all after later (after one now)
 
 -- the lines of all that happens, by those of one thing and what is kept after it
 abbrev pub all_lines : {A S : Type 0} → (S → Happening A → List (List Word)) → (Happening A → S → S) → S → List (Happening A) → List (List Word)

@@ -1,15 +1,11 @@
-ghost use Rattle.std.specs.Prelude.{◌≡◌, ◌<◌, ◌≤◌, ◌^◌, ℕ, length, [], Ok, Err, IfSome, IfOk};
-ghost use Rattle.std.specs.Prelude.{IfErr, OnErr, FitsSigned, ◌+◌};
+ghost use Rattle.std.specs.Prelude.{◌≡◌, ◌<◌, ◌≤◌, ◌^◌, ℕ, length, [], Ok, Err, IfSome, IfOk, IfErr, OnErr, FitsSigned, ◌+◌};
 ghost use Rattle.std.specs.Int.{w32};
 ghost use Rattle.flat_text.specs.Number.{signed};
-ghost use Rattle.flat_text.specs.Pieces.{is_space, pieces_left};
+ghost use Rattle.flat_text.specs.Pieces.{is_space};
+ghost use Rattle.flat_text.specs.Left.{pieces_left};
 ghost use Rattle.flat_places.specs.Forms.{passes, optional};
-ghost use Rattle.flat_places.specs.Places.{number_below, number_from, transform, content, time};
-ghost use Rattle.flat_places.specs.Places.{u32, colour, i32, int_rect, inset, orientation, blend};
-ghost use Rattle.flat_places.specs.Places.{choice, flip, interaction, region, regions, transforms};
-ghost use Rattle.flat_places.specs.Places.{unsquashable, version, ratio, first_ratio};
-ghost use Rattle.flat_places.specs.Reads.{Reads, TakesWord, left, sofar, lower, giving, finished};
-ghost use Rattle.flat_places.specs.Reads.{reading_of};
+ghost use Rattle.flat_places.specs.Places.{number_below, number_from, transform, content, time, u32, colour, i32, int_rect, inset, orientation, blend, choice, flip, interaction, region, regions, transforms, unsquashable, version, ratio, first_ratio};
+ghost use Rattle.flat_places.specs.Reads.{Reads, TakesWord, left, sofar, lower, giving, finished, reading_of};
 
 use crate::kinds::FaultKind;
 use crate::known::knows;

@@ -5,6 +5,9 @@ use flat_scene::{LineList, Setup};
 /// gives, and the lines of its body.
 #[derive(Drop)]
 pub struct Script {
+    /// Of the grammar, from 1 to [`VERSION_MAX`](flat_base::VERSION_MAX). No rule of the service
+    /// asks for it.
+    pub version: u32,
     pub setup: Setup,
     /// Names in order of declaration. The numbers of sessions begin at 1, all
     /// others at 0.

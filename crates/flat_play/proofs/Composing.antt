@@ -9,7 +9,8 @@ use Rattle.flat_scene.specs.declared.frames.ViewTree.{ViewTree}
 use Rattle.flat_scene.specs.declared.journal.Entry.{Entry}
 use Rattle.flat_scene.specs.declared.setup.Setup.{Setup}
 use Rattle.flat_scene.specs.Frames.{setup_at}
-use Rattle.flat_scene.specs.Setups.{at_ratio, is_declared, is_setup}
+use Rattle.flat_scene.specs.Setups.{at_ratio, is_declared}
+use Rattle.flat_scene.specs.Heads.{is_setup}
 use Rattle.flat_rules.specs.Ends.{has_view}
 use Rattle.flat_rules.specs.Shown.{shown_states}
 use Rattle.flat_topology.specs.Draw.{draw_list}

@@ -12,12 +12,13 @@ use Rattle.flat_rules.specs.Drawable.{ItemsAreDrawable}
 use Rattle.flat_rules.specs.Ends.{to_begin}
 use Rattle.flat_rules.specs.Legal.{frames}
 use Rattle.flat_scene.specs.declared.journal.Entry.{Entry}
-use Rattle.flat_scene.specs.History.{◌▹◌, history_of, is_end, is_finish}
+use Rattle.flat_scene.specs.History.{◌▹◌, is_end, is_finish}
+use Rattle.flat_scene.specs.Journals.{history_of}
 use Rattle.flat_drawable.specs.Drawable.{IsDrawable}
 use Rattle.flat_base.specs.Last.{last_item}
 use Rattle.flat_page.proofs.lemmas.LastItems.{last-more}
 use Rattle.flat_scene.specs.declared.frames.FrameOut.{FrameOut}
-use Rattle.flat_texts.specs.Films.{IsFilm}
+use Rattle.flat_texts.specs.Filming.{IsFilm}
 use Rattle.flat_texts.specs.declared.film.Film as film
 use Rattle.flat_why.specs.Text.{why_lines, whys_at}
 use Rattle.flat_play.specs.declared.explaining.Explaining.{Explaining}
@@ -25,7 +26,7 @@ use Rattle.flat_play.specs.declared.explaining.Explaining.TheVariants.{Off, On, 
 use Rattle.flat_play.specs.Explaining.{StandsExplained, ToldExplained}
 use Rattle.flat_why.specs.Noted.{WhysStand}
 use Rattle.flat_why.specs.declared.whys.Whys.{Whys}
-use Rattle.flat_play.specs.Touches.{GoesOnAt, GoesOnByEnds, stays, enters}
+use Rattle.flat_play.specs.Touching.{enters, stays, GoesOnAt, GoesOnByEnds}
 use Rattle.flat_play.proofs.Touching.{no-finish}
 
 module _ (script : Script) where

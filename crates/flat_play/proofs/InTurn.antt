@@ -1,6 +1,6 @@
 -- Each probe's line is answered by the frame that was finished last before it.
 use Rattle.std.proofs.Common.{◌≡◌, ℕ, suc, ◌+◌, ◌<◌, Bool, true, false, ◌&&◌, ◌==◌, cond, nat_lt, nat_le, List, [], ◌∷◌, ◌++◌, length, map, take, replicate, refl, sym, ap, ◌∙◌, subst, arith, Option, Some, slice_get, slice_index_or, zero-add}
-use Rattle.std.specs.List.{flat_map, list_all}
+use Rattle.std.specs.List.{flat_map, list_all, range_with_len}
 use Rattle.std.proofs.lemmas.Bool.{eq-eqb, eqb-true}
 use Rattle.std.proofs.lemmas.Bool.Decides.{nat_tests}
 use Rattle.std.proofs.lemmas.List.{map-append, take_all}
@@ -19,9 +19,11 @@ use Rattle.flat_places.specs.declared.script.Script.{Script}
 use Rattle.flat_playable.specs.Playable.{is_played, rise_from}
 use Rattle.flat_report.specs.declared.probes.ProbeAnswer.{ProbeAnswer}
 use Rattle.flat_report.specs.Probes.{frame_seen, frames_seen}
-use Rattle.flat_report.specs.Report.{is_probe, numbers_from, probe_lines_of}
-use Rattle.flat_play.specs.Probing.{SeeInTurn, answer_of, answers_after, asked_of, frames_then, seen_in_turn, with_answer}
-use Rattle.flat_play.specs.Touches.{GoesOnAt, GoesOnByEnds, enters, frames_before, stays}
+use Rattle.flat_report.specs.Report.{is_probe, probe_lines_of}
+use Rattle.flat_play.specs.Probing.{SeeInTurn, answer_of, answers_after, asked_of, with_answer}
+use Rattle.flat_play.specs.InTurn.{frames_then, seen_in_turn}
+use Rattle.flat_play.specs.Touches.{frames_before}
+use Rattle.flat_play.specs.Touching.{enters, stays, GoesOnAt, GoesOnByEnds}
 use Rattle.flat_play.proofs.lemmas.Slots.{got-other, got-same}
 use Rattle.flat_play.proofs.Probed.{no-answer, own-one, own-same}
 use Rattle.flat_play.proofs.Touching.{all-before, no-finish}
@@ -143,10 +145,10 @@ module _ (script : Script) (place : ℕ) (x : ScriptLine) (at : At script place 
 -- ---- behind all lines
 
 flat-turns : (f : ScriptLine → ℕ) (own : ℕ → List ScriptLine) (k : ℕ) (answers : List (List ProbeAnswer)) → ((n : ℕ) (one : List ProbeAnswer) → slice_get answers n ≡ Some one → map frame_seen one ≡ map f (own (k + n)))
-    → frames_seen answers ≡ map f (flat_map own (numbers_from k (length answers)))
+    → frames_seen answers ≡ map f (flat_map own (range_with_len k (length answers)))
 flat-turns f own k [] each = refl
 flat-turns f own k (one ∷ later) each =
-    (λ i. here i ++ flat-turns f own (k + 1) later rest i) ∙ sym (map-append f (own k) (flat_map own (numbers_from (k + 1) (length later))))
+    (λ i. here i ++ flat-turns f own (k + 1) later rest i) ∙ sym (map-append f (own k) (flat_map own (range_with_len (k + 1) (length later))))
   where
     here : map frame_seen one ≡ map f (own k)
     here = each 0 one refl ∙ ap (λ m. map f (own m)) (let same : k + 0 ≡ k = omega arith in same)
@@ -160,7 +162,7 @@ turns-all script place history answers last many was =
     let all : take place script.lines ≡ script.lines = take_all place script.lines (omega (arith, last)) in
     flat-turns (λ line. frames_before line.number history) (λ n. probe_lines_of n script.lines) 0 answers
     (λ n one got. was n one got ∙ ap (λ (lines : List ScriptLine). frames_then history (probe_lines_of n lines)) all ∙ ap (λ m. frames_then history (probe_lines_of m script.lines)) (let same : n ≡ 0 + n = omega arith in same))
-    ∙ ap (λ count. frames_then history (flat_map (λ n. probe_lines_of n script.lines) (numbers_from 0 count))) many
+    ∙ ap (λ count. frames_then history (flat_map (λ n. probe_lines_of n script.lines) (range_with_len 0 count))) many
 
 -- the Ends finish no frame
 ends-same : (setup : Setup) (n : ℕ) (ends old : List Entry) → list_all (λ (entry : Entry). is_end entry.kind) ends ≡ true → frames_before n (ends ++ old) ≡ frames_before n old

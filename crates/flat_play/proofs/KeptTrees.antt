@@ -2,7 +2,7 @@
 use Rattle.std.proofs.Common.{◌≡◌, List, [], ◌∷◌, ◌++◌, map, Option, Some, sym, ap, ◌∙◌}
 use Rattle.std.proofs.lemmas.List.{map-append}
 use Rattle.flat_scene.specs.declared.frames.FrameOut.{FrameOut}
-use Rattle.flat_page.specs.Happenings.{without_items}
+use Rattle.flat_page.specs.Steps.{without_items}
 use Rattle.flat_page.proofs.lemmas.LastItems.{last-more}
 use Rattle.flat_play.specs.declared.trees.FrameTrees.{FrameTrees}
 use Rattle.flat_play.specs.Keeping.{AreTrees, listed}

@@ -10,4 +10,5 @@ pub mod Probed
 pub mod Shares
 pub mod lemmas
 pub mod Touching
+pub mod Unchanged
 pub mod KeptTrees

@@ -12,6 +12,7 @@ use Rattle.flat_display.specs.Lost.{is_lost}
 use Rattle.flat_display.specs.Shows.{Shows}
 use Rattle.flat_display.specs.Shows.Shows.{none, passed, took, failed}
 use Rattle.flat_report.specs.Report.{is_loss, is_lost_before}
+use Rattle.flat_report.specs.Runs.{is_display_number}
 use Rattle.flat_base.proofs.lemmas.Tests.{and-left, and-right, and-true}
 
 -- One display may be lost behind another.
@@ -117,14 +118,15 @@ loss_same history history' (a ∷ later) same was =
     let first = first_of history a later was in
     and-true (and-true (and-true first.above (ap (nat_le a.frame.0) same ∙ first.within)) first.order) (loss_same history history' later same first.rest)
 
--- the numbers of the displays that are lost have 32 bits
+-- the displays that are lost have numbers from 1, of 32 bits
 abbrev numbered : List Lost → Bool
-numbered = list_all (λ one. nat_lt one.display (2 ^ 32))
+numbered = list_all (λ one. is_display_number one.display)
 
-rise_numbered : (before : List Lost) (frame : FrameNo) (end n : ℕ) (losses : List Lost) → end ≤ 4294967296 → Rise before frame end n losses → numbered losses ≡ true
-rise_numbered before frame end n [] few done = refl
-rise_numbered before frame end n (one ∷ later) few (more at from to new rest) =
-    and-true (lt-ltb one.display 4294967296 (omega arith)) (rise_numbered before frame end (suc one.display) later few rest)
+rise_numbered : (before : List Lost) (frame : FrameNo) (end n : ℕ) (losses : List Lost) → 1 ≤ n → end ≤ 4294967296 → Rise before frame end n losses → numbered losses ≡ true
+rise_numbered before frame end n [] first few done = refl
+rise_numbered before frame end n (one ∷ later) first few (more at from to new rest) =
+    and-true (and-true (lt-ltb 0 one.display (omega arith)) (lt-ltb one.display 4294967296 (omega arith)))
+    (rise_numbered before frame end (suc one.display) later (omega arith) few rest)
 
-pub numbered_more : (frame : FrameNo) (end n : ℕ) (lost losses : List Lost) → numbered lost ≡ true → end ≤ 4294967296 → Rise lost frame end n losses → numbered (lost ++ losses) ≡ true
-numbered_more frame end n lost losses was few rise = all_append (λ one. nat_lt one.display (2 ^ 32)) lost losses was (rise_numbered lost frame end n losses few rise)
+pub numbered_more : (frame : FrameNo) (end n : ℕ) (lost losses : List Lost) → numbered lost ≡ true → 1 ≤ n → end ≤ 4294967296 → Rise lost frame end n losses → numbered (lost ++ losses) ≡ true
+numbered_more frame end n lost losses was first few rise = all_append (λ one. is_display_number one.display) lost losses was (rise_numbered lost frame end n losses first few rise)

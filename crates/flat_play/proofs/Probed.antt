@@ -25,7 +25,7 @@ use Rattle.flat_report.specs.Probes.{AreAnsweredBy, ProbesAnswered, answer_by, a
 use Rattle.flat_report.proofs.lemmas.ProbeSteps.{none-answered, last-answer-more, answered-on, answered-later}
 use Rattle.flat_report.specs.Report.{hits_at, is_probe, probe_lines_of}
 use Rattle.flat_play.specs.Probing.{ProbesStand, asked_of, answer_of, answers_after, with_answer}
-use Rattle.flat_play.specs.Touches.{GoesOnAt, stays, enters, GoesOnByEnds}
+use Rattle.flat_play.specs.Touching.{enters, stays, GoesOnAt, GoesOnByEnds}
 use Rattle.flat_play.proofs.lemmas.PlaySteps.{IsAsked, is_asked}
 use Rattle.flat_play.proofs.lemmas.Seen.{last-begin}
 use Rattle.flat_play.proofs.lemmas.Slots.{got-other, got-same, set-length}

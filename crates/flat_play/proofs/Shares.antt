@@ -6,7 +6,7 @@ use Rattle.std.proofs.lemmas.List.{map-append}
 use Rattle.flat_base.specs.declared.ids.SessionNo.{SessionNo}
 use Rattle.flat_scene.specs.declared.script.ScriptLine.{ScriptLine}
 use Rattle.flat_scene.specs.Frames.{sessions_to}
-use Rattle.flat_scene.specs.History.{seat_number}
+use Rattle.flat_scene.specs.Journals.{seat_number}
 use Rattle.flat_rules.proofs.lemmas.ShownList.{length-listed}
 use Rattle.flat_play.specs.Playing.{lines_by, with_one_more}
 use Rattle.flat_play.proofs.lemmas.Starting.{by_at_most, sessions_more}

@@ -33,7 +33,8 @@ use Rattle.flat_play.proofs.lemmas.Seen.{last-begin}
 use Rattle.flat_play.proofs.lemmas.Growing.{Grows}
 use Rattle.flat_play.proofs.lemmas.Growing as grow
 use Rattle.flat_pointer.specs.Lines.{rise_after}
-use Rattle.flat_play.specs.Touches.{frames_before, call_hits, touch_of, hits_in, touch_in, GoesOnAt, stays, enters, GoesOnByEnds, AnswersUpto, AreAnswered}
+use Rattle.flat_play.specs.Touches.{frames_before, call_hits, touch_of}
+use Rattle.flat_play.specs.Touching.{enters, stays, hits_in, touch_in, GoesOnAt, GoesOnByEnds, AnswersUpto, AreAnswered}
 
 -- ---- lists
 

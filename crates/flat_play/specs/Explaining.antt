@@ -3,7 +3,7 @@ use Rattle.std.specs.Prelude.{⊤, Bool, true, false, List}
 use Rattle.flat_scene.specs.declared.journal.Entry.{Entry}
 use Rattle.flat_places.specs.declared.script.Script.{Script}
 use Rattle.flat_report.specs.Report.{finished}
-use Rattle.flat_texts.specs.Films.{IsFilm}
+use Rattle.flat_texts.specs.Filming.{IsFilm}
 use Rattle.flat_why.specs.Noted.{WhysStand, WhysTell}
 use Rattle.flat_play.specs.declared.explaining.Explaining.{Explaining}
 use Rattle.flat_play.specs.declared.explaining.Explaining.TheVariants.{Off, On, Film}

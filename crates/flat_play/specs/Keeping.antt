@@ -1,10 +1,12 @@
 -- What a run keeps of the frames that it finished.
 use Rattle.std.specs.Prelude.{◌≡◌, List, [], ◌∷◌, ◌++◌, map, Option, Some, None}
 use Rattle.flat_base.specs.Last.{last_item}
+use Rattle.flat_base.specs.declared.ids.FrameNo.{FrameNo}
 use Rattle.flat_scene.specs.declared.frames.FrameOut.{FrameOut}
-use Rattle.flat_page.specs.Happenings.{without_items}
+use Rattle.flat_scene.specs.declared.frames.ViewTree.{ViewTree}
+use Rattle.flat_page.specs.Steps.{without_items}
 use Rattle.flat_places.specs.declared.script.Script.{Script}
-use Rattle.flat_report.specs.FrameTexts.{AreTexts}
+use Rattle.flat_report.specs.FrameTexts.{AreTexts, unchanged}
 use Rattle.flat_texts.specs.Damages.{IsFound}
 use Rattle.flat_play.specs.declared.kept.Kept.{Kept}
 use Rattle.flat_play.specs.declared.kept.Kept.TheVariants as kept
@@ -39,3 +41,8 @@ Keeps script (kept.Last last) frames = last ≡ last_item frames
 pub record KeepsMore (script : Script) (frame : FrameOut) (old new : Kept) : Type 0 where
   pub same : keeping_of new ≡ keeping_of old
   pub more : (frames : List FrameOut) → Keeps script old frames → Keeps script new (frames ++ frame ∷ [])
+
+-- One frame more is kept, in the same way: that of a number and with a view tree, which has the items of the last one.
+pub record KeepsUnchanged (script : Script) (number : FrameNo) (tree : ViewTree) (old new : Kept) : Type 0 where
+  pub same : keeping_of new ≡ keeping_of old
+  pub more : (frames : List FrameOut) (last : FrameOut) → Keeps script old frames → last_item frames ≡ Some last → Keeps script new (frames ++ unchanged number tree last ∷ [])

@@ -1,8 +1,10 @@
 pub mod Beginning
 pub mod Explaining
+pub mod InTurn
 pub mod Keeping
 pub mod Last
 pub mod Playing
 pub mod Probing
 pub mod Showing
 pub mod Touches
+pub mod Touching

@@ -18,7 +18,8 @@ use Rattle.flat_scene.specs.declared.script.ScriptLine.{ScriptLine}
 use Rattle.flat_scene.specs.declared.setup.Setup.{Setup}
 use Rattle.flat_scene.specs.declared.frames.SessionSet.{SessionSet}
 use Rattle.flat_scene.specs.Frames.{ratio, sessions_to}
-use Rattle.flat_scene.specs.History.{own, is_end, seat_number}
+use Rattle.flat_scene.specs.History.{own, is_end}
+use Rattle.flat_scene.specs.Journals.{seat_number}
 use Rattle.flat_scene.specs.Interleave.{session_lines, display_lines, by_display, unread_lines, last_line, FollowsDisplay, Interleaves, IsReading}
 use Rattle.flat_scene.specs.Setups.{at_ratio, is_declared}
 use Rattle.flat_core.specs.Machines.{Machine, entered, made}
@@ -28,7 +29,7 @@ use Rattle.flat_rules.specs.Shown.{shown_states}
 use Rattle.flat_topology.specs.Changes.{AreSame}
 use Rattle.flat_topology.specs.Hits.{hit_list}
 use Rattle.flat_topology.specs.Shown.{Shown}
-use Rattle.flat_topology.specs.Views.{is_member}
+use Rattle.flat_topology.specs.Members.{is_member}
 use Rattle.flat_report.specs.declared.report.HitAnswer.{HitAnswer}
 use Rattle.flat_report.specs.Handed.{answers_of}
 use Rattle.flat_report.specs.Report.{finished, frame_at}

@@ -13,8 +13,8 @@ use Rattle.flat_topology.specs.Shown.{Shown}
 use Rattle.flat_places.specs.declared.script.Script.{Script}
 use Rattle.flat_report.specs.declared.probes.ProbeAnswer.{ProbeAnswer}
 use Rattle.flat_report.specs.Probes.{asked_hits, frame_seen, ProbesAnswered}
-use Rattle.flat_report.specs.Report.{probe_lines, probe_lines_of}
-use Rattle.flat_play.specs.Touches.{frames_before}
+use Rattle.flat_report.specs.Report.{probe_lines_of}
+use Rattle.flat_play.specs.InTurn.{frames_then}
 
 -- a script up to a place
 abbrev pub script_to : ℕ → Script → Script
@@ -44,14 +44,6 @@ answers_after setup shown frame number (Some (p, asked)) answers = with_answer p
 
 -- ---- when they are asked
 
--- the frames that were finished last before some lines
-abbrev pub frames_then : List Entry → List ScriptLine → List ℕ
-frames_then history lines = map (λ line. frames_before line.number history) lines
-
 -- Each probe's line is answered by the frame that was finished last before it.
 abbrev pub SeeInTurn : List ScriptLine → List Entry → List (List ProbeAnswer) → Type 0
 SeeInTurn lines history answers = (n : ℕ) (one : List ProbeAnswer) → slice_get answers n ≡ Some one → map frame_seen one ≡ frames_then history (probe_lines_of n lines)
-
--- the frames that the probes' lines see in a play, in the order of the report
-abbrev pub seen_in_turn : Script → List Entry → List ℕ
-seen_in_turn script history = frames_then history (probe_lines script)

@@ -8,6 +8,7 @@ use Rattle.flat_display.specs.Had.{AreDriven}
 use Rattle.flat_display.specs.Lost.{Driven}
 use Rattle.flat_display.specs.Shows.{Shows}
 use Rattle.flat_report.specs.Report.{is_loss}
+use Rattle.flat_report.specs.Runs.{is_display_number}
 
 -- Displays of a type tell these frames, and have these counts of faults.
 module _ {D : Type 0} (told : D → Option (List FrameOut)) (count : D → ℕ) where
@@ -21,4 +22,4 @@ module _ {D : Type 0} (told : D → Option (List FrameOut)) (count : D → ℕ) 
   pub record HaveSeen (frames : List FrameOut) (history : List Entry) (lost : List Lost) (olds news : List D) : Type 0 where
     pub driven : AreDriven told count lost frames olds news
     pub loss : is_loss history lost ≡ true
-    pub numbered : list_all (λ one. nat_lt one.display (2 ^ 32)) lost ≡ true
+    pub numbered : list_all (λ one. is_display_number one.display) lost ≡ true

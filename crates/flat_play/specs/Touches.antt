@@ -1,18 +1,14 @@
 -- Pointers' lines that stand beside a script: whom a pointer that goes down hits, in the frame that was finished last before its line.
-use Rattle.std.specs.Prelude.{◌≡◌, ℕ, ◌+◌, true, cond, ◌&&◌, nat_le, nat_lt, List, [], ◌++◌, map}
-use Rattle.std.specs.List.{list_all}
+use Rattle.std.specs.Prelude.{ℕ, ◌+◌, cond, ◌&&◌, nat_lt, List, []}
 use Rattle.flat_scene.specs.declared.frames.Hit.{Hit}
 use Rattle.flat_scene.specs.declared.journal.Entry.{Entry}
 use Rattle.flat_scene.specs.declared.setup.Setup.{Setup}
-use Rattle.flat_scene.specs.History.{◌▹◌, is_end, is_finish}
+use Rattle.flat_scene.specs.History.{◌▹◌, is_finish}
 use Rattle.flat_report.specs.Report.{begin_of, hits_at}
-use Rattle.flat_topology.specs.Hits.{hit_list}
-use Rattle.flat_topology.specs.Shown.{Shown}
 use Rattle.flat_pointer.specs.declared.text.PointerCall.{PointerCall}
 use Rattle.flat_pointer.specs.declared.text.PointerCall.TheVariants.{Down}
 use Rattle.flat_pointer.specs.declared.text.PointerLine.{PointerLine}
 use Rattle.flat_pointer.specs.declared.text.Touch.{Touch}
-use Rattle.flat_pointer.specs.Lines.{rise_after}
 
 -- how many frames were finished by lines before that of a number
 abbrev pub frames_before : ℕ → List Entry → ℕ
@@ -28,42 +24,6 @@ call_hits setup begun _ = []
 abbrev pub touch_of : Setup → List Entry → PointerLine → Touch
 touch_of setup history line = record { line = line; hits = call_hits setup (begin_of (frames_before line.number history) history) line.call }
 
--- the same by the states that are shown, at the pixel ratio of the setup
-abbrev pub hits_in : Setup → Shown → PointerCall → List Hit
-hits_in setup shown (Down x y) = hit_list setup shown x y
-hits_in setup shown _ = []
-
-abbrev pub touch_in : Setup → Shown → PointerLine → Touch
-touch_in setup shown line = record { line = line; hits = hits_in setup shown line.call }
-
 -- ---- how a history goes on
 
--- by one entry of a line at most
-pub data GoesOnAt (number : ℕ) (old new : List Entry) : Type 0 where
-  stays : new ≡ old → GoesOnAt number old new
-  enters : (entry : Entry) → entry.line ≡ number → new ≡ (old ▹ entry) → GoesOnAt number old new
-
--- by Ends alone
-pub record GoesOnByEnds (old new : List Entry) : Type 0 where
-  pub ends : List Entry
-  pub is : new ≡ ends ++ old
-  pub are_ends : list_all (λ entry. is_end entry.kind) ends ≡ true
-
 -- ---- how far the lines are answered
-
--- The lines that come next, up to that of a number, are answered by what is shown, and the later ones are left.
-pub record AnswersUpto (setup : Setup) (shown : Shown) (number : ℕ) (lines later : List PointerLine) (old new : List Touch) : Type 0 where
-  pub early : List PointerLine
-  pub parts : lines ≡ early ++ later
-  pub up_to : list_all (λ line. nat_le line.number number) early ≡ true
-  pub rest : (from : ℕ) → rise_after from lines ≡ true → rise_after number later ≡ true
-  pub touches : new ≡ old ++ map (touch_in setup shown) early
-
--- The first lines are answered, those up to that of a number, behind which no entry stands; the others are left.
-pub record AreAnswered (setup : Setup) (history : List Entry) (number : ℕ) (lines left : List PointerLine) (found : List Touch) : Type 0 where
-  pub answered : List PointerLine
-  pub parts : lines ≡ answered ++ left
-  pub touches : found ≡ map (touch_of setup history) answered
-  pub up_to : list_all (λ line. nat_le line.number number) answered ≡ true
-  pub after : rise_after number left ≡ true
-  pub entries : list_all (λ entry. nat_le entry.line number) history ≡ true

@@ -4,7 +4,7 @@
 ghost use Rattle.std.specs.Prelude.{◌≡◌, ℕ, true, List, length, IfOk, OnOk};
 ghost use Rattle.flat_places.specs.declared.script.Script.{Script};
 ghost use Rattle.flat_scene.specs.declared.journal.Entry.{Entry};
-ghost use Rattle.flat_scene.specs.Setups.{is_setup};
+ghost use Rattle.flat_scene.specs.Heads.{is_setup};
 ghost use Rattle.flat_rules.specs.Legal.{frames};
 ghost use Rattle.flat_report.specs.Report.{finished};
 ghost use Rattle.flat_why.specs.Text.{why_text};
@@ -12,7 +12,7 @@ ghost use Rattle.flat_play.specs.Explaining.{StandsExplained, ToldExplained, is_
 ghost use Rattle.flat_play.specs.declared.explaining.Explaining.TheVariants as explaining;
 ghost use Rattle.flat_play.specs.Keeping.{Keeps};
 ghost use Rattle.flat_play.specs.Playing.{FramesStand};
-ghost use Rattle.flat_play.specs.Touches.{GoesOnAt};
+ghost use Rattle.flat_play.specs.Touching.{GoesOnAt};
 
 use crate::play::Play;
 use flat_base::{FrameNo, NoMemory};

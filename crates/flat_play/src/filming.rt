@@ -3,13 +3,13 @@ ghost use Rattle.std.specs.Prelude.{◌≡◌, ◌<◌, ◌^◌, [], true, lengt
 ghost use Rattle.flat_display.specs.Had.{AreKept};
 ghost use Rattle.flat_play.specs.Beginning.{AreBegun};
 ghost use Rattle.flat_play.specs.Playing.{HasPlayed};
-ghost use Rattle.flat_play.specs.Probing.{seen_in_turn};
+ghost use Rattle.flat_play.specs.InTurn.{seen_in_turn};
 ghost use Rattle.flat_play.specs.Showing.{HaveSeen};
 ghost use Rattle.flat_playable.specs.Playable.{is_playable};
 ghost use Rattle.flat_report.specs.Probes.{ProbesAnswered, frames_seen};
 ghost use Rattle.flat_report.specs.Report.{finished};
 ghost use Rattle.flat_scene.specs.Interleave.{IsWritten};
-ghost use Rattle.flat_texts.specs.Films.{IsFilm};
+ghost use Rattle.flat_texts.specs.Filming.{IsFilm};
 
 use crate::explaining::Explaining;
 use crate::kept::Keeping;

@@ -2,7 +2,7 @@
 //! probes want: what is shown is joined at the first of them, and stays for the next ones
 //! and for later frames before which neither a session nor the pixel ratio changed.
 ghost use Rattle.std.specs.Prelude.{◌≡◌, ◌+◌, ◌<◌, ◌^◌, ◌++◌, List, [], ◌∷◌, true, length, map};
-ghost use Rattle.std.specs.Prelude.{IfOk, OnOk};
+ghost use Rattle.std.specs.Prelude.{IfOk, IsTrue, OnOk};
 ghost use Rattle.std.specs.List.{list_any};
 ghost use Rattle.std.specs.Arc.{arc_value};
 ghost use Rattle.flat_scene.specs.declared.frames.FrameOut.{FrameOut};
@@ -11,7 +11,8 @@ ghost use Rattle.flat_scene.specs.declared.setup.Setup.{Setup};
 ghost use Rattle.flat_scene.specs.declared.journal.Entry.{Entry};
 ghost use Rattle.flat_display.specs.Shows.{Shows};
 ghost use Rattle.flat_scene.specs.Frames.{setup_at};
-ghost use Rattle.flat_scene.specs.Setups.{at_ratio, is_setup};
+ghost use Rattle.flat_scene.specs.Setups.{at_ratio};
+ghost use Rattle.flat_scene.specs.Heads.{is_setup};
 ghost use Rattle.flat_topology.specs.Changes.{AreSame};
 ghost use Rattle.flat_topology.specs.Connected.{joined_lists};
 ghost use Rattle.flat_topology.specs.Fit.{FitsSetup};
@@ -146,6 +147,19 @@ impl LastFrame {
             items,
             tree,
         })
+    }
+
+    /// Whether the next frame has the items of this one: no session changed, and the pixel
+    /// ratio is the same.
+    pub fn stays(&self, changed: &SessionSet, ratio: u32) -> bool
+        ensures shown { (shown : Shown) → length self.now.reuse ≡ length shown →
+            AreSame changed.now self.now.reuse shown → IsTrue result → self.now.reuse ≡ shown }
+        ensures ratio { IsTrue result → self.now.ratio ≡ ratio }
+    {
+        if has_any(changed) {
+            return false;
+        }
+        self.ratio == ratio
     }
 
     /// What is joined of it, taken out; nothing where a session is one of these, or this

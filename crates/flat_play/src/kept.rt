@@ -6,15 +6,15 @@ ghost use Rattle.std.specs.Option.{option_copied};
 ghost use Rattle.flat_base.specs.Last.{last_item};
 ghost use Rattle.flat_scene.specs.declared.frames.FrameOut.{FrameOut};
 ghost use Rattle.flat_report.specs.FrameTexts.{frame_text};
-ghost use Rattle.flat_play.specs.Keeping.{Keeps, KeepsMore, keeping_of};
+ghost use Rattle.flat_play.specs.Keeping.{Keeps, KeepsMore, KeepsUnchanged, keeping_of};
 ghost use Rattle.flat_play.specs.declared.kept.Kept.TheVariants as kept;
 ghost use Rattle.flat_play.specs.declared.kept.Keeping.TheVariants as keeping;
 
 use crate::trees::FrameTrees;
-use flat_base::NoMemory;
+use flat_base::{FrameNo, NoMemory};
 use flat_places::Script;
-use flat_report::FrameTexts;
-use flat_scene::FrameOut;
+use flat_report::{FrameTexts, Pieces, unchanged};
+use flat_scene::{FrameOut, ViewTree};
 use flat_texts::FrameDamages;
 use std::alloc::Global;
 
@@ -70,6 +70,26 @@ impl Kept {
         }
     }
 
+    /// Keeps the next frame, before which nothing changed, by its number and its view tree.
+    pub fn keep_unchanged(
+        &mut self,
+        script: &Script,
+        number: FrameNo,
+        tree: ViewTree,
+    ) -> Result<(), NoMemory>
+        ensures { OnOk result (KeepsUnchanged script.now number tree self.old self.new) }
+    {
+        match self {
+            Kept::Texts(texts) => texts.push_unchanged(script, number, tree),
+            Kept::Damages(damages) => damages.push_unchanged(number, tree),
+            Kept::Trees(trees) => trees.push_unchanged(number, tree),
+            Kept::Last(last) => {
+                *last = unchanged(last.take(), number, tree);
+                Ok(())
+            }
+        }
+    }
+
     /// The last frame; none exactly where there is none.
     pub fn last(&self) -> Option<&FrameOut>
         ensures { (script : Script) (frames : List FrameOut) → Keeps script self.now frames →
@@ -84,7 +104,7 @@ impl Kept {
     }
 
     /// The text of the last frame, if there is one and texts are kept.
-    pub fn last_text(&self) -> Option<&[u8]>
+    pub fn last_text(&self) -> Option<&Pieces>
         ensures { (script : Script) (frames : List FrameOut) → Keeps script self.now frames →
             keeping_of self.now ≡ keeping.Texts → option_map (λ text. text.now) result
             ≡ last_item (map (frame_text script) frames) }

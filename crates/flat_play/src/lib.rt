@@ -1,7 +1,8 @@
 //! The play of a script in written order: its lines are read over one board, its frames
 //! composed and shown to displays, and lines of pointers and probes answered in between.
 //! It keeps `HasPlayed` (specs/Playing): run.rt goes through the lines, play.rt plays each,
-//! frame.rt composes and answers points, and kept.rt has what stays of the frames.
+//! next_frame.rt makes the next frame, frame.rt composes it and answers points, and kept.rt has
+//! what stays of the frames.
 //!
 //! Other crates may cite the lemmas of proofs/lemmas/: lines that leave frames alone (Alone),
 //! lines at their places (Places,
@@ -15,6 +16,7 @@ mod explaining;
 mod filming;
 mod frame;
 mod kept;
+mod next_frame;
 mod play;
 mod probes;
 mod run;

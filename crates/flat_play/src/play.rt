@@ -2,22 +2,22 @@
 //! beside them. What a begin shows stays until the next one, as the frame is composed at
 //! its done.
 ghost use Rattle.std.specs.Prelude.{◌≡◌, ◌+◌, ◌<◌, ◌^◌, [], true, length, map, Some, OnOk, OnErr};
-ghost use Rattle.std.specs.Prelude.{IfOk, slice_get};
+ghost use Rattle.std.specs.Prelude.{slice_get};
 ghost use Rattle.std.specs.Option.{option_copied};
 ghost use Rattle.flat_base.specs.declared.ids.Actor.TheVariants.{Display, Session};
 ghost use Rattle.flat_scene.specs.declared.journal.Kind.TheVariants.{Begin, Finish, Hit};
 ghost use Rattle.flat_scene.specs.declared.script.Body.TheVariants as body;
 ghost use Rattle.flat_scene.specs.Interleave.{entry_of_display, IsWritten};
-ghost use Rattle.flat_scene.specs.Setups.{is_setup};
+ghost use Rattle.flat_scene.specs.Heads.{is_setup};
 ghost use Rattle.flat_core.specs.Machines.{MayCall};
 ghost use Rattle.flat_rules.specs.Ends.{to_begin};
 ghost use Rattle.flat_rules.specs.Legal.{frames, reply_to};
 ghost use Rattle.flat_rules.specs.Shown.{shown_states};
 ghost use Rattle.flat_topology.specs.Changes.{AreSame};
-ghost use Rattle.flat_report.specs.Report.{finished, frame_at};
+ghost use Rattle.flat_report.specs.Report.{finished};
 ghost use Rattle.flat_playable.specs.Playable.{is_playable};
 ghost use Rattle.flat_play.specs.Playing.{session_text, display_text, is_alone};
-ghost use Rattle.flat_play.specs.Touches.{GoesOnAt, GoesOnByEnds};
+ghost use Rattle.flat_play.specs.Touching.{GoesOnAt, GoesOnByEnds};
 ghost use Rattle.flat_play.specs.Keeping.{Keeps, keeping_of};
 ghost use Rattle.flat_play.specs.Showing.{IsShown};
 ghost use Rattle.flat_scene.specs.declared.script.ScriptLine.{ScriptLine};
@@ -25,11 +25,11 @@ ghost use Rattle.flat_scene.specs.declared.script.ScriptLine.{ScriptLine};
 use crate::frame::{LastFrame, show_last};
 use crate::kept::Kept;
 use flat_base::{Actor, NoMemory, SessionNo, TryCopy};
-use flat_core::{Board, shown_states_fit};
+use flat_core::Board;
 use flat_display::{Display, DisplaySet};
 use flat_places::Script;
 use flat_report::{HitAnswer, HitAnswers};
-use flat_scene::{Body, CallList, DisplayLine, FrameOut, Line, SessionSet};
+use flat_scene::{Body, CallList, DisplayLine, Line, SessionSet};
 use flat_stage::{Reader, lines_are_read};
 use flat_topology::Shown;
 use std::alloc::Global;
@@ -57,38 +57,10 @@ pub struct Play {
 
 impl Play {
     ghost use Rattle.flat_play.specs.Last.{IsLast};
-    ghost use Rattle.flat_play.specs.Playing.{PlayStands, FramesStand, HasViews, BeginsFrame};
+    ghost use Rattle.flat_play.specs.Playing.{AnswersStand, PlayStands, FramesStand, HasViews};
+    ghost use Rattle.flat_play.specs.Playing.{BeginsFrame};
     ghost use Rattle.flat_play.specs.Playing.{FinishesFrame, EntersBeside, AsksPoint, EndsStand};
     ghost use Rattle.flat_play.specs.Playing.{HasPlayed};
-
-    /// The next frame, as it is composed of what the sessions show.
-    fn compose_next(&mut self, alloc: Global) -> Result<FrameOut, NoMemory>
-        requires setup { is_setup self.old.board.setup ≡ true }
-        requires stands { FramesStand self.old.board.setup self.old.board.history self.old.shown
-            self.old.ratio self.old.with_view }
-        requires views { HasViews self.old.board.setup self.old.with_view }
-        requires last { self.old.last.frame.0 ≡ frames self.old.board.history }
-        requires same { AreSame self.old.changed self.old.last.reuse self.old.shown }
-        requires few { frames self.old.board.history + 1 < 2 ^ 32 }
-        ensures frame { IfOk result (λ frame. frame
-            ≡ frame_at self.old.board.setup (frames self.old.board.history + 1)
-            (to_begin self.old.board.history)) }
-        ensures is { OnOk result (IsLast self.old.board.setup self.new.last) }
-        ensures shows { OnOk result (self.new.last.reuse ≡ self.old.shown) }
-        ensures ratio { self.new.last.ratio ≡ self.old.ratio }
-        ensures others { self.new ≡ record self.old { last = self.new.last } }
-    {
-        let _journal = self.board.journal();
-        shown_states_fit();
-        self.last.compose_next(
-            alloc,
-            self.board.setup(),
-            self.ratio,
-            &self.shown,
-            self.changed,
-            self.with_view,
-        )
-    }
 
     /// Begins a frame.
     fn begin(&mut self, number: u32, time: u64)
@@ -118,7 +90,8 @@ impl Play {
         requires stands { FramesStand self.old.board.setup self.old.board.history self.old.shown
             self.old.ratio self.old.with_view }
         requires views { HasViews self.old.board.setup self.old.with_view }
-        requires last { self.old.last.frame.0 ≡ frames self.old.board.history }
+        requires answers { AnswersStand self.old.board.setup self.old.board.history self.old.last
+            self.old.answers }
         requires same { AreSame self.old.changed self.old.last.reuse self.old.shown }
         requires few { frames self.old.board.history + 1 < 2 ^ 32 }
         requires of { self.old.board.setup ≡ script.now.setup }
@@ -135,8 +108,7 @@ impl Play {
         ensures kinds { map (λ d. d.vtable) displays.new.items
             ≡ map (λ d. d.vtable) displays.old.items }
     {
-        let frame = self.compose_next(alloc)?;
-        self.kept.keep(script, frame)?;
+        self.keep_next(alloc, script)?;
         show_last(set, displays, &self.kept);
         self.last.frame = self.board.done(number);
         Ok(())

@@ -2,7 +2,8 @@
 //! then, so that a probe is answered by the frame that was finished last, as it is kept.
 ghost use Rattle.std.specs.Prelude.{◌≡◌, ◌<◌, ℕ, [], true, length, replicate, Some, IfOk, OnOk};
 ghost use Rattle.flat_scene.specs.declared.script.ProbeLine.{ProbeLine};
-ghost use Rattle.flat_scene.specs.Setups.{at_ratio, is_setup};
+ghost use Rattle.flat_scene.specs.Setups.{at_ratio};
+ghost use Rattle.flat_scene.specs.Heads.{is_setup};
 ghost use Rattle.flat_play.specs.Last.{IsLast, StaysLast};
 ghost use Rattle.flat_play.specs.Probing.{asked_of, answers_after};
 

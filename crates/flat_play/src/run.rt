@@ -1,14 +1,13 @@
 //! A script is played in written order. What may fail has the play by `&mut`: each exit
 //! behind which it were held would drop all of it, part by part, which is most of what a
 //! check has to look at. Where it has to go, one call of `drop` lets it go.
-ghost use Rattle.std.specs.Prelude.{map, ◌≡◌, ◌+◌, ◌<◌, ◌^◌, slice_index, [], ◌∷◌, ◌++◌, List};
-ghost use Rattle.std.specs.Prelude.{true, length, replicate, All, IfOk, OnOk};
-ghost use Rattle.flat_scene.specs.History.{seat_number};
+ghost use Rattle.std.specs.Prelude.{map, ◌≡◌, ◌+◌, ◌<◌, ◌^◌, slice_index, [], ◌∷◌, ◌++◌, List, true, length, replicate, All, IfOk, OnOk};
+ghost use Rattle.flat_scene.specs.Journals.{seat_number};
 ghost use Rattle.flat_scene.specs.Interleave.{IsWritten};
-ghost use Rattle.flat_scene.specs.Setups.{is_setup};
+ghost use Rattle.flat_scene.specs.Heads.{is_setup};
 ghost use Rattle.flat_playable.specs.Playable.{is_playable};
 ghost use Rattle.flat_report.specs.Probes.{ProbesAnswered, frames_seen};
-ghost use Rattle.flat_play.specs.Probing.{seen_in_turn};
+ghost use Rattle.flat_play.specs.InTurn.{seen_in_turn};
 ghost use Rattle.flat_play.specs.Beginning.{AreBegun};
 ghost use Rattle.flat_play.specs.Playing.{with_one_more, shares_of, AreNew, PlayStands, HasPlayed};
 ghost use Rattle.flat_report.specs.Report.{finished};

@@ -1,9 +1,10 @@
 //! Lines of pointers are answered while the script is played, between its lines: so no
 //! joined tree of an earlier frame is kept for them.
 ghost use Rattle.std.specs.Prelude.{◌≡◌, ◌++◌, true, map, length, OnOk, IfOk, nat_le, take_while};
-ghost use Rattle.flat_scene.specs.Setups.{at_ratio, is_setup};
+ghost use Rattle.flat_scene.specs.Setups.{at_ratio};
+ghost use Rattle.flat_scene.specs.Heads.{is_setup};
 ghost use Rattle.flat_play.specs.Last.{IsLast, StaysLast};
-ghost use Rattle.flat_play.specs.Touches.{AnswersUpto, touch_in};
+ghost use Rattle.flat_play.specs.Touching.{AnswersUpto, touch_in};
 
 use crate::frame::LastFrame;
 use flat_base::NoMemory;

@@ -1,14 +1,15 @@
 //! The view trees of frames, on which alone the texts of focus and of pointers hang: so the
 //! items of a frame are dropped when the next one comes.
-ghost use Rattle.std.specs.Prelude.{◌≡◌, ◌∷◌, ◌++◌, [], List, map, IfOk, OnOk};
+ghost use Rattle.std.specs.Prelude.{◌≡◌, ◌∷◌, ◌++◌, [], List, Some, map, IfOk, OnOk};
 ghost use Rattle.std.specs.Option.{option_copied};
 ghost use Rattle.flat_base.specs.Last.{last_item};
-ghost use Rattle.flat_page.specs.Happenings.{without_items};
+ghost use Rattle.flat_page.specs.Steps.{without_items};
 ghost use Rattle.flat_scene.specs.declared.frames.FrameOut.{FrameOut};
+ghost use Rattle.flat_report.specs.FrameTexts.{unchanged};
 ghost use Rattle.flat_play.specs.Keeping.{AreTrees};
 
-use flat_base::{Items, NoMemory};
-use flat_scene::{FrameOut, ItemList};
+use flat_base::{FrameNo, Items, NoMemory};
+use flat_scene::{FrameOut, ItemList, ViewTree};
 use std::alloc::Global;
 
 /// Finished frames with their view trees, but without their draw items; the last frame
@@ -21,16 +22,25 @@ pub struct FrameTrees {
     last: Option<FrameOut>,
 }
 
+/// A frame without its draw items, and these.
+fn apart(alloc: Global, whole: FrameOut) -> (FrameOut, ItemList)
+    ensures { result ≡ (without_items whole, whole.items) }
+{
+    let FrameOut { frame, items, tree } = whole;
+    let bare = FrameOut {
+        frame,
+        items: ItemList::new(alloc),
+        tree,
+    };
+    (bare, items)
+}
+
 /// A frame without its draw items.
 fn without_items(alloc: Global, whole: FrameOut) -> FrameOut
     ensures { result ≡ without_items whole }
 {
-    let FrameOut { frame, tree, .. } = whole;
-    FrameOut {
-        frame,
-        items: ItemList::new(alloc),
-        tree,
-    }
+    let (bare, _items) = apart(alloc, whole);
+    bare
 }
 
 impl FrameTrees {
@@ -55,6 +65,26 @@ impl FrameTrees {
             self.before.push(tree)?;
         }
         self.last = Some(frame);
+        Ok(())
+    }
+
+    /// Keeps the next frame, before which nothing changed, by its number and its view tree.
+    pub fn push_unchanged(&mut self, number: FrameNo, tree: ViewTree) -> Result<(), NoMemory>
+        ensures { (frames : List FrameOut) (last : FrameOut) → AreTrees frames self.old →
+            last_item frames ≡ Some last →
+            OnOk result (AreTrees (frames ++ unchanged number tree last ∷ []) self.new) }
+    {
+        let Some(last) = self.last.take() else {
+            drop(tree);
+            return Ok(());
+        };
+        let (before, items) = apart(self.alloc, last);
+        self.last = Some(FrameOut {
+            frame: number,
+            items,
+            tree,
+        });
+        self.before.push(before)?;
         Ok(())
     }
 

@@ -5,10 +5,10 @@ use Rattle.std.specs.List.{list_all, slice_split}
 use Rattle.std.specs.Prelude.{find}
 use Rattle.std.specs.Fmt.{decimal}
 use Rattle.std.proofs.lemmas.Bool.Decides.{nat_tests}
-use Rattle.flat_base.specs.declared.limits.TheConstants.{SCRIPT_BYTES_MAX}
-use Rattle.flat_base.specs.declared.limits.TheConstants.{ONE, RATIO_SINCE}
+use Rattle.flat_base.specs.declared.limits.TheConstants.{SCRIPT_BYTES_MAX, ONE, RATIO_SINCE, VERSION_MAX}
 use Rattle.flat_scene.specs.declared.script.ScriptLine.{ScriptLine}
-use Rattle.flat_scene.specs.Setups.{is_setup}
+use Rattle.flat_scene.specs.Heads.{is_setup}
+use Rattle.flat_scene.specs.Setups.{is_within}
 use Rattle.flat_text.specs.Pieces.{is_feed, words_of, lines_of, without_empty_end}
 use Rattle.flat_places.specs.declared.kinds.FaultKind.TheVariants.{TooLong, NotAscii, LongLine, BadHead, BadOrder}
 use Rattle.flat_places.specs.declared.script.Script.{Script}
@@ -189,9 +189,10 @@ pub record Accepted (s : Script) : Type 0 where
   pub counted : list_all (λ (next : ScriptLine). nat_le next.number s.count) s.lines ≡ true
   pub frames : frames_close false 0 s.lines ≡ true
   pub played : list_all (λ (next : ScriptLine). is_played s.setup next.actor next.body) s.lines ≡ true
-  pub early : s.setup.version ≡ 1 → list_all is_of_first_version s.lines ≡ true
-  pub one : nat_lt s.setup.version RATIO_SINCE ≡ true → s.setup.ratio ≡ ONE
-  pub unscaled : nat_lt s.setup.version RATIO_SINCE ≡ true → list_all sets_no_ratio s.lines ≡ true
+  pub known : is_within VERSION_MAX s.version ≡ true
+  pub early : s.version ≡ 1 → list_all is_of_first_version s.lines ≡ true
+  pub one : nat_lt s.version RATIO_SINCE ≡ true → s.setup.ratio ≡ ONE
+  pub unscaled : nat_lt s.version RATIO_SINCE ≡ true → list_all sets_no_ratio s.lines ≡ true
 
 frames_end : (h : Script) (us : List ScriptLine) (opened : Bool) (time : ℕ) → FramesKept (with_lines h us) opened time → is_open (with_lines h us) ≡ false → frames_close false 0 us ≡ true
 frames_end h us opened time kept closed =
@@ -211,6 +212,7 @@ accepted_at n few s is less done =
       counted = k.counted count (omega arith);
       frames = frames_end done.h b.us k.frames.opened k.frames.time k.frames.kept b.closed;
       played = k.played;
+      known = ap (is_within VERSION_MAX) done.kept.said ∙ done.kept.known;
       early = k.early;
       one = λ early. done.kept.one (ap (λ n. nat_lt n RATIO_SINCE) (sym done.kept.said) ∙ early);
       unscaled = k.unscaled;
@@ -222,7 +224,7 @@ accepted_at n few s is less done =
 -- the parts of the test, and the line that says the version
 pub record AcceptedText (bytes : List ℕ) (s : Script) : Type 0 where
   pub script : Accepted s
-  pub first : first_kept bytes ≡ Some (version_line s.setup.version)
+  pub first : first_kept bytes ≡ Some (version_line s.version)
 
 by_size : (bytes : List ℕ) (s : Script) (b : Bool) → nat_lt (16 * 1024 * 1024) (length bytes) ≡ b
     → cond {A = Result Script ScriptFault} b (Err (record { line = 0; kind = TooLong })) (lines_read 1 (part.Start, empty) (lines_of bytes)) ≡ Ok s → AcceptedText bytes s
@@ -231,7 +233,7 @@ by_size bytes s false at is =
     let few : length bytes ≤ 16777216 = grind (arith, nat_tests) in
     let lines = few_lines bytes in
     let start = start_end (lines_of bytes) 1 s is in
-    let version : start.v ≡ s.setup.version = sym (ap (λ (t : Script). t.setup.version) start.head.body.made ∙ start.head.kept.said) in
+    let version : start.v ≡ s.version = sym (ap (λ (t : Script). t.version) start.head.body.made ∙ start.head.kept.said) in
     record {
       script = accepted_at (1 + length (lines_of bytes)) (length (lines_of bytes)) s refl (omega arith) start.head;
       first = start.first ∙ ap (λ v. Some (version_line v)) version;

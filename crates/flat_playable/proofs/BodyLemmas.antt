@@ -159,7 +159,7 @@ line_frames s n (Session a) words b opened time kept is =
     let m = mapped_ok body.Session (session_line s a words) b is in
     frames_at s n (Session a) (body.Session m.a) b m.value (record { opened = opened; time = time; kept = passed s n (Session a) (body.Session m.a) opened time refl refl (λ o t k c later. refl) kept })
 line_frames s n (Probe p) words b opened time kept is =
-    let m = mapped_ok body.Probe (probe_line s.setup.version words) b is in
+    let m = mapped_ok body.Probe (probe_line s.version words) b is in
     frames_at s n (Probe p) (body.Probe m.a) b m.value (record { opened = opened; time = time; kept = passed s n (Probe p) (body.Probe m.a) opened time refl refl (λ o t k c later. refl) kept })
 
 -- all of a body
@@ -172,8 +172,8 @@ pub record BodyKept (h : Script) (us : List ScriptLine) (n : ℕ) : Type 0 where
   pub counted : (c : ℕ) → n ≤ c + 1 → list_all (λ (next : ScriptLine). nat_le next.number c) us ≡ true
   pub frames : FramesGoOn (with_lines h us)
   pub played : list_all (λ (next : ScriptLine). is_played h.setup next.actor next.body) us ≡ true
-  pub early : h.setup.version ≡ 1 → list_all is_of_first_version us ≡ true
-  pub unscaled : nat_lt h.setup.version RATIO_SINCE ≡ true → list_all sets_no_ratio us ≡ true
+  pub early : h.version ≡ 1 → list_all is_of_first_version us ≡ true
+  pub unscaled : nat_lt h.version RATIO_SINCE ≡ true → list_all sets_no_ratio us ≡ true
 
 pub body_empty : (h : Script) (n : ℕ) → 0 < n → BodyKept h [] n
 body_empty h n some = record {

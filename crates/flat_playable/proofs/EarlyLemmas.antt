@@ -44,35 +44,35 @@ alone_never version (w ∷ words) alone rest first given = by_test (bytes_eq w (
     by_test true false at known value = cc
     by_test false c at known value = cc
 
-present_early : (s : Script) (a : SessionNo) (p : PresentArgs) (words : List Word) → s.setup.version ≡ 1 → whole (line.Present <$> present s a) words ≡ Ok (line.Present p) → is_early (line.Present p) ≡ true
+present_early : (s : Script) (a : SessionNo) (p : PresentArgs) (words : List Word) → s.version ≡ 1 → whole (line.Present <$> present s a) words ≡ Ok (line.Present p) → is_early (line.Present p) ≡ true
 present_early s a p words early is =
     let lists : Form (List FenceNo × List FenceNo) = λ ws. (fence_lists (fence_word s (Session a)) ws, []) in
-    let alone = unsquashable s.setup.version in
+    let alone = unsquashable s.version in
     let h : ℕ → Bool → List FenceNo × List FenceNo → PresentArgs = λ t u both. record { time = t; acquire = both.0; release = both.1; unsquashable = u } in
     let whole_line = map_ok line.Present (present s a) words (line.Present p) [] (whole_ok (line.Present <$> present s a) words (line.Present p) is) in
     let third = apply_ok (h <$> time <*> alone) lists words whole_line.a [] whole_line.given in
     let second = apply_ok (h <$> time) alone words third.g third.mid third.first in
     let first = map_ok h time words second.g second.mid second.first in
-    let none : false ≡ second.a = alone_never s.setup.version second.mid second.a third.mid early second.second in
+    let none : false ≡ second.a = alone_never s.version second.mid second.a third.mid early second.second in
     let args : h first.a second.a third.a ≡ whole_line.a = ap (λ g. g second.a third.a) first.value ∙ ap (λ g. g third.a) second.value ∙ third.value in
     ap is_early (sym (ap (λ u. line.Present (h first.a u third.a)) none ∙ ap line.Present args ∙ whole_line.value))
 
-call_early : (s : Script) (a : SessionNo) (c : Call) → s.setup.version ≡ 1 → session_line s a (call_words s c) ≡ Ok (line.Call c) → is_early (line.Call c) ≡ true
+call_early : (s : Script) (a : SessionNo) (c : Call) → s.version ≡ 1 → session_line s a (call_words s c) ≡ Ok (line.Call c) → is_early (line.Call c) ≡ true
 call_early s a (call.ReplaceChildren p ks) first is = absurd (let wrong = rw first at is in cc)
 call_early s a _ first is = refl
 
-session_early : (s : Script) (a : SessionNo) (l : Line) → s.setup.version ≡ 1 → session_line s a (session_words s l) ≡ Ok l → is_early l ≡ true
+session_early : (s : Script) (a : SessionNo) (l : Line) → s.version ≡ 1 → session_line s a (session_words s l) ≡ Ok l → is_early l ≡ true
 session_early s a (line.Call c) first is = call_early s a c first is
 session_early s a (line.Present p) first is = present_early s a p (decimal p.time ∷ unsquashable_word p.unsquashable ++ lists_words s p) first is
 session_early s a _ first is = refl
 
 -- a line that sets a pixel ratio isn't read below the third version
-display_unscaled : (s : Script) (n : ℕ) (l : DisplayLine) → nat_lt s.setup.version RATIO_SINCE ≡ true → display_line s (display_words s l) ≡ Ok l
+display_unscaled : (s : Script) (n : ℕ) (l : DisplayLine) → nat_lt s.version RATIO_SINCE ≡ true → display_line s (display_words s l) ≡ Ok l
     → sets_no_ratio (record { number = n; actor = Display; body = body.Display l }) ≡ true
 display_unscaled s n (display.Dpr r) early is = absurd (let wrong : true ≡ false = sym early ∙ (ratio_line s r (decimal r ∷ []) is).0 in cc)
 display_unscaled s n _ early is = refl
 
-pub line_unscaled : (s : Script) (n : ℕ) (a : Actor) (words : List Word) (b : Body) → nat_lt s.setup.version RATIO_SINCE ≡ true → actor_line s a words ≡ Ok b
+pub line_unscaled : (s : Script) (n : ℕ) (a : Actor) (words : List Word) (b : Body) → nat_lt s.version RATIO_SINCE ≡ true → actor_line s a words ≡ Ok b
     → sets_no_ratio (record { number = n; actor = a; body = b }) ≡ true
 line_unscaled s n Display words b early is =
     let m = mapped_ok body.Display (display_line s words) b is in
@@ -82,10 +82,10 @@ line_unscaled s n (Session a) words b early is =
     let m = mapped_ok body.Session (session_line s a words) b is in
     ap (λ t. sets_no_ratio (record { number = n; actor = Session a; body = t })) (sym m.value)
 line_unscaled s n (Probe p) words b early is =
-    let m = mapped_ok body.Probe (probe_line s.setup.version words) b is in
+    let m = mapped_ok body.Probe (probe_line s.version words) b is in
     ap (λ t. sets_no_ratio (record { number = n; actor = Probe p; body = t })) (sym m.value)
 
-pub line_early : (s : Script) (n : ℕ) (a : Actor) (words : List Word) (b : Body) → s.setup.version ≡ 1 → actor_line s a words ≡ Ok b → is_of_first_version (record { number = n; actor = a; body = b }) ≡ true
+pub line_early : (s : Script) (n : ℕ) (a : Actor) (words : List Word) (b : Body) → s.version ≡ 1 → actor_line s a words ≡ Ok b → is_of_first_version (record { number = n; actor = a; body = b }) ≡ true
 line_early s n Display words b first is =
     let m = mapped_ok body.Display (display_line s words) b is in
     ap (λ t. is_of_first_version (record { number = n; actor = Display; body = t })) (sym m.value)
@@ -94,5 +94,5 @@ line_early s n (Session a) words b first is =
     let shown = session_shown s a words m.a m.given in
     ap (λ t. is_of_first_version (record { number = n; actor = Session a; body = t })) (sym m.value) ∙ session_early s a m.a first shown.again
 line_early s n (Probe p) words b first is =
-    let m = mapped_ok body.Probe (probe_line s.setup.version words) b is in
+    let m = mapped_ok body.Probe (probe_line s.version words) b is in
     ap (λ t. is_of_first_version (record { number = n; actor = Probe p; body = t })) (sym m.value)

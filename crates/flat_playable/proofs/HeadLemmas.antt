@@ -16,7 +16,8 @@ use Rattle.flat_scene.specs.declared.setup.PairDecl.{PairDecl}
 use Rattle.flat_scene.specs.declared.setup.BufferDecl.{BufferDecl}
 use Rattle.flat_scene.specs.declared.setup.FenceDecl.{FenceDecl}
 use Rattle.flat_scene.specs.History.{is_display}
-use Rattle.flat_scene.specs.Setups.{is_within, is_ratio, is_declared, may_own, is_pair_declared, is_buffer_declared, is_fence_declared, owners_declared, is_within_limits, has_one_display_pair, is_setup}
+use Rattle.flat_scene.specs.Setups.{is_within, is_ratio, is_declared}
+use Rattle.flat_scene.specs.Heads.{may_own, is_pair_declared, is_buffer_declared, is_fence_declared, owners_declared, is_within_limits, has_one_display_pair, is_setup}
 use Rattle.flat_text.specs.Number.{natural}
 use Rattle.flat_places.specs.declared.kinds.FaultKind.TheVariants.{BadNumber, UnknownName}
 use Rattle.flat_places.specs.declared.script.Script.{Script}
@@ -120,7 +121,7 @@ fence_more old new wider d is =
 
 -- what a head of that version keeps
 pub record HeadKept (v : ℕ) (u : Script) : Type 0 where
-  pub said : u.setup.version ≡ v
+  pub said : u.version ≡ v
   pub known : is_within VERSION_MAX v ≡ true
   pub ratio : is_ratio u.setup.ratio ≡ true
   pub one : nat_lt v RATIO_SINCE ≡ true → u.setup.ratio ≡ ONE
@@ -174,7 +175,7 @@ room_left xs x most room = let less : length xs < most = grind (arith, nat_tests
 size_kept : {v : ℕ} (u : Script) (ws : List Word) (t : Script) → SizeStep u ws t → HeadKept v u → HeadKept v t
 size_kept {v = v} u ws t x o =
     let P : Script → Type 0 = HeadKept v in
-    let taken = size_taken u.setup.version x.rest x.w x.h x.q x.read in
+    let taken = size_taken u.version x.rest x.w x.h x.q x.read in
     subst P (sym x.made) (record {
       said = o.said;
       known = o.known;
@@ -425,7 +426,7 @@ setup_given u o ready =
     let buffers = within_most (length u.setup.buffers) (length u.buffers) 256 o.buffer_names o.few_buffers in
     let fences = within_most (length u.setup.fences) (length u.fences) 4096 o.fence_names o.few_fences in
     let limits : is_within_limits u.setup ≡ true =
-    and_from _ (nat_le (length u.setup.fences) 4096) (and_from _ (nat_le (length u.setup.buffers) 256) (and_from _ (nat_le (length u.setup.pairs) 4096) (and_from _ (nat_le u.setup.probes 8) (and_from _ (is_within 16 u.setup.sessions) (and_from _ (is_within 65536 u.setup.height) (and_from _ (is_within 65536 u.setup.width) (and_from (is_within VERSION_MAX u.setup.version) (is_ratio u.setup.ratio) (ap (is_within VERSION_MAX) o.said ∙ o.known) o.ratio) sizes.0) sizes.1) sessions) probes) pairs) buffers) fences in
+    and_from _ (nat_le (length u.setup.fences) 4096) (and_from _ (nat_le (length u.setup.buffers) 256) (and_from _ (nat_le (length u.setup.pairs) 4096) (and_from _ (nat_le u.setup.probes 8) (and_from _ (is_within 16 u.setup.sessions) (and_from _ (is_within 65536 u.setup.height) (and_from _ (is_within 65536 u.setup.width) o.ratio sizes.0) sizes.1) sessions) probes) pairs) buffers) fences in
     let owners : owners_declared u.setup ≡ true = and_from _ (list_all (is_fence_declared u.setup) u.setup.fences) (and_from (list_all (is_pair_declared u.setup) u.setup.pairs) (list_all (is_buffer_declared u.setup) u.setup.buffers) o.pairs_owned o.buffers_owned) o.fences_owned in
     and_from _ (has_one_display_pair u.setup) (and_from (is_within_limits u.setup) (owners_declared u.setup) limits owners) (one_shown u o r.1)
   where

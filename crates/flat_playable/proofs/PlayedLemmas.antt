@@ -31,12 +31,13 @@ use Rattle.flat_scene.specs.declared.setup.BufferDecl.{BufferDecl}
 use Rattle.flat_scene.specs.declared.setup.FenceDecl.{FenceDecl}
 use Rattle.flat_scene.specs.declared.script.Cond.{Cond}
 use Rattle.flat_scene.specs.declared.script.Cond.TheVariants as asks
-use Rattle.flat_scene.specs.History.{is_session}
-use Rattle.flat_scene.specs.Setups.{is_within, is_declared, is_ratio, may_own}
+use Rattle.flat_scene.specs.History.{is_display, is_session}
+use Rattle.flat_scene.specs.Setups.{is_within, is_declared, is_ratio}
+use Rattle.flat_scene.specs.Heads.{may_own}
 use Rattle.flat_base.specs.declared.limits.TheConstants.{RATIO_SINCE}
 use Rattle.flat_text.specs.Number.{natural}
 use Rattle.flat_print.proofs.lemmas.OrderLemmas.{test_passes}
-use Rattle.flat_rules.specs.Legal.{owns_view, owns_viewport, owns_fence, owns_buffers, is_fence}
+use Rattle.flat_rules.specs.Legal.{owns_view, owns_viewport, owns_fence, owns_buffers, display_owns}
 use Rattle.flat_places.specs.declared.kinds.FaultKind.TheVariants.{BadNumber, UnknownName, NotOwner}
 use Rattle.flat_places.specs.declared.script.Script.{Script}
 use Rattle.flat_places.specs.Forms.{Word, Form, Reading, both, mapped, unless_kind, each, one_or_more, whole, optional, ◌<$>◌, ◌<*>◌}
@@ -46,8 +47,7 @@ use Rattle.flat_forms.specs.Calls.{call_form, inset_or_none}
 use Rattle.flat_forms.specs.declared.calls.CallName.TheVariants.{CreateViewport, CreateImage}
 use Rattle.flat_forms.specs.Lists.{ends_list}
 use Rattle.flat_forms.specs.Body.{fence_lists, present, presents_asked, session_line, display_line, probe_line, actor_line}
-use Rattle.flat_print.specs.Print.{pair_word, buffers_word, session_word, numbers, call_fields, call_words, lists_words, unsquashable_word, session_words, display_words}
-use Rattle.flat_print.specs.Print.{fence_word as fence_name}
+use Rattle.flat_print.specs.Print.{pair_word, buffers_word, session_word, numbers, call_fields, call_words, lists_words, unsquashable_word, session_words, display_words, fence_word as fence_name}
 use Rattle.flat_forms.proofs.lemmas.FormLemmas.{apply_ok, map_ok, place_ok, whole_ok, unless_ok, or_kind_ok, mapped_ok, both_ok}
 use Rattle.flat_forms.proofs.lemmas.ListLemmas.{pair_of, ListsOk, lists_ok}
 use Rattle.flat_print.proofs.lemmas.BodyWordLemmas.{display_spelt, session_shown}
@@ -248,17 +248,21 @@ tested_owned s a w f is =
     let owns = owned_owns s.fences s.setup.fences (λ d. list_any (is_actor (Session a)) d.owners) w n.a n.given in
     ap (owns_fence s.setup a) (sym n.value) ∙ fence_owner_is a (slice_get s.setup.fences n.a) owns
 
-within_by : {D : Type 0} (decls : List D) (owns : D → Bool) (i : ℕ) (b : Bool) → nat_lt i (length decls) ≡ b → option_map_or owns (slice_get decls i) false ≡ true → nat_lt i (length decls) ≡ true
-within_by decls owns i true at is = at
-within_by decls owns i false at is =
-    let past : length decls ≤ i = grind (arith, nat_tests) in
-    absurd (let wrong : false ≡ true = sym (ap (λ o. option_map_or owns o false) (slice_get_past decls i past)) ∙ is in cc)
+display_owner : (owners : List Actor) → list_any (is_actor Display) owners ≡ true → list_any is_display owners ≡ true
+display_owner [] is = absurd (cc)
+display_owner (Display ∷ owners) is = refl
+display_owner (Session s ∷ owners) is = display_owner owners is
+display_owner (Probe p ∷ owners) is = display_owner owners is
 
-tested_declared : (s : Script) (who : Actor) (w : Word) (f : FenceNo) → fence_word s who w ≡ Ok f → is_fence s.setup f ≡ true
-tested_declared s who w f is =
-    let n = mapped_ok (λ i. record { 0 = i }) (owned s.fences s.setup.fences (λ d. list_any (is_actor who) d.owners) w) f is in
-    let owns = owned_owns s.fences s.setup.fences (λ d. list_any (is_actor who) d.owners) w n.a n.given in
-    ap (is_fence s.setup) (sym n.value) ∙ within_by s.setup.fences (λ d. list_any (is_actor who) d.owners) n.a (nat_lt n.a (length s.setup.fences)) refl owns
+display_fence : (o : Option FenceDecl) → option_map_or (λ d. list_any (is_actor Display) d.owners) o false ≡ true → unwrap_or (option_map (λ d. list_any is_display d.owners) o) false ≡ true
+display_fence None is = absurd (cc)
+display_fence (Some d) is = display_owner d.owners is
+
+tested_display : (s : Script) (w : Word) (f : FenceNo) → fence_word s Display w ≡ Ok f → display_owns s.setup f ≡ true
+tested_display s w f is =
+    let n = mapped_ok (λ i. record { 0 = i }) (owned s.fences s.setup.fences (λ d. list_any (is_actor Display) d.owners) w) f is in
+    let owns = owned_owns s.fences s.setup.fences (λ d. list_any (is_actor Display) d.owners) w n.a n.given in
+    ap (display_owns s.setup) (sym n.value) ∙ display_fence (slice_get s.setup.fences n.a) owns
 
 each_owned : (s : Script) (a : SessionNo) (words : List Word) (fs : List FenceNo) → each (fence_word s (Session a)) words ≡ Ok fs → list_all (owns_fence s.setup a) fs ≡ true
 each_owned s a [] fs is = let none : [] ≡ fs = cc in ap (list_all (owns_fence s.setup a)) (sym none)
@@ -323,7 +327,7 @@ present_from setup a made given p same is owned = ap (is_played_line setup a) (s
 present_by : (s : Script) (a : SessionNo) (p : PresentArgs) (words : List Word) → whole (line.Present <$> present s a) words ≡ Ok (line.Present p) → is_played_line s.setup a (line.Present p) ≡ true
 present_by s a p words is =
     let lists : Form (List FenceNo × List FenceNo) = λ ws. (fence_lists (fence_word s (Session a)) ws, []) in
-    let alone = unsquashable s.setup.version in
+    let alone = unsquashable s.version in
     let h : ℕ → Bool → List FenceNo × List FenceNo → PresentArgs = λ t u both. record { time = t; acquire = both.0; release = both.1; unsquashable = u } in
     let whole_line = map_ok line.Present (present s a) words (line.Present p) [] (whole_ok (line.Present <$> present s a) words (line.Present p) is) in
     let third = apply_ok (h <$> time <*> alone) lists words whole_line.a [] whole_line.given in
@@ -368,21 +372,21 @@ session_played s a line.Disconnect is = refl
 
 -- the display
 
-display_signal_played : (s : Script) (f : FenceNo) (words : List Word) → whole (display.Signal <$> fence s Display) words ≡ Ok (display.Signal f) → is_fence s.setup f ≡ true
+display_signal_played : (s : Script) (f : FenceNo) (words : List Word) → whole (display.Signal <$> fence s Display) words ≡ Ok (display.Signal f) → display_owns s.setup f ≡ true
 display_signal_played s f words is =
     let g = fence_given s Display display.Signal words (display.Signal f) is in
     let l : display.Signal g.0 ≡ display.Signal f = g.1.1.1 in
     let e : g.0 ≡ f = cc in
-    ap (is_fence s.setup) (sym e) ∙ tested_declared s Display g.1.0 g.0 g.1.1.0
+    ap (display_owns s.setup) (sym e) ∙ tested_display s g.1.0 g.0 g.1.1.0
 
-display_wait_fence_played : (s : Script) (f : FenceNo) (words : List Word) → mapped display.Wait (whole (asks.Fence <$> fence s Display) words) ≡ Ok (display.Wait (asks.Fence f)) → is_fence s.setup f ≡ true
+display_wait_fence_played : (s : Script) (f : FenceNo) (words : List Word) → mapped display.Wait (whole (asks.Fence <$> fence s Display) words) ≡ Ok (display.Wait (asks.Fence f)) → display_owns s.setup f ≡ true
 display_wait_fence_played s f words is =
     let m = mapped_ok display.Wait (whole (asks.Fence <$> fence s Display) words) (display.Wait (asks.Fence f)) is in
     let g = fence_given s Display asks.Fence words m.a m.given in
     let c : asks.Fence g.0 ≡ m.a = g.1.1.1 in
     let l : display.Wait m.a ≡ display.Wait (asks.Fence f) = m.value in
     let e : g.0 ≡ f = cc in
-    ap (is_fence s.setup) (sym e) ∙ tested_declared s Display g.1.0 g.0 g.1.1.0
+    ap (display_owns s.setup) (sym e) ∙ tested_display s g.1.0 g.0 g.1.1.0
 
 presents_declared : (s : Script) (t : SessionNo) (n : ℕ) (words : List Word) → s.setup.sessions ≡ length s.sessions → mapped display.Wait (whole (presents_asked s) words) ≡ Ok (display.Wait (asks.Presents t n)) → is_declared s.setup t ≡ true
 presents_declared s t n words many is =
@@ -397,10 +401,10 @@ presents_declared s t n words many is =
     ap (is_declared s.setup) (sym e) ∙ session_declared s q.word first.a many (or_kind_ok UnknownName _ first.a q.passes)
 
 -- a line that sets a pixel ratio, as it is read where the version has it and where it hasn't
-pub ratio_line : (s : Script) (r : ℕ) (words : List Word) → display_line s (codes "dpr" ∷ words) ≡ Ok (display.Dpr r) → (nat_lt s.setup.version RATIO_SINCE ≡ false) × (whole (display.Dpr <$> ratio) words ≡ Ok (display.Dpr r))
-ratio_line s r words is = by_version (nat_lt s.setup.version RATIO_SINCE) refl
+pub ratio_line : (s : Script) (r : ℕ) (words : List Word) → display_line s (codes "dpr" ∷ words) ≡ Ok (display.Dpr r) → (nat_lt s.version RATIO_SINCE ≡ false) × (whole (display.Dpr <$> ratio) words ≡ Ok (display.Dpr r))
+ratio_line s r words is = by_version (nat_lt s.version RATIO_SINCE) refl
   where
-    by_version : (b : Bool) → nat_lt s.setup.version RATIO_SINCE ≡ b → (nat_lt s.setup.version RATIO_SINCE ≡ false) × (whole (display.Dpr <$> ratio) words ≡ Ok (display.Dpr r))
+    by_version : (b : Bool) → nat_lt s.version RATIO_SINCE ≡ b → (nat_lt s.version RATIO_SINCE ≡ false) × (whole (display.Dpr <$> ratio) words ≡ Ok (display.Dpr r))
     by_version true early = absurd (let wrong = rw early at is in cc)
     by_version false late = (late, rw late at is)
 
@@ -435,5 +439,5 @@ line_played s (Session a) words b many may is =
     let shown = session_shown s a words m.a m.given in
     ap (is_played s.setup (Session a)) (sym m.value) ∙ ap (λ d. d && is_played_line s.setup a m.a) may ∙ session_played s a m.a shown.again
 line_played s (Probe p) words b many may is =
-    let m = mapped_ok body.Probe (probe_line s.setup.version words) b is in
+    let m = mapped_ok body.Probe (probe_line s.version words) b is in
     ap (is_played s.setup (Probe p)) (sym m.value) ∙ may

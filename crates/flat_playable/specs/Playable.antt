@@ -9,7 +9,8 @@ use Rattle.flat_scene.specs.declared.script.Body.TheVariants as body
 use Rattle.flat_scene.specs.declared.script.DisplayLine.TheVariants as display
 use Rattle.flat_scene.specs.declared.script.ScriptLine.{ScriptLine}
 use Rattle.flat_scene.specs.declared.setup.Setup.{Setup}
-use Rattle.flat_scene.specs.Setups.{is_declared, is_setup}
+use Rattle.flat_scene.specs.Setups.{is_declared}
+use Rattle.flat_scene.specs.Heads.{is_setup}
 use Rattle.flat_rules.specs.Owned.{is_played_line, is_played_display}
 use Rattle.flat_places.specs.declared.script.Script.{Script}
 

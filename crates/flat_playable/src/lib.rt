@@ -4,7 +4,8 @@
 ghost use Rattle.flat_playable.specs.Laws.{SetupsAreGiven, CountsAreWithin, LinesRise};
 ghost use Rattle.flat_playable.specs.Laws.{LinesAreCounted, FramesClose, LinesArePlayed};
 ghost use Rattle.flat_playable.specs.Laws.{SessionsAreFew, ScriptsArePlayable};
-ghost use Rattle.flat_playable.specs.Laws.{FirstVersionIsKept, EarlierVersionsHaveNoRatio, TextsSayVersions};
+ghost use Rattle.flat_playable.specs.Laws.{FirstVersionIsKept, EarlierVersionsHaveNoRatio};
+ghost use Rattle.flat_playable.specs.Laws.{VersionsAreKnown, TextsSayVersions};
 
 /// Every script that the reader accepts is playable: each clause is one part of
 /// that test, and `playable` the whole of it; and it names few sessions. The call
@@ -22,5 +23,6 @@ pub fn scripts_are_playable()
     ensures early { FirstVersionIsKept }
     // What came with the third is read in scripts of that version alone.
     ensures ratio { EarlierVersionsHaveNoRatio }
+    ensures known { VersionsAreKnown }
     ensures version { TextsSayVersions }
 {}

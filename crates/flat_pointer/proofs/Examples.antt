@@ -13,7 +13,8 @@ use Rattle.flat_pointer.specs.declared.pointers.PointerAnswer.TheVariants as ans
 use Rattle.flat_pointer.specs.declared.text.PointerCall.{PointerCall}
 use Rattle.flat_pointer.specs.declared.text.PointerCall.TheVariants.{Down, Move, Up}
 use Rattle.flat_pointer.specs.declared.text.Touch.{Touch}
-use Rattle.flat_pointer.specs.Events.{frame, down, move, up, stream_after, answer_to, cancel_at, only, told}
+use Rattle.flat_pointer.specs.Events.{frame, down, move, up, stream_after, cancel_at}
+use Rattle.flat_pointer.specs.Concerns.{answer_to, only, told}
 use Rattle.flat_pointer.specs.Laws.{ends, names}
 use Rattle.flat_pointer.specs.Text.{event_of, lines_at, end_line}
 

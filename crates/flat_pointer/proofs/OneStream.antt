@@ -8,7 +8,8 @@ use Rattle.flat_pointer.specs.declared.pointers.PointerAnswer.{PointerAnswer}
 use Rattle.flat_pointer.specs.declared.pointers.PointerAnswer.TheVariants.{Down, Moved, Up, Busy}
 use Rattle.flat_scene.specs.ViewTrees.{is_node}
 use Rattle.flat_pointer.specs.Streams.{after_down, down_answer, move_answer, up_answer}
-use Rattle.flat_pointer.specs.Events.{PointerEvent, frame, down, move, up, stream_after, answer_to}
+use Rattle.flat_pointer.specs.Events.{PointerEvent, frame, down, move, up, stream_after}
+use Rattle.flat_pointer.specs.Concerns.{answer_to}
 use Rattle.flat_pointer.specs.Laws.{ends, is_line_of, names, OneSession}
 
 -- a Down that goes to a session begins its stream

@@ -9,7 +9,8 @@ use Rattle.flat_base.specs.declared.ids.SessionNo.{SessionNo}
 use Rattle.flat_scene.specs.declared.frames.FrameOut.{FrameOut}
 use Rattle.flat_scene.specs.declared.frames.ViewNode.{ViewNode}
 use Rattle.flat_page.specs.declared.page.Page.{Page}
-use Rattle.flat_page.specs.Happenings.{Happening, finished, said, merged, all_lines, without_items}
+use Rattle.flat_page.specs.Happenings.{Happening, finished, said, merged, all_lines}
+use Rattle.flat_page.specs.Steps.{without_items}
 use Rattle.flat_page.specs.Pages.{WritesLines}
 use Rattle.flat_page.specs.Words.{Word, text_of}
 use Rattle.flat_page.proofs.lemmas.PageLemmas.{then_lines, same_lines}
@@ -17,10 +18,12 @@ use Rattle.flat_page.proofs.lemmas.Telling.{lines-follow, lines-left, all-parted
 use Rattle.flat_pointer.specs.declared.text.PointerCall.{PointerCall}
 use Rattle.flat_pointer.specs.declared.text.PointerCall.TheVariants.{Down, Move, Up}
 use Rattle.flat_pointer.specs.declared.text.Touch.{Touch}
-use Rattle.flat_pointer.specs.Streams.{Streams, no_streams, stream_of, with_stream, kept_in, cancelled_in, framed_below, framed}
-use Rattle.flat_pointer.specs.Events.{PointerEvent, streams_after}
+use Rattle.flat_pointer.specs.Streams.{kept_in, cancelled_in}
+use Rattle.flat_pointer.specs.Steps.{Streams, no_streams, stream_of, with_stream, framed_below, framed, after_call, after, lines_with, ArePointers}
+use Rattle.flat_pointer.specs.Events.{PointerEvent}
+use Rattle.flat_pointer.specs.Concerns.{streams_after}
 use Rattle.flat_pointer.specs.Laws.{ItemsPlayNoPart}
-use Rattle.flat_pointer.specs.Text.{cancel_line, cancel_lines, touch_line, call_answer, called, event_of, lines_at, end_line, after_call, after, lines_with, ArePointers}
+use Rattle.flat_pointer.specs.Text.{cancel_line, cancel_lines, touch_line, call_answer, called, event_of, lines_at, end_line}
 use Rattle.flat_pointer.proofs.Follows.{stream-here, stream-kept, more-kept, calls-follow}
 
 -- ---- pointers that see a frame, one after another

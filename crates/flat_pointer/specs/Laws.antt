@@ -9,12 +9,14 @@ use Rattle.flat_pointer.specs.declared.pointers.TheConstants.{POINTERS}
 use Rattle.flat_pointer.specs.declared.pointers.PointerAnswer.{PointerAnswer}
 use Rattle.flat_pointer.specs.declared.pointers.PointerAnswer.TheVariants.{Down, Moved, Up, Nobody, Busy}
 use Rattle.flat_scene.specs.ViewTrees.{is_node}
-use Rattle.flat_page.specs.Happenings.{without_items}
+use Rattle.flat_page.specs.Steps.{without_items}
 use Rattle.flat_page.specs.Words.{Word}
 use Rattle.flat_pointer.specs.declared.text.Touch.{Touch}
 use Rattle.flat_pointer.specs.Text.{pointer_text}
-use Rattle.flat_pointer.specs.Streams.{no_streams, stream_of, with_stream, framed_below, framed, after_down, kept_in, cancelled_in}
-use Rattle.flat_pointer.specs.Events.{PointerEvent, frame, down, move, up, stream_after, answer_to, only, told, streams_after, cancel_at}
+use Rattle.flat_pointer.specs.Streams.{after_down, kept_in, cancelled_in}
+use Rattle.flat_pointer.specs.Steps.{no_streams, stream_of, with_stream, framed_below, framed}
+use Rattle.flat_pointer.specs.Events.{PointerEvent, frame, down, move, up, stream_after, cancel_at}
+use Rattle.flat_pointer.specs.Concerns.{answer_to, only, told, streams_after}
 
 -- ---- the calls
 

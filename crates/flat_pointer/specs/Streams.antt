@@ -1,24 +1,12 @@
 -- The streams of pointers: to which session each pointer's lines go, from a Down to the end.
-use Rattle.std.specs.Prelude.{ℕ, zero, suc, if◌then◌else◌, List, [], ◌∷◌, Option, Some, None, replicate, slice_get, slice_set, unwrap_or}
+use Rattle.std.specs.Prelude.{if◌then◌else◌, List, [], ◌∷◌, Option, Some, None}
 use Rattle.std.specs.Option.{option_map_or, option_or}
 use Rattle.flat_base.specs.declared.ids.SessionNo.{SessionNo}
 use Rattle.flat_scene.specs.declared.frames.Hit.{Hit}
 use Rattle.flat_scene.specs.declared.frames.ViewNode.{ViewNode}
 use Rattle.flat_scene.specs.ViewTrees.{is_node}
-use Rattle.flat_pointer.specs.declared.pointers.TheConstants.{POINTERS}
 use Rattle.flat_pointer.specs.declared.pointers.PointerAnswer.{PointerAnswer}
 use Rattle.flat_pointer.specs.declared.pointers.PointerAnswer.TheVariants.{Down, Moved, Up, Nobody, Busy}
-
--- the session of each pointer's stream, if it has one
-abbrev pub Streams : Type 0
-Streams = List (Option SessionNo)
-
-abbrev pub no_streams : Streams
-no_streams = replicate POINTERS None
-
--- the session of a pointer's stream
-abbrev pub stream_of : Streams → ℕ → Option SessionNo
-stream_of streams p = unwrap_or (slice_get streams p) None
 
 -- ---- one pointer
 
@@ -53,17 +41,3 @@ cancelled_in nodes None = None
 cancelled_in nodes (Some s) = if is_node nodes s then None else Some s
 
 -- ---- all pointers
-
--- the streams with another stream of one pointer
-abbrev pub with_stream : Streams → ℕ → Option SessionNo → Streams
-with_stream streams p stream = slice_set streams p stream
-
--- the streams where those of so many pointers, from the first, have seen a frame
-abbrev pub framed_below : List ViewNode → ℕ → Streams → Streams
-framed_below nodes zero streams = streams
-framed_below nodes (suc n) [] = []
-framed_below nodes (suc n) (stream ∷ streams) = kept_in nodes stream ∷ framed_below nodes n streams
-
--- the streams after a frame
-abbrev pub framed : List ViewNode → Streams → Streams
-framed nodes streams = framed_below nodes POINTERS streams

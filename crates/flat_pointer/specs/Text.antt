@@ -1,6 +1,6 @@
 -- What the pointer text says, frame by frame and line by line.
-use Rattle.std.specs.Prelude.{ℕ, nat_lt, IsTrue, List, [], ◌∷◌, ◌++◌, length, Option, Some, None, codes}
-use Rattle.std.specs.List.{flat_map, list_all, range_with_len}
+use Rattle.std.specs.Prelude.{ℕ, List, [], ◌∷◌, ◌++◌, length, Option, Some, None, codes}
+use Rattle.std.specs.List.{flat_map, range_with_len}
 use Rattle.flat_base.specs.declared.ids.SessionNo.{SessionNo}
 use Rattle.flat_scene.specs.declared.frames.FrameOut.{FrameOut}
 use Rattle.flat_scene.specs.declared.frames.Hit.{Hit}
@@ -14,7 +14,7 @@ use Rattle.flat_pointer.specs.declared.text.PointerCall.TheVariants.{Down, Move,
 use Rattle.flat_pointer.specs.declared.text.PointerLine.{PointerLine}
 use Rattle.flat_pointer.specs.declared.text.Touch.{Touch}
 use Rattle.flat_pointer.specs.declared.pointers.TheConstants.{POINTERS}
-use Rattle.flat_pointer.specs.Streams.{Streams, stream_of, with_stream, after_down, down_answer, move_answer, up_answer, cancelled_in, framed}
+use Rattle.flat_pointer.specs.Streams.{down_answer, move_answer, up_answer}
 use Rattle.flat_pointer.specs.Events.{PointerEvent, frame, down, move, up, stream_after, cancel_at}
 
 -- ---- lines
@@ -81,24 +81,4 @@ pointer_text names dones frames touches =
 
 -- ---- over the streams
 
--- the streams after a call
-abbrev pub after_call : Streams → ℕ → List Hit → PointerCall → Streams
-after_call streams p hits (Down x y) = with_stream streams p (after_down (stream_of streams p) hits)
-after_call streams p hits (Move x y) = streams
-after_call streams p hits Up = with_stream streams p None
-
--- the streams after one thing more
-abbrev pub after : Happening Touch → Streams → Streams
-after (finished out) streams = framed out.tree.nodes streams
-after (said touch) streams = after_call streams touch.line.pointer touch.hits touch.line.call
-
--- what is written of one thing that happens, where these are the streams before it
-abbrev pub lines_with : List Word → Streams → Happening Touch → List (List Word)
-lines_with names streams (finished out) = frame_lines names out.frame.0 (λ p. cancelled_in out.tree.nodes (stream_of streams p))
-lines_with names streams (said touch) = touch_line names touch.line (call_answer (stream_of streams touch.line.pointer) touch.hits touch.line.call) ∷ []
-
 -- ---- pointers
-
--- each line is one of the sixteen pointers'
-pub record ArePointers (touches : List Touch) : Type 0 where
-  pub all : IsTrue (list_all (λ touch. nat_lt touch.line.pointer POINTERS) touches)

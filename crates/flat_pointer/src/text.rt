@@ -1,12 +1,11 @@
 ghost use Rattle.std.specs.Prelude.{◌≡◌, ◌<◌, [], ◌∷◌, ◌++◌, length, take, map, codes, OnOk, IfOk};
-ghost use Rattle.flat_page.specs.Happenings.{finished, said, count_before, merged, after_all};
-ghost use Rattle.flat_page.specs.Happenings.{all_lines};
+ghost use Rattle.flat_page.specs.Happenings.{finished, said, count_before, merged, all_lines};
+ghost use Rattle.flat_page.specs.Steps.{after_all};
 ghost use Rattle.flat_page.specs.Pages.{Writes, WritesLines};
 ghost use Rattle.flat_page.specs.Words.{number, numbers, session_name};
-ghost use Rattle.flat_pointer.specs.Streams.{no_streams, stream_of, cancelled_in, framed};
-ghost use Rattle.flat_pointer.specs.Text.{point_words, answer_words, touch_line, cancel_line};
-ghost use Rattle.flat_pointer.specs.Text.{cancel_lines, frame_lines, end_line, call_answer};
-ghost use Rattle.flat_pointer.specs.Text.{after_call, lines_with, after, pointer_text, ArePointers};
+ghost use Rattle.flat_pointer.specs.Streams.{cancelled_in};
+ghost use Rattle.flat_pointer.specs.Steps.{no_streams, stream_of, framed, after_call, lines_with, after, ArePointers};
+ghost use Rattle.flat_pointer.specs.Text.{point_words, answer_words, touch_line, cancel_line, cancel_lines, frame_lines, end_line, call_answer, pointer_text};
 
 use crate::pointers::{POINTERS, PointerAnswer, Pointers};
 use flat_base::{FrameNo, Items, NoMemory, SessionNo};

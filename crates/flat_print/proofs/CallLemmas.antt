@@ -40,9 +40,11 @@ use Rattle.flat_places.specs.declared.script.Script.{Script}
 use Rattle.flat_places.specs.Forms.{Word, Form, Reading, unless_kind, both, mapped, whole, place, optional, ◌<$>◌, ◌<*>◌}
 use Rattle.flat_places.specs.Names.{place_of, is_actor}
 use Rattle.flat_places.specs.Places.{owned, number_below, i32, u32, colour, transform, content, choice, orientation, blend, flip, interaction, view_end, viewport_end, collection, fence, region, regions, transforms, int_rect, inset, fits_i32, fence_word as tested_fence}
-use Rattle.flat_forms.specs.Calls.{call_form, call_named, call_written, call_names, text, no_inset, inset_or_none}
+use Rattle.flat_forms.specs.Calls.{call_form, call_named, call_written, call_names, text, inset_or_none}
+use Rattle.flat_scene.specs.Draft.{no_inset}
 use Rattle.flat_places.specs.Known.{knows}
-use Rattle.flat_print.specs.Print.{pair_word, buffers_word, fence_word, call_fields, call_name, rect_words, inset_words, region_words, orientation_number, blend_number, flip_number, interaction_number}
+use Rattle.flat_print.specs.Print.{pair_word, buffers_word, fence_word, call_fields, call_name, rect_words, inset_words, region_words, orientation_number, blend_number}
+use Rattle.flat_print.specs.Choices.{flip_number, interaction_number}
 use Rattle.flat_forms.proofs.lemmas.FormLemmas.{mapped_ok, unless_ok, Gives, apply_ok, map_ok, place_ok, whole_ok, or_kind_ok, both_ok, Shown, shown_whole}
 use Rattle.flat_forms.proofs.lemmas.ParserLemmas.{is_zero}
 
@@ -741,9 +743,9 @@ pub record NamedCall (s : Script) (o : SessionNo) (w : Word) (n : CallName) (wor
   pub fields : Shown (whole (call_form s o n)) (call_fields s c) words c
   pub word : text (call_name c) ≡ w
 
-pub call_shown : (s : Script) (o : SessionNo) (w : Word) (n : CallName) → call_named s.setup.version w ≡ Some n → (words : List Word) (c : Call) → whole (call_form s o n) words ≡ Ok c → NamedCall s o w n words c
+pub call_shown : (s : Script) (o : SessionNo) (w : Word) (n : CallName) → call_named s.version w ≡ Some n → (words : List Word) (c : Call) → whole (call_form s o n) words ≡ Ok c → NamedCall s o w n words c
 call_shown s o w n named words c is =
-    let found = find_shown s o (λ m. bytes_eq w (text m)) call_names n (all_shown s o) (written_by (knows s.setup.version w) named) in
+    let found = find_shown s o (λ m. bytes_eq w (text m)) call_names n (all_shown s o) (written_by (knows s.version w) named) in
     let shown = found.0 words c is in
     record { fields = shown.fields; word = ap text shown.named ∙ sym ((bytes_eq-Decides w (text n)).0 found.1) }
   where

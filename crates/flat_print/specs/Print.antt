@@ -14,10 +14,6 @@ use Rattle.flat_base.specs.declared.shapes.Orientation.TheVariants.{Ccw0, Ccw90,
 use Rattle.flat_scene.specs.declared.calls.Inset.{Inset}
 use Rattle.flat_scene.specs.declared.calls.BlendMode.{BlendMode}
 use Rattle.flat_scene.specs.declared.calls.BlendMode.TheVariants.{Src, SrcOver}
-use Rattle.flat_scene.specs.declared.calls.ImageFlip.{ImageFlip}
-use Rattle.flat_scene.specs.declared.calls.ImageFlip.TheVariants.{Plain, LeftRight, UpDown}
-use Rattle.flat_scene.specs.declared.calls.Interaction.{Interaction}
-use Rattle.flat_scene.specs.declared.calls.Interaction.TheVariants.{Default, SemanticallyInvisible}
 use Rattle.flat_scene.specs.declared.calls.HitRegion.{HitRegion}
 use Rattle.flat_scene.specs.declared.calls.PresentArgs.{PresentArgs}
 use Rattle.flat_scene.specs.declared.calls.Watch.{Watch}
@@ -45,6 +41,7 @@ use Rattle.flat_places.specs.Forms.{Word}
 use Rattle.flat_forms.specs.Calls.{text}
 use Rattle.flat_script.specs.Grammar.{IsScript}
 use Rattle.flat_page.specs.Words.{name_at, actor_name}
+use Rattle.flat_print.specs.Choices.{flip_number, interaction_number}
 
 -- names
 
@@ -79,15 +76,6 @@ orientation_number Ccw270 = 4
 abbrev pub blend_number : BlendMode → ℕ
 blend_number Src = 1
 blend_number SrcOver = 2
-
-abbrev pub flip_number : ImageFlip → ℕ
-flip_number Plain = 1
-flip_number LeftRight = 2
-flip_number UpDown = 3
-
-abbrev pub interaction_number : Interaction → ℕ
-interaction_number Default = 0
-interaction_number SemanticallyInvisible = 1
 
 -- x, y, width and height
 abbrev pub rect_words : IntRect → List Word
@@ -289,7 +277,7 @@ numbered f i (d ∷ ds) = f i d ∷ numbered f (i + 1) ds
 
 -- the version
 abbrev pub version_words : Script → List Word
-version_words s = codes "flatland" ∷ numbers (s.setup.version ∷ [])
+version_words s = codes "flatland" ∷ numbers (s.version ∷ [])
 
 -- the first pixel ratio, which is left out where it is one
 abbrev pub ratio_words : ℕ → List Word

@@ -42,7 +42,7 @@ fn push_version(out: &mut Vec<u8>, script: &Script) -> Result<(), NoMemory>
     ensures { OnOk result (out.new.items ≡ out.old.items ++ spelled (version_words script.now)) }
 {
     push_bytes(out, b"flatland")?;
-    push_numbers(out, &[script.setup.version as u64])?;
+    push_numbers(out, &[script.version as u64])?;
     Ok(())
 }
 

@@ -7,7 +7,8 @@ use Rattle.flat_base.specs.declared.ids.SessionNo.{SessionNo}
 use Rattle.flat_base.specs.declared.limits.TheConstants.{SESSIONS_MAX}
 use Rattle.flat_scene.specs.declared.journal.Entry.{Entry}
 use Rattle.flat_scene.specs.declared.setup.Setup.{Setup}
-use Rattle.flat_scene.specs.History.{history_of, own}
+use Rattle.flat_scene.specs.History.{own}
+use Rattle.flat_scene.specs.Journals.{history_of}
 use Rattle.flat_scene.specs.Interleave.{Follows, IsReading, display_lines, session_lines}
 use Rattle.flat_core.specs.Machines.{Machine}
 use Rattle.flat_lock.specs.History.{StartsWith}

@@ -9,7 +9,7 @@ use Rattle.logbook.specs.Pages.{Book}
 use Rattle.flat_scene.specs.declared.journal.Entry.{Entry}
 use Rattle.flat_scene.specs.declared.script.ScriptLine.{ScriptLine}
 use Rattle.flat_scene.specs.declared.setup.Setup.{Setup}
-use Rattle.flat_scene.specs.Setups.{is_setup}
+use Rattle.flat_scene.specs.Heads.{is_setup}
 use Rattle.flat_places.specs.declared.script.Script.{Script}
 use Rattle.flat_report.specs.Report.{probe_lines_of}
 use Rattle.flat_publish.specs.declared.frame.Frame.{Frame}

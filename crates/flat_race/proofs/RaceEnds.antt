@@ -2,7 +2,7 @@
 use Rattle.std.proofs.Common.{◌≡◌, ℕ, List, map, Option, None, Some, Result, Ok, Err, IfErr, IfOk, refl, sym, subst}
 use Rattle.flat_scene.specs.declared.frames.FrameOut.{FrameOut}
 use Rattle.flat_scene.specs.declared.setup.Setup.{Setup}
-use Rattle.flat_scene.specs.History.{history_of}
+use Rattle.flat_scene.specs.Journals.{history_of}
 use Rattle.flat_report.specs.Report.{finished}
 use Rattle.flat_stage.specs.Seats.{StageView}
 use Rattle.flat_places.specs.declared.script.Script.{Script}

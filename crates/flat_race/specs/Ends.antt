@@ -1,7 +1,7 @@
 -- What all seats are once all actors came to their end, or stopped on the way.
 use Rattle.std.specs.Prelude.{◌≡◌, ℕ, Bool, true, List, length, Option, Some, None}
 use Rattle.flat_scene.specs.declared.frames.FrameOut.{FrameOut}
-use Rattle.flat_scene.specs.History.{history_of}
+use Rattle.flat_scene.specs.Journals.{history_of}
 use Rattle.flat_places.specs.declared.script.Script.{Script}
 use Rattle.flat_stage.specs.Displays.{DisplayView}
 use Rattle.flat_stage.specs.Homes.{SeatsView}

@@ -1,12 +1,11 @@
 //! A race. Each seat knows its own part of the history, and what others did only to the
 //! point that it has seen; the whole is known when all seats are home (`close`).
-ghost use Rattle.std.specs.Prelude.{◌≡◌, ◌<◌, ◌^◌, ℕ, [], true, length, reverse, slice_get, Some};
-ghost use Rattle.std.specs.Prelude.{IfOk};
+ghost use Rattle.std.specs.Prelude.{◌≡◌, ◌<◌, ◌^◌, ℕ, [], true, length, reverse, slice_get, Some, IfOk};
 ghost use Rattle.std.specs.List.{list_all};
 ghost use Rattle.std.specs.Option.{is_some};
 ghost use Rattle.flat_playable.specs.Playable.{is_playable};
 ghost use Rattle.flat_display.specs.Had.{AreKept};
-ghost use Rattle.flat_scene.specs.History.{history_of};
+ghost use Rattle.flat_scene.specs.Journals.{history_of};
 ghost use Rattle.flat_lock.specs.History.{StartsWith};
 ghost use Rattle.flat_rules.specs.Legal.{frames, Legal};
 ghost use Rattle.flat_stage.specs.Homes.{AreFresh};

@@ -1,9 +1,8 @@
 //! All actors of a race at once: the sessions and the probes on their threads, and the
 //! compositor on this one.
-ghost use Rattle.std.specs.Prelude.{◌≡◌, ◌<◌, ◌^◌, [], true, length, map, replicate, Some};
-ghost use Rattle.std.specs.Prelude.{IfErr, IfOk, OnOk};
+ghost use Rattle.std.specs.Prelude.{◌≡◌, ◌<◌, ◌^◌, [], true, length, map, replicate, Some, IfErr, IfOk, OnOk};
 ghost use Rattle.flat_playable.specs.Playable.{is_playable};
-ghost use Rattle.flat_scene.specs.History.{history_of};
+ghost use Rattle.flat_scene.specs.Journals.{history_of};
 ghost use Rattle.flat_stage.specs.Homes.{AreFresh};
 ghost use Rattle.flat_report.specs.Report.{finished};
 ghost use Rattle.flat_publish.specs.State.{newcomer};

@@ -1,6 +1,7 @@
 //! Answers of a probe that has come back, held against what was published.
 ghost use Rattle.std.specs.Prelude.{◌≡◌, ◌<◌, true, length, map, OnOk, slice_get, slice_set, Some};
-ghost use Rattle.flat_scene.specs.Setups.{at_ratio, is_setup};
+ghost use Rattle.flat_scene.specs.Setups.{at_ratio};
+ghost use Rattle.flat_scene.specs.Heads.{is_setup};
 ghost use Rattle.flat_topology.specs.Hits.{hit_list};
 ghost use Rattle.flat_play.specs.Last.{IsLast, StaysLast};
 ghost use Rattle.flat_report.specs.declared.probes.ProbeAnswer.{ProbeAnswer};

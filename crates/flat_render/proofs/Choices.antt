@@ -21,7 +21,7 @@ use Rattle.flat_render.proofs.Bands.{seen-more, seen-past}
 use Rattle.flat_render.proofs.Rows.{among, among-low, among-high, either}
 
 -- the item with a number, as a list
-one-there : (items : List DrawItem) (p : ℕ) (d : DrawItem) → p < length items → take 1 (drop p items) ≡ get_or items p d ∷ []
+pub one-there : (items : List DrawItem) (p : ℕ) (d : DrawItem) → p < length items → take 1 (drop p items) ≡ get_or items p d ∷ []
 one-there [] p d h = absurd (omega arith)
 one-there (item ∷ items) zero d h = refl
 one-there (item ∷ items) (suc p) d h = one-there items p d (omega arith)

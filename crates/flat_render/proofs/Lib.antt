@@ -17,8 +17,11 @@ pub mod Bytes
 pub mod Brushing
 pub mod Bands
 pub mod Runs
+pub mod Rendered
+pub mod RowWords
 pub mod Wholes
 pub mod Steps
 pub mod Choices
+pub mod ByNumber
 pub mod Colours
 mod Examples

@@ -100,24 +100,30 @@ tiled w t a some is up =
     let times : (w ≤ a * t) × (a * t < w + t) = rw up (div_ceil_times w t wide) in
     (wide, omega arith, times.0, omega (arith, times.1))
 
+-- along the other one, where they have as many as one likes
+tiled-by : (w t a : ℕ) → 0 < t → t ≤ 64 → t ≤ w → a ≡ w / t + min 1 (w % t) → (w ≤ a * t) × (a * t ≤ 2 * w)
+tiled-by w t a some low within up =
+    let times : (w ≤ a * t) × (a * t < w + t) = rw up (div_ceil_times w t some) in
+    (times.0, omega (arith, times.1))
+
 pub grid-is : (g : Grid) → 0 < g.width → 0 < g.height → g.width * g.height ≤ 4194304 → g.width < 2 ^ 23 → g.height < 2 ^ 23
-    → g.tile_w ≡ min g.width 64 → g.tile_h ≡ min g.height 64
+    → g.tile_w ≡ min g.width 64 → 0 < g.tile_h → g.tile_h ≤ 64 → g.tile_h ≤ g.height
     → g.across ≡ g.width / g.tile_w + min 1 (g.width % g.tile_w) → g.down ≡ g.height / g.tile_h + min 1 (g.height % g.tile_h) → IsGrid g
-grid-is g w h most w_most h_most tw th across down =
+grid-is g w h most w_most h_most tw some low within across down =
     let x : (0 < g.tile_w) × (g.tile_w ≤ 64) × (g.width ≤ g.across * g.tile_w) × (g.across * g.tile_w ≤ 2 * g.width) = tiled g.width g.tile_w g.across w tw across in
-    let y : (0 < g.tile_h) × (g.tile_h ≤ 64) × (g.height ≤ g.down * g.tile_h) × (g.down * g.tile_h ≤ 2 * g.height) = tiled g.height g.tile_h g.down h th down in
-    let all : (g.across * g.tile_w) * (g.down * g.tile_h) ≤ (2 * g.width) * (2 * g.height) = mul-le (g.across * g.tile_w) (g.down * g.tile_h) (2 * g.width) (2 * g.height) x.3 y.3 in
+    let y : (g.height ≤ g.down * g.tile_h) × (g.down * g.tile_h ≤ 2 * g.height) = tiled-by g.height g.tile_h g.down some low within down in
+    let all : (g.across * g.tile_w) * (g.down * g.tile_h) ≤ (2 * g.width) * (2 * g.height) = mul-le (g.across * g.tile_w) (g.down * g.tile_h) (2 * g.width) (2 * g.height) x.3 y.1 in
     let bytes : grid_bytes g ≡ 3 * ((g.across * g.tile_w) * (g.down * g.tile_h)) = grind arith in
     record {
       tile_w = x.0;
-      tile_h = y.0;
+      tile_h = some;
       narrow = x.1;
-      low = y.1;
+      low = low;
       some = positive g.across g.tile_w 0 (omega (arith, x.2));
       right = x.2;
-      bottom = y.2;
+      bottom = y.0;
       most_right = omega (arith, x.3);
-      most_bottom = omega (arith, y.3);
+      most_bottom = omega (arith, y.1);
       most = omega (arith, all, bytes);
     }
 

@@ -9,7 +9,7 @@ use Rattle.flat_render.specs.Areas.{has_pixel}
 use Rattle.flat_render.specs.Channels.{channel_painted, channel_step}
 use Rattle.flat_render.specs.Inks.{inked, IsInk}
 use Rattle.flat_render.specs.Pixels.{covers}
-use Rattle.flat_render.specs.Tiles.{pixels_of, IsTile}
+use Rattle.flat_render.specs.Tiles.{x_at, y_at, channel_at, pixels_of, IsTile}
 use Rattle.flat_render.specs.declared.area.Area.{Area}
 use Rattle.flat_render.specs.declared.ink.Ink.{Ink}
 use Rattle.flat_render.specs.declared.tile.Tile.{Tile}
@@ -81,3 +81,26 @@ pub item-channel : (c d : ℕ) (item : DrawItem) (cut : Area) (ink : Ink) (px py
     → now ≡ (if has_pixel cut px py then inked ink (px - cut.x0) (py - cut.y0) was else was)
     → now ≡ (if has_pixel cut px py then channel_step d item px py was else was)
 item-channel c d item cut ink px py was now e is covered h = of-channel c d item (has_pixel cut px py) px py was now e (ink-step c item cut ink px py was now is covered h)
+
+-- a byte after ink, or as it was
+abbrev pub inked_or : Tile → Area → ℕ → Ink → ℕ → ℕ
+inked_or tile cut m ink old = if has_pixel cut (x_at tile m) (y_at tile m) then inked ink (x_at tile m - cut.x0) (y_at tile m - cut.y0) old else old
+
+-- a byte after the inks of an item, channel by channel
+pub inked-item : (tile : Tile) (cut : Area) (item : DrawItem) (m : ℕ) (red green blue : Ink) (was one two now : ℕ) → IsTile tile → m < 3 * pixels_of tile
+    → IsInk 0 item cut red → IsInk 1 item cut green → IsInk 2 item cut blue
+    → (has_pixel cut (x_at tile m) (y_at tile m) ≡ true → covers item (x_at tile m) (y_at tile m) ≡ true)
+    → (channel_at tile m ≡ 0 → one ≡ inked_or tile cut m red was) → ((channel_at tile m ≡ 0 → ⊥) → one ≡ was)
+    → (channel_at tile m ≡ 1 → two ≡ inked_or tile cut m green one) → ((channel_at tile m ≡ 1 → ⊥) → two ≡ one)
+    → (channel_at tile m ≡ 2 → now ≡ inked_or tile cut m blue two) → ((channel_at tile m ≡ 2 → ⊥) → now ≡ two)
+    → now ≡ (if has_pixel cut (x_at tile m) (y_at tile m) then channel_step (channel_at tile m) item (x_at tile m) (y_at tile m) was else was)
+inked-item tile cut item m red green blue was one two now is small in_red in_green in_blue covered red_there red_else green_there green_else blue_there blue_else =
+    let px : ℕ = x_at tile m in
+    let py : ℕ = y_at tile m in
+    which-channel (pixels_of tile) m (some-pixels tile is) small
+    (λ e. item-channel 0 (channel_at tile m) item cut red px py was now e in_red covered
+    (blue_else (λ f. absurd (omega (arith, e, f))) ∙ green_else (λ f. absurd (omega (arith, e, f))) ∙ red_there e))
+    (λ e. item-channel 1 (channel_at tile m) item cut green px py was now e in_green covered
+    (blue_else (λ f. absurd (omega (arith, e, f))) ∙ green_there e ∙ ap (inked_or tile cut m green) (red_else (λ f. absurd (omega (arith, e, f))))))
+    (λ e. item-channel 2 (channel_at tile m) item cut blue px py was now e in_blue covered
+    (blue_there e ∙ ap (inked_or tile cut m blue) (green_else (λ f. absurd (omega (arith, e, f))) ∙ red_else (λ f. absurd (omega (arith, e, f))))))

@@ -36,8 +36,7 @@ abbrev pub laid_colour : BlendMode → ℕ → List ℕ → List ℕ → List �
 laid_colour blend opacity rgba old =
     laid blend opacity (slice_index rgba 3) (slice_index rgba 0) (slice_index old 0)
     ∷ laid blend opacity (slice_index rgba 3) (slice_index rgba 1) (slice_index old 1)
-    ∷ laid blend opacity (slice_index rgba 3) (slice_index rgba 2) (slice_index old 2)
-    ∷ []
+    ∷ laid blend opacity (slice_index rgba 3) (slice_index rgba 2) (slice_index old 2) ∷ []
 
 -- the colour of a display on which nothing is drawn
 abbrev pub black : List ℕ

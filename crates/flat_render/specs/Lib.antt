@@ -7,9 +7,9 @@ pub mod Damaged
 pub mod Pictures
 pub mod Hiding
 pub mod Ppm
+pub mod Words
 pub mod Grids
 pub mod Tiles
 pub mod Inks
-pub mod Brushes
 pub mod Stored
 pub mod Bands

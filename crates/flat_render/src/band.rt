@@ -5,8 +5,9 @@ ghost use Rattle.flat_render.specs.Grids.{band_bytes, IsGrid};
 ghost use Rattle.flat_render.specs.Stored.{drawn_at, drawn_in};
 ghost use Rattle.flat_render.specs.Tiles.{pixels_of, tile_area, IsTile};
 
+use crate::chosen::draw_chosen;
 use crate::grid::{Grid, bytes_of_tiles, tile};
-use crate::sorting::{choose, sorted};
+use crate::sorting::sorted;
 use crate::tile::{Tile, draw};
 use flat_base::{NoMemory, Rect};
 use flat_scene::DrawItem;
@@ -28,8 +29,8 @@ pub fn visible_rects(alloc: Global, items: &[DrawItem]) -> Result<Vec<Rect>, NoM
 }
 
 /// Draws a tile that is black, by the items with some numbers, which are those that may
-/// be seen there. Where memory is wanting it looks at all of them.
-fn draw_tile(alloc: Global, items: &[DrawItem], places: &[usize], tile: Tile, bytes: &mut [u8])
+/// be seen there.
+fn draw_tile(items: &[DrawItem], places: &[usize], tile: Tile, bytes: &mut [u8])
     requires items { All IsDrawable items.now }
     requires tile { IsTile tile }
     requires places { IsChoice (tile_area tile) items.now places.now (length items.now) }
@@ -37,10 +38,7 @@ fn draw_tile(alloc: Global, items: &[DrawItem], places: &[usize], tile: Tile, by
     requires black { (m : ℕ) → m < length bytes.old → slice_index bytes.old m ≡ 0 }
     ensures { (m : ℕ) → m < length bytes.old → slice_index bytes.new m ≡ drawn_in tile items.now m }
 {
-    match choose(alloc, items, places) {
-        Ok(seen) => draw(seen.as_slice(), tile, bytes),
-        Err(_) => draw(items, tile, bytes),
-    }
+    draw_chosen(items, places, tile, bytes);
 }
 
 /// Draws a row of tiles, which are black, each by all of the items.
@@ -62,14 +60,7 @@ fn draw_each(items: &[DrawItem], grid: &Grid, row: usize, bytes: &mut [u8])
 }
 
 /// Draws a row of tiles, which are black, each by the items that may be seen there.
-fn draw_picked(
-    alloc: Global,
-    items: &[DrawItem],
-    lists: &[Vec<usize>],
-    grid: &Grid,
-    row: usize,
-    bytes: &mut [u8],
-)
+fn draw_picked(items: &[DrawItem], lists: &[Vec<usize>], grid: &Grid, row: usize, bytes: &mut [u8])
     requires items { All IsDrawable items.now }
     requires lists { AreChoices grid.now row items.now lists.now (length items.now) }
     requires grid { IsGrid grid.now }
@@ -84,7 +75,7 @@ fn draw_picked(
         let start = n * size;
         let bytes_of_tile = &mut bytes[start..start + size];
         let tile = tile(grid, row * grid.across + n);
-        draw_tile(alloc, items, lists[n].as_slice(), tile, bytes_of_tile);
+        draw_tile(items, lists[n].as_slice(), tile, bytes_of_tile);
     }
 }
 
@@ -111,7 +102,7 @@ pub fn draw_band(
         return draw_each(items, grid, row, bytes);
     }
     match sorted(alloc, items, rects, grid, row) {
-        Ok(lists) => draw_picked(alloc, items, lists.as_slice(), grid, row, bytes),
+        Ok(lists) => draw_picked(items, lists.as_slice(), grid, row, bytes),
         Err(_) => draw_each(items, grid, row, bytes),
     }
 }

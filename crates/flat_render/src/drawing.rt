@@ -1,4 +1,5 @@
-ghost use Rattle.std.specs.Prelude.{◌≡◌, ◌+◌, ◌*◌, ◌/◌, ◌<◌, ℕ, All, if◌then◌else◌, length};
+ghost use Rattle.std.specs.Prelude.{◌≡◌, ◌+◌, ◌*◌, ◌/◌, ◌<◌, ◌≤◌, ℕ, All};
+ghost use Rattle.std.specs.Prelude.{if◌then◌else◌, length};
 ghost use Rattle.std.specs.Prelude.{slice_index};
 ghost use Rattle.flat_drawable.specs.Drawable.{IsDrawable};
 ghost use Rattle.flat_render.specs.Areas.{has_pixel};
@@ -13,6 +14,7 @@ use crate::grid::{Grid, bytes_of_bands, bytes_of_tiles, count_of_tiles, tile};
 use crate::tile::draw_anew;
 use flat_base::Rect;
 use flat_scene::DrawItem;
+use rayon::current_num_threads;
 use rayon::prelude::*;
 use std::alloc::Global;
 use std::thread::Threads;
@@ -23,6 +25,13 @@ const LIGHT: usize = 2_000_000;
 
 /// What an item costs beside its pixels, counted in pixels.
 const ITEM_WORK: usize = 512;
+
+/// How many threads `rayon` starts for each processor.
+const THREADS_EACH: usize = 2;
+
+/// The most pieces that rows of tiles are cut down for: more of them would make tiles so low
+/// that items lie on many.
+pub const PIECES_MAX: usize = 8;
 
 /// How much work it is to draw items with these rectangles, in pixels.
 fn work_of(rects: &[Rect]) -> usize {
@@ -36,8 +45,24 @@ fn work_of(rects: &[Rect]) -> usize {
     work
 }
 
+/// How many pieces of equal height the rows of tiles are shared out in: one if the caller is to
+/// draw alone, since there is little work or one processor.
+pub fn pieces_for(rt: &(impl Threads + Sync), rects: &[Rect]) -> usize
+    ensures some { 0 < result }
+    ensures few { result ≤ PIECES_MAX }
+{
+    if work_of(rects) <= LIGHT {
+        return 1;
+    }
+    let processors = current_num_threads(rt);
+    if processors == 1 {
+        return 1;
+    }
+    processors.min(PIECES_MAX / THREADS_EACH) * THREADS_EACH
+}
+
 /// Draws all tiles, which are black, on the calling thread.
-fn draw_here(alloc: Global, items: &[DrawItem], rects: &[Rect], grid: &Grid, bytes: &mut [u8])
+pub fn draw_here(alloc: Global, items: &[DrawItem], rects: &[Rect], grid: &Grid, bytes: &mut [u8])
     requires items { All IsDrawable items.now }
     requires rects { rects.now ≡ rects_of items.now }
     requires grid { IsGrid grid.now }
@@ -71,9 +96,6 @@ pub fn draw_tiles(
     ensures { (i : ℕ) → i < length bytes.old → slice_index bytes.new i
         ≡ drawn_at grid.now items.now i }
 {
-    if work_of(rects) <= LIGHT {
-        return draw_here(alloc, items, rects, grid, bytes);
-    }
     let size = bytes_of_bands(grid);
     par_chunks_mut_for_each(
         rt,

@@ -1,12 +1,12 @@
-ghost use Rattle.std.specs.Prelude.{◌≡◌, ◌+◌, ◌*◌, ◌<◌, ◌≤◌};
+ghost use Rattle.std.specs.Prelude.{◌≡◌, ◌+◌, ◌*◌, ◌<◌, ◌≤◌, ◌^◌};
 ghost use Rattle.flat_render.specs.Grids.{tile_of, tile_count, tile_size, tile_bytes, band_bytes};
 ghost use Rattle.flat_render.specs.Grids.{grid_bytes, place_of, run_of, IsGrid};
 ghost use Rattle.flat_render.specs.Tiles.{IsTile};
 
 use crate::tile::{CHANNELS, TILE_SIDE, Tile};
 
-/// How a picture is cut into tiles. Their sides are 64, or the picture's where
-/// these are less; the last ones may go beyond the picture.
+/// How a picture is cut into tiles. They are 64 pixels wide, or as wide as the picture if that
+/// is less, and at most 64 high; the last ones may go beyond the picture.
 #[derive(Clone, Copy)]
 pub struct Grid {
     /// The picture's own sides.
@@ -22,17 +22,35 @@ pub struct Grid {
 /// The most pixels of a picture.
 pub const PIXELS_MAX: u32 = 4_194_304;
 
-/// The grid of a picture.
-pub fn grid_for(width: u32, height: u32) -> Grid
+/// How high the tiles of a picture are, if the number of its rows of tiles is to be a multiple
+/// of a step.
+fn tile_height(height: usize, step: usize) -> usize
+    requires height { 0 < height }
+    requires not_high { height < 2 ^ 32 }
+    requires step { 0 < step }
+    requires small { step ≤ 64 }
+    ensures some { 0 < result }
+    ensures low { result ≤ 64 }
+    ensures within { result ≤ height }
+{
+    let rows = height.div_ceil(TILE_SIDE).div_ceil(step) * step;
+    height.div_ceil(rows).clamp(1, height.min(TILE_SIDE))
+}
+
+/// The grid of a picture. The number of its rows of tiles is a multiple of a step, if the
+/// picture is high enough.
+pub fn grid_for(width: u32, height: u32, step: usize) -> Grid
     requires width { 0 < width }
     requires height { 0 < height }
     requires size { width * height ≤ PIXELS_MAX }
+    requires step { 0 < step }
+    requires small { step ≤ 64 }
     ensures grid { IsGrid result }
     ensures width { result.width ≡ width }
     ensures height { result.height ≡ height }
 {
     let (width, height) = (width as usize, height as usize);
-    let (tile_w, tile_h) = (width.min(TILE_SIDE), height.min(TILE_SIDE));
+    let (tile_w, tile_h) = (width.min(TILE_SIDE), tile_height(height, step));
     Grid {
         width,
         height,

@@ -67,7 +67,7 @@ fn wash_all(s: u8, line: &mut [u8])
 /// Puts one value in place of so many pixels at each end of a line, which are all of
 /// its pixels. The compiler knows how many they are, and calls nothing.
 #[inline(always)]
-fn wash_ends(s: u8, count: usize, line: &mut [u8])
+pub fn wash_ends(s: u8, count: usize, line: &mut [u8])
     requires some { count ≤ length line.old }
     requires all { length line.old ≤ 2 * count }
     ensures { (i : ℕ) → i < length line.old → slice_index line.new i ≡ s }
@@ -81,33 +81,6 @@ fn wash_ends(s: u8, count: usize, line: &mut [u8])
     }
 }
 
-/// Puts one value in place of a line of pixels.
-#[inline(always)]
-pub fn wash(s: u8, line: &mut [u8])
-    ensures { (i : ℕ) → i < length line.old → slice_index line.new i ≡ s }
-{
-    let count = line.len();
-    if count > TILE_SIDE {
-        return wash_all(s, line);
-    }
-    if count >= TILE_SIDE / 2 {
-        return wash_ends(s, TILE_SIDE / 2, line);
-    }
-    if count >= TILE_SIDE / 4 {
-        return wash_ends(s, TILE_SIDE / 4, line);
-    }
-    if count >= TILE_SIDE / 8 {
-        return wash_ends(s, TILE_SIDE / 8, line);
-    }
-    if count >= TILE_SIDE / 16 {
-        return wash_ends(s, TILE_SIDE / 16, line);
-    }
-    if count >= TILE_SIDE / 32 {
-        return wash_ends(s, TILE_SIDE / 32, line);
-    }
-    wash_all(s, line);
-}
-
 /// Mixes one value with a line of pixels, weighted so.
 pub fn veil(weight: u8, s: u8, line: &mut [u8])
     ensures { (i : ℕ) → i < length line.old → slice_index line.new i
@@ -119,7 +92,7 @@ pub fn veil(weight: u8, s: u8, line: &mut [u8])
 }
 
 /// Mixes a value for each pixel with a line of them, weighted so.
-fn weave(weight: u8, values: &[u8], line: &mut [u8])
+pub fn weave(weight: u8, values: &[u8], line: &mut [u8])
     requires { length line.old ≤ length values.now }
     ensures { (i : ℕ) → i < length line.old → slice_index line.new i
         ≡ covered weight (slice_index values.now i) (slice_index line.old i) }
@@ -130,13 +103,12 @@ fn weave(weight: u8, values: &[u8], line: &mut [u8])
 }
 
 /// Mixes one value with a line of pixels.
-#[inline(always)]
 pub fn mix_one(mix: Mix, s: u8, line: &mut [u8])
     ensures { (i : ℕ) → i < length line.old → slice_index line.new i
         ≡ mixed mix s (slice_index line.old i) }
 {
     match mix {
-        Mix::Replace => wash(s, line),
+        Mix::Replace => wash_all(s, line),
         Mix::Cover(weight) => veil(weight, s, line),
     }
 }
@@ -144,7 +116,7 @@ pub fn mix_one(mix: Mix, s: u8, line: &mut [u8])
 /// Copies so many values to each end of a line, which are all of its pixels. The
 /// compiler knows how many they are, and calls nothing.
 #[inline(always)]
-fn copy_ends(values: &[u8], count: usize, line: &mut [u8])
+pub fn copy_ends(values: &[u8], count: usize, line: &mut [u8])
     requires values { length line.old ≤ length values.now }
     requires some { count ≤ length line.old }
     requires all { length line.old ≤ 2 * count }
@@ -155,40 +127,4 @@ fn copy_ends(values: &[u8], count: usize, line: &mut [u8])
     front.copy_from_slice(&values[..count]);
     let back = &mut line[rest..];
     back.copy_from_slice(&values[rest..rest + count]);
-}
-
-/// Puts a value for each pixel in place of a line of them: the first of these.
-#[inline(always)]
-fn copy(values: &[u8], line: &mut [u8])
-    requires { length line.old ≤ length values.now }
-    ensures { (i : ℕ) → i < length line.old → slice_index line.new i ≡ slice_index values.now i }
-{
-    let count = line.len();
-    if count > TILE_SIDE / 2 {
-        line.copy_from_slice(&values[..count]);
-        return;
-    }
-    if count >= TILE_SIDE / 4 {
-        return copy_ends(values, TILE_SIDE / 4, line);
-    }
-    if count >= TILE_SIDE / 8 {
-        return copy_ends(values, TILE_SIDE / 8, line);
-    }
-    if count >= TILE_SIDE / 16 {
-        return copy_ends(values, TILE_SIDE / 16, line);
-    }
-    line.copy_from_slice(&values[..count]);
-}
-
-/// Mixes a value for each pixel with a line of them: the first of these.
-#[inline(always)]
-pub fn mix_each(mix: Mix, values: &[u8], line: &mut [u8])
-    requires { length line.old ≤ length values.now }
-    ensures { (i : ℕ) → i < length line.old → slice_index line.new i
-        ≡ mixed mix (slice_index values.now i) (slice_index line.old i) }
-{
-    match mix {
-        Mix::Replace => copy(values, line),
-        Mix::Cover(weight) => weave(weight, values, line),
-    }
 }

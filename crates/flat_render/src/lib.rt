@@ -2,23 +2,31 @@
 //!
 //! `render` (rendering) gives each pixel the colour of specs/Pixels; tiles (tile, grid,
 //! drawing) and what is left out (sorting) are in no answer.
+//!
+//! A picture is drawn by rows of tiles (band), each tile by the items that may be seen there
+//! (chosen), and each item channel by channel (brush, texture, ink), row by row (plane).
+//! `Picture::write_row` (words) and `ppm_of` (ppm) hand the colours out.
 #![tactic(auto)]
 
 mod area;
 mod axis;
 mod band;
 mod brush;
+mod chosen;
 mod colour;
 mod drawing;
 mod grid;
 mod ink;
 mod picture;
+mod plane;
 mod ppm;
 mod rendering;
 mod sorting;
 mod texture;
 mod tile;
+mod words;
 
+pub use area::{Area, area_of};
 pub use colour::texel;
 pub use grid::PIXELS_MAX;
 pub use picture::Picture;

@@ -1,8 +1,10 @@
-ghost use Rattle.std.specs.Prelude.{◌≡◌, ◌<◌, ℕ, All, if◌then◌else◌, vec_len};
+ghost use Rattle.std.specs.Prelude.{◌≡◌, ◌<◌, ◌≤◌, ℕ, All, if◌then◌else◌};
+ghost use Rattle.std.specs.Prelude.{length, slice_index, vec_len};
 ghost use Rattle.flat_render.specs.Grids.{grid_bytes, IsGrid};
 
 use crate::drawing::redraw_rects;
 use crate::grid::{Grid, place};
+use crate::words::write_words;
 use flat_scene::{ItemList, RectList};
 
 /// The picture of a draw list: a colour for each pixel of a display.
@@ -21,6 +23,7 @@ impl Picture {
     ghost use Rattle.flat_render.specs.Damaged.{is_in_any};
     ghost use Rattle.flat_drawable.specs.Drawable.{IsDrawable};
     ghost use Rattle.flat_render.specs.Pixels.{pixel};
+    ghost use Rattle.flat_render.specs.Words.{xrgb};
     ghost use Rattle.flat_render.specs.Pictures.{width_of, height_of, channel_of, pixel_of};
 
     /// The width in pixels.
@@ -57,6 +60,20 @@ impl Picture {
             self.channel(1, x, y),
             self.channel(2, x, y),
         ]
+    }
+
+    /// Writes a row to the front of a line, as a display driver wants it: each pixel is a word
+    /// of 32 bits, which in hexadecimal is `00RRGGBB`. The rest of the line stays, so whoever
+    /// has a buffer with a stride gives its line from that row's start.
+    pub fn write_row(&self, y: u32, line: &mut [u32])
+        requires y { y < height_of self.now }
+        requires room { width_of self.now ≤ length line.old }
+        ensures pixels { (x : ℕ) → x < width_of self.now → slice_index line.new x
+            ≡ xrgb (pixel_of self.now x y) }
+        ensures rest { (x : ℕ) → width_of self.now ≤ x → slice_index line.new x
+            ≡ slice_index line.old x }
+    {
+        write_words(self, y, line);
     }
 
     /// Draws anew the pixels whose centre is in any of some rectangles, by that

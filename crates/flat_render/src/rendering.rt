@@ -4,7 +4,7 @@ ghost use Rattle.flat_render.specs.Pixels.{pixel};
 ghost use Rattle.flat_render.specs.Pictures.{Shows};
 
 use crate::band::visible_rects;
-use crate::drawing::draw_tiles;
+use crate::drawing::{draw_here, draw_tiles, pieces_for};
 use crate::grid::{PIXELS_MAX, grid_for, stored};
 use crate::picture::Picture;
 use flat_base::NoMemory;
@@ -37,17 +37,16 @@ pub fn render(
     requires size { w * h ≤ PIXELS_MAX }
     ensures { IfOk result (λ picture. Shows picture w h (pixel items.now)) }
 {
-    let grid = grid_for(w, h);
     let drawn = items.as_slice();
     let rects = visible_rects(alloc, drawn)?;
+    let pieces = pieces_for(rt, rects.as_slice());
+    let grid = grid_for(w, h, pieces);
     let mut bytes = vec![in alloc; 0u8; stored(&grid)]?;
-    draw_tiles(
-        rt,
-        alloc,
-        drawn,
-        rects.as_slice(),
-        &grid,
-        bytes.as_mut_slice(),
-    );
+    let (areas, all) = (rects.as_slice(), bytes.as_mut_slice());
+    if pieces == 1 {
+        draw_here(alloc, drawn, areas, &grid, all);
+        return Ok(Picture { grid, bytes });
+    }
+    draw_tiles(rt, alloc, drawn, areas, &grid, all);
     Ok(Picture { grid, bytes })
 }

@@ -1,14 +1,15 @@
-ghost use Rattle.std.specs.Prelude.{◌≡◌, ◌+◌, ◌*◌, ◌<◌, ◌≤◌, ◌++◌, ◌∷◌, [], ℕ, false, All, IfOk};
+ghost use Rattle.std.specs.Prelude.{◌≡◌, ◌+◌, ◌*◌, ◌/◌, ◌<◌, ◌≤◌, ◌++◌, ◌∷◌, [], ℕ, false, All, IfOk};
 ghost use Rattle.std.specs.Prelude.{OnOk, length, if◌then◌else◌, slice_index_or};
 ghost use Rattle.flat_drawable.specs.Drawable.{IsDrawable};
 ghost use Rattle.flat_geom.specs.Rectangles.{has_point};
 ghost use Rattle.flat_render.specs.Areas.{is_among};
-ghost use Rattle.flat_render.specs.Bands.{chosen, rects_of, AreChoices, AreEmpty, IsNoted};
+ghost use Rattle.flat_render.specs.Bands.{rects_of, AreChoices, AreEmpty, IsNoted};
 ghost use Rattle.flat_render.specs.Grids.{IsGrid};
 ghost use Rattle.flat_render.specs.Pixels.{centre};
 
 use crate::area::{area_of, is_beside};
 use crate::grid::Grid;
+use crate::tile::TILE_SIDE;
 use flat_base::{NoMemory, Rect};
 use flat_scene::DrawItem;
 use std::alloc::Global;
@@ -19,6 +20,19 @@ use std::alloc::Global;
 struct Columns {
     from: usize,
     upto: usize,
+}
+
+/// In which part of a line, whose parts have so many pixels each, a pixel lies. The compiler
+/// knows the usual size, and divides by it without a division.
+fn part_with(side: usize, x: usize) -> usize
+    requires { 0 < side }
+    ensures { result ≡ x / side }
+{
+    if side == TILE_SIDE {
+        x / TILE_SIDE
+    } else {
+        x / side
+    }
 }
 
 /// The tiles of a row in which a rectangle may have the centre of a pixel.
@@ -37,7 +51,7 @@ fn columns_of(grid: &Grid, row: usize, r: Rect) -> Columns
     }
     let area = area_of(r);
     Columns {
-        from: area.x0 / grid.tile_w,
+        from: part_with(grid.tile_w, area.x0),
         upto: area.x1.div_ceil(grid.tile_w).min(grid.across),
     }
 }
@@ -89,20 +103,4 @@ pub fn sorted(
         note(lists.as_mut_slice(), n, columns)?;
     }
     Ok(lists)
-}
-
-/// The items with some numbers.
-pub fn choose(
-    alloc: Global,
-    items: &[DrawItem],
-    places: &[usize],
-) -> Result<Vec<DrawItem>, NoMemory>
-    requires { All (λ p. p < length items.now) places.now }
-    ensures { IfOk result (λ seen. seen.items ≡ chosen items.now places.now) }
-{
-    let mut seen = Vec::with_capacity(alloc, places.len())?;
-    for place in places {
-        seen.push(items[*place])?;
-    }
-    Ok(seen)
 }

@@ -3,17 +3,19 @@ ghost use Rattle.std.specs.Prelude.{All, IsTrue, true, false, drop};
 ghost use Rattle.flat_drawable.specs.Drawable.{IsDrawable};
 ghost use Rattle.flat_render.specs.Areas.{has_pixel, IsInArea, IsWindow};
 ghost use Rattle.flat_render.specs.Channels.{channel_step, channel_after};
-ghost use Rattle.flat_render.specs.Colours.{covered};
 ghost use Rattle.flat_render.specs.Hiding.{HidesIn};
-ghost use Rattle.flat_render.specs.Inks.{inked, mixed, IsShade};
+ghost use Rattle.flat_render.specs.Inks.{inked, IsShade};
+ghost use Rattle.flat_render.specs.Textures.{IsTextureOf};
 ghost use Rattle.flat_render.specs.Pixels.{covers};
 ghost use Rattle.flat_render.specs.Tiles.{x_of, y_of, x_at, y_at, channel_at, pixels_of, tile_area};
 ghost use Rattle.flat_render.specs.Tiles.{IsTile};
 
 use crate::area::{Area, area_of, common, is_covered, is_missed};
-use crate::brush::brush_for;
-use crate::ink::{Ink, Mix, Shade, mix_each, mix_one, veil, wash};
-use flat_scene::{BlendMode, DrawItem};
+use crate::brush::{blue_ink, fill_ink, green_ink, red_ink};
+use crate::ink::{Ink, Mix, Shade};
+use crate::plane::lay_plane;
+use crate::texture::{Texture, texture_of};
+use flat_scene::{BlendMode, DrawItem, Paint};
 
 /// The sides of tiles, where the picture has no smaller ones.
 pub const TILE_SIDE: usize = 64;
@@ -46,119 +48,6 @@ pub fn area(tile: Tile) -> Area
     }
 }
 
-/// Puts one value in place of the pixels of an area, in a plane, row by row.
-fn wash_rows(s: u8, tile: Tile, cut: Area, plane: &mut [u8])
-    requires tile { IsTile tile }
-    requires size { length plane.old ≡ pixels_of tile }
-    requires cut { IsInArea (tile_area tile) cut }
-    requires some { IsWindow cut }
-    ensures { (k : ℕ) → k < length plane.old → slice_index plane.new k
-        ≡ (if has_pixel cut (x_of tile k) (y_of tile k) then s else slice_index plane.old k) }
-{
-    for py in cut.y0..cut.y1 {
-        let row = (py - tile.top) * tile.width;
-        let line = &mut plane[row + (cut.x0 - tile.left)..row + (cut.x1 - tile.left)];
-        wash(s, line);
-    }
-}
-
-/// Mixes one value with the pixels of an area, in a plane, row by row, weighted so.
-fn veil_rows(weight: u8, s: u8, tile: Tile, cut: Area, plane: &mut [u8])
-    requires tile { IsTile tile }
-    requires size { length plane.old ≡ pixels_of tile }
-    requires cut { IsInArea (tile_area tile) cut }
-    requires some { IsWindow cut }
-    ensures { (k : ℕ) → k < length plane.old → slice_index plane.new k
-        ≡ (if has_pixel cut (x_of tile k) (y_of tile k) then covered weight s
-        (slice_index plane.old k) else slice_index plane.old k) }
-{
-    for py in cut.y0..cut.y1 {
-        let row = (py - tile.top) * tile.width;
-        let line = &mut plane[row + (cut.x0 - tile.left)..row + (cut.x1 - tile.left)];
-        veil(weight, s, line);
-    }
-}
-
-/// Mixes one value with the pixels of an area, in a plane. Where the area is as wide
-/// as the tile, its rows are one line.
-fn mix_plane(mix: Mix, s: u8, tile: Tile, cut: Area, plane: &mut [u8])
-    requires tile { IsTile tile }
-    requires size { length plane.old ≡ pixels_of tile }
-    requires cut { IsInArea (tile_area tile) cut }
-    requires some { IsWindow cut }
-    ensures { (k : ℕ) → k < length plane.old → slice_index plane.new k
-        ≡ (if has_pixel cut (x_of tile k) (y_of tile k) then mixed mix s (slice_index plane.old k)
-        else slice_index plane.old k) }
-{
-    if cut.x1 - cut.x0 < tile.width {
-        return match mix {
-            Mix::Replace => wash_rows(s, tile, cut, plane),
-            Mix::Cover(weight) => veil_rows(weight, s, tile, cut, plane),
-        };
-    }
-    let from = (cut.y0 - tile.top) * tile.width;
-    let upto = (cut.y1 - tile.top) * tile.width;
-    let lines = &mut plane[from..upto];
-    mix_one(mix, s, lines);
-}
-
-/// Mixes a value for each column with the pixels of an area, in a plane, row by row.
-fn mix_across(mix: Mix, values: &[u8], tile: Tile, cut: Area, plane: &mut [u8])
-    requires values { cut.x1 - cut.x0 ≤ length values.now }
-    requires tile { IsTile tile }
-    requires size { length plane.old ≡ pixels_of tile }
-    requires cut { IsInArea (tile_area tile) cut }
-    requires some { IsWindow cut }
-    ensures { (k : ℕ) → k < length plane.old → slice_index plane.new k
-        ≡ (if has_pixel cut (x_of tile k) (y_of tile k) then mixed mix
-        (slice_index values.now (x_of tile k - cut.x0)) (slice_index plane.old k) else slice_index
-        plane.old k) }
-{
-    for py in cut.y0..cut.y1 {
-        let row = (py - tile.top) * tile.width;
-        let line = &mut plane[row + (cut.x0 - tile.left)..row + (cut.x1 - tile.left)];
-        mix_each(mix, values, line);
-    }
-}
-
-/// Mixes a value for each row with the pixels of an area, in a plane.
-fn mix_down(mix: Mix, values: &[u8], tile: Tile, cut: Area, plane: &mut [u8])
-    requires values { cut.y1 - cut.y0 ≤ length values.now }
-    requires tile { IsTile tile }
-    requires size { length plane.old ≡ pixels_of tile }
-    requires cut { IsInArea (tile_area tile) cut }
-    requires some { IsWindow cut }
-    ensures { (k : ℕ) → k < length plane.old → slice_index plane.new k
-        ≡ (if has_pixel cut (x_of tile k) (y_of tile k) then mixed mix
-        (slice_index values.now (y_of tile k - cut.y0)) (slice_index plane.old k) else slice_index
-        plane.old k) }
-{
-    for py in cut.y0..cut.y1 {
-        let row = (py - tile.top) * tile.width;
-        let line = &mut plane[row + (cut.x0 - tile.left)..row + (cut.x1 - tile.left)];
-        mix_one(mix, values[py - cut.y0], line);
-    }
-}
-
-/// Lays ink on the pixels of an area, in a plane.
-fn lay_plane(ink: &Ink, tile: Tile, cut: Area, plane: &mut [u8])
-    requires ink { IsShade ink.now.shade }
-    requires tile { IsTile tile }
-    requires size { length plane.old ≡ pixels_of tile }
-    requires cut { IsInArea (tile_area tile) cut }
-    requires some { IsWindow cut }
-    ensures { (k : ℕ) → k < length plane.old → slice_index plane.new k
-        ≡ (if has_pixel cut (x_of tile k) (y_of tile k) then inked ink.now
-        (x_of tile k - cut.x0) (y_of tile k - cut.y0) (slice_index plane.old k) else slice_index
-        plane.old k) }
-{
-    match &ink.shade {
-        Shade::Even(value) => mix_plane(ink.mix, *value, tile, cut, plane),
-        Shade::Across(values) => mix_across(ink.mix, values.as_slice(), tile, cut, plane),
-        Shade::Down(values) => mix_down(ink.mix, values.as_slice(), tile, cut, plane),
-    }
-}
-
 /// Lays ink on the pixels of an area, in the plane of a channel.
 fn ink_channel(c: usize, ink: &Ink, tile: Tile, cut: Area, bytes: &mut [u8])
     requires channel { c < 3 }
@@ -179,6 +68,44 @@ fn ink_channel(c: usize, ink: &Ink, tile: Tile, cut: Area, bytes: &mut [u8])
     lay_plane(ink, tile, cut, plane);
 }
 
+/// Draws a fill on the pixels of an area that it covers.
+fn paint_fill(item: &DrawItem, rgba: [u8; 4], tile: Tile, cut: Area, bytes: &mut [u8])
+    requires item { IsDrawable item.now }
+    requires fill { item.now.paint ≡ Paint.Fill rgba }
+    requires tile { IsTile tile }
+    requires size { length bytes.old ≡ 3 * pixels_of tile }
+    requires cut { IsInArea (tile_area tile) cut }
+    requires some { IsWindow cut }
+    requires covered { (px py : ℕ) → has_pixel cut px py ≡ true → covers item.now px py ≡ true }
+    ensures { (m : ℕ) → m < length bytes.old → slice_index bytes.new m
+        ≡ (if has_pixel cut (x_at tile m) (y_at tile m) then channel_step (channel_at tile m)
+        item.now (x_at tile m) (y_at tile m) (slice_index bytes.old m) else slice_index bytes.old
+        m) }
+{
+    ink_channel(0, &fill_ink(0, item, rgba), tile, cut, bytes);
+    ink_channel(1, &fill_ink(1, item, rgba), tile, cut, bytes);
+    ink_channel(2, &fill_ink(2, item, rgba), tile, cut, bytes);
+}
+
+/// Draws an image on the pixels of an area that it covers.
+fn paint_image(item: &DrawItem, texture: &Texture, tile: Tile, cut: Area, bytes: &mut [u8])
+    requires item { IsDrawable item.now }
+    requires texture { IsTextureOf item.now texture.now }
+    requires tile { IsTile tile }
+    requires size { length bytes.old ≡ 3 * pixels_of tile }
+    requires cut { IsInArea (tile_area tile) cut }
+    requires some { IsWindow cut }
+    requires covered { (px py : ℕ) → has_pixel cut px py ≡ true → covers item.now px py ≡ true }
+    ensures { (m : ℕ) → m < length bytes.old → slice_index bytes.new m
+        ≡ (if has_pixel cut (x_at tile m) (y_at tile m) then channel_step (channel_at tile m)
+        item.now (x_at tile m) (y_at tile m) (slice_index bytes.old m) else slice_index bytes.old
+        m) }
+{
+    ink_channel(0, &red_ink(item, texture, cut), tile, cut, bytes);
+    ink_channel(1, &green_ink(item, texture, cut), tile, cut, bytes);
+    ink_channel(2, &blue_ink(item, texture), tile, cut, bytes);
+}
+
 /// Draws an item on the pixels of an area that it covers.
 fn paint_cut(item: &DrawItem, tile: Tile, cut: Area, bytes: &mut [u8])
     requires item { IsDrawable item.now }
@@ -192,14 +119,22 @@ fn paint_cut(item: &DrawItem, tile: Tile, cut: Area, bytes: &mut [u8])
         item.now (x_at tile m) (y_at tile m) (slice_index bytes.old m) else slice_index bytes.old
         m) }
 {
-    let brush = brush_for(item, cut);
-    ink_channel(0, &brush.red, tile, cut, bytes);
-    ink_channel(1, &brush.green, tile, cut, bytes);
-    ink_channel(2, &brush.blue, tile, cut, bytes);
+    match item.paint {
+        Paint::Fill { rgba } => paint_fill(item, rgba, tile, cut, bytes),
+        Paint::Image {
+            buffers,
+            index,
+            sample,
+            flip,
+        } => {
+            let texture = texture_of(item, buffers, index, sample, flip);
+            paint_image(item, &texture, tile, cut, bytes);
+        }
+    }
 }
 
 /// Draws an item on the pixels of a window.
-fn paint_item(item: &DrawItem, tile: Tile, window: Area, bytes: &mut [u8])
+pub fn paint_item(item: &DrawItem, tile: Tile, window: Area, bytes: &mut [u8])
     requires item { IsDrawable item.now }
     requires tile { IsTile tile }
     requires size { length bytes.old ≡ 3 * pixels_of tile }
@@ -259,7 +194,7 @@ fn blacken(tile: Tile, window: Area, bytes: &mut [u8])
 }
 
 /// Whether an item leaves nothing of what is below it in a window.
-fn hides(item: &DrawItem, window: Area) -> bool
+pub fn hides(item: &DrawItem, window: Area) -> bool
     requires { IsWindow window }
     ensures { IsTrue result → HidesIn item.now window }
 {

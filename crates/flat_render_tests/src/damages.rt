@@ -1,6 +1,6 @@
 use crate::scenes::{BLACK, Wrong, fill, list, shown, wrong_in};
 use flat_base::{Items, NoMemory, Rect};
-use flat_damage::{damage, redraw};
+use flat_damage::{area_of, damage, redraw};
 use flat_drawable::are_drawable;
 use flat_render::Picture;
 use flat_scene::{DrawItem, ItemList, RectList};
@@ -117,4 +117,18 @@ fn wrong_moved(
 #[test]
 fn pictures_are_redrawn(rt: HostRuntime) {
     assert_eq!(rt; wrong_moved(&rt, rt.alloc()), Ok(None));
+}
+
+/// A rectangle that goes beyond a display on both sides, and begins just below the centres of
+/// its first row.
+#[test]
+fn areas_end_with_the_display(rt: HostRuntime) {
+    let rect = Rect {
+        x0: -65_536,
+        y0: 32_769,
+        x1: 200 * 65_536,
+        y1: 65_536 + 32_769,
+    };
+    let area = area_of(rect, 100, 50);
+    assert_eq!(rt; [area.x0, area.y0, area.x1, area.y1], [0, 1, 100, 2]);
 }

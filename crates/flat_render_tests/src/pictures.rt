@@ -1,6 +1,6 @@
 ghost use Rattle.std.specs.Prelude.{◌<◌};
 
-use crate::scenes::{BLACK, WHITE, Wrong, fill, repainted, white, wrong};
+use crate::scenes::{BLACK, WHITE, Wrong, fill, repainted, shown_of, white, wrong};
 use flat_base::{NoMemory, Rect};
 use flat_render::{is_too_large, ppm_of};
 use flat_scene::BlendMode;
@@ -97,5 +97,24 @@ fn pictures_are_written_and_repainted(rt: HostRuntime) -> Result<(), Fail> {
     let text = repainted_text(&rt, rt.alloc())?;
     let expected = b"P6\n2 2\n255\n\xff\xff\xff\0\0\0\0\0\0\0\0\0";
     assert_eq!(rt; text.as_slice(), expected.as_slice());
+    Ok(())
+}
+
+/// A line of sevens, to which the second row of a picture is written, of which one pixel behind
+/// the first tile has a colour.
+fn written_row(rt: &(impl Abort + Threads + Sync), alloc: Global) -> Result<[u32; 68], NoMemory> {
+    let picture = shown_of(rt, alloc, &[fill([1, 2, 3, 255], 1, 1, 64, 1)], 66, 2)?;
+    let mut line = [7; 68];
+    if picture.height() > 1 && picture.width() <= 68 {
+        picture.write_row(1, &mut line);
+    }
+    Ok(line)
+}
+
+#[test]
+fn rows_are_written_as_words(rt: HostRuntime) -> Result<(), Fail> {
+    let line = written_row(&rt, rt.alloc())?;
+    let words = [line[0], line[63], line[64], line[65], line[66], line[67]];
+    assert_eq!(rt; words, [0, 0, 0x01_02_03, 0, 7, 7]);
     Ok(())
 }

@@ -87,7 +87,7 @@ pub fn shown(
 }
 
 /// The picture of some items.
-fn shown_of(
+pub fn shown_of(
     rt: &(impl Abort + Threads + Sync),
     alloc: Global,
     items: &[DrawItem],

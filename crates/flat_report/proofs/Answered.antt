@@ -1,6 +1,6 @@
 -- What the answers to probes say in the report.
 use Rattle.std.proofs.Common.{◌≡◌, ◌≤◌, ℕ, zero, suc, ◌+◌, ◌==◌, ◌||◌, not, nat_le, Bool, true, false, cond, List, [], ◌∷◌, ◌++◌, length, map, Some, slice_get, refl, sym, ap, ◌∙◌, subst, arith, length-append}
-use Rattle.std.specs.List.{flat_map, list_all, zip}
+use Rattle.std.specs.List.{flat_map, list_all, zip, range_with_len}
 use Rattle.std.proofs.lemmas.Bool.{and_parts}
 use Rattle.std.proofs.lemmas.Bool.Decides.{nat_tests}
 use Rattle.std.proofs.lemmas.List.{length-map, map-append}
@@ -19,7 +19,7 @@ use Rattle.flat_report.specs.declared.probes.ProbeAnswer.{ProbeAnswer}
 use Rattle.flat_report.specs.Handed.{answer_line, answers_text, probe_words}
 use Rattle.flat_report.specs.Laws.{FramesAreSeen}
 use Rattle.flat_report.specs.Probes.{AreAnsweredBy, ProbesAnswered, ProbesAsk, answer_by, asked_by, asked_hits, frame_seen, frames_seen, hits_in_frame, is_asking, never_fall_from}
-use Rattle.flat_report.specs.Report.{is_probe, never_falls, numbers_from, probe_lines, probe_lines_of, same_probe, seen_line, seen_words}
+use Rattle.flat_report.specs.Report.{is_probe, never_falls, probe_lines, probe_lines_of, same_probe, seen_line, seen_words}
 use Rattle.flat_report.proofs.lemmas.Tails.{text-append}
 
 -- ---- a list beside another
@@ -170,7 +170,7 @@ module _ (script : Script) (history : List Entry) where
   -- ---- all probes, from one of a number on
 
   abbrev lines_from : ℕ → ℕ → List ScriptLine
-  lines_from n count = flat_map (λ k. probe_lines_of k script.lines) (numbers_from n count)
+  lines_from n count = flat_map (λ k. probe_lines_of k script.lines) (range_with_len n count)
 
   abbrev AnsweredFrom : ℕ → List (List ProbeAnswer) → Type 0
   AnsweredFrom n probes = (k : ℕ) (one : List ProbeAnswer) → slice_get probes k ≡ Some one

@@ -21,6 +21,7 @@ use Rattle.flat_page.specs.Words.{line_of}
 
 abbrev one_fill_one_frame-script : Script
 one_fill_one_frame-script = record {
+  version = 1;
   setup = one_fill_one_frame-setup;
   sessions = (codes "A" ∷ []);
   probes = [];
@@ -51,6 +52,7 @@ one_fill_one_frame-report = refl
 
 abbrev view_without_root_then_poll-script : Script
 view_without_root_then_poll-script = record {
+  version = 1;
   setup = view_without_root_then_poll-setup;
   sessions = (codes "A" ∷ []);
   probes = [];
@@ -95,7 +97,8 @@ unsquashable-history = []
 
 abbrev unsquashable-script : Script
 unsquashable-script = record {
-  setup = record one_fill_one_frame-setup { version = 2 };
+  version = 2;
+  setup = one_fill_one_frame-setup;
   sessions = (codes "A" ∷ []);
   probes = [];
   buffers = [];
@@ -147,6 +150,7 @@ unsquashable-report = refl
 
 abbrev second_present_before_a_frame_closes-script : Script
 second_present_before_a_frame_closes-script = record {
+  version = 1;
   setup = second_present_before_a_frame_closes-setup;
   sessions = (codes "A" ∷ []);
   probes = [];
@@ -172,6 +176,7 @@ second_present_before_a_frame_closes-report = refl
 
 abbrev shell_with_two_apps-script : Script
 shell_with_two_apps-script = record {
+  version = 1;
   setup = shell_with_two_apps-setup;
   sessions = (codes "shell" ∷ codes "mail" ∷ codes "clock" ∷ []);
   probes = [];

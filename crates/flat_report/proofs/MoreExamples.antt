@@ -11,6 +11,7 @@ use Rattle.flat_page.specs.Words.{line_of}
 
 abbrev b16_token_not_back_yet-script : Script
 b16_token_not_back_yet-script = record {
+  version = 1;
   setup = b16_token_not_back_yet-setup;
   sessions = (codes "A" ∷ codes "B" ∷ []);
   probes = [];
@@ -46,6 +47,7 @@ b16_token_not_back_yet-report = refl
 
 abbrev layout_before_first_present-script : Script
 layout_before_first_present-script = record {
+  version = 1;
   setup = layout_before_first_present-setup;
   sessions = (codes "A" ∷ codes "B" ∷ []);
   probes = [];
@@ -76,6 +78,7 @@ layout_before_first_present-report = refl
 
 abbrev cycle_of_links_is_never_reached-script : Script
 cycle_of_links_is_never_reached-script = record {
+  version = 1;
   setup = cycle_of_links_is_never_reached-setup;
   sessions = (codes "A" ∷ codes "B" ∷ []);
   probes = [];
@@ -113,6 +116,7 @@ cycle_of_links_is_never_reached-report = refl
 
 abbrev token_comes_back-script : Script
 token_comes_back-script = record {
+  version = 1;
   setup = token_comes_back-setup;
   sessions = (codes "A" ∷ codes "B" ∷ []);
   probes = [];
@@ -152,6 +156,7 @@ token_comes_back-report = refl
 
 abbrev app_gone_before_all-script : Script
 app_gone_before_all-script = record {
+  version = 1;
   setup = app_gone_before_all-setup;
   sessions = (codes "shell" ∷ codes "mail" ∷ codes "clock" ∷ []);
   probes = [];

@@ -1,16 +1,30 @@
 -- Pieces and pages, one behind another.
-use Rattle.std.proofs.Common.{◌≡◌, ℕ, false, List, [], ◌∷◌, ◌++◌, ap, ◌∙◌, append-nil}
+use Rattle.std.proofs.Common.{◌≡◌, ◌+◌, ◌<◌, ℕ, false, List, [], ◌∷◌, ◌++◌, length, map, take, get_or, refl, sym, ap, ◌∙◌, append-nil, append_assoc, arith}
 use Rattle.std.specs.List.{concat}
+use Rattle.std.proofs.lemmas.List.{map-append, take_more}
 use Rattle.std.proofs.lemmas.List.Folds.{concat-append}
 use Rattle.flat_page.specs.declared.page.Page.{Page}
-use Rattle.flat_page.specs.Pages.{IsText, is_counting}
+use Rattle.flat_page.specs.Pages.{IsText, bytes_of, is_counting}
 use Rattle.flat_report.specs.Pieces.{text_on}
-use Rattle.flat_report.proofs.Paging.{own-text}
+use Rattle.flat_report.proofs.Paging.{long-on, own-text}
 
--- one piece more
-pub piece-more : (old new : List (List ℕ)) (piece : List ℕ) → new ≡ old ++ piece ∷ [] → concat new ≡ concat old ++ piece
-piece-more old new piece is = ap concat is ∙ concat-append old (piece ∷ []) ∙ ap (λ t. concat old ++ t) (append-nil piece)
+-- one run more
+pub run-more : {A : Type 0} (text : A → List ℕ) (old new : List A) (run : A) → new ≡ old ++ run ∷ [] → concat (map text new) ≡ concat (map text old) ++ text run
+run-more text old new run is =
+    ap (λ rs. concat (map text rs)) is ∙ ap concat (map-append text old (run ∷ [])) ∙ concat-append (map text old) (text run ∷ []) ∙ ap (λ t. concat (map text old) ++ t) (append-nil (text run))
 
--- the text of a page, put behind the others as a piece
-pub page-more : (full full' text piece : List ℕ) (page : Page) → is_counting page ≡ false → ((t : List ℕ) → IsText page t → text ≡ t) → piece ≡ text → full' ≡ full ++ piece → full' ≡ full ++ text_on page
-page-more full full' text piece page has whole piece_is is = is ∙ ap (λ t. full ++ t) (piece_is ∙ whole (text_on page) (own-text page has))
+-- a loop over runs that puts each
+pub one-run-more : {A : Type 0} (text : A → List ℕ) (runs : List A) (i : ℕ) (d : A) (start was now : List ℕ) → i < length runs → was ≡ start ++ concat (map text (take i runs)) → now ≡ was ++ text (get_or runs i d)
+    → now ≡ start ++ concat (map text (take (i + 1) runs))
+one-run-more text runs i d start was now within so_far put =
+    let one = get_or runs i d in
+    put ∙ ap (λ t. t ++ text one) so_far ∙ append_assoc start (concat (map text (take i runs))) (text one)
+    ∙ ap (λ t. start ++ t) (sym (run-more text (take i runs) (take (i + 1) runs) one (take_more runs i d within)))
+
+-- a page without bytes has no text
+pub no-text : (page : Page) → is_counting page ≡ false → bytes_of page ≡ 0 → text_on page ≡ []
+no-text page has none = by_length (text_on page) (sym (long-on page has) ∙ none)
+  where
+    by_length : (text : List ℕ) → length text ≡ 0 → text ≡ []
+    by_length [] is = refl
+    by_length (x ∷ text) is = absurd (omega (arith, is))

@@ -33,7 +33,8 @@ dpr_of_two-history = []
 
 abbrev dpr_of_two-script : Script
 dpr_of_two-script = record {
-  setup = record one_fill_one_frame-setup { version = 3 };
+  version = 3;
+  setup = one_fill_one_frame-setup;
   sessions = (codes "A" ∷ []);
   probes = [];
   buffers = [];

@@ -52,6 +52,7 @@ watched-setup = record one_fill_one_frame-setup { probes = 2 }
 
 abbrev watched-script : Script
 watched-script = record {
+  version = 1;
   setup = watched-setup;
   sessions = (codes "A" ∷ []);
   probes = (codes "P" ∷ codes "Q" ∷ []);

@@ -7,7 +7,8 @@ use Rattle.flat_scene.specs.declared.frames.Lost.{Lost}
 use Rattle.flat_scene.specs.declared.journal.Entry.{Entry}
 use Rattle.flat_rules.specs.Legal.{frames}
 use Rattle.flat_places.specs.declared.script.Script.{Script}
-use Rattle.flat_report.specs.Laws.{IsRun, ReportsDetermineHistories}
+use Rattle.flat_report.specs.Laws.{ReportsDetermineHistories}
+use Rattle.flat_report.specs.Runs.{IsRun}
 use Rattle.flat_report.specs.Report.{entry_lines, history_lines, never_falls, probe_lines, report, report_lines, seen_line}
 use Rattle.flat_page.specs.Words.{Word, number}
 use Rattle.flat_report.proofs.Determined.{Tells, later-told}
@@ -41,13 +42,13 @@ module _ (script : Script) where
       ap (history_lines script lost) (sym (from-oldest history)) ∙ grows (history_lines script lost) (entry_lines script lost) (λ before entry. refl) [] (reverse history)
 
   report-text : (history : List Entry) (lost : List Lost) (seen : List ℕ)
-      → report script history lost seen ≡ line_on (codes "report" ∷ codes "flatland" ∷ number script.setup.version ∷ []) (sheet (tail (entry_lines script lost) [] (reverse history)) (ending history seen))
+      → report script history lost seen ≡ line_on (codes "report" ∷ codes "flatland" ∷ number script.version ∷ []) (sheet (tail (entry_lines script lost) [] (reverse history)) (ending history seen))
   report-text history lost seen =
       let told = history_lines script lost history in
       let seen_lines = map (seen_line script history) (zip (probe_lines script) seen) in
       let end : List (List Word) = (codes "report" ∷ codes "ends" ∷ last_words history) ∷ [] in
       text-is (report_lines script history lost seen)
-      ∙ ap (line_on (codes "report" ∷ codes "flatland" ∷ number script.setup.version ∷ [])) (sheet-append (told ++ seen_lines) end [] ∙ sheet-append told seen_lines (last_text history)
+      ∙ ap (line_on (codes "report" ∷ codes "flatland" ∷ number script.version ∷ [])) (sheet-append (told ++ seen_lines) end [] ∙ sheet-append told seen_lines (last_text history)
       ∙ ap (λ (ls : List (List Word)). sheet ls (ending history seen)) (history-tail lost history))
 
   -- What is seen by the probes, as the law asks it.
@@ -78,7 +79,7 @@ module _ (script : Script) where
     history-told : (history history' : List Entry) (lost lost' : List Lost) (seen seen' : List ℕ) → IsRun script history lost seen → IsRun script history' lost' seen'
         → report script history lost seen ≡ report script history' lost' seen' → Tells [] (reverse history) (reverse history') lost lost' (ending history seen) (ending history' seen')
     history-told history history' lost lost' seen seen' run run' is =
-        let first : List Word = codes "report" ∷ codes "flatland" ∷ number script.setup.version ∷ [] in
+        let first : List Word = codes "report" ∷ codes "flatland" ∷ number script.version ∷ [] in
         let behind = line-same first (sheet (tail (entry_lines script lost) [] (reverse history)) (ending history seen)) (sheet (tail (entry_lines script lost') [] (reverse history')) (ending history' seen'))
         (sym (report-text history lost seen) ∙ is ∙ report-text history' lost' seen') in
         later-told script kept.named lost lost' [] (reverse history) (reverse history') (ending history seen) (ending history' seen') run.numbered run'.numbered

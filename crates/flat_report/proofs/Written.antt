@@ -6,9 +6,10 @@ use Rattle.flat_scene.specs.declared.frames.Lost.{Lost}
 use Rattle.flat_scene.specs.declared.journal.Entry.{Entry}
 use Rattle.flat_scene.specs.declared.journal.Post.{Post}
 use Rattle.flat_scene.specs.declared.setup.Setup.{Setup}
-use Rattle.flat_scene.specs.History.{◌▹◌, history_of, is_finish}
+use Rattle.flat_scene.specs.History.{◌▹◌, is_finish}
+use Rattle.flat_scene.specs.Journals.{history_of}
 use Rattle.flat_rules.specs.Legal as legal
-use Rattle.flat_rules.specs.Posts.{posts}
+use Rattle.flat_rules.specs.AllPosts.{posts}
 use Rattle.flat_places.specs.declared.script.Script.{Script}
 use Rattle.flat_report.specs.declared.probes.ProbeAnswer.{ProbeAnswer}
 use Rattle.flat_report.specs.declared.report.HitAnswer.{HitAnswer}
@@ -147,7 +148,7 @@ handed-is-report script all ps ts lost hs probes answered ask ps_are ts_are hs_a
     sym (ap (history_lines script lost) is ∙ grows (history_lines script lost) (entry_lines script lost) (λ before entry. refl) [] all) in
     let end : List Entry → List (List Word) = λ h. end_line (length h) (legal.frames h) ∷ [] in
     let seen : List (List Word) = map (seen_line script history) (zip (probe_lines script) (frames_seen probes)) in
-    let title : List (List Word) = title_line script.setup.version ∷ [] in
+    let title : List (List Word) = title_line script.version ∷ [] in
     let body : List (List Word) = history_lines script lost history in
     ap (λ t. text_of title ++ t) (same_entries script lost probes all refl refl ts_tail hs_tail ps_tail ∙ handed_tail script lost probes [] all)
     ∙ ap (λ ls. text_of title ++ (text_of ls ++ (answers_text script probes ++ text_of (end (onto [] all))))) lines

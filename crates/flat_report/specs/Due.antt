@@ -26,7 +26,3 @@ TakesDue setup (before ▹ entry) =
     × ((time : ℕ) (s : SessionNo) (earlier : List Published) (present : Published)
     → entry.kind ≡ Begin time → IsDue setup before time s earlier present
     → taken setup before s + length earlier < taken setup (before ▹ entry) s)
-
--- in each history frames take what is due
-abbrev pub DuePresentsAreTaken : Type 0
-DuePresentsAreTaken = (setup : Setup) (history : List Entry) → TakesDue setup history

@@ -16,7 +16,8 @@ use Rattle.flat_rules.specs.Legal.{frames}
 use Rattle.flat_places.specs.declared.script.Script.{Script}
 use Rattle.flat_report.specs.declared.probes.ProbeAnswer.{ProbeAnswer}
 use Rattle.flat_report.specs.declared.report.HitAnswer.{HitAnswer}
-use Rattle.flat_lines.specs.EntryLines.{entry_line, point_words, post_line}
+use Rattle.flat_lines.specs.EntryLines.{entry_line, point_words}
+use Rattle.flat_lines.specs.PostLines.{post_line}
 use Rattle.flat_lines.specs.Ends.{end_line, title_line}
 use Rattle.flat_lines.specs.FrameLines.{lost_at, lost_line}
 use Rattle.flat_report.specs.Probes.{frame_seen}
@@ -91,4 +92,4 @@ handed_entries script lost probes place finished texts answers posts (entry ∷ 
 
 -- the text of all that is handed in: the entries, the oldest first, their posts, the texts of frames, the displays that were lost, the answers to points, and those to the probes
 abbrev pub handed_report : Script → List Entry → List Post → List (List ℕ) → List Lost → List HitAnswer → List (List ProbeAnswer) → List ℕ
-handed_report script entries posts texts lost answers probes = text_of (title_line script.setup.version ∷ []) ++ handed_entries script lost probes 0 0 texts answers posts entries
+handed_report script entries posts texts lost answers probes = text_of (title_line script.version ∷ []) ++ handed_entries script lost probes 0 0 texts answers posts entries

@@ -1,33 +1,31 @@
 -- What a report says of the run: all of it.
-use Rattle.std.specs.Prelude.{◌≡◌, ◌^◌, ℕ, true, map, nat_lt, IsTrue, List}
-use Rattle.std.specs.List.{list_all}
+use Rattle.std.specs.Prelude.{◌≡◌, ℕ, true, map, List}
 use Rattle.flat_scene.specs.declared.frames.Lost.{Lost}
 use Rattle.flat_scene.specs.declared.journal.Entry.{Entry}
 use Rattle.flat_scene.specs.declared.journal.Post.{Post}
 use Rattle.flat_scene.specs.declared.script.ScriptLine.{ScriptLine}
 use Rattle.flat_scene.specs.declared.setup.Setup.{Setup}
-use Rattle.flat_scene.specs.History.{history_of}
+use Rattle.flat_scene.specs.Journals.{history_of}
 use Rattle.flat_scene.specs.Interleave.{Interleaves, IsWritten}
 use Rattle.flat_rules.specs.Legal.{Legal}
-use Rattle.flat_rules.specs.Posts.{posts}
+use Rattle.flat_rules.specs.AllPosts.{posts}
 use Rattle.flat_places.specs.declared.script.Script.{Script}
+use Rattle.flat_forms.specs.Head.{with_version}
 use Rattle.flat_script.specs.Grammar.{IsScript}
 use Rattle.flat_report.specs.declared.probes.ProbeAnswer.{ProbeAnswer}
 use Rattle.flat_report.specs.declared.report.HitAnswer.{HitAnswer}
 use Rattle.flat_report.specs.FrameTexts.{frame_text}
 use Rattle.flat_report.specs.Handed.{answers_of, handed_report}
 use Rattle.flat_report.specs.Probes.{ProbesAnswered, ProbesAsk, frames_seen}
-use Rattle.flat_report.specs.Report.{report, finished, is_loss, is_seeing}
+use Rattle.flat_report.specs.Report.{report, finished, is_seeing}
+use Rattle.flat_report.specs.Runs.{IsRun}
+use Rattle.flat_report.specs.Due.{TakesDue}
 
--- What may be reported of a script: a legal history that interleaves its actors, displays lost at finished
--- frames, and frames seen by its probes' lines.
--- The numbers of displays are of 32 bits, since a number is written with 64 digits at most.
-pub record IsRun (script : Script) (history : List Entry) (lost : List Lost) (seen : List ℕ) : Type 0 where
-  pub legal : Legal script.setup history
-  pub interleaves : Interleaves script.setup script.count script.lines history
-  pub loss : IsTrue (is_loss history lost)
-  pub numbered : IsTrue (list_all (λ one. nat_lt one.display (2 ^ 32)) lost)
-  pub seeing : IsTrue (is_seeing script history seen)
+-- no rule asks for a script's version, so the script has the same runs if its version is another
+abbrev pub VersionsHaveOneRun : Type 0
+VersionsHaveOneRun =
+    (script : Script) (version : ℕ) (history : List Entry) (lost : List Lost) (seen : List ℕ) → IsRun script history lost seen
+    → IsRun (with_version script version) history lost seen
 
 -- two runs of a script that is read from a text, with the same report, are one
 abbrev pub ReportsDetermineHistories : Type 0
@@ -62,3 +60,7 @@ WrittenHistoriesAreOne =
     → Legal setup history'
     → Interleaves setup count lines history → Interleaves setup count lines history' → IsWritten setup history
     → IsWritten setup history' → history ≡ history'
+
+-- in each history frames take what is due
+abbrev pub DuePresentsAreTaken : Type 0
+DuePresentsAreTaken = (setup : Setup) (history : List Entry) → TakesDue setup history

@@ -1,6 +1,6 @@
 -- The report: what a run answers and shows, from the script, the history, the displays that were lost, and the frames that probes saw.
-use Rattle.std.specs.Prelude.{ℕ, zero, suc, ℤ, ◌+◌, ◌==◌, Bool, true, false, cond, ◌&&◌, ◌||◌, not, nat_le, nat_lt, List, [], ◌∷◌, ◌++◌, length, map, filter, codes}
-use Rattle.std.specs.List.{flat_map, list_all, zip}
+use Rattle.std.specs.Prelude.{ℕ, suc, ℤ, ◌==◌, Bool, true, false, cond, ◌&&◌, ◌||◌, not, nat_le, nat_lt, List, [], ◌∷◌, ◌++◌, length, map, filter, codes}
+use Rattle.std.specs.List.{flat_map, list_all, range_with_len, zip}
 use Rattle.flat_base.specs.declared.ids.Actor.{Actor}
 use Rattle.flat_base.specs.declared.ids.Actor.TheVariants.{Probe}
 use Rattle.flat_scene.specs.declared.frames.FrameOut.{FrameOut}
@@ -79,12 +79,8 @@ is_probe n _ = false
 abbrev pub probe_lines_of : ℕ → List ScriptLine → List ScriptLine
 probe_lines_of n = filter (λ line. is_probe n line.actor)
 
-abbrev pub numbers_from : ℕ → ℕ → List ℕ
-numbers_from n zero = []
-numbers_from n (suc count) = n ∷ numbers_from (n + 1) count
-
 abbrev pub probe_lines : Script → List ScriptLine
-probe_lines script = flat_map (λ n. probe_lines_of n script.lines) (numbers_from 0 script.setup.probes)
+probe_lines script = flat_map (λ n. probe_lines_of n script.lines) (range_with_len 0 script.setup.probes)
 
 -- what is said of a probe's line, by the frame that it saw
 abbrev pub seen_words : Script → List Entry → ℕ → Body → List Word
@@ -100,7 +96,7 @@ seen_line script history (line, frame) = actor_name script line.actor ∷ number
 -- the lines of the report, where these displays were lost and the probes' lines saw these frames
 abbrev pub report_lines : Script → List Entry → List Lost → List ℕ → List (List Word)
 report_lines script history lost seen =
-    title_line script.setup.version
+    title_line script.version
     ∷ history_lines script lost history ++ map (seen_line script history) (zip (probe_lines script) seen)
     ++ end_line (length history) (frames history) ∷ []
 

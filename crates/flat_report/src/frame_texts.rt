@@ -1,69 +1,69 @@
 //! The text of each finished frame, written when it is finished: of a frame its lines are
-//! kept and not its items, which are let go once the frame after it is written. The texts
-//! carry no number: the n-th `done` has the n-th.
-ghost use Rattle.std.specs.Prelude.{◌≡◌, ◌∷◌, ◌++◌, [], List, map, option_map, IfOk, OnOk};
+//! kept and not its items, which are let go once the frame after it is written. What two
+//! frames have in common they share. The texts carry no number: the n-th `done` has the
+//! n-th.
+ghost use Rattle.std.specs.Prelude.{◌≡◌, ◌∷◌, ◌++◌, [], List, IfOk, OnOk, Some, map, option_map};
+ghost use Rattle.std.specs.Arc.{arc_value};
 ghost use Rattle.std.specs.Option.{option_copied};
 ghost use Rattle.flat_base.specs.Last.{last_item};
 ghost use Rattle.flat_scene.specs.declared.frames.FrameOut.{FrameOut};
-ghost use Rattle.flat_report.specs.FrameTexts.{AreTexts, frame_text};
-ghost use Rattle.flat_report.specs.ItemLines.{AreLines, HaveLines};
+ghost use Rattle.flat_report.specs.FrameTexts.{AreTexts, frame_text, tree_text, unchanged};
+ghost use Rattle.flat_report.specs.ItemLines.{AreLines, HaveLines, stretches_text};
 
-use crate::item_lines::{ItemLines, Part};
-use flat_base::{Items, NoMemory};
+use crate::item_lines::{ItemLines, Stretch, run_of};
+use crate::pieces::{Pieces, Run};
+use crate::unchanged_frame::unchanged;
+use flat_base::{FrameNo, NoMemory};
 use flat_lines::push_tree;
 use flat_page::Page;
 use flat_places::Script;
-use flat_scene::FrameOut;
+use flat_scene::{FrameOut, ViewTree};
 use std::alloc::Global;
 use std::collections::VecDeque;
-use std::mem;
+use std::sync::Arc;
 
-/// The text of the next frame, for which there is this room, and where the line of each of
-/// its items stands in it, of which these are the lines of the frame before.
-fn written(
-    alloc: Global,
-    mut room: Vec<u8>,
-    last: &ItemLines,
-    script: &Script,
-    frame: &FrameOut,
-) -> Result<(Vec<u8>, Vec<Part>), NoMemory>
-    ensures text { AreLines script.now last.now →
-        IfOk result (λ made. made.0.items ≡ frame_text script.now frame.now) }
-    ensures parts { AreLines script.now last.now →
-        IfOk result (λ made. HaveLines script.now made.0.items frame.now.items made.1.items) }
+/// Puts the lines of some stretches behind a text, which shares them.
+fn push_stretches(text: &mut Pieces, stretches: &[Stretch]) -> Result<(), NoMemory>
+    ensures { OnOk result (text.new ≡ text.old ++ stretches_text stretches.now) }
 {
-    room.clear();
-    let mut page = Page::Text(room);
-    let Ok(parts) = last.push_next(alloc, &mut page, script, frame.items.as_slice()) else {
-        drop(page);
-        return Err(NoMemory);
-    };
-    let Ok(()) = push_tree(&mut page, script, &frame.tree) else {
-        drop(page);
-        drop(parts);
-        return Err(NoMemory);
-    };
-    Ok((page.into_text(), parts))
-}
-
-/// Puts a text behind others.
-fn push_text(alloc: Global, texts: &mut VecDeque<Items<u8>>, text: &[u8]) -> Result<(), NoMemory>
-    ensures { OnOk result (texts.new.items ≡ texts.old.items ++ text.now ∷ []) }
-{
-    let own = Vec::from_slice(alloc, text)?;
-    texts.push_back(Items::from_vec(own))?;
+    for stretch in stretches {
+        text.push(Arc::try_clone(&stretch.lines)?)?;
+    }
     Ok(())
 }
 
+/// The lines of a view tree.
+fn tree_run(alloc: Global, script: &Script, tree: &ViewTree) -> Result<Run, NoMemory>
+    ensures { IfOk result (λ run. arc_value run ≡ tree_text script.now tree.now) }
+{
+    let mut page = Page::Text(Vec::new(alloc));
+    push_tree(&mut page, script, tree)?;
+    run_of(alloc, page)
+}
+
+/// The text of a frame with these stretches and this view tree.
+fn text_with(
+    alloc: Global,
+    script: &Script,
+    stretches: &[Stretch],
+    tree: &ViewTree,
+) -> Result<Pieces, NoMemory>
+    ensures { IfOk result
+        (λ text. text ≡ stretches_text stretches.now ++ tree_text script.now tree.now) }
+{
+    let mut text = Pieces::new(alloc);
+    push_stretches(&mut text, stretches)?;
+    text.push(tree_run(alloc, script, tree)?)?;
+    Ok(text)
+}
+
 /// The texts of finished frames, each as its lines stand in the report. The last frame
-/// is kept too, so that the next one's lines are copied where it has the same items.
+/// is kept too, so that the next one shares the lines of the same items.
 #[derive(Drop)]
 pub struct FrameTexts {
     alloc: Global,
-    pub(crate) texts: VecDeque<Items<u8>>,
+    pub(crate) texts: VecDeque<Pieces>,
     last: ItemLines,
-    /// Room that is used again for each frame. What it has plays no part.
-    room: Vec<u8>,
 }
 
 impl FrameTexts {
@@ -75,7 +75,6 @@ impl FrameTexts {
             alloc,
             texts: VecDeque::new(alloc),
             last: ItemLines::none(alloc),
-            room: Vec::new(alloc),
         }
     }
 
@@ -84,26 +83,36 @@ impl FrameTexts {
         ensures { (frames : List FrameOut) → AreTexts script.now frames self.old →
             OnOk result (AreTexts script.now (frames ++ frame ∷ []) self.new) }
     {
-        let room = mem::replace(&mut self.room, Vec::new(self.alloc));
-        let Ok((text, parts)) = written(self.alloc, room, &self.last, script, &frame) else {
-            drop(frame);
-            return Err(NoMemory);
-        };
-        let next = ItemLines {
+        let stretches = self.last.next(self.alloc, script, frame.items.as_slice())?;
+        let text = text_with(self.alloc, script, stretches.as_slice(), &frame.tree)?;
+        self.texts.push_back(text)?;
+        self.last = ItemLines {
             frame: Some(frame),
-            text,
-            parts,
+            stretches,
         };
-        let Ok(()) = push_text(self.alloc, &mut self.texts, next.text.as_slice()) else {
-            drop(next);
-            return Err(NoMemory);
-        };
-        self.room = mem::replace(&mut self.last, next).into_room();
+        Ok(())
+    }
+
+    /// Writes the next frame, before which nothing changed, by its number and its view tree. It
+    /// shares the lines of the last one's items, and looks at none of them.
+    pub fn push_unchanged(
+        &mut self,
+        script: &Script,
+        number: FrameNo,
+        tree: ViewTree,
+    ) -> Result<(), NoMemory>
+        ensures { (frames : List FrameOut) (last : FrameOut) → AreTexts script.now frames self.old →
+            last_item frames ≡ Some last →
+            OnOk result (AreTexts script.now (frames ++ unchanged number tree last ∷ []) self.new) }
+    {
+        let text = text_with(self.alloc, script, self.last.stretches.as_slice(), &tree)?;
+        self.texts.push_back(text)?;
+        self.last.frame = unchanged(self.last.frame.take(), number, tree);
         Ok(())
     }
 
     /// The texts alone.
-    pub(crate) fn into_texts(self) -> VecDeque<Items<u8>>
+    pub(crate) fn into_texts(self) -> VecDeque<Pieces>
         ensures { result.items ≡ self.texts.items }
     {
         self.texts
@@ -118,13 +127,10 @@ impl FrameTexts {
     }
 
     /// The text of the last frame, if there is one.
-    pub fn last_text(&self) -> Option<&[u8]>
+    pub fn last_text(&self) -> Option<&Pieces>
         ensures { (script : Script) (frames : List FrameOut) → AreTexts script frames self.now →
             option_map (λ text. text.now) result ≡ last_item (map (frame_text script) frames) }
     {
-        match self.texts.back() {
-            Some(text) => Some(text.as_slice()),
-            None => None,
-        }
+        self.texts.back()
     }
 }

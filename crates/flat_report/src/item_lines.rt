@@ -1,50 +1,120 @@
-//! The lines of a frame's draw items, which are copied where the frame before has
-//! the same item at the same place.
-ghost use Rattle.std.specs.Prelude.{◌≡◌, ◌+◌, [], ◌∷◌, List, ℕ, length, map, false, None, IfOk};
-ghost use Rattle.std.specs.Prelude.{IfSome, OnOk};
-ghost use Rattle.flat_page.specs.Pages.{is_counting, WritesLines};
+//! The lines of a frame's draw items, in stretches. Where the frame before has the same
+//! items side by side, its run is shared, and no line is written.
+ghost use Rattle.std.specs.Prelude.{◌≡◌, ◌<◌, ◌≤◌, ◌-◌, ◌∷◌, [], ℕ, List, length, map, take, drop};
+ghost use Rattle.std.specs.Prelude.{false, None, IfOk, IfSome, IsTrue, OnOk};
+ghost use Rattle.std.specs.Arc.{arc_value};
+ghost use Rattle.flat_page.specs.Pages.{IsText, is_counting, WritesLines};
 ghost use Rattle.flat_lines.specs.FrameLines.{item_line};
-ghost use Rattle.flat_report.specs.ItemLines.{AreLines, HaveLines, StandsIn, items_of, line_text};
-ghost use Rattle.flat_report.specs.Pieces.{text_on};
+ghost use Rattle.flat_report.specs.ItemLines.{AreLines, HaveLines, items_of, items_text};
+ghost use Rattle.flat_report.specs.ItemLines.{stretch_items};
 
-use flat_base::NoMemory;
+use crate::pieces::Run;
+use flat_base::{Items, NoMemory};
 use flat_drawable::is_same;
 use flat_lines::push_item;
 use flat_page::Page;
 use flat_places::Script;
 use flat_scene::{DrawItem, FrameOut};
 use std::alloc::Global;
+use std::sync::Arc;
 
-/// A part of a text, from one byte to before another.
-#[derive(Clone, Copy)]
-pub(crate) struct Part {
+/// A stretch has no more items than these, so that few lines are written where few items
+/// change.
+const STRETCH_ITEMS: usize = 256;
+
+/// Room for the lines of a stretch as they mostly are, taken at once.
+const STRETCH_BYTES: usize = 32_768;
+
+/// Draw items of one session that stand side by side in a frame, from a place to before
+/// another one, and the text of their lines.
+#[derive(Drop)]
+pub(crate) struct Stretch {
     start: usize,
     end: usize,
+    pub(crate) lines: Run,
 }
 
-impl Part {
-    /// The bytes of a text on this part, where it has one.
-    fn of(self, text: &[u8]) -> Option<&[u8]>
-        ensures { (bytes : List ℕ) → StandsIn self.start bytes text.now →
-            self.end ≡ self.start + length bytes → IfSome result (λ part. part.now ≡ bytes) }
+impl Stretch {
+    /// Its items, where a frame has so many.
+    fn among<'a>(&self, items: &'a [DrawItem]) -> Option<&'a [DrawItem]>
+        ensures { IfSome result (λ part. part.now ≡ stretch_items items.now self.now) }
     {
         if self.start > self.end {
             return None;
         }
-        if self.end > text.len() {
+        if self.end > items.len() {
             return None;
         }
-        Some(&text[self.start..self.end])
+        Some(&items[self.start..self.end])
     }
 }
 
-/// A frame, if there is one, and a text with the lines of its draw items, each on its
-/// part.
+/// Whether two lists have the same items.
+fn are_same(old: &[DrawItem], new: &[DrawItem]) -> bool
+    ensures { IsTrue result → old.now ≡ new.now }
+{
+    if old.len() != new.len() {
+        return false;
+    }
+    for place in 0..old.len() {
+        if !is_same(&old[place], &new[place]) {
+            return false;
+        }
+    }
+    true
+}
+
+/// Where the stretch ends that begins at a place: its items are of one session.
+fn stretch_end(items: &[DrawItem], start: usize) -> usize
+    requires { start < length items.now }
+    ensures some { start < result }
+    ensures there { result ≤ length items.now }
+{
+    let session = items[start].session;
+    let most = start + (items.len() - start).min(STRETCH_ITEMS);
+    for end in start + 1..most {
+        if items[end].session.0 != session.0 {
+            return end;
+        }
+    }
+    most
+}
+
+/// Puts the lines of draw items.
+fn push_items(page: &mut Page, script: &Script, items: &[DrawItem]) -> Result<(), NoMemory>
+    ensures { OnOk result
+        (WritesLines (map (item_line script.now) items.now) page.old page.new) }
+{
+    for item in items {
+        push_item(page, script, item)?;
+    }
+    Ok(())
+}
+
+/// What stands on a page, as a run that takes no more room than it has bytes.
+pub(crate) fn run_of(alloc: Global, page: Page) -> Result<Run, NoMemory>
+    requires { is_counting page ≡ false }
+    ensures { (text : List ℕ) → IsText page text → IfOk result (λ run. arc_value run ≡ text) }
+{
+    let text = page.into_text();
+    let own = Vec::from_slice(alloc, text.as_slice())?;
+    Ok(Arc::new(alloc, Items::from_vec(own))?)
+}
+
+/// The lines of draw items, as a run of their own.
+fn written(alloc: Global, script: &Script, items: &[DrawItem]) -> Result<Run, NoMemory>
+    ensures { IfOk result (λ run. arc_value run ≡ items_text script.now items.now) }
+{
+    let mut page = Page::Text(Vec::with_capacity(alloc, STRETCH_BYTES)?);
+    push_items(&mut page, script, items)?;
+    run_of(alloc, page)
+}
+
+/// A frame, if there is one, and the lines of its draw items.
 #[derive(Drop)]
 pub(crate) struct ItemLines {
     pub(crate) frame: Option<FrameOut>,
-    pub(crate) text: Vec<u8>,
-    pub(crate) parts: Vec<Part>,
+    pub(crate) stretches: Vec<Stretch>,
 }
 
 impl ItemLines {
@@ -55,8 +125,7 @@ impl ItemLines {
     {
         ItemLines {
             frame: None,
-            text: Vec::new(alloc),
-            parts: Vec::new(alloc),
+            stretches: Vec::new(alloc),
         }
     }
 
@@ -70,65 +139,70 @@ impl ItemLines {
         }
     }
 
-    /// The room of its text, which may be used again.
-    pub(crate) fn into_room(self) -> Vec<u8> {
-        self.text
-    }
-
-    /// The line of the item at a place, where it is this item.
-    fn line_of(&self, place: usize, item: &DrawItem) -> Option<&[u8]>
+    /// The run of the stretch of a number, where it has these items.
+    fn same_run(&self, number: usize, items: &[DrawItem]) -> Option<&Run>
         ensures { (script : Script) → AreLines script self.now →
-            IfSome result (λ line. line.now ≡ line_text script item.now) }
+            IfSome result (λ run. arc_value run.now ≡ items_text script items.now) }
     {
-        let old = self.items().get(place)?;
-        let part = self.parts.get(place)?;
-        if is_same(old, item) {
-            part.of(self.text.as_slice())
+        let stretch = self.stretches.get(number)?;
+        let old = stretch.among(self.items())?;
+        if are_same(old, items) {
+            Some(&stretch.lines)
         } else {
             None
         }
     }
 
-    /// Puts the line of an item, of which these are the lines of the frame before.
-    fn push_line(
-        &self,
-        page: &mut Page,
-        script: &Script,
-        place: usize,
-        item: &DrawItem,
-    ) -> Result<(), NoMemory>
-        ensures line { AreLines script.now self.now →
-            OnOk result (WritesLines (item_line script.now item.now ∷ []) page.old page.new) }
-        ensures sort { OnOk result (is_counting page.new ≡ is_counting page.old) }
+    /// The same, also where one stretch more or less stands before it than did.
+    fn near_run(&self, number: usize, items: &[DrawItem]) -> Option<&Run>
+        ensures { (script : Script) → AreLines script self.now →
+            IfSome result (λ run. arc_value run.now ≡ items_text script items.now) }
     {
-        match self.line_of(place, item) {
-            Some(line) => page.put(line),
-            None => push_item(page, script, item),
+        if let Some(run) = self.same_run(number, items) {
+            return Some(run);
+        }
+        if let Some(run) = self.same_run(number.saturating_add(1), items) {
+            return Some(run);
+        }
+        self.same_run(number.saturating_sub(1), items)
+    }
+
+    /// The run of the next frame's stretch of a number, which has these items.
+    fn next_run(
+        &self,
+        alloc: Global,
+        script: &Script,
+        number: usize,
+        items: &[DrawItem],
+    ) -> Result<Run, NoMemory>
+        ensures { AreLines script.now self.now →
+            IfOk result (λ run. arc_value run ≡ items_text script.now items.now) }
+    {
+        match self.near_run(number, items) {
+            Some(run) => Ok(Arc::try_clone(run)?),
+            None => written(alloc, script, items),
         }
     }
 
-    /// Puts the lines of the next frame's items, of which these are the lines of the
-    /// frame before. It answers where each stands.
-    pub(crate) fn push_next(
+    /// The stretches of the next frame's items, of which these are the lines of the frame
+    /// before.
+    pub(crate) fn next(
         &self,
         alloc: Global,
-        page: &mut Page,
         script: &Script,
         items: &[DrawItem],
-    ) -> Result<Vec<Part>, NoMemory>
-        ensures lines { AreLines script.now self.now →
-            OnOk result (WritesLines (map (item_line script.now) items.now) page.old page.new) }
-        ensures sort { OnOk result (is_counting page.new ≡ is_counting page.old) }
-        ensures parts { AreLines script.now self.now → is_counting page.old ≡ false →
-            IfOk result (λ parts. HaveLines script.now (text_on page.new) items.now parts.items) }
+    ) -> Result<Vec<Stretch>, NoMemory>
+        ensures { AreLines script.now self.now →
+            IfOk result (λ stretches. HaveLines script.now items.now stretches.items) }
     {
-        let mut parts = Vec::with_capacity(alloc, items.len())?;
-        for (place, item) in items.iter().enumerate() {
-            let start = page.len();
-            self.push_line(page, script, place, item)?;
-            let end = page.len();
-            parts.push(Part { start, end })?;
+        let mut stretches = Vec::new(alloc);
+        let mut start = 0;
+        while start < items.len() {
+            let end = stretch_end(items, start);
+            let lines = self.next_run(alloc, script, stretches.len(), &items[start..end])?;
+            stretches.push(Stretch { start, end, lines })?;
+            start = end;
         }
-        Ok(parts)
+        Ok(stretches)
     }
 }

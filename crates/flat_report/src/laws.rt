@@ -1,7 +1,6 @@
 //! What the report says of a run (specs/Laws).
 ghost use Rattle.flat_report.specs.Laws.{FramesAreSeen, HandedIsReport, ReportsDetermineHistories};
-ghost use Rattle.flat_report.specs.Laws.{WrittenHistoriesAreOne};
-ghost use Rattle.flat_report.specs.Due.{DuePresentsAreTaken};
+ghost use Rattle.flat_report.specs.Laws.{WrittenHistoriesAreOne, DuePresentsAreTaken, VersionsHaveOneRun};
 
 /// Of a script that is read from a text, the report says which history it is of,
 /// which displays were lost, and which frames the probes saw.
@@ -20,7 +19,7 @@ pub fn handed_is_report()
     ensures { HandedIsReport }
 {}
 
-/// The frames by which probes are answered are such as probes may have seen.
+/// Every probe answer names a frame that the probe could have seen.
 ///
 /// The call does nothing. Its contract is a law about the definitions.
 pub fn frames_are_seen()
@@ -33,6 +32,14 @@ pub fn frames_are_seen()
 /// The call does nothing. Its contract is a law about the definitions.
 pub fn written_histories_are_one()
     ensures { WrittenHistoriesAreOne }
+{}
+
+/// A script of one version has the same runs as a script of another version that is equal
+/// but for that: no rule asks for the version.
+///
+/// The call does nothing. Its contract is a law about the definitions.
+pub fn versions_have_one_run()
+    ensures { VersionsHaveOneRun }
 {}
 
 /// A frame takes at its begin each present that is due: one of an open session that waits,

@@ -4,7 +4,7 @@
 //! handed (`handed_report`, specs/Handed) where that is what the rules say of the history.
 //! report.rt goes through the journal, with the lines of flat_lines; what probes are
 //! answered is in probes.rt, and their lines in probe_lines.rt; the texts of finished frames
-//! are kept in frame_texts.rt, with the lines of draw items copied from frame to frame in
+//! are kept in frame_texts.rt, with the lines of draw items shared from frame to frame in
 //! item_lines.rt, and the report's own text is put together in paged_text.rt.
 //!
 //! Other crates may cite the lemmas of proofs/lemmas/: what answers to probes are after one
@@ -21,12 +21,14 @@ mod pieces;
 mod probe_lines;
 mod probes;
 mod report;
+mod unchanged_frame;
 
 pub use frame_texts::FrameTexts;
 pub use laws::{
     due_presents_are_taken, frames_are_seen, handed_is_report, reports_determine_histories,
-    written_histories_are_one,
+    versions_have_one_run, written_histories_are_one,
 };
-pub use pieces::Pieces;
+pub use pieces::{Pieces, Run};
 pub use probes::{ProbeAnswer, ProbeAnswers};
 pub use report::{HitAnswer, HitAnswers, print_report};
+pub use unchanged_frame::unchanged;

@@ -1,16 +1,18 @@
 //! The text of a report while it is written, once and not twice as other texts are: what
-//! stands between long texts of frames fills pages of one size, so that the number of
+//! stands between long runs of frames fills pages of one size, so that the number of
 //! writes is small where frames are small, and no room for the whole is taken.
 ghost use Rattle.std.specs.Prelude.{◌≡◌, ◌<◌, ◌^◌, ◌-◌, ◌∷◌, ◌++◌, [], map, false, IfOk, OnOk};
+ghost use Rattle.std.specs.Arc.{arc_value};
 ghost use Rattle.flat_page.specs.Pages.{Puts, is_counting};
 ghost use Rattle.flat_page.specs.Words.{text_of};
 ghost use Rattle.flat_lines.specs.Ends.{end_line, title_line};
-ghost use Rattle.flat_lines.specs.EntryLines.{entry_line, post_line};
+ghost use Rattle.flat_lines.specs.EntryLines.{entry_line};
+ghost use Rattle.flat_lines.specs.PostLines.{post_line};
 ghost use Rattle.flat_lines.specs.FrameLines.{lost_at, lost_line};
 ghost use Rattle.flat_report.specs.Handed.{answer_line};
 ghost use Rattle.flat_report.specs.Pieces.{text_on};
 
-use crate::pieces::Pieces;
+use crate::pieces::{Pieces, Run};
 use crate::probe_lines::push_probe_line;
 use crate::probes::ProbeAnswer;
 use flat_base::{Items, NoMemory};
@@ -21,9 +23,14 @@ use flat_scene::{Entry, Hit, Lost, Post};
 use std::alloc::Global;
 use std::marker::Model;
 use std::mem;
+use std::sync::Arc;
 
-/// A page of so many bytes is full, and a text that long is a piece of its own.
-const PIECE_BYTES: usize = 65_536;
+/// A page of so many bytes is full.
+const PAGE_BYTES: usize = 65_536;
+
+/// A run that long is a piece of its own, which is shared; shorter ones are copied onto the
+/// page.
+const RUN_BYTES: usize = 512;
 
 /// A text that is written in pieces: those that are full, and the page behind them.
 #[derive(Drop)]
@@ -45,17 +52,40 @@ impl Model for PagedText {
     ghost invariant = { λ s. is_counting s.page ≡ false };
 }
 
-/// Puts the text of a page behind full pieces, and leaves an empty page.
-fn end_page(alloc: Global, full: &mut Pieces, page: &mut Page) -> Result<(), NoMemory>
+/// What stands on a page, as a run.
+fn run_on(alloc: Global, page: Page) -> Result<Run, NoMemory>
+    requires { is_counting page ≡ false }
+    ensures { IfOk result (λ run. arc_value run ≡ text_on page) }
+{
+    let text = Items::from_vec(page.into_text());
+    Ok(Arc::new(alloc, text)?)
+}
+
+/// Puts the text of a page behind full pieces, and leaves an empty page with so much
+/// room.
+fn end_page(alloc: Global, full: &mut Pieces, page: &mut Page, room: usize) -> Result<(), NoMemory>
     requires { is_counting page.old ≡ false }
     ensures full { OnOk result (full.new ≡ full.old ++ text_on page.old) }
     ensures page { OnOk result (text_on page.new ≡ []) }
     ensures sort { is_counting page.new ≡ false }
 {
-    let next = Page::Text(Vec::with_capacity(alloc, 2 * PIECE_BYTES)?);
+    let next = Page::Text(Vec::with_capacity(alloc, room)?);
     let ended = mem::replace(page, next);
-    full.push(Items::from_vec(ended.into_text()))?;
+    full.push(run_on(alloc, ended)?)?;
     Ok(())
+}
+
+/// The same where the page has any text.
+fn end_started(alloc: Global, full: &mut Pieces, page: &mut Page) -> Result<(), NoMemory>
+    requires { is_counting page.old ≡ false }
+    ensures full { OnOk result (full.new ≡ full.old ++ text_on page.old) }
+    ensures page { OnOk result (text_on page.new ≡ []) }
+    ensures sort { is_counting page.new ≡ false }
+{
+    if page.len() == 0 {
+        return Ok(());
+    }
+    end_page(alloc, full, page, 0)
 }
 
 impl PagedText {
@@ -74,7 +104,7 @@ impl PagedText {
     fn turn(&mut self) -> Result<(), NoMemory>
         ensures { OnOk result (self.new ≡ self.old) }
     {
-        end_page(self.alloc, &mut self.full, &mut self.page)?;
+        end_page(self.alloc, &mut self.full, &mut self.page, 2 * PAGE_BYTES)?;
         Ok(())
     }
 
@@ -82,25 +112,23 @@ impl PagedText {
     pub(crate) fn turn_full(&mut self) -> Result<(), NoMemory>
         ensures { OnOk result (self.new ≡ self.old) }
     {
-        if self.page.len() < PIECE_BYTES {
+        if self.page.len() < PAGE_BYTES {
             return Ok(());
         }
         self.turn()?;
         Ok(())
     }
 
-    /// Puts a text. A long one isn't copied.
-    pub(crate) fn add(&mut self, text: Items<u8>) -> Result<(), NoMemory>
-        ensures { OnOk result (self.new ≡ self.old ++ text) }
+    /// Puts a run. A long one isn't copied.
+    pub(crate) fn add(&mut self, run: &Run) -> Result<(), NoMemory>
+        ensures { OnOk result (self.new ≡ self.old ++ arc_value run.now) }
     {
-        if text.len() < PIECE_BYTES {
-            return self.copy(text.as_slice());
+        if run.len() < RUN_BYTES {
+            self.copy(run.as_slice())?;
+            return self.turn_full();
         }
-        let Ok(()) = end_page(self.alloc, &mut self.full, &mut self.page) else {
-            drop(text);
-            return Err(NoMemory);
-        };
-        self.full.push(text)?;
+        end_started(self.alloc, &mut self.full, &mut self.page)?;
+        self.full.push(Arc::try_clone(run)?)?;
         Ok(())
     }
 
@@ -190,11 +218,11 @@ impl PagedText {
         ensures { IfOk result (λ pieces. pieces ≡ self) }
     {
         let PagedText {
-            alloc: _,
+            alloc,
             mut full,
             page,
         } = self;
-        full.push(Items::from_vec(page.into_text()))?;
+        full.push(run_on(alloc, page)?)?;
         Ok(full)
     }
 }

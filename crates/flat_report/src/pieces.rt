@@ -1,25 +1,32 @@
-//! A text in pieces, so that a long text of a frame is moved into the report and not copied:
-//! a room for the whole report beside the texts would double the memory.
-ghost use Rattle.std.specs.Prelude.{◌≡◌, ◌++◌, [], IfOk, OnOk};
+//! A text in runs, which texts share: so a frame has the lines of the frame before it
+//! without a copy, and the report has those of its frames. A room for the whole report
+//! beside the texts would double the memory.
+ghost use Rattle.std.specs.Prelude.{◌≡◌, ◌++◌, [], map, IfOk, OnOk};
 ghost use Rattle.std.specs.List.{concat};
+ghost use Rattle.std.specs.Arc.{arc_value};
 
 use flat_base::{Items, NoMemory};
 use std::alloc::Global;
 use std::marker::Model;
+use std::sync::Arc;
 
-/// A text in pieces, one behind another, which contracts see as the whole text.
+/// A run of a text. Texts that have it share its bytes.
+pub type Run = Arc<Items<u8>>;
+
+/// A text in runs, one behind another, which contracts see as the whole text.
 #[derive(Drop)]
 pub struct Pieces {
-    pieces: Vec<Items<u8>>,
+    runs: Vec<Arc<Items<u8>>>,
 }
 
 impl Model for Pieces {
-    ghost use Rattle.std.specs.Prelude.{List, ℕ};
+    ghost use Rattle.std.specs.Prelude.{List, ℕ, map};
     ghost use Rattle.std.specs.List.{concat};
+    ghost use Rattle.std.specs.Arc.{arc_value};
 
     ghost Value = { List ℕ };
 
-    ghost view = { λ p. concat p.pieces.items };
+    ghost view = { λ p. concat (map arc_value p.runs.items) };
 }
 
 impl Pieces {
@@ -28,31 +35,32 @@ impl Pieces {
         ensures { result ≡ [] }
     {
         Pieces {
-            pieces: Vec::new(alloc),
+            runs: Vec::new(alloc),
         }
     }
 
-    /// A text in one piece.
+    /// A text in one run.
     pub fn one(alloc: Global, text: Vec<u8>) -> Result<Pieces, NoMemory>
         ensures { IfOk result (λ pieces. pieces ≡ text.items) }
     {
+        let run = Arc::new(alloc, Items::from_vec(text))?;
         let mut pieces = Pieces::new(alloc);
-        pieces.push(Items::from_vec(text))?;
+        pieces.push(run)?;
         Ok(pieces)
     }
 
-    /// Puts a piece behind the others.
-    pub fn push(&mut self, piece: Items<u8>) -> Result<(), NoMemory>
-        ensures { OnOk result (self.new ≡ self.old ++ piece) }
+    /// Puts a run behind the others.
+    pub fn push(&mut self, run: Run) -> Result<(), NoMemory>
+        ensures { OnOk result (self.new ≡ self.old ++ arc_value run) }
     {
-        self.pieces.push(piece)?;
+        self.runs.push(run)?;
         Ok(())
     }
 
-    /// The pieces, in order.
-    pub fn as_slice(&self) -> &[Items<u8>]
-        ensures { concat result.now ≡ self.now }
+    /// The runs, in order.
+    pub fn as_slice(&self) -> &[Run]
+        ensures { concat (map arc_value result.now) ≡ self.now }
     {
-        self.pieces.as_slice()
+        self.runs.as_slice()
     }
 }

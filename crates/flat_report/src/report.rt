@@ -2,6 +2,8 @@
 //! (specs/Handed), and a law says when that is the report of a history.
 ghost use Rattle.std.specs.Prelude.{◌≡◌, ◌++◌, ◌∷◌, ◌+◌, ◌-◌, ◌<◌, ◌^◌, [], OnOk, IfOk, cond, drop};
 ghost use Rattle.std.specs.Prelude.{map};
+ghost use Rattle.std.specs.Arc.{arc_value};
+ghost use Rattle.std.specs.List.{concat};
 ghost use Rattle.flat_scene.specs.History.{is_finish};
 ghost use Rattle.flat_page.specs.Words.{text_of};
 ghost use Rattle.flat_lines.specs.Ends.{end_line};
@@ -11,7 +13,7 @@ ghost use Rattle.flat_report.specs.Handed.{handed_text, handed_entries, handed_r
 
 use crate::frame_texts::FrameTexts;
 use crate::paged_text::PagedText;
-use crate::pieces::Pieces;
+use crate::pieces::{Pieces, Run};
 use crate::probes::{ProbeAnswer, ProbeAnswers};
 use flat_base::{Actor, FrameNo, Items, NoMemory};
 use flat_places::Script;
@@ -74,6 +76,16 @@ fn finished_after(finished: u64, kind: &Kind) -> u64
     }
 }
 
+/// Puts runs of a text.
+fn push_runs(paged: &mut PagedText, runs: &[Run]) -> Result<(), NoMemory>
+    ensures { OnOk result (paged.new ≡ paged.old ++ concat (map arc_value runs.now)) }
+{
+    for run in runs {
+        paged.add(run)?;
+    }
+    Ok(())
+}
+
 /// What stands between a done line and its events: the text of the frame, which is
 /// the first of those left and is taken off them, and the lines of the displays that
 /// were lost at it.
@@ -81,14 +93,14 @@ fn push_shown(
     paged: &mut PagedText,
     lost: &[Lost],
     number: u64,
-    texts: &mut VecDeque<Items<u8>>,
+    texts: &mut VecDeque<Pieces>,
 ) -> Result<(), NoMemory>
     ensures text { OnOk result
         (paged.new ≡ paged.old ++ shown_text lost.now number texts.old.items) }
     ensures left { OnOk result (texts.new.items ≡ drop 1 texts.old.items) }
 {
     if let Some(text) = texts.pop_front() {
-        paged.add(text)?;
+        push_runs(paged, text.as_slice())?;
     }
     paged.losses(number, lost)?;
     Ok(())
@@ -99,7 +111,7 @@ fn push_finished(
     paged: &mut PagedText,
     lost: &[Lost],
     number: u64,
-    texts: &mut VecDeque<Items<u8>>,
+    texts: &mut VecDeque<Pieces>,
     kind: &Kind,
 ) -> Result<(), NoMemory>
     ensures text { OnOk result (paged.new ≡ paged.old
@@ -127,7 +139,7 @@ fn push_handed(
     script: &Script,
     lost: &[Lost],
     finished: u64,
-    texts: &mut VecDeque<Items<u8>>,
+    texts: &mut VecDeque<Pieces>,
     handed: &Handed<'_>,
 ) -> Result<(), NoMemory>
     requires few { finished < 2 ^ 64 - 1 }
@@ -204,7 +216,7 @@ fn push_history(
     paged: &mut PagedText,
     script: &Script,
     journal: &Journal,
-    texts: &mut VecDeque<Items<u8>>,
+    texts: &mut VecDeque<Pieces>,
     lost: &[Lost],
     answers: &[HitAnswer],
     probes: &[ProbeAnswers],
@@ -242,7 +254,7 @@ fn push_history(
 /// that is what the rules say of the journal's history, the text is its report
 /// (`handed_is_report`).
 ///
-/// Texts of frames are moved into the report or let go, so that what it takes beside
+/// Long runs of frames are shared by the report, so that what it takes beside
 /// them is the room of the other lines.
 pub fn print_report(
     alloc: Global,
@@ -258,7 +270,7 @@ pub fn print_report(
 {
     let mut texts = frames.into_texts();
     let mut paged = PagedText::new(alloc);
-    let Ok(()) = paged.title(script.setup.version) else {
+    let Ok(()) = paged.title(script.version) else {
         drop(paged);
         drop(texts);
         return Err(NoMemory);

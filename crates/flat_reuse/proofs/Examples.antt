@@ -6,7 +6,7 @@ use Rattle.flat_reuse.specs.Tracing.{pushed}
 use Rattle.flat_base.specs.declared.ids.SessionNo.{SessionNo}
 use Rattle.flat_base.specs.declared.shapes.Orientation.TheVariants.{Ccw0}
 use Rattle.flat_base.specs.declared.shapes.Rect.{Rect}
-use Rattle.flat_geom.specs.Matrices.{identity_matrix}
+use Rattle.flat_geom.specs.Identity.{identity_matrix}
 use Rattle.flat_scene.specs.declared.calls.BlendMode.TheVariants.{Src}
 use Rattle.flat_scene.specs.declared.frames.DrawItem.{DrawItem}
 use Rattle.flat_scene.specs.declared.frames.Paint.TheVariants as paint

@@ -27,7 +27,8 @@ use Rattle.flat_rules.specs.Legal.{Legal, MayEnter}
 use Rattle.flat_rules.specs.Local.{pair_watched}
 use Rattle.flat_rules.specs.Posts.{up_to, event_of, told_event, at_finish, at_begin, news_for, events_to}
 use Rattle.flat_rules.specs.Watch.{Watcher, layout_of, status_of, child_of, watching, told, asked, listener, is_open, watcher_of, watcher_in, watcher_of_made}
-use Rattle.flat_watch.specs.Told.{Watching, answer, answered_by, asking, settled, or_else}
+use Rattle.flat_watch.specs.Told.{Watching, answer, answered_by, asking, settled}
+use Rattle.std.specs.Option.{option_or}
 use Rattle.flat_rules.proofs.FirstNewsLemmas.{IsGet, is-get}
 use Rattle.flat_rules.proofs.lemmas.Locality.{same-number, session-of}
 use Rattle.flat_rules.proofs.MadeUses.{was_used, call_passes, made_passes, draft-passes, no-links, calls-used}
@@ -192,7 +193,7 @@ module _ (setup : Setup) where
       (settled-waits (is_open setup (listener setup (child_of p n)) (before ▹ e)) (told setup (before ▹ e) (child_of p n)) (asking (asked setup (child_of p n) before e) (watching setup (child_of p n) before)) get is))
     where
       by_waits : ((held : Watch) → (watching setup (child_of p n) before).waits ≡ Some held → IsUse p n before) → (o : Option Watch) → (watching setup (child_of p n) before).waits ≡ o
-          → or_else o (asked setup (child_of p n) before e) ≡ Some get → IsUse p n before
+          → option_or o (asked setup (child_of p n) before e) ≡ Some get → IsUse p n before
       by_waits earlier (Some held) waits h = earlier held waits
       by_waits earlier None waits h =
           let asks : IsGet setup (child_of p n) get before e = is-get setup (child_of p n) get before e e.kind refl h in

@@ -10,7 +10,8 @@ use Rattle.flat_scene.specs.declared.setup.Setup.{Setup}
 use Rattle.flat_scene.specs.History.{closes}
 use Rattle.flat_scene.proofs.lemmas.Steps.{closes-own}
 use Rattle.flat_rules.specs.Closing.{RefusalCloses, CloseCloses, OtherRepliesCloseNone}
-use Rattle.flat_rules.specs.Legal.{is_close, reply_to}
+use Rattle.flat_rules.specs.Legal.{reply_to}
+use Rattle.flat_rules.specs.Kinds.{is_close}
 use Rattle.flat_rules.proofs.lemmas.Quiet.{closed-quiet}
 
 pub refusal-closes : RefusalCloses

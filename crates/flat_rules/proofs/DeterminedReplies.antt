@@ -7,9 +7,9 @@ use Rattle.flat_scene.specs.declared.setup.Setup.{Setup}
 use Rattle.flat_scene.specs.Family.{family, only}
 use Rattle.flat_scene.specs.History.{◌▹◌}
 use Rattle.flat_rules.specs.Determined.{but_line, but_reply, RepliesAreDetermined, but_moment_line, NeighboursChangeNothing}
-use Rattle.flat_rules.specs.Laws.{Moment, moments, IsFamilyLaw}
+use Rattle.flat_rules.specs.FamilyLaw.{Moment, moments, IsFamilyLaw}
 use Rattle.flat_rules.specs.Legal.{Legal, LegalEntry, reply_to}
-use Rattle.flat_rules.specs.Posts.{posts}
+use Rattle.flat_rules.specs.AllPosts.{posts}
 use Rattle.flat_rules.proofs.FamilyTheorem.{families-are-alone}
 use Rattle.flat_rules.proofs.Lines.{lined}
 use Rattle.flat_rules.proofs.LinesReplies.{events-lined, posts-lined, reply-lined}

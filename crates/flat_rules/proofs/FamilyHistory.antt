@@ -13,7 +13,8 @@ use Rattle.flat_scene.specs.declared.script.Cond.{Cond}
 use Rattle.flat_scene.specs.declared.script.Cond.TheVariants as asks
 use Rattle.flat_scene.specs.declared.setup.Setup.{Setup}
 use Rattle.flat_scene.specs.Draft.{Draft}
-use Rattle.flat_scene.specs.Family.{IsClosedFamily, only, is_kept, keeps}
+use Rattle.flat_scene.specs.Family.{only, is_kept, keeps}
+use Rattle.flat_scene.specs.Laws.{IsClosedFamily}
 use Rattle.flat_scene.specs.History.{◌▹◌}
 use Rattle.flat_rules.specs.Legal.{Legal, LegalEntry, MayEnter, owns_in_kind, value_of, reply_to, reply_to_get, reply_to_present, session_may, may_act, goes_on, keeps_time, has_draft, draft_with, has_tree, has_watcher}
 use Rattle.flat_rules.specs.Local.{pair_watched}

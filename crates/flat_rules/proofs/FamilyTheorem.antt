@@ -4,9 +4,10 @@ use Rattle.std.specs.List.{list_all}
 use Rattle.flat_base.specs.declared.ids.SessionNo.{SessionNo}
 use Rattle.flat_scene.specs.declared.journal.Entry.{Entry}
 use Rattle.flat_scene.specs.declared.setup.Setup.{Setup}
-use Rattle.flat_scene.specs.Family.{IsClosedFamily, only, is_kept, family}
+use Rattle.flat_scene.specs.Family.{only, is_kept, family}
+use Rattle.flat_scene.specs.Laws.{IsClosedFamily}
 use Rattle.flat_scene.specs.History.{◌▹◌}
-use Rattle.flat_rules.specs.Laws.{moments, kept_moments, is_quiet, IsFamilyLaw}
+use Rattle.flat_rules.specs.FamilyLaw.{moments, kept_moments, is_quiet, IsFamilyLaw}
 use Rattle.flat_rules.specs.Legal.{Legal}
 use Rattle.flat_rules.specs.Local.{FamiliesAreAlone}
 use Rattle.flat_rules.proofs.lemmas.EventsLocal.{events-kept, events-dropped}

@@ -15,7 +15,8 @@ use Rattle.flat_rules.specs.Legal.{Legal, got, reply_to, reply_to_get}
 use Rattle.flat_rules.specs.Local.{pair_watched}
 use Rattle.flat_rules.specs.Posts.{told_event, event_of}
 use Rattle.flat_rules.specs.Watch.{Watcher, watching, told, asked, asked_in, listener, is_watcher, watcher_of}
-use Rattle.flat_watch.specs.Told.{Watching, news, or_else, answer, answered_by, settled, asking}
+use Rattle.flat_watch.specs.Told.{Watching, news, answer, answered_by, settled, asking}
+use Rattle.std.specs.Option.{option_or}
 use Rattle.flat_rules.proofs.lemmas.SameWatchers.{same-is}
 use Rattle.flat_rules.proofs.lemmas.Still.{IsStill, open-before, told-same}
 use Rattle.flat_rules.proofs.lemmas.WatchLocal.{asking-none}
@@ -30,18 +31,18 @@ none-asked (Some get) none = absurd (let h : true ≡ false = none in cc)
 abbrev standing : Option Told → Watch → Option Told → Watching
 standing last get first = answered_by first (record { last = last; waits = Some get })
 
-step : (last : Option Told) (get : Watch) (first now : Option Told) → settled true now (standing last get first) ≡ standing last get (or_else first (news now last))
+step : (last : Option Told) (get : Watch) (first now : Option Told) → settled true now (standing last get first) ≡ standing last get (option_or first (news now last))
 step last get (Some value) now = refl
 step last get None now = refl
 
 event-step : (p : PairNo) (last : Option Told) (get : Watch) (first now : Option Told)
-    → event_of p (standing last get first).waits (answer now (standing last get first)) ≡ event_of p (Some get) (cond (is_some first) None (or_else first (news now last)))
+    → event_of p (standing last get first).waits (answer now (standing last get first)) ≡ event_of p (Some get) (cond (is_some first) None (option_or first (news now last)))
 event-step p last get (Some value) now = refl
 event-step p last get None now = refl
 
 -- a get that nothing else holds joins
 joins : (w : Watching) (last : Option Told) (get : Watch) → w.waits ≡ None → w.last ≡ last → asking (Some get) w ≡ record { last = last; waits = Some get }
-joins w last get none is = λ i. record { last = is i; waits = or_else (none i) (Some get) }
+joins w last get none is = λ i. record { last = is i; waits = option_or (none i) (Some get) }
 
 rests : (listens : Bool) (now : Option Told) (w : Watching) → w.waits ≡ None → settled listens now w ≡ w
 rests false now w none = refl

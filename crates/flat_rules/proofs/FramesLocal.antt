@@ -7,10 +7,12 @@ use Rattle.flat_base.specs.declared.ids.FenceNo.{FenceNo}
 use Rattle.flat_base.specs.declared.ids.SessionNo.{SessionNo}
 use Rattle.flat_scene.specs.declared.journal.Entry.{Entry}
 use Rattle.flat_scene.specs.declared.setup.Setup.{Setup}
-use Rattle.flat_scene.specs.Family.{family, only, IsClosedFamily}
-use Rattle.flat_scene.specs.Frames.{is_signalled, taken, going, credits, releases, is_among, is_released_by, sessions_to}
+use Rattle.flat_scene.specs.Family.{family, only}
+use Rattle.flat_scene.specs.Laws.{IsClosedFamily}
+use Rattle.flat_scene.specs.Frames.{is_signalled, taken, going, credits, is_among, is_released_by, sessions_to}
+use Rattle.flat_scene.specs.Releases.{releases}
 use Rattle.flat_scene.specs.History.{presents, Published}
-use Rattle.flat_scene.specs.Setups.{owners_declared}
+use Rattle.flat_scene.specs.Heads.{owners_declared}
 use Rattle.flat_scene.proofs.lemmas.FamilyLeast.{family-is-least}
 use Rattle.flat_rules.specs.Legal.{Legal, owns_fence}
 use Rattle.flat_rules.specs.Local.{PresentsAreLocal, SignalledIsLocal, TakenIsLocal, CreditsAreLocal, GoingIsLocal, ReleasedIsLocal}

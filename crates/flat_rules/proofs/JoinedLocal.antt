@@ -13,7 +13,8 @@ use Rattle.flat_scene.specs.declared.trees.Children.TheVariants.{Empty}
 use Rattle.flat_scene.specs.declared.trees.Content.{Content}
 use Rattle.flat_scene.specs.declared.trees.Content.TheVariants as content
 use Rattle.flat_scene.specs.declared.trees.Tree.{Tree}
-use Rattle.flat_scene.specs.Family.{IsClosedFamily, is_linked}
+use Rattle.flat_scene.specs.Family.{is_linked}
+use Rattle.flat_scene.specs.Laws.{IsClosedFamily}
 use Rattle.flat_scene.specs.Frames.{sessions_to}
 use Rattle.flat_scene.specs.Trees.{first}
 use Rattle.flat_topology.specs.Join.{JoinedTree, Viewer, viewer_from, is_view_of, linked_to, joined_nodes, viewed, led_to, led_from, sessions_in, is_joined}

@@ -8,14 +8,14 @@ use Rattle.flat_scene.specs.declared.journal.Kind.{Kind}
 use Rattle.flat_scene.specs.declared.setup.Setup.{Setup}
 use Rattle.flat_scene.specs.History.{◌▹◌}
 use Rattle.flat_base.proofs.lemmas.Tests.{and-left, and-right}
-use Rattle.flat_rules.specs.Legal.{Legal, MayEnter, reply_to, may_act, goes_on, keeps_time, has_draft, own_call, links_alone, owns_all, names_declared, has_tree, draft_with, has_watcher}
+use Rattle.flat_rules.specs.Legal.{Legal, MayEnter, reply_to, may_act, goes_on, keeps_time, has_draft, own_call, links_alone, owns_all, may_name, has_tree, draft_with, has_watcher}
 
 -- all that an entry must meet, as one test
 abbrev pub may_enter : Setup → List Entry → Actor → List Call → Kind → Bool
 may_enter setup before actor carries kind =
     may_act setup kind actor && (goes_on before kind actor && (keeps_time before kind && (has_draft setup before actor carries kind
     && (own_call kind (slice_get carries (length carries - 1)) && (links_alone kind carries && (owns_all setup actor carries kind
-    && (names_declared setup kind && (has_tree setup (draft_with setup before actor carries) kind && has_watcher setup before actor carries kind))))))))
+    && (may_name setup actor kind && (has_tree setup (draft_with setup before actor carries) kind && has_watcher setup before actor carries kind))))))))
 
 enters : (setup : Setup) (before : List Entry) (actor : Actor) (carries : List Call) (kind : Kind) → may_enter setup before actor carries kind ≡ true
     → MayEnter setup before actor carries kind
@@ -27,7 +27,7 @@ enters setup before actor carries kind may =
     let from_6 = and-right (own_call kind (slice_get carries (length carries - 1))) _ from_5 in
     let from_7 = and-right (links_alone kind carries) _ from_6 in
     let from_8 = and-right (owns_all setup actor carries kind) _ from_7 in
-    let from_9 = and-right (names_declared setup kind) _ from_8 in
+    let from_9 = and-right (may_name setup actor kind) _ from_8 in
     record {
       acts = and-left (may_act setup kind actor) _ may;
       lasts = and-left (goes_on before kind actor) _ from_2;
@@ -36,7 +36,7 @@ enters setup before actor carries kind may =
       calls = and-left (own_call kind (slice_get carries (length carries - 1))) _ from_5;
       links = and-left (links_alone kind carries) _ from_6;
       owned = and-left (owns_all setup actor carries kind) _ from_7;
-      named = and-left (names_declared setup kind) _ from_8;
+      named = and-left (may_name setup actor kind) _ from_8;
       tree = and-left (has_tree setup (draft_with setup before actor carries) kind) _ from_9;
       watcher = and-right (has_tree setup (draft_with setup before actor carries) kind) _ from_9;
     }

@@ -16,6 +16,7 @@ pub mod LinesReplies
 pub mod LinesTold
 pub mod MadeUses
 pub mod Neighbour
+pub mod RefusalLemmas
 pub mod SeatLemmas
 pub mod ShownLocal
 pub mod SmallLaws

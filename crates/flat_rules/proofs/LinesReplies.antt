@@ -24,7 +24,8 @@ use Rattle.flat_scene.specs.History.{◌▹◌, is_begin, is_finish, is_session,
 use Rattle.flat_rules.specs.Determined.{but_line}
 use Rattle.flat_rules.specs.Ends.{to_begin, times, releases_viewport, views_of, viewports_of, uses_viewport, is_done}
 use Rattle.flat_rules.specs.Legal.{has_token, is_token_back, is_told, is_poll, is_now, number_if, sent_to, unread, unread_events, answers, frames, value_of, got, waited, asked_of, refused_token, reply_to_get, reply_to_present, polled_by, reply_to}
-use Rattle.flat_rules.specs.Posts.{Sent, up_to, event_of, told_event, frame_took, releases_seen, tokens_back, at_finish, at_begin, news_for, events_to, posted, posts}
+use Rattle.flat_rules.specs.Posts.{Sent, up_to, event_of, told_event, frame_took, releases_seen, tokens_back, at_finish, at_begin, news_for, events_to, posted}
+use Rattle.flat_rules.specs.AllPosts.{posts}
 use Rattle.flat_rules.specs.Watch.{Watcher, layout_of, status_of, child_of, watcher_of}
 use Rattle.flat_watch.specs.Told.{answer, news}
 use Rattle.flat_rules.proofs.Lines.{lined, filter-lined, length-lined, closed-lined, presents-lined, begin-lined, begun-lined, frames-lined, took-lined, took-begin, took-begun, credits-lined, taken-calls-lined, view-count, viewport-count}

@@ -23,7 +23,8 @@ use Rattle.flat_rules.specs.Determined.{but_line}
 use Rattle.flat_rules.specs.Ends.{to_begin, to_finished, props_of, viewport_uses, viewport_owner, view_owner, taken_calls, is_viewport_lost, is_view_lost, clears_viewport, ends_view}
 use Rattle.flat_rules.specs.Shown.{is_pair}
 use Rattle.flat_rules.specs.Watch.{Watcher, layout_of, status_of, child_of, layout_in, display_props, ratio_told, is_used, are_joined, props_given, props_seen, props_told, shows_view, is_connected_by, told, watcher_of_made, watcher_in, watcher_of, is_watcher, asked_in, is_open, listener, watching}
-use Rattle.flat_watch.specs.Told.{or_else, settled, asking}
+use Rattle.flat_watch.specs.Told.{settled, asking}
+use Rattle.std.specs.Option.{option_or}
 use Rattle.flat_rules.proofs.Lines.{lined, calls-lined, closed-lined, begin-lined, finished-lined, taken-calls-lined, shown-lined, connected-lined, viewports-lined, view-count, viewport-count, loses-lined}
 
 module _ (setup : Setup) where
@@ -56,7 +57,7 @@ module _ (setup : Setup) where
   seen-lined : (p : PairNo) (n : ℕ) (s : SessionNo) (h : List Entry) → props_seen setup p n s (lined h) ≡ props_seen setup p n s h
   seen-lined p n s [] = refl
   seen-lined p n s (before ▹ e) =
-      λ i. or_else (cond (is_finish e.kind) (option_and_then (props_of p n) (result_ok (draft_of setup (calls-begun before s i)))) None) (seen-lined p n s before i)
+      λ i. option_or (cond (is_finish e.kind) (option_and_then (props_of p n) (result_ok (draft_of setup (calls-begun before s i)))) None) (seen-lined p n s before i)
 
   -- the pixel ratio that is told
   ratio-lined : (h : List Entry) → ratio setup (lined h) ≡ ratio setup h
@@ -74,7 +75,7 @@ module _ (setup : Setup) where
       let seen : props_seen setup p (length (viewport_uses p (lined h))) s (lined h) ≡ props_seen setup p (length (viewport_uses p h)) s h =
       ap (λ (n : ℕ). props_seen setup p n s (lined h)) (viewport-count setup p h) ∙ seen-lined p (length (viewport_uses p h)) s h in
       let given : props_given setup (viewport_uses p (lined h)) ≡ props_given setup (viewport_uses p h) = ap (props_given setup) (viewports-lined setup p h) ∙ given-lined (viewport_uses p h) in
-      λ i. or_else (seen i) (given i)
+      λ i. option_or (seen i) (given i)
 
   shows-lined : (p : PairNo) (h : List Entry) → shows_view setup (lined h) p ≡ shows_view setup h p
   shows-lined p h = λ i. unwrap_or (option_map (λ s. is_pair (option_and_then (λ (t : Tree). t.view) (shown-lined setup h i s)) p) (view_owner setup p)) false

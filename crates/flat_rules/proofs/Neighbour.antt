@@ -1,11 +1,10 @@
 -- What a session's neighbours can't change.
 use Rattle.std.proofs.Common.{◌≡◌, ℕ, suc, ◌-◌, Bool, true, false, cond, List, [], ◌∷◌, ◌++◌, refl, arith, ap, sym, ◌∙◌, subst, drop}
 use Rattle.std.specs.Prelude.{◌==◌, ◌&&◌, ◌||◌, not, Option, Some, None, length, flat_map, map, filter, replicate, nat_lt, Ok}
-use Rattle.std.specs.List.{list_all, list_any}
+use Rattle.std.specs.List.{list_all, list_any, drop-map}
 use Rattle.std.proofs.lemmas.Grind.{common_steps}
 use Rattle.std.proofs.lemmas.List.Sums.{take_while-cons}
 use Rattle.std.proofs.lemmas.List.Elements.{filter-append}
-use Rattle.std.specs.List.{drop-map}
 use Rattle.flat_base.specs.declared.ids.Actor.{Actor}
 use Rattle.flat_base.specs.declared.ids.Actor.TheVariants.{Display, Session, Probe}
 use Rattle.flat_base.specs.declared.ids.PairNo.{PairNo}
@@ -24,11 +23,12 @@ use Rattle.flat_scene.specs.declared.journal.Told.{Told}
 use Rattle.flat_scene.specs.declared.setup.Setup.{Setup}
 use Rattle.flat_scene.specs.Draft.{empty_draft}
 use Rattle.flat_rules.specs.Ends.{views_of, viewports_of, is_done, uses_view, uses_viewport, view_uses, viewport_uses, view_owner, viewport_owner, to_begin, taken_calls, times, releases_viewport}
-use Rattle.flat_scene.specs.Family.{IsClosedFamily}
+use Rattle.flat_scene.specs.Laws.{IsClosedFamily}
 use Rattle.flat_scene.specs.Frames.{taken, takes, credits, is_signalled, is_ready, is_unsquashable, up_to_first, ready_run, ready_prefix, sessions_to}
 use Rattle.flat_scene.specs.History.{◌▹◌, is_closed, is_session, closes, presents, published, Published, calls, is_begin, is_finish}
 use Rattle.flat_rules.specs.Laws.{is_beside, but_answers, Glimpse, glimpse, glimpses, is_own_event, has_own_reply, Outcome, outcome, outcomes, own_events}
-use Rattle.flat_rules.specs.Legal.{Legal, LegalEntry, is_token_back, may_act, owns_view, owns_viewport, owns_in_kind, has_token, reply_to, reply_to_present, is_get}
+use Rattle.flat_rules.specs.Legal.{Legal, LegalEntry, is_token_back, may_act, owns_view, owns_viewport, owns_in_kind, has_token, reply_to, reply_to_present}
+use Rattle.flat_rules.specs.Kinds.{is_get}
 use Rattle.flat_rules.specs.Local.{GlimpsesDecideOutcomes, OthersPostNone}
 use Rattle.flat_rules.specs.Posts.{event_of, told_event, at_finish, at_begin, news_for, events_to, posted, up_to}
 use Rattle.flat_rules.specs.Watch.{Watcher, layout_of, status_of, child_of, watching, told}

@@ -14,7 +14,8 @@ use Rattle.flat_scene.specs.declared.journal.Entry.{Entry}
 use Rattle.flat_scene.specs.declared.journal.Kind.{Kind}
 use Rattle.flat_scene.specs.declared.journal.Kind.TheVariants.{Close}
 use Rattle.flat_scene.specs.declared.setup.Setup.{Setup}
-use Rattle.flat_scene.specs.History.{◌▹◌, own, is_session, is_display, is_begin, is_finish, seat_number, history_of}
+use Rattle.flat_scene.specs.History.{◌▹◌, own, is_session, is_display, is_begin, is_finish}
+use Rattle.flat_scene.specs.Journals.{seat_number, history_of}
 use Rattle.flat_scene.specs.Setups.{is_declared}
 use Rattle.flat_scene.proofs.lemmas.Steps.{own-kept}
 use Rattle.flat_rules.proofs.lemmas.FrameKinds.{not-begin, not-finish}

@@ -5,7 +5,8 @@ use Rattle.std.specs.List.{list_any}
 use Rattle.flat_base.specs.declared.ids.SessionNo.{SessionNo}
 use Rattle.flat_scene.specs.declared.journal.Entry.{Entry}
 use Rattle.flat_scene.specs.declared.setup.Setup.{Setup}
-use Rattle.flat_scene.specs.Family.{IsClosedFamily, is_linked, only, joins, shares}
+use Rattle.flat_scene.specs.Family.{is_linked, only, joins, shares}
+use Rattle.flat_scene.specs.Laws.{IsClosedFamily}
 use Rattle.flat_scene.specs.History.{is_session}
 use Rattle.flat_rules.specs.Legal.{Legal}
 use Rattle.flat_rules.specs.Shown.{shown, is_connected}

@@ -13,7 +13,8 @@ use Rattle.flat_scene.specs.declared.journal.Kind.TheVariants.{View, Viewport, B
 use Rattle.flat_scene.specs.declared.setup.Setup.{Setup}
 use Rattle.flat_scene.specs.Draft.{Draft}
 use Rattle.flat_rules.specs.Ends.{to_begin, to_finished, view_uses, viewport_uses, uses_view, uses_viewport, view_owner, viewport_owner, taken_calls, has_ended, loses, is_viewport_lost, is_view_lost, clears_viewport, ends_view}
-use Rattle.flat_scene.specs.Family.{IsClosedFamily, only, is_kept, keeps}
+use Rattle.flat_scene.specs.Family.{only, is_kept, keeps}
+use Rattle.flat_scene.specs.Laws.{IsClosedFamily}
 use Rattle.flat_scene.specs.Frames.{taken, ratio, ratio_set}
 use Rattle.flat_scene.specs.History.{◌▹◌, is_begin, is_finish, is_session}
 use Rattle.flat_rules.specs.Legal.{Legal, may_act, owns_in_kind, owns_view, owns_viewport}

@@ -3,7 +3,8 @@ use Rattle.std.proofs.Common.{◌≡◌, ◌⊎◌, inl, inr, Bool, true}
 use Rattle.flat_base.specs.declared.ids.PairNo.{PairNo}
 use Rattle.flat_base.specs.declared.ids.SessionNo.{SessionNo}
 use Rattle.flat_scene.specs.declared.setup.Setup.{Setup}
-use Rattle.flat_scene.specs.Family.{family, IsClosedFamily}
+use Rattle.flat_scene.specs.Family.{family}
+use Rattle.flat_scene.specs.Laws.{IsClosedFamily}
 use Rattle.flat_base.proofs.lemmas.Tests.{or-cases}
 use Rattle.flat_rules.specs.Legal.{owns_view, owns_viewport}
 use Rattle.flat_rules.specs.Local.{pair_watched, owns_end, ShownIsLocal, ConnectedIsLocal, RatioIsLocal, ToldIsLocal, WatchingIsLocal, AnswersAreLocal}

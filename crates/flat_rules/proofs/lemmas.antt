@@ -1,6 +1,7 @@
 -- Lemmas that other crates may cite.
 pub mod AllOrSome
 pub mod EventsLocal
+pub mod Fences
 pub mod FrameKinds
 pub mod ListLemmas
 pub mod Locality
@@ -8,6 +9,7 @@ pub mod MoreRuns
 pub mod Owned
 pub mod OwnedTree
 pub mod Quiet
+pub mod Refusals
 pub mod RepliesLocal
 pub mod Runs
 pub mod SameWatchers

@@ -5,10 +5,10 @@ use Rattle.flat_scene.specs.declared.journal.Entry.{Entry}
 use Rattle.flat_scene.specs.declared.journal.Reply.TheVariants.{Done}
 use Rattle.flat_scene.specs.declared.setup.Setup.{Setup}
 use Rattle.flat_scene.specs.Family.{family, only}
-use Rattle.flat_scene.specs.Setups.{owners_declared}
-use Rattle.flat_rules.specs.Laws.{Moment, moments, kept_moments}
+use Rattle.flat_scene.specs.Heads.{owners_declared}
+use Rattle.flat_rules.specs.FamilyLaw.{Moment, moments, kept_moments}
 use Rattle.flat_rules.specs.Legal.{Legal}
-use Rattle.flat_rules.specs.Posts.{posts}
+use Rattle.flat_rules.specs.AllPosts.{posts}
 
 -- an entry without its line, and without its line and its reply
 abbrev pub but_line : Entry → Entry

@@ -16,13 +16,14 @@ use Rattle.flat_rules.specs.Legal.{Legal, got}
 use Rattle.flat_rules.specs.Local.{pair_watched}
 use Rattle.flat_rules.specs.Posts.{told_event, event_of, events_to}
 use Rattle.flat_rules.specs.Watch.{Watcher, watching, told, asked, listener, is_open}
-use Rattle.flat_watch.specs.Told.{news, or_else, answered_by}
+use Rattle.flat_watch.specs.Told.{news, answered_by}
+use Rattle.std.specs.Option.{option_or}
 
 module _ (setup : Setup) where
   -- the first value told that is there and differs from the last answer: after a history, or after one of the entries that are put onto it
   abbrev pub first_news : Watcher → Option Told → List Entry → List Entry → Option Told
   first_news watcher last from [] = news (told setup from watcher) last
-  first_news watcher last from (later ▹ entry) = or_else (first_news watcher last from later) (news (told setup ((later ▹ entry) ++ from) watcher) last)
+  first_news watcher last from (later ▹ entry) = option_or (first_news watcher last from later) (news (told setup ((later ▹ entry) ++ from) watcher) last)
 
   -- whether one of the entries that are put onto a history is a get of the watcher
   abbrev pub is_asked : Watcher → List Entry → List Entry → Bool

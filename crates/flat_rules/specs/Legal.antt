@@ -1,5 +1,5 @@
 -- Which replies the entries of a history have, and which histories there are.
-use Rattle.std.specs.Prelude.{ℕ, ◌+◌, ◌-◌, ◌≡◌, IsTrue, Bool, true, false, cond, not, ◌&&◌, ◌||◌, ◌==◌, nat_lt, nat_le, List, [], ◌∷◌, ◌++◌, length, filter, Option, Some, None, unwrap_or, option_map, is_some, is_none, slice_get}
+use Rattle.std.specs.Prelude.{ℕ, ◌+◌, ◌-◌, ◌≡◌, IsTrue, Bool, true, false, cond, not, ◌&&◌, ◌||◌, ◌==◌, nat_lt, nat_le, List, [], ◌∷◌, ◌++◌, length, filter, Option, Some, None, unwrap_or, option_map, Result, Ok, Err, is_some, is_none, slice_get}
 use Rattle.std.specs.List.{list_any, list_all}
 use Rattle.flat_base.specs.declared.ids.Actor.{Actor}
 use Rattle.flat_base.specs.declared.ids.Actor.TheVariants.{Display, Session, Probe}
@@ -7,6 +7,7 @@ use Rattle.flat_base.specs.declared.ids.BufferNo.{BufferNo}
 use Rattle.flat_base.specs.declared.ids.FenceNo.{FenceNo}
 use Rattle.flat_base.specs.declared.errors.FlatlandError.TheVariants.{BadOperation, NoPresentsRemaining, BadHangingGet}
 use Rattle.flat_base.specs.declared.ids.PairNo.{PairNo}
+use Rattle.flat_base.specs.declared.errors.Reason.{Reason}
 use Rattle.flat_base.specs.declared.errors.Reason.TheVariants.{TokenNotHeld}
 use Rattle.flat_base.specs.declared.ids.SessionNo.{SessionNo}
 use Rattle.flat_scene.specs.declared.calls.Call.{Call}
@@ -24,18 +25,20 @@ use Rattle.flat_scene.specs.declared.journal.Told.{Told}
 use Rattle.flat_scene.specs.declared.script.Cond.{Cond}
 use Rattle.flat_scene.specs.declared.script.Cond.TheVariants as asks
 use Rattle.flat_scene.specs.declared.setup.Setup.{Setup}
-use Rattle.flat_scene.specs.History.{◌▹◌, is_begin, is_finish, is_end, is_closed, is_session, calls, own, presents}
+use Rattle.flat_scene.specs.History.{◌▹◌, is_begin, is_finish, is_end, is_display, is_closed, is_session, calls, own, presents}
 use Rattle.flat_scene.specs.Setups.{is_declared, is_ratio}
 use Rattle.flat_scene.specs.Frames.{taken, credits, is_signalled}
 use Rattle.flat_scene.specs.Effect.{draft_of}
 use Rattle.std.specs.Result.{result_ok}
 use Rattle.flat_scene.specs.Draft.{Draft}
+use Rattle.flat_scene.specs.Interleave.{entry_of_call}
 use Rattle.flat_scene.specs.Misuse.{first_reason}
-use Rattle.flat_scene.specs.Tree.{tree_tests}
+use Rattle.flat_scene.specs.Tree.{present_tests}
 use Rattle.flat_rules.specs.Ends.{view_uses, uses_viewport, is_done, viewport_owner, view_owner}
 use Rattle.flat_rules.specs.Watch.{Watcher, watching, watcher_of, told}
 use Rattle.flat_watch.specs.Told.{news}
 use Rattle.flat_rules.specs.Posts.{posted, events_to}
+use Rattle.flat_rules.specs.Refusals.{may_refuse, same_reason}
 
 -- ---- replies
 
@@ -56,10 +59,6 @@ abbrev pub is_poll : Kind → Bool
 is_poll Poll = true
 is_poll _ = false
 
-abbrev pub is_get : Kind → Bool
-is_get (Get get) = true
-is_get _ = false
-
 abbrev pub is_now : Reply → Bool
 is_now (Now value) = true
 is_now _ = false
@@ -67,10 +66,6 @@ is_now _ = false
 -- a fence's value
 abbrev pub number_if : Bool → ℕ
 number_if b = cond b 1 0
-
-abbrev pub is_close : Kind → Bool
-is_close (Close reason) = true
-is_close _ = false
 
 -- no entry of the actor after its End, and none but an End after it was closed
 abbrev pub goes_on : List Entry → Kind → Actor → Bool
@@ -100,9 +95,7 @@ keeps_time before _ = true
 
 -- a call that uses an end
 abbrev pub is_link : Call → Bool
-is_link (CreateView pair) = true
-is_link (CreateViewport c pair w h inset) = true
-is_link _ = false
+is_link call = is_some (entry_of_call call)
 
 -- a call that makes this view, and one that makes a viewport with these properties
 abbrev pub same_inset : Inset → Inset → Bool
@@ -133,6 +126,14 @@ links_alone (View p) carries = not (list_any is_link (all_but_last carries))
 links_alone (Viewport p props) carries = not (list_any is_link (all_but_last carries))
 links_alone (Close reason) carries = not (list_any is_link (all_but_last carries))
 links_alone _ carries = not (list_any is_link carries)
+
+-- What a Close may say, by what all calls of the session make. A session that leaves says no reason. Else it is the misuse of the last call, or
+-- a present or a get is refused.
+abbrev pub may_close : List Call → Result Draft Reason → Option Reason → Bool
+may_close carries (Ok draft) None = not (list_any is_link carries)
+may_close carries (Ok draft) (Some reason) = not (list_any is_link carries) && may_refuse draft reason
+may_close carries (Err misused) (Some reason) = same_reason misused reason
+may_close carries (Err misused) None = false
 
 -- the number of finished frames
 abbrev pub frames : List Entry → ℕ
@@ -258,10 +259,13 @@ module _ (setup : Setup) where
   draft_with before (Session s) carries = result_ok (draft_of setup (calls s before ++ carries))
   draft_with before _ carries = None
 
-  -- The calls of a session have no misuse, but that the last one of a Close may be the misuse that closes. After that nothing is asked of its End.
-  -- Only a session has calls.
+  -- The calls of a session have no misuse, but that the last one of a Close may be the misuse that closes. An End says that no line was refused,
+  -- unless the session was closed: then it carries no calls, and may say any number. Only a session has calls.
   abbrev pub has_draft : List Entry → Actor → List Call → Kind → Bool
-  has_draft before (Session s) carries (Close reason) = is_some (draft_with before (Session s) (all_but_last carries))
+  has_draft before (Session s) carries (Close why) =
+      is_some (draft_with before (Session s) (all_but_last carries)) && may_close carries (draft_of setup (calls s before ++ carries)) why
+  has_draft before (Session s) carries (End refused) =
+      cond (is_closed s before) (length carries == 0) (refused == 0 && is_some (draft_with before (Session s) carries))
   has_draft before (Session s) carries kind = is_closed s before || is_some (draft_with before (Session s) carries)
   has_draft before _ carries kind = length carries == 0
 
@@ -298,20 +302,25 @@ module _ (setup : Setup) where
   owns_all (Session s) carries kind = owns_in_kind s kind && list_all (owns_in_call s) carries
   owns_all _ carries kind = true
 
-  -- the fence and the session that an entry of the compositor names are declared, and its pixel ratio is one that a display may have
-  abbrev pub is_fence : FenceNo → Bool
-  is_fence f = nat_lt f.0 (length setup.fences)
+  -- what the compositor may name: a fence of the display, a declared session, and a pixel ratio that a display may have
+  abbrev pub display_owns : FenceNo → Bool
+  display_owns f = unwrap_or (option_map (λ fence. list_any is_display fence.owners) (slice_get setup.fences f.0)) false
 
   abbrev pub names_declared : Kind → Bool
-  names_declared (Signal f) = is_fence f
-  names_declared (Wait (asks.Fence f)) = is_fence f
+  names_declared (Signal f) = display_owns f
+  names_declared (Wait (asks.Fence f)) = display_owns f
   names_declared (Wait (asks.Presents s n)) = is_declared setup s
   names_declared (Dpr ratio) = is_ratio ratio
   names_declared _ = true
 
-  -- a present has a tree, and a get has a watcher
+  -- a session may name what it owns, and that is asked elsewhere
+  abbrev pub may_name : Actor → Kind → Bool
+  may_name Display kind = names_declared kind
+  may_name _ kind = true
+
+  -- a present is no misuse of its draft, and a get has a watcher
   abbrev pub has_tree : Option Draft → Kind → Bool
-  has_tree (Some draft) (Present args) = is_none (first_reason (tree_tests draft))
+  has_tree (Some draft) (Present args) = is_none (first_reason (present_tests draft args))
   has_tree None (Present args) = false
   has_tree draft _ = true
 
@@ -328,7 +337,7 @@ module _ (setup : Setup) where
     pub calls : IsTrue (own_call kind (slice_get carries (length carries - 1)))
     pub links : IsTrue (links_alone kind carries)
     pub owned : IsTrue (owns_all actor carries kind)
-    pub named : IsTrue (names_declared kind)
+    pub named : IsTrue (may_name actor kind)
     pub tree : IsTrue (has_tree (draft_with before actor carries) kind)
     pub watcher : IsTrue (has_watcher before actor carries kind)
 

@@ -6,10 +6,12 @@ use Rattle.flat_base.specs.declared.ids.SessionNo.{SessionNo}
 use Rattle.flat_scene.specs.declared.journal.Entry.{Entry}
 use Rattle.flat_scene.specs.declared.setup.Setup.{Setup}
 use Rattle.flat_scene.specs.Family.{family, only}
-use Rattle.flat_scene.specs.Frames.{is_signalled, taken, going, credits, ratio, releases, is_among}
+use Rattle.flat_scene.specs.Frames.{is_signalled, taken, going, credits, ratio, is_among}
+use Rattle.flat_scene.specs.Releases.{releases}
 use Rattle.flat_scene.specs.History.{presents}
-use Rattle.flat_scene.specs.Setups.{owners_declared}
-use Rattle.flat_rules.specs.Laws.{IsFamilyLaw, is_beside, glimpses, own_events, outcomes}
+use Rattle.flat_scene.specs.Heads.{owners_declared}
+use Rattle.flat_rules.specs.Laws.{is_beside, glimpses, own_events, outcomes}
+use Rattle.flat_rules.specs.FamilyLaw.{IsFamilyLaw}
 use Rattle.flat_rules.specs.Legal.{Legal, owns_fence, owns_view, owns_viewport, answers}
 use Rattle.flat_rules.specs.Shown.{shown, is_connected}
 use Rattle.flat_rules.specs.Watch.{Watcher, layout_of, status_of, child_of, told, watching}

@@ -12,7 +12,7 @@ use Rattle.flat_scene.specs.declared.script.Line.{Line}
 use Rattle.flat_scene.specs.declared.script.Line.TheVariants as line
 use Rattle.flat_scene.specs.declared.setup.Setup.{Setup}
 use Rattle.flat_scene.specs.Setups.{is_declared, is_ratio}
-use Rattle.flat_rules.specs.Legal.{owns_view, owns_viewport, owns_fence, owns_buffers, is_fence}
+use Rattle.flat_rules.specs.Legal.{owns_view, owns_viewport, owns_fence, owns_buffers, display_owns}
 
 -- a call that uses no end; an image is of buffers that the session owns
 abbrev pub is_private : Setup → SessionNo → Call → Bool
@@ -46,13 +46,13 @@ is_played_line setup s line.Poll = true
 is_played_line setup s (line.Wait c) = is_played_condition setup s c
 is_played_line setup s line.Disconnect = true
 
--- a line of the display: it names only what is declared, and a pixel ratio that a display may have
+-- a line of the display: it names only fences of the display, declared sessions, and a pixel ratio that a display may have
 abbrev pub is_played_display : Setup → DisplayLine → Bool
 is_played_display setup (display.Begin time) = true
 is_played_display setup display.Done = true
-is_played_display setup (display.Signal f) = is_fence setup f
+is_played_display setup (display.Signal f) = display_owns setup f
 is_played_display setup (display.Wait (asks.Presents s n)) = is_declared setup s
-is_played_display setup (display.Wait (asks.Fence f)) = is_fence setup f
+is_played_display setup (display.Wait (asks.Fence f)) = display_owns setup f
 is_played_display setup (display.Hit x y) = true
 is_played_display setup (display.Dpr ratio) = is_ratio ratio
 is_played_display setup _ = false

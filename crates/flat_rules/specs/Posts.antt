@@ -6,7 +6,6 @@ use Rattle.flat_scene.specs.declared.calls.Watch.{Watch}
 use Rattle.flat_scene.specs.declared.journal.Entry.{Entry}
 use Rattle.flat_scene.specs.declared.journal.Event.{Event}
 use Rattle.flat_scene.specs.declared.journal.Event.TheVariants as event
-use Rattle.flat_scene.specs.declared.journal.Post.{Post}
 use Rattle.flat_scene.specs.declared.journal.Told.{Told}
 use Rattle.flat_scene.specs.declared.setup.Setup.{Setup}
 use Rattle.flat_scene.specs.History.{◌▹◌, is_begin, is_finish, is_closed}
@@ -75,8 +74,3 @@ module _ (setup : Setup) where
   -- the events that an entry posts, by sessions
   abbrev pub posted : List Entry → Entry → List Sent
   posted before entry = flat_map (λ s. map (λ event. record { to = s; event = event }) (events_to before entry s)) (sessions_to setup.sessions)
-
-  -- the events of a history, each with the place of its entry
-  abbrev pub posts : List Entry → List Post
-  posts [] = []
-  posts (before ▹ entry) = posts before ++ map (λ sent. record { entry = length before; session = sent.to; event = sent.event }) (posted before entry)

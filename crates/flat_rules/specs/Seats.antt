@@ -7,7 +7,8 @@ use Rattle.flat_scene.specs.declared.calls.Call.{Call}
 use Rattle.flat_scene.specs.declared.journal.Entry.{Entry}
 use Rattle.flat_scene.specs.declared.journal.Kind.{Kind}
 use Rattle.flat_scene.specs.declared.setup.Setup.{Setup}
-use Rattle.flat_scene.specs.History.{own, is_display, is_closed, seat_number, history_of}
+use Rattle.flat_scene.specs.History.{own, is_display, is_closed}
+use Rattle.flat_scene.specs.Journals.{seat_number, history_of}
 use Rattle.flat_scene.specs.Setups.{is_declared}
 use Rattle.flat_rules.specs.Ends.{to_begin}
 use Rattle.flat_rules.specs.Legal.{Legal, goes_on, has_draft, draft_with, is_frame_open, begin_time}

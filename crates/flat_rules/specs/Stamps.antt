@@ -7,13 +7,13 @@ use Rattle.flat_scene.specs.declared.setup.Setup.{Setup}
 use Rattle.flat_scene.specs.Draft.{Draft, of_serial, empty_draft}
 use Rattle.flat_scene.specs.History.{◌▹◌, calls, presents, is_closed}
 use Rattle.flat_rules.specs.Ends.{times}
-use Rattle.flat_watch.specs.Told.{or_else}
+use Rattle.std.specs.Option.{option_or}
 
 -- the stamp of a test of a session's calls: how many presents it had made at the entry with which the test first held
 abbrev pub first_at : (List Call → Bool) → SessionNo → List Entry → Option ℕ
 first_at test s [] = None
 first_at test s (before ▹ entry) =
-    or_else (first_at test s before) (cond (test (calls s (before ▹ entry))) (Some (length (presents s before))) None)
+    option_or (first_at test s before) (cond (test (calls s (before ▹ entry))) (Some (length (presents s before))) None)
 
 -- whether the first n presents have seen what has that stamp
 abbrev pub is_seen : Option ℕ → ℕ → Bool
@@ -31,7 +31,7 @@ pub record IsStamp (test : List Call → Bool) (s : SessionNo) (history : List E
 
 -- a stamp after an entry of the session, which made so many presents before: it is set where the entry does it, and it wasn't set
 abbrev pub stamp_then : Option ℕ → Bool → ℕ → Option ℕ
-stamp_then stamp does_it presents = or_else stamp (cond does_it (Some presents) None)
+stamp_then stamp does_it presents = option_or stamp (cond does_it (Some presents) None)
 
 -- whether such a thing happens that often at calls
 abbrev pub happens_often : Setup → (Draft → Call → Bool) → ℕ → List Call → Bool

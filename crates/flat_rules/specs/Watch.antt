@@ -5,7 +5,6 @@ use Rattle.flat_base.specs.declared.ids.Actor.TheVariants.{Display, Session}
 use Rattle.flat_base.specs.declared.ids.PairNo.{PairNo}
 use Rattle.flat_base.specs.declared.ids.SessionNo.{SessionNo}
 use Rattle.flat_scene.specs.declared.calls.Call.{Call}
-use Rattle.flat_scene.specs.declared.calls.Inset.{Inset}
 use Rattle.flat_scene.specs.declared.calls.ViewportProps.{ViewportProps}
 use Rattle.flat_scene.specs.declared.calls.Watch.{Watch}
 use Rattle.flat_scene.specs.declared.calls.Watch.TheVariants as watch
@@ -16,13 +15,14 @@ use Rattle.flat_scene.specs.declared.journal.Told.{Told}
 use Rattle.flat_scene.specs.declared.journal.Told.TheVariants as tell
 use Rattle.flat_scene.specs.declared.setup.Setup.{Setup}
 use Rattle.flat_scene.specs.History.{◌▹◌, is_finish, is_closed, calls}
-use Rattle.flat_scene.specs.Draft.{Draft, Made, a_viewport, made_of}
+use Rattle.flat_scene.specs.Draft.{Draft, Made, a_viewport, made_of, no_inset}
 use Rattle.flat_scene.specs.Effect.{draft_of}
 use Rattle.flat_scene.specs.Frames.{ratio}
 use Rattle.flat_rules.specs.Shown.{is_pair, shown_view, is_connected}
 use Rattle.flat_base.specs.declared.limits.TheConstants.{ONE}
 use Rattle.std.specs.Result.{result_ok}
-use Rattle.flat_watch.specs.Told.{Watching, or_else, asking, settled}
+use Rattle.flat_watch.specs.Told.{Watching, asking, settled}
+use Rattle.std.specs.Option.{option_or}
 use Rattle.flat_rules.specs.Ends.{view_uses, viewport_uses, to_begin, to_finished, props_of, viewport_owner, view_owner, taken_calls, is_viewport_lost, is_view_lost}
 
 -- What a get watches: the layout or the status of a pair's view, or the child of the n-th use of its viewport end.
@@ -37,10 +37,6 @@ same_watcher (layout_of p) (layout_of q) = p.0 == q.0
 same_watcher (status_of p) (status_of q) = p.0 == q.0
 same_watcher (child_of p m) (child_of q n) = p.0 == q.0 && m == n
 same_watcher _ _ = false
-
--- the display's viewport has no inset
-abbrev pub no_inset : Inset
-no_inset = record { top = 0; right = 0; bottom = 0; left = 0 }
 
 -- the layout that the properties of a viewport give at a pixel ratio
 abbrev pub layout_in : ℕ → ViewportProps → Told
@@ -80,7 +76,7 @@ module _ (setup : Setup) where
   abbrev pub props_seen : PairNo → ℕ → SessionNo → List Entry → Option ViewportProps
   props_seen p n s [] = None
   props_seen p n s (before ▹ entry) =
-      or_else
+      option_or
       (cond (is_finish entry.kind) (option_and_then (props_of p n) (result_ok (draft_of setup (taken_calls setup (to_begin before) s)))) None)
       (props_seen p n s before)
 
@@ -91,7 +87,7 @@ module _ (setup : Setup) where
   -- the properties of the last use: those that frames have seen last, or those given
   abbrev pub props_told : Option Actor → List Entry → PairNo → Option ViewportProps
   props_told (Some Display) history p = Some (display_props (ratio_told history) setup)
-  props_told (Some (Session s)) history p = or_else (props_seen p (length (viewport_uses p history)) s history) (props_given (viewport_uses p history))
+  props_told (Some (Session s)) history p = option_or (props_seen p (length (viewport_uses p history)) s history) (props_given (viewport_uses p history))
   props_told _ history p = None
 
   -- the layout of a pair's view

@@ -7,8 +7,8 @@
 //! Other crates may cite the lemmas of proofs/lemmas/: steps of histories and lists
 //! (AllOrSome, FrameKinds, ListLemmas, MoreRuns, Runs, ShownList, ShownSteps, Watchers),
 //! what stays the same (Quiet, SameWatchers, Still), what is local to a family (EventsLocal,
-//! Locality, RepliesLocal, WatchLocal), what a session owns (Owned, OwnedTree, ShownOwned),
-//! and small histories (Samples, ShellRun).
+//! Locality, RepliesLocal, WatchLocal), what a session owns (Fences, Owned, OwnedTree,
+//! ShownOwned), what a draft refuses (Refusals), and small histories (Samples, ShellRun).
 #![tactic(auto)]
 
 mod answers;

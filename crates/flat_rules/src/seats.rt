@@ -1,4 +1,5 @@
 ghost use Rattle.flat_rules.specs.Closing.{RefusalCloses, CloseCloses, OtherRepliesCloseNone};
+ghost use Rattle.flat_rules.specs.Closing.{RefusalsAreOfLines};
 ghost use Rattle.flat_rules.specs.Seats.{SeatsTellActors, SessionsKnowThemselves};
 ghost use Rattle.flat_rules.specs.Seats.{DisplayKnowsFrames, BeginStays, JournalsKeepSeats};
 ghost use Rattle.flat_rules.specs.Seats.{BeginIsSeen};
@@ -7,13 +8,15 @@ ghost use Rattle.flat_rules.specs.Seats.{BeginIsSeen};
 // session closes, and what an actor knows that sees its own entries alone.
 
 /// An entry that is refused closes the session that makes it and no other, and so
-/// does a Close of a legal history. No other entry closes a session.
+/// does a Close of a legal history. No other entry closes a session. A reason that a
+/// Close may say of a draft is that of a present or a get which the draft refuses.
 ///
 /// The call does nothing. Its contract is a law about the definitions.
 pub fn refusals_close()
     ensures refused { RefusalCloses }
     ensures closed { CloseCloses }
     ensures others { OtherRepliesCloseNone }
+    ensures lines { RefusalsAreOfLines }
 {}
 
 /// In a legal history the entries of the display and of each session are those of

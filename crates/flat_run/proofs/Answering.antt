@@ -5,7 +5,8 @@ use Rattle.std.proofs.lemmas.List.{append_cancel_right}
 use Rattle.flat_base.specs.declared.limits.TheConstants.{SCRIPT_BYTES_MAX}
 use Rattle.flat_io.specs.Counts.{has_risen}
 use Rattle.flat_io.specs.Told.{Appends}
-use Rattle.flat_io.specs.Whole.{Given, AppendsPrefix}
+use Rattle.flat_io.specs.Whole.{AppendsPrefix}
+use Rattle.flat_io.specs.Reads.{Given}
 use Rattle.flat_scene.specs.declared.frames.FrameOut.{FrameOut}
 use Rattle.flat_render.specs.declared.grid.TheConstants.{PIXELS_MAX}
 use Rattle.flat_places.specs.declared.script.Script.{Script}
@@ -22,7 +23,7 @@ use Rattle.flat_forms.specs.Body.{dones}
 use Rattle.flat_run.specs.declared.given.TheConstants.{FILM_PIXELS_MAX}
 use Rattle.flat_run.specs.Forms.{is_read, form_read, pixels, Fits}
 use Rattle.flat_run.specs.Judging.{fault_line}
-use Rattle.flat_run.specs.Promise.{large_line, CallForNothing, AreTextOf, AreGiven, AreAll, AreTooLarge, AreTooMany, Refuses, IsRefused, IsTooLarge, Tells, IsTold, IsAnswer, IsWhole, IsCutOff, Gives, IsThere, IsThereTooLarge}
+use Rattle.flat_run.specs.Promise.{large_line, CallForNothing, AreTextOf, AreGiven, AreAll, AreTooLarge, Refuses, IsRefused, IsTooLarge, Tells, IsTold, IsAnswer, IsWhole, IsCutOff, Gives, IsThere}
 use Rattle.flat_places.specs.declared.kinds.FaultKind.TheVariants.{TooLong}
 
 -- the form that was found is that of the words
@@ -88,10 +89,10 @@ none_given left left' same = subst (λ (l : Option (List ℕ)). (given : List �
     stays (Some bytes) = ([], refl)
 
 -- some bytes are more than a script may have
-too_many : (left left' : Option (List ℕ)) → Given left left' (λ given after. SCRIPT_BYTES_MAX < length given) → (bytes : List ℕ) × AreTooMany bytes left left'
-too_many left None it = let one = longer SCRIPT_BYTES_MAX in (one.0, (one.1, tt))
+too_many : (left left' : Option (List ℕ)) → Given left left' (λ given after. SCRIPT_BYTES_MAX < length given) → (bytes : List ℕ) × (SCRIPT_BYTES_MAX < length bytes) × AreGiven bytes left left'
+too_many left None it = let one = longer SCRIPT_BYTES_MAX in (one.0, one.1, tt)
 too_many None (Some after) it = absurd it
-too_many (Some before) (Some after) (given, is, long) = (given, (long, is))
+too_many (Some before) (Some after) (given, is, long) = (given, long, is)
 
 -- the first bytes of a text were gained
 pub part_gained : (text : List ℕ) (held held' : Option (List ℕ)) → AppendsPrefix text held held' → (more : List ℕ) × Appends more held held'
@@ -135,7 +136,7 @@ module _ (form : Form) (IsOfSort : Script → Type 0) (left left' : Option (List
       sym (append-nil gives.given) ∙ ap (λ rest. gives.given ++ rest) (sym both.1) ∙ both.0
 
   -- or more than that
-  gives_many : (bytes : List ℕ) → AreTooMany bytes left left' → gives.given ≡ bytes
+  gives_many : (bytes : List ℕ) → (SCRIPT_BYTES_MAX < length bytes) × AreGiven bytes left left' → gives.given ≡ bytes
   gives_many bytes many =
       let P : Option (List ℕ) → Type 0 = λ l. AreGiven bytes l left' in
       let Q : Option (List ℕ) → Type 0 = λ l. AreGiven bytes (Some (gives.given ++ gives.after)) l in
@@ -146,7 +147,7 @@ module _ (form : Form) (IsOfSort : Script → Type 0) (left left' : Option (List
   gives_no_fault : (text : List ℕ) → IsRefused form left left' text → ⊥
   gives_no_fault text refused = by_given refused.given
     where
-      by_given : AreAll refused.bytes left left' ⊎ AreTooMany refused.bytes left left' → ⊥
+      by_given : AreAll refused.bytes left left' ⊎ ((SCRIPT_BYTES_MAX < length refused.bytes) × AreGiven refused.bytes left left') → ⊥
       by_given (inl all) = refuses_none form gives.given refused.bytes text gives.reading gives.read (gives_all refused.bytes all) refused.refuses
       by_given (inr many) = refuses_none form gives.given refused.bytes text gives.reading gives.read (gives_many refused.bytes many) refused.refuses
 
@@ -204,7 +205,7 @@ there_no_read_fault form form' left left' failed failed' same there read risen =
     let gives = gives_of form left left' failed failed' (sym (ap is_read same) ∙ read) there in
     let both : true ≡ false = sym risen ∙ gives.steady in cc
 
-pub large_no_read_fault : (form : Form) (left left' : Option (List ℕ)) (failed failed' : ℕ) → IsThereTooLarge form left left' failed failed' → IsTrue (has_risen failed failed') → ⊥
+pub large_no_read_fault : (form : Form) (left left' : Option (List ℕ)) (failed failed' : ℕ) → Gives form (IsTooLarge form) left left' failed failed' → IsTrue (has_risen failed failed') → ⊥
 large_no_read_fault form left left' failed failed' there risen = let both : true ≡ false = sym risen ∙ there.steady in cc
 
 -- ---- what is answered
@@ -252,7 +253,7 @@ pub long_is_refused : (form : Form) (left left' : Option (List ℕ)) → Given l
 long_is_refused form left left' it status text is_3 is =
     let many = too_many left left' it in
     subst (λ n. IsTurnedAway form left left' n text) (sym is_3)
-    (IsTurnedAway.refusal (record { bytes = many.0; given = inr many.1; refuses = record { fault = record { line = 0; kind = TooLong }; read = too_long form many.0 many.1.0; is = is } }))
+    (IsTurnedAway.refusal (record { bytes = many.0; given = inr (many.1, many.2); refuses = record { fault = record { line = 0; kind = TooLong }; read = too_long form many.0 many.1; is = is } }))
 
 -- What displays tell, and how a call found and left them.
 module _ {D : Type 0} (shown : D → Option (List FrameOut)) (faults : D → ℕ) (olds news : List D) where
@@ -303,7 +304,7 @@ module _ {D : Type 0} (shown : D → Option (List FrameOut)) (faults : D → ℕ
     only_told form failed failed' calls one there status text (IsAnswer.told form' bytes calls' of told) = refl
 
     -- or that a picture would be too large
-    pub only_large : (form : Form) (failed failed' : ℕ) → CallFor words form → ((f : Form) → CallFor words f → f ≡ form) → IsThereTooLarge form left left' failed failed'
+    pub only_large : (form : Form) (failed failed' : ℕ) → CallFor words form → ((f : Form) → CallFor words f → f ≡ form) → Gives form (IsTooLarge form) left left' failed failed'
         → (status : ℕ) (text : List ℕ) → IsAnswer shown faults olds news words left left' status text → status ≡ 7
     only_large form failed failed' calls one there status text (IsAnswer.usage nothing same) = absurd (nothing form calls)
     only_large form failed failed' calls one there status text (IsAnswer.refusal form' calls' read refused same) =

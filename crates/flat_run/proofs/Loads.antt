@@ -8,10 +8,11 @@ use Rattle.flat_base.specs.Last.{last_item}
 use Rattle.flat_scene.specs.declared.frames.FrameOut.{FrameOut}
 use Rattle.flat_scene.specs.declared.journal.Entry.{Entry}
 use Rattle.flat_scene.specs.declared.setup.Setup.{Setup}
-use Rattle.flat_scene.specs.History.{history_of, is_finish}
+use Rattle.flat_scene.specs.History.{is_finish}
+use Rattle.flat_scene.specs.Journals.{history_of}
 use Rattle.flat_rules.specs.Legal.{frames}
 use Rattle.flat_report.specs.Report.{finished}
-use Rattle.flat_run.specs.Totals.{is_present, items_of, last_items, totals_of}
+use Rattle.flat_run.specs.Totals.{is_present, items_of, totals_of}
 
 count_by-append : {A : Type 0} (p : A → Bool) (xs ys : List A) → count_by p (xs ++ ys) ≡ count_by p xs + count_by p ys
 count_by-append p xs ys =
@@ -34,7 +35,7 @@ totals asked sessions entries shown presents items setup history journal last is
     let e : entries ≡ length history = entries_are ∙ sym (length-reverse journal) ∙ ap length is in
     let f : shown ≡ frames history = shown_are ∙ counted (λ (entry : Entry). is_finish entry.kind) ∙ sym (length-filter (λ (entry : Entry). is_finish entry.kind) history) in
     let p : presents ≡ count_by (λ (entry : Entry). is_present entry.kind) history = presents_are ∙ counted (λ (entry : Entry). is_present entry.kind) in
-    let i : items ≡ last_items (finished setup history) = items_are ∙ ap items_of last_is in
+    let i : items ≡ items_of (last_item (finished setup history)) = items_are ∙ ap items_of last_is in
     rw (sessions_are, e, f, p, i) refl
   where
     counted : (test : Entry → Bool) → count_by test journal ≡ count_by test history

@@ -5,7 +5,8 @@ use Rattle.flat_scene.specs.declared.journal.Entry.{Entry}
 use Rattle.flat_places.specs.declared.script.Script.{Script}
 use Rattle.flat_script.specs.declared.script.ScriptFault.{ScriptFault}
 use Rattle.flat_script.specs.Grammar.{text_read}
-use Rattle.flat_report.specs.Laws.{IsRun, ReportsDetermineHistories}
+use Rattle.flat_report.specs.Laws.{ReportsDetermineHistories}
+use Rattle.flat_report.specs.Runs.{IsRun}
 use Rattle.flat_report.specs.Report.{report}
 use Rattle.flat_run.specs.declared.reading.Reading.{Reading}
 use Rattle.flat_words.specs.declared.form.Form.TheVariants.{Play, Race, Stress, Render, Damage, Focus, Pointer, Judge, Why, Film}

@@ -18,7 +18,7 @@ use Rattle.flat_texts.specs.Films.{film_text}
 use Rattle.flat_texts.specs.Pictures.{picture_text}
 use Rattle.flat_why.specs.Text.{why_text}
 use Rattle.flat_play.specs.Touches.{touch_of}
-use Rattle.flat_play.specs.Probing.{seen_in_turn}
+use Rattle.flat_play.specs.InTurn.{seen_in_turn}
 use Rattle.flat_report.specs.Laws.{WrittenHistoriesAreOne}
 use Rattle.flat_run.specs.declared.reading.Reading.{Reading}
 use Rattle.flat_run.specs.Answering.{ran_of}

@@ -7,19 +7,18 @@ use Rattle.flat_scene.specs.declared.frames.FrameOut.{FrameOut}
 use Rattle.flat_scene.specs.declared.frames.Lost.{Lost}
 use Rattle.flat_scene.specs.declared.journal.Entry.{Entry}
 use Rattle.flat_scene.specs.declared.journal.Post.{Post}
-use Rattle.flat_scene.specs.History.{history_of}
+use Rattle.flat_scene.specs.Journals.{history_of}
 use Rattle.flat_scene.specs.declared.script.Body.{Body}
 use Rattle.flat_scene.specs.declared.script.Body.TheVariants as body
 use Rattle.flat_scene.specs.declared.script.ScriptLine.{ScriptLine}
 use Rattle.flat_scene.specs.declared.setup.Setup.{Setup}
-use Rattle.flat_scene.specs.Setups.{is_within_limits, owners_declared}
+use Rattle.flat_scene.specs.Heads.{is_within_limits, owners_declared}
 use Rattle.flat_rules.specs.Legal.{Legal, frames}
-use Rattle.flat_report.specs.Due.{DuePresentsAreTaken}
+use Rattle.flat_report.specs.Laws.{DuePresentsAreTaken, HandedIsReport}
 use Rattle.flat_rules.specs.Local.{FamiliesAreAlone}
-use Rattle.flat_rules.specs.Posts.{posts}
+use Rattle.flat_rules.specs.AllPosts.{posts}
 use Rattle.flat_display.specs.Had.{AreDriven}
 use Rattle.flat_report.specs.Handed.{answers_of, handed_report}
-use Rattle.flat_report.specs.Laws.{HandedIsReport}
 use Rattle.flat_report.specs.Probes.{ProbesAnswered, frames_seen, is_asking}
 use Rattle.flat_report.specs.Report.{report, finished, is_seeing}
 use Rattle.flat_places.specs.declared.script.Script.{Script}
@@ -31,7 +30,7 @@ use Rattle.flat_report.specs.declared.report.HitAnswer.{HitAnswer}
 use Rattle.flat_scene.specs.Interleave.{IsWritten}
 use Rattle.flat_report.specs.declared.frame_texts.FrameTexts.{FrameTexts}
 use Rattle.flat_report.specs.FrameTexts.{frame_text, AreTexts}
-use Rattle.flat_play.specs.Probing.{seen_in_turn}
+use Rattle.flat_play.specs.InTurn.{seen_in_turn}
 use Rattle.flat_play.specs.declared.kept.Kept.{Kept}
 use Rattle.flat_play.specs.declared.kept.Kept.TheVariants as kept
 use Rattle.flat_play.specs.Keeping.{Keeps}

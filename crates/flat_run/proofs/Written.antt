@@ -1,10 +1,9 @@
 -- What the texts of a run ask for.
 use Rattle.std.proofs.Common.{◌≡◌, ℕ, zero, suc, ◌<◌, ◌≤◌, Bool, true, false, cond, nat_lt, nat_le, ◌&&◌, List, [], ◌∷◌, ◌++◌, length, map, reverse, refl, sym, ap, ◌∙◌, subst, arith, Option}
-use Rattle.std.specs.List.{All}
+use Rattle.std.specs.List.{All, list_all}
 use Rattle.std.proofs.lemmas.Bool.Decides.{nat_tests}
 use Rattle.std.proofs.lemmas.Grind.{common_steps}
 use Rattle.std.proofs.lemmas.List.Elements.{All-append}
-use Rattle.std.specs.List.{list_all}
 use Rattle.flat_base.proofs.lemmas.Tests.{and-left, and-right, and-true}
 use Rattle.flat_places.specs.declared.script.Script.{Script}
 use Rattle.flat_play.specs.declared.kept.Kept.{Kept}
@@ -22,11 +21,13 @@ use Rattle.flat_rules.specs.Legal.{frames}
 use Rattle.flat_scene.specs.declared.frames.FrameOut.{FrameOut}
 use Rattle.flat_scene.specs.declared.journal.Entry.{Entry}
 use Rattle.flat_scene.specs.declared.setup.Setup.{Setup}
-use Rattle.flat_scene.specs.History.{◌▹◌, history_of, is_finish}
-use Rattle.flat_scene.specs.Setups.{is_setup, is_within, is_within_limits}
+use Rattle.flat_scene.specs.History.{◌▹◌, is_finish}
+use Rattle.flat_scene.specs.Journals.{history_of}
+use Rattle.flat_scene.specs.Setups.{is_within}
+use Rattle.flat_scene.specs.Heads.{is_setup, is_within_limits}
 use Rattle.flat_base.specs.declared.limits.TheConstants.{SIDE_MAX, SESSIONS_MAX}
 use Rattle.flat_report.specs.Report.{finished, frame_at}
-use Rattle.flat_page.specs.Happenings.{without_items}
+use Rattle.flat_page.specs.Steps.{without_items}
 use Rattle.flat_page.proofs.lemmas.LastItems.{last-behind}
 use Rattle.flat_texts.specs.Lines.{finish_lines}
 use Rattle.flat_texts.specs.Pictures.{list_of}

@@ -1,7 +1,5 @@
 -- What each form reads, and what it writes of what ran: a row for each.
 use Rattle.std.specs.Prelude.{◌≡◌, ⊤, ℕ, ◌*◌, ◌≤◌, Bool, true, false, List, [], map, reverse, Result, Ok, Err}
-use Rattle.flat_play.specs.declared.kept.Keeping.{Keeping}
-use Rattle.flat_play.specs.declared.kept.Keeping.TheVariants as keeping
 use Rattle.flat_extra.specs.Whole.{focus_read, pointers_read}
 use Rattle.flat_focus.specs.Text.{focus_text}
 use Rattle.flat_forms.specs.Body.{dones}
@@ -60,15 +58,6 @@ abbrev pub Fits : Form → Script → Type 0
 Fits Render script = pixels script ≤ PIXELS_MAX
 Fits Film script = (pixels script ≤ PIXELS_MAX) × (dones script * pixels script ≤ FILM_PIXELS_MAX)
 Fits _ script = ⊤
-
--- what a run keeps of its frames for what a form writes
-abbrev pub keeping_for : Form → Keeping
-keeping_for Play = keeping.Texts
-keeping_for Race = keeping.Texts
-keeping_for Damage = keeping.Damages
-keeping_for Focus = keeping.Trees
-keeping_for Pointer = keeping.Trees
-keeping_for _ = keeping.Last
 
 -- ---- what ran
 

@@ -1,6 +1,7 @@
 pub mod Answering
-pub mod Judging
 pub mod Forms
+pub mod Judging
+pub mod Kept
 pub mod Laws
 pub mod Promise
 pub mod Serving

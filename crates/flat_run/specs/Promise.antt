@@ -1,6 +1,5 @@
 -- What a call of the service answers, writes and shows.
-use Rattle.std.specs.Prelude.{◌≡◌, ◌≢◌, ◌⊎◌, ⊤, ℕ, ◌*◌, ◌<◌, Bool, ◌||◌, true, false, List, [], ◌∷◌, ◌++◌, length, map}
-use Rattle.std.specs.Prelude.{Option, Some, Ok, Err, codes}
+use Rattle.std.specs.Prelude.{◌≡◌, ◌≢◌, ◌⊎◌, ⊤, ℕ, ◌*◌, ◌<◌, Bool, ◌||◌, true, false, List, [], ◌∷◌, ◌++◌, length, map, Option, Some, Ok, Err, codes}
 use Rattle.flat_io.specs.Counts.{has_risen}
 use Rattle.flat_io.specs.Told.{WhereTold, Appends}
 use Rattle.flat_io.specs.Whole.{AppendsPrefix}
@@ -10,14 +9,14 @@ use Rattle.flat_scene.specs.declared.frames.FrameOut.{FrameOut}
 use Rattle.flat_scene.specs.Interleave.{IsWritten}
 use Rattle.flat_scene.specs.Family.{family}
 use Rattle.flat_report.specs.Due.{TakesDue}
-use Rattle.flat_rules.specs.Laws.{IsFamilyLaw}
+use Rattle.flat_rules.specs.FamilyLaw.{IsFamilyLaw}
 use Rattle.flat_rules.specs.Legal.{frames}
 use Rattle.flat_script.specs.declared.script.ScriptFault.{ScriptFault}
 use Rattle.flat_display.specs.Had.{AreDriven}
 use Rattle.flat_report.specs.Report.{finished}
 use Rattle.flat_play.specs.Beginning.{AreBegun}
-use Rattle.flat_play.specs.Probing.{seen_in_turn}
-use Rattle.flat_report.specs.Laws.{IsRun}
+use Rattle.flat_play.specs.InTurn.{seen_in_turn}
+use Rattle.flat_report.specs.Runs.{IsRun}
 use Rattle.flat_stress.specs.Load.{load_text}
 use Rattle.flat_words.specs.declared.form.Form.{Form}
 use Rattle.flat_words.specs.declared.form.Form.TheVariants.{Race, Stress, Render, Judge, Film}
@@ -52,10 +51,6 @@ AreGiven given left left' = WhereTold left left' (λ before after. before ≡ gi
 abbrev pub AreAll : List ℕ → Option (List ℕ) → Option (List ℕ) → Type 0
 AreAll given left left' = WhereTold left left' (λ before after. (before ≡ given) × (after ≡ []))
 
--- These bytes are more than a script may have.
-abbrev pub AreTooMany : List ℕ → Option (List ℕ) → Option (List ℕ) → Type 0
-AreTooMany given left left' = (SCRIPT_BYTES_MAX < length given) × AreGiven given left left'
-
 -- These bytes are the text of a form's script.
 abbrev pub AreTextOf : Form → Option (List ℕ) → Option (List ℕ) → List ℕ → Type 0
 AreTextOf (Stress asked) left left' bytes = bytes ≡ load_text asked
@@ -70,7 +65,7 @@ pub record Refuses (form : Form) (bytes text : List ℕ) : Type 0 where
 -- What the source gave is refused: all that it had left, or more than a script may have.
 pub record IsRefused (form : Form) (left left' : Option (List ℕ)) (text : List ℕ) : Type 0 where
   pub bytes : List ℕ
-  pub given : AreAll bytes left left' ⊎ AreTooMany bytes left left'
+  pub given : AreAll bytes left left' ⊎ ((SCRIPT_BYTES_MAX < length bytes) × AreGiven bytes left left')
   pub refuses : Refuses form bytes text
 
 -- ---- pictures
@@ -189,7 +184,3 @@ abbrev pub IsThere : Form → Option (List ℕ) → Option (List ℕ) → ℕ �
 IsThere (Stress asked) left left' failed failed' = ⊤
 IsThere Judge left left' failed failed' = ⊥
 IsThere form left left' failed failed' = Gives form (Fits form) left left' failed failed'
-
--- A script is there, and what the form would write of it is too large.
-abbrev pub IsThereTooLarge : Form → Option (List ℕ) → Option (List ℕ) → ℕ → ℕ → Type 0
-IsThereTooLarge form left left' failed failed' = Gives form (IsTooLarge form) left left' failed failed'

@@ -6,7 +6,7 @@ use Rattle.flat_display.specs.Had.{AreKept}
 use Rattle.flat_scene.specs.declared.frames.FrameOut.{FrameOut}
 use Rattle.flat_words.specs.declared.form.Form.{Form}
 use Rattle.flat_words.specs.Forms.{CallFor}
-use Rattle.flat_run.specs.Promise.{AreFramesFor, AreGiven, CallForNothing, IsCutOff, IsThere, IsThereTooLarge, IsWhole}
+use Rattle.flat_run.specs.Promise.{AreFramesFor, AreGiven, CallForNothing, Gives, IsCutOff, IsThere, IsTooLarge, IsWhole}
 use Rattle.flat_run.specs.Promise.{either_rose}
 
 -- What is known of a source: the bytes that it has left, where it tells them, and how many of its reads failed.
@@ -50,7 +50,7 @@ module _ {D : Type 0} (shown : D → Option (List FrameOut)) (faults : D → ℕ
         → IsThere form source.left source'.left source.faults source'.faults
         → either_rose sink.faults sink'.faults sink.stalls sink'.stalls ≡ false → IsTrue (status == 0 || status == 6)
     pub too_large : (form : Form) → CallFor words form
-        → IsThereTooLarge form source.left source'.left source.faults source'.faults
+        → Gives form (IsTooLarge form) source.left source'.left source.faults source'.faults
         → either_rose sink.faults sink'.faults sink.stalls sink'.stalls ≡ false → IsTrue (status == 7 || status == 6)
     pub statuses : IsTrue
         (status == 0 || status == 2 || status == 3 || status == 4 || status == 5 || status == 6 || status == 7

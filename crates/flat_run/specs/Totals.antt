@@ -19,10 +19,6 @@ is_present _ = false
 abbrev pub items_of : Option FrameOut → ℕ
 items_of last = option_map_or (λ frame. length frame.items) last 0
 
--- how many items the last frame has
-abbrev pub last_items : List FrameOut → ℕ
-last_items shown = items_of (last_item shown)
-
 -- the numbers of a history, for a load of so many frames
 abbrev pub totals_of : ℕ → Setup → List Entry → Totals
 totals_of asked setup history = record {
@@ -31,5 +27,5 @@ totals_of asked setup history = record {
   entries = length history;
   frames = frames history;
   presents = count_by (λ entry. is_present entry.kind) history;
-  items = last_items (finished setup history);
+  items = items_of (last_item (finished setup history));
 }

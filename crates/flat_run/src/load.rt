@@ -4,7 +4,8 @@
 ghost use Rattle.std.specs.Prelude.{◌≡◌, ◌<◌, ◌≤◌, ◌^◌, length, count_by, IfOk, Ok, Some, None};
 ghost use Rattle.flat_base.specs.declared.limits.TheConstants.{LOAD_FRAMES_MAX};
 ghost use Rattle.flat_report.specs.Report.{finished};
-ghost use Rattle.flat_scene.specs.History.{history_of, is_finish};
+ghost use Rattle.flat_scene.specs.History.{is_finish};
+ghost use Rattle.flat_scene.specs.Journals.{history_of};
 ghost use Rattle.flat_base.specs.Last.{last_item};
 ghost use Rattle.std.specs.Option.{option_copied};
 ghost use Rattle.flat_script.specs.Grammar.{text_read};

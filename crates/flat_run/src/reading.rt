@@ -1,6 +1,6 @@
 //! What each form reads of a text: a function by the rows of `form_read` (specs/Forms), so
 //! that a further form is a row more of each.
-ghost use Rattle.flat_extra.specs.Reading.{Reads};
+ghost use Rattle.flat_extra.specs.Readers.{Reads};
 ghost use Rattle.flat_words.specs.declared.form.Form.TheVariants.{Play, Focus, Pointer};
 ghost use Rattle.flat_run.specs.Forms.{form_read};
 

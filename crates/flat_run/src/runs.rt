@@ -1,8 +1,7 @@
 //! Runs a script in written order or in a race, and makes the whole text of its form before
 //! the first byte is written. So the program never runs out of memory halfway through a
 //! report.
-ghost use Rattle.std.specs.Prelude.{◌≡◌, ◌≢◌, ◌<◌, ◌^◌, [], ℕ, List, true, false, map};
-ghost use Rattle.std.specs.Prelude.{length, IfOk, Ok, Err};
+ghost use Rattle.std.specs.Prelude.{◌≡◌, ◌≢◌, ◌<◌, ◌^◌, [], ℕ, List, true, false, map, length, IfOk, Ok, Err};
 ghost use Rattle.flat_scene.specs.Interleave.{IsWritten};
 ghost use Rattle.flat_words.specs.declared.form.Form.TheVariants.{Film, Judge, Pointer, Race, Why};
 ghost use Rattle.flat_words.specs.Forms.{IsAllowed};
@@ -12,11 +11,12 @@ ghost use Rattle.flat_report.specs.Report.{finished};
 ghost use Rattle.flat_play.specs.Beginning.{AreBegun};
 ghost use Rattle.flat_play.specs.Keeping.{keeping_of};
 ghost use Rattle.flat_play.specs.Playing.{HasPlayed};
-ghost use Rattle.flat_play.specs.Probing.{seen_in_turn};
+ghost use Rattle.flat_play.specs.InTurn.{seen_in_turn};
 ghost use Rattle.flat_play.specs.Showing.{HaveSeen};
 ghost use Rattle.flat_play.specs.Touches.{touch_of};
 ghost use Rattle.flat_run.specs.Answering.{Answers, IsRunnable};
-ghost use Rattle.flat_run.specs.Forms.{Fits, form_read, is_read, keeping_for};
+ghost use Rattle.flat_run.specs.Forms.{Fits, form_read, is_read};
+ghost use Rattle.flat_run.specs.Kept.{keeping_for};
 ghost use Rattle.flat_run.specs.Promise.{IsTold};
 
 use crate::answers::{Answer, DONE, Unanswered};

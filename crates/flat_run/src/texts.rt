@@ -4,7 +4,7 @@
 ghost use Rattle.std.specs.Prelude.{◌≡◌, ◌≢◌, true, map, reverse, IfOk};
 ghost use Rattle.flat_play.specs.Playing.{HasPlayed};
 ghost use Rattle.flat_play.specs.Touches.{touch_of};
-ghost use Rattle.flat_page.specs.Happenings.{without_items};
+ghost use Rattle.flat_page.specs.Steps.{without_items};
 ghost use Rattle.flat_playable.specs.Playable.{is_playable};
 ghost use Rattle.flat_pointer.specs.Text.{pointer_text};
 ghost use Rattle.flat_focus.specs.Text.{focus_text};
@@ -18,7 +18,8 @@ ghost use Rattle.flat_texts.specs.Damages.{IsDamageText};
 ghost use Rattle.flat_texts.specs.Lines.{finish_lines};
 ghost use Rattle.flat_texts.specs.Pictures.{picture_text};
 ghost use Rattle.flat_run.specs.Answering.{IsRunnable, ran_of};
-ghost use Rattle.flat_run.specs.Forms.{is_read, keeping_for, Fits, IsTextOf};
+ghost use Rattle.flat_run.specs.Forms.{is_read, Fits, IsTextOf};
+ghost use Rattle.flat_run.specs.Kept.{keeping_for};
 
 use crate::reading::Reading;
 use flat_base::{Items, NoMemory};

@@ -61,7 +61,7 @@ pub fn serve<T: Threads + Sync, R: Source, W: Sink>(
         Ok(Some(Form::Race)) => None,
         Ok(Some(form)) => {
             let answer = answer_in_order(rt, alloc, form, source, displays);
-            Some(write_answer(sink, answer))
+            Some(write_answer(sink, alloc, answer))
         }
         Ok(None) => Some(write_text(sink, USAGE, USED_WRONGLY)),
         Err(_) => Some(NO_MEMORY),
@@ -118,7 +118,7 @@ pub fn flatland<T: Threads + Wait + Sync, R: Source, W: Sink, G: Gate>(
         Some(status) => status,
         None => {
             let answer = answer_race(rt, alloc, source, displays, gate);
-            write_answer(sink, answer)
+            write_answer(sink, alloc, answer)
         }
     }
 }

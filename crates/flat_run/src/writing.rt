@@ -1,5 +1,6 @@
-//! Writing an answer. It takes no memory.
-ghost use Rattle.std.specs.Prelude.{◌≡◌, ◌≢◌, ◌≤◌, ◌||◌, ◌==◌, ℕ, List, IsTrue, Err, Ok};
+//! Writing an answer. No status hangs on memory here: what is gathered is written as it comes
+//! if there is none.
+ghost use Rattle.std.specs.Prelude.{◌≡◌, ◌≢◌, ◌≤◌, ◌||◌, ◌==◌, ◌++◌, ℕ, List, IsTrue, Err, Ok, false};
 ghost use Rattle.flat_io.specs.Told.{Appends};
 ghost use Rattle.flat_io.specs.Whole.{AppendsPrefix};
 ghost use Rattle.flat_run.specs.declared.answers.Answer.{Answer};
@@ -10,6 +11,7 @@ ghost use Rattle.flat_run.specs.Writing.{Writes};
 use crate::answers::{Answer, NO_MEMORY, READ_FAULT, Unanswered, WRITE_FAULT};
 use flat_io::{Sink, write_all};
 use flat_report::Pieces;
+use std::alloc::Global;
 
 /// Writes a text that stands whole, and answers its status.
 pub(crate) fn write_text<W: Sink>(sink: &mut W, text: &[u8], status: u8) -> u8
@@ -33,8 +35,57 @@ pub(crate) fn write_text<W: Sink>(sink: &mut W, text: &[u8], status: u8) -> u8
     }
 }
 
-/// Writes a text in pieces, piece by piece, and answers its status.
-fn write_pieces<W: Sink>(sink: &mut W, text: &Pieces, status: u8) -> u8
+/// Short runs of a text that follow one another are written at once, up to so many bytes.
+const TOGETHER_BYTES: usize = 65_536;
+
+/// A run that long is written by itself: another write costs less than a copy of it.
+const LONG_BYTES: usize = 16_384;
+
+/// Lets a run of a text wait behind what waits, if it is short and there is memory for it.
+fn gather(waiting: &mut Vec<u8>, run: &[u8]) -> bool
+    ensures waits { IsTrue result → waiting.new.items ≡ waiting.old.items ++ run.now }
+    ensures stays { result ≡ false → waiting.new.items ≡ waiting.old.items }
+{
+    if run.len() >= LONG_BYTES {
+        return false;
+    }
+    if run.len() > TOGETHER_BYTES.saturating_sub(waiting.len()) {
+        return false;
+    }
+    waiting.extend_from_slice(run).is_ok()
+}
+
+/// Writes what waits and a run behind it, or lets the run wait too. It answers the status.
+fn write_run<W: Sink>(sink: &mut W, waiting: &mut Vec<u8>, run: &[u8], status: u8) -> u8
+    requires { status ≢ WRITE_FAULT }
+    ensures whole { result ≡ status → (written : List ℕ)
+        × Appends written (W.held sink.old) (W.held sink.new)
+        × (waiting.old.items ++ run.now ≡ written ++ waiting.new.items) }
+    ensures part { result ≡ WRITE_FAULT →
+        AppendsPrefix (waiting.old.items ++ run.now) (W.held sink.old) (W.held sink.new) }
+    ensures fault { result ≡ WRITE_FAULT →
+        IsTrue (either_rose (W.faults sink.old) (W.faults sink.new)
+        (W.stalls sink.old) (W.stalls sink.new)) }
+    ensures either { IsTrue (result == status || result == WRITE_FAULT) }
+    ensures gains { (more : List ℕ) × Appends more (W.held sink.old) (W.held sink.new) }
+    ensures faults { W.faults sink.old ≤ W.faults sink.new }
+    ensures stalls { W.stalls sink.old ≤ W.stalls sink.new }
+    ensures steady { result ≢ WRITE_FAULT → W.faults sink.new ≡ W.faults sink.old }
+    ensures flows { result ≢ WRITE_FAULT → W.stalls sink.new ≡ W.stalls sink.old }
+{
+    if gather(waiting, run) {
+        return status;
+    }
+    if write_text(sink, waiting.as_slice(), status) == WRITE_FAULT {
+        return WRITE_FAULT;
+    }
+    waiting.clear();
+    write_text(sink, run, status)
+}
+
+/// Writes a text in pieces, short runs together, and answers its status. If memory is refused
+/// for these, each is written by itself.
+fn write_pieces<W: Sink>(sink: &mut W, alloc: Global, text: &Pieces, status: u8) -> u8
     requires { status ≢ WRITE_FAULT }
     ensures whole { result ≡ status → Appends text.now (W.held sink.old) (W.held sink.new) }
     ensures part { result ≡ WRITE_FAULT →
@@ -49,18 +100,23 @@ fn write_pieces<W: Sink>(sink: &mut W, text: &Pieces, status: u8) -> u8
     ensures steady { result ≢ WRITE_FAULT → W.faults sink.new ≡ W.faults sink.old }
     ensures flows { result ≢ WRITE_FAULT → W.stalls sink.new ≡ W.stalls sink.old }
 {
-    let pieces = text.as_slice();
-    for place in 0..pieces.len() {
-        if write_text(sink, pieces[place].as_slice(), status) == WRITE_FAULT {
+    let runs = text.as_slice();
+    let mut waiting = Vec::new(alloc);
+    for run in runs {
+        if write_run(sink, &mut waiting, run.as_slice(), status) == WRITE_FAULT {
             return WRITE_FAULT;
         }
     }
-    status
+    write_text(sink, waiting.as_slice(), status)
 }
 
 /// Writes an answer, and answers the status of its call. Where there is nothing to write,
 /// the status says why.
-pub(crate) fn write_answer<W: Sink>(sink: &mut W, answer: Result<Answer, Unanswered>) -> u8
+pub(crate) fn write_answer<W: Sink>(
+    sink: &mut W,
+    alloc: Global,
+    answer: Result<Answer, Unanswered>,
+) -> u8
     requires { (one : Answer) → answer ≡ Ok one → one.status ≢ WRITE_FAULT }
     ensures writes { (one : Answer) → answer ≡ Ok one → Writes one.text one.status
         (record { held = W.held sink.old; faults = W.faults sink.old; stalls = W.stalls sink.old })
@@ -70,7 +126,7 @@ pub(crate) fn write_answer<W: Sink>(sink: &mut W, answer: Result<Answer, Unanswe
     ensures memory { answer ≡ Err Memory → (result ≡ NO_MEMORY) × (sink.new ≡ sink.old) }
 {
     match answer {
-        Ok(answer) => write_pieces(sink, &answer.text, answer.status),
+        Ok(answer) => write_pieces(sink, alloc, &answer.text, answer.status),
         Err(Unanswered::Fault) => READ_FAULT,
         Err(Unanswered::Memory) => NO_MEMORY,
     }

@@ -1,5 +1,5 @@
 -- A tree has one node for each path.
-use Rattle.std.proofs.Common.{◌≡◌, ◌∙◌, sym, subst, ℕ, Bool, true, false, List, [], ◌∷◌, refl, ap}
+use Rattle.std.proofs.Common.{◌≡◌, ◌∙◌, sym, subst, ℕ, ◌-◌, ◌&&◌, Bool, true, false, List, [], ◌∷◌, length, refl, ap, arith}
 use Rattle.std.specs.Prelude.{zero, suc, Option, Some, None, slice_get, unwrap_or}
 use Rattle.std.specs.Option.{option_map, option_and_then}
 use Rattle.flat_scene.specs.declared.trees.Node.{Node}
@@ -7,7 +7,7 @@ use Rattle.flat_scene.specs.declared.trees.Children.{Children}
 use Rattle.flat_scene.specs.declared.trees.Children.TheVariants.{Empty}
 use Rattle.flat_scene.specs.Draft.{Draft, Transform, of_serial}
 use Rattle.flat_scene.specs.Laws.{OneNodeAPath}
-use Rattle.flat_scene.specs.Paths.{led_to, node_at}
+use Rattle.flat_scene.specs.Paths.{led_to, node_at, stays}
 use Rattle.flat_scene.specs.Tree.{node, each, node_within, children_at}
 use Rattle.flat_scene.specs.Trees.{more, nodes}
 
@@ -48,30 +48,44 @@ each-get node_of (serial ∷ serials) all e place =
     by_place n after here later (suc k) = later k
 
 -- one step of a path: the node and the transform there go on alike
-at-place : (draft : Draft) (node_of : ℕ → Option Node) (rest : List ℕ)
-    → ((child : ℕ) (n : Node) → node_of child ≡ Some n → option_map (λ (m : Node). m.serial) (node_at n rest) ≡ led_to draft child rest)
+at-place : (draft : Draft) (node_of node_there : ℕ → Option Node) (rest : List ℕ)
+    → ((child : ℕ) (n : Node) → node_of child ≡ Some n → node_at n rest ≡ option_and_then node_there (led_to draft child rest))
     → (serial : Option ℕ) (found : Option Node) → HasNode node_of serial found
-    → option_map (λ (m : Node). m.serial) (option_and_then (λ child. node_at child rest) found) ≡ option_and_then (λ child. led_to draft child rest) serial
+    → option_and_then (λ child. node_at child rest) found ≡ option_and_then node_there (option_and_then (λ child. led_to draft child rest) serial)
 unfolding HasNode
-at-place draft node_of rest again None found none = rw none refl
-at-place draft node_of rest again (Some serial) found (n, is, same) = rw same (again serial n is)
+at-place draft node_of node_there rest again None found none = rw none refl
+at-place draft node_of node_there rest again (Some serial) found (n, is, same) = rw same (again serial n is)
+
+never : (b : Bool) → (b && false) ≡ false
+never true = refl
+never false = refl
 
 pub one-node-a-path : OneNodeAPath
 one-node-a-path draft zero is_root serial root e path = absurd (cc)
 one-node-a-path draft (suc levels) is_root serial root e path =
     let of = and_then-some (of_serial draft.transforms serial) (λ t. option_map (node draft is_root serial t) (each (node_within levels draft false) t.children)) root e in
     let below = map-some (each (node_within levels draft false) of.0.children) (node draft is_root serial of.0) root of.2 in
-    subst (λ (r : Node). option_map (λ (n : Node). n.serial) (node_at r path) ≡ led_to draft serial path) below.2
-    (by_path of.0 below.0 of.1 (each-get (node_within levels draft false) of.0.children below.0 below.1) (one-node-a-path draft levels false) path)
+    subst (λ (r : Node). node_at r path ≡ option_and_then (node_within (suc levels - length path) draft (stays path && is_root)) (led_to draft serial path)) below.2
+    (by_path of.0 below.0 of.1 (e ∙ ap Some (sym below.2)) (each-get (node_within levels draft false) of.0.children below.0 below.1) (one-node-a-path draft levels false) path)
   where
     by_path : (t : Transform) (all : Children) → of_serial draft.transforms serial ≡ Some t
+        → node_within (suc levels) draft is_root serial ≡ Some (node draft is_root serial t all)
         → ((place : ℕ) → HasNode (node_within levels draft false) (slice_get t.children place) (slice_get (nodes all) place))
-        → ((child : ℕ) (n : Node) → node_within levels draft false child ≡ Some n → (path' : List ℕ) → option_map (λ (m : Node). m.serial) (node_at n path') ≡ led_to draft child path')
-        → (path' : List ℕ) → option_map (λ (m : Node). m.serial) (node_at (node draft is_root serial t all) path') ≡ led_to draft serial path'
-    by_path t all is has again [] = refl
-    by_path t all is has again (place ∷ rest) =
+        → ((child : ℕ) (n : Node) → node_within levels draft false child ≡ Some n → (path' : List ℕ)
+        → node_at n path' ≡ option_and_then (node_within (levels - length path') draft (stays path' && false)) (led_to draft child path'))
+        → (path' : List ℕ)
+        → node_at (node draft is_root serial t all) path' ≡ option_and_then (node_within (suc levels - length path') draft (stays path' && is_root)) (led_to draft serial path')
+    by_path t all is here has again [] =
+        let all_levels : suc levels ≡ suc levels - 0 = omega arith in
+        sym here ∙ ap (λ (l : ℕ). node_within l draft is_root serial) all_levels
+    by_path t all is here has again (place ∷ rest) =
         let kids : children_at draft serial ≡ t.children = ap (λ (o : Option Transform). unwrap_or (option_map (λ (u : Transform). u.children) o) []) is in
+        let there : ℕ → Option Node = node_within (levels - length rest) draft false in
+        let deeper : (child : ℕ) (n : Node) → node_within levels draft false child ≡ Some n → node_at n rest ≡ option_and_then there (led_to draft child rest) =
+        λ child n at. again child n at rest ∙ ap (λ (b : Bool). option_and_then (node_within (levels - length rest) draft b) (led_to draft child rest)) (never (stays rest)) in
+        let less : levels - length rest ≡ suc levels - suc (length rest) = omega arith in
         subst
-        (λ (serials : List ℕ). option_map (λ (m : Node). m.serial) (option_and_then (λ child. node_at child rest) (slice_get (nodes all) place)) ≡ option_and_then (λ child. led_to draft child rest) (slice_get serials place))
+        (λ (serials : List ℕ). option_and_then (λ child. node_at child rest) (slice_get (nodes all) place) ≡ option_and_then there (option_and_then (λ child. led_to draft child rest) (slice_get serials place)))
         (sym kids)
-        (at-place draft (node_within levels draft false) rest (λ child n at. again child n at rest) (slice_get t.children place) (slice_get (nodes all) place) (has place))
+        (at-place draft (node_within levels draft false) there rest deeper (slice_get t.children place) (slice_get (nodes all) place) (has place))
+        ∙ ap (λ (l : ℕ). option_and_then (node_within l draft false) (led_to draft serial (place ∷ rest))) less

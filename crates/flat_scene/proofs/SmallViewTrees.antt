@@ -2,7 +2,8 @@
 use Rattle.std.proofs.Common.{ℕ, ◌≡◌, refl, true, false, pos, List, [], ◌∷◌, Option, Some, None}
 use Rattle.flat_base.specs.declared.ids.SessionNo.{SessionNo}
 use Rattle.flat_scene.specs.declared.frames.ViewNode.{ViewNode}
-use Rattle.flat_scene.specs.ViewTrees.{is_node, is_tree}
+use Rattle.flat_scene.specs.ViewTrees.{is_node}
+use Rattle.flat_scene.specs.ViewShapes.{is_tree}
 
 abbrev session : ℕ → SessionNo
 session s = record { 0 = s }

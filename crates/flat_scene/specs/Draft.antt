@@ -11,6 +11,7 @@ use Rattle.flat_base.specs.declared.shapes.Orientation.TheVariants.{Ccw0}
 use Rattle.flat_base.specs.declared.limits.TheConstants.{ONE, OPACITY_MAX}
 use Rattle.flat_scene.specs.declared.calls.HitRegion.{HitRegion}
 use Rattle.flat_scene.specs.declared.calls.ImageFlip.{ImageFlip}
+use Rattle.flat_scene.specs.declared.calls.Inset.{Inset}
 use Rattle.flat_scene.specs.declared.calls.BlendMode.{BlendMode}
 use Rattle.flat_scene.specs.declared.calls.ViewportProps.{ViewportProps}
 
@@ -40,6 +41,10 @@ pub record Image : Type 0 where
 pub record Solid : Type 0 where
   pub rgba : List ℕ
   pub size : ℕ × ℕ
+
+-- the inset of a viewport that cuts nothing off
+abbrev pub no_inset : Inset
+no_inset = record { top = 0; right = 0; bottom = 0; left = 0 }
 
 -- A content that was made. A filled rectangle has no colour and no size before its first SetSolidFill.
 pub data Made : Type 0 where

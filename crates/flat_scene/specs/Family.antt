@@ -1,5 +1,5 @@
 -- Which sessions can change what another is told.
-use Rattle.std.specs.Prelude.{◌≡◌, Bool, true, false, ◌&&◌, ◌||◌, ◌==◌, List, filter}
+use Rattle.std.specs.Prelude.{Bool, true, false, ◌&&◌, ◌||◌, ◌==◌, List, filter}
 use Rattle.std.specs.List.{list_any}
 use Rattle.flat_base.specs.declared.ids.Actor.{Actor}
 use Rattle.flat_base.specs.declared.ids.Actor.TheVariants.{Display, Session, Probe}
@@ -29,10 +29,6 @@ is_linked setup s t = list_any (λ pair. joins s t pair || joins t s pair) setup
 -- the family of s: s, and what is reached from it from link to link
 abbrev pub family : Setup → SessionNo → SessionNo → Bool
 family setup s t = s.0 == t.0 || is_reached_by (is_linked setup) (sessions_to setup.sessions) s t
-
--- a set of sessions that holds, with a session, each that is linked to it
-pub record IsClosedFamily (setup : Setup) (of_family : SessionNo → Bool) : Type 0 where
-  pub grows : (s t : SessionNo) → of_family s ≡ true → is_linked setup s t ≡ true → of_family t ≡ true
 
 -- what the compositor does to all sessions: frames, signals, and pixel ratios
 abbrev pub is_frame_entry : Kind → Bool

@@ -1,5 +1,5 @@
 -- What frames take and release.
-use Rattle.std.specs.Prelude.{ℕ, zero, suc, ◌+◌, ◌-◌, Bool, false, cond, ◌&&◌, ◌||◌, ◌==◌, nat_le, List, [], ◌∷◌, ◌++◌, length, drop, take_while, flat_map, Option, Some, None, unwrap_or}
+use Rattle.std.specs.Prelude.{ℕ, zero, suc, ◌+◌, ◌-◌, Bool, false, cond, ◌&&◌, ◌||◌, ◌==◌, nat_le, List, [], ◌∷◌, ◌++◌, length, drop, take_while, Option, Some, None, unwrap_or}
 use Rattle.std.specs.List.{list_any, list_all}
 use Rattle.flat_base.specs.declared.ids.SessionNo.{SessionNo}
 use Rattle.flat_base.specs.declared.ids.FenceNo.{FenceNo}
@@ -106,7 +106,3 @@ module _ (setup : Setup) where
   -- how many presents a session may make
   abbrev pub credits : List Entry → SessionNo → ℕ
   credits history s = most_waiting history s - length (waiting history s)
-
-  -- the fences that the end of the frame begun last releases
-  abbrev pub releases : List Entry → List FenceNo
-  releases history = flat_map (λ s. flat_map (λ present. present.args.release) (going history s)) (sessions_to setup.sessions)

@@ -1,5 +1,5 @@
 -- What a history is, and what it says of one actor.
-use Rattle.std.specs.Prelude.{ℕ, ◌^◌, Bool, true, false, ◌==◌, List, [], ◌∷◌, ◌++◌, filter, reverse}
+use Rattle.std.specs.Prelude.{Bool, true, false, ◌==◌, List, [], ◌∷◌, ◌++◌, filter}
 use Rattle.std.specs.List.{list_any}
 use Rattle.flat_base.specs.declared.ids.Actor.{Actor}
 use Rattle.flat_base.specs.declared.ids.Actor.TheVariants.{Display, Session, Probe}
@@ -16,16 +16,6 @@ infixl 4 ◌▹◌
 -- A history is the list of its entries, the newest first: `before ▹ entry` is `before`, and then `entry`.
 pattern abbrev pub ◌▹◌ : List Entry → Entry → List Entry
 before ▹ entry = entry ∷ before
-
--- the history of a journal, which has the oldest entry first
-abbrev pub history_of : List Entry → List Entry
-history_of entries = reverse entries
-
--- the seat of an actor: the display's is 0 and a session's its number; a probe makes no entry and has a seat apart
-abbrev pub seat_number : Actor → ℕ
-seat_number Display = 0
-seat_number (Session s) = s.0
-seat_number (Probe p) = 2 ^ 32
 
 -- the kinds of entry by which others are told apart
 abbrev pub is_begin : Kind → Bool

@@ -1,7 +1,7 @@
 -- what holds of every history and of every draft, in the words of the rules
-use Rattle.std.specs.Prelude.{◌≡◌, ◌↔◌, ℕ, ◌≤◌, Bool, true, false, not, ◌&&◌, IfSome, List, [], ◌∷◌, ◌++◌, length, drop, slice_get, Option, Some}
+use Rattle.std.specs.Prelude.{◌≡◌, ◌↔◌, ℕ, ◌-◌, ◌≤◌, Bool, true, false, not, ◌&&◌, IfSome, List, [], ◌∷◌, ◌++◌, length, drop, slice_get, Option, Some}
 use Rattle.std.specs.List.{list_all, list_any}
-use Rattle.std.specs.Option.{option_map}
+use Rattle.std.specs.Option.{option_and_then, option_map}
 use Rattle.flat_base.specs.declared.ids.FenceNo.{FenceNo}
 use Rattle.flat_base.specs.declared.ids.SessionNo.{SessionNo}
 use Rattle.flat_scene.specs.declared.journal.Entry.{Entry}
@@ -9,11 +9,11 @@ use Rattle.flat_scene.specs.declared.setup.Setup.{Setup}
 use Rattle.flat_scene.specs.declared.trees.Node.{Node}
 use Rattle.flat_scene.specs.Cycles.{HasCycle}
 use Rattle.flat_scene.specs.Draft.{Draft}
-use Rattle.flat_scene.specs.Family.{family, IsClosedFamily}
+use Rattle.flat_scene.specs.Family.{family, is_linked}
 use Rattle.flat_scene.specs.Frames.{is_signalled, is_ready, is_unsquashable, ready_prefix, taken}
 use Rattle.flat_scene.specs.History.{◌▹◌, is_session, is_closed, presents, Published}
-use Rattle.flat_scene.specs.Paths.{led_to, node_at}
-use Rattle.flat_scene.specs.Setups.{owners_declared}
+use Rattle.flat_scene.specs.Paths.{led_to, node_at, stays}
+use Rattle.flat_scene.specs.Heads.{owners_declared}
 use Rattle.flat_scene.specs.Squashed as squashed
 use Rattle.flat_scene.specs.Tree.{is_cyclic, children_at, node_within}
 
@@ -60,11 +60,17 @@ abbrev pub CycleIsReached : Type 0
 CycleIsReached =
     (draft : Draft) → (is_cyclic draft ≡ true) ↔ ((root : ℕ) × (draft.root ≡ Some root) × HasCycle (children_at draft) root)
 
--- the tree of a transform has one node for each path from it: the path leads to a node of the tree where it leads to a transform, and that is the node's
+-- the tree of a transform has one node for each path from it: the path leads to a node of the tree if it leads to a
+-- transform, and that node has all that the transform says, with the nodes below it
 abbrev pub OneNodeAPath : Type 0
 OneNodeAPath =
     (draft : Draft) (levels : ℕ) (is_root : Bool) (serial : ℕ) (root : Node) → node_within levels draft is_root serial ≡ Some root →
-    (path : List ℕ) → option_map (λ (node : Node). node.serial) (node_at root path) ≡ led_to draft serial path
+    (path : List ℕ) → node_at root path
+    ≡ option_and_then (node_within (levels - length path) draft (stays path && is_root)) (led_to draft serial path)
+
+-- a set of sessions that holds, with a session, each that is linked to it
+pub record IsClosedFamily (setup : Setup) (of_family : SessionNo → Bool) : Type 0 where
+  pub grows : (s t : SessionNo) → of_family s ≡ true → is_linked setup s t ≡ true → of_family t ≡ true
 
 -- the family of a session is the least set that holds the session and is closed under links
 pub record IsLeastFamily (setup : Setup) (s : SessionNo) : Type 0 where

@@ -1,10 +1,15 @@
 -- paths from the root, as the places of the children that they go by
-use Rattle.std.specs.Prelude.{ℕ, List, [], ◌∷◌, Option, Some, slice_get}
+use Rattle.std.specs.Prelude.{ℕ, Bool, true, false, List, [], ◌∷◌, Option, Some, slice_get}
 use Rattle.std.specs.Option.{option_and_then}
 use Rattle.flat_scene.specs.declared.trees.Node.{Node}
 use Rattle.flat_scene.specs.Draft.{Draft}
 use Rattle.flat_scene.specs.Tree.{children_at}
 use Rattle.flat_scene.specs.Trees.{nodes}
+
+-- whether a path stays where it begins
+abbrev pub stays : List ℕ → Bool
+stays [] = true
+stays (place ∷ path) = false
 
 -- the serial of the transform to which a path leads, from that of another
 abbrev pub led_to : Draft → ℕ → List ℕ → Option ℕ

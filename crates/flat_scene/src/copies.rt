@@ -128,7 +128,6 @@ impl TryCopy for Setup {
             pairs: self.pairs.copy(alloc)?,
             buffers: self.buffers.copy(alloc)?,
             fences: self.fences.copy_each(alloc)?,
-            version: self.version,
             ratio: self.ratio,
         })
     }

@@ -47,8 +47,6 @@ pub struct Setup {
     pub pairs: PairList,
     pub buffers: BufferList,
     pub fences: FenceDeclList,
-    /// Of the script's grammar, 1 to [`VERSION_MAX`](flat_base::VERSION_MAX).
-    pub version: u32,
     /// The display's pixel ratio at the start, in fixed point, from
     /// [`RATIO_MIN`](flat_base::RATIO_MIN) to [`RATIO_MAX`](flat_base::RATIO_MAX). It is
     /// [`ONE`](flat_base::ONE) where the script gives none, as none below version 3 does.

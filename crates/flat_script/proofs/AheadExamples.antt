@@ -13,7 +13,8 @@ use Rattle.flat_script.specs.Plain.{is_text_byte}
 -- a head with one session
 abbrev a_head : Script
 a_head = record {
-  setup = record { width = 9; height = 9; sessions = 1; probes = 0; pairs = []; buffers = []; fences = []; version = 1; ratio = 65536 };
+  version = 1;
+  setup = record { width = 9; height = 9; sessions = 1; probes = 0; pairs = []; buffers = []; fences = []; ratio = 65536 };
   sessions = codes "A" ∷ [];
   probes = [];
   buffers = [];

@@ -26,7 +26,8 @@ gives text = outcome (text_read text)
 -- whole scripts, value by value
 
 one_fill_one_frame : IsScript (codes "flatland 1\ndisplay 100 100\nsession A\npair t0 display A\nrun\nA CreateView t0\nA CreateTransform 1\nA SetRootTransform 1\nA CreateFilledRect 2\nA SetSolidFill 2 255 0 0 255 10 10\nA SetContent 1 2\nA Present 0\ndisplay begin 1000\ndisplay done\n") (record {
-  setup = record { width = 100; height = 100; sessions = 1; probes = 0; pairs = record { viewport = Display; view = record { 0 = 1 } } ∷ []; buffers = []; fences = []; version = 1; ratio = 65536 };
+  version = 1;
+  setup = record { width = 100; height = 100; sessions = 1; probes = 0; pairs = record { viewport = Display; view = record { 0 = 1 } } ∷ []; buffers = []; fences = []; ratio = 65536 };
   sessions = codes "A" ∷ [];
   probes = [];
   buffers = [];
@@ -47,7 +48,8 @@ one_fill_one_frame : IsScript (codes "flatland 1\ndisplay 100 100\nsession A\npa
 one_fill_one_frame = refl
 
 signs_and_skipped_lines : IsScript (codes "# a comment\nflatland 1\ndisplay 100 90\nsession A\n\npair t0 display A\nrun\nA SetTranslation 7 -5 40\n") (record {
-  setup = record { width = 100; height = 90; sessions = 1; probes = 0; pairs = record { viewport = Display; view = record { 0 = 1 } } ∷ []; buffers = []; fences = []; version = 1; ratio = 65536 };
+  version = 1;
+  setup = record { width = 100; height = 90; sessions = 1; probes = 0; pairs = record { viewport = Display; view = record { 0 = 1 } } ∷ []; buffers = []; fences = []; ratio = 65536 };
   sessions = codes "A" ∷ [];
   probes = [];
   buffers = [];
@@ -59,7 +61,8 @@ signs_and_skipped_lines : IsScript (codes "# a comment\nflatland 1\ndisplay 100 
 signs_and_skipped_lines = refl
 
 a_probe_and_its_lines : IsScript (codes "flatland 1\ndisplay 100 90\nsession A\npair t0 display A\nprobe eye\nrun\neye hit -1 40\neye await 2\n") (record {
-  setup = record { width = 100; height = 90; sessions = 1; probes = 1; pairs = record { viewport = Display; view = record { 0 = 1 } } ∷ []; buffers = []; fences = []; version = 1; ratio = 65536 };
+  version = 1;
+  setup = record { width = 100; height = 90; sessions = 1; probes = 1; pairs = record { viewport = Display; view = record { 0 = 1 } } ∷ []; buffers = []; fences = []; ratio = 65536 };
   sessions = codes "A" ∷ [];
   probes = codes "eye" ∷ [];
   buffers = [];
@@ -73,7 +76,8 @@ a_probe_and_its_lines : IsScript (codes "flatland 1\ndisplay 100 90\nsession A\n
 a_probe_and_its_lines = refl
 
 viewports_gets_and_points : IsScript (codes "flatland 1\ndisplay 9 9\nsession A\npair t0 display A\npair t1 A A\nrun\nA CreateViewport 1 t1 5 6\nA CreateViewport 2 t1 5 6 0 1 2 65536\nA SetViewportProperties 1 7 8\nA SetViewportProperties 1 7 8 0 0 0 0\nA ReleaseViewport 1\nA GetLayout\nA GetStatus\nA GetChildStatus 2\nA Wait answers 3\ndisplay hit -1 4\n") (record {
-  setup = record { width = 9; height = 9; sessions = 1; probes = 0; pairs = record { viewport = Display; view = record { 0 = 1 } } ∷ record { viewport = Session (record { 0 = 1 }); view = record { 0 = 1 } } ∷ []; buffers = []; fences = []; version = 1; ratio = 65536 };
+  version = 1;
+  setup = record { width = 9; height = 9; sessions = 1; probes = 0; pairs = record { viewport = Display; view = record { 0 = 1 } } ∷ record { viewport = Session (record { 0 = 1 }); view = record { 0 = 1 } } ∷ []; buffers = []; fences = []; ratio = 65536 };
   sessions = codes "A" ∷ [];
   probes = [];
   buffers = [];
@@ -183,7 +187,8 @@ version_zero = refl
 -- the second version
 
 words_of_the_second_version : IsScript (codes "flatland 2\ndisplay 100 90\nsession A\npair t0 display A\nfence f A\nrun\nA Present 0 unsquashable\nA Present 0 unsquashable acquire f\nA Present 1\nA ReplaceChildren 1\nA ReplaceChildren 1 3 2\n") (record {
-  setup = record { width = 100; height = 90; sessions = 1; probes = 0; pairs = record { viewport = Display; view = record { 0 = 1 } } ∷ []; buffers = []; fences = record { owners = Session (record { 0 = 1 }) ∷ [] } ∷ []; version = 2; ratio = 65536 };
+  version = 2;
+  setup = record { width = 100; height = 90; sessions = 1; probes = 0; pairs = record { viewport = Display; view = record { 0 = 1 } } ∷ []; buffers = []; fences = record { owners = Session (record { 0 = 1 }) ∷ [] } ∷ []; ratio = 65536 };
   sessions = codes "A" ∷ [];
   probes = [];
   buffers = [];
@@ -406,7 +411,8 @@ begin_with_a_bad_time_inside_a_frame = refl
 -- the third version
 
 words_of_the_third_version : IsScript (codes "flatland 3\ndisplay 100 90 131072\nsession A\npair t0 display A\nrun\ndisplay dpr 16384\nA Present 0 unsquashable\n") (record {
-  setup = record { width = 100; height = 90; sessions = 1; probes = 0; pairs = record { viewport = Display; view = record { 0 = 1 } } ∷ []; buffers = []; fences = []; version = 3; ratio = 131072 };
+  version = 3;
+  setup = record { width = 100; height = 90; sessions = 1; probes = 0; pairs = record { viewport = Display; view = record { 0 = 1 } } ∷ []; buffers = []; fences = []; ratio = 131072 };
   sessions = codes "A" ∷ [];
   probes = [];
   buffers = [];

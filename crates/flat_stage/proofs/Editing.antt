@@ -15,7 +15,7 @@ use Rattle.flat_scene.specs.declared.script.Line.{Line}
 use Rattle.flat_scene.specs.declared.script.Line.TheVariants as line
 use Rattle.flat_scene.specs.declared.setup.Setup.{Setup}
 use Rattle.flat_scene.specs.Draft.{Draft}
-use Rattle.flat_scene.specs.History.{history_of}
+use Rattle.flat_scene.specs.Journals.{history_of}
 use Rattle.flat_scene.specs.Interleave.{calls_of_line, entry_of_call, entry_of_line, get_tests, or_close}
 use Rattle.flat_scene.specs.Misuse.{first_reason, misuse}
 use Rattle.flat_scene.specs.Tree.{present_tests}

@@ -1,19 +1,17 @@
 -- What a session's line makes may be entered.
-use Rattle.std.proofs.Common.{◌≡◌, ℕ, ◌-◌, ◌<◌, ◌≤◌, Bool, true, false, cond, not, ◌&&◌, ◌||◌, ◌==◌, List, [], ◌∷◌, ◌++◌, length, refl, sym, ap, ◌∙◌, arith, append_assoc, length-append, Option, Some, None, Result, Ok, Err, nat_lt, slice_get, unwrap_or, option_map, is_some}
+use Rattle.std.proofs.Common.{◌≡◌, ℕ, ◌-◌, ◌<◌, Bool, true, false, cond, not, ◌&&◌, ◌||◌, ◌==◌, List, [], ◌∷◌, ◌++◌, length, refl, sym, ap, ◌∙◌, arith, append_assoc, length-append, Option, Some, None, Result, Ok, Err, slice_get, option_map, is_some}
 use Rattle.std.specs.List.{list_any, list_all}
 use Rattle.std.specs.Option.{option_and_then}
 use Rattle.std.specs.Result.{result_ok}
 use Rattle.std.proofs.lemmas.Bool.{eq-eqb}
-use Rattle.std.proofs.lemmas.Option.{slice_get-get_or, slice_get_past}
+use Rattle.std.proofs.lemmas.Option.{slice_get-get_or}
 use Rattle.std.proofs.Math.Seq.{get_or-append_seam}
 use Rattle.flat_base.specs.declared.errors.Reason.{Reason}
-use Rattle.std.proofs.lemmas.Bool.Decides.{nat_tests}
 use Rattle.flat_base.specs.declared.ids.ContentId.{ContentId}
 use Rattle.flat_base.specs.declared.ids.FenceNo.{FenceNo}
 use Rattle.flat_base.specs.declared.ids.PairNo.{PairNo}
 use Rattle.flat_scene.specs.declared.script.Cond.{Cond}
 use Rattle.flat_scene.specs.declared.script.Cond.TheVariants as asks
-use Rattle.flat_scene.specs.declared.setup.FenceDecl.{FenceDecl}
 use Rattle.flat_base.specs.declared.ids.SessionNo.{SessionNo}
 use Rattle.flat_base.specs.declared.ids.Actor.TheVariants.{Session}
 use Rattle.flat_scene.specs.declared.calls.Call.{Call}
@@ -28,17 +26,20 @@ use Rattle.flat_scene.specs.declared.journal.Kind.TheVariants.{View, Viewport, P
 use Rattle.flat_scene.specs.declared.setup.Setup.{Setup}
 use Rattle.flat_scene.specs.Draft.{Draft, Made, a_viewport, an_image, a_fill, made_of, empty_draft}
 use Rattle.flat_scene.specs.Effect.{draft_of, after_call, after_calls}
-use Rattle.flat_scene.specs.History.{calls, own, is_closed, is_end, is_session}
-use Rattle.flat_scene.specs.Misuse.{first_reason, Test}
+use Rattle.flat_scene.specs.History.{calls, own, is_closed, is_end}
+use Rattle.flat_scene.specs.Misuse.{first_reason, misuse}
 use Rattle.flat_scene.specs.Setups.{is_declared}
-use Rattle.flat_scene.specs.Tree.{tree_tests, present_tests}
+use Rattle.flat_scene.specs.Tree.{present_tests}
 use Rattle.flat_core.specs.Machines.{Machine, MayCall, HasShare}
-use Rattle.flat_rules.specs.Legal.{is_link, all_but_last, owns_in_call, owns_in_kind, owns_view, owns_viewport, owns_fence, same_inset, is_fence, names_declared, session_may, has_tree}
+use Rattle.flat_rules.specs.Legal.{is_link, all_but_last, owns_in_call, owns_in_kind, owns_view, owns_viewport, owns_fence, same_inset, may_close, session_may, has_tree}
 use Rattle.flat_rules.specs.Ends.{viewport_uses}
 use Rattle.flat_core.specs.Watchers.{watcher_meant}
 use Rattle.flat_rules.specs.Watch.{layout_of, status_of, child_of, watcher_in, watcher_of, watcher_of_made}
 use Rattle.flat_content.specs.Table.{pair_of}
 use Rattle.flat_draft.specs.Answers.{pair_watched}
+use Rattle.flat_rules.specs.Refusals.{may_refuse}
+use Rattle.flat_rules.proofs.lemmas.Refusals.{same-itself}
+use Rattle.flat_draft.proofs.lemmas.Following.{calls_follow}
 use Rattle.flat_rules.specs.Owned.{is_private, is_played_call, is_played_condition}
 use Rattle.flat_base.proofs.lemmas.Tests.{and-true, or-false, none-left, none-right, all-more, all-also, none-also}
 
@@ -80,16 +81,6 @@ module _ (setup : Setup) (s : SessionNo) where
   all_owned : (xs : List Call) → list_all (is_private setup s) xs ≡ true → list_all (owns_in_call setup s) xs ≡ true
   all_owned xs all = all-also (is_private setup s) (owns_in_call setup s) (λ c is. (private_is c is).1) xs all
 
-  -- an owned fence is declared
-  fence_declared : (f : FenceNo) → owns_fence setup s f ≡ true → is_fence setup f ≡ true
-  fence_declared f owned = by_length (nat_lt f.0 (length setup.fences)) refl
-    where
-      by_length : (b : Bool) → nat_lt f.0 (length setup.fences) ≡ b → is_fence setup f ≡ true
-      by_length true at = at
-      by_length false at =
-          let past : length setup.fences ≤ f.0 = grind (arith, nat_tests) in
-          absurd (let wrong : false ≡ true = sym (ap (λ (o : Option FenceDecl). unwrap_or (option_map (λ fence. list_any (is_session s) fence.owners) o) false) (slice_get_past setup.fences f.0 past)) ∙ owned in cc)
-
 -- ---- drafts of fewer calls
 
 pub after_error : (setup : Setup) (reason : Reason) (xs : List Call) → after_calls setup (Err reason) xs ≡ Err reason
@@ -124,13 +115,9 @@ fewer_by_one setup first xs draft made =
     fewer setup (Ok empty_draft) (first ++ all_but_last xs) (last_ones xs) draft
     (ap (draft_of setup) (append_assoc first (all_but_last xs) (last_ones xs) ∙ ap (λ t. first ++ t) (sym (split_last xs))) ∙ made)
 
-keep_none : (b : Bool) (r : Reason) (more less : Option Reason) → (more ≡ None → less ≡ None) → cond b (Some r) more ≡ None → cond b (Some r) less ≡ None
-keep_none true r more less also none = absurd (cc)
-keep_none false r more less also none = also none
-
-first_of_more : (xs : List Test) (y : Test) → first_reason (xs ++ y ∷ []) ≡ None → first_reason xs ≡ None
-first_of_more [] y none = refl
-first_of_more (x ∷ xs) y none = keep_none x.0 x.1 (first_reason (xs ++ y ∷ [])) (first_reason xs) (first_of_more xs y) none
+-- the calls with a last one that is a misuse
+misused_last : (setup : Setup) (first xs : List Call) (c : Call) (why : Reason) (draft : Draft) → draft_of setup (first ++ xs) ≡ Ok draft → misuse setup draft c ≡ Some why → draft_of setup (first ++ (xs ++ c ∷ [])) ≡ Err why
+misused_last setup first xs c why draft made misused = ap (draft_of setup) (sym (append_assoc first xs (c ∷ []))) ∙ (calls_follow setup (first ++ xs) draft c made).misused why misused
 
 -- a tree is asked of a present alone
 no_tree_view : (setup : Setup) (p : PairNo) (draft : Option Draft) → has_tree setup draft (View p) ≡ true
@@ -256,7 +243,7 @@ module _ (m : Machine) (s : SessionNo) (pending : List Call) (draft : Draft) (wa
       links = rw (no_links m.setup s pending waits.private) refl;
       owned = and-true lists (all_owned m.setup s pending waits.private);
       named = refl;
-      tree = rw (waits.made, first_of_more (tree_tests draft) _ allowed) refl;
+      tree = rw (waits.made, allowed) refl;
       watcher = refl;
     };
     share = waits.share;
@@ -289,7 +276,7 @@ module _ (m : Machine) (s : SessionNo) (pending : List Call) (draft : Draft) (wa
       calls = refl;
       links = rw (no_links m.setup s pending waits.private) refl;
       owned = and-true owns (all_owned m.setup s pending waits.private);
-      named = fence_declared m.setup s f owns;
+      named = refl;
       tree = no_tree_signal m.setup f _;
       watcher = refl;
     };
@@ -313,8 +300,8 @@ module _ (m : Machine) (s : SessionNo) (pending : List Call) (draft : Draft) (wa
     share = waits.share;
   }
 
-  waits_for : (c : Cond) → (session_may (Wait c) && is_declared m.setup s) ≡ true → owns_in_kind m.setup s (Wait c) ≡ true → names_declared m.setup (Wait c) ≡ true → MayCall m (Session s) pending (Wait c)
-  waits_for c acts owns named = record {
+  waits_for : (c : Cond) → (session_may (Wait c) && is_declared m.setup s) ≡ true → owns_in_kind m.setup s (Wait c) ≡ true → MayCall m (Session s) pending (Wait c)
+  waits_for c acts owns = record {
     may = record {
       acts = acts;
       lasts = goes;
@@ -323,7 +310,7 @@ module _ (m : Machine) (s : SessionNo) (pending : List Call) (draft : Draft) (wa
       calls = refl;
       links = rw (no_links m.setup s pending waits.private) refl;
       owned = and-true owns (all_owned m.setup s pending waits.private);
-      named = named;
+      named = refl;
       tree = no_tree_wait m.setup c _;
       watcher = refl;
     };
@@ -331,39 +318,42 @@ module _ (m : Machine) (s : SessionNo) (pending : List Call) (draft : Draft) (wa
   }
 
   pub may_wait : (c : Cond) → is_played_condition m.setup s c ≡ true → MayCall m (Session s) pending (Wait c)
-  may_wait (asks.Frames n) played = waits_for (asks.Frames n) waits.declared refl refl
-  may_wait (asks.Credits n) played = waits_for (asks.Credits n) waits.declared refl refl
-  may_wait (asks.Taken n) played = waits_for (asks.Taken n) waits.declared refl refl
-  may_wait (asks.Fence f) played = waits_for (asks.Fence f) waits.declared played (fence_declared m.setup s f played)
-  may_wait (asks.Answers n) played = waits_for (asks.Answers n) waits.declared refl refl
+  may_wait (asks.Frames n) played = waits_for (asks.Frames n) waits.declared refl
+  may_wait (asks.Credits n) played = waits_for (asks.Credits n) waits.declared refl
+  may_wait (asks.Taken n) played = waits_for (asks.Taken n) waits.declared refl
+  may_wait (asks.Fence f) played = waits_for (asks.Fence f) waits.declared played
+  may_wait (asks.Answers n) played = waits_for (asks.Answers n) waits.declared refl
   may_wait (asks.Presents t n) played = absurd (cc)
 
-  -- a call that is a misuse closes
-  pub may_close_call : (c : Call) (why : Option Reason) → is_played_call m.setup s c ≡ true → MayCall m (Session s) (pending ++ c ∷ []) (Close why)
-  may_close_call c why played = record {
-    may = record {
-      acts = waits.declared;
-      lasts = goes;
-      times = refl;
-      drafted = rw (but_last pending c) drafted;
-      calls = refl;
-      links = rw (but_last pending c, no_links m.setup s pending waits.private) refl;
-      owned = all-more (owns_in_call m.setup s) pending c (all_owned m.setup s pending waits.private) (played_is m.setup s c played);
-      named = refl;
-      tree = no_tree_close m.setup why _;
-      watcher = refl;
-    };
-    share = waits.share;
-  }
+  -- a call that is a misuse closes by its reason
+  pub may_close_call : (c : Call) (why : Reason) → is_played_call m.setup s c ≡ true → misuse m.setup draft c ≡ Some why → MayCall m (Session s) (pending ++ c ∷ []) (Close (Some why))
+  may_close_call c why played misused =
+      let before : is_some (result_ok (draft_of m.setup (calls s m.history ++ all_but_last (pending ++ c ∷ [])))) ≡ true = rw (but_last pending c) drafted in
+      let closed : may_close (pending ++ c ∷ []) (draft_of m.setup (calls s m.history ++ (pending ++ c ∷ []))) (Some why) ≡ true =
+      rw (misused_last m.setup (calls s m.history) pending c why draft waits.made misused) (same-itself why) in
+      record {
+        may = record {
+          acts = waits.declared;
+          lasts = goes;
+          times = refl;
+          drafted = and-true before closed;
+          calls = refl;
+          links = rw (but_last pending c, no_links m.setup s pending waits.private) refl;
+          owned = all-more (owns_in_call m.setup s) pending c (all_owned m.setup s pending waits.private) (played_is m.setup s c played);
+          named = refl;
+          tree = no_tree_close m.setup (Some why) _;
+          watcher = refl;
+        };
+        share = waits.share;
+      }
 
-  -- a present that is a misuse closes, and so does a line that wishes it
-  pub may_close_present : (why : Option Reason) → MayCall m (Session s) pending (Close why)
-  may_close_present why = record {
+  closes_alone : (why : Option Reason) → may_close pending (Ok draft) why ≡ true → MayCall m (Session s) pending (Close why)
+  closes_alone why may = record {
     may = record {
       acts = waits.declared;
       lasts = goes;
       times = refl;
-      drafted = fewer_by_one m.setup (calls s m.history) pending draft waits.made;
+      drafted = and-true (fewer_by_one m.setup (calls s m.history) pending draft waits.made) (rw waits.made may);
       calls = refl;
       links = rw (no_links_first (all_but_last pending) (last_ones pending) (ap (list_any is_link) (sym (split_last pending)) ∙ no_links m.setup s pending waits.private)) refl;
       owned = all_owned m.setup s pending waits.private;
@@ -373,6 +363,14 @@ module _ (m : Machine) (s : SessionNo) (pending : List Call) (draft : Draft) (wa
     };
     share = waits.share;
   }
+
+  -- a present or a get that is refused closes by its reason
+  pub may_close_refused : (why : Reason) → may_refuse draft why ≡ true → MayCall m (Session s) pending (Close (Some why))
+  may_close_refused why refused = closes_alone (Some why) (rw (no_links m.setup s pending waits.private, refused) refl)
+
+  -- and a session may leave
+  pub may_leave : MayCall m (Session s) pending (Close None)
+  may_leave = closes_alone None (rw (no_links m.setup s pending waits.private) refl)
 
   -- a session that isn't closed ends
   pub may_end : MayCall m (Session s) pending (End 0)

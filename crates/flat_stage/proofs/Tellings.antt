@@ -22,6 +22,7 @@ use Rattle.flat_draft.specs.Stands.{StandsFor}
 use Rattle.flat_draft.specs.State.{DraftState}
 use Rattle.flat_rules.specs.Legal.{owns_fence}
 use Rattle.flat_rules.specs.Owned.{is_played_line}
+use Rattle.flat_rules.proofs.lemmas.Refusals.{present-refused, get-refused}
 use Rattle.flat_scene.specs.declared.trees.Tree.{Tree}
 use Rattle.flat_stage.specs.declared.made.Made.TheVariants as made
 use Rattle.flat_stage.specs.Reads.{Tells, view_made, makes_viewport}
@@ -31,19 +32,19 @@ module _ (setup : Setup) (s : SessionNo) (draft : Draft) where
   pub call_closes : (call : Call) (reason : Reason) (after : DraftState) → is_played_line setup s (line.Call call) ≡ true → misuse setup draft call ≡ Some reason → Tells setup s draft (line.Call call) after (Some (made.Close (Some reason)))
   call_closes call reason after played misused = record {
     kind = ap (λ m. or_close m (entry_of_call call)) (sym misused);
-    leaves = λ waiting. inr (call, refl, played);
+    leaves = λ waiting. inr (call, refl, played, misused);
   }
 
   pub present_closes : (args : PresentArgs) (reason : Reason) (after : DraftState) → first_reason (present_tests draft args) ≡ Some reason → Tells setup s draft (line.Present args) after (Some (made.Close (Some reason)))
   present_closes args reason after misused = record {
     kind = ap (λ m. or_close m (Some (Present args))) (sym misused);
-    leaves = λ waiting. inl (append-nil waiting);
+    leaves = λ waiting. inl (append-nil waiting, present-refused draft args reason misused);
   }
 
   pub get_closes : (get : Watch) (reason : Reason) (after : DraftState) → first_reason (get_tests draft get) ≡ Some reason → Tells setup s draft (line.Get get) after (Some (made.Close (Some reason)))
   get_closes get reason after misused = record {
     kind = ap (λ m. or_close m (Some (Get get))) (sym misused);
-    leaves = λ waiting. inl (append-nil waiting);
+    leaves = λ waiting. inl (append-nil waiting, get-refused draft get reason misused);
   }
 
   module _ (old new : DraftState) where

@@ -27,6 +27,7 @@ use Rattle.flat_draft.specs.Answers.{pair_watched, has_room_for}
 use Rattle.flat_draft.specs.State.{DraftState}
 use Rattle.flat_draft.specs.Stands.{StandsFor}
 use Rattle.flat_rules.specs.Owned.{is_private, is_played_call, is_played_condition}
+use Rattle.flat_rules.specs.Refusals.{may_refuse}
 use Rattle.flat_stage.specs.declared.made.Made.{Made}
 use Rattle.flat_stage.specs.declared.made.Made.TheVariants as made
 use Rattle.flat_stage.specs.declared.reader.Edit.{Edit}
@@ -92,7 +93,9 @@ module _ (setup : Setup) (s : SessionNo) (draft : Draft) (before pending : List 
   IsPrepared (made.Signal f) = (pending ≡ before) × (owns_fence setup s f ≡ true) × StandsFor setup after draft × (after.closed ≡ false)
   IsPrepared made.Poll = (pending ≡ before) × StandsFor setup after draft × (after.closed ≡ false)
   IsPrepared (made.Wait c) = (pending ≡ before) × (is_played_condition setup s c ≡ true) × StandsFor setup after draft × (after.closed ≡ false)
-  IsPrepared (made.Close why) = (pending ≡ before) ⊎ ((call : Call) × IsLast before pending call × (is_played_call setup s call ≡ true))
+  IsPrepared (made.Close None) = pending ≡ before
+  IsPrepared (made.Close (Some why)) =
+      ((pending ≡ before) × (may_refuse draft why ≡ true)) ⊎ ((call : Call) × IsLast before pending call × (is_played_call setup s call ≡ true) × (misuse setup draft call ≡ Some why))
 
 -- A session is about to make its entry.
 pub record IsReady (setup : Setup) (mine : List Entry) (reader : Reader) (made : Made) : Type 0 where

@@ -1,5 +1,4 @@
-ghost use Rattle.std.specs.Prelude.{◌≡◌, ◌+◌, ◌<◌, ◌^◌, [], true, false, IfOk, OnErr, ℕ, List, ◌∷◌};
-ghost use Rattle.std.specs.Prelude.{◌++◌};
+ghost use Rattle.std.specs.Prelude.{◌≡◌, ◌+◌, ◌<◌, ◌^◌, [], true, false, IfOk, OnErr, ℕ, List, ◌∷◌, ◌++◌};
 ghost use Rattle.flat_scene.specs.declared.journal.Reply.TheVariants.{Done};
 ghost use Rattle.flat_base.specs.declared.ids.Actor.TheVariants.{Session};
 ghost use Rattle.flat_core.specs.Machines.{MayLook};
@@ -10,12 +9,10 @@ ghost use Rattle.flat_stage.specs.Readings.{Rise, SeatEdits, SeatHasRead};
 ghost use Rattle.flat_rules.specs.Owned.{is_played_line};
 ghost use Rattle.flat_stage.specs.Made.{kind_of, takes_memory};
 ghost use Rattle.flat_stage.specs.Reads.{kept_calls, viewport_call, IsReady};
-ghost use Rattle.flat_scene.specs.History.{history_of};
+ghost use Rattle.flat_scene.specs.Journals.{history_of};
 ghost use Rattle.flat_scene.specs.Interleave.{IsReading};
 ghost use Rattle.flat_scene.specs.Setups.{is_declared};
-ghost use Rattle.flat_stage.specs.Seats.{is_ended, entries_of_seat, session_view, setup_of};
-ghost use Rattle.flat_stage.specs.Seats.{AreAtOne, AreOne, GoesOn, HasRoom, SeatSeesMore};
-ghost use Rattle.flat_stage.specs.Seats.{SessionEnds, SessionEnters, SessionReads, SeesMore};
+ghost use Rattle.flat_stage.specs.Seats.{is_ended, entries_of_seat, session_view, setup_of, AreAtOne, AreOne, GoesOn, HasRoom, SeatSeesMore, SessionEnds, SessionEnters, SessionReads, SeesMore};
 
 use crate::made::Made;
 use crate::reader::{Edit, Reader};
@@ -39,7 +36,7 @@ pub struct SessionSeat {
 impl Model for SessionSeat {
     ghost use Rattle.flat_stage.specs.Made.{kind_of, takes_memory};
     ghost use Rattle.flat_stage.specs.Reads.{kept_calls, viewport_call, IsReady};
-    ghost use Rattle.flat_scene.specs.History.{history_of};
+    ghost use Rattle.flat_scene.specs.Journals.{history_of};
     ghost use Rattle.flat_scene.specs.Interleave.{IsReading};
     ghost use Rattle.flat_scene.specs.Setups.{is_declared};
     ghost use Rattle.flat_stage.specs.Seats.{SessionView, session_view, AreOne};

@@ -1,6 +1,6 @@
 -- What a seat needs for its lines.
 use Rattle.std.specs.Prelude.{◌≡◌, ℕ, ◌+◌, ◌*◌, ◌≤◌, ◌<◌, ◌^◌, false, length, slice_index}
-use Rattle.flat_scene.specs.History.{history_of}
+use Rattle.flat_scene.specs.Journals.{history_of}
 use Rattle.flat_rules.specs.Legal.{begin_time}
 use Rattle.flat_stage.specs.Displays.{DisplayView}
 use Rattle.flat_stage.specs.Seats.{SessionView, is_ended, shares_of}

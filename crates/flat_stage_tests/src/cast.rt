@@ -22,7 +22,6 @@ fn two_sessions(alloc: Global) -> Result<Setup, NoMemory>
               { viewport = Display; view = record { 0 = 1 } } ∷ [];
           buffers = [];
           fences = [];
-          version = 1;
           ratio = 65536;
         }) }
 {
@@ -39,7 +38,6 @@ fn two_sessions(alloc: Global) -> Result<Setup, NoMemory>
         pairs,
         buffers: Items::new(alloc),
         fences: Items::new(alloc),
-        version: 1,
         ratio: ONE,
     })
 }
@@ -56,7 +54,6 @@ fn opened(alloc: Global) -> Result<Board, NoMemory>
                 ∷ [];
             buffers = [];
             fences = [];
-            version = 1;
             ratio = 65536;
           };
           shares = 20 ∷ 101 ∷ 101 ∷ [];

@@ -5,7 +5,8 @@ use Rattle.std.proofs.lemmas.Grind.{common_steps}
 use Rattle.std.proofs.lemmas.Bool.Decides.{nat_tests}
 use Rattle.std.proofs.lemmas.List.Sums.{sum_by-cons}
 use Rattle.flat_scene.specs.declared.journal.Entry.{Entry}
-use Rattle.flat_scene.specs.History.{◌▹◌, seat_number}
+use Rattle.flat_scene.specs.History.{◌▹◌}
+use Rattle.flat_scene.specs.Journals.{seat_number}
 use Rattle.flat_states.specs.Machines.{made}
 
 -- what is counted at each place of a list, added up

@@ -12,8 +12,9 @@ use Rattle.flat_scene.specs.declared.journal.Kind.TheVariants.{Wait}
 use Rattle.flat_scene.specs.declared.journal.Reply.{Reply}
 use Rattle.flat_scene.specs.declared.script.Cond.{Cond}
 use Rattle.flat_scene.specs.declared.setup.Setup.{Setup}
-use Rattle.flat_scene.specs.History.{◌▹◌, Published, calls, seat_number}
-use Rattle.flat_scene.specs.Setups.{is_within_limits}
+use Rattle.flat_scene.specs.History.{◌▹◌, Published, calls}
+use Rattle.flat_scene.specs.Journals.{seat_number}
+use Rattle.flat_scene.specs.Heads.{is_within_limits}
 use Rattle.flat_scene.specs.Frames.{is_signalled, ratio, ratio_set}
 use Rattle.flat_fence.specs.Fences.{has}
 use Rattle.flat_states.specs.declared.clock.Clock.{Clock}
@@ -23,9 +24,9 @@ use Rattle.flat_rules.specs.Ends.{view_uses, to_begin}
 use Rattle.flat_states.specs.Flags.{has_end}
 use Rattle.flat_states.specs.Kept.{IsKept}
 use Rattle.flat_rules.specs.Numbers.{AllNumbered, number}
-use Rattle.flat_rules.specs.Legal.{Legal, MayEnter, may_act, names_declared, frames, is_frame_open, begin_time}
+use Rattle.flat_rules.specs.Legal.{Legal, MayEnter, may_act, may_name, frames, is_frame_open, begin_time}
 use Rattle.flat_states.specs.Logs.{Logged}
-use Rattle.flat_rules.specs.Posts.{posts}
+use Rattle.flat_rules.specs.AllPosts.{posts}
 use Rattle.flat_states.specs.Seen.{seen_of}
 use Rattle.flat_rules.specs.Watch.{ratio_told}
 pub use Rattle.flat_facts.specs.Begins.{entry_of}
@@ -62,7 +63,7 @@ pub record MayCall (m : Machine) (who : Actor) (calls : List Call) (kind : Kind)
 -- An actor may look at the value of a condition.
 pub record MayLook (setup : Setup) (who : Actor) (c : Cond) : Type 0 where
   pub acts : IsTrue (may_act setup (Wait c) who)
-  pub named : IsTrue (names_declared setup (Wait c))
+  pub named : IsTrue (may_name setup who (Wait c))
 
 -- ---- what is kept
 

@@ -6,7 +6,8 @@ use Rattle.flat_scene.specs.declared.setup.Setup.{Setup}
 use Rattle.flat_scene.specs.History.{◌▹◌, is_closed, is_session, presents, Published}
 use Rattle.flat_scene.specs.Frames.{taken, waiting, going}
 use Rattle.flat_states.specs.declared.state.Account.{Account}
-use Rattle.flat_rules.specs.Posts.{posts, frame_took}
+use Rattle.flat_rules.specs.Posts.{frame_took}
+use Rattle.flat_rules.specs.AllPosts.{posts}
 use Rattle.flat_rules.specs.Legal.{is_poll, is_frame_open}
 use Rattle.flat_facts.specs.Views.{last_view}
 

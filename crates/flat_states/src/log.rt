@@ -1,6 +1,6 @@
-ghost use Rattle.std.specs.Prelude.{◌≡◌, ◌+◌, ◌<◌, ◌≤◌, ◌^◌, [], ◌∷◌, ◌++◌, length, IfOk, OnOk};
-ghost use Rattle.std.specs.Prelude.{OnErr};
-ghost use Rattle.flat_scene.specs.History.{◌▹◌, history_of};
+ghost use Rattle.std.specs.Prelude.{◌≡◌, ◌+◌, ◌<◌, ◌≤◌, ◌^◌, [], ◌∷◌, ◌++◌, length, IfOk, OnOk, OnErr};
+ghost use Rattle.flat_scene.specs.History.{◌▹◌};
+ghost use Rattle.flat_scene.specs.Journals.{history_of};
 
 use flat_base::NoMemory;
 use flat_scene::{Entry, Journal, Post};
@@ -16,7 +16,7 @@ pub struct Log {
 
 impl Model for Log {
     ghost use Rattle.std.specs.Prelude.{◌-◌, length, vec_capacity};
-    ghost use Rattle.flat_scene.specs.History.{history_of};
+    ghost use Rattle.flat_scene.specs.Journals.{history_of};
     ghost use Rattle.flat_states.specs.Logs.{Logged};
 
     ghost Value = { Logged };

@@ -23,7 +23,7 @@ use Rattle.flat_script.specs.Grammar.{lines_read}
 use Rattle.flat_print.specs.Print.{spelled}
 use Rattle.flat_print.proofs.lemmas.TextLemmas.{IsLine, AllLines, AllLines-append}
 use Rattle.flat_print.proofs.lemmas.AgainLemmas.{with_lines}
-use Rattle.flat_stress.specs.Words.{Word, number}
+use Rattle.flat_page.specs.Words.{number, Word}
 use Rattle.flat_stress.specs.Load.{frame, later}
 use Rattle.flat_stress.proofs.LineLemmas.{line_good, tested, number_solid}
 use Rattle.flat_stress.proofs.PlaceLemmas.{start}

@@ -2,7 +2,7 @@
 use Rattle.std.proofs.Common.{◌≡◌, ℕ, List, [], ◌∷◌, ◌++◌, length, take, refl, codes}
 use Rattle.std.specs.List.{flat_map}
 use Rattle.std.specs.Fmt.{digits}
-use Rattle.flat_stress.specs.Words.{text_of}
+use Rattle.flat_page.specs.Words.{text_of}
 use Rattle.flat_stress.specs.Load.{head, host, guest, later, load}
 
 -- lines as they stand in a text

@@ -16,8 +16,8 @@ use Rattle.flat_text.specs.Pieces.{is_feed, is_space, words_of, lines_of, withou
 use Rattle.flat_script.specs.Grammar.{is_plain, is_skipped}
 use Rattle.flat_print.specs.Print.{spelled, spaced}
 use Rattle.flat_print.proofs.lemmas.TextLemmas.{IsLine, AllLines}
-use Rattle.flat_stress.specs.Words.{Word, line_text, text_of}
-use Rattle.flat_stress.specs.Words.{spaced as all_spaced}
+use Rattle.flat_stress.specs.Words.{line_text}
+use Rattle.flat_page.specs.Words.{text_of, Word, spaced as all_spaced}
 
 -- lines that are each ended by a line feed
 

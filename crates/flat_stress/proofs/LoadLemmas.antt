@@ -13,7 +13,8 @@ use Rattle.flat_script.specs.Grammar.{lines_read, text_read, IsScript}
 use Rattle.flat_print.specs.Print.{spelled}
 use Rattle.flat_print.proofs.lemmas.TextLemmas.{AllLines, AllLines-append}
 use Rattle.flat_print.proofs.lemmas.AgainLemmas.{with_lines}
-use Rattle.flat_stress.specs.Words.{Word, number, session, pair, from_to, text_of}
+use Rattle.flat_stress.specs.Words.{session, pair, from_to}
+use Rattle.flat_page.specs.Words.{number, text_of, Word}
 use Rattle.flat_stress.specs.Load.{head, host, guest, frame, later, load_text}
 use Rattle.flat_stress.specs.Laws.{LoadsAreScripts, LoadsHaveTheirFrames}
 use Rattle.flat_stress.proofs.LineLemmas.{line_good, lines_of_text, text_fits, tested, number_solid, named_solid}

@@ -13,14 +13,16 @@ use Rattle.flat_places.specs.declared.script.Script.{Script}
 use Rattle.flat_places.specs.Forms.{or_kind}
 use Rattle.flat_places.specs.Names.{actor_named}
 use Rattle.flat_places.specs.Places.{fits_i32}
-use Rattle.flat_forms.specs.Calls.{no_inset}
+use Rattle.flat_scene.specs.Draft.{no_inset}
 use Rattle.flat_forms.specs.Body.{session_line}
-use Rattle.flat_stress.specs.Words.{number, session, pair, from_to}
+use Rattle.flat_stress.specs.Words.{session, pair, from_to}
+use Rattle.flat_page.specs.Words.{number}
 
 -- the script after the load's head
 unfoldable pub start : Script
 start = record {
-  setup = record { width = 1000; height = 1000; sessions = 8; probes = 0; pairs = record { viewport = Display; view = record { 0 = 1 } } ∷ map (λ i. record { viewport = Session (record { 0 = 1 }); view = record { 0 = i } }) (from_to 2 8); buffers = []; fences = []; version = 1; ratio = 65536 };
+  version = 1;
+  setup = record { width = 1000; height = 1000; sessions = 8; probes = 0; pairs = record { viewport = Display; view = record { 0 = 1 } } ∷ map (λ i. record { viewport = Session (record { 0 = 1 }); view = record { 0 = i } }) (from_to 2 8); buffers = []; fences = []; ratio = 65536 };
   sessions = map session (from_to 1 8);
   probes = [];
   buffers = [];

@@ -1,7 +1,8 @@
 -- The load: a host session shows seven guests in viewports of its own, each guest shows 32 small fills, and in each later frame everything moves a little.
 use Rattle.std.specs.Prelude.{ℕ, ◌+◌, ◌*◌, ◌%◌, List, [], ◌∷◌, ◌++◌, map, codes}
 use Rattle.std.specs.List.{flat_map}
-use Rattle.flat_stress.specs.Words.{Word, number, session, pair, from_to, text_of}
+use Rattle.flat_stress.specs.Words.{session, pair, from_to}
+use Rattle.flat_page.specs.Words.{number, text_of, Word}
 
 abbrev pub Line : Type 0
 Line = List Word
@@ -23,8 +24,7 @@ abbrev pub opening : ℕ → List Line
 opening i =
     says i (codes "CreateView" ∷ pair i ∷ [])
     ∷ says i (codes "CreateTransform" ∷ number 1 ∷ [])
-    ∷ says i (codes "SetRootTransform" ∷ number 1 ∷ [])
-    ∷ []
+    ∷ says i (codes "SetRootTransform" ∷ number 1 ∷ []) ∷ []
 
 -- a node below the root
 abbrev pub node : ℕ → ℕ → List Line
@@ -37,15 +37,13 @@ abbrev pub fill : ℕ → ℕ → List Line
 fill i j =
     says i (codes "CreateFilledRect" ∷ number j ∷ [])
     ∷ says i (codes "SetSolidFill" ∷ number j ∷ number j ∷ number 0 ∷ number 0 ∷ number 255 ∷ number 4 ∷ number 4 ∷ [])
-    ∷ says i (codes "SetContent" ∷ number j ∷ number j ∷ [])
-    ∷ []
+    ∷ says i (codes "SetContent" ∷ number j ∷ number j ∷ []) ∷ []
 
 -- a viewport of the host, which shows the guest of that number
 abbrev pub viewport : ℕ → List Line
 viewport i =
     says 1 (codes "CreateViewport" ∷ number i ∷ pair i ∷ number 100 ∷ number 100 ∷ [])
-    ∷ says 1 (codes "SetContent" ∷ number i ∷ number i ∷ [])
-    ∷ []
+    ∷ says 1 (codes "SetContent" ∷ number i ∷ number i ∷ []) ∷ []
 
 abbrev pub present : ℕ → ℕ → Line
 present i time = says i (codes "Present" ∷ number time ∷ [])

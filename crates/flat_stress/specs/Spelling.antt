@@ -1,7 +1,8 @@
 -- how the words of the code are spelled
 use Rattle.flat_stress.specs.declared.page.Word as word
 use Rattle.flat_stress.specs.declared.page.Word.TheVariants.{Text, Number, Count, Session, Pair}
-use Rattle.flat_stress.specs.Words.{Word, number, session, pair}
+use Rattle.flat_stress.specs.Words.{session, pair}
+use Rattle.flat_page.specs.Words.{number, Word}
 
 abbrev pub spelling : word.Word → Word
 spelling (Text text) = text.now

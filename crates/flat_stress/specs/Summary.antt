@@ -1,7 +1,8 @@
 -- the line that sums up the run of a load
 use Rattle.std.specs.Prelude.{ℕ, List, [], ◌∷◌, codes}
 use Rattle.flat_stress.specs.declared.totals.Totals.{Totals}
-use Rattle.flat_stress.specs.Words.{number, line_text}
+use Rattle.flat_stress.specs.Words.{line_text}
+use Rattle.flat_page.specs.Words.{number}
 
 unfoldable pub summary_line : Totals → List ℕ
 summary_line t =

@@ -1,13 +1,8 @@
--- words, and the text of lines of words
+-- The words of the load's lines.
 use Rattle.std.specs.Prelude.{ℕ, ◌+◌, ◌-◌, List, [], ◌∷◌, ◌++◌, codes}
-use Rattle.std.specs.List.{range_with_len, flat_map}
+use Rattle.std.specs.List.{range_with_len}
 use Rattle.std.specs.Fmt.{decimal}
-
-abbrev pub Word : Type 0
-Word = List ℕ
-
-abbrev pub number : ℕ → Word
-number n = decimal n
+use Rattle.flat_page.specs.Words.{Word, line_of}
 
 -- the name of a session
 abbrev pub session : ℕ → Word
@@ -17,17 +12,9 @@ session n = codes "S" ++ decimal n
 abbrev pub pair : ℕ → Word
 pair n = codes "t" ++ decimal n
 
--- the words after the first one, each behind a space
-abbrev pub spaced : List Word → List ℕ
-spaced words = flat_map (λ word. 32 ∷ word) words
-
--- a line: words with a space between two of them, and a line feed
+-- a line, with its line feed
 abbrev pub line_text : List Word → List ℕ
-line_text [] = 10 ∷ []
-line_text (word ∷ words) = word ++ spaced words ++ 10 ∷ []
-
-abbrev pub text_of : List (List Word) → List ℕ
-text_of lines = flat_map line_text lines
+line_text words = line_of words ++ 10 ∷ []
 
 -- the numbers from the first one on and below the second one
 abbrev pub between : ℕ → ℕ → List ℕ

@@ -1,9 +1,8 @@
-ghost use Rattle.std.specs.Prelude.{◌≡◌, ℕ, ◌+◌, ◌*◌, ◌%◌, ◌≤◌, ◌++◌, ◌∷◌, [], map, OnOk, IfOk};
-ghost use Rattle.std.specs.Prelude.{codes};
+ghost use Rattle.std.specs.Prelude.{◌≡◌, ℕ, ◌+◌, ◌*◌, ◌%◌, ◌≤◌, ◌++◌, ◌∷◌, [], map, OnOk, IfOk, codes};
 ghost use Rattle.std.specs.List.{flat_map};
-ghost use Rattle.flat_stress.specs.Words.{text_of, number, session, pair, from_to};
-ghost use Rattle.flat_stress.specs.Load.{head, opening, node, move, fill, viewport, present, host};
-ghost use Rattle.flat_stress.specs.Load.{guest, frame, later, load, load_text};
+ghost use Rattle.flat_stress.specs.Words.{session, pair, from_to};
+ghost use Rattle.flat_page.specs.Words.{number, text_of};
+ghost use Rattle.flat_stress.specs.Load.{head, opening, node, move, fill, viewport, present, host, guest, frame, later, load, load_text};
 
 use crate::page::{Word, push_lines};
 use Word::{Number, Pair, Session, Text};

@@ -1,7 +1,8 @@
 ghost use Rattle.std.specs.Prelude.{◌≡◌, ◌++◌, ◌∷◌, [], OnOk, map};
 ghost use Rattle.std.specs.Fmt.{decimal};
 ghost use Rattle.flat_stress.specs.Spelling.{spelling};
-ghost use Rattle.flat_stress.specs.Words.{spaced, line_text, text_of};
+ghost use Rattle.flat_stress.specs.Words.{line_text};
+ghost use Rattle.flat_page.specs.Words.{text_of, spaced};
 
 use flat_base::NoMemory;
 use flat_text::push_number;

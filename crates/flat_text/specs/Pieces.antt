@@ -1,6 +1,5 @@
 -- A text cut into lines, and a line cut into words.
-use Rattle.std.specs.Prelude.{ℕ, ◌==◌, Bool, List, [], ◌∷◌, length, if◌then◌else◌, Option, Some, None}
-use Rattle.std.specs.Borrow.{Bor}
+use Rattle.std.specs.Prelude.{ℕ, ◌==◌, Bool, List, [], ◌∷◌, length, if◌then◌else◌}
 use Rattle.std.specs.List.{slice_split}
 
 -- a line feed
@@ -24,8 +23,3 @@ without_empty_end (x ∷ y ∷ more) = x ∷ without_empty_end (y ∷ more)
 -- what stands before and between the line feeds, and behind the last one where that isn't empty
 abbrev pub lines_of : List ℕ → List (List ℕ)
 lines_of text = without_empty_end (slice_split is_feed text)
-
--- the pieces of what is left of a text, where anything is
-abbrev pub pieces_left : (ℕ → Bool) → Option (Bor (List ℕ)) → List (List ℕ)
-pieces_left p None = []
-pieces_left p (Some text) = slice_split p text.now

@@ -1,10 +1,12 @@
 -- What changed with each of some frames.
-use Rattle.std.proofs.Common.{◌≡◌, ℕ, List, [], ◌∷◌, ◌++◌, refl, sym, ap, ◌∙◌, subst}
+use Rattle.std.proofs.Common.{◌≡◌, ℕ, zero, ◌≤◌, ◌-◌, List, [], ◌∷◌, ◌++◌, length, take, drop, refl, sym, ap, ◌∙◌, subst, arith}
 use Rattle.std.specs.Prelude.{Some}
+use Rattle.std.proofs.lemmas.List.{drop_all}
 use Rattle.flat_base.specs.Last.{last_item}
 use Rattle.flat_scene.specs.declared.frames.DrawItem.{DrawItem}
 use Rattle.flat_scene.specs.declared.frames.FrameOut.{FrameOut}
-use Rattle.flat_damage.specs.Damage.{IsDamage}
+use Rattle.flat_base.specs.declared.shapes.Rect.{Rect}
+use Rattle.flat_damage.specs.Damage.{IsDamage, bounded, left_of, visible_rects}
 use Rattle.flat_page.proofs.lemmas.LastItems.{last-behind}
 use Rattle.flat_texts.specs.declared.damage.Damaged.{Damaged}
 use Rattle.flat_texts.specs.Damages.{AreDamaged, none, next}
@@ -32,3 +34,17 @@ damaged-more before [] frame one (of_first ∷ damaged) number damage later = el
 damaged-more before (first ∷ frames) frame one [] number damage later = elim later [ ]
 damaged-more before (first ∷ frames) frame one (of_first ∷ damaged) number damage (next first_number first_damage later) =
     next first_number first_damage (damaged-more first.items frames frame one damaged number damage later)
+
+-- between a draw list and itself there is no damage
+pub no-damage : (items : List DrawItem) (rects : List Rect) → rects ≡ [] → IsDamage items items rects
+no-damage items rects empty =
+    let end : drop (length items) items ≡ [] = drop_all (length items) items (omega arith) in
+    let left : left_of (length items) 0 items ≡ [] = ap (λ (xs : List DrawItem). take (length xs - 0) xs) end in
+    let few : (m : ℕ) → m ≤ length (drop (length items) items) → m ≤ 0 = λ m within. subst (λ (xs : List DrawItem). m ≤ length xs) end within in
+    record {
+      before = length items;
+      after = 0;
+      prefix = record { holds = record { left = omega arith; right = omega arith; same = refl }; greatest = λ m common. common.left };
+      suffix = record { holds = record { left = omega arith; right = omega arith; same = refl }; greatest = λ m common. few m common.left };
+      are = empty ∙ sym (ap (λ (xs : List DrawItem). bounded (visible_rects xs ++ visible_rects xs)) left);
+    }

@@ -51,7 +51,7 @@ nothing_is_shown_before_the_first = refl
 -- ---- films
 
 abbrev two_pixels : Setup
-two_pixels = record { width = 2; height = 1; sessions = 0; probes = 0; pairs = []; buffers = []; fences = []; version = 1; ratio = 65536 }
+two_pixels = record { width = 2; height = 1; sessions = 0; probes = 0; pairs = []; buffers = []; fences = []; ratio = 65536 }
 
 -- the fill over the left pixel alone
 abbrev left_pixel : DrawItem

@@ -5,7 +5,8 @@ use Rattle.std.proofs.lemmas.Grind.{flat_map-append}
 use Rattle.flat_base.specs.Last.{last_item}
 use Rattle.flat_scene.specs.declared.frames.FrameOut.{FrameOut}
 use Rattle.flat_scene.specs.declared.setup.Setup.{Setup}
-use Rattle.flat_texts.specs.Films.{film_text, is_any, pictures_of}
+use Rattle.flat_texts.specs.Films.{film_text, pictures_of}
+use Rattle.flat_texts.specs.Filming.{is_any}
 use Rattle.flat_texts.specs.Pictures.{list_of, picture_of}
 
 pub any-more : (frames : List FrameOut) (frame : FrameOut) → is_any (frames ++ frame ∷ []) ≡ true

@@ -1,4 +1,5 @@
 pub mod Damages
+pub mod Filming
 pub mod Films
 pub mod Lines
 pub mod Pictures

@@ -1,4 +1,4 @@
-ghost use Rattle.std.specs.Prelude.{◌≡◌, [], ◌∷◌, ◌++◌, List, length, map, codes, IfOk, OnOk};
+ghost use Rattle.std.specs.Prelude.{◌≡◌, [], ◌∷◌, ◌++◌, List, Some, length, map, codes, IfOk, OnOk};
 ghost use Rattle.std.specs.List.{flat_map};
 ghost use Rattle.std.specs.Option.{option_copied};
 ghost use Rattle.flat_base.specs.Last.{last_item};
@@ -6,6 +6,7 @@ ghost use Rattle.flat_damage.specs.Damage.{IsDamage};
 ghost use Rattle.flat_scene.specs.declared.frames.FrameOut.{FrameOut};
 ghost use Rattle.flat_page.specs.Pages.{Writes, WritesLines};
 ghost use Rattle.flat_page.specs.Words.{number};
+ghost use Rattle.flat_report.specs.FrameTexts.{unchanged};
 ghost use Rattle.flat_texts.specs.Damages.{AreDamaged, IsDamageText, IsFound, damaged_lines, damaged_text};
 ghost use Rattle.flat_texts.specs.Damages.{end_line, rect_line};
 ghost use Rattle.flat_texts.specs.Pictures.{list_of};
@@ -13,7 +14,8 @@ ghost use Rattle.flat_texts.specs.Pictures.{list_of};
 use flat_base::{FrameNo, NoMemory, Rect};
 use flat_damage::damage;
 use flat_page::Page;
-use flat_scene::{FrameOut, ItemList, RectList};
+use flat_report::unchanged;
+use flat_scene::{FrameOut, ItemList, RectList, ViewTree};
 use std::alloc::Global;
 
 /// What changed with a frame.
@@ -83,6 +85,21 @@ impl FrameDamages {
     {
         self.note(&frame)?;
         self.last = Some(frame);
+        Ok(())
+    }
+
+    /// The next frame is one before which nothing changed, of a number and with a view tree. No
+    /// item is looked at.
+    pub fn push_unchanged(&mut self, number: FrameNo, tree: ViewTree) -> Result<(), NoMemory>
+        ensures { (frames : List FrameOut) (last : FrameOut) → IsFound frames self.old →
+            last_item frames ≡ Some last →
+            OnOk result (IsFound (frames ++ unchanged number tree last ∷ []) self.new) }
+    {
+        self.damaged.push(Damaged {
+            frame: number,
+            rects: RectList::new(self.alloc),
+        })?;
+        self.last = unchanged(self.last.take(), number, tree);
         Ok(())
     }
 

@@ -5,7 +5,8 @@ ghost use Rattle.flat_drawable.specs.Drawable.{IsDrawable};
 ghost use Rattle.flat_render.specs.declared.grid.TheConstants.{PIXELS_MAX};
 ghost use Rattle.flat_scene.specs.declared.frames.FrameOut.{FrameOut};
 ghost use Rattle.flat_scene.specs.declared.setup.Setup.{Setup};
-ghost use Rattle.flat_texts.specs.Films.{IsFilm, film_text};
+ghost use Rattle.flat_texts.specs.Films.{film_text};
+ghost use Rattle.flat_texts.specs.Filming.{IsFilm};
 
 use crate::picture::picture_after;
 use flat_base::{Items, NoMemory};
@@ -14,6 +15,7 @@ use flat_render::{Picture, ppm_of};
 use flat_report::Pieces;
 use flat_scene::{FrameOut, ItemList, Setup};
 use std::alloc::Global;
+use std::sync::Arc;
 use std::thread::Threads;
 
 /// The pictures of some frames, and the last of them to go on from.
@@ -59,7 +61,8 @@ impl Film {
         redraw(self.alloc, &mut self.picture, &self.shown, &next)?;
         self.shown = next;
         let bytes = ppm_of(self.alloc, &self.picture)?;
-        self.pictures.push(Items::from_vec(bytes))?;
+        let picture = Arc::new(self.alloc, Items::from_vec(bytes))?;
+        self.pictures.push(picture)?;
         self.any = true;
         Ok(())
     }

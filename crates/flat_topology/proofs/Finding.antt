@@ -18,12 +18,12 @@ use Rattle.flat_scene.specs.declared.trees.Content.TheVariants as content
 use Rattle.flat_scene.specs.declared.trees.Tree.{Tree}
 use Rattle.flat_scene.specs.Trees.{first, node_count}
 use Rattle.flat_snap.specs.Flat.{FlatNode, flat_from, flat_nodes, is_viewport, rooted, viewport_places}
-use Rattle.flat_topology.specs.Shown.{Shown, state_of, view_of, nodes_of, pair_in, pairs_in, pairs_shown}
+use Rattle.flat_topology.specs.Shown.{Shown, state_of, view_of, nodes_of, pair_in, pairs_in, pairs_shown, is_shown_by}
 use Rattle.flat_topology.specs.Pairs.{display_pair}
 use Rattle.flat_topology.specs.Links.{IsBelow, IsConnectedThrough, IsConnected}
 use Rattle.flat_topology.specs.Fit.{FitsSetup}
 use Rattle.flat_topology.specs.Join.{is_joined, is_view_of}
-use Rattle.flat_topology.specs.Distances.{leads_to, is_shown_by, is_view_among, AreDistances, IsFinding, NotesViews}
+use Rattle.flat_topology.specs.Distances.{leads_to, is_view_among, AreDistances, IsFinding, NotesViews}
 use Rattle.flat_topology.proofs.lemmas.Distinct.{in-contains, contains-in}
 use Rattle.flat_topology.proofs.lemmas.Distances.{distance-one}
 use Rattle.flat_topology.proofs.Whole.{found-in, in-found, distance-low, number-within, connected-within}

@@ -6,7 +6,7 @@ use Rattle.flat_scene.specs.declared.setup.Setup.{Setup}
 use Rattle.flat_scene.specs.declared.trees.Tree.{Tree}
 use Rattle.flat_scene.specs.Trees.{node_count}
 use Rattle.flat_topology.specs.Shown.{Shown, state_of, view_of, nodes_of, pairs_in, pairs_shown}
-use Rattle.flat_topology.specs.Pairs.{OwnsView, OwnsViewport}
+use Rattle.flat_topology.specs.Owners.{OwnsView, OwnsViewport}
 use Rattle.flat_topology.specs.Fit.{FitsSetup, greatest_opacity}
 use Rattle.flat_topology.proofs.lemmas.Distinct.{In, Distinct, in-contains, pairs-distinct}
 use Rattle.flat_topology.proofs.Samples.{display_over, over, shell_setup, shell_shown, alone_setup, pair}

@@ -168,7 +168,7 @@ no-branch first (node s fields linked below after) n other a = refl
 no-branch first (child_view s root) n other a = no-branch first root n other a
 
 module _ (first : ℕ) (s : ℕ) (fields : Node) (linked below after : JoinedTree) where
-  at-here : node_at first (node s fields linked below after) (first ∷ []) ≡ Some fields
+  at-here : node_at first (node s fields linked below after) (first ∷ []) ≡ Some (s, fields)
   at-here = rw (number-itself first)
 
   at-linked : (a : Address) → node_at first (node s fields linked below after) (first ∷ 0 ∷ a) ≡ node_at 0 linked a
@@ -196,7 +196,7 @@ pub nodes-placed : (first : ℕ) (tree : JoinedTree) (outer : Space)
 nodes-placed first nothing outer = refl
 nodes-placed first (node s fields linked below after) outer =
     let tree : JoinedTree = node s fields linked below after in
-    let here : kept_at first tree (first ∷ []) ≡ Some (kept_of fields) = ap (option_map kept_of) (at-here first s fields linked below after) in
+    let here : kept_at first tree (first ∷ []) ≡ Some (kept_of (s, fields)) = ap (option_map kept_of) (at-here first s fields linked below after) in
     let view : map (kept_at first tree) (map (λ a. first ∷ 0 ∷ a) (addresses 0 linked))
     ≡ map (λ (at : Placed). Some (kept_by at)) (placed_in (linked_space (node_space outer fields) fields.content) linked) =
     map-through (kept_at first tree) (λ a. first ∷ 0 ∷ a) (kept_at 0 linked) (λ a. ap (option_map kept_of) (at-linked first s fields linked below after a)) (addresses 0 linked)
@@ -210,7 +210,7 @@ nodes-placed first (node s fields linked below after) outer =
     ∙ nodes-placed (suc first) after outer in
     joined here view kids rest
   where
-    joined : kept_at first (node s fields linked below after) (first ∷ []) ≡ Some (kept_of fields)
+    joined : kept_at first (node s fields linked below after) (first ∷ []) ≡ Some (kept_of (s, fields))
         → map (kept_at first (node s fields linked below after)) (map (λ a. first ∷ 0 ∷ a) (addresses 0 linked))
         ≡ map (λ (at : Placed). Some (kept_by at)) (placed_in (linked_space (node_space outer fields) fields.content) linked)
         → map (kept_at first (node s fields linked below after)) (map (λ a. first ∷ 1 ∷ a) (addresses 0 below))
@@ -257,7 +257,7 @@ module _ (first : ℕ) (s : ℕ) (fields : Node) (linked below after : JoinedTre
       (in-left (first ∷ 1 ∷ a) (map (λ b. first ∷ 1 ∷ b) (addresses 0 below)) _ (in-map (λ b. first ∷ 1 ∷ b) a (addresses 0 below) here))))
 
   -- a node at an address is found here or after, by the address's first number
-  found : (m : ℕ) (a : Address) (n : Node) (here later : Option Node) → (if m == first then here else later) ≡ Some n
+  found : (m : ℕ) (a : Address) (n : ℕ × Node) (here later : Option (ℕ × Node)) → (if m == first then here else later) ≡ Some n
       → ((m ≡ first) → here ≡ Some n → IsIn a whole) → (later ≡ Some n → IsIn a whole) → IsIn a whole
   found m a n here later at now then_ = by_number (m == first) refl
     where
@@ -266,12 +266,12 @@ module _ (first : ℕ) (s : ℕ) (fields : Node) (linked below after : JoinedTre
       by_number false isnt = then_ (sym (ap (λ b. if b then here else later) isnt) ∙ at)
 
 -- each node has an address
-pub has-address : (first : ℕ) (tree : JoinedTree) (address : Address) (n : Node) → node_at first tree address ≡ Some n → IsIn address (addresses first tree)
+pub has-address : (first : ℕ) (tree : JoinedTree) (address : Address) (n : ℕ × Node) → node_at first tree address ≡ Some n → IsIn address (addresses first tree)
 unfolding whole
 has-address first nothing address n at = absurd (cc)
 has-address first (node s fields linked below after) [] n at = absurd (cc)
 has-address first (node s fields linked below after) (m ∷ []) n at =
-    found first s fields linked below after m (m ∷ []) n (Some fields) (node_at (suc first) after (m ∷ [])) at
+    found first s fields linked below after m (m ∷ []) n (Some (s, fields)) (node_at (suc first) after (m ∷ [])) at
     (λ same is. inl (ap (λ k. k ∷ []) same))
     (λ is. in-after first s fields linked below after (m ∷ []) (has-address (suc first) after (m ∷ []) n is))
 has-address first (node s fields linked below after) (m ∷ zero ∷ address) n at =

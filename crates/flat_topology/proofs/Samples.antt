@@ -43,7 +43,7 @@ abbrev pub over : ℕ → ℕ → PairDecl
 over parent child = record { viewport = Session (session parent); view = session child }
 
 abbrev pub setup_of : ℕ → ℕ → ℕ → List PairDecl → Setup
-setup_of w h sessions pairs = record { width = w; height = h; sessions = sessions; probes = 0; pairs = pairs; buffers = []; fences = []; version = 1; ratio = 65536 }
+setup_of w h sessions pairs = record { width = w; height = h; sessions = sessions; probes = 0; pairs = pairs; buffers = []; fences = []; ratio = 65536 }
 
 abbrev pub everywhere : HitRegion
 everywhere = record { area = None; interaction = Default }

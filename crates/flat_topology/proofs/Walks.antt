@@ -1,14 +1,14 @@
 -- The definitions of the walk and of the distances, computed on the shell.
 use Rattle.std.proofs.Common.{ℕ, zero, suc, ◌≡◌, refl, true, false, cond, [], ◌∷◌, Option, Some, None, map, slice_index_or, arith}
-use Rattle.flat_geom.specs.Matrices.{identity_matrix}
+use Rattle.flat_geom.specs.Identity.{identity_matrix}
 use Rattle.flat_topology.specs.declared.scope.Scope.{Scope}
 use Rattle.flat_topology.specs.declared.walk.Stretch.{Stretch}
 use Rattle.flat_topology.specs.Place.{display_rect, display_space, placed_nodes}
 use Rattle.flat_topology.specs.Walking.{viewer_at, flat_of, space_of, tree_of, still_count, still_placed, still_connected, work, below_stretch, after_stretch, pushed}
-use Rattle.flat_topology.specs.Distances.{leads_to, is_shown_by, is_view_among, NotesViews}
+use Rattle.flat_topology.specs.Distances.{leads_to, is_view_among, NotesViews}
+use Rattle.flat_topology.specs.Shown.{is_shown_by, state_of, view_of}
 use Rattle.flat_topology.specs.Links.{IsConnectedThrough}
 use Rattle.flat_topology.specs.Join.{viewer_from, sessions_in}
-use Rattle.flat_topology.specs.Shown.{state_of, view_of}
 use Rattle.flat_topology.proofs.Samples.{session, shell_setup, shell_shown, viewport, fill}
 
 abbrev display_scope : Scope

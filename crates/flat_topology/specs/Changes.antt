@@ -2,7 +2,7 @@
 use Rattle.std.specs.Prelude.{ℕ, ◌≤◌, ◌≡◌, false, length}
 use Rattle.flat_scene.specs.declared.frames.SessionSet.{SessionSet}
 use Rattle.flat_topology.specs.Shown.{Shown, state_of}
-use Rattle.flat_topology.specs.Views.{is_member}
+use Rattle.flat_topology.specs.Members.{is_member}
 
 -- each session outside a set shows what it showed
 abbrev pub AreSame : SessionSet → Shown → Shown → Type 0

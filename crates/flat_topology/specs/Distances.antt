@@ -1,20 +1,15 @@
 -- How far from the display each connected session is.
 use Rattle.std.specs.Prelude.{ℕ, suc, ◌≤◌, ◌≡◌, ◌↔◌, Bool, false, ◌==◌, if◌then◌else◌, List, length, Option, Some, None, slice_index_or}
-use Rattle.std.specs.List.{list_any}
 use Rattle.flat_scene.specs.declared.setup.Setup.{Setup}
 use Rattle.flat_scene.specs.declared.trees.Content.{Content}
 use Rattle.flat_scene.specs.declared.trees.Content.TheVariants as content
-use Rattle.flat_topology.specs.Shown.{Shown, state_of, view_of, pairs_shown}
+use Rattle.flat_topology.specs.Shown.{Shown, state_of, view_of}
 use Rattle.flat_topology.specs.Links.{IsBelow, IsConnectedThrough}
 
 -- whether a content is a viewport of a pair
 abbrev pub leads_to : ℕ → Option Content → Bool
 leads_to p (Some (content.Viewport serial pair props)) = pair.0 == p
 leads_to p _ = false
-
--- whether a session shows a viewport of a pair
-abbrev pub is_shown_by : Shown → ℕ → ℕ → Bool
-is_shown_by shown p s = list_any (λ q. q == p) (pairs_shown shown s)
 
 -- whether a view is that of one of some pairs
 abbrev pub is_view_among : (ℕ → Bool) → Option ℕ → Bool

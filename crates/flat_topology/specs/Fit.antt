@@ -8,7 +8,7 @@ use Rattle.flat_scene.specs.declared.trees.Content.TheVariants as content
 use Rattle.flat_scene.specs.declared.setup.Setup.{Setup}
 use Rattle.flat_scene.specs.Trees.{fold_nodes, node_count}
 use Rattle.flat_topology.specs.Shown.{Shown, state_of, view_of, nodes_of, pairs_shown}
-use Rattle.flat_topology.specs.Pairs.{OwnsView, OwnsViewport}
+use Rattle.flat_topology.specs.Owners.{OwnsView, OwnsViewport}
 
 -- the opacity of an image
 abbrev pub image_opacity : Option Content → ℕ

@@ -4,7 +4,8 @@ use Rattle.std.specs.List.{Contains}
 use Rattle.flat_base.specs.declared.ids.SessionNo.{SessionNo}
 use Rattle.flat_scene.specs.declared.setup.Setup.{Setup}
 use Rattle.flat_topology.specs.Shown.{Shown, state_of, view_of, pairs_shown}
-use Rattle.flat_topology.specs.Pairs.{display_pair, OwnsView, OwnsViewport}
+use Rattle.flat_topology.specs.Pairs.{display_pair}
+use Rattle.flat_topology.specs.Owners.{OwnsView, OwnsViewport}
 
 -- session c is below session s: s shows a viewport of the pair of whose view c's state is
 pub record IsBelow (shown : Shown) (c s : ℕ) : Type 0 where

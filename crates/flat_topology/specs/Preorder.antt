@@ -24,11 +24,11 @@ abbrev pub are_in_order : List Address → Bool
 are_in_order [] = true
 are_in_order (one ∷ later) = list_all (comes_before one) later && are_in_order later
 
--- the node at an address, where the first node has this number
-abbrev pub node_at : ℕ → JoinedTree → Address → Option Node
+-- the node at an address, and whose it is, where the first node has this number
+abbrev pub node_at : ℕ → JoinedTree → Address → Option (ℕ × Node)
 node_at first nothing address = None
 node_at first (node s fields linked below after) [] = None
-node_at first (node s fields linked below after) (n ∷ []) = if n == first then Some fields else node_at (suc first) after (n ∷ [])
+node_at first (node s fields linked below after) (n ∷ []) = if n == first then Some (s, fields) else node_at (suc first) after (n ∷ [])
 node_at first (node s fields linked below after) (n ∷ zero ∷ address) =
     if n == first then node_at 0 linked address else node_at (suc first) after (n ∷ 0 ∷ address)
 node_at first (node s fields linked below after) (n ∷ suc zero ∷ address) =
@@ -44,21 +44,22 @@ addresses first (node s fields linked below after) =
     ∷ (map (λ address. first ∷ 0 ∷ address) (addresses 0 linked) ++ (map (λ address. first ∷ 1 ∷ address) (addresses 0 below) ++ addresses (suc first) after))
 addresses first (child_view s root) = addresses first root
 
--- what a placed node has of its transform: the serial number, the content and the hit regions
+-- what a placed node has of its session's transform: the serial number, the content and the hit regions
 pub record Kept : Type 0 where
+  pub session : ℕ
   pub serial : ℕ
   pub content : Option Content
   pub hits : List HitRegion
 
-abbrev pub kept_of : Node → Kept
-kept_of n = record { serial = n.serial; content = n.content; hits = n.hits }
+abbrev pub kept_of : ℕ × Node → Kept
+kept_of (s, n) = record { session = s; serial = n.serial; content = n.content; hits = n.hits }
 
 abbrev pub kept_by : Placed → Kept
-kept_by at = record { serial = at.serial; content = at.content; hits = at.hits }
+kept_by at = record { session = at.session.0; serial = at.serial; content = at.content; hits = at.hits }
 
 -- The placed nodes stand in preorder: they are those at the addresses of the joined tree, each node has an address, and each address comes
 -- before all later ones.
 pub record IsPreorder (tree : JoinedTree) (placed : List Placed) : Type 0 where
   pub in_order : are_in_order (addresses 0 tree) ≡ true
   pub nodes : map (λ address. option_map kept_of (node_at 0 tree address)) (addresses 0 tree) ≡ map (λ at. Some (kept_by at)) placed
-  pub all : (address : Address) (n : Node) → node_at 0 tree address ≡ Some n → Contains (addresses 0 tree) address
+  pub all : (address : Address) (n : ℕ × Node) → node_at 0 tree address ≡ Some n → Contains (addresses 0 tree) address

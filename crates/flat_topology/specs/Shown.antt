@@ -1,5 +1,5 @@
 -- What the sessions show at a moment.
-use Rattle.std.specs.Prelude.{ℕ, zero, suc, List, [], ◌∷◌, ◌++◌, Option, Some, None, option_map, slice_index_or}
+use Rattle.std.specs.Prelude.{ℕ, zero, suc, List, [], ◌∷◌, ◌++◌, Option, Some, None, option_map, slice_index_or, Bool, ◌==◌}
 use Rattle.flat_scene.specs.declared.trees.Children.{Children}
 use Rattle.flat_scene.specs.declared.trees.Children.TheVariants.{Empty}
 use Rattle.flat_scene.specs.declared.trees.Content.{Content}
@@ -7,6 +7,7 @@ use Rattle.flat_scene.specs.declared.trees.Content.TheVariants as content
 use Rattle.flat_scene.specs.declared.trees.Node.{Node}
 use Rattle.flat_scene.specs.declared.trees.Tree.{Tree}
 use Rattle.flat_scene.specs.Trees.{more, fold_nodes}
+use Rattle.std.specs.List.{list_any}
 
 -- what each session shows, session 1 first; a session may show nothing
 abbrev pub Shown : Type 0
@@ -44,3 +45,7 @@ pairs_in = fold_nodes (λ node below after. pair_in node.content ++ below ++ aft
 -- the pairs of the viewports that a session shows
 abbrev pub pairs_shown : Shown → ℕ → List ℕ
 pairs_shown shown s = pairs_in (nodes_of (state_of shown s))
+
+-- whether a session shows a viewport of a pair
+abbrev pub is_shown_by : Shown → ℕ → ℕ → Bool
+is_shown_by shown p s = list_any (λ q. q == p) (pairs_shown shown s)

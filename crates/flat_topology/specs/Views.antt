@@ -1,9 +1,8 @@
 -- The view tree: who is shown below whom, and where.
-use Rattle.std.specs.Prelude.{ℕ, zero, suc, Bool, false, ◌&&◌, not, List, [], ◌∷◌, ◌++◌, Option, Some, None, map, filter, slice_index_or}
+use Rattle.std.specs.Prelude.{ℕ, Bool, ◌&&◌, not, List, [], ◌∷◌, ◌++◌, Option, Some, None, map, filter}
 use Rattle.std.specs.List.{range_with_len}
 use Rattle.flat_base.specs.declared.ids.SessionNo.{SessionNo}
 use Rattle.flat_base.specs.declared.shapes.Rect.{Rect}
-use Rattle.flat_scene.specs.declared.frames.SessionSet.{SessionSet}
 use Rattle.flat_scene.specs.declared.frames.ViewNode.{ViewNode}
 use Rattle.flat_scene.specs.declared.frames.ViewTree.{ViewTree}
 use Rattle.flat_scene.specs.declared.setup.Setup.{Setup}
@@ -45,8 +44,3 @@ apart_sessions setup shown has_view =
 -- the view tree, where this tells which sessions are open and made a view whose end isn't lost
 abbrev pub view_tree : Setup → Shown → (ℕ → Bool) → ViewTree
 view_tree setup shown has_view = record { nodes = view_nodes setup shown; apart = apart_sessions setup shown has_view }
-
--- whether a session is in a set; there is no session 0
-abbrev pub is_member : SessionSet → ℕ → Bool
-is_member set zero = false
-is_member set (suc before) = slice_index_or set.has before false

@@ -1,12 +1,11 @@
-ghost use Rattle.std.specs.Prelude.{◌≡◌, ◌==◌, ◌+◌, ◌-◌, ◌^◌, ◌<◌, ◌≤◌, ◌↔◌, ℕ, Some, None, IsTrue};
-ghost use Rattle.std.specs.Prelude.{length, is_some, slice_index_or};
+ghost use Rattle.std.specs.Prelude.{◌≡◌, ◌==◌, ◌+◌, ◌-◌, ◌^◌, ◌<◌, ◌≤◌, ◌↔◌, ℕ, Some, None, IsTrue, length, is_some, slice_index_or};
 ghost use Rattle.std.specs.List.{list_any};
 ghost use Rattle.flat_snap.specs.Flat.{flat_nodes};
 ghost use Rattle.flat_topology.specs.Fit.{FitsSetup};
 ghost use Rattle.flat_topology.specs.Pairs.{display_pair};
 ghost use Rattle.flat_topology.specs.Join.{is_joined};
 ghost use Rattle.flat_topology.specs.Distances.{AreDistances, IsFinding, NotesViews, leads_to};
-ghost use Rattle.flat_topology.specs.Distances.{is_shown_by};
+ghost use Rattle.flat_topology.specs.Shown.{is_shown_by};
 
 use crate::links_make_a_tree;
 use crate::shown::Shown;

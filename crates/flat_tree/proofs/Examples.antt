@@ -2,7 +2,7 @@
 use Rattle.std.proofs.Common.{ℕ, ◌*◌, pos, ◌≡◌, refl, true, false, List, [], ◌∷◌, None, Some}
 use Rattle.flat_base.specs.declared.ids.SessionNo.{SessionNo}
 use Rattle.flat_base.specs.declared.shapes.Rect.{Rect}
-use Rattle.flat_geom.specs.Matrices.{identity_matrix}
+use Rattle.flat_geom.specs.Identity.{identity_matrix}
 use Rattle.flat_scene.specs.declared.frames.SessionSet.{SessionSet}
 use Rattle.flat_scene.specs.declared.frames.ViewNode.{ViewNode}
 use Rattle.flat_scene.specs.declared.trees.Content.TheVariants as content

@@ -14,7 +14,8 @@ use Rattle.flat_scene.specs.declared.trees.Content.{Content}
 use Rattle.flat_scene.specs.declared.trees.Content.TheVariants as content
 use Rattle.flat_scene.specs.declared.trees.Node.{Node}
 use Rattle.flat_scene.specs.Trees.{first}
-use Rattle.flat_scene.specs.ViewTrees.{is_node, is_below, is_tree_in, is_tree}
+use Rattle.flat_scene.specs.ViewTrees.{is_node}
+use Rattle.flat_scene.specs.ViewShapes.{is_below, is_tree_in, is_tree}
 use Rattle.flat_topology.specs.Shown.{Shown}
 use Rattle.flat_topology.specs.Pairs.{display_pair}
 use Rattle.flat_topology.specs.Join.{JoinedTree, Viewer, viewer_from, linked_to, joined_nodes, viewed, led_to, led_from}

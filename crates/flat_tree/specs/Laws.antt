@@ -3,10 +3,11 @@ use Rattle.std.specs.Prelude.{ℕ, ◌<◌, ◌≤◌, ◌≡◌, Bool, false, I
 use Rattle.flat_base.specs.declared.limits.TheConstants.{SESSIONS_MAX}
 use Rattle.flat_scene.specs.declared.frames.SessionSet.{SessionSet}
 use Rattle.flat_scene.specs.declared.setup.Setup.{Setup}
-use Rattle.flat_scene.specs.ViewTrees.{is_tree}
+use Rattle.flat_scene.specs.ViewShapes.{is_tree}
 use Rattle.flat_topology.specs.Shown.{Shown}
 use Rattle.flat_topology.specs.Fit.{FitsSetup}
-use Rattle.flat_topology.specs.Views.{is_member, view_nodes, view_tree}
+use Rattle.flat_topology.specs.Views.{view_nodes, view_tree}
+use Rattle.flat_topology.specs.Members.{is_member}
 use Rattle.flat_topology.specs.Connected.{joined_lists}
 use Rattle.flat_tree.specs.Trees.{tree_of, tree_from}
 

@@ -7,7 +7,7 @@ use Rattle.flat_scene.specs.declared.frames.SessionSet.{SessionSet}
 use Rattle.flat_scene.specs.declared.frames.ViewNode.{ViewNode}
 use Rattle.flat_scene.specs.declared.frames.ViewTree.{ViewTree}
 use Rattle.flat_topology.specs.declared.Joined.{Joined}
-use Rattle.flat_topology.specs.Views.{is_member}
+use Rattle.flat_topology.specs.Members.{is_member}
 use Rattle.flat_topology.specs.Connected.{connected_view}
 
 -- whether a session has one of the views

@@ -1,5 +1,6 @@
 -- Values that watchers tell, and when one is news.
 use Rattle.std.specs.Prelude.{Bool, true, false, cond, ◌&&◌, ◌==◌, Option, Some, None, is_some}
+use Rattle.std.specs.Option.{option_or}
 use Rattle.flat_scene.specs.declared.calls.Watch.{Watch}
 use Rattle.flat_scene.specs.declared.journal.Layout.{Layout}
 use Rattle.flat_scene.specs.declared.journal.Told.{Told}
@@ -24,11 +25,6 @@ pub record Watching : Type 0 where
   pub last : Option Told
   pub waits : Option Watch
 
--- one value, or another where it isn't there
-abbrev pub or_else : {A : Type 0} → Option A → Option A → Option A
-or_else (Some x) other = Some x
-or_else None other = other
-
 -- the value to answer where another was answered last: the one told, where it is there and differs
 abbrev pub news : Option Told → Option Told → Option Told
 news now None = now
@@ -37,7 +33,7 @@ news (Some now) (Some last) = cond (same_told now last) None (Some now)
 
 -- a get joins, and is held until it is answered
 abbrev pub asking : Option Watch → Watching → Watching
-asking get w = record w { waits = or_else w.waits get }
+asking get w = record w { waits = option_or w.waits get }
 
 -- the answer to the held get
 abbrev pub answer : Option Told → Watching → Option Told

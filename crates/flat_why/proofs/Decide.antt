@@ -11,14 +11,14 @@ use Rattle.flat_scene.specs.declared.setup.PairDecl.{PairDecl}
 use Rattle.flat_scene.specs.declared.setup.Setup.{Setup}
 use Rattle.flat_scene.specs.declared.trees.Tree.{Tree}
 use Rattle.flat_scene.specs.History.{is_display}
-use Rattle.flat_scene.specs.Setups.{has_one_display_pair}
-use Rattle.flat_topology.specs.Distances.{is_shown_by}
+use Rattle.flat_scene.specs.Heads.{has_one_display_pair}
+use Rattle.flat_topology.specs.Shown.{is_shown_by, Shown, pairs_shown, state_of, view_of}
 use Rattle.flat_topology.specs.Fit.{FitsSetup}
 use Rattle.flat_topology.specs.Join.{is_joined}
 use Rattle.flat_topology.specs.Laws.{JoinsTheConnected}
 use Rattle.flat_topology.specs.Links.{IsBelow, IsConnected, IsConnectedThrough}
-use Rattle.flat_topology.specs.Pairs.{display_pair, OwnsView, OwnsViewport}
-use Rattle.flat_topology.specs.Shown.{Shown, pairs_shown, state_of, view_of}
+use Rattle.flat_topology.specs.Pairs.{display_pair}
+use Rattle.flat_topology.specs.Owners.{OwnsView, OwnsViewport}
 use Rattle.flat_topology.proofs.lemmas.Distinct.{contains-in, in-contains}
 use Rattle.flat_why.proofs.ShownPairs.{found-in, in-found}
 use Rattle.flat_rules.specs.Ends.{viewport_owner}

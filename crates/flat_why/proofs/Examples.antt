@@ -68,12 +68,12 @@ setup = record {
   pairs = record { viewport = Display; view = s 1 } ∷ record { viewport = Session (s 1); view = s 2 } ∷ record { viewport = Session (s 1); view = s 3 } ∷ [];
   buffers = [];
   fences = record { owners = Session (s 2) ∷ [] } ∷ [];
-  version = 1;
   ratio = 65536;
 }
 
 abbrev script : Script
 script = record {
+  version = 1;
   setup = setup;
   sessions = codes "shell" ∷ codes "app" ∷ codes "bad" ∷ [];
   probes = [];

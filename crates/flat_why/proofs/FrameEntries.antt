@@ -28,14 +28,14 @@ use Rattle.flat_scene.specs.declared.setup.Setup.{Setup}
 use Rattle.flat_scene.specs.declared.trees.Tree.{Tree}
 use Rattle.flat_scene.specs.Frames.{ratio, sessions_to, setup_at, taken}
 use Rattle.flat_scene.specs.History.{◌▹◌, is_begin, is_finish, is_session}
-use Rattle.flat_scene.specs.Setups.{at_ratio, is_declared, owners_declared}
+use Rattle.flat_scene.specs.Setups.{at_ratio, is_declared}
+use Rattle.flat_scene.specs.Heads.{owners_declared}
 use Rattle.flat_rules.specs.Ends.{to_begin}
 use Rattle.flat_rules.specs.Legal.{LegalEntry, frames, is_frame_open, keeps_time, may_act}
 use Rattle.flat_rules.specs.Shown.{is_pair, shown_states}
 use Rattle.flat_rules.proofs.lemmas.ShownList.{listed-at}
-use Rattle.flat_topology.specs.Distances.{is_shown_by}
+use Rattle.flat_topology.specs.Shown.{is_shown_by, Shown, state_of}
 use Rattle.flat_topology.specs.Place.{placed_nodes}
-use Rattle.flat_topology.specs.Shown.{Shown, state_of}
 use Rattle.flat_why.specs.declared.causes.Cause.{Cause}
 use Rattle.flat_why.specs.declared.causes.Cause.TheVariants.{Parted}
 use Rattle.flat_why.specs.declared.causes.Hidden.{Hidden}

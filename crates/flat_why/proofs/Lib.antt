@@ -8,6 +8,7 @@ mod Hiding
 mod Noting
 mod OverSessions
 mod Owners
+mod Painting
 mod Searching
 mod SessionEntries
 mod ShownPairs

@@ -19,7 +19,8 @@ use Rattle.flat_rules.specs.Ends.{to_begin}
 use Rattle.flat_rules.specs.Shown.{is_pair}
 use Rattle.flat_why.specs.declared.causes.Closing.{Closing}
 use Rattle.flat_why.specs.declared.causes.Due.{Due}
-use Rattle.flat_why.specs.Causes.{closing_by, closing_of, dues, dues_by, is_waiting, last_use, made_by, or_before, used_by}
+use Rattle.flat_why.specs.Causes.{closing_by, closing_of, dues, dues_by, is_waiting, last_use, made_by, used_by}
+use Rattle.std.specs.Option.{option_or}
 use Rattle.flat_why.specs.Noted.{closings_in, uses_in, with_closing, with_use}
 
 -- ---- numbers of sessions
@@ -32,7 +33,7 @@ declared-number setup s is =
 
 -- ---- how sessions were closed
 
-nothing-new : (b : Bool) (before : Option Closing) → or_before (cond b None None) before ≡ before
+nothing-new : (b : Bool) (before : Option Closing) → option_or (cond b None None) before ≡ before
 nothing-new true before = refl
 nothing-new false before = refl
 
@@ -41,10 +42,10 @@ pub closed-step : (setup : Setup) (old : List Entry) (entry : Entry) (s : Sessio
     → (t : SessionNo) → is_declared setup t ≡ true → closings_in new t ≡ closing_of t (old ▹ entry)
 closed-step setup old entry s closings new mine known many is was t there = ap (λ cs. closings_in cs t) is ∙ by (closing_by entry.line entry.reply) ∙ sym after
   where
-    after : closing_of t (old ▹ entry) ≡ or_before (cond (s.0 == t.0) (closing_by entry.line entry.reply) None) (closing_of t old)
-    after = ap (λ (a : Actor). or_before (cond (is_session t a) (closing_by entry.line entry.reply) None) (closing_of t old)) mine
+    after : closing_of t (old ▹ entry) ≡ option_or (cond (s.0 == t.0) (closing_by entry.line entry.reply) None) (closing_of t old)
+    after = ap (λ (a : Actor). option_or (cond (is_session t a) (closing_by entry.line entry.reply) None) (closing_of t old)) mine
 
-    by : (c : Option Closing) → closings_in (with_closing s c closings) t ≡ or_before (cond (s.0 == t.0) c None) (closing_of t old)
+    by : (c : Option Closing) → closings_in (with_closing s c closings) t ≡ option_or (cond (s.0 == t.0) c None) (closing_of t old)
     by None = was t there ∙ sym (nothing-new (s.0 == t.0) (closing_of t old))
     by (Some closing) = by_test (eqb_tells s.0 t.0)
       where
@@ -54,19 +55,19 @@ closed-step setup old entry s closings new mine known many is was t there = ap (
         far : (0 < t.0) × (t.0 ≤ setup.sessions)
         far = declared-number setup t there
 
-        by_test : ((◌≡◌ (s.0 == t.0) true) × (s.0 ≡ t.0)) ⊎ ((◌≡◌ (s.0 == t.0) false) × (s.0 ≢ t.0)) → closings_in (slice_set closings (s.0 - 1) (Some closing)) t ≡ or_before (cond (s.0 == t.0) (Some closing) None) (closing_of t old)
+        by_test : ((◌≡◌ (s.0 == t.0) true) × (s.0 ≡ t.0)) ⊎ ((◌≡◌ (s.0 == t.0) false) × (s.0 ≢ t.0)) → closings_in (slice_set closings (s.0 - 1) (Some closing)) t ≡ option_or (cond (s.0 == t.0) (Some closing) None) (closing_of t old)
         by_test (inl same) =
             let place : t.0 - 1 ≡ s.0 - 1 = ap (λ n. n - 1) (sym same.1) in
             let low : s.0 - 1 < length closings = let a = here.0 in let b = here.1 in omega (arith, a, b, many) in
             ap (λ n. slice_index_or (slice_set closings (s.0 - 1) (Some closing)) n None) place ∙ get_or-set_same closings (s.0 - 1) (Some closing) None low
-            ∙ sym (ap (λ b. or_before (cond b (Some closing) None) (closing_of t old)) same.0)
+            ∙ sym (ap (λ b. option_or (cond b (Some closing) None) (closing_of t old)) same.0)
         by_test (inr apart) =
             let other : t.0 - 1 ≢ s.0 - 1 = λ e. apart.1 (let a = here.0 in let b = far.0 in omega (arith, a, b, e)) in
-            get_or-set_other closings (s.0 - 1) (t.0 - 1) (Some closing) None other ∙ was t there ∙ sym (ap (λ b. or_before (cond b (Some closing) None) (closing_of t old)) apart.0)
+            get_or-set_other closings (s.0 - 1) (t.0 - 1) (Some closing) None other ∙ was t there ∙ sym (ap (λ b. option_or (cond b (Some closing) None) (closing_of t old)) apart.0)
 
 -- an entry that closes nobody
 pub closed-other : (old : List Entry) (entry : Entry) (t : SessionNo) → is_session t entry.actor ≡ false → closing_of t (old ▹ entry) ≡ closing_of t old
-closed-other old entry t other = ap (λ b. or_before (cond b (closing_by entry.line entry.reply) None) (closing_of t old)) other
+closed-other old entry t other = ap (λ b. option_or (cond b (closing_by entry.line entry.reply) None) (closing_of t old)) other
 
 -- ---- the last uses of viewport ends
 

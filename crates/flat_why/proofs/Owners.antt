@@ -10,9 +10,9 @@ use Rattle.flat_base.specs.declared.ids.SessionNo.{SessionNo}
 use Rattle.flat_scene.specs.declared.setup.PairDecl.{PairDecl}
 use Rattle.flat_scene.specs.declared.setup.Setup.{Setup}
 use Rattle.flat_scene.specs.declared.trees.Tree.{Tree}
-use Rattle.flat_scene.specs.Setups.{is_declared, is_pair_declared, may_own, owners_declared}
-use Rattle.flat_topology.specs.Distances.{is_shown_by}
-use Rattle.flat_topology.specs.Shown.{Shown, state_of}
+use Rattle.flat_scene.specs.Setups.{is_declared}
+use Rattle.flat_scene.specs.Heads.{is_pair_declared, may_own, owners_declared}
+use Rattle.flat_topology.specs.Shown.{is_shown_by, Shown, state_of}
 use Rattle.flat_rules.specs.Ends.{viewport_owner}
 use Rattle.flat_why.specs.declared.causes.Cause.{Cause}
 use Rattle.flat_why.specs.declared.causes.Cause.TheVariants.{Parted}

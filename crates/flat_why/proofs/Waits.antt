@@ -9,10 +9,11 @@ use Rattle.flat_scene.specs.declared.journal.Reply.{Reply}
 use Rattle.flat_scene.specs.declared.journal.Reply.TheVariants as reply
 use Rattle.flat_scene.specs.History.{◌▹◌, closes, is_closed, is_session, own}
 use Rattle.flat_why.specs.declared.causes.Closing.{Closing}
-use Rattle.flat_why.specs.Causes.{closing_by, closing_of, or_before}
+use Rattle.flat_why.specs.Causes.{closing_by, closing_of}
+use Rattle.std.specs.Option.{option_or}
 
 -- a session was closed exactly where it is known how
-closed-by : (line : ℕ) (r : Reply) (before : Option Closing) → is_some (or_before (closing_by line r) before) ≡ (closes r || is_some before)
+closed-by : (line : ℕ) (r : Reply) (before : Option Closing) → is_some (option_or (closing_by line r) before) ≡ (closes r || is_some before)
 closed-by line (reply.Closed error reason) before = refl
 closed-by line _ before = refl
 
@@ -21,7 +22,7 @@ closing-closed s [] = refl
 closing-closed s (before ▹ entry) = by (is_session s entry.actor) (closing-closed s before)
   where
     by : (b : Bool) → is_some (closing_of s before) ≡ is_closed s before
-        → is_some (or_before (cond b (closing_by entry.line entry.reply) None) (closing_of s before)) ≡ list_any (λ (one : Entry). closes one.reply) (cond b (entry ∷ own s before) (own s before))
+        → is_some (option_or (cond b (closing_by entry.line entry.reply) None) (closing_of s before)) ≡ list_any (λ (one : Entry). closes one.reply) (cond b (entry ∷ own s before) (own s before))
     by true was = closed-by entry.line entry.reply (closing_of s before) ∙ ap (λ b. closes entry.reply || b) was
     by false was = was
 

@@ -1,14 +1,16 @@
 -- Why a session that is on the display draws nothing: the first test that leaves none of its nodes.
-use Rattle.std.specs.Prelude.{ℕ, Bool, false, cond, not, ◌&&◌, ◌==◌, List, length, Option, Some, None, is_some}
+use Rattle.std.specs.Prelude.{ℕ, Bool, false, cond, not, ◌&&◌, ◌||◌, ◌==◌, List, Option, Some, None, is_none, is_some}
 use Rattle.std.specs.List.{list_any}
 use Rattle.flat_base.specs.declared.ids.SessionNo.{SessionNo}
 use Rattle.flat_geom.specs.declared.matrix.Matrix.{Matrix}
 use Rattle.flat_geom.specs.Rectangles.{has_no_point, mapped_rect, sized_rect}
+use Rattle.flat_scene.specs.declared.trees.Children.{Children}
 use Rattle.flat_scene.specs.declared.trees.Content.{Content}
 use Rattle.flat_scene.specs.declared.trees.Content.TheVariants as content
 use Rattle.flat_scene.specs.declared.trees.Tree.{Tree}
-use Rattle.flat_snap.specs.Flat.{flat_nodes}
+use Rattle.flat_scene.specs.Trees.{fold_nodes}
 use Rattle.flat_topology.specs.declared.Placed.{Placed}
+use Rattle.flat_topology.specs.Shown.{nodes_of}
 use Rattle.flat_why.specs.declared.causes.Blank.{Blank}
 use Rattle.flat_why.specs.declared.causes.Blank.TheVariants.{Rootless, Contentless, Transparent, Sizeless, Clipped}
 
@@ -41,9 +43,12 @@ some_node s test nodes = list_any (λ at. at.session.0 == s.0 && test at) nodes
 abbrev pub unseen_of : SessionNo → List Placed → Blank
 unseen_of s nodes = cond (some_node s is_seen nodes) (cond (some_node s has_size nodes) Clipped Sizeless) Transparent
 
+-- whether one of these nodes, or of those below them, paints
+abbrev pub some_paint : Children → Bool
+some_paint = fold_nodes (λ node below after. paints node.content || (below || after)) false
+
 -- the same of any session, by what it shows
 abbrev pub blank_of : Option Tree → SessionNo → List Placed → Blank
 blank_of None s nodes = Rootless
 blank_of (Some tree) s nodes =
-    cond (length (flat_nodes tree) == 0) Rootless
-    (cond (list_any (λ n. paints n.content) (flat_nodes tree)) (unseen_of s nodes) Contentless)
+    cond (is_none tree.root) Rootless (cond (some_paint (nodes_of (Some tree))) (unseen_of s nodes) Contentless)

@@ -1,7 +1,6 @@
 -- Why a session is not on the display: the first of these causes that holds at the begin of a frame, with
 -- which the history ends.
-use Rattle.std.specs.Prelude.{ℕ, suc, Bool, true, false, cond, not, ◌&&◌, ◌==◌, nat_lt, List, [], ◌∷◌, ◌++◌, length}
-use Rattle.std.specs.Prelude.{map, filter, find, Option, Some, None}
+use Rattle.std.specs.Prelude.{ℕ, suc, Bool, true, false, cond, not, ◌&&◌, ◌==◌, nat_lt, List, [], ◌∷◌, ◌++◌, length, map, filter, find, Option, Some, None}
 use Rattle.std.specs.List.{list_any}
 use Rattle.flat_base.specs.declared.ids.Actor.{Actor}
 use Rattle.flat_base.specs.declared.ids.Actor.TheVariants.{Display, Session}
@@ -17,11 +16,11 @@ use Rattle.flat_scene.specs.declared.setup.Setup.{Setup}
 use Rattle.flat_scene.specs.declared.trees.Tree.{Tree}
 use Rattle.flat_scene.specs.Frames.{is_signalled, taken}
 use Rattle.flat_scene.specs.History.{◌▹◌, is_closed, is_session, presents}
-use Rattle.flat_topology.specs.Distances.{is_shown_by}
-use Rattle.flat_topology.specs.Shown.{Shown, state_of}
+use Rattle.flat_topology.specs.Shown.{is_shown_by, Shown, state_of}
 use Rattle.flat_rules.specs.Ends.{viewport_owner}
 use Rattle.flat_rules.specs.Legal.{begin_time}
 use Rattle.flat_rules.specs.Shown.{is_pair, shown_states}
+use Rattle.std.specs.Option.{option_or}
 use Rattle.flat_why.specs.declared.causes.Closing.{Closing}
 use Rattle.flat_why.specs.declared.causes.Due.{Due}
 use Rattle.flat_why.specs.declared.causes.Hold.{Hold}
@@ -41,16 +40,11 @@ abbrev pub closing_by : ℕ → Reply → Option Closing
 closing_by line (reply.Closed error reason) = Some (record { line = line; error = error; reason = reason })
 closing_by line _ = None
 
--- the later of two, if there is one
-abbrev pub or_before : {A : Type 0} → Option A → Option A → Option A
-or_before (Some a) before = Some a
-or_before None before = before
-
 -- how a session was closed, if it was
 abbrev pub closing_of : SessionNo → List Entry → Option Closing
 closing_of s [] = None
 closing_of s (before ▹ entry) =
-    or_before (cond (is_session s entry.actor) (closing_by entry.line entry.reply) None) (closing_of s before)
+    option_or (cond (is_session s entry.actor) (closing_by entry.line entry.reply) None) (closing_of s before)
 
 -- the present that an entry makes
 abbrev pub dues_by : Actor → Kind → Reply → List Due

@@ -1,6 +1,5 @@
 -- What the causes say of a frame.
-use Rattle.std.specs.Prelude.{◌≡◌, ⊤, ◌↔◌, ◌<◌, ◌≤◌, ◌^◌, ◌==◌, ◌&&◌, not, ℕ, Bool, true, IsTrue, List, length, filter}
-use Rattle.std.specs.Prelude.{nat_lt, slice_get, Option, Some, is_some}
+use Rattle.std.specs.Prelude.{◌≡◌, ⊤, ◌↔◌, ◌<◌, ◌≤◌, ◌^◌, ◌==◌, ◌&&◌, not, ℕ, Bool, true, IsTrue, List, length, filter, nat_lt, slice_get, Option, Some, is_some}
 use Rattle.std.specs.List.{list_any}
 use Rattle.flat_base.specs.declared.ids.PairNo.{PairNo}
 use Rattle.flat_base.specs.declared.ids.SessionNo.{SessionNo}
@@ -15,7 +14,7 @@ use Rattle.flat_scene.specs.declared.journal.Entry.{Entry}
 use Rattle.flat_scene.specs.declared.setup.Setup.{Setup}
 use Rattle.flat_scene.specs.Frames.{taken}
 use Rattle.flat_scene.specs.History.{is_closed, presents}
-use Rattle.flat_scene.specs.Setups.{has_one_display_pair}
+use Rattle.flat_scene.specs.Heads.{has_one_display_pair}
 use Rattle.flat_topology.specs.Fit.{FitsSetup}
 use Rattle.flat_topology.specs.Join.{is_joined}
 use Rattle.flat_topology.specs.Shown.{Shown}

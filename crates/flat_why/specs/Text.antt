@@ -59,14 +59,11 @@ cause_words script Viewless = codes "viewless" ∷ []
 cause_words script (Parted parent pair why) =
     codes "viewport" ∷ pair_name script pair ∷ session_name script.sessions parent ∷ parting_word why ∷ []
 
-abbrev pub hidden_words : Script → Hidden → List Word
-hidden_words script (Unhung cause) = cause_words script cause
-hidden_words script (Parent parent) = codes "parent" ∷ session_name script.sessions parent ∷ []
-hidden_words script Cycle = codes "cycle" ∷ []
-
-abbrev pub why_words : Script → Option Hidden → List Word
-why_words script None = []
-why_words script (Some hidden) = hidden_words script hidden
+abbrev pub hidden_words : Script → Option Hidden → List Word
+hidden_words script (Some (Unhung cause)) = cause_words script cause
+hidden_words script (Some (Parent parent)) = codes "parent" ∷ session_name script.sessions parent ∷ []
+hidden_words script (Some Cycle) = codes "cycle" ∷ []
+hidden_words script None = []
 
 abbrev pub blank_word : Blank → Word
 blank_word Rootless = codes "rootless"
@@ -90,7 +87,7 @@ shown_line script n s drawn =
 
 -- a session that isn't, and why
 abbrev pub hidden_line : Script → ℕ → SessionNo → Option Hidden → List Word
-hidden_line script n s hidden = codes "hidden" ∷ number n ∷ session_name script.sessions s ∷ why_words script hidden
+hidden_line script n s hidden = codes "hidden" ∷ number n ∷ session_name script.sessions s ∷ hidden_words script hidden
 
 -- a present that the frame left waiting
 abbrev pub wait_line : Script → ℕ → Waiting → List Word

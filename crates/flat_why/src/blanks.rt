@@ -1,14 +1,12 @@
 //! Why a session that is on the display draws nothing (specs/Blanks). What its own nodes
 //! tell is looked at first: only where some of them paint are all nodes placed.
-ghost use Rattle.std.specs.Prelude.{◌≡◌, ◌<◌, ◌≤◌, length, IfOk};
-ghost use Rattle.std.specs.List.{list_any};
+ghost use Rattle.std.specs.Prelude.{◌≡◌, ◌<◌, ◌≤◌, length, is_none, IfOk, Some};
 ghost use Rattle.flat_scene.specs.Setups.{at_ratio};
-ghost use Rattle.flat_snap.specs.Flat.{flat_nodes};
 ghost use Rattle.flat_topology.specs.Fit.{FitsSetup};
 ghost use Rattle.flat_topology.specs.Place.{placed_nodes};
-ghost use Rattle.flat_topology.specs.Shown.{state_of};
+ghost use Rattle.flat_topology.specs.Shown.{state_of, nodes_of};
 ghost use Rattle.flat_why.specs.Blanks.{painted_size, paints, is_seen, has_area, has_size};
-ghost use Rattle.flat_why.specs.Blanks.{some_node, unseen_of, blank_of};
+ghost use Rattle.flat_why.specs.Blanks.{some_node, some_paint, unseen_of, blank_of};
 
 use crate::causes::Blank;
 use flat_base::{NoMemory, SESSIONS_MAX, SessionNo};
@@ -83,9 +81,16 @@ fn unseen(s: SessionNo, nodes: &[Placed]) -> Blank
     Blank::Clipped
 }
 
+/// Whether a state has no root.
+fn is_rootless(state: &Snapshot) -> bool
+    ensures { result ≡ is_none state.now.root }
+{
+    state.nodes() == 0
+}
+
 /// Whether a node of a state paints.
 fn some_paints(state: &Snapshot) -> bool
-    ensures { result ≡ list_any (λ n. paints n.content) (flat_nodes state.now) }
+    ensures { result ≡ some_paint (nodes_of (Some state.now)) }
 {
     for i in 0..state.nodes() {
         if paints(state.node(i).content) {
@@ -114,7 +119,7 @@ pub fn why_blank(
     let Some(state) = shown.state(s) else {
         return Ok(Blank::Rootless);
     };
-    if state.nodes() == 0 {
+    if is_rootless(state) {
         return Ok(Blank::Rootless);
     }
     if !some_paints(state) {

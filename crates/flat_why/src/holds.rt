@@ -1,5 +1,5 @@
 //! Which presents wait, and what holds them back (specs/Causes).
-ghost use Rattle.std.specs.Prelude.{◌≡◌, ◌==◌, ◌<◌, suc, true, not, All, None, length, find};
+ghost use Rattle.std.specs.Prelude.{◌≡◌, ◌==◌, suc, true, not, None, length, find};
 ghost use Rattle.flat_rules.specs.Legal.{begin_time};
 ghost use Rattle.flat_scene.specs.Frames.{is_signalled};
 ghost use Rattle.flat_scene.specs.History.{is_closed};
@@ -13,22 +13,22 @@ use flat_base::{Actor, FenceNo, SessionNo};
 use flat_core::Board;
 use flat_scene::Cond;
 
-/// Whether a fence is signalled.
-fn is_signalled(board: &Board, f: FenceNo) -> bool
-    requires { f.0 < length board.now.setup.fences }
+/// Whether a fence is signalled, as a session may ask.
+fn is_signalled(board: &Board, s: SessionNo, f: FenceNo) -> bool
+    requires { is_declared board.now.setup s ≡ true }
     ensures { result ≡ is_signalled board.now.setup board.now.history f }
 {
-    board.value(Actor::Display, Cond::Fence(f)) > 0
+    board.value(Actor::Session(s), Cond::Fence(f)) > 0
 }
 
-/// The first of some fences that isn't signalled.
-fn first_unsignalled(board: &Board, acquire: &[FenceNo]) -> Option<FenceNo>
-    requires { All (λ f. f.0 < length board.now.setup.fences) acquire.now }
+/// The first of a session's fences that isn't signalled.
+fn first_unsignalled(board: &Board, s: SessionNo, acquire: &[FenceNo]) -> Option<FenceNo>
+    requires { is_declared board.now.setup s ≡ true }
     ensures { result
         ≡ find (λ f. not (is_signalled board.now.setup board.now.history f)) acquire.now }
 {
     for f in acquire {
-        if !is_signalled(board, *f) {
+        if !is_signalled(board, s, *f) {
             return Some(*f);
         }
     }
@@ -37,14 +37,14 @@ fn first_unsignalled(board: &Board, acquire: &[FenceNo]) -> Option<FenceNo>
 
 /// What holds a present back at a time.
 fn hold_of(board: &Board, now: u64, is_first: bool, due: &Due) -> Hold
-    requires { All (λ f. f.0 < length board.now.setup.fences) due.now.acquire }
+    requires { is_declared board.now.setup due.now.session ≡ true }
     ensures { result
         ≡ hold_of now (is_signalled board.now.setup board.now.history) is_first due.now }
 {
     if now < due.time {
         return Hold::Time(due.time);
     }
-    if let Some(f) = first_unsignalled(board, due.acquire.as_slice()) {
+    if let Some(f) = first_unsignalled(board, due.session, due.acquire.as_slice()) {
         return Hold::Fence(f);
     }
     if is_first {

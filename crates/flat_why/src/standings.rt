@@ -1,17 +1,16 @@
 //! Where a session hangs, or why it hangs nowhere (specs/Causes).
-ghost use Rattle.std.specs.Prelude.{◌≡◌, ◌<◌, ◌≤◌, true, length, slice_index_or, Option, Some, None};
-ghost use Rattle.std.specs.Prelude.{option_map};
+ghost use Rattle.std.specs.Prelude.{◌≡◌, ◌<◌, ◌≤◌, true, length, slice_index_or, Option, Some, None, option_map};
 ghost use Rattle.std.specs.Option.{option_copied};
 ghost use Rattle.std.specs.List.{list_any};
 ghost use Rattle.flat_base.specs.declared.ids.Actor.TheVariants.{Session};
 ghost use Rattle.flat_scene.specs.Frames.{taken};
-ghost use Rattle.flat_scene.specs.Setups.{is_declared, owners_declared};
+ghost use Rattle.flat_scene.specs.Setups.{is_declared};
+ghost use Rattle.flat_scene.specs.Heads.{owners_declared};
 ghost use Rattle.flat_snap.specs.Flat.{flat_nodes};
-ghost use Rattle.flat_topology.specs.Distances.{is_shown_by, leads_to};
-ghost use Rattle.flat_topology.specs.Shown.{state_of};
+ghost use Rattle.flat_topology.specs.Distances.{leads_to};
+ghost use Rattle.flat_topology.specs.Shown.{is_shown_by, state_of};
 ghost use Rattle.flat_rules.specs.Ends.{viewport_owner};
-ghost use Rattle.flat_why.specs.Causes.{has_viewport, parting_of, hanging_by, viewed_by};
-ghost use Rattle.flat_why.specs.Causes.{standing_in, nothing_by, first_of};
+ghost use Rattle.flat_why.specs.Causes.{has_viewport, parting_of, hanging_by, viewed_by, standing_in, nothing_by, first_of};
 ghost use Rattle.flat_why.specs.Noted.{uses_in};
 
 use crate::causes::{Cause, Closing, Parting, Standing, Waiting};

@@ -1,7 +1,7 @@
 //! What is kept of all sessions, or of all pairs, one after another (specs/Noted).
 ghost use Rattle.std.specs.Prelude.{◌≡◌, true, IfOk, None, length, map, replicate};
 ghost use Rattle.flat_scene.specs.Frames.{sessions_to, taken};
-ghost use Rattle.flat_scene.specs.Setups.{is_setup};
+ghost use Rattle.flat_scene.specs.Heads.{is_setup};
 ghost use Rattle.flat_why.specs.Causes.{first_of, nothing_by, standing_in};
 ghost use Rattle.flat_why.specs.Noted.{closings_in, uses_in};
 

@@ -11,7 +11,7 @@ ghost use Rattle.flat_topology.specs.Place.{placed_nodes};
 ghost use Rattle.flat_topology.specs.Shown.{state_of};
 ghost use Rattle.flat_why.specs.Blanks.{blank_of};
 ghost use Rattle.flat_why.specs.Hidden.{hidden_in, node_of};
-ghost use Rattle.flat_why.specs.Text.{hold_words, why_words, drawn_words, shown_line};
+ghost use Rattle.flat_why.specs.Text.{hold_words, hidden_words, drawn_words, shown_line};
 ghost use Rattle.flat_why.specs.Text.{hidden_line, wait_line, own_items};
 ghost use Rattle.flat_why.specs.Noted.{session_line, stands_in};
 
@@ -82,7 +82,7 @@ fn push_hidden_words(
     hidden: Option<Hidden>,
 ) -> Result<(), NoMemory>
     ensures { OnOk result (Writes (number frame.0 ∷ session_name script.now.sessions s
-        ∷ why_words script.now hidden) page.old page.new) }
+        ∷ hidden_words script.now hidden) page.old page.new) }
 {
     push_session_of(page, script, frame, s)?;
     push_why(page, script, hidden)?;

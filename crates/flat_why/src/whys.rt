@@ -3,8 +3,7 @@
 //!
 //! What a begin shows, takes and leaves waiting is known once it is entered, and stays so
 //! until its frame ends: so where each session hangs is looked at there.
-ghost use Rattle.std.specs.Prelude.{◌≡◌, ◌==◌, ◌++◌, ◌-◌, ◌<◌, ◌≤◌, suc, false, true, not, [], IfOk, OnOk, All};
-ghost use Rattle.std.specs.Prelude.{List, None, Some, drop, length, find, filter, map, replicate, take};
+ghost use Rattle.std.specs.Prelude.{◌≡◌, ◌==◌, ◌++◌, ◌-◌, ◌<◌, ◌≤◌, suc, false, true, not, [], IfOk, OnOk, All, List, None, Some, drop, length, find, filter, map, replicate, take};
 ghost use Rattle.std.specs.Option.{option_copied};
 ghost use Rattle.flat_base.specs.Last.{last_item};
 ghost use Rattle.flat_base.specs.declared.ids.Actor.TheVariants.{Session};
@@ -15,17 +14,16 @@ ghost use Rattle.flat_scene.specs.declared.journal.Kind.TheVariants.{Begin, Fini
 ghost use Rattle.flat_page.specs.Pages.{is_counting};
 ghost use Rattle.flat_scene.specs.Frames.{is_signalled, ratio, sessions_to, taken};
 ghost use Rattle.flat_scene.specs.History.{◌▹◌, is_begin, is_closed, is_finish, presents};
-ghost use Rattle.flat_scene.specs.Setups.{is_declared, is_setup};
+ghost use Rattle.flat_scene.specs.Setups.{is_declared};
+ghost use Rattle.flat_scene.specs.Heads.{is_setup};
 ghost use Rattle.flat_places.specs.declared.script.Script.{Script};
 ghost use Rattle.flat_report.specs.Report.{finished};
 ghost use Rattle.flat_rules.specs.Ends.{is_done, to_begin};
 ghost use Rattle.flat_rules.specs.Legal.{begin_time};
 ghost use Rattle.flat_rules.specs.Shown.{shown_states};
 ghost use Rattle.flat_topology.specs.Fit.{FitsSetup};
-ghost use Rattle.flat_why.specs.Causes.{hold_of, is_waiting, waiting_of, closing_by, closing_of};
-ghost use Rattle.flat_why.specs.Causes.{dues_by, nothing_by, first_of, standing_in, used_by};
-ghost use Rattle.flat_why.specs.Noted.{closings_in, uses_in, with_closing, with_use};
-ghost use Rattle.flat_why.specs.Noted.{newest, IsKnown, WhysStand, WhysTell};
+ghost use Rattle.flat_why.specs.Causes.{hold_of, is_waiting, waiting_of, closing_by, closing_of, dues_by, nothing_by, first_of, standing_in, used_by};
+ghost use Rattle.flat_why.specs.Noted.{closings_in, uses_in, with_closing, with_use, newest, IsKnown, WhysStand, WhysTell};
 ghost use Rattle.flat_why.specs.Text.{why_text};
 
 use crate::causes::{Closing, Due, Standing, Waiting};

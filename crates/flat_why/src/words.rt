@@ -6,7 +6,7 @@ ghost use Rattle.flat_lines.specs.Names.{pair_name};
 ghost use Rattle.flat_page.specs.Pages.{Writes};
 ghost use Rattle.flat_page.specs.Words.{number, session_name};
 ghost use Rattle.flat_why.specs.Text.{fence_name, hold_words, parting_word, cause_words};
-ghost use Rattle.flat_why.specs.Text.{hidden_words, why_words, blank_word, drawn_words};
+ghost use Rattle.flat_why.specs.Text.{hidden_words, blank_word, drawn_words};
 
 use crate::causes::{Blank, Cause, Closing, Drawn, Hidden, Hold, Parting};
 use flat_base::{FenceNo, FlatlandError, NoMemory, PairNo, Reason, Rect, SessionNo};
@@ -156,7 +156,7 @@ fn push_cause(page: &mut Page, script: &Script, cause: Cause) -> Result<(), NoMe
 
 /// Why a session is hidden.
 fn push_hidden(page: &mut Page, script: &Script, hidden: Hidden) -> Result<(), NoMemory>
-    ensures { OnOk result (Writes (hidden_words script.now hidden) page.old page.new) }
+    ensures { OnOk result (Writes (hidden_words script.now (Some hidden)) page.old page.new) }
 {
     match hidden {
         Hidden::Unhung(cause) => push_cause(page, script, cause),
@@ -169,7 +169,7 @@ fn push_hidden(page: &mut Page, script: &Script, hidden: Hidden) -> Result<(), N
 
 /// Why a session is hidden, if it is.
 pub fn push_why(page: &mut Page, script: &Script, hidden: Option<Hidden>) -> Result<(), NoMemory>
-    ensures { OnOk result (Writes (why_words script.now hidden) page.old page.new) }
+    ensures { OnOk result (Writes (hidden_words script.now hidden) page.old page.new) }
 {
     match hidden {
         Some(hidden) => push_hidden(page, script, hidden),

@@ -13,8 +13,7 @@ use Rattle.clap.proofs.FaultLemmas.{stopped_fault}
 use Rattle.clap.proofs.WalkLemmas.{walk_stopped}
 use Rattle.flat_words.specs.declared.form.Form.{Form}
 use Rattle.flat_words.specs.declared.form.Form.TheVariants.{Play, Race, Stress, Render, Damage, Focus, Pointer, Judge, Why, Film}
-use Rattle.flat_words.specs.Command.{IsNamed, frames, service}
-use Rattle.flat_words.specs.Forms.{is_option}
+use Rattle.flat_words.specs.Command.{IsNamed, frames, service, is_option}
 
 -- ---- a word without a hyphen
 

@@ -5,8 +5,8 @@ use Rattle.clap.specs.Words.{Row, Text, fault_of, first_of, subcommand_of}
 use Rattle.clap.specs.declared.error.kind.ErrorKind.TheVariants.{InvalidSubcommand, MissingRequiredArgument, MissingSubcommand, UnknownArgument}
 use Rattle.clap.proofs.OnLiterals.{clap_on_literals}
 use Rattle.flat_words.specs.declared.form.Form.TheVariants.{Stress}
-use Rattle.flat_words.specs.Command.{service}
-use Rattle.flat_words.specs.Forms.{is_option, words_of}
+use Rattle.flat_words.specs.Command.{service, is_option}
+use Rattle.flat_words.specs.Forms.{words_of}
 
 load_is_written : words_of (Stress 500) ≡ codes "stress" ∷ codes "500" ∷ []
 unfolding digits

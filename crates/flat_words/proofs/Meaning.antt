@@ -8,8 +8,8 @@ use Rattle.clap.specs.Words.{Row, Text, count_text, fault_of, subcommand_of}
 use Rattle.clap.specs.Walk.{idle, subcommand_met}
 use Rattle.flat_words.specs.declared.form.Form.{Form}
 use Rattle.flat_words.specs.declared.form.Form.TheVariants.{Play, Race, Stress, Render, Damage, Focus, Pointer, Judge, Why, Film}
-use Rattle.flat_words.specs.Command.{IsNamed, service}
-use Rattle.flat_words.specs.Forms.{CallFor, IsAllowed, is_option, words_of}
+use Rattle.flat_words.specs.Command.{IsNamed, service, is_option}
+use Rattle.flat_words.specs.Forms.{CallFor, IsAllowed, words_of}
 use Rattle.clap.specs.declared.error.kind.ErrorKind.TheVariants.{UnknownArgument}
 use Rattle.flat_words.proofs.Calls.{load_only, load_read, load_rows, names, nothing, play_alone, play_called, play_more, race_alone, race_called, race_more, render_alone, render_called, render_more, damage_alone, damage_called, damage_more, focus_alone, focus_called, focus_more, pointer_alone, pointer_called, pointer_more, judge_alone, judge_called, judge_more, why_alone, why_called, why_more, film_alone, film_called, film_more, stray, stress_alone, stress_called, stress_more, stress_one}
 

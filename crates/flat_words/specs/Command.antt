@@ -1,12 +1,11 @@
 -- the command that reads the words
-use Rattle.std.specs.Prelude.{◌≡◌, ◌≤◌, List, Some, true, codes}
+use Rattle.std.specs.Prelude.{◌≡◌, ◌≤◌, List, Some, true, codes, ◌==◌, ℕ, Bool, false, [], ◌∷◌}
 use Rattle.std.specs.Fmt.{decimal}
 use Rattle.clap.specs.Words.{App, Row, Rule, Text, first_of, new_app, new_rule, with_rule, with_subcommand}
 use Rattle.clap.specs.Simple.{Shape, on_top}
 use Rattle.flat_base.specs.declared.limits.TheConstants.{LOAD_FRAMES_MAX}
 use Rattle.flat_words.specs.declared.form.Form.{Form}
-use Rattle.flat_words.specs.declared.form.Form.TheVariants.{Play, Race, Stress, Render, Damage, Focus}
-use Rattle.flat_words.specs.declared.form.Form.TheVariants.{Pointer, Judge, Why, Film}
+use Rattle.flat_words.specs.declared.form.Form.TheVariants.{Play, Race, Stress, Render, Damage, Focus, Pointer, Judge, Why, Film}
 
 -- the word after `stress`: the number of frames
 abbrev pub frames : Rule
@@ -59,3 +58,8 @@ IsNamed call Pointer = call.0 ≡ codes "pointer"
 IsNamed call Judge = call.0 ≡ codes "judge"
 IsNamed call Why = call.0 ≡ codes "why"
 IsNamed call Film = call.0 ≡ codes "film"
+
+-- The word begins with a hyphen.
+abbrev pub is_option : List ℕ → Bool
+is_option [] = false
+is_option (byte ∷ rest) = byte == 45

@@ -1,5 +1,5 @@
 -- the words that call the service
-use Rattle.std.specs.Prelude.{◌≡◌, ◌==◌, ⊤, ℕ, ◌≤◌, Bool, false, List, [], ◌∷◌, codes}
+use Rattle.std.specs.Prelude.{◌≡◌, ⊤, ℕ, ◌≤◌, List, [], ◌∷◌, codes}
 use Rattle.std.specs.Fmt.{decimal}
 use Rattle.flat_base.specs.declared.limits.TheConstants.{LOAD_FRAMES_MAX}
 use Rattle.flat_words.specs.declared.form.Form.{Form}
@@ -27,8 +27,3 @@ IsAllowed _ = ⊤
 -- The words call for a form.
 abbrev pub CallFor : List (List ℕ) → Form → Type 0
 CallFor words form = (words ≡ words_of form) × IsAllowed form
-
--- The word begins with a hyphen.
-abbrev pub is_option : List ℕ → Bool
-is_option [] = false
-is_option (byte ∷ rest) = byte == 45

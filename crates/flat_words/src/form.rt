@@ -1,15 +1,13 @@
 ghost use Rattle.flat_words.specs.declared.form.Form.{Form};
 ghost use Rattle.flat_base.specs.declared.limits.TheConstants.{LOAD_FRAMES_MAX};
-ghost use Rattle.std.specs.Prelude.{◌≡◌, ℕ, ◌≤◌, [], codes, map, Some, IfOk, IfSome, IsSomeAnd};
-ghost use Rattle.std.specs.Prelude.{IsTrue, is_some};
+ghost use Rattle.std.specs.Prelude.{◌≡◌, ℕ, ◌≤◌, [], codes, map, Some, IfOk, IfSome, IsSomeAnd, IsTrue, is_some};
 ghost use Rattle.std.specs.List.{list_any};
 ghost use Rattle.std.specs.String.{string_bytes};
 ghost use Rattle.std.specs.Fmt.{decimal};
 ghost use Rattle.clap.specs.Simple.{on_top};
-ghost use Rattle.clap.specs.Words.{app_of, fault_of, new_app, subcommand_of, subcommand_rows_of};
-ghost use Rattle.clap.specs.Words.{with_rule, with_subcommand};
-ghost use Rattle.flat_words.specs.Forms.{CallFor, is_option};
-ghost use Rattle.flat_words.specs.Command.{IsNamed, asking, frames, service};
+ghost use Rattle.clap.specs.Words.{app_of, fault_of, new_app, subcommand_of, subcommand_rows_of, with_rule, with_subcommand};
+ghost use Rattle.flat_words.specs.Forms.{CallFor};
+ghost use Rattle.flat_words.specs.Command.{is_option, IsNamed, asking, frames, service};
 
 use clap::error::ErrorKind;
 use clap::{Arg, ArgMatches, Command};

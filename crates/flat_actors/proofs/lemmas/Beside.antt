@@ -9,7 +9,8 @@ use Rattle.flat_scene.specs.declared.journal.Entry.{Entry}
 use Rattle.flat_scene.specs.declared.journal.Kind.{Kind}
 use Rattle.flat_scene.specs.declared.journal.Kind.TheVariants.{Hit}
 use Rattle.flat_scene.specs.declared.setup.Setup.{Setup}
-use Rattle.flat_scene.specs.History.{◌▹◌, history_of, is_display, seat_number}
+use Rattle.flat_scene.specs.History.{◌▹◌, is_display}
+use Rattle.flat_scene.specs.Journals.{history_of, seat_number}
 use Rattle.flat_scene.specs.Interleave.{by_display}
 use Rattle.flat_scene.specs.Setups.{is_declared}
 use Rattle.flat_rules.specs.Ends.{to_begin, to_finished}

@@ -6,18 +6,18 @@ use Rattle.flat_io.specs.Counts.{has_risen}
 use Rattle.flat_base.specs.declared.ids.FrameNo.{FrameNo}
 use Rattle.flat_scene.specs.declared.frames.FrameOut.{FrameOut}
 use Rattle.flat_scene.specs.declared.frames.Lost.{Lost}
-use Rattle.flat_display.specs.Told.{Gains}
+use Rattle.flat_io.specs.Told.{Appends}
 use Rattle.flat_display.specs.Lost.{is_lost, lost_at, AreWithin}
 use Rattle.flat_display.specs.Shows.{Takes, Fails, Shows}
 use Rattle.flat_display.specs.Shows.Shows.{none, passed, took, failed}
 use Rattle.flat_display.specs.Had.{is_numbered, is_among, frames_before, frames_until, AreLostAt, HasHad, HaveHad, AreDriven}
 use Rattle.flat_display.proofs.Losses.{not_first, not_later, within-append}
 
-gains_none : (told : Option (List FrameOut)) → Gains [] told told
+gains_none : (told : Option (List FrameOut)) → Appends [] told told
 gains_none None = tt
 gains_none (Some xs) = sym (append-nil xs)
 
-gains_more : (xs ys : List FrameOut) (a b c : Option (List FrameOut)) → Gains xs a b → Gains ys b c → Gains (xs ++ ys) a c
+gains_more : (xs ys : List FrameOut) (a b c : Option (List FrameOut)) → Appends xs a b → Appends ys b c → Appends (xs ++ ys) a c
 gains_more xs ys a b None g h = tt
 gains_more xs ys a None (Some zs) g h = absurd h
 gains_more xs ys None (Some vs) (Some zs) g h = absurd g
@@ -145,7 +145,7 @@ module _ {D : Type 0} (told : D → Option (List FrameOut)) (count : D → ℕ) 
   passed_one lost whole frames n old mid at is same had =
       let found = at_of_lost frames lost n at is in
       let all : frames_before (lost_at whole n) (frames ++ frame ∷ []) ≡ frames_before (lost_at lost n) frames = rw (same, found.1) (until-kept found.0 frames (frame ∷ []) found.2) in
-      let P : List FrameOut → Type 0 = λ xs. Gains xs (told old) (told mid) in
+      let P : List FrameOut → Type 0 = λ xs. Appends xs (told old) (told mid) in
       record {
         gains = subst P (sym all) had.gains;
         grows = had.grows;
@@ -155,9 +155,9 @@ module _ {D : Type 0} (told : D → Option (List FrameOut)) (count : D → ℕ) 
 
   took_one : (lost whole : List Lost) (frames : List FrameOut) (n : ℕ) (old mid new : D) → is_lost lost n ≡ false → lost_at whole n ≡ None → is_lost whole n ≡ false → Takes told count frame mid new → HasHad told count lost frames n old mid → HasHad told count whole (frames ++ frame ∷ []) n old new
   took_one lost whole frames n old mid new is same kept t had =
-      let G : Option FrameNo → Type 0 = λ at. Gains (frames_before at frames) (told old) (told mid) in
-      let G' : Option FrameNo → Type 0 = λ at. Gains (frames_before at (frames ++ frame ∷ [])) (told old) (told new) in
-      let all : Gains frames (told old) (told mid) = subst G (not_lost_at lost n is) had.gains in
+      let G : Option FrameNo → Type 0 = λ at. Appends (frames_before at frames) (told old) (told mid) in
+      let G' : Option FrameNo → Type 0 = λ at. Appends (frames_before at (frames ++ frame ∷ [])) (told old) (told new) in
+      let all : Appends frames (told old) (told mid) = subst G (not_lost_at lost n is) had.gains in
       record {
         gains = subst G' (sym same) (gains_more frames (frame ∷ []) (told old) (told mid) (told new) all t.gains);
         grows = omega (arith, had.grows, t.steady);
@@ -167,11 +167,11 @@ module _ {D : Type 0} (told : D → Option (List FrameOut)) (count : D → ℕ) 
 
   failed_one : (lost whole : List Lost) (frames : List FrameOut) (n : ℕ) (old mid new : D) → is_among frames frame.frame ≡ false → is_lost lost n ≡ false → lost_at whole n ≡ Some frame.frame → Fails told count frame mid new → HasHad told count lost frames n old mid → HasHad told count whole (frames ++ frame ∷ []) n old new
   failed_one lost whole frames n old mid new fresh is same t had =
-      let G : Option FrameNo → Type 0 = λ at. Gains (frames_before at frames) (told old) (told mid) in
-      let G' : Option FrameNo → Type 0 = λ at. Gains (frames_before at (frames ++ frame ∷ [])) (told old) (told new) in
-      let F : List FrameOut → Type 0 = λ xs. Gains xs (told old) (told new) in
-      let T : Option (List FrameOut) → Type 0 = λ xs. Gains frames (told old) xs in
-      let all : Gains frames (told old) (told mid) = subst G (not_lost_at lost n is) had.gains in
+      let G : Option FrameNo → Type 0 = λ at. Appends (frames_before at frames) (told old) (told mid) in
+      let G' : Option FrameNo → Type 0 = λ at. Appends (frames_before at (frames ++ frame ∷ [])) (told old) (told new) in
+      let F : List FrameOut → Type 0 = λ xs. Appends xs (told old) (told new) in
+      let T : Option (List FrameOut) → Type 0 = λ xs. Appends frames (told old) xs in
+      let all : Appends frames (told old) (told mid) = subst G (not_lost_at lost n is) had.gains in
       record {
         gains = subst G' (sym same) (subst F (sym (until-new frames frame fresh)) (subst T (sym t.same) all));
         grows = omega (arith, had.grows, t.grows);

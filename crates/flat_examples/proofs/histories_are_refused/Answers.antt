@@ -85,6 +85,33 @@ returns-clause-time_goes_back c = refuses-entry home finished _ _ _ finished-leg
 pub returns-clause-misuse_is_carried : goal.returns-clause-misuse_is_carried
 returns-clause-misuse_is_carried c = refuses-entry home viewed _ _ _ viewed-legal refl refl refl refl
 
+pub returns-clause-other_reason : goal.returns-clause-other_reason
+returns-clause-other_reason c = refuses-entry home viewed _ _ _ viewed-legal refl refl refl refl
+
+pub returns-clause-misuse_is_hidden : goal.returns-clause-misuse_is_hidden
+returns-clause-misuse_is_hidden c = refuses-entry home viewed _ _ _ viewed-legal refl refl refl refl
+
+pub returns-clause-call_after_misuse : goal.returns-clause-call_after_misuse
+returns-clause-call_after_misuse c = refuses-entry home viewed _ _ _ viewed-legal refl refl refl refl
+
+pub returns-clause-close_without_cycle : goal.returns-clause-close_without_cycle
+returns-clause-close_without_cycle c = refuses-entry home viewed _ _ _ viewed-legal refl refl refl refl
+
+pub returns-clause-close_despite_view : goal.returns-clause-close_despite_view
+returns-clause-close_despite_view c = refuses-entry home viewed _ _ _ viewed-legal refl refl refl refl
+
+pub returns-clause-close_without_misuse : goal.returns-clause-close_without_misuse
+returns-clause-close_without_misuse c = refuses-entry home viewed _ _ _ viewed-legal refl refl refl refl
+
+pub returns-clause-leaves_with_view : goal.returns-clause-leaves_with_view
+returns-clause-leaves_with_view c = refuses-entry home [] _ _ _ tt refl refl refl refl
+
+pub returns-clause-open_end_counts : goal.returns-clause-open_end_counts
+returns-clause-open_end_counts c = refuses-entry home viewed _ _ _ viewed-legal refl refl refl refl
+
+pub returns-clause-closed_end_carries : goal.returns-clause-closed_end_carries
+returns-clause-closed_end_carries c = refuses-entry home left _ _ _ left-legal refl refl refl refl
+
 pub returns-clause-view_without_call : goal.returns-clause-view_without_call
 returns-clause-view_without_call c = refuses-entry home [] _ _ _ tt refl refl refl refl
 
@@ -97,8 +124,14 @@ returns-clause-fence_of_another c = refuses-entry home [] _ _ _ tt refl refl ref
 pub returns-clause-undeclared_fence : goal.returns-clause-undeclared_fence
 returns-clause-undeclared_fence c = refuses-entry home [] _ _ _ tt refl refl refl refl
 
+pub returns-clause-fence_of_a_session : goal.returns-clause-fence_of_a_session
+returns-clause-fence_of_a_session c = refuses-entry home [] _ _ _ tt refl refl refl refl
+
 pub returns-clause-present_of_cycle : goal.returns-clause-present_of_cycle
 returns-clause-present_of_cycle c = refuses-entry home viewed _ _ _ viewed-legal refl refl refl refl
+
+pub returns-clause-fences_are_too_many : goal.returns-clause-fences_are_too_many
+returns-clause-fences_are_too_many c = refuses-entry home viewed _ _ _ viewed-legal refl refl refl refl
 
 pub returns-clause-get_without_view : goal.returns-clause-get_without_view
 returns-clause-get_without_view c = refuses-entry home [] _ _ _ tt refl refl refl refl

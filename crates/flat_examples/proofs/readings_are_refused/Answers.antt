@@ -1,4 +1,4 @@
-use Rattle.flat_examples.proofs.Readings.{lines-go-back, line-is-skipped, end-is-missing, other-count, close-without-misuse, misuse-is-hidden, fences-are-too-many, display-stops-early, other-time}
+use Rattle.flat_examples.proofs.Readings.{lines-go-back, line-is-skipped, end-is-missing, other-count, close-without-misuse, display-stops-early, other-time}
 use Rattle.flat_examples.proofs.readings_are_refused.Goals as goal
 
 pub returns-clause-lines_go_back : goal.returns-clause-lines_go_back
@@ -15,12 +15,6 @@ returns-clause-other_count c = other-count
 
 pub returns-clause-close_without_misuse : goal.returns-clause-close_without_misuse
 returns-clause-close_without_misuse c = close-without-misuse
-
-pub returns-clause-misuse_is_hidden : goal.returns-clause-misuse_is_hidden
-returns-clause-misuse_is_hidden c = misuse-is-hidden
-
-pub returns-clause-fences_are_too_many : goal.returns-clause-fences_are_too_many
-returns-clause-fences_are_too_many c = fences-are-too-many
 
 pub returns-clause-display_stops_early : goal.returns-clause-display_stops_early
 returns-clause-display_stops_early c = display-stops-early

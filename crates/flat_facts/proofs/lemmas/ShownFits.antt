@@ -28,11 +28,12 @@ use Rattle.flat_scene.specs.Frames.{taken}
 use Rattle.flat_scene.specs.History.{◌▹◌, is_session, is_closed, calls, presents, published, Published}
 use Rattle.flat_scene.specs.Misuse.{first_reason, has_twice}
 use Rattle.flat_scene.specs.Setups.{is_declared}
-use Rattle.flat_scene.specs.Tree.{tree_tests, tree, all_nodes, is_cyclic, is_too_large, shows_twice}
+use Rattle.flat_scene.specs.Tree.{tree_tests, present_tests, tree, all_nodes, is_cyclic, is_too_large, shows_twice}
 use Rattle.flat_scene.specs.Trees.{node_count, viewports_in}
 use Rattle.flat_scene.proofs.lemmas.Steps.{presents-own, presents-other}
 use Rattle.flat_base.proofs.lemmas.Tests.{and-left, and-right}
 use Rattle.flat_rules.specs.Legal.{Legal, MayEnter, has_tree, owns_view, owns_viewport, session_may}
+use Rattle.flat_rules.proofs.lemmas.Refusals.{first-of-more}
 use Rattle.flat_rules.specs.Ends.{to_begin}
 use Rattle.flat_facts.specs.Lives.{held_of}
 use Rattle.flat_rules.specs.Shown.{shown, shown_states, tree_of, last_taken}
@@ -50,7 +51,7 @@ use Rattle.flat_facts.proofs.lemmas.TokenLaw.{counted, live_in}
 use Rattle.flat_facts.proofs.lemmas.ViewHistory.{same-session}
 use Rattle.flat_topology.proofs.lemmas.Distinct.{In, in-contains, pairs-distinct}
 use Rattle.flat_topology.specs.Fit.{FitsSetup, greatest_opacity}
-use Rattle.flat_topology.specs.Pairs.{OwnsView, OwnsViewport}
+use Rattle.flat_topology.specs.Owners.{OwnsView, OwnsViewport}
 use Rattle.flat_topology.specs.Shown.{state_of, view_of, nodes_of, pairs_in}
 use Rattle.flat_rules.proofs.lemmas.ShownList.{within-or-past}
 
@@ -98,14 +99,14 @@ module _ (setup : Setup) (s : SessionNo) where
           → (d : Draft) × IsGood setup s (calls s before ++ e.calls) d
       by_draft (Err reason) made same = let wrong : false ≡ true = ap (λ (x : Result Draft Reason). has_tree setup (result_ok x) (Present args)) (sym made) ∙ may.tree in cc
       by_draft (Ok d) made same =
-          let fine : is_none (first_reason (tree_tests d)) ≡ true = ap (λ (x : Result Draft Reason). has_tree setup (result_ok x) (Present args)) (sym made) ∙ may.tree in
+          let fine : is_none (first_reason (present_tests d args)) ≡ true = ap (λ (x : Result Draft Reason). has_tree setup (result_ok x) (Present args)) (sym made) ∙ may.tree in
           let all = lived-all setup (calls s before ++ e.calls) d made in
           let here : live_in s (before ▹ e) ≡ lives_of d = rw mine (sym all.lives) in (
             d,
             record {
               made = made;
               owned = draft-owned setup s (calls s before ++ e.calls) (all-calls-owned setup before e legal s mine) d made;
-              tests = none_of (first_reason (tree_tests d)) fine;
+              tests = first-of-more (tree_tests d) _ (none_of (first_reason (present_tests d args)) fine);
               single = λ p owned. let few = (counted setup s p owned declared (before ▹ e) legal still).few in rw here at few;
             },
           )

@@ -17,7 +17,7 @@ use Rattle.flat_scene.specs.History.{◌▹◌, own, calls, closes, is_closed, i
 use Rattle.flat_scene.proofs.lemmas.Steps.{presents-own, presents-other}
 use Rattle.flat_rules.specs.Ends.{happens, taken_calls, has_ended}
 use Rattle.flat_rules.specs.Stamps.{first_at, is_seen, IsStamp, stamp_then}
-use Rattle.flat_watch.specs.Told.{or_else}
+use Rattle.std.specs.Option.{option_or}
 use Rattle.flat_facts.proofs.lemmas.Earlier.{IsEarlier, calls-taken, taken-fits}
 use Rattle.flat_rules.proofs.lemmas.ShownSteps.{closed-before}
 use Rattle.flat_facts.proofs.lemmas.Stamped.{IsLasting, stamped, stamp-other}
@@ -54,10 +54,10 @@ own-stamp test lasting s h e stamp b mine opened does_it old = by_close (closes 
     now : closes e.reply ≡ false → stamp_then stamp b (length (presents s h)) ≡ first_at test s (h ▹ e)
     now stays =
         let was : first_at test s h ≡ stamp = sym (old.opened opened) in
-        let step : stamp_then stamp b (length (presents s h)) ≡ or_else stamp (cond (test (calls s h ++ e.calls)) (Some (length (presents s h))) None) = by_stamp stamp (does_it stays) in
-        step ∙ ap (λ (o : Option ℕ). or_else o (cond (test (calls s h ++ e.calls)) (Some (length (presents s h))) None)) (sym was) ∙ rw mine refl
+        let step : stamp_then stamp b (length (presents s h)) ≡ option_or stamp (cond (test (calls s h ++ e.calls)) (Some (length (presents s h))) None) = by_stamp stamp (does_it stays) in
+        step ∙ ap (λ (o : Option ℕ). option_or o (cond (test (calls s h ++ e.calls)) (Some (length (presents s h))) None)) (sym was) ∙ rw mine refl
       where
-        by_stamp : (o : Option ℕ) → (o ≡ None → b ≡ test (calls s h ++ e.calls)) → stamp_then o b (length (presents s h)) ≡ or_else o (cond (test (calls s h ++ e.calls)) (Some (length (presents s h))) None)
+        by_stamp : (o : Option ℕ) → (o ≡ None → b ≡ test (calls s h ++ e.calls)) → stamp_then o b (length (presents s h)) ≡ option_or o (cond (test (calls s h ++ e.calls)) (Some (length (presents s h))) None)
         by_stamp (Some k) same = refl
         by_stamp None same = ap (λ x. cond x (Some (length (presents s h))) None) (same refl)
 

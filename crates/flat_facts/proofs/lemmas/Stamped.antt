@@ -10,7 +10,7 @@ use Rattle.flat_scene.specs.Draft.{Draft, empty_draft}
 use Rattle.flat_scene.specs.History.{◌▹◌, calls, is_session, presents, published, Published}
 use Rattle.flat_rules.specs.Ends.{times, happens}
 use Rattle.flat_rules.specs.Stamps.{first_at, is_seen}
-use Rattle.flat_watch.specs.Told.{or_else}
+use Rattle.std.specs.Option.{option_or}
 use Rattle.flat_facts.proofs.lemmas.ViewCalls.{times-append}
 use Rattle.flat_facts.proofs.lemmas.ViewHistory.{published-made}
 use Rattle.flat_facts.proofs.lemmas.ViewLaw.{made_at, MadeOf, made-earlier, le-or-lt}
@@ -29,7 +29,7 @@ pub record Stamped (test : List Call → Bool) (cs : List Call) (ps : List Publi
 -- more calls, and maybe a present of them all
 module _ (test : List Call → Bool) (lasting : IsLasting test) (cs carries : List Call) (ps more : List Published) (made : MadeOf ps more (cs ++ carries)) where
   abbrev now : Option ℕ → Option ℕ
-  now first = or_else first (cond (test (cs ++ carries)) (Some (length ps)) None)
+  now first = option_or first (cond (test (cs ++ carries)) (Some (length ps)) None)
 
   some-more : (first : Option ℕ) → is_some first ≡ test cs → is_some (now first) ≡ test (cs ++ carries)
   some-more (Some k) some = sym (lasting.stays cs carries (sym some))
@@ -78,19 +78,19 @@ module _ (test : List Call → Bool) (lasting : IsLasting test) (cs carries : Li
       by_place n few (inr past) = ap test (made n past few) ∙ sym (seen-after first n old.some old.fits past)
 
 -- no more calls
-same-stamp : (test : List Call → Bool) (cs : List Call) (k : ℕ) (first : Option ℕ) → is_some first ≡ test cs → or_else first (cond (test cs) (Some k) None) ≡ first
+same-stamp : (test : List Call → Bool) (cs : List Call) (k : ℕ) (first : Option ℕ) → is_some first ≡ test cs → option_or first (cond (test cs) (Some k) None) ≡ first
 same-stamp test cs k (Some j) some = refl
 same-stamp test cs k None some = rw (sym some) refl
 
 stamped-by : (test : List Call → Bool) → IsLasting test → (s : SessionNo) (h : List Entry) (e : Entry) → Stamped test (calls s h) (presents s h) (first_at test s h)
     → (b : Bool) → is_session s e.actor ≡ b → Stamped test (calls s (h ▹ e)) (presents s (h ▹ e)) (first_at test s (h ▹ e))
 stamped-by test lasting s h e old true mine =
-    let here : Stamped test (calls s h ++ e.calls) (presents s h ++ published e.kind e.reply (calls s h ++ e.calls)) (or_else (first_at test s h) (cond (test (calls s h ++ e.calls)) (Some (length (presents s h))) None)) =
+    let here : Stamped test (calls s h ++ e.calls) (presents s h ++ published e.kind e.reply (calls s h ++ e.calls)) (option_or (first_at test s h) (cond (test (calls s h ++ e.calls)) (Some (length (presents s h))) None)) =
     stamped-more test lasting (calls s h) e.calls (presents s h) (published e.kind e.reply (calls s h ++ e.calls)) (published-made e.kind e.reply (presents s h) (calls s h ++ e.calls)) (first_at test s h) old in
     rw mine here
 stamped-by test lasting s h e old false other =
     let S : Option ℕ → Type 0 = λ first. Stamped test (calls s h) (presents s h) first in
-    let here : Stamped test (calls s h) (presents s h) (or_else (first_at test s h) (cond (test (calls s h)) (Some (length (presents s h))) None)) =
+    let here : Stamped test (calls s h) (presents s h) (option_or (first_at test s h) (cond (test (calls s h)) (Some (length (presents s h))) None)) =
     subst S (sym (same-stamp test (calls s h) (length (presents s h)) (first_at test s h) old.some)) old in
     rw other here
 
@@ -101,7 +101,7 @@ stamped test lasting s (h ▹ e) = stamped-by test lasting s h e (stamped test l
 -- another's entry leaves a stamp as it is
 pub stamp-other : (test : List Call → Bool) → IsLasting test → (s : SessionNo) (h : List Entry) (e : Entry) → is_session s e.actor ≡ false → first_at test s (h ▹ e) ≡ first_at test s h
 stamp-other test lasting s h e other =
-    let same : or_else (first_at test s h) (cond (test (calls s h)) (Some (length (presents s h))) None) ≡ first_at test s h =
+    let same : option_or (first_at test s h) (cond (test (calls s h)) (Some (length (presents s h))) None) ≡ first_at test s h =
     same-stamp test (calls s h) (length (presents s h)) (first_at test s h) (stamped test lasting s h).some in
     rw other same
 

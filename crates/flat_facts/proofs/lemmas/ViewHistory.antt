@@ -14,14 +14,14 @@ use Rattle.flat_scene.specs.declared.calls.Call.{Call}
 use Rattle.flat_scene.specs.declared.calls.Call.TheVariants.{CreateView}
 use Rattle.flat_scene.specs.declared.journal.Entry.{Entry}
 use Rattle.flat_scene.specs.declared.journal.Kind.{Kind}
-use Rattle.flat_scene.specs.declared.journal.Kind.TheVariants.{View, Viewport, Present, Close}
+use Rattle.flat_scene.specs.declared.journal.Kind.TheVariants.{View, Viewport, Present, Close, End}
 use Rattle.flat_scene.specs.declared.journal.Reply.{Reply}
 use Rattle.flat_scene.specs.declared.journal.Reply.TheVariants.{Done, Presented}
 use Rattle.flat_scene.specs.declared.setup.Setup.{Setup}
 use Rattle.flat_scene.specs.Draft.{Draft, of_serial}
 use Rattle.flat_scene.specs.Effect.{draft_of}
 use Rattle.flat_scene.specs.History.{◌▹◌, calls, closes, is_closed, is_session, own, presents, published, Published}
-use Rattle.flat_base.proofs.lemmas.Tests.{and-left}
+use Rattle.flat_base.proofs.lemmas.Tests.{and-left, and-right}
 use Rattle.flat_facts.specs.Begins.{entry_of}
 use Rattle.flat_rules.specs.Ends.{view_uses, uses_view, is_done, view_owner}
 use Rattle.flat_rules.specs.Legal.{Legal, LegalEntry, MayEnter, reply_to, refused_token, is_link, own_call, all_but_last, owns_view, owns_in_call}
@@ -96,6 +96,10 @@ or-open : (a b : Bool) → a ≡ false → (a || b) ≡ true → b ≡ true
 or-open true b opened is = let wrong : true ≡ false = opened in cc
 or-open false b opened is = is
 
+if-open : (a b c : Bool) → a ≡ false → cond a b c ≡ true → c ≡ true
+if-open true b c opened is = let wrong : true ≡ false = opened in cc
+if-open false b c opened is = is
+
 -- an own entry that makes no view
 own-plain : (setup : Setup) (s : SessionNo) (h : List Entry) (e : Entry) → is_session s e.actor ≡ true → list_any is_new_view e.calls ≡ false → is_some (result_ok (draft_of setup (calls s h ++ e.calls))) ≡ true
     → view_made e.kind e.reply ≡ None → ((p : PairNo) → (uses_view p e.kind && is_done e.reply) ≡ false) → ViewingOf setup s h → ViewingOf setup s (h ▹ e)
@@ -147,6 +151,10 @@ viewing-own setup s h who line carries (Close None) reply mine may replied stays
 viewing-own setup s h who line carries (Close (Some reason)) reply mine may replied stays opened old = let wrong : true ≡ false = sym (ap closes replied) ∙ stays in cc
 viewing-own setup s h who line carries (View q) reply mine may replied stays opened old =
     view-reply setup s h who line carries q reply (length (view_uses q h)) (length (view_uses q h) == 0) mine may refl refl replied stays opened old
+viewing-own setup s h who line carries (End n) reply mine may replied stays opened old =
+    own-plain setup s h (entry_of who line carries (End n) reply) mine (no-links-view carries (not-true (list_any is_link carries) may.links))
+    (and-right (n == 0) (is_some (result_ok (draft_of setup (calls s h ++ carries)))) (if-open (is_closed s h) (length carries == 0) (n == 0 && is_some (result_ok (draft_of setup (calls s h ++ carries)))) opened may.drafted))
+    refl (λ p. refl) old
 viewing-own setup s h who line carries kind reply mine may replied stays opened old =
     own-plain setup s h (entry_of who line carries kind reply) mine (no-links-view carries (not-true (list_any is_link carries) may.links))
     (or-open (is_closed s h) (is_some (result_ok (draft_of setup (calls s h ++ carries)))) opened may.drafted) refl (λ p. refl) old

@@ -30,7 +30,7 @@ new_name_word s words v rest given =
 size_found : (u : Script) (words : List Word) (t : Script) → display_line u words ≡ Ok t → SizeStep u (codes "display" ∷ words) t
 size_found u words t is =
     let m = mapped_ok (λ d. with_display u d.0 d.1 d.2) _ t is in
-    let tested = unless_ok BadHead (not (has_display u)) (whole (size u.setup.version) words) m.a m.given in
+    let tested = unless_ok BadHead (not (has_display u)) (whole (size u.version) words) m.a m.given in
     record { rest = words; w = m.a.0; h = m.a.1; q = m.a.2; begins = refl; first = not-true (has_display u) tested.passed; read = tested.given; made = sym m.value }
 
 session_found : (u : Script) (words : List Word) (t : Script) → session_line u words ≡ Ok t → SessionStep u (codes "session" ∷ words) t

@@ -4,7 +4,8 @@ use Rattle.std.specs.List.{list_any, before_first, after_first, position_or_len}
 use Rattle.std.proofs.lemmas.Bool.Decides.{nat_tests}
 use Rattle.std.proofs.lemmas.Slice.Eq.{bytes_eq-Decides}
 use Rattle.flat_base.specs.declared.ids.FenceNo.{FenceNo}
-use Rattle.flat_text.specs.Pieces.{is_space, pieces_left}
+use Rattle.flat_text.specs.Pieces.{is_space}
+use Rattle.flat_text.specs.Left.{pieces_left}
 use Rattle.flat_places.specs.declared.kinds.FaultKind.TheVariants.{WrongCount}
 use Rattle.flat_places.specs.declared.places.Places.{Places}
 use Rattle.flat_places.specs.Forms.{Word, Reading, Form, both, mapped, place, each, one_or_more, passes}

@@ -18,7 +18,7 @@ pub record SizeStep (u : Script) (ws : List Word) (t : Script) : Type 0 where
   pub q : ℕ
   pub begins : ws ≡ codes "display" ∷ rest
   pub first : has_display u ≡ false
-  pub read : whole (size u.setup.version) rest ≡ Ok (w, h, q)
+  pub read : whole (size u.version) rest ≡ Ok (w, h, q)
   pub made : t ≡ with_display u w h q
 
 pub record SessionStep (u : Script) (ws : List Word) (t : Script) : Type 0 where

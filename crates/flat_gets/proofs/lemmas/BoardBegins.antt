@@ -12,17 +12,16 @@ use Rattle.flat_scene.specs.declared.journal.Kind.TheVariants.{Begin, Finish}
 use Rattle.flat_scene.specs.declared.journal.Post.{Post}
 use Rattle.flat_scene.specs.declared.journal.Reply.TheVariants.{Done}
 use Rattle.flat_scene.specs.declared.setup.Setup.{Setup}
-use Rattle.flat_scene.specs.History.{◌▹◌, is_closed, presents, Published}
-use Rattle.flat_scene.specs.History.{is_finish}
-use Rattle.flat_scene.specs.Frames.{sessions_to, waiting, is_signalled, is_unsquashable, taken, going, up_to_first, ready_run, ready_prefix}
+use Rattle.flat_scene.specs.History.{◌▹◌, is_closed, presents, Published, is_finish}
+use Rattle.flat_scene.specs.Frames.{sessions_to, waiting, is_signalled, is_unsquashable, taken, going, up_to_first, ready_run, ready_prefix, is_ready}
 use Rattle.flat_rules.specs.Legal.{frames, begin_time}
 use Rattle.flat_rules.specs.Shown.{shown, tree_of}
 use Rattle.flat_rules.proofs.lemmas.ShownSteps.{serial-get, get-drop}
 use Rattle.flat_scene.proofs.lemmas.TakingLemmas.{ready-longest}
 use Rattle.flat_scene.specs.Draft.{of_serial}
-use Rattle.flat_rules.specs.Posts.{posts, events_to, Sent}
+use Rattle.flat_rules.specs.Posts.{events_to, Sent}
+use Rattle.flat_rules.specs.AllPosts.{posts}
 use Rattle.flat_fence.specs.Fences.{has}
-use Rattle.flat_scene.specs.Frames.{is_ready}
 use Rattle.flat_states.specs.declared.clock.Clock.{Clock}
 use Rattle.flat_states.specs.declared.ratios.Ratios.{Ratios}
 use Rattle.flat_states.specs.declared.state.SessionState.{SessionState}

@@ -25,8 +25,10 @@ use Rattle.flat_links.specs.declared.tokens.OutToken.{OutToken}
 use Rattle.flat_facts.specs.Begins.{finish_entry, finished, post_of, took_event}
 use Rattle.flat_rules.specs.Ends.{is_done, pair_of, uses_view, view_owner, view_uses}
 use Rattle.flat_gets.specs.Gets.{answers_to, helds_of}
-use Rattle.flat_rules.specs.Legal.{Legal, MayEnter, is_frame_open, owns_view, is_get}
-use Rattle.flat_rules.specs.Posts.{events_to, frame_took, posts, told_event}
+use Rattle.flat_rules.specs.Legal.{Legal, MayEnter, is_frame_open, owns_view}
+use Rattle.flat_rules.specs.Kinds.{is_get}
+use Rattle.flat_rules.specs.Posts.{events_to, frame_took, told_event}
+use Rattle.flat_rules.specs.AllPosts.{posts}
 use Rattle.flat_links.specs.Viewports.{AreViewports, back_events}
 use Rattle.flat_rules.specs.Watch.{layout_of, status_of, child_of, told}
 use Rattle.flat_states.proofs.lemmas.BeginLoop.{flat-on}

@@ -27,7 +27,8 @@ use Rattle.flat_watch.specs.Cells.{new_cell}
 use Rattle.flat_states.proofs.lemmas.BeginLoop.{not-below, same-side, this-side}
 use Rattle.flat_states.proofs.lemmas.Counts.{at-session, same-number}
 use Rattle.flat_gets.proofs.lemmas.DoneSteps.{UpTo, up-end, up-here, up-next, up-start}
-use Rattle.flat_rules.specs.Legal.{Legal, answers, is_get, owns_view, owns_viewport, reply_to}
+use Rattle.flat_rules.specs.Legal.{Legal, answers, owns_view, owns_viewport, reply_to}
+use Rattle.flat_rules.specs.Kinds.{is_get}
 use Rattle.flat_rules.specs.Numbers.{number, AllNumbered}
 use Rattle.flat_gets.specs.declared.pair.PairWatchers.{PairWatchers}
 use Rattle.flat_gets.specs.declared.watching.Watchers.{Watchers}

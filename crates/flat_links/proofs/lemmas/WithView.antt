@@ -10,7 +10,7 @@ use Rattle.flat_scene.specs.declared.setup.Setup.{Setup}
 use Rattle.flat_scene.specs.Frames.{taken}
 use Rattle.flat_scene.specs.History.{is_closed}
 use Rattle.flat_scene.specs.Setups.{is_declared}
-use Rattle.flat_topology.specs.Views.{is_member}
+use Rattle.flat_topology.specs.Members.{is_member}
 use Rattle.flat_states.specs.declared.clock.Clock.{Clock}
 use Rattle.flat_states.specs.declared.state.SessionState.{SessionState}
 use Rattle.flat_states.specs.Machines.{Stands, HasRoom}

@@ -6,7 +6,8 @@ use Rattle.std.proofs.lemmas.List.Folds.{list_all-append, list_all-map}
 use Rattle.flat_base.proofs.lemmas.Tests.{and-left, and-right, and-true}
 use Rattle.flat_scene.specs.declared.frames.FrameOut.{FrameOut}
 use Rattle.flat_page.specs.declared.page.Page.{Page}
-use Rattle.flat_page.specs.Happenings.{Happening, finished, said, count_before, merged, after_all, all_lines}
+use Rattle.flat_page.specs.Happenings.{Happening, finished, said, count_before, merged, all_lines}
+use Rattle.flat_page.specs.Steps.{after_all}
 use Rattle.flat_page.specs.Pages.{WritesLines}
 use Rattle.flat_page.specs.Words.{Word}
 use Rattle.flat_page.proofs.lemmas.PageLemmas.{then_lines, same_lines}

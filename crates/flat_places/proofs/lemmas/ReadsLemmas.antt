@@ -4,7 +4,8 @@ use Rattle.std.proofs.Common.{is_some, IfOk, ◌++◌, ◌<◌, length, append_a
 use Rattle.std.proofs.lemmas.Bool.Decides.{nat_tests}
 use Rattle.std.specs.List.{slice_split, onto_first}
 use Rattle.std.specs.Borrow.{Bor}
-use Rattle.flat_text.specs.Pieces.{is_space, pieces_left}
+use Rattle.flat_text.specs.Pieces.{is_space}
+use Rattle.flat_text.specs.Left.{pieces_left}
 use Rattle.flat_places.specs.declared.kinds.FaultKind.{FaultKind}
 use Rattle.flat_places.specs.declared.kinds.FaultKind.TheVariants.{WrongCount}
 use Rattle.flat_places.specs.declared.places.Places.{Places}

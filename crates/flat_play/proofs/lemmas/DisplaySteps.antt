@@ -28,11 +28,11 @@ use Rattle.flat_scene.specs.Frames.{ratio}
 use Rattle.flat_scene.specs.Setups.{at_ratio, is_declared, is_ratio}
 use Rattle.flat_core.specs.Machines.{Machine, MayCall, HasShare, entry_of}
 use Rattle.flat_rules.specs.Ends.{to_begin, to_finished, has_view}
-use Rattle.flat_rules.specs.Legal.{is_frame_open, begin_time, frames, is_fence, names_declared, display_may}
+use Rattle.flat_rules.specs.Legal.{is_frame_open, begin_time, frames, display_owns, names_declared, display_may}
 use Rattle.flat_rules.specs.Shown.{shown_states}
 use Rattle.flat_topology.specs.Hits.{hit_list}
 use Rattle.flat_topology.specs.Shown.{Shown}
-use Rattle.flat_topology.specs.Views.{is_member}
+use Rattle.flat_topology.specs.Members.{is_member}
 use Rattle.flat_report.specs.declared.report.HitAnswer.{HitAnswer}
 use Rattle.flat_report.specs.Handed.{answer_to, answers_of}
 use Rattle.flat_report.specs.Report.{finished, frame_at, hits_at}
@@ -195,7 +195,7 @@ may_finish m share times = record {
   share = share;
 }
 
-pub may_signal_fence : (m : Machine) (f : FenceNo) → HasShare m Display → is_fence m.setup f ≡ true → MayCall m Display [] (Signal f)
+pub may_signal_fence : (m : Machine) (f : FenceNo) → HasShare m Display → display_owns m.setup f ≡ true → MayCall m Display [] (Signal f)
 may_signal_fence m f share named = record {
   may = record { acts = refl; lasts = refl; times = refl; drafted = refl; calls = refl; links = refl; owned = refl; named = named; tree = refl; watcher = refl };
   share = share;

@@ -8,7 +8,7 @@ use Rattle.flat_scene.specs.declared.frames.FrameOut.{FrameOut}
 use Rattle.flat_scene.specs.declared.journal.Entry.{Entry}
 use Rattle.flat_scene.specs.declared.setup.Setup.{Setup}
 use Rattle.flat_scene.specs.History.{◌▹◌, is_finish}
-use Rattle.flat_scene.specs.ViewTrees.{is_tree}
+use Rattle.flat_scene.specs.ViewShapes.{is_tree}
 use Rattle.flat_core.specs.Machines.{Machine}
 use Rattle.flat_rules.specs.Ends.{to_begin}
 use Rattle.flat_rules.specs.Laws.{BegunStatesFit, EachSessionHasOneState}

@@ -15,7 +15,8 @@ use Rattle.flat_scene.specs.declared.script.ScriptLine.{ScriptLine}
 use Rattle.flat_scene.specs.Frames.{sessions_to}
 use Rattle.flat_scene.specs.Interleave.{session_lines, session_line}
 use Rattle.flat_scene.specs.History.{is_session}
-use Rattle.flat_scene.specs.Setups.{is_declared, is_setup}
+use Rattle.flat_scene.specs.Setups.{is_declared}
+use Rattle.flat_scene.specs.Heads.{is_setup}
 use Rattle.flat_places.specs.declared.script.Script.{Script}
 use Rattle.flat_rules.specs.Owned.{is_played_line}
 use Rattle.flat_playable.specs.Playable.{rise_from, frames_close, is_played, is_playable}

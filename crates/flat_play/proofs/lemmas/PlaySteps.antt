@@ -30,7 +30,7 @@ use Rattle.flat_scene.specs.Setups.{at_ratio, is_declared}
 use Rattle.flat_core.specs.Machines.{Machine, HasShare, entered, entry_of, made}
 use Rattle.flat_topology.specs.Hits.{hit_list}
 use Rattle.flat_rules.specs.Ends.{to_begin, to_finished, has_view}
-use Rattle.flat_topology.specs.Views.{is_member}
+use Rattle.flat_topology.specs.Members.{is_member}
 use Rattle.flat_rules.specs.Legal.{frames, is_frame_open}
 use Rattle.flat_rules.specs.Shown.{shown_states}
 use Rattle.flat_report.specs.Report.{finished, frame_at, hits_at}

@@ -45,7 +45,7 @@ last-begin (before ▹ entry) = by (is_finish entry.kind) refl (last-begin befor
         let last : to_finished (before ▹ entry) ≡ to_finished before = rw is refl in
         ap (λ n. begin_of n (before ▹ entry)) many ∙ here ∙ rest ∙ sym last
 
-finished_by : (setup : Setup) (before : List Entry) (entry : Entry) (b : Bool) → is_finish entry.kind ≡ b → finished setup (before ▹ entry) ≡ finished setup before ++ cond b (frame_at setup (suc (frames before)) (to_begin before) ∷ []) []
+pub finished_by : (setup : Setup) (before : List Entry) (entry : Entry) (b : Bool) → is_finish entry.kind ≡ b → finished setup (before ▹ entry) ≡ finished setup before ++ cond b (frame_at setup (suc (frames before)) (to_begin before) ∷ []) []
 finished_by setup before entry b is = ap (λ b. finished setup before ++ cond b (frame_at setup (suc (frames before)) (to_begin before) ∷ []) []) is
 
 one_more : (setup : Setup) (before : List Entry) (entry : Entry) (b : Bool) → is_finish entry.kind ≡ b → length (finished setup before) ≡ frames before → length (finished setup (before ▹ entry)) ≡ frames (before ▹ entry)
@@ -160,7 +160,7 @@ module _ {D : Type 0} (told : D → Option (List FrameOut)) (count : D → ℕ) 
         record {
           driven = driven_more told count frame shown shown' lost (lost ++ losses) losses olds mids news fresh kept refl seen.driven shows;
           loss = loss_more old new frame.frame (1 + length mids) 1 lost losses seen.loss (omega (arith, number, before)) (omega (arith, before, after, longer)) rise;
-          numbered = numbered_more frame.frame (1 + length mids) 1 lost losses seen.numbered (omega arith) rise;
+          numbered = numbered_more frame.frame (1 + length mids) 1 lost losses seen.numbered (omega arith) (omega arith) rise;
         }
 
     -- after what a line shows

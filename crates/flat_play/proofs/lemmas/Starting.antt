@@ -14,16 +14,17 @@ use Rattle.flat_scene.specs.declared.journal.Entry.{Entry}
 use Rattle.flat_scene.specs.declared.script.ScriptLine.{ScriptLine}
 use Rattle.flat_scene.specs.declared.setup.Setup.{Setup}
 use Rattle.flat_scene.specs.Frames.{sessions_to}
-use Rattle.flat_scene.specs.History.{seat_number}
+use Rattle.flat_scene.specs.Journals.{seat_number}
 use Rattle.flat_scene.specs.Interleave.{display_line}
-use Rattle.flat_scene.specs.Setups.{is_declared, is_setup, is_within_limits}
+use Rattle.flat_scene.specs.Setups.{is_declared}
+use Rattle.flat_scene.specs.Heads.{is_setup, is_within_limits}
 use Rattle.flat_rules.proofs.lemmas.ShownList.{length-listed}
 use Rattle.flat_rules.specs.Laws.{BegunStatesFit, NothingIsShownAtFirst}
 use Rattle.flat_core.specs.Machines.{Machine}
 use Rattle.flat_rules.specs.Ends.{has_view, views_of}
 use Rattle.flat_report.specs.declared.report.HitAnswer.{HitAnswer}
 use Rattle.flat_topology.specs.Shown.{Shown, state_of}
-use Rattle.flat_topology.specs.Views.{is_member}
+use Rattle.flat_topology.specs.Members.{is_member}
 use Rattle.flat_stage.specs.declared.reader.Reader.{Reader}
 use Rattle.flat_stage.specs.Readings.{NoneIsRead}
 use Rattle.flat_stage.specs.Reads.{IsNew}

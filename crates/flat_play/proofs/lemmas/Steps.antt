@@ -6,7 +6,8 @@ use Rattle.flat_base.specs.declared.ids.SessionNo.{SessionNo}
 use Rattle.flat_scene.specs.declared.journal.Entry.{Entry}
 use Rattle.flat_scene.specs.declared.script.Line.{Line}
 use Rattle.flat_scene.specs.declared.script.ScriptLine.{ScriptLine}
-use Rattle.flat_scene.specs.History.{◌▹◌, own, is_session, is_end, seat_number}
+use Rattle.flat_scene.specs.History.{◌▹◌, own, is_session, is_end}
+use Rattle.flat_scene.specs.Journals.{seat_number}
 use Rattle.flat_scene.specs.Interleave.{session_lines, session_line, last_line}
 use Rattle.flat_core.specs.Machines.{made}
 use Rattle.flat_places.specs.declared.script.Script.{Script}

@@ -28,6 +28,9 @@ returns-clause-playable c = λ bytes script is. playable_of script (accepted byt
 pub returns-clause-early : goal.returns-clause-early
 returns-clause-early c = λ bytes script is. (accepted bytes script is).early
 
+pub returns-clause-known : goal.returns-clause-known
+returns-clause-known c = λ bytes script is. (accepted bytes script is).known
+
 pub returns-clause-version : goal.returns-clause-version
 returns-clause-version c = λ bytes script is. (accepted_text bytes script is).first
 

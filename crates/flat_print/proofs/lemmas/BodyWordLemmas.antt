@@ -174,8 +174,8 @@ pub display_spelt : (s : Script) (words : List Word) (l : DisplayLine) → displ
 unfolding display_table
 display_spelt s [] l is = absurd (cc)
 display_spelt s (w ∷ words) l is =
-    table_spelt (display_words s) UnknownCall (known_rows s.setup.version (display_table s))
-    (known_spelt (display_words s) s.setup.version (display_table s)
+    table_spelt (display_words s) UnknownCall (known_rows s.version (display_table s))
+    (known_spelt (display_words s) s.version (display_table s)
     ((λ rest v given. begin_spelt s rest v _ _ given), ((λ rest v given. done_spelt s rest v (is_open s) given), (display_signal_spelt s, (display_wait_spelt s, (hit_spelt (λ x y. display.Hit x y) (display_words s) (λ x y. refl), (dpr_spelt s, tt)))))))
     w words l is
 
@@ -197,7 +197,7 @@ unsquashable_spelt version (w ∷ words) alone rest given = by_test (bytes_eq w 
 present_spelt : (s : Script) (a : SessionNo) (words : List Word) (l : Line) → whole (line.Present <$> present s a) words ≡ Ok l → session_words s l ≡ codes "Present" ∷ words
 present_spelt s a words l is =
     let lists : Form (List FenceNo × List FenceNo) = λ ws. (fence_lists (tested_fence s (Session a)) ws, []) in
-    let alone = unsquashable s.setup.version in
+    let alone = unsquashable s.version in
     let h : ℕ → Bool → List FenceNo × List FenceNo → PresentArgs = λ t u both. record { time = t; acquire = both.0; release = both.1; unsquashable = u } in
     let whole_line = map_ok line.Present (present s a) words l [] (whole_ok (line.Present <$> present s a) words l is) in
     let third = apply_ok (h <$> time <*> alone) lists words whole_line.a [] whole_line.given in
@@ -205,7 +205,7 @@ present_spelt s a words l is =
     let first = map_ok h time words second.g second.mid second.first in
     let args : h first.a second.a third.a ≡ whole_line.a = ap (λ g. g second.a third.a) first.value ∙ ap (λ g. g third.a) second.value ∙ third.value in
     let behind : second.mid ≡ unsquashable_word second.a ++ both_words s (Session a) third.a =
-    unsquashable_spelt s.setup.version second.mid second.a third.mid second.second ∙ ap (λ t. unsquashable_word second.a ++ t) (lists_spelt s (Session a) third.mid third.a third.second.value) in
+    unsquashable_spelt s.version second.mid second.a third.mid second.second ∙ ap (λ t. unsquashable_word second.a ++ t) (lists_spelt s (Session a) third.mid third.a third.second.value) in
     let taken : words ≡ decimal first.a ∷ unsquashable_word second.a ++ both_words s (Session a) third.a = (number_words (2 ^ 63)).takes words first.a second.mid first.given ∙ ap (λ t. decimal first.a ∷ t) behind in
     ap (session_words s) (sym whole_line.value) ∙ ap (λ p. present_words s p) (sym args) ∙ ap (λ t. codes "Present" ∷ t) (sym taken)
 
@@ -250,7 +250,7 @@ other_spelt s a w words l is =
     (present_spelt s a, (alone_spelt s (line.Get watch.Layout), (alone_spelt s (line.Get watch.Status), (child_spelt s, (signal_spelt s a, (alone_spelt s line.Poll, (wait_spelt s a, (alone_spelt s line.Disconnect, tt)))))))) w words l is
 
 -- a call; one with an inset of zeros is spelt without it
-call_line_shown : (s : Script) (a : SessionNo) (w : Word) (n : CallName) (words : List Word) (c : Call) → call_named s.setup.version w ≡ Some n → NamedCall s a w n words c → Shown (session_line s a) (session_words s (line.Call c)) (w ∷ words) (line.Call c)
+call_line_shown : (s : Script) (a : SessionNo) (w : Word) (n : CallName) (words : List Word) (c : Call) → call_named s.version w ≡ Some n → NamedCall s a w n words c → Shown (session_line s a) (session_words s (line.Call c)) (w ∷ words) (line.Call c)
 call_line_shown s a w n words c at shown =
     let fields : List Word = call_fields s c in
     record {
@@ -260,7 +260,7 @@ call_line_shown s a w n words c at shown =
           ∙ ap (λ o. option_map_or (λ m. mapped line.Call (whole (call_form s a m) fields)) o (other_line s a (w ∷ fields))) at ∙ ap (mapped line.Call) shown.fields.again;
     }
 
-by_call : (s : Script) (a : SessionNo) (w : Word) (words : List Word) (l : Line) (o : Option CallName) → call_named s.setup.version w ≡ o → session_line s a (w ∷ words) ≡ Ok l
+by_call : (s : Script) (a : SessionNo) (w : Word) (words : List Word) (l : Line) (o : Option CallName) → call_named s.version w ≡ o → session_line s a (w ∷ words) ≡ Ok l
     → option_map_or (λ n. mapped line.Call (whole (call_form s a n) words)) o (other_line s a (w ∷ words)) ≡ Ok l → Shown (session_line s a) (session_words s l) (w ∷ words) l
 by_call s a w words l None at is other = shown_whole (session_line s a) (session_words s l) (w ∷ words) l (other_spelt s a w words l other) is
 by_call s a w words l (Some n) at is called =
@@ -270,7 +270,7 @@ by_call s a w words l (Some n) at is called =
 
 pub session_shown : (s : Script) (a : SessionNo) (words : List Word) (l : Line) → session_line s a words ≡ Ok l → Shown (session_line s a) (session_words s l) words l
 session_shown s a [] l is = absurd (cc)
-session_shown s a (w ∷ words) l is = by_call s a w words l (call_named s.setup.version w) refl is is
+session_shown s a (w ∷ words) l is = by_call s a w words l (call_named s.version w) refl is is
 
 -- probes
 
@@ -297,5 +297,5 @@ body_shown s (Session a) words b is =
     let P : Body → Type 0 = λ v. Shown (actor_line s (Session a)) (body_words s v) words v in
     subst P m.value (shown_mapped body.Session (session_line s a) (session_words s m.a) words m.a (session_shown s a words m.a m.given))
 body_shown s (Probe p) words b is =
-    let m = mapped_ok body.Probe (probe_line s.setup.version words) b is in
-    shown_whole (actor_line s (Probe p)) (body_words s b) words b (ap (body_words s) (sym m.value) ∙ probe_spelt s.setup.version words m.a m.given) is
+    let m = mapped_ok body.Probe (probe_line s.version words) b is in
+    shown_whole (actor_line s (Probe p)) (body_words s b) words b (ap (body_words s) (sym m.value) ∙ probe_spelt s.version words m.a m.given) is

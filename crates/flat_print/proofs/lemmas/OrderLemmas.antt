@@ -309,7 +309,7 @@ pub insert_size : {version : ℕ} (u : Script) (ws : List Word) (t : Script) (k 
 insert_size {version = version} u ws t k good o x =
     let P : Script → Type 0 = λ v. Ordered version v (k + 1 + length (spelled ws)) in
     let t1 = with_display u x.w x.h x.q in
-    let taken = size_taken u.setup.version x.rest x.w x.h x.q x.read in
+    let taken = size_taken u.version x.rest x.w x.h x.q x.read in
     let line : List Word = codes "display" ∷ decimal x.w ∷ decimal x.h ∷ ratio_words x.q in
     let written : ws ≡ line ++ taken.extra = x.begins ∙ ap (λ r. codes "display" ∷ r) taken.words in
     let fine : IsLine line = line_front (codes "display") (decimal x.w) (decimal x.h ∷ ratio_words x.q) taken.extra (subst IsLine written good) in
@@ -601,20 +601,20 @@ lines_kept u ws t (buffers_step x) = ap (λ v. v.lines) x.made
 lines_kept u ws t (pair_step x) = ap (λ v. v.lines) x.made
 lines_kept u ws t (fence_step x) = ap (λ v. v.lines) x.made
 
-pub version_kept : (u : Script) (ws : List Word) (t : Script) → Step u ws t → t.setup.version ≡ u.setup.version
-version_kept u ws t (size_step x) = ap (λ v. v.setup.version) x.made
-version_kept u ws t (session_step x) = ap (λ v. v.setup.version) x.made
-version_kept u ws t (probe_step x) = ap (λ v. v.setup.version) x.made
-version_kept u ws t (buffers_step x) = ap (λ v. v.setup.version) x.made
-version_kept u ws t (pair_step x) = ap (λ v. v.setup.version) x.made
-version_kept u ws t (fence_step x) = ap (λ v. v.setup.version) x.made
+pub version_kept : (u : Script) (ws : List Word) (t : Script) → Step u ws t → t.version ≡ u.version
+version_kept u ws t (size_step x) = ap (λ v. v.version) x.made
+version_kept u ws t (session_step x) = ap (λ v. v.version) x.made
+version_kept u ws t (probe_step x) = ap (λ v. v.version) x.made
+version_kept u ws t (buffers_step x) = ap (λ v. v.version) x.made
+version_kept u ws t (pair_step x) = ap (λ v. v.version) x.made
+version_kept u ws t (fence_step x) = ap (λ v. v.version) x.made
 
-chain_version : (k : ℕ) (u : Script) (wss : List (List Word)) (t : Script) → Chain k u wss t → t.setup.version ≡ u.setup.version
-chain_version k u [] t chain = ap (λ (v : Script). v.setup.version) (sym chain)
+chain_version : (k : ℕ) (u : Script) (wss : List (List Word)) (t : Script) → Chain k u wss t → t.version ≡ u.version
+chain_version k u [] t chain = ap (λ (v : Script). v.version) (sym chain)
 chain_version k u (ws ∷ wss) t chain = chain_version k chain.mid wss t chain.behind ∙ version_kept u ws chain.mid chain.step
 
 -- the version stands before all of them
-pub ordered_version : {version : ℕ} (u : Script) (k : ℕ) → Ordered version u k → u.setup.version ≡ version
+pub ordered_version : {version : ℕ} (u : Script) (k : ℕ) → Ordered version u k → u.version ≡ version
 ordered_version {version = version} u k o =
     chain_version 5 o.u4 o.f u o.fences ∙ chain_version 4 o.u3 o.p o.u4 o.pairs ∙ chain_version 3 o.u2 o.b o.u3 o.buffers
     ∙ chain_version 2 o.u1 o.q o.u2 o.probes ∙ chain_version 1 o.u0 o.s o.u1 o.sessions ∙ chain_version 0 (with_version empty version) o.d o.u0 o.sizes

@@ -446,7 +446,7 @@ printed_by bytes s few is =
     let good : AllLines ((declared o ++ r) ++ bd.more) = AllLines-append (declared o ++ r) bd.more (AllLines-append (declared o) r (all_declared h hd.k o) (run_good, tt)) bd.all in
     let first : List ℕ = spelled (codes "flatland" ∷ decimal st.v ∷ []) in
     let text : text_of s ≡ first ++ fed ((declared o ++ r) ++ bd.more) =
-    ap (λ v. spelled (codes "flatland" ∷ decimal v ∷ []) ++ fed (script_words s)) (ap (λ (t : Script). t.setup.version) bd.made ∙ ordered_version h hd.k o) ∙ ap (λ w. first ++ fed w) words in
+    ap (λ v. spelled (codes "flatland" ∷ decimal v ∷ []) ++ fed (script_words s)) (ap (λ (t : Script). t.version) bd.made ∙ ordered_version h hd.k o) ∙ ap (λ w. first ++ fed w) words in
     let cut : lines_of (text_of s) ≡ first ∷ map spelled ((declared o ++ r) ++ bd.more) =
     ap lines_of text ∙ lines_of_fed first ((declared o ++ r) ++ bd.more) st.line.plain (skipped_none first st.line.kept) good in
     let pieces : map spelled ((declared o ++ r) ++ bd.more) ≡ map spelled (declared o) ++ (codes "run" ∷ map spelled bd.more) =

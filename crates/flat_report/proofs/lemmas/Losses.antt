@@ -12,11 +12,12 @@ use Rattle.flat_report.specs.Report.{is_lost_before, is_loss}
 use Rattle.flat_page.specs.Words.{number}
 use Rattle.flat_report.proofs.lemmas.Openings.{NoLoss, lost_words}
 use Rattle.flat_report.proofs.lemmas.Sheets.{laid, line_on, sheet, laid-same, told-next, number-word}
+use Rattle.flat_report.specs.Runs.{is_display_number}
 use Rattle.std.proofs.lemmas.Bool.{and_parts}
 
--- the numbers of displays have 32 bits
+-- a display has a number from 1, of 32 bits
 abbrev pub is_small : Lost → Bool
-is_small one = nat_lt one.display (2 ^ 32)
+is_small one = is_display_number one.display
 
 -- a display lost at this frame, with a number of 32 bits
 abbrev pub is_at : ℕ → Lost → Bool
@@ -28,7 +29,9 @@ same-loss : (x y : Lost) → x.display ≡ y.display → x.frame.0 ≡ y.frame.0
 same-loss x y display frame = λ i. record { display = display i; frame = record { 0 = frame i } }
 
 small : (one : Lost) → is_small one ≡ true → one.display < 2 ^ 64
-small one fits = let less : one.display < 4294967296 = grind (arith, nat_tests) in omega (arith, less)
+small one fits =
+    let low : nat_lt one.display (2 ^ 32) ≡ true = (and_parts (nat_lt 0 one.display) (nat_lt one.display (2 ^ 32)) fits).1 in
+    let less : one.display < 4294967296 = grind (arith, nat_tests) in omega (arith, less)
 
 same-frame : (n : ℕ) (x y : Lost) → (x.frame.0 == n) ≡ true → (y.frame.0 == n) ≡ true → x.frame.0 ≡ y.frame.0
 same-frame n x y of_x of_y = grind (arith, nat_tests)

@@ -156,7 +156,7 @@ head-kept n u ws t step kept =
     }
 
 probe-spoken : (s : Script) (actor : Actor) (rest : List Word) (text : Body) → actor_line s actor rest ≡ Ok text → is_asking actor text ≡ true
-probe-spoken s (Probe p) rest text is = let m = mapped_ok body.Probe (probe_line s.setup.version rest) text is in ap (is_asking (Probe p)) (sym m.value)
+probe-spoken s (Probe p) rest text is = let m = mapped_ok body.Probe (probe_line s.version rest) text is in ap (is_asking (Probe p)) (sym m.value)
 probe-spoken s Display rest text is = refl
 probe-spoken s (Session a) rest text is = refl
 

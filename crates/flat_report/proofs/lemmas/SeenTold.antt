@@ -1,6 +1,6 @@
 -- The frames that probes saw are told by the lines of the probes.
 use Rattle.std.proofs.Common.{◌≡◌, ℕ, zero, suc, ◌+◌, ◌<◌, ◌≤◌, ◌^◌, ◌&&◌, nat_lt, nat_le, Bool, true, false, cond, List, [], ◌∷◌, length, map, codes, refl, sym, ap, ◌∙◌, arith}
-use Rattle.std.specs.List.{list_all, flat_map, zip}
+use Rattle.std.specs.List.{list_all, flat_map, zip, range_with_len}
 use Rattle.std.specs.Fmt.{signed_decimal}
 use Rattle.std.proofs.lemmas.Bool.Decides.{nat_tests}
 use Rattle.std.proofs.lemmas.Fmt.{decimal_injective}
@@ -15,7 +15,7 @@ use Rattle.flat_scene.specs.declared.script.ProbeLine.TheVariants as probe
 use Rattle.flat_scene.specs.declared.script.ScriptLine.{ScriptLine}
 use Rattle.flat_places.specs.declared.script.Script.{Script}
 use Rattle.flat_lines.specs.EntryLines.{hit_words, said_words}
-use Rattle.flat_report.specs.Report.{begin_of, hits_at, is_probe, probe_lines_of, probe_lines, numbers_from, seen_words, seen_line}
+use Rattle.flat_report.specs.Report.{begin_of, hits_at, is_probe, probe_lines_of, probe_lines, seen_words, seen_line}
 use Rattle.flat_page.specs.Words.{Word, number, name_at, actor_name}
 use Rattle.flat_report.specs.Probes.{is_asking}
 use Rattle.flat_report.proofs.lemmas.Named.{IsNamed, name-word, not-display, no-probe-name, actor-word}
@@ -50,10 +50,10 @@ of-one most n (line ∷ lines) below spoken =
     by_test false is says later = later
 
 of-all : (most n count : ℕ) (lines : List ScriptLine) → n + count ≤ most → list_all (λ (line : ScriptLine). is_asking line.actor line.body) lines ≡ true
-    → list_all (is_of_probe most) (flat_map (λ n. probe_lines_of n lines) (numbers_from n count)) ≡ true
+    → list_all (is_of_probe most) (flat_map (λ n. probe_lines_of n lines) (range_with_len n count)) ≡ true
 of-all most n zero lines fits spoken = refl
 of-all most n (suc count) lines fits spoken =
-    list_all-append (is_of_probe most) (probe_lines_of n lines) (flat_map (λ n. probe_lines_of n lines) (numbers_from (n + 1) count))
+    list_all-append (is_of_probe most) (probe_lines_of n lines) (flat_map (λ n. probe_lines_of n lines) (range_with_len (n + 1) count))
     ∙ (let here = of-one most n lines (omega arith) spoken in let later = of-all most (n + 1) count lines (omega arith) spoken in rw here later)
 
 pub probe-lines-are : (script : Script) → list_all (λ (line : ScriptLine). is_asking line.actor line.body) script.lines ≡ true → list_all (is_of_probe script.setup.probes) (probe_lines script) ≡ true

@@ -19,7 +19,8 @@ use Rattle.flat_rules.specs.Legal.{frames}
 use Rattle.flat_rules.specs.Posts.{Sent, posted}
 use Rattle.flat_places.specs.declared.script.Script.{Script}
 use Rattle.flat_report.specs.declared.report.HitAnswer.{HitAnswer}
-use Rattle.flat_lines.specs.EntryLines.{point_words, said_words, entry_line, event_line, post_line}
+use Rattle.flat_lines.specs.EntryLines.{point_words, said_words, entry_line, event_line}
+use Rattle.flat_lines.specs.PostLines.{post_line}
 use Rattle.flat_lines.specs.FrameLines.{frame_lines, lost_line, lost_at}
 use Rattle.flat_report.specs.FrameTexts.{frame_text}
 use Rattle.flat_report.specs.Handed.{answer_to, first_hits, texts_after, answers_after, shown_text, handed_text}

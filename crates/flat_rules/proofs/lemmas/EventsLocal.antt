@@ -14,7 +14,8 @@ use Rattle.flat_scene.specs.declared.journal.Told.{Told}
 use Rattle.flat_scene.specs.declared.setup.PairDecl.{PairDecl}
 use Rattle.flat_scene.specs.declared.setup.Setup.{Setup}
 use Rattle.flat_rules.specs.Ends.{pairs_where, views_of, viewports_of, to_begin, view_owner, viewport_owner, viewport_uses}
-use Rattle.flat_scene.specs.Family.{IsClosedFamily, only, is_kept}
+use Rattle.flat_scene.specs.Family.{only, is_kept}
+use Rattle.flat_scene.specs.Laws.{IsClosedFamily}
 use Rattle.flat_scene.specs.Frames.{taken, credits}
 use Rattle.flat_scene.specs.History.{◌▹◌, is_closed, is_session, is_begin, is_finish}
 use Rattle.flat_rules.specs.Legal.{Legal, owns_view, owns_viewport}

@@ -20,7 +20,8 @@ use Rattle.flat_scene.specs.declared.setup.Setup.{Setup}
 use Rattle.flat_scene.specs.declared.setup.FenceDecl.{FenceDecl}
 use Rattle.flat_scene.specs.History.{◌▹◌, own, is_closed, calls, presents, published, is_session, Published}
 use Rattle.flat_scene.specs.Frames.{is_signalled, taken, going, takes, signals, is_ready, is_unsquashable, up_to_first, ready_run, ready_prefix, lets_go, is_among, is_released_by, sessions_to}
-use Rattle.flat_scene.specs.Family.{IsClosedFamily, is_linked, shares, keeps, is_kept, only}
+use Rattle.flat_scene.specs.Family.{is_linked, shares, keeps, is_kept, only}
+use Rattle.flat_scene.specs.Laws.{IsClosedFamily}
 use Rattle.flat_rules.specs.Legal.{owns_fence, owns_in_kind, owns_all, may_act, Legal, LegalEntry}
 use Rattle.flat_scene.proofs.lemmas.Steps.{own-kept, own-dropped, presents-own, presents-other}
 use Rattle.std.proofs.lemmas.Bool.{false_from_ne_true}

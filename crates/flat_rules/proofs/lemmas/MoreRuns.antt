@@ -19,8 +19,8 @@ use Rattle.flat_scene.specs.declared.setup.Setup.{Setup}
 use Rattle.flat_scene.specs.History.{◌▹◌}
 use Rattle.flat_scene.specs.Interleave.{Interleaves}
 use Rattle.flat_rules.specs.Legal.{Legal}
-use Rattle.flat_rules.specs.Posts.{posts}
-use Rattle.flat_rules.specs.Watch.{no_inset}
+use Rattle.flat_rules.specs.AllPosts.{posts}
+use Rattle.flat_scene.specs.Draft.{no_inset}
 use Rattle.flat_rules.proofs.LegalByTests.{legal-by-tests}
 use Rattle.flat_rules.proofs.lemmas.Samples.{s, f, p, t, c, by, present, layout, post, session_line, display_line}
 
@@ -35,7 +35,6 @@ b16_token_not_back_yet-setup = record {
   pairs = (record { viewport = Display; view = s 1 } ∷ record { viewport = Session (s 1); view = s 2 } ∷ []);
   buffers = [];
   fences = [];
-  version = 1;
   ratio = 65536;
 }
 
@@ -88,7 +87,6 @@ layout_before_first_present-setup = record {
   pairs = (record { viewport = Display; view = s 1 } ∷ record { viewport = Session (s 1); view = s 2 } ∷ []);
   buffers = [];
   fences = [];
-  version = 1;
   ratio = 65536;
 }
 
@@ -133,7 +131,6 @@ layout_changes_between_gets-setup = record {
   pairs = (record { viewport = Display; view = s 1 } ∷ record { viewport = Session (s 1); view = s 2 } ∷ []);
   buffers = [];
   fences = [];
-  version = 1;
   ratio = 65536;
 }
 
@@ -206,7 +203,6 @@ cycle_of_links_is_never_reached-setup = record {
   pairs = (record { viewport = Display; view = s 1 } ∷ record { viewport = Session (s 1); view = s 2 } ∷ record { viewport = Session (s 2); view = s 1 } ∷ []);
   buffers = [];
   fences = [];
-  version = 1;
   ratio = 65536;
 }
 
@@ -261,7 +257,6 @@ closed_inside_a_frame-setup = record {
   pairs = (record { viewport = Display; view = s 1 } ∷ []);
   buffers = [];
   fences = [];
-  version = 1;
   ratio = 65536;
 }
 
@@ -312,7 +307,6 @@ token_comes_back-setup = record {
   pairs = (record { viewport = Display; view = s 1 } ∷ record { viewport = Session (s 1); view = s 2 } ∷ []);
   buffers = [];
   fences = [];
-  version = 1;
   ratio = 65536;
 }
 
@@ -364,7 +358,6 @@ app_gone_before_all-setup = record {
   pairs = (record { viewport = Display; view = s 1 } ∷ record { viewport = Session (s 1); view = s 2 } ∷ record { viewport = Session (s 1); view = s 3 } ∷ []);
   buffers = (record { owner = s 2; count = 2; w = 640; h = 760 } ∷ []);
   fences = (record { owners = (Session (s 2) ∷ []) } ∷ record { owners = (Session (s 2) ∷ []) } ∷ record { owners = (Session (s 2) ∷ []) } ∷ record { owners = (Session (s 2) ∷ []) } ∷ []);
-  version = 1;
   ratio = 65536;
 }
 
@@ -458,7 +451,6 @@ parent_gone-setup = record {
   pairs = (record { viewport = Display; view = s 1 } ∷ record { viewport = Session (s 1); view = s 2 } ∷ []);
   buffers = [];
   fences = [];
-  version = 1;
   ratio = 65536;
 }
 
@@ -501,7 +493,6 @@ release_fence_signalled_at_done-setup = record {
   pairs = (record { viewport = Display; view = s 1 } ∷ []);
   buffers = [];
   fences = (record { owners = (Session (s 1) ∷ []) } ∷ []);
-  version = 1;
   ratio = 65536;
 }
 

@@ -17,7 +17,7 @@ use Rattle.flat_scene.specs.declared.setup.Setup.{Setup}
 use Rattle.flat_scene.specs.History.{◌▹◌}
 use Rattle.flat_scene.specs.Interleave.{Interleaves}
 use Rattle.flat_rules.specs.Legal.{Legal, unread_events}
-use Rattle.flat_rules.specs.Posts.{posts}
+use Rattle.flat_rules.specs.AllPosts.{posts}
 use Rattle.flat_rules.proofs.LegalByTests.{legal-by-tests}
 use Rattle.flat_rules.proofs.lemmas.Samples.{s, f, p, t, c, by, present, post, session_line, display_line}
 
@@ -32,7 +32,6 @@ one_fill_one_frame-setup = record {
   pairs = (record { viewport = Display; view = s 1 } ∷ []);
   buffers = [];
   fences = [];
-  version = 1;
   ratio = 65536;
 }
 
@@ -77,7 +76,6 @@ no_lines_no_frames-setup = record {
   pairs = (record { viewport = Display; view = s 1 } ∷ []);
   buffers = [];
   fences = [];
-  version = 1;
   ratio = 65536;
 }
 
@@ -108,7 +106,6 @@ view_without_root_then_poll-setup = record {
   pairs = (record { viewport = Display; view = s 1 } ∷ []);
   buffers = [];
   fences = [];
-  version = 1;
   ratio = 65536;
 }
 
@@ -157,7 +154,6 @@ fence_signalled_between_frames-setup = record {
   pairs = (record { viewport = Display; view = s 1 } ∷ []);
   buffers = [];
   fences = (record { owners = (Display ∷ Session (s 1) ∷ []) } ∷ []);
-  version = 1;
   ratio = 65536;
 }
 
@@ -208,7 +204,6 @@ unready_present_holds_back_later_ones-setup = record {
   pairs = (record { viewport = Display; view = s 1 } ∷ []);
   buffers = [];
   fences = (record { owners = (Display ∷ Session (s 1) ∷ []) } ∷ []);
-  version = 1;
   ratio = 65536;
 }
 
@@ -264,7 +259,6 @@ present_waits_for_its_time-setup = record {
   pairs = (record { viewport = Display; view = s 1 } ∷ []);
   buffers = [];
   fences = [];
-  version = 1;
   ratio = 65536;
 }
 
@@ -310,7 +304,6 @@ second_present_before_a_frame_closes-setup = record {
   pairs = (record { viewport = Display; view = s 1 } ∷ []);
   buffers = [];
   fences = [];
-  version = 1;
   ratio = 65536;
 }
 
@@ -349,7 +342,6 @@ b01_zero_id-setup = record {
   pairs = (record { viewport = Display; view = s 1 } ∷ []);
   buffers = [];
   fences = [];
-  version = 1;
   ratio = 65536;
 }
 

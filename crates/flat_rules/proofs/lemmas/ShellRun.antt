@@ -16,8 +16,8 @@ use Rattle.flat_scene.specs.declared.setup.Setup.{Setup}
 use Rattle.flat_scene.specs.History.{◌▹◌}
 use Rattle.flat_scene.specs.Interleave.{Interleaves}
 use Rattle.flat_rules.specs.Legal.{Legal}
-use Rattle.flat_rules.specs.Posts.{posts}
-use Rattle.flat_rules.specs.Watch.{no_inset}
+use Rattle.flat_rules.specs.AllPosts.{posts}
+use Rattle.flat_scene.specs.Draft.{no_inset}
 use Rattle.flat_rules.proofs.LegalByTests.{legal-by-tests}
 use Rattle.flat_rules.proofs.lemmas.Samples.{s, f, p, t, c, by, present, layout, post, session_line, display_line}
 
@@ -32,7 +32,6 @@ shell_with_two_apps-setup = record {
   pairs = (record { viewport = Display; view = s 1 } ∷ record { viewport = Session (s 1); view = s 2 } ∷ record { viewport = Session (s 1); view = s 3 } ∷ []);
   buffers = (record { owner = s 2; count = 2; w = 640; h = 760 } ∷ []);
   fences = (record { owners = (Session (s 2) ∷ []) } ∷ record { owners = (Session (s 2) ∷ []) } ∷ record { owners = (Session (s 2) ∷ []) } ∷ record { owners = (Session (s 2) ∷ []) } ∷ []);
-  version = 1;
   ratio = 65536;
 }
 

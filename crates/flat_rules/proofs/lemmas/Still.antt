@@ -16,7 +16,8 @@ use Rattle.flat_rules.specs.Legal.{owns_view, owns_viewport}
 use Rattle.flat_rules.specs.Local.{pair_watched}
 use Rattle.flat_rules.specs.Posts.{told_event, event_of, news_for, at_begin, up_to}
 use Rattle.flat_rules.specs.Watch.{Watcher, layout_of, status_of, child_of, watching, told, props_told, asked, props_seen, props_given, is_open, is_used, listener}
-use Rattle.flat_watch.specs.Told.{Watching, asking, settled, answer, or_else}
+use Rattle.flat_watch.specs.Told.{Watching, asking, settled, answer}
+use Rattle.std.specs.Option.{option_or}
 use Rattle.flat_rules.proofs.lemmas.EventsLocal.{rest-none, hears-view, hears-viewport, flat-none, views-owned, viewports-owned}
 use Rattle.flat_rules.proofs.lemmas.ShownSteps.{closed-before}
 use Rattle.flat_rules.proofs.lemmas.WatchLocal.{asking-none, at-rest}
@@ -44,7 +45,7 @@ module _ (setup : Setup) where
   props-same (Some (Probe n)) p before e still = refl
   props-same (Some (Session s)) p before e still =
       let uses : viewport_uses p (before ▹ e) ≡ viewport_uses p before = rw still.no_viewport refl in
-      ap (λ (us : List Entry). or_else (props_seen setup p (length us) s (before ▹ e)) (props_given setup us)) uses ∙ rw still.no_finish refl
+      ap (λ (us : List Entry). option_or (props_seen setup p (length us) s (before ▹ e)) (props_given setup us)) uses ∙ rw still.no_finish refl
 
   used-same : (owner : Option Actor) (p : PairNo) (before : List Entry) (e : Entry) → IsStill p e → is_used setup owner p (before ▹ e) ≡ is_used setup owner p before
   used-same None p before e still = rw still.no_viewport refl

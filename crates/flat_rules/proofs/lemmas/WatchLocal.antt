@@ -17,13 +17,15 @@ use Rattle.flat_scene.specs.declared.setup.Setup.{Setup}
 use Rattle.flat_scene.specs.Draft.{Draft, Made, an_image, a_fill, a_viewport, made_of, content_of, of_serial}
 use Rattle.flat_scene.specs.Effect.{draft_of}
 use Rattle.flat_rules.specs.Ends.{viewport_uses, view_owner, viewport_owner}
-use Rattle.flat_scene.specs.Family.{IsClosedFamily, is_linked, only, is_kept, keeps}
+use Rattle.flat_scene.specs.Family.{is_linked, only, is_kept, keeps}
+use Rattle.flat_scene.specs.Laws.{IsClosedFamily}
 use Rattle.flat_scene.specs.History.{◌▹◌, is_session, calls}
 use Rattle.flat_rules.specs.Legal.{Legal, owns_view, owns_viewport}
 use Rattle.std.specs.Result.{result_ok}
 use Rattle.flat_rules.specs.Local.{pair_watched}
 use Rattle.flat_rules.specs.Watch.{Watcher, layout_of, status_of, child_of, watching, told, asked, asked_in, is_open, listener, watcher_of, watcher_in, watcher_of_made, is_watcher, same_watcher}
-use Rattle.flat_watch.specs.Told.{Watching, asking, answer, answered_by, settled, or_else}
+use Rattle.flat_watch.specs.Told.{Watching, asking, answer, answered_by, settled}
+use Rattle.std.specs.Option.{option_or}
 use Rattle.flat_rules.proofs.lemmas.ShownOwned.{all-calls-owned, ok-is, joined-at}
 use Rattle.flat_rules.proofs.ShownLocal.{linked-back}
 use Rattle.flat_rules.proofs.lemmas.Locality.{own-only, same-number, same-session, session-of}
@@ -38,7 +40,7 @@ use Rattle.flat_rules.proofs.lemmas.SameWatchers.{nothing-settled}
 pub asking-none : (w : Watching) → asking None w ≡ w
 asking-none w = ap (λ (o : Option Watch). let v : Watching = record w { waits = o } in v) (by_waits w.waits)
   where
-    by_waits : (o : Option Watch) → or_else o None ≡ o
+    by_waits : (o : Option Watch) → option_or o None ≡ o
     by_waits None = refl
     by_waits (Some x) = refl
 

@@ -15,7 +15,8 @@ use Rattle.flat_scene.specs.History.{◌▹◌}
 use Rattle.flat_rules.specs.Ends.{views_of, viewport_uses}
 use Rattle.flat_rules.specs.Posts.{told_event, event_of, up_to}
 use Rattle.flat_rules.specs.Watch.{Watcher, layout_of, status_of, child_of, watching, told, asked, asked_in, is_open, listener, watcher_of, is_watcher, same_watcher}
-use Rattle.flat_watch.specs.Told.{Watching, asking, settled, answer, answered_by, news, or_else}
+use Rattle.flat_watch.specs.Told.{Watching, asking, settled, answer, answered_by, news}
+use Rattle.std.specs.Option.{option_or}
 use Rattle.flat_rules.proofs.lemmas.WatchLocal.{asking-none}
 use Rattle.flat_rules.proofs.lemmas.ListLemmas.{not-some}
 
@@ -103,7 +104,7 @@ module _ (setup : Setup) where
       kept : (get : Option Watch) (w : Watching) → is_some w.waits ≡ true → asking get w ≡ w
       kept get w some = ap (λ (o : Option Watch). let v : Watching = record w { waits = o } in v) (by_waits w.waits some)
         where
-          by_waits : (o : Option Watch) → is_some o ≡ true → or_else o get ≡ o
+          by_waits : (o : Option Watch) → is_some o ≡ true → option_or o get ≡ o
           by_waits None h = cc
           by_waits (Some x) h = refl
 

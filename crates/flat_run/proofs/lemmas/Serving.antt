@@ -13,7 +13,7 @@ use Rattle.flat_run.specs.declared.answers.Unanswered.{Unanswered}
 use Rattle.flat_run.specs.declared.answers.Unanswered.TheVariants.{Fault, Memory}
 use Rattle.flat_run.specs.Answering.{Answers}
 use Rattle.flat_run.specs.Forms.{is_read}
-use Rattle.flat_run.specs.Promise.{AreFramesFor, AreGiven, CallForNothing, IsAnswer, IsThere, IsThereTooLarge, either_rose, usage_line}
+use Rattle.flat_run.specs.Promise.{AreFramesFor, AreGiven, CallForNothing, IsAnswer, Gives, IsThere, IsTooLarge, either_rose, usage_line}
 use Rattle.flat_run.specs.Serving.{Serves, SinkState, SourceState}
 use Rattle.flat_run.specs.Writing.{Writes}
 use Rattle.flat_run.proofs.Answering.{answered_or_fault, large_no_read_fault, none_given, only_large, only_told, text_cut_off, text_whole, there_no_read_fault}

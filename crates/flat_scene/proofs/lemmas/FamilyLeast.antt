@@ -10,11 +10,12 @@ use Rattle.flat_scene.specs.declared.setup.PairDecl.{PairDecl}
 use Rattle.flat_scene.specs.declared.setup.FenceDecl.{FenceDecl}
 use Rattle.flat_scene.specs.declared.setup.BufferDecl.{BufferDecl}
 use Rattle.flat_scene.specs.declared.setup.Setup.{Setup}
-use Rattle.flat_scene.specs.Family.{family, is_linked, joins, shares, IsClosedFamily}
+use Rattle.flat_scene.specs.Family.{family, is_linked, joins, shares}
+use Rattle.flat_scene.specs.Laws.{IsClosedFamily, IsLeastFamily, FamilyIsLeast}
 use Rattle.flat_scene.specs.Frames.{sessions_to}
 use Rattle.flat_scene.specs.History.{is_session}
-use Rattle.flat_scene.specs.Laws.{IsLeastFamily, FamilyIsLeast}
-use Rattle.flat_scene.specs.Setups.{owners_declared, is_within, is_declared, may_own, is_pair_declared, is_fence_declared, is_buffer_declared}
+use Rattle.flat_scene.specs.Setups.{is_within, is_declared}
+use Rattle.flat_scene.specs.Heads.{owners_declared, may_own, is_pair_declared, is_fence_declared, is_buffer_declared}
 use Rattle.flat_scene.proofs.FamilyClosed.{family-closed, family-least}
 use Rattle.flat_scene.proofs.lemmas.Members.{IsIn, in-left, in-right, any-with-all}
 use Rattle.flat_base.proofs.lemmas.Tests.{and-left, and-right, or-cases}

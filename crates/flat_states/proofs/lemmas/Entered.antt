@@ -14,7 +14,8 @@ use Rattle.flat_rules.specs.Numbers.{number, AllNumbered}
 use Rattle.flat_states.specs.Kept.{IsKept}
 use Rattle.flat_rules.specs.Legal.{Legal, reply_to}
 use Rattle.flat_states.specs.Logs.{Logged}
-use Rattle.flat_rules.specs.Posts.{posts, posted}
+use Rattle.flat_rules.specs.Posts.{posted}
+use Rattle.flat_rules.specs.AllPosts.{posts}
 use Rattle.flat_states.specs.Seen.{seen_of}
 use Rattle.flat_facts.proofs.lemmas.Between.{is_viewport, posted-between}
 use Rattle.flat_states.proofs.lemmas.Steps.{Changed, legal-entered, posts-none, room-entered, stands-entered}

@@ -25,12 +25,12 @@ use Rattle.flat_facts.specs.Begins.{entry_of}
 use Rattle.flat_rules.specs.Numbers.{number, AllNumbered}
 use Rattle.flat_states.specs.Kept.{IsKept}
 use Rattle.flat_rules.specs.Legal.{reply_to, may_act, session_may}
+use Rattle.flat_rules.proofs.lemmas.Fences.{signal-declared}
 use Rattle.flat_states.specs.Logs.{Logged}
 use Rattle.flat_states.specs.Presents.{reply_to_close, IsPlaced}
 use Rattle.flat_states.specs.Seen.{seen_of}
 use Rattle.flat_states.proofs.lemmas.Changes.{IsPlainOne, seen-other, seen-plain, changed-one, not-session, sum-same}
 use Rattle.flat_states.proofs.lemmas.Counts.{kept-session, declared-some, same-number}
-use Rattle.flat_facts.proofs.lemmas.Tests.{lt-of}
 use Rattle.flat_facts.proofs.lemmas.Between.{is_viewport}
 use Rattle.flat_states.proofs.lemmas.Entered.{Entered, kept-entered}
 use Rattle.flat_states.proofs.lemmas.Steps.{Changed}
@@ -109,7 +109,7 @@ kept-quiet m who line calls kind reply call replied quiet stays no_viewport cloc
 
 -- a fence that may be signalled is declared
 pub signal-below : (m : Machine) (who : Actor) (calls : List Call) (f : FenceNo) → MayCall m who calls (Signal f) → {n : ℕ} → n ≡ length m.setup.fences → f.0 < n
-signal-below m who calls f call same = rw same (lt-of f.0 (length m.setup.fences) call.may.named)
+signal-below m who calls f call same = rw same (signal-declared m.setup m.history who calls f call.may)
 
 pub plain-signal : (who : Actor) (line : ℕ) (calls : List Call) (f : FenceNo) → IsPlainOne (entry_of who line calls (Signal f) Done)
 plain-signal who line calls f = record { no_begin = refl; no_finish = refl; no_poll = refl; no_view = refl; none = λ made. refl }

@@ -2,8 +2,9 @@
 use Rattle.std.proofs.Common.{◌≡◌, ℕ, ◌+◌, ◌<◌, ◌≤◌, ◌^◌, Bool, true, false, List, [], ◌∷◌, length, refl, arith, sym, ◌∙◌, All, sum, slice_index_or}
 use Rattle.std.specs.Prelude.{◌&&◌, nat_lt, nat_le, sum_by}
 use Rattle.flat_base.specs.declared.ids.PairNo.{PairNo}
-use Rattle.flat_base.specs.declared.limits.TheConstants.{VERSION_MAX, SIDE_MAX, SESSIONS_MAX, PROBES_MAX, PAIRS_MAX, BUFFER_COLLECTIONS_MAX, FENCES_MAX}
-use Rattle.flat_scene.specs.Setups.{is_ratio, is_within, is_within_limits}
+use Rattle.flat_base.specs.declared.limits.TheConstants.{SIDE_MAX, SESSIONS_MAX, PROBES_MAX, PAIRS_MAX, BUFFER_COLLECTIONS_MAX, FENCES_MAX}
+use Rattle.flat_scene.specs.Setups.{is_ratio, is_within}
+use Rattle.flat_scene.specs.Heads.{is_within_limits}
 use Rattle.flat_base.proofs.lemmas.Tests.{and-left, and-right}
 use Rattle.flat_states.specs.Flags.{has_end}
 use Rattle.flat_facts.proofs.lemmas.Tests.{le-of}
@@ -58,7 +59,7 @@ three-of a b c d e f g all =
 -- there are few sessions, pairs and fences
 pub few-declared : (setup : Setup) → is_within_limits setup ≡ true → (setup.sessions ≤ SESSIONS_MAX) × (length setup.pairs ≤ PAIRS_MAX) × (length setup.fences ≤ FENCES_MAX)
 few-declared setup limits =
-    let three = three-of (is_within VERSION_MAX setup.version && is_ratio setup.ratio && is_within SIDE_MAX setup.width) (is_within SIDE_MAX setup.height) (is_within SESSIONS_MAX setup.sessions) (nat_le setup.probes PROBES_MAX) (nat_le (length setup.pairs) PAIRS_MAX)
+    let three = three-of (is_ratio setup.ratio && is_within SIDE_MAX setup.width) (is_within SIDE_MAX setup.height) (is_within SESSIONS_MAX setup.sessions) (nat_le setup.probes PROBES_MAX) (nat_le (length setup.pairs) PAIRS_MAX)
     (nat_le (length setup.buffers) BUFFER_COLLECTIONS_MAX) (nat_le (length setup.fences) FENCES_MAX) limits in
     (le-of setup.sessions SESSIONS_MAX (and-right (nat_lt 0 setup.sessions) (nat_le setup.sessions SESSIONS_MAX) three.0), le-of (length setup.pairs) PAIRS_MAX three.1, le-of (length setup.fences) FENCES_MAX three.2)
 

@@ -14,7 +14,8 @@ use Rattle.flat_scene.specs.declared.journal.Kind.{Kind}
 use Rattle.flat_scene.specs.declared.journal.Kind.TheVariants.{Signal}
 use Rattle.flat_scene.specs.declared.journal.Reply.{Reply}
 use Rattle.flat_scene.specs.declared.setup.Setup.{Setup}
-use Rattle.flat_scene.specs.History.{◌▹◌, is_begin, is_finish, seat_number, Published}
+use Rattle.flat_scene.specs.History.{◌▹◌, is_begin, is_finish, Published}
+use Rattle.flat_scene.specs.Journals.{seat_number}
 use Rattle.flat_scene.specs.Setups.{is_declared}
 use Rattle.flat_scene.specs.Frames.{signals, going, sessions_to}
 use Rattle.flat_base.proofs.lemmas.Tests.{and-right}
@@ -29,7 +30,8 @@ use Rattle.flat_states.specs.Flags.{has_end}
 use Rattle.flat_states.specs.Kept.{IsKept}
 use Rattle.flat_rules.specs.Legal.{Legal, LegalEntry, reply_to, may_act, session_may, frames}
 use Rattle.flat_states.specs.Logs.{Logged}
-use Rattle.flat_rules.specs.Posts.{posts, posted}
+use Rattle.flat_rules.specs.Posts.{posted}
+use Rattle.flat_rules.specs.AllPosts.{posts}
 use Rattle.flat_states.specs.Seen.{seen_of}
 use Rattle.flat_states.proofs.Shares.{AllPlaced, few-entries, fair-more}
 use Rattle.flat_facts.proofs.lemmas.Tests.{or-false}

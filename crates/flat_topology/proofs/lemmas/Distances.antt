@@ -11,7 +11,8 @@ use Rattle.flat_scene.specs.declared.setup.Setup.{Setup}
 use Rattle.flat_scene.specs.declared.trees.Tree.{Tree}
 use Rattle.flat_topology.specs.Shown.{Shown, state_of, view_of, nodes_of}
 use Rattle.flat_scene.specs.History.{is_display}
-use Rattle.flat_topology.specs.Pairs.{display_pair, OwnsView, OwnsViewport}
+use Rattle.flat_topology.specs.Pairs.{display_pair}
+use Rattle.flat_topology.specs.Owners.{OwnsView, OwnsViewport}
 use Rattle.flat_topology.specs.Links.{IsBelow, IsTop, IsConnectedThrough, HangsBelow}
 use Rattle.flat_topology.specs.Fit.{FitsSetup}
 use Rattle.flat_topology.specs.Join.{Viewer, viewer_from, is_view_of}

@@ -1,6 +1,6 @@
 use Rattle.std.proofs.Common.{◌≡◌, ℕ, ◌+◌, List, length, refl, sym, ap, ◌∙◌, subst, arith}
 use Rattle.flat_scene.specs.declared.journal.Entry.{Entry}
-use Rattle.flat_scene.specs.History.{history_of}
+use Rattle.flat_scene.specs.Journals.{history_of}
 use Rattle.flat_report.specs.Report.{finished}
 use Rattle.flat_stage.specs.Displays.{DisplayView}
 use Rattle.flat_play.proofs.lemmas.Seen.{as_long, seen_counted, seen_none, seen_line}

@@ -3,7 +3,8 @@ use Rattle.std.proofs.Math.Seq.{drop-cons}
 use Rattle.std.proofs.lemmas.List.{drop_all}
 use Rattle.flat_base.specs.declared.ids.SessionNo.{SessionNo}
 use Rattle.flat_scene.specs.declared.script.ScriptLine.{ScriptLine}
-use Rattle.flat_scene.specs.History.{history_of, is_session}
+use Rattle.flat_scene.specs.History.{is_session}
+use Rattle.flat_scene.specs.Journals.{history_of}
 use Rattle.flat_scene.specs.Interleave.{IsReading, session_lines}
 use Rattle.flat_actors.specs.OwnLines.{StandsBefore}
 use Rattle.flat_actors.specs.Sessions.{SessionStands}

@@ -3,7 +3,7 @@ use Rattle.std.specs.Prelude.{nat_lt, nat_le}
 use Rattle.std.proofs.lemmas.Bool.Decides.{nat_tests}
 use Rattle.flat_base.specs.declared.ids.SessionNo.{SessionNo}
 use Rattle.flat_scene.specs.Setups.{is_declared}
-use Rattle.flat_topology.specs.Views.{is_member}
+use Rattle.flat_topology.specs.Members.{is_member}
 use Rattle.flat_links.specs.Hearing.{TellsTheSame}
 use Rattle.flat_links.proofs.lemmas.WithView.{member-at}
 use Rattle.flat_scene.specs.declared.journal.Entry.{Entry}

@@ -5,7 +5,7 @@ use Rattle.flat_page.proofs.lemmas.PageLemmas.{same_lines}
 use Rattle.flat_page.proofs.lemmas.Telling.{then_later}
 use Rattle.flat_focus.specs.Chains.{Focusing}
 use Rattle.flat_focus.specs.declared.text.FocusLine.{FocusLine}
-use Rattle.flat_focus.specs.Text.{lines_with, after}
+use Rattle.flat_focus.specs.Steps.{lines_with, after}
 use Rattle.flat_focus.proofs.Rooms.{few-first, few-rest}
 use Rattle.flat_focus.proofs.Telling.{sessions-stay}
 use Rattle.flat_focus.proofs.text.+push_happenings.Goals as goal

@@ -1,6 +1,6 @@
 use Rattle.std.proofs.Common.{refl}
 use Rattle.flat_page.proofs.lemmas.Telling.{then_said, after_said}
-use Rattle.flat_focus.specs.Text.{lines_with, after}
+use Rattle.flat_focus.specs.Steps.{lines_with, after}
 use Rattle.flat_focus.proofs.text.push_asks.Goals as goal
 
 pub loop-line-preserved : goal.loop-line-preserved

@@ -1,7 +1,8 @@
 use Rattle.std.proofs.Common.{◌≡◌, take, map}
-use Rattle.flat_page.specs.Happenings.{said, after_all, all_lines}
+use Rattle.flat_page.specs.Happenings.{said, all_lines}
+use Rattle.flat_page.specs.Steps.{after_all}
 use Rattle.flat_page.specs.Pages.{WritesLines}
-use Rattle.flat_focus.specs.Text.{lines_with, after}
+use Rattle.flat_focus.specs.Steps.{lines_with, after}
 use Rattle.flat_focus.proofs.text.push_asks.Given as goal
 
 abbrev pub invariant-loop-line : goal.invariant-loop-line

@@ -2,7 +2,7 @@ use Rattle.std.proofs.Common.{◌≡◌, ◌∙◌, ap, arith, map}
 use Rattle.flat_page.specs.Happenings.{said, finished}
 use Rattle.flat_focus.specs.Chains.{Focusing}
 use Rattle.flat_page.proofs.lemmas.Telling.{then_one, after_one}
-use Rattle.flat_focus.specs.Text.{lines_with, after}
+use Rattle.flat_focus.specs.Steps.{lines_with, after}
 use Rattle.flat_focus.proofs.Telling.{sessions-stay}
 use Rattle.flat_focus.proofs.text.push_done.Goals as goal
 

@@ -4,7 +4,8 @@ use Rattle.flat_page.specs.Pages.{WritesLines}
 use Rattle.flat_page.proofs.lemmas.PageLemmas.{then_lines}
 use Rattle.flat_focus.specs.declared.text.FocusLine.{FocusLine}
 use Rattle.flat_focus.specs.Chains.{Focusing}
-use Rattle.flat_focus.specs.Text.{after, end_line, lines_with}
+use Rattle.flat_focus.specs.Text.{end_line}
+use Rattle.flat_focus.specs.Steps.{after, lines_with}
 use Rattle.flat_focus.proofs.text.push_text.Goals as goal
 
 pub returns : goal.returns

@@ -8,4 +8,4 @@ returns-in-Ok c = rw c.in-Session.is (λ lines. ap (mapped body.Session) c.in-Ok
 
 pub returns-in-Ok-probe_line : goal.returns-in-Ok-probe_line
 returns-in-Ok-probe_line c =
-    rw c.in-Probe.is (λ lines. ap (mapped body.Probe) (sym (c.probe_line.ensures c.args.script.now.script.setup.version) ∙ c.in-Ok-probe_line.is))
+    rw c.in-Probe.is (λ lines. ap (mapped body.Probe) (sym (c.probe_line.ensures c.args.script.now.script.version) ∙ c.in-Ok-probe_line.is))

@@ -1,4 +1,5 @@
-use Rattle.flat_text.specs.Pieces.{is_space, pieces_left, words_of}
+use Rattle.flat_text.specs.Pieces.{is_space, words_of}
+use Rattle.flat_text.specs.Left.{pieces_left}
 use Rattle.flat_forms.proofs.AheadLemmas.{said}
 use Rattle.flat_forms.proofs.ahead.said_ahead.Goals as goal
 

@@ -1,7 +1,8 @@
 use Rattle.std.proofs.Common.{◌∙◌, sym}
 use Rattle.flat_base.specs.declared.ids.Actor.TheVariants.{Session}
 use Rattle.flat_scene.specs.declared.script.Cond.TheVariants as asks
-use Rattle.flat_text.specs.Pieces.{is_space, pieces_left}
+use Rattle.flat_text.specs.Pieces.{is_space}
+use Rattle.flat_text.specs.Left.{pieces_left}
 use Rattle.flat_places.specs.Places.{fence, u32}
 use Rattle.flat_forms.proofs.lemmas.FormLemmas.{whole_failed, whole_mapped}
 use Rattle.flat_forms.proofs.conditions.session_condition.Goals as goal

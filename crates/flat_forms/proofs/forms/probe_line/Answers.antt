@@ -1,6 +1,7 @@
 use Rattle.std.proofs.Common.{◌∙◌, sym}
 use Rattle.flat_scene.specs.declared.script.ProbeLine.TheVariants as probe
-use Rattle.flat_text.specs.Pieces.{is_space, pieces_left}
+use Rattle.flat_text.specs.Pieces.{is_space}
+use Rattle.flat_text.specs.Left.{pieces_left}
 use Rattle.flat_places.specs.Places.{u32}
 use Rattle.flat_forms.proofs.lemmas.FormLemmas.{whole_failed}
 use Rattle.flat_forms.proofs.forms.probe_line.Goals as goal

@@ -1,6 +1,7 @@
 use Rattle.std.proofs.Common.{◌∙◌, sym}
 use Rattle.flat_scene.specs.declared.script.Line.TheVariants as line
-use Rattle.flat_text.specs.Pieces.{is_space, pieces_left}
+use Rattle.flat_text.specs.Pieces.{is_space}
+use Rattle.flat_text.specs.Left.{pieces_left}
 use Rattle.flat_forms.specs.Body.{present}
 use Rattle.flat_forms.proofs.lemmas.FormLemmas.{refused_whole, whole_mapped}
 use Rattle.flat_forms.proofs.session_forms.other_line.Goals as goal

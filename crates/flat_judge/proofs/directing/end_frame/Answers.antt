@@ -1,7 +1,8 @@
 use Rattle.std.proofs.Common.{◌≡◌, ℕ, true, sym, ap, ◌∙◌, subst, refl}
 use Rattle.flat_base.specs.declared.ids.FrameNo.{FrameNo}
 use Rattle.flat_scene.specs.declared.setup.Setup.{Setup}
-use Rattle.flat_scene.specs.Setups.{at_ratio, is_setup}
+use Rattle.flat_scene.specs.Setups.{at_ratio}
+use Rattle.flat_scene.specs.Heads.{is_setup}
 use Rattle.flat_topology.specs.Changes.{AreSame}
 use Rattle.flat_topology.specs.Shown.{Shown}
 use Rattle.flat_play.specs.declared.frame.LastFrame.{LastFrame}

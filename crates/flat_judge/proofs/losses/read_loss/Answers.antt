@@ -6,12 +6,12 @@ use Rattle.flat_scene.specs.declared.frames.Lost.{Lost}
 use Rattle.flat_page.specs.Words.{text_of}
 use Rattle.flat_lines.specs.FrameLines.{lost_line}
 use Rattle.flat_judge.specs.Following.{Passes, fits_behind, next_display}
-use Rattle.flat_judge.proofs.LossesTold.{next-is, none-passes, pass-further, same-one}
+use Rattle.flat_judge.proofs.LossesTold.{above-none, next-is, none-passes, of-32-bits, pass-further, same-one}
 use Rattle.flat_judge.proofs.Pass.{rest-all}
 use Rattle.flat_judge.proofs.losses.read_loss.Goals as goal
 
 pub returns-in_default-clause-none : goal.returns-in_default-clause-none
-returns-in_default-clause-none c = λ _. (refl, λ one rest at low fits is. c.next_display.ensures.none c.in_default.is one.display low (ap next_display (rest-all c.args.text.now c.args.at) ∙ next-is one (drop c.args.at c.args.text.now) rest low is))
+returns-in_default-clause-none c = λ _. (refl, λ one rest at low fits is. c.next_display.ensures.none c.in_default.is one.display (above-none one.display low) (of-32-bits one.display low) (ap next_display (rest-all c.args.text.now c.args.at) ∙ next-is one (drop c.args.at c.args.text.now) rest low is))
 
 pub returns-then-not-is_behind-clause-none : goal.returns-then-not-is_behind-clause-none
 returns-then-not-is_behind-clause-none c = λ _. (
@@ -42,13 +42,15 @@ returns-clause-some c =
     let line : c.as_slice-2.result.now ≡ text_of (lost_line one ∷ []) = c.as_slice-2.ensures.value ∙ c.in_ok-line.ensures in
     let P : List ℕ → Type 0 = λ b. Passes c.args.text.now c.args.at b (Some c.in-Some-pass.next) in
     let passes : Passes c.args.text.now c.args.at (text_of (lost_line one ∷ [])) (Some c.in-Some-pass.next) = subst P line c.in-Some-pass.ensures in
+    let above = c.in-Some.ensures.above in
+    let some : nat_lt 0 c.in-Some.display ≡ true = grind (arith, nat_tests) in
     let small : nat_lt c.in-Some.display (2 ^ 32) ≡ true = search rules in
     let behind : c.is_behind.result ≡ true = search rules in (
       passes.0,
       record {
         one = one;
         is = c.in_ok-push.ensures.ok;
-        is_at = and-true (eq-eqb c.args.frame.0 c.args.frame.0 refl) small;
+        is_at = and-true (eq-eqb c.args.frame.0 c.args.frame.0 refl) (and-true some small);
         fits = ap (λ (ls : List Lost). fits_behind ls one) (sym c.as_slice.ensures) ∙ sym c.is_behind.ensures ∙ behind;
         passes = passes;
         further = pass-further c.args.text.now c.args.at c.in-Some-pass.next one c.requires passes;

@@ -1,17 +1,14 @@
-use Rattle.std.proofs.Common.{◌≡◌, ◌<◌, ◌+◌, ◌++◌, ℕ, suc, List, length, take, get_or, ap, sym, ◌∙◌, subst, arith}
-use Rattle.std.specs.List.{concat}
+use Rattle.std.proofs.Common.{◌≡◌, ◌++◌, ℕ, List, [], length, drop, refl, ap, ◌∙◌, arith, append-nil}
+use Rattle.std.proofs.lemmas.Bool.{eqb-true}
 use Rattle.flat_judge.specs.Following.{Begins}
-use Rattle.flat_judge.proofs.Partings.{concat-next}
+use Rattle.flat_judge.proofs.Partings.{all-past}
 use Rattle.flat_judge.proofs.parting.is_report.Goals as goal
 
-pub loop-place-preserved : goal.loop-place-preserved
-loop-place-preserved c =
+pub returns-in-Some : goal.returns-in-Some
+returns-in-Some c = λ same.
     let text = c.args.text.now in
-    let pieces = c.as_slice-pieces.result.now in
-    let k = c.loop-place.place in
-    let piece : c.as_slice.result.now ≡ get_or pieces k c.index-pieces-place.result = c.as_slice.ensures ∙ c.index-pieces-place.is in
-    let further : k + 1 ≡ suc k = omega arith in
-    let next : concat (take (k + 1) pieces) ≡ concat (take k pieces) ++ c.as_slice.result.now =
-    ap (λ (n : ℕ). concat (take n pieces)) further ∙ concat-next pieces k c.index-pieces-place.result c.loop-place-test.true ∙ ap (λ (bytes : List ℕ). concat (take k pieces) ++ bytes) (sym piece) in
-    let passes = c.in-Some.ensures in
-    (passes.0, subst (λ (bytes : List ℕ). Begins text bytes c.in-Some.next) (sym next) (passes.1 (concat (take k pieces)) c.loop-place.invariant.1))
+    let report = c.args.report.now in
+    let begins : Begins text report c.in-Some.end = c.in-Some.ensures.1 [] (record { long = refl; is = refl }) in
+    let ends : c.in-Some.end ≡ length text = eqb-true c.in-Some.end (length text) same in
+    let none : drop c.in-Some.end text ≡ [] = all-past text c.in-Some.end (omega (arith, ends)) in
+    begins.is ∙ ap (λ (rest : List ℕ). report ++ rest) none ∙ append-nil report

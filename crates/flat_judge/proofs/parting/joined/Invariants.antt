@@ -1,6 +1,7 @@
-use Rattle.std.proofs.Common.{◌≡◌, ◌++◌, drop}
+use Rattle.std.proofs.Common.{◌≡◌, ◌++◌, drop, map}
+use Rattle.std.specs.Arc.{arc_value}
 use Rattle.std.specs.List.{concat}
 use Rattle.flat_judge.proofs.parting.joined.Given as goal
 
-abbrev pub invariant-loop-place : goal.invariant-loop-place
-invariant-loop-place l = l.joined ++ concat (drop l.place l.pieces) ≡ l.report
+abbrev pub invariant-loop-run : goal.invariant-loop-run
+invariant-loop-run l = l.joined ++ concat (map arc_value (drop l.run-index l.runs)) ≡ l.report

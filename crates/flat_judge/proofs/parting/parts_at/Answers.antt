@@ -1,4 +1,6 @@
-use Rattle.std.proofs.Common.{◌≡◌, ◌≤◌, ℕ, List, [], length, drop, Some, sym, ap, ◌∙◌, arith}
+use Rattle.std.proofs.Common.{Global, ◌≡◌, ◌≤◌, ℕ, List, [], length, drop, map, Some, sym, ap, ◌∙◌, arith}
+use Rattle.std.specs.Arc.{arc_value}
+use Rattle.std.specs.declared.sync.Arc.{Arc}
 use Rattle.std.specs.List.{concat}
 use Rattle.flat_judge.specs.Parting.{parts_from}
 use Rattle.flat_judge.proofs.Partings.{all-past, parts-longer, parts-same}
@@ -13,7 +15,7 @@ returns-then-is_report c =
 pub returns-then-at-text : goal.returns-then-at-text
 returns-then-at-text c =
     let text = c.args.text.now in
-    let pieces = c.as_slice-pieces.result.now in
-    let none : drop c.loop-place.place pieces ≡ [] = all-past pieces c.loop-place.place (omega (arith, c.loop-place-test.false)) in
-    sym (c.loop-place.invariant.2 ∙ ap (λ (ps : List (List ℕ)). parts_from c.loop-place.line (drop c.loop-place.at text) (concat ps)) none
-    ∙ parts-longer c.loop-place.line c.loop-place.at text (omega (arith, c.if-at-text.true)))
+    let runs = c.as_slice-runs.result.now in
+    let none : drop c.loop-run.run-index runs ≡ [] = all-past runs c.loop-run.run-index (omega (arith, c.loop-run-test.false)) in
+    sym (c.loop-run.invariant.2 ∙ ap (λ (rs : List (Arc (List ℕ) Global)). parts_from c.loop-run.line (drop c.loop-run.at text) (concat (map arc_value rs))) none
+    ∙ parts-longer c.loop-run.line c.loop-run.at text (omega (arith, c.if-at-text.true)))

@@ -3,9 +3,9 @@ use Rattle.flat_scene.specs.declared.journal.Entry.{Entry}
 use Rattle.flat_scene.specs.declared.journal.Post.{Post}
 use Rattle.flat_scene.specs.declared.setup.Setup.{Setup}
 use Rattle.flat_scene.specs.History.{◌▹◌}
-use Rattle.flat_rules.specs.Posts.{posts}
+use Rattle.flat_rules.specs.AllPosts.{posts}
 use Rattle.flat_page.specs.Words.{text_of}
-use Rattle.flat_lines.specs.EntryLines.{post_line}
+use Rattle.flat_lines.specs.PostLines.{post_line}
 use Rattle.flat_judge.specs.Following.{Passes, events_text}
 use Rattle.flat_judge.proofs.LastEntry.{events-are, events-within}
 use Rattle.flat_judge.proofs.Pass.{rest-all}

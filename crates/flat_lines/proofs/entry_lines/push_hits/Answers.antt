@@ -1,7 +1,7 @@
 use Rattle.flat_page.proofs.lemmas.PageLemmas.{more_words}
 use Rattle.std.proofs.Common.{[], ◌∷◌}
 use Rattle.flat_page.specs.Words.{number, session_name}
-use Rattle.flat_print.specs.Print.{interaction_number}
+use Rattle.flat_print.specs.Choices.{interaction_number}
 use Rattle.flat_lines.proofs.entry_lines.push_hits.Goals as goal
 
 pub loop-hit-preserved : goal.loop-hit-preserved

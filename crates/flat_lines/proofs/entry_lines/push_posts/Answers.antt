@@ -1,5 +1,5 @@
 use Rattle.flat_page.proofs.lemmas.PageLemmas.{more_lines}
-use Rattle.flat_lines.specs.EntryLines.{post_line}
+use Rattle.flat_lines.specs.PostLines.{post_line}
 use Rattle.flat_lines.proofs.entry_lines.push_posts.Goals as goal
 
 pub loop-post-preserved : goal.loop-post-preserved

@@ -1,6 +1,6 @@
 use Rattle.std.proofs.Common.{◌<◌, ◌≤◌, ◌+◌, ℕ, List, length, sum, arith, ap, sym, ◌∙◌, subst}
 use Rattle.flat_scene.specs.declared.setup.Setup.{Setup}
-use Rattle.flat_scene.specs.Setups.{is_within_limits}
+use Rattle.flat_scene.specs.Heads.{is_within_limits}
 use Rattle.flat_play.proofs.lemmas.Places.{setup_is}
 use Rattle.flat_play.proofs.lemmas.Starting.{few, limits_are, shares_length, shares_small}
 use Rattle.flat_play.proofs.run.open_board.Goals as goal

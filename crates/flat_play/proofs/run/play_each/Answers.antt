@@ -8,7 +8,7 @@ use Rattle.flat_play.specs.Beginning.{AreBegun}
 use Rattle.flat_play.specs.Explaining.{StandsExplained}
 use Rattle.flat_play.proofs.Explained.{entered_so_far}
 use Rattle.flat_play.specs.Playing.{PlayStands, last_number}
-use Rattle.flat_play.specs.Touches.{AreAnswered}
+use Rattle.flat_play.specs.Touching.{AreAnswered}
 use Rattle.flat_play.specs.Probing.{ProbesStand}
 use Rattle.flat_play.proofs.Probed.{asked-within, probes-unasked, probes-on, probes-more, probes-all}
 use Rattle.flat_play.proofs.InTurn.{turns-none, turns-on, turns-more, turns-all}

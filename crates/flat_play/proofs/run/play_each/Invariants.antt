@@ -4,7 +4,7 @@ use Rattle.flat_play.specs.Explaining.{StandsExplained, is_film, is_on}
 use Rattle.flat_play.specs.Keeping.{keeping_of}
 use Rattle.flat_play.specs.Playing.{PlayStands, last_number}
 use Rattle.flat_play.specs.Probing.{ProbesStand, SeeInTurn}
-use Rattle.flat_play.specs.Touches.{AreAnswered}
+use Rattle.flat_play.specs.Touching.{AreAnswered}
 use Rattle.flat_play.specs.Showing.{HaveSeen}
 use Rattle.flat_play.proofs.run.play_each.Given as goal
 

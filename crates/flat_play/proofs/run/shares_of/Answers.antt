@@ -1,7 +1,7 @@
 use Rattle.std.proofs.Common.{ℕ, List, take, slice_index, sym, ap, ◌∙◌, arith}
 use Rattle.std.proofs.lemmas.List.{length-take}
 use Rattle.flat_scene.specs.declared.script.ScriptLine.{ScriptLine}
-use Rattle.flat_scene.specs.History.{seat_number}
+use Rattle.flat_scene.specs.Journals.{seat_number}
 use Rattle.flat_play.specs.Playing.{with_one_more}
 use Rattle.flat_play.proofs.Shares.{line-counted, shares_few, shares_to}
 use Rattle.flat_play.proofs.lemmas.Places.{take_at}

@@ -1,7 +1,7 @@
 use Rattle.std.proofs.Common.{◌≡◌, ◌++◌, take, map}
 use Rattle.flat_scene.specs.Setups.{at_ratio}
 use Rattle.flat_play.specs.Last.{StaysLast}
-use Rattle.flat_play.specs.Touches.{touch_in}
+use Rattle.flat_play.specs.Touching.{touch_in}
 use Rattle.flat_play.proofs.touches.answer_all.Given as goal
 
 abbrev pub invariant-loop-line : goal.invariant-loop-line

@@ -4,7 +4,7 @@ use Rattle.flat_page.proofs.lemmas.Merging.{left, fewer, merged-parted}
 use Rattle.flat_page.proofs.lemmas.PageLemmas.{same_lines}
 use Rattle.flat_page.proofs.lemmas.Telling.{then_later}
 use Rattle.flat_pointer.specs.declared.text.Touch.{Touch}
-use Rattle.flat_pointer.specs.Text.{lines_with, after, ArePointers}
+use Rattle.flat_pointer.specs.Steps.{lines_with, after, ArePointers}
 use Rattle.flat_pointer.proofs.Telling.{pointers_parted}
 use Rattle.flat_pointer.proofs.text.+push_happenings.Goals as goal
 

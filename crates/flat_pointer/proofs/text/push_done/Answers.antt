@@ -1,7 +1,7 @@
 use Rattle.std.proofs.Common.{map}
 use Rattle.flat_page.specs.Happenings.{said, finished}
 use Rattle.flat_page.proofs.lemmas.Telling.{then_one, after_one}
-use Rattle.flat_pointer.specs.Text.{lines_with, after}
+use Rattle.flat_pointer.specs.Steps.{lines_with, after}
 use Rattle.flat_pointer.proofs.text.push_done.Goals as goal
 
 pub returns-clause-text : goal.returns-clause-text

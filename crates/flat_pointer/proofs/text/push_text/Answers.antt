@@ -3,8 +3,8 @@ use Rattle.flat_page.specs.Happenings.{all_lines, merged}
 use Rattle.flat_page.specs.Pages.{WritesLines}
 use Rattle.flat_page.proofs.lemmas.PageLemmas.{then_lines}
 use Rattle.flat_pointer.specs.declared.text.Touch.{Touch}
-use Rattle.flat_pointer.specs.Streams.{Streams}
-use Rattle.flat_pointer.specs.Text.{after, end_line, lines_with}
+use Rattle.flat_pointer.specs.Steps.{Streams, after, lines_with}
+use Rattle.flat_pointer.specs.Text.{end_line}
 use Rattle.flat_pointer.proofs.text.push_text.Goals as goal
 
 pub returns : goal.returns

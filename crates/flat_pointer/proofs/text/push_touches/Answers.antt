@@ -1,5 +1,5 @@
 use Rattle.flat_page.proofs.lemmas.Telling.{then_said, after_said}
-use Rattle.flat_pointer.specs.Text.{lines_with, after}
+use Rattle.flat_pointer.specs.Steps.{lines_with, after}
 use Rattle.flat_pointer.proofs.Telling.{pointer_at}
 use Rattle.flat_pointer.proofs.text.push_touches.Goals as goal
 

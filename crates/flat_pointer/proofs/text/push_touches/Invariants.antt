@@ -1,7 +1,8 @@
 use Rattle.std.proofs.Common.{◌≡◌, take, map}
-use Rattle.flat_page.specs.Happenings.{said, after_all, all_lines}
+use Rattle.flat_page.specs.Happenings.{said, all_lines}
+use Rattle.flat_page.specs.Steps.{after_all}
 use Rattle.flat_page.specs.Pages.{WritesLines}
-use Rattle.flat_pointer.specs.Text.{lines_with, after}
+use Rattle.flat_pointer.specs.Steps.{lines_with, after}
 use Rattle.flat_pointer.proofs.text.push_touches.Given as goal
 
 abbrev pub invariant-loop-one : goal.invariant-loop-one

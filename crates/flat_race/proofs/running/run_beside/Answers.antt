@@ -1,5 +1,5 @@
 use Rattle.std.proofs.Common.{rules, refl}
-use Rattle.flat_scene.specs.History.{history_of}
+use Rattle.flat_scene.specs.Journals.{history_of}
 use Rattle.flat_play.proofs.lemmas.DisplaySteps.{answers_stay}
 use Rattle.flat_race.proofs.Probed.{answered-all}
 use Rattle.flat_race.proofs.Settled.{last-published-is}

@@ -1,4 +1,4 @@
-use Rattle.std.proofs.Common.{ℕ, ◌∙◌, ◌≡◌, ◌≤◌, ◌+◌, ◌*◌, length, ap, sym, arith}
+use Rattle.std.proofs.Common.{ℕ, ◌∙◌, ◌≤◌, ◌+◌, ◌*◌, length, ap, sym, arith}
 use Rattle.std.proofs.lemmas.List.{length-take, length-drop}
 use Rattle.flat_render.specs.Stored.{drawn_at}
 use Rattle.flat_render.proofs.Bands.{band-in-grid, whole-bands}

@@ -4,7 +4,7 @@ use Rattle.flat_places.specs.declared.kinds.FaultKind.TheVariants.{TooLong}
 use Rattle.flat_script.specs.contracts.script.ScriptError as the_error
 use Rattle.flat_script.specs.declared.script.ScriptError.{ScriptError}
 use Rattle.flat_script.specs.declared.script.ScriptError.TheVariants as error
-use Rattle.flat_extra.specs.Reading.{Reads}
+use Rattle.flat_extra.specs.Readers.{Reads}
 use Rattle.flat_run.specs.declared.reading.Reading.{Reading}
 use Rattle.flat_run.specs.Forms.{form_read}
 use Rattle.flat_run.specs.Judging.{fault_line}

@@ -1,7 +1,7 @@
 use Rattle.std.proofs.Common.{◌≡◌, length, subst}
 use Rattle.flat_base.specs.declared.limits.TheConstants.{SCRIPT_BYTES_MAX}
 use Rattle.flat_io.specs.declared.whole.ReadAll.TheVariants.{TooLong}
-use Rattle.flat_io.specs.Whole.{Given, IsTooLong}
+use Rattle.flat_io.specs.Reads.{Given, IsTooLong}
 use Rattle.flat_run.proofs.Answering.{long_is_refused, whole_is_given}
 use Rattle.flat_run.proofs.given.read_source.Goals as goal
 

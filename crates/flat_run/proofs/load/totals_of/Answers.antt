@@ -1,7 +1,8 @@
 use Rattle.std.proofs.Common.{length, List, refl, ap, ◌∙◌}
 use Rattle.std.specs.List.{count_by}
 use Rattle.flat_scene.specs.declared.journal.Entry.{Entry}
-use Rattle.flat_scene.specs.History.{history_of, is_finish}
+use Rattle.flat_scene.specs.History.{is_finish}
+use Rattle.flat_scene.specs.Journals.{history_of}
 use Rattle.flat_run.specs.Totals.{is_present}
 use Rattle.flat_run.proofs.Loads.{totals}
 use Rattle.flat_run.proofs.load.totals_of.Goals as goal

@@ -3,7 +3,7 @@ use Rattle.std.specs.List.{list_all}
 use Rattle.flat_scene.specs.declared.frames.FrameOut.{FrameOut}
 use Rattle.flat_focus.specs.declared.text.FocusLine.{FocusLine}
 use Rattle.flat_focus.specs.Text.{focus_text}
-use Rattle.flat_page.specs.Happenings.{without_items}
+use Rattle.flat_page.specs.Steps.{without_items}
 use Rattle.flat_play.proofs.lemmas.FewViews.{few-played}
 use Rattle.flat_report.specs.Report.{finished}
 use Rattle.flat_texts.specs.Lines.{finish_lines}

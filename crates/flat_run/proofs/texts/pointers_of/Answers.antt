@@ -1,6 +1,6 @@
 use Rattle.std.proofs.Common.{◌≡◌, ◌∙◌, ℕ, true, nat_lt, sym, ap, subst, List, map, IfOk, reverse}
 use Rattle.std.specs.List.{list_all}
-use Rattle.flat_page.specs.Happenings.{without_items}
+use Rattle.flat_page.specs.Steps.{without_items}
 use Rattle.flat_pointer.specs.declared.pointers.TheConstants.{POINTERS}
 use Rattle.flat_pointer.specs.declared.text.Touch.{Touch}
 use Rattle.flat_pointer.specs.Text.{pointer_text}

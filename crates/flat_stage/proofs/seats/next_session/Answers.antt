@@ -1,5 +1,6 @@
 use Rattle.std.proofs.Common.{◌≡◌, ◌+◌, true, IfOk, sym, ap, ◌∙◌, subst}
-use Rattle.flat_scene.specs.Setups.{is_setup, is_declared}
+use Rattle.flat_scene.specs.Setups.{is_declared}
+use Rattle.flat_scene.specs.Heads.{is_setup}
 use Rattle.flat_lock.specs.Seats.{new_seat}
 use Rattle.flat_stage.specs.Homes.{fresh_view}
 use Rattle.flat_stage.specs.Seats.{Seat, SessionView, StageView, setup_of}

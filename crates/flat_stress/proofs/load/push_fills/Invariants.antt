@@ -1,6 +1,7 @@
 use Rattle.std.proofs.Common.{◌≡◌, ◌*◌, ◌++◌, ◌∷◌}
 use Rattle.std.specs.List.{flat_map}
-use Rattle.flat_stress.specs.Words.{text_of, between}
+use Rattle.flat_stress.specs.Words.{between}
+use Rattle.flat_page.specs.Words.{text_of}
 use Rattle.flat_stress.specs.Load.{node, move, fill}
 use Rattle.flat_stress.proofs.load.push_fills.Given as goal
 

@@ -1,5 +1,6 @@
 use Rattle.std.proofs.Common.{◌++◌, ◌∷◌, [], map, codes}
-use Rattle.flat_stress.specs.Words.{number, session, pair, from_to}
+use Rattle.flat_stress.specs.Words.{session, pair, from_to}
+use Rattle.flat_page.specs.Words.{number}
 use Rattle.flat_stress.proofs.Writing.{two}
 use Rattle.flat_stress.proofs.load.push_head.Goals as goal
 

@@ -1,5 +1,6 @@
 use Rattle.std.proofs.Common.{◌≡◌, ◌+◌, ◌*◌, ◌%◌, ◌++◌, map}
-use Rattle.flat_stress.specs.Words.{text_of, between}
+use Rattle.flat_stress.specs.Words.{between}
+use Rattle.flat_page.specs.Words.{text_of}
 use Rattle.flat_stress.specs.Load.{move}
 use Rattle.flat_stress.proofs.load.push_host_moves.Given as goal
 

@@ -1,5 +1,6 @@
 use Rattle.std.proofs.Common.{◌≡◌, ◌++◌, ◌∷◌, [], map, codes}
-use Rattle.flat_stress.specs.Words.{text_of, between, session, pair}
+use Rattle.flat_stress.specs.Words.{between, session, pair}
+use Rattle.flat_page.specs.Words.{text_of}
 use Rattle.flat_stress.proofs.load.push_pairs.Given as goal
 
 abbrev pub invariant-loop-i : goal.invariant-loop-i

@@ -3,8 +3,7 @@ use Rattle.std.specs.String.{string_bytes}
 use Rattle.std.proofs.lemmas.Option.{IfSome_then}
 use Rattle.clap.specs.Words.{fault_of, subcommand_of, subcommand_rows_of}
 use Rattle.clap.proofs.WalkLemmas.{list_any-map}
-use Rattle.flat_words.specs.Command.{IsNamed, service}
-use Rattle.flat_words.specs.Forms.{is_option}
+use Rattle.flat_words.specs.Command.{IsNamed, service, is_option}
 use Rattle.flat_words.proofs.Meaning.{called, taken}
 use Rattle.flat_words.proofs.form.read.Goals as goal
 

@@ -1,7 +1,7 @@
 use Rattle.std.proofs.Common.{◌≡◌, ℕ, ◌<◌, true, false, subst}
 use Rattle.flat_base.specs.declared.ids.SessionNo.{SessionNo}
 use Rattle.flat_scene.specs.Setups.{is_declared}
-use Rattle.flat_topology.specs.Views.{is_member}
+use Rattle.flat_topology.specs.Members.{is_member}
 use Rattle.flat_states.specs.Machines.{Machine}
 use Rattle.flat_rules.specs.Ends.{has_view}
 use Rattle.flat_links.proofs.lemmas.WithView.{members, none_others}

@@ -1,6 +1,7 @@
 use Rattle.std.proofs.Common.{arith, length-append, ◌≡◌, ℕ, ◌+◌, ◌<◌, ◌≤◌, ◌++◌, ◌∷◌, List, [], length, false, subst, sym}
 use Rattle.flat_scene.specs.declared.frames.Lost.{Lost}
-use Rattle.flat_display.specs.Lost.{Driven, is_lost, IsOnce, AreWithin}
+use Rattle.flat_display.specs.Lost.{Driven, is_lost, AreWithin}
+use Rattle.flat_display.specs.Shows.{IsOnce}
 use Rattle.flat_display.proofs.Losses.{fewer, once-more, within-more}
 use Rattle.flat_display.proofs.set.DisplaySet.lose.Goals as goal
 

@@ -5,8 +5,8 @@ use Rattle.flat_forms.proofs.parser.Parser.actor_line.Goals as goal
 
 pub returns-in-Ok-probe_line : goal.returns-in-Ok-probe_line
 returns-in-Ok-probe_line c =
-    rw c.in-Probe.is (ap (mapped body.Probe) (sym (c.probe_line.ensures c.args.self.now.text.script.setup.version) ∙ c.in-Ok-probe_line.is))
+    rw c.in-Probe.is (ap (mapped body.Probe) (sym (c.probe_line.ensures c.args.self.now.text.script.version) ∙ c.in-Ok-probe_line.is))
 
 pub returns-in-Err-probe_line : goal.returns-in-Err-probe_line
 returns-in-Err-probe_line c =
-    rw c.in-Probe.is (ap (mapped body.Probe) (sym (c.probe_line.ensures c.args.self.now.text.script.setup.version) ∙ c.in-Err-probe_line.is))
+    rw c.in-Probe.is (ap (mapped body.Probe) (sym (c.probe_line.ensures c.args.self.now.text.script.version) ∙ c.in-Err-probe_line.is))

@@ -1,5 +1,6 @@
 use Rattle.std.proofs.Common.{nat_lt, refl}
-use Rattle.flat_text.specs.Pieces.{is_space, pieces_left}
+use Rattle.flat_text.specs.Pieces.{is_space}
+use Rattle.flat_text.specs.Left.{pieces_left}
 use Rattle.flat_forms.proofs.DeclareLemmas.{fence_declares, one_longer, fences_found}
 use Rattle.flat_forms.proofs.parser.Parser.fence.Goals as goal
 

@@ -1,6 +1,7 @@
 use Rattle.std.proofs.Common.{nat_lt, refl}
 use Rattle.flat_base.specs.declared.ids.Actor.TheVariants.{Display}
-use Rattle.flat_text.specs.Pieces.{is_space, pieces_left}
+use Rattle.flat_text.specs.Pieces.{is_space}
+use Rattle.flat_text.specs.Left.{pieces_left}
 use Rattle.flat_places.specs.Names.{is_actor}
 use Rattle.flat_forms.proofs.lemmas.ParserLemmas.{any_more}
 use Rattle.flat_forms.proofs.DeclareLemmas.{pair_declares, one_longer, pairs_found}

@@ -1,5 +1,6 @@
 use Rattle.std.proofs.Common.{◌+◌, ◌∷◌, [], nat_lt, length, refl, sym, ◌∙◌, ap, length-append}
-use Rattle.flat_text.specs.Pieces.{is_space, pieces_left}
+use Rattle.flat_text.specs.Pieces.{is_space}
+use Rattle.flat_text.specs.Left.{pieces_left}
 use Rattle.flat_forms.proofs.DeclareLemmas.{name_declares, one_longer, probes_found}
 use Rattle.flat_forms.proofs.parser.Parser.probe.Goals as goal
 

@@ -2,7 +2,7 @@ use Rattle.std.proofs.Common.{rules, ◌≡◌, ◌+◌, ◌≤◌, ℕ, List, l
 use Rattle.flat_judge.proofs.LossesTold.{pass-on}
 use Rattle.flat_scene.specs.declared.journal.Post.{Post}
 use Rattle.flat_scene.specs.History.{◌▹◌}
-use Rattle.flat_rules.specs.Posts.{posts}
+use Rattle.flat_rules.specs.AllPosts.{posts}
 use Rattle.flat_judge.specs.Following.{Passes, Stays, events_text}
 use Rattle.flat_judge.proofs.OneMore.{events-part, events-pass}
 use Rattle.flat_judge.proofs.following.Along.tell_events.Goals as goal

@@ -1,6 +1,7 @@
 use Rattle.std.proofs.Common.{rules, ◌≡◌, ◌+◌, ◌≤◌, ℕ, Bool, true, false, List, [], length, Some, sym, ap, ◌∙◌, subst, arith}
 use Rattle.flat_scene.specs.declared.journal.Entry.{Entry}
-use Rattle.flat_scene.specs.History.{◌▹◌, history_of}
+use Rattle.flat_scene.specs.History.{◌▹◌}
+use Rattle.flat_scene.specs.Journals.{history_of}
 use Rattle.flat_rules.specs.Legal.{frames}
 use Rattle.flat_judge.specs.Following.{IsAlong, IsLineTold, IsPart, IsShownTold, Stays}
 use Rattle.flat_judge.proofs.LastEntry.{newest-is}

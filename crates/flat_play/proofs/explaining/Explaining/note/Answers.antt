@@ -3,7 +3,7 @@ use Rattle.std.specs.Option.{option_copied}
 use Rattle.flat_drawable.specs.Drawable.{IsDrawable}
 use Rattle.flat_report.specs.Report.{finished}
 use Rattle.flat_scene.specs.declared.frames.FrameOut.{FrameOut}
-use Rattle.flat_texts.specs.Films.{IsFilm}
+use Rattle.flat_texts.specs.Filming.{IsFilm}
 use Rattle.flat_scene.specs.declared.journal.Entry.{Entry}
 use Rattle.flat_play.specs.declared.explaining.Explaining.{Explaining}
 use Rattle.flat_play.specs.Explaining.{StandsExplained}

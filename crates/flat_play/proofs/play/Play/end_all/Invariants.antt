@@ -1,7 +1,7 @@
 use Rattle.std.proofs.Common.{◌≡◌}
 use Rattle.flat_report.specs.Report.{finished}
 use Rattle.flat_play.specs.Playing.{EndsStand}
-use Rattle.flat_play.specs.Touches.{GoesOnByEnds}
+use Rattle.flat_play.specs.Touching.{GoesOnByEnds}
 use Rattle.flat_play.proofs.play.Play.end_all.Given as goal
 
 abbrev pub invariant-loop-before : goal.invariant-loop-before

@@ -1,5 +1,5 @@
 use Rattle.flat_play.specs.Last.{IsJoined, IsLast}
-use Rattle.flat_play.specs.Playing.{AsksPoint, is_alone}
+use Rattle.flat_play.specs.Playing.{AnswersStand, AsksPoint, is_alone}
 use Rattle.flat_play.proofs.lemmas.Alone.{may_alone, quiet_alone, ends_none, keeps_alone}
 use Rattle.flat_play.specs.Showing.{IsShown}
 use Rattle.std.proofs.Common.{rules, ◌≡◌, ℕ, ◌≤◌, ◌+◌, true, length, refl, sym, ap, ◌∙◌, subst, arith}
@@ -41,9 +41,13 @@ finish-requires-clause-may g c =
     (display_share c.args.script.now c.args.place x at c.args.self.now.board c.requires.stands.shares refl c.requires.stands.spent)
     (done_ok c.args.script.now c.args.place x at is c.args.self.now.board.history c.requires.stands.display)
 
-pub finish-requires-clause-last : goal.finish-requires-clause-last
-finish-requires-clause-last g c =
-    ap (λ (f : FrameNo). f.0) (c.take_joined-joined.ensures.stays c.args.script.now.setup c.requires.stands.answers.is_last).frame ∙ c.requires.stands.answers.number
+pub finish-requires-clause-answers : goal.finish-requires-clause-answers
+finish-requires-clause-answers g c =
+    let self = c.args.self.now in
+    let taken = c.take_joined-joined.ensures.stays c.args.script.now.setup c.requires.stands.answers.is_last in
+    let stands = play_stays c.args.script.now c.args.place self c.take_joined-joined.new.self taken c.requires.stands in
+    let P : Setup → Type 0 = λ s. AnswersStand s self.board.history c.take_joined-joined.new.self self.answers in
+    subst P (sym c.requires.stands.setup) stands.answers
 
 pub finish-requires-clause-same : goal.finish-requires-clause-same
 finish-requires-clause-same g c =

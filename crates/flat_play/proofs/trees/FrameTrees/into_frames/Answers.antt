@@ -1,6 +1,6 @@
 use Rattle.std.proofs.Common.{◌≡◌, List, [], ◌∷◌, ◌++◌, map, Option, sym, ap, ◌∙◌, append-nil}
 use Rattle.flat_scene.specs.declared.frames.FrameOut.{FrameOut}
-use Rattle.flat_page.specs.Happenings.{without_items}
+use Rattle.flat_page.specs.Steps.{without_items}
 use Rattle.flat_play.specs.Keeping.{listed}
 use Rattle.flat_play.proofs.trees.FrameTrees.into_frames.Goals as goal
 use Rattle.flat_play.proofs.trees.FrameTrees.into_frames.Goals.{in-Some+in_ok-push, in_default}

@@ -1,6 +1,6 @@
 use Rattle.std.proofs.Common.{◌≡◌, List, [], ◌∷◌, ◌++◌, map, Option, refl, sym, ap, ◌∙◌, append-nil}
 use Rattle.flat_scene.specs.declared.frames.FrameOut.{FrameOut}
-use Rattle.flat_page.specs.Happenings.{without_items}
+use Rattle.flat_page.specs.Steps.{without_items}
 use Rattle.flat_play.specs.declared.trees.FrameTrees.{FrameTrees}
 use Rattle.flat_play.specs.Keeping.{listed}
 use Rattle.flat_play.proofs.KeptTrees.{tree-more}

@@ -1,14 +1,15 @@
-use Rattle.std.proofs.Common.{◌≡◌, ℕ, Some, List, ◌++◌, ◌∷◌, [], ◌∙◌, ap, sym, subst}
-use Rattle.flat_report.specs.declared.item_lines.ItemLines.{ItemLines}
-use Rattle.flat_report.specs.ItemLines.{AreLines}
+use Rattle.std.proofs.Common.{List, ◌++◌, ◌∙◌, ap, refl, subst}
+use Rattle.flat_scene.specs.declared.frames.DrawItem.{DrawItem}
+use Rattle.flat_report.specs.declared.item_lines.Stretch.{Stretch}
+use Rattle.flat_report.specs.FrameTexts.{tree_text}
+use Rattle.flat_report.specs.ItemLines.{HaveLines, stretches_text}
 use Rattle.flat_report.proofs.Texting.{one-text-more}
 use Rattle.flat_report.proofs.frame_texts.FrameTexts.push.Goals as goal
 
 pub returns : goal.returns
 returns c = λ frames were.
     let script = c.args.script.now in
-    let old = c.args.self.now in
-    let next : ItemLines = record { frame = Some c.args.frame; text = c.in-Ok.text; parts = c.in-Ok.parts } in
-    let last : c.replace.new.dest ≡ next = c.replace.ensures.after in
-    let texts = c.in-Ok-push_text.ensures ∙ ap (λ (t : List ℕ). old.texts.items ++ t ∷ []) (c.as_slice.ensures.value ∙ c.in-Ok.ensures.text were.lines) in
-    one-text-more script frames c.args.frame old _ were texts (ap (λ (l : ItemLines). l.frame) last) (subst (AreLines script) (sym last) (c.in-Ok.ensures.parts were.lines))
+    let L : List DrawItem → Type 0 = λ items. HaveLines script items c.in_ok-stretches.stretches.items in
+    one-text-more script frames c.args.frame c.args.self.now _ c.in_ok-text.text were c.in_ok-push_back.ensures.items
+    (c.in_ok-text.ensures ∙ ap (λ (stretches : List Stretch). stretches_text stretches ++ tree_text script c.args.frame.tree) c.as_slice-2.ensures.value) refl
+    (subst L c.as_slice.ensures (c.in_ok-stretches.ensures were.lines))

@@ -1,7 +1,7 @@
 use Rattle.std.proofs.Common.{sym, refl, ◌+◌, Some, None, [], ◌∷◌, ◌++◌, ◌≡◌, true, List, Option, ap, ◌∙◌, subst, IfOk, OnErr, length, ◌<◌}
 use Rattle.flat_scene.specs.declared.journal.Entry.{Entry}
 use Rattle.flat_scene.specs.declared.setup.Setup.{Setup}
-use Rattle.flat_scene.specs.History.{history_of}
+use Rattle.flat_scene.specs.Journals.{history_of}
 use Rattle.flat_stage.specs.declared.made.Made.{Made}
 use Rattle.flat_stage.specs.declared.reader.Reader.{Reader}
 use Rattle.flat_stage.specs.Made.{kind_of, takes_memory}

@@ -2,7 +2,7 @@ use Rattle.std.proofs.Common.{◌≡◌, ◌+◌, true, None, List, ap, ◌∙�
 use Rattle.flat_scene.specs.declared.journal.Entry.{Entry}
 use Rattle.flat_scene.specs.declared.journal.Reply.TheVariants.{Closed}
 use Rattle.flat_scene.specs.declared.setup.Setup.{Setup}
-use Rattle.flat_scene.specs.History.{history_of}
+use Rattle.flat_scene.specs.Journals.{history_of}
 use Rattle.flat_rules.specs.Owned.{is_played_line}
 use Rattle.flat_stage.specs.declared.reader.Reader.{Reader}
 use Rattle.flat_stage.specs.Readings.{IsReadAlone, SeatEdits}

@@ -23,7 +23,7 @@ returns c = λ setup frames film.
     record {
       any = sym (any-more frames frame);
       pictures =
-          c.in_ok-push.ensures ∙ ap (λ (t : List ℕ). c.args.self.now.pictures ++ t) (c.from_vec.ensures ∙ bytes)
+          c.in_ok-push.ensures ∙ ap (λ (t : List ℕ). c.args.self.now.pictures ++ t) (c.in_ok-picture.ensures.ok ∙ c.from_vec.ensures ∙ bytes)
           ∙ ap (λ (t : List ℕ). t ++ ppm_bytes setup.width setup.height (pixel frame.items)) film.pictures ∙ sym (pictures-more setup frames frame);
       shown = same ∙ sym (ap list_of (last-more frames frame));
       shows = shows;

@@ -8,7 +8,7 @@ use Rattle.flat_scene.specs.declared.journal.Entry.{Entry}
 use Rattle.flat_scene.specs.declared.setup.Setup.{Setup}
 use Rattle.flat_scene.specs.Frames.{sessions_to}
 use Rattle.flat_scene.specs.History.{◌▹◌}
-use Rattle.flat_scene.specs.Setups.{owners_declared}
+use Rattle.flat_scene.specs.Heads.{owners_declared}
 use Rattle.flat_base.proofs.lemmas.Tests.{and-left, and-right}
 use Rattle.flat_why.specs.declared.causes.Standing.{Standing}
 use Rattle.flat_why.specs.declared.causes.Waiting.{Waiting}

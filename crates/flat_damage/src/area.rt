@@ -1,0 +1,29 @@
+ghost use Rattle.std.specs.Prelude.{◌≡◌, ◌<◌, ◌≤◌, ℕ};
+ghost use Rattle.flat_geom.specs.Rectangles.{has_point};
+ghost use Rattle.flat_render.specs.Areas.{has_pixel};
+ghost use Rattle.flat_render.specs.Pixels.{centre};
+
+use flat_base::Rect;
+use flat_render::{Area, PIXELS_MAX};
+
+/// The pixels of a display of `w` by `h` whose centre is in a rectangle, as one of the
+/// damage. If there are none, the area has no columns or no rows.
+pub fn area_of(rect: Rect, w: u32, h: u32) -> Area
+    requires w { w ≤ PIXELS_MAX }
+    requires h { h ≤ PIXELS_MAX }
+    ensures columns { result.x0 ≤ result.x1 }
+    ensures rows { result.y0 ≤ result.y1 }
+    ensures right { result.x1 ≤ w }
+    ensures bottom { result.y1 ≤ h }
+    ensures pixels { (px py : ℕ) → px < w → py < h → has_pixel result px py
+        ≡ has_point rect (centre px) (centre py) }
+{
+    let area = flat_render::area_of(rect);
+    let (x0, y0) = (area.x0.min(w as usize), area.y0.min(h as usize));
+    Area {
+        x0,
+        y0,
+        x1: area.x1.min(w as usize).max(x0),
+        y1: area.y1.min(h as usize).max(y0),
+    }
+}

@@ -1,7 +1,0 @@
-use Rattle.std.proofs.Common.{◌-◌, get_or}
-use Rattle.flat_render.specs.Inks.{mixed}
-use Rattle.flat_render.proofs.Rows.{IsChangedIn}
-use Rattle.flat_render.proofs.tile.mix_across.Given as goal
-
-abbrev pub invariant-loop-py : goal.invariant-loop-py
-invariant-loop-py l = IsChangedIn (λ px py old. mixed l.mix (get_or l.values (px - l.cut.x0) 0) old) l.tile (record l.cut { y1 = l.py }) l.initial.plane l.plane

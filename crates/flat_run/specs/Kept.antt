@@ -1,0 +1,15 @@
+-- What a run keeps of its frames.
+use Rattle.flat_play.specs.declared.kept.Keeping.{Keeping}
+use Rattle.flat_play.specs.declared.kept.Keeping.TheVariants as keeping
+use Rattle.flat_words.specs.declared.form.Form.{Form}
+use Rattle.flat_words.specs.declared.form.Form.TheVariants.{Play, Race, Damage, Focus}
+use Rattle.flat_words.specs.declared.form.Form.TheVariants.{Pointer}
+
+-- what a run keeps of its frames for what a form writes
+abbrev pub keeping_for : Form → Keeping
+keeping_for Play = keeping.Texts
+keeping_for Race = keeping.Texts
+keeping_for Damage = keeping.Damages
+keeping_for Focus = keeping.Trees
+keeping_for Pointer = keeping.Trees
+keeping_for _ = keeping.Last
