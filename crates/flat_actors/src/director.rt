@@ -1,6 +1,7 @@
 //! The compositor. It composes, keeps and shows a frame outside the lock, while the sessions
 //! go on: nothing that they enter changes what an open frame shows.
-ghost use Rattle.std.specs.Prelude.{◌≡◌, ◌≤◌, ◌<◌, ◌+◌, ◌^◌, [], ◌∷◌, ◌++◌, true, length, map, slice_get, Some, IfErr, IfOk, IsTrue, OnErr, OnOk};
+ghost use Rattle.std.specs.Prelude.{◌≡◌, ◌≤◌, ◌<◌, ◌+◌, ◌^◌, [], ◌∷◌, ◌++◌, true, length, map, slice_get, Some, IfErr};
+ghost use Rattle.std.specs.Prelude.{IfOk, IsTrue, OnErr, OnOk};
 ghost use Rattle.flat_base.specs.declared.ids.Actor.TheVariants.{Display};
 ghost use Rattle.flat_scene.specs.declared.journal.Kind.TheVariants.{Begin, Finish, Hit};
 ghost use Rattle.flat_scene.specs.declared.journal.Reply.TheVariants.{Done};
@@ -25,7 +26,8 @@ ghost use Rattle.flat_play.specs.Last.{IsLast, StaysLast};
 ghost use Rattle.flat_play.specs.Playing.{is_alone, point_answer};
 ghost use Rattle.flat_play.specs.Showing.{HaveSeen, IsShown};
 ghost use Rattle.flat_actors.specs.declared.hand.Hand.TheVariants.{Open};
-ghost use Rattle.flat_actors.specs.Directing.{hand_seat, is_open, KeepsFrame, HasLooked, KeepsNext, ShowsBegin, FilmStands, HandStands, SeatStands, EntersAlone, HasStopped};
+ghost use Rattle.flat_actors.specs.Directing.{hand_seat, is_open, KeepsFrame, HasLooked, KeepsNext, ShowsBegin};
+ghost use Rattle.flat_actors.specs.Directing.{FilmStands, HandStands, SeatStands, EntersAlone, HasStopped};
 ghost use Rattle.flat_actors.specs.Publishing.{FinishesOne, PublishedStand};
 ghost use Rattle.flat_actors.specs.Sessions.{IsStageOf};
 

@@ -1,7 +1,12 @@
 -- the numbers by which the report names errors and reasons
 use Rattle.std.specs.Prelude.{ℕ}
 use Rattle.flat_base.specs.declared.errors.Reason.{Reason}
-use Rattle.flat_base.specs.declared.errors.Reason.TheVariants.{ZeroId, IdInUse, UnknownTransform, UnknownContent, WrongContent, AlreadyChild, NotChild, BadScale, BadOpacity, BadRect, BadSize, BadBuffer, TooManyRegions, HasView, NoView, TokenNotHeld, Cycle, TreeTooLarge, ViewportTwice, TooManyNamed, TooManyChildren, TooManyFences}
+use Rattle.flat_base.specs.declared.errors.Reason.TheVariants.{ZeroId, IdInUse, UnknownTransform, UnknownContent}
+use Rattle.flat_base.specs.declared.errors.Reason.TheVariants.{WrongContent, AlreadyChild, NotChild, BadScale}
+use Rattle.flat_base.specs.declared.errors.Reason.TheVariants.{BadOpacity, BadRect, BadSize, BadBuffer, TooManyRegions}
+use Rattle.flat_base.specs.declared.errors.Reason.TheVariants.{HasView, NoView, TokenNotHeld, Cycle, TreeTooLarge}
+use Rattle.flat_base.specs.declared.errors.Reason.TheVariants.{ViewportTwice, TooManyNamed, TooManyChildren}
+use Rattle.flat_base.specs.declared.errors.Reason.TheVariants.{TooManyFences}
 
 abbrev pub reason_number : Reason → ℕ
 reason_number ZeroId = 1

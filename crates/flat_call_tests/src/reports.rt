@@ -47,7 +47,7 @@ A 7 CreateView ok
 A 13 Present 1 credits 0
 ";
 
-const LOST: &str = "display 0 lost at frame 1\ndisplay 7 lost at frame 1\n";
+const LOST: &str = "display 1 lost at frame 1\ndisplay 7 lost at frame 1\n";
 
 const THEN: &str = "> A framepresented 1\n";
 

@@ -1,5 +1,6 @@
 -- What a graph unfolds to, and when that is a tree to present.
-use Rattle.std.specs.Prelude.{ℕ, suc, ◌≡◌, ◌||◌, Bool, nat_lt, IsTrue, IsFalse, option_to_list, Option, Some, None, cond}
+use Rattle.std.specs.Prelude.{ℕ, suc, ◌≡◌, ◌||◌, Bool, nat_lt, IsTrue, IsFalse, option_to_list, Option, Some, None}
+use Rattle.std.specs.Prelude.{cond}
 use Rattle.flat_base.specs.declared.errors.Reason.{Reason}
 use Rattle.flat_base.specs.declared.errors.Reason.TheVariants.{Cycle, TreeTooLarge, ViewportTwice}
 use Rattle.flat_base.specs.declared.limits.TheConstants.{TREE_NODES_MAX, PATH_NODES_MAX}
@@ -26,7 +27,8 @@ viewport_of (Some node) = viewport_held node.content
 abbrev pub viewport_in : GraphState → ℕ → Option ℕ
 viewport_in graph key = viewport_of (node_at graph key)
 
--- The tree of the paths from the root. It has one level more than is allowed, so that it is too high exactly where a path is too long.
+-- The tree of the paths from the root. It has one level more than is allowed, so that it is too high exactly where a
+-- path is too long.
 abbrev pub graph_tree : GraphState → Forest
 graph_tree graph = unfolded (links_in graph) (suc PATH_NODES_MAX) (option_to_list graph.root)
 

@@ -1,4 +1,5 @@
--- The verdict on a graph is the verdict on the draft for which it stands, and a sweep changes neither the draft nor the tree.
+-- The verdict on a graph is the verdict on the draft for which it stands, and a sweep changes neither the draft nor
+-- the tree.
 use Rattle.std.specs.Prelude.{ℕ, ◌≡◌, [], ◌∷◌, Some, None}
 use Rattle.flat_scene.specs.declared.trees.Children.{Children}
 use Rattle.flat_scene.specs.Draft.{Draft}
@@ -29,7 +30,8 @@ IsVerdict draft (Bad reason) = first_reason (tree_tests draft) ≡ Some reason
 abbrev pub VerdictStands : Type 0
 VerdictStands = (graph : GraphState) (draft : Draft) (verdict : Verdict) → StandsFor graph draft → IsJudged graph verdict → IsVerdict draft verdict
 
--- A swept graph stands for each draft for which the graph stood. The tree of the root is as it was, and so is what any key unfolds to that is reached.
+-- A swept graph stands for each draft for which the graph stood.
+-- The tree of the root is as it was, and so is what any key unfolds to that is reached.
 pub record IsAsBefore (old new : GraphState) : Type 0 where
   pub stands : (draft : Draft) → StandsFor old draft → StandsFor new draft
   pub tree : graph_tree new ≡ graph_tree old

@@ -27,7 +27,8 @@ pub record Adds (added : List ℕ) (old new : Reached) : Type 0 where
   pub there : (key : ℕ) → Contains added key → IsMarked new.marks.items key
   pub only : (key : ℕ) → IsMarked new.marks.items key → IsMarked old.marks.items key ⊎ Contains added key
 
--- All that is found is reached, the starts are found, and so are the children of the first keys of the list, so many of them.
+-- All that is found is reached, the starts are found, and so are the children of the first keys of the list, so many
+-- of them.
 pub record IsFinding (graph : GraphState) (found : Reached) (done : ℕ) : Type 0 where
   pub listed : IsListed found
   pub covers : (key : ℕ) → IsKept graph.nodes key → key < length found.marks.items

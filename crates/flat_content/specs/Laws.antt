@@ -10,7 +10,11 @@ use Rattle.flat_scene.specs.declared.calls.BlendMode.{BlendMode}
 use Rattle.flat_scene.specs.declared.calls.ImageFlip.{ImageFlip}
 use Rattle.flat_scene.specs.declared.calls.Inset.{Inset}
 use Rattle.flat_scene.specs.declared.calls.Call.{Call}
-use Rattle.flat_scene.specs.declared.calls.Call.TheVariants.{CreateViewport, SetViewportProperties, ReleaseViewport, CreateImage, SetImageSampleRegion, SetImageDestinationSize, SetImageBlendingFunction, SetImageFlip, SetImageOpacity, ReleaseImage, CreateFilledRect, SetSolidFill, ReleaseFilledRect, Clear}
+use Rattle.flat_scene.specs.declared.calls.Call.TheVariants.{CreateViewport, SetViewportProperties, ReleaseViewport}
+use Rattle.flat_scene.specs.declared.calls.Call.TheVariants.{CreateImage, SetImageSampleRegion, SetImageDestinationSize}
+use Rattle.flat_scene.specs.declared.calls.Call.TheVariants.{SetImageBlendingFunction, SetImageFlip, SetImageOpacity}
+use Rattle.flat_scene.specs.declared.calls.Call.TheVariants.{ReleaseImage, CreateFilledRect, SetSolidFill}
+use Rattle.flat_scene.specs.declared.calls.Call.TheVariants.{ReleaseFilledRect, Clear}
 use Rattle.flat_scene.specs.declared.setup.Setup.{Setup}
 use Rattle.flat_scene.specs.Draft.{Draft, empty_draft, made_of}
 use Rattle.flat_scene.specs.Effect.{effect}
@@ -19,8 +23,10 @@ use Rattle.flat_scene.specs.Tree.{content_held, use_of}
 use Rattle.flat_graph.specs.Laws.{IsContent}
 use Rattle.flat_graph.specs.State.{GraphState}
 use Rattle.flat_content.specs.declared.stored.Stored.TheVariants.{Fill, Viewport}
-use Rattle.flat_content.specs.Reasons.{create_tests, image_tests, opacity_tests, properties_tests, sample_tests, size_tests, sort_tests, solid_tests, viewport_tests}
-use Rattle.flat_content.specs.Table.{TableState, change_named, cleared, content_at, empty_table, held_of, made_named, new_image, on_image, on_viewport, released, use_at, viewport_released, with_stored}
+use Rattle.flat_content.specs.Reasons.{create_tests, image_tests, opacity_tests, properties_tests, sample_tests}
+use Rattle.flat_content.specs.Reasons.{size_tests, sort_tests, solid_tests, viewport_tests}
+use Rattle.flat_content.specs.Table.{TableState, change_named, cleared, content_at, empty_table, held_of, made_named}
+use Rattle.flat_content.specs.Table.{new_image, on_image, on_viewport, released, use_at, viewport_released, with_stored}
 use Rattle.flat_content.specs.Stands.{StandsFor}
 
 -- a new table stands for the draft of a session that made no call
@@ -28,7 +34,8 @@ abbrev pub EmptyStands : Type 0
 EmptyStands = (setup : Setup) → StandsFor setup (empty_table setup.buffers) empty_draft
 
 module _ (setup : Setup) (table : TableState) (draft : Draft) where
-  -- What a table's call asks is what the draft's call asks. Where there is no reason, the table after it stands for the draft after it.
+  -- What a table's call asks is what the draft's call asks.
+  -- Where there is no reason, the table after it stands for the draft after it.
   pub record IsCall (call : Call) (tests : List Test) (after : TableState) : Type 0 where
     pub reason : first_reason tests ≡ misuse setup draft call
     pub stands : first_reason tests ≡ None → StandsFor setup after (effect draft call)

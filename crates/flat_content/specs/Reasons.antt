@@ -1,11 +1,14 @@
 -- Why calls on a table are refused: what is asked of each, in the order of the reasons.
-use Rattle.std.specs.Prelude.{ℕ, nat_lt, slice_get, ◌&&◌, ◌||◌, ◌==◌, ◌++◌, Bool, not, is_some, is_none, List, [], ◌∷◌, Option}
-use Rattle.flat_base.specs.declared.errors.Reason.TheVariants.{ZeroId, IdInUse, UnknownContent, WrongContent, BadOpacity, BadRect, BadSize, BadBuffer, TooManyNamed}
+use Rattle.std.specs.Prelude.{ℕ, nat_lt, slice_get, ◌&&◌, ◌||◌, ◌==◌, ◌++◌, Bool, not, is_some, is_none, List, [], ◌∷◌}
+use Rattle.std.specs.Prelude.{Option}
+use Rattle.flat_base.specs.declared.errors.Reason.TheVariants.{ZeroId, IdInUse, UnknownContent, WrongContent}
+use Rattle.flat_base.specs.declared.errors.Reason.TheVariants.{BadOpacity, BadRect, BadSize, BadBuffer, TooManyNamed}
 use Rattle.flat_base.specs.declared.limits.TheConstants.{NAMED_MAX, OPACITY_MAX}
 use Rattle.flat_base.specs.declared.ids.BufferNo.{BufferNo}
 use Rattle.flat_base.specs.declared.shapes.IntRect.{IntRect}
 use Rattle.flat_scene.specs.Draft.{Made}
-use Rattle.flat_scene.specs.Misuse.{Test, is_bad_image, is_bad_index, is_bad_rect, is_bad_side, is_fill, is_full, is_image, is_viewport, leaves_made}
+use Rattle.flat_scene.specs.Misuse.{Test, is_bad_image, is_bad_index, is_bad_rect, is_bad_side, is_fill, is_full}
+use Rattle.flat_scene.specs.Misuse.{is_image, is_viewport, leaves_made}
 use Rattle.flat_graph.specs.Names.{key_named}
 use Rattle.flat_content.specs.Table.{TableState, made_named}
 

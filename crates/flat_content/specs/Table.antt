@@ -1,5 +1,6 @@
 -- What contracts see of a table of contents.
-use Rattle.std.specs.Prelude.{ℕ, pos, ◌+◌, ◌<◌, ◌≤◌, ◌^◌, ◌≡◌, Bool, true, false, not, List, [], ◌∷◌, ◌++◌, filter, length, Option, Some, None}
+use Rattle.std.specs.Prelude.{ℕ, pos, ◌+◌, ◌<◌, ◌≤◌, ◌^◌, ◌≡◌, Bool, true, false, not, List, [], ◌∷◌, ◌++◌, filter}
+use Rattle.std.specs.Prelude.{length, Option, Some, None}
 use Rattle.std.specs.List.{list_all}
 use Rattle.std.specs.Option.{option_map, option_and_then}
 use Rattle.flat_base.specs.declared.ids.BufferNo.{BufferNo}
@@ -39,7 +40,8 @@ as_made (Fill None) = a_fill None
 as_made (Fill (Some fill)) = a_fill (Some (record { rgba = fill.rgba; size = fill.size }))
 as_made (Viewport pair props) = a_viewport pair props
 
--- the collections of which images may be made, the contents by serial, the names by rising id, whose keys are serials, the serials of the viewports in use, and whether there is room for one content more
+-- the collections of which images may be made, the contents by serial, the names by rising id, whose keys are
+-- serials, the serials of the viewports in use, and whether there is room for one content more
 pub record TableState : Type 0 where
   pub buffers : List BufferDecl
   pub contents : List Stored

@@ -10,7 +10,8 @@ use Rattle.flat_rules.specs.Laws.{is_beside, glimpses, own_events, outcomes}
 use Rattle.flat_rules.specs.FamilyLaw.{IsFamilyLaw}
 use Rattle.flat_rules.specs.Legal.{Legal}
 
--- Where all owners are declared, the family of each session is alone: its entries with the frames are legal by themselves, with the
+-- Where all owners are declared, the family of each session is alone:
+-- its entries with the frames are legal by themselves, with the
 -- same events, and the others post it nothing.
 abbrev pub FamiliesStandAlone : Setup → List Entry → Type 0
 FamiliesStandAlone setup history = owners_declared setup ≡ true → (s : SessionNo) → IsFamilyLaw setup (family setup s) history

@@ -1,4 +1,5 @@
-ghost use Rattle.std.specs.Prelude.{◌≡◌, true, false, ◌+◌, ◌-◌, ◌^◌, ◌<◌, ◌≤◌, ◌||◌, ◌++◌, [], cond, nat_lt, not, length, map, sum_by, All};
+ghost use Rattle.std.specs.Prelude.{◌≡◌, true, false, ◌+◌, ◌-◌, ◌^◌, ◌<◌, ◌≤◌, ◌||◌, ◌++◌, [], cond, nat_lt, not};
+ghost use Rattle.std.specs.Prelude.{length, map, sum_by, All};
 ghost use Rattle.std.specs.List.{list_any};
 ghost use Rattle.flat_base.specs.declared.ids.Actor.TheVariants.{Display};
 ghost use Rattle.flat_base.specs.declared.ids.FenceNo.{FenceNo};

@@ -3,7 +3,8 @@
 //!
 //! It stands for one legal history (`Machine`, flat_states: specs/Machines). board.rt has
 //! the board and what it tells; what makes entries stands in board/, by what is entered,
-//! and ends in entries.rt, which notes and logs; begins.rt and dones.rt go through all sessions at a frame, polls.rt through the events.
+//! and ends in entries.rt, which notes and logs;
+//! begins.rt and dones.rt go through all sessions at a frame, polls.rt through the events.
 #![tactic(auto)]
 
 mod begins;

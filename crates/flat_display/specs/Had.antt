@@ -1,5 +1,6 @@
 -- what each display has had after a list of frames was shown to all, one after another
-use Rattle.std.specs.Prelude.{if◌then◌else◌, ◌≡◌, ⊤, ℕ, suc, ◌≤◌, ◌==◌, Bool, true, false, List, [], ◌∷◌, length, map, Option, None, Some, IsTrue}
+use Rattle.std.specs.Prelude.{if◌then◌else◌, ◌≡◌, ⊤, ℕ, suc, ◌≤◌, ◌==◌, Bool, true, false, List, [], ◌∷◌, length, map}
+use Rattle.std.specs.Prelude.{Option, None, Some, IsTrue}
 use Rattle.std.specs.List.{list_any}
 use Rattle.flat_io.specs.Counts.{has_risen}
 use Rattle.flat_base.specs.declared.ids.FrameNo.{FrameNo}

@@ -2,7 +2,9 @@
 use Rattle.std.specs.Prelude.{◌≡◌, Bool, true, false, Option, Some, None, Result, Ok, Err}
 use Rattle.std.specs.Option.{option_and_then}
 use Rattle.flat_scene.specs.declared.calls.Call.{Call}
-use Rattle.flat_scene.specs.declared.calls.Call.TheVariants.{CreateView, CreateTransform, AddChild, ReplaceChildren, SetHitRegions, SetInfiniteHitRegion, CreateViewport, CreateImage, CreateFilledRect}
+use Rattle.flat_scene.specs.declared.calls.Call.TheVariants.{CreateView, CreateTransform, AddChild, ReplaceChildren}
+use Rattle.flat_scene.specs.declared.calls.Call.TheVariants.{SetHitRegions, SetInfiniteHitRegion, CreateViewport}
+use Rattle.flat_scene.specs.declared.calls.Call.TheVariants.{CreateImage, CreateFilledRect}
 use Rattle.flat_base.specs.declared.ids.PairNo.{PairNo}
 use Rattle.flat_scene.specs.declared.calls.PresentArgs.{PresentArgs}
 use Rattle.flat_scene.specs.declared.calls.Watch.{Watch}
@@ -36,7 +38,8 @@ takes_memory (CreateFilledRect c) = true
 takes_memory other = false
 
 module _ (setup : Setup) (draft : Draft) (call : Call) (old new : DraftState) where
-  -- A call's answer. A misuse closes the draft, and any other call is done, but where it takes memory and there is none. A closed draft does nothing.
+  -- A call's answer. A misuse closes the draft, and any other call is done, but where it takes memory and there is
+  -- none. A closed draft does nothing.
   abbrev pub IsAnswer : Result Unit DraftFault → Type 0
   IsAnswer (Ok done) = (old.closed ≡ false) × (misuse setup draft call ≡ None) × StandsFor setup new (effect draft call) × (new.closed ≡ false)
   IsAnswer (Err (Bad reason)) = (old.closed ≡ false) × (misuse setup draft call ≡ Some reason) × (new ≡ closed old)
@@ -67,7 +70,8 @@ has_room_for (CreateViewport c pair w h inset) state = state.contents.has_room
 has_room_for other state = false
 
 module _ (setup : Setup) (draft : Draft) (call : Call) (old new : DraftState) where
-  -- What a call would be answered that uses an end. Where it would be done there is room for it, and the draft is what it was; a misuse doesn't close it.
+  -- What a call would be answered that uses an end.
+  -- Where it would be done there is room for it, and the draft is what it was; a misuse doesn't close it.
   abbrev pub IsReadied : Result Unit DraftFault → Type 0
   IsReadied (Ok done) = (old.closed ≡ false) × (misuse setup draft call ≡ None) × StandsFor setup new draft × (new.closed ≡ false) × (has_room_for call new ≡ true)
   IsReadied (Err (Bad reason)) = (old.closed ≡ false) × (misuse setup draft call ≡ Some reason) × (new ≡ old)
@@ -81,7 +85,8 @@ module _ (setup : Setup) (draft : Draft) (call : Call) (old new : DraftState) wh
   IsTested (Err part.Memory) = (misuse setup draft call ≡ None) × (takes_memory call ≡ true) × (new ≡ old)
 
 module _ (draft : Draft) (args : PresentArgs) (old new : DraftState) where
-  -- A present is done, and shows this tree. The transforms are dropped that nothing reaches any more, and each draft for which the old state stands, the new one stands for.
+  -- A present is done, and shows this tree. The transforms are dropped that nothing reaches any more, and each draft
+  -- for which the old state stands, the new one stands for.
   pub record Presents (shown : Tree) : Type 0 where
     pub still_open : old.closed ≡ false
     pub allowed : first_reason (present_tests draft args) ≡ None

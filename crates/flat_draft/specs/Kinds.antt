@@ -1,7 +1,12 @@
 -- Kinds of calls.
 use Rattle.std.specs.Prelude.{Bool, true, false}
 use Rattle.flat_scene.specs.declared.calls.Call.{Call}
-use Rattle.flat_scene.specs.declared.calls.Call.TheVariants.{CreateView, ReleaseView, SetContent, ReleaseViewport, Clear, CreateViewport, SetViewportProperties, CreateImage, SetImageSampleRegion, SetImageDestinationSize, SetImageBlendingFunction, SetImageFlip, SetImageOpacity, ReleaseImage, CreateFilledRect, SetSolidFill, ReleaseFilledRect}
+use Rattle.flat_scene.specs.declared.calls.Call.TheVariants.{CreateView, ReleaseView, SetContent, ReleaseViewport}
+use Rattle.flat_scene.specs.declared.calls.Call.TheVariants.{Clear, CreateViewport, SetViewportProperties, CreateImage}
+use Rattle.flat_scene.specs.declared.calls.Call.TheVariants.{SetImageSampleRegion, SetImageDestinationSize}
+use Rattle.flat_scene.specs.declared.calls.Call.TheVariants.{SetImageBlendingFunction, SetImageFlip, SetImageOpacity}
+use Rattle.flat_scene.specs.declared.calls.Call.TheVariants.{ReleaseImage, CreateFilledRect, SetSolidFill}
+use Rattle.flat_scene.specs.declared.calls.Call.TheVariants.{ReleaseFilledRect}
 
 -- the calls that neither change the view nor look at transforms and contents at once
 abbrev pub is_of_one_part : Call → Bool

@@ -1,5 +1,6 @@
 -- Entries that a history refuses, each beside an entry that it accepts.
-use Rattle.std.specs.Prelude.{ℕ, ◌≡◌, ◌↔◌, ◌-◌, Bool, cond, List, [], ◌∷◌, ◌++◌, length, replicate, slice_get, Some, None}
+use Rattle.std.specs.Prelude.{ℕ, ◌≡◌, ◌↔◌, ◌-◌, Bool, cond, List, [], ◌∷◌, ◌++◌, length, replicate, slice_get, Some}
+use Rattle.std.specs.Prelude.{None}
 use Rattle.flat_base.specs.declared.errors.FlatlandError.TheVariants.{BadHangingGet, BadOperation}
 use Rattle.flat_base.specs.declared.errors.Reason.{Reason}
 use Rattle.flat_base.specs.declared.errors.Reason.TheVariants.{ZeroId, IdInUse, BadScale, NoView, Cycle}
@@ -14,9 +15,11 @@ use Rattle.flat_scene.specs.declared.journal.Told.{Told}
 use Rattle.flat_scene.specs.declared.journal.Told.TheVariants as tell
 use Rattle.flat_scene.specs.declared.setup.Setup.{Setup}
 use Rattle.flat_scene.specs.History.{◌▹◌}
-use Rattle.flat_rules.specs.Legal.{Legal, MayEnter, may_act, goes_on, keeps_time, has_draft, draft_with, own_call, links_alone, owns_all, may_name, has_tree, has_watcher, refused_token, reply_to}
+use Rattle.flat_rules.specs.Legal.{Legal, MayEnter, may_act, goes_on, keeps_time, has_draft, draft_with, own_call}
+use Rattle.flat_rules.specs.Legal.{links_alone, owns_all, may_name, has_tree, has_watcher, refused_token, reply_to}
 use Rattle.flat_scene.specs.Draft.{no_inset}
-use Rattle.flat_examples.specs.Words.{f, p, t, display_over, over, fence_of, display_fence, setup_of, by_session, by_display, present}
+use Rattle.flat_examples.specs.Words.{f, p, t, display_over, over, fence_of, display_fence, setup_of, by_session}
+use Rattle.flat_examples.specs.Words.{by_display, present}
 
 -- What an entry must meet, by the names of `MayEnter`.
 pub data Rule : Type 0 where

@@ -1,12 +1,15 @@
 -- Extra lines read as values: each line's value, or the lowest kind of its faults; the first line with a fault decides.
-use Rattle.std.specs.Prelude.{ℕ, ◌+◌, ◌==◌, ℤ, pos, nat_lt, Bool, false, not, ◌&&◌, ◌||◌, if◌then◌else◌, List, [], ◌∷◌, length, Option, Some, None, is_some, option_and_then, unwrap_or, slice_get, codes, Result, Ok, Err}
+use Rattle.std.specs.Prelude.{ℕ, ◌+◌, ◌==◌, ℤ, pos, nat_lt, Bool, false, not, ◌&&◌, ◌||◌, if◌then◌else◌, List, [], ◌∷◌}
+use Rattle.std.specs.Prelude.{length, Option, Some, None, is_some, option_and_then, unwrap_or, slice_get, codes, Result}
+use Rattle.std.specs.Prelude.{Ok, Err}
 use Rattle.std.specs.Option.{option_map_or}
 use Rattle.std.specs.Str.{bytes_eq}
 use Rattle.flat_base.specs.declared.ids.SessionNo.{SessionNo}
 use Rattle.flat_text.specs.Number.{natural, signed}
 use Rattle.flat_text.specs.Pieces.{words_of}
 use Rattle.flat_places.specs.declared.kinds.FaultKind.{FaultKind}
-use Rattle.flat_places.specs.declared.kinds.FaultKind.TheVariants.{UnknownActor, BadNumber, WrongCount, UnknownName, Limit}
+use Rattle.flat_places.specs.declared.kinds.FaultKind.TheVariants.{UnknownActor, BadNumber, WrongCount, UnknownName}
+use Rattle.flat_places.specs.declared.kinds.FaultKind.TheVariants.{Limit}
 use Rattle.flat_places.specs.declared.script.Script.{Script}
 use Rattle.flat_script.specs.declared.script.ScriptFault.{ScriptFault}
 use Rattle.flat_places.specs.Names.{session_named}

@@ -1,8 +1,11 @@
-ghost use Rattle.std.specs.Prelude.{◌≡◌, ◌≤◌, ◌==◌, ◌<◌, ◌∷◌, [], ◌++◌, length, pos, is_some, unwrap_or, slice_get, Err, OnOk, OnErr, IfSome};
+ghost use Rattle.std.specs.Prelude.{◌≡◌, ◌≤◌, ◌==◌, ◌<◌, ◌∷◌, [], ◌++◌, length, pos, is_some, unwrap_or, slice_get};
+ghost use Rattle.std.specs.Prelude.{Err, OnOk, OnErr, IfSome};
 ghost use Rattle.flat_text.specs.Pieces.{words_of};
 ghost use Rattle.flat_places.specs.Names.{place_of, session_named};
 ghost use Rattle.flat_script.specs.declared.script.ScriptError.TheVariants.{Memory};
-ghost use Rattle.flat_extra.specs.Reading.{has_room, session_at, focus_line, all_read, is_word_at, pointer_in, pointer_at, units_in, units_at, may_be, has_numbers, word_count, pointer_call, pointer_line};
+ghost use Rattle.flat_extra.specs.Reading.{has_room, session_at, focus_line, all_read, is_word_at, pointer_in};
+ghost use Rattle.flat_extra.specs.Reading.{pointer_at, units_in, units_at, may_be, has_numbers, word_count};
+ghost use Rattle.flat_extra.specs.Reading.{pointer_call, pointer_line};
 ghost use Rattle.flat_extra.specs.Readers.{Reads, Takes};
 
 use crate::split::{ExtraLine, ExtraList};

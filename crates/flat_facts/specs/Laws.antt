@@ -13,7 +13,8 @@ use Rattle.flat_rules.specs.Ends.{has_view, is_view_lost, to_finished, viewport_
 use Rattle.flat_rules.specs.Legal.{Legal, has_token, owns_viewport}
 use Rattle.flat_rules.specs.Posts.{releases_seen}
 
--- while its owner is open, the token of a viewport end is held exactly where frames that are finished have seen as many releases as there were uses
+-- while its owner is open, the token of a viewport end is held exactly where frames that are finished have seen as
+-- many releases as there were uses
 abbrev pub TokensFollowReleases : Type 0
 TokensFollowReleases = (setup : Setup) (history : List Entry) → Legal setup history → (s : SessionNo) (p : PairNo) → is_declared setup s ≡ true → owns_viewport setup s p ≡ true → is_closed s history ≡ false
     → has_token setup p history ≡ nat_le (length (viewport_uses p history)) (releases_seen setup (to_finished history) s p)
@@ -28,7 +29,8 @@ abbrev pub is_standing : Setup → List Entry → Option PairNo → Bool
 is_standing setup history None = false
 is_standing setup history (Some p) = not (is_view_lost setup history p)
 
--- a session has a view whose end isn't lost exactly where it is open, and the end of the last view that it made isn't lost
+-- a session has a view whose end isn't lost exactly where it is open, and the end of the last view that it made isn't
+-- lost
 abbrev pub LastViewStands : Type 0
 LastViewStands = (setup : Setup) (history : List Entry) → Legal setup history
     → (s : SessionNo) → has_view setup history s ≡ (not (is_closed s history) && is_standing setup history (last_view s history))

@@ -1,5 +1,6 @@
 -- The viewports that a session's calls made, and neither released nor cleared.
-use Rattle.std.specs.Prelude.{ℕ, ◌+◌, ◌-◌, Bool, false, cond, not, ◌==◌, List, [], ◌∷◌, ◌++◌, filter, length, slice_get, Option, Some, None, option_map, unwrap_or, true}
+use Rattle.std.specs.Prelude.{ℕ, ◌+◌, ◌-◌, Bool, false, cond, not, ◌==◌, List, [], ◌∷◌, ◌++◌, filter, length, slice_get}
+use Rattle.std.specs.Prelude.{Option, Some, None, option_map, unwrap_or, true}
 use Rattle.std.specs.List.{list_any}
 use Rattle.flat_base.specs.declared.ids.PairNo.{PairNo}
 use Rattle.flat_scene.specs.declared.calls.Call.{Call}

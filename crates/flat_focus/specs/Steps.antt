@@ -9,7 +9,8 @@ use Rattle.flat_focus.specs.declared.text.FocusLine.{FocusLine}
 use Rattle.flat_focus.specs.Events.{frame}
 use Rattle.flat_focus.specs.Text.{ask_line, frame_line}
 
--- on the way up to the root the next session is looked for: the session of a node, if it is the next one, and who is the next one then
+-- on the way up to the root the next session is looked for:
+-- the session of a node, if it is the next one, and who is the next one then
 abbrev pub on_the_way : ViewNode → Option SessionNo → List SessionNo
 on_the_way node None = []
 on_the_way node (Some s) = if node.session.0 == s.0 then node.session ∷ [] else []

@@ -1,5 +1,6 @@
 -- The lines of the body.
-use Rattle.std.specs.Prelude.{ℕ, nat_le, nat_lt, Bool, true, false, not, List, [], ◌∷◌, ◌++◌, length, Option, Some, None, Ok, Err, codes, count_by, fold, max, if◌then◌else◌}
+use Rattle.std.specs.Prelude.{ℕ, nat_le, nat_lt, Bool, true, false, not, List, [], ◌∷◌, ◌++◌, length, Option, Some}
+use Rattle.std.specs.Prelude.{None, Ok, Err, codes, count_by, fold, max, if◌then◌else◌}
 use Rattle.std.specs.List.{list_any, filter_map, before_first, after_first}
 use Rattle.std.specs.Option.{option_map_or}
 use Rattle.std.specs.Str.{bytes_eq}
@@ -20,9 +21,11 @@ use Rattle.flat_scene.specs.declared.script.ProbeLine.TheVariants as probe
 use Rattle.flat_scene.specs.declared.script.Body.{Body}
 use Rattle.flat_scene.specs.declared.script.Body.TheVariants as body
 use Rattle.flat_base.specs.declared.limits.TheConstants.{FRAMES_MAX, LINES_PER_ACTOR_MAX}
-use Rattle.flat_places.specs.declared.kinds.FaultKind.TheVariants.{UnknownActor, UnknownCall, WrongCount, Limit, BadOrder}
+use Rattle.flat_places.specs.declared.kinds.FaultKind.TheVariants.{UnknownActor, UnknownCall, WrongCount, Limit}
+use Rattle.flat_places.specs.declared.kinds.FaultKind.TheVariants.{BadOrder}
 use Rattle.flat_places.specs.declared.script.Script.{Script}
-use Rattle.flat_places.specs.Forms.{Word, Reading, Form, both, unless_kind, give, place, whole, one_or_more, named, mapped, ◌<$>◌, ◌<*>◌}
+use Rattle.flat_places.specs.Forms.{Word, Reading, Form, both, unless_kind, give, place, whole, one_or_more, named}
+use Rattle.flat_places.specs.Forms.{mapped, ◌<$>◌, ◌<*>◌}
 use Rattle.flat_places.specs.Names.{actor_named, is_actor}
 use Rattle.flat_places.specs.Places.{u32, time, content, point, ratio, unsquashable, session, fence, fence_word}
 use Rattle.flat_forms.specs.Calls.{call_named, call_form}

@@ -8,11 +8,21 @@ use Rattle.flat_scene.specs.declared.calls.Call.TheVariants as call
 use Rattle.flat_scene.specs.declared.calls.Inset.{Inset}
 use Rattle.flat_scene.specs.Draft.{no_inset}
 use Rattle.flat_forms.specs.declared.calls.CallName.{CallName}
-use Rattle.flat_forms.specs.declared.calls.CallName.TheVariants.{CreateView, ReleaseView, CreateTransform, ReleaseTransform, SetTranslation, SetOrientation, SetScale, SetOpacity, SetClipBoundary, AddChild, RemoveChild, ReplaceChildren, SetRootTransform, CreateViewport, SetViewportProperties, ReleaseViewport, CreateImage, SetImageSampleRegion, SetImageDestinationSize, SetImageBlendingFunction, SetImageFlip, SetImageOpacity, ReleaseImage, CreateFilledRect, SetSolidFill, ReleaseFilledRect, SetHitRegions, SetInfiniteHitRegion, SetContent, Clear}
+use Rattle.flat_forms.specs.declared.calls.CallName.TheVariants.{CreateView, ReleaseView, CreateTransform}
+use Rattle.flat_forms.specs.declared.calls.CallName.TheVariants.{ReleaseTransform, SetTranslation, SetOrientation}
+use Rattle.flat_forms.specs.declared.calls.CallName.TheVariants.{SetScale, SetOpacity, SetClipBoundary, AddChild}
+use Rattle.flat_forms.specs.declared.calls.CallName.TheVariants.{RemoveChild, ReplaceChildren, SetRootTransform}
+use Rattle.flat_forms.specs.declared.calls.CallName.TheVariants.{CreateViewport, SetViewportProperties, ReleaseViewport}
+use Rattle.flat_forms.specs.declared.calls.CallName.TheVariants.{CreateImage, SetImageSampleRegion}
+use Rattle.flat_forms.specs.declared.calls.CallName.TheVariants.{SetImageDestinationSize, SetImageBlendingFunction}
+use Rattle.flat_forms.specs.declared.calls.CallName.TheVariants.{SetImageFlip, SetImageOpacity, ReleaseImage}
+use Rattle.flat_forms.specs.declared.calls.CallName.TheVariants.{CreateFilledRect, SetSolidFill, ReleaseFilledRect}
+use Rattle.flat_forms.specs.declared.calls.CallName.TheVariants.{SetHitRegions, SetInfiniteHitRegion, SetContent, Clear}
 use Rattle.flat_places.specs.declared.script.Script.{Script}
 use Rattle.flat_places.specs.Known.{knows}
 use Rattle.flat_places.specs.Forms.{Word, Form, give, optional, ◌<$>◌, ◌<*>◌}
-use Rattle.flat_places.specs.Places.{transform, transforms, content, view_end, viewport_end, collection, i32, u32, colour, orientation, blend, flip, interaction, int_rect, inset, regions}
+use Rattle.flat_places.specs.Places.{transform, transforms, content, view_end, viewport_end, collection, i32, u32}
+use Rattle.flat_places.specs.Places.{colour, orientation, blend, flip, interaction, int_rect, inset, regions}
 
 -- how a call's name is written
 abbrev pub text : CallName → List ℕ

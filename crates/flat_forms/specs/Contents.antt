@@ -1,7 +1,11 @@
 -- Which calls are of contents.
 use Rattle.std.specs.Prelude.{Bool, true, false}
 use Rattle.flat_forms.specs.declared.calls.CallName.{CallName}
-use Rattle.flat_forms.specs.declared.calls.CallName.TheVariants.{CreateViewport, SetViewportProperties, ReleaseViewport, CreateImage, SetImageSampleRegion, SetImageDestinationSize, SetImageBlendingFunction, SetImageFlip, SetImageOpacity, ReleaseImage, CreateFilledRect, SetSolidFill, ReleaseFilledRect}
+use Rattle.flat_forms.specs.declared.calls.CallName.TheVariants.{CreateViewport, SetViewportProperties, ReleaseViewport}
+use Rattle.flat_forms.specs.declared.calls.CallName.TheVariants.{CreateImage, SetImageSampleRegion}
+use Rattle.flat_forms.specs.declared.calls.CallName.TheVariants.{SetImageDestinationSize, SetImageBlendingFunction}
+use Rattle.flat_forms.specs.declared.calls.CallName.TheVariants.{SetImageFlip, SetImageOpacity, ReleaseImage}
+use Rattle.flat_forms.specs.declared.calls.CallName.TheVariants.{CreateFilledRect, SetSolidFill, ReleaseFilledRect}
 
 -- the call makes, changes or releases a content
 abbrev pub is_of_contents : CallName → Bool

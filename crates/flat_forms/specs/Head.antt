@@ -4,11 +4,13 @@ use Rattle.std.specs.Str.{bytes_eq}
 use Rattle.flat_scene.specs.declared.setup.PairDecl.{PairDecl}
 use Rattle.flat_scene.specs.declared.setup.BufferDecl.{BufferDecl}
 use Rattle.flat_scene.specs.declared.setup.FenceDecl.{FenceDecl}
-use Rattle.flat_base.specs.declared.limits.TheConstants.{ONE, BUFFER_COLLECTIONS_MAX, BUFFERS_PER_COLLECTION_MAX, FENCES_MAX, PAIRS_MAX, PROBES_MAX, SESSIONS_MAX, SIDE_MAX}
+use Rattle.flat_base.specs.declared.limits.TheConstants.{ONE, BUFFER_COLLECTIONS_MAX, BUFFERS_PER_COLLECTION_MAX}
+use Rattle.flat_base.specs.declared.limits.TheConstants.{FENCES_MAX, PAIRS_MAX, PROBES_MAX, SESSIONS_MAX, SIDE_MAX}
 use Rattle.flat_places.specs.declared.kinds.FaultKind.TheVariants.{BadHead, Limit}
 use Rattle.flat_places.specs.declared.script.Script.{Script}
 use Rattle.flat_places.specs.Forms.{Word, Reading, Form, unless_kind, give, whole, named, mapped, ◌<$>◌, ◌<*>◌}
-use Rattle.flat_places.specs.Places.{number_from, first_ratio, session, version, has_display_pair, new_name, pair_owner, owners}
+use Rattle.flat_places.specs.Places.{number_from, first_ratio, session, version, has_display_pair, new_name, pair_owner}
+use Rattle.flat_places.specs.Places.{owners}
 
 -- nothing declared yet; a width of 0 says that no display line was read
 abbrev pub empty : Script

@@ -1,5 +1,6 @@
 -- Which pairs of a session are listed, since a get of them may wait.
-use Rattle.std.specs.Prelude.{◌≡◌, ℕ, ◌+◌, Bool, true, false, cond, ◌&&◌, ◌||◌, ◌==◌, nat_le, nat_lt, List, [], ◌∷◌, filter, is_some, option_map, slice_get, unwrap_or, length}
+use Rattle.std.specs.Prelude.{◌≡◌, ℕ, ◌+◌, Bool, true, false, cond, ◌&&◌, ◌||◌, ◌==◌, nat_le, nat_lt, List, [], ◌∷◌}
+use Rattle.std.specs.Prelude.{filter, is_some, option_map, slice_get, unwrap_or, length}
 use Rattle.flat_base.specs.declared.ids.PairNo.{PairNo}
 use Rattle.flat_base.specs.declared.ids.SessionNo.{SessionNo}
 use Rattle.flat_scene.specs.declared.setup.Setup.{Setup}
@@ -7,7 +8,8 @@ use Rattle.flat_gets.specs.declared.pair.PairWatchers.{PairWatchers}
 use Rattle.flat_rules.specs.Ends.{views_of, viewports_of}
 use Rattle.flat_rules.specs.Legal.{owns_view, owns_viewport}
 
--- What contracts see of what is kept of a session's gets: how many answers it had, and the pairs of its views and viewports that are listed.
+-- What contracts see of what is kept of a session's gets:
+-- how many answers it had, and the pairs of its views and viewports that are listed.
 pub record KeptGets : Type 0 where
   pub answers : ℕ
   pub views : List PairNo

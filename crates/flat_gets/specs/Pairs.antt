@@ -1,5 +1,6 @@
 -- What is kept of the watchers of a pair: of the layout and the status of its view, and of its viewport's children.
-use Rattle.std.specs.Prelude.{◌≡◌, ℕ, ◌+◌, ◌-◌, Bool, true, false, cond, not, List, [], ◌∷◌, ◌++◌, filter, flat_map, length, Option, Some, None, is_some}
+use Rattle.std.specs.Prelude.{◌≡◌, ℕ, ◌+◌, ◌-◌, Bool, true, false, cond, not, List, [], ◌∷◌, ◌++◌, filter, flat_map}
+use Rattle.std.specs.Prelude.{length, Option, Some, None, is_some}
 use Rattle.flat_base.specs.declared.ids.PairNo.{PairNo}
 use Rattle.flat_scene.specs.declared.calls.Watch.{Watch}
 use Rattle.flat_scene.specs.declared.calls.Watch.TheVariants as watch
@@ -126,7 +127,8 @@ waiting_in w = number_if (is_some w.layout.waits) + number_if (is_some w.status.
 abbrev pub former_gets : (ℕ → Watching) → ℕ → List FormerGet
 former_gets children n = flat_map (λ k. former_of (children k)) (up_to n)
 
--- What is kept of a pair stands for its watchers: those of its view after one history, and those of its viewport's children after another.
+-- What is kept of a pair stands for its watchers:
+-- those of its view after one history, and those of its viewport's children after another.
 pub record AreAt (setup : Setup) (view viewport : List Entry) (p : PairNo) (w : PairWatchers) : Type 0 where
   pub layout : w.layout ≡ watching setup (layout_of p) view
   pub status : w.status ≡ watching setup (status_of p) view

@@ -1,5 +1,7 @@
 -- What is kept of the gets of all sessions, by the watchers of all pairs.
-use Rattle.std.specs.Prelude.{◌≡◌, ◌⊎◌, ◌<◌, ◌≤◌, ◌+◌, ◌-◌, ◌++◌, ℕ, Bool, true, false, not, nat_lt, nat_le, cond, ◌&&◌, ◌==◌, option_map, unwrap_or, slice_get, List, filter, flat_map, map, length, slice_index_or, slice_set, sum_by, vec_capacity, Option, Some, None, is_some}
+use Rattle.std.specs.Prelude.{◌≡◌, ◌⊎◌, ◌<◌, ◌≤◌, ◌+◌, ◌-◌, ◌++◌, ℕ, Bool, true, false, not, nat_lt, nat_le, cond, ◌&&◌}
+use Rattle.std.specs.Prelude.{◌==◌, option_map, unwrap_or, slice_get, List, filter, flat_map, map, length}
+use Rattle.std.specs.Prelude.{slice_index_or, slice_set, sum_by, vec_capacity, Option, Some, None, is_some}
 use Rattle.flat_base.specs.declared.ids.Actor.{Actor}
 use Rattle.flat_base.specs.declared.ids.Actor.TheVariants.{Session}
 use Rattle.flat_base.specs.declared.ids.PairNo.{PairNo}
@@ -40,7 +42,8 @@ use Rattle.flat_watch.specs.Told.{answer, news, settled}
 use Rattle.flat_gets.specs.Dues.{due_told}
 use Rattle.flat_gets.specs.Gets.{gets_made}
 use Rattle.flat_gets.specs.Listed.{AreListed, KeptGets, is_listed, view_waits, viewport_waits, waits_at, with_pair}
-use Rattle.flat_gets.specs.Pairs.{AreAt, IsGot, IsTold, cell_at, is_child, part_events, part_of, still_waiting, watcher_at}
+use Rattle.flat_gets.specs.Pairs.{AreAt, IsGot, IsTold, cell_at, is_child, part_events, part_of, still_waiting}
+use Rattle.flat_gets.specs.Pairs.{watcher_at}
 
 -- ---- a get
 
@@ -179,7 +182,8 @@ pub record WatchedUpTo (setup : Setup) (n : ℕ) (after before : List Entry) (wa
 abbrev pub is_shut : List SessionState → SessionNo → Bool
 is_shut sessions s = cond (s.0 == 0) true (unwrap_or (option_map (λ state. state.closed) (slice_get sessions (s.0 - 1))) true)
 
--- An entry uses the viewport end of a pair, whose view this session owns, or is refused to. The session is shut where it is closed, or isn't one of the setup.
+-- An entry uses the viewport end of a pair, whose view this session owns, or is refused to.
+-- The session is shut where it is closed, or isn't one of the setup.
 pub record IsJoin (setup : Setup) (history : List Entry) (entry : Entry) (is_held : Bool) (owner : SessionNo) (shut : Bool) (p : PairNo) : Type 0 where
   pub legal : Legal setup (history ▹ entry)
   pub props : ViewportProps

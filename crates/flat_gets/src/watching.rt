@@ -1,4 +1,5 @@
-ghost use Rattle.std.specs.Prelude.{◌≡◌, ℕ, ◌+◌, ◌-◌, ◌<◌, ◌≤◌, ◌^◌, true, false, [], All, List, length, slice_index_or, sum_by, vec_capacity, IfErr, IfOk, OnOk};
+ghost use Rattle.std.specs.Prelude.{◌≡◌, ℕ, ◌+◌, ◌-◌, ◌<◌, ◌≤◌, ◌^◌, true, false, [], All, List, length};
+ghost use Rattle.std.specs.Prelude.{slice_index_or, sum_by, vec_capacity, IfErr, IfOk, OnOk};
 ghost use Rattle.flat_scene.specs.declared.journal.Entry.{Entry};
 ghost use Rattle.flat_scene.specs.declared.setup.Setup.{Setup};
 ghost use Rattle.flat_scene.specs.History.{◌▹◌};
@@ -9,7 +10,8 @@ ghost use Rattle.flat_gets.specs.declared.pair.PairWatchers.{PairWatchers};
 ghost use Rattle.flat_gets.specs.Dues.{due_told};
 ghost use Rattle.flat_gets.specs.Listed.{KeptGets, no_gets, rises_from};
 ghost use Rattle.flat_gets.specs.Pairs.{IsUnasked, watcher_at, waiting_in};
-ghost use Rattle.flat_gets.specs.Watchers.{AreWatched, HasRoomAt, IsAsked, IsJoin, IsSettled, TellsEach, TellsView, WatchedUpTo, is_held, replied, told_and_due};
+ghost use Rattle.flat_gets.specs.Watchers.{AreWatched, HasRoomAt, IsAsked, IsJoin, IsSettled, TellsEach, TellsView};
+ghost use Rattle.flat_gets.specs.Watchers.{WatchedUpTo, is_held, replied, told_and_due};
 
 use crate::pair::{PairWatchers, Part};
 use crate::session::SessionGets;

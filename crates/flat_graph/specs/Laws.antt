@@ -6,7 +6,11 @@ use Rattle.flat_base.specs.declared.ids.ContentId.{ContentId}
 use Rattle.flat_base.specs.declared.shapes.IntRect.{IntRect}
 use Rattle.flat_base.specs.declared.shapes.Orientation.{Orientation}
 use Rattle.flat_scene.specs.declared.calls.Call.{Call}
-use Rattle.flat_scene.specs.declared.calls.Call.TheVariants.{CreateTransform, ReleaseTransform, SetTranslation, SetOrientation, SetScale, SetOpacity, SetClipBoundary, AddChild, RemoveChild, ReplaceChildren, SetRootTransform, SetHitRegions, SetInfiniteHitRegion, SetContent, ReleaseViewport, Clear}
+use Rattle.flat_scene.specs.declared.calls.Call.TheVariants.{CreateTransform, ReleaseTransform, SetTranslation}
+use Rattle.flat_scene.specs.declared.calls.Call.TheVariants.{SetOrientation, SetScale, SetOpacity, SetClipBoundary}
+use Rattle.flat_scene.specs.declared.calls.Call.TheVariants.{AddChild, RemoveChild, ReplaceChildren, SetRootTransform}
+use Rattle.flat_scene.specs.declared.calls.Call.TheVariants.{SetHitRegions, SetInfiniteHitRegion, SetContent}
+use Rattle.flat_scene.specs.declared.calls.Call.TheVariants.{ReleaseViewport, Clear}
 use Rattle.flat_scene.specs.declared.calls.HitRegion.{HitRegion}
 use Rattle.flat_scene.specs.declared.calls.Interaction.{Interaction}
 use Rattle.flat_scene.specs.declared.setup.Setup.{Setup}
@@ -14,16 +18,19 @@ use Rattle.flat_scene.specs.declared.trees.Held.{Held}
 use Rattle.flat_scene.specs.Draft.{Draft, empty_draft, content_of}
 use Rattle.flat_scene.specs.Effect.{effect}
 use Rattle.flat_scene.specs.Misuse.{Test, misuse, first_reason, names_transform}
-use Rattle.flat_graph.specs.Reasons.{name_tests, create_tests, scale_tests, opacity_tests, clip_tests, hits_tests, add_tests, remove_tests, replace_tests, root_tests}
+use Rattle.flat_graph.specs.Reasons.{name_tests, create_tests, scale_tests, opacity_tests, clip_tests, hits_tests}
+use Rattle.flat_graph.specs.Reasons.{add_tests, remove_tests, replace_tests, root_tests}
 use Rattle.flat_graph.specs.Names.{key_named, keys_named}
-use Rattle.flat_graph.specs.State.{GraphState, Creates, MayKeep, empty_graph, released, with_root, emptied, only_marked, without_held, change_named, with_child, without_child, with_children}
+use Rattle.flat_graph.specs.State.{GraphState, Creates, MayKeep, empty_graph, released, with_root, emptied, only_marked}
+use Rattle.flat_graph.specs.State.{without_held, change_named, with_child, without_child, with_children}
 use Rattle.flat_graph.specs.Stands.{StandsFor, IsHeld, serial_of}
 
 -- a new graph stands for the draft of a session that made no call
 abbrev pub EmptyStands : Type 0
 EmptyStands = StandsFor empty_graph empty_draft
 
--- What a graph's call asks and leaves is what the draft's call asks and leaves: the reason is the same, and the graph after it stands for the draft after it.
+-- What a graph's call asks and leaves is what the draft's call asks and leaves:
+-- the reason is the same, and the graph after it stands for the draft after it.
 pub record IsCall (setup : Setup) (draft : Draft) (call : Call) (tests : List Test) (after : GraphState) : Type 0 where
   pub reason : first_reason tests ≡ misuse setup draft call
   pub stands : StandsFor after (effect draft call)
@@ -39,7 +46,8 @@ module _ (setup : Setup) (graph : GraphState) (draft : Draft) where
     pub serial : option_map serial_of held ≡ content_of draft c
     pub made : (it : Held) → held ≡ Some it → IsHeld draft.contents it
 
-  -- giving a content has the draft's reasons but for the content's, and the graph after it stands for the draft after it
+  -- giving a content has the draft's reasons but for the content's, and the graph after it stands for the draft after
+  -- it
   pub record IsGiving (t : TransformId) (c : ContentId) (held : Option Held) : Type 0 where
     pub reason : first_reason (name_tests graph t.0) ≡ first_reason (names_transform draft t)
     pub stands : StandsFor (change_named graph t.0 (λ node. record node { content = held })) (effect draft (SetContent t c))

@@ -1,5 +1,6 @@
 -- The names of transforms, by rising id.
-use Rattle.std.specs.Prelude.{ℕ, zero, suc, ◌<◌, ◌≤◌, ◌≡◌, cond, not, nat_lt, ◌==◌, List, [], ◌∷◌, filter, Option, Some, None}
+use Rattle.std.specs.Prelude.{ℕ, zero, suc, ◌<◌, ◌≤◌, ◌≡◌, cond, not, nat_lt, ◌==◌, List, [], ◌∷◌, filter, Option, Some}
+use Rattle.std.specs.Prelude.{None}
 use Rattle.std.specs.List.{filter_map}
 use Rattle.flat_base.specs.declared.ids.TransformId.{TransformId}
 use Rattle.flat_graph.specs.declared.names.Named.{Named}

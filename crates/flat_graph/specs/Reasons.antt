@@ -1,9 +1,12 @@
 -- Why calls on a graph are refused: what is asked of each, in the order of the reasons.
-use Rattle.std.specs.Prelude.{ℕ, ◌≡◌, ◌&&◌, ◌||◌, ◌==◌, ◌++◌, Bool, false, not, nat_lt, is_some, is_none, List, [], ◌∷◌, length, map, Option, Some, None}
+use Rattle.std.specs.Prelude.{ℕ, ◌≡◌, ◌&&◌, ◌||◌, ◌==◌, ◌++◌, Bool, false, not, nat_lt, is_some, is_none, List, [], ◌∷◌}
+use Rattle.std.specs.Prelude.{length, map, Option, Some, None}
 use Rattle.std.specs.List.{list_any}
 use Rattle.flat_base.specs.declared.ids.TransformId.{TransformId}
 use Rattle.flat_base.specs.declared.shapes.IntRect.{IntRect}
-use Rattle.flat_base.specs.declared.errors.Reason.TheVariants.{ZeroId, IdInUse, UnknownTransform, AlreadyChild, NotChild, BadScale, BadOpacity, BadRect, TooManyRegions, TooManyNamed, TooManyChildren}
+use Rattle.flat_base.specs.declared.errors.Reason.TheVariants.{ZeroId, IdInUse, UnknownTransform, AlreadyChild}
+use Rattle.flat_base.specs.declared.errors.Reason.TheVariants.{NotChild, BadScale, BadOpacity, BadRect, TooManyRegions}
+use Rattle.flat_base.specs.declared.errors.Reason.TheVariants.{TooManyNamed, TooManyChildren}
 use Rattle.flat_base.specs.declared.limits.TheConstants.{OPACITY_MAX, NAMED_MAX, CHILDREN_MAX, HIT_REGIONS_MAX}
 use Rattle.flat_scene.specs.declared.calls.HitRegion.{HitRegion}
 use Rattle.flat_scene.specs.declared.trees.GraphFault.{GraphFault}

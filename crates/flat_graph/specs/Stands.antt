@@ -43,7 +43,8 @@ pub record IsHeld (contents : List Made) (held : Held) : Type 0 where
   pub made : IsSome (of_serial contents held.serial)
   pub sort : held.viewport ≡ is_viewport (of_serial contents held.serial)
 
--- A graph stands for the transforms of a draft: its nodes are some of them, each once, and among these are the root, what has a name, and the children of each.
+-- A graph stands for the transforms of a draft:
+-- its nodes are some of them, each once, and among these are the root, what has a name, and the children of each.
 pub record StandsFor (graph : GraphState) (draft : Draft) : Type 0 where
   pub sound : IsSound graph
   pub made : graph.made ≡ length draft.transforms

@@ -1,5 +1,7 @@
 -- What contracts see of a graph.
-use Rattle.std.specs.Prelude.{ℕ, pos, ◌+◌, ◌<◌, ◌≤◌, ◌≡◌, ◌≢◌, Bool, true, false, cond, not, ◌==◌, is_some, IsSome, List, [], ◌∷◌, ◌++◌, filter, length, map, count_by, slice_index_or, slice_set, Option, Some, None}
+use Rattle.std.specs.Prelude.{ℕ, pos, ◌+◌, ◌<◌, ◌≤◌, ◌≡◌, ◌≢◌, Bool, true, false, cond, not, ◌==◌, is_some, IsSome}
+use Rattle.std.specs.Prelude.{List, [], ◌∷◌, ◌++◌, filter, length, map, count_by, slice_index_or, slice_set, Option}
+use Rattle.std.specs.Prelude.{Some, None}
 use Rattle.std.specs.Option.{option_map}
 use Rattle.std.specs.List.{Contains}
 use Rattle.flat_base.specs.declared.shapes.Orientation.TheVariants.{Ccw0}
@@ -9,7 +11,8 @@ use Rattle.flat_graph.specs.declared.names.Named.{Named}
 use Rattle.flat_graph.specs.declared.nodes.GraphNode.{GraphNode}
 use Rattle.flat_graph.specs.Names.{key_named, names_but, names_with, IsRising}
 
--- the node or nothing at each key from 0 on, the names by rising id, the root's key, and how many transforms were ever made
+-- the node or nothing at each key from 0 on, the names by rising id, the root's key, and how many transforms were
+-- ever made
 pub record GraphState : Type 0 where
   pub nodes : List (Option GraphNode)
   pub names : List Named
@@ -26,7 +29,8 @@ node_at graph key = slice_index_or graph.nodes key None
 abbrev pub IsKept : List (Option GraphNode) → ℕ → Type 0
 IsKept nodes key = IsSome (slice_index_or nodes key None)
 
--- what is named, the root, and each child of a node have a node; each id stands once among the names, and 0 not at all; no two ids name one node
+-- what is named, the root, and each child of a node have a node;
+-- each id stands once among the names, and 0 not at all; no two ids name one node
 pub record IsSound (graph : GraphState) : Type 0 where
   pub names_kept : (id key : ℕ) → key_named graph.names id ≡ Some key → IsKept graph.nodes key
   pub root_kept : (key : ℕ) → graph.root ≡ Some key → IsKept graph.nodes key
@@ -133,7 +137,8 @@ only_marked marks graph = record graph { nodes = marked_nodes marks graph.nodes 
 abbrev pub IsMarked : List Bool → ℕ → Type 0
 IsMarked marks key = slice_index_or marks key false ≡ true
 
--- The marks may be all that is kept: there is one for each key, and the root, what is named, and each child of what is marked are marked.
+-- The marks may be all that is kept: there is one for each key, and the root, what is named, and each child of what
+-- is marked are marked.
 pub record MayKeep (marks : List Bool) (graph : GraphState) : Type 0 where
   pub covers : (key : ℕ) → IsSome (node_at graph key) → key < length marks
   pub root_marked : (key : ℕ) → graph.root ≡ Some key → IsMarked marks key

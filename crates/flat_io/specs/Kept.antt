@@ -1,5 +1,6 @@
 -- what the sources and sinks over memory keep
-use Rattle.std.specs.Prelude.{ℕ, Bool, true, false, ◌-◌, ◌==◌, ◌&&◌, List, ◌++◌, Option, None, Some, cond, length, nat_le, ◌+◌, nat_lt}
+use Rattle.std.specs.Prelude.{ℕ, Bool, true, false, ◌-◌, ◌==◌, ◌&&◌, List, ◌++◌, Option, None, Some, cond, length}
+use Rattle.std.specs.Prelude.{nat_le, ◌+◌, nat_lt}
 use Rattle.std.specs.List.{list_any}
 use Rattle.flat_io.specs.Counts.{count_end}
 

@@ -1,6 +1,6 @@
 -- What is known, before and after a call, of the bytes that a source has left or a sink holds, and of the frames
 -- that a display had.
-use Rattle.std.specs.Prelude.{◌≡◌, ⊤, ℕ, List, ◌++◌, Option, None, Some}
+use Rattle.std.specs.Prelude.{◌≡◌, ⊤, List, ◌++◌, Option, None, Some}
 
 -- Where they are told after a call, they were told before it too, and stand in this relation.
 abbrev pub WhereTold : {A : Type 0} → Option (List A) → Option (List A) → (List A → List A → Type 0) → Type 0

@@ -1,5 +1,7 @@
-ghost use Rattle.std.specs.Prelude.{◌≡◌, ◌+◌, ◌<◌, ◌≤◌, ◌++◌, ◌==◌, ◌||◌, [], length, take, drop, min, cond, true, nat_lt, Some, Ok, Err, IfOk, IfErr, IsTrue, is_err};
-ghost use Rattle.flat_io.specs.Kept.{counted, FailingSource, FailingSink, told_bytes, is_next_among, stalls_after, after_write};
+ghost use Rattle.std.specs.Prelude.{◌≡◌, ◌+◌, ◌<◌, ◌≤◌, ◌++◌, ◌==◌, ◌||◌, [], length, take, drop, min, cond, true};
+ghost use Rattle.std.specs.Prelude.{nat_lt, Some, Ok, Err, IfOk, IfErr, IsTrue, is_err};
+ghost use Rattle.flat_io.specs.Kept.{counted, FailingSource, FailingSink, told_bytes, is_next_among, stalls_after};
+ghost use Rattle.flat_io.specs.Kept.{after_write};
 
 use crate::counts::{counted, is_next_among};
 use crate::sink::Sink;

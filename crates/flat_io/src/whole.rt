@@ -1,4 +1,5 @@
-ghost use Rattle.std.specs.Prelude.{◌≡◌, ◌≢◌, ◌+◌, ◌≤◌, [], length, IfOk, IfErr, OnOk, OnErr, IsTrue, MatchResult, ◌||◌};
+ghost use Rattle.std.specs.Prelude.{◌≡◌, ◌≢◌, ◌+◌, ◌≤◌, [], length, IfOk, IfErr, OnOk, OnErr, IsTrue, MatchResult};
+ghost use Rattle.std.specs.Prelude.{◌||◌};
 ghost use Rattle.flat_io.specs.Counts.{has_risen};
 ghost use Rattle.flat_io.specs.Told.{Appends};
 ghost use Rattle.flat_io.specs.Whole.{AppendsPrefix};

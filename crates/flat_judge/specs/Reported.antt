@@ -1,7 +1,6 @@
 -- The report of a run that followed a text.
 use Rattle.std.specs.Prelude.{◌≡◌, ℕ, List}
 use Rattle.flat_places.specs.declared.script.Script.{Script}
-use Rattle.flat_report.specs.Report.{report}
 use Rattle.flat_judge.specs.Verdicts.{IsLegal, IsRead, Run, report_of}
 
 -- A text was written as the report of a run, which has so many entries and finished frames. If a text is the

@@ -1,6 +1,7 @@
 //! A run in which each actor makes its next entry when it is told to. At the end all make
 //! those that are left, so that each run comes to its end.
-ghost use Rattle.std.specs.Prelude.{◌≡◌, ◌≢◌, ◌⊎◌, ◌||◌, ◌+◌, ◌<◌, ◌≤◌, ℕ, suc, [], List, true, false, length, map, replicate, slice_get, Some, IfOk, OnOk};
+ghost use Rattle.std.specs.Prelude.{◌≡◌, ◌≢◌, ◌⊎◌, ◌||◌, ◌+◌, ◌<◌, ◌≤◌, ℕ, suc, [], List, true, false, length, map};
+ghost use Rattle.std.specs.Prelude.{replicate, slice_get, Some, IfOk, OnOk};
 ghost use Rattle.flat_scene.specs.Setups.{at_ratio};
 ghost use Rattle.flat_scene.specs.Heads.{is_setup};
 ghost use Rattle.flat_rules.specs.Legal.{frames};
@@ -12,7 +13,8 @@ ghost use Rattle.flat_play.specs.Playing.{display_text};
 ghost use Rattle.flat_play.specs.Probing.{answer_of, with_answer};
 ghost use Rattle.flat_base.specs.declared.ids.Actor.TheVariants.{Session};
 ghost use Rattle.flat_judge.specs.declared.seat.Seat.{Seat};
-ghost use Rattle.flat_judge.specs.GuidedRuns.{AreBehind, DisplayGoes, Goes, GoesOn, Grown, HaveEnded, ProbeGoes, ProbeGoesOn, asked_here};
+ghost use Rattle.flat_judge.specs.GuidedRuns.{AreBehind, DisplayGoes, Goes, GoesOn, Grown, HaveEnded, ProbeGoes};
+ghost use Rattle.flat_judge.specs.GuidedRuns.{ProbeGoesOn, asked_here};
 ghost use Rattle.flat_judge.specs.Heeding.{AllHeed, CouldSee, HasSeen, Heeds, SeenBehind, is_reached};
 
 use crate::directing::{direct, start};

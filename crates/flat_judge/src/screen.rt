@@ -13,7 +13,8 @@ ghost use Rattle.flat_rules.specs.Shown.{shown_states};
 ghost use Rattle.flat_topology.specs.Changes.{AreSame};
 ghost use Rattle.flat_report.specs.Report.{frame_at};
 ghost use Rattle.flat_play.specs.Last.{IsLast};
-ghost use Rattle.flat_play.specs.Playing.{AsksPoint, BeginsFrame, EntersBeside, FinishesFrame, FramesStand, HasViews, is_alone};
+ghost use Rattle.flat_play.specs.Playing.{AsksPoint, BeginsFrame, EntersBeside, FinishesFrame, FramesStand, HasViews};
+ghost use Rattle.flat_play.specs.Playing.{is_alone};
 
 use flat_base::{Actor, NoMemory};
 use flat_core::shown_states_fit;

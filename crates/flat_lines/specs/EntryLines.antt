@@ -107,7 +107,8 @@ hit_words script hits = flat_map (λ hit. session_name script.sessions hit.sessi
 abbrev pub point_words : Script → ℤ → ℤ → ℕ → List Hit → List Word
 point_words script x y frame hits = codes "hit" ∷ numbers (x ∷ y ∷ []) ++ codes "frame" ∷ number frame ∷ hit_words script hits
 
--- What stands behind the number of the line. The number of finished frames is that before the entry, and the hits are those of the last of them.
+-- What stands behind the number of the line.
+-- The number of finished frames is that before the entry, and the hits are those of the last of them.
 abbrev pub answer_words : Script → ℕ → (ℤ → ℤ → List Hit) → Kind → Reply → List Word
 answer_words script frames hits (kind.End refused) answer = []
 answer_words script frames hits (kind.Begin time) answer = codes "begin" ∷ number time ∷ codes "frame" ∷ number (suc frames) ∷ []

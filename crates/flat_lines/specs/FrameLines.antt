@@ -1,5 +1,6 @@
 -- The lines of a frame's parts, and of the displays that were lost at it.
-use Rattle.std.specs.Prelude.{ℕ, ◌==◌, pos, cond, List, [], ◌∷◌, ◌++◌, map, filter, slice_index, Option, Some, None, codes}
+use Rattle.std.specs.Prelude.{ℕ, ◌==◌, pos, cond, List, [], ◌∷◌, ◌++◌, map, filter, slice_index, Option, Some, None}
+use Rattle.std.specs.Prelude.{codes}
 use Rattle.flat_base.specs.declared.ids.SessionNo.{SessionNo}
 use Rattle.flat_base.specs.declared.shapes.Rect.{Rect}
 use Rattle.flat_scene.specs.declared.calls.BlendMode.{BlendMode}

@@ -3,7 +3,8 @@ ghost use Rattle.std.specs.Prelude.{◌≡◌, ◌++◌, ◌∷◌, [], ℤ, pos
 ghost use Rattle.flat_page.specs.Words.{number, numbers, session_name};
 ghost use Rattle.flat_page.specs.Pages.{Writes, WritesLines};
 ghost use Rattle.flat_print.specs.Choices.{interaction_number};
-ghost use Rattle.flat_lines.specs.EntryLines.{answer_words, said_words, entry_line, event_words, hit_words, point_words};
+ghost use Rattle.flat_lines.specs.EntryLines.{answer_words, said_words, entry_line, event_words, hit_words};
+ghost use Rattle.flat_lines.specs.EntryLines.{point_words};
 ghost use Rattle.flat_lines.specs.PostLines.{post_line};
 
 use crate::entry_words::{push_event, push_reply};

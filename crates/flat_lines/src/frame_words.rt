@@ -4,7 +4,8 @@ ghost use Rattle.std.specs.Prelude.{◌≡◌, ◌++◌, ◌∷◌, [], OnOk, co
 ghost use Rattle.flat_page.specs.Words.{number, numbers, session_name};
 ghost use Rattle.flat_lines.specs.Names.{buffers_name};
 ghost use Rattle.flat_page.specs.Pages.{Writes, WritesLines};
-ghost use Rattle.flat_lines.specs.FrameLines.{rect_words, blend_word, paint_words, matrix_words, item_line, parent_word, view_line, apart_line, lost_at, lost_line};
+ghost use Rattle.flat_lines.specs.FrameLines.{rect_words, blend_word, paint_words, matrix_words, item_line};
+ghost use Rattle.flat_lines.specs.FrameLines.{parent_word, view_line, apart_line, lost_at, lost_line};
 ghost use Rattle.flat_print.specs.Choices.{flip_number};
 
 use crate::entry_lines::push_long;

@@ -1,5 +1,6 @@
 -- What is kept of the viewports of all sessions, and what entries do to it and to ties.
-use Rattle.std.specs.Prelude.{◌≡◌, ℕ, List, length, Bool, false, [], ◌+◌, ◌-◌, true, map, slice_index_or, slice_set, None}
+use Rattle.std.specs.Prelude.{◌≡◌, ℕ, List, length, Bool, false, [], ◌+◌, ◌-◌, true, map, slice_index_or, slice_set}
+use Rattle.std.specs.Prelude.{None}
 use Rattle.flat_scene.specs.declared.journal.Entry.{Entry}
 use Rattle.flat_scene.specs.declared.setup.Setup.{Setup}
 use Rattle.flat_links.specs.declared.viewports.Viewports.{Viewports}
@@ -40,7 +41,8 @@ pub record IsNoted (calls : List Call) (presents : ℕ) (old new : Viewports) : 
   pub live : new.live.items ≡ lives_after old.live.items calls
   pub out : new.out.items ≡ map (marked old.live.items calls presents) old.out.items
 
--- What is kept of a session's viewports after an entry that uses no viewport end, before which it had made so many presents. One that closes the session leaves it as it was, since nothing of it is told any more.
+-- What is kept of a session's viewports after an entry that uses no viewport end, before which it had made so many
+-- presents. One that closes the session leaves it as it was, since nothing of it is told any more.
 pub record IsHeard (entry : Entry) (presents : ℕ) (old new : Viewports) : Type 0 where
   pub noted : closes entry.reply ≡ false → IsNoted entry.calls presents old new
   pub shut : closes entry.reply ≡ true → new ≡ old

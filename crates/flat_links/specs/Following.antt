@@ -18,7 +18,8 @@ use Rattle.flat_states.specs.declared.state.SessionState.{SessionState}
 use Rattle.flat_facts.specs.Begins.{begun, finished}
 use Rattle.flat_facts.specs.Contents.{capped}
 use Rattle.flat_rules.specs.Numbers.{number, AllNumbered}
-use Rattle.flat_rules.specs.Ends.{clears_viewport, ends_view, happens, to_begin, to_finished, view_owner, viewport_owner, viewport_uses, uses_viewport, is_done}
+use Rattle.flat_rules.specs.Ends.{clears_viewport, ends_view, happens, to_begin, to_finished, view_owner}
+use Rattle.flat_rules.specs.Ends.{viewport_owner, viewport_uses, uses_viewport, is_done}
 use Rattle.flat_states.specs.Kept.{IsKept, taken_in}
 use Rattle.flat_rules.specs.Legal.{Legal}
 use Rattle.flat_facts.specs.Lives.{lives_after}
@@ -54,7 +55,8 @@ sight_of setup history s = record {
   connected = is_connected setup history s;
 }
 
--- What is kept of a session stands for what a history says of it. How many contents its calls made is known while it is open. It lost no end after its last present.
+-- What is kept of a session stands for what a history says of it.
+-- How many contents its calls made is known while it is open. It lost no end after its last present.
 pub record IsFollowed (setup : Setup) (history : List Entry) (s : SessionNo) (following : Following) : Type 0 where
   pub contents : is_closed s history ≡ false → following.contents ≡ capped (length (contents_made (calls s history)))
   pub losing : is_within following.losing (Some (length (presents s history))) ≡ true
@@ -93,7 +95,8 @@ pub record AreTied (setup : Setup) (history : List Entry) (followings : List Fol
   pub each_pair : AllNumbered (λ i. IsPairKept setup history (pair i)) pairs
   pub bound : AllNumbered (λ i. IsBound setup (losings followings) (pair i)) pairs
 
--- An entry of a session that was open, which carries these calls. Before it the session had this account, by which it made so many presents and its last view is of that pair, and these viewports.
+-- An entry of a session that was open, which carries these calls. Before it the session had this account, by which it
+-- made so many presents and its last view is of that pair, and these viewports.
 pub record IsOwnEntry (setup : Setup) (history : List Entry) (entry : Entry) (s : SessionNo) (carries : List Call) (account : Account) (live : List Live) : Type 0 where
   pub legal : Legal setup (history ▹ entry)
   pub mine : is_session s entry.actor ≡ true
@@ -130,7 +133,8 @@ pub record IsBegun (setup : Setup) (history : List Entry) (line time : ℕ) (sta
   pub kept : AllNumbered (λ i. IsKept setup (seen_of setup (begun history line time) (number i))) states
   pub shown : shows ≡ shown_states setup (begun history line time)
 
--- What the begin of the last finished frame saw of a session, as far as it is told. A session that isn't declared shows nothing.
+-- What the begin of the last finished frame saw of a session, as far as it is told.
+-- A session that isn't declared shows nothing.
 pub record IsLastSight (setup : Setup) (history : List Entry) (s : SessionNo) (sight : Sight) : Type 0 where
   pub closed : sight.closed ≡ is_closed s (to_finished history)
   pub took : sight.taken ≡ taken setup (to_finished history) s

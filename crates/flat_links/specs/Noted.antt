@@ -33,7 +33,8 @@ ListsPair p before after old new = (i : ℕ) → (after || is_noted i new) ≡ f
 abbrev pub KeepsOthers : PairNo → List PairState → List PairState → Type 0
 KeepsOthers p old new = (i : ℕ) (d : PairState) → i < length old → (p.0 == i) ≡ false → slice_index_or new i d ≡ slice_index_or old i d
 
--- The states of all pairs after calls of a session that had this view, had made so many presents, and of which these viewports lived.
+-- The states of all pairs after calls of a session that had this view, had made so many presents, and of which these
+-- viewports lived.
 pub record NotesPairs (view : Option PairNo) (calls : List Call) (presents : ℕ) (live : List Live) (old new : List PairState) : Type 0 where
   pub count : length new ≡ length old
   pub each : (i : ℕ) (d : PairState) → i < length old

@@ -1,5 +1,6 @@
 -- What a use of a viewport end, a frame that begins with viewports, and its end do to what is kept of pairs.
-use Rattle.std.specs.Prelude.{◌≡◌, ◌<◌, ℕ, ◌+◌, ◌-◌, Bool, cond, ◌&&◌, ◌==◌, List, [], ◌∷◌, length, Option, Some, None, slice_index_or, slice_set}
+use Rattle.std.specs.Prelude.{◌≡◌, ◌<◌, ℕ, ◌+◌, ◌-◌, Bool, cond, ◌&&◌, ◌==◌, List, [], ◌∷◌, length, Option, Some, None}
+use Rattle.std.specs.Prelude.{slice_index_or, slice_set}
 use Rattle.flat_base.specs.declared.ids.PairNo.{PairNo}
 use Rattle.flat_base.specs.declared.ids.SessionNo.{SessionNo}
 use Rattle.flat_scene.specs.declared.calls.Call.{Call}
@@ -40,7 +41,8 @@ props_among p (one ∷ more) serial = option_or (props_among p more serial) (con
 abbrev pub with_pending : PairState → Option ViewportProps → PairState
 with_pending state props = record state { pending = props }
 
--- The state of a pair after a frame began with these viewports: what is pending of the last use changes where one of them has its serial.
+-- The state of a pair after a frame began with these viewports:
+-- what is pending of the last use changes where one of them has its serial.
 pub record SeesOne (p : PairNo) (uses : List ViewportUse) (old new : PairState) : Type 0 where
   pub same : new ≡ with_pending old new.pending
   pub pending : (n : ℕ) → old.serial ≡ capped n → new.pending ≡ option_or (props_among p uses n) old.pending
@@ -78,7 +80,8 @@ pub record IsUse (entry : Entry) (p : PairNo) (props : ViewportProps) : Type 0 w
   pub kind : entry.kind ≡ Viewport p props
   pub reply : entry.reply ≡ Done
 
--- the stamp of the last entry of a session that may have lost an end, after calls before which it had made so many presents
+-- the stamp of the last entry of a session that may have lost an end, after calls before which it had made so many
+-- presents
 abbrev pub losing_then : List Call → ℕ → Option ℕ → Option ℕ
 losing_then calls presents losing = cond (list_any is_loss calls) (Some presents) losing
 

@@ -1,5 +1,6 @@
 -- What is kept of a session's viewports: those that live, and the tokens that are out, by rising pairs.
-use Rattle.std.specs.Prelude.{◌≡◌, ◌+◌, ℕ, Bool, false, cond, not, nat_lt, List, [], ◌∷◌, filter, flat_map, map, length, Option}
+use Rattle.std.specs.Prelude.{◌≡◌, ◌+◌, ℕ, Bool, false, cond, not, nat_lt, List, [], ◌∷◌, filter, flat_map, map, length}
+use Rattle.std.specs.Prelude.{Option}
 use Rattle.flat_base.specs.declared.ids.PairNo.{PairNo}
 use Rattle.flat_base.specs.declared.ids.SessionNo.{SessionNo}
 use Rattle.flat_scene.specs.declared.calls.Call.{Call}

@@ -1,5 +1,6 @@
 -- What the ends of a pair tell, and the stamps of views.
-use Rattle.std.specs.Prelude.{◌≡◌, ◌<◌, ◌&&◌, nat_lt, not, false, length, slice_get, slice_index_or, ℕ, Bool, cond, List, Option, Some, None, is_some, option_and_then, option_map}
+use Rattle.std.specs.Prelude.{◌≡◌, ◌<◌, ◌&&◌, nat_lt, not, false, length, slice_get, slice_index_or, ℕ, Bool, cond}
+use Rattle.std.specs.Prelude.{List, Option, Some, None, is_some, option_and_then, option_map}
 use Rattle.flat_base.specs.declared.ids.PairNo.{PairNo}
 use Rattle.flat_scene.specs.declared.calls.Call.{Call}
 use Rattle.flat_scene.specs.declared.journal.Told.{Told}
@@ -13,7 +14,8 @@ use Rattle.flat_states.specs.Kept.{taken_in}
 use Rattle.flat_rules.specs.Watch.{layout_in}
 use Rattle.flat_facts.specs.Views.{ends_of}
 
--- the layout, by the display's pixel ratio, whether the viewport end is lost, whether both ends are used, and the properties
+-- the layout, by the display's pixel ratio, whether the viewport end is lost, whether both ends are used, and the
+-- properties
 abbrev pub layout_by : ℕ → Bool → Bool → Option ViewportProps → Option Told
 layout_by ratio lost joined props = cond lost (Some tell.Gone) (cond joined (option_map (layout_in ratio) props) None)
 
@@ -40,7 +42,8 @@ abbrev pub is_unseen : List PairState → ℕ → Option PairNo → Bool
 is_unseen pairs taken None = false
 is_unseen pairs taken (Some p) = not (is_seen (end_stamp pairs p) taken)
 
--- whether a session has a view whose end isn't lost: it is open, and frames haven't seen the end of the last that it made
+-- whether a session has a view whose end isn't lost:
+-- it is open, and frames haven't seen the end of the last that it made
 abbrev pub has_view_in : List PairState → SessionState → Bool
 has_view_in pairs state = not state.closed && is_unseen pairs (taken_in state) state.account.view
 

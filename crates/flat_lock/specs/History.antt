@@ -1,4 +1,5 @@
--- Histories. A history is a list of entries, the oldest first, and each entry names its actor by the number of the actor's seat.
+-- Histories. A history is a list of entries, the oldest first, and each entry names its actor by the number of the
+-- actor's seat.
 use Rattle.std.specs.Prelude.{◌≡◌, ℕ, List, ◌++◌, ◌==◌, All}
 use Rattle.std.specs.List.{filter}
 

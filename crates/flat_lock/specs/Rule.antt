@@ -74,9 +74,12 @@ module _ {T E F : Type 0} (history : T → List E) (actor : E → ℕ) (fixed : 
       ⊎ ((homes ≡ none ∷ []) × ((holder : ℕ) × (v : View E F) × (get_elem? views holder ≡ some v) × (v.turn ≡ Holds served)))
 
   -- One history and one turn at a time. The log is all that was given so far.
-  -- Each ticket was drawn by one seat, and as many seats have a ticket as tickets lie from the served one up to the next one to be drawn.
-  -- Each seat that wasn't joined owns its actor, and the first seat also those of the seats that were joined into it; so no two own the same.
-  -- An actor that wasn't handed out has no entry. There are no more seats than actors that were handed out; of notes there may be any number.
+  -- Each ticket was drawn by one seat, and as many seats have a ticket as tickets lie from the served one up to the
+  -- next one to be drawn.
+  -- Each seat that wasn't joined owns its actor, and the first seat also those of the seats that were joined into it;
+  -- so no two own the same.
+  -- An actor that wasn't handed out has no entry. There are no more seats than actors that were handed out;
+  -- of notes there may be any number.
   pub record LockRule (s : State (Option T) (View E F)) : Type 0 where
     pub constant : F
     pub seats : ℕ

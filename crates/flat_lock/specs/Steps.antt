@@ -1,5 +1,6 @@
 -- What each step makes of a view, and what it tells the seat that makes it.
-use Rattle.std.specs.Prelude.{◌≡◌, ◌≢◌, ℕ, ◌+◌, ◌%◌, ◌^◌, ◌<◌, List, [], ◌∷◌, ◌++◌, length, true, false, Option, Some, None, drop, All}
+use Rattle.std.specs.Prelude.{◌≡◌, ◌≢◌, ℕ, ◌+◌, ◌%◌, ◌^◌, ◌<◌, List, [], ◌∷◌, ◌++◌, length, true, false, Option, Some}
+use Rattle.std.specs.Prelude.{None, drop, All}
 use Rattle.atomic_table.specs.Table.{Me, Step}
 use Rattle.atomic_table.specs.Seated.{TableId}
 use Rattle.atomic_table.specs.declared.shared.Seat.{Seat}
@@ -103,7 +104,8 @@ module _ {S E F : Type 0} where
 
 module _ {E F : Type 0} where
   -- What a seat learns of the history, at the value when its ticket is served or at a look, and of the unchanging part:
-  -- it begins with all that the seat had seen, the seat's entries in it are its own list, and each entry is of one of the lock's seats.
+  -- it begins with all that the seat had seen, the seat's entries in it are its own list, and each entry is of one of
+  -- the lock's seats.
   pub record Learns (actor : E → ℕ) (v : View E F) (history : List E) (constant : F) : Type 0 where
     pub longer : StartsWith history v.seen
     pub own : v.mine ≡ entries_of actor v.actor history

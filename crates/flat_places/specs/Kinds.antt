@@ -1,7 +1,9 @@
 -- Kinds of faults, and which of two counts.
 use Rattle.std.specs.Prelude.{ℕ, nat_le, if◌then◌else◌}
 use Rattle.flat_places.specs.declared.kinds.FaultKind.{FaultKind}
-use Rattle.flat_places.specs.declared.kinds.FaultKind.TheVariants.{TooLong, NotAscii, LongLine, BadHead, UnknownActor, UnknownCall, BadNumber, WrongCount, UnknownName, NotOwner, Limit, BadOrder, UnknownVersion}
+use Rattle.flat_places.specs.declared.kinds.FaultKind.TheVariants.{TooLong, NotAscii, LongLine, BadHead, UnknownActor}
+use Rattle.flat_places.specs.declared.kinds.FaultKind.TheVariants.{UnknownCall, BadNumber, WrongCount, UnknownName}
+use Rattle.flat_places.specs.declared.kinds.FaultKind.TheVariants.{NotOwner, Limit, BadOrder, UnknownVersion}
 
 -- the number of a kind
 abbrev pub number : FaultKind → ℕ

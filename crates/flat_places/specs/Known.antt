@@ -1,4 +1,5 @@
--- The words that a script of a version may use: all of the grammar's but those that the version lacks. A word that it lacks is
+-- The words that a script of a version may use: all of the grammar's but those that the version lacks.
+-- A word that it lacks is
 -- as if the grammar didn't have it.
 use Rattle.std.specs.Prelude.{ℕ, nat_lt, Bool, not, ◌&&◌, List, [], ◌∷◌, codes}
 use Rattle.std.specs.List.{list_any}

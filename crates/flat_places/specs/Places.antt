@@ -1,5 +1,6 @@
 -- The places of a line: numbers of a range, and names of a sort.
-use Rattle.std.specs.Prelude.{ℕ, ◌+◌, ◌-◌, ◌^◌, nat_le, nat_lt, ℤ, pos, negsuc, Bool, true, false, ◌&&◌, List, [], ◌∷◌, Some, None, Ok, Err, option_and_then, slice_get, if◌then◌else◌, not, codes}
+use Rattle.std.specs.Prelude.{ℕ, ◌+◌, ◌-◌, ◌^◌, nat_le, nat_lt, ℤ, pos, negsuc, Bool, true, false, ◌&&◌, List, [], ◌∷◌}
+use Rattle.std.specs.Prelude.{Some, None, Ok, Err, option_and_then, slice_get, if◌then◌else◌, not, codes}
 use Rattle.std.specs.List.{list_any}
 use Rattle.std.specs.Option.{option_map_or}
 use Rattle.flat_base.specs.declared.ids.Actor.{Actor}
@@ -10,7 +11,8 @@ use Rattle.flat_base.specs.declared.ids.FenceNo.{FenceNo}
 use Rattle.flat_base.specs.declared.ids.BufferNo.{BufferNo}
 use Rattle.flat_base.specs.declared.ids.TransformId.{TransformId}
 use Rattle.flat_base.specs.declared.ids.ContentId.{ContentId}
-use Rattle.flat_base.specs.declared.limits.TheConstants.{COLOUR_MAX, INSET_MAX, ONE, RATIO_MAX, RATIO_MIN, RATIO_SINCE, TIME_MAX, VERSION_MAX}
+use Rattle.flat_base.specs.declared.limits.TheConstants.{COLOUR_MAX, INSET_MAX, ONE, RATIO_MAX, RATIO_MIN, RATIO_SINCE}
+use Rattle.flat_base.specs.declared.limits.TheConstants.{TIME_MAX, VERSION_MAX}
 use Rattle.flat_base.specs.declared.shapes.IntRect.{IntRect}
 use Rattle.flat_base.specs.declared.shapes.Orientation.{Orientation}
 use Rattle.flat_base.specs.declared.shapes.Orientation.TheVariants.{Ccw0, Ccw90, Ccw180, Ccw270}
@@ -25,8 +27,10 @@ use Rattle.flat_scene.specs.declared.calls.HitRegion.{HitRegion}
 use Rattle.flat_scene.specs.Setups.{is_within}
 use Rattle.flat_text.specs.Number.{natural, signed}
 use Rattle.flat_places.specs.declared.script.Script.{Script}
-use Rattle.flat_places.specs.declared.kinds.FaultKind.TheVariants.{BadHead, BadNumber, UnknownName, NotOwner, UnknownVersion}
-use Rattle.flat_places.specs.Forms.{Word, Reading, Form, both, mapped, or_kind, unless_kind, place, ◌<$>◌, ◌<*>◌, whole, each, one_or_more}
+use Rattle.flat_places.specs.declared.kinds.FaultKind.TheVariants.{BadHead, BadNumber, UnknownName, NotOwner}
+use Rattle.flat_places.specs.declared.kinds.FaultKind.TheVariants.{UnknownVersion}
+use Rattle.flat_places.specs.Forms.{Word, Reading, Form, both, mapped, or_kind, unless_kind, place, ◌<$>◌, ◌<*>◌, whole}
+use Rattle.flat_places.specs.Forms.{each, one_or_more}
 use Rattle.flat_places.specs.Known.{knows}
 use Rattle.flat_places.specs.Names.{place_of, session_named, is_actor, is_name, is_declared, owner_named}
 use Rattle.std.specs.Str.{bytes_eq}

@@ -1,10 +1,13 @@
-ghost use Rattle.std.specs.Prelude.{◌≡◌, ◌<◌, ◌≤◌, ◌^◌, ℕ, length, [], Ok, Err, IfSome, IfOk, IfErr, OnErr, FitsSigned, ◌+◌};
+ghost use Rattle.std.specs.Prelude.{◌≡◌, ◌<◌, ◌≤◌, ◌^◌, ℕ, length, [], Ok, Err, IfSome, IfOk, IfErr, OnErr, FitsSigned};
+ghost use Rattle.std.specs.Prelude.{◌+◌};
 ghost use Rattle.std.specs.Int.{w32};
 ghost use Rattle.flat_text.specs.Number.{signed};
 ghost use Rattle.flat_text.specs.Pieces.{is_space};
 ghost use Rattle.flat_text.specs.Left.{pieces_left};
 ghost use Rattle.flat_places.specs.Forms.{passes, optional};
-ghost use Rattle.flat_places.specs.Places.{number_below, number_from, transform, content, time, u32, colour, i32, int_rect, inset, orientation, blend, choice, flip, interaction, region, regions, transforms, unsquashable, version, ratio, first_ratio};
+ghost use Rattle.flat_places.specs.Places.{number_below, number_from, transform, content, time, u32, colour, i32};
+ghost use Rattle.flat_places.specs.Places.{int_rect, inset, orientation, blend, choice, flip, interaction, region};
+ghost use Rattle.flat_places.specs.Places.{regions, transforms, unsquashable, version, ratio, first_ratio};
 ghost use Rattle.flat_places.specs.Reads.{Reads, TakesWord, left, sofar, lower, giving, finished, reading_of};
 
 use crate::kinds::FaultKind;

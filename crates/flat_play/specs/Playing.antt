@@ -1,5 +1,6 @@
 -- How a session stands at a place of the script.
-use Rattle.std.specs.Prelude.{◌≡◌, ℕ, ℤ, Bool, ◌+◌, ◌<◌, ◌≤◌, ◌==◌, true, false, List, [], ◌∷◌, ◌++◌, length, take, drop, map, reverse, count_by, slice_index, slice_index_or, slice_set, Option, Some, None}
+use Rattle.std.specs.Prelude.{◌≡◌, ℕ, ℤ, Bool, ◌+◌, ◌<◌, ◌≤◌, ◌==◌, true, false, List, [], ◌∷◌, ◌++◌, length, take}
+use Rattle.std.specs.Prelude.{drop, map, reverse, count_by, slice_index, slice_index_or, slice_set, Option, Some, None}
 use Rattle.std.specs.List.{AllByRecursion}
 use Rattle.std.specs.List.Sorted.{IsStrictlyIncreasing}
 use Rattle.flat_base.specs.declared.ids.Actor.TheVariants.{Display, Session}
@@ -20,7 +21,8 @@ use Rattle.flat_scene.specs.declared.frames.SessionSet.{SessionSet}
 use Rattle.flat_scene.specs.Frames.{ratio, sessions_to}
 use Rattle.flat_scene.specs.History.{own, is_end}
 use Rattle.flat_scene.specs.Journals.{seat_number}
-use Rattle.flat_scene.specs.Interleave.{session_lines, display_lines, by_display, unread_lines, last_line, FollowsDisplay, Interleaves, IsReading}
+use Rattle.flat_scene.specs.Interleave.{session_lines, display_lines, by_display, unread_lines, last_line}
+use Rattle.flat_scene.specs.Interleave.{FollowsDisplay, Interleaves, IsReading}
 use Rattle.flat_scene.specs.Setups.{at_ratio, is_declared}
 use Rattle.flat_core.specs.Machines.{Machine, entered, made}
 use Rattle.flat_rules.specs.Ends.{to_begin, to_finished, has_view}
@@ -51,7 +53,8 @@ abbrev pub last_number : ℕ → List ScriptLine → ℕ
 last_number n [] = n
 last_number n (next ∷ later) = last_number next.number later
 
--- A session's entries are the reading of its lines up to a place, and its reader stands behind them. It refused no more lines than there were.
+-- A session's entries are the reading of its lines up to a place, and its reader stands behind them.
+-- It refused no more lines than there were.
 pub record ReaderStands (script : Script) (s : SessionNo) (place : ℕ) (history : List Entry) (reader : Reader) : Type 0 where
   pub session : reader.session ≡ s
   pub few : reader.refused ≤ last_number 0 (take place script.lines)
@@ -232,7 +235,8 @@ pub record EndsStand (script : Script) (ended : ℕ) (play : Play) : Type 0 wher
   pub keeps : Keeps script play.kept (finished script.setup play.board.history)
   pub answering : play.answers ≡ answers_of script.setup play.board.history
 
--- A script was run to its end: the history interleaves the script's actors, what is kept of frames is that of those that it finishes, and the answers are those to the points that it asks for.
+-- A script was run to its end: the history interleaves the script's actors, what is kept of frames is that of those
+-- that it finishes, and the answers are those to the points that it asks for.
 pub record HasPlayed (script : Script) (board : Machine) (kept : Kept) (answers : List HitAnswer) : Type 0 where
   pub setup : board.setup ≡ script.setup
   pub interleaves : Interleaves script.setup script.count script.lines board.history

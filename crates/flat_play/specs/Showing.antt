@@ -1,5 +1,5 @@
 -- What displays have had of a run.
-use Rattle.std.specs.Prelude.{◌≡◌, ℕ, ◌^◌, suc, true, List, [], ◌∷◌, ◌++◌, length, nat_lt, Option}
+use Rattle.std.specs.Prelude.{◌≡◌, ℕ, suc, true, List, [], ◌∷◌, ◌++◌, length, Option}
 use Rattle.std.specs.List.{list_all}
 use Rattle.flat_scene.specs.declared.frames.FrameOut.{FrameOut}
 use Rattle.flat_scene.specs.declared.frames.Lost.{Lost}
@@ -12,13 +12,15 @@ use Rattle.flat_report.specs.Runs.{is_display_number}
 
 -- Displays of a type tell these frames, and have these counts of faults.
 module _ {D : Type 0} (told : D → Option (List FrameOut)) (count : D → ℕ) where
-  -- A line of the script finishes a frame, of the next number, which was shown to the displays that aren't lost; or it leaves frames and displays as they are.
+  -- A line of the script finishes a frame, of the next number, which was shown to the displays that aren't lost;
+  -- or it leaves frames and displays as they are.
   pub data IsShown (old new : List FrameOut) (set set' : Driven) (olds news : List D) : Type 0 where
     shows_frame : (next : FrameOut) (more : List Lost) → new ≡ old ++ next ∷ [] → next.frame.0 ≡ suc (length old) → set' ≡ record set { lost = set.lost ++ more } → Shows told count next set.lost 1 olds news more
         → IsShown old new set set' olds news
     shows_none : new ≡ old → set' ≡ set → news ≡ olds → IsShown old new set set' olds news
 
-  -- The displays have had the frames of the history so far. Those that failed are lost, each at the frame that it failed to take, in order and once.
+  -- The displays have had the frames of the history so far.
+  -- Those that failed are lost, each at the frame that it failed to take, in order and once.
   pub record HaveSeen (frames : List FrameOut) (history : List Entry) (lost : List Lost) (olds news : List D) : Type 0 where
     pub driven : AreDriven told count lost frames olds news
     pub loss : is_loss history lost ≡ true

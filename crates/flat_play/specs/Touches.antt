@@ -1,4 +1,5 @@
--- Pointers' lines that stand beside a script: whom a pointer that goes down hits, in the frame that was finished last before its line.
+-- Pointers' lines that stand beside a script:
+-- whom a pointer that goes down hits, in the frame that was finished last before its line.
 use Rattle.std.specs.Prelude.{ℕ, ◌+◌, cond, ◌&&◌, nat_lt, List, []}
 use Rattle.flat_scene.specs.declared.frames.Hit.{Hit}
 use Rattle.flat_scene.specs.declared.journal.Entry.{Entry}

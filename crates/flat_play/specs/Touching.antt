@@ -1,5 +1,5 @@
 -- How far the lines of pointers are answered.
-use Rattle.std.specs.Prelude.{◌≡◌, ℕ, ◌+◌, true, nat_le, List, [], ◌++◌, map}
+use Rattle.std.specs.Prelude.{◌≡◌, ℕ, true, nat_le, List, [], ◌++◌, map}
 use Rattle.std.specs.List.{list_all}
 use Rattle.flat_scene.specs.declared.frames.Hit.{Hit}
 use Rattle.flat_scene.specs.declared.journal.Entry.{Entry}
@@ -14,20 +14,21 @@ use Rattle.flat_pointer.specs.declared.text.Touch.{Touch}
 use Rattle.flat_pointer.specs.Lines.{rise_after}
 use Rattle.flat_play.specs.Touches.{touch_of}
 
--- the same by the states that are shown, at the pixel ratio of the setup
+-- what a call of a pointer hits in the states that are shown: the nodes at the point where it goes down
 abbrev pub hits_in : Setup → Shown → PointerCall → List Hit
 hits_in setup shown (Down x y) = hit_list setup shown x y
 hits_in setup shown _ = []
 
+-- a line of a pointer, with what it hits
 abbrev pub touch_in : Setup → Shown → PointerLine → Touch
 touch_in setup shown line = record { line = line; hits = hits_in setup shown line.call }
 
--- by one entry of a line at most
+-- A history goes on by at most one entry, of the line with this number.
 pub data GoesOnAt (number : ℕ) (old new : List Entry) : Type 0 where
   stays : new ≡ old → GoesOnAt number old new
   enters : (entry : Entry) → entry.line ≡ number → new ≡ (old ▹ entry) → GoesOnAt number old new
 
--- by Ends alone
+-- A history goes on by Ends alone.
 pub record GoesOnByEnds (old new : List Entry) : Type 0 where
   pub ends : List Entry
   pub is : new ≡ ends ++ old

@@ -1,7 +1,8 @@
 //! A script is played in written order. What may fail has the play by `&mut`: each exit
 //! behind which it were held would drop all of it, part by part, which is most of what a
 //! check has to look at. Where it has to go, one call of `drop` lets it go.
-ghost use Rattle.std.specs.Prelude.{map, ◌≡◌, ◌+◌, ◌<◌, ◌^◌, slice_index, [], ◌∷◌, ◌++◌, List, true, length, replicate, All, IfOk, OnOk};
+ghost use Rattle.std.specs.Prelude.{map, ◌≡◌, ◌+◌, ◌<◌, ◌^◌, slice_index, [], ◌∷◌, ◌++◌, List, true, length, replicate};
+ghost use Rattle.std.specs.Prelude.{All, IfOk, OnOk};
 ghost use Rattle.flat_scene.specs.Journals.{seat_number};
 ghost use Rattle.flat_scene.specs.Interleave.{IsWritten};
 ghost use Rattle.flat_scene.specs.Heads.{is_setup};

@@ -1,4 +1,5 @@
--- Every script that the reader accepts is one that is played: each part of the test, and the whole; and what its version says.
+-- Every script that the reader accepts is one that is played: each part of the test, and the whole;
+-- and what its version says.
 use Rattle.std.specs.Prelude.{◌≡◌, ◌≤◌, ℕ, false, true, nat_le, nat_lt, List, length, Some}
 use Rattle.std.specs.List.{list_all}
 use Rattle.flat_base.specs.declared.limits.TheConstants.{ONE, RATIO_SINCE, SCRIPT_BYTES_MAX, SESSIONS_MAX, VERSION_MAX}

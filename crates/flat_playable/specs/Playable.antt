@@ -19,7 +19,8 @@ abbrev pub rise_from : ℕ → List ScriptLine → Bool
 rise_from n [] = true
 rise_from n (next ∷ later) = nat_lt n next.number && rise_from next.number later
 
--- A frame begins only where none is open and at no lesser time than the one before, and is done only where one is open; what follows is tested by whether a frame is open then, and the last time.
+-- A frame begins only where none is open and at no lesser time than the one before, and is done only where one is
+-- open; what follows is tested by whether a frame is open then, and the last time.
 abbrev pub keeps_frames : Bool → ℕ → Body → (Bool → ℕ → Bool) → Bool
 keeps_frames is_open time (body.Display (display.Begin t)) follows = not is_open && nat_le time t && follows true t
 keeps_frames is_open time (body.Display display.Done) follows = is_open && follows false time
@@ -37,7 +38,8 @@ is_played setup Display (body.Display text) = is_played_display setup text
 is_played setup (Probe p) (body.Probe asked) = nat_lt p setup.probes
 is_played setup _ _ = false
 
--- Whether a script is one that is played: its setup is one that a head can give; its lines rise up to its count, frames close, and each line is known.
+-- Whether a script is one that is played: its setup is one that a head can give;
+-- its lines rise up to its count, frames close, and each line is known.
 abbrev pub is_playable : Script → Bool
 is_playable script =
     is_setup script.setup && nat_le script.count SCRIPT_BYTES_MAX && rise_from 0 script.lines && list_all (λ next. nat_le next.number script.count) script.lines

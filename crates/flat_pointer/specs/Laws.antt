@@ -1,5 +1,6 @@
 -- What the streams are, whatever happened.
-use Rattle.std.specs.Prelude.{◌≡◌, ℕ, suc, ◌<◌, Bool, true, false, not, ◌==◌, IsTrue, List, [], ◌∷◌, ◌++◌, map, Some, None}
+use Rattle.std.specs.Prelude.{◌≡◌, ℕ, suc, ◌<◌, Bool, true, false, not, ◌==◌, IsTrue, List, [], ◌∷◌, ◌++◌, map, Some}
+use Rattle.std.specs.Prelude.{None}
 use Rattle.std.specs.List.{list_any}
 use Rattle.flat_base.specs.declared.ids.SessionNo.{SessionNo}
 use Rattle.flat_scene.specs.declared.frames.FrameOut.{FrameOut}
@@ -31,7 +32,8 @@ pub record Follow (before : List PointerEvent) : Type 0 where
 abbrev pub CallsFollow : Type 0
 CallsFollow = (before : List PointerEvent) → Follow before
 
--- after a frame the calls that cancel, one for each pointer in order, lead to the streams after it, and each answers whose stream the frame cancels
+-- after a frame the calls that cancel, one for each pointer in order, lead to the streams after it, and each answers
+-- whose stream the frame cancels
 pub record FollowFrame (nodes : List ViewNode) (before : List PointerEvent) : Type 0 where
   pub first : streams_after before ≡ framed_below nodes 0 (streams_after before)
   pub next : (p : ℕ) → with_stream (framed_below nodes p (streams_after before)) p (kept_in nodes (stream_of (framed_below nodes p (streams_after before)) p)) ≡ framed_below nodes (suc p) (streams_after before)
@@ -46,7 +48,8 @@ NoneAtFirst = no_streams ≡ streams_after []
 
 -- ---- one session
 
--- whether an event ends a pointer's stream that goes to that session: its Up, or a frame in which the session is no node
+-- whether an event ends a pointer's stream that goes to that session:
+-- its Up, or a frame in which the session is no node
 abbrev pub ends : ℕ → SessionNo → PointerEvent → Bool
 ends p s (frame nodes) = not (is_node nodes s)
 ends p s (up q) = q == p
@@ -67,7 +70,8 @@ names s (Up t) = t.0 == s.0
 names s Busy = true
 names s Nobody = false
 
--- A Down that goes to a session begins a stream: while no event ended it, all answers of the pointer name that session or are busy, and an event that ends it leaves none.
+-- A Down that goes to a session begins a stream: while no event ended it, all answers of the pointer name that
+-- session or are busy, and an event that ends it leaves none.
 pub record StreamTo (p : ℕ) (s : SessionNo) (history : List PointerEvent) : Type 0 where
   pub going : stream_after p history ≡ Some s
   pub answers : (event : PointerEvent) (answer : PointerAnswer) → IsTrue (is_line_of p event) → answer_to history event ≡ Some answer → IsTrue (names s answer)

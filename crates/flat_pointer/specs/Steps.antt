@@ -1,5 +1,6 @@
 -- How the streams of all pointers go on from what is kept of them.
-use Rattle.std.specs.Prelude.{ℕ, zero, suc, List, [], ◌∷◌, Option, None, replicate, slice_get, slice_set, unwrap_or, nat_lt, IsTrue}
+use Rattle.std.specs.Prelude.{ℕ, zero, suc, List, [], ◌∷◌, Option, None, replicate, slice_get, slice_set, unwrap_or}
+use Rattle.std.specs.Prelude.{nat_lt, IsTrue}
 use Rattle.flat_base.specs.declared.ids.SessionNo.{SessionNo}
 use Rattle.flat_scene.specs.declared.frames.ViewNode.{ViewNode}
 use Rattle.flat_pointer.specs.declared.pointers.TheConstants.{POINTERS}

@@ -15,7 +15,8 @@ abbrev pub first_hit : List Hit → Option SessionNo
 first_hit [] = None
 first_hit (hit ∷ later) = Some hit.session
 
--- the answer to a Down, where this is the stream: busy where there is one, else the session that is hit first, or nobody
+-- the answer to a Down, where this is the stream:
+-- busy where there is one, else the session that is hit first, or nobody
 abbrev pub down_answer : Option SessionNo → List Hit → PointerAnswer
 down_answer (Some s) hits = Busy
 down_answer None hits = option_map_or Down (first_hit hits) Nobody

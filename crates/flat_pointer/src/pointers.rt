@@ -1,7 +1,8 @@
 ghost use Rattle.std.specs.Prelude.{◌≡◌, ◌<◌, List, None};
 ghost use Rattle.flat_scene.specs.declared.frames.Hit.{Hit};
 ghost use Rattle.flat_scene.specs.ViewTrees.{is_node};
-ghost use Rattle.flat_pointer.specs.Streams.{first_hit, down_answer, after_down, move_answer, up_answer, kept_in, cancelled_in};
+ghost use Rattle.flat_pointer.specs.Streams.{first_hit, down_answer, after_down, move_answer, up_answer, kept_in};
+ghost use Rattle.flat_pointer.specs.Streams.{cancelled_in};
 ghost use Rattle.flat_pointer.specs.Steps.{no_streams, stream_of, with_stream};
 
 use flat_base::SessionNo;

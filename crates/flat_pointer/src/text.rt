@@ -5,7 +5,8 @@ ghost use Rattle.flat_page.specs.Pages.{Writes, WritesLines};
 ghost use Rattle.flat_page.specs.Words.{number, numbers, session_name};
 ghost use Rattle.flat_pointer.specs.Streams.{cancelled_in};
 ghost use Rattle.flat_pointer.specs.Steps.{no_streams, stream_of, framed, after_call, lines_with, after, ArePointers};
-ghost use Rattle.flat_pointer.specs.Text.{point_words, answer_words, touch_line, cancel_line, cancel_lines, frame_lines, end_line, call_answer, pointer_text};
+ghost use Rattle.flat_pointer.specs.Text.{point_words, answer_words, touch_line, cancel_line, cancel_lines};
+ghost use Rattle.flat_pointer.specs.Text.{frame_lines, end_line, call_answer, pointer_text};
 
 use crate::pointers::{POINTERS, PointerAnswer, Pointers};
 use flat_base::{FrameNo, Items, NoMemory, SessionNo};

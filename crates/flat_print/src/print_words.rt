@@ -3,7 +3,8 @@ ghost use Rattle.std.specs.Prelude.{◌≡◌, ◌++◌, ◌∷◌, [], OnOk, ma
 ghost use Rattle.std.specs.Fmt.{decimal, signed_decimal};
 ghost use Rattle.std.specs.Option.{option_map_or};
 ghost use Rattle.std.specs.List.{flat_map};
-ghost use Rattle.flat_print.specs.Print.{Writes, numbers, session_word, fence_word, rect_words, inset_words, inset_unless_none, region_words, list_words, orientation_number, blend_number};
+ghost use Rattle.flat_print.specs.Print.{Writes, numbers, session_word, fence_word, rect_words, inset_words};
+ghost use Rattle.flat_print.specs.Print.{inset_unless_none, region_words, list_words, orientation_number, blend_number};
 ghost use Rattle.flat_print.specs.Choices.{flip_number, interaction_number};
 
 use flat_base::{Actor, FenceNo, IntRect, NoMemory, Orientation, SessionNo, TransformId};

@@ -8,7 +8,8 @@ pub record Seen : Type 0 where
   pub home : Book
   pub frames : List Frame
 
--- which one it is, the frames that were published, frames refused since then that the next publish may add before its own, and the greatest number given
+-- which one it is, the frames that were published, frames refused since then that the next publish may add before its
+-- own, and the greatest number given
 pub record Publishing : Type 0 where
   pub home : Book
   pub frames : List Frame

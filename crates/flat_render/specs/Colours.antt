@@ -4,7 +4,8 @@ use Rattle.flat_base.specs.declared.limits.TheConstants.{COLOUR_MAX, ONE}
 use Rattle.flat_scene.specs.declared.calls.BlendMode.{BlendMode}
 use Rattle.flat_scene.specs.declared.calls.BlendMode.TheVariants.{Src, SrcOver}
 
--- No buffer has any content, so a buffer's colours are a pattern that tells buffers and places apart: red by the column, green by the row.
+-- No buffer has any content, so a buffer's colours are a pattern that tells buffers and places apart:
+-- red by the column, green by the row.
 abbrev pub red_at : ℕ → ℕ → ℕ
 red_at i x = (64 * x + 16 * i) % 256
 

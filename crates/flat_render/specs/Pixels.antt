@@ -1,5 +1,6 @@
 -- The colour of a pixel under a draw list.
-use Rattle.std.specs.Prelude.{ℕ, ℤ, pos, ◌+◌, ◌-◌, ◌*◌, ◌/◌, ◌-ℤ◌, int_lt, Bool, if◌then◌else◌, List, fold, unsigned_abs}
+use Rattle.std.specs.Prelude.{ℕ, ℤ, pos, ◌+◌, ◌-◌, ◌*◌, ◌/◌, ◌-ℤ◌, int_lt, Bool, if◌then◌else◌, List, fold}
+use Rattle.std.specs.Prelude.{unsigned_abs}
 use Rattle.flat_base.specs.declared.shapes.IntRect.{IntRect}
 use Rattle.flat_drawable.specs.Drawable.{full_rect}
 use Rattle.flat_geom.specs.Rectangles.{has_point}

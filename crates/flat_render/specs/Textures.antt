@@ -1,5 +1,6 @@
 -- Textures: what an image shows, read along the axes of the display.
-use Rattle.std.specs.Prelude.{◌≡◌, ℕ, ◌+◌, ◌<◌, ◌≤◌, Bool, true, not, pos, int_lt, if◌then◌else◌, List, length, slice_index}
+use Rattle.std.specs.Prelude.{◌≡◌, ℕ, ◌+◌, ◌<◌, ◌≤◌, Bool, true, not, pos, int_lt, if◌then◌else◌, List, length}
+use Rattle.std.specs.Prelude.{slice_index}
 use Rattle.flat_base.specs.declared.ids.BufferNo.{BufferNo}
 use Rattle.flat_geom.specs.Rectangles.{is_between}
 use Rattle.flat_scene.specs.declared.frames.DrawItem.{DrawItem}
@@ -58,6 +59,7 @@ abbrev pub rises_down : Axis → ImageFlip → Bool
 rises_down axis UpDown = not (int_lt (pos 0) axis.entry)
 rises_down axis _ = int_lt (pos 0) axis.entry
 
--- how much a buffer's red grows from a column to the next one, and its green from row to row: up, or else down, which is the rest of 256
+-- how much a buffer's red grows from a column to the next one, and its green from row to row:
+-- up, or else down, which is the rest of 256
 abbrev pub stride_of : Bool → ℕ
 stride_of rises = if rises then 64 else 192

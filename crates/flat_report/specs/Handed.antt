@@ -1,5 +1,7 @@
--- What is handed in beside the history: the answers to points asked, the events as they are posted, and the answers to probes.
-use Rattle.std.specs.Prelude.{ℕ, ◌+◌, ◌==◌, ℤ, Bool, true, false, codes, cond, drop, length, map, take, take_while, List, [], ◌∷◌, ◌++◌}
+-- What is handed in beside the history: the answers to points asked, the events as they are posted, and the answers
+-- to probes.
+use Rattle.std.specs.Prelude.{ℕ, ◌+◌, ◌==◌, ℤ, Bool, true, false, codes, cond, drop, length, map, take, take_while}
+use Rattle.std.specs.Prelude.{List, [], ◌∷◌, ◌++◌}
 use Rattle.std.specs.List.{flat_map}
 use Rattle.flat_scene.specs.declared.frames.Hit.{Hit}
 use Rattle.flat_scene.specs.declared.frames.Lost.{Lost}
@@ -44,7 +46,8 @@ abbrev pub first_text : List (List ℕ) → List ℕ
 first_text [] = []
 first_text (text ∷ later) = text
 
--- what stands between a done line and its events: the text of the frame, which is the first of those left, and the lines of the displays lost at it
+-- what stands between a done line and its events:
+-- the text of the frame, which is the first of those left, and the lines of the displays lost at it
 abbrev pub shown_text : List Lost → ℕ → List (List ℕ) → List ℕ
 shown_text lost number texts = first_text texts ++ text_of (map lost_line (lost_at number lost))
 
@@ -83,13 +86,16 @@ answer_line script answer = actor_name script answer.actor ∷ number answer.lin
 abbrev pub answers_text : Script → List (List ProbeAnswer) → List ℕ
 answers_text script probes = flat_map (λ one. text_of (map (answer_line script) one)) probes
 
--- the text of the entries from a place on, by what is left there of what is handed in: each entry takes its own posts from the front, a `done` the text of a frame, and a point an answer; behind them the probes' answers, and the last line
+-- the text of the entries from a place on, by what is left there of what is handed in: each entry takes its own posts
+-- from the front, a `done` the text of a frame, and a point an answer; behind them the probes' answers, and the last
+-- line
 abbrev pub handed_entries : Script → List Lost → List (List ProbeAnswer) → ℕ → ℕ → List (List ℕ) → List HitAnswer → List Post → List Entry → List ℕ
 handed_entries script lost probes place finished texts answers posts [] = answers_text script probes ++ text_of (end_line place finished ∷ [])
 handed_entries script lost probes place finished texts answers posts (entry ∷ later) =
     handed_text script lost finished texts answers (take (first_posts place posts) posts) entry
     ++ handed_entries script lost probes (place + 1) (finished + cond (is_finish entry.kind) 1 0) (texts_after entry.kind texts) (answers_after entry.kind answers) (drop (first_posts place posts) posts) later
 
--- the text of all that is handed in: the entries, the oldest first, their posts, the texts of frames, the displays that were lost, the answers to points, and those to the probes
+-- the text of all that is handed in: the entries, the oldest first, their posts, the texts of frames, the displays
+-- that were lost, the answers to points, and those to the probes
 abbrev pub handed_report : Script → List Entry → List Post → List (List ℕ) → List Lost → List HitAnswer → List (List ProbeAnswer) → List ℕ
 handed_report script entries posts texts lost answers probes = text_of (title_line script.version ∷ []) ++ handed_entries script lost probes 0 0 texts answers posts entries

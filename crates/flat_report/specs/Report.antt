@@ -1,5 +1,7 @@
--- The report: what a run answers and shows, from the script, the history, the displays that were lost, and the frames that probes saw.
-use Rattle.std.specs.Prelude.{ℕ, suc, ℤ, ◌==◌, Bool, true, false, cond, ◌&&◌, ◌||◌, not, nat_le, nat_lt, List, [], ◌∷◌, ◌++◌, length, map, filter, codes}
+-- The report: what a run answers and shows, from the script, the history, the displays that were lost, and the frames
+-- that probes saw.
+use Rattle.std.specs.Prelude.{ℕ, suc, ℤ, ◌==◌, Bool, true, false, cond, ◌&&◌, ◌||◌, not, nat_le, nat_lt, List, [], ◌∷◌}
+use Rattle.std.specs.Prelude.{◌++◌, length, map, filter, codes}
 use Rattle.std.specs.List.{flat_map, list_all, range_with_len, zip}
 use Rattle.flat_base.specs.declared.ids.Actor.{Actor}
 use Rattle.flat_base.specs.declared.ids.Actor.TheVariants.{Probe}
@@ -29,7 +31,8 @@ use Rattle.flat_page.specs.Words.{Word, number, text_of, actor_name}
 
 -- ---- frames
 
--- the frame of a number, as it is composed of the states and the display's pixel ratio at its begin, with which the history ends
+-- the frame of a number, as it is composed of the states and the display's pixel ratio at its begin, with which the
+-- history ends
 abbrev pub frame_at : Setup → ℕ → List Entry → FrameOut
 frame_at setup n begun = record {
   frame = record { 0 = n };

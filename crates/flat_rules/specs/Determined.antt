@@ -35,7 +35,8 @@ but_moment_line moment = record moment { entry = but_line moment.entry }
 abbrev pub family_moments : Setup → (SessionNo → Bool) → SessionNo → List Entry → List Moment
 family_moments setup of_family t history = map but_moment_line (kept_moments of_family (moments setup t history))
 
--- in two legal histories where the entries of a family and the frames are equal but for replies and lines, the family's sessions are answered
+-- in two legal histories where the entries of a family and the frames are equal but for replies and lines, the
+-- family's sessions are answered
 -- and told the same at them, whatever all others did
 abbrev pub NeighboursChangeNothing : Type 0
 NeighboursChangeNothing = (setup : Setup) → owners_declared setup ≡ true → (history history' : List Entry) → Legal setup history → Legal setup history'

@@ -1,5 +1,6 @@
 -- The ends of pairs: who owns them, when they were used, and what frames have seen of their end.
-use Rattle.std.specs.Prelude.{ℕ, ◌+◌, Bool, true, false, cond, ◌&&◌, ◌||◌, ◌==◌, nat_lt, List, [], ◌∷◌, filter, not, length, Option, Some, None, Result, Ok, option_map, option_and_then, unwrap_or, slice_get}
+use Rattle.std.specs.Prelude.{ℕ, ◌+◌, Bool, true, false, cond, ◌&&◌, ◌||◌, ◌==◌, nat_lt, List, [], ◌∷◌, filter, not}
+use Rattle.std.specs.Prelude.{length, Option, Some, None, Result, Ok, option_map, option_and_then, unwrap_or, slice_get}
 use Rattle.std.specs.List.{list_any}
 use Rattle.std.specs.Result.{result_ok}
 use Rattle.flat_base.specs.declared.ids.Actor.{Actor}

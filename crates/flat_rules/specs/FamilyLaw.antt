@@ -28,7 +28,8 @@ kept_moments of_family = filter (λ moment. is_kept of_family moment.entry)
 abbrev pub is_quiet : (SessionNo → Bool) → Moment → Bool
 is_quiet of_family moment = is_kept of_family moment.entry || length moment.events == 0
 
--- The entries of a family, with the frames, are a legal history, which posts the same events at the same entries to the family's sessions.
+-- The entries of a family, with the frames, are a legal history, which posts the same events at the same entries to
+-- the family's sessions.
 -- The other entries post nothing to them.
 pub record IsFamilyLaw (setup : Setup) (of_family : SessionNo → Bool) (history : List Entry) : Type 0 where
   pub legal : Legal setup (only of_family history)

@@ -1,4 +1,5 @@
--- When a get is answered: by the first value told from the get on that is there and differs from the watcher's last answer.
+-- When a get is answered: by the first value told from the get on that is there and differs from the watcher's last
+-- answer.
 use Rattle.std.specs.Prelude.{◌≡◌, Bool, true, false, cond, ◌||◌, List, [], ◌∷◌, ◌++◌, Option, Some, None, is_some}
 use Rattle.std.specs.List.{Contains}
 use Rattle.flat_base.specs.declared.errors.FlatlandError.TheVariants.{BadHangingGet}
@@ -20,7 +21,8 @@ use Rattle.flat_watch.specs.Told.{news, answered_by}
 use Rattle.std.specs.Option.{option_or}
 
 module _ (setup : Setup) where
-  -- the first value told that is there and differs from the last answer: after a history, or after one of the entries that are put onto it
+  -- the first value told that is there and differs from the last answer:
+  -- after a history, or after one of the entries that are put onto it
   abbrev pub first_news : Watcher → Option Told → List Entry → List Entry → Option Told
   first_news watcher last from [] = news (told setup from watcher) last
   first_news watcher last from (later ▹ entry) = option_or (first_news watcher last from later) (news (told setup ((later ▹ entry) ++ from) watcher) last)
@@ -34,7 +36,8 @@ module _ (setup : Setup) where
   abbrev pub is_heard : Watcher → List Entry → Bool
   is_heard watcher history = is_open setup (listener setup watcher) history
 
-  -- Where an entry is a get of a watcher that holds none, with this last answer, and no later entry is a get of it: as long as there is no such
+  -- Where an entry is a get of a watcher that holds none, with this last answer, and no later entry is a get of it:
+  -- as long as there is no such
   -- value the get is held, and once there is one it is answered with the first.
   pub record AnswersFirst (watcher : Watcher) (get : Watch) (last : Option Told) (before : List Entry) (entry : Entry) : Type 0 where
     -- at the get itself it is the reply
@@ -68,7 +71,8 @@ UnaskedStays = (setup : Setup) (watcher : Watcher) (from later : List Entry) →
 abbrev pub NothingIsAnsweredAtFirst : Type 0
 NothingIsAnsweredAtFirst = (setup : Setup) (watcher : Watcher) → watching setup watcher [] ≡ record { last = None; waits = None }
 
--- what a watcher answers to a held get at an entry is one of the events that the entry posts to its listener, if that is open then
+-- what a watcher answers to a held get at an entry is one of the events that the entry posts to its listener, if that
+-- is open then
 abbrev pub AnswersArePosted : Type 0
 AnswersArePosted = (setup : Setup) (before : List Entry) (entry : Entry) → Legal setup before
     → (watcher : Watcher) (s : SessionNo) → listener setup watcher ≡ Some (Session s) → is_closed s (before ▹ entry) ≡ false

@@ -1,5 +1,6 @@
 -- What holds of a legal history: its credits, what its sessions show, and how it is seen by one session or one family.
-use Rattle.std.specs.Prelude.{◌≡◌, ◌+◌, Bool, true, false, ◌||◌, List, [], ◌∷◌, filter, map, length, cond, ℕ, Option, None, All}
+use Rattle.std.specs.Prelude.{◌≡◌, ◌+◌, Bool, true, false, ◌||◌, List, [], ◌∷◌, filter, map, length, cond, ℕ, Option}
+use Rattle.std.specs.Prelude.{None, All}
 use Rattle.flat_base.specs.declared.ids.SessionNo.{SessionNo}
 use Rattle.flat_scene.specs.declared.journal.Entry.{Entry}
 use Rattle.flat_scene.specs.declared.journal.Event.{Event}
@@ -21,7 +22,8 @@ use Rattle.flat_rules.specs.Shown.{shown_states}
 
 -- ---- credits
 
--- the presents that a session may make, and those that wait, are one together before a frame took one, and five from then on
+-- the presents that a session may make, and those that wait, are one together before a frame took one, and five from
+-- then on
 abbrev pub CreditsAddUp : Type 0
 CreditsAddUp = (setup : Setup) (history : List Entry) → Legal setup history
     → (s : SessionNo) → credits setup history s + length (waiting setup history s) ≡ most_waiting setup history s
@@ -60,7 +62,8 @@ is_beside s entry = is_session s entry.actor || is_begin entry.kind || is_finish
 abbrev pub but_answers : Entry → Entry
 but_answers entry = record entry { line = 0; reply = cond (is_get entry.kind) entry.reply Done }
 
--- What the law asks of one entry: what it is, and at a Begin, of each present of the session, which of its acquire fences are signalled.
+-- What the law asks of one entry: what it is, and at a Begin, of each present of the session, which of its acquire
+-- fences are signalled.
 pub record Glimpse : Type 0 where
   pub entry : Entry
   pub signalled : List (List Bool)
@@ -88,7 +91,8 @@ has_own_reply (Viewport p props) = true
 has_own_reply (Present args) = true
 has_own_reply _ = false
 
--- What the law says of one entry: its reply, where it is a View, a Viewport or a Present, and its events but for what watchers tell.
+-- What the law says of one entry: its reply, where it is a View, a Viewport or a Present, and its events but for what
+-- watchers tell.
 pub record Outcome : Type 0 where
   pub reply : Reply
   pub events : List Event

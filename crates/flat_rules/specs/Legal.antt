@@ -1,5 +1,7 @@
 -- Which replies the entries of a history have, and which histories there are.
-use Rattle.std.specs.Prelude.{ℕ, ◌+◌, ◌-◌, ◌≡◌, IsTrue, Bool, true, false, cond, not, ◌&&◌, ◌||◌, ◌==◌, nat_lt, nat_le, List, [], ◌∷◌, ◌++◌, length, filter, Option, Some, None, unwrap_or, option_map, Result, Ok, Err, is_some, is_none, slice_get}
+use Rattle.std.specs.Prelude.{ℕ, ◌+◌, ◌-◌, ◌≡◌, IsTrue, Bool, true, false, cond, not, ◌&&◌, ◌||◌, ◌==◌, nat_lt, nat_le}
+use Rattle.std.specs.Prelude.{List, [], ◌∷◌, ◌++◌, length, filter, Option, Some, None, unwrap_or, option_map, Result}
+use Rattle.std.specs.Prelude.{Ok, Err, is_some, is_none, slice_get}
 use Rattle.std.specs.List.{list_any, list_all}
 use Rattle.flat_base.specs.declared.ids.Actor.{Actor}
 use Rattle.flat_base.specs.declared.ids.Actor.TheVariants.{Display, Session, Probe}
@@ -18,14 +20,16 @@ use Rattle.flat_scene.specs.declared.journal.Entry.{Entry}
 use Rattle.flat_scene.specs.declared.journal.Event.{Event}
 use Rattle.flat_scene.specs.declared.journal.Event.TheVariants as event
 use Rattle.flat_scene.specs.declared.journal.Kind.{Kind}
-use Rattle.flat_scene.specs.declared.journal.Kind.TheVariants.{View, Viewport, Present, Get, Signal, Poll, Wait, Close, End, Begin, Finish, Hit, Dpr}
+use Rattle.flat_scene.specs.declared.journal.Kind.TheVariants.{View, Viewport, Present, Get, Signal, Poll, Wait, Close}
+use Rattle.flat_scene.specs.declared.journal.Kind.TheVariants.{End, Begin, Finish, Hit, Dpr}
 use Rattle.flat_scene.specs.declared.journal.Reply.{Reply}
 use Rattle.flat_scene.specs.declared.journal.Reply.TheVariants.{Done, Presented, Held, Now, Polled, Met, Unmet, Closed}
 use Rattle.flat_scene.specs.declared.journal.Told.{Told}
 use Rattle.flat_scene.specs.declared.script.Cond.{Cond}
 use Rattle.flat_scene.specs.declared.script.Cond.TheVariants as asks
 use Rattle.flat_scene.specs.declared.setup.Setup.{Setup}
-use Rattle.flat_scene.specs.History.{◌▹◌, is_begin, is_finish, is_end, is_display, is_closed, is_session, calls, own, presents}
+use Rattle.flat_scene.specs.History.{◌▹◌, is_begin, is_finish, is_end, is_display, is_closed, is_session, calls, own}
+use Rattle.flat_scene.specs.History.{presents}
 use Rattle.flat_scene.specs.Setups.{is_declared, is_ratio}
 use Rattle.flat_scene.specs.Frames.{taken, credits, is_signalled}
 use Rattle.flat_scene.specs.Effect.{draft_of}
@@ -127,7 +131,8 @@ links_alone (Viewport p props) carries = not (list_any is_link (all_but_last car
 links_alone (Close reason) carries = not (list_any is_link (all_but_last carries))
 links_alone _ carries = not (list_any is_link carries)
 
--- What a Close may say, by what all calls of the session make. A session that leaves says no reason. Else it is the misuse of the last call, or
+-- What a Close may say, by what all calls of the session make. A session that leaves says no reason.
+-- Else it is the misuse of the last call, or
 -- a present or a get is refused.
 abbrev pub may_close : List Call → Result Draft Reason → Option Reason → Bool
 may_close carries (Ok draft) None = not (list_any is_link carries)
@@ -259,7 +264,8 @@ module _ (setup : Setup) where
   draft_with before (Session s) carries = result_ok (draft_of setup (calls s before ++ carries))
   draft_with before _ carries = None
 
-  -- The calls of a session have no misuse, but that the last one of a Close may be the misuse that closes. An End says that no line was refused,
+  -- The calls of a session have no misuse, but that the last one of a Close may be the misuse that closes.
+  -- An End says that no line was refused,
   -- unless the session was closed: then it carries no calls, and may say any number. Only a session has calls.
   abbrev pub has_draft : List Entry → Actor → List Call → Kind → Bool
   has_draft before (Session s) carries (Close why) =

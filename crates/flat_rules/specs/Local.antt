@@ -1,4 +1,5 @@
--- What is local to a family: what the definitions say of it depends on the family's entries and the compositor's frames and signals alone.
+-- What is local to a family: what the definitions say of it depends on the family's entries and the compositor's
+-- frames and signals alone.
 use Rattle.std.specs.Prelude.{◌≡◌, ◌||◌, Bool, true, false, List, []}
 use Rattle.flat_base.specs.declared.ids.FenceNo.{FenceNo}
 use Rattle.flat_base.specs.declared.ids.PairNo.{PairNo}
@@ -16,7 +17,8 @@ use Rattle.flat_rules.specs.Legal.{Legal, owns_fence, owns_view, owns_viewport, 
 use Rattle.flat_rules.specs.Shown.{shown, is_connected}
 use Rattle.flat_rules.specs.Watch.{Watcher, layout_of, status_of, child_of, told, watching}
 
--- A law of every legal history and the family of each session, where all owners are declared. What stands before an entry of a legal
+-- A law of every legal history and the family of each session, where all owners are declared.
+-- What stands before an entry of a legal
 -- history is one too, so a law holds at each entry.
 abbrev pub ForFamilies : (Setup → (SessionNo → Bool) → List Entry → Type 0) → Type 0
 ForFamilies law = (setup : Setup) → owners_declared setup ≡ true → (history : List Entry) → Legal setup history → (s : SessionNo) → law setup (family setup s) history
@@ -104,7 +106,8 @@ FamiliesAreAlone = ForFamilies IsFamilyLaw
 
 -- ---- the neighbour law
 
--- what tokens, queues and frames decide of a session is the same in two legal histories that give the same glimpses of it
+-- what tokens, queues and frames decide of a session is the same in two legal histories that give the same glimpses
+-- of it
 abbrev pub GlimpsesDecideOutcomes : Type 0
 GlimpsesDecideOutcomes = (setup : Setup) (history history' : List Entry) → Legal setup history → Legal setup history' → (s : SessionNo)
     → glimpses setup s history ≡ glimpses setup s history' → outcomes setup s history ≡ outcomes setup s history'

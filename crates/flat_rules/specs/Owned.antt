@@ -21,7 +21,8 @@ is_private setup s (CreateViewport c pair w h inset) = false
 is_private setup s (CreateImage c buffers i w h) = owns_buffers setup s buffers
 is_private setup s _ = true
 
--- a call that is played: a view is of a pair whose view end the session owns, a viewport of one whose viewport end it owns, and an image of its buffers
+-- a call that is played: a view is of a pair whose view end the session owns, a viewport of one whose viewport end it
+-- owns, and an image of its buffers
 abbrev pub is_played_call : Setup → SessionNo → Call → Bool
 is_played_call setup s (CreateView pair) = owns_view setup s pair
 is_played_call setup s (CreateViewport c pair w h inset) = owns_viewport setup s pair
@@ -46,7 +47,8 @@ is_played_line setup s line.Poll = true
 is_played_line setup s (line.Wait c) = is_played_condition setup s c
 is_played_line setup s line.Disconnect = true
 
--- a line of the display: it names only fences of the display, declared sessions, and a pixel ratio that a display may have
+-- a line of the display: it names only fences of the display, declared sessions, and a pixel ratio that a display may
+-- have
 abbrev pub is_played_display : Setup → DisplayLine → Bool
 is_played_display setup (display.Begin time) = true
 is_played_display setup display.Done = true

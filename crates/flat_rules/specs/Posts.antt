@@ -1,5 +1,6 @@
 -- Which events an entry posts.
-use Rattle.std.specs.Prelude.{ℕ, zero, suc, ◌-◌, cond, nat_lt, List, [], ◌∷◌, ◌++◌, length, drop, map, flat_map, replicate, Option, Some, Ok}
+use Rattle.std.specs.Prelude.{ℕ, zero, suc, ◌-◌, cond, nat_lt, List, [], ◌∷◌, ◌++◌, length, drop, map, flat_map}
+use Rattle.std.specs.Prelude.{replicate, Option, Some, Ok}
 use Rattle.flat_base.specs.declared.ids.PairNo.{PairNo}
 use Rattle.flat_base.specs.declared.ids.SessionNo.{SessionNo}
 use Rattle.flat_scene.specs.declared.calls.Watch.{Watch}
@@ -11,7 +12,8 @@ use Rattle.flat_scene.specs.declared.setup.Setup.{Setup}
 use Rattle.flat_scene.specs.History.{◌▹◌, is_begin, is_finish, is_closed}
 use Rattle.flat_scene.specs.Frames.{taken, credits, sessions_to}
 use Rattle.flat_scene.specs.Draft.{empty_draft}
-use Rattle.flat_rules.specs.Ends.{to_begin, times, releases_viewport, taken_calls, viewport_uses, views_of, viewports_of}
+use Rattle.flat_rules.specs.Ends.{to_begin, times, releases_viewport, taken_calls, viewport_uses, views_of}
+use Rattle.flat_rules.specs.Ends.{viewports_of}
 use Rattle.flat_rules.specs.Watch.{Watcher, layout_of, status_of, child_of, watching, told}
 use Rattle.flat_watch.specs.Told.{answer}
 

@@ -2,7 +2,8 @@
 use Rattle.std.specs.Prelude.{Bool, true, false, not, ◌&&◌, ◌||◌, ◌==◌, unwrap_or, is_none}
 use Rattle.std.specs.List.{list_any}
 use Rattle.flat_base.specs.declared.errors.Reason.{Reason}
-use Rattle.flat_base.specs.declared.errors.Reason.TheVariants.{ZeroId, UnknownContent, WrongContent, NoView, TooManyFences}
+use Rattle.flat_base.specs.declared.errors.Reason.TheVariants.{ZeroId, UnknownContent, WrongContent, NoView}
+use Rattle.flat_base.specs.declared.errors.Reason.TheVariants.{TooManyFences}
 use Rattle.flat_base.specs.Number.{reason_number}
 use Rattle.flat_scene.specs.Draft.{Draft, made_of}
 use Rattle.flat_scene.specs.Misuse.{first_reason, is_viewport}

@@ -29,7 +29,8 @@ pub record AreTold (setup : Setup) (history : List Entry) : Type 0 where
 abbrev pub SeatsTellActors : Type 0
 SeatsTellActors = (setup : Setup) → setup.sessions ≤ SESSIONS_MAX → (history : List Entry) → Legal setup history → AreTold setup history
 
--- What an entry must meet of its session is told by the session's own entries: whether it is open and had no End, and the draft of its calls.
+-- What an entry must meet of its session is told by the session's own entries:
+-- whether it is open and had no End, and the draft of its calls.
 pub record KnowsItself (setup : Setup) (history : List Entry) (s : SessionNo) : Type 0 where
   pub closed : is_closed s history ≡ is_closed s (own s history)
   pub lasts : (kind : Kind) → goes_on history kind (Session s) ≡ goes_on (own s history) kind (Session s)

@@ -1,5 +1,6 @@
 -- The serial of the viewport that a pair's last use made, and the properties that a tree has for it.
-use Rattle.std.specs.Prelude.{◌≡◌, ℕ, ◌+◌, ◌≤◌, false, cond, ◌==◌, nat_le, List, [], ◌∷◌, ◌++◌, length, Option, Some, None}
+use Rattle.std.specs.Prelude.{◌≡◌, ℕ, ◌+◌, ◌≤◌, false, cond, ◌==◌, nat_le, List, [], ◌∷◌, ◌++◌, length, Option, Some}
+use Rattle.std.specs.Prelude.{None}
 use Rattle.flat_base.specs.declared.ids.PairNo.{PairNo}
 use Rattle.flat_base.specs.declared.ids.SessionNo.{SessionNo}
 use Rattle.flat_scene.specs.declared.calls.Call.{Call}
@@ -30,7 +31,8 @@ abbrev pub serials_in : PairNo → ℕ → List (Option PairNo) → List ℕ
 serials_in p next [] = []
 serials_in p next (made ∷ more) = cond (is_pair made p) (next ∷ serials_in p (next + 1) more) (serials_in p (next + 1) more)
 
--- This is the serial of the viewport that the last use of a pair's viewport end made: each present has it where it has so many contents.
+-- This is the serial of the viewport that the last use of a pair's viewport end made:
+-- each present has it where it has so many contents.
 pub record IsUseSerial (p : PairNo) (s : SessionNo) (history : List Entry) (serial : ℕ) : Type 0 where
   pub tells : (n : ℕ) → n ≤ length (presents s history)
       → of_serial (serials_in p 1 (contents_made (made_by s history n))) (length (viewport_uses p history)) ≡ cond (nat_le serial (length (contents_made (made_by s history n)))) (Some serial) None

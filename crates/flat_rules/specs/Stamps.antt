@@ -1,5 +1,6 @@
 -- Which presents have seen what a session's calls did: those made after it.
-use Rattle.std.specs.Prelude.{◌≡◌, ℕ, ◌≤◌, Bool, false, cond, nat_lt, nat_le, List, [], length, Option, Some, None, Ok, option_map, unwrap_or}
+use Rattle.std.specs.Prelude.{◌≡◌, ℕ, ◌≤◌, Bool, false, cond, nat_lt, nat_le, List, [], length, Option, Some, None, Ok}
+use Rattle.std.specs.Prelude.{option_map, unwrap_or}
 use Rattle.flat_base.specs.declared.ids.SessionNo.{SessionNo}
 use Rattle.flat_scene.specs.declared.calls.Call.{Call}
 use Rattle.flat_scene.specs.declared.journal.Entry.{Entry}
@@ -24,12 +25,14 @@ is_seen (Some stamp) n = nat_lt stamp n
 abbrev pub made_by : SessionNo → List Entry → ℕ → List Call
 made_by s history n = unwrap_or (option_map (λ present. present.made) (of_serial (presents s history) n)) []
 
--- A stamp tells of each present of a session whether the calls up to it pass a test. While the session is open it is the stamp of that test.
+-- A stamp tells of each present of a session whether the calls up to it pass a test.
+-- While the session is open it is the stamp of that test.
 pub record IsStamp (test : List Call → Bool) (s : SessionNo) (history : List Entry) (stamp : Option ℕ) : Type 0 where
   pub tells : (n : ℕ) → n ≤ length (presents s history) → test (made_by s history n) ≡ is_seen stamp n
   pub opened : is_closed s history ≡ false → stamp ≡ first_at test s history
 
--- a stamp after an entry of the session, which made so many presents before: it is set where the entry does it, and it wasn't set
+-- a stamp after an entry of the session, which made so many presents before:
+-- it is set where the entry does it, and it wasn't set
 abbrev pub stamp_then : Option ℕ → Bool → ℕ → Option ℕ
 stamp_then stamp does_it presents = option_or stamp (cond does_it (Some presents) None)
 

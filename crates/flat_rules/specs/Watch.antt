@@ -1,5 +1,6 @@
 -- What the watchers tell, and when a hanging get is answered.
-use Rattle.std.specs.Prelude.{ℕ, ◌*◌, ◌/◌, max, Bool, true, false, cond, not, ◌&&◌, ◌==◌, nat_lt, List, [], ◌++◌, length, Option, Some, None, option_map, option_and_then, unwrap_or}
+use Rattle.std.specs.Prelude.{ℕ, ◌*◌, ◌/◌, max, Bool, true, false, cond, not, ◌&&◌, ◌==◌, nat_lt, List, [], ◌++◌}
+use Rattle.std.specs.Prelude.{length, Option, Some, None, option_map, option_and_then, unwrap_or}
 use Rattle.flat_base.specs.declared.ids.Actor.{Actor}
 use Rattle.flat_base.specs.declared.ids.Actor.TheVariants.{Display, Session}
 use Rattle.flat_base.specs.declared.ids.PairNo.{PairNo}
@@ -23,7 +24,8 @@ use Rattle.flat_base.specs.declared.limits.TheConstants.{ONE}
 use Rattle.std.specs.Result.{result_ok}
 use Rattle.flat_watch.specs.Told.{Watching, asking, settled}
 use Rattle.std.specs.Option.{option_or}
-use Rattle.flat_rules.specs.Ends.{view_uses, viewport_uses, to_begin, to_finished, props_of, viewport_owner, view_owner, taken_calls, is_viewport_lost, is_view_lost}
+use Rattle.flat_rules.specs.Ends.{view_uses, viewport_uses, to_begin, to_finished, props_of, viewport_owner, view_owner}
+use Rattle.flat_rules.specs.Ends.{taken_calls, is_viewport_lost, is_view_lost}
 
 -- What a get watches: the layout or the status of a pair's view, or the child of the n-th use of its viewport end.
 pub data Watcher : Type 0 where

@@ -1,5 +1,6 @@
 -- What a call of the service answers, writes and shows.
-use Rattle.std.specs.Prelude.{◌≡◌, ◌≢◌, ◌⊎◌, ⊤, ℕ, ◌*◌, ◌<◌, Bool, ◌||◌, true, false, List, [], ◌∷◌, ◌++◌, length, map, Option, Some, Ok, Err, codes}
+use Rattle.std.specs.Prelude.{◌≡◌, ◌≢◌, ◌⊎◌, ⊤, ℕ, ◌*◌, ◌<◌, Bool, ◌||◌, true, false, List, [], ◌∷◌, ◌++◌, length}
+use Rattle.std.specs.Prelude.{Option, Some, Ok, Err, codes}
 use Rattle.flat_io.specs.Counts.{has_risen}
 use Rattle.flat_io.specs.Told.{WhereTold, Appends}
 use Rattle.flat_io.specs.Whole.{AppendsPrefix}
@@ -28,7 +29,6 @@ use Rattle.flat_run.specs.declared.given.TheConstants.{FILM_PIXELS_MAX}
 use Rattle.flat_run.specs.declared.reading.Reading.{Reading}
 use Rattle.flat_run.specs.Judging.{IsJudged, fault_line}
 use Rattle.flat_run.specs.Forms.{is_read, form_read, pixels, Fits, Ran, AreAsked, IsTextOf}
-use Rattle.flat_places.specs.Kinds.{number}
 
 -- ---- the words
 

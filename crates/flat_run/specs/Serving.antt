@@ -6,7 +6,8 @@ use Rattle.flat_display.specs.Had.{AreKept}
 use Rattle.flat_scene.specs.declared.frames.FrameOut.{FrameOut}
 use Rattle.flat_words.specs.declared.form.Form.{Form}
 use Rattle.flat_words.specs.Forms.{CallFor}
-use Rattle.flat_run.specs.Promise.{AreFramesFor, AreGiven, CallForNothing, Gives, IsCutOff, IsThere, IsTooLarge, IsWhole}
+use Rattle.flat_run.specs.Promise.{AreFramesFor, AreGiven, CallForNothing, Gives, IsCutOff, IsThere, IsTooLarge}
+use Rattle.flat_run.specs.Promise.{IsWhole}
 use Rattle.flat_run.specs.Promise.{either_rose}
 
 -- What is known of a source: the bytes that it has left, where it tells them, and how many of its reads failed.

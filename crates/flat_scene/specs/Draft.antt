@@ -15,7 +15,8 @@ use Rattle.flat_scene.specs.declared.calls.Inset.{Inset}
 use Rattle.flat_scene.specs.declared.calls.BlendMode.{BlendMode}
 use Rattle.flat_scene.specs.declared.calls.ViewportProps.{ViewportProps}
 
--- A transform. Its content and its children are serial numbers. Where no hit call was made on it, it has no list of regions.
+-- A transform. Its content and its children are serial numbers.
+-- Where no hit call was made on it, it has no list of regions.
 pub record Transform : Type 0 where
   pub scale : ℕ × ℕ
   pub turn : Orientation
@@ -57,7 +58,8 @@ pub record Name : Type 0 where
   pub id : ℕ
   pub serial : ℕ
 
--- The n-th transform that a session made has the serial number n, and so has the n-th content. None is ever taken away; names come and go.
+-- The n-th transform that a session made has the serial number n, and so has the n-th content.
+-- None is ever taken away; names come and go.
 pub record Draft : Type 0 where
   pub transforms : List Transform
   pub contents : List Made

@@ -1,5 +1,6 @@
 -- What a call that is no misuse does to the draft.
-use Rattle.std.specs.Prelude.{Bool, false, option_to_list, ℕ, pos, ◌+◌, cond, not, ◌==◌, List, [], ◌∷◌, ◌++◌, length, filter, filter_map, map, Option, Some, None, Result, Ok, Err, unwrap_or}
+use Rattle.std.specs.Prelude.{Bool, false, option_to_list, ℕ, pos, ◌+◌, cond, not, ◌==◌, List, [], ◌∷◌, ◌++◌, length}
+use Rattle.std.specs.Prelude.{filter, filter_map, map, Option, Some, None, Result, Ok, Err, unwrap_or}
 use Rattle.flat_base.specs.declared.ids.TransformId.{TransformId}
 use Rattle.flat_base.specs.declared.ids.ContentId.{ContentId}
 use Rattle.flat_base.specs.declared.errors.Reason.{Reason}
@@ -9,9 +10,18 @@ use Rattle.flat_scene.specs.declared.calls.ImageFlip.TheVariants.{Plain}
 use Rattle.flat_scene.specs.declared.calls.ViewportProps.{ViewportProps}
 use Rattle.flat_base.specs.declared.ids.BufferNo.{BufferNo}
 use Rattle.flat_scene.specs.declared.calls.Call.{Call}
-use Rattle.flat_scene.specs.declared.calls.Call.TheVariants.{CreateView, ReleaseView, CreateTransform, ReleaseTransform, SetTranslation, SetOrientation, SetScale, SetOpacity, SetClipBoundary, AddChild, RemoveChild, ReplaceChildren, SetRootTransform, CreateViewport, SetViewportProperties, ReleaseViewport, CreateImage, SetImageSampleRegion, SetImageDestinationSize, SetImageBlendingFunction, SetImageFlip, SetImageOpacity, ReleaseImage, CreateFilledRect, SetSolidFill, ReleaseFilledRect, SetHitRegions, SetInfiniteHitRegion, SetContent, Clear}
+use Rattle.flat_scene.specs.declared.calls.Call.TheVariants.{CreateView, ReleaseView, CreateTransform, ReleaseTransform}
+use Rattle.flat_scene.specs.declared.calls.Call.TheVariants.{SetTranslation, SetOrientation, SetScale, SetOpacity}
+use Rattle.flat_scene.specs.declared.calls.Call.TheVariants.{SetClipBoundary, AddChild, RemoveChild, ReplaceChildren}
+use Rattle.flat_scene.specs.declared.calls.Call.TheVariants.{SetRootTransform, CreateViewport, SetViewportProperties}
+use Rattle.flat_scene.specs.declared.calls.Call.TheVariants.{ReleaseViewport, CreateImage, SetImageSampleRegion}
+use Rattle.flat_scene.specs.declared.calls.Call.TheVariants.{SetImageDestinationSize, SetImageBlendingFunction}
+use Rattle.flat_scene.specs.declared.calls.Call.TheVariants.{SetImageFlip, SetImageOpacity, ReleaseImage}
+use Rattle.flat_scene.specs.declared.calls.Call.TheVariants.{CreateFilledRect, SetSolidFill, ReleaseFilledRect}
+use Rattle.flat_scene.specs.declared.calls.Call.TheVariants.{SetHitRegions, SetInfiniteHitRegion, SetContent, Clear}
 use Rattle.flat_scene.specs.declared.setup.Setup.{Setup}
-use Rattle.flat_scene.specs.Draft.{Draft, Transform, Image, Solid, Made, an_image, a_fill, a_viewport, new_transform, empty_draft, changed_at, without_name, transform_of, content_of}
+use Rattle.flat_scene.specs.Draft.{Draft, Transform, Image, Solid, Made, an_image, a_fill, a_viewport, new_transform}
+use Rattle.flat_scene.specs.Draft.{empty_draft, changed_at, without_name, transform_of, content_of}
 use Rattle.flat_scene.specs.Misuse.{misuse}
 
 -- the list with the item of a serial changed, where there is that serial

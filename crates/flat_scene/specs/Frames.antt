@@ -1,5 +1,6 @@
 -- What frames take and release.
-use Rattle.std.specs.Prelude.{ℕ, zero, suc, ◌+◌, ◌-◌, Bool, false, cond, ◌&&◌, ◌||◌, ◌==◌, nat_le, List, [], ◌∷◌, ◌++◌, length, drop, take_while, Option, Some, None, unwrap_or}
+use Rattle.std.specs.Prelude.{ℕ, zero, suc, ◌+◌, ◌-◌, Bool, false, cond, ◌&&◌, ◌||◌, ◌==◌, nat_le, List, [], ◌∷◌, ◌++◌}
+use Rattle.std.specs.Prelude.{length, drop, take_while, Option, Some, None, unwrap_or}
 use Rattle.std.specs.List.{list_any, list_all}
 use Rattle.flat_base.specs.declared.ids.SessionNo.{SessionNo}
 use Rattle.flat_base.specs.declared.ids.FenceNo.{FenceNo}
@@ -38,7 +39,8 @@ up_to_first test (x ∷ xs) = x ∷ cond (test x) [] (up_to_first test xs)
 abbrev pub is_unsquashable : Published → Bool
 is_unsquashable present = present.args.unsquashable
 
--- What a frame takes of the presents that wait: all before the first one that isn't ready, and none after the first unsquashable one.
+-- What a frame takes of the presents that wait:
+-- all before the first one that isn't ready, and none after the first unsquashable one.
 abbrev pub ready_prefix : ℕ → (FenceNo → Bool) → List Published → List Published
 ready_prefix time is_signalled waiting = up_to_first is_unsquashable (ready_run time is_signalled waiting)
 
@@ -47,7 +49,8 @@ abbrev pub takes : Kind → (FenceNo → Bool) → Bool → List Published → L
 takes (Begin time) is_signalled closed waiting = cond closed [] (ready_prefix time is_signalled waiting)
 takes _ is_signalled closed waiting = []
 
--- What the end of the frame begun last lets go of a session: at a Begin it is what that takes, or all that waits of a session closed before.
+-- What the end of the frame begun last lets go of a session:
+-- at a Begin it is what that takes, or all that waits of a session closed before.
 abbrev pub lets_go : Kind → (FenceNo → Bool) → Bool → List Published → List Published → List Published
 lets_go (Begin time) is_signalled closed waiting going = cond closed waiting (ready_prefix time is_signalled waiting)
 lets_go _ is_signalled closed waiting going = going

@@ -3,7 +3,8 @@ use Rattle.std.specs.Prelude.{Bool, false, true, ◌&&◌, ◌==◌, nat_lt, nat
 use Rattle.std.specs.List.{list_all}
 use Rattle.flat_base.specs.declared.ids.Actor.{Actor}
 use Rattle.flat_base.specs.declared.ids.Actor.TheVariants.{Display, Session, Probe}
-use Rattle.flat_base.specs.declared.limits.TheConstants.{SIDE_MAX, SESSIONS_MAX, PROBES_MAX, PAIRS_MAX, BUFFER_COLLECTIONS_MAX, BUFFERS_PER_COLLECTION_MAX, FENCES_MAX}
+use Rattle.flat_base.specs.declared.limits.TheConstants.{SIDE_MAX, SESSIONS_MAX, PROBES_MAX, PAIRS_MAX}
+use Rattle.flat_base.specs.declared.limits.TheConstants.{BUFFER_COLLECTIONS_MAX, BUFFERS_PER_COLLECTION_MAX, FENCES_MAX}
 use Rattle.flat_scene.specs.declared.setup.BufferDecl.{BufferDecl}
 use Rattle.flat_scene.specs.declared.setup.FenceDecl.{FenceDecl}
 use Rattle.flat_scene.specs.declared.setup.PairDecl.{PairDecl}

@@ -1,7 +1,8 @@
 -- what holds of every history and of every draft, in the words of the rules
-use Rattle.std.specs.Prelude.{◌≡◌, ◌↔◌, ℕ, ◌-◌, ◌≤◌, Bool, true, false, not, ◌&&◌, IfSome, List, [], ◌∷◌, ◌++◌, length, drop, slice_get, Option, Some}
+use Rattle.std.specs.Prelude.{◌≡◌, ◌↔◌, ℕ, ◌-◌, ◌≤◌, Bool, true, false, not, ◌&&◌, IfSome, List, [], ◌∷◌, ◌++◌, length}
+use Rattle.std.specs.Prelude.{drop, slice_get, Some}
 use Rattle.std.specs.List.{list_all, list_any}
-use Rattle.std.specs.Option.{option_and_then, option_map}
+use Rattle.std.specs.Option.{option_and_then}
 use Rattle.flat_base.specs.declared.ids.FenceNo.{FenceNo}
 use Rattle.flat_base.specs.declared.ids.SessionNo.{SessionNo}
 use Rattle.flat_scene.specs.declared.journal.Entry.{Entry}
@@ -31,7 +32,8 @@ pub record TakesInOrder (setup : Setup) (before : List Entry) (entry : Entry) (s
 abbrev pub TakenStays : Type 0
 TakenStays = (setup : Setup) (before : List Entry) (entry : Entry) (s : SessionNo) → TakesInOrder setup before entry s
 
--- A list of presents begins with these, each of them is ready, and none but the last is unsquashable. The next one isn't ready, or follows an unsquashable one.
+-- A list of presents begins with these, each of them is ready, and none but the last is unsquashable.
+-- The next one isn't ready, or follows an unsquashable one.
 pub record IsLongestReady (time : ℕ) (is_signalled : FenceNo → Bool) (waiting prefix : List Published) : Type 0 where
   pub begins : waiting ≡ prefix ++ drop (length prefix) waiting
   pub ready : list_all (λ present. is_ready time is_signalled present.args) prefix ≡ true

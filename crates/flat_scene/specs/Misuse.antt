@@ -1,5 +1,6 @@
 -- When a call is a misuse, and by which reason. That a token isn't held is decided elsewhere.
-use Rattle.std.specs.Prelude.{ℕ, ℤ, pos, ◌+ℤ◌, ◌-◌, ◌^◌, int_lt, Bool, true, false, cond, not, ◌&&◌, ◌||◌, ◌==◌, nat_lt, nat_le, List, [], ◌∷◌, ◌++◌, length, map, Option, Some, None, is_some, is_none, slice_get}
+use Rattle.std.specs.Prelude.{ℕ, ℤ, pos, ◌+ℤ◌, ◌-◌, ◌^◌, int_lt, Bool, true, false, cond, not, ◌&&◌, ◌||◌, ◌==◌, nat_lt}
+use Rattle.std.specs.Prelude.{nat_le, List, [], ◌∷◌, ◌++◌, length, map, Option, Some, None, is_some, is_none, slice_get}
 use Rattle.std.specs.Option.{option_and_then, option_map, unwrap_or}
 use Rattle.std.specs.List.{list_any}
 use Rattle.std.specs.Int.{is_negative}
@@ -7,13 +8,26 @@ use Rattle.flat_base.specs.declared.shapes.IntRect.{IntRect}
 use Rattle.flat_base.specs.declared.ids.TransformId.{TransformId}
 use Rattle.flat_base.specs.declared.ids.ContentId.{ContentId}
 use Rattle.flat_base.specs.declared.errors.Reason.{Reason}
-use Rattle.flat_base.specs.declared.errors.Reason.TheVariants.{ZeroId, IdInUse, UnknownTransform, UnknownContent, WrongContent, AlreadyChild, NotChild, BadScale, BadOpacity, BadRect, BadSize, BadBuffer, TooManyRegions, HasView, NoView, TooManyNamed, TooManyChildren}
-use Rattle.flat_base.specs.declared.limits.TheConstants.{SIDE_MAX, SCALE_MAX, OPACITY_MAX, NAMED_MAX, CHILDREN_MAX, HIT_REGIONS_MAX}
+use Rattle.flat_base.specs.declared.errors.Reason.TheVariants.{ZeroId, IdInUse, UnknownTransform, UnknownContent}
+use Rattle.flat_base.specs.declared.errors.Reason.TheVariants.{WrongContent, AlreadyChild, NotChild, BadScale}
+use Rattle.flat_base.specs.declared.errors.Reason.TheVariants.{BadOpacity, BadRect, BadSize, BadBuffer, TooManyRegions}
+use Rattle.flat_base.specs.declared.errors.Reason.TheVariants.{HasView, NoView, TooManyNamed, TooManyChildren}
+use Rattle.flat_base.specs.declared.limits.TheConstants.{SIDE_MAX, SCALE_MAX, OPACITY_MAX, NAMED_MAX, CHILDREN_MAX}
+use Rattle.flat_base.specs.declared.limits.TheConstants.{HIT_REGIONS_MAX}
 use Rattle.flat_scene.specs.declared.calls.Call.{Call}
-use Rattle.flat_scene.specs.declared.calls.Call.TheVariants.{CreateView, ReleaseView, CreateTransform, ReleaseTransform, SetTranslation, SetOrientation, SetScale, SetOpacity, SetClipBoundary, AddChild, RemoveChild, ReplaceChildren, SetRootTransform, CreateViewport, SetViewportProperties, ReleaseViewport, CreateImage, SetImageSampleRegion, SetImageDestinationSize, SetImageBlendingFunction, SetImageFlip, SetImageOpacity, ReleaseImage, CreateFilledRect, SetSolidFill, ReleaseFilledRect, SetHitRegions, SetInfiniteHitRegion, SetContent, Clear}
+use Rattle.flat_scene.specs.declared.calls.Call.TheVariants.{CreateView, ReleaseView, CreateTransform, ReleaseTransform}
+use Rattle.flat_scene.specs.declared.calls.Call.TheVariants.{SetTranslation, SetOrientation, SetScale, SetOpacity}
+use Rattle.flat_scene.specs.declared.calls.Call.TheVariants.{SetClipBoundary, AddChild, RemoveChild, ReplaceChildren}
+use Rattle.flat_scene.specs.declared.calls.Call.TheVariants.{SetRootTransform, CreateViewport, SetViewportProperties}
+use Rattle.flat_scene.specs.declared.calls.Call.TheVariants.{ReleaseViewport, CreateImage, SetImageSampleRegion}
+use Rattle.flat_scene.specs.declared.calls.Call.TheVariants.{SetImageDestinationSize, SetImageBlendingFunction}
+use Rattle.flat_scene.specs.declared.calls.Call.TheVariants.{SetImageFlip, SetImageOpacity, ReleaseImage}
+use Rattle.flat_scene.specs.declared.calls.Call.TheVariants.{CreateFilledRect, SetSolidFill, ReleaseFilledRect}
+use Rattle.flat_scene.specs.declared.calls.Call.TheVariants.{SetHitRegions, SetInfiniteHitRegion, SetContent, Clear}
 use Rattle.flat_scene.specs.declared.setup.Setup.{Setup}
 use Rattle.flat_scene.specs.declared.setup.BufferDecl.{BufferDecl}
-use Rattle.flat_scene.specs.Draft.{Draft, Made, an_image, a_fill, a_viewport, of_serial, transform_of, content_of, made_of}
+use Rattle.flat_scene.specs.Draft.{Draft, Made, an_image, a_fill, a_viewport, of_serial, transform_of, content_of}
+use Rattle.flat_scene.specs.Draft.{made_of}
 
 -- What may be wrong, and the reason for it.
 abbrev pub Test : Type 0

@@ -6,7 +6,8 @@ use Rattle.flat_scene.specs.declared.calls.HitRegion.{HitRegion}
 use Rattle.flat_scene.specs.declared.trees.Content.{Content}
 use Rattle.flat_scene.specs.declared.trees.Content.TheVariants as content
 use Rattle.flat_scene.specs.declared.trees.Node.{Node}
-use Rattle.flat_scene.specs.declared.trees.Children.{Children, More', more_of-Node, end_of-Node, more_of-Children, end_of-Children}
+use Rattle.flat_scene.specs.declared.trees.Children.{Children, More', more_of-Node, end_of-Node, more_of-Children}
+use Rattle.flat_scene.specs.declared.trees.Children.{end_of-Children}
 use Rattle.flat_scene.specs.declared.trees.Children.TheVariants.{Empty}
 
 -- children that begin with a node of these fields
@@ -18,7 +19,8 @@ first serial scale turn place clip opacity hits content children rest =
 abbrev pub more : Node → Children → Children
 more n rest = first n.serial n.scale n.turn n.place n.clip n.opacity n.hits n.content n.children rest
 
--- A function of all nodes: `step node below after`, where `below` and `after` are its values for the node's children and for the nodes after it.
+-- A function of all nodes: `step node below after`, where `below` and `after` are its values for the node's children
+-- and for the nodes after it.
 abbrev pub fold_nodes : {A : Type 0} → (Node → A → A → A) → A → Children → A
 fold_nodes step empty Empty = empty
 fold_nodes step empty (first serial scale turn place clip opacity hits content children rest) =

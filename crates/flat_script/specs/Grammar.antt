@@ -1,5 +1,6 @@
 -- The script that a text has, or the first line with a fault and its lowest kind.
-use Rattle.std.specs.Prelude.{◌≡◌, ℕ, ◌+◌, ◌-◌, ◌==◌, ◌||◌, slice_index, nat_le, nat_lt, Bool, not, ◌&&◌, List, [], ◌∷◌, length, Result, Ok, Err, if◌then◌else◌}
+use Rattle.std.specs.Prelude.{◌≡◌, ℕ, ◌+◌, ◌-◌, ◌==◌, ◌||◌, slice_index, nat_le, nat_lt, Bool, not, ◌&&◌, List, [], ◌∷◌}
+use Rattle.std.specs.Prelude.{length, Result, Ok, Err, if◌then◌else◌}
 use Rattle.std.specs.List.{list_all}
 use Rattle.flat_text.specs.Pieces.{lines_of, words_of}
 use Rattle.flat_base.specs.declared.limits.TheConstants.{LINE_BYTES_MAX, SCRIPT_BYTES_MAX}
@@ -41,7 +42,8 @@ lines_read n sofar (line ∷ lines) = go_on (line_read n sofar line) n (λ next.
     go_on (Ok next) n rest = rest next
     go_on (Err k) n rest = Err (record { line = n; kind = k })
 
--- The script of a text, or its fault; a text that is too long is at fault as a whole. It is the one or the other: so each text
+-- The script of a text, or its fault; a text that is too long is at fault as a whole. It is the one or the other:
+-- so each text
 -- has a script or a fault, and none has both.
 abbrev pub text_read : List ℕ → Result Script ScriptFault
 text_read bytes =

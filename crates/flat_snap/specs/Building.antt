@@ -10,7 +10,8 @@ pub record Opened : Type 0 where
   pub node : Node
   pub before : Children
 
--- How many nodes more may be entered, the open nodes from the innermost to the root, and the closed children of the innermost.
+-- How many nodes more may be entered, the open nodes from the innermost to the root, and the closed children of the
+-- innermost.
 -- Where no node is open, these are the roots.
 pub record Building : Type 0 where
   pub room : ℕ

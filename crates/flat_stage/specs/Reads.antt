@@ -1,5 +1,6 @@
 -- How a session stands between two of its lines, and what a line does.
-use Rattle.std.specs.Prelude.{◌≡◌, ℕ, ◌+◌, ◌-◌, Bool, true, false, ◌&&◌, ◌⊎◌, List, [], ◌∷◌, ◌++◌, length, take, Option, Some, None, Ok, option_map, is_some, unwrap_or}
+use Rattle.std.specs.Prelude.{◌≡◌, ℕ, ◌+◌, ◌-◌, Bool, true, false, ◌&&◌, ◌⊎◌, List, [], ◌∷◌, ◌++◌, length, take, Option}
+use Rattle.std.specs.Prelude.{Some, None, Ok, option_map, is_some, unwrap_or}
 use Rattle.std.specs.Arc.{arc_value}
 use Rattle.std.specs.List.{list_any, list_all}
 use Rattle.std.specs.Result.{result_ok}
@@ -78,7 +79,8 @@ viewport_call _ = None
 abbrev pub IsLast : List Call → List Call → Call → Type 0
 IsLast before pending call = pending ≡ before ++ call ∷ []
 
--- What a session's calls and its draft are when it is about to make its entry: those that waited, and at the entry of a call that call. A viewport's call is still to be made of the draft, which has the room for it.
+-- What a session's calls and its draft are when it is about to make its entry: those that waited, and at the entry of
+-- a call that call. A viewport's call is still to be made of the draft, which has the room for it.
 module _ (setup : Setup) (s : SessionNo) (draft : Draft) (before pending : List Call) (after : DraftState) where
   abbrev pub IsPrepared : Made → Type 0
   IsPrepared (made.View pair) =
@@ -124,12 +126,14 @@ abbrev pub Leaves : Setup → SessionNo → Draft → Line → List Call → Lis
 Leaves setup s draft text before pending after None = IsNoMisuse setup draft text × StandsFor setup after (after_line draft text) × (after.closed ≡ false)
 Leaves setup s draft text before pending after (Some made) = IsPrepared setup s draft before pending after made
 
--- What a session's draft tells of a line: the entry of the rules or none, and what is left of the draft, whichever calls waited.
+-- What a session's draft tells of a line: the entry of the rules or none, and what is left of the draft, whichever
+-- calls waited.
 pub record Tells (setup : Setup) (s : SessionNo) (draft : Draft) (text : Line) (after : DraftState) (made : Option Made) : Type 0 where
   pub kind : option_map kind_of made ≡ entry_of_line setup draft text
   pub leaves : (waiting : List Call) → Leaves setup s draft text waiting (waiting ++ calls_of_line text) after made
 
--- What came of a line that may make no entry. If it makes none, its call waits; else it comes back, and nothing changed.
+-- What came of a line that may make no entry. If it makes none, its call waits;
+-- else it comes back, and nothing changed.
 abbrev pub Edits : Setup → Draft → Line → Reader → Reader → Edit → Type 0
 Edits setup draft text old new (Read reply) =
     (reply ≡ Done) × (new ≡ with_line text old new.draft) × Tells setup old.session draft text new.draft None

@@ -1,4 +1,5 @@
-ghost use Rattle.std.specs.Prelude.{◌≡◌, ◌+◌, ◌-◌, ◌<◌, ◌≢◌, ◌^◌, [], ◌∷◌, ◌++◌, true, false, length, slice_get, take, Some, None, IfOk, IfErr, OnErr, IsTrue, IfSome};
+ghost use Rattle.std.specs.Prelude.{◌≡◌, ◌+◌, ◌-◌, ◌<◌, ◌≢◌, ◌^◌, [], ◌∷◌, ◌++◌, true, false, length, slice_get, take};
+ghost use Rattle.std.specs.Prelude.{Some, None, IfOk, IfErr, OnErr, IsTrue, IfSome};
 ghost use Rattle.flat_base.specs.Last.{last_item};
 ghost use Rattle.flat_base.specs.declared.ids.Actor.TheVariants.{Session};
 ghost use Rattle.flat_scene.specs.declared.script.Line.TheVariants as line;
@@ -16,7 +17,8 @@ ghost use Rattle.flat_scene.specs.Setups.{is_declared};
 ghost use Rattle.flat_scene.specs.Heads.{is_setup};
 ghost use Rattle.flat_rules.specs.Owned.{is_played_line};
 ghost use Rattle.flat_stage.specs.Made.{kind_of, takes_memory};
-ghost use Rattle.flat_stage.specs.Reads.{HasDraft, IsNew, Stands, IsReady, Tells, Enters, Reads, kept_calls, with_line, viewport_call, CanMake, Edits, IsMade};
+ghost use Rattle.flat_stage.specs.Reads.{HasDraft, IsNew, Stands, IsReady, Tells, Enters, Reads, kept_calls, with_line};
+ghost use Rattle.flat_stage.specs.Reads.{viewport_call, CanMake, Edits, IsMade};
 
 use crate::judging::{asked, called, presented};
 use crate::made::Made;

@@ -12,7 +12,8 @@ ghost use Rattle.flat_stage.specs.Reads.{kept_calls, viewport_call, IsReady};
 ghost use Rattle.flat_scene.specs.Journals.{history_of};
 ghost use Rattle.flat_scene.specs.Interleave.{IsReading};
 ghost use Rattle.flat_scene.specs.Setups.{is_declared};
-ghost use Rattle.flat_stage.specs.Seats.{is_ended, entries_of_seat, session_view, setup_of, AreAtOne, AreOne, GoesOn, HasRoom, SeatSeesMore, SessionEnds, SessionEnters, SessionReads, SeesMore};
+ghost use Rattle.flat_stage.specs.Seats.{is_ended, entries_of_seat, session_view, setup_of, AreAtOne, AreOne, GoesOn};
+ghost use Rattle.flat_stage.specs.Seats.{HasRoom, SeatSeesMore, SessionEnds, SessionEnters, SessionReads, SeesMore};
 
 use crate::made::Made;
 use crate::reader::{Edit, Reader};

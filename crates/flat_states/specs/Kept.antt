@@ -1,5 +1,6 @@
 -- How what is kept of a session stands for what the rules say.
-use Rattle.std.specs.Prelude.{◌≡◌, ℕ, ◌+◌, ◌-◌, ◌==◌, cond, ◌<◌, ◌≤◌, true, false, List, [], length, map, All, Option, Some, vec_capacity}
+use Rattle.std.specs.Prelude.{◌≡◌, ℕ, ◌+◌, ◌-◌, ◌==◌, cond, ◌<◌, ◌≤◌, true, false, List, [], length, map, All, Option}
+use Rattle.std.specs.Prelude.{Some, vec_capacity}
 use Rattle.std.specs.Arc.{arc_value}
 use Rattle.std.specs.declared.sync.Arc.{Arc}
 use Rattle.std.specs.declared.alloc.Global.{Global}
@@ -30,7 +31,8 @@ release_of present = present.args.release
 abbrev pub Below : ℕ → List FenceNo → Type 0
 Below n = All (λ f. f.0 < n)
 
--- What is kept of a session stands for what is seen of it. Once what waited when it was closed was let go, its queue is empty.
+-- What is kept of a session stands for what is seen of it.
+-- Once what waited when it was closed was let go, its queue is empty.
 pub record IsKept (setup : Setup) (seen : Seen) (state : SessionState) : Type 0 where
   pub closed : state.closed ≡ seen.closed
   pub account : state.account ≡ seen.account

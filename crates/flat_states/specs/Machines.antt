@@ -1,5 +1,6 @@
 -- The board as contracts see it, what its calls ask for, and what is kept of it.
-use Rattle.std.specs.Prelude.{◌≡◌, IsTrue, ℕ, ◌+◌, ◌*◌, ◌<◌, ◌≤◌, ◌^◌, Bool, cond, ◌==◌, nat_lt, List, ◌++◌, length, count_by, sum, slice_index, unwrap_or}
+use Rattle.std.specs.Prelude.{◌≡◌, IsTrue, ℕ, ◌+◌, ◌*◌, ◌<◌, ◌≤◌, ◌^◌, Bool, cond, ◌==◌, nat_lt, List, ◌++◌, length}
+use Rattle.std.specs.Prelude.{count_by, sum, slice_index, unwrap_or}
 use Rattle.flat_base.specs.declared.ids.Actor.{Actor}
 use Rattle.flat_base.specs.declared.ids.FenceNo.{FenceNo}
 use Rattle.flat_base.specs.declared.ids.PairNo.{PairNo}
@@ -93,7 +94,8 @@ pub record Stands (setup : Setup) (history : List Entry) (clock : Clock) (fences
   pub count : length sessions ≡ setup.sessions
   pub each : AllNumbered (λ i. IsKept setup (seen_of setup history (number i))) sessions
 
--- Room for all entries that the shares allow, and for all events that may still be posted, so many. No entry has more than two of these.
+-- Room for all entries that the shares allow, and for all events that may still be posted, so many.
+-- No entry has more than two of these.
 pub record HasRoom (setup : Setup) (shares : List ℕ) (log : Logged) (owed dues : ℕ) : Type 0 where
   pub limits : IsTrue (is_within_limits setup)
   pub actors : length shares ≡ setup.sessions + 1

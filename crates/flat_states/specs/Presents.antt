@@ -1,5 +1,6 @@
 -- what a present does to what is kept of its session
-use Rattle.std.specs.Prelude.{◌≡◌, ◌<◌, ◌≤◌, Bool, false, List, [], vec_capacity, ℕ, ◌+◌, ◌-◌, true, cond, nat_lt, length, drop, map, Some, None, Option}
+use Rattle.std.specs.Prelude.{◌≡◌, ◌<◌, ◌≤◌, Bool, false, List, [], vec_capacity, ℕ, ◌+◌, ◌-◌, true, cond, nat_lt}
+use Rattle.std.specs.Prelude.{length, drop, map, Some, None, Option}
 use Rattle.std.specs.declared.alloc.Global.{Global}
 use Rattle.std.specs.declared.sync.Arc.{Arc}
 use Rattle.flat_base.specs.declared.errors.FlatlandError.TheVariants.{BadOperation, NoPresentsRemaining}
@@ -51,7 +52,8 @@ pub record IsNew (state : SessionState) : Type 0 where
   pub let_go : state.let_go ≡ false
   pub account : state.account ≡ record { presents = 0; polled = 0; view = None }
 
--- what a frame takes of what is kept: all before the first present that isn't ready, and none after the first unsquashable one
+-- what a frame takes of what is kept: all before the first present that isn't ready, and none after the first
+-- unsquashable one
 abbrev pub frame_takes : {T : Type 0} → ℕ → (FenceNo → Bool) → List (WaitingPresent T) → List (WaitingPresent T)
 frame_takes time is_signalled waiting = up_to_first (λ kept. kept.args.unsquashable) (ready_of time is_signalled waiting)
 
@@ -85,7 +87,8 @@ abbrev pub use_reply : Bool → Reply
 use_reply true = Done
 use_reply false = refused_token
 
--- what the reply to an entry decides of what is kept of its session: it is closed, made one more present, or has that view
+-- what the reply to an entry decides of what is kept of its session:
+-- it is closed, made one more present, or has that view
 abbrev pub after_reply : Kind → Reply → SessionState → SessionState
 after_reply (Present args) (Presented number credits) state = record state { account = record state.account { presents = number } }
 after_reply (View p) Done state = record state { account = record state.account { view = Some p } }

@@ -1,4 +1,5 @@
--- The load: a host session shows seven guests in viewports of its own, each guest shows 32 small fills, and in each later frame everything moves a little.
+-- The load: a host session shows seven guests in viewports of its own, each guest shows 32 small fills, and in each
+-- later frame everything moves a little.
 use Rattle.std.specs.Prelude.{ℕ, ◌+◌, ◌*◌, ◌%◌, List, [], ◌∷◌, ◌++◌, map, codes}
 use Rattle.std.specs.List.{flat_map}
 use Rattle.flat_stress.specs.Words.{session, pair, from_to}

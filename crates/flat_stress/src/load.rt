@@ -2,7 +2,8 @@ ghost use Rattle.std.specs.Prelude.{◌≡◌, ℕ, ◌+◌, ◌*◌, ◌%◌, �
 ghost use Rattle.std.specs.List.{flat_map};
 ghost use Rattle.flat_stress.specs.Words.{session, pair, from_to};
 ghost use Rattle.flat_page.specs.Words.{number, text_of};
-ghost use Rattle.flat_stress.specs.Load.{head, opening, node, move, fill, viewport, present, host, guest, frame, later, load, load_text};
+ghost use Rattle.flat_stress.specs.Load.{head, opening, node, move, fill, viewport, present, host, guest, frame, later};
+ghost use Rattle.flat_stress.specs.Load.{load, load_text};
 
 use crate::page::{Word, push_lines};
 use Word::{Number, Pair, Session, Text};

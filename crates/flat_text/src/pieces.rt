@@ -1,4 +1,5 @@
-ghost use Rattle.std.specs.Prelude.{◌≡◌, ◌==◌, ◌<◌, ◌≤◌, ◌↔◌, ◌∷◌, ◌++◌, [], MatchOption, length, slice_get, option_map, IfSome, IsNone};
+ghost use Rattle.std.specs.Prelude.{◌≡◌, ◌==◌, ◌<◌, ◌≤◌, ◌↔◌, ◌∷◌, ◌++◌, [], MatchOption, length, slice_get};
+ghost use Rattle.std.specs.Prelude.{option_map, IfSome, IsNone};
 ghost use Rattle.std.specs.List.{position_or_len, before_first, after_first, slice_split};
 ghost use Rattle.flat_text.specs.Pieces.{is_feed, lines_of, words_of};
 ghost use Rattle.flat_text.specs.Left.{pieces_left};

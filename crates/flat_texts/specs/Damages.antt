@@ -2,7 +2,6 @@
 use Rattle.std.specs.Prelude.{◌≡◌, ℕ, List, [], ◌∷◌, ◌++◌, length, map, codes}
 use Rattle.std.specs.List.{flat_map}
 use Rattle.flat_base.specs.Last.{last_item}
-use Rattle.flat_base.specs.declared.ids.FrameNo.{FrameNo}
 use Rattle.flat_base.specs.declared.shapes.Rect.{Rect}
 use Rattle.flat_scene.specs.declared.frames.DrawItem.{DrawItem}
 use Rattle.flat_scene.specs.declared.frames.FrameOut.{FrameOut}

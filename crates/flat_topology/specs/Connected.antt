@@ -18,7 +18,8 @@ joined_count nothing = 0
 joined_count (node s n linked below after) = 1 + joined_count linked + joined_count below + joined_count after
 joined_count (child_view s root) = joined_count root
 
--- the sessions in preorder of their views, where the nodes have the numbers from this one on; the outermost hangs below that node
+-- the sessions in preorder of their views, where the nodes have the numbers from this one on;
+-- the outermost hangs below that node
 abbrev pub connected_in : ℕ → Option ℕ → JoinedTree → List Connected
 connected_in next at nothing = []
 connected_in next at (node s n linked below after) =

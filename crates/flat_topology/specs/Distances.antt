@@ -1,5 +1,6 @@
 -- How far from the display each connected session is.
-use Rattle.std.specs.Prelude.{ℕ, suc, ◌≤◌, ◌≡◌, ◌↔◌, Bool, false, ◌==◌, if◌then◌else◌, List, length, Option, Some, None, slice_index_or}
+use Rattle.std.specs.Prelude.{ℕ, suc, ◌≤◌, ◌≡◌, ◌↔◌, Bool, false, ◌==◌, if◌then◌else◌, List, length, Option, Some, None}
+use Rattle.std.specs.Prelude.{slice_index_or}
 use Rattle.flat_scene.specs.declared.setup.Setup.{Setup}
 use Rattle.flat_scene.specs.declared.trees.Content.{Content}
 use Rattle.flat_scene.specs.declared.trees.Content.TheVariants as content
@@ -25,7 +26,8 @@ pub record NotesViews (shown : Shown) (pairs : ℕ → Bool) (distance : ℕ) (o
   pub count : length new ≡ length old
   pub each : (s : ℕ) → slice_index_or new s None ≡ (if is_view_among pairs (view_of (state_of shown (suc s))) then Some distance else slice_index_or old s None)
 
--- What is noted is right. All sessions up to a distance are noted, and of the next ones those below the first so many sessions.
+-- What is noted is right. All sessions up to a distance are noted, and of the next ones those below the first so many
+-- sessions.
 pub record IsFinding (setup : Setup) (shown : Shown) (far done : ℕ) (distances : List (Option ℕ)) : Type 0 where
   pub count : length distances ≡ length shown
   pub right : (s d : ℕ) → slice_index_or distances s None ≡ Some d → IsConnectedThrough setup shown d (suc s)

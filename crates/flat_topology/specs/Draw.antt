@@ -25,7 +25,8 @@ scene_matrix m = record { swap = m.swap; a = m.a; b = m.b; x = m.x; y = m.y }
 abbrev pub blend_of_colour : List ℕ → BlendMode
 blend_of_colour rgba = if slice_index rgba 3 == COLOUR_MAX then Src else SrcOver
 
--- what a content paints: its serial number, its paint, its size in units, its own opacity seen through its node's, and its blend mode
+-- what a content paints: its serial number, its paint, its size in units, its own opacity seen through its node's,
+-- and its blend mode
 pub record Painting : Type 0 where
   pub serial : ℕ
   pub paint : Paint

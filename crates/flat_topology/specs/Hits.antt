@@ -1,5 +1,6 @@
 -- What a point of the display hits.
-use Rattle.std.specs.Prelude.{ℤ, ◌*ℤ◌, not, ◌==◌, List, [], ◌∷◌, reverse, filter, filter_map, Option, Some, None, option_map}
+use Rattle.std.specs.Prelude.{ℤ, ◌*ℤ◌, not, ◌==◌, List, [], ◌∷◌, reverse, filter, filter_map, Option, Some, None}
+use Rattle.std.specs.Prelude.{option_map}
 use Rattle.std.specs.List.{find}
 use Rattle.flat_base.specs.declared.shapes.IntRect.{IntRect}
 use Rattle.flat_base.specs.declared.shapes.Rect.{Rect}

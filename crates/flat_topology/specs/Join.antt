@@ -1,5 +1,6 @@
 -- The trees of the connected sessions, joined into one.
-use Rattle.std.specs.Prelude.{ℕ, zero, suc, ◌+◌, Bool, false, ◌==◌, if◌then◌else◌, List, [], ◌∷◌, ◌++◌, length, Option, Some, None}
+use Rattle.std.specs.Prelude.{ℕ, zero, suc, ◌+◌, Bool, false, ◌==◌, if◌then◌else◌, List, [], ◌∷◌, ◌++◌, length, Option}
+use Rattle.std.specs.Prelude.{Some, None}
 use Rattle.std.specs.List.{list_any}
 use Rattle.flat_scene.specs.declared.setup.Setup.{Setup}
 use Rattle.flat_scene.specs.declared.trees.Children.{Children}
@@ -10,7 +11,8 @@ use Rattle.flat_scene.specs.Trees.{fold_nodes}
 use Rattle.flat_topology.specs.Shown.{Shown, nodes_of, view_of}
 use Rattle.flat_topology.specs.Pairs.{display_pair}
 
--- Nodes of several sessions. A node has its session, its fields, the child view below its viewport, its children, and the nodes after it.
+-- Nodes of several sessions. A node has its session, its fields, the child view below its viewport, its children, and
+-- the nodes after it.
 -- A child view has its session and that session's root.
 pub data JoinedTree : Type 0 where
   nothing : JoinedTree

@@ -1,5 +1,6 @@
 -- The order in which nodes are drawn, by where they stand in the joined tree.
-use Rattle.std.specs.Prelude.{ℕ, zero, suc, Bool, true, false, ◌&&◌, ◌||◌, ◌==◌, nat_lt, if◌then◌else◌, ◌≡◌, List, [], ◌∷◌, ◌++◌, map, Option, Some, None, option_map}
+use Rattle.std.specs.Prelude.{ℕ, zero, suc, Bool, true, false, ◌&&◌, ◌||◌, ◌==◌, nat_lt, if◌then◌else◌, ◌≡◌, List, []}
+use Rattle.std.specs.Prelude.{◌∷◌, ◌++◌, map, Option, Some, None, option_map}
 use Rattle.std.specs.List.{list_all, Contains}
 use Rattle.flat_scene.specs.declared.calls.HitRegion.{HitRegion}
 use Rattle.flat_scene.specs.declared.trees.Content.{Content}
@@ -7,7 +8,8 @@ use Rattle.flat_scene.specs.declared.trees.Node.{Node}
 use Rattle.flat_topology.specs.declared.Placed.{Placed}
 use Rattle.flat_topology.specs.Join.{JoinedTree, nothing, node, child_view}
 
--- The address of a node says how it is reached: the number of a node among its siblings, then 0 for the child view below it or 1 for its own
+-- The address of a node says how it is reached:
+-- the number of a node among its siblings, then 0 for the child view below it or 1 for its own
 -- children, then the number of the next node, and so on, to the number of the node itself.
 abbrev pub Address : Type 0
 Address = List ℕ
@@ -57,7 +59,8 @@ kept_of (s, n) = record { session = s; serial = n.serial; content = n.content; h
 abbrev pub kept_by : Placed → Kept
 kept_by at = record { session = at.session.0; serial = at.serial; content = at.content; hits = at.hits }
 
--- The placed nodes stand in preorder: they are those at the addresses of the joined tree, each node has an address, and each address comes
+-- The placed nodes stand in preorder: they are those at the addresses of the joined tree, each node has an address,
+-- and each address comes
 -- before all later ones.
 pub record IsPreorder (tree : JoinedTree) (placed : List Placed) : Type 0 where
   pub in_order : are_in_order (addresses 0 tree) ≡ true

@@ -1,5 +1,6 @@
 -- What the sessions show at a moment.
-use Rattle.std.specs.Prelude.{ℕ, zero, suc, List, [], ◌∷◌, ◌++◌, Option, Some, None, option_map, slice_index_or, Bool, ◌==◌}
+use Rattle.std.specs.Prelude.{ℕ, zero, suc, List, [], ◌∷◌, ◌++◌, Option, Some, None, option_map, slice_index_or, Bool}
+use Rattle.std.specs.Prelude.{◌==◌}
 use Rattle.flat_scene.specs.declared.trees.Children.{Children}
 use Rattle.flat_scene.specs.declared.trees.Children.TheVariants.{Empty}
 use Rattle.flat_scene.specs.declared.trees.Content.{Content}

@@ -11,7 +11,8 @@ use Rattle.flat_scene.specs.declared.trees.Content.TheVariants as content
 use Rattle.flat_topology.specs.declared.Placed.{Placed}
 use Rattle.flat_topology.specs.Shown.{Shown}
 use Rattle.flat_topology.specs.Join.{JoinedTree, nothing, node, child_view, join, is_joined}
-use Rattle.flat_topology.specs.Place.{Space, display_rect, display_space, node_space, linked_space, viewport_rect, placed_node}
+use Rattle.flat_topology.specs.Place.{Space, display_rect, display_space, node_space, linked_space, viewport_rect}
+use Rattle.flat_topology.specs.Place.{placed_node}
 
 -- the rectangle of a placed node's content, if that is a viewport
 abbrev pub content_bounds : Placed → Option Content → Rect
@@ -22,7 +23,8 @@ content_bounds at _ = at.clip
 abbrev pub viewport_bounds : Placed → Rect
 viewport_bounds at = content_bounds at at.content
 
--- the views of a joined tree in preorder; a view's parent is the session of the viewport that shows it, and the outermost view has this
+-- the views of a joined tree in preorder; a view's parent is the session of the viewport that shows it, and the
+-- outermost view has this
 -- parent and these bounds
 abbrev pub views_in : Option SessionNo → Rect → Space → JoinedTree → List ViewNode
 views_in parent bounds outer nothing = []

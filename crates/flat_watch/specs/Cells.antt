@@ -17,7 +17,8 @@ got true value = BadHangingGet
 got false (Some value) = Now value
 got false None = Held
 
--- the cell after a get, where this is told now: it is held, and answered where that is news; while one is held, another changes nothing
+-- the cell after a get, where this is told now: it is held, and answered where that is news;
+-- while one is held, another changes nothing
 abbrev pub after_get : Watch → Option Told → Watching → Watching
 after_get get now w = cond (is_some w.waits) w (settled true now (asking (Some get) w))
 

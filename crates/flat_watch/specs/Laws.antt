@@ -18,7 +18,8 @@ is_news last now = is_some (news now last)
 abbrev pub answers_from : Watch → Option Told → List (Option Told) → Watching → List (Option Told)
 answers_from get now later w = news now w.last ∷ answers (after_get get now w) later
 
--- A get is answered by the first value, from its own moment on, that is there and differs from the one answered last. Until then nothing is said, and it is held.
+-- A get is answered by the first value, from its own moment on, that is there and differs from the one answered last.
+-- Until then nothing is said, and it is held.
 pub record AnswersFirstNews (w : Watching) (get : Watch) (now : Option Told) (later : List (Option Told)) : Type 0 where
   pub value : find is_some (answers_from get now later w) ≡ find (is_news w.last) (now ∷ later)
   pub moment : position_from is_some 0 (answers_from get now later w) ≡ position_from (is_news w.last) 0 (now ∷ later)

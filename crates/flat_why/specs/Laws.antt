@@ -1,5 +1,6 @@
 -- What the causes say of a frame.
-use Rattle.std.specs.Prelude.{◌≡◌, ⊤, ◌↔◌, ◌<◌, ◌≤◌, ◌^◌, ◌==◌, ◌&&◌, not, ℕ, Bool, true, IsTrue, List, length, filter, nat_lt, slice_get, Option, Some, is_some}
+use Rattle.std.specs.Prelude.{◌≡◌, ⊤, ◌↔◌, ◌<◌, ◌≤◌, ◌^◌, ◌==◌, ◌&&◌, not, ℕ, Bool, true, IsTrue, List, length, filter}
+use Rattle.std.specs.Prelude.{nat_lt, slice_get, Option, Some, is_some}
 use Rattle.std.specs.List.{list_any}
 use Rattle.flat_base.specs.declared.ids.PairNo.{PairNo}
 use Rattle.flat_base.specs.declared.ids.SessionNo.{SessionNo}

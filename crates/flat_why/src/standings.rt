@@ -10,7 +10,8 @@ ghost use Rattle.flat_snap.specs.Flat.{flat_nodes};
 ghost use Rattle.flat_topology.specs.Distances.{leads_to};
 ghost use Rattle.flat_topology.specs.Shown.{is_shown_by, state_of};
 ghost use Rattle.flat_rules.specs.Ends.{viewport_owner};
-ghost use Rattle.flat_why.specs.Causes.{has_viewport, parting_of, hanging_by, viewed_by, standing_in, nothing_by, first_of};
+ghost use Rattle.flat_why.specs.Causes.{has_viewport, parting_of, hanging_by, viewed_by, standing_in, nothing_by};
+ghost use Rattle.flat_why.specs.Causes.{first_of};
 ghost use Rattle.flat_why.specs.Noted.{uses_in};
 
 use crate::causes::{Cause, Closing, Parting, Standing, Waiting};

@@ -3,7 +3,8 @@
 //!
 //! What a begin shows, takes and leaves waiting is known once it is entered, and stays so
 //! until its frame ends: so where each session hangs is looked at there.
-ghost use Rattle.std.specs.Prelude.{◌≡◌, ◌==◌, ◌++◌, ◌-◌, ◌<◌, ◌≤◌, suc, false, true, not, [], IfOk, OnOk, All, List, None, Some, drop, length, find, filter, map, replicate, take};
+ghost use Rattle.std.specs.Prelude.{◌≡◌, ◌==◌, ◌++◌, ◌-◌, ◌<◌, ◌≤◌, suc, false, true, not, [], IfOk, OnOk, All, List};
+ghost use Rattle.std.specs.Prelude.{None, Some, drop, length, find, filter, map, replicate, take};
 ghost use Rattle.std.specs.Option.{option_copied};
 ghost use Rattle.flat_base.specs.Last.{last_item};
 ghost use Rattle.flat_base.specs.declared.ids.Actor.TheVariants.{Session};
@@ -22,8 +23,10 @@ ghost use Rattle.flat_rules.specs.Ends.{is_done, to_begin};
 ghost use Rattle.flat_rules.specs.Legal.{begin_time};
 ghost use Rattle.flat_rules.specs.Shown.{shown_states};
 ghost use Rattle.flat_topology.specs.Fit.{FitsSetup};
-ghost use Rattle.flat_why.specs.Causes.{hold_of, is_waiting, waiting_of, closing_by, closing_of, dues_by, nothing_by, first_of, standing_in, used_by};
-ghost use Rattle.flat_why.specs.Noted.{closings_in, uses_in, with_closing, with_use, newest, IsKnown, WhysStand, WhysTell};
+ghost use Rattle.flat_why.specs.Causes.{hold_of, is_waiting, waiting_of, closing_by, closing_of, dues_by, nothing_by};
+ghost use Rattle.flat_why.specs.Causes.{first_of, standing_in, used_by};
+ghost use Rattle.flat_why.specs.Noted.{closings_in, uses_in, with_closing, with_use, newest, IsKnown, WhysStand};
+ghost use Rattle.flat_why.specs.Noted.{WhysTell};
 ghost use Rattle.flat_why.specs.Text.{why_text};
 
 use crate::causes::{Closing, Due, Standing, Waiting};

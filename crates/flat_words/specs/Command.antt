@@ -5,7 +5,8 @@ use Rattle.clap.specs.Words.{App, Row, Rule, Text, first_of, new_app, new_rule, 
 use Rattle.clap.specs.Simple.{Shape, on_top}
 use Rattle.flat_base.specs.declared.limits.TheConstants.{LOAD_FRAMES_MAX}
 use Rattle.flat_words.specs.declared.form.Form.{Form}
-use Rattle.flat_words.specs.declared.form.Form.TheVariants.{Play, Race, Stress, Render, Damage, Focus, Pointer, Judge, Why, Film}
+use Rattle.flat_words.specs.declared.form.Form.TheVariants.{Play, Race, Stress, Render, Damage, Focus, Pointer, Judge}
+use Rattle.flat_words.specs.declared.form.Form.TheVariants.{Why, Film}
 
 -- the word after `stress`: the number of frames
 abbrev pub frames : Rule

@@ -5,7 +5,8 @@ ghost use Rattle.std.specs.List.{list_any};
 ghost use Rattle.std.specs.String.{string_bytes};
 ghost use Rattle.std.specs.Fmt.{decimal};
 ghost use Rattle.clap.specs.Simple.{on_top};
-ghost use Rattle.clap.specs.Words.{app_of, fault_of, new_app, subcommand_of, subcommand_rows_of, with_rule, with_subcommand};
+ghost use Rattle.clap.specs.Words.{app_of, fault_of, new_app, subcommand_of, subcommand_rows_of, with_rule};
+ghost use Rattle.clap.specs.Words.{with_subcommand};
 ghost use Rattle.flat_words.specs.Forms.{CallFor};
 ghost use Rattle.flat_words.specs.Command.{is_option, IsNamed, asking, frames, service};
 
