@@ -1,15 +1,13 @@
 -- Rows of tiles, drawn by the items that are seen there.
-use Rattle.std.proofs.Common.{ℕ, ℤ, ◌+◌, ◌*◌, ◌/◌, ◌%◌, ◌^◌, ◌<◌, ◌≤◌, ◌≡◌, refl, ap, ◌∙◌, sym, true, false, List, [], ◌∷◌, ◌++◌, length, get_or, take, drop, arith}
-use Rattle.std.proofs.lemmas.List.{get_or-map, get_or-take, get_or-drop, length-map, map-append, take_more, length-take, length-drop}
+use Rattle.std.proofs.Common.{ℕ, ◌+◌, ◌*◌, ◌/◌, ◌%◌, ◌^◌, ◌<◌, ◌≤◌, ◌≡◌, refl, ap, ◌∙◌, sym, true, false, List, [], ◌∷◌, ◌++◌, length, get_or, take, drop, arith}
+use Rattle.std.proofs.lemmas.List.{get_or-take, get_or-drop, length-take, length-drop}
 use Rattle.std.proofs.lemmas.List.Elements.{All-nil, All-cons, All-append}
 use Rattle.std.proofs.lemmas.Grind.{fold-append}
 use Rattle.std.proofs.lemmas.Nat.{div-mul-add, mod-mul-add, div-add-mod', mul-add-lt, mul-le, row_fits}
-use Rattle.flat_base.specs.declared.shapes.Rect.{Rect}
 use Rattle.flat_drawable.specs.Drawable.{IsDrawable}
-use Rattle.flat_geom.specs.Rectangles.{has_point}
 use Rattle.flat_scene.specs.declared.frames.DrawItem.{DrawItem}
 use Rattle.flat_render.specs.Areas.{has_pixel}
-use Rattle.flat_render.specs.Bands.{rects_of, IsSeenIn}
+use Rattle.flat_render.specs.Bands.{IsSeenIn}
 use Rattle.flat_render.specs.Channels.{channel_step, channel_after}
 use Rattle.flat_render.specs.Grids.{tile_bytes, tile_count, band_bytes, grid_bytes, tile_of, IsGrid}
 use Rattle.flat_render.specs.Pixels.{covers}
@@ -51,26 +49,6 @@ module _ (area : Area) (items seen : List DrawItem) where
 pub some-item : (items : List DrawItem) (i : ℕ) → i < length items → DrawItem
 some-item [] i within = absurd (omega arith)
 some-item (item ∷ items) i within = item
-
--- the visible rectangles of items, one for each
-pub rects-count : (items : List DrawItem) (rects : List Rect) → rects ≡ rects_of items → length rects ≡ length items
-rects-count items rects e = ap length e ∙ length-map items (λ it. it.visible)
-
-rect-there : (items : List DrawItem) (rects : List Rect) (n : ℕ) (d : DrawItem) (r : Rect) → rects ≡ rects_of items → n < length items → get_or rects n r ≡ (get_or items n d).visible
-rect-there items rects n d r e within = ap (λ (rs : List Rect). get_or rs n r) e ∙ get_or-map (λ it. it.visible) items n d r within
-
--- one rectangle more
-pub rects-more : (items : List DrawItem) (i : ℕ) (d : DrawItem) (rects longer : List Rect) → i < length items → rects ≡ rects_of (take i items) → longer ≡ rects ++ (get_or items i d).visible ∷ []
-    → longer ≡ rects_of (take (i + 1) items)
-rects-more items i d rects longer there so_far more =
-    more ∙ ap (λ (rs : List Rect). rs ++ (get_or items i d).visible ∷ []) so_far ∙ sym (map-append (λ (item : DrawItem). item.visible) (take i items) (get_or items i d ∷ []))
-    ∙ ap rects_of (sym (take_more items i d there))
-
--- where one misses a point, the item does
-pub rect-misses : (items : List DrawItem) (rects : List Rect) (n : ℕ) (d : DrawItem) (r : Rect) (x y : ℤ) → rects ≡ rects_of items → n < length items
-    → has_point (get_or rects n r) x y ≡ false → has_point (get_or items n d).visible x y ≡ false
-rect-misses items rects n d r x y e within h =
-    sym (ap (λ (rect : Rect). has_point rect x y) (rect-there items rects n d r e within)) ∙ h
 
 -- the bytes of a tile in its row
 module _ (g : Grid) (is : IsGrid g) (row n : ℕ) (column : n < g.across) where

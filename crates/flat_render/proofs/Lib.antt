@@ -15,6 +15,9 @@ pub mod Any
 pub mod Seen
 pub mod Bytes
 pub mod Brushing
+pub mod Preparing
+pub mod ThreePlanes
+pub mod PreparedLists
 pub mod Bands
 pub mod Runs
 pub mod Rendered

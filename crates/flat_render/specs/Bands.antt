@@ -1,9 +1,8 @@
 -- Some of the items, which serve for a part of the picture.
-use Rattle.std.specs.Prelude.{◌≡◌, ℕ, ◌+◌, ◌*◌, ◌<◌, true, if◌then◌else◌, List, [], ◌∷◌, ◌++◌, length, map, flat_map}
+use Rattle.std.specs.Prelude.{◌≡◌, ℕ, ◌+◌, ◌*◌, ◌<◌, true, if◌then◌else◌, List, [], ◌∷◌, ◌++◌, length, flat_map}
 use Rattle.std.specs.Prelude.{take, drop, slice_index_or, Vec}
 use Rattle.std.specs.List.{All}
 use Rattle.std.specs.declared.alloc.Global.{Global}
-use Rattle.flat_base.specs.declared.shapes.Rect.{Rect}
 use Rattle.flat_drawable.specs.Drawable.{IsDrawable}
 use Rattle.flat_scene.specs.declared.frames.DrawItem.{DrawItem}
 use Rattle.flat_render.specs.declared.area.Area.{Area}
@@ -12,10 +11,6 @@ use Rattle.flat_render.specs.Areas.{is_among, has_pixel}
 use Rattle.flat_render.specs.Channels.{channel_after}
 use Rattle.flat_render.specs.Grids.{tile_of}
 use Rattle.flat_render.specs.Tiles.{tile_area}
-
--- the visible rectangles of items
-abbrev pub rects_of : List DrawItem → List Rect
-rects_of items = map (λ item. item.visible) items
 
 -- some of the items give each pixel of an area what all of them give it
 pub record IsSeenIn (area : Area) (items seen : List DrawItem) : Type 0 where

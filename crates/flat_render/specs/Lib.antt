@@ -11,5 +11,6 @@ pub mod Words
 pub mod Grids
 pub mod Tiles
 pub mod Inks
+pub mod Preparing
 pub mod Stored
 pub mod Bands

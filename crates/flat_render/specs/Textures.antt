@@ -1,7 +1,9 @@
 -- Textures: what an image shows, read along the axes of the display.
-use Rattle.std.specs.Prelude.{◌≡◌, ℕ, ◌+◌, ◌<◌, ◌≤◌, Bool, true, not, pos, int_lt, if◌then◌else◌, List, length}
+use Rattle.std.specs.Prelude.{◌≡◌, ℕ, ◌+◌, ◌*◌, ◌<◌, ◌≤◌, ◌-ℤ◌, unsigned_abs, Bool, true, false, not, pos}
+use Rattle.std.specs.Prelude.{int_lt, if◌then◌else◌, List, length}
 use Rattle.std.specs.Prelude.{slice_index}
 use Rattle.flat_base.specs.declared.ids.BufferNo.{BufferNo}
+use Rattle.flat_base.specs.declared.limits.TheConstants.{ONE}
 use Rattle.flat_geom.specs.Rectangles.{is_between}
 use Rattle.flat_scene.specs.declared.frames.DrawItem.{DrawItem}
 use Rattle.flat_scene.specs.declared.frames.Paint.TheVariants.{Image}
@@ -48,6 +50,13 @@ pub record IsTextureOf (item : DrawItem) (texture : Texture) : Type 0 where
   pub rows : texture.rows ≡ row_axis item
   pub blend : texture.blend ≡ item.blend
   pub opacity : texture.opacity ≡ item.opacity
+
+-- a texture isn't turned, its values stay as they are, and each column and row of the buffer is one unit wide
+pub record IsPlain (texture : Texture) : Type 0 where
+  pub straight : texture.swap ≡ false
+  pub full : (s : ℕ) → tone texture.blend texture.opacity s ≡ s
+  pub columns : unsigned_abs (texture.columns.high -ℤ texture.columns.low) ≡ unsigned_abs texture.sample.w * ONE
+  pub rows : unsigned_abs (texture.rows.high -ℤ texture.rows.low) ≡ unsigned_abs texture.sample.h * ONE
 
 -- whether pixels side by side have columns of the buffer that rise, and not ones that fall
 abbrev pub rises_across : Axis → ImageFlip → Bool

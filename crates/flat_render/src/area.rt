@@ -6,6 +6,9 @@ ghost use Rattle.flat_render.specs.Areas.{has_pixel, IsInArea, IsWindow};
 
 use flat_base::{ONE, PLACE_MAX, Rect};
 
+/// How many pixels from the corner of the display a picture may reach at most, along one axis.
+const REACH: usize = 1 << 29;
+
 /// How far a pixel's centre lies from its corner, in places.
 pub const HALF: i64 = 32_768;
 
@@ -41,6 +44,7 @@ pub fn area_of(r: Rect) -> Area
 
 /// What two areas share.
 pub fn common(a: Area, b: Area) -> Area
+    ensures in_first { IsInArea a result }
     ensures within { IsInArea b result }
     ensures pixels { (px py : ℕ) → has_pixel result px py
         ≡ (has_pixel a px py && has_pixel b px py) }
@@ -63,7 +67,7 @@ fn is_by(place: i64, p: usize) -> bool
 
 /// Whether what lies between two places has the centres of none of some pixels,
 /// along one axis.
-pub fn is_beside(low: i64, high: i64, from: usize, upto: usize) -> bool
+fn is_beside(low: i64, high: i64, from: usize, upto: usize) -> bool
     requires some { from < upto }
     requires near { upto < 2 ^ 29 }
     ensures { IsTrue result → (p : ℕ) → from ≤ p → p < upto → is_between low high (centre p)
@@ -86,6 +90,20 @@ fn is_across(low: i64, high: i64, from: usize, upto: usize) -> bool
         return false;
     }
     !is_by(high, upto - 1)
+}
+
+/// Whether an area has a pixel, and none that is too far out to be counted.
+pub fn is_window(area: Area) -> bool
+    ensures { IsTrue result → IsWindow area }
+{
+    area.x0 < area.x1 && area.y0 < area.y1 && area.x1 < REACH && area.y1 < REACH
+}
+
+/// Whether an area lies in another one.
+pub fn is_in(outer: Area, inner: Area) -> bool
+    ensures { IsTrue result → IsInArea outer inner }
+{
+    outer.x0 <= inner.x0 && outer.y0 <= inner.y0 && inner.x1 <= outer.x1 && inner.y1 <= outer.y1
 }
 
 /// Whether a rectangle has the centre of no pixel of an area, as its bounds along

@@ -3,14 +3,15 @@ ghost use Rattle.std.specs.Prelude.{if◌then◌else◌, length};
 ghost use Rattle.std.specs.Prelude.{slice_index};
 ghost use Rattle.flat_drawable.specs.Drawable.{IsDrawable};
 ghost use Rattle.flat_render.specs.Areas.{has_pixel};
-ghost use Rattle.flat_render.specs.Bands.{rects_of};
 ghost use Rattle.flat_render.specs.Damaged.{is_in_any};
 ghost use Rattle.flat_render.specs.Grids.{band_bytes, grid_bytes, IsGrid};
+ghost use Rattle.flat_render.specs.Preparing.{ArePrepared};
 ghost use Rattle.flat_render.specs.Stored.{stored_x, stored_y, drawn_at};
 
 use crate::area::{Area, area_of};
 use crate::band::draw_band;
 use crate::grid::{Grid, bytes_of_bands, bytes_of_tiles, count_of_tiles, tile};
+use crate::prepared::Prepared;
 use crate::tile::draw_anew;
 use flat_base::Rect;
 use flat_scene::DrawItem;
@@ -33,11 +34,11 @@ const THREADS_EACH: usize = 2;
 /// that items lie on many.
 pub const PIECES_MAX: usize = 8;
 
-/// How much work it is to draw items with these rectangles, in pixels.
-fn work_of(rects: &[Rect]) -> usize {
+/// How much work it is to draw items, in pixels.
+fn work_of(list: &[Prepared]) -> usize {
     let mut work: usize = 0;
-    for rect in rects {
-        let area = area_of(*rect);
+    for it in list {
+        let area = it.area;
         let across = area.x1.saturating_sub(area.x0);
         let pixels = across.saturating_mul(area.y1.saturating_sub(area.y0));
         work = work.saturating_add(pixels.saturating_add(ITEM_WORK));
@@ -47,11 +48,11 @@ fn work_of(rects: &[Rect]) -> usize {
 
 /// How many pieces of equal height the rows of tiles are shared out in: one if the caller is to
 /// draw alone, since there is little work or one processor.
-pub fn pieces_for(rt: &(impl Threads + Sync), rects: &[Rect]) -> usize
+pub fn pieces_for(rt: &(impl Threads + Sync), list: &[Prepared]) -> usize
     ensures some { 0 < result }
     ensures few { result ≤ PIECES_MAX }
 {
-    if work_of(rects) <= LIGHT {
+    if work_of(list) <= LIGHT {
         return 1;
     }
     let processors = current_num_threads(rt);
@@ -62,9 +63,15 @@ pub fn pieces_for(rt: &(impl Threads + Sync), rects: &[Rect]) -> usize
 }
 
 /// Draws all tiles, which are black, on the calling thread.
-pub fn draw_here(alloc: Global, items: &[DrawItem], rects: &[Rect], grid: &Grid, bytes: &mut [u8])
+pub fn draw_here(
+    alloc: Global,
+    items: &[DrawItem],
+    list: &[Prepared],
+    grid: &Grid,
+    bytes: &mut [u8],
+)
     requires items { All IsDrawable items.now }
-    requires rects { rects.now ≡ rects_of items.now }
+    requires prepared { ArePrepared items.now list.now }
     requires grid { IsGrid grid.now }
     requires size { length bytes.old ≡ grid_bytes grid.now }
     requires black { (i : ℕ) → i < length bytes.old → slice_index bytes.old i ≡ 0 }
@@ -75,7 +82,7 @@ pub fn draw_here(alloc: Global, items: &[DrawItem], rects: &[Rect], grid: &Grid,
     for row in 0..grid.down {
         let start = row * size;
         let band = &mut bytes[start..start + size];
-        draw_band(alloc, items, rects, grid, row, band);
+        draw_band(alloc, items, list, grid, row, band);
     }
 }
 
@@ -84,12 +91,12 @@ pub fn draw_tiles(
     rt: &(impl Threads + Sync),
     alloc: Global,
     items: &[DrawItem],
-    rects: &[Rect],
+    list: &[Prepared],
     grid: &Grid,
     bytes: &mut [u8],
 )
     requires items { All IsDrawable items.now }
-    requires rects { rects.now ≡ rects_of items.now }
+    requires prepared { ArePrepared items.now list.now }
     requires grid { IsGrid grid.now }
     requires size { length bytes.old ≡ grid_bytes grid.now }
     requires black { (i : ℕ) → i < length bytes.old → slice_index bytes.old i ≡ 0 }
@@ -102,14 +109,14 @@ pub fn draw_tiles(
         bytes,
         size,
         |start: usize, band: &mut [u8]|
-            requires { All IsDrawable items.now × (rects.now ≡ rects_of items.now) × IsGrid grid.now
+            requires { All IsDrawable items.now × ArePrepared items.now list.now × IsGrid grid.now
                 × (0 < size) × (start / size < grid.now.down)
                 × (length band.old ≡ band_bytes grid.now)
                 × ((m : ℕ) → m < length band.old → slice_index band.old m ≡ 0) }
             ensures { (m : ℕ) → m < length band.old → slice_index band.new m
                 ≡ drawn_at grid.entry.now items.entry.now (start / size * band_bytes grid.entry.now
                 + m) }
-        { draw_band(alloc, items, rects, grid, start / size, band) },
+        { draw_band(alloc, items, list, grid, start / size, band) },
     );
 }
 

@@ -4,7 +4,8 @@
 //! drawing) and what is left out (sorting) are in no answer.
 //!
 //! A picture is drawn by rows of tiles (band), each tile by the items that may be seen there
-//! (chosen), and each item channel by channel (brush, texture, ink), row by row (plane).
+//! (chosen). What an item gives all tiles is found once (prepared) and laid on each (laying,
+//! stamp). Any other image is drawn channel by channel (brush, texture, ink), row by row (plane).
 //! `Picture::write_row` (words) and `ppm_of` (ppm) hand the colours out.
 #![tactic(auto)]
 
@@ -17,11 +18,14 @@ mod colour;
 mod drawing;
 mod grid;
 mod ink;
+mod laying;
 mod picture;
 mod plane;
 mod ppm;
+mod prepared;
 mod rendering;
 mod sorting;
+mod stamp;
 mod texture;
 mod tile;
 mod words;

@@ -179,7 +179,7 @@ fn veil_rows(weight: u8, s: u8, tile: Tile, cut: Area, plane: &mut [u8])
 
 /// Mixes one value with the pixels of an area, in a plane. Where the area is as wide
 /// as the tile, its rows are one line.
-fn mix_plane(mix: Mix, s: u8, tile: Tile, cut: Area, plane: &mut [u8])
+pub fn mix_plane(mix: Mix, s: u8, tile: Tile, cut: Area, plane: &mut [u8])
     requires tile { IsTile tile }
     requires size { length plane.old ≡ pixels_of tile }
     requires cut { IsInArea (tile_area tile) cut }
@@ -239,7 +239,7 @@ fn veil_down(weight: u8, values: &[u8], tile: Tile, cut: Area, plane: &mut [u8])
 }
 
 /// Mixes a value for each column with the pixels of an area, in a plane.
-fn mix_across(mix: Mix, values: &[u8], tile: Tile, cut: Area, plane: &mut [u8])
+pub fn mix_across(mix: Mix, values: &[u8], tile: Tile, cut: Area, plane: &mut [u8])
     requires values { cut.x1 - cut.x0 ≤ length values.now }
     requires tile { IsTile tile }
     requires size { length plane.old ≡ pixels_of tile }
@@ -257,7 +257,7 @@ fn mix_across(mix: Mix, values: &[u8], tile: Tile, cut: Area, plane: &mut [u8])
 }
 
 /// Mixes a value for each row with the pixels of an area, in a plane.
-fn mix_down(mix: Mix, values: &[u8], tile: Tile, cut: Area, plane: &mut [u8])
+pub fn mix_down(mix: Mix, values: &[u8], tile: Tile, cut: Area, plane: &mut [u8])
     requires values { cut.y1 - cut.y0 ≤ length values.now }
     requires tile { IsTile tile }
     requires size { length plane.old ≡ pixels_of tile }

@@ -3,10 +3,10 @@ ghost use Rattle.flat_drawable.specs.Drawable.{IsDrawable};
 ghost use Rattle.flat_render.specs.Pixels.{pixel};
 ghost use Rattle.flat_render.specs.Pictures.{Shows};
 
-use crate::band::visible_rects;
 use crate::drawing::{draw_here, draw_tiles, pieces_for};
 use crate::grid::{PIXELS_MAX, grid_for, stored};
 use crate::picture::Picture;
+use crate::prepared::prepare_all;
 use flat_base::NoMemory;
 use flat_scene::ItemList;
 use std::alloc::Global;
@@ -38,15 +38,15 @@ pub fn render(
     ensures { IfOk result (λ picture. Shows picture w h (pixel items.now)) }
 {
     let drawn = items.as_slice();
-    let rects = visible_rects(alloc, drawn)?;
-    let pieces = pieces_for(rt, rects.as_slice());
+    let prepared = prepare_all(alloc, drawn)?;
+    let pieces = pieces_for(rt, prepared.as_slice());
     let grid = grid_for(w, h, pieces);
     let mut bytes = vec![in alloc; 0u8; stored(&grid)]?;
-    let (areas, all) = (rects.as_slice(), bytes.as_mut_slice());
+    let (list, all) = (prepared.as_slice(), bytes.as_mut_slice());
     if pieces == 1 {
-        draw_here(alloc, drawn, areas, &grid, all);
+        draw_here(alloc, drawn, list, &grid, all);
         return Ok(Picture { grid, bytes });
     }
-    draw_tiles(rt, alloc, drawn, areas, &grid, all);
+    draw_tiles(rt, alloc, drawn, list, &grid, all);
     Ok(Picture { grid, bytes })
 }

@@ -1,16 +1,16 @@
 ghost use Rattle.std.specs.Prelude.{◌≡◌, ◌+◌, ◌*◌, ◌/◌, ◌<◌, ◌≤◌, ◌++◌, ◌∷◌, [], ℕ, false, All, IfOk};
 ghost use Rattle.std.specs.Prelude.{OnOk, length, if◌then◌else◌, slice_index_or};
 ghost use Rattle.flat_drawable.specs.Drawable.{IsDrawable};
-ghost use Rattle.flat_geom.specs.Rectangles.{has_point};
-ghost use Rattle.flat_render.specs.Areas.{is_among};
-ghost use Rattle.flat_render.specs.Bands.{rects_of, AreChoices, AreEmpty, IsNoted};
+ghost use Rattle.flat_render.specs.Areas.{has_pixel, is_among};
+ghost use Rattle.flat_render.specs.Bands.{AreChoices, AreEmpty, IsNoted};
 ghost use Rattle.flat_render.specs.Grids.{IsGrid};
-ghost use Rattle.flat_render.specs.Pixels.{centre};
+ghost use Rattle.flat_render.specs.Preparing.{ArePrepared};
 
-use crate::area::{area_of, is_beside};
+use crate::area::Area;
 use crate::grid::Grid;
+use crate::prepared::Prepared;
 use crate::tile::TILE_SIDE;
-use flat_base::{NoMemory, Rect};
+use flat_base::NoMemory;
 use flat_scene::DrawItem;
 use std::alloc::Global;
 
@@ -35,21 +35,20 @@ fn part_with(side: usize, x: usize) -> usize
     }
 }
 
-/// The tiles of a row in which a rectangle may have the centre of a pixel.
-fn columns_of(grid: &Grid, row: usize, r: Rect) -> Columns
+/// The tiles of a row in which an area may have a pixel.
+fn columns_of(grid: &Grid, row: usize, area: Area) -> Columns
     requires grid { IsGrid grid.now }
     requires row { row < grid.now.down }
     ensures within { result.upto ≤ grid.now.across }
     ensures others { (c px py : ℕ) → c < grid.now.across → c * grid.now.tile_w ≤ px →
         px < c * grid.now.tile_w + grid.now.tile_w → row * grid.now.tile_h ≤ py →
         py < row * grid.now.tile_h + grid.now.tile_h → is_among result.from result.upto c ≡ false →
-        has_point r (centre px) (centre py) ≡ false }
+        has_pixel area px py ≡ false }
 {
     let top = row * grid.tile_h;
-    if is_beside(r.y0, r.y1, top, top + grid.tile_h) {
+    if area.y1 <= top || area.y0 >= top + grid.tile_h {
         return Columns { from: 0, upto: 0 };
     }
-    let area = area_of(r);
     Columns {
         from: part_with(grid.tile_w, area.x0),
         upto: area.x1.div_ceil(grid.tile_w).min(grid.across),
@@ -81,17 +80,16 @@ fn note(lists: &mut [Vec<usize>], n: usize, columns: Columns) -> Result<(), NoMe
     Ok(())
 }
 
-/// For each tile of a row, the numbers of the items that may be seen there. Of the
-/// other rows' items it reads the visible rectangles alone.
+/// For each tile of a row, the numbers of the items that may be seen there.
 pub fn sorted(
     alloc: Global,
     items: &[DrawItem],
-    rects: &[Rect],
+    list: &[Prepared],
     grid: &Grid,
     row: usize,
 ) -> Result<Vec<Vec<usize>>, NoMemory>
     requires items { All IsDrawable items.now }
-    requires rects { rects.now ≡ rects_of items.now }
+    requires prepared { ArePrepared items.now list.now }
     requires grid { IsGrid grid.now }
     requires row { row < grid.now.down }
     ensures { IfOk result (λ lists. AreChoices grid.now row items.now lists.items
@@ -99,7 +97,7 @@ pub fn sorted(
 {
     let mut lists = empties(alloc, grid.across)?;
     for n in 0..items.len() {
-        let columns = columns_of(grid, row, rects[n]);
+        let columns = columns_of(grid, row, list[n].area);
         note(lists.as_mut_slice(), n, columns)?;
     }
     Ok(lists)

@@ -1,5 +1,5 @@
 ghost use Rattle.std.specs.Prelude.{◌≡◌, ◌+◌, ◌*◌, ◌%◌, ◌-◌, ◌<◌, ◌≤◌, ◌≤ℤ◌, ℕ, pos, true};
-ghost use Rattle.std.specs.Prelude.{if◌then◌else◌, length, slice_index};
+ghost use Rattle.std.specs.Prelude.{if◌then◌else◌, length, slice_index, IsTrue};
 ghost use Rattle.flat_drawable.specs.Drawable.{full_rect as full_rect_of, IsSample};
 ghost use Rattle.flat_geom.specs.Rectangles.{is_between};
 ghost use Rattle.flat_render.specs.Areas.{has_pixel};
@@ -10,7 +10,7 @@ ghost use Rattle.flat_render.specs.Pixels.{centre, flipped_column, flipped_row, 
 ghost use Rattle.flat_render.specs.Pixels.{buffer_row, along_x, along_y, column_axis, row_axis};
 ghost use Rattle.flat_render.specs.Textures.{texture_red, texture_green, texture_blue};
 ghost use Rattle.flat_render.specs.Textures.{rises_across, rises_down, stride_of, IsBelow, IsTable};
-ghost use Rattle.flat_render.specs.Textures.{IsTextureOf};
+ghost use Rattle.flat_render.specs.Textures.{IsPlain, IsTextureOf};
 
 use crate::area::Area;
 use crate::axis::{Axis, is_by_units, part};
@@ -131,7 +131,7 @@ fn flip_row(flip: ImageFlip, count: u32, n: u32) -> u32
 }
 
 /// The column of the buffer at a number along the columns' axis.
-fn column(axis: Axis, sample: IntRect, flip: ImageFlip, p: usize) -> u32
+pub fn column(axis: Axis, sample: IntRect, flip: ImageFlip, p: usize) -> u32
     requires within { is_between axis.low axis.high (centre p) ≡ true }
     requires sample { pos 1 ≤ℤ sample.w }
     ensures { result ≡ buffer_column axis sample flip p }
@@ -141,7 +141,7 @@ fn column(axis: Axis, sample: IntRect, flip: ImageFlip, p: usize) -> u32
 }
 
 /// The row of the buffer at a number along the rows' axis.
-fn row(axis: Axis, sample: IntRect, flip: ImageFlip, p: usize) -> u32
+pub fn row(axis: Axis, sample: IntRect, flip: ImageFlip, p: usize) -> u32
     requires within { is_between axis.low axis.high (centre p) ≡ true }
     requires sample { pos 1 ≤ℤ sample.h }
     ensures { result ≡ buffer_row axis sample flip p }
@@ -180,7 +180,7 @@ pub fn blue_of(texture: &Texture) -> u8
 }
 
 /// Whether pixels side by side have columns of the buffer that rise.
-fn rises(axis: Axis, flip: ImageFlip) -> bool
+pub fn rises(axis: Axis, flip: ImageFlip) -> bool
     ensures { result ≡ rises_across axis flip }
 {
     match flip {
@@ -190,13 +190,33 @@ fn rises(axis: Axis, flip: ImageFlip) -> bool
 }
 
 /// Whether pixels one below another have rows of the buffer that rise.
-fn sinks(axis: Axis, flip: ImageFlip) -> bool
+pub fn sinks(axis: Axis, flip: ImageFlip) -> bool
     ensures { result ≡ rises_down axis flip }
 {
     match flip {
         ImageFlip::UpDown => axis.entry <= 0,
         ImageFlip::Plain | ImageFlip::LeftRight => axis.entry > 0,
     }
+}
+
+/// Whether values stay as they are, where they are mixed with what is there.
+fn is_full(blend: BlendMode, opacity: u32) -> bool
+    ensures { IsTrue result → (s : ℕ) → tone blend opacity s ≡ s }
+{
+    match blend {
+        BlendMode::SrcOver => true,
+        BlendMode::Src => opacity == OPACITY_MAX,
+    }
+}
+
+/// Whether a texture is shown in its own size, not turned, and its values stay as they are.
+pub fn is_plain(texture: &Texture) -> bool
+    ensures { IsTrue result → IsPlain texture.now }
+{
+    !texture.swap
+        && is_full(texture.blend, texture.opacity)
+        && is_by_units(texture.columns, texture.sample.w.unsigned_abs())
+        && is_by_units(texture.rows, texture.sample.h.unsigned_abs())
 }
 
 /// How much a channel that rises, or else falls, grows from a pixel to the next one.
@@ -209,7 +229,8 @@ fn stride(rises: bool) -> u32
 
 /// A channel of pixels side by side, where it grows by one stride from each to the next
 /// one. The compiler knows how many they are.
-fn strides(first: u8, stride: u32) -> [u8; TILE_SIDE]
+#[inline(always)]
+pub fn strides(first: u8, stride: u32) -> [u8; TILE_SIDE]
     requires { stride < 256 }
     ensures size { length result ≡ 64 }
     ensures values { (i : ℕ) → i < 64 → slice_index result i ≡ (first + stride * i) % 256 }

@@ -1,8 +1,8 @@
-use Rattle.std.proofs.Common.{ℕ, ◌∙◌, ◌<◌, ap, sym, if◌then◌else◌, List, length, get_or, drop, arith}
+use Rattle.std.proofs.Common.{ℕ, ◌∙◌, ◌<◌, ap, sym, subst, if◌then◌else◌, List, length, get_or, drop, arith}
 use Rattle.std.proofs.lemmas.List.{take_all, length-drop}
 use Rattle.std.proofs.lemmas.List.Elements.{All-drop, All-take}
 use Rattle.flat_scene.specs.declared.frames.DrawItem.{DrawItem}
-use Rattle.flat_render.specs.Areas.{has_pixel}
+use Rattle.flat_render.specs.Areas.{has_pixel, IsWindow}
 use Rattle.flat_render.specs.Bands.{chosen}
 use Rattle.flat_render.specs.Channels.{channel_after}
 use Rattle.flat_render.specs.Tiles.{x_at, y_at, channel_at}
@@ -10,6 +10,7 @@ use Rattle.flat_render.specs.declared.area.Area.{Area}
 use Rattle.flat_render.proofs.ByNumber.{chosen-drop}
 use Rattle.flat_render.proofs.Items.{drawn-fresh, tile-has-byte}
 use Rattle.flat_render.proofs.Planes.{some-pixels}
+use Rattle.flat_render.proofs.PreparedLists.{over-same, tile-window-is}
 use Rattle.flat_render.proofs.chosen.draw_chosen.Goals as goal
 
 pub paint_chosen-requires-clause-places : goal.paint_chosen-requires-clause-places
@@ -24,7 +25,9 @@ returns c = λ m small.
     let was : ℕ = get_or c.args.bytes.now m 0 in
     let has = ap (λ (area : Area). has_pixel area px py) c.area-window.ensures ∙ tile-has-byte c.args.tile m c.requires.tile (some-pixels c.args.tile c.requires.tile) in
     drawn-fresh n seen c.first_chosen-first.result (has_pixel c.area-window.result px py) px py was (get_or c.paint_chosen.new.bytes m 0)
-    has (c.requires.black m small) (c.first_chosen-first.ensures.same n px py has)
+    has (c.requires.black m small)
+    (over-same c.args.items.now c.args.list.now c.args.places.now c.first_chosen-first.result c.area-window.result n px py c.requires.prepared c.requires.places
+    (subst (λ (area : Area). IsWindow area) (sym c.area-window.ensures) (tile-window-is c.args.tile c.requires.tile)) c.first_chosen-first.ensures.inside c.first_chosen-first.ensures.over has)
     (c.paint_chosen.ensures m small
     ∙ ap (λ (xs : List DrawItem). if has_pixel c.area-window.result px py then channel_after n xs px py was else was)
     (ap (chosen c.args.items.now) (take_all _ (drop c.first_chosen-first.result c.args.places.now) (simp length-drop (omega arith)))

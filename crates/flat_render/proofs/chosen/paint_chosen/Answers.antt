@@ -9,10 +9,10 @@ use Rattle.flat_render.proofs.chosen.paint_chosen.Goals as goal
 pub loop-n-preserved : goal.loop-n-preserved
 loop-n-preserved c =
     let seen : List DrawItem = chosen c.args.items.now c.args.places.now in
-    item-step seen c.loop-n.n _ c.args.tile c.args.window c.args.bytes.now c.loop-n.bytes c.paint_item.new.bytes
+    item-step seen c.loop-n.n _ c.args.tile c.args.window c.args.bytes.now c.loop-n.bytes c.paint_prepared.new.bytes
     (omega (arith, c.loop-n-test.true, chosen-length c.args.items.now c.args.places.now c.requires.places)) (omega arith) c.loop-n.invariant
-    (subst (λ (it : DrawItem). IsDrawnIn (λ n px py was. channel_step n it px py was) c.args.tile c.args.window c.loop-n.bytes c.paint_item.new.bytes)
-    (sym (chosen-at c.args.items.now c.args.places.now c.loop-n.n _ c.requires.places c.loop-n-test.true)) c.paint_item.ensures)
+    (subst (λ (it : DrawItem). IsDrawnIn (λ n px py was. channel_step n it px py was) c.args.tile c.args.window c.loop-n.bytes c.paint_prepared.new.bytes)
+    (sym (chosen-at c.args.items.now c.args.places.now c.loop-n.n _ c.requires.places c.loop-n-test.true)) c.paint_prepared.ensures)
 
 pub returns : goal.returns
 returns c =

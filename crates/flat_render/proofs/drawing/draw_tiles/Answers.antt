@@ -15,7 +15,7 @@ par_chunks_mut_for_each-requires-clause-accepts g c κs within = λ start p chun
     let some : 0 < s = omega (arith, c.bytes_of_bands-size.ensures, some-band c.args.grid.now c.requires.grid) in
     let all : length c.args.bytes.now ≡ c.args.grid.now.down * s = c.requires.size ∙ whole-bands c.args.grid.now ∙ ap (λ (n : ℕ). c.args.grid.now.down * n) (sym c.bytes_of_bands-size.ensures) in (
       c.requires.items,
-      c.requires.rects,
+      c.requires.prepared,
       c.requires.grid,
       some,
       chunk-there c.args.bytes.now p.now s c.args.grid.now.down start some all chunk,

@@ -1,5 +1,7 @@
-use Rattle.std.proofs.Common.{ℕ, ◌∙◌, ap, List, get_or, arith}
+use Rattle.std.proofs.Common.{ℕ, ◌∙◌, ap, sym, subst, List, get_or, arith}
 use Rattle.std.proofs.lemmas.List.{get_or-replicate}
+use Rattle.flat_render.specs.Preparing.{ArePrepared}
+use Rattle.flat_render.specs.declared.prepared.Prepared.{Prepared}
 use Rattle.flat_render.proofs.Rendered.{rendered}
 use Rattle.flat_render.proofs.rendering.render.Goals as goal
 
@@ -28,11 +30,11 @@ returns-then-pieces-eq1 g c = record {
 pub grid_for-grid-requires-clause-size : goal.grid_for-grid-requires-clause-size
 grid_for-grid-requires-clause-size g c = c.requires.size
 
-pub draw_tiles-requires-clause-rects : goal.draw_tiles-requires-clause-rects
-draw_tiles-requires-clause-rects g c = λ κs l. c.as_slice-areas.ensures.value ∙ c.in_ok-rects.ensures
+pub draw_tiles-requires-clause-prepared : goal.draw_tiles-requires-clause-prepared
+draw_tiles-requires-clause-prepared g c = λ κs l. subst (λ (list : List Prepared). ArePrepared c.as_slice-drawn.result.now list) (sym c.as_slice-list.ensures.value) c.in_ok-prepared.ensures
 
-pub draw_here-requires-clause-rects : goal.draw_here-requires-clause-rects
-draw_here-requires-clause-rects g c = c.as_slice-areas.ensures.value ∙ c.in_ok-rects.ensures
+pub draw_here-requires-clause-prepared : goal.draw_here-requires-clause-prepared
+draw_here-requires-clause-prepared g c = subst (λ (list : List Prepared). ArePrepared c.as_slice-drawn.result.now list) (sym c.as_slice-list.ensures.value) c.in_ok-prepared.ensures
 
 pub draw_tiles-requires-clause-size : goal.draw_tiles-requires-clause-size
 draw_tiles-requires-clause-size g c = λ κs l. c.as_mut_slice-all.ensures.len ∙ c.in_ok-bytes.ensures.len ∙ c.stored.ensures

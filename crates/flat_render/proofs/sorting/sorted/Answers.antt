@@ -1,15 +1,16 @@
 use Rattle.std.proofs.Common.{ℕ, ◌+◌, ◌≡◌, ◌∙◌, sym, subst, List, Vec, length, arith}
 use Rattle.std.specs.declared.alloc.Global.{Global}
 use Rattle.std.proofs.lemmas.List.{with_items_is}
+use Rattle.std.proofs.lemmas.Nat.{row_fits}
 use Rattle.flat_scene.specs.declared.frames.DrawItem.{DrawItem}
 use Rattle.flat_render.specs.Bands.{AreChoices, IsNoted}
-use Rattle.flat_render.specs.Pixels.{centre}
-use Rattle.flat_render.proofs.Bands.{some-item, rects-count, rect-misses}
+use Rattle.flat_render.proofs.Bands.{some-item}
 use Rattle.flat_render.proofs.Choices.{choices-more}
+use Rattle.flat_render.proofs.PreparedLists.{not-covered}
 use Rattle.flat_render.proofs.sorting.sorted.Goals as goal
 
-pub bounds-rects-n : goal.bounds-rects-n
-bounds-rects-n c = omega (arith, rects-count c.args.items.now c.args.rects.now c.requires.rects)
+pub bounds-list-n : goal.bounds-list-n
+bounds-list-n c = omega (arith, c.requires.prepared.count)
 
 pub loop-n-preserved : goal.loop-n-preserved
 loop-n-preserved c =
@@ -21,7 +22,10 @@ loop-n-preserved c =
     (choices-more c.args.grid.now c.args.row c.loop-n.n c.columns_of-columns.result.from c.columns_of-columns.result.upto c.args.items.now c.loop-n.lists.items c.note.new.lists d
     c.loop-n-test.true (c.requires.items c.loop-n.n d c.loop-n-test.true)
     (λ n px py small left right top bottom beyond.
-    rect-misses c.args.items.now c.args.rects.now c.loop-n.n d _ (centre px) (centre py) c.requires.rects c.loop-n-test.true (c.columns_of-columns.ensures.others n px py small left right top bottom beyond))
+    not-covered c.args.items.now c.args.list.now c.loop-n.n d _ px py c.requires.prepared c.loop-n-test.true
+    (omega (arith, right, row_fits n c.args.grid.now.tile_w c.args.grid.now.across c.args.grid.now.tile_w small (omega arith), c.requires.grid.most_right))
+    (omega (arith, bottom, row_fits c.args.row c.args.grid.now.tile_h c.args.grid.now.down c.args.grid.now.tile_h c.requires.row (omega arith), c.requires.grid.most_bottom))
+    (c.columns_of-columns.ensures.others n px py small left right top bottom beyond))
     c.loop-n.invariant noted)
 
 pub returns : goal.returns
