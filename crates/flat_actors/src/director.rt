@@ -45,12 +45,38 @@ use flat_report::HitAnswer;
 use flat_rules::{display_knows_frames, journals_keep_seats, seats_tell_actors};
 use flat_scene::{Body, Cond, DisplayLine, Reply};
 use flat_stage::{CompositorSeat, OpenFrame};
+use flat_waits::Waiter;
 use std::sync::Wait;
 use std::thread;
 
-/// Looks until the value of a condition is enough, or so often as a Wait may look, and
-/// answers whether it was enough; the gate is asked before each look, with one budget of
-/// the line.
+/// Looks at a condition if there is news, and answers whether its value was enough.
+fn look_once<R: Wait, G: Gate>(
+    lent: &Lent<R, G>,
+    hand: &mut Hand,
+    waiter: &mut Waiter<'_>,
+    c: Cond,
+) -> bool
+    requires own { (hand_seat hand.old).stage ≡ lent.now.stage.now }
+    requires may { MayLook (setup_of lent.now.stage.now) Display c }
+    requires legal { Legal (setup_of lent.now.stage.now) (history_of (hand_seat hand.old).seen) }
+    requires whole { (hand_seat hand.old).mine ≡ entries_of_seat 0 (hand_seat hand.old).seen }
+    ensures looked { HasLooked (setup_of lent.now.stage.now) hand.old hand.new }
+    ensures met { IsTrue result → asked_of c ≤ value_of (setup_of lent.now.stage.now)
+        (history_of (hand_seat hand.new).seen) Display c }
+{
+    if !waiter.has_news() {
+        return false;
+    }
+    if asked_of(c) <= hand.look(lent.rt, lent.stage, c) {
+        return true;
+    }
+    waiter.found_too_little();
+    false
+}
+
+/// Looks until the value of a condition is enough, or no actor can change it any more, and
+/// answers whether it was enough. It looks again once something was entered, at most so
+/// often as a Wait may look. The gate is asked each time, with one budget of the line.
 fn look_again<R: Wait, G: Gate>(lent: &Lent<R, G>, hand: &mut Hand, number: u32, c: Cond) -> bool
     requires own { (hand_seat hand.old).stage ≡ lent.now.stage.now }
     requires may { MayLook (setup_of lent.now.stage.now) Display c }
@@ -60,15 +86,20 @@ fn look_again<R: Wait, G: Gate>(lent: &Lent<R, G>, hand: &mut Hand, number: u32,
     ensures met { IsTrue result → asked_of c ≤ value_of (setup_of lent.now.stage.now)
         (history_of (hand_seat hand.new).seen) Display c }
 {
-    let wanted = asked_of(c);
     let mut left = ASKS;
+    let mut waiter = Waiter::new(lent.waits);
     for _ in 0..LOOKS {
         left = ask(lent.gate, DISPLAY, number, left);
-        if wanted <= hand.look(lent.rt, lent.stage, c) {
+        if look_once(lent, hand, &mut waiter, c) {
             return true;
+        }
+        if waiter.is_over() {
+            waiter.stop();
+            return false;
         }
         thread::yield_now();
     }
+    waiter.stop();
     false
 }
 
@@ -105,6 +136,7 @@ fn enter_alone<R: Wait, G: Gate>(lent: &Lent<R, G>, hand: &mut Hand, number: u32
 {
     pause(lent, hand, number, text);
     let reply = hand.enter_alone(lent.rt, lent.stage, number, text);
+    lent.waits.enter();
     lent.gate.passed(DISPLAY, number, &reply);
 }
 
@@ -128,6 +160,7 @@ fn begin<R: Wait, G: Gate>(
 {
     ask(lent.gate, DISPLAY, number, ASKS);
     let frame = seat.begin(lent.rt, lent.stage, number, time);
+    lent.waits.enter();
     lent.gate.passed(DISPLAY, number, &Reply::Done);
     frame
 }
@@ -190,6 +223,7 @@ fn finish<R: Wait, G: Gate>(
     };
     show_last(&mut film.set, displays, &film.kept);
     let (seat, finished) = frame.done(lent.rt, lent.stage, number);
+    lent.waits.enter();
     film.last.frame = finished;
     Ok(seat)
 }
@@ -227,6 +261,7 @@ fn hit<R: Wait, G: Gate>(
     })?;
     ask(lent.gate, DISPLAY, number, ASKS);
     let reply = hand.hit(lent.rt, lent.stage, number, x, y);
+    lent.waits.enter();
     lent.gate.passed(DISPLAY, number, &reply);
     Ok(())
 }

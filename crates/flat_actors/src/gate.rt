@@ -39,7 +39,7 @@ impl Gate for OpenGate {
 /// How often the gate is asked for one line at most.
 pub const ASKS: u32 = 1_000_000;
 
-/// How often a Wait looks at its value at most, and an `await` at the frame.
+/// How many turns a Wait has at most, and how often an `await` looks at the frame.
 pub const LOOKS: u32 = 100_000;
 
 /// Asks until the gate is open, or until no ask is left, and answers how many are left.

@@ -2,10 +2,11 @@
 //! makes its own, since the struct would be moved into it whole.
 use flat_places::Script;
 use flat_stage::Stage;
+use flat_waits::Waits;
 use std::alloc::Global;
 
 /// What each session of a race and its compositor are lent: leave to wait, memory, the
-/// stage, the script that is run, and the gate.
+/// stage, the script that is run, the gate, and what they tell each other of their Waits.
 #[derive(Drop)]
 pub struct Lent<'a, R, G> {
     pub rt: &'a R,
@@ -13,4 +14,5 @@ pub struct Lent<'a, R, G> {
     pub stage: &'a Stage,
     pub script: &'a Script,
     pub gate: &'a G,
+    pub waits: &'a Waits,
 }

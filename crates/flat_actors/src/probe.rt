@@ -17,6 +17,7 @@ use flat_places::Script;
 use flat_publish::Probe;
 use flat_report::{ProbeAnswer, ProbeAnswers};
 use flat_scene::{Body, HitList, ProbeLine, Reply};
+use flat_waits::Waits;
 use std::alloc::Global;
 use std::thread;
 
@@ -29,13 +30,14 @@ pub struct ProbeBack {
     pub is_whole: bool,
 }
 
-/// What a probe's thread is lent: memory, the script that is run, and the gate; with the
-/// number of the probe.
+/// What a probe's thread is lent: memory, the script that is run, the gate, and what says
+/// that no frame comes any more; with the number of the probe.
 #[derive(Drop)]
 pub struct Asking<'a, G> {
     pub alloc: Global,
     pub script: &'a Script,
     pub gate: &'a G,
+    pub waits: &'a Waits,
     pub probe: u32,
 }
 
@@ -49,9 +51,9 @@ fn actor_of<G>(asking: &Asking<G>) -> u32 {
         .saturating_add(1)
 }
 
-/// Looks until a frame of that number was published, or so often as a Wait may look, and
-/// answers the number of the frame that it saw last; the gate is asked before each look,
-/// with one budget of the line.
+/// Looks until a frame of that number was published, or none comes any more, at most so
+/// often as a Wait may look, and answers the number of the frame that it saw last. The gate
+/// is asked before each look, with one budget of the line.
 fn look_again<G: Gate>(
     asking: &Asking<G>,
     probe: &mut Probe,
@@ -67,8 +69,9 @@ fn look_again<G: Gate>(
     let mut left = ASKS;
     for _ in 1..LOOKS {
         left = ask(asking.gate, actor, number, left);
+        let have_ended = asking.waits.have_frames_ended();
         let frame = probe.frame()?;
-        if wanted <= frame.0 {
+        if wanted <= frame.0 || have_ended {
             return Ok(frame);
         }
         thread::yield_now();

@@ -8,6 +8,7 @@ ghost use Rattle.flat_scene.specs.declared.script.ScriptLine.{ScriptLine};
 ghost use Rattle.flat_scene.specs.History.{closes, is_session};
 ghost use Rattle.flat_scene.specs.Journals.{history_of};
 ghost use Rattle.flat_scene.specs.Interleave.{Follows, IsReading, session_lines};
+ghost use Rattle.flat_core.specs.Machines.{MayLook};
 ghost use Rattle.flat_rules.specs.Legal.{asked_of, value_of};
 ghost use Rattle.flat_rules.specs.Owned.{is_played_line, is_played_condition};
 ghost use Rattle.flat_playable.specs.Playable.{is_playable};
@@ -22,6 +23,7 @@ use crate::lent::Lent;
 use flat_base::{NoMemory, SessionNo, TryCopy};
 use flat_scene::{Body, Call, Cond, Line};
 use flat_stage::{Edit, SessionSeat, lines_are_read};
+use flat_waits::Waiter;
 use std::sync::Wait;
 use std::thread;
 
@@ -66,9 +68,32 @@ fn makes_entry(text: &Line) -> bool
     }
 }
 
-/// Looks until the value of a condition is enough, or so often as a Wait may look, and
-/// answers whether it was enough; the gate is asked before each look, with one budget of
-/// the line.
+/// Looks at a condition if there is news, and answers whether its value was enough.
+fn look_once<R: Wait, G: Gate>(
+    lent: &Lent<R, G>,
+    seat: &mut SessionSeat,
+    waiter: &mut Waiter<'_>,
+    c: Cond,
+) -> bool
+    requires own { seat.old.stage ≡ lent.now.stage.now }
+    requires may { MayLook (setup_of seat.old.stage) (Session seat.old.session) c }
+    ensures same { IsSame seat.old seat.new }
+    ensures met { IsTrue result → asked_of c ≤ value_of (setup_of seat.old.stage)
+        (history_of seat.new.seen) (Session seat.old.session) c }
+{
+    if !waiter.has_news() {
+        return false;
+    }
+    if asked_of(c) <= seat.look(lent.rt, lent.stage, c) {
+        return true;
+    }
+    waiter.found_too_little();
+    false
+}
+
+/// Looks until the value of a condition is enough, or no actor can change it any more, and
+/// answers whether it was enough. It looks again once something was entered, at most so
+/// often as a Wait may look. The gate is asked each time, with one budget of the line.
 fn look_again<R: Wait, G: Gate>(
     lent: &Lent<R, G>,
     seat: &mut SessionSeat,
@@ -82,15 +107,20 @@ fn look_again<R: Wait, G: Gate>(
         (history_of seat.new.seen) (Session seat.old.session) c }
 {
     let SessionNo(actor) = seat.session();
-    let wanted = asked_of(c);
     let mut left = ASKS;
+    let mut waiter = Waiter::new(lent.waits);
     for _ in 0..LOOKS {
         left = ask(lent.gate, actor, number, left);
-        if wanted <= seat.look(lent.rt, lent.stage, c) {
+        if look_once(lent, seat, &mut waiter, c) {
             return true;
+        }
+        if waiter.is_over() {
+            waiter.stop();
+            return false;
         }
         thread::yield_now();
     }
+    waiter.stop();
     false
 }
 
@@ -131,6 +161,7 @@ fn enter_line<R: Wait, G: Gate>(
 {
     pause(lent, seat, number, &text);
     let reply = seat.call(lent.rt, lent.stage, number, text)?;
+    lent.waits.enter();
     lent.gate.passed(seat.session().0, number, &reply);
     Ok(())
 }
@@ -201,6 +232,7 @@ fn finish<R: Wait, G: Gate>(lent: &Lent<R, G>, seat: &mut SessionSeat)
     let number = lent.script.count + 1;
     ask(lent.gate, actor, number, ASKS);
     let reply = seat.end(lent.rt, lent.stage, number);
+    lent.waits.enter();
     lent.gate.passed(actor, number, &reply);
 }
 
@@ -243,5 +275,6 @@ pub fn run_session<R: Wait, G: Gate>(
     ensures { HasRun lent.now.stage.now lent.now.script.now seat.session result }
 {
     let is_whole = read_all(lent, &mut seat, places).is_ok();
+    lent.waits.leave();
     SessionBack { seat, is_whole }
 }

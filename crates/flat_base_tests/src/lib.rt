@@ -1,5 +1,5 @@
 //! Tests of the lower layers: numbers and rectangles, sources and sinks, a session's draft and
-//! what it is made of, and watchers. They ask what no contract says, and what no worked case
+//! what it is made of, watchers, and who waits in vain. They ask what no contract says, and what no worked case
 //! on the program reaches.
 #![tactic(auto)]
 
@@ -15,5 +15,7 @@ mod graph;
 mod io;
 #[cfg(test)]
 mod sweep;
+#[cfg(test)]
+mod waits;
 #[cfg(test)]
 mod watch;

@@ -6,34 +6,38 @@ use flat_call_checks::{
 };
 use std::test::Fail;
 
-/// How often a gate is asked for one line at most, and how often a Wait looks, by the rules.
+/// How often a gate is asked for one line at most, and how many turns a Wait has at most.
 const ASKS: u32 = 1_000_000;
 
 const LOOKS: u32 = 100_000;
 
-/// Scripts, a line, for how many asks the gate is shut, and how often it is asked: all asks
-/// of a line are one budget, and a gate that is open is asked once for each look. Calls of
-/// a session's own draft aren't asked for, nor are lines behind the one that closed it.
-const ASKED: [(&[u8], u32, u32, u32); 12] = [
-    (NEVER, 6, ASKS, ASKS),
-    (NEVER, 7, ASKS, ASKS),
-    (NEVER, 8, ASKS, ASKS),
-    (FILL, 12, ASKS, ASKS),
-    (FILL, 13, ASKS, ASKS),
-    (FILL, 14, ASKS, ASKS),
-    (NEVER, 6, 0, LOOKS),
-    (NEVER, 7, 0, LOOKS),
-    (NEVER, 8, 0, 1),
-    (FILL, 7, 0, 0),
-    (FILL, 14, 0, 1),
-    (SORTS, 17, 0, 0),
+/// Scripts, a line, for how many asks the gate is shut, and how often it is asked, at least
+/// and at most: all asks of a line are one budget, and a gate that is open is asked once for
+/// each turn of a Wait. Two that wait for each other stop soon. Calls of a session's own
+/// draft aren't asked for, nor are lines behind the one that closed it.
+const ASKED: [(&[u8], u32, u32, (u32, u32)); 12] = [
+    (NEVER, 6, ASKS, (ASKS, ASKS)),
+    (NEVER, 7, ASKS, (ASKS, ASKS)),
+    (NEVER, 8, ASKS, (ASKS, ASKS)),
+    (FILL, 12, ASKS, (ASKS, ASKS)),
+    (FILL, 13, ASKS, (ASKS, ASKS)),
+    (FILL, 14, ASKS, (ASKS, ASKS)),
+    (NEVER, 6, 0, (1, LOOKS)),
+    (NEVER, 7, 0, (1, LOOKS)),
+    (NEVER, 8, 0, (1, 1)),
+    (FILL, 7, 0, (0, 0)),
+    (FILL, 14, 0, (1, 1)),
+    (SORTS, 17, 0, (0, 0)),
 ];
 
 #[test]
 fn a_gate_is_asked_so_often(rt: HostRuntime) -> Result<(), Fail> {
-    for (text, line, shut, asked) in ASKED.iter() {
+    for (text, line, shut, (least, most)) in ASKED.iter() {
         let found = asked_for(&rt, rt.alloc(), text, *line, *shut)?;
-        assert_eq!(rt; found, *asked, "line {line}, shut for {shut}");
+        assert!(rt;
+            *least <= found && found <= *most,
+            "line {line}, shut for {shut}: {found}"
+        );
     }
     Ok(())
 }

@@ -67,19 +67,18 @@ impl<'a> ProbeOut<'a> {
 }
 
 /// Runs a probe on a thread of its own, or here where none can be started.
-fn start<'s, E, G: Gate>(
+fn start<'s, E, R, G: Gate>(
     scope: &Scope<'s, E>,
-    alloc: Global,
-    script: &'s Script,
-    gate: &'s G,
+    lent: &Lent<'s, R, G>,
     home: BookMark,
     seat: Probe,
     probe: u32,
 ) -> ProbeOut<'s>
-    requires playable { is_playable script.now ≡ true }
+    requires playable { is_playable lent.now.script.now ≡ true }
     requires home { seat.home ≡ home }
-    ensures { IsProbeOut script.now home probe result }
+    ensures { IsProbeOut lent.now.script.now home probe result }
 {
+    let (alloc, script, gate, waits) = (lent.alloc, lent.script, lent.gate, lent.waits);
     match scope.spawn_with(
         Asked {
             script,
@@ -94,6 +93,7 @@ fn start<'s, E, G: Gate>(
                 alloc,
                 script,
                 gate,
+                waits,
                 probe,
             };
             run_probe(&asking, seat)
@@ -124,15 +124,7 @@ pub(crate) fn start_probes<'s, E, R: Threads, G: Gate>(
         let Some(seat) = probes.take(probe) else {
             unreachable!()
         };
-        let started = start(
-            scope,
-            lent.alloc,
-            lent.script,
-            lent.gate,
-            published.home(),
-            seat,
-            probe,
-        );
+        let started = start(scope, lent, published.home(), seat, probe);
         out.push_back_reserved(started);
     }
     Ok(out)

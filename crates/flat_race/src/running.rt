@@ -13,12 +13,13 @@ ghost use Rattle.flat_race.specs.Ends.{HaveEnded, IsStopped, StopsWith};
 ghost use Rattle.flat_actors.specs.Sessions.{IsStageOf};
 
 use crate::probe_threads::{meet_each, start_probes};
-use crate::threads::{put_back, start_each};
+use crate::threads::{COMPOSITOR, put_back, start_each};
 use flat_actors::{Film, Gate, Hand, Lent, direct};
 use flat_display::Display;
 use flat_places::Script;
 use flat_publish::{ProbeSeats, Published};
 use flat_stage::{CompositorSeat, SessionSeats, Stage};
+use flat_waits::Waits;
 use std::alloc::Global;
 use std::sync::Wait;
 use std::thread;
@@ -90,11 +91,13 @@ fn run_beside<'s, E, T: Threads + Wait + Sync, G: Gate>(
         return Err(None);
     };
     let Ok(asked) = start_probes(scope, lent, published, probes) else {
+        lent.waits.end_frames();
         drop(out);
         drop(compositor);
         return Err(None);
     };
     let directed = direct(lent, compositor, film, displays, published);
+    lent.waits.end_frames();
     let are_whole = put_back(lent, seats, out);
     let compositor = match directed {
         Ok(compositor) => compositor,
@@ -270,6 +273,8 @@ pub(crate) fn on_threads<T: Threads + Wait + Sync, G: Gate>(
     ensures kinds { map (λ d. d.vtable) result.displays.items
         ≡ map (λ d. d.vtable) displays.items }
 {
+    let waits = Waits::new(script.setup.sessions.saturating_add(COMPOSITOR));
+    let waits = &waits;
     thread::scope(
         thread::scope_env(),
         rt,
@@ -298,6 +303,7 @@ pub(crate) fn on_threads<T: Threads + Wait + Sync, G: Gate>(
                 stage,
                 script,
                 gate,
+                waits,
             };
             run_in(scope, &lent, compositor, seats, film, displays)
         },

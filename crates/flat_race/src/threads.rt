@@ -19,6 +19,9 @@ use std::mem;
 use std::sync::Wait;
 use std::thread::{Promise, PromisedHandle, Scope, Threads};
 
+/// How many compositors a race has.
+pub(crate) const COMPOSITOR: u32 = 1;
+
 /// What a session's thread promises of the seat that it hands back.
 #[derive(Drop)]
 pub(crate) struct Promised<'a> {
@@ -54,24 +57,22 @@ impl<'a> Out<'a> {
 }
 
 /// Runs a session, whose lines stand at these places, on a thread of its own, or here
-/// where none can be started.
+/// where none can be started. Those that weren't started yet enter nothing meanwhile.
 fn start<'s, E, R: Threads + Wait + Sync, G: Gate>(
     scope: &Scope<'s, E>,
-    rt: &'s R,
-    alloc: Global,
-    stage: &'s Stage,
-    script: &'s Script,
-    gate: &'s G,
+    lent: &Lent<'s, R, G>,
     seat: SessionSeat,
     places: PlaceList,
 ) -> Out<'s>
-    requires playable { is_playable script.now ≡ true }
-    requires of { IsStageOf stage.now script.now }
-    requires fresh { seat ≡ fresh_view stage.now seat.session }
-    requires places { places ≡ own_places seat.session script.now.lines }
-    ensures { IsOut stage.now script.now seat.session result }
+    requires playable { is_playable lent.now.script.now ≡ true }
+    requires of { IsStageOf lent.now.stage.now lent.now.script.now }
+    requires fresh { seat ≡ fresh_view lent.now.stage.now seat.session }
+    requires places { places ≡ own_places seat.session lent.now.script.now.lines }
+    ensures { IsOut lent.now.stage.now lent.now.script.now seat.session result }
 {
     let session = seat.session();
+    let (rt, alloc, stage, script) = (lent.rt, lent.alloc, lent.stage, lent.script);
+    let (gate, waits) = (lent.gate, lent.waits);
     match scope.spawn_with(
         Promised {
             stage,
@@ -90,12 +91,19 @@ fn start<'s, E, R: Threads + Wait + Sync, G: Gate>(
                 stage,
                 script,
                 gate,
+                waits,
             };
             run_session(&lent, seat, places.as_slice())
         },
     ) {
         Ok(handle) => Out::Thread(handle),
-        Err(refused) => Out::Here((refused.value)()),
+        Err(refused) => {
+            let later = script.setup.sessions.saturating_sub(session.0);
+            waits.sit_out(later + COMPOSITOR);
+            let back = (refused.value)();
+            waits.sit_in(later + COMPOSITOR);
+            Out::Here(back)
+        }
     }
 }
 
@@ -127,16 +135,7 @@ fn start_next<'s, E, R: Threads + Wait + Sync, G: Gate>(
         unreachable!()
     };
     let own = mem::replace(&mut places[before as usize], PlaceList::new(lent.alloc));
-    start(
-        scope,
-        lent.rt,
-        lent.alloc,
-        lent.stage,
-        lent.script,
-        lent.gate,
-        seat,
-        own,
-    )
+    start(scope, lent, seat, own)
 }
 
 /// Starts each session. The seats are handed out, the first session's first.

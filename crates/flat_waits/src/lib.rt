@@ -1,0 +1,16 @@
+//! Who waits in vain: the actors of a race count themselves while they wait for a value that
+//! isn't there, so that all of them stop waiting once none of them can change it any more.
+//!
+//! `Waits` (waits) is what the threads share, `Waiter` (waiter) one of them in a Wait. It holds a `Tally` (tally), whose rule is
+//! specs/Tallies. Why no Wait ends that could still be met is `OverMeansStuck` (specs/Stuck).
+#![tactic(auto)]
+
+mod laws;
+mod tally;
+mod waiter;
+mod waits;
+
+pub use laws::over_means_stuck;
+pub use tally::{Change, Tally};
+pub use waiter::Waiter;
+pub use waits::Waits;
