@@ -1,19 +1,17 @@
 //! The compositor. It composes, keeps and shows a frame outside the lock, while the sessions
 //! go on: nothing that they enter changes what an open frame shows.
 ghost use Rattle.std.specs.Prelude.{◌≡◌, ◌≤◌, ◌<◌, ◌+◌, ◌^◌, [], ◌∷◌, ◌++◌, true, length, map, slice_get, Some, IfErr};
-ghost use Rattle.std.specs.Prelude.{IfOk, IsTrue, OnErr, OnOk};
+ghost use Rattle.std.specs.Prelude.{IfOk, OnErr, OnOk};
 ghost use Rattle.flat_base.specs.declared.ids.Actor.TheVariants.{Display};
 ghost use Rattle.flat_scene.specs.declared.journal.Kind.TheVariants.{Begin, Finish, Hit};
 ghost use Rattle.flat_scene.specs.declared.journal.Reply.TheVariants.{Done};
 ghost use Rattle.flat_scene.specs.declared.script.Body.TheVariants as body;
-ghost use Rattle.flat_scene.specs.declared.script.Cond.{Cond};
 ghost use Rattle.flat_scene.specs.declared.script.DisplayLine.TheVariants as display;
 ghost use Rattle.flat_scene.specs.Journals.{history_of};
 ghost use Rattle.flat_scene.specs.Interleave.{entry_of_display};
 ghost use Rattle.flat_scene.specs.Heads.{is_setup};
-ghost use Rattle.flat_core.specs.Machines.{MayLook};
 ghost use Rattle.flat_rules.specs.Ends.{to_begin};
-ghost use Rattle.flat_rules.specs.Legal.{asked_of, begin_time, frames, value_of, Legal, display_may, names_declared};
+ghost use Rattle.flat_rules.specs.Legal.{begin_time, frames, Legal, display_may, names_declared};
 ghost use Rattle.flat_rules.specs.Shown.{shown_states};
 ghost use Rattle.flat_topology.specs.Changes.{AreSame};
 ghost use Rattle.flat_topology.specs.Hits.{hit_list};
@@ -26,16 +24,16 @@ ghost use Rattle.flat_play.specs.Last.{IsLast, StaysLast};
 ghost use Rattle.flat_play.specs.Playing.{is_alone, point_answer};
 ghost use Rattle.flat_play.specs.Showing.{HaveSeen, IsShown};
 ghost use Rattle.flat_actors.specs.declared.hand.Hand.TheVariants.{Open};
-ghost use Rattle.flat_actors.specs.Directing.{hand_seat, is_open, KeepsFrame, HasLooked, KeepsNext, ShowsBegin};
+ghost use Rattle.flat_actors.specs.Directing.{hand_seat, is_open, KeepsFrame, KeepsNext, ShowsBegin};
 ghost use Rattle.flat_actors.specs.Directing.{FilmStands, HandStands, SeatStands, EntersAlone, HasStopped};
 ghost use Rattle.flat_actors.specs.Publishing.{FinishesOne, PublishedStand};
 ghost use Rattle.flat_actors.specs.Sessions.{IsStageOf};
 
 use crate::film::{DISPLAY, Film, end_line};
-use crate::gate::{ASKS, Gate, LOOKS, ask};
+use crate::gate::{ASKS, Gate, ask};
 use crate::hand::Hand;
 use crate::lent::Lent;
-use crate::session::asked_of;
+use crate::pausing::pause;
 use flat_base::{Actor, NoMemory};
 use flat_core::shown_states_fit;
 use flat_display::Display;
@@ -43,84 +41,9 @@ use flat_play::show_last;
 use flat_publish::Published;
 use flat_report::HitAnswer;
 use flat_rules::{display_knows_frames, journals_keep_seats, seats_tell_actors};
-use flat_scene::{Body, Cond, DisplayLine, Reply};
+use flat_scene::{Body, DisplayLine, Reply};
 use flat_stage::{CompositorSeat, OpenFrame};
-use flat_waits::Waiter;
 use std::sync::Wait;
-use std::thread;
-
-/// Looks at a condition if there is news, and answers whether its value was enough.
-fn look_once<R: Wait, G: Gate>(
-    lent: &Lent<R, G>,
-    hand: &mut Hand,
-    waiter: &mut Waiter<'_>,
-    c: Cond,
-) -> bool
-    requires own { (hand_seat hand.old).stage ≡ lent.now.stage.now }
-    requires may { MayLook (setup_of lent.now.stage.now) Display c }
-    requires legal { Legal (setup_of lent.now.stage.now) (history_of (hand_seat hand.old).seen) }
-    requires whole { (hand_seat hand.old).mine ≡ entries_of_seat 0 (hand_seat hand.old).seen }
-    ensures looked { HasLooked (setup_of lent.now.stage.now) hand.old hand.new }
-    ensures met { IsTrue result → asked_of c ≤ value_of (setup_of lent.now.stage.now)
-        (history_of (hand_seat hand.new).seen) Display c }
-{
-    if !waiter.has_news() {
-        return false;
-    }
-    if asked_of(c) <= hand.look(lent.rt, lent.stage, c) {
-        return true;
-    }
-    waiter.found_too_little();
-    false
-}
-
-/// Looks until the value of a condition is enough, or no actor can change it any more, and
-/// answers whether it was enough. It looks again once something was entered, at most so
-/// often as a Wait may look. The gate is asked each time, with one budget of the line.
-fn look_again<R: Wait, G: Gate>(lent: &Lent<R, G>, hand: &mut Hand, number: u32, c: Cond) -> bool
-    requires own { (hand_seat hand.old).stage ≡ lent.now.stage.now }
-    requires may { MayLook (setup_of lent.now.stage.now) Display c }
-    requires legal { Legal (setup_of lent.now.stage.now) (history_of (hand_seat hand.old).seen) }
-    requires whole { (hand_seat hand.old).mine ≡ entries_of_seat 0 (hand_seat hand.old).seen }
-    ensures looked { HasLooked (setup_of lent.now.stage.now) hand.old hand.new }
-    ensures met { IsTrue result → asked_of c ≤ value_of (setup_of lent.now.stage.now)
-        (history_of (hand_seat hand.new).seen) Display c }
-{
-    let mut left = ASKS;
-    let mut waiter = Waiter::new(lent.waits);
-    for _ in 0..LOOKS {
-        left = ask(lent.gate, DISPLAY, number, left);
-        if look_once(lent, hand, &mut waiter, c) {
-            return true;
-        }
-        if waiter.is_over() {
-            waiter.stop();
-            return false;
-        }
-        thread::yield_now();
-    }
-    waiter.stop();
-    false
-}
-
-/// Looks as a wait does, or asks the gate once as is due before another line.
-fn pause<R: Wait, G: Gate>(lent: &Lent<R, G>, hand: &mut Hand, number: u32, text: DisplayLine)
-    requires own { (hand_seat hand.old).stage ≡ lent.now.stage.now }
-    requires may { (c : Cond) → text ≡ display.Wait c → MayLook (setup_of lent.now.stage.now)
-        Display c }
-    requires legal { Legal (setup_of lent.now.stage.now) (history_of (hand_seat hand.old).seen) }
-    requires whole { (hand_seat hand.old).mine ≡ entries_of_seat 0 (hand_seat hand.old).seen }
-    ensures { HasLooked (setup_of lent.now.stage.now) hand.old hand.new }
-{
-    match text {
-        DisplayLine::Wait(c) => {
-            look_again(lent, hand, number, c);
-        }
-        _ => {
-            ask(lent.gate, DISPLAY, number, ASKS);
-        }
-    }
-}
 
 /// Makes the entry of a line that leaves frames and points alone, once the gate lets it in.
 /// The gate hears of it.

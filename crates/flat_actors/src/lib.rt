@@ -1,7 +1,8 @@
 //! The actors of a race, each of which goes through its own lines on its own seat, whatever
-//! the others do: session.rt is a session, probe.rt a probe and director.rt the compositor,
-//! which holds its seat or an open frame (hand.rt) and keeps what film.rt says of its
-//! frames. gate.rt says when they may step, and lent.rt what they are lent.
+//! the others do: session.rt is a session, probe.rt a probe and director.rt the compositor.
+//! The compositor holds its seat or an open frame (hand.rt), pauses before a line as a Wait
+//! does (pausing.rt), and keeps what film.rt says of its frames. gate.rt says when actors may
+//! step, and lent.rt what they are lent.
 //!
 //! Other crates may cite the lemmas of proofs/lemmas/: what sessions enter changes nothing
 //! of what the display's entries tell (Beside) and of what the compositor stands by
@@ -13,6 +14,7 @@ mod film;
 mod gate;
 mod hand;
 mod lent;
+mod pausing;
 mod probe;
 mod session;
 

@@ -1,8 +1,9 @@
 //! Who waits in vain: the actors of a race count themselves while they wait for a value that
 //! isn't there, so that all of them stop waiting once none of them can change it any more.
 //!
-//! `Waits` (waits) is what the threads share, `Waiter` (waiter) one of them in a Wait. It holds a `Tally` (tally), whose rule is
-//! specs/Tallies. Why no Wait ends that could still be met is `OverMeansStuck` (specs/Stuck).
+//! `Waits` (waits) is what the threads share, and `Waiter` (waiter) one of them in a Wait.
+//! What they count is a `Tally` (tally), whose rule is specs/Tallies. Why no Wait ends that
+//! could still be met is `OverMeansStuck` (specs/Stuck).
 #![tactic(auto)]
 
 mod laws;

@@ -1,7 +1,7 @@
 use Rattle.std.proofs.Common.{◌≡◌, ap, ◌∙◌}
 use Rattle.flat_stage.specs.Displays.{DisplayView}
 use Rattle.flat_actors.proofs.Held.{looked_none, looked_more}
-use Rattle.flat_actors.proofs.director.look_again.Goals as goal
+use Rattle.flat_actors.proofs.pausing.look_again.Goals as goal
 
 pub loop-init : goal.loop-init
 loop-init g c = (c.requires.own, looked_none _ _ c.requires.legal c.requires.whole)

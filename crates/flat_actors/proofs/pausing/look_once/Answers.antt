@@ -1,5 +1,5 @@
 use Rattle.flat_actors.proofs.Held.{looked_none, looked_more, may_look, legal_there}
-use Rattle.flat_actors.proofs.director.look_once.Goals as goal
+use Rattle.flat_actors.proofs.pausing.look_once.Goals as goal
 
 pub look-requires-clause-may : goal.look-requires-clause-may
 look-requires-clause-may g c = may_look _ _ _ c.requires.own c.requires.may

@@ -1,5 +1,5 @@
 use Rattle.flat_actors.proofs.Held.{looked_none}
-use Rattle.flat_actors.proofs.director.pause.Goals as goal
+use Rattle.flat_actors.proofs.pausing.pause.Goals as goal
 
 pub look_again-requires-clause-may : goal.look_again-requires-clause-may
 look_again-requires-clause-may g c κs within = c.requires.may c.in-Wait.c c.in-Wait.is
